@@ -1,0 +1,4 @@
+pub mod FileLaws
+pub mod StreamLaws
+pub mod WayLaws
+pub mod BlockLaws

@@ -1,0 +1,10 @@
+pub mod Lists
+pub mod Faults
+pub mod Streams
+pub mod FileMaps
+pub mod FileCauses
+pub mod Blocks
+pub mod Wire
+pub mod Links
+pub mod Ways
+pub mod RoadCauses

@@ -1,0 +1,14 @@
+-- What a read takes from a source and a write adds to a sink, where they tell.
+use Rattle.std.specs.Prelude.{◌≡◌, ℕ, ◌<◌, ◌≤◌, List, [], ◌++◌, length, take, Option, option_map, Some, Result, IfOk, OnErr}
+
+-- Where told, these bytes were taken from the front of what was left.
+abbrev pub Took : Option (List ℕ) → Option (List ℕ) → List ℕ → Type 0
+Took old new bytes = old ≡ option_map (λ rest. bytes ++ rest) new
+
+-- Where told, these bytes were put behind what had been written.
+abbrev pub Wrote : Option (List ℕ) → Option (List ℕ) → List ℕ → Type 0
+Wrote old new bytes = new ≡ option_map (λ all. all ++ bytes) old
+
+-- A count of 0 into a buffer with room is the end: nothing is left, where told.
+abbrev pub EndsAtZero : Option (List ℕ) → ℕ → List ℕ → Type 0
+EndsAtZero left count buffer = count ≡ 0 → 0 < length buffer → left ≡ option_map (λ _. []) left
