@@ -6,7 +6,7 @@ use Rattle.std.specs.Fmt.{decimal}
 use Rattle.std.proofs.lemmas.Fmt.{decimal_digit, digits_decimal, digits_value-decimal, decimal-digits_value, first_decimal, decimal_nonempty}
 use Rattle.std.proofs.lemmas.Str.Parse.{IsNumeralModel, numerals_by_fold}
 use Rattle.std.proofs.lemmas.Grind.{common_steps}
-use Rattle.hd_base.specs.Blocks.{is_digit, digits_at, number_at, IsBare}
+use Rattle.hd_base.specs.Blocks.{is_digit, digits_at, number_at, behind_slash, IsBare}
 
 -- digits alone
 abbrev pub all_digits : List ℕ → Bool
@@ -18,7 +18,7 @@ abbrev pub read_on : ℕ → List ℕ → ℕ
 read_on n [] = n
 read_on n (c ∷ cs) = read_on (n * 10 + (c - 48)) cs
 
-own : IsNumeralModel (λ ds. all_digits ds ≡ true) (read_on 0)
+pub own : IsNumeralModel (λ ds. all_digits ds ≡ true) (read_on 0)
 own = numerals_by_fold _ (search rules) read_on (search rules)
 
 -- the first digit is the number so far
@@ -165,3 +165,16 @@ number_at-fits text n rest e = (spells text n rest e).fits
 
 pub number_at-decimal_front : (text : List ℕ) (n : ℕ) (rest : List ℕ) → number_at text ≡ Some (n, rest) → text ≡ decimal n ++ rest
 number_at-decimal_front text n rest e = (spells text n rest e).whole
+
+-- `decimal` writes digits alone.
+pub all_digits-decimal : (n : ℕ) → n < 2 ^ 64 → all_digits (decimal n) ≡ true
+all_digits-decimal n fits = digits_decimal own n fits
+
+-- Digits lead to no other part of a path.
+pub behind_slash-digits : (base ds rest : List ℕ) → all_digits ds ≡ true → behind_slash base (ds ++ rest) ≡ behind_slash base rest
+behind_slash-digits base [] rest all = refl
+behind_slash-digits base (c ∷ cs) rest all =
+    let digit : is_digit c ≡ true = grind (arith, common_steps) in
+    let others : all_digits cs ≡ true = grind (arith, common_steps) in
+    let no_slash : (c == 47) ≡ false = grind (arith, common_steps, nat_tests) in
+    rw no_slash (behind_slash-digits base cs rest others)

@@ -1,6 +1,6 @@
 //! Names of files.
 
-ghost use Rattle.std.specs.Prelude.{◌≡◌, ◌==◌, ℕ, ◌≤◌, ◌<◌, ◌↔◌, length, IsSome, IfSome, Option, Some, option_map, IsTrue};
+ghost use Rattle.std.specs.Prelude.{◌≡◌, ◌==◌, ℕ, ◌+◌, ◌++◌, [], ◌≤◌, ◌<◌, ◌↔◌, length, IsSome, IfSome, Option, Some, option_map, IsTrue};
 ghost use Rattle.std.proofs.Common.{rules};
 ghost use Rattle.std.specs.Cmp.{partial_order_from_own_ties};
 ghost use Rattle.std.specs.Cmp.Lexicographic.{pointwise, slice_cmp};
@@ -71,6 +71,27 @@ impl FileName {
         ensures { result ≡ (length self.now == 0) }
     {
         self.count == 0
+    }
+
+    /// The name with no byte.
+    pub fn empty() -> FileName
+        ensures { result ≡ [] }
+    {
+        FileName {
+            bytes: [0; 255],
+            count: 0,
+        }
+    }
+
+    /// Puts more ASCII bytes behind the name, which has room for them.
+    pub fn push(&mut self, part: &[u8])
+        requires room { length self.old + length part.now ≤ 255 }
+        requires text { IsPlainText part.now }
+        ensures { self.new ≡ self.old ++ part.now }
+    {
+        let end = self.count + part.len();
+        self.bytes[self.count..end].copy_from_slice(part);
+        self.count = end;
     }
 
     /// The same name once more.
@@ -147,8 +168,8 @@ impl Ord for FileName {
     }
 }
 
-/// The last part of a path.
-fn base(name: &[u8]) -> &[u8]
+/// The last part of a path: what stands behind its last slash.
+pub fn base(name: &[u8]) -> &[u8]
     ensures { result.now ≡ base_of name.now }
 {
     let mut base = name;

@@ -17,7 +17,7 @@ mod streams;
 mod tests;
 
 pub use byte_list::ByteList;
-pub use file_name::FileName;
+pub use file_name::{FileName, base, least_decimal};
 pub use files::{FileError, Files};
 pub use links::{Got, LinkError, LinkIn, LinkOut};
 pub use numbers::{BlockId, ConnId, NodeId, Receipt, Stamp};

@@ -1,0 +1,11 @@
+//! The names of replica files, and the header of metadata files (HDFS block metadata version 1,
+//! folder layout -57). Takes no memory.
+#![tactic(auto)]
+
+mod headers;
+mod names;
+#[cfg(test)]
+mod tests;
+
+pub use headers::{MetaFault, header, read_header};
+pub use names::{Folder, NameFault, Named, data_name, meta_name, read_name};
