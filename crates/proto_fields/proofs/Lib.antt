@@ -1,0 +1,9 @@
+pub mod ResultLaws
+pub mod OptionLaws
+pub mod ByteLaws
+pub mod NumberLaws
+pub mod VarintLaws
+pub mod FieldLaws
+pub mod PlaceLaws
+pub mod ValueLaws
+pub mod WrittenLaws

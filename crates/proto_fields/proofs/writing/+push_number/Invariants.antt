@@ -1,0 +1,5 @@
+-- Each byte takes seven bits.
+use Rattle.proto_fields.proofs.writing.+push_number.Given as goal
+
+abbrev pub decreases-push_number : goal.decreases-push_number
+decreases-push_number l = l.value

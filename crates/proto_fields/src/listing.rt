@@ -1,0 +1,165 @@
+//! The fields of a message as a list, and the last values of one number.
+
+ghost use Rattle.std.specs.Prelude.{◌≡◌};
+ghost use Rattle.proto_fields.specs.ResultSteps.{with_value};
+ghost use Rattle.proto_fields.specs.Fields.{fields_at};
+ghost use Rattle.proto_fields.specs.Listing.{Gives};
+ghost use Rattle.proto_fields.specs.Values.{last_varint, last_part, last_values_of};
+
+use crate::reading::{Wire, WireFault, next_field};
+use std::alloc::{AllocFailed, Global};
+use std::marker::Model;
+use thiserror::Error;
+
+/// Why the fields of a message could not be listed.
+#[derive(Clone, Copy, Debug, PartialEq, Eq, Hash, PartialOrd, Ord, Error)]
+pub enum FieldsFault {
+    /// The first field that is not whole and lawful has this fault.
+    #[error("{0}")]
+    Wire(WireFault),
+    /// Memory ran out.
+    #[error("out of memory")]
+    Memory,
+}
+
+impl From<WireFault> for FieldsFault {
+    ghost use Rattle.std.specs.Prelude.{◌≡◌};
+    ghost use Rattle.proto_fields.specs.declared.listing.FieldsFault.TheVariants.{Wire};
+
+    ghost from_gives = { λ fault e. e ≡ Wire fault };
+
+    fn from(fault: WireFault) -> FieldsFault {
+        FieldsFault::Wire(fault)
+    }
+}
+
+impl<T: Drop> From<AllocFailed<T>> for FieldsFault {
+    ghost use Rattle.std.specs.Prelude.{◌≡◌};
+    ghost use Rattle.proto_fields.specs.declared.listing.FieldsFault.TheVariants.{Memory};
+
+    ghost from_gives = { λ _ e. e ≡ Memory };
+
+    fn from(_failed: AllocFailed<T>) -> FieldsFault {
+        FieldsFault::Memory
+    }
+}
+
+/// The fields of a message in order, each a number and a value.
+#[derive(Debug, Drop)]
+pub struct Fields {
+    entries: Vec<(u32, Wire)>,
+}
+
+impl Model for Fields {
+    ghost use Rattle.std.specs.Prelude.{ℕ, List};
+    ghost use Rattle.proto_fields.specs.declared.reading.Wire.{Wire};
+
+    ghost Value = { List (ℕ × Wire) };
+
+    ghost view = { λ f. f.entries.items };
+}
+
+/// Lists all fields of a message.
+pub(crate) fn listed(alloc: Global, bytes: &[u8]) -> Result<Fields, FieldsFault>
+    ensures { Gives result (fields_at bytes.now) }
+{
+    let mut entries = Vec::new(alloc);
+    let mut at = 0;
+    while let Some((number, value, next)) = next_field(bytes, at)? {
+        entries.push((number, value))?;
+        at = next;
+    }
+    Ok(Fields { entries })
+}
+
+impl Fields {
+    /// The fields in order.
+    pub(crate) fn entries(&self) -> &[(u32, Wire)]
+        ensures { result.now ≡ self.now }
+    {
+        &self.entries
+    }
+
+    /// The last varint of this field number.
+    pub fn number(&self, field: u32) -> Option<u64>
+        ensures { result ≡ last_varint field self.now }
+    {
+        last_among(&self.entries, field).varint
+    }
+
+    /// The places from and to of the last part of this field number.
+    pub fn part(&self, field: u32) -> Option<(u64, u64)>
+        ensures { result ≡ last_part field self.now }
+    {
+        last_among(&self.entries, field).part
+    }
+}
+
+/// The last value of each wire type that one field number has.
+#[derive(Clone, Copy, Debug, PartialEq, Eq, Hash, Default)]
+pub struct LastValues {
+    /// The last varint, its low 64 bits.
+    pub varint: Option<u64>,
+    /// The last eight bytes, little-endian.
+    pub eight: Option<u64>,
+    /// The places from and to of the last part.
+    pub part: Option<(u64, u64)>,
+    /// The last four bytes, little-endian.
+    pub four: Option<u32>,
+}
+
+impl LastValues {
+    ghost use Rattle.std.specs.Prelude.{◌≡◌};
+    ghost use Rattle.proto_fields.specs.Values.{newer_values};
+
+    /// The last values of the number `field` once a field of this number and value is behind.
+    fn after(self, field: u32, number: u32, value: Wire) -> Self
+        ensures { result ≡ newer_values field self (number, value) }
+    {
+        if number != field {
+            return self;
+        }
+        match value {
+            Wire::Varint(number) => LastValues {
+                varint: Some(number),
+                ..self
+            },
+            Wire::Eight(number) => LastValues {
+                eight: Some(number),
+                ..self
+            },
+            Wire::Part { from, to } => LastValues {
+                part: Some((from, to)),
+                ..self
+            },
+            Wire::Four(number) => LastValues {
+                four: Some(number),
+                ..self
+            },
+        }
+    }
+}
+
+/// The last values that the field number has among these fields.
+fn last_among(entries: &[(u32, Wire)], field: u32) -> LastValues
+    ensures { result ≡ last_values_of field entries.now }
+{
+    let mut last = LastValues::default();
+    for (number, value) in entries {
+        last = last.after(field, *number, *value);
+    }
+    last
+}
+
+/// The last values that the field number has in a message. It takes no memory.
+pub fn last_values(bytes: &[u8], field: u32) -> Result<LastValues, WireFault>
+    ensures { result ≡ with_value (last_values_of field) (fields_at bytes.now) }
+{
+    let mut last = LastValues::default();
+    let mut at = 0;
+    while let Some((number, value, next)) = next_field(bytes, at)? {
+        last = last.after(field, number, value);
+        at = next;
+    }
+    Ok(last)
+}
