@@ -1,0 +1,6 @@
+use Rattle.std.proofs.Common.{◌≡◌, take}
+use Rattle.chunk_sums.specs.Crc.{register}
+use Rattle.chunk_sums.proofs.slicing.bytewise.Given as goal
+
+abbrev pub invariant-loop-byte : goal.invariant-loop-byte
+invariant-loop-byte l = l.state ≡ register l.start (take l.byte-index l.body)

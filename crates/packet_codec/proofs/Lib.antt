@@ -1,0 +1,5 @@
+pub mod HeaderLaws
+pub mod FrameLaws
+pub mod PacketLaws
+pub mod RefusalLaws
+pub mod WrittenLaws

@@ -1,0 +1,17 @@
+//! Packets of the HDFS data transfer protocol, version 28: read in any spelling of their header,
+//! and written in one.
+#![tactic(auto)]
+
+mod decoding;
+mod encoding;
+mod faults;
+mod frames;
+mod headers;
+mod packets;
+#[cfg(test)]
+mod tests;
+
+pub use decoding::decode_packet;
+pub use encoding::encode_packet;
+pub use faults::{HeaderCause, PacketFault};
+pub use packets::Packet;
