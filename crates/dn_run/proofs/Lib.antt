@@ -1,0 +1,3 @@
+pub mod StreamLaws
+pub mod ScriptLaws
+pub mod ReportLaws

@@ -1,0 +1,18 @@
+-- What was written so far is a front of the text, and each byte is one fewer to write.
+use Rattle.std.proofs.Common.{◌≡◌, ◌+◌, ◌-◌, ◌<◌, ◌≤◌, length, take}
+use Rattle.hd_base.specs.Streams.{Wrote}
+use Rattle.dn_run.specs.Streams.{NoneFails}
+use Rattle.dn_run.proofs.streams.write_all.Given as goal
+
+abbrev pub invariant-writes : goal.invariant-writes
+invariant-writes g l = record {
+  within : l.at ≤ length l.text;
+  wrote : Wrote (g.O.Sink.written l.initial.sink) (g.O.Sink.written l.sink) (take l.at l.text);
+  room : length l.text < g.O.Sink.room l.sink + l.at;
+  later : g.O.Sink.faults l.initial.sink ≤ g.O.Sink.faults l.sink;
+  still : NoneFails (g.O.Sink.plan l.initial.sink) → g.O.Sink.faults l.sink ≡ g.O.Sink.faults l.initial.sink;
+  goes_on : NoneFails (g.O.Sink.plan l.initial.sink) → NoneFails (g.O.Sink.plan l.sink);
+}
+
+abbrev pub decreases-writes : goal.decreases-writes
+decreases-writes g l = length l.text - l.at

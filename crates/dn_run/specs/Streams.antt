@@ -1,0 +1,13 @@
+-- Words on what a whole run of reads or writes meets.
+use Rattle.std.specs.Prelude.{◌≡◌, ℕ, ◌≤◌, false, List, length, Option, Some, None}
+use Rattle.hd_base.specs.Faults.{Plan}
+use Rattle.hd_base.specs.Streams.{Took}
+
+-- The faults to come are told, and no call to come is to fail.
+abbrev pub NoneFails : Option Plan → Type 0
+NoneFails None = ⊥
+NoneFails (Some plan) = (k : ℕ) → plan k ≡ false
+
+-- Where told, some bytes were taken, at most so many.
+abbrev pub TookSome : Option (List ℕ) → Option (List ℕ) → ℕ → Type 0
+TookSome old new most = (bytes : List ℕ) × (length bytes ≤ most) × Took old new bytes

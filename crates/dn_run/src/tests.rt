@@ -1,0 +1,222 @@
+//! Scripts and reports from worked examples, and streams that give and take little, or fail.
+
+ghost use Rattle.std.specs.Prelude.{None};
+
+use crate::report::{CloseAnswer, ReplicaEntry, WriteReport, report_text};
+use crate::script::read_script;
+use crate::streams::{ReadFault, WriteFault, read_to_end, write_all};
+use hd_base::{BlockId, Failed, NodeId, ReplicaState, Sink, Source, Stamp};
+use std::alloc::{AllocError, Global};
+use std::test::Fail;
+
+/// A script of one write.
+const WRITES: &[u8] =
+    b"nodes 1\nseed 0\ncreate 1073741825 0\nwrite 1073741825 313233343536373839\nclose 1073741825\n";
+
+/// The same without the write.
+const EMPTY: &[u8] = b"nodes 1\nseed 0\ncreate 1073741825 0\nclose 1073741825\n";
+
+#[test]
+fn scripts_are_read(rt: HostRuntime) -> Result<(), Fail> {
+    let script = read_script(rt.alloc(), WRITES)?.ok_or("a script")?;
+    assert_eq!(rt; (script.seed, script.block), (0, BlockId(1073741825)));
+    let body = script.body.ok_or("a write")?;
+    assert_eq!(rt; body.as_slice(), b"123456789".as_slice());
+    let script = read_script(rt.alloc(), EMPTY)?.ok_or("a script")?;
+    assert!(rt; script.body.is_none());
+    Ok(())
+}
+
+#[test]
+fn numbers_and_digits_have_many_spellings(rt: HostRuntime) -> Result<(), Fail> {
+    let text = b"nodes 0001\nseed 018446744073709551615\ncreate 07 00\nwrite 7 aBfFF0\nclose 007\n";
+    let script = read_script(rt.alloc(), text)?.ok_or("a script")?;
+    assert_eq!(rt; (script.seed, script.block), (u64::MAX, BlockId(7)));
+    let body = script.body.ok_or("a write")?;
+    assert_eq!(rt; body.as_slice(), b"\xab\xff\xf0".as_slice());
+    Ok(())
+}
+
+#[test]
+fn other_texts_are_refused(rt: HostRuntime) -> Result<(), Fail> {
+    let table: [&[u8]; 12] = [
+        b"",
+        b"nodes 1\nseed 0\ncreate 7 0\n",
+        b"nodes 1\nseed 0\ncreate 7 0\nclose 7",
+        b"nodes 1\nseed 0\ncreate 7 0\nclose 7\n\n",
+        b"nodes 1\r\nseed 0\ncreate 7 0\nclose 7\n",
+        b"nodes 2\nseed 0\ncreate 7 0\nclose 7\n",
+        b"nodes 1\nseed 18446744073709551616\ncreate 7 0\nclose 7\n",
+        b"nodes 1\nseed\ncreate 7 0\nclose 7\n",
+        b"nodes 1\nseed 0\ncreate 7 1\nclose 7\n",
+        b"nodes 1\nseed 0\ncreate 7 0\nclose 8\n",
+        b"nodes 1\nseed 0\ncreate 7 0\nwrite 7 \nclose 7\n",
+        b"nodes 1\nseed 0\ncreate 7 0\nwrite 7 abc\nclose 7\n",
+    ];
+    for text in table {
+        assert!(rt; read_script(rt.alloc(), text)?.is_none());
+    }
+    Ok(())
+}
+
+/// The replica of the worked examples.
+fn replica(written: u64, sum: u32) -> ReplicaEntry {
+    ReplicaEntry {
+        node: NodeId(0),
+        block: BlockId(1073741825),
+        state: ReplicaState::Finalized,
+        stamp: Stamp(1001),
+        written,
+        acked: written,
+        sum,
+    }
+}
+
+/// The close answer of the worked examples.
+fn closed(length: u64) -> CloseAnswer {
+    CloseAnswer::Closed {
+        length,
+        stamp: Stamp(1001),
+        node: NodeId(0),
+    }
+}
+
+#[test]
+fn reports_are_written(rt: HostRuntime) -> Result<(), Fail> {
+    let table: [(ReplicaEntry, bool, CloseAnswer, &[u8]); 3] = [
+        (
+            replica(9, 0xe306_9283),
+            true,
+            closed(9),
+            b"replica 0 1073741825 FINALIZED 1001 9 9 e3069283 ok\nanswer 1073741825 0 create ok 1001\nanswer 1073741825 2 close ok 9 1001 0\nend\n",
+        ),
+        (
+            replica(0, 0),
+            false,
+            closed(0),
+            b"replica 0 1073741825 FINALIZED 1001 0 0 00000000 ok\nanswer 1073741825 0 create ok 1001\nanswer 1073741825 1 close ok 0 1001 0\nend\n",
+        ),
+        (
+            replica(0, 0),
+            false,
+            CloseAnswer::Waiting,
+            b"replica 0 1073741825 FINALIZED 1001 0 0 00000000 ok\nanswer 1073741825 0 create ok 1001\nanswer 1073741825 1 close waiting\nend\n",
+        ),
+    ];
+    for (replica, wrote, close, text) in table {
+        let report = WriteReport {
+            replica,
+            created: Stamp(1001),
+            wrote,
+            close,
+        };
+        let written = report_text(rt.alloc(), &report)?;
+        assert_eq!(rt; written.as_slice(), text);
+    }
+    Ok(())
+}
+
+/// A source of zeros that gives three bytes a read, and fails once so many reads are behind.
+#[derive(Drop)]
+struct Trickle {
+    left: usize,
+    reads: u32,
+    failing: Option<u32>,
+    faults: u64,
+}
+
+impl Source for Trickle {
+    ghost left = { λ _. None };
+
+    ghost faults = { λ s. s.faults };
+
+    ghost plan = { λ _. None };
+
+    fn read(&mut self, into: &mut [u8]) -> Result<usize, Failed> {
+        if self.failing == Some(self.reads) {
+            self.faults = self.faults.saturating_add(1);
+            return Err(Failed);
+        }
+        self.reads = self.reads.saturating_add(1);
+        let count = into.len().min(3).min(self.left);
+        self.left -= count;
+        Ok(count)
+    }
+}
+
+/// A sink that keeps what is written, two bytes a write, and fails once so many are behind.
+#[derive(Drop)]
+struct Notes {
+    kept: Vec<u8>,
+    room: u64,
+    failing: Option<usize>,
+    faults: u64,
+}
+
+impl Sink for Notes {
+    ghost written = { λ _. None };
+
+    ghost room = { λ s. s.room };
+
+    ghost faults = { λ s. s.faults };
+
+    ghost plan = { λ _. None };
+
+    fn room(&mut self, _alloc: Global, len: u64) -> Result<(), AllocError> {
+        if len == u64::MAX {
+            return Err(AllocError);
+        }
+        self.room = self.room.max(len + 1);
+        Ok(())
+    }
+
+    fn write(&mut self, piece: &[u8]) -> Result<usize, Failed> {
+        let count = piece.len().min(2);
+        let full = self.failing.is_some_and(|most| self.kept.len() >= most);
+        if full || self.kept.extend_from_slice(&piece[..count]).is_err() {
+            self.faults = self.faults.saturating_add(1);
+            return Err(Failed);
+        }
+        Ok(count)
+    }
+}
+
+#[test]
+fn sources_are_read_to_their_end(rt: HostRuntime) -> Result<(), Fail> {
+    let table = [
+        (10, 10, None, Ok(10)),
+        (10, 9, None, Err(ReadFault::TooLong)),
+        (0, 0, None, Ok(0)),
+        (10, 10, Some(2), Err(ReadFault::Failed)),
+    ];
+    for (left, limit, failing, wanted) in table {
+        let mut source = Trickle {
+            left,
+            reads: 0,
+            failing,
+            faults: 0,
+        };
+        let read = read_to_end(rt.alloc(), &mut source, limit).map(|bytes| bytes.len());
+        assert_eq!(rt; read, wanted);
+    }
+    Ok(())
+}
+
+#[test]
+fn texts_are_written_whole(rt: HostRuntime) -> Result<(), Fail> {
+    let table: [(Option<usize>, Result<(), WriteFault>, &[u8]); 2] = [
+        (None, Ok(()), b"abcde"),
+        (Some(4), Err(WriteFault::Failed), b"abcd"),
+    ];
+    for (failing, wanted, kept) in table {
+        let mut sink = Notes {
+            kept: Vec::new(rt.alloc()),
+            room: 0,
+            failing,
+            faults: 0,
+        };
+        assert_eq!(rt; write_all(rt.alloc(), &mut sink, b"abcde"), wanted);
+        assert_eq!(rt; sink.kept.as_slice(), kept);
+    }
+    Ok(())
+}
