@@ -1,0 +1,11 @@
+pub mod FailingLaws
+pub mod Places
+pub mod ApartLaws
+pub mod EntryLaws
+pub mod RenameLaws
+pub mod NameLaws
+pub mod SlotLaws
+pub mod LoadLaws
+pub mod LaneLaws
+pub mod DialLaws
+pub mod RoadLaws

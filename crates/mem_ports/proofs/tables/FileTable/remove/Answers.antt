@@ -1,0 +1,21 @@
+-- The entry at the name's place was changed.
+use Rattle.std.proofs.Common.{None, arith, sym, refl}
+use Rattle.mem_ports.specs.Entries.{look}
+use Rattle.mem_ports.proofs.EntryLaws.{look-written, room-written, apart-written, look-nowhere, update-same}
+use Rattle.mem_ports.proofs.tables.FileTable.remove.Goals as goal
+
+pub invariant_of-self : goal.invariant_of-self
+invariant_of-self c =
+    record { apart = apart-written c.args.self.now.entries.items c.args.name.now c.in-Some.found c.index_mut-entry.result.now _ c.in-Some.ensures.place c.index_mut-entry.ensures.value refl c.args.self.now.apart }
+
+pub returns-in-Some-clause-files : goal.returns-in-Some-clause-files
+returns-in-Some-clause-files c =
+    look-written c.args.self.now.entries.items c.args.name.now c.in-Some.found c.index_mut-entry.result.now _ None c.in-Some.ensures.place c.index_mut-entry.ensures.value refl refl
+
+pub returns-in-Some-clause-room : goal.returns-in-Some-clause-room
+returns-in-Some-clause-room c =
+    room-written c.args.self.now.entries.items c.args.name.now c.in-Some.found c.index_mut-entry.result.now _ c.in-Some.ensures.place c.index_mut-entry.ensures.value refl (omega arith)
+
+pub returns-in_default-clause-files : goal.returns-in_default-clause-files
+returns-in_default-clause-files c =
+    sym (update-same (look c.args.self.now.entries.items) c.args.name.now None (look-nowhere c.args.self.now.entries.items c.args.name.now c.in_default.ensures.place))

@@ -1,0 +1,9 @@
+pub mod Failing
+pub mod Apart
+pub mod Entries
+pub mod Slots
+pub mod Pieces
+pub mod Lanes
+pub mod Loads
+pub mod Roads
+pub mod Ends

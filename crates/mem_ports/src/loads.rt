@@ -1,0 +1,48 @@
+//! What was carried.
+
+ghost use Rattle.std.specs.Prelude.{◌≡◌, ◌<◌, ℕ, true, IfOk, vec_len, vec_capacity};
+ghost use Rattle.hd_base.specs.Lists.{joined};
+ghost use Rattle.hd_base.specs.Ways.{carry};
+ghost use Rattle.mem_ports.specs.Pieces.{pieces_of};
+ghost use Rattle.mem_ports.specs.Loads.{carried_of, loads_below};
+
+use hd_base::ConnId;
+use std::alloc::{AllocError, Global};
+use std::sync::Arc;
+
+/// Pieces that were handed over together.
+#[derive(Debug, Drop)]
+pub struct Load {
+    pub conn: ConnId,
+    pub down: bool,
+    pub pieces: Vec<Arc<Vec<u8>>>,
+}
+
+/// The same pieces once more. No byte is copied.
+pub fn share_pieces(alloc: Global, pieces: &[Arc<Vec<u8>>]) -> Result<Vec<Arc<Vec<u8>>>, AllocError>
+    ensures { IfOk result (λ v. pieces_of v.items ≡ pieces_of pieces.now) }
+{
+    let mut shared = Vec::with_capacity(alloc, pieces.len())?;
+    for piece in pieces {
+        shared.push(Arc::try_clone(piece)?)?;
+    }
+    Ok(shared)
+}
+
+/// Puts pieces behind what was carried.
+pub fn carry_on(loads: &mut Vec<Load>, conn: ConnId, down: bool, pieces: Vec<Arc<Vec<u8>>>)
+    requires { vec_len loads.old < vec_capacity loads.old }
+    ensures below { (count : ℕ) → conn.0 < count → loads_below count loads.old.items ≡ true → loads_below count loads.new.items ≡ true }
+    ensures carried { carried_of loads.new.items ≡ carry (carried_of loads.old.items) conn.0 down (joined (pieces_of pieces.items)) }
+{
+    if !pieces.is_empty() {
+        loads.push_reserved(Load { conn, down, pieces });
+    }
+}
+
+/// Whether each load is of a connection with a number below this one.
+pub fn all_below(loads: &[Load], count: u64) -> bool
+    ensures { result ≡ loads_below count loads.now }
+{
+    loads.iter().all(|load| load.conn.0 < count)
+}
