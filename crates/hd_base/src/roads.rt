@@ -173,6 +173,7 @@ pub trait Roads: Sized + Drop {
         ensures carried { OnOk result (MatchOption (plain self.old) (carried self.new ≡ carried self.old) (λ _. Carries (carried self.old) (carried self.new) end.old.id.0 (not end.old.lower) (Self.Outward.handed end.old.outward) (Self.Outward.sent end.old.outward))) }
         ensures plain { OnOk result (IfSome (plain self.old) (λ p. IfSome (Self.Outward.sent end.old.outward) (λ sent. IfSome (Self.Inward.held end.old.inward) (λ inbox. plain self.new ≡ Some (with_offer (with_handed p end.old.id.0 end.old.lower (to_hand sent (Self.Outward.handed end.old.outward) (Self.Outward.lost end.old.outward)) (Self.Inward.shut end.old.inward || Self.Outward.shut end.old.outward)) end.old.id.0 end.old.lower (take && is_hungry inbox)))))) }
         ensures untold { plain self.old ≡ None → plain self.new ≡ None }
+        ensures dialled { IfSome (plain self.old) (λ p. IfSome (plain self.new) (λ q. q.dialled ≡ p.dialled)) }
         ensures taken { OnOk result (IfSome (plain self.old) (λ p. IfSome (Self.Outward.sent end.old.outward) (λ sent. IfSome (Self.Inward.held end.old.inward) (λ inbox. take ≡ true → Self.Inward.held end.new.inward ≡ Some (filled inbox ((with_handed p end.old.id.0 end.old.lower (to_hand sent (Self.Outward.handed end.old.outward) (Self.Outward.lost end.old.outward)) (Self.Inward.shut end.old.inward || Self.Outward.shut end.old.outward)).ways end.old.id.0 end.old.lower)))))) }
         ensures untaken { take ≡ false → Self.Inward.held end.new.inward ≡ Self.Inward.held end.old.inward }
         ensures same_end { (end.new.id ≡ end.old.id) × (end.new.lower ≡ end.old.lower) }
@@ -204,6 +205,7 @@ pub trait Roads: Sized + Drop {
         ensures carried { OnOk result (Carries (carried self.old) (carried self.new) end.id.0 (not end.lower) (Self.Outward.handed end.outward) (Self.Outward.sent end.outward)) }
         ensures plain { OnOk result (IfSome (plain self.old) (λ p. IfSome (Self.Outward.sent end.outward) (λ sent. plain self.new ≡ Some (with_handed p end.id.0 end.lower (to_hand sent (Self.Outward.handed end.outward) (Self.Outward.lost end.outward)) (Self.Inward.shut end.inward || Self.Outward.shut end.outward))))) }
         ensures untold { plain self.old ≡ None → plain self.new ≡ None }
+        ensures dialled { IfSome (plain self.old) (λ p. IfSome (plain self.new) (λ q. q.dialled ≡ p.dialled)) }
         ensures risen { OnOk result ((c : ℕ) → risen self.new c ≡ (risen self.old c || ((end.id.0 == c) && (nat_lt 0 (Self.Inward.faults end.inward) || nat_lt 0 (Self.Outward.faults end.outward))))) }
         ensures err_carried { OnErr result (carried self.new ≡ carried self.old) }
         ensures err_plain { OnErr result (plain self.new ≡ plain self.old) }

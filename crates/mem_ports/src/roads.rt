@@ -303,6 +303,7 @@ impl Roads for MemRoads {
         requires { end.id.0 < length self.old.lanes.items }
         ensures carried { OnOk result (Carries (Some (carried_of self.old.loads.items)) (Some (carried_of self.new.loads.items)) end.id.0 (not end.lower) end.outward.handed (Some (sent_by end.outward))) }
         ensures plain { OnOk result (Some (plain_of self.new.listening self.new.dials.items self.new.lanes.items) ≡ Some (with_handed (plain_of self.old.listening self.old.dials.items self.old.lanes.items) end.id.0 end.lower (to_hand (sent_by end.outward) end.outward.handed (lost_by end.outward)) (end.inward.shut || end.outward.shut))) }
+        ensures dialled { length self.new.lanes.items ≡ length self.old.lanes.items }
         ensures risen { OnOk result ((c : ℕ) → risen_of self.new.risen.items c ≡ (risen_of self.old.risen.items c || ((end.id.0 == c) && (nat_lt 0 end.inward.schedule.faults || nat_lt 0 end.outward.schedule.faults)))) }
         ensures err_carried { OnErr result (Some (carried_of self.new.loads.items) ≡ Some (carried_of self.old.loads.items)) }
         ensures err_plain { OnErr result (Some (plain_of self.new.listening self.new.dials.items self.new.lanes.items) ≡ Some (plain_of self.old.listening self.old.dials.items self.old.lanes.items)) }
