@@ -1,0 +1,11 @@
+pub mod StatusLaws
+pub mod PackedLaws
+pub mod TallyLaws
+pub mod FrameLaws
+pub mod FramedLaws
+pub mod AckLaws
+pub mod DecodingLaws
+pub mod AckTextLaws
+pub mod ResponseLaws
+pub mod ResponseDecodingLaws
+pub mod ResponseTextLaws

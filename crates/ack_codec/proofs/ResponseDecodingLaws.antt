@@ -1,0 +1,107 @@
+-- What a decoder of responses that gives the reading function's answer, unless memory ran out, promises.
+use Rattle.std.proofs.Common.{◌≡◌, ℕ, ◌≤◌, inl, inr, List, [], ◌++◌, length, take, Option, Result, Ok, Err, subst, refl, sym, ap, ◌∙◌}
+use Rattle.std.specs.Prelude.{IfOk, IfErr}
+use Rattle.hd_base.specs.declared.states.Status.{Status}
+use Rattle.hd_base.specs.Wire.{IsStatus}
+use Rattle.proto_fields.specs.Bytes.{IsBytes}
+use Rattle.proto_fields.proofs.ResultLaws.{bind_ok, ok_value}
+use Rattle.proto_fields.specs.declared.reading.WireFault.{WireFault}
+use Rattle.ack_codec.specs.declared.faults.FrameFault.{FrameFault}
+use Rattle.ack_codec.specs.declared.faults.FrameFault.TheVariants as frame
+use Rattle.ack_codec.specs.declared.faults.ResponseFault.{ResponseFault}
+use Rattle.ack_codec.specs.declared.faults.ResponseFault.TheVariants as fault
+use Rattle.ack_codec.specs.declared.responses.Response.{Response}
+use Rattle.ack_codec.specs.declared.response_reading.FoundResponse.{FoundResponse}
+use Rattle.ack_codec.specs.Required.{required}
+use Rattle.ack_codec.specs.Frames.{HasFrame, IsNoFrame}
+use Rattle.ack_codec.specs.Framed.{HasSome}
+use Rattle.ack_codec.specs.Responses.{SaysResponse, SpellsResponse, inner, sums_told, info_told, status_told, response_of, response_at, response_frame_cause, Gives}
+use Rattle.ack_codec.specs.ResponseRefusals.{IsRefusedResponse, FailsFor}
+use Rattle.ack_codec.proofs.StatusLaws.{told_status_listed}
+use Rattle.ack_codec.proofs.FramedLaws.{framed_again, framed_prefix, TakesFramed, framed_takes, framed_fails, no_frame_refused, inside_refused}
+use Rattle.ack_codec.proofs.ResponseLaws.{response_says, says_response, ResponseFails, response_fails, fails_response}
+
+pub response_again : (r : Response) (text rest : List ℕ) → SpellsResponse r text → response_at (text ++ rest) ≡ Ok (r, length text)
+response_again r text rest s = framed_again response_frame_cause response_of (SaysResponse r) r (λ m. says_response m r) text rest s
+
+pub response_prefix : (a b : Response) (text more : List ℕ) → SpellsResponse a text → SpellsResponse b (text ++ more) → more ≡ []
+response_prefix a b text more s t = framed_prefix response_frame_cause response_of (SaysResponse a) (SaysResponse b) a b (λ m. says_response m a) (λ m. says_response m b) text more s t
+
+response_takes : (r : Response) (bytes : List ℕ) (size : ℕ) → IsBytes bytes → response_at bytes ≡ Ok (r, size) → TakesFramed (SaysResponse r) bytes size
+response_takes r bytes size fits e = framed_takes response_frame_cause response_of (SaysResponse r) r bytes size fits (λ m. response_says m r) e
+
+-- ---- refusals
+
+outside : (bytes : List ℕ) (f : FrameFault) → IsNoFrame f bytes → FailsFor (response_frame_cause f) bytes
+outside bytes frame.Short s = s
+outside bytes (frame.TooLong n) s = s
+outside bytes frame.LongPrefix s = inl (record { fault_is = refl; long = s })
+
+inside : (bytes message : List ℕ) (e : ResponseFault) → HasFrame bytes message → ResponseFails e message → FailsFor e bytes
+inside bytes message fault.Short f s = absurd s
+inside bytes message (fault.TooLong n) f s = absurd s
+inside bytes message (fault.Wire e) f s = inr (record { message = message; framed = f; told = s })
+inside bytes message (fault.Missing field) f s = record { message = message; framed = f; told = s }
+inside bytes message fault.Memory f s = absurd s
+
+refused_as : (bytes : List ℕ) (e : ResponseFault) → IsBytes bytes → response_at bytes ≡ Err e → FailsFor e bytes
+refused_as bytes e fits h =
+    elim (framed_fails response_frame_cause response_of bytes e fits h) [
+      | inl out ↦ subst (λ (d : ResponseFault). FailsFor d bytes) out.is (outside bytes out.fault out.found)
+      | inr within ↦ inside bytes within.message e within.framed (response_fails within.message e within.fits within.refused)
+    ]
+
+inside_refuses : (bytes : List ℕ) (e : ResponseFault) → HasSome (ResponseFails e) bytes → response_at bytes ≡ Err e
+inside_refuses bytes e s = inside_refused response_frame_cause response_of bytes e s.message s.framed (fails_response s.message e s.told)
+
+refuses_as : (bytes : List ℕ) (e : ResponseFault) → IsBytes bytes → IsRefusedResponse e bytes → response_at bytes ≡ Err e
+refuses_as bytes fault.Short fits s = no_frame_refused response_frame_cause response_of bytes frame.Short fits s
+refuses_as bytes (fault.TooLong n) fits s = no_frame_refused response_frame_cause response_of bytes (frame.TooLong n) fits s
+refuses_as bytes (fault.Wire e) fits (inl s) =
+    no_frame_refused response_frame_cause response_of bytes frame.LongPrefix fits s.long ∙ ap (λ (w : WireFault). Err (fault.Wire w)) (sym s.fault_is)
+refuses_as bytes (fault.Wire e) fits (inr s) = inside_refuses bytes (fault.Wire e) (record { message = s.message; framed = s.framed; told = s.told })
+refuses_as bytes (fault.Missing field) fits s = inside_refuses bytes (fault.Missing field) (record { message = s.message; framed = s.framed; told = s.told })
+refuses_as bytes fault.Memory fits s = absurd s
+
+-- ---- the clauses of a result
+
+Gives-same : {X : Type 0} (r x y : Result X ResponseFault) → x ≡ y → Gives r x → Gives r y
+Gives-same r x y e g = subst (Gives r) e g
+
+-- the fault of a status that is told
+told_listed : (found : FoundResponse) (told : Status × Option ℕ) → status_told found ≡ Ok told → IsStatus told.0
+unfolding status_told
+told_listed found told e =
+    let one = bind_ok (required (λ n. n) 1 found.status) _ told e in
+    let two = bind_ok (inner sums_told found.sums) _ told one.1.1 in
+    let three = bind_ok (inner info_told found.info) _ told two.1.1 in
+    subst IsStatus (ap (λ (t : Status × Option ℕ). t.0) (ok_value _ told three.1.1)) (told_status_listed one.0)
+
+pub read_found : (bytes : List ℕ) (r : Result (Response × ℕ) ResponseFault) → IsBytes bytes → Gives r (response_at bytes) → IfOk r (λ x. SpellsResponse x.0 (take x.1 bytes))
+read_found bytes (Ok x) fits g = let t = response_takes x.0 bytes x.1 fits (sym g) in t.spelled
+read_found bytes (Err e) fits g = tt
+
+pub read_within : (bytes : List ℕ) (r : Result (Response × ℕ) ResponseFault) → IsBytes bytes → Gives r (response_at bytes) → IfOk r (λ x. x.1 ≤ length bytes)
+read_within bytes (Ok x) fits g = let t = response_takes x.0 bytes x.1 fits (sym g) in t.within
+read_within bytes (Err e) fits g = tt
+
+pub read_only : (bytes : List ℕ) (r : Result (Response × ℕ) ResponseFault) (response : Response) (text rest : List ℕ) → Gives r (response_at bytes) → SpellsResponse response text → bytes ≡ text ++ rest → Gives r (Ok (response, length text))
+read_only bytes r response text rest g s e = Gives-same r (response_at bytes) (Ok (response, length text)) (ap response_at e ∙ response_again response text rest s) g
+
+pub read_refused : (bytes : List ℕ) (r : Result (Response × ℕ) ResponseFault) → IsBytes bytes → Gives r (response_at bytes) → IfErr r (λ e. FailsFor e bytes)
+read_refused bytes (Ok x) fits g = tt
+read_refused bytes (Err fault.Memory) fits g = tt
+read_refused bytes (Err fault.Short) fits g = refused_as bytes fault.Short fits (sym g)
+read_refused bytes (Err (fault.TooLong n)) fits g = refused_as bytes (fault.TooLong n) fits (sym g)
+read_refused bytes (Err (fault.Wire e)) fits g = refused_as bytes (fault.Wire e) fits (sym g)
+read_refused bytes (Err (fault.Missing field)) fits g = refused_as bytes (fault.Missing field) fits (sym g)
+
+pub read_refuses : (bytes : List ℕ) (r : Result (Response × ℕ) ResponseFault) (e : ResponseFault) → IsBytes bytes → Gives r (response_at bytes) → IsRefusedResponse e bytes → Gives r (Err e)
+read_refuses bytes r e fits g s = Gives-same r (response_at bytes) (Err e) (refuses_as bytes e fits s) g
+
+pub read_listed : (bytes : List ℕ) (r : Result (Response × ℕ) ResponseFault) → IsBytes bytes → Gives r (response_at bytes) → IfOk r (λ x. IsStatus x.0.status)
+read_listed bytes (Ok x) fits g =
+    let t = response_takes x.0 bytes x.1 fits (sym g) in
+    let said = t.spelled.told in
+    subst IsStatus (sym (ap (λ (r : Response). r.status) said.response_is)) (told_listed said.found said.told said.told_is)
+read_listed bytes (Err e) fits g = tt

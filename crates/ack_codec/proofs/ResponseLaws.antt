@@ -1,0 +1,305 @@
+-- Responses: what a message says is read, what is read it says, and each fault is the one that stands in it.
+use Rattle.std.proofs.Common.{◌≡◌, ◌==◌, ℕ, ◌+◌, ◌-◌, ◌≤◌, inl, inr, true, false, Bool, cond, List, [], ◌∷◌, ◌++◌, length, drop, Option, Some, None, Result, Ok, Err, subst, refl, sym, ap, ◌∙◌, arith, length-append}
+use Rattle.std.specs.Prelude.{fold}
+use Rattle.std.specs.Option.{option_or}
+use Rattle.std.specs.List.{flat_map}
+use Rattle.proto_fields.specs.declared.reading.Wire.{Wire}
+use Rattle.proto_fields.specs.declared.reading.Wire.TheVariants as wire
+use Rattle.proto_fields.specs.declared.reading.WireFault.{WireFault}
+use Rattle.proto_fields.specs.ResultSteps.{with_cause, with_value}
+use Rattle.proto_fields.specs.Bytes.{IsBytes}
+use Rattle.proto_fields.specs.Fields.{SpellsValue, SpellsFrom, Spells, FirstFault, fields_at, walked}
+use Rattle.proto_fields.specs.Values.{newer, varint_of, part_of, picked, last_part, parts, part_bytes, joined_parts}
+use Rattle.proto_fields.proofs.ByteLaws.{IsBytes-behind, IsBytes-cons, IsBytes-take, IsBytes-drop}
+use Rattle.proto_fields.proofs.ResultLaws.{bind_ok, bind_err, bind-Ok, bind-Err, with_cause_ok, with_cause_err, with_value_ok, with_value_err, with_value-same, ok_value}
+use Rattle.proto_fields.proofs.PlaceLaws.{fields_at_spell, spelled_fields_at, fields_at_fail, faulty_fields_at}
+use Rattle.proto_fields.proofs.ValueLaws.{fold_newer_last}
+use Rattle.ack_codec.specs.declared.faults.ResponseFault.{ResponseFault}
+use Rattle.ack_codec.specs.declared.faults.ResponseFault.TheVariants as fault
+use Rattle.ack_codec.specs.declared.responses.Response.{Response}
+use Rattle.ack_codec.specs.declared.response_reading.FoundSums.{FoundSums}
+use Rattle.ack_codec.specs.declared.response_reading.FoundChecksum.{FoundChecksum}
+use Rattle.ack_codec.specs.declared.response_reading.FoundInfo.{FoundInfo}
+use Rattle.ack_codec.specs.declared.response_reading.FoundResponse.{FoundResponse}
+use Rattle.ack_codec.specs.Responses.{listed_kind, sums_in, checksum_in, no_checksum, newer_checksum, joined_of, joined, FindsInner, FindsSums, FindsChecksum, FindsInfo, FindsResponse, inner, status_told, response_with, SaysResponse, found_sums_at, found_checksum_at, info_with, info_from, found_info_at, found_with, found_behind_sums, found_from, found_response_at, response_told, response_of, PlacedWithin}
+use Rattle.ack_codec.specs.ResponseRefusals.{IsFaultyInner, IsFaultyInfo, IsFaultyResponse, LacksField}
+
+-- ---- a walk over a ChecksumProto
+
+fold-newer_checksum : (found : FoundChecksum) (fs : List (ℕ × Wire)) → fold newer_checksum found fs ≡ record {
+  kind = fold (newer listed_kind 1) found.kind fs;
+  chunk = fold (newer varint_of 2) found.chunk fs;
+}
+fold-newer_checksum found [] = refl
+fold-newer_checksum found (f ∷ fs) = fold-newer_checksum (newer_checksum found f) fs
+
+fold_checksum : (fs : List (ℕ × Wire)) → fold newer_checksum no_checksum fs ≡ checksum_in fs
+fold_checksum fs = fold-newer_checksum no_checksum fs ∙ rw (fold_newer_last listed_kind 1 fs, fold_newer_last varint_of 2 fs) refl
+
+pub walked_checksum : (bytes : List ℕ) → walked newer_checksum no_checksum bytes 0 ≡ with_value checksum_in (fields_at bytes)
+walked_checksum bytes = with_value-same _ _ fold_checksum (fields_at bytes)
+
+-- ---- where a text lies
+
+value_placed : (size at : ℕ) (value : Wire) (text : List ℕ) (p : ℕ × ℕ) → SpellsValue at value text → at + length text ≤ size → part_of value ≡ Some p → PlacedWithin size (Some p)
+value_placed size at (wire.Varint n) text p s within e = cc
+value_placed size at (wire.Eight n) text p s within e = cc
+value_placed size at (wire.Four n) text p s within e = cc
+value_placed size at (wire.Part from to) text p s within e =
+    let same : (from, to) ≡ p = some_is (from, to) p e in
+    subst (λ (q : ℕ × ℕ). PlacedWithin size (Some q)) same (omega (arith, s.begins, s.ends, ap length s.parts ∙ length-append s.len s.bytes), omega (arith, s.ends))
+  where
+    some_is : (x y : ℕ × ℕ) → Some x ≡ Some y → x ≡ y
+    some_is x y e = cc
+
+last_part_placed_from : (size at number : ℕ) (fs : List (ℕ × Wire)) (text : List ℕ) → SpellsFrom at fs text → at + length text ≤ size → PlacedWithin size (last_part number fs)
+last_part_placed_from size at number [] text s within = tt
+last_part_placed_from size at number (f ∷ fs) text s within =
+    let sizes : length text ≡ length s.0 + length s.1 = ap length s.2 ∙ length-append s.0 s.1 in
+    by_later (last_part number fs) (picked part_of number f) (last_part_placed_from size (at + length s.0) number fs s.1 s.4 (omega arith)) (here (f.0 == number))
+  where
+    by_later : (later now : Option (ℕ × ℕ)) → PlacedWithin size later → PlacedWithin size now → PlacedWithin size (option_or later now)
+    by_later (Some p) now placed here = placed
+    by_later None now placed here = here
+
+    here : (b : Bool) → PlacedWithin size (cond b (part_of f.1) None)
+    here false = tt
+    here true = by_part (part_of f.1) refl where
+      by_part : (o : Option (ℕ × ℕ)) → part_of f.1 ≡ o → PlacedWithin size o
+      by_part None e = tt
+      by_part (Some p) e =
+          let sizes : length text ≡ length s.0 + length s.1 = ap length s.2 ∙ length-append s.0 s.1 in
+          let inside : length s.0 ≡ length s.3.tag + length s.3.value = ap length s.3.parts ∙ length-append s.3.tag s.3.value in
+          value_placed size (at + length s.3.tag) f.1 s.3.value p s.3.value_spelled (omega arith) e
+
+pub last_part_placed : (bytes : List ℕ) (fs : List (ℕ × Wire)) (number : ℕ) → IsBytes bytes → fields_at bytes ≡ Ok fs → PlacedWithin (length bytes) (last_part number fs)
+last_part_placed bytes fs number fits e = last_part_placed_from (length bytes) 0 number fs bytes (fields_at_spell bytes fs fits e) (omega arith)
+
+-- ---- the bytes of joined parts
+
+IsBytes-append : (xs ys : List ℕ) → IsBytes xs → IsBytes ys → IsBytes (xs ++ ys)
+IsBytes-append [] ys one two = two
+IsBytes-append (x ∷ xs) ys one two = IsBytes-cons x (xs ++ ys) (one 0) (IsBytes-append xs ys (IsBytes-behind x xs one) two)
+
+IsBytes-joined : (bytes : List ℕ) (ps : List (ℕ × ℕ)) → IsBytes bytes → IsBytes (flat_map (part_bytes bytes) ps)
+IsBytes-joined bytes [] fits = λ i. omega arith
+IsBytes-joined bytes (p ∷ ps) fits = IsBytes-append (part_bytes bytes p) (flat_map (part_bytes bytes) ps) (IsBytes-take (p.1 - p.0) (drop p.0 bytes) (IsBytes-drop p.0 bytes fits)) (IsBytes-joined bytes ps fits)
+
+-- what is joined is bytes
+AreBytes : Option (List ℕ) → Type 0
+AreBytes o = (bytes : List ℕ) → o ≡ Some bytes → IsBytes bytes
+
+joined_bytes : (number : ℕ) (bytes : List ℕ) (fs : List (ℕ × Wire)) → IsBytes bytes → AreBytes (joined number bytes fs)
+unfolding AreBytes
+joined_bytes number bytes fs fits inside e = by_parts (parts number fs) (joined_parts bytes number fs) (IsBytes-joined bytes (parts number fs) fits) e where
+  some_is : (x y : List ℕ) → Some x ≡ Some y → x ≡ y
+  some_is x y e = cc
+
+  by_parts : (ps : List (ℕ × ℕ)) (all : List ℕ) → IsBytes all → joined_of ps all ≡ Some inside → IsBytes inside
+  by_parts [] all fits e = cc
+  by_parts (p ∷ ps) all fits e = subst IsBytes (some_is all inside e) fits
+
+-- ---- a message within
+
+inner_finds : {X : Type 0} (read : List ℕ → Result X WireFault) (P : List ℕ → X → Type 0) → ((bytes : List ℕ) (x : X) → IsBytes bytes → read bytes ≡ Ok x → P bytes x) → (o : Option (List ℕ)) (found : Option X) → AreBytes o → inner read o ≡ Ok found → FindsInner P o found
+unfolding AreBytes
+inner_finds read P says None found fits e = sym (ok_value None found e)
+inner_finds read P says (Some bytes) found fits e =
+    let one = with_value_ok Some (read bytes) found e in
+    (one.0, sym one.1.1, says bytes one.0 (fits bytes refl) one.1.0)
+
+finds_inner : {X : Type 0} (read : List ℕ → Result X WireFault) (P : List ℕ → X → Type 0) → ((bytes : List ℕ) (x : X) → P bytes x → read bytes ≡ Ok x) → (o : Option (List ℕ)) (found : Option X) → FindsInner P o found → inner read o ≡ Ok found
+finds_inner read P reads None found s = ap Ok (sym s)
+finds_inner read P reads (Some bytes) found s = ap (with_value Some) (reads bytes s.0 s.2) ∙ ap Ok (sym s.1)
+
+inner_fails : {X : Type 0} (read : List ℕ → Result X WireFault) (Q : List ℕ → WireFault → Type 0) (e : WireFault) → ((bytes : List ℕ) → IsBytes bytes → read bytes ≡ Err e → Q bytes e) → (o : Option (List ℕ)) → AreBytes o → inner read o ≡ Err e → IsFaultyInner Q o e
+unfolding AreBytes
+inner_fails read Q e fails None fits h = cc
+inner_fails read Q e fails (Some bytes) fits h = fails bytes (fits bytes refl) (with_value_err Some (read bytes) e h)
+
+fails_inner : {X : Type 0} (read : List ℕ → Result X WireFault) (Q : List ℕ → WireFault → Type 0) (e : WireFault) → ((bytes : List ℕ) → Q bytes e → read bytes ≡ Err e) → (o : Option (List ℕ)) → IsFaultyInner Q o e → inner read o ≡ Err e
+fails_inner read Q e refuses None f = absurd f
+fails_inner read Q e refuses (Some bytes) f = ap (with_value Some) (refuses bytes f)
+
+-- ---- checksumResponse, and a kind of sums
+
+sums_found : (bytes : List ℕ) (x : FoundSums) → IsBytes bytes → found_sums_at bytes ≡ Ok x → FindsSums bytes x
+sums_found bytes x fits e =
+    let one = with_value_ok sums_in (fields_at bytes) x e in
+    record { fields = one.0; spelled = fields_at_spell bytes one.0 fits one.1.0; told = sym one.1.1 }
+
+sums_read : (bytes : List ℕ) (x : FoundSums) → FindsSums bytes x → found_sums_at bytes ≡ Ok x
+sums_read bytes x s = ap (with_value sums_in) (spelled_fields_at bytes s.fields s.spelled) ∙ ap Ok (sym s.told)
+
+checksum_found : (bytes : List ℕ) (x : FoundChecksum) → IsBytes bytes → found_checksum_at bytes ≡ Ok x → FindsChecksum bytes x
+checksum_found bytes x fits e =
+    let one = with_value_ok checksum_in (fields_at bytes) x e in
+    record { fields = one.0; spelled = fields_at_spell bytes one.0 fits one.1.0; told = sym one.1.1 }
+
+checksum_read : (bytes : List ℕ) (x : FoundChecksum) → FindsChecksum bytes x → found_checksum_at bytes ≡ Ok x
+checksum_read bytes x s = ap (with_value checksum_in) (spelled_fields_at bytes s.fields s.spelled) ∙ ap Ok (sym s.told)
+
+-- the fault of fields from which a value is made
+fields_fault : {X : Type 0} (f : List (ℕ × Wire) → X) (e : WireFault) (bytes : List ℕ) → IsBytes bytes → with_value f (fields_at bytes) ≡ Err e → FirstFault bytes e
+fields_fault f e bytes fits h = fields_at_fail bytes e fits (with_value_err f (fields_at bytes) e h)
+
+faulty_fields : {X : Type 0} (f : List (ℕ × Wire) → X) (e : WireFault) (bytes : List ℕ) → FirstFault bytes e → with_value f (fields_at bytes) ≡ Err e
+faulty_fields f e bytes s = ap (with_value f) (faulty_fields_at bytes e s)
+
+-- ---- readOpChecksumInfo
+
+info_found : (bytes : List ℕ) (x : FoundInfo) → IsBytes bytes → found_info_at bytes ≡ Ok x → FindsInfo bytes x
+info_found bytes x fits e =
+    let one = bind_ok (fields_at bytes) (info_from bytes) x e in
+    let two = with_value_ok (info_with one.0) (inner found_checksum_at (joined 1 bytes one.0)) x one.1.1 in
+    subst (FindsInfo bytes) two.1.1 (record {
+      fields = one.0;
+      spelled = fields_at_spell bytes one.0 fits one.1.0;
+      checksum = inner_finds found_checksum_at FindsChecksum checksum_found (joined 1 bytes one.0) two.0 (joined_bytes 1 bytes one.0 fits) two.1.0;
+      offset_is = refl;
+    })
+
+info_read : (bytes : List ℕ) (x : FoundInfo) → FindsInfo bytes x → found_info_at bytes ≡ Ok x
+info_read bytes x s =
+    bind-Ok (fields_at bytes) (info_from bytes) s.fields (spelled_fields_at bytes s.fields s.spelled)
+    ∙ (ap (with_value (info_with s.fields)) (finds_inner found_checksum_at FindsChecksum checksum_read (joined 1 bytes s.fields) x.checksum s.checksum)
+    ∙ ap (λ (o : Option ℕ). Ok (with_offset x o)) (sym s.offset_is))
+  where
+    with_offset : FoundInfo → Option ℕ → FoundInfo
+    with_offset x o = record x { offset = o }
+
+info_fault : (e : WireFault) (bytes : List ℕ) → IsBytes bytes → found_info_at bytes ≡ Err e → IsFaultyInfo bytes e
+info_fault e bytes fits h =
+    elim (bind_err (fields_at bytes) (info_from bytes) e h) [
+      | inl one ↦ inl (fields_at_fail bytes e fits one)
+      | inr later ↦
+          inr (record {
+            fields = later.0;
+            spelled = fields_at_spell bytes later.0 fits later.1.0;
+            found = inner_fails found_checksum_at FirstFault e (λ b. fields_fault checksum_in e b) (joined 1 bytes later.0) (joined_bytes 1 bytes later.0 fits) (with_value_err (info_with later.0) _ e later.1.1);
+          })
+    ]
+
+faulty_info : (e : WireFault) (bytes : List ℕ) → IsFaultyInfo bytes e → found_info_at bytes ≡ Err e
+faulty_info e bytes (inl s) = bind-Err (fields_at bytes) (info_from bytes) e (faulty_fields_at bytes e s)
+faulty_info e bytes (inr s) =
+    bind-Ok (fields_at bytes) (info_from bytes) s.fields (spelled_fields_at bytes s.fields s.spelled)
+    ∙ ap (with_value (info_with s.fields)) (fails_inner found_checksum_at FirstFault e (λ b. faulty_fields checksum_in e b) (joined 1 bytes s.fields) s.found)
+
+-- ---- the whole response
+
+found_finds : (message : List ℕ) (x : FoundResponse) → IsBytes message → found_response_at message ≡ Ok x → FindsResponse message x
+found_finds message x fits e =
+    let one = bind_ok (fields_at message) (found_from message) x e in
+    let two = bind_ok (inner found_sums_at (joined 3 message one.0)) (found_behind_sums message one.0) x one.1.1 in
+    let three = with_value_ok (found_with one.0 two.0) (inner found_info_at (joined 4 message one.0)) x two.1.1 in
+    subst (FindsResponse message) three.1.1 (record {
+      fields = one.0;
+      spelled = fields_at_spell message one.0 fits one.1.0;
+      status_is = refl;
+      first_bad_is = refl;
+      sums = inner_finds found_sums_at FindsSums sums_found (joined 3 message one.0) two.0 (joined_bytes 3 message one.0 fits) two.1.0;
+      info = inner_finds found_info_at FindsInfo info_found (joined 4 message one.0) three.0 (joined_bytes 4 message one.0 fits) three.1.0;
+      message_is = refl;
+    })
+
+finds_found : (message : List ℕ) (x : FoundResponse) → FindsResponse message x → found_response_at message ≡ Ok x
+finds_found message x s =
+    bind-Ok (fields_at message) (found_from message) s.fields (spelled_fields_at message s.fields s.spelled)
+    ∙ (bind-Ok (inner found_sums_at (joined 3 message s.fields)) (found_behind_sums message s.fields) x.sums (finds_inner found_sums_at FindsSums sums_read (joined 3 message s.fields) x.sums s.sums)
+    ∙ (ap (with_value (found_with s.fields x.sums)) (finds_inner found_info_at FindsInfo info_read (joined 4 message s.fields) x.info s.info)
+    ∙ same s.status_is s.first_bad_is s.message_is))
+  where
+    same : {a : Option ℕ} {b c : Option (ℕ × ℕ)} → x.status ≡ a → x.first_bad ≡ b → x.message ≡ c → ◌≡◌ {A = Result FoundResponse WireFault} (Ok (record x { status = a; first_bad = b; message = c })) (Ok x)
+    same p q r = rw (← p, ← q, ← r) refl
+
+found_fault : (message : List ℕ) (e : WireFault) → IsBytes message → found_response_at message ≡ Err e → IsFaultyResponse e message
+found_fault message e fits h =
+    elim (bind_err (fields_at message) (found_from message) e h) [
+      | inl one ↦ inl (fields_at_fail message e fits one)
+      | inr later ↦
+          let fs = later.0 in
+          let spelled : Spells fs message = fields_at_spell message fs fits later.1.0 in
+          elim (bind_err (inner found_sums_at (joined 3 message fs)) (found_behind_sums message fs) e later.1.1) [
+            | inl two ↦
+                inr (inl (record {
+                  fields = fs;
+                  spelled = spelled;
+                  found = inner_fails found_sums_at FirstFault e (λ b. fields_fault sums_in e b) (joined 3 message fs) (joined_bytes 3 message fs fits) two;
+                }))
+            | inr third ↦
+                inr (inr (record {
+                  fields = fs;
+                  spelled = spelled;
+                  sums = third.0;
+                  whole = inner_finds found_sums_at FindsSums sums_found (joined 3 message fs) third.0 (joined_bytes 3 message fs fits) third.1.0;
+                  found = inner_fails found_info_at IsFaultyInfo e (info_fault e) (joined 4 message fs) (joined_bytes 4 message fs fits) (with_value_err (found_with fs third.0) _ e third.1.1);
+                }))
+          ]
+    ]
+
+faulty_found : (message : List ℕ) (e : WireFault) → IsFaultyResponse e message → found_response_at message ≡ Err e
+faulty_found message e (inl s) = bind-Err (fields_at message) (found_from message) e (faulty_fields_at message e s)
+faulty_found message e (inr (inl s)) =
+    bind-Ok (fields_at message) (found_from message) s.fields (spelled_fields_at message s.fields s.spelled)
+    ∙ bind-Err (inner found_sums_at (joined 3 message s.fields)) (found_behind_sums message s.fields) e (fails_inner found_sums_at FirstFault e (λ b. faulty_fields sums_in e b) (joined 3 message s.fields) s.found)
+faulty_found message e (inr (inr s)) =
+    bind-Ok (fields_at message) (found_from message) s.fields (spelled_fields_at message s.fields s.spelled)
+    ∙ (bind-Ok (inner found_sums_at (joined 3 message s.fields)) (found_behind_sums message s.fields) s.sums (finds_inner found_sums_at FindsSums sums_read (joined 3 message s.fields) s.sums s.whole)
+    ∙ ap (with_value (found_with s.fields s.sums)) (fails_inner found_info_at IsFaultyInfo e (faulty_info e) (joined 4 message s.fields) s.found))
+
+-- ---- responses
+
+pub response_says : (message : List ℕ) (r : Response) → IsBytes message → response_of message ≡ Ok r → SaysResponse r message
+unfolding response_of
+response_says message r fits e =
+    let one = bind_ok (with_cause fault.Wire (found_response_at message)) (response_told message) r e in
+    let two = with_value_ok (response_with message one.0) (with_cause fault.Missing (status_told one.0)) r one.1.1 in
+    record {
+      found = one.0;
+      finds = found_finds message one.0 fits (with_cause_ok fault.Wire (found_response_at message) one.0 one.1.0);
+      told = two.0;
+      told_is = with_cause_ok fault.Missing (status_told one.0) two.0 two.1.0;
+      response_is = sym two.1.1;
+    }
+
+pub says_response : (message : List ℕ) (r : Response) → SaysResponse r message → response_of message ≡ Ok r
+unfolding response_of
+says_response message r s =
+    bind-Ok (with_cause fault.Wire (found_response_at message)) (response_told message) s.found (ap (with_cause fault.Wire) (finds_found message s.found s.finds))
+    ∙ (ap (λ t. with_value (response_with message s.found) (with_cause fault.Missing t)) s.told_is
+    ∙ ap Ok (sym s.response_is))
+
+-- what a message that is refused so has
+abbrev pub ResponseFails : ResponseFault → List ℕ → Type 0
+ResponseFails fault.Short message = ⊥
+ResponseFails (fault.TooLong n) message = ⊥
+ResponseFails (fault.Wire e) message = IsFaultyResponse e message
+ResponseFails (fault.Missing field) message = LacksField field message
+ResponseFails fault.Memory message = ⊥
+
+pub response_fails : (message : List ℕ) (e : ResponseFault) → IsBytes message → response_of message ≡ Err e → ResponseFails e message
+unfolding response_of
+response_fails message e fits h =
+    elim (bind_err (with_cause fault.Wire (found_response_at message)) (response_told message) e h) [
+      | inl one ↦
+          let d = with_cause_err fault.Wire (found_response_at message) e one in
+          subst (λ (f : ResponseFault). ResponseFails f message) d.1.1 (found_fault message d.0 fits d.1.0)
+      | inr later ↦
+          let d = with_cause_err fault.Missing (status_told later.0) e (with_value_err (response_with message later.0) _ e later.1.1) in
+          subst (λ (f : ResponseFault). ResponseFails f message) d.1.1 (record {
+            found = later.0;
+            finds = found_finds message later.0 fits (with_cause_ok fault.Wire (found_response_at message) later.0 later.1.0);
+            told = d.1.0;
+          })
+    ]
+
+pub fails_response : (message : List ℕ) (e : ResponseFault) → ResponseFails e message → response_of message ≡ Err e
+unfolding response_of
+fails_response message fault.Short f = absurd f
+fails_response message (fault.TooLong n) f = absurd f
+fails_response message (fault.Wire e) f = bind-Err _ (response_told message) (fault.Wire e) (ap (with_cause fault.Wire) (faulty_found message e f))
+fails_response message (fault.Missing field) f =
+    bind-Ok (with_cause fault.Wire (found_response_at message)) (response_told message) f.found (ap (with_cause fault.Wire) (finds_found message f.found f.finds))
+    ∙ ap (λ t. with_value (response_with message f.found) (with_cause fault.Missing t)) f.told
+fails_response message fault.Memory f = absurd f

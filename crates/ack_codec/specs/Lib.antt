@@ -1,0 +1,12 @@
+pub mod Statuses
+pub mod Frames
+pub mod Framed
+pub mod Required
+pub mod Packed
+pub mod Tallies
+pub mod Acks
+pub mod AckTexts
+pub mod AckRefusals
+pub mod Responses
+pub mod ResponseRefusals
+pub mod ResponseTexts
