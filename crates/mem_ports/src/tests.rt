@@ -170,7 +170,7 @@ fn drawers_fail_at_each_call(rt: HostRuntime) -> Result<(), Fail> {
         let mut shelf = MemShelf::new(rt.alloc(), &[number as u64])?;
         let answer = use_shelf(rt.alloc(), &mut shelf, BlockId(7), &name, &other);
         if answer == Err(FileError::Memory) {
-            return Ok(());
+            return Err(AllocError.into());
         }
         if number == 0 {
             assert_eq!(rt; answer, Ok((5, *b"234", 1)));
@@ -180,7 +180,7 @@ fn drawers_fail_at_each_call(rt: HostRuntime) -> Result<(), Fail> {
         assert_eq!(rt; shelf.brought, u64::from(number > 0), "call {number}");
         let listed = look_at(rt.alloc(), &mut shelf);
         if listed == Err(FileError::Memory) {
-            return Ok(());
+            return Err(AllocError.into());
         }
         if number == 1 {
             assert_eq!(rt; listed, Err(FileError::Failed));
@@ -219,13 +219,13 @@ fn files_stay_with_their_block(rt: HostRuntime) -> Result<(), Fail> {
         let name = FileName::new(name).ok_or("a name")?;
         let stored = keep(rt.alloc(), &mut shelf, BlockId(block), &name);
         if stored == Err(FileError::Memory) {
-            return Ok(());
+            return Err(AllocError.into());
         }
         assert_eq!(rt; stored, Ok(5));
     }
     let lent = count_lent(rt.alloc(), &mut shelf, BlockId(8));
     if lent == Err(FileError::Memory) {
-        return Ok(());
+        return Err(AllocError.into());
     }
     assert_eq!(rt; lent, Ok(1));
     let names = shelf.list(rt.alloc()).map_err(|_| AllocError)?;
@@ -303,7 +303,7 @@ fn roads_fail_at_each_call(rt: HostRuntime) -> Result<(), Fail> {
         let mut roads = MemRoads::new(rt.alloc(), &[number as u64])?;
         let answer = meet(rt.alloc(), &mut roads);
         if answer == Err(RoadError::Memory) {
-            return Ok(());
+            return Err(AllocError.into());
         }
         assert_eq!(rt; answer, *wanted, "call {number}");
         assert_eq!(rt; roads.schedule.faults, *faults, "call {number}");
@@ -338,7 +338,7 @@ fn collect<R: Roads>(alloc: Global, roads: &mut R, share: R) -> Result<bool, Roa
 fn ends_are_brought_back(rt: HostRuntime) -> Result<(), Fail> {
     let mut all = MemRoads::new(rt.alloc(), &[])?;
     if greet(rt.alloc(), &mut all).is_err() {
-        return Ok(());
+        return Err(AllocError.into());
     }
     let table = [
         (0, Ok(Got::NotYet), Ok(4)),
@@ -347,17 +347,17 @@ fn ends_are_brought_back(rt: HostRuntime) -> Result<(), Fail> {
     for (number, heard, lost) in table {
         let mut roads = MemRoads::new(rt.alloc(), &[number])?;
         let Ok(end) = greet(rt.alloc(), &mut roads) else {
-            return Ok(());
+            return Err(AllocError.into());
         };
         let answer = finish(rt.alloc(), &mut roads, end);
         if let Err(RoadError::Memory) | Ok((_, Err(LinkError::Memory))) = answer {
-            return Ok(());
+            return Err(AllocError.into());
         }
         assert_eq!(rt; answer, Ok((heard, lost)), "call {number}");
         assert_eq!(rt; roads.risen(ConnId(0)), number > 0);
         let risen = collect(rt.alloc(), &mut all, roads);
         if risen == Err(RoadError::Memory) {
-            return Ok(());
+            return Err(AllocError.into());
         }
         assert_eq!(rt; risen, Ok(number > 0));
     }
