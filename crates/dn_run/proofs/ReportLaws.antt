@@ -13,11 +13,6 @@ pub last_piece : {A E : Type 0} (r : Result A E) (a b c xs ys zs : List ℕ) →
 last_piece (Ok x) a b c xs ys zs e f same = one_piece a b c xs ys e f ∙ ap (λ l. a ++ l) same
 last_piece (Err d) a b c xs ys zs e f same = tt
 
--- The words of the answer to create.
-pub create_words : (block stamp : ℕ) → ((codes "answer" ++ 32 ∷ []) ++ (decimal block ++ 32 ∷ []) ++ (codes "0 create ok" ++ 32 ∷ [])) ++ (decimal stamp ++ 10 ∷ []) ≡ create_answer_line block stamp
-unfolding create_answer_line
-create_words block stamp = simp append_assoc
-
 -- The words of a replica's line.
 pub replica_words : (r : ReplicaEntry) → ((codes "replica" ++ 32 ∷ []) ++ (decimal r.node.0 ++ 32 ∷ []) ++ (decimal r.block.0 ++ 32 ∷ []) ++ (state_name r.state ++ 32 ∷ []) ++ (decimal r.stamp.0 ++ 32 ∷ []) ++ (decimal r.written ++ 32 ∷ []) ++ (decimal r.acked ++ 32 ∷ []) ++ (sum_text r.sum ++ 32 ∷ [])) ++ (codes "ok" ++ 10 ∷ []) ≡ replica_line r
 unfolding replica_line

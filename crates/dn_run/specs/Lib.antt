@@ -1,3 +1,10 @@
 pub mod Streams
 pub mod Scripts
 pub mod Reports
+pub mod Faults
+pub mod Replicas
+pub mod Sendings
+pub mod Members
+pub mod Connections
+pub mod Exits
+pub mod Runs

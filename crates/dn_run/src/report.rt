@@ -26,6 +26,15 @@ pub struct ReplicaEntry {
     pub sum: u32,
 }
 
+/// How the making of the block was answered.
+#[derive(Clone, Copy, Debug, PartialEq, Eq)]
+pub enum CreateAnswer {
+    /// The block was made, under this stamp.
+    Created { stamp: Stamp },
+    /// Its pipeline couldn't be set up: this member wasn't reached.
+    Abandoned { node: NodeId },
+}
+
 /// How the closing was answered.
 #[derive(Clone, Copy, Debug, PartialEq, Eq)]
 pub enum CloseAnswer {
@@ -35,6 +44,8 @@ pub enum CloseAnswer {
         stamp: Stamp,
         node: NodeId,
     },
+    /// The block was abandoned before, since this member wasn't reached.
+    Abandoned { node: NodeId },
     /// No answer came.
     Waiting,
 }
@@ -42,10 +53,12 @@ pub enum CloseAnswer {
 /// What the report of a first write tells.
 #[derive(Clone, Copy, Debug, PartialEq, Eq)]
 pub struct WriteReport {
-    /// The replica at the end.
-    pub replica: ReplicaEntry,
-    /// The stamp under which the block was made.
-    pub created: Stamp,
+    /// The block of the commands.
+    pub block: BlockId,
+    /// The replica at the end, where there is one.
+    pub replica: Option<ReplicaEntry>,
+    /// How the making of the block was answered.
+    pub create: CreateAnswer,
     /// Whether a line wrote bytes.
     pub wrote: bool,
     /// How the closing was answered.
@@ -58,10 +71,11 @@ pub fn report_text(alloc: Global, report: &WriteReport) -> Result<Vec<u8>, Alloc
     ensures { IfOk result (λ text. text.items ≡ report_of report.now) }
 {
     let mut out = Vec::new(alloc);
-    let block = report.replica.block;
-    push_replica(&mut out, &report.replica)?;
-    push_create_answer(&mut out, block, report.created)?;
-    push_close_answer(&mut out, block, report.wrote, &report.close)?;
+    if let Some(replica) = &report.replica {
+        push_replica(&mut out, replica)?;
+    }
+    push_create_answer(&mut out, report.block, &report.create)?;
+    push_close_answer(&mut out, report.block, report.wrote, &report.close)?;
     push_word(&mut out, b"end", b'\n')?;
     Ok(out)
 }
@@ -84,13 +98,25 @@ fn push_replica(out: &mut Vec<u8>, replica: &ReplicaEntry) -> Result<(), AllocEr
 
 /// Appends the line of the answer to create.
 #[tactic(auto, unfolding(crate::specs::Reports::create_answer_line))]
-fn push_create_answer(out: &mut Vec<u8>, block: BlockId, stamp: Stamp) -> Result<(), AllocError>
-    ensures { OnOk result (out.new.items ≡ out.old.items ++ create_answer_line block.0 stamp.0) }
+fn push_create_answer(
+    out: &mut Vec<u8>,
+    block: BlockId,
+    create: &CreateAnswer,
+) -> Result<(), AllocError>
+    ensures { OnOk result (out.new.items ≡ out.old.items ++ create_answer_line block.0 create.now) }
 {
     push_word(out, b"answer", b' ')?;
     push_number(out, block.0, b' ')?;
-    push_word(out, b"0 create ok", b' ')?;
-    push_number(out, stamp.0, b'\n')
+    match create {
+        CreateAnswer::Created { stamp } => {
+            push_word(out, b"0 create ok", b' ')?;
+            push_number(out, stamp.0, b'\n')
+        }
+        CreateAnswer::Abandoned { node } => {
+            push_word(out, b"0 create abandoned", b' ')?;
+            push_number(out, u64::from(node.0), b'\n')
+        }
+    }
 }
 
 /// Appends the line of the answer to close.
@@ -115,6 +141,10 @@ fn push_close_answer(
             push_word(out, b"close ok", b' ')?;
             push_number(out, *length, b' ')?;
             push_number(out, stamp.0, b' ')?;
+            push_number(out, u64::from(node.0), b'\n')
+        }
+        CloseAnswer::Abandoned { node } => {
+            push_word(out, b"close abandoned", b' ')?;
             push_number(out, u64::from(node.0), b'\n')
         }
         CloseAnswer::Waiting => push_word(out, b"close waiting", b'\n'),

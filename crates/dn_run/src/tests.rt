@@ -2,7 +2,7 @@
 
 ghost use Rattle.std.specs.Prelude.{None};
 
-use crate::report::{CloseAnswer, ReplicaEntry, WriteReport, report_text};
+use crate::report::{CloseAnswer, CreateAnswer, ReplicaEntry, WriteReport, report_text};
 use crate::script::read_script;
 use crate::streams::{ReadFault, WriteFault, read_to_end, write_all};
 use hd_base::{BlockId, Failed, NodeId, ReplicaState, Sink, Source, Stamp};
@@ -105,8 +105,9 @@ fn reports_are_written(rt: HostRuntime) -> Result<(), Fail> {
     ];
     for (replica, wrote, close, text) in table {
         let report = WriteReport {
-            replica,
-            created: Stamp(1001),
+            block: replica.block,
+            replica: Some(replica),
+            create: CreateAnswer::Created { stamp: Stamp(1001) },
             wrote,
             close,
         };

@@ -1,5 +1,5 @@
 -- What the two halves of a connection's end hold and have sent.
-use Rattle.std.specs.Prelude.{◌≡◌, ℕ, ◌+◌, ◌-◌, ◌<◌, ◌≤◌, Bool, true, false, List, [], ◌∷◌, ◌++◌, length, take, drop, Option, Some, None, option_map, IfSome, Result, IsErrOf}
+use Rattle.std.specs.Prelude.{◌≡◌, ℕ, ◌+◌, ◌-◌, ◌<◌, ◌≤◌, Bool, true, false, List, [], ◌∷◌, ◌++◌, length, take, drop, Option, Some, None, option_map, IsSome, IfSome, Result, IsErrOf}
 use Rattle.hd_base.specs.Faults.{Rose}
 use Rattle.hd_base.specs.declared.links.Got.{Got}
 use Rattle.hd_base.specs.declared.links.Got.TheVariants as got
@@ -32,6 +32,10 @@ Sends old new piece = new ≡ option_map (λ pieces. pieces ++ piece ∷ []) old
 -- Where told, nothing was sent.
 abbrev pub SentNothing : Option (List (List ℕ)) → Type 0
 SentNothing sent = sent ≡ option_map (λ _. []) sent
+
+-- Both halves of an end tell what they hold and have sent.
+abbrev pub BothTell : Option Inbox → Option (List (List ℕ)) → Type 0
+BothTell held sent = IsSome held × IsSome sent
 
 -- A call on a half that takes no memory: Failed, and only where the count rose.
 pub record LinkCause {T : Type 0} (before now : ℕ) (result : Result T LinkError) : Type 0 where

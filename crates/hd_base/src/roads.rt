@@ -2,7 +2,7 @@
 
 ghost use Rattle.std.specs.Prelude.{◌≡◌, ◌==◌, ℕ, ◌+◌, ◌<◌, ◌≤◌, ◌&&◌, ◌||◌, ◌↔◌, not, nat_lt, Bool, true, false, List, [], length, slice_get, Option, Some, None, option_map, option_and_then, IfSome, IsNone, MatchOption, IfOk, OnOk, OnErr, IsErrOf};
 ghost use Rattle.hd_base.specs.Faults.{Rose, Adds, Plan, FollowsPlan, LeavesPlan};
-ghost use Rattle.hd_base.specs.Links.{IsFresh};
+ghost use Rattle.hd_base.specs.Links.{IsFresh, BothTell};
 ghost use Rattle.hd_base.specs.Ways.{Carried, Carries, nothing_carried, gathered, Plain, with_listening, with_dial, with_accept, empty_way, is_hungry, filled, to_hand, with_handed, with_offer, standing_of};
 ghost use Rattle.hd_base.specs.RoadCauses.{RoadCause, OnlyMemory};
 ghost use Rattle.hd_base.specs.declared.roads.Standing.TheVariants as standing;
@@ -51,7 +51,7 @@ pub enum RoadError {
 /// carried by connection and direction: of the pieces that were exchanged or brought back, in the
 /// order sent, lost ones among them. Roads over plain memory also tell what they hold: the ports
 /// that are listened on, the dials that wait, and what stands on each way; other roads' links
-/// carry by themselves.
+/// carry by themselves. Ends that roads over plain memory give tell what they hold and have sent.
 pub trait Roads: Sized + Drop {
     type Inward: LinkIn + Send;
 
@@ -105,6 +105,7 @@ pub trait Roads: Sized + Drop {
         ensures upper { IfOk result (λ c. c.lower ≡ false) }
         ensures number { IfOk result (λ c. IfSome (plain self.old) (λ p. c.id.0 ≡ p.dialled)) }
         ensures fresh { IfOk result (λ c. IsFresh (Self.Inward.held c.inward) (Self.Inward.shut c.inward) (Self.Inward.faults c.inward) (Self.Outward.sent c.outward) (Self.Outward.handed c.outward) (Self.Outward.lost c.outward) (Self.Outward.shut c.outward) (Self.Outward.faults c.outward)) }
+        ensures told { IfOk result (λ c. IfSome (plain self.old) (λ _. BothTell (Self.Inward.held c.inward) (Self.Outward.sent c.outward))) }
         ensures plans { IfOk result (λ c. (Self.Inward.plan c.inward ≡ plan self.new) × (Self.Outward.plan c.outward ≡ plan self.new)) }
         ensures unused { IfOk result (λ c. IfSome (carried self.old) (λ k. (d : Bool) → k c.id.0 d ≡ [])) }
         ensures empty { IfOk result (λ c. IfSome (plain self.old) (λ p. (d : Bool) → p.ways c.id.0 d ≡ empty_way)) }
@@ -131,6 +132,7 @@ pub trait Roads: Sized + Drop {
         ensures number { IfOk result (λ found. IfSome found (λ c. IfSome (plain self.old) (λ p. slice_get (p.waiting port) 0 ≡ Some c.id.0))) }
         ensures known { IfOk result (λ found. IfSome found (λ c. IfSome (plain self.old) (λ p. c.id.0 < p.dialled))) }
         ensures fresh { IfOk result (λ found. IfSome found (λ c. IsFresh (Self.Inward.held c.inward) (Self.Inward.shut c.inward) (Self.Inward.faults c.inward) (Self.Outward.sent c.outward) (Self.Outward.handed c.outward) (Self.Outward.lost c.outward) (Self.Outward.shut c.outward) (Self.Outward.faults c.outward))) }
+        ensures told { IfOk result (λ found. IfSome found (λ c. IfSome (plain self.old) (λ _. BothTell (Self.Inward.held c.inward) (Self.Outward.sent c.outward)))) }
         ensures plans { IfOk result (λ found. IfSome found (λ c. (Self.Inward.plan c.inward ≡ plan self.new) × (Self.Outward.plan c.outward ≡ plan self.new))) }
         ensures plain { IfOk result (λ found. MatchOption found (plain self.new ≡ plain self.old) (λ _. plain self.new ≡ option_map (λ p. with_accept p port) (plain self.old))) }
         ensures carried { carried self.new ≡ carried self.old }

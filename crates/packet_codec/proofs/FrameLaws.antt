@@ -108,7 +108,7 @@ record Through (one two three : Bool) (g f : Frame) : Type 0 where
   third : three ≡ false
   same : g ≡ f
 
-err_ok : {A : Type 0} (x : PacketFault) (y : A) → ◌≡◌ {A = Result A PacketFault} (Err x) (Ok y) → ⊥
+pub err_ok : {A : Type 0} (x : PacketFault) (y : A) → ◌≡◌ {A = Result A PacketFault} (Err x) (Ok y) → ⊥
 err_ok x y e = cc
 
 through : (one two three : Bool) (x y z : PacketFault) (g f : Frame) → cond one (Err x) (cond two (Err y) (cond three (Err z) (Ok g))) ≡ Ok f → Through one two three g f

@@ -136,15 +136,15 @@ pub record TakesPacket (bytes : List ℕ) (m : Packet) (k : ℕ) : Type 0 where
   pub size : k ≡ length text
 
 -- the steps of reading, taken apart
-record Read (bytes : List ℕ) (m : Packet) (k : ℕ) : Type 0 where
-  frame : Frame
-  header : Header
-  sums : ℕ
-  framed : frame_at bytes ≡ Ok frame
-  headed : header_at frame.header ≡ Ok header
-  summed : sums_within (length frame.rest) header.data_len ≡ Ok sums
-  packet : packet_of header frame.rest sums ≡ m
-  size : frame.size ≡ k
+pub record Read (bytes : List ℕ) (m : Packet) (k : ℕ) : Type 0 where
+  pub frame : Frame
+  pub header : Header
+  pub sums : ℕ
+  pub framed : frame_at bytes ≡ Ok frame
+  pub headed : header_at frame.header ≡ Ok header
+  pub summed : sums_within (length frame.rest) header.data_len ≡ Ok sums
+  pub packet : packet_of header frame.rest sums ≡ m
+  pub size : frame.size ≡ k
 
 -- the last two steps, as a function of what the frame gave
 abbrev pub of_sums : Frame → Header → ℕ → Result (Packet × ℕ) PacketFault
@@ -161,7 +161,7 @@ pub packet_at-steps : (bytes : List ℕ) → packet_at bytes ≡ frame_at bytes 
 unfolding packet_at
 packet_at-steps bytes = refl
 
-read_steps : (bytes : List ℕ) (m : Packet) (k : ℕ) → packet_at bytes ≡ Ok (m, k) → Read bytes m k
+pub read_steps : (bytes : List ℕ) (m : Packet) (k : ℕ) → packet_at bytes ≡ Ok (m, k) → Read bytes m k
 read_steps bytes m k e =
     let one = bind_ok (frame_at bytes) of_frame (m, k) (sym (packet_at-steps bytes) ∙ e) in
     let two = bind_ok (with_cause fault.Header (header_at one.0.header)) (of_header one.0) (m, k) one.1.1 in

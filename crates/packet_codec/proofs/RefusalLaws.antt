@@ -21,12 +21,12 @@ use Rattle.packet_codec.specs.declared.faults.PacketFault.TheVariants as fault
 use Rattle.packet_codec.specs.declared.faults.HeaderCause.{HeaderCause}
 use Rattle.packet_codec.specs.declared.faults.HeaderCause.TheVariants as cause
 use Rattle.packet_codec.specs.Headers.{required, header_from, header_of, header_at, found_in}
-use Rattle.packet_codec.specs.Frames.{limit, payload_of, header_len_of, frame_len, Frame, frame_with, frame_at}
+use Rattle.packet_codec.specs.Frames.{limit, payload_of, header_len_of, frame_len, Frame, frame_with, frame_at, length_at}
 use Rattle.std.specs.Result.{IfOk, IfErr}
 use Rattle.packet_codec.specs.Packets.{SpellsPacket, Gives, sums_within, packet_of, packet_at}
 use Rattle.packet_codec.specs.Refusals.{AreLawful, IsWholeFrame, IsCutFrame, IsUnlawful, HasFrame, IsBelowZero, IsNoMultiple, AreNoSums, HasFaultyHeader, LacksField, LacksSums, IsRefused, FailsFor}
 use Rattle.packet_codec.proofs.FrameLaws.{frame_at-Ok, Passed, frame_passes, TakesFrame, frame_takes}
-use Rattle.packet_codec.proofs.PacketLaws.{packet_takes, packet_again, of_sums, of_header, of_frame, packet_at-steps}
+use Rattle.packet_codec.proofs.PacketLaws.{packet_takes, packet_again, of_sums, of_header, of_frame, packet_at-steps, Read, read_steps}
 
 -- ---- frames
 
@@ -359,3 +359,21 @@ read_refused bytes (Err fault.Memory) fits g = tt
 -- each fault that stands in the bytes comes
 pub read_refuses : (bytes : List ℕ) (r : Result (Packet × ℕ) PacketFault) (e : PacketFault) → Gives r (packet_at bytes) → IsRefused e bytes → Gives r (Err e)
 read_refuses bytes r e g h = subst (λ (x : Result (Packet × ℕ) PacketFault). Gives r x) (refused_packet bytes e h) g
+
+-- ---- lengths
+
+length_at-Ok : (bytes : List ℕ) → 6 ≤ length bytes → AreLawful (payload_of bytes) (header_len_of bytes) → length_at bytes ≡ Ok (frame_len (payload_of bytes) (header_len_of bytes))
+unfolding length_at
+length_at-Ok bytes six lawful = grind (arith, nat_tests)
+
+-- A packet has as many bytes as its front says.
+pub spelled_length : (m : Packet) (front text rest more : List ℕ) → SpellsPacket m text → front ++ more ≡ text ++ rest → 6 ≤ length front → length_at front ≡ Ok (length text)
+spelled_length m front text rest more spelled parts six =
+    let read = read_steps (front ++ more) m (length text) (ap packet_at parts ∙ packet_again m text rest spelled) in
+    let passes = frame_passes (front ++ more) read.frame read.framed in
+    let payload : payload_of (front ++ more) ≡ payload_of front = payload_stays front more six in
+    let header : header_len_of (front ++ more) ≡ header_len_of front = header_stays front more six in
+    let low : 4 ≤ payload_of front = rw payload at passes.0.low in
+    let high : payload_of front + header_len_of front ≤ limit = rw (payload, header) at passes.0.high in
+    let size : frame_len (payload_of (front ++ more)) (header_len_of (front ++ more)) ≡ length text = ap Frame.size passes.1 ∙ read.size in
+    length_at-Ok front six (record { low = low; high = high }) ∙ ap Ok (rw (sym payload, sym header) size)

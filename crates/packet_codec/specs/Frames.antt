@@ -42,6 +42,13 @@ frame_at bytes =
     else if nat_lt (length bytes) (frame_len (payload_of bytes) (header_len_of bytes)) then Err fault.Short
     else Ok (frame_with (payload_of bytes) (header_len_of bytes) bytes)
 
+-- How many bytes the packet at the front has, by its two lengths: Short for the first six bytes, and Length.
+unfoldable pub length_at : List ℕ → Result ℕ PacketFault
+length_at bytes =
+    if nat_lt (length bytes) 6 then Err fault.Short
+    else if nat_lt (payload_of bytes) 4 || nat_lt limit (payload_of bytes + header_len_of bytes) then Err (fault.Length (payload_of bytes) (header_len_of bytes))
+    else Ok (frame_len (payload_of bytes) (header_len_of bytes))
+
 -- a frame as its parts are returned
 abbrev pub frame_value : Bor (List ℕ) × Bor (List ℕ) × ℕ → Frame
 frame_value f = record { header = f.0.now; rest = f.1.now; size = f.2 }

@@ -19,6 +19,7 @@ pub fn encode_packet(packet: &Packet, out: &mut Vec<u8>) -> Result<(), AllocErro
     requires within { payload_for packet.now + header_size packet.now.sync ≤ limit }
     ensures ok { OnOk result (out.new.items ≡ out.old.items ++ packet_text packet.now) }
     ensures err { OnErr result (out.new.items ≡ out.old.items) }
+    ensures spelled { OnOk result (SpellsPacket packet.now (packet_text packet.now)) }
     ensures again { (rest : List ℕ) → OnOk result (packet_at (drop (length out.old.items) (out.new.items ++ rest)) ≡ Ok (packet.now, length (packet_text packet.now))) }
 {
     let before = out.len();

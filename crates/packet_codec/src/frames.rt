@@ -1,9 +1,11 @@
 //! The frame of a packet.
 
-ghost use Rattle.std.specs.Prelude.{◌≡◌, ◌≤◌, ◌<◌, Ok, IfOk, length, take, drop};
+ghost use Rattle.std.specs.Prelude.{◌≡◌, ◌+◌, ◌-◌, ◌≤◌, ◌<◌, ◌++◌, ℕ, List, Ok, IfOk, length, take, drop};
 ghost use Rattle.std.specs.Int.{w16, w32, from_be_bytes};
 ghost use Rattle.proto_fields.specs.ResultSteps.{with_value};
-ghost use Rattle.packet_codec.specs.Frames.{payload_of, header_len_of, frame_len, frame_with, frame_at, frame_value};
+ghost use Rattle.packet_codec.specs.Frames.{payload_of, header_len_of, frame_len, frame_with, frame_at, length_at, frame_value};
+ghost use Rattle.packet_codec.specs.Packets.{SpellsPacket};
+ghost use Rattle.packet_codec.specs.declared.packets.Packet.{Packet};
 
 use crate::faults::PacketFault;
 use byteorder::{BigEndian, ByteOrder};
@@ -15,10 +17,42 @@ const LENGTHS: usize = 6;
 const LIMIT: u64 = 16_777_216;
 
 /// The header's bytes, the data behind it, and how many bytes the frame at the front has.
-#[tactic(auto, unfolding(crate::specs::Frames::frame_at))]
+#[tactic(auto, unfolding(crate::specs::Frames::frame_at, crate::specs::Frames::length_at))]
 pub(crate) fn frame_of(bytes: &[u8]) -> Result<(&[u8], &[u8], usize), PacketFault>
     ensures frame { with_value frame_value result ≡ frame_at bytes.now }
     ensures few { IfOk result (λ f. length f.1.now ≤ 16777216) }
+{
+    let (header_len, rest_len) = lawful_lengths(bytes)?;
+    if bytes.len() < LENGTHS + header_len + rest_len {
+        return Err(PacketFault::Short);
+    }
+    let (header, behind) = bytes[LENGTHS..].split_at(header_len);
+    let (rest, _) = behind.split_at(rest_len);
+    Ok((header, rest, LENGTHS + header_len + rest_len))
+}
+
+/// How many bytes the packet has that begins with these bytes, which are at least its two lengths
+/// (the first six bytes): from 6 to 16,777,218. The faults are those of `decode_packet` that come
+/// before the rest is looked at: `Short` for the first six bytes, and `Length`.
+pub fn packet_length(front: &[u8]) -> Result<usize, PacketFault>
+    ensures exact { result ≡ length_at front.now }
+    ensures least { IfOk result (λ size. 6 ≤ size) }
+    ensures most { IfOk result (λ size. size ≤ 16777218) }
+
+    // A packet has as many bytes as its front says.
+    ensures spelled { (m : Packet) (text rest more : List ℕ) → SpellsPacket m text → front.now ++ more ≡ text ++ rest → 6 ≤ length front.now → result ≡ Ok (length text) }
+{
+    let (header_len, rest_len) = lawful_lengths(front)?;
+    Ok(LENGTHS + header_len + rest_len)
+}
+
+/// The lengths of the header and of the data, where both are there and lawful.
+#[tactic(auto, unfolding(crate::specs::Frames::length_at))]
+fn lawful_lengths(bytes: &[u8]) -> Result<(usize, usize), PacketFault>
+    ensures size { with_value (λ x. 6 + x.0 + x.1) result ≡ length_at bytes.now }
+    ensures header { IfOk result (λ x. x.0 ≡ header_len_of bytes.now) }
+    ensures rest { IfOk result (λ x. x.1 ≡ payload_of bytes.now - 4) }
+    ensures within { IfOk result (λ x. x.0 + x.1 ≤ 16777212) }
 {
     if bytes.len() < LENGTHS {
         return Err(PacketFault::Short);
@@ -27,14 +61,7 @@ pub(crate) fn frame_of(bytes: &[u8]) -> Result<(&[u8], &[u8], usize), PacketFaul
     if payload < 4 || u64::from(payload) + u64::from(header) > LIMIT {
         return Err(PacketFault::Length { payload, header });
     }
-    let header_len = usize::from(header);
-    let rest_len = payload as usize - 4;
-    if bytes.len() < LENGTHS + header_len + rest_len {
-        return Err(PacketFault::Short);
-    }
-    let (header, behind) = bytes[LENGTHS..].split_at(header_len);
-    let (rest, _) = behind.split_at(rest_len);
-    Ok((header, rest, LENGTHS + header_len + rest_len))
+    Ok((usize::from(header), payload as usize - 4))
 }
 
 /// The payload's and the header's length, big-endian.

@@ -1,0 +1,89 @@
+-- What was received of a message and what is still held are together the message.
+use Rattle.std.proofs.Common.{◌≡◌, ℕ, ◌+◌, ◌≤◌, ◌<◌, Bool, false, List, [], ◌∷◌, ◌++◌, length, Option, Some, None, IfSome, Result, Ok, Err, option_map, sym, ap, ◌∙◌, refl, arith, length-append, append-nil}
+use Rattle.std.proofs.lemmas.Grind.{common_steps}
+use Rattle.hd_base.specs.Links.{Inbox, in_front}
+use Rattle.packet_codec.specs.Packets.{Gives}
+use Rattle.packet_codec.specs.declared.packets.Packet.{Packet}
+use Rattle.packet_codec.specs.declared.faults.PacketFault.{PacketFault}
+use Rattle.packet_codec.specs.declared.faults.PacketFault.TheVariants as packet
+use Rattle.dn_run.specs.Faults.{packet_fault}
+use Rattle.dn_run.specs.declared.faults.RunFault.TheVariants.{Memory}
+use Rattle.dn_run.specs.declared.faults.StepFault.{StepFault}
+use Rattle.dn_run.specs.declared.faults.StepFault.TheVariants.{Shut, Run}
+
+-- what is held in the end, and that it stands behind what was received
+pub record Parts (held : Option Inbox) (text message : List ℕ) (ended : Bool) : Type 0 where
+  pub inbox : Inbox
+  pub is : held ≡ Some inbox
+  pub parts : message ++ inbox.bytes ≡ text
+  pub same : inbox.ended ≡ ended
+
+inbox_or : Option Inbox → Inbox
+inbox_or None = record { bytes = []; ended = false }
+inbox_or (Some inbox) = inbox
+
+some_none : {A : Type 0} (x : A) → ◌≡◌ {A = Option A} (Some x) None → ⊥
+some_none x e = cc
+
+parted : (held : Option Inbox) (text message : List ℕ) (ended : Bool) → Some (record { bytes = text; ended = ended }) ≡ option_map (in_front message) held → Parts held text message ended
+unfolding inbox_or
+parted None text message ended e = absurd (some_none _ e)
+parted (Some h) text message ended e = record {
+  inbox = h;
+  is = refl;
+  parts = sym (ap (λ o. (inbox_or o).bytes) e);
+  same = sym (ap (λ o. (inbox_or o).ended) e);
+}
+
+-- after the first receipt,
+pub parted_first : (before now : Option Inbox) (text start message : List ℕ) (ended : Bool) → start ≡ [] → before ≡ Some (record { bytes = text; ended = ended }) → option_map (in_front start) before ≡ option_map (in_front message) now → Parts now text message ended
+parted_first before now text start message ended empty held moved =
+    parted now text message ended (sym (ap (option_map (in_front [])) held) ∙ (ap (λ l. option_map (in_front l) before) (sym empty) ∙ moved))
+
+-- and after a further one.
+pub parted_next : (before now : Option Inbox) (text first message : List ℕ) (ended : Bool) → Parts before text first ended → option_map (in_front first) before ≡ option_map (in_front message) now → Parts now text message ended
+parted_next before now text first message ended p moved =
+    let whole : option_map (in_front first) before ≡ Some (record { bytes = text; ended = ended }) =
+    ap (option_map (in_front first)) p.is ∙ (ap (λ l. Some (record { bytes = l; ended = p.inbox.ended })) p.parts ∙ ap (λ b. Some (record { bytes = text; ended = b })) p.same) in
+    parted now text message ended (sym whole ∙ moved)
+
+-- Where as many bytes were received as the message has, all of it was.
+pub all_there : (message rest text : List ℕ) → message ++ rest ≡ text → length message ≡ length text → (rest ≡ []) × (message ≡ text)
+all_there message [] text parts many = (refl, sym (append-nil message) ∙ parts)
+all_there message (x ∷ xs) text parts many = absurd (longer (ap length parts) many (length-append message (x ∷ xs)))
+  where
+    longer : length (message ++ (x ∷ xs)) ≡ length text → length message ≡ length text → length (message ++ (x ∷ xs)) ≡ length message + length (x ∷ xs) → ⊥
+    longer p q r = omega (arith, p, q, r)
+
+-- what is held now, where nothing is left
+pub nothing_left : (now : Option Inbox) (text message : List ℕ) (ended : Bool) → Parts now text message ended → length message ≡ length text → now ≡ Some (record { bytes = []; ended = ended })
+nothing_left now text message ended p many =
+    p.is ∙ (ap (λ l. Some (record { bytes = l; ended = p.inbox.ended })) (all_there message p.inbox.bytes text p.parts many).0
+    ∙ ap (λ b. Some (record { bytes = []; ended = b })) p.same)
+
+pub err_ok : {X E : Type 0} (e : E) (x : X) → ◌≡◌ {A = Result X E} (Err e) (Ok x) → ⊥
+err_ok e x is = cc
+
+-- A packet that is there is refused for want of memory alone.
+pub only_memory : (fault : PacketFault) (x : Packet × ℕ) → Gives (Err fault) (Ok x) → packet_fault fault ≡ Shut → ⊥
+only_memory packet.Memory x gives is = shut_memory is
+  where
+    shut_memory : ◌≡◌ {A = StepFault} (Run Memory) Shut → ⊥
+    shut_memory e = cc
+only_memory packet.Short x gives is = err_ok _ x gives
+only_memory (packet.Length p h) x gives is = err_ok _ x gives
+only_memory (packet.Header c) x gives is = err_ok _ x gives
+only_memory (packet.SumCount r) x gives is = err_ok _ x gives
+
+pub err_value : {X E : Type 0} (a b : E) → ◌≡◌ {A = Result X E} (Err a) (Err b) → a ≡ b
+err_value a b e = cc
+
+-- A message that is wholly there doesn't end short of its length,
+pub not_short : (held : Option Inbox) (text message : List ℕ) (ended : Bool) (size : ℕ) → Parts held text message ended → size ≡ length text → IfSome held (λ h. length message + length h.bytes < size) → ⊥
+not_short held text message ended size p sized short =
+    let few : length message + length p.inbox.bytes < size = rw p.is at short in
+    omega (arith, few, sized, ap length p.parts, length-append message p.inbox.bytes)
+
+-- and is what was received.
+pub received_whole : (held : Option Inbox) (text message : List ℕ) (ended : Bool) → Parts held text message ended → length message ≡ length text → message ≡ text
+received_whole held text message ended p many = (all_there message p.inbox.bytes text p.parts many).1

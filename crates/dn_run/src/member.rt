@@ -1,0 +1,202 @@
+//! The only member of a first write's pipeline: which packets it takes, and what it holds.
+
+ghost use Rattle.std.specs.Prelude.{◌≡◌, ◌≢◌, ◌+◌, ◌^◌, ◌<◌, ◌≤◌, ◌↔◌, ℕ, List, [], length, take, true, pos, Err, IfOk, OnOk, OnErr, IfSome};
+ghost use Rattle.chunk_sums.specs.Crc.{sum_of};
+ghost use Rattle.chunk_sums.specs.Pieces.{sums as chunk_sums_of};
+ghost use Rattle.hd_base.specs.Faults.{Rose};
+ghost use Rattle.hd_base.specs.FileMaps.{Steps};
+ghost use Rattle.hd_base.specs.declared.states.ReplicaState.TheVariants as state;
+ghost use Rattle.meta_file.specs.declared.names.Folder.TheVariants as folder;
+ghost use Rattle.dn_run.specs.Members.{IsDataPacket, IsLastPacket, folder_of};
+ghost use Rattle.dn_run.specs.Replicas.{data_path, with_replica, finalized, HasReplica, IsHeld, IsThere};
+ghost use Rattle.dn_run.specs.declared.faults.StepFault.TheVariants.{Shut, Run};
+ghost use Rattle.dn_run.specs.declared.faults.RunFault.TheVariants as fault;
+
+use crate::client::CHUNK;
+use crate::faults::{RunFault, StepFault};
+use crate::replica_files::{finalize_files, store, stored_sum};
+use crate::report::ReplicaEntry;
+use chunk_sums::{first_bad, piece_count};
+use hd_base::{BlockId, Files, NodeId, ReplicaState, Stamp};
+use meta_file::Folder;
+use packet_codec::Packet;
+use std::alloc::Global;
+
+/// A replica that the member writes.
+#[derive(Clone, Copy, Debug, PartialEq, Eq)]
+pub(crate) struct Replica {
+    /// The block that it is a replica of.
+    pub block: BlockId,
+    /// Its stamp.
+    pub stamp: Stamp,
+    /// Its state.
+    pub state: ReplicaState,
+    /// How many bytes are written. No member stands below, so all of them are acknowledged.
+    pub written: u64,
+    /// The number of the packet that comes next.
+    pub next_seqno: u64,
+}
+
+impl Replica {
+    /// A replica that is being written, without bytes.
+    pub(crate) fn new(block: BlockId, stamp: Stamp) -> Replica
+        ensures named { (result.block ≡ block) × (result.stamp ≡ stamp) }
+        ensures state { result.state ≡ state.Rbw }
+        ensures empty { (result.written ≡ 0) × (result.next_seqno ≡ 0) }
+    {
+        Replica {
+            block,
+            stamp,
+            state: ReplicaState::Rbw,
+            written: 0,
+            next_seqno: 0,
+        }
+    }
+
+    /// Takes the packet of the block's bytes: verifies its sums, and writes bytes and sums. `Shut`
+    /// comes exactly where it isn't the first of its stream with a right sum for each chunk.
+    pub(crate) fn take_data<F: Files>(
+        &mut self,
+        alloc: Global,
+        drawer: &mut F,
+        packet: &Packet,
+    ) -> Result<(), StepFault>
+        requires { HasReplica (F.files drawer.old) folder.Rbw self.old.block.0 self.old.stamp.0 [] }
+        ensures stored { OnOk result (Steps (F.files drawer.old) (F.files drawer.new) (with_replica folder.Rbw self.old.block.0 self.old.stamp.0 packet.now.body)) }
+        ensures held { OnOk result (IsHeld (F.files drawer.new) self.old.block.0 self.old.stamp.0) }
+        ensures written { OnOk result ((self.new.written ≡ length packet.now.body) × (self.new.next_seqno ≡ 1)) }
+        ensures same { (self.new.block ≡ self.old.block) × (self.new.stamp ≡ self.old.stamp) × (self.new.state ≡ self.old.state) }
+        ensures kept { OnErr result (self.new ≡ self.old) }
+        ensures shut { (result ≡ Err Shut) ↔ ¬ (IsDataPacket packet.now) }
+        ensures unchanged { result ≡ Err Shut → F.files drawer.new ≡ F.files drawer.old }
+        ensures failed { result ≡ Err (Run fault.Shelf) → Rose (F.faults drawer.old) (F.faults drawer.new) }
+        ensures later { F.faults drawer.old ≤ F.faults drawer.new }
+        ensures no_road { result ≢ Err (Run fault.Road) }
+    {
+        if !is_data_packet(packet) {
+            return Err(StepFault::Shut);
+        }
+        let body = packet.body.as_slice();
+        store(
+            alloc,
+            drawer,
+            self.block,
+            self.stamp,
+            body,
+            packet.sums.as_slice(),
+        )?;
+        self.written = body.len() as u64;
+        self.next_seqno = 1;
+        Ok(())
+    }
+
+    /// Takes the last packet: the replica is finalized, and its files are moved. `Shut` comes
+    /// exactly where it isn't the last packet behind what is written.
+    pub(crate) fn take_last<F: Files>(
+        &mut self,
+        drawer: &mut F,
+        packet: &Packet,
+    ) -> Result<(), StepFault>
+        requires { IsHeld (F.files drawer.old) self.old.block.0 self.old.stamp.0 }
+        ensures moved { OnOk result (Steps (F.files drawer.old) (F.files drawer.new) (finalized self.old.block.0 self.old.stamp.0)) }
+        ensures there { OnOk result (IsThere (F.files drawer.new) (data_path folder.Finalized self.old.block.0)) }
+        ensures state { OnOk result (self.new.state ≡ state.Finalized) }
+        ensures same { (self.new.block ≡ self.old.block) × (self.new.stamp ≡ self.old.stamp) × (self.new.written ≡ self.old.written) }
+        ensures kept { OnErr result (self.new ≡ self.old) }
+        ensures shut { (result ≡ Err Shut) ↔ ¬ (IsLastPacket self.old packet.now) }
+        ensures unchanged { result ≡ Err Shut → F.files drawer.new ≡ F.files drawer.old }
+        ensures failed { result ≡ Err (Run fault.Shelf) → Rose (F.faults drawer.old) (F.faults drawer.new) }
+        ensures later { F.faults drawer.old ≤ F.faults drawer.new }
+        ensures no_road { result ≢ Err (Run fault.Road) }
+    {
+        if !is_last_packet(self, packet) {
+            return Err(StepFault::Shut);
+        }
+        finalize_files(drawer, self.block, self.stamp)?;
+        self.state = ReplicaState::Finalized;
+        Ok(())
+    }
+
+    /// What the report tells of the replica: the sum is that of the bytes in its data file.
+    pub(crate) fn entry<F: Files>(
+        &self,
+        alloc: Global,
+        drawer: &mut F,
+        node: NodeId,
+    ) -> Result<ReplicaEntry, RunFault>
+        requires { IsThere (F.files drawer.old) (data_path (folder_of self.now.state) self.now.block.0) }
+        ensures named { IfOk result (λ e. (e.node ≡ node) × (e.block ≡ self.now.block) × (e.stamp ≡ self.now.stamp)) }
+        ensures state { IfOk result (λ e. (e.state ≡ self.now.state) × (e.written ≡ self.now.written) × (e.acked ≡ self.now.written)) }
+        ensures sum { IfOk result (λ e. IfSome (F.files drawer.old) (λ m. IfSome (m (data_path (folder_of self.now.state) self.now.block.0)) (λ bytes. e.sum ≡ sum_of (take self.now.written bytes)))) }
+        ensures files { F.files drawer.new ≡ F.files drawer.old }
+        ensures failed { result ≡ Err fault.Shelf → Rose (F.faults drawer.old) (F.faults drawer.new) }
+        ensures later { F.faults drawer.old ≤ F.faults drawer.new }
+        ensures no_road { result ≢ Err fault.Road }
+    {
+        let sum = stored_sum(
+            alloc,
+            drawer,
+            self.block,
+            folder(self.state),
+            self.written,
+        )?;
+        Ok(ReplicaEntry {
+            node,
+            block: self.block,
+            state: self.state,
+            stamp: self.stamp,
+            written: self.written,
+            acked: self.written,
+            sum,
+        })
+    }
+}
+
+/// Where the files of a replica in this state lie.
+fn folder(state: ReplicaState) -> Folder
+    ensures { result ≡ folder_of state }
+{
+    match state {
+        ReplicaState::Finalized => Folder::Finalized,
+        _ => Folder::Rbw,
+    }
+}
+
+/// Whether a packet is the first of its stream, with bytes and a right sum for each chunk.
+fn is_data_packet(packet: &Packet) -> bool
+    ensures { (result ≡ true) ↔ IsDataPacket packet.now }
+{
+    packet.offset == 0
+        && packet.seqno == 0
+        && !packet.last
+        && !packet.body.is_empty()
+        && has_sums(packet)
+}
+
+/// Whether a packet has for each chunk of its body, which begins at a chunk, the right sum.
+fn has_sums(packet: &Packet) -> bool
+    ensures { (result ≡ true) ↔ (packet.now.sums ≡ chunk_sums_of packet.now.body) }
+{
+    let body = packet.body.as_slice();
+    let sums = packet.sums.as_slice();
+    sums.len() as u64 == 4 * piece_count(body.len() as u64, CHUNK, CHUNK)
+        && first_bad(body, sums, CHUNK, CHUNK).is_none()
+}
+
+/// Whether a packet is the last one, behind what the replica has.
+fn is_last_packet(replica: &Replica, packet: &Packet) -> bool
+    ensures { (result ≡ true) ↔ IsLastPacket replica.now packet.now }
+{
+    is_number(packet.offset, replica.written)
+        && is_number(packet.seqno, replica.next_seqno)
+        && packet.last
+        && packet.body.is_empty()
+        && packet.sums.is_empty()
+}
+
+/// Whether a signed number is this one.
+fn is_number(signed: i64, number: u64) -> bool
+    ensures { (result ≡ true) ↔ (signed ≡ pos number) }
+{
+    signed >= 0 && signed.cast_unsigned() == number
+}

@@ -1,0 +1,56 @@
+//! Sending packets as messages.
+
+ghost use Rattle.std.specs.Prelude.{◌≡◌, ◌≢◌, ◌+◌, ◌%◌, ◌^◌, ◌<◌, ◌≤◌, ◌∷◌, ◌++◌, ℕ, List, [], false, length, Some, Err, IfOk, OnOk, IfSome};
+ghost use Rattle.hd_base.specs.Faults.{Rose};
+ghost use Rattle.packet_codec.specs.Frames.{limit};
+ghost use Rattle.packet_codec.specs.Headers.{header_size};
+ghost use Rattle.packet_codec.specs.Packets.{SpellsPacket, payload_for, packet_text};
+
+use crate::faults::RunFault;
+use hd_base::LinkOut;
+use packet_codec::{Packet, encode_packet};
+use std::alloc::Global;
+
+/// Sends a packet in its written spelling, as one piece where the link takes it whole.
+pub(crate) fn send_packet<O: LinkOut>(
+    alloc: Global,
+    packet: &Packet,
+    outward: &mut O,
+) -> Result<(), RunFault>
+    requires whole { length packet.now.sums % 4 ≡ 0 }
+    requires within { payload_for packet.now + header_size packet.now.sync ≤ limit }
+    ensures sent { OnOk result (IfSome (O.sent outward.old) (λ pieces. O.sent outward.new ≡ Some (pieces ++ packet_text packet.now ∷ []))) }
+    ensures spelled { OnOk result (SpellsPacket packet.now (packet_text packet.now)) }
+    ensures handed { O.handed outward.new ≡ O.handed outward.old }
+    ensures lost { O.shut outward.old ≡ false → OnOk result (IfSome (O.sent outward.old) (λ _. O.lost outward.new ≡ O.lost outward.old)) }
+    ensures shut { O.shut outward.new ≡ O.shut outward.old }
+    ensures failed { result ≡ Err RunFault.Road → Rose (O.faults outward.old) (O.faults outward.new) }
+    ensures later { O.faults outward.old ≤ O.faults outward.new }
+    ensures no_shelf { result ≢ Err RunFault.Shelf }
+{
+    let mut text = Vec::new(alloc);
+    encode_packet(packet, &mut text)?;
+    outward.room(alloc, text.len() as u64)?;
+    let count = outward.send(&text)?;
+    if count < text.len() {
+        send_rest(text.split_at(count).1, outward)?;
+    }
+    Ok(())
+}
+
+/// Sends what a link left of a piece for which there was room.
+fn send_rest<O: LinkOut>(text: &[u8], outward: &mut O) -> Result<(), RunFault>
+    requires { length text.now < O.room outward.old }
+    ensures handed { O.handed outward.new ≡ O.handed outward.old }
+    ensures shut { O.shut outward.new ≡ O.shut outward.old }
+    ensures failed { result ≡ Err RunFault.Road → Rose (O.faults outward.old) (O.faults outward.new) }
+    ensures later { O.faults outward.old ≤ O.faults outward.new }
+    ensures no_shelf { result ≢ Err RunFault.Shelf }
+{
+    let mut rest = text;
+    'pieces: while !rest.is_empty() {
+        let count = outward.send(rest)?;
+        (_, rest) = rest.split_at(count);
+    }
+    Ok(())
+}
