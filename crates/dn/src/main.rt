@@ -3,9 +3,8 @@
 
 use dn_run::exits::Exit;
 use dn_run::standard::run_in_memory;
-use std::env;
-use std::io;
 use std::process::ExitCode;
+use std::{env, io};
 
 /// Runs the script on standard input, and writes its report to standard output. Where the exit
 /// isn't `Done`, its number and name stand on standard error. The exit's number is the status.

@@ -1,6 +1,5 @@
 -- What was received of a message and what is still held are together the message.
-use Rattle.std.proofs.Common.{◌≡◌, ℕ, ◌+◌, ◌≤◌, ◌<◌, Bool, false, List, [], ◌∷◌, ◌++◌, length, Option, Some, None, IfSome, Result, Ok, Err, option_map, sym, ap, ◌∙◌, refl, arith, length-append, append-nil}
-use Rattle.std.proofs.lemmas.Grind.{common_steps}
+use Rattle.std.proofs.Common.{◌≡◌, ℕ, ◌+◌, ◌<◌, Bool, false, List, [], ◌∷◌, ◌++◌, length, Option, Some, None, IfSome, Result, Ok, Err, option_map, sym, ap, ◌∙◌, refl, arith, length-append, append-nil}
 use Rattle.hd_base.specs.Links.{Inbox, in_front}
 use Rattle.packet_codec.specs.Packets.{Gives}
 use Rattle.packet_codec.specs.declared.packets.Packet.{Packet}

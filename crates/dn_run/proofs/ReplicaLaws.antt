@@ -1,5 +1,5 @@
 -- Laws of a replica's two files: their names differ, and what the calls in a row make of them.
-use Rattle.std.proofs.Common.{◌≡◌, ◌≢◌, ℕ, ◌+◌, ◌<◌, ◌≤◌, ◌^◌, Bool, true, false, cond, List, [], ◌∷◌, ◌++◌, length, take, drop, get_or, Option, Some, None, Result, Err, option_map, IsSome, IfSome, MatchOption, IsErrOf, codes, decimal, subst, sym, ap, ◌∙◌, refl, arith, length-append, append-nil}
+use Rattle.std.proofs.Common.{◌≡◌, ◌≢◌, ℕ, ◌<◌, ◌≤◌, ◌^◌, Bool, true, false, cond, List, [], ◌++◌, length, take, get_or, Option, Some, None, Result, Err, option_map, IsSome, IfSome, codes, decimal, subst, sym, ap, ◌∙◌, refl, arith, length-append}
 use Rattle.std.specs.Str.{bytes_eq}
 use Rattle.std.proofs.lemmas.Grind.{common_steps}
 use Rattle.std.proofs.lemmas.Slice.Eq.{bytes_eq-Decides}
@@ -8,7 +8,7 @@ use Rattle.hd_base.specs.FileMaps.{FileMap, no_files, part_of, rest_of, beside, 
 use Rattle.hd_base.specs.FileCauses.{FileCause}
 use Rattle.hd_base.specs.declared.files.FileError.{FileError}
 use Rattle.hd_base.specs.declared.files.FileError.TheVariants as file
-use Rattle.hd_base.proofs.FileLaws.{bytes_eq-same, bytes_eq-other, overwritten-end, Steps-join, Steps-after, Steps-same, Steps-has, Steps-place}
+use Rattle.hd_base.proofs.FileLaws.{bytes_eq-same, bytes_eq-other, overwritten-end, Steps-join, Steps-same, Steps-has}
 use Rattle.std.specs.Option.{option_or}
 use Rattle.std.proofs.lemmas.List.{take_all}
 use Rattle.hd_base.specs.Blocks.{is_of_block}
@@ -20,8 +20,6 @@ use Rattle.meta_file.specs.Names.{path_of, data_base, meta_base}
 use Rattle.meta_file.specs.declared.names.Folder.{Folder}
 use Rattle.meta_file.specs.declared.names.Folder.TheVariants.{Rbw, Finalized}
 use Rattle.dn_run.specs.Replicas.{data_path, meta_path, metadata, with_replica, finalized, finished, HasReplica, IsThere, IsHeld}
-use Rattle.dn_run.specs.Faults.{file_fault}
-use Rattle.dn_run.specs.declared.faults.RunFault.TheVariants as run
 
 -- ---- causes
 

@@ -2,7 +2,7 @@
 use Rattle.std.proofs.Common.{◌≡◌, ℕ, List, [], ◌∷◌, ◌++◌, codes, decimal, Result, Ok, Err, ap, ◌∙◌, append_assoc}
 use Rattle.std.specs.Result.{OnOk}
 use Rattle.dn_run.specs.declared.report.ReplicaEntry.{ReplicaEntry}
-use Rattle.dn_run.specs.Reports.{state_name, sum_text, replica_line, create_answer_line}
+use Rattle.dn_run.specs.Reports.{state_name, sum_text, replica_line}
 
 -- two pieces appended one behind the other
 pub one_piece : (a b c xs ys : List ℕ) → b ≡ a ++ xs → c ≡ b ++ ys → c ≡ a ++ (xs ++ ys)

@@ -1,5 +1,5 @@
 -- Laws of what a run of one first write reports.
-use Rattle.std.proofs.Common.{◌≡◌, ◌≢◌, ℕ, ◌<◌, ◌≤◌, Bool, true, List, [], ◌∷◌, ◌++◌, Option, Some, None, IfSome, Result, Ok, Err, ◌⊎◌, inl, inr, get_or, slice_set, map, length, refl, sym, ap, subst, ◌∙◌, arith, append-nil}
+use Rattle.std.proofs.Common.{◌≡◌, ◌≢◌, ℕ, ◌<◌, ◌≤◌, Bool, true, List, [], ◌∷◌, ◌++◌, Option, Some, None, IfSome, Result, Err, ◌⊎◌, inl, inr, get_or, slice_set, map, length, refl, sym, ap, subst, ◌∙◌, arith, append-nil}
 use Rattle.std.specs.Str.{bytes_eq}
 use Rattle.std.proofs.lemmas.Grind.{common_steps}
 use Rattle.std.proofs.lemmas.Slice.Eq.{bytes_eq-Decides}
@@ -11,10 +11,6 @@ use Rattle.dn_run.specs.declared.exits.BadKind.TheVariants as kinds
 use Rattle.dn_run.specs.declared.exits.Exit.{Exit}
 use Rattle.dn_run.specs.declared.exits.Exit.TheVariants as exit
 use Rattle.std.specs.Option.{is_some}
-use Rattle.hd_base.specs.declared.numbers.NodeId.{NodeId}
-use Rattle.hd_base.specs.declared.numbers.BlockId.{BlockId}
-use Rattle.hd_base.specs.declared.numbers.Stamp.{Stamp}
-use Rattle.hd_base.specs.declared.states.ReplicaState.{ReplicaState}
 use Rattle.hd_base.specs.FileMaps.{FileMap}
 use Rattle.proto_fields.proofs.ResultLaws.{ok_value}
 use Rattle.dn_run.proofs.ScriptLaws.{script_again}
@@ -22,7 +18,6 @@ use Rattle.dn_run.proofs.ReceiptLaws.{err_value}
 use Rattle.dn_run.specs.Runs.{entry_for, report_for, first_stamp, first_files}
 use Rattle.dn_run.specs.Sendings.{bytes_of}
 use Rattle.dn_run.specs.declared.report.ReplicaEntry.{ReplicaEntry}
-use Rattle.dn_run.specs.declared.report.WriteReport.{WriteReport}
 use Rattle.dn_run.specs.declared.report.CloseAnswer.{CloseAnswer}
 use Rattle.dn_run.specs.declared.report.CloseAnswer.TheVariants as answer
 use Rattle.dn_run.specs.declared.report.CreateAnswer.TheVariants as creation
@@ -54,12 +49,15 @@ one_word [] f word text b some few is test = absurd (none some)
     none le = omega (arith, le)
 one_word (w ∷ []) f word text b some few is test = (
   (λ yes. ap (λ l. l ∷ []) (ap f (sym is) ∙ equal (f word) text (sym test ∙ yes))),
-  (λ same. test ∙ equal_test (f word) text (ap f is ∙ head_is (f w) text same)))
+  (λ same. test ∙ equal_test (f word) text (ap f is ∙ head_is (f w) text same)),
+)
   where
     equal : (x y : List ℕ) → bytes_eq x y ≡ true → x ≡ y
     equal x y e = grind (arith, common_steps, bytes_eq-Decides x y)
+
     equal_test : (x y : List ℕ) → x ≡ y → bytes_eq x y ≡ true
     equal_test x y e = grind (arith, common_steps, bytes_eq-Decides x y)
+
     head_is : (x y : List ℕ) → x ∷ [] ≡ y ∷ [] → x ≡ y
     head_is x y e = ap (λ l. get_or l 0 []) e
 one_word (w ∷ x ∷ ws) f word text b some few is test = absurd (many few)
@@ -197,6 +195,7 @@ refused_by (Some text) out shelves only bad refused = λ line kind. by kind line
   where
     not_nodes : (k : BadKind) → ◌≡◌ {A = ℕ} (kind_number k) 0 → k ≢ kinds.TooManyNodes
     not_nodes k zero e = one_zero (ap kind_number (sym e) ∙ zero)
+
     by : (kind : BadKind) (line : ℕ) → IsBadScript text shelves line kind → (out ≡ exit.BadScript line kind) ⊎ ((out ≡ exit.ScriptFault) ⊎ (out ≡ exit.Memory))
     by kinds.TooLong line is = one_of out _ _ _ (refused shelves line kinds.TooLong (not_nodes kinds.TooLong refl) is)
     by kinds.Word line is = one_of out _ _ _ (refused shelves line kinds.Word (not_nodes kinds.Word refl) is)

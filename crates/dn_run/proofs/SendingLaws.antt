@@ -1,5 +1,5 @@
 -- Laws of the packets that a first write sends.
-use Rattle.std.proofs.Common.{◌≡◌, ◌≢◌, ℕ, ◌+◌, ◌*◌, ◌%◌, ◌<◌, ◌≤◌, pos, refl, true, false, List, [], length, map, nat_eq, sym, ap, ◌∙◌, arith}
+use Rattle.std.proofs.Common.{◌≡◌, ◌≢◌, ℕ, ◌+◌, ◌*◌, ◌%◌, ◌<◌, ◌≤◌, pos, refl, true, List, length, map, nat_eq, sym, ap, ◌∙◌, arith}
 use Rattle.std.proofs.lemmas.Bool.Decides.{nat_tests}
 use Rattle.std.proofs.lemmas.List.{length-map}
 use Rattle.chunk_sums.specs.Pieces.{sums, pieces}
@@ -20,6 +20,7 @@ other_length list body seen count same many differs =
   where
     equal : nat_eq (length seen) (4 * count) ≡ true → length seen ≡ 4 * count
     equal is = grind (arith, nat_tests)
+
     equal_length : list ≡ sums body → length seen ≡ 4 * count
     equal_length are =
         ap length (same ∙ are) ∙ (sums_length body ∙ ap (λ (n : ℕ). 4 * n) many)

@@ -1,6 +1,5 @@
 -- Exits: their numbers and names, and when words and scripts are refused.
-use Rattle.std.specs.Prelude.{◌≡◌, ℕ, ◌<◌, ◌≤◌, ◌⊎◌, List, [], ◌∷◌, length, map, codes}
-use Rattle.std.specs.String.{string_bytes}
+use Rattle.std.specs.Prelude.{◌≡◌, ℕ, ◌<◌, ◌≤◌, List, [], ◌∷◌, length, codes}
 use Rattle.dn_run.specs.Scripts.{SpellsScript}
 use Rattle.dn_run.specs.declared.exits.BadKind.{BadKind}
 use Rattle.dn_run.specs.declared.exits.BadKind.TheVariants as kind

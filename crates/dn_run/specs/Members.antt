@@ -1,5 +1,5 @@
 -- Which packets the only member of a first write takes, and what it holds.
-use Rattle.std.specs.Prelude.{◌≡◌, ℕ, ◌<◌, ℤ, pos, true, false, List, [], length}
+use Rattle.std.specs.Prelude.{◌≡◌, ◌<◌, pos, true, false, [], length}
 use Rattle.hd_base.specs.declared.states.ReplicaState.{ReplicaState}
 use Rattle.hd_base.specs.declared.states.ReplicaState.TheVariants as state
 use Rattle.chunk_sums.specs.Pieces.{sums}

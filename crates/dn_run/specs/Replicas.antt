@@ -1,5 +1,5 @@
 -- A replica's two files: the data file has its bytes, the metadata file the header and a sum for each chunk.
-use Rattle.std.specs.Prelude.{◌≡◌, ℕ, List, [], ◌++◌, Option, Some, IfSome, IsSome}
+use Rattle.std.specs.Prelude.{ℕ, List, ◌++◌, Option, IfSome, IsSome}
 use Rattle.hd_base.specs.FileMaps.{FileMap, put, moved, HasFile}
 use Rattle.chunk_sums.specs.Pieces.{sums}
 use Rattle.meta_file.specs.Headers.{header_bytes}

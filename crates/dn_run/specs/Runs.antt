@@ -1,5 +1,5 @@
 -- A run of one first write: its words, its script, and what it leaves.
-use Rattle.std.specs.Prelude.{◌≡◌, ℕ, ◌<◌, ◌≤◌, Bool, true, false, List, [], ◌∷◌, length, map, codes, Option, Some, None, IfSome, IsSome}
+use Rattle.std.specs.Prelude.{◌≡◌, ℕ, ◌≤◌, true, false, List, [], ◌∷◌, length, Option, Some, None, IsSome}
 use Rattle.std.specs.Option.{is_some}
 use Rattle.hd_base.specs.Faults.{Rose}
 use Rattle.dn_run.specs.Exits.{script_limit}

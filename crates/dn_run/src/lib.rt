@@ -1,5 +1,5 @@
-//! The parts below the run of a script: reading a source to its end, writing a whole text to a
-//! sink, the script of one first write, and the report of its run.
+//! The run of a script: one block is created, written and closed, on one node and over roads; what
+//! was carried and stored is reported.
 #![tactic(auto)]
 
 mod client;
@@ -12,10 +12,12 @@ mod receiving;
 pub mod replica_files;
 pub mod report;
 pub mod run;
+#[cfg(test)]
+mod run_tests;
 pub mod script;
 mod sending;
 pub mod standard;
 pub mod streams;
-mod writing;
 #[cfg(test)]
 mod tests;
+mod writing;

@@ -133,13 +133,7 @@ impl Replica {
         ensures later { F.faults drawer.old ≤ F.faults drawer.new }
         ensures no_road { result ≢ Err fault.Road }
     {
-        let sum = stored_sum(
-            alloc,
-            drawer,
-            self.block,
-            folder(self.state),
-            self.written,
-        )?;
+        let sum = stored_sum(alloc, drawer, self.block, folder(self.state), self.written)?;
         Ok(ReplicaEntry {
             node,
             block: self.block,

@@ -19,10 +19,7 @@ const PIECE: usize = 4096;
 
 /// Receives the packet that comes next, and no byte behind it. `Shut` comes where the bytes aren't
 /// one, or end before it does. The memory for it is secured before its bytes are taken.
-pub(crate) fn receive_packet<I: LinkIn>(
-    alloc: Global,
-    inward: &mut I,
-) -> Result<Packet, StepFault>
+pub(crate) fn receive_packet<I: LinkIn>(alloc: Global, inward: &mut I) -> Result<Packet, StepFault>
     // Where a packet is held, it is taken, and the connection stays open.
     ensures found { (packet : Packet) (text : List ℕ) (ended : Bool) → SpellsPacket packet text → I.held inward.old ≡ Some (record { bytes = text; ended = ended }) → IfOk result (λ taken. taken ≡ packet) }
     ensures rest { (packet : Packet) (text : List ℕ) (ended : Bool) → SpellsPacket packet text → I.held inward.old ≡ Some (record { bytes = text; ended = ended }) → OnOk result (I.held inward.new ≡ Some (record { bytes = []; ended = ended })) }
@@ -42,11 +39,7 @@ pub(crate) fn receive_packet<I: LinkIn>(
 
 /// Receives the bytes that come next behind those of the message, until it has so many. `Shut`
 /// comes where they end first. The memory for them is secured before they are taken.
-fn receive<I: LinkIn>(
-    inward: &mut I,
-    message: &mut Vec<u8>,
-    until: usize,
-) -> Result<(), StepFault>
+fn receive<I: LinkIn>(inward: &mut I, message: &mut Vec<u8>, until: usize) -> Result<(), StepFault>
     requires { length message.old.items ≤ until }
     // What was received and what is still held are together what they were.
     ensures moved { OnOk result (option_map (in_front message.old.items) (I.held inward.old) ≡ option_map (in_front message.new.items) (I.held inward.new)) }

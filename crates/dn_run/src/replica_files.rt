@@ -65,7 +65,11 @@ pub fn store<F: Files>(
     let body_name = data_file(block, Folder::Rbw);
     let sums_name = sums_file(block, stamp, Folder::Rbw);
     drawer.room(alloc, &body_name, body.len() as u64)?;
-    drawer.room(alloc, &sums_name, (sums.len() as u64).saturating_add(HEADER))?;
+    drawer.room(
+        alloc,
+        &sums_name,
+        (sums.len() as u64).saturating_add(HEADER),
+    )?;
     drawer.write_at(&body_name, 0, body)?;
     drawer.write_at(&sums_name, HEADER, sums)?;
     Ok(())

@@ -45,7 +45,9 @@ pub enum CloseAnswer {
         node: NodeId,
     },
     /// The block was abandoned before, since this member wasn't reached.
-    Abandoned { node: NodeId },
+    Abandoned {
+        node: NodeId,
+    },
     /// No answer came.
     Waiting,
 }

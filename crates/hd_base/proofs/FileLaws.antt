@@ -1,10 +1,10 @@
 -- Laws of the words on files: how steps join, and what a step leaves of a file.
-use Rattle.std.proofs.Common.{◌≡◌, ◌≢◌, ℕ, ◌+◌, ◌≤◌, Bool, true, false, cond, List, [], ◌∷◌, ◌++◌, length, take, drop, Option, Some, None, option_map, IfSome, MatchOption, inl, inr, ◌∙◌, sym, ap, refl, arith}
+use Rattle.std.proofs.Common.{◌≡◌, ◌≢◌, ℕ, ◌≤◌, true, false, List, [], ◌++◌, length, Option, Some, None, option_map, ◌∙◌, ap, refl, arith}
 use Rattle.std.specs.Str.{bytes_eq}
 use Rattle.std.proofs.lemmas.Slice.Eq.{bytes_eq-Decides}
 use Rattle.std.proofs.lemmas.Grind.{common_steps}
 use Rattle.std.proofs.lemmas.List.{take_all, drop_all}
-use Rattle.hd_base.specs.FileMaps.{FileMap, put, without, changed, moved, overwritten, Steps, StepsOrStays, WritesFront, HasFile, IsPlaceIn}
+use Rattle.hd_base.specs.FileMaps.{FileMap, put, changed, overwritten, Steps, HasFile, IsPlaceIn}
 
 -- A name is itself.
 pub bytes_eq-same : (name : List ℕ) → bytes_eq name name ≡ true

@@ -1,5 +1,5 @@
 -- How reads and writes join.
-use Rattle.std.proofs.Common.{◌≡◌, ℕ, List, ◌++◌, Option, Some, None, option_map, ◌∙◌, sym, ap, append_assoc, refl}
+use Rattle.std.proofs.Common.{ℕ, List, ◌++◌, Option, Some, None, option_map, ◌∙◌, sym, ap, append_assoc}
 use Rattle.hd_base.specs.Streams.{Took, Wrote}
 
 -- Bytes taken in two steps were taken one behind the other.

@@ -1,7 +1,6 @@
 -- Laws of the words on what roads carry.
-use Rattle.std.proofs.Common.{◌≡◌, ℕ, Bool, true, false, List, [], ◌∷◌, ◌++◌, sym, append_assoc, ap, refl, ◌∙◌}
+use Rattle.std.proofs.Common.{◌≡◌, List, [], ◌∷◌, ◌++◌, sym, append_assoc, ap, refl, ◌∙◌}
 use Rattle.hd_base.specs.Lists.{joined}
-use Rattle.hd_base.specs.Ways.{Carried, carry, same_way}
 
 -- Lists one behind the other, in two parts.
 pub joined-append : {X : Type 0} (xss yss : List (List X)) → joined (xss ++ yss) ≡ joined xss ++ joined yss

@@ -1,5 +1,5 @@
 -- When each call on files fails, and how.
-use Rattle.std.specs.Prelude.{◌≡◌, ℕ, ◌≤◌, List, Option, Some, None, IfSome, MatchOption, Result, IsErrOf}
+use Rattle.std.specs.Prelude.{◌≡◌, ℕ, ◌≤◌, List, Option, None, IfSome, MatchOption, Result, IsErrOf}
 use Rattle.hd_base.specs.Faults.{Rose}
 use Rattle.hd_base.specs.FileMaps.{FileMap}
 use Rattle.hd_base.specs.declared.files.FileError.{FileError}

@@ -1,5 +1,5 @@
 -- What the two halves of a connection's end hold and have sent.
-use Rattle.std.specs.Prelude.{◌≡◌, ℕ, ◌+◌, ◌-◌, ◌<◌, ◌≤◌, Bool, true, false, List, [], ◌∷◌, ◌++◌, length, take, drop, Option, Some, None, option_map, IsSome, IfSome, Result, IsErrOf}
+use Rattle.std.specs.Prelude.{◌≡◌, ℕ, ◌<◌, ◌≤◌, Bool, true, false, List, [], ◌∷◌, ◌++◌, length, take, Option, option_map, IsSome, Result, IsErrOf}
 use Rattle.hd_base.specs.Faults.{Rose}
 use Rattle.hd_base.specs.declared.links.Got.{Got}
 use Rattle.hd_base.specs.declared.links.Got.TheVariants as got

@@ -1,8 +1,8 @@
 -- When each call on roads fails, and how.
-use Rattle.std.specs.Prelude.{◌≡◌, ℕ, ◌≤◌, Result, IsErrOf}
+use Rattle.std.specs.Prelude.{ℕ, ◌≤◌, Result, IsErrOf}
 use Rattle.hd_base.specs.Faults.{Rose}
 use Rattle.hd_base.specs.declared.roads.RoadError.{RoadError}
-use Rattle.hd_base.specs.declared.roads.RoadError.TheVariants.{NotListening, Failed, Memory}
+use Rattle.hd_base.specs.declared.roads.RoadError.TheVariants.{NotListening, Failed}
 
 -- A call that dials nobody: Failed only where the count rose, never NotListening.
 pub record RoadCause {T : Type 0} (before now : ℕ) (result : Result T RoadError) : Type 0 where

@@ -1,5 +1,5 @@
 -- What a read takes from a source and a write adds to a sink, where they tell.
-use Rattle.std.specs.Prelude.{◌≡◌, ℕ, ◌<◌, ◌≤◌, List, [], ◌++◌, length, take, Option, option_map, Some, Result, IfOk, OnErr}
+use Rattle.std.specs.Prelude.{◌≡◌, ℕ, ◌<◌, List, [], ◌++◌, length, Option, option_map}
 
 -- Where told, these bytes were taken from the front of what was left.
 abbrev pub Took : Option (List ℕ) → Option (List ℕ) → List ℕ → Type 0

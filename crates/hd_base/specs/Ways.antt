@@ -1,5 +1,5 @@
 -- What roads have carried, and what roads over plain memory hold.
-use Rattle.std.specs.Prelude.{◌≡◌, ◌==◌, ℕ, ◌+◌, ◌-◌, ◌<◌, ◌≤◌, ◌&&◌, ◌||◌, not, Bool, true, false, cond, if◌then◌else◌, List, [], ◌∷◌, ◌++◌, length, take, drop, Option, Some, None, option_map, option_and_then}
+use Rattle.std.specs.Prelude.{◌≡◌, ◌==◌, ℕ, ◌+◌, ◌-◌, ◌&&◌, ◌||◌, not, Bool, true, false, cond, if◌then◌else◌, List, [], ◌∷◌, ◌++◌, length, take, drop, Option, option_map, option_and_then}
 use Rattle.hd_base.specs.Lists.{joined}
 use Rattle.hd_base.specs.Links.{Inbox}
 use Rattle.hd_base.specs.declared.roads.Standing.{Standing}

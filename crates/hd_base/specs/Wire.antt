@@ -1,5 +1,5 @@
 -- The numbers of statuses and replica states in messages.
-use Rattle.std.specs.Prelude.{◌≡◌, ℕ, ◌<◌, ◌==◌, if◌then◌else◌, Option, Some, None}
+use Rattle.std.specs.Prelude.{ℕ, ◌<◌}
 use Rattle.hd_base.specs.declared.states.Status.{Status}
 use Rattle.hd_base.specs.declared.states.Status.TheVariants as status
 use Rattle.hd_base.specs.declared.states.ReplicaState.{ReplicaState}

@@ -1,7 +1,6 @@
 -- Frames: what stands at the front of bytes is read, and what is read stands there.
-use Rattle.std.proofs.Common.{◌≡◌, ℕ, ◌+◌, ◌-◌, ◌^◌, ◌<◌, ◌≤◌, ◌||◌, nat_lt, true, false, Bool, cond, List, ◌++◌, length, take, drop, Result, Ok, Err, subst, arith, refl, sym, ◌∙◌, ap, length-append, length-take, length-drop, take-append-drop, append_assoc}
+use Rattle.std.proofs.Common.{◌≡◌, ℕ, ◌+◌, ◌-◌, ◌^◌, ◌<◌, ◌≤◌, ◌||◌, nat_lt, true, false, Bool, cond, List, ◌++◌, length, take, drop, Result, Ok, Err, subst, arith, refl, sym, ◌∙◌, ap, length-append, length-take, length-drop, take-append-drop}
 use Rattle.std.specs.Int.{w16, w32, from_be_bytes, to_be_bytes}
-use Rattle.std.proofs.lemmas.Grind.{common_steps}
 use Rattle.std.proofs.lemmas.Bool.Decides.{nat_tests}
 use Rattle.std.proofs.lemmas.Bool.{ltb-false}
 use Rattle.proto_fields.proofs.ResultLaws.{ok_value}

@@ -1,10 +1,10 @@
 -- Packets: what bytes spell is read, and what is read is spelled.
-use Rattle.std.proofs.Common.{◌≡◌, ◌==◌, ℕ, ◌+◌, ◌-◌, ◌*◌, ◌%◌, ◌^◌, ◌<◌, ◌≤◌, nat_lt, true, false, Bool, cond, List, [], ◌++◌, length, take, drop, Result, Ok, Err, subst, arith, refl, sym, ◌∙◌, ap, length-append, length-drop, take-append-drop, append_assoc, append-nil, ℤ, pos, negsuc}
+use Rattle.std.proofs.Common.{◌≡◌, ◌==◌, ℕ, ◌+◌, ◌-◌, ◌%◌, ◌^◌, ◌<◌, ◌≤◌, nat_lt, true, false, Bool, cond, List, [], ◌++◌, length, take, drop, Result, Ok, Err, subst, arith, refl, sym, ◌∙◌, ap, length-append, length-drop, take-append-drop, append_assoc, append-nil, ℤ, pos, negsuc}
 use Rattle.std.specs.Int.{w16, w32, to_be_bytes}
 use Rattle.std.proofs.lemmas.Grind.{common_steps}
 use Rattle.std.proofs.lemmas.Bool.Decides.{nat_tests}
 use Rattle.std.proofs.lemmas.Bool.{ltb-false}
-use Rattle.std.proofs.lemmas.List.{take_at, drop_at, take_all, length-take}
+use Rattle.std.proofs.lemmas.List.{take_at, drop_at, length-take}
 use Rattle.proto_fields.specs.declared.reading.Wire.{Wire}
 use Rattle.proto_fields.specs.ResultSteps.{◌>>=◌, with_cause}
 use Rattle.proto_fields.specs.Bytes.{IsBytes}
@@ -18,8 +18,8 @@ use Rattle.packet_codec.specs.declared.faults.PacketFault.{PacketFault}
 use Rattle.packet_codec.specs.declared.faults.PacketFault.TheVariants as fault
 use Rattle.packet_codec.specs.declared.faults.HeaderCause.TheVariants as cause
 use Rattle.packet_codec.specs.Headers.{header_of, header_at}
-use Rattle.packet_codec.specs.Frames.{limit, Frame, frame_len, frame_at}
-use Rattle.packet_codec.specs.Packets.{header_for, payload_for, IsWritable, SpellsPacket, sums_within, packet_of, packet_at}
+use Rattle.packet_codec.specs.Frames.{Frame, frame_len, frame_at}
+use Rattle.packet_codec.specs.Packets.{header_for, payload_for, SpellsPacket, sums_within, packet_of, packet_at}
 use Rattle.packet_codec.proofs.FrameLaws.{frame_again, TakesFrame, frame_takes}
 
 -- ---- the sums' length

@@ -1,18 +1,15 @@
 -- Refusals: each fault that reading gives stands in the bytes, and each that stands there is given.
-use Rattle.std.proofs.Common.{◌≡◌, ◌≢◌, ◌==◌, ℕ, ◌+◌, ◌-◌, ◌%◌, ◌<◌, ◌≤◌, ◌||◌, ◌⊎◌, inl, inr, nat_lt, true, false, Bool, cond, List, [], ◌++◌, length, take, drop, replicate, Option, Some, None, Result, Ok, Err, subst, arith, refl, sym, ◌∙◌, ap, length-append, append_assoc, ℤ, pos, negsuc, ◌-ℤ◌, ◌<ℤ◌}
+use Rattle.std.proofs.Common.{◌≡◌, ◌≢◌, ◌==◌, ℕ, ◌+◌, ◌-◌, ◌%◌, ◌<◌, ◌≤◌, ◌||◌, ◌⊎◌, inl, inr, nat_lt, true, false, Bool, cond, List, ◌++◌, length, take, drop, replicate, Option, Some, None, Result, Ok, Err, subst, arith, refl, sym, ◌∙◌, ap, length-append, append_assoc, ℤ, pos, negsuc, ◌-ℤ◌, ◌<ℤ◌}
 use Rattle.std.specs.Int.{w16, w32, from_be_bytes}
-use Rattle.std.proofs.lemmas.Grind.{common_steps}
 use Rattle.std.proofs.lemmas.Bool.Decides.{nat_tests}
 use Rattle.std.proofs.lemmas.Bool.{ltb-false, ltb-true}
 use Rattle.std.proofs.lemmas.Int.{ints}
 use Rattle.std.proofs.lemmas.List.{take_at, take-append-le, drop-append-le, length-replicate, length-drop}
-use Rattle.proto_fields.specs.declared.reading.Wire.{Wire}
-use Rattle.proto_fields.specs.declared.reading.WireFault.{WireFault}
-use Rattle.proto_fields.specs.ResultSteps.{◌>>=◌, with_cause}
+use Rattle.proto_fields.specs.ResultSteps.{with_cause}
 use Rattle.proto_fields.specs.Bytes.{IsBytes}
-use Rattle.proto_fields.specs.Fields.{Spells, fields_at}
+use Rattle.proto_fields.specs.Fields.{fields_at}
 use Rattle.proto_fields.proofs.PlaceLaws.{fields_at_spell, spelled_fields_at, fields_at_fail, faulty_fields_at}
-use Rattle.proto_fields.proofs.ResultLaws.{bind_ok, bind_err, with_cause_ok, with_cause_err, ok_value}
+use Rattle.proto_fields.proofs.ResultLaws.{bind_ok, bind_err, with_cause_ok, with_cause_err}
 use Rattle.packet_codec.specs.declared.headers.Header.{Header}
 use Rattle.packet_codec.specs.declared.headers.Found.{Found}
 use Rattle.packet_codec.specs.declared.packets.Packet.{Packet}
@@ -23,10 +20,10 @@ use Rattle.packet_codec.specs.declared.faults.HeaderCause.TheVariants as cause
 use Rattle.packet_codec.specs.Headers.{required, header_from, header_of, header_at, found_in}
 use Rattle.packet_codec.specs.Frames.{limit, payload_of, header_len_of, frame_len, Frame, frame_with, frame_at, length_at}
 use Rattle.std.specs.Result.{IfOk, IfErr}
-use Rattle.packet_codec.specs.Packets.{SpellsPacket, Gives, sums_within, packet_of, packet_at}
-use Rattle.packet_codec.specs.Refusals.{AreLawful, IsWholeFrame, IsCutFrame, IsUnlawful, HasFrame, IsBelowZero, IsNoMultiple, AreNoSums, HasFaultyHeader, LacksField, LacksSums, IsRefused, FailsFor}
-use Rattle.packet_codec.proofs.FrameLaws.{frame_at-Ok, Passed, frame_passes, TakesFrame, frame_takes}
-use Rattle.packet_codec.proofs.PacketLaws.{packet_takes, packet_again, of_sums, of_header, of_frame, packet_at-steps, Read, read_steps}
+use Rattle.packet_codec.specs.Packets.{SpellsPacket, Gives, sums_within, packet_at}
+use Rattle.packet_codec.specs.Refusals.{AreLawful, IsWholeFrame, IsCutFrame, IsUnlawful, HasFrame, IsBelowZero, IsNoMultiple, AreNoSums, IsRefused, FailsFor}
+use Rattle.packet_codec.proofs.FrameLaws.{frame_at-Ok, frame_passes, frame_takes}
+use Rattle.packet_codec.proofs.PacketLaws.{packet_takes, packet_again, of_sums, of_header, of_frame, packet_at-steps, read_steps}
 
 -- ---- frames
 

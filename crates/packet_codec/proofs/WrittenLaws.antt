@@ -1,5 +1,5 @@
 -- What is written is spelled, and so is read again.
-use Rattle.std.proofs.Common.{◌≡◌, ◌==◌, ℕ, ◌+◌, ◌-◌, ◌%◌, ◌^◌, ◌<◌, ◌≤◌, true, false, Bool, List, [], ◌∷◌, ◌++◌, length, take, drop, Some, None, Result, Ok, Err, subst, rules, arith, refl, sym, ◌∙◌, ap, length-append, append_assoc, append-nil, ℤ, pos}
+use Rattle.std.proofs.Common.{◌≡◌, ℕ, ◌+◌, ◌%◌, ◌^◌, ◌<◌, ◌≤◌, true, false, Bool, List, [], ◌∷◌, ◌++◌, length, drop, Result, Ok, Err, subst, rules, arith, refl, sym, ◌∙◌, ap, append_assoc, append-nil, ℤ, pos}
 use Rattle.std.specs.Result.{OnOk}
 use Rattle.std.specs.Int.{Width, w16, w32, w64, cast_signed, cast_unsigned, to_be_bytes}
 use mir.Val.{bits, Fits, SFits}
@@ -14,10 +14,9 @@ use Rattle.proto_fields.specs.Writing.{tag_text, varint_field, eight_field, four
 use Rattle.proto_fields.proofs.WrittenLaws.{varint_field_spells, eight_field_spells, four_field_spells, SpellsFrom-cons}
 use Rattle.packet_codec.specs.declared.headers.Header.{Header}
 use Rattle.packet_codec.specs.declared.packets.Packet.{Packet}
-use Rattle.packet_codec.specs.declared.faults.HeaderCause.TheVariants as cause
-use Rattle.packet_codec.specs.Headers.{flag, is_set, header_from, header_of, header_size, places_text, marks_text, sync_text, header_text}
+use Rattle.packet_codec.specs.Headers.{flag, header_from, header_of, header_size, places_text, marks_text, sync_text, header_text}
 use Rattle.packet_codec.specs.Frames.{limit}
-use Rattle.packet_codec.specs.Packets.{header_for, payload_for, IsWritable, SpellsPacket, lengths_text, front_text, packet_text, packet_at}
+use Rattle.packet_codec.specs.Packets.{header_for, payload_for, SpellsPacket, lengths_text, front_text, packet_text, packet_at}
 use Rattle.packet_codec.proofs.PacketLaws.{packet_again}
 
 -- ---- writing

@@ -1,5 +1,5 @@
 -- The frame of a packet: the payload length as four bytes, the header length as two, both big-endian, the header, and then the data, which has four bytes less than the payload.
-use Rattle.std.specs.Prelude.{◌≡◌, ℕ, ◌+◌, ◌-◌, ◌<◌, ◌≤◌, ◌||◌, nat_lt, if◌then◌else◌, List, ◌++◌, length, take, drop, Result, Ok, Err}
+use Rattle.std.specs.Prelude.{ℕ, ◌+◌, ◌-◌, ◌||◌, nat_lt, if◌then◌else◌, List, length, take, drop, Result, Ok, Err}
 use Rattle.std.specs.Int.{w16, w32, from_be_bytes}
 use Rattle.std.specs.Borrow.{Bor}
 use Rattle.packet_codec.specs.declared.faults.PacketFault.{PacketFault}

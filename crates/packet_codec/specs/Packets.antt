@@ -5,7 +5,7 @@ use Rattle.proto_fields.specs.ResultSteps.{◌>>=◌, with_cause}
 use Rattle.proto_fields.specs.Fields.{Spells}
 use Rattle.proto_fields.specs.declared.reading.Wire.{Wire}
 use Rattle.packet_codec.specs.Headers.{header_of, header_at, header_text, header_size}
-use Rattle.packet_codec.specs.Frames.{limit, Frame, frame_at}
+use Rattle.packet_codec.specs.Frames.{limit, frame_at}
 use Rattle.packet_codec.specs.declared.headers.Header.{Header}
 use Rattle.packet_codec.specs.declared.packets.Packet.{Packet}
 use Rattle.packet_codec.specs.declared.faults.PacketFault.{PacketFault}

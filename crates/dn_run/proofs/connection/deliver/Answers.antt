@@ -1,7 +1,6 @@
 -- What was sent is what the member takes, and all is idle again.
-use Rattle.std.proofs.Common.{◌≡◌, ◌∙◌, false}
+use Rattle.std.proofs.Common.{◌∙◌, false}
 use Rattle.packet_codec.specs.Packets.{packet_text}
-use Rattle.dn_run.specs.Connections.{IsOpen}
 use Rattle.dn_run.proofs.DeliveryLaws.{on_ok_then}
 use Rattle.dn_run.proofs.connection.deliver.Goals as goal
 

@@ -1,7 +1,7 @@
 -- The piece that the client hands over is what the member holds then, and nothing else stands on the roads.
-use Rattle.std.proofs.Common.{◌≡◌, ◌∙◌, ◌++◌, ◌∷◌, [], List, ℕ, true, false, length, sym, ap, refl}
+use Rattle.std.proofs.Common.{◌∙◌, ◌++◌, ◌∷◌, [], true, false, sym, ap, refl}
 use Rattle.packet_codec.specs.Packets.{packet_text}
-use Rattle.dn_run.proofs.DeliveryLaws.{Handed, handed_over, Taken, taken_up, inbox_filled, Loaded, loaded_down, loaded_up, all_handed}
+use Rattle.dn_run.proofs.DeliveryLaws.{handed_over, taken_up, inbox_filled, loaded_down, loaded_up, all_handed}
 use Rattle.dn_run.proofs.connection.pass_on.Goals as goal
 
 pub returns-clause-arrived : goal.returns-clause-arrived

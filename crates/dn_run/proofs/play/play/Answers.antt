@@ -1,11 +1,9 @@
 -- What the run leaves on an empty shelf and on unused roads, where both tell, and why it fails.
-use Rattle.std.proofs.Common.{◌≡◌, ◌∙◌, ◌<◌, ◌⊎◌, inl, inr, [], map, Some, true, sym, ap, subst, arith}
-use Rattle.hd_base.specs.Faults.{Rose}
+use Rattle.std.proofs.Common.{◌∙◌, inl, inr, [], map, ap, arith}
 use Rattle.packet_codec.specs.Packets.{packet_text}
-use Rattle.dn_run.specs.Connections.{RoadRose}
-use Rattle.dn_run.specs.Runs.{TellEmpty, CarriedFor, first_stamp}
+use Rattle.dn_run.specs.Runs.{first_stamp}
 use Rattle.dn_run.specs.Sendings.{packets_of, bytes_of}
-use Rattle.dn_run.proofs.DeliveryLaws.{on_ok_then, Loaded, brought, risen_now, risen_still, carried_for, none_left, nothing_behind}
+use Rattle.dn_run.proofs.DeliveryLaws.{on_ok_then, brought, risen_now, risen_still, carried_for, none_left, nothing_behind}
 use Rattle.dn_run.proofs.ReplicaLaws.{shelf_filled}
 use Rattle.dn_run.proofs.play.play.Goals as goal
 
@@ -32,11 +30,11 @@ pub returns-clause-road : goal.returns-clause-road
 returns-clause-road g c is = elim (c.write-outcome.ensures.road is) [
   | inl rose ↦ inl (omega (arith, rose, c.in_ok-connection.ensures.later, c.in_ok-bring.ensures.cause.later, c.in_ok-bring-2.ensures.cause.later))
   | inr ends ↦ elim ends [
-      | inl outward ↦
-          let conn = c.write-outcome.new.connection.client.id.0 in
-          inr (conn, risen_still _ _ _ (c.in_ok-bring-2.ensures.risen conn) (risen_now _ _ conn _ _ (c.in_ok-bring.ensures.risen conn) (inl outward)))
-      | inr inward ↦
-          let conn = c.write-outcome.new.connection.member.id.0 in
-          inr (conn, risen_now _ _ conn _ _ (c.in_ok-bring-2.ensures.risen conn) (inr inward))
-    ]
+    | inl outward ↦
+        let conn = c.write-outcome.new.connection.client.id.0 in
+        inr (conn, risen_still _ _ _ (c.in_ok-bring-2.ensures.risen conn) (risen_now _ _ conn _ _ (c.in_ok-bring.ensures.risen conn) (inl outward)))
+    | inr inward ↦
+        let conn = c.write-outcome.new.connection.member.id.0 in
+        inr (conn, risen_now _ _ conn _ _ (c.in_ok-bring-2.ensures.risen conn) (inr inward))
+  ]
 ]

@@ -1,6 +1,5 @@
 -- The report tells what the member holds, which is what the script wrote.
-use Rattle.std.proofs.Common.{◌≡◌, ◌∙◌, Err, ap, length}
-use Rattle.hd_base.specs.FileMaps.{Steps}
+use Rattle.std.proofs.Common.{◌∙◌, Err, ap}
 use Rattle.dn_run.specs.Runs.{first_stamp}
 use Rattle.dn_run.specs.Sendings.{bytes_of}
 use Rattle.dn_run.specs.declared.report.CloseAnswer.TheVariants as answer

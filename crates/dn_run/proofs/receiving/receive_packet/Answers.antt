@@ -1,10 +1,8 @@
 -- The lengths at the packet's front tell how many bytes it has, and so all of it is received.
-use Rattle.std.proofs.Common.{◌≡◌, ◌≢◌, ◌<◌, ◌+◌, ◌≤◌, ◌++◌, ℕ, [], List, length, Some, Ok, Err, sym, ap, ◌∙◌, append-nil, arith, length-append}
+use Rattle.std.proofs.Common.{◌++◌, [], length, Err, sym, ap, ◌∙◌, append-nil, arith}
 use Rattle.std.proofs.lemmas.Result.{err_from_is_err_and}
 use Rattle.proto_fields.proofs.ResultLaws.{ok_value, ok_pair}
-use Rattle.dn_run.specs.Faults.{packet_fault}
-use Rattle.dn_run.specs.declared.faults.StepFault.TheVariants.{Shut}
-use Rattle.dn_run.proofs.ReceiptLaws.{Parts, parted_first, parted_next, all_there, nothing_left, not_short, received_whole, err_ok, err_value, only_memory}
+use Rattle.dn_run.proofs.ReceiptLaws.{parted_first, parted_next, nothing_left, not_short, received_whole, err_ok, err_value, only_memory}
 use Rattle.dn_run.proofs.receiving.receive_packet.Goals as goal
 
 pub returns-in_err-size-clause-open : goal.returns-in_err-size-clause-open

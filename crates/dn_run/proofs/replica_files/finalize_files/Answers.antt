@@ -1,5 +1,5 @@
 -- The data file is still there after the metadata file was moved.
-use Rattle.std.proofs.Common.{◌≡◌, ◌∙◌, sym, ap, subst, arith}
+use Rattle.std.proofs.Common.{subst, arith}
 use Rattle.std.proofs.lemmas.Result.{err_from_is_err_and}
 use Rattle.dn_run.proofs.ReplicaLaws.{there_failed, body_stays_held, moved_there}
 use Rattle.dn_run.specs.Replicas.{IsThere}

@@ -1,5 +1,5 @@
 -- The two files were made one behind the other, and the header was written.
-use Rattle.std.proofs.Common.{◌≡◌, ◌∙◌, [], arith}
+use Rattle.std.proofs.Common.{◌∙◌, [], arith}
 use Rattle.hd_base.proofs.FileLaws.{Steps-after}
 use Rattle.dn_run.proofs.ReplicaLaws.{made_files, there_failed, put_there, put_replica}
 use Rattle.meta_file.specs.declared.names.Folder.TheVariants.{Rbw}

@@ -1,5 +1,5 @@
 -- The body was written to the empty data file, and the sums behind the header.
-use Rattle.std.proofs.Common.{◌≡◌, ◌∙◌, sym, arith}
+use Rattle.std.proofs.Common.{◌∙◌, arith}
 use Rattle.hd_base.proofs.FileLaws.{Steps-after}
 use Rattle.dn_run.proofs.ReplicaLaws.{begun_stays, begun_place, there_failed, has_there, stored_replica, put_replica, replica_held}
 use Rattle.meta_file.specs.declared.names.Folder.TheVariants.{Rbw}

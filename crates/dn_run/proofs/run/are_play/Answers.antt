@@ -1,5 +1,5 @@
 -- One word is `play` just where its bytes are.
-use Rattle.std.proofs.Common.{codes, sym, ap, ◌∙◌}
+use Rattle.std.proofs.Common.{codes, ap, ◌∙◌}
 use Rattle.std.specs.String.{string_bytes}
 use Rattle.std.specs.Str.{bytes_eq}
 use Rattle.dn_run.proofs.RunLaws.{one_word}

@@ -1,5 +1,5 @@
 -- A text that was read to its end and spells no script is refused for that.
-use Rattle.std.proofs.Common.{refl, sym, ap, ◌∙◌, subst}
+use Rattle.std.proofs.Common.{refl}
 use Rattle.dn_run.proofs.RunLaws.{all_read, bad_word}
 use Rattle.dn_run.proofs.run.read_first_write.Goals as goal
 

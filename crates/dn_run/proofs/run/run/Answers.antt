@@ -1,12 +1,10 @@
 -- The script that is given is the one that is read and run, and nothing else is refused.
-use Rattle.std.proofs.Common.{◌≡◌, ◌∙◌, Option, Some, None, IfSome, ◌⊎◌, inl, inr, sym, ap, subst, refl, arith}
+use Rattle.std.proofs.Common.{◌∙◌, Some, IfSome, inl, inr, sym, ap, subst}
 use Rattle.hd_base.specs.Streams.{Wrote}
-use Rattle.dn_run.specs.Exits.{IsBadScript, IsFault}
+use Rattle.dn_run.specs.Exits.{IsFault}
 use Rattle.dn_run.specs.Reports.{report_of}
-use Rattle.dn_run.specs.Runs.{TellEmpty, IsGiven, CarriedFor, report_for, files_for, first_files}
+use Rattle.dn_run.specs.Runs.{TellEmpty, CarriedFor, report_for, files_for}
 use Rattle.dn_run.specs.Streams.{WroteFront}
-use Rattle.dn_run.specs.declared.exits.BadKind.TheVariants as kinds
-use Rattle.dn_run.specs.declared.exits.Exit.TheVariants as exit
 use Rattle.dn_run.proofs.RunLaws.{same_first, no_shelf, reads_script, first_is, first_set, if_some_map, refused_by, bad_first_line, some_shelf}
 use Rattle.dn_run.proofs.run.run.Goals as goal
 

@@ -1,5 +1,5 @@
 -- What the member takes is the packet that was sent.
-use Rattle.std.proofs.Common.{◌≡◌, ◌∙◌, ◌++◌, ◌∷◌, [], Err, sym, ap, subst}
+use Rattle.std.proofs.Common.{◌∙◌, ◌++◌, ◌∷◌, [], Err, sym, ap, subst}
 use Rattle.std.proofs.lemmas.Result.{err_from_is_err_and}
 use Rattle.packet_codec.specs.Packets.{packet_text}
 use Rattle.dn_run.specs.Connections.{IsOpen}

@@ -1,5 +1,5 @@
 -- The member takes each packet that was sent, and so the block is written and finalized.
-use Rattle.std.proofs.Common.{◌≡◌, ◌∙◌, ◌++◌, ◌∷◌, ◌<◌, [], List, ℕ, length, Err, sym, ap, subst}
+use Rattle.std.proofs.Common.{◌∙◌, ◌∷◌, [], length, Err, sym, ap, subst}
 use Rattle.std.proofs.lemmas.Result.{err_from_is_err_and}
 use Rattle.hd_base.specs.FileMaps.{Steps}
 use Rattle.packet_codec.specs.Packets.{packet_text}

@@ -1,0 +1,220 @@
+//! Whole runs over memory: the worked examples, and each call that can fail failing in turn.
+
+ghost use Rattle.std.specs.Prelude.{◌<◌, length, IfOk};
+
+use crate::exits::{BadKind, Exit, UsageRule};
+use crate::run::run;
+use hd_base::{BlockId, FileName, Files, NodeId, Shelf};
+use mem_ports::{MemRoads, MemShelf, MemSink, MemSource};
+use std::alloc::Global;
+use std::test::Fail;
+
+/// A script of one write of nine bytes.
+const NINE: &[u8] =
+    b"nodes 1\nseed 0\ncreate 1073741825 0\nwrite 1073741825 313233343536373839\nclose 1073741825\n";
+
+/// Its report.
+const NINE_REPORT: &[u8] =
+    b"replica 0 1073741825 FINALIZED 1001 9 9 e3069283 ok\nanswer 1073741825 0 create ok 1001\nanswer 1073741825 2 close ok 9 1001 0\nend\n";
+
+/// The script without the write, and its report.
+const EMPTY: &[u8] = b"nodes 1\nseed 0\ncreate 1073741825 0\nclose 1073741825\n";
+
+const EMPTY_REPORT: &[u8] =
+    b"replica 0 1073741825 FINALIZED 1001 0 0 00000000 ok\nanswer 1073741825 0 create ok 1001\nanswer 1073741825 1 close ok 0 1001 0\nend\n";
+
+/// The report of 64,512 bytes 5a.
+const LONG_REPORT: &[u8] =
+    b"replica 0 7 FINALIZED 1001 64512 64512 4c3561b8 ok\nanswer 7 0 create ok 1001\nanswer 7 2 close ok 64512 1001 0\nend\n";
+
+/// Which call of each port fails, from 1; 0 is none.
+#[derive(Clone, Copy)]
+struct Failing {
+    script: u64,
+    report: u64,
+    shelf: u64,
+    roads: u64,
+}
+
+/// No call fails.
+const NONE: Failing = Failing {
+    script: 0,
+    report: 0,
+    shelf: 0,
+    roads: 0,
+};
+
+/// What a run leaves.
+#[derive(Drop)]
+struct Left {
+    exit: Exit,
+    report: MemSink,
+    shelves: Vec<MemShelf>,
+}
+
+/// Runs a script on one shelf.
+fn run_one(alloc: Global, word: &str, text: &[u8], failing: Failing) -> Result<Left, Fail> {
+    let words = vec![in alloc; String::from_str(alloc, word)?]?;
+    let mut source = MemSource::new(alloc, text, &[failing.script])?;
+    let mut report = MemSink::new(alloc, &[failing.report])?;
+    let mut shelves = vec![in alloc; MemShelf::new(alloc, &[failing.shelf])?]?;
+    let mut roads = MemRoads::new(alloc, &[failing.roads])?;
+    let exit = run(
+        alloc,
+        &words,
+        &mut source,
+        &mut report,
+        &mut shelves,
+        &mut roads,
+    );
+    Ok(Left {
+        exit,
+        report,
+        shelves,
+    })
+}
+
+/// The script that writes 64,512 bytes 5a.
+fn long_script(alloc: Global) -> Result<Vec<u8>, Fail> {
+    let mut text = Vec::new(alloc);
+    text.extend_from_slice(b"nodes 1\nseed 0\ncreate 7 0\nwrite 7 ")?;
+    for _ in 0..64_512u32 {
+        text.extend_from_slice(b"5A")?;
+    }
+    text.extend_from_slice(b"\nclose 7\n")?;
+    Ok(text)
+}
+
+#[test]
+fn examples_are_reported(rt: HostRuntime) -> Result<(), Fail> {
+    let long = long_script(rt.alloc())?;
+    let table: [(&[u8], &[u8]); 3] = [
+        (NINE, NINE_REPORT),
+        (EMPTY, EMPTY_REPORT),
+        (&long, LONG_REPORT),
+    ];
+    for (script, report) in table {
+        let left = run_one(rt.alloc(), "play", script, NONE)?;
+        assert_eq!(rt; left.exit, Exit::Done);
+        assert_eq!(rt; left.report.bytes(), report);
+    }
+    Ok(())
+}
+
+/// The bytes of a file in a drawer.
+fn contents<F: Files>(alloc: Global, drawer: &mut F, name: &[u8]) -> Result<Vec<u8>, Fail> {
+    let name = FileName::new(name).ok_or("a name")?;
+    let mut bytes = vec![in alloc; 0; 64]?;
+    let count = drawer.read_at(&name, 0, &mut bytes)?;
+    bytes.truncate(count);
+    Ok(bytes)
+}
+
+#[test]
+fn both_files_are_stored(rt: HostRuntime) -> Result<(), Fail> {
+    let mut left = run_one(rt.alloc(), "play", NINE, NONE)?;
+    let shelf = left.shelves.first_mut().ok_or("a shelf")?;
+    let mut drawer = shelf.lend(rt.alloc(), BlockId(1073741825))?;
+    assert_eq!(rt; drawer.names(rt.alloc())?.len(), 2);
+    let body = contents(
+        rt.alloc(),
+        &mut drawer,
+        b"current/BP-1-127.0.0.1-1/current/finalized/subdir0/subdir0/blk_1073741825",
+    )?;
+    assert_eq!(rt; body.as_slice(), b"123456789".as_slice());
+    let sums = contents(
+        rt.alloc(),
+        &mut drawer,
+        b"current/BP-1-127.0.0.1-1/current/finalized/subdir0/subdir0/blk_1073741825_1001.meta",
+    )?;
+    assert_eq!(rt;
+        sums.as_slice(),
+        b"\x00\x01\x02\x00\x00\x02\x00\xe3\x06\x92\x83".as_slice()
+    );
+    Ok(())
+}
+
+#[test]
+fn each_call_fails_in_turn(rt: HostRuntime) -> Result<(), Fail> {
+    let shelf = Exit::ShelfFault { node: NodeId(0) };
+    for number in 1..=13 {
+        let table = [
+            (
+                Failing {
+                    script: number,
+                    ..NONE
+                },
+                2,
+                Exit::ScriptFault,
+            ),
+            (
+                Failing {
+                    report: number,
+                    ..NONE
+                },
+                1,
+                Exit::ReportFault,
+            ),
+            (
+                Failing {
+                    roads: number,
+                    ..NONE
+                },
+                7,
+                Exit::RoadFault,
+            ),
+            (
+                Failing {
+                    shelf: number,
+                    ..NONE
+                },
+                12,
+                shelf,
+            ),
+        ];
+        for (failing, calls, fault) in table {
+            let left = run_one(rt.alloc(), "play", NINE, failing)?;
+            let wanted = if number <= calls { fault } else { Exit::Done };
+            assert_eq!(rt; left.exit, wanted, "call {number}");
+        }
+    }
+    Ok(())
+}
+
+#[test]
+fn receipts_fail_in_turn(rt: HostRuntime) -> Result<(), Fail> {
+    let long = long_script(rt.alloc())?;
+    for number in 8..=19 {
+        let failing = Failing {
+            roads: number,
+            ..NONE
+        };
+        let left = run_one(rt.alloc(), "play", &long, failing)?;
+        assert_eq!(rt; left.exit, Exit::RoadFault, "call {number}");
+        assert!(rt; left.report.bytes().is_empty());
+    }
+    Ok(())
+}
+
+#[test]
+fn words_and_scripts_are_refused(rt: HostRuntime) -> Result<(), Fail> {
+    let usage = Exit::Usage {
+        rule: UsageRule::Mode,
+    };
+    let word = Exit::BadScript {
+        line: 0,
+        kind: BadKind::Word,
+    };
+    let table: [(&str, &[u8], Exit); 3] = [
+        ("walk", NINE, usage),
+        ("play", b"nodes 1\n", word),
+        ("play", b"", word),
+    ];
+    for (mode, script, wanted) in table {
+        let left = run_one(rt.alloc(), mode, script, NONE)?;
+        assert_eq!(rt; left.exit, wanted);
+    }
+    assert_eq!(rt; (usage.status(), usage.name()), (1, "Usage"));
+    assert_eq!(rt; (word.status(), word.name()), (2, "BadScript"));
+    Ok(())
+}
