@@ -1,0 +1,4 @@
+pub mod Refusals
+pub mod Held
+pub mod Pieces
+pub mod Rows

@@ -1,0 +1,120 @@
+//! What a packet says of its piece of the block, and the rules that it keeps.
+
+ghost use Rattle.std.specs.Prelude.{◌≡◌, ◌+◌, ◌<◌, ◌≤◌, IfOk, IfSome};
+ghost use Rattle.replica_core.specs.Pieces.{block_limit, heartbeat as heartbeat_of, placed, piece_count as piece_count_of, summed, entered};
+
+use crate::entries::Entry;
+use crate::refusals::{PieceRule, Refusal};
+
+/// How many bytes a block may have.
+const BLOCK_LIMIT: u64 = 134_217_728;
+
+/// What a packet says of its piece of the block.
+#[derive(Clone, Copy, Debug, PartialEq, Eq)]
+pub struct Piece {
+    pub seqno: i64,
+    pub offset: i64,
+    pub length: u64,
+    pub sums: u64,
+    pub last: bool,
+    pub sync: bool,
+    pub bad: Option<u64>,
+}
+
+impl Piece {
+    /// The entry of a heartbeat.
+    #[tactic(auto, unfolding(crate::specs::Pieces::heartbeat))]
+    pub fn heartbeat(&self) -> Result<Entry, Refusal>
+        ensures { result ≡ heartbeat_of self.now }
+    {
+        if self.length != 0 || self.sums != 0 || self.last {
+            return Err(breach(PieceRule::Heartbeat));
+        }
+        Ok(Entry {
+            seqno: self.seqno,
+            end: 0,
+            last: false,
+            sync: self.sync,
+        })
+    }
+
+    /// The entry of a packet that isn't a heartbeat, where so many bytes are written.
+    pub fn entry(&self, written: u64) -> Result<Entry, Refusal>
+        requires { IfSome self.now.bad (λ piece. piece < self.now.sums) }
+        ensures { result ≡ entered self.now written }
+    {
+        let offset = self.place(written)?;
+        self.entry_at(offset)
+    }
+
+    /// Where the packet begins.
+    #[tactic(auto, unfolding(crate::specs::Pieces::placed))]
+    fn place(&self, written: u64) -> Result<u64, Refusal>
+        ensures value { result ≡ placed self.now written }
+        ensures within { IfOk result (λ offset. offset + self.now.length ≤ block_limit) }
+    {
+        if self.offset < 0 {
+            return Err(breach(PieceRule::Negative));
+        }
+        let offset = self.offset.unsigned_abs();
+        if offset.saturating_add(self.length) > BLOCK_LIMIT {
+            return Err(breach(PieceRule::TooLong));
+        }
+        if offset > written {
+            return Err(Refusal::Gap { written, offset });
+        }
+        if self.last && (self.length != 0 || offset != written) {
+            return Err(breach(PieceRule::LastShape));
+        }
+        Ok(offset)
+    }
+
+    /// The entry of a packet that begins here.
+    #[tactic(auto, unfolding(crate::specs::Pieces::summed))]
+    fn entry_at(&self, offset: u64) -> Result<Entry, Refusal>
+        requires within { offset + self.now.length ≤ block_limit }
+        requires bad { IfSome self.now.bad (λ piece. piece < self.now.sums) }
+        ensures { result ≡ summed self.now offset }
+    {
+        let end = offset + self.length;
+        if offset % 512 != 0 && end > offset / 512 * 512 + 512 {
+            return Err(breach(PieceRule::MidChunk));
+        }
+        if self.sums != piece_count(offset, self.length) {
+            return Err(breach(PieceRule::Sums));
+        }
+        if let Some(piece) = self.bad {
+            return Err(Refusal::BadSum {
+                chunk: offset / 512 + piece,
+            });
+        }
+        Ok(Entry {
+            seqno: self.seqno,
+            end,
+            last: self.last,
+            sync: self.sync,
+        })
+    }
+}
+
+/// How many pieces with a sum of their own the bytes of a packet are.
+fn piece_count(offset: u64, length: u64) -> u64
+    requires { offset + length ≤ block_limit }
+    ensures value { result ≡ piece_count_of offset length }
+    ensures few { result ≤ block_limit }
+{
+    if length == 0 {
+        0
+    } else if offset % 512 == 0 {
+        length.div_ceil(512)
+    } else {
+        1
+    }
+}
+
+/// The refusal of a packet that breaks this rule.
+fn breach(rule: PieceRule) -> Refusal
+    ensures { result ≡ Refusal.Piece rule }
+{
+    Refusal::Piece { rule }
+}
