@@ -18,14 +18,14 @@ abbrev pub state_of : Held → ReplicaState
 state_of h = state_under h.recovery h.original
 
 -- what a reader may see of a replica in this state, or of one under recovery whose original state this is
-abbrev pub visible_in : ReplicaState → ℕ → ℕ → Option ℕ
-visible_in state.Finalized written acked = Some written
-visible_in state.Rbw written acked = Some acked
-visible_in _ written acked = None
+abbrev pub visible_under : ReplicaState → ℕ → ℕ → Option ℕ
+visible_under state.Finalized written acked = Some written
+visible_under state.Rbw written acked = Some acked
+visible_under _ written acked = None
 
 -- what a reader may see
 abbrev pub visible_of : Held → Option ℕ
-visible_of h = visible_in h.original h.written h.acked
+visible_of h = visible_under h.original h.written h.acked
 
 abbrev pub is_finalized : ReplicaState → Bool
 is_finalized state.Finalized = true

@@ -7,11 +7,17 @@ mod cores;
 mod entries;
 mod events;
 mod held;
+mod laws;
 mod pieces;
 mod refusals;
+mod replica;
 mod streams;
 
 pub use entries::Entry;
 pub use events::{Answer, Event};
+pub use laws::{
+    acked_is_written, one_connection_writes, packets_leave_no_gap, readers_see_the_visible,
+    updates_never_lengthen,
+};
 pub use refusals::{PieceRule, Refusal};
-pub use cores::Core;
+pub use replica::Replica;
