@@ -67,6 +67,7 @@ packet_adjoins c conn p other =
     subst (λ (o : Option Held). Adjoins (written_at o) (max h.written e.end) p.offset p.length) (sym (present_is c h is).1) (entered_adjoins p h.written e q)))))))
 
 pub no_gap : (c : Core) (e : Event) → LeavesNoGap c e
+unfolding row
 no_gap c (event.Packet conn seqno offset n sums last sync bad) = packet_adjoins c conn (record { seqno = seqno; offset = offset; length = n; sums = sums; last = last; sync = sync; bad = bad })
 no_gap c _ = tt
 
@@ -105,6 +106,7 @@ ended_other c conn other =
 
 -- what comes on the stream of another connection than the writing one changes nothing
 pub others : (c : Core) (e : Event) (conn : ConnId) → stream_conn e ≡ Some conn → writer_in c ≢ Some conn → stepped c e ≡ c
+unfolding row
 others c (event.Packet from seqno offset n sums last sync bad) conn is other =
     packet_other c from (record { seqno = seqno; offset = offset; length = n; sums = sums; last = last; sync = sync; bad = bad })
     (λ w. other (w ∙ is))
@@ -141,11 +143,13 @@ settled_less h k original stamp n e less = subst (λ (x : Held). x.written ≤ h
 
 -- a recovery's end never lengthens
 pub update_less : (c : Core) (recovery : Stamp) (n : ℕ) → NoMore c (stepped c (event.Update recovery n))
+unfolding row
 update_less c recovery n =
     renewed_less c None (λ h. updated h h.recovery recovery n) (λ h k _ e.
     let is = updated_is h k h.recovery recovery n e in settled_less h k state.Finalized recovery n is.0 is.1)
 
 init_less : (c : Core) (named recovery : Stamp) → NoMore c (stepped c (event.Init named recovery))
+unfolding row
 init_less c named recovery =
     after_step (NoMore c) c (present c) _ (no_more c) (λ h is.
     after_step (NoMore c) c (begun h named recovery) _ (no_more c) (λ k e.
@@ -165,11 +169,13 @@ ack_less c conn seqno good =
     after_step (NoMore c) c (oldest_of (slice_get c.pending 0) seqno) _ (no_more c) (λ e _. answered_less c h e good (present_is c h is).1)))
 
 create_less : (c : Core) (conn : ConnId) (stamp : Stamp) → NoMore c (stepped c (event.Create conn stamp))
+unfolding row
 create_less c conn stamp =
     after_check (NoMore c) c (not c.is_broken) refusal.Broken _ (no_more c) (λ _.
     after_check (NoMore c) c (is_none c.held) refusal.Exists _ (no_more c) (λ _. record { written = omega arith; pending = omega arith }))
 
 read_less : (c : Core) (named : Stamp) (offset n : ℕ) → NoMore c (stepped c (event.Read named offset n))
+unfolding row
 read_less c named offset n =
     after_step (NoMore c) c (present c) _ (no_more c) (λ h _.
     after_step (NoMore c) c (readable h (visible_of h) named offset n) _ (no_more c) (λ _ _. no_more c))
@@ -185,6 +191,7 @@ packet_writes c conn p =
 
 -- nothing but a packet of the writing connection adds bytes or entries
 grows : (c : Core) (e : Event) → Sound c → NoMore c (stepped c e) ⊎ IsWritersPacket c e
+unfolding row
 grows c (event.Packet conn seqno offset n sums last sync bad) s = packet_writes c conn (record { seqno = seqno; offset = offset; length = n; sums = sums; last = last; sync = sync; bad = bad })
 grows c (event.Create conn stamp) s = inl (create_less c conn stamp)
 grows c (event.Append conn named new n) s =
@@ -227,6 +234,7 @@ not_readable h named offset n = refl
 
 -- where nothing is visible, every read is refused
 pub invisible : (c : Core) → visible_in c ≡ None → RefusesReads c
+unfolding row
 invisible c none named offset n =
     refused_step (present c) _ (λ h is.
     let hidden : visible_of h ≡ None = subst (λ (o : Option Held). option_and_then visible_of o ≡ None) (present_is c h is).1 none in
@@ -234,6 +242,7 @@ invisible c none named offset n =
 
 -- a broken replica refuses every read
 pub broken_unread : (c : Core) → c.is_broken ≡ true → RefusesReads c
+unfolding row
 broken_unread c broken named offset n = refused_step (present c) _ (λ h is. absurd (two_ways c.is_broken broken (present_is c h is).0))
 
 -- the read of no byte under no stamp, which any reader may do
@@ -246,6 +255,7 @@ present_there c h whole is = ap (λ b. check (not b) refusal.Broken (there c.hel
 
 -- where something is visible, that read is answered
 reads : (c : Core) (h : Held) (v : ℕ) → c.is_broken ≡ false → c.held ≡ Some h → visible_of h ≡ Some v → row c (event.Read (record { 0 = 0 }) 0 0) ≡ Ok (record { core = c; answer = answer.Visible v })
+unfolding row
 reads c h v whole is e =
     taken_step (present c) _ h (present_there c h whole is)
     ∙ taken_step (readable h (visible_of h) (record { 0 = 0 }) 0 0) _ v (ap (λ o. readable h o (record { 0 = 0 }) 0 0) e ∙ least_read h v)
@@ -283,6 +293,7 @@ packet_stays c conn p =
 
 -- an event that is answered with a refusal changes nothing
 pub stays : (c : Core) (e : Event) → Stays c (row c e)
+unfolding row
 stays c (event.Create conn stamp) = stays_check c (not c.is_broken) refusal.Broken _ (stays_check c (is_none c.held) refusal.Exists _ (stays_done c (handed c (settled_at state.Rbw stamp 0) (Some conn))))
 stays c (event.Append conn named new n) = renewed_stays c (Some conn) (λ h. appended h named new n)
 stays c (event.AppendRecovery conn named new n) = renewed_stays c (Some conn) (λ h. recovered h named new n state.Rbw)

@@ -148,8 +148,8 @@ grown_sound c h t u p e w whole went entry =
     record {
       held = grown_held h t c.pending e.end w;
       pending = each-append (IsPending (max h.written e.end)) c.pending e
-      (still_pending h.written (max h.written e.end) c.pending (omega arith) open_yet w.pending)
-      (record { within = omega arith; last = λ l. omega (arith, entry.1 l) });
+          (still_pending h.written (max h.written e.end) c.pending (omega arith) open_yet w.pending)
+          (record { within = omega arith; last = λ l. omega (arith, entry.1 l) });
       stream = record { open_yet = λ o. each-append IsNotLast c.pending e open_yet (record { not_last = entry.0 ∙ sym went.2 ∙ o }) };
       writing = ap Some w.rbw;
       sound = whole;
@@ -223,6 +223,7 @@ begun_held h k recovery e held = subst IsHeld (sym e) (record { acked = held.ack
 
 -- Every event keeps a replica sound.
 pub kept : (c : Core) (e : Event) → Sound c → Sound (stepped c e)
+unfolding row
 kept c (event.Create conn stamp) s =
     after_check Sound c (not c.is_broken) refusal.Broken (check (is_none c.held) refusal.Exists (done (handed c (settled_at state.Rbw stamp 0) (Some conn)))) s (λ whole.
     after_check Sound c (is_none c.held) refusal.Exists (done (handed c (settled_at state.Rbw stamp 0) (Some conn))) s (λ _.

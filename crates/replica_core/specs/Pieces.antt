@@ -1,14 +1,26 @@
 -- What a packet of a stream must be, and the entry that it leaves pending.
-use Rattle.std.specs.Prelude.{ℕ, ℤ, pos, ◌==◌, ◌+◌, ◌-◌, ◌*◌, ◌/◌, ◌%◌, ◌^◌, ◌+ℤ◌, ◌&&◌, ◌||◌, not, nat_lt, nat_le, int_lt, int_le, nat_abs, if◌then◌else◌, Bool, true, false, Option, Some, None, Result, Ok, Err}
+use Rattle.std.specs.Prelude.{ℕ, ℤ, ◌≡◌, pos, ◌==◌, ◌+◌, ◌-◌, ◌*◌, ◌/◌, ◌%◌, ◌^◌, ◌+ℤ◌, ◌&&◌, ◌||◌, not, nat_lt, nat_le, int_lt, int_le, nat_abs, if◌then◌else◌, Bool, true, false, Option, Some, None, Result, Ok, Err}
 use Rattle.std.specs.Ordering.{int_eq}
 use Rattle.hd_base.specs.declared.numbers.ConnId.{ConnId}
 use Rattle.replica_core.specs.declared.entries.Entry.{Entry}
+use Rattle.replica_core.specs.declared.events.Event.{Event}
+use Rattle.replica_core.specs.declared.events.Event.TheVariants as event
 use Rattle.replica_core.specs.declared.pieces.Piece.{Piece}
 use Rattle.replica_core.specs.declared.streams.Stream.{Stream}
 use Rattle.replica_core.specs.declared.refusals.Refusal.{Refusal}
 use Rattle.replica_core.specs.declared.refusals.Refusal.TheVariants as refusal
 use Rattle.replica_core.specs.declared.refusals.PieceRule.TheVariants as rule
 use Rattle.replica_core.specs.Refusals.{check, ◌>>=◌}
+
+-- a packet, whose entry needs room
+abbrev pub IsPacket : Event → Type 0
+IsPacket (event.Packet conn seqno offset bytes sums last sync bad) = Unit {0}
+IsPacket _ = ⊥
+
+-- what a packet says
+abbrev pub IsPieceOf : Event → Piece → Type 0
+IsPieceOf (event.Packet conn seqno offset bytes sums last sync bad) p = p ≡ record { seqno = seqno; offset = offset; length = bytes; sums = sums; last = last; sync = sync; bad = bad }
+IsPieceOf _ p = ⊥
 
 -- how many bytes a block may have
 abbrev pub block_limit : ℕ

@@ -148,7 +148,7 @@ abbrev pub failed : Core → Core
 failed c = record c { is_broken = true; stream = None; pending = [] }
 
 -- the row of each event
-abbrev pub row : Core → Event → Outcome
+unfoldable pub row : Core → Event → Outcome
 row c (event.Create conn stamp) = create_row c conn stamp
 row c (event.Append conn named new bytes) = append_row c conn named new bytes
 row c (event.AppendRecovery conn named new bytes) = append_recovery_row c conn named new bytes
@@ -184,15 +184,7 @@ absent block = record { block = block; held = None; stream = None; pending = [];
 abbrev pub found : BlockId → Held → Core
 found block h = record { block = block; held = Some h; stream = None; pending = []; is_broken = false }
 
--- how many entries may be pending
-abbrev pub most_pending : ℕ
-most_pending = 1024
-
--- What the code asks of an event: there is room for a packet's entry, its bad piece is one of its pieces, and a recovery id isn't 0.
-abbrev pub HasRoom : Core → Event → Type 0
-HasRoom c (event.Packet conn seqno offset bytes sums last sync bad) = length c.pending < most_pending
-HasRoom c _ = Unit {0}
-
+-- An event whose numbers fit: a packet's bad piece is one of its pieces, and a recovery id isn't 0.
 abbrev pub IsLawful : Event → Type 0
 IsLawful (event.Packet conn seqno offset bytes sums last sync bad) = IfSome bad (λ piece. piece < sums)
 IsLawful (event.Init named recovery) = 1 ≤ recovery.0

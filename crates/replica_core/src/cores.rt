@@ -1,7 +1,8 @@
 //! A replica, and what each event makes of it.
 
 ghost use Rattle.std.specs.Prelude.{◌≡◌, ◌<◌, ◌≤◌, IfSome, length, slice_get};
-ghost use Rattle.replica_core.specs.Rows.{core_after, reply, present as present_in, handed, create_row, append_row, append_recovery_row, stream_recovery_row, close_recovery_row, stream_by as written_by, piece_row, packet_row, oldest_of, answered, ack_row, ended, init_row, update_row, read_row, failed, row, HasRoom, IsLawful};
+ghost use Rattle.replica_core.specs.Pieces.{IsPacket};
+ghost use Rattle.replica_core.specs.Rows.{core_after, reply, present as present_in, handed, create_row, append_row, append_recovery_row, stream_recovery_row, close_recovery_row, stream_by as written_by, piece_row, packet_row, oldest_of, answered, ack_row, ended, init_row, update_row, read_row, failed, row, IsLawful};
 
 use crate::entries::{Entry, Pending};
 use crate::events::{Answer, Event};
@@ -107,12 +108,7 @@ impl Core {
         Ok(self.hand(held, Some(conn)))
     }
 
-    fn close_recovery(
-        &mut self,
-        named: Stamp,
-        new: Stamp,
-        length: u64,
-    ) -> Result<Answer, Refusal>
+    fn close_recovery(&mut self, named: Stamp, new: Stamp, length: u64) -> Result<Answer, Refusal>
         ensures answer { result ≡ reply (close_recovery_row self.old named new length) }
         ensures core { self.new ≡ core_after self.old (close_recovery_row self.old named new length) }
     {
@@ -148,12 +144,7 @@ impl Core {
 
     /// Takes a packet of the writing stream.
     #[tactic(auto, unfolding(crate::specs::Rows::piece_row))]
-    fn take_piece(
-        &mut self,
-        held: Held,
-        stream: Stream,
-        piece: &Piece,
-    ) -> Result<Answer, Refusal>
+    fn take_piece(&mut self, held: Held, stream: Stream, piece: &Piece) -> Result<Answer, Refusal>
         requires room { length self.old.pending < 1024 }
         requires bad { IfSome piece.now.bad (λ bad. bad < piece.now.sums) }
         ensures answer { result ≡ reply (piece_row self.old held stream piece.now) }
@@ -267,26 +258,45 @@ impl Core {
     }
 
     /// Takes an event, or refuses it, which changes nothing.
+    #[tactic(auto, unfolding(crate::specs::Rows::row))]
     pub fn take(&mut self, event: &Event) -> Result<Answer, Refusal>
-        requires room { HasRoom self.old event.now }
+        requires room { IsPacket event.now → length self.old.pending < 1024 }
         requires lawful { IsLawful event.now }
         ensures answer { result ≡ reply (row self.old event.now) }
         ensures core { self.new ≡ core_after self.old (row self.old event.now) }
     {
         match *event {
             Event::Create { conn, stamp } => self.create(conn, stamp),
-            Event::Append { conn, named, new, length } => self.append(conn, named, new, length),
-            Event::AppendRecovery { conn, named, new, length } => self.append_recovery(conn, named, new, length),
-            Event::StreamRecovery { conn, named, new, min, max } => self.stream_recovery(conn, named, new, min, max),
+            Event::Append {
+                conn,
+                named,
+                new,
+                length,
+            } => self.append(conn, named, new, length),
+            Event::AppendRecovery {
+                conn,
+                named,
+                new,
+                length,
+            } => self.append_recovery(conn, named, new, length),
+            Event::StreamRecovery {
+                conn,
+                named,
+                new,
+                min,
+                max,
+            } => self.stream_recovery(conn, named, new, min, max),
             Event::CloseRecovery { named, new, length } => self.close_recovery(named, new, length),
-            Event::Packet { conn, seqno, offset, length, sums, last, sync, bad } => {
-                self.packet(conn, &Piece { seqno, offset, length, sums, last, sync, bad })
-            }
+            Event::Packet { conn, .. } => self.packet(conn, &Piece::of(event)),
             Event::Ack { conn, seqno, good } => self.ack(conn, seqno, good),
             Event::Ended { conn } => Ok(self.end(conn)),
             Event::Init { named, recovery } => self.init(named, recovery),
             Event::Update { recovery, length } => self.update(recovery, length),
-            Event::Read { named, offset, length } => self.read(named, offset, length),
+            Event::Read {
+                named,
+                offset,
+                length,
+            } => self.read(named, offset, length),
             Event::FileFault => Ok(self.fail()),
         }
     }

@@ -8,7 +8,10 @@ use hd_base::{ConnId, ReplicaState, Stamp};
 #[derive(Clone, Copy, Debug, PartialEq, Eq)]
 pub enum Event {
     /// The write request of a new block (HDFS `PIPELINE_SETUP_CREATE`).
-    Create { conn: ConnId, stamp: Stamp },
+    Create {
+        conn: ConnId,
+        stamp: Stamp,
+    },
     /// The write request of an append to a block of this length (HDFS `PIPELINE_SETUP_APPEND`).
     Append {
         conn: ConnId,
@@ -58,11 +61,19 @@ pub enum Event {
         good: bool,
     },
     /// The end of a connection.
-    Ended { conn: ConnId },
+    Ended {
+        conn: ConnId,
+    },
     /// A recovery begins (HDFS `initReplicaRecovery`).
-    Init { named: Stamp, recovery: Stamp },
+    Init {
+        named: Stamp,
+        recovery: Stamp,
+    },
     /// A recovery settles the length (HDFS `updateReplicaUnderRecovery`).
-    Update { recovery: Stamp, length: u64 },
+    Update {
+        recovery: Stamp,
+        length: u64,
+    },
     /// A reader asks for `length` bytes from `offset`.
     Read {
         named: Stamp,
@@ -85,7 +96,9 @@ pub enum Answer {
         length: u64,
     },
     /// The reader may read up to this length.
-    Visible { length: u64 },
+    Visible {
+        length: u64,
+    },
     /// The event was refused, and has changed nothing.
     Refused(Refusal),
 }

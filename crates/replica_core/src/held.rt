@@ -116,10 +116,7 @@ impl Held {
     ) -> Result<Held, Refusal>
         ensures { result ≡ recovered_of self.now named new length into }
     {
-        if !matches!(
-            self.state(),
-            ReplicaState::Finalized | ReplicaState::Rbw
-        ) {
+        if !matches!(self.state(), ReplicaState::Finalized | ReplicaState::Rbw) {
             return Err(self.wrong_state());
         }
         if self.stamp < named || new < self.stamp {

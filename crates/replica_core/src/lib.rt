@@ -12,6 +12,8 @@ mod pieces;
 mod refusals;
 mod replica;
 mod streams;
+#[cfg(test)]
+mod tests;
 
 pub use entries::Entry;
 pub use events::{Answer, Event};

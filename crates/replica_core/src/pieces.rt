@@ -1,9 +1,10 @@
 //! What a packet says of its piece of the block, and the rules that it keeps.
 
 ghost use Rattle.std.specs.Prelude.{◌≡◌, ◌+◌, ◌<◌, ◌≤◌, IfOk, IfSome};
-ghost use Rattle.replica_core.specs.Pieces.{block_limit, heartbeat as heartbeat_of, placed, piece_count as piece_count_of, summed, entered};
+ghost use Rattle.replica_core.specs.Pieces.{IsPacket, IsPieceOf, block_limit, heartbeat as heartbeat_of, placed, piece_count as piece_count_of, summed, entered};
 
 use crate::entries::Entry;
+use crate::events::Event;
 use crate::refusals::{PieceRule, Refusal};
 
 /// How many bytes a block may have.
@@ -22,6 +23,34 @@ pub struct Piece {
 }
 
 impl Piece {
+    /// What this packet says.
+    pub fn of(packet: &Event) -> Piece
+        requires { IsPacket packet.now }
+        ensures { IsPieceOf packet.now result }
+    {
+        match *packet {
+            Event::Packet {
+                seqno,
+                offset,
+                length,
+                sums,
+                last,
+                sync,
+                bad,
+                ..
+            } => Piece {
+                seqno,
+                offset,
+                length,
+                sums,
+                last,
+                sync,
+                bad,
+            },
+            _ => unreachable!(),
+        }
+    }
+
     /// The entry of a heartbeat.
     #[tactic(auto, unfolding(crate::specs::Pieces::heartbeat))]
     pub fn heartbeat(&self) -> Result<Entry, Refusal>

@@ -17,10 +17,16 @@ pub enum Refusal {
     Exists,
     /// The event doesn't fit the replica's state.
     #[error("the state is {state:?}")]
-    WrongState { state: ReplicaState },
+    WrongState {
+        state: ReplicaState,
+    },
     /// The replica's stamp isn't from `low` to `high`.
     #[error("the stamp {} isn't from {} to {}", .held.0, .low.0, .high.0)]
-    Stale { held: Stamp, low: Stamp, high: Stamp },
+    Stale {
+        held: Stamp,
+        low: Stamp,
+        high: Stamp,
+    },
     /// Acked or written bytes don't fit the lengths from `min` to `max` that were asked for.
     #[error("{acked} acked and {written} written don't fit {min} to {max}")]
     LengthOut {
@@ -34,25 +40,39 @@ pub enum Refusal {
     NotWriter,
     /// The packet begins past the written bytes.
     #[error("a packet at {offset} leaves a gap behind {written}")]
-    Gap { written: u64, offset: u64 },
+    Gap {
+        written: u64,
+        offset: u64,
+    },
     /// The sum of this chunk of the block differs.
     #[error("the sum of chunk {chunk} differs")]
-    BadSum { chunk: u64 },
+    BadSum {
+        chunk: u64,
+    },
     /// The packet breaks a rule on its place and form.
     #[error("the packet breaks the rule {rule:?}")]
-    Piece { rule: PieceRule },
+    Piece {
+        rule: PieceRule,
+    },
     /// A call on the replica's files failed earlier.
     #[error("the replica is broken")]
     Broken,
     /// A recovery with this id holds the replica.
     #[error("the recovery {} holds the replica", .id.0)]
-    RecoveryHeld { id: Stamp },
+    RecoveryHeld {
+        id: Stamp,
+    },
     /// The number isn't the one that is wanted, if any is.
     #[error("the seqno {got} isn't {want:?}")]
-    Seqno { want: Option<i64>, got: i64 },
+    Seqno {
+        want: Option<i64>,
+        got: i64,
+    },
     /// The bytes asked for aren't all visible.
     #[error("only {visible} bytes are visible")]
-    OutOfRange { visible: u64 },
+    OutOfRange {
+        visible: u64,
+    },
 }
 
 impl Refusal {

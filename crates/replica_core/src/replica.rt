@@ -1,9 +1,10 @@
 //! A replica.
 
-ghost use Rattle.std.specs.Prelude.{◌≡◌, ◌≤◌, ◌↔◌, ◌⊎◌, IsTrue, IfOk, IfSome, length, slice_get};
+ghost use Rattle.std.specs.Prelude.{◌≡◌, ◌≤◌, ◌<◌, ◌↔◌, ◌⊎◌, IsTrue, IfOk, IfSome, length, slice_get};
 ghost use Rattle.replica_core.specs.declared.refusals.Refusal.{Refusal};
 ghost use Rattle.replica_core.specs.Held.{settled_at};
-ghost use Rattle.replica_core.specs.Rows.{absent, found as found_of, answer_to, stepped, told, HasRoom, IsLawful};
+ghost use Rattle.replica_core.specs.Pieces.{IsPacket};
+ghost use Rattle.replica_core.specs.Rows.{absent, found as found_of, answer_to, stepped, told, IsLawful};
 ghost use Rattle.replica_core.specs.Views.{state_in, original_in, stamp_in, written_in, acked_in, writer_in, visible_in};
 
 use crate::cores::Core;
@@ -73,7 +74,7 @@ impl Replica {
 
     /// Takes an event, or refuses it, which changes nothing. Takes no memory.
     pub fn step(&mut self, event: &Event) -> Answer
-        requires room { HasRoom self.old event.now }
+        requires room { IsPacket event.now → length self.old.pending < 1024 }
         requires lawful { IsLawful event.now }
         ensures answer { result ≡ answer_to self.old event.now }
         ensures replica { self.new ≡ stepped self.old event.now }
