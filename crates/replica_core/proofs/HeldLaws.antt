@@ -1,5 +1,5 @@
 -- What an event that was taken makes of what is there.
-use Rattle.std.proofs.Common.{◌≡◌, ℕ, ◌+◌, ◌<◌, ◌≤◌, Bool, true, false, Option, Some, None, Result, Ok, Err, refl, sym, ◌∙◌, ap, arith, max, ℤ, pos, negsuc, nat_abs}
+use Rattle.std.proofs.Common.{◌≡◌, ℕ, ◌+◌, ◌≤◌, true, false, Option, Some, None, Result, Ok, Err, refl, sym, ◌∙◌, ap, arith, max, ℤ, pos, negsuc, nat_abs}
 use Rattle.std.specs.Prelude.{int_le}
 use Rattle.std.proofs.lemmas.Bool.Decides.{nat_tests}
 use Rattle.hd_base.specs.declared.states.ReplicaState.{ReplicaState}
@@ -13,7 +13,7 @@ use Rattle.replica_core.specs.declared.pieces.Piece.{Piece}
 use Rattle.replica_core.specs.declared.streams.Stream.{Stream}
 use Rattle.replica_core.specs.declared.refusals.Refusal.{Refusal}
 use Rattle.replica_core.specs.Refusals.{◌>>=◌}
-use Rattle.replica_core.specs.Held.{state_of, settled_at, appended, recovered, stream_recovered, begun, updated}
+use Rattle.replica_core.specs.Held.{settled_at, appended, recovered, stream_recovered, begun, updated}
 use Rattle.replica_core.specs.Pieces.{heartbeat, streamed, placed, summed, entered}
 use Rattle.replica_core.specs.Laws.{Adjoins}
 use Rattle.replica_core.specs.Rows.{present, stream_by, oldest_of}

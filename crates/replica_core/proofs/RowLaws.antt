@@ -1,9 +1,9 @@
 -- The laws of replicas.
-use Rattle.std.proofs.Common.{◌≡◌, ◌≢◌, ◌↔◌, ℕ, ℤ, pos, negsuc, ◌+◌, ◌<◌, ◌≤◌, max, nat_abs, Bool, true, false, not, is_none, List, [], ◌∷◌, ◌++◌, length, drop, slice_get, Option, Some, None, option_map, Result, Ok, Err, refl, sym, ◌∙◌, ap, subst, if◌then◌else◌, length-drop, eqb-true, ◌⊎◌, inl, inr, IfSome, option_and_then, arith}
+use Rattle.std.proofs.Common.{◌≡◌, ◌≢◌, ◌↔◌, ℕ, ℤ, negsuc, ◌<◌, ◌≤◌, max, Bool, true, false, not, is_none, List, [], length, slice_get, Option, Some, None, option_map, Result, Ok, refl, sym, ◌∙◌, ap, subst, length-drop, eqb-true, ◌⊎◌, inl, inr, IfSome, option_and_then, arith}
 use Rattle.std.specs.Result.{IfOk, IsErr}
 use Rattle.std.specs.Ordering.{int_eq}
 use Rattle.std.proofs.lemmas.Bool.Decides.{nat_tests, Decides-int_eq}
-use Rattle.std.proofs.lemmas.Option.{same_Some, none-some}
+use Rattle.std.proofs.lemmas.Option.{none-some}
 use Rattle.hd_base.specs.declared.states.ReplicaState.{ReplicaState}
 use Rattle.hd_base.specs.declared.states.ReplicaState.TheVariants as state
 use Rattle.hd_base.specs.declared.numbers.BlockId.{BlockId}
@@ -21,8 +21,8 @@ use Rattle.replica_core.specs.declared.refusals.Refusal.TheVariants as refusal
 use Rattle.replica_core.specs.declared.streams.Stream.{Stream}
 use Rattle.replica_core.specs.Refusals.{check, ◌>>=◌}
 use Rattle.replica_core.specs.Held.{state_of, is_rbw, raised, closed, settled_at, appended, recovered, stream_recovered, begun, updated, readable, visible_of}
-use Rattle.replica_core.specs.Pieces.{streamed, heartbeat, placed, entered}
-use Rattle.replica_core.specs.Rows.{Taken, Outcome, core_after, done, present, there, handed, renewed, grown, beaten, piece_row, packet_row, stream_by, oldest_of, answered, ack_row, is_written_by, ended, failed, row, stepped, run, absent, found}
+use Rattle.replica_core.specs.Pieces.{streamed, heartbeat, entered}
+use Rattle.replica_core.specs.Rows.{Taken, Outcome, core_after, present, there, handed, renewed, grown, beaten, piece_row, packet_row, stream_by, oldest_of, answered, ack_row, is_written_by, ended, failed, row, stepped, run, absent, found}
 use Rattle.replica_core.specs.Views.{written_at, written_in, acked_at, acked_in, writer_in, visible_in}
 use Rattle.replica_core.specs.Sound.{IsHeld, Sound}
 use Rattle.replica_core.specs.Laws.{Adjoins, LeavesNoGap, stream_conn, IsWritersPacket, RefusesReads}

@@ -1,6 +1,5 @@
 -- Every event keeps a replica sound.
-use Rattle.std.proofs.Common.{◌≡◌, ℕ, ◌+◌, ◌<◌, ◌≤◌, ◌⊎◌, max, Bool, true, false, List, [], ◌∷◌, ◌++◌, drop, slice_get, Option, Some, None, IfSome, option_map, Result, Ok, Err, refl, sym, ◌∙◌, ap, subst, not, is_none, negsuc, ℤ, if◌then◌else◌, arith}
-use Rattle.std.proofs.lemmas.Bool.Decides.{nat_tests}
+use Rattle.std.proofs.Common.{◌≡◌, ℕ, ◌≤◌, max, Bool, true, false, List, [], ◌∷◌, ◌++◌, drop, slice_get, Option, Some, None, IfSome, option_map, Result, Ok, refl, sym, ◌∙◌, ap, subst, not, is_none, negsuc, ℤ, arith}
 use Rattle.std.proofs.lemmas.Option.{same_Some, none-some}
 use Rattle.std.specs.List.{AllByRecursion}
 use Rattle.hd_base.specs.declared.states.ReplicaState.{ReplicaState}
@@ -21,9 +20,9 @@ use Rattle.replica_core.specs.declared.streams.Stream.{Stream}
 use Rattle.replica_core.specs.Refusals.{check, ◌>>=◌}
 use Rattle.std.specs.Ordering.{int_eq}
 use Rattle.replica_core.specs.Held.{state_of, state_under, is_rbw, settled_at, raised, closed, appended, recovered, stream_recovered, begun, updated, readable, visible_of}
-use Rattle.replica_core.specs.Pieces.{fresh, entered, heartbeat, streamed}
-use Rattle.replica_core.specs.Rows.{Outcome, core_after, done, is_written_by, packet_row, ack_row, present, handed, renewed, grown, beaten, piece_row, stream_by, oldest_of, answered, ended, failed, row, stepped, run, absent, found}
-use Rattle.replica_core.specs.Views.{state_in, written_at, written_in, acked_in}
+use Rattle.replica_core.specs.Pieces.{entered, heartbeat, streamed}
+use Rattle.replica_core.specs.Rows.{Outcome, core_after, done, is_written_by, packet_row, ack_row, present, handed, renewed, grown, beaten, piece_row, stream_by, oldest_of, answered, failed, row, stepped, run, absent, found}
+use Rattle.replica_core.specs.Views.{state_in, written_at, written_in}
 use Rattle.replica_core.specs.Sound.{is_settled, IsHeld, IsPending, IsNotLast, IsStream, Sound}
 use Rattle.replica_core.proofs.Steps.{after_check, after_step, choice}
 use Rattle.replica_core.proofs.HeldLaws.{present_is, appended_is, recovered_is, stream_recovered_is, begun_is, updated_is, heartbeat_is, streamed_is, entered_is, stream_by_is, oldest_is}

@@ -1,12 +1,12 @@
 -- Laws of replicas, in the words of a write pipeline.
-use Rattle.std.specs.Prelude.{ℕ, ℤ, pos, negsuc, ◌≡◌, ◌≢◌, ◌≤◌, ◌<◌, ◌+◌, ◌↔◌, max, Bool, true, List, length, Option, Some, None, IfOk, IsErr}
+use Rattle.std.specs.Prelude.{ℕ, ℤ, pos, negsuc, ◌≡◌, ◌≢◌, ◌≤◌, ◌+◌, max, Option, Some, None, IfOk, IsErr}
 use Rattle.hd_base.specs.declared.numbers.ConnId.{ConnId}
 use Rattle.hd_base.specs.declared.numbers.Stamp.{Stamp}
 use Rattle.replica_core.specs.declared.cores.Core.{Core}
 use Rattle.replica_core.specs.declared.events.Event.{Event}
 use Rattle.replica_core.specs.declared.events.Event.TheVariants as event
-use Rattle.replica_core.specs.Rows.{row, stepped}
-use Rattle.replica_core.specs.Views.{written_in, writer_in, visible_in}
+use Rattle.replica_core.specs.Rows.{row}
+use Rattle.replica_core.specs.Views.{written_in, writer_in}
 
 -- A piece that begins at or before the end of the written bytes, which then end where they did, or where it ends.
 pub record Adjoins (before after : ℕ) (offset : ℤ) (bytes : ℕ) : Type 0 where

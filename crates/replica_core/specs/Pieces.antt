@@ -1,5 +1,5 @@
 -- What a packet of a stream must be, and the entry that it leaves pending.
-use Rattle.std.specs.Prelude.{ℕ, ℤ, ◌≡◌, pos, ◌==◌, ◌+◌, ◌-◌, ◌*◌, ◌/◌, ◌%◌, ◌^◌, ◌+ℤ◌, ◌&&◌, ◌||◌, not, nat_lt, nat_le, int_lt, int_le, nat_abs, if◌then◌else◌, Bool, true, false, Option, Some, None, Result, Ok, Err}
+use Rattle.std.specs.Prelude.{ℕ, ℤ, ◌≡◌, pos, ◌==◌, ◌+◌, ◌-◌, ◌*◌, ◌/◌, ◌%◌, ◌^◌, ◌+ℤ◌, ◌&&◌, ◌||◌, not, nat_le, int_lt, int_le, nat_abs, if◌then◌else◌, Bool, false, Option, Some, None, Result, Ok, Err}
 use Rattle.std.specs.Ordering.{int_eq}
 use Rattle.hd_base.specs.declared.numbers.ConnId.{ConnId}
 use Rattle.replica_core.specs.declared.entries.Entry.{Entry}

@@ -1,5 +1,5 @@
 -- What each event makes of a replica, and what it is answered. The checks of a row stand in the order in which they are tried.
-use Rattle.std.specs.Prelude.{ℕ, ℤ, negsuc, ◌≡◌, ◌==◌, ◌<◌, ◌≤◌, ◌&&◌, not, max, if◌then◌else◌, Bool, true, false, List, [], ◌∷◌, ◌++◌, length, drop, slice_get, Option, Some, None, IfSome, option_map, is_none, Result, Ok, Err}
+use Rattle.std.specs.Prelude.{ℕ, ℤ, negsuc, ◌==◌, ◌<◌, ◌≤◌, not, max, if◌then◌else◌, Bool, true, false, List, [], ◌∷◌, ◌++◌, drop, slice_get, Option, Some, None, IfSome, option_map, is_none, Result, Ok, Err}
 use Rattle.std.specs.Ordering.{int_eq}
 use Rattle.hd_base.specs.declared.states.ReplicaState.TheVariants as state
 use Rattle.hd_base.specs.declared.numbers.BlockId.{BlockId}
@@ -18,7 +18,7 @@ use Rattle.replica_core.specs.declared.refusals.Refusal.TheVariants as refusal
 use Rattle.replica_core.specs.declared.streams.Stream.{Stream}
 use Rattle.replica_core.specs.Refusals.{check, ◌>>=◌}
 use Rattle.replica_core.specs.Held.{state_of, visible_of, is_rbw, settled_at, appended, recovered, stream_recovered, begun, updated, readable, raised, closed}
-use Rattle.replica_core.specs.Pieces.{fresh, is_number, streamed, heartbeat, entered}
+use Rattle.replica_core.specs.Pieces.{fresh, streamed, heartbeat, entered}
 
 -- a replica after an event that was taken, and the answer
 pub record Taken : Type 0 where

@@ -36,6 +36,21 @@ fn step(rt: &impl Abort, replica: &mut Replica, event: Event) -> Answer {
     replica.step(&event)
 }
 
+/// An absent replica after these events, each of which is taken.
+fn after(rt: &(impl Abort + AllocGlobal), events: &[Event]) -> Result<Replica, Fail> {
+    let mut replica = Replica::new(rt.alloc(), BLOCK)?;
+    for event in events {
+        let answer = step(rt, &mut replica, *event);
+        assert!(rt; !matches!(answer, Answer::Refused(_)));
+    }
+    Ok(replica)
+}
+
+const CREATE: Event = Event::Create {
+    conn: CONN,
+    stamp: Stamp(1001),
+};
+
 /// A packet without fault.
 fn packet(seqno: i64, offset: i64, length: u64, sums: u64) -> Event {
     Event::Packet {
@@ -73,15 +88,38 @@ fn ack(seqno: i64) -> Event {
     }
 }
 
+/// The recovery of a stream by another connection.
+fn recovery(named: u64, new: u64, min: u64, max: u64) -> Event {
+    Event::StreamRecovery {
+        conn: OTHER,
+        named: Stamp(named),
+        new: Stamp(new),
+        min,
+        max,
+    }
+}
+
+/// The beginning of a block recovery.
+fn init(named: u64, recovery: u64) -> Event {
+    Event::Init {
+        named: Stamp(named),
+        recovery: Stamp(recovery),
+    }
+}
+
+/// A read under the first stamp.
+fn read(offset: u64, length: u64) -> Event {
+    Event::Read {
+        named: Stamp(1001),
+        offset,
+        length,
+    }
+}
+
 #[test]
 fn a_chunk_is_written_in_two_packets(rt: HostRuntime) -> Result<(), Fail> {
-    let mut replica = Replica::new(rt.alloc(), BLOCK)?;
-    let create = Event::Create {
-        conn: CONN,
-        stamp: Stamp(1001),
-    };
+    let mut replica = after(&rt, &[CREATE])?;
     for (event, written, acked) in [
-        (create, 0, 0),
         (packet(0, 0, 600, 2), 600, 0),
         (ack(0), 600, 600),
         (packet(1, 512, 188, 1), 700, 600),
@@ -90,7 +128,296 @@ fn a_chunk_is_written_in_two_packets(rt: HostRuntime) -> Result<(), Fail> {
         assert_eq!(rt; step(&rt, &mut replica, event), Answer::Done);
         assert_eq!(rt; replica.written(), written);
         assert_eq!(rt; replica.acked(), acked);
+        assert_eq!(rt; replica.visible(), Some(acked));
     }
     assert_eq!(rt; replica.state(), Some(ReplicaState::Rbw));
+    assert_eq!(rt; replica.stamp(), Some(Stamp(1001)));
+    assert_eq!(rt; replica.writer(), Some(CONN));
+    Ok(())
+}
+
+#[test]
+fn an_append_goes_on_amid_a_chunk(rt: HostRuntime) -> Result<(), Fail> {
+    let state = ReplicaState::Finalized;
+    let mut replica = Replica::found(rt.alloc(), BLOCK, state, Stamp(1001), 600)?;
+    let append = Event::Append {
+        conn: CONN,
+        named: Stamp(1001),
+        new: Stamp(1002),
+        length: 600,
+    };
+    let mid_chunk = Answer::Refused(Refusal::Piece {
+        rule: PieceRule::MidChunk,
+    });
+    for (event, answer) in [
+        (append, Answer::Done),
+        (packet(0, 600, 425, 1), mid_chunk),
+        (packet(0, 600, 424, 1), Answer::Done),
+        (packet(1, 1024, 576, 2), Answer::Done),
+        (last(2, 1600), Answer::Done),
+        (ack(0), Answer::Done),
+        (ack(1), Answer::Done),
+        (ack(2), Answer::Done),
+    ] {
+        assert_eq!(rt; step(&rt, &mut replica, event), answer);
+    }
+    assert_eq!(rt; replica.state(), Some(ReplicaState::Finalized));
+    assert_eq!(rt; replica.stamp(), Some(Stamp(1002)));
+    assert_eq!(rt; replica.visible(), Some(1600));
+    assert_eq!(rt; replica.writer(), None);
+    Ok(())
+}
+
+#[test]
+fn a_stream_is_recovered(rt: HostRuntime) -> Result<(), Fail> {
+    let streamed = [
+        CREATE,
+        packet(0, 0, 512, 1),
+        packet(1, 512, 488, 1),
+        ack(0),
+        recovery(1001, 1002, 512, 1000),
+    ];
+    let mut replica = after(&rt, &streamed)?;
+    assert_eq!(rt; replica.written(), 512);
+    assert_eq!(rt; replica.oldest(), None);
+    let again = recovery(1001, 1002, 512, 1000);
+    assert_eq!(rt; step(&rt, &mut replica, again), Answer::Done);
+    assert_eq!(rt; replica.stamp(), Some(Stamp(1002)));
+    let old = step(&rt, &mut replica, packet(1, 512, 488, 1));
+    assert_eq!(rt; old, Answer::Refused(Refusal::NotWriter));
+    let late = Event::Create {
+        conn: CONN,
+        stamp: Stamp(1003),
+    };
+    let mut replica = after(&rt, &[late])?;
+    let stale = Refusal::Stale {
+        held: Stamp(1003),
+        low: Stamp(1001),
+        high: Stamp(1002),
+    };
+    assert_eq!(rt;
+        step(&rt, &mut replica, recovery(1001, 1002, 0, 0)),
+        Answer::Refused(stale)
+    );
+    Ok(())
+}
+
+#[test]
+fn a_block_is_recovered(rt: HostRuntime) -> Result<(), Fail> {
+    let streamed = [CREATE, packet(0, 0, 300, 1), ack(0), packet(1, 0, 900, 2)];
+    let mut replica = after(&rt, &streamed)?;
+    let info = Answer::Info {
+        state: ReplicaState::Rbw,
+        stamp: Stamp(1001),
+        length: 900,
+    };
+    let update = Event::Update {
+        recovery: Stamp(1006),
+        length: 700,
+    };
+    for (event, answer, visible) in [
+        (init(1001, 1005), info, 300),
+        (init(1000, 1006), info, 300),
+        (ack(1), Answer::Refused(Refusal::NotWriter), 300),
+        (update, Answer::Done, 700),
+    ] {
+        assert_eq!(rt; step(&rt, &mut replica, event), answer);
+        assert_eq!(rt; replica.visible(), Some(visible));
+    }
+    assert_eq!(rt; replica.state(), Some(ReplicaState::Finalized));
+    assert_eq!(rt; replica.stamp(), Some(Stamp(1006)));
+    assert_eq!(rt; replica.written(), 700);
+    Ok(())
+}
+
+#[test]
+fn appends_and_closes_are_recovered(rt: HostRuntime) -> Result<(), Fail> {
+    let state = ReplicaState::Finalized;
+    let mut replica = Replica::found(rt.alloc(), BLOCK, state, Stamp(1001), 600)?;
+    let append = Event::AppendRecovery {
+        conn: CONN,
+        named: Stamp(1001),
+        new: Stamp(1003),
+        length: 600,
+    };
+    let close = Event::CloseRecovery {
+        named: Stamp(1002),
+        new: Stamp(1004),
+        length: 600,
+    };
+    for (event, state, writer) in [
+        (append, ReplicaState::Rbw, Some(CONN)),
+        (packet(-1, 0, 0, 0), ReplicaState::Rbw, Some(CONN)),
+        (Event::Ended { conn: OTHER }, ReplicaState::Rbw, Some(CONN)),
+        (Event::Ended { conn: CONN }, ReplicaState::Rbw, None),
+        (close, ReplicaState::Finalized, None),
+    ] {
+        assert_eq!(rt; step(&rt, &mut replica, event), Answer::Done);
+        assert_eq!(rt; replica.state(), Some(state));
+        assert_eq!(rt; replica.original(), Some(state));
+        assert_eq!(rt; replica.writer(), writer);
+    }
+    assert_eq!(rt; replica.block(), BLOCK);
+    assert_eq!(rt; replica.oldest(), None);
+    Ok(())
+}
+
+#[test]
+fn readers_see_what_is_acked(rt: HostRuntime) -> Result<(), Fail> {
+    let streamed = [CREATE, packet(0, 0, 300, 1), ack(0), packet(1, 0, 900, 2)];
+    let mut replica = after(&rt, &streamed)?;
+    let out = Answer::Refused(Refusal::OutOfRange { visible: 300 });
+    for (event, answer) in [
+        (read(100, 10), Answer::Visible { length: 300 }),
+        (read(300, 0), Answer::Visible { length: 300 }),
+        (read(0, 301), out),
+        (read(u64::MAX, 1), out),
+    ] {
+        assert_eq!(rt; step(&rt, &mut replica, event), answer);
+    }
+    let state = ReplicaState::Rwr;
+    let mut replica = Replica::found(rt.alloc(), BLOCK, state, Stamp(1001), 600)?;
+    let wrong = Answer::Refused(Refusal::WrongState { state });
+    assert_eq!(rt; step(&rt, &mut replica, read(0, 1)), wrong);
+    assert_eq!(rt; replica.visible(), None);
+    Ok(())
+}
+
+#[test]
+fn seqnos_end(rt: HostRuntime) -> Result<(), Fail> {
+    let refused = |want, got| Answer::Refused(Refusal::Seqno { want, got });
+    let mut replica = after(&rt, &[CREATE])?;
+    for (event, answer) in [
+        (packet(-2, 0, 9, 1), refused(None, -2)),
+        (packet(i64::MAX - 1, 0, 9, 1), Answer::Done),
+        (packet(7, 0, 9, 1), refused(Some(i64::MAX), 7)),
+        (packet(i64::MAX, 0, 9, 1), Answer::Done),
+        (packet(i64::MIN, 0, 9, 1), refused(None, i64::MIN)),
+        (packet(-1, 0, 0, 0), Answer::Done),
+        (ack(0), refused(Some(i64::MAX - 1), 0)),
+    ] {
+        assert_eq!(rt; step(&rt, &mut replica, event), answer);
+    }
+    Ok(())
+}
+
+#[test]
+fn so_many_entries_may_be_pending(rt: HostRuntime) -> Result<(), Fail> {
+    let mut replica = after(&rt, &[CREATE])?;
+    for _ in 0..1024 {
+        assert_eq!(rt; step(&rt, &mut replica, packet(-1, 0, 0, 0)), Answer::Done);
+    }
+    assert!(rt; replica.is_full());
+    let beat = Event::Ack {
+        conn: CONN,
+        seqno: -1,
+        good: true,
+    };
+    assert_eq!(rt; replica.step(&beat), Answer::Done);
+    assert!(rt; !replica.is_full());
+    assert!(rt; !replica.is_broken());
+    Ok(())
+}
+
+/// A packet whose fourth sum differs.
+const DAMAGED: Event = Event::Packet {
+    conn: CONN,
+    seqno: 0,
+    offset: 0,
+    length: 2560,
+    sums: 5,
+    last: false,
+    sync: false,
+    bad: Some(3),
+};
+
+/// After these events this one is refused, with this text and number.
+type Case<'a> = (&'a [Event], Event, &'a str, u32);
+
+fn compare(rt: &(impl Abort + AllocGlobal), cases: &[Case<'_>]) -> Result<(), Fail> {
+    for (events, event, text, number) in cases {
+        let mut replica = after(rt, events)?;
+        let Answer::Refused(refusal) = step(rt, &mut replica, *event) else {
+            return Err("not refused".into());
+        };
+        assert_eq!(rt; format!(in rt.alloc(); "{refusal}")?.as_str(), *text);
+        assert_eq!(rt; refusal.number(), *number);
+    }
+    Ok(())
+}
+
+#[test]
+fn refused_setups_keep_their_values(rt: HostRuntime) -> Result<(), Fail> {
+    let append = Event::Append {
+        conn: CONN,
+        named: Stamp(1001),
+        new: Stamp(1002),
+        length: 0,
+    };
+    let stale = "the stamp 1001 isn't from 1002 to 1003";
+    let written = [CREATE, packet(0, 0, 600, 2)];
+    let misfit = "0 acked and 600 written don't fit 1 to 600";
+    let held = [CREATE, init(1001, 1005)];
+    let taken = "the recovery 1005 holds the replica";
+    compare(
+        &rt,
+        &[
+            (&[], append, "no replica", 1),
+            (&[CREATE], CREATE, "the replica exists", 2),
+            (&[CREATE], append, "the state is Rbw", 3),
+            (&[CREATE], recovery(1002, 1003, 0, 0), stale, 4),
+            (&written, recovery(1001, 1002, 1, 600), misfit, 5),
+            (&[Event::FileFault], CREATE, "the replica is broken", 10),
+            (&held, init(1001, 1005), taken, 11),
+        ],
+    )
+}
+
+#[test]
+fn refused_packets_keep_their_values(rt: HostRuntime) -> Result<(), Fail> {
+    let other = Event::Ack {
+        conn: OTHER,
+        seqno: 0,
+        good: true,
+    };
+    let stranger = "the connection doesn't write the replica";
+    let gap = "a packet at 512 leaves a gap behind 0";
+    let negative = "the packet breaks the rule Negative";
+    compare(
+        &rt,
+        &[
+            (&[CREATE], other, stranger, 6),
+            (&[CREATE], packet(0, 512, 9, 1), gap, 7),
+            (&[CREATE], DAMAGED, "the sum of chunk 3 differs", 8),
+            (&[CREATE], packet(0, -1, 9, 1), negative, 9),
+            (&[CREATE], ack(0), "the seqno 0 isn't None", 12),
+            (&[CREATE], read(0, 1), "only 0 bytes are visible", 13),
+        ],
+    )
+}
+
+#[test]
+fn every_rule_of_packets_is_kept(rt: HostRuntime) -> Result<(), Fail> {
+    let chunk = [CREATE, packet(0, 0, 512, 1)];
+    let closed = [CREATE, last(0, 0)];
+    let table: [(&[Event], Event, PieceRule); 8] = [
+        (&[CREATE], packet(0, i64::MIN, 9, 1), PieceRule::Negative),
+        (&[CREATE], packet(-1, 0, 9, 1), PieceRule::Heartbeat),
+        (&closed, packet(1, 0, 9, 1), PieceRule::AfterLast),
+        (&chunk, last(1, 0), PieceRule::LastShape),
+        (&chunk, packet(1, 1, 512, 1), PieceRule::MidChunk),
+        (&chunk, packet(1, 512, 513, 1), PieceRule::Sums),
+        (
+            &chunk,
+            packet(1, 512, 134_217_217, 262_144),
+            PieceRule::TooLong,
+        ),
+        (&chunk, packet(1, i64::MAX, u64::MAX, 0), PieceRule::TooLong),
+    ];
+    for (events, event, rule) in table {
+        let mut replica = after(&rt, events)?;
+        let refused = Answer::Refused(Refusal::Piece { rule });
+        assert_eq!(rt; step(&rt, &mut replica, event), refused);
+    }
     Ok(())
 }
