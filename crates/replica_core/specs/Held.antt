@@ -47,6 +47,10 @@ settled_at original stamp bytes = record { original = original; recovery = None;
 abbrev pub is_within : Stamp → Stamp → Stamp → Bool
 is_within low high held = nat_le low.0 held.0 && nat_le held.0 high.0
 
+-- a stamp from one to the other, or the refusal of it
+abbrev pub stamp_check : Held → Stamp → Stamp → Result (Unit {0}) Refusal
+stamp_check h low high = check (is_within low high h.stamp) (refusal.Stale h.stamp low high) (Ok tt)
+
 -- Append: the block is FINALIZED under the stamp that is named, with the length that is named
 unfoldable pub appended : Held → Stamp → Stamp → ℕ → Result Held Refusal
 appended h named new bytes =

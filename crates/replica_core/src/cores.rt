@@ -49,6 +49,7 @@ impl Core {
         Answer::Done
     }
 
+    /// A new block, which this connection writes.
     fn create(&mut self, conn: ConnId, stamp: Stamp) -> Result<Answer, Refusal>
         ensures answer { result ≡ reply (create_row self.old conn stamp) }
         ensures core { self.new ≡ core_after self.old (create_row self.old conn stamp) }
@@ -63,6 +64,7 @@ impl Core {
         Ok(self.hand(held, Some(conn)))
     }
 
+    /// An append.
     fn append(
         &mut self,
         conn: ConnId,
@@ -77,6 +79,7 @@ impl Core {
         Ok(self.hand(held, Some(conn)))
     }
 
+    /// The recovery of an append.
     fn append_recovery(
         &mut self,
         conn: ConnId,
@@ -93,6 +96,7 @@ impl Core {
         Ok(self.hand(held, Some(conn)))
     }
 
+    /// The recovery of a stream.
     fn stream_recovery(
         &mut self,
         conn: ConnId,
@@ -108,6 +112,7 @@ impl Core {
         Ok(self.hand(held, Some(conn)))
     }
 
+    /// The recovery of a close.
     fn close_recovery(&mut self, named: Stamp, new: Stamp, length: u64) -> Result<Answer, Refusal>
         ensures answer { result ≡ reply (close_recovery_row self.old named new length) }
         ensures core { self.new ≡ core_after self.old (close_recovery_row self.old named new length) }
@@ -128,6 +133,7 @@ impl Core {
         }
     }
 
+    /// A packet, which is taken from the connection that writes.
     fn packet(&mut self, conn: ConnId, piece: &Piece) -> Result<Answer, Refusal>
         requires room { length self.old.pending < 1024 }
         requires bad { IfSome piece.now.bad (λ bad. bad < piece.now.sums) }
@@ -165,6 +171,7 @@ impl Core {
         Ok(Answer::Done)
     }
 
+    /// An ack of the oldest pending entry.
     fn ack(&mut self, conn: ConnId, seqno: i64, good: bool) -> Result<Answer, Refusal>
         ensures answer { result ≡ reply (ack_row self.old conn seqno good) }
         ensures core { self.new ≡ core_after self.old (ack_row self.old conn seqno good) }
@@ -206,6 +213,7 @@ impl Core {
         Answer::Done
     }
 
+    /// The end of a connection.
     fn end(&mut self, conn: ConnId) -> Answer
         ensures answer { result ≡ Answer.Done }
         ensures core { self.new ≡ ended self.old conn }
@@ -217,6 +225,7 @@ impl Core {
         Answer::Done
     }
 
+    /// The beginning of a block recovery.
     fn init(&mut self, named: Stamp, recovery: Stamp) -> Result<Answer, Refusal>
         requires { 1 ≤ recovery.0 }
         ensures answer { result ≡ reply (init_row self.old named recovery) }
@@ -231,6 +240,7 @@ impl Core {
         })
     }
 
+    /// The end of a block recovery.
     fn update(&mut self, recovery: Stamp, length: u64) -> Result<Answer, Refusal>
         ensures answer { result ≡ reply (update_row self.old recovery length) }
         ensures core { self.new ≡ core_after self.old (update_row self.old recovery length) }
@@ -239,14 +249,16 @@ impl Core {
         Ok(self.hand(held, None))
     }
 
+    /// A read, which changes nothing.
     fn read(&self, named: Stamp, offset: u64, length: u64) -> Result<Answer, Refusal>
         ensures answer { result ≡ reply (read_row self.now named offset length) }
-        ensures core { core_after self.now (read_row self.now named offset length) ≡ self.now }
+        ensures same { core_after self.now (read_row self.now named offset length) ≡ self.now }
     {
         let length = self.present()?.readable(named, offset, length)?;
         Ok(Answer::Visible { length })
     }
 
+    /// A failed call on the files.
     fn fail(&mut self) -> Answer
         ensures answer { result ≡ Answer.Done }
         ensures core { self.new ≡ failed self.old }

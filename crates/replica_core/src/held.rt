@@ -1,7 +1,7 @@
 //! What a replica that is there holds, and what events make of it.
 
 ghost use Rattle.std.specs.Prelude.{◌≡◌, ◌≤◌};
-ghost use Rattle.replica_core.specs.Held.{state_of, visible_of, settled_at as settled, appended as appended_of, recovered as recovered_of, stream_recovered as stream_recovered_of, begun as begun_of, updated as updated_of, readable as readable_of, raised as raised_of, closed as closed_of};
+ghost use Rattle.replica_core.specs.Held.{state_of, visible_of, stamp_check, settled_at as settled, appended as appended_of, recovered as recovered_of, stream_recovered as stream_recovered_of, begun as begun_of, updated as updated_of, readable as readable_of, raised as raised_of, closed as closed_of};
 
 use crate::refusals::Refusal;
 use hd_base::{ReplicaState, Stamp};
@@ -76,6 +76,16 @@ impl Held {
         }
     }
 
+    /// Refuses a stamp that isn't from one to the other.
+    fn check_stamp(&self, low: Stamp, high: Stamp) -> Result<(), Refusal>
+        ensures { result ≡ stamp_check self.now low high }
+    {
+        if self.stamp < low || high < self.stamp {
+            return Err(self.stale(low, high));
+        }
+        Ok(())
+    }
+
     /// The refusal of its lengths.
     fn length_out(&self, min: u64, max: u64) -> Refusal
         ensures { result ≡ Refusal.LengthOut self.now.acked self.now.written min max }
@@ -119,9 +129,7 @@ impl Held {
         if !matches!(self.state(), ReplicaState::Finalized | ReplicaState::Rbw) {
             return Err(self.wrong_state());
         }
-        if self.stamp < named || new < self.stamp {
-            return Err(self.stale(named, new));
-        }
+        self.check_stamp(named, new)?;
         if self.written != length || self.acked != length {
             return Err(self.length_out(length, length));
         }
@@ -142,9 +150,7 @@ impl Held {
         if !matches!(self.state(), ReplicaState::Rbw) {
             return Err(self.wrong_state());
         }
-        if self.stamp < named || new < self.stamp {
-            return Err(self.stale(named, new));
-        }
+        self.check_stamp(named, new)?;
         if self.acked < min || max < self.written {
             return Err(self.length_out(min, max));
         }
@@ -160,9 +166,7 @@ impl Held {
         if matches!(self.state(), ReplicaState::Temporary) {
             return Err(self.wrong_state());
         }
-        if self.stamp < named || recovery <= self.stamp {
-            return Err(self.stale(named, Stamp(recovery.0 - 1)));
-        }
+        self.check_stamp(named, Stamp(recovery.0 - 1))?;
         match self.recovery {
             Some(id) if recovery <= id => Err(Refusal::RecoveryHeld { id }),
             _ => Ok(Held {
@@ -193,9 +197,7 @@ impl Held {
         ensures { result ≡ readable_of self.now (visible_of self.now) named offset length }
     {
         let visible = self.visible().ok_or(self.wrong_state())?;
-        if self.stamp < named {
-            return Err(self.stale(named, Stamp(u64::MAX)));
-        }
+        self.check_stamp(named, Stamp(u64::MAX))?;
         match offset.checked_add(length) {
             Some(end) if end <= visible => Ok(visible),
             _ => Err(Refusal::OutOfRange { visible }),

@@ -5,6 +5,7 @@ ghost use Rattle.replica_core.specs.declared.refusals.Refusal.{Refusal};
 ghost use Rattle.replica_core.specs.Held.{settled_at};
 ghost use Rattle.replica_core.specs.Pieces.{IsPacket};
 ghost use Rattle.replica_core.specs.Rows.{absent, found as found_of, answer_to, stepped, told, IsLawful};
+ghost use Rattle.replica_core.specs.Sound.{Sound};
 ghost use Rattle.replica_core.specs.Views.{state_in, original_in, stamp_in, written_in, acked_in, writer_in, visible_in};
 
 use crate::cores::Core;
@@ -78,6 +79,7 @@ impl Replica {
         requires lawful { IsLawful event.now }
         ensures answer { result ≡ answer_to self.old event.now }
         ensures replica { self.new ≡ stepped self.old event.now }
+        ensures sound { Sound self.new }
         ensures refused { (e : Refusal) → result ≡ Answer.Refused e → self.new ≡ self.old }
     {
         answered(self.core.take(event))
