@@ -1,5 +1,5 @@
 -- What an event that was taken makes of what is there.
-use Rattle.std.proofs.Common.{◌≡◌, ℕ, ◌+◌, ◌≤◌, true, false, Option, Some, None, Result, Ok, Err, refl, sym, ◌∙◌, ap, arith, max, ℤ, pos, negsuc, nat_abs}
+use Rattle.std.proofs.Common.{◌≡◌, ℕ, ◌+◌, ◌≤◌, true, false, Option, Some, None, Ok, refl, sym, ◌∙◌, ap, arith, max, ℤ, pos, negsuc, nat_abs}
 use Rattle.std.specs.Prelude.{int_le}
 use Rattle.std.proofs.lemmas.Bool.Decides.{nat_tests}
 use Rattle.hd_base.specs.declared.states.ReplicaState.{ReplicaState}
@@ -11,10 +11,10 @@ use Rattle.replica_core.specs.declared.entries.Entry.{Entry}
 use Rattle.replica_core.specs.declared.held.Held.{Held}
 use Rattle.replica_core.specs.declared.pieces.Piece.{Piece}
 use Rattle.replica_core.specs.declared.streams.Stream.{Stream}
-use Rattle.replica_core.specs.declared.refusals.Refusal.{Refusal}
 use Rattle.replica_core.specs.Refusals.{◌>>=◌}
+use Rattle.replica_core.proofs.Steps.{step_ok}
 use Rattle.replica_core.specs.Held.{settled_at, appended, recovered, stream_recovered, begun, updated}
-use Rattle.replica_core.specs.Pieces.{heartbeat, streamed, placed, summed, entered}
+use Rattle.replica_core.specs.Pieces.{heartbeat, streamed, begins, adjoining, summed, entered}
 use Rattle.replica_core.specs.Laws.{Adjoins}
 use Rattle.replica_core.specs.Rows.{present, stream_by, oldest_of}
 
@@ -53,61 +53,59 @@ pub streamed_is : (s t : Stream) (p : Piece) → streamed s p ≡ Ok t → (s.is
 unfolding streamed
 streamed_is s t p e = grind (arith, nat_tests)
 
-pub placed_is : (p : Piece) (written offset : ℕ) → placed p written ≡ Ok offset → (offset ≤ written) × (p.last ≡ true → offset + p.length ≡ written)
-unfolding placed
-placed_is p written offset e = grind (arith, nat_tests)
-
 -- where it begins
-placed_sign : (p : Piece) (written offset : ℕ) → placed p written ≡ Ok offset → (int_le (pos 0) p.offset ≡ true) × (offset ≡ nat_abs p.offset)
-unfolding placed
-placed_sign p written offset e = grind (arith, nat_tests)
+begins_is : (p : Piece) (offset : ℕ) → begins p ≡ Ok offset → (int_le (pos 0) p.offset ≡ true) × (offset ≡ nat_abs p.offset)
+unfolding begins
+begins_is p offset e = grind (arith, nat_tests)
+
+adjoining_is : (p : Piece) (written offset : ℕ) → adjoining p written offset ≡ Ok tt → (offset ≤ written) × (p.last ≡ true → offset + p.length ≡ written)
+unfolding adjoining
+adjoining_is p written offset e = grind (arith, nat_tests)
+
+summed_is : (p : Piece) (offset : ℕ) (e : Entry) → summed p offset ≡ Ok e → (e.end ≡ offset + p.length) × (e.last ≡ p.last)
+unfolding summed
+summed_is p offset e q = grind (arith, nat_tests)
 
 not_negative : (z : ℤ) → int_le (pos 0) z ≡ true → z ≡ pos (nat_abs z)
 not_negative (pos n) e = refl
 not_negative (negsuc n) e = absurd (cc)
 
-pub placed_at : (p : Piece) (written offset : ℕ) → placed p written ≡ Ok offset → p.offset ≡ pos offset
-placed_at p written offset e =
-    let sign = placed_sign p written offset e in
-    not_negative p.offset sign.0 ∙ ap pos (sym sign.1)
+-- What is true of a packet that is taken: its entry is the last one where the packet is, and then ends where the written bytes end.
+pub record IsEntered (p : Piece) (written : ℕ) (e : Entry) : Type 0 where
+  pub adjoins : Adjoins written (max written e.end) p.offset p.length
+  pub same : e.last ≡ p.last
+  pub last : e.last ≡ true → e.end ≡ written
 
-pub summed_is : (p : Piece) (offset : ℕ) (e : Entry) → summed p offset ≡ Ok e → (e.end ≡ offset + p.length) × (e.last ≡ p.last)
-unfolding summed
-summed_is p offset e q = grind (arith, nat_tests)
+entered_at : (p : Piece) (written offset : ℕ) (e : Entry) → begins p ≡ Ok offset → adjoining p written offset ≡ Ok tt → summed p offset ≡ Ok e → IsEntered p written e
+entered_at p written offset e begin place sum =
+    let start = begins_is p offset begin in
+    let near = adjoining_is p written offset place in
+    let entry = summed_is p offset e sum in
+    record {
+      adjoins = record {
+        start = offset;
+        is = not_negative p.offset start.0 ∙ ap pos (sym start.1);
+        near = near.0;
+        reach = ap (λ n. max written n) entry.0;
+      };
+      same = entry.1;
+      last = λ last. entry.0 ∙ near.1 (sym entry.1 ∙ last);
+    }
 
-entered_at : (p : Piece) (written offset : ℕ) (e : Entry) → (offset ≤ written) × (p.last ≡ true → offset + p.length ≡ written) → (e.end ≡ offset + p.length) × (e.last ≡ p.last) → (e.last ≡ p.last) × (e.last ≡ true → e.end ≡ written)
-entered_at p written offset e place sum = (sum.1, λ last. sum.0 ∙ place.1 (sym sum.1 ∙ last))
+entered_then : (p : Piece) (written offset : ℕ) (e : Entry) → begins p ≡ Ok offset → (x : Unit {0}) × (adjoining p written offset ≡ Ok x) × (summed p offset ≡ Ok e) → IsEntered p written e
+entered_then p written offset e begin rest = entered_at p written offset e begin rest.1 rest.2
 
-entered_parts : (p : Piece) (written : ℕ) (e : Entry) (at : Result ℕ Refusal) → placed p written ≡ at → (at >>= summed p) ≡ Ok e → (e.last ≡ p.last) × (e.last ≡ true → e.end ≡ written)
-entered_parts p written e (Ok offset) is q = entered_at p written offset e (placed_is p written offset is) (summed_is p offset e q)
-entered_parts p written e (Err refused) is q = absurd (cc)
+entered_whole : (p : Piece) (written : ℕ) (e : Entry) → (offset : ℕ) × (begins p ≡ Ok offset) × ((adjoining p written offset >>= (λ _. summed p offset)) ≡ Ok e) → IsEntered p written e
+entered_whole p written e parts = entered_then p written parts.0 e parts.1 (step_ok (adjoining p written parts.0) (λ _. summed p parts.0) e parts.2)
+
+pub entered_is : (p : Piece) (written : ℕ) (e : Entry) → entered p written ≡ Ok e → IsEntered p written e
+entered_is p written e q = entered_whole p written e (step_ok (begins p) (λ offset. adjoining p written offset >>= (λ _. summed p offset)) e q)
 
 one_stream : (t : Stream) (conn : ConnId) (s : Stream) → stream_by (Some t) conn ≡ Ok s → (t ≡ s) × (s.conn.0 ≡ conn.0)
 one_stream t conn s e = grind (arith, nat_tests)
 
 one_entry : (x y : Entry) (seqno : ℤ) → oldest_of (Some x) seqno ≡ Ok y → x ≡ y
 one_entry x y seqno e = grind (arith, nat_tests)
-
--- an entry is the last one where the packet is, and then ends where the written bytes end
-pub entered_is : (p : Piece) (written : ℕ) (e : Entry) → entered p written ≡ Ok e → (e.last ≡ p.last) × (e.last ≡ true → e.end ≡ written)
-entered_is p written e q = entered_parts p written e (placed p written) refl q
-
-adjoins_at : (p : Piece) (written offset : ℕ) (e : Entry) → placed p written ≡ Ok offset → summed p offset ≡ Ok e → Adjoins written (max written e.end) p.offset p.length
-adjoins_at p written offset e place sum =
-    record {
-      start = offset;
-      is = placed_at p written offset place;
-      near = (placed_is p written offset place).0;
-      reach = ap (λ n. max written n) (summed_is p offset e sum).0;
-    }
-
-adjoins_parts : (p : Piece) (written : ℕ) (e : Entry) (at : Result ℕ Refusal) → placed p written ≡ at → (at >>= summed p) ≡ Ok e → Adjoins written (max written e.end) p.offset p.length
-adjoins_parts p written e (Ok offset) is q = adjoins_at p written offset e is q
-adjoins_parts p written e (Err refused) is q = absurd (cc)
-
--- a packet that is taken adjoins the written bytes
-pub entered_adjoins : (p : Piece) (written : ℕ) (e : Entry) → entered p written ≡ Ok e → Adjoins written (max written e.end) p.offset p.length
-entered_adjoins p written e q = adjoins_parts p written e (placed p written) refl q
 
 -- the stream of the connection that writes
 pub stream_by_is : (at : Option Stream) (conn : ConnId) (s : Stream) → stream_by at conn ≡ Ok s → (at ≡ Some s) × (s.conn.0 ≡ conn.0)

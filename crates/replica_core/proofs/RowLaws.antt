@@ -22,12 +22,12 @@ use Rattle.replica_core.specs.declared.streams.Stream.{Stream}
 use Rattle.replica_core.specs.Refusals.{check, ◌>>=◌}
 use Rattle.replica_core.specs.Held.{state_of, is_rbw, raised, closed, settled_at, appended, recovered, stream_recovered, begun, updated, readable, visible_of}
 use Rattle.replica_core.specs.Pieces.{streamed, heartbeat, entered}
-use Rattle.replica_core.specs.Rows.{Taken, Outcome, core_after, present, there, handed, renewed, grown, beaten, piece_row, packet_row, stream_by, oldest_of, answered, ack_row, is_written_by, ended, failed, row, stepped, run, absent, found}
+use Rattle.replica_core.specs.Rows.{Taken, Outcome, core_after, present, there, handed, renewed, grown, joined, piece_row, packet_row, stream_by, oldest_of, answered, ack_row, is_written_by, ended, failed, row, stepped, run, absent, found}
 use Rattle.replica_core.specs.Views.{written_at, written_in, acked_at, acked_in, writer_in, visible_in}
 use Rattle.replica_core.specs.Sound.{IsHeld, Sound}
 use Rattle.replica_core.specs.Laws.{Adjoins, LeavesNoGap, stream_conn, IsWritersPacket, RefusesReads}
 use Rattle.replica_core.proofs.Steps.{after_check, after_step, choice, if_check, if_step, refused_step, refused_first, taken_step, Stays, stays_check, stays_step, stays_done}
-use Rattle.replica_core.proofs.HeldLaws.{present_is, appended_is, recovered_is, stream_recovered_is, begun_is, updated_is, entered_adjoins, stream_by_is}
+use Rattle.replica_core.proofs.HeldLaws.{present_is, appended_is, recovered_is, stream_recovered_is, begun_is, updated_is, entered_is, stream_by_is}
 use Rattle.replica_core.proofs.SoundLaws.{two_ways, held_in, run_sound, absent_sound, found_sound}
 
 -- ---- acked and written
@@ -64,7 +64,7 @@ packet_adjoins c conn p other =
     (λ _.
     if_step P (streamed t p) _ (λ u _.
     if_step P (entered p h.written) _ (λ e q.
-    subst (λ (o : Option Held). Adjoins (written_at o) (max h.written e.end) p.offset p.length) (sym (present_is c h is).1) (entered_adjoins p h.written e q)))))))
+    subst (λ (o : Option Held). Adjoins (written_at o) (max h.written e.end) p.offset p.length) (sym (present_is c h is).1) (entered_is p h.written e q).adjoins))))))
 
 pub no_gap : (c : Core) (e : Event) → LeavesNoGap c e
 unfolding row
@@ -288,7 +288,7 @@ packet_stays c conn p =
     stays_check c (is_rbw (state_of h)) refusal.NotWriter _
     (stays_step c (stream_by c.stream conn) _ (λ t.
     choice (Stays c) (int_eq p.seqno (negsuc 0)) _ _
-    (λ _. stays_step c (heartbeat p) _ (λ e. stays_done c (beaten c e)))
+    (λ _. stays_step c (heartbeat p) _ (λ e. stays_done c (joined c e)))
     (λ _. stays_step c (streamed t p) _ (λ u. stays_step c (entered p h.written) _ (λ e. stays_done c (grown c h u e)))))))
 
 -- an event that is answered with a refusal changes nothing

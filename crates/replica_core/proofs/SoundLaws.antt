@@ -21,11 +21,11 @@ use Rattle.replica_core.specs.Refusals.{check, ◌>>=◌}
 use Rattle.std.specs.Ordering.{int_eq}
 use Rattle.replica_core.specs.Held.{state_of, state_under, is_rbw, settled_at, raised, closed, appended, recovered, stream_recovered, begun, updated, readable, visible_of}
 use Rattle.replica_core.specs.Pieces.{entered, heartbeat, streamed}
-use Rattle.replica_core.specs.Rows.{Outcome, core_after, done, is_written_by, packet_row, ack_row, present, handed, renewed, grown, beaten, piece_row, stream_by, oldest_of, answered, failed, row, stepped, run, absent, found}
+use Rattle.replica_core.specs.Rows.{Outcome, core_after, done, is_written_by, packet_row, ack_row, present, handed, renewed, grown, joined, piece_row, stream_by, oldest_of, answered, failed, row, stepped, run, absent, found}
 use Rattle.replica_core.specs.Views.{state_in, written_at, written_in}
 use Rattle.replica_core.specs.Sound.{is_settled, IsHeld, IsPending, IsNotLast, IsStream, Sound}
 use Rattle.replica_core.proofs.Steps.{after_check, after_step, choice}
-use Rattle.replica_core.proofs.HeldLaws.{present_is, appended_is, recovered_is, stream_recovered_is, begun_is, updated_is, heartbeat_is, streamed_is, entered_is, stream_by_is, oldest_is}
+use Rattle.replica_core.proofs.HeldLaws.{present_is, appended_is, recovered_is, stream_recovered_is, begun_is, updated_is, heartbeat_is, streamed_is, entered_is, IsEntered, stream_by_is, oldest_is}
 
 -- ---- tests
 
@@ -123,8 +123,8 @@ streams_append : (at : Option Stream) (es : List Entry) (e : Entry) → e.last �
 streams_append None es e not_last all = tt
 streams_append (Some t) es e not_last all = record { open_yet = λ o. each-append IsNotLast es e (all.open_yet o) (record { not_last = not_last }) }
 
-beaten_sound : (c : Core) (t : Stream) (e : Entry) → Sound c → c.stream ≡ Some t → (e.end ≡ 0) × (e.last ≡ false) → Sound (beaten c e)
-beaten_sound c t e s by is =
+joined_sound : (c : Core) (t : Stream) (e : Entry) → Sound c → c.stream ≡ Some t → (e.end ≡ 0) × (e.last ≡ false) → Sound (joined c e)
+joined_sound c t e s by is =
     record {
       held = s.held;
       pending = each-append (IsPending (written_in c)) c.pending e s.pending (record { within = omega (arith, is.0); last = λ l. absurd (two_ways e.last l is.1) });
@@ -141,15 +141,15 @@ grown_held h t pending n w =
       settled = λ settled. absurd (unsettled h.original (rbw_parts h.recovery h.original w.rbw) settled);
     }
 
-grown_sound : (c : Core) (h : Held) (t u : Stream) (p : Piece) (e : Entry) → Written h t c.pending → c.is_broken ≡ false → (t.is_over ≡ false) × (u.conn ≡ t.conn) × (u.is_over ≡ p.last) → (e.last ≡ p.last) × (e.last ≡ true → e.end ≡ h.written) → Sound (grown c h u e)
+grown_sound : (c : Core) (h : Held) (t u : Stream) (p : Piece) (e : Entry) → Written h t c.pending → c.is_broken ≡ false → (t.is_over ≡ false) × (u.conn ≡ t.conn) × (u.is_over ≡ p.last) → IsEntered p h.written e → Sound (grown c h u e)
 grown_sound c h t u p e w whole went entry =
     let open_yet : AllByRecursion IsNotLast c.pending = w.stream.open_yet went.0 in
     record {
       held = grown_held h t c.pending e.end w;
       pending = each-append (IsPending (max h.written e.end)) c.pending e
           (still_pending h.written (max h.written e.end) c.pending (omega arith) open_yet w.pending)
-          (record { within = omega arith; last = λ l. omega (arith, entry.1 l) });
-      stream = record { open_yet = λ o. each-append IsNotLast c.pending e open_yet (record { not_last = entry.0 ∙ sym went.2 ∙ o }) };
+          (record { within = omega arith; last = λ l. omega (arith, entry.last l) });
+      stream = record { open_yet = λ o. each-append IsNotLast c.pending e open_yet (record { not_last = entry.same ∙ sym went.2 ∙ o }) };
       writing = ap Some w.rbw;
       sound = whole;
       quiet = λ none. absurd (cc);
@@ -159,7 +159,7 @@ piece_keeps : (c : Core) (h : Held) (t : Stream) (p : Piece) → Sound c → (c.
 unfolding piece_row
 piece_keeps c h t p s known by =
     choice (λ (o : Outcome). Sound (core_after c o)) (int_eq p.seqno (negsuc 0)) _ _
-    (λ _. after_step Sound c (heartbeat p) (λ e. done (beaten c e)) s (λ e is. beaten_sound c t e s by (heartbeat_is p e is)))
+    (λ _. after_step Sound c (heartbeat p) (λ e. done (joined c e)) s (λ e is. joined_sound c t e s by (heartbeat_is p e is)))
     (λ _. after_step Sound c (streamed t p) (λ u. entered p h.written >>= (λ e. done (grown c h u e))) s (λ u went.
     after_step Sound c (entered p h.written) (λ e. done (grown c h u e)) s (λ e is.
     grown_sound c h t u p e (written c h t s known.1 by) known.0 (streamed_is t u p went) (entered_is p h.written e is))))

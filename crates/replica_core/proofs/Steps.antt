@@ -32,6 +32,11 @@ pub if_step : {A B : Type 0} (P : B → Type 0) (first : Result A Refusal) (next
 if_step P (Ok x) next onward = onward x refl
 if_step P (Err e) next onward = tt
 
+-- both steps of a row that was taken
+pub step_ok : {A B : Type 0} (first : Result A Refusal) (next : A → Result B Refusal) (y : B) → (first >>= next) ≡ Ok y → (x : A) × (first ≡ Ok x) × (next x ≡ Ok y)
+step_ok (Ok x) next y e = (x, refl, e)
+step_ok (Err r) next y e = absurd (cc)
+
 -- ---- what is refused, and what isn't
 
 pub refused_step : {A B : Type 0} (first : Result A Refusal) (next : A → Result B Refusal) → ((x : A) → first ≡ Ok x → IsErr (next x)) → IsErr (first >>= next)

@@ -67,13 +67,17 @@ recovered h named new bytes into =
     (check (h.written == bytes && h.acked == bytes) (refusal.LengthOut h.acked h.written bytes bytes)
     (Ok (settled_at into new bytes))))
 
+-- what is left under a new stamp where the bytes past the acked ones are cut off
+abbrev pub cut : Held → Stamp → Held
+cut h new = settled_at state.Rbw new h.acked
+
 -- The recovery of a stream: RBW under such a stamp, with at least the least length acked and at most the greatest one written. The bytes past the acked ones are cut off.
 unfoldable pub stream_recovered : Held → Stamp → Stamp → ℕ → ℕ → Result Held Refusal
 stream_recovered h named new low high =
     check (is_rbw (state_of h)) (refusal.WrongState (state_of h))
     (check (is_within named new h.stamp) (refusal.Stale h.stamp named new)
     (check (nat_le low h.acked && nat_le h.written high) (refusal.LengthOut h.acked h.written low high)
-    (Ok (settled_at state.Rbw new h.acked))))
+    (Ok (cut h new))))
 
 -- no recovery with this id or a later one holds it
 abbrev pub is_free_for : Option Stamp → Stamp → Bool
@@ -108,6 +112,10 @@ readable h (Some visible) named offset bytes =
     check (nat_le named.0 h.stamp.0) (refusal.Stale h.stamp named (record { 0 = 2 ^ 64 - 1 }))
     (check (nat_le (offset + bytes) visible) (refusal.OutOfRange visible)
     (Ok visible))
+
+-- what a packet that ends here leaves: as much is acked as before
+abbrev pub grown_to : Held → ℕ → Held
+grown_to h end = record h { written = max h.written end }
 
 -- what an ack of this end leaves
 abbrev pub raised : Held → ℕ → Held

@@ -62,14 +62,19 @@ heartbeat p =
     check (p.length == 0 && p.sums == 0 && not p.last) (refusal.Piece rule.Heartbeat)
     (Ok (record { seqno = p.seqno; end = 0; last = false; sync = p.sync }))
 
--- Where a packet begins: not below 0, with its end within the limit, not past the written bytes, and the last packet right behind these, with no bytes.
-unfoldable pub placed : Piece → ℕ → Result ℕ Refusal
-placed p written =
+-- Where a packet begins: not below 0, with its end within the limit.
+unfoldable pub begins : Piece → Result ℕ Refusal
+begins p =
     check (int_le (pos 0) p.offset) (refusal.Piece rule.Negative)
     (check (nat_le (nat_abs p.offset + p.length) block_limit) (refusal.Piece rule.TooLong)
-    (check (nat_le (nat_abs p.offset) written) (refusal.Gap written (nat_abs p.offset))
-    (check (not p.last || (p.length == 0 && nat_abs p.offset == written)) (refusal.Piece rule.LastShape)
-    (Ok (nat_abs p.offset)))))
+    (Ok (nat_abs p.offset)))
+
+-- It begins not past the written bytes, and the last packet right behind them, with no bytes.
+unfoldable pub adjoining : Piece → ℕ → ℕ → Result (Unit {0}) Refusal
+adjoining p written offset =
+    check (nat_le offset written) (refusal.Gap written offset)
+    (check (not p.last || (p.length == 0 && offset == written)) (refusal.Piece rule.LastShape)
+    (Ok tt))
 
 -- the first byte of the chunk that this byte lies in
 abbrev pub chunk_start : ℕ → ℕ
@@ -94,4 +99,4 @@ summed p offset =
 
 -- the entry of a packet, where so many bytes are written
 abbrev pub entered : Piece → ℕ → Result Entry Refusal
-entered p written = placed p written >>= summed p
+entered p written = begins p >>= (λ offset. adjoining p written offset >>= (λ _. summed p offset))

@@ -1,5 +1,5 @@
 -- What each event makes of a replica, and what it is answered. The checks of a row stand in the order in which they are tried.
-use Rattle.std.specs.Prelude.{ℕ, ℤ, negsuc, ◌==◌, ◌<◌, ◌≤◌, not, max, if◌then◌else◌, Bool, true, false, List, [], ◌∷◌, ◌++◌, drop, slice_get, Option, Some, None, IfSome, option_map, is_none, Result, Ok, Err}
+use Rattle.std.specs.Prelude.{ℕ, ℤ, negsuc, ◌==◌, ◌<◌, ◌≤◌, not, if◌then◌else◌, Bool, true, false, List, [], ◌∷◌, ◌++◌, drop, slice_get, Option, Some, None, IfSome, option_map, is_none, Result, Ok, Err}
 use Rattle.std.specs.Ordering.{int_eq}
 use Rattle.hd_base.specs.declared.states.ReplicaState.TheVariants as state
 use Rattle.hd_base.specs.declared.numbers.BlockId.{BlockId}
@@ -17,7 +17,7 @@ use Rattle.replica_core.specs.declared.refusals.Refusal.{Refusal}
 use Rattle.replica_core.specs.declared.refusals.Refusal.TheVariants as refusal
 use Rattle.replica_core.specs.declared.streams.Stream.{Stream}
 use Rattle.replica_core.specs.Refusals.{check, ◌>>=◌}
-use Rattle.replica_core.specs.Held.{state_of, visible_of, is_rbw, settled_at, appended, recovered, stream_recovered, begun, updated, readable, raised, closed}
+use Rattle.replica_core.specs.Held.{state_of, visible_of, is_rbw, settled_at, appended, recovered, stream_recovered, begun, updated, readable, grown_to, raised, closed}
 use Rattle.replica_core.specs.Pieces.{fresh, streamed, heartbeat, entered}
 
 -- a replica after an event that was taken, and the answer
@@ -87,19 +87,19 @@ abbrev pub stream_by : Option Stream → ConnId → Result Stream Refusal
 stream_by None conn = Err refusal.NotWriter
 stream_by (Some s) conn = check (s.conn.0 == conn.0) refusal.NotWriter (Ok s)
 
--- a replica with one entry more, the bytes up to whose end are written
-abbrev pub grown : Core → Held → Stream → Entry → Core
-grown c h s e = record c { held = Some (record h { written = max h.written e.end }); stream = Some s; pending = c.pending ++ e ∷ [] }
+-- a replica with one pending entry more
+abbrev pub joined : Core → Entry → Core
+joined c e = record c { pending = c.pending ++ e ∷ [] }
 
--- a replica with one heartbeat more
-abbrev pub beaten : Core → Entry → Core
-beaten c e = record c { pending = c.pending ++ e ∷ [] }
+-- a replica with the entry of a packet more, whose bytes are written up to its end
+abbrev pub grown : Core → Held → Stream → Entry → Core
+grown c h s e = joined (record c { held = Some (grown_to h e.end); stream = Some s }) e
 
 -- A packet of the writing stream: a heartbeat, which changes neither bytes nor the expected seqno, or a piece of the block.
 unfoldable pub piece_row : Core → Held → Stream → Piece → Outcome
 piece_row c h s p =
     if int_eq p.seqno (negsuc 0)
-    then heartbeat p >>= (λ e. done (beaten c e))
+    then heartbeat p >>= (λ e. done (joined c e))
     else streamed s p >>= (λ t. entered p h.written >>= (λ e. done (grown c h t e)))
 
 abbrev pub packet_row : Core → ConnId → Piece → Outcome

@@ -2,7 +2,7 @@
 
 ghost use Rattle.std.specs.Prelude.{◌≡◌, ◌<◌, ◌≤◌, IfSome, length, slice_get};
 ghost use Rattle.replica_core.specs.Pieces.{IsPacket};
-ghost use Rattle.replica_core.specs.Rows.{core_after, reply, present as present_in, handed, create_row, append_row, append_recovery_row, stream_recovery_row, close_recovery_row, stream_by as written_by, piece_row, packet_row, oldest_of, answered, ack_row, ended, init_row, update_row, read_row, failed, row, IsLawful};
+ghost use Rattle.replica_core.specs.Rows.{core_after, reply, present as present_in, handed, create_row, append_row, append_recovery_row, stream_recovery_row, close_recovery_row, stream_by as written_by, piece_row, packet_row, joined, grown, oldest_of, answered, ack_row, ended, init_row, update_row, read_row, failed, row, IsLawful};
 
 use crate::entries::{Entry, Pending};
 use crate::events::{Answer, Event};
@@ -157,18 +157,33 @@ impl Core {
         ensures core { self.new ≡ core_after self.old (piece_row self.old held stream piece.now) }
     {
         if piece.seqno == -1 {
-            self.pending.push(piece.heartbeat()?);
-            return Ok(Answer::Done);
+            let entry = piece.heartbeat()?;
+            return Ok(self.join(entry));
         }
         let stream = stream.after(piece)?;
         let entry = piece.entry(held.written)?;
-        self.held = Some(Held {
-            written: held.written.max(entry.end),
-            ..held
-        });
+        Ok(self.grow(held, stream, entry))
+    }
+
+    /// A packet's bytes are written up to its entry's end, and the entry joins those that are pending.
+    fn grow(&mut self, held: Held, stream: Stream, entry: Entry) -> Answer
+        requires { length self.old.pending < 1024 }
+        ensures answer { result ≡ Answer.Done }
+        ensures core { self.new ≡ grown self.old held stream entry }
+    {
+        self.held = Some(held.grown(entry.end));
         self.stream = Some(stream);
+        self.join(entry)
+    }
+
+    /// An entry joins those that are pending.
+    fn join(&mut self, entry: Entry) -> Answer
+        requires { length self.old.pending < 1024 }
+        ensures answer { result ≡ Answer.Done }
+        ensures core { self.new ≡ joined self.old entry }
+    {
         self.pending.push(entry);
-        Ok(Answer::Done)
+        Answer::Done
     }
 
     /// An ack of the oldest pending entry.

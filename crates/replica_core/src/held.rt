@@ -1,7 +1,7 @@
 //! What a replica that is there holds, and what events make of it.
 
 ghost use Rattle.std.specs.Prelude.{◌≡◌, ◌≤◌};
-ghost use Rattle.replica_core.specs.Held.{state_of, visible_of, stamp_check, settled_at as settled, appended as appended_of, recovered as recovered_of, stream_recovered as stream_recovered_of, begun as begun_of, updated as updated_of, readable as readable_of, raised as raised_of, closed as closed_of};
+ghost use Rattle.replica_core.specs.Held.{state_of, visible_of, stamp_check, settled_at as settled, appended as appended_of, recovered as recovered_of, stream_recovered as stream_recovered_of, begun as begun_of, updated as updated_of, readable as readable_of, cut as cut_under, grown_to, raised as raised_of, closed as closed_of};
 
 use crate::refusals::Refusal;
 use hd_base::{ReplicaState, Stamp};
@@ -136,6 +136,13 @@ impl Held {
         Ok(Held::settled_at(into, new, length))
     }
 
+    /// What is left under a new stamp where the bytes past the acked ones are cut off.
+    fn cut(&self, new: Stamp) -> Held
+        ensures { result ≡ cut_under self.now new }
+    {
+        Held::settled_at(ReplicaState::Rbw, new, self.acked)
+    }
+
     /// What the recovery of a stream makes of it: the bytes past the acked ones are cut off.
     #[tactic(auto, unfolding(crate::specs::Held::stream_recovered))]
     pub fn stream_recovered(
@@ -154,7 +161,7 @@ impl Held {
         if self.acked < min || max < self.written {
             return Err(self.length_out(min, max));
         }
-        Ok(Held::settled_at(ReplicaState::Rbw, new, self.acked))
+        Ok(self.cut(new))
     }
 
     /// What the beginning of a block recovery makes of it.
@@ -201,6 +208,16 @@ impl Held {
         match offset.checked_add(length) {
             Some(end) if end <= visible => Ok(visible),
             _ => Err(Refusal::OutOfRange { visible }),
+        }
+    }
+
+    /// What a packet that ends here leaves.
+    pub fn grown(&self, end: u64) -> Held
+        ensures { result ≡ grown_to self.now end }
+    {
+        Held {
+            written: self.written.max(end),
+            ..*self
         }
     }
 

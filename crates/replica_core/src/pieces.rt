@@ -1,7 +1,7 @@
 //! What a packet says of its piece of the block, and the rules that it keeps.
 
 ghost use Rattle.std.specs.Prelude.{◌≡◌, ◌+◌, ◌<◌, ◌≤◌, IfOk, IfSome};
-ghost use Rattle.replica_core.specs.Pieces.{IsPacket, IsPieceOf, block_limit, heartbeat as heartbeat_of, placed, piece_count as piece_count_of, summed, entered};
+ghost use Rattle.replica_core.specs.Pieces.{IsPacket, IsPieceOf, block_limit, heartbeat as heartbeat_of, begins, adjoining, piece_count as piece_count_of, summed, entered};
 
 use crate::entries::Entry;
 use crate::events::Event;
@@ -72,14 +72,15 @@ impl Piece {
         requires { IfSome self.now.bad (λ piece. piece < self.now.sums) }
         ensures { result ≡ entered self.now written }
     {
-        let offset = self.place(written)?;
+        let offset = self.begin()?;
+        self.check_place(offset, written)?;
         self.entry_at(offset)
     }
 
     /// Where the packet begins.
-    #[tactic(auto, unfolding(crate::specs::Pieces::placed))]
-    fn place(&self, written: u64) -> Result<u64, Refusal>
-        ensures value { result ≡ placed self.now written }
+    #[tactic(auto, unfolding(crate::specs::Pieces::begins))]
+    fn begin(&self) -> Result<u64, Refusal>
+        ensures value { result ≡ begins self.now }
         ensures within { IfOk result (λ offset. offset + self.now.length ≤ block_limit) }
     {
         if self.offset < 0 {
@@ -89,13 +90,21 @@ impl Piece {
         if offset.saturating_add(self.length) > BLOCK_LIMIT {
             return Err(breach(PieceRule::TooLong));
         }
+        Ok(offset)
+    }
+
+    /// Refuses a packet that doesn't adjoin the written bytes.
+    #[tactic(auto, unfolding(crate::specs::Pieces::adjoining))]
+    fn check_place(&self, offset: u64, written: u64) -> Result<(), Refusal>
+        ensures { result ≡ adjoining self.now written offset }
+    {
         if offset > written {
             return Err(Refusal::Gap { written, offset });
         }
         if self.last && (self.length != 0 || offset != written) {
             return Err(breach(PieceRule::LastShape));
         }
-        Ok(offset)
+        Ok(())
     }
 
     /// The entry of a packet that begins here.
