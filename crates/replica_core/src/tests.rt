@@ -116,23 +116,47 @@ fn read(offset: u64, length: u64) -> Event {
     }
 }
 
+/// Plays events, each with the answer that is wanted.
+fn play(rt: &impl Abort, replica: &mut Replica, events: &[(Event, Answer)]) {
+    for (event, answer) in events {
+        assert_eq!(rt; step(rt, replica, *event), *answer);
+    }
+}
+
+/// What a replica shows: state, stamp, written and visible lengths, and writer.
+type Shown = (
+    Option<ReplicaState>,
+    Option<Stamp>,
+    u64,
+    Option<u64>,
+    Option<ConnId>,
+);
+
+fn shown(replica: &Replica) -> Shown {
+    let (state, stamp) = (replica.state(), replica.stamp());
+    let (visible, writer) = (replica.visible(), replica.writer());
+    (state, stamp, replica.written(), visible, writer)
+}
+
+/// A replica as it is shown.
+fn wanted(
+    state: ReplicaState,
+    stamp: u64,
+    written: u64,
+    visible: u64,
+    writer: Option<ConnId>,
+) -> Shown {
+    let stamp = Some(Stamp(stamp));
+    (Some(state), stamp, written, Some(visible), writer)
+}
+
 #[test]
 fn a_chunk_is_written_in_two_packets(rt: HostRuntime) -> Result<(), Fail> {
-    let mut replica = after(&rt, &[CREATE])?;
-    for (event, written, acked) in [
-        (packet(0, 0, 600, 2), 600, 0),
-        (ack(0), 600, 600),
-        (packet(1, 512, 188, 1), 700, 600),
-        (ack(1), 700, 700),
-    ] {
-        assert_eq!(rt; step(&rt, &mut replica, event), Answer::Done);
-        assert_eq!(rt; replica.written(), written);
-        assert_eq!(rt; replica.acked(), acked);
-        assert_eq!(rt; replica.visible(), Some(acked));
-    }
-    assert_eq!(rt; replica.state(), Some(ReplicaState::Rbw));
-    assert_eq!(rt; replica.stamp(), Some(Stamp(1001)));
-    assert_eq!(rt; replica.writer(), Some(CONN));
+    let mut replica = after(&rt, &[CREATE, packet(0, 0, 600, 2), ack(0)])?;
+    play(&rt, &mut replica, &[(packet(1, 512, 188, 1), Answer::Done)]);
+    let open = wanted(ReplicaState::Rbw, 1001, 700, 600, Some(CONN));
+    assert_eq!(rt; shown(&replica), open);
+    assert_eq!(rt; replica.acked(), 600);
     Ok(())
 }
 
@@ -146,10 +170,9 @@ fn an_append_goes_on_amid_a_chunk(rt: HostRuntime) -> Result<(), Fail> {
         new: Stamp(1002),
         length: 600,
     };
-    let mid_chunk = Answer::Refused(Refusal::Piece {
-        rule: PieceRule::MidChunk,
-    });
-    for (event, answer) in [
+    let rule = PieceRule::MidChunk;
+    let mid_chunk = Answer::Refused(Refusal::Piece { rule });
+    let events = [
         (append, Answer::Done),
         (packet(0, 600, 425, 1), mid_chunk),
         (packet(0, 600, 424, 1), Answer::Done),
@@ -158,54 +181,44 @@ fn an_append_goes_on_amid_a_chunk(rt: HostRuntime) -> Result<(), Fail> {
         (ack(0), Answer::Done),
         (ack(1), Answer::Done),
         (ack(2), Answer::Done),
-    ] {
-        assert_eq!(rt; step(&rt, &mut replica, event), answer);
-    }
-    assert_eq!(rt; replica.state(), Some(ReplicaState::Finalized));
-    assert_eq!(rt; replica.stamp(), Some(Stamp(1002)));
-    assert_eq!(rt; replica.visible(), Some(1600));
-    assert_eq!(rt; replica.writer(), None);
+    ];
+    play(&rt, &mut replica, &events);
+    assert_eq!(rt; shown(&replica), wanted(state, 1002, 1600, 1600, None));
     Ok(())
 }
 
 #[test]
 fn a_stream_is_recovered(rt: HostRuntime) -> Result<(), Fail> {
-    let streamed = [
-        CREATE,
-        packet(0, 0, 512, 1),
-        packet(1, 512, 488, 1),
-        ack(0),
-        recovery(1001, 1002, 512, 1000),
-    ];
-    let mut replica = after(&rt, &streamed)?;
-    assert_eq!(rt; replica.written(), 512);
-    assert_eq!(rt; replica.oldest(), None);
+    let sent = [packet(0, 0, 512, 1), packet(1, 512, 488, 1)];
+    let mut replica = after(&rt, &[CREATE, sent[0], sent[1], ack(0)])?;
     let again = recovery(1001, 1002, 512, 1000);
-    assert_eq!(rt; step(&rt, &mut replica, again), Answer::Done);
-    assert_eq!(rt; replica.stamp(), Some(Stamp(1002)));
-    let old = step(&rt, &mut replica, packet(1, 512, 488, 1));
-    assert_eq!(rt; old, Answer::Refused(Refusal::NotWriter));
-    let late = Event::Create {
-        conn: CONN,
-        stamp: Stamp(1003),
-    };
-    let mut replica = after(&rt, &[late])?;
+    let old = Answer::Refused(Refusal::NotWriter);
+    let events = [(again, Answer::Done), (again, Answer::Done), (sent[1], old)];
+    play(&rt, &mut replica, &events);
+    let cut = wanted(ReplicaState::Rbw, 1002, 512, 512, Some(OTHER));
+    assert_eq!(rt; shown(&replica), cut);
+    assert_eq!(rt; replica.oldest(), None);
+    Ok(())
+}
+
+#[test]
+fn a_late_recovery_is_stale(rt: HostRuntime) -> Result<(), Fail> {
+    let stamp = Stamp(1003);
+    let mut replica = after(&rt, &[Event::Create { conn: CONN, stamp }])?;
     let stale = Refusal::Stale {
-        held: Stamp(1003),
+        held: stamp,
         low: Stamp(1001),
         high: Stamp(1002),
     };
-    assert_eq!(rt;
-        step(&rt, &mut replica, recovery(1001, 1002, 0, 0)),
-        Answer::Refused(stale)
-    );
+    let late = (recovery(1001, 1002, 0, 0), Answer::Refused(stale));
+    play(&rt, &mut replica, &[late]);
     Ok(())
 }
 
 #[test]
 fn a_block_is_recovered(rt: HostRuntime) -> Result<(), Fail> {
-    let streamed = [CREATE, packet(0, 0, 300, 1), ack(0), packet(1, 0, 900, 2)];
-    let mut replica = after(&rt, &streamed)?;
+    let sent = [packet(0, 0, 300, 1), packet(1, 0, 900, 2)];
+    let mut replica = after(&rt, &[CREATE, sent[0], ack(0), sent[1]])?;
     let info = Answer::Info {
         state: ReplicaState::Rbw,
         stamp: Stamp(1001),
@@ -215,18 +228,17 @@ fn a_block_is_recovered(rt: HostRuntime) -> Result<(), Fail> {
         recovery: Stamp(1006),
         length: 700,
     };
-    for (event, answer, visible) in [
-        (init(1001, 1005), info, 300),
-        (init(1000, 1006), info, 300),
-        (ack(1), Answer::Refused(Refusal::NotWriter), 300),
-        (update, Answer::Done, 700),
-    ] {
-        assert_eq!(rt; step(&rt, &mut replica, event), answer);
-        assert_eq!(rt; replica.visible(), Some(visible));
-    }
-    assert_eq!(rt; replica.state(), Some(ReplicaState::Finalized));
-    assert_eq!(rt; replica.stamp(), Some(Stamp(1006)));
-    assert_eq!(rt; replica.written(), 700);
+    let visible = Answer::Visible { length: 300 };
+    let events = [
+        (init(1001, 1005), info),
+        (init(1000, 1006), info),
+        (ack(1), Answer::Refused(Refusal::NotWriter)),
+        (read(0, 300), visible),
+        (update, Answer::Done),
+    ];
+    play(&rt, &mut replica, &events);
+    let closed = wanted(ReplicaState::Finalized, 1006, 700, 700, None);
+    assert_eq!(rt; shown(&replica), closed);
     Ok(())
 }
 
@@ -245,77 +257,79 @@ fn appends_and_closes_are_recovered(rt: HostRuntime) -> Result<(), Fail> {
         new: Stamp(1004),
         length: 600,
     };
-    for (event, state, writer) in [
-        (append, ReplicaState::Rbw, Some(CONN)),
-        (packet(-1, 0, 0, 0), ReplicaState::Rbw, Some(CONN)),
-        (Event::Ended { conn: OTHER }, ReplicaState::Rbw, Some(CONN)),
-        (Event::Ended { conn: CONN }, ReplicaState::Rbw, None),
-        (close, ReplicaState::Finalized, None),
-    ] {
-        assert_eq!(rt; step(&rt, &mut replica, event), Answer::Done);
-        assert_eq!(rt; replica.state(), Some(state));
-        assert_eq!(rt; replica.original(), Some(state));
-        assert_eq!(rt; replica.writer(), writer);
-    }
+    let gone = Answer::Refused(Refusal::NotWriter);
+    let events = [
+        (append, Answer::Done),
+        (Event::Ended { conn: OTHER }, Answer::Done),
+        (packet(-1, 0, 0, 0), Answer::Done),
+        (Event::Ended { conn: CONN }, Answer::Done),
+        (packet(0, 600, 0, 0), gone),
+        (close, Answer::Done),
+    ];
+    play(&rt, &mut replica, &events);
+    assert_eq!(rt; shown(&replica), wanted(state, 1004, 600, 600, None));
     assert_eq!(rt; replica.block(), BLOCK);
-    assert_eq!(rt; replica.oldest(), None);
+    assert_eq!(rt; replica.original(), Some(state));
     Ok(())
 }
 
 #[test]
 fn readers_see_what_is_acked(rt: HostRuntime) -> Result<(), Fail> {
-    let streamed = [CREATE, packet(0, 0, 300, 1), ack(0), packet(1, 0, 900, 2)];
-    let mut replica = after(&rt, &streamed)?;
+    let sent = [packet(0, 0, 300, 1), packet(1, 0, 900, 2)];
+    let mut replica = after(&rt, &[CREATE, sent[0], ack(0), sent[1]])?;
+    let visible = Answer::Visible { length: 300 };
     let out = Answer::Refused(Refusal::OutOfRange { visible: 300 });
-    for (event, answer) in [
-        (read(100, 10), Answer::Visible { length: 300 }),
-        (read(300, 0), Answer::Visible { length: 300 }),
+    let events = [
+        (read(100, 10), visible),
+        (read(300, 0), visible),
         (read(0, 301), out),
         (read(u64::MAX, 1), out),
-    ] {
-        assert_eq!(rt; step(&rt, &mut replica, event), answer);
-    }
+    ];
+    play(&rt, &mut replica, &events);
     let state = ReplicaState::Rwr;
     let mut replica = Replica::found(rt.alloc(), BLOCK, state, Stamp(1001), 600)?;
     let wrong = Answer::Refused(Refusal::WrongState { state });
-    assert_eq!(rt; step(&rt, &mut replica, read(0, 1)), wrong);
-    assert_eq!(rt; replica.visible(), None);
+    play(&rt, &mut replica, &[(read(0, 1), wrong)]);
     Ok(())
+}
+
+/// The refusal of a seqno.
+fn seqno_refused(want: Option<i64>, got: i64) -> Answer {
+    Answer::Refused(Refusal::Seqno { want, got })
 }
 
 #[test]
 fn seqnos_end(rt: HostRuntime) -> Result<(), Fail> {
-    let refused = |want, got| Answer::Refused(Refusal::Seqno { want, got });
     let mut replica = after(&rt, &[CREATE])?;
-    for (event, answer) in [
-        (packet(-2, 0, 9, 1), refused(None, -2)),
-        (packet(i64::MAX - 1, 0, 9, 1), Answer::Done),
-        (packet(7, 0, 9, 1), refused(Some(i64::MAX), 7)),
-        (packet(i64::MAX, 0, 9, 1), Answer::Done),
-        (packet(i64::MIN, 0, 9, 1), refused(None, i64::MIN)),
+    let most = i64::MAX;
+    let events = [
+        (packet(-2, 0, 9, 1), seqno_refused(None, -2)),
+        (packet(most - 1, 0, 9, 1), Answer::Done),
+        (packet(7, 0, 9, 1), seqno_refused(Some(most), 7)),
+        (packet(most, 0, 9, 1), Answer::Done),
+        (packet(i64::MIN, 0, 9, 1), seqno_refused(None, i64::MIN)),
         (packet(-1, 0, 0, 0), Answer::Done),
-        (ack(0), refused(Some(i64::MAX - 1), 0)),
-    ] {
-        assert_eq!(rt; step(&rt, &mut replica, event), answer);
-    }
+        (ack(0), seqno_refused(Some(most - 1), 0)),
+    ];
+    play(&rt, &mut replica, &events);
     Ok(())
 }
 
 #[test]
 fn so_many_entries_may_be_pending(rt: HostRuntime) -> Result<(), Fail> {
     let mut replica = after(&rt, &[CREATE])?;
+    let beat = (packet(-1, 0, 0, 0), Answer::Done);
     for _ in 0..1024 {
-        assert_eq!(rt; step(&rt, &mut replica, packet(-1, 0, 0, 0)), Answer::Done);
+        play(&rt, &mut replica, &[beat]);
     }
     assert!(rt; replica.is_full());
-    let beat = Event::Ack {
+    let beat_acked = Event::Ack {
         conn: CONN,
         seqno: -1,
         good: true,
     };
-    assert_eq!(rt; replica.step(&beat), Answer::Done);
-    assert!(rt; !replica.is_full());
-    assert!(rt; !replica.is_broken());
+    assert_eq!(rt; replica.step(&beat_acked), Answer::Done);
+    assert!(rt; !replica.is_full() && !replica.is_broken());
     Ok(())
 }
 
@@ -400,24 +414,22 @@ fn refused_packets_keep_their_values(rt: HostRuntime) -> Result<(), Fail> {
 fn every_rule_of_packets_is_kept(rt: HostRuntime) -> Result<(), Fail> {
     let chunk = [CREATE, packet(0, 0, 512, 1)];
     let closed = [CREATE, last(0, 0)];
-    let table: [(&[Event], Event, PieceRule); 8] = [
-        (&[CREATE], packet(0, i64::MIN, 9, 1), PieceRule::Negative),
-        (&[CREATE], packet(-1, 0, 9, 1), PieceRule::Heartbeat),
-        (&closed, packet(1, 0, 9, 1), PieceRule::AfterLast),
-        (&chunk, last(1, 0), PieceRule::LastShape),
-        (&chunk, packet(1, 1, 512, 1), PieceRule::MidChunk),
-        (&chunk, packet(1, 512, 513, 1), PieceRule::Sums),
-        (
-            &chunk,
-            packet(1, 512, 134_217_217, 262_144),
-            PieceRule::TooLong,
-        ),
-        (&chunk, packet(1, i64::MAX, u64::MAX, 0), PieceRule::TooLong),
-    ];
-    for (events, event, rule) in table {
-        let mut replica = after(&rt, events)?;
-        let refused = Answer::Refused(Refusal::Piece { rule });
-        assert_eq!(rt; step(&rt, &mut replica, event), refused);
-    }
-    Ok(())
+    let heartbeat = "the packet breaks the rule Heartbeat";
+    let after_last = "the packet breaks the rule AfterLast";
+    let last_shape = "the packet breaks the rule LastShape";
+    let mid_chunk = "the packet breaks the rule MidChunk";
+    let sums = "the packet breaks the rule Sums";
+    let too_long = "the packet breaks the rule TooLong";
+    compare(
+        &rt,
+        &[
+            (&[CREATE], packet(-1, 0, 9, 1), heartbeat, 9),
+            (&closed, packet(1, 0, 9, 1), after_last, 9),
+            (&chunk, last(1, 0), last_shape, 9),
+            (&chunk, packet(1, 1, 512, 1), mid_chunk, 9),
+            (&chunk, packet(1, 512, 513, 1), sums, 9),
+            (&chunk, packet(1, 512, 134_217_217, 262_144), too_long, 9),
+            (&chunk, packet(1, i64::MAX, u64::MAX, 0), too_long, 9),
+        ],
+    )
 }
