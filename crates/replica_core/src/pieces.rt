@@ -10,6 +10,9 @@ use crate::refusals::{PieceRule, Refusal};
 /// How many bytes a block may have.
 const BLOCK_LIMIT: u64 = 134_217_728;
 
+/// How many bytes a chunk has.
+const CHUNK: u64 = 512;
+
 /// What a packet says of its piece of the block.
 #[derive(Clone, Copy, Debug, PartialEq, Eq)]
 pub struct Piece {
@@ -115,7 +118,7 @@ impl Piece {
         ensures { result ≡ summed self.now offset }
     {
         let end = offset + self.length;
-        if offset % 512 != 0 && end > offset / 512 * 512 + 512 {
+        if offset % CHUNK != 0 && end > offset / CHUNK * CHUNK + CHUNK {
             return Err(breach(PieceRule::MidChunk));
         }
         if self.sums != piece_count(offset, self.length) {
@@ -123,7 +126,7 @@ impl Piece {
         }
         if let Some(piece) = self.bad {
             return Err(Refusal::BadSum {
-                chunk: offset / 512 + piece,
+                chunk: offset / CHUNK + piece,
             });
         }
         Ok(Entry {
@@ -143,8 +146,8 @@ fn piece_count(offset: u64, length: u64) -> u64
 {
     if length == 0 {
         0
-    } else if offset % 512 == 0 {
-        length.div_ceil(512)
+    } else if offset % CHUNK == 0 {
+        length.div_ceil(CHUNK)
     } else {
         1
     }
