@@ -1,0 +1,4 @@
+pub mod Steps
+pub mod HeldLaws
+pub mod SoundLaws
+pub mod RowLaws
