@@ -52,13 +52,14 @@ pub fn run<I: Source, O: Sink, S: Shelf, R: Roads>(
     ensures usage_first { result ≡ exit.Usage Mode → (script.new ≡ script.old) × (report.new ≡ report.old) × (shelves.new.items ≡ shelves.old.items) × (roads.new ≡ roads.old) }
 
     // A script is refused just where the text is no script, where the source tells it, and before
-    // shelves and roads are touched. No more than a byte past the limit is read.
+    // shelves and roads are touched. No more than a byte past the limit is read, and a script that
+    // is run is read to its end.
     ensures bad { (line : ℕ) (kind : BadKind) → result ≡ exit.BadScript line kind → IfSome (I.left script.old) (λ text. IsBadScript text (length shelves.old.items) line kind) }
     ensures refused { ArePlay (map string_bytes words.now) → IfSome (I.left script.old) (λ text. (line : ℕ) (kind : BadKind) → IsBadScript text (length shelves.old.items) line kind → (result ≡ exit.BadScript line kind) ⊎ ((result ≡ exit.ScriptFault) ⊎ (result ≡ exit.Memory))) }
     ensures bad_first { (line : ℕ) (kind : BadKind) → result ≡ exit.BadScript line kind → (shelves.new.items ≡ shelves.old.items) × (roads.new ≡ roads.old) }
-    ensures read { TookSome (I.left script.old) (I.left script.new) (script_limit + 1) }
-
     ensures unread { result ≡ exit.ScriptFault → (shelves.new.items ≡ shelves.old.items) × (roads.new ≡ roads.old) }
+    ensures read { TookSome (I.left script.old) (I.left script.new) (script_limit + 1) }
+    ensures to_end { result ≡ exit.Done → IfSome (I.left script.new) (λ rest. rest ≡ []) }
 
     // Each fault has its cause in this call.
     ensures script_fault { result ≡ exit.ScriptFault → Rose (I.faults script.old) (I.faults script.new) }
@@ -117,6 +118,7 @@ fn read_first_write<I: Source>(alloc: Global, source: &mut I) -> Result<FirstWri
     ensures bad { (line : ℕ) (kind : BadKind) → result ≡ Err (exit.BadScript line kind) → (shelves : ℕ) → IfSome (I.left source.old) (λ text. IsBadScript text shelves line kind) }
     ensures refused { (shelves line : ℕ) (kind : BadKind) → kind ≢ kinds.TooManyNodes → IfSome (I.left source.old) (λ text. IsBadScript text shelves line kind → (result ≡ Err (exit.BadScript line kind)) ⊎ ((result ≡ Err exit.ScriptFault) ⊎ (result ≡ Err exit.Memory))) }
     ensures read { TookSome (I.left source.old) (I.left source.new) (script_limit + 1) }
+    ensures to_end { OnOk result (IfSome (I.left source.new) (λ rest. rest ≡ [])) }
     ensures failed { result ≡ Err exit.ScriptFault → Rose (I.faults source.old) (I.faults source.new) }
     ensures only { IfErr result IsReadExit }
 {

@@ -27,21 +27,33 @@ const EMPTY_REPORT: &[u8] =
 const LONG_REPORT: &[u8] =
     b"replica 0 7 FINALIZED 1001 64512 64512 4c3561b8 ok\nanswer 7 0 create ok 1001\nanswer 7 2 close ok 64512 1001 0\nend\n";
 
-/// Which call of each port fails, from 1; 0 is none.
+/// What a run stands on.
+#[derive(Clone, Copy, PartialEq, Eq)]
+enum Port {
+    Script,
+    Report,
+    Roads,
+    Shelf,
+}
+
+/// Which port fails, and at which of its calls, from 1; 0 is none.
 #[derive(Clone, Copy)]
 struct Failing {
-    script: u64,
-    report: u64,
-    shelf: u64,
-    roads: u64,
+    port: Port,
+    number: u64,
+}
+
+impl Failing {
+    /// The call at which this port fails.
+    fn at(&self, port: Port) -> u64 {
+        if self.port == port { self.number } else { 0 }
+    }
 }
 
 /// No call fails.
 const NONE: Failing = Failing {
-    script: 0,
-    report: 0,
-    shelf: 0,
-    roads: 0,
+    port: Port::Script,
+    number: 0,
 };
 
 /// What a run leaves.
@@ -55,10 +67,10 @@ struct Left {
 /// Runs a script on one shelf.
 fn run_one(alloc: Global, word: &str, text: &[u8], failing: Failing) -> Result<Left, Fail> {
     let words = vec![in alloc; String::from_str(alloc, word)?]?;
-    let mut source = MemSource::new(alloc, text, &[failing.script])?;
-    let mut report = MemSink::new(alloc, &[failing.report])?;
-    let mut shelves = vec![in alloc; MemShelf::new(alloc, &[failing.shelf])?]?;
-    let mut roads = MemRoads::new(alloc, &[failing.roads])?;
+    let mut source = MemSource::new(alloc, text, &[failing.at(Port::Script)])?;
+    let mut report = MemSink::new(alloc, &[failing.at(Port::Report)])?;
+    let mut shelves = vec![in alloc; MemShelf::new(alloc, &[failing.at(Port::Shelf)])?]?;
+    let mut roads = MemRoads::new(alloc, &[failing.at(Port::Roads)])?;
     let exit = run(
         alloc,
         &words,
@@ -136,44 +148,15 @@ fn both_files_are_stored(rt: HostRuntime) -> Result<(), Fail> {
 
 #[test]
 fn each_call_fails_in_turn(rt: HostRuntime) -> Result<(), Fail> {
-    let shelf = Exit::ShelfFault { node: NodeId(0) };
-    for number in 1..=13 {
-        let table = [
-            (
-                Failing {
-                    script: number,
-                    ..NONE
-                },
-                2,
-                Exit::ScriptFault,
-            ),
-            (
-                Failing {
-                    report: number,
-                    ..NONE
-                },
-                1,
-                Exit::ReportFault,
-            ),
-            (
-                Failing {
-                    roads: number,
-                    ..NONE
-                },
-                7,
-                Exit::RoadFault,
-            ),
-            (
-                Failing {
-                    shelf: number,
-                    ..NONE
-                },
-                12,
-                shelf,
-            ),
-        ];
-        for (failing, calls, fault) in table {
-            let left = run_one(rt.alloc(), "play", NINE, failing)?;
+    let table = [
+        (Port::Script, 2, Exit::ScriptFault),
+        (Port::Report, 1, Exit::ReportFault),
+        (Port::Roads, 7, Exit::RoadFault),
+        (Port::Shelf, 12, Exit::ShelfFault { node: NodeId(0) }),
+    ];
+    for (port, calls, fault) in table {
+        for number in 1..=calls + 1 {
+            let left = run_one(rt.alloc(), "play", NINE, Failing { port, number })?;
             let wanted = if number <= calls { fault } else { Exit::Done };
             assert_eq!(rt; left.exit, wanted, "call {number}");
         }
@@ -186,8 +169,8 @@ fn receipts_fail_in_turn(rt: HostRuntime) -> Result<(), Fail> {
     let long = long_script(rt.alloc())?;
     for number in 8..=19 {
         let failing = Failing {
-            roads: number,
-            ..NONE
+            port: Port::Roads,
+            number,
         };
         let left = run_one(rt.alloc(), "play", &long, failing)?;
         assert_eq!(rt; left.exit, Exit::RoadFault, "call {number}");
