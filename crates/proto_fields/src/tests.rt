@@ -59,57 +59,53 @@ fn reads(rt: &impl Abort, bytes: &[u8], number: u32, value: Wire) {
     assert_eq!(rt; next_field(bytes, end), Ok(None));
 }
 
-/// Varints of one to ten bytes, and the other kinds.
+/// Least varints under field 1, from one byte to ten, at both ends of each length, and their values.
+const LEAST: [(&[u8], u64); 20] = [
+    (b"\x08\x00", 0),
+    (b"\x08\x7f", 127),
+    (b"\x08\x80\x01", 128),
+    (b"\x08\xff\x7f", 16383),
+    (b"\x08\x80\x80\x01", 16384),
+    (b"\x08\xff\xff\x7f", 2097151),
+    (b"\x08\x80\x80\x80\x01", 2097152),
+    (b"\x08\xff\xff\xff\x7f", 268435455),
+    (b"\x08\x80\x80\x80\x80\x01", 268435456),
+    (b"\x08\xff\xff\xff\xff\x7f", 34359738367),
+    (b"\x08\x80\x80\x80\x80\x80\x01", 34359738368),
+    (b"\x08\xff\xff\xff\xff\xff\x7f", 4398046511103),
+    (b"\x08\x80\x80\x80\x80\x80\x80\x01", 4398046511104),
+    (b"\x08\xff\xff\xff\xff\xff\xff\x7f", 562949953421311),
+    (b"\x08\x80\x80\x80\x80\x80\x80\x80\x01", 562949953421312),
+    (b"\x08\xff\xff\xff\xff\xff\xff\xff\x7f", 72057594037927935),
+    (
+        b"\x08\x80\x80\x80\x80\x80\x80\x80\x80\x01",
+        72057594037927936,
+    ),
+    (
+        b"\x08\xff\xff\xff\xff\xff\xff\xff\xff\x7f",
+        9223372036854775807,
+    ),
+    (
+        b"\x08\x80\x80\x80\x80\x80\x80\x80\x80\x80\x01",
+        9223372036854775808,
+    ),
+    (
+        b"\x08\xff\xff\xff\xff\xff\xff\xff\xff\xff\x01",
+        18446744073709551615,
+    ),
+];
+
+/// Varints of one to ten bytes.
 #[test]
 fn reads_least_spellings(rt: HostRuntime) {
-    for (bytes, value) in [
-        (b"\x08\x00".as_slice(), 0u64),
-        (b"\x08\x7f".as_slice(), 127u64),
-        (b"\x08\x80\x01".as_slice(), 128u64),
-        (b"\x08\xff\x7f".as_slice(), 16383u64),
-        (b"\x08\x80\x80\x01".as_slice(), 16384u64),
-        (b"\x08\xff\xff\x7f".as_slice(), 2097151u64),
-        (b"\x08\x80\x80\x80\x01".as_slice(), 2097152u64),
-        (b"\x08\xff\xff\xff\x7f".as_slice(), 268435455u64),
-        (b"\x08\x80\x80\x80\x80\x01".as_slice(), 268435456u64),
-        (b"\x08\xff\xff\xff\xff\x7f".as_slice(), 34359738367u64),
-        (b"\x08\x80\x80\x80\x80\x80\x01".as_slice(), 34359738368u64),
-        (b"\x08\xff\xff\xff\xff\xff\x7f".as_slice(), 4398046511103u64),
-        (
-            b"\x08\x80\x80\x80\x80\x80\x80\x01".as_slice(),
-            4398046511104u64,
-        ),
-        (
-            b"\x08\xff\xff\xff\xff\xff\xff\x7f".as_slice(),
-            562949953421311u64,
-        ),
-        (
-            b"\x08\x80\x80\x80\x80\x80\x80\x80\x01".as_slice(),
-            562949953421312u64,
-        ),
-        (
-            b"\x08\xff\xff\xff\xff\xff\xff\xff\x7f".as_slice(),
-            72057594037927935u64,
-        ),
-        (
-            b"\x08\x80\x80\x80\x80\x80\x80\x80\x80\x01".as_slice(),
-            72057594037927936u64,
-        ),
-        (
-            b"\x08\xff\xff\xff\xff\xff\xff\xff\xff\x7f".as_slice(),
-            9223372036854775807u64,
-        ),
-        (
-            b"\x08\x80\x80\x80\x80\x80\x80\x80\x80\x80\x01".as_slice(),
-            9223372036854775808u64,
-        ),
-        (
-            b"\x08\xff\xff\xff\xff\xff\xff\xff\xff\xff\x01".as_slice(),
-            18446744073709551615u64,
-        ),
-    ] {
+    for (bytes, value) in LEAST {
         reads(&rt, bytes, 1, Wire::Varint(value));
     }
+}
+
+/// Values of the other kinds, and longer tags.
+#[test]
+fn reads_each_kind(rt: HostRuntime) {
     reads(
         &rt,
         b"\x11\x01\x00\x00\x00\x00\x00\x00\x00",
@@ -178,51 +174,47 @@ fn reads_longer_spellings(rt: HostRuntime) {
     );
 }
 
+/// The faults at the first byte.
+const SHORT: WireFault = WireFault::Short { at: 0 };
+
+const LONG: WireFault = WireFault::LongVarint { at: 0 };
+
+const KIND: WireFault = WireFault::Kind { at: 0 };
+
+const ZERO: WireFault = WireFault::FieldZero { at: 0 };
+
+/// Bytes that begin with no field, and why.
+const NO_FIELDS: [(&[u8], WireFault); 24] = [
+    (b"\x0b", KIND),
+    (b"\x0c", KIND),
+    (b"\x0e", KIND),
+    (b"\x0f", KIND),
+    (b"\x03", KIND),
+    (b"\x00", ZERO),
+    (b"\x01", ZERO),
+    (b"\x02", ZERO),
+    (b"\x05", ZERO),
+    (b"\x80\x00", ZERO),
+    (b"\x80", SHORT),
+    (b"\x08\x80", SHORT),
+    (b"\x08", SHORT),
+    (b"\x11\x01\x02\x03\x04\x05\x06\x07", SHORT),
+    (b"\x25\x01\x02\x03", SHORT),
+    (b"\x1a", SHORT),
+    (b"\x1a\x80", SHORT),
+    (b"\x1a\x02\x61", SHORT),
+    (b"\x1a\xff\xff\xff\xff\xff\xff\xff\xff\xff\x01\x00", SHORT),
+    (b"\xff\xff\xff\xff\xff\xff\xff\xff\xff", SHORT),
+    (b"\xff\xff\xff\xff\xff\xff\xff\xff\xff\xff", LONG),
+    (b"\x08\xff\xff\xff\xff\xff\xff\xff\xff\xff\xff\xff", LONG),
+    (b"\x08\xff\xff\xff\xff\xff\xff\xff\xff\xff\xff", LONG),
+    (b"\x1a\xff\xff\xff\xff\xff\xff\xff\xff\xff\xff", LONG),
+];
+
 /// Each fault with its place, and which comes first.
 #[test]
 fn refuses(rt: HostRuntime) {
-    let short = WireFault::Short { at: 0 };
-    let long = WireFault::LongVarint { at: 0 };
-    let kind = WireFault::Kind { at: 0 };
-    let zero = WireFault::FieldZero { at: 0 };
-    for (bytes, fault) in [
-        (b"\x0b".as_slice(), kind),
-        (b"\x0c".as_slice(), kind),
-        (b"\x0e".as_slice(), kind),
-        (b"\x0f".as_slice(), kind),
-        (b"\x03".as_slice(), kind),
-        (b"\x00".as_slice(), zero),
-        (b"\x01".as_slice(), zero),
-        (b"\x02".as_slice(), zero),
-        (b"\x05".as_slice(), zero),
-        (b"\x80\x00".as_slice(), zero),
-        (b"\x80".as_slice(), short),
-        (b"\x08\x80".as_slice(), short),
-        (b"\x08".as_slice(), short),
-        (b"\x11\x01\x02\x03\x04\x05\x06\x07".as_slice(), short),
-        (b"\x25\x01\x02\x03".as_slice(), short),
-        (b"\x1a".as_slice(), short),
-        (b"\x1a\x80".as_slice(), short),
-        (b"\x1a\x02\x61".as_slice(), short),
-        (
-            b"\x1a\xff\xff\xff\xff\xff\xff\xff\xff\xff\x01\x00".as_slice(),
-            short,
-        ),
-        (b"\xff\xff\xff\xff\xff\xff\xff\xff\xff".as_slice(), short),
-        (b"\xff\xff\xff\xff\xff\xff\xff\xff\xff\xff".as_slice(), long),
-        (
-            b"\x08\xff\xff\xff\xff\xff\xff\xff\xff\xff\xff\xff".as_slice(),
-            long,
-        ),
-        (
-            b"\x08\xff\xff\xff\xff\xff\xff\xff\xff\xff\xff".as_slice(),
-            long,
-        ),
-        (
-            b"\x1a\xff\xff\xff\xff\xff\xff\xff\xff\xff\xff".as_slice(),
-            long,
-        ),
-    ] {
+    for (bytes, fault) in NO_FIELDS {
         assert_eq!(rt; next_field(bytes, 0), Err(fault));
         assert_eq!(rt;
             fields(rt.alloc(), bytes).err(),
