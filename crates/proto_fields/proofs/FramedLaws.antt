@@ -5,10 +5,10 @@ use Rattle.std.proofs.lemmas.Grind.{common_steps}
 use Rattle.proto_fields.specs.ResultSteps.{◌>>=◌, with_cause}
 use Rattle.proto_fields.specs.Bytes.{IsBytes}
 use Rattle.proto_fields.proofs.ResultLaws.{bind_ok, bind_err, bind-Ok, bind-Err, with_cause_ok, with_cause_err, ok_pair}
-use Rattle.ack_codec.specs.declared.faults.FrameFault.{FrameFault}
-use Rattle.ack_codec.specs.Frames.{HasFrame, IsNoFrame, frame_at}
-use Rattle.ack_codec.specs.Framed.{FramesSome, framed_at}
-use Rattle.ack_codec.proofs.FrameLaws.{frame_again, frame_takes, frame_fails, no_frame_fails}
+use Rattle.proto_fields.specs.declared.frames.FrameFault.{FrameFault}
+use Rattle.proto_fields.specs.Frames.{HasFrame, IsNoFrame, frame_at}
+use Rattle.proto_fields.specs.Framed.{FramesSome, framed_at}
+use Rattle.proto_fields.proofs.FrameLaws.{frame_again, frame_takes, frame_fails, no_frame_fails}
 
 -- a message in a frame at the front of bytes
 pub framed-message : {X E : Type 0} (cause : FrameFault → E) (read : List ℕ → Result X E) (bytes message : List ℕ) (size : ℕ) (r : Result X E) → frame_at bytes ≡ Ok (message, size) → read message ≡ r → framed_at cause read bytes ≡ (r >>= λ x. Ok (x, size))

@@ -1,0 +1,2 @@
+-- test
+use Rattle.std.specs.Prelude.{ℕ}

@@ -1,0 +1,4 @@
+//! test
+#![tactic(auto)]
+
+mod a;
