@@ -1,3 +1,5 @@
 pub mod TableLaws
 pub mod NumberLaws
 pub mod TextLaws
+pub mod ReadingLaws
+pub mod EachLaws

@@ -1,3 +1,5 @@
 pub mod Paths
 pub mod Tables
+pub mod Values
+pub mod Recoveries
 pub mod Formats

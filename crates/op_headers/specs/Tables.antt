@@ -97,6 +97,10 @@ kept_message need number (Some (Err p)) = Err (below number p)
 abbrev pub more : {X : Type 0} → Result X Path → Result (List X) Path → Result (List X) Path
 more x xs = with_value (λ p. p.0 ∷ p.1) (both x xs)
 
+-- one message more behind
+abbrev pub then_one : {X : Type 0} → Result (List X) Path → Result X Path → Result (List X) Path
+then_one told x = with_value (λ p. p.0 ++ p.1 ∷ []) (both told x)
+
 -- What each of several messages says.
 abbrev pub EachSays : {X : Type 0} → (List ℕ → Result X Path → Type 0) → List (List ℕ) → Result (List X) Path → Type 0
 EachSays {X} says [] told = told ≡ Ok []
