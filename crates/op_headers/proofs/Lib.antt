@@ -3,3 +3,4 @@ pub mod NumberLaws
 pub mod TextLaws
 pub mod ReadingLaws
 pub mod EachLaws
+pub mod FormatLaws

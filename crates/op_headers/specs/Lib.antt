@@ -3,3 +3,5 @@ pub mod Tables
 pub mod Values
 pub mod Recoveries
 pub mod Formats
+pub mod Opcodes
+pub mod Requests

@@ -2,13 +2,18 @@
 #![tactic(auto)]
 
 mod blocks;
+mod decoding;
+mod faults;
 mod headers;
 mod messages;
 mod nodes;
 mod op_reading;
+mod opcodes;
 mod ops;
 mod paths;
 
 pub use blocks::BlockRef;
+pub use decoding::decode_op;
+pub use faults::OpFault;
 pub use nodes::{NodeRef, Targets};
 pub use ops::{ChecksumOp, Op, ReadOp, RecoveryKind, RecoveryOp, TransferOp, WriteOp};

@@ -232,3 +232,9 @@ frame_refuses bytes r e fits h s = by_result r (h ∙ no_frame_fails bytes e fit
   by_result : (r : Result (Bor (List ℕ) × ℕ) FrameFault) → with_value frame_value r ≡ Err e → r ≡ Err e
   by_result (Ok f) h = cc
   by_result (Err d) h = cc
+
+pub frame_within : (bytes : List ℕ) (r : Result (Bor (List ℕ) × ℕ) FrameFault) → IsBytes bytes → with_value frame_value r ≡ frame_at bytes → IfOk r (λ f. f.1 ≤ length bytes)
+frame_within bytes (Ok f) fits e =
+    let t = frame_takes bytes f.0.now f.1 fits (sym e) in
+    omega (arith, t.size_is, ap length t.frame.parts ∙ length-append t.frame.prefix (f.0.now ++ t.frame.rest), length-append f.0.now t.frame.rest)
+frame_within bytes (Err e) fits h = tt

@@ -44,6 +44,7 @@ const LIMIT: u64 = 65_536;
 pub fn read_frame(bytes: &[u8]) -> Result<(&[u8], usize), FrameFault>
     // What is read stands there, and what stands there is read.
     ensures found { IfOk result (λ f. HasFrame bytes.now f.0.now) }
+    ensures within { IfOk result (λ f. f.1 ≤ length bytes.now) }
     ensures only { (message : List ℕ) → (f : HasFrame bytes.now message) → with_value frame_value result ≡ Ok (message, length f.prefix + length message) }
 
     // The fault is the one that stands there, and the one that stands there comes.
