@@ -1,5 +1,5 @@
 -- The messages of requests: each is read and written exactly, and which values have a text.
-use Rattle.std.proofs.Common.{◌≡◌, ℕ, ◌%◌, ◌^◌, ◌<◌, ◌≤◌, Option, Some, None, refl, arith, List}
+use Rattle.std.proofs.Common.{◌≡◌, ℕ, ◌%◌, ◌^◌, ◌<◌, ◌≤◌, Option, Some, None, unwrap_or, refl, sym, arith, List}
 use Rattle.std.specs.Prelude.{IfSome}
 use Rattle.std.proofs.lemmas.Bool.{lt-ltb}
 use Rattle.op_headers.specs.declared.blocks.BlockRef.{BlockRef}
@@ -10,9 +10,13 @@ use Rattle.op_headers.specs.declared.headers.ClientHeader.{ClientHeader}
 use Rattle.op_headers.specs.declared.ops.ReadOp.{ReadOp}
 use Rattle.op_headers.specs.declared.ops.TransferOp.{TransferOp}
 use Rattle.op_headers.specs.declared.ops.ChecksumOp.{ChecksumOp}
+use Rattle.op_headers.specs.declared.ops.RecoveryOp.{RecoveryOp}
+use Rattle.op_headers.specs.declared.ops.RecoveryKind.{RecoveryKind}
+use Rattle.op_headers.specs.declared.ops.RecoveryKind.TheVariants as kind
 use Rattle.op_headers.specs.Values.{ChecksumFields, WriteFields}
+use Rattle.op_headers.specs.Recoveries.{kind_number, kind_with, HasItsLength}
 use Rattle.op_headers.specs.Tables.{Uint64, Below, uint32, FitsForm, EachFits}
-use Rattle.op_headers.specs.Formats.{block_table, block_from, block_given, block_format, identity_table, identity_from, identity_given, identity_format, node_table, node_from, node_given, node_format, base_table, base_from, base_given, base_format, client_table, client_from, client_given, client_format, checksum_table, checksum_from, checksum_given, checksum_format, write_table, write_from, write_given, write_format, read_table, read_from, read_given, read_format, transfer_table, transfer_from, transfer_given, transfer_format, checksum_op_table, checksum_op_from, checksum_op_given, checksum_op_format, recovery_table, recovery_from, recovery_given, recovery_format}
+use Rattle.op_headers.specs.Formats.{block_table, block_from, block_given, block_format, identity_table, identity_from, identity_given, identity_format, node_table, node_from, node_given, node_format, base_table, base_from, base_given, base_format, client_table, client_from, client_given, client_format, checksum_table, checksum_from, checksum_given, checksum_format, write_table, write_from, write_given, write_format, read_table, read_from, read_given, read_format, transfer_table, transfer_from, transfer_given, transfer_format, checksum_op_table, checksum_op_from, checksum_op_given, checksum_op_format, recovery_table, recovery_from, recovery_given, recovery_format, length_given}
 use Rattle.op_headers.proofs.TableLaws.{IsExact, exact_by_table}
 use Rattle.op_headers.proofs.TextLaws.{IsWritten, written_by_table}
 
@@ -177,3 +181,33 @@ transfer_fits t block targets = record { rows = (client_fits t.block t.client bl
 pub checksum_op_fits : (c : ChecksumOp) → block_format.fits c.block → checksum_op_format.fits c
 unfolding checksum_op_format
 checksum_op_fits c block = record { rows = (base_fits c.block block, tt); same = refl }
+
+-- the kind and the length of a written step are told again
+kind_with-number : (k : RecoveryKind) → kind_with (kind_number k) ≡ k
+kind_with-number kind.Begin = refl
+kind_with-number kind.Init = refl
+kind_with-number kind.Update = refl
+
+length_told : (k : RecoveryKind) (n : ℕ) → HasItsLength k n → unwrap_or (length_given k n) 0 ≡ n
+length_told kind.Begin n none = sym none
+length_told kind.Init n none = sym none
+length_told kind.Update n none = refl
+
+kind_low : (k : RecoveryKind) → kind_number k < 3
+kind_low kind.Begin = omega arith
+kind_low kind.Init = omega arith
+kind_low kind.Update = omega arith
+
+length_fits : (k : RecoveryKind) (n : ℕ) → n < 2 ^ 64 → IfSome (length_given k n) (FitsForm Uint64)
+length_fits kind.Begin n fits = tt
+length_fits kind.Init n fits = tt
+length_fits kind.Update n fits = uint64_fits n fits
+
+pub recovery_fits : (r : RecoveryOp) → block_format.fits r.block → r.recovery.0 < 2 ^ 64 → r.new_length < 2 ^ 64 → EachFits node_format.fits r.targets → HasItsLength r.kind r.new_length → recovery_format.fits r
+unfolding recovery_format
+recovery_fits r block recovery length targets its = record {
+  rows = (below_fits 3 _ (kind_low r.kind) (omega arith), (block, (uint64_fits _ recovery, (length_fits r.kind r.new_length length, (targets, tt)))));
+  same = same (kind_with (kind_number r.kind)) (unwrap_or (length_given r.kind r.new_length) 0) (kind_with-number r.kind) (length_told r.kind r.new_length its);
+} where
+  same : (k : RecoveryKind) (n : ℕ) → k ≡ r.kind → n ≡ r.new_length → record { kind = k; block = r.block; recovery = r.recovery; new_length = n; targets = r.targets } ≡ r
+  same k n e f = rw (e, f) refl

@@ -4,3 +4,4 @@ pub mod TextLaws
 pub mod ReadingLaws
 pub mod EachLaws
 pub mod FormatLaws
+pub mod RequestLaws

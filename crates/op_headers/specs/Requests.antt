@@ -12,14 +12,12 @@ use Rattle.proto_fields.specs.declared.frames.FrameFault.{FrameFault}
 use Rattle.proto_fields.specs.declared.frames.FrameFault.TheVariants as frame
 use Rattle.op_headers.specs.declared.ops.Op.{Op}
 use Rattle.op_headers.specs.declared.ops.Op.TheVariants as op
-use Rattle.op_headers.specs.declared.ops.RecoveryOp.{RecoveryOp}
-use Rattle.op_headers.specs.declared.ops.RecoveryKind.{RecoveryKind}
-use Rattle.op_headers.specs.declared.ops.RecoveryKind.TheVariants as kind
 use Rattle.op_headers.specs.declared.opcodes.Opcode.{Opcode}
 use Rattle.op_headers.specs.declared.opcodes.Opcode.TheVariants as opcode
 use Rattle.op_headers.specs.declared.faults.OpFault.{OpFault}
 use Rattle.op_headers.specs.declared.faults.OpFault.TheVariants as fault
 use Rattle.op_headers.specs.Opcodes.{opcode_number, opcode_with}
+use Rattle.op_headers.specs.Recoveries.{HasItsLength, HasItsTargets}
 use Rattle.op_headers.specs.Paths.{Path}
 use Rattle.op_headers.specs.Tables.{Format}
 use Rattle.op_headers.specs.Formats.{write_format, read_format, transfer_format, checksum_op_format, recovery_format}
@@ -186,15 +184,15 @@ op_message (op.Recovery r) = recovery_format.text r
 abbrev pub op_text : Op → List ℕ
 op_text request = (0 ∷ 28 ∷ opcode_number (op_code request) ∷ []) ++ (least_varint (length (op_message request)) ++ op_message request)
 
+-- The numbers have their widths, so the written message says the request.
+abbrev pub OpFits : Op → Type 0
+OpFits (op.Write w) = write_format.fits w
+OpFits (op.Read r) = read_format.fits r
+OpFits (op.Transfer t) = transfer_format.fits t
+OpFits (op.Checksum c) = checksum_op_format.fits c
+OpFits (op.Recovery r) = HasItsLength r.kind r.new_length → recovery_format.fits r
+
 -- Only a last step has a length, and only a first one has targets.
-abbrev pub HasItsLength : RecoveryKind → ℕ → Type 0
-HasItsLength kind.Update n = Unit {0}
-HasItsLength _ n = n ≡ 0
-
-abbrev pub HasItsTargets : {X : Type 0} → RecoveryKind → List X → Type 0
-HasItsTargets kind.Begin targets = Unit {0}
-HasItsTargets _ targets = targets ≡ []
-
 abbrev pub IsLawfulStep : Op → Type 0
 IsLawfulStep (op.Recovery r) = HasItsLength r.kind r.new_length × HasItsTargets r.kind r.targets
 IsLawfulStep _ = Unit {0}

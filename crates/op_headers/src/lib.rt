@@ -8,6 +8,7 @@ mod headers;
 mod messages;
 mod nodes;
 mod op_reading;
+mod op_writing;
 mod opcodes;
 mod ops;
 mod paths;
