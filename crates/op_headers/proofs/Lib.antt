@@ -5,3 +5,4 @@ pub mod ReadingLaws
 pub mod EachLaws
 pub mod FormatLaws
 pub mod RequestLaws
+pub mod WritingLaws

@@ -5,3 +5,4 @@ pub mod Recoveries
 pub mod Formats
 pub mod Opcodes
 pub mod Requests
+pub mod Answers

@@ -63,3 +63,54 @@ impl From<FieldsFault> for OpFault {
         }
     }
 }
+
+/// Why bytes are no answer of a recovery, in the order in which it is tried: the faults of the
+/// message's length, `TooLong`, `Short` for the message, `Wire`, `Missing`. `Memory` may come at
+/// any place.
+#[derive(Clone, Copy, Debug, PartialEq, Eq, Hash, PartialOrd, Ord, Error)]
+pub enum AnswerFault {
+    /// The bytes end before the message does.
+    #[error("the bytes end inside an answer")]
+    Short,
+    /// The message has over 65,536 bytes.
+    #[error("a message of {length} bytes")]
+    TooLong { length: u64 },
+    /// A field is not whole and lawful. A length of more than ten bytes is `LongVarint` at 0.
+    #[error("{0}")]
+    Wire(WireFault),
+    /// A required field isn't there.
+    #[error("field {field} is missing")]
+    Missing { field: u32 },
+    /// Memory ran out.
+    #[error("out of memory")]
+    Memory,
+}
+
+impl From<FrameFault> for AnswerFault {
+    ghost use Rattle.std.specs.Prelude.{◌≡◌};
+    ghost use Rattle.op_headers.specs.Answers.{frame_cause};
+
+    ghost from_gives = { λ fault e. e ≡ frame_cause fault };
+
+    fn from(fault: FrameFault) -> AnswerFault {
+        match fault {
+            FrameFault::Short => AnswerFault::Short,
+            FrameFault::TooLong { length } => AnswerFault::TooLong { length },
+            FrameFault::LongPrefix => AnswerFault::Wire(WireFault::LongVarint { at: 0 }),
+        }
+    }
+}
+
+impl From<FieldsFault> for AnswerFault {
+    ghost use Rattle.std.specs.Prelude.{◌≡◌};
+    ghost use Rattle.op_headers.specs.Answers.{fields_cause};
+
+    ghost from_gives = { λ fault e. e ≡ fields_cause fault };
+
+    fn from(fault: FieldsFault) -> AnswerFault {
+        match fault {
+            FieldsFault::Wire(fault) => AnswerFault::Wire(fault),
+            FieldsFault::Memory => AnswerFault::Memory,
+        }
+    }
+}
