@@ -121,7 +121,7 @@ written_recovery =
 
 -- ---- which values have a text
 
-uint64_fits : (n : ℕ) → n < 2 ^ 64 → FitsForm Uint64 n
+pub uint64_fits : (n : ℕ) → n < 2 ^ 64 → FitsForm Uint64 n
 uint64_fits n small = record { small = small; told = refl }
 
 pub below_fits : (bound n : ℕ) → n < bound → bound ≤ 2 ^ 32 → FitsForm (Below bound) n

@@ -6,3 +6,5 @@ pub mod EachLaws
 pub mod FormatLaws
 pub mod RequestLaws
 pub mod WritingLaws
+pub mod RequestTextLaws
+pub mod AnswerLaws

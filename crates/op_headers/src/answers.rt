@@ -2,6 +2,7 @@
 
 ghost use Rattle.std.specs.Prelude.{◌≡◌, ◌<◌, ℕ, ◌≤◌, ◌^◌, List, [], ◌++◌, length, take, drop, Ok, Err, IfOk, IfErr, OnOk, OnErr, IfSome};
 ghost use Rattle.hd_base.specs.Wire.{IsStatus};
+ghost use Rattle.ack_codec.specs.Statuses.{told_status};
 ghost use Rattle.proto_fields.specs.Frames.{limit};
 ghost use Rattle.proto_fields.specs.ResultSteps.{with_cause, with_value};
 ghost use Rattle.proto_fields.specs.Writing.{varint_field, bytes_field};
@@ -9,7 +10,7 @@ ghost use Rattle.op_headers.specs.Paths.{both};
 ghost use Rattle.op_headers.specs.Tables.{kept, if_given, Required, Default, Optional};
 ghost use Rattle.op_headers.specs.declared.faults.AnswerFault.{AnswerFault};
 ghost use Rattle.op_headers.specs.declared.answers.RecoveryAnswer.{RecoveryAnswer};
-ghost use Rattle.op_headers.specs.Answers.{answer_from, answer_format, answer_text, state_with, state_given, stamp_given, length_told, message_given, missing_field, answer_of, answer_at, SpellsAnswer, IsRefusedAnswer, FailsFor, Gives};
+ghost use Rattle.op_headers.specs.Answers.{answer_from, info_from, answer_format, answer_text, state_with, state_given, stamp_given, length_told, message_given, missing_field, answer_of, answer_at, SpellsAnswer, IsRefusedAnswer, FailsFor, Gives};
 
 use crate::faults::AnswerFault;
 use crate::messages::{Message, UINT32, small_under, text_under};
@@ -61,17 +62,29 @@ fn answer_told(
     ensures { result ≡ with_value answer_from (both (kept Required 1 status) (Ok (message, (state, (stamp, (length, tt)))))) }
 {
     let status = required(1, status)?;
-    let info = match (state, stamp, length) {
-        (Some(state), Some(stamp), Some(length)) => {
-            Some((state_of(state), Stamp(stamp), length))
-        }
-        _ => None,
-    };
     Ok(RecoveryAnswer {
-        status: Status::from_number(status),
+        status: status_of(status),
         message,
-        info,
+        info: info_of(state, stamp, length),
     })
+}
+
+/// The status that a number stands for.
+fn status_of(number: u32) -> Status
+    ensures { result ≡ told_status number }
+{
+    Status::from_number(number)
+}
+
+/// What is told of a replica, where all of it is there.
+fn info_of(
+    state: Option<u32>,
+    stamp: Option<u64>,
+    length: Option<u64>,
+) -> Option<(ReplicaState, Stamp, u64)>
+    ensures { result ≡ info_from state stamp length }
+{
+    Some((state_of(state?), Stamp(stamp?), length?))
 }
 
 /// The state with this number, the last from 4 on.
@@ -127,8 +140,8 @@ fn whole(told: Told<RecoveryAnswer>) -> Result<RecoveryAnswer, AnswerFault>
 {
     match told {
         Ok(answer) => Ok(answer),
-        Err([field, ..]) => Err(AnswerFault::Missing {
-            field: u32::from(field),
+        Err(path) => Err(AnswerFault::Missing {
+            field: u32::from(path[0]),
         }),
     }
 }
