@@ -13,7 +13,7 @@ use Rattle.proto_fields.specs.Fields.{SpellsFrom}
 use Rattle.proto_fields.specs.Values.{last_varint, last_part, parts, part_bytes}
 use Rattle.proto_fields.specs.Writing.{tag_text, varint_field, bytes_field}
 use Rattle.proto_fields.proofs.VarintLaws.{least_varint_spells}
-use Rattle.proto_fields.proofs.WrittenLaws.{varint_field_spells, bytes_field_spells, SpellsFrom-cons}
+use Rattle.proto_fields.proofs.WrittenLaws.{varint_field_spells, bytes_field_spells, SpellsFrom-cons, varint_field_within, bytes_field_within}
 use Rattle.ack_codec.specs.declared.responses.Response.{Response}
 use Rattle.ack_codec.specs.declared.response_reading.FoundInfo.{FoundInfo}
 use Rattle.ack_codec.specs.declared.response_reading.FoundResponse.{FoundResponse}
@@ -225,23 +225,6 @@ response_written (Ok x) r old new rest ok low fits listed link few =
 response_written (Err e) r old new rest ok low fits listed link few = tt
 
 -- ---- lengths
-
-least_within_few : (left n : ℕ) → length (least_within left n) ≤ left
-unfolding least_within
-least_within_few zero n = omega arith
-least_within_few (suc left) n = by_test (nat_lt n 128) (least_within_few left (n / 128)) where
-  by_test : (b : Bool) → length (least_within left (n / 128)) ≤ left → length (cond b (n ∷ []) ((n % 128 + 128) ∷ least_within left (n / 128))) ≤ suc left
-  by_test true few = omega arith
-  by_test false few = omega arith
-
-varint_field_within : (number n : ℕ) → length (varint_field number n) ≤ 20
-unfolding varint_field tag_text
-varint_field_within number n = omega (arith, length-append (least_varint (number * 8 + 0)) (least_varint n), least_within_few 10 (number * 8 + 0), least_within_few 10 n)
-
-bytes_field_within : (number : ℕ) (bytes : List ℕ) → length (bytes_field number bytes) ≤ 20 + length bytes
-unfolding bytes_field tag_text
-bytes_field_within number bytes =
-    omega (arith, length-append (least_varint (number * 8 + 2)) (least_varint (length bytes) ++ bytes), length-append (least_varint (length bytes)) bytes, least_within_few 10 (number * 8 + 2), least_within_few 10 (length bytes))
 
 body_within : (o : Option ℕ) (fb : List ℕ) → length (body_text o fb) ≤ 65 + length fb
 unfolding body_text info_text

@@ -8,3 +8,4 @@ pub mod RequestLaws
 pub mod WritingLaws
 pub mod RequestTextLaws
 pub mod AnswerLaws
+pub mod RoomLaws

@@ -14,6 +14,8 @@ mod op_writing;
 mod opcodes;
 mod ops;
 mod paths;
+#[cfg(test)]
+mod tests;
 
 pub use answers::{RecoveryAnswer, decode_answer, encode_answer};
 pub use blocks::BlockRef;
