@@ -15,6 +15,10 @@ use Rattle.op_headers.specs.Recoveries.{kind_number}
 use Rattle.op_headers.specs.Tables.{if_given, message_field}
 use Rattle.op_headers.specs.Formats.{block_format, identity_format, node_format, base_format, client_format, checksum_format, write_format, read_format, transfer_format, checksum_op_format, recovery_format, length_given}
 use Rattle.op_headers.specs.Requests.{op_message}
+use Rattle.op_headers.specs.Room.{node_room, nodes_room, source_room, op_room}
+use Rattle.op_headers.specs.declared.answers.RecoveryAnswer.{RecoveryAnswer}
+use Rattle.op_headers.specs.Answers.{message_given, state_given, stamp_given, length_told, answer_format}
+use Rattle.hd_base.specs.Wire.{status_number}
 
 -- the length of texts one behind the other
 two : (a b : List ℕ) (n m : ℕ) → length a ≤ n → length b ≤ m → length (a ++ b) ≤ n + m
@@ -27,10 +31,6 @@ block_few : (b : BlockRef) → length (block_format.text b) ≤ 20 + length b.po
 unfolding block_format
 block_few b =
     two _ _ _ _ (bytes_field_within 1 b.pool) (two _ _ _ _ (varint_field_within 2 b.block.0) (two _ _ _ _ (varint_field_within 3 b.stamp.0) (two _ _ _ _ (varint_field_within 4 b.bytes) none)))
-
--- what a node takes at most, as a field
-abbrev pub node_room : NodeRef → ℕ
-node_room n = length n.ip + length n.host + length n.uuid + 160
 
 identity_few : (n : NodeRef) → length (identity_format.text (record { node = n })) ≤ 20 + length n.ip + (20 + length n.host + (20 + length n.uuid + (20 + (20 + (20 + 0)))))
 unfolding identity_format
@@ -46,17 +46,9 @@ node_few : (number : ℕ) (n : NodeRef) → length (message_field number node_fo
 unfolding message_field
 node_few number n = omega (arith, identity_few n, inner_few n, bytes_field_within number (node_format.text n))
 
-abbrev pub nodes_room : List NodeRef → ℕ
-nodes_room [] = 0
-nodes_room (n ∷ ns) = node_room n + nodes_room ns
-
 nodes_few : (number : ℕ) (ns : List NodeRef) → length (flat_map (message_field number node_format) ns) ≤ nodes_room ns
 nodes_few number [] = omega arith
 nodes_few number (n ∷ ns) = two _ _ _ _ (node_few number n) (nodes_few number ns)
-
-abbrev pub source_room : Option NodeRef → ℕ
-source_room None = 0
-source_room (Some n) = node_room n
 
 source_few : (o : Option NodeRef) → length (if_given (message_field 3 node_format) o) ≤ source_room o
 source_few None = omega arith
@@ -95,14 +87,6 @@ length_few kind.Begin n = omega arith
 length_few kind.Init n = omega arith
 length_few kind.Update n = varint_field_within 4 n
 
--- what a request's message takes at most
-abbrev pub op_room : Op → ℕ
-op_room (op.Write w) = length w.block.pool + length w.client + 160 + (nodes_room w.targets + (source_room w.source + (20 + (20 + (20 + (20 + (20 + (60 + 0))))))))
-op_room (op.Read r) = length r.block.pool + length r.client + 160 + (20 + (20 + (0 + 0)))
-op_room (op.Transfer t) = length t.block.pool + length t.client + 160 + (nodes_room t.targets + 0)
-op_room (op.Checksum c) = length c.block.pool + 120 + 0
-op_room (op.Recovery r) = 20 + (length r.block.pool + 100 + (20 + (20 + (nodes_room r.targets + 0))))
-
 message_few : (request : Op) → length (op_message request) ≤ op_room request
 unfolding write_format read_format transfer_format checksum_op_format recovery_format
 message_few (op.Write w) =
@@ -117,3 +101,21 @@ message_few (op.Recovery r) =
 -- A request whose texts are well within the limit is within it.
 pub op_few : (request : Op) → op_room request ≤ limit → length (op_message request) ≤ limit
 op_few request few = omega (arith, message_few request, few)
+
+-- ---- answers
+
+text_few : (m : List ℕ) → length (if_given (bytes_field 2) (message_given m)) ≤ 20 + length m
+text_few [] = omega arith
+text_few (b ∷ bs) = bytes_field_within 2 (b ∷ bs)
+
+number_few : (number : ℕ) (o : Option ℕ) → length (if_given (varint_field number) o) ≤ 20
+number_few number None = omega arith
+number_few number (Some n) = varint_field_within number n
+
+-- An answer whose text is well within the limit is within it.
+pub answer_few : (a : RecoveryAnswer) → length a.message ≤ 65000 → length (answer_format.text a) ≤ limit
+unfolding answer_format
+answer_few a few =
+    let whole =
+    two _ _ 20 _ (varint_field_within 1 (status_number a.status)) (two _ _ _ _ (text_few a.message) (two _ _ 20 _ (number_few 3 (state_given a.info)) (two _ _ 20 _ (number_few 4 (stamp_given a.info)) (two _ _ 20 0 (number_few 5 (length_told a.info)) none)))) in
+    omega (arith, whole, few)

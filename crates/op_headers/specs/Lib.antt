@@ -6,3 +6,4 @@ pub mod Formats
 pub mod Opcodes
 pub mod Requests
 pub mod Answers
+pub mod Room

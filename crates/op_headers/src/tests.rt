@@ -4,7 +4,7 @@ ghost use Rattle.std.specs.Prelude.{◌≡◌, ℕ, ◌+◌, ◌<◌, ◌≤◌,
 ghost use Rattle.hd_base.specs.Wire.{IsStatus};
 ghost use Rattle.proto_fields.specs.Frames.{limit};
 ghost use Rattle.op_headers.specs.Requests.{IsLawfulStep};
-ghost use Rattle.op_headers.proofs.RoomLaws.{op_room, node_room, nodes_room};
+ghost use Rattle.op_headers.specs.Room.{op_room, node_room, nodes_room};
 
 use crate::{
     AnswerFault, BlockRef, ChecksumOp, NodeRef, Op, OpFault, ReadOp, RecoveryAnswer, RecoveryKind,
@@ -179,8 +179,18 @@ fn nodes(alloc: Global, first: u8, second: Option<u8>) -> Result<Targets, AllocE
     Ok(targets)
 }
 
-/// Compares what is written of a request with these bytes, which are read whole, and each front of
-/// which is Short.
+/// Reads a request of all the bytes. Each front of them is Short.
+fn reads(rt: &impl Abort, alloc: Global, bytes: &[u8]) -> Result<Op, Fail> {
+    let (op, taken) = decode_op(alloc, bytes)?;
+    assert_eq!(rt; taken, bytes.len());
+    for cut in 0..bytes.len() {
+        let front = decode_op(alloc, &bytes[..cut]);
+        assert_eq!(rt; front.err(), Some(OpFault::Short));
+    }
+    Ok(op)
+}
+
+/// Compares what is written of a request with these bytes.
 fn writes(rt: &impl Abort, alloc: Global, op: &Op, bytes: &[u8]) -> Result<(), Fail>
     requires few { op_room op.now ≤ limit }
     requires step { IsLawfulStep op.now }
@@ -188,11 +198,7 @@ fn writes(rt: &impl Abort, alloc: Global, op: &Op, bytes: &[u8]) -> Result<(), F
     let mut out = Vec::new(alloc);
     encode_op(op, &mut out)?;
     assert!(rt; out.as_slice() == bytes);
-    let (_, taken) = decode_op(alloc, bytes)?;
-    assert_eq!(rt; taken, bytes.len());
-    for cut in 0..bytes.len() {
-        assert_eq!(rt; decode_op(alloc, &bytes[..cut]).err(), Some(OpFault::Short));
-    }
+    reads(rt, alloc, bytes)?;
     Ok(())
 }
 
@@ -314,122 +320,164 @@ fn is_node(rt: &impl Abort, alloc: Global, read: &NodeRef, number: u8) -> Result
     Ok(())
 }
 
+/// Compares the client's name.
+fn is_client(rt: &impl Abort, client: &ByteList, name: &[u8]) {
+    assert!(rt; client.as_slice() == name);
+}
+
+/// Compares the nodes with those of these numbers.
+fn are_nodes(
+    rt: &impl Abort,
+    alloc: Global,
+    read: &Targets,
+    first: u8,
+    second: Option<u8>,
+) -> Result<(), Fail>
+    requires first { first < 10 }
+    requires second { IfSome second (λ n. n < 10) }
+{
+    let mut numbers = [Some(first), second].into_iter().flatten();
+    for node in read.as_slice() {
+        let number = numbers.next().ok_or("as many nodes")?;
+        is_node(rt, alloc, node, number)?;
+    }
+    assert_eq!(rt; numbers.next(), None);
+    Ok(())
+}
+
 /// The same values are read where a client fills in more fields.
 #[test]
 fn reads_full_write_request(rt: HostRuntime) -> Result<(), Fail> {
     let alloc = rt.alloc();
-    let (op, taken) = decode_op(alloc, WRITE)?;
-    assert_eq!(rt; taken, WRITE.len());
-    let op = write_of(op).ok_or("a write request")?;
+    let op = write_of(reads(&rt, alloc, WRITE)?).ok_or("a write request")?;
     is_block(&rt, &op.block, 4096);
-    assert!(rt; op.client.as_slice() == b"DFSClient_NONMAPREDUCE_-1_1".as_slice());
-    assert_eq!(rt; op.targets.len(), 2);
-    is_node(&rt, alloc, &op.targets.as_slice()[0], 2)?;
-    is_node(&rt, alloc, &op.targets.as_slice()[1], 3)?;
+    is_client(&rt, &op.client, b"DFSClient_NONMAPREDUCE_-1_1");
+    are_nodes(&rt, alloc, &op.targets, 2, Some(3))?;
     let source = op.source.as_ref().ok_or("a source")?;
     is_node(&rt, alloc, source, 1)?;
     assert_eq!(rt; (op.stage, op.pipeline), (3, 3));
     assert_eq!(rt; (op.min, op.max), (4096, 8192));
     assert_eq!(rt; op.latest, Stamp(1002));
     assert_eq!(rt; (op.kind, op.chunk), (2, 512));
-    for cut in 0..WRITE.len() {
-        assert_eq!(rt; decode_op(alloc, &WRITE[..cut]).err(), Some(OpFault::Short));
-    }
     Ok(())
 }
 
 #[test]
-fn reads_full_other_requests(rt: HostRuntime) -> Result<(), Fail> {
-    let alloc = rt.alloc();
-    let (Op::Read(read), taken) = decode_op(alloc, READ)? else {
+fn reads_full_read_request(rt: HostRuntime) -> Result<(), Fail> {
+    let Op::Read(op) = reads(&rt, rt.alloc(), READ)? else {
         return Err("a read request")?;
     };
-    assert_eq!(rt; taken, READ.len());
-    is_block(&rt, &read.block, 4096);
-    assert!(rt; read.client.as_slice() == b"DFSClient_NONMAPREDUCE_-1_1".as_slice());
-    assert_eq!(rt; (read.offset, read.len), (512, 1024));
-    let (Op::Transfer(transfer), taken) = decode_op(alloc, TRANSFER)? else {
+    is_block(&rt, &op.block, 4096);
+    is_client(&rt, &op.client, b"DFSClient_NONMAPREDUCE_-1_1");
+    assert_eq!(rt; (op.offset, op.len), (512, 1024));
+    Ok(())
+}
+
+#[test]
+fn reads_full_transfer_request(rt: HostRuntime) -> Result<(), Fail> {
+    let Op::Transfer(op) = reads(&rt, rt.alloc(), TRANSFER)? else {
         return Err("a transfer request")?;
     };
-    assert_eq!(rt; taken, TRANSFER.len());
-    is_block(&rt, &transfer.block, 4096);
-    assert_eq!(rt; transfer.targets.len(), 1);
-    is_node(&rt, alloc, &transfer.targets.as_slice()[0], 2)?;
-    let (Op::Checksum(checksum), taken) = decode_op(alloc, CHECKSUM)? else {
+    is_block(&rt, &op.block, 4096);
+    is_client(&rt, &op.client, b"DFSClient_NONMAPREDUCE_-1_1");
+    are_nodes(&rt, rt.alloc(), &op.targets, 2, None)
+}
+
+#[test]
+fn reads_full_checksum_request(rt: HostRuntime) -> Result<(), Fail> {
+    let Op::Checksum(op) = reads(&rt, rt.alloc(), CHECKSUM)? else {
         return Err("a checksum request")?;
     };
-    assert_eq!(rt; taken, CHECKSUM.len());
-    is_block(&rt, &checksum.block, 4096);
+    is_block(&rt, &op.block, 4096);
+    Ok(())
+}
+
+/// Compares a recovery step of all the bytes.
+fn is_step(
+    rt: &impl Abort,
+    alloc: Global,
+    bytes: &[u8],
+    kind: RecoveryKind,
+    new_length: u64,
+    targets: usize,
+) -> Result<(), Fail> {
+    let Op::Recovery(op) = reads(rt, alloc, bytes)? else {
+        return Err("a recovery step")?;
+    };
+    is_block(rt, &op.block, 0);
+    assert_eq!(rt; op.kind, kind);
+    assert_eq!(rt; op.recovery, Stamp(1002));
+    assert_eq!(rt; op.new_length, new_length);
+    assert_eq!(rt; op.targets.len(), targets);
     Ok(())
 }
 
 #[test]
 fn reads_recovery_steps(rt: HostRuntime) -> Result<(), Fail> {
-    let alloc = rt.alloc();
-    for (bytes, kind, new_length, targets) in [
-        (BEGIN, RecoveryKind::Begin, 0, 1),
-        (INIT, RecoveryKind::Init, 0, 0),
-        (UPDATE, RecoveryKind::Update, 512, 0),
-    ] {
-        let (Op::Recovery(op), _) = decode_op(alloc, bytes)? else {
-            return Err("a recovery step")?;
-        };
-        is_block(&rt, &op.block, 0);
-        assert_eq!(rt; op.kind, kind);
-        assert_eq!(rt; op.recovery, Stamp(1002));
-        assert_eq!(rt; op.new_length, new_length);
-        assert_eq!(rt; op.targets.len(), targets);
-    }
+    is_step(&rt, rt.alloc(), BEGIN, RecoveryKind::Begin, 0, 1)?;
+    is_step(&rt, rt.alloc(), INIT, RecoveryKind::Init, 0, 0)?;
+    is_step(&rt, rt.alloc(), UPDATE, RecoveryKind::Update, 512, 0)
+}
+
+/// Compares a first write's request of all the bytes, but for the pipeline's size.
+fn is_first(
+    rt: &impl Abort,
+    alloc: Global,
+    bytes: &[u8],
+    pipeline: u32,
+) -> Result<(), Fail> {
+    let op = write_of(reads(rt, alloc, bytes)?).ok_or("a write request")?;
+    is_block(rt, &op.block, 0);
+    is_client(rt, &op.client, b"DFSClient_1073741825");
+    assert_eq!(rt; (op.stage, op.pipeline), (6, pipeline));
     Ok(())
+}
+
+fn refuses(rt: &impl Abort, alloc: Global, bytes: &[u8], fault: OpFault) {
+    assert_eq!(rt; decode_op(alloc, bytes).err(), Some(fault));
 }
 
 /// Parts of a message are joined, the last number counts, and an enum's number that isn't listed
 /// counts as a field that isn't there.
 #[test]
 fn reads_repeated_fields(rt: HostRuntime) -> Result<(), Fail> {
-    let alloc = rt.alloc();
-    for (bytes, pipeline) in [(MERGED, 1), (LATER_UNLISTED, 1), (LATER_SIZE, 3)] {
-        let (op, taken) = decode_op(alloc, bytes)?;
-        assert_eq!(rt; taken, bytes.len());
-        let op = write_of(op).ok_or("a write request")?;
-        is_block(&rt, &op.block, 0);
-        assert!(rt; op.client.as_slice() == b"DFSClient_1073741825".as_slice());
-        assert_eq!(rt; (op.stage, op.pipeline), (6, pipeline));
-    }
+    is_first(&rt, rt.alloc(), MERGED, 1)?;
+    is_first(&rt, rt.alloc(), LATER_UNLISTED, 1)?;
+    is_first(&rt, rt.alloc(), LATER_SIZE, 3)?;
     let missing = OpFault::Missing { path: [4, 0, 0, 0] };
-    assert_eq!(rt; decode_op(alloc, UNLISTED).err(), Some(missing));
+    refuses(&rt, rt.alloc(), UNLISTED, missing);
     Ok(())
 }
 
 #[test]
-fn refuses_requests_in_order(rt: HostRuntime) {
-    let missing = |path| OpFault::Missing { path };
+fn refuses_heads_in_order(rt: HostRuntime) {
+    let long = b"\x00\x1cP\xff\xff\xff\xff\xff\xff\xff\xff\xff\xff";
+    let fault = OpFault::Wire(WireFault::LongVarint { at: 3 });
+    refuses(&rt, rt.alloc(), long, fault);
     for (bytes, fault) in [
         (b"\x01".as_slice(), OpFault::Short),
         (b"\x00\x1bP".as_slice(), OpFault::Version { got: 27 }),
         (b"\x00\x1bS".as_slice(), OpFault::Version { got: 27 }),
         (b"\x00\x1cS".as_slice(), OpFault::Opcode { got: 83 }),
         (
-            b"\x00\x1cP\xff\xff\xff\xff\xff\xff\xff\xff\xff\xff".as_slice(),
-            OpFault::Wire(WireFault::LongVarint { at: 3 }),
-        ),
-        (
             b"\x00\x1cP\x81\x80\x04".as_slice(),
             OpFault::TooLong { length: 65_537 },
         ),
         (b"\x00\x1cP\x02\x08".as_slice(), OpFault::Short),
-        (
-            b"\x00\x1cP\x01\x08".as_slice(),
-            OpFault::Wire(WireFault::Short { at: 0 }),
-        ),
-        (
-            b"\x00\x1cP\x05\x0a\x01\x0b\x20\x80".as_slice(),
-            OpFault::Wire(WireFault::Short { at: 3 }),
-        ),
-        (
-            b"\x00\x1cP\x06\x12\x01\x00\x0a\x01\x0b".as_slice(),
-            OpFault::Wire(WireFault::Kind { at: 0 }),
-        ),
+    ] {
+        refuses(&rt, rt.alloc(), bytes, fault);
+    }
+}
+
+#[test]
+fn refuses_messages_in_order(rt: HostRuntime) {
+    let missing = |path| OpFault::Missing { path };
+    let short = |at| OpFault::Wire(WireFault::Short { at });
+    let kind = |at| OpFault::Wire(WireFault::Kind { at });
+    for (bytes, fault) in [
+        (b"\x00\x1cP\x01\x08".as_slice(), short(0)),
+        (b"\x00\x1cP\x05\x0a\x01\x0b\x20\x80".as_slice(), short(3)),
+        (b"\x00\x1cP\x06\x12\x01\x00\x0a\x01\x0b".as_slice(), kind(0)),
         (b"\x00\x1cP\x00".as_slice(), missing([1, 0, 0, 0])),
         (b"\x00\x1cP\x02\x0a\x00".as_slice(), missing([1, 1, 0, 0])),
         (
@@ -438,7 +486,7 @@ fn refuses_requests_in_order(rt: HostRuntime) {
         ),
         (b"\x00\x1c\x7f\x04\x08\x00\x2a\x00".as_slice(), missing([2, 0, 0, 0])),
     ] {
-        assert_eq!(rt; decode_op(rt.alloc(), bytes).err(), Some(fault));
+        refuses(&rt, rt.alloc(), bytes, fault);
     }
 }
 
