@@ -112,10 +112,12 @@ number_few : (number : ℕ) (o : Option ℕ) → length (if_given (varint_field 
 number_few number None = omega arith
 number_few number (Some n) = varint_field_within number n
 
+fields_few : (a : RecoveryAnswer) → length (answer_format.text a) ≤ 20 + (20 + length a.message + (20 + (20 + (20 + 0))))
+unfolding answer_format
+fields_few a =
+    two _ _ _ _ (varint_field_within 1 (status_number a.status)) (two _ _ _ _ (text_few a.message)
+    (two _ _ _ _ (number_few 3 (state_given a.info)) (two _ _ _ _ (number_few 4 (stamp_given a.info)) (two _ _ _ _ (number_few 5 (length_told a.info)) none))))
+
 -- An answer whose text is well within the limit is within it.
 pub answer_few : (a : RecoveryAnswer) → length a.message ≤ 65000 → length (answer_format.text a) ≤ limit
-unfolding answer_format
-answer_few a few =
-    let whole =
-    two _ _ 20 _ (varint_field_within 1 (status_number a.status)) (two _ _ _ _ (text_few a.message) (two _ _ 20 _ (number_few 3 (state_given a.info)) (two _ _ 20 _ (number_few 4 (stamp_given a.info)) (two _ _ 20 0 (number_few 5 (length_told a.info)) none)))) in
-    omega (arith, whole, few)
+answer_few a few = omega (arith, fields_few a, few)

@@ -4,7 +4,8 @@ ghost use Rattle.std.specs.Prelude.{◌≡◌, ℕ, ◌+◌, ◌<◌, ◌≤◌,
 ghost use Rattle.hd_base.specs.Wire.{IsStatus};
 ghost use Rattle.proto_fields.specs.Frames.{limit};
 ghost use Rattle.op_headers.specs.Requests.{IsLawfulStep};
-ghost use Rattle.op_headers.specs.Room.{op_room, node_room, nodes_room};
+ghost use Rattle.op_headers.specs.Recoveries.{HasItsLength, HasItsTargets};
+ghost use Rattle.op_headers.specs.Room.{op_room, node_room, nodes_room, source_room};
 
 use crate::{
     AnswerFault, BlockRef, ChecksumOp, NodeRef, Op, OpFault, ReadOp, RecoveryAnswer, RecoveryKind,
@@ -202,93 +203,120 @@ fn writes(rt: &impl Abort, alloc: Global, op: &Op, bytes: &[u8]) -> Result<(), F
     Ok(())
 }
 
+/// A write request with this stage of a pipeline.
+fn write(
+    alloc: Global,
+    targets: Targets,
+    source: Option<NodeRef>,
+    pipeline: u32,
+    latest: u64,
+) -> Result<Op, AllocError>
+    requires targets { nodes_room targets ≤ 356 }
+    requires source { source_room source ≤ 178 }
+    ensures few { IfOk result (λ op. op_room op ≤ limit) }
+    ensures step { IfOk result IsLawfulStep }
+{
+    Ok(Op::Write(WriteOp {
+        block: block(alloc, 0)?,
+        client: text(alloc, b"DFSClient_1073741825")?,
+        targets,
+        source,
+        stage: 6,
+        pipeline,
+        min: 0,
+        max: 0,
+        latest: Stamp(latest),
+        kind: 2,
+        chunk: 512,
+    }))
+}
+
 #[test]
 fn writes_first_request(rt: HostRuntime) -> Result<(), Fail> {
     let alloc = rt.alloc();
-    let op = Op::Write(WriteOp {
-        block: block(alloc, 0)?,
-        client: text(alloc, b"DFSClient_1073741825")?,
-        targets: Targets::new(alloc),
-        source: None,
-        stage: 6,
-        pipeline: 1,
-        min: 0,
-        max: 0,
-        latest: Stamp(0),
-        kind: 2,
-        chunk: 512,
-    });
+    let op = write(alloc, Targets::new(alloc), None, 1, 0)?;
     writes(&rt, alloc, &op, FIRST)
 }
 
 #[test]
 fn writes_forwarded_request(rt: HostRuntime) -> Result<(), Fail> {
     let alloc = rt.alloc();
-    let op = Op::Write(WriteOp {
-        block: block(alloc, 0)?,
-        client: text(alloc, b"DFSClient_1073741825")?,
-        targets: nodes(alloc, 2, Some(3))?,
-        source: Some(node(alloc, 1)?),
-        stage: 6,
-        pipeline: 4,
-        min: 0,
-        max: 0,
-        latest: Stamp(1001),
-        kind: 2,
-        chunk: 512,
-    });
+    let targets = nodes(alloc, 2, Some(3))?;
+    let source = node(alloc, 1)?;
+    let op = write(alloc, targets, Some(source), 4, 1001)?;
     writes(&rt, alloc, &op, FORWARD)
 }
 
 #[test]
-fn writes_other_requests(rt: HostRuntime) -> Result<(), Fail> {
-    let alloc = rt.alloc();
-    let read = Op::Read(ReadOp {
-        block: block(alloc, 0)?,
-        client: text(alloc, b"DFSClient_1073741825")?,
+fn writes_read_request(rt: HostRuntime) -> Result<(), Fail> {
+    let op = Op::Read(ReadOp {
+        block: block(rt.alloc(), 0)?,
+        client: text(rt.alloc(), b"DFSClient_1073741825")?,
         offset: 512,
         len: 1024,
     });
-    writes(&rt, alloc, &read, PLAIN_READ)?;
-    let transfer = Op::Transfer(TransferOp {
-        block: block(alloc, 0)?,
-        client: text(alloc, b"DFSClient_1073741825")?,
-        targets: nodes(alloc, 2, None)?,
-    });
-    writes(&rt, alloc, &transfer, PLAIN_TRANSFER)?;
-    let checksum = Op::Checksum(ChecksumOp {
-        block: block(alloc, 0)?,
-    });
-    writes(&rt, alloc, &checksum, PLAIN_CHECKSUM)
+    writes(&rt, rt.alloc(), &op, PLAIN_READ)
 }
 
 #[test]
-fn writes_recovery_steps(rt: HostRuntime) -> Result<(), Fail> {
-    let alloc = rt.alloc();
-    let begin = Op::Recovery(RecoveryOp {
-        kind: RecoveryKind::Begin,
+fn writes_transfer_request(rt: HostRuntime) -> Result<(), Fail> {
+    let op = Op::Transfer(TransferOp {
+        block: block(rt.alloc(), 0)?,
+        client: text(rt.alloc(), b"DFSClient_1073741825")?,
+        targets: nodes(rt.alloc(), 2, None)?,
+    });
+    writes(&rt, rt.alloc(), &op, PLAIN_TRANSFER)
+}
+
+#[test]
+fn writes_checksum_request(rt: HostRuntime) -> Result<(), Fail> {
+    let op = Op::Checksum(ChecksumOp {
+        block: block(rt.alloc(), 0)?,
+    });
+    writes(&rt, rt.alloc(), &op, PLAIN_CHECKSUM)
+}
+
+/// A step of a recovery.
+fn step(
+    alloc: Global,
+    kind: RecoveryKind,
+    new_length: u64,
+    targets: Targets,
+) -> Result<Op, AllocError>
+    requires few { nodes_room targets ≤ 356 }
+    requires length { HasItsLength kind new_length }
+    requires targets { HasItsTargets kind targets }
+    ensures few { IfOk result (λ op. op_room op ≤ limit) }
+    ensures step { IfOk result IsLawfulStep }
+{
+    Ok(Op::Recovery(RecoveryOp {
+        kind,
         block: block(alloc, 0)?,
         recovery: Stamp(1002),
-        new_length: 0,
-        targets: nodes(alloc, 2, None)?,
-    });
-    writes(&rt, alloc, &begin, BEGIN)?;
-    let init = Op::Recovery(RecoveryOp {
-        kind: RecoveryKind::Init,
-        block: block(alloc, 0)?,
-        recovery: Stamp(1002),
-        new_length: 0,
-        targets: Targets::new(alloc),
-    });
-    writes(&rt, alloc, &init, INIT)?;
-    let update = Op::Recovery(RecoveryOp {
-        kind: RecoveryKind::Update,
-        block: block(alloc, 0)?,
-        recovery: Stamp(1002),
-        new_length: 512,
-        targets: Targets::new(alloc),
-    });
-    writes(&rt, alloc, &update, UPDATE)
+        new_length,
+        targets,
+    }))
+}
+
+#[test]
+fn writes_first_step(rt: HostRuntime) -> Result<(), Fail> {
+    let targets = nodes(rt.alloc(), 2, None)?;
+    let op = step(rt.alloc(), RecoveryKind::Begin, 0, targets)?;
+    writes(&rt, rt.alloc(), &op, BEGIN)
+}
+
+#[test]
+fn writes_second_step(rt: HostRuntime) -> Result<(), Fail> {
+    let targets = Targets::new(rt.alloc());
+    let op = step(rt.alloc(), RecoveryKind::Init, 0, targets)?;
+    writes(&rt, rt.alloc(), &op, INIT)
+}
+
+#[test]
+fn writes_last_step(rt: HostRuntime) -> Result<(), Fail> {
+    let targets = Targets::new(rt.alloc());
+    let op = step(rt.alloc(), RecoveryKind::Update, 512, targets)?;
+    writes(&rt, rt.alloc(), &op, UPDATE)
 }
 
 fn write_of(op: Op) -> Option<WriteOp> {
