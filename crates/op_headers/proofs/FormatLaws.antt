@@ -165,8 +165,22 @@ pub record WriteNumbersFit (w : WriteFields) : Type 0 where
 pub write_fits : (w : WriteFields) → block_format.fits w.block → EachFits node_format.fits w.targets → IfSome w.source node_format.fits → WriteNumbersFit w → write_format.fits w
 unfolding write_format
 write_fits w block targets source n = record {
-  rows = (client_fits w.block w.client block, (targets, (source, (below_fits 9 _ (omega (arith, n.stage)) (omega arith), (below_fits _ _ n.pipeline (omega arith),
-      (uint64_fits _ n.min, (uint64_fits _ n.max, (uint64_fits _ n.latest, (checksum_fits _ (omega (arith, n.kind)) n.chunk, tt)))))))));
+  rows = (
+    client_fits w.block w.client block,
+    (
+      targets,
+      (
+        source,
+        (
+          below_fits 9 _ (omega (arith, n.stage)) (omega arith),
+          (
+            below_fits _ _ n.pipeline (omega arith),
+            (uint64_fits _ n.min, (uint64_fits _ n.max, (uint64_fits _ n.latest, (checksum_fits _ (omega (arith, n.kind)) n.chunk, tt)))),
+          ),
+        ),
+      ),
+    ),
+  );
   same = refl;
 }
 

@@ -201,8 +201,8 @@ module _ (t : Table) (given : Given t) (low number at : ℕ) (text whole : List 
   say_behind before a =
       subst (λ (fs : List (ℕ × Wire)). RowsSay t whole fs (Ok (as_told t given))) (append_assoc before row.fields rows.fields)
       (rows.say (before ++ row.fields) (EachNumber-append _ before row.fields
-          (EachNumber-weaker _ _ (λ m h. omega (arith, h)) before a)
-          (EachNumber-weaker _ _ (λ m h. omega (arith, h)) row.fields row.numbered)))
+      (EachNumber-weaker _ _ (λ m h. omega (arith, h)) before a)
+      (EachNumber-weaker _ _ (λ m h. omega (arith, h)) row.fields row.numbered)))
 
   last_here : {X : Type 0} (pick : Wire → Option X) (before : List (ℕ × Wire)) → EachNumber (λ m. m ≤ low) before → last_of pick number (before ++ all_fields) ≡ last_of pick number row.fields
   unfolding all_fields
@@ -286,7 +286,7 @@ rows_written (Message {X} number format need rest) low rising w given fits at wh
         option_map Ok o,
         subst (λ (j : Option (List ℕ)). FindsInner format.says j (option_map Ok o))
             (sym (ap (λ ps. joined_of ps (flat_map (part_bytes whole) ps)) (parts_here rest given.1 low number at text whole row rows rising.0 before a)
-                ∙ joined_found at number (option_map format.text o) whole front behind place parts_are))
+            ∙ joined_found at number (option_map format.text o) whole front behind place parts_are))
             (finds_given format o w.0 fits.0 (few_given number format o (omega (arith, sizes, few)))),
         Ok (as_told rest given.1),
         say_behind rest given.1 low number at text whole row rows rising.0 before a,

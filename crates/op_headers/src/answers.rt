@@ -199,10 +199,7 @@ fn put_text(text: &[u8], out: &mut Vec<u8>) -> Result<(), AllocError>
 }
 
 /// Appends state, stamp and length, where they are told.
-fn put_info(
-    info: Option<(ReplicaState, Stamp, u64)>,
-    out: &mut Vec<u8>,
-) -> Result<(), AllocError>
+fn put_info(info: Option<(ReplicaState, Stamp, u64)>, out: &mut Vec<u8>) -> Result<(), AllocError>
     ensures ok { OnOk result (out.new.items ≡ out.old.items ++ (if_given (varint_field 3) (state_given info) ++ (if_given (varint_field 4) (stamp_given info) ++ if_given (varint_field 5) (length_told info)))) }
     ensures fits { OnOk result (IfSome info (λ i. (i.1.0 < 2 ^ 64) × (i.2 < 2 ^ 64))) }
 {

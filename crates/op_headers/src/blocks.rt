@@ -34,12 +34,7 @@ impl Message for BlockRef {
     fn read(alloc: Global, bytes: &[u8]) -> Result<Told<BlockRef>, FieldsFault> {
         let listed = fields(alloc, bytes)?;
         let pool = text_under(alloc, bytes, 1, &listed)?;
-        Ok(block_told(
-            pool,
-            listed.number(2),
-            listed.number(3),
-            listed.number(4),
-        ))
+        Ok(block_told(pool, listed.number(2), listed.number(3), listed.number(4)))
     }
 }
 

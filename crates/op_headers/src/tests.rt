@@ -157,7 +157,10 @@ fn node(alloc: Global, number: u8) -> Result<NodeRef, AllocError>
 {
     let digit = b'0' + number;
     Ok(NodeRef {
-        ip: text(alloc, &[b'1', b'2', b'7', b'.', b'0', b'.', b'0', b'.', digit])?,
+        ip: text(
+            alloc,
+            &[b'1', b'2', b'7', b'.', b'0', b'.', b'0', b'.', digit],
+        )?,
         host: text(alloc, &[b'd', b'n', digit])?,
         uuid: text(alloc, &[b'u', b'u', b'i', b'd', b'-', digit])?,
         xfer: 9865 + u32::from(number),
@@ -334,18 +337,13 @@ fn is_block(rt: &impl Abort, block: &BlockRef, bytes: u64) {
     assert_eq!(rt; block.bytes, bytes);
 }
 
-/// Compares a node with that of this number.
-fn is_node(rt: &impl Abort, alloc: Global, read: &NodeRef, number: u8) -> Result<(), Fail>
-    requires { number < 10 }
-{
-    let wanted = node(alloc, number)?;
+fn is_node(rt: &impl Abort, read: &NodeRef, wanted: &NodeRef) {
     assert!(rt; read.ip == wanted.ip);
     assert!(rt; read.host == wanted.host);
     assert!(rt; read.uuid == wanted.uuid);
     assert_eq!(rt; read.xfer, wanted.xfer);
     assert_eq!(rt; read.info, wanted.info);
     assert_eq!(rt; read.ipc, wanted.ipc);
-    Ok(())
 }
 
 /// Compares the client's name.
@@ -353,24 +351,11 @@ fn is_client(rt: &impl Abort, client: &ByteList, name: &[u8]) {
     assert!(rt; client.as_slice() == name);
 }
 
-/// Compares the nodes with those of these numbers.
-fn are_nodes(
-    rt: &impl Abort,
-    alloc: Global,
-    read: &Targets,
-    first: u8,
-    second: Option<u8>,
-) -> Result<(), Fail>
-    requires first { first < 10 }
-    requires second { IfSome second (λ n. n < 10) }
-{
-    let mut numbers = [Some(first), second].into_iter().flatten();
-    for node in read.as_slice() {
-        let number = numbers.next().ok_or("as many nodes")?;
-        is_node(rt, alloc, node, number)?;
+fn are_nodes(rt: &impl Abort, read: &Targets, wanted: &Targets) {
+    assert_eq!(rt; read.len(), wanted.len());
+    for (read, wanted) in read.as_slice().iter().zip(wanted.as_slice()) {
+        is_node(rt, read, wanted);
     }
-    assert_eq!(rt; numbers.next(), None);
-    Ok(())
 }
 
 /// The same values are read where a client fills in more fields.
@@ -380,9 +365,9 @@ fn reads_full_write_request(rt: HostRuntime) -> Result<(), Fail> {
     let op = write_of(reads(&rt, alloc, WRITE)?).ok_or("a write request")?;
     is_block(&rt, &op.block, 4096);
     is_client(&rt, &op.client, b"DFSClient_NONMAPREDUCE_-1_1");
-    are_nodes(&rt, alloc, &op.targets, 2, Some(3))?;
+    are_nodes(&rt, &op.targets, &nodes(alloc, 2, Some(3))?);
     let source = op.source.as_ref().ok_or("a source")?;
-    is_node(&rt, alloc, source, 1)?;
+    is_node(&rt, source, &node(alloc, 1)?);
     assert_eq!(rt; (op.stage, op.pipeline), (3, 3));
     assert_eq!(rt; (op.min, op.max), (4096, 8192));
     assert_eq!(rt; op.latest, Stamp(1002));
@@ -408,7 +393,8 @@ fn reads_full_transfer_request(rt: HostRuntime) -> Result<(), Fail> {
     };
     is_block(&rt, &op.block, 4096);
     is_client(&rt, &op.client, b"DFSClient_NONMAPREDUCE_-1_1");
-    are_nodes(&rt, rt.alloc(), &op.targets, 2, None)
+    are_nodes(&rt, &op.targets, &nodes(rt.alloc(), 2, None)?);
+    Ok(())
 }
 
 #[test]
@@ -448,12 +434,7 @@ fn reads_recovery_steps(rt: HostRuntime) -> Result<(), Fail> {
 }
 
 /// Compares a first write's request of all the bytes, but for the pipeline's size.
-fn is_first(
-    rt: &impl Abort,
-    alloc: Global,
-    bytes: &[u8],
-    pipeline: u32,
-) -> Result<(), Fail> {
+fn is_first(rt: &impl Abort, alloc: Global, bytes: &[u8], pipeline: u32) -> Result<(), Fail> {
     let op = write_of(reads(rt, alloc, bytes)?).ok_or("a write request")?;
     is_block(rt, &op.block, 0);
     is_client(rt, &op.client, b"DFSClient_1073741825");
@@ -512,7 +493,10 @@ fn refuses_messages_in_order(rt: HostRuntime) {
             b"\x00\x1cP\x06\x0a\x04\x0a\x02\x0a\x00".as_slice(),
             missing([1, 1, 1, 1]),
         ),
-        (b"\x00\x1c\x7f\x04\x08\x00\x2a\x00".as_slice(), missing([2, 0, 0, 0])),
+        (
+            b"\x00\x1c\x7f\x04\x08\x00\x2a\x00".as_slice(),
+            missing([2, 0, 0, 0]),
+        ),
     ] {
         refuses(&rt, rt.alloc(), bytes, fault);
     }
