@@ -6,17 +6,17 @@ use Rattle.hd_base.specs.Wire.{IsStatus}
 use Rattle.proto_fields.specs.Bytes.{IsBytes}
 use Rattle.proto_fields.specs.declared.reading.WireFault.{WireFault}
 use Rattle.ack_codec.specs.declared.acks.Ack.{Ack}
-use Rattle.ack_codec.specs.declared.faults.FrameFault.{FrameFault}
-use Rattle.ack_codec.specs.declared.faults.FrameFault.TheVariants as frame
+use Rattle.proto_fields.specs.declared.frames.FrameFault.{FrameFault}
+use Rattle.proto_fields.specs.declared.frames.FrameFault.TheVariants as frame
 use Rattle.ack_codec.specs.declared.faults.AckFault.{AckFault}
 use Rattle.ack_codec.specs.declared.faults.AckFault.TheVariants as fault
 use Rattle.ack_codec.specs.Statuses.{told_status}
-use Rattle.ack_codec.specs.Frames.{HasFrame, IsNoFrame}
-use Rattle.ack_codec.specs.Framed.{HasSome}
+use Rattle.proto_fields.specs.Frames.{HasFrame, IsNoFrame}
+use Rattle.proto_fields.specs.Framed.{HasSome}
 use Rattle.ack_codec.specs.Acks.{SaysAck, SpellsAck, SaysReadStatus, SpellsReadStatus, ack_of, ack_at, read_status_of, read_status_at, frame_cause}
 use Rattle.ack_codec.specs.AckRefusals.{IsRefusedAck, IsRefusedReadStatus}
 use Rattle.ack_codec.proofs.StatusLaws.{told_status_listed}
-use Rattle.ack_codec.proofs.FramedLaws.{framed_again, framed_prefix, TakesFramed, framed_takes, framed_fails, no_frame_refused, inside_refused}
+use Rattle.proto_fields.proofs.FramedLaws.{framed_again, framed_prefix, TakesFramed, framed_takes, framed_fails, no_frame_refused, inside_refused}
 use Rattle.ack_codec.proofs.AckLaws.{ack_says, says_ack, AckFails, ack_fails, fails_ack, read_status_says, says_read_status, ReadStatusFails, read_status_fails, fails_read_status}
 
 -- ---- acks

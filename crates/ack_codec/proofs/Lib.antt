@@ -1,8 +1,6 @@
 pub mod StatusLaws
 pub mod PackedLaws
 pub mod TallyLaws
-pub mod FrameLaws
-pub mod FramedLaws
 pub mod AckLaws
 pub mod DecodingLaws
 pub mod AckTextLaws

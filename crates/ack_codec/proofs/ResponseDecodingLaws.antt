@@ -6,19 +6,20 @@ use Rattle.hd_base.specs.Wire.{IsStatus}
 use Rattle.proto_fields.specs.Bytes.{IsBytes}
 use Rattle.proto_fields.proofs.ResultLaws.{bind_ok, ok_value}
 use Rattle.proto_fields.specs.declared.reading.WireFault.{WireFault}
-use Rattle.ack_codec.specs.declared.faults.FrameFault.{FrameFault}
-use Rattle.ack_codec.specs.declared.faults.FrameFault.TheVariants as frame
+use Rattle.proto_fields.specs.declared.frames.FrameFault.{FrameFault}
+use Rattle.proto_fields.specs.declared.frames.FrameFault.TheVariants as frame
 use Rattle.ack_codec.specs.declared.faults.ResponseFault.{ResponseFault}
 use Rattle.ack_codec.specs.declared.faults.ResponseFault.TheVariants as fault
 use Rattle.ack_codec.specs.declared.responses.Response.{Response}
 use Rattle.ack_codec.specs.declared.response_reading.FoundResponse.{FoundResponse}
 use Rattle.ack_codec.specs.Required.{required}
-use Rattle.ack_codec.specs.Frames.{HasFrame, IsNoFrame}
-use Rattle.ack_codec.specs.Framed.{HasSome}
-use Rattle.ack_codec.specs.Responses.{SaysResponse, SpellsResponse, inner, sums_told, info_told, status_told, response_of, response_at, response_frame_cause, Gives}
+use Rattle.proto_fields.specs.Frames.{HasFrame, IsNoFrame}
+use Rattle.proto_fields.specs.Framed.{HasSome}
+use Rattle.proto_fields.specs.Inner.{inner}
+use Rattle.ack_codec.specs.Responses.{SaysResponse, SpellsResponse, sums_told, info_told, status_told, response_of, response_at, response_frame_cause, Gives}
 use Rattle.ack_codec.specs.ResponseRefusals.{IsRefusedResponse, FailsFor}
 use Rattle.ack_codec.proofs.StatusLaws.{told_status_listed}
-use Rattle.ack_codec.proofs.FramedLaws.{framed_again, framed_prefix, TakesFramed, framed_takes, framed_fails, no_frame_refused, inside_refused}
+use Rattle.proto_fields.proofs.FramedLaws.{framed_again, framed_prefix, TakesFramed, framed_takes, framed_fails, no_frame_refused, inside_refused}
 use Rattle.ack_codec.proofs.ResponseLaws.{response_says, says_response, ResponseFails, response_fails, fails_response}
 
 pub response_again : (r : Response) (text rest : List ℕ) → SpellsResponse r text → response_at (text ++ rest) ≡ Ok (r, length text)

@@ -21,8 +21,10 @@ use Rattle.ack_codec.specs.declared.response_reading.FoundSums.{FoundSums}
 use Rattle.ack_codec.specs.declared.response_reading.FoundChecksum.{FoundChecksum}
 use Rattle.ack_codec.specs.declared.response_reading.FoundInfo.{FoundInfo}
 use Rattle.ack_codec.specs.declared.response_reading.FoundResponse.{FoundResponse}
-use Rattle.ack_codec.specs.Responses.{listed_kind, sums_in, checksum_in, no_checksum, newer_checksum, joined_of, joined, FindsInner, FindsSums, FindsChecksum, FindsInfo, FindsResponse, inner, status_told, response_with, SaysResponse, found_sums_at, found_checksum_at, info_with, info_from, found_info_at, found_with, found_behind_sums, found_from, found_response_at, response_told, response_of, PlacedWithin}
-use Rattle.ack_codec.specs.ResponseRefusals.{IsFaultyInner, IsFaultyInfo, IsFaultyResponse, LacksField}
+use Rattle.proto_fields.specs.Inner.{joined, inner}
+use Rattle.proto_fields.proofs.InnerLaws.{joined_bytes, inner_finds, finds_inner, inner_fails, fails_inner}
+use Rattle.ack_codec.specs.Responses.{listed_kind, sums_in, checksum_in, no_checksum, newer_checksum, FindsSums, FindsChecksum, FindsInfo, FindsResponse, status_told, response_with, SaysResponse, found_sums_at, found_checksum_at, info_with, info_from, found_info_at, found_with, found_behind_sums, found_from, found_response_at, response_told, response_of}
+use Rattle.ack_codec.specs.ResponseRefusals.{IsFaultyInfo, IsFaultyResponse, LacksField}
 
 -- ---- a walk over a ChecksumProto
 
@@ -38,88 +40,6 @@ fold_checksum fs = fold-newer_checksum no_checksum fs ∙ rw (fold_newer_last li
 
 pub walked_checksum : (bytes : List ℕ) → walked newer_checksum no_checksum bytes 0 ≡ with_value checksum_in (fields_at bytes)
 walked_checksum bytes = with_value-same _ _ fold_checksum (fields_at bytes)
-
--- ---- where a text lies
-
-value_placed : (size at : ℕ) (value : Wire) (text : List ℕ) (p : ℕ × ℕ) → SpellsValue at value text → at + length text ≤ size → part_of value ≡ Some p → PlacedWithin size (Some p)
-value_placed size at (wire.Varint n) text p s within e = cc
-value_placed size at (wire.Eight n) text p s within e = cc
-value_placed size at (wire.Four n) text p s within e = cc
-value_placed size at (wire.Part from to) text p s within e =
-    let same : (from, to) ≡ p = some_is (from, to) p e in
-    subst (λ (q : ℕ × ℕ). PlacedWithin size (Some q)) same (omega (arith, s.begins, s.ends, ap length s.parts ∙ length-append s.len s.bytes), omega (arith, s.ends))
-  where
-    some_is : (x y : ℕ × ℕ) → Some x ≡ Some y → x ≡ y
-    some_is x y e = cc
-
-last_part_placed_from : (size at number : ℕ) (fs : List (ℕ × Wire)) (text : List ℕ) → SpellsFrom at fs text → at + length text ≤ size → PlacedWithin size (last_part number fs)
-last_part_placed_from size at number [] text s within = tt
-last_part_placed_from size at number (f ∷ fs) text s within =
-    let sizes : length text ≡ length s.0 + length s.1 = ap length s.2 ∙ length-append s.0 s.1 in
-    by_later (last_part number fs) (picked part_of number f) (last_part_placed_from size (at + length s.0) number fs s.1 s.4 (omega arith)) (here (f.0 == number))
-  where
-    by_later : (later now : Option (ℕ × ℕ)) → PlacedWithin size later → PlacedWithin size now → PlacedWithin size (option_or later now)
-    by_later (Some p) now placed here = placed
-    by_later None now placed here = here
-
-    here : (b : Bool) → PlacedWithin size (cond b (part_of f.1) None)
-    here false = tt
-    here true = by_part (part_of f.1) refl where
-      by_part : (o : Option (ℕ × ℕ)) → part_of f.1 ≡ o → PlacedWithin size o
-      by_part None e = tt
-      by_part (Some p) e =
-          let sizes : length text ≡ length s.0 + length s.1 = ap length s.2 ∙ length-append s.0 s.1 in
-          let inside : length s.0 ≡ length s.3.tag + length s.3.value = ap length s.3.parts ∙ length-append s.3.tag s.3.value in
-          value_placed size (at + length s.3.tag) f.1 s.3.value p s.3.value_spelled (omega arith) e
-
-pub last_part_placed : (bytes : List ℕ) (fs : List (ℕ × Wire)) (number : ℕ) → IsBytes bytes → fields_at bytes ≡ Ok fs → PlacedWithin (length bytes) (last_part number fs)
-last_part_placed bytes fs number fits e = last_part_placed_from (length bytes) 0 number fs bytes (fields_at_spell bytes fs fits e) (omega arith)
-
--- ---- the bytes of joined parts
-
-IsBytes-append : (xs ys : List ℕ) → IsBytes xs → IsBytes ys → IsBytes (xs ++ ys)
-IsBytes-append [] ys one two = two
-IsBytes-append (x ∷ xs) ys one two = IsBytes-cons x (xs ++ ys) (one 0) (IsBytes-append xs ys (IsBytes-behind x xs one) two)
-
-IsBytes-joined : (bytes : List ℕ) (ps : List (ℕ × ℕ)) → IsBytes bytes → IsBytes (flat_map (part_bytes bytes) ps)
-IsBytes-joined bytes [] fits = λ i. omega arith
-IsBytes-joined bytes (p ∷ ps) fits = IsBytes-append (part_bytes bytes p) (flat_map (part_bytes bytes) ps) (IsBytes-take (p.1 - p.0) (drop p.0 bytes) (IsBytes-drop p.0 bytes fits)) (IsBytes-joined bytes ps fits)
-
--- what is joined is bytes
-AreBytes : Option (List ℕ) → Type 0
-AreBytes o = (bytes : List ℕ) → o ≡ Some bytes → IsBytes bytes
-
-joined_bytes : (number : ℕ) (bytes : List ℕ) (fs : List (ℕ × Wire)) → IsBytes bytes → AreBytes (joined number bytes fs)
-unfolding AreBytes
-joined_bytes number bytes fs fits inside e = by_parts (parts number fs) (joined_parts bytes number fs) (IsBytes-joined bytes (parts number fs) fits) e where
-  some_is : (x y : List ℕ) → Some x ≡ Some y → x ≡ y
-  some_is x y e = cc
-
-  by_parts : (ps : List (ℕ × ℕ)) (all : List ℕ) → IsBytes all → joined_of ps all ≡ Some inside → IsBytes inside
-  by_parts [] all fits e = cc
-  by_parts (p ∷ ps) all fits e = subst IsBytes (some_is all inside e) fits
-
--- ---- a message within
-
-inner_finds : {X : Type 0} (read : List ℕ → Result X WireFault) (P : List ℕ → X → Type 0) → ((bytes : List ℕ) (x : X) → IsBytes bytes → read bytes ≡ Ok x → P bytes x) → (o : Option (List ℕ)) (found : Option X) → AreBytes o → inner read o ≡ Ok found → FindsInner P o found
-unfolding AreBytes
-inner_finds read P says None found fits e = sym (ok_value None found e)
-inner_finds read P says (Some bytes) found fits e =
-    let one = with_value_ok Some (read bytes) found e in
-    (one.0, sym one.1.1, says bytes one.0 (fits bytes refl) one.1.0)
-
-finds_inner : {X : Type 0} (read : List ℕ → Result X WireFault) (P : List ℕ → X → Type 0) → ((bytes : List ℕ) (x : X) → P bytes x → read bytes ≡ Ok x) → (o : Option (List ℕ)) (found : Option X) → FindsInner P o found → inner read o ≡ Ok found
-finds_inner read P reads None found s = ap Ok (sym s)
-finds_inner read P reads (Some bytes) found s = ap (with_value Some) (reads bytes s.0 s.2) ∙ ap Ok (sym s.1)
-
-inner_fails : {X : Type 0} (read : List ℕ → Result X WireFault) (Q : List ℕ → WireFault → Type 0) (e : WireFault) → ((bytes : List ℕ) → IsBytes bytes → read bytes ≡ Err e → Q bytes e) → (o : Option (List ℕ)) → AreBytes o → inner read o ≡ Err e → IsFaultyInner Q o e
-unfolding AreBytes
-inner_fails read Q e fails None fits h = cc
-inner_fails read Q e fails (Some bytes) fits h = fails bytes (fits bytes refl) (with_value_err Some (read bytes) e h)
-
-fails_inner : {X : Type 0} (read : List ℕ → Result X WireFault) (Q : List ℕ → WireFault → Type 0) (e : WireFault) → ((bytes : List ℕ) → Q bytes e → read bytes ≡ Err e) → (o : Option (List ℕ)) → IsFaultyInner Q o e → inner read o ≡ Err e
-fails_inner read Q e refuses None f = absurd f
-fails_inner read Q e refuses (Some bytes) f = ap (with_value Some) (refuses bytes f)
 
 -- ---- checksumResponse, and a kind of sums
 

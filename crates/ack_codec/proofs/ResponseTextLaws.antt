@@ -13,13 +13,15 @@ use Rattle.proto_fields.specs.Fields.{SpellsFrom}
 use Rattle.proto_fields.specs.Values.{last_varint, last_part, parts, part_bytes}
 use Rattle.proto_fields.specs.Writing.{tag_text, varint_field, bytes_field}
 use Rattle.proto_fields.proofs.VarintLaws.{least_varint_spells}
-use Rattle.proto_fields.proofs.WrittenLaws.{varint_field_spells, bytes_field_spells, SpellsFrom-cons}
+use Rattle.proto_fields.proofs.WrittenLaws.{varint_field_spells, bytes_field_spells, SpellsFrom-cons, varint_field_within, bytes_field_within}
 use Rattle.ack_codec.specs.declared.responses.Response.{Response}
 use Rattle.ack_codec.specs.declared.response_reading.FoundInfo.{FoundInfo}
 use Rattle.ack_codec.specs.declared.response_reading.FoundResponse.{FoundResponse}
 use Rattle.ack_codec.specs.Statuses.{told_status}
-use Rattle.ack_codec.specs.Frames.{limit}
-use Rattle.ack_codec.specs.Responses.{FindsChecksum, FindsInfo, checksum_told, info_told, status_told, text_of, SaysResponse, SpellsResponse, response_at}
+use Rattle.proto_fields.specs.Frames.{limit}
+use Rattle.proto_fields.specs.Inner.{text_of}
+use Rattle.proto_fields.proofs.InnerLaws.{part_at, part_field, bytes_field_more, placed_part}
+use Rattle.ack_codec.specs.Responses.{FindsChecksum, FindsInfo, checksum_told, info_told, status_told, SaysResponse, SpellsResponse, response_at}
 use Rattle.ack_codec.specs.ResponseTexts.{checksum_text, info_text, body_text, reason_text, response_message, response_text}
 use Rattle.ack_codec.proofs.ResponseDecodingLaws.{response_again}
 use Rattle.ack_codec.proofs.StatusLaws.{told_status_number}
@@ -39,34 +41,6 @@ reason_there (b ∷ bs) some = refl
 pub checksum_bytes : 8 ∷ 2 ∷ 16 ∷ 128 ∷ 4 ∷ [] ≡ checksum_text
 unfolding checksum_text varint_field tag_text least_within
 checksum_bytes = refl
-
--- ---- where a written text lies
-
-part_at : ℕ → ℕ → List ℕ → ℕ × ℕ
-part_at at number bytes = (at + length (bytes_field number bytes) - length bytes, at + length (bytes_field number bytes))
-
-bytes_field_more : (number : ℕ) (bytes : List ℕ) → length bytes ≤ length (bytes_field number bytes)
-unfolding bytes_field
-bytes_field_more number bytes = omega (arith, length-append (tag_text number form.Part) (least_varint (length bytes) ++ bytes), length-append (least_varint (length bytes)) bytes)
-
-placed_part : (at number : ℕ) (whole front bytes back : List ℕ) → at ≡ length front → whole ≡ front ++ (bytes_field number bytes ++ back) → part_bytes whole (part_at at number bytes) ≡ bytes
-unfolding part_at bytes_field
-placed_part at number whole front bytes back place parts =
-    let tag : List ℕ = tag_text number form.Part in
-    let len : List ℕ = least_varint (length bytes) in
-    let pre : List ℕ = front ++ (tag ++ len) in
-    let size : length (tag ++ (len ++ bytes)) ≡ length tag + (length len + length bytes) = length-append tag (len ++ bytes) ∙ ap (λ n. length tag + n) (length-append len bytes) in
-    let pre_size : length pre ≡ length front + (length tag + length len) = length-append front (tag ++ len) ∙ ap (λ n. length front + n) (length-append tag len) in
-    let from : length pre ≡ at + length (tag ++ (len ++ bytes)) - length bytes = omega arith in
-    let many : at + length (tag ++ (len ++ bytes)) - (at + length (tag ++ (len ++ bytes)) - length bytes) ≡ length bytes = omega arith in
-    let regrouped : whole ≡ pre ++ (bytes ++ back) =
-    parts ∙ (ap (λ l. front ++ l) (append_assoc tag (len ++ bytes) back ∙ (ap (λ l. tag ++ l) (append_assoc len bytes back) ∙ sym (append_assoc tag len (bytes ++ back))))
-    ∙ sym (append_assoc front (tag ++ len) (bytes ++ back))) in
-    let behind : drop (at + length (tag ++ (len ++ bytes)) - length bytes) whole ≡ bytes ++ back = ap (drop (at + length (tag ++ (len ++ bytes)) - length bytes)) regrouped ∙ drop_at pre (bytes ++ back) _ from in
-    ap (take _) behind ∙ take_at bytes back _ (sym many)
-
-part_field : ℕ → ℕ → List ℕ → ℕ × Wire
-part_field at number bytes = (number, wire.Part (at + length (bytes_field number bytes) - length bytes) (at + length (bytes_field number bytes)))
 
 -- ---- the messages within
 
@@ -251,23 +225,6 @@ response_written (Ok x) r old new rest ok low fits listed link few =
 response_written (Err e) r old new rest ok low fits listed link few = tt
 
 -- ---- lengths
-
-least_within_few : (left n : ℕ) → length (least_within left n) ≤ left
-unfolding least_within
-least_within_few zero n = omega arith
-least_within_few (suc left) n = by_test (nat_lt n 128) (least_within_few left (n / 128)) where
-  by_test : (b : Bool) → length (least_within left (n / 128)) ≤ left → length (cond b (n ∷ []) ((n % 128 + 128) ∷ least_within left (n / 128))) ≤ suc left
-  by_test true few = omega arith
-  by_test false few = omega arith
-
-varint_field_within : (number n : ℕ) → length (varint_field number n) ≤ 20
-unfolding varint_field tag_text
-varint_field_within number n = omega (arith, length-append (least_varint (number * 8 + 0)) (least_varint n), least_within_few 10 (number * 8 + 0), least_within_few 10 n)
-
-bytes_field_within : (number : ℕ) (bytes : List ℕ) → length (bytes_field number bytes) ≤ 20 + length bytes
-unfolding bytes_field tag_text
-bytes_field_within number bytes =
-    omega (arith, length-append (least_varint (number * 8 + 2)) (least_varint (length bytes) ++ bytes), length-append (least_varint (length bytes)) bytes, least_within_few 10 (number * 8 + 2), least_within_few 10 (length bytes))
 
 body_within : (o : Option ℕ) (fb : List ℕ) → length (body_text o fb) ≤ 65 + length fb
 unfolding body_text info_text

@@ -1,21 +1,14 @@
 -- Why bytes are no ack and no read status, apart from reading.
 use Rattle.std.specs.Prelude.{◌≡◌, ℕ, ◌<◌, ◌⊎◌, List, length, Some, None}
-use Rattle.proto_fields.specs.Varint.{IsLongVarint}
 use Rattle.proto_fields.specs.Fields.{Spells, FirstFault}
 use Rattle.proto_fields.specs.Values.{last_varint}
 use Rattle.proto_fields.specs.declared.reading.Wire.{Wire}
 use Rattle.proto_fields.specs.declared.reading.WireFault.{WireFault}
-use Rattle.proto_fields.specs.declared.reading.WireFault.TheVariants.{LongVarint}
 use Rattle.ack_codec.specs.declared.faults.AckFault.{AckFault}
 use Rattle.ack_codec.specs.declared.faults.AckFault.TheVariants as fault
-use Rattle.ack_codec.specs.Frames.{IsCutFrame, IsTooLong}
-use Rattle.ack_codec.specs.Framed.{HasSome}
+use Rattle.proto_fields.specs.Frames.{IsCutFrame, IsTooLong, IsLongPrefix}
+use Rattle.proto_fields.specs.Framed.{HasSome}
 use Rattle.ack_codec.specs.Packed.{Repeats, FirstPackedFault}
-
--- The length in front of the message has over ten bytes, and this is the fault at its place in the frame.
-pub record IsLongPrefix (e : WireFault) (bytes : List ℕ) : Type 0 where
-  pub fault_is : e ≡ LongVarint 0
-  pub long : IsLongVarint bytes
 
 -- The fields are whole, and the first fault stands in a packed list of replies.
 pub record FaultyReplies (e : WireFault) (message : List ℕ) : Type 0 where
@@ -63,7 +56,7 @@ pub record HasManyReplies (count : ℕ) (message : List ℕ) : Type 0 where
 abbrev pub IsRefusedAck : AckFault → List ℕ → Type 0
 IsRefusedAck fault.Short bytes = IsCutFrame bytes
 IsRefusedAck (fault.TooLong n) bytes = IsTooLong n bytes
-IsRefusedAck (fault.Wire e) bytes = IsLongPrefix e bytes ⊎ HasSome (IsFaultyAck e) bytes
+IsRefusedAck (fault.Wire e) bytes = IsLongPrefix 0 e bytes ⊎ HasSome (IsFaultyAck e) bytes
 IsRefusedAck (fault.Missing field) bytes = HasSome (LacksSeqno field) bytes
 IsRefusedAck (fault.Replies count) bytes = HasSome (HasManyReplies count) bytes
 
@@ -78,6 +71,6 @@ pub record LacksReadStatus (field : ℕ) (message : List ℕ) : Type 0 where
 abbrev pub IsRefusedReadStatus : AckFault → List ℕ → Type 0
 IsRefusedReadStatus fault.Short bytes = IsCutFrame bytes
 IsRefusedReadStatus (fault.TooLong n) bytes = IsTooLong n bytes
-IsRefusedReadStatus (fault.Wire e) bytes = IsLongPrefix e bytes ⊎ HasSome (λ message. FirstFault message e) bytes
+IsRefusedReadStatus (fault.Wire e) bytes = IsLongPrefix 0 e bytes ⊎ HasSome (λ message. FirstFault message e) bytes
 IsRefusedReadStatus (fault.Missing field) bytes = HasSome (LacksReadStatus field) bytes
 IsRefusedReadStatus (fault.Replies count) bytes = ⊥

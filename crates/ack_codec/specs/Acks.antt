@@ -7,13 +7,13 @@ use Rattle.proto_fields.specs.Values.{newer, varint_of, last_varint}
 use Rattle.proto_fields.specs.declared.reading.Wire.{Wire}
 use Rattle.ack_codec.specs.declared.acks.Ack.{Ack}
 use Rattle.ack_codec.specs.declared.reading.FoundAck.{FoundAck}
-use Rattle.ack_codec.specs.declared.faults.FrameFault.{FrameFault}
-use Rattle.ack_codec.specs.declared.faults.FrameFault.TheVariants as frame
+use Rattle.proto_fields.specs.declared.frames.FrameFault.{FrameFault}
+use Rattle.proto_fields.specs.declared.frames.FrameFault.TheVariants as frame
 use Rattle.ack_codec.specs.declared.faults.AckFault.{AckFault}
 use Rattle.ack_codec.specs.declared.faults.AckFault.TheVariants as fault
 use Rattle.proto_fields.specs.declared.reading.WireFault.TheVariants as wire_fault
 use Rattle.ack_codec.specs.Statuses.{told_status}
-use Rattle.ack_codec.specs.Framed.{FramesSome, framed_at}
+use Rattle.proto_fields.specs.Framed.{FramesSome, framed_at}
 use Rattle.ack_codec.specs.Required.{required}
 use Rattle.ack_codec.specs.Packed.{Repeats}
 use Rattle.ack_codec.specs.Tallies.{empty_tally, newer_tally}

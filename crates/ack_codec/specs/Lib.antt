@@ -1,6 +1,4 @@
 pub mod Statuses
-pub mod Frames
-pub mod Framed
 pub mod Required
 pub mod Packed
 pub mod Tallies

@@ -7,15 +7,10 @@ use Rattle.ack_codec.specs.declared.faults.ResponseFault.{ResponseFault}
 use Rattle.ack_codec.specs.declared.faults.ResponseFault.TheVariants as fault
 use Rattle.ack_codec.specs.declared.response_reading.FoundSums.{FoundSums}
 use Rattle.ack_codec.specs.declared.response_reading.FoundResponse.{FoundResponse}
-use Rattle.ack_codec.specs.Frames.{IsCutFrame, IsTooLong}
-use Rattle.ack_codec.specs.Framed.{HasSome}
-use Rattle.ack_codec.specs.AckRefusals.{IsLongPrefix}
-use Rattle.ack_codec.specs.Responses.{joined, FindsInner, FindsSums, FindsResponse, status_told}
-
--- A message within is there and has this fault.
-abbrev pub IsFaultyInner : (List ℕ → WireFault → Type 0) → Option (List ℕ) → WireFault → Type 0
-IsFaultyInner P None e = ⊥
-IsFaultyInner P (Some bytes) e = P bytes e
+use Rattle.proto_fields.specs.Frames.{IsCutFrame, IsTooLong, IsLongPrefix}
+use Rattle.proto_fields.specs.Framed.{HasSome}
+use Rattle.proto_fields.specs.Inner.{joined, FindsInner, IsFaultyInner}
+use Rattle.ack_codec.specs.Responses.{FindsSums, FindsResponse, status_told}
 
 -- The fields of readOpChecksumInfo are whole, and the first fault stands in its checksum.
 pub record HasFaultyChecksum (bytes : List ℕ) (e : WireFault) : Type 0 where
@@ -54,7 +49,7 @@ pub record LacksField (field : ℕ) (message : List ℕ) : Type 0 where
 abbrev pub IsRefusedResponse : ResponseFault → List ℕ → Type 0
 IsRefusedResponse fault.Short bytes = IsCutFrame bytes
 IsRefusedResponse (fault.TooLong n) bytes = IsTooLong n bytes
-IsRefusedResponse (fault.Wire e) bytes = IsLongPrefix e bytes ⊎ HasSome (IsFaultyResponse e) bytes
+IsRefusedResponse (fault.Wire e) bytes = IsLongPrefix 0 e bytes ⊎ HasSome (IsFaultyResponse e) bytes
 IsRefusedResponse (fault.Missing field) bytes = HasSome (LacksField field) bytes
 IsRefusedResponse fault.Memory bytes = ⊥
 

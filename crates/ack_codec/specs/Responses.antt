@@ -10,8 +10,8 @@ use Rattle.proto_fields.specs.declared.reading.WireFault.{WireFault}
 use Rattle.proto_fields.specs.declared.reading.WireFault.TheVariants as wire_fault
 use Rattle.proto_fields.specs.declared.listing.FieldsFault.{FieldsFault}
 use Rattle.proto_fields.specs.declared.listing.FieldsFault.TheVariants as fields
-use Rattle.ack_codec.specs.declared.faults.FrameFault.{FrameFault}
-use Rattle.ack_codec.specs.declared.faults.FrameFault.TheVariants as frame
+use Rattle.proto_fields.specs.declared.frames.FrameFault.{FrameFault}
+use Rattle.proto_fields.specs.declared.frames.FrameFault.TheVariants as frame
 use Rattle.ack_codec.specs.declared.faults.ResponseFault.{ResponseFault}
 use Rattle.ack_codec.specs.declared.faults.ResponseFault.TheVariants as fault
 use Rattle.ack_codec.specs.declared.responses.Response.{Response}
@@ -19,9 +19,10 @@ use Rattle.ack_codec.specs.declared.response_reading.FoundSums.{FoundSums}
 use Rattle.ack_codec.specs.declared.response_reading.FoundChecksum.{FoundChecksum}
 use Rattle.ack_codec.specs.declared.response_reading.FoundInfo.{FoundInfo}
 use Rattle.ack_codec.specs.declared.response_reading.FoundResponse.{FoundResponse}
+use Rattle.proto_fields.specs.Inner.{joined, FindsInner, inner, text_of}
 use Rattle.ack_codec.specs.Required.{required}
 use Rattle.ack_codec.specs.Statuses.{told_status}
-use Rattle.ack_codec.specs.Framed.{FramesSome, framed_at}
+use Rattle.proto_fields.specs.Framed.{FramesSome, framed_at}
 
 -- ---- what the fields of each message have
 
@@ -37,19 +38,6 @@ sums_in fs = record { per_crc = last_varint 1 fs; crcs = last_varint 2 fs; sum =
 -- ChecksumProto: type, bytesPerChecksum
 abbrev pub checksum_in : List (ℕ × Wire) → FoundChecksum
 checksum_in fs = record { kind = last_of listed_kind 1 fs; chunk = last_varint 2 fs }
-
--- The bytes of a singular message: those of all its parts, joined. Nothing where there is no part.
-abbrev pub joined_of : List (ℕ × ℕ) → List ℕ → Option (List ℕ)
-joined_of [] bytes = None
-joined_of (p ∷ ps) bytes = Some bytes
-
-abbrev pub joined : ℕ → List ℕ → List (ℕ × Wire) → Option (List ℕ)
-joined number bytes fs = joined_of (parts number fs) (joined_parts bytes number fs)
-
--- What is found of a message within, where it is there.
-abbrev pub FindsInner : {X : Type 0} → (List ℕ → X → Type 0) → Option (List ℕ) → Option X → Type 0
-FindsInner {X} P None found = found ≡ None
-FindsInner {X} P (Some bytes) found = (x : X) × (found ≡ Some x) × P bytes x
 
 pub record FindsSums (bytes : List ℕ) (found : FoundSums) : Type 0 where
   pub fields : List (ℕ × Wire)
@@ -79,16 +67,6 @@ pub record FindsResponse (message : List ℕ) (found : FoundResponse) : Type 0 w
   pub message_is : found.message ≡ last_part 5 fields
 
 -- ---- what was found, told
-
--- a text that isn't there is empty
-abbrev pub text_of : List ℕ → Option (ℕ × ℕ) → List ℕ
-text_of message None = []
-text_of message (Some p) = part_bytes message p
-
--- a step on what is there
-abbrev pub inner : {X Y E : Type 0} → (X → Result Y E) → Option X → Result (Option Y) E
-inner read None = Ok None
-inner read (Some x) = with_value Some (read x)
 
 -- What must be there, in ascending order, a message within before what stands behind it. The fault is the number of the first field that is missing.
 unfoldable pub sums_told : FoundSums → Result (Unit {0}) ℕ
@@ -200,11 +178,6 @@ response_at bytes = framed_at response_frame_cause response_of bytes
 abbrev pub Gives : {X : Type 0} → Result X ResponseFault → Result X ResponseFault → Type 0
 Gives (Err fault.Memory) read = Unit {0}
 Gives result read = result ≡ read
-
--- The places of a text lie within so many bytes.
-abbrev pub PlacedWithin : ℕ → Option (ℕ × ℕ) → Type 0
-PlacedWithin size None = Unit {0}
-PlacedWithin size (Some p) = (p.0 ≤ p.1) × (p.1 ≤ size)
 
 -- no field of a ChecksumProto so far, and what is found once this field is behind
 abbrev pub no_checksum : FoundChecksum

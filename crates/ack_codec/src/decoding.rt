@@ -14,11 +14,11 @@ ghost use Rattle.ack_codec.specs.ResponseRefusals.{IsRefusedResponse, FailsFor};
 
 use crate::acks::Ack;
 use crate::faults::{AckFault, ResponseFault};
-use crate::frames::frame_of;
 use crate::reading::{ack_of, read_status_of};
 use crate::response_reading::response_of;
 use crate::responses::Response;
 use hd_base::Status;
+use proto_fields::read_frame;
 use std::alloc::Global;
 
 /// Reads the ack at the front of the bytes, and how many bytes it has. A message has at most
@@ -45,11 +45,11 @@ pub fn decode_ack(bytes: &[u8]) -> Result<(Ack, usize), AckFault>
 }
 
 /// Reads the frame at the front and the ack in it.
-#[tactic(auto, unfolding(crate::specs::Framed::framed_at))]
+#[tactic(auto, unfolding(proto_fields::specs::Framed::framed_at))]
 fn framed_ack(bytes: &[u8]) -> Result<(Ack, usize), AckFault>
     ensures { result ≡ ack_at bytes.now }
 {
-    let (message, size) = frame_of(bytes)?;
+    let (message, size) = read_frame(bytes)?;
     let ack = ack_of(message)?;
     Ok((ack, size))
 }
@@ -79,11 +79,11 @@ pub fn decode_read_status(bytes: &[u8]) -> Result<(Status, usize), AckFault>
 }
 
 /// Reads the frame at the front and the status in it.
-#[tactic(auto, unfolding(crate::specs::Framed::framed_at))]
+#[tactic(auto, unfolding(proto_fields::specs::Framed::framed_at))]
 fn framed_read_status(bytes: &[u8]) -> Result<(Status, usize), AckFault>
     ensures { result ≡ read_status_at bytes.now }
 {
-    let (message, size) = frame_of(bytes)?;
+    let (message, size) = read_frame(bytes)?;
     let status = read_status_of(message)?;
     Ok((status, size))
 }
@@ -113,11 +113,11 @@ pub fn decode_response(alloc: Global, bytes: &[u8]) -> Result<(Response, usize),
 }
 
 /// Reads the frame at the front and the response in it.
-#[tactic(auto, unfolding(crate::specs::Framed::framed_at))]
+#[tactic(auto, unfolding(proto_fields::specs::Framed::framed_at))]
 fn framed_response(alloc: Global, bytes: &[u8]) -> Result<(Response, usize), ResponseFault>
     ensures { Gives result (response_at bytes.now) }
 {
-    let (message, size) = frame_of(bytes)?;
+    let (message, size) = read_frame(bytes)?;
     let response = response_of(alloc, message)?;
     Ok((response, size))
 }

@@ -1,6 +1,6 @@
 //! Why bytes are no ack, read status or response.
 
-use proto_fields::{FieldsFault, VarintFault, WireFault};
+use proto_fields::{FieldsFault, FrameFault, WireFault};
 use std::alloc::AllocError;
 use thiserror::Error;
 
@@ -25,28 +25,6 @@ pub enum AckFault {
     /// There are over 16 replies.
     #[error("{count} replies")]
     Replies { count: u64 },
-}
-
-/// Why there is no frame at the front of bytes.
-#[derive(Clone, Copy)]
-pub(crate) enum FrameFault {
-    Short,
-    TooLong { length: u64 },
-    LongPrefix,
-}
-
-impl From<VarintFault> for FrameFault {
-    ghost use Rattle.std.specs.Prelude.{◌≡◌};
-    ghost use Rattle.ack_codec.specs.Frames.{prefix_fault};
-
-    ghost from_gives = { λ fault e. e ≡ prefix_fault fault };
-
-    fn from(fault: VarintFault) -> FrameFault {
-        match fault {
-            VarintFault::Short => FrameFault::Short,
-            VarintFault::Long => FrameFault::LongPrefix,
-        }
-    }
 }
 
 impl From<FrameFault> for AckFault {

@@ -6,7 +6,6 @@ mod acks;
 mod decoding;
 mod encoding;
 mod faults;
-mod frames;
 mod reading;
 mod replies;
 mod response_reading;

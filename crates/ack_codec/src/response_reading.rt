@@ -3,7 +3,8 @@
 ghost use Rattle.std.specs.Prelude.{◌≡◌, length, Ok, IfOk, IfErr, option_map};
 ghost use Rattle.proto_fields.specs.ResultSteps.{with_cause, with_value};
 ghost use Rattle.proto_fields.specs.Fields.{fields_at};
-ghost use Rattle.ack_codec.specs.Responses.{listed_kind, checksum_in, no_checksum, newer_checksum, joined, inner, found_sums_at, found_checksum_at, found_info_at, found_response_at, sums_told, checksum_told, info_told, status_told, text_of, response_of as response_said, Gives, PlacedWithin};
+ghost use Rattle.proto_fields.specs.Inner.{joined, inner, text_of, PlacedWithin};
+ghost use Rattle.ack_codec.specs.Responses.{listed_kind, checksum_in, no_checksum, newer_checksum, found_sums_at, found_checksum_at, found_info_at, found_response_at, sums_told, checksum_told, info_told, status_told, response_of as response_said, Gives};
 
 use crate::faults::ResponseFault;
 use crate::responses::Response;

@@ -3,7 +3,7 @@
 ghost use Rattle.std.specs.Prelude.{◌≡◌, ℕ, ◌^◌, ◌<◌, ◌≤◌, List, [], ◌++◌, length, take, drop, Ok, OnOk, OnErr, IsSome, IfSome};
 ghost use Rattle.hd_base.specs.Wire.{IsStatus, status_number};
 ghost use Rattle.proto_fields.specs.Writing.{bytes_field};
-ghost use Rattle.ack_codec.specs.Frames.{limit};
+ghost use Rattle.proto_fields.specs.Frames.{limit};
 ghost use Rattle.ack_codec.specs.Responses.{SpellsResponse, response_at};
 ghost use Rattle.ack_codec.specs.ResponseTexts.{info_text, body_text, reason_text, response_message, response_text};
 

@@ -7,3 +7,6 @@ pub mod FieldLaws
 pub mod PlaceLaws
 pub mod ValueLaws
 pub mod WrittenLaws
+pub mod InnerLaws
+pub mod FrameLaws
+pub mod FramedLaws

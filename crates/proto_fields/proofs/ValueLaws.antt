@@ -19,7 +19,7 @@ option_or_assoc : {X : Type 0} (a b c : Option X) → option_or a (option_or b c
 option_or_assoc None b c = refl
 option_or_assoc (Some x) b c = refl
 
-option_or-None : {X : Type 0} (a : Option X) → option_or a None ≡ a
+pub option_or-None : {X : Type 0} (a : Option X) → option_or a None ≡ a
 option_or-None None = refl
 option_or-None (Some x) = refl
 

@@ -1,5 +1,5 @@
 -- What is written is spelled so, and is read again, whatever follows.
-use Rattle.std.proofs.Common.{◌≡◌, ℕ, ◌+◌, ◌-◌, ◌*◌, ◌^◌, ◌<◌, ◌≤◌, List, [], ◌∷◌, ◌++◌, length, drop, Some, Result, Ok, refl, ap, sym, subst, ◌∙◌, append_assoc, length-append, arith, OnOk}
+use Rattle.std.proofs.Common.{◌≡◌, ℕ, zero, suc, ◌+◌, ◌-◌, ◌*◌, ◌/◌, ◌%◌, ◌^◌, ◌<◌, ◌≤◌, Bool, true, false, cond, nat_lt, List, [], ◌∷◌, ◌++◌, length, drop, Some, Result, Ok, refl, ap, sym, subst, ◌∙◌, append_assoc, length-append, arith, OnOk}
 use Rattle.std.specs.Int.{w32, w64, to_le_bytes}
 use Rattle.std.proofs.lemmas.List.{drop_at}
 use Rattle.std.proofs.lemmas.Result.{on_ok_weaker}
@@ -7,7 +7,7 @@ use Rattle.proto_fields.specs.declared.reading.Wire.{Wire}
 use Rattle.proto_fields.specs.declared.reading.Wire.TheVariants as wire
 use Rattle.proto_fields.specs.declared.reading.WireType.{WireType}
 use Rattle.proto_fields.specs.declared.reading.WireType.TheVariants as form
-use Rattle.proto_fields.specs.Varint.{varint_at, least_varint}
+use Rattle.proto_fields.specs.Varint.{varint_at, least_varint, least_within}
 use Rattle.proto_fields.specs.Fields.{code_of, type_of, SpellsTag, SpellsValue, SpellsField, SpellsFrom, next_at}
 use Rattle.proto_fields.specs.Writing.{tag_text, varint_field, eight_field, bytes_field, four_field}
 use Rattle.proto_fields.proofs.VarintLaws.{least_varint_spells, read_varint_again}
@@ -116,3 +116,22 @@ SpellsFrom-append at (f ∷ fs) gs a b s t =
       s.3,
       SpellsFrom-append (at + length s.0) fs gs s.1 b s.4 (subst (λ (p : ℕ). SpellsFrom p gs b) place t),
     )
+
+-- ---- how many bytes a written field has at most
+
+least_within_few : (left n : ℕ) → length (least_within left n) ≤ left
+unfolding least_within
+least_within_few zero n = omega arith
+least_within_few (suc left) n = by_test (nat_lt n 128) (least_within_few left (n / 128)) where
+  by_test : (b : Bool) → length (least_within left (n / 128)) ≤ left → length (cond b (n ∷ []) ((n % 128 + 128) ∷ least_within left (n / 128))) ≤ suc left
+  by_test true few = omega arith
+  by_test false few = omega arith
+
+pub varint_field_within : (number n : ℕ) → length (varint_field number n) ≤ 20
+unfolding varint_field tag_text
+varint_field_within number n = omega (arith, length-append (least_varint (number * 8 + 0)) (least_varint n), least_within_few 10 (number * 8 + 0), least_within_few 10 n)
+
+pub bytes_field_within : (number : ℕ) (bytes : List ℕ) → length (bytes_field number bytes) ≤ 20 + length bytes
+unfolding bytes_field tag_text
+bytes_field_within number bytes =
+    omega (arith, length-append (least_varint (number * 8 + 2)) (least_varint (length bytes) ++ bytes), length-append (least_varint (length bytes)) bytes, least_within_few 10 (number * 8 + 2), least_within_few 10 (length bytes))

@@ -6,3 +6,6 @@ pub mod Fields
 pub mod Values
 pub mod Listing
 pub mod Writing
+pub mod Inner
+pub mod Frames
+pub mod Framed

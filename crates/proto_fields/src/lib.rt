@@ -2,6 +2,7 @@
 
 #![tactic(auto)]
 
+mod frames;
 mod listing;
 mod messages;
 mod reading;
@@ -10,6 +11,7 @@ mod tests;
 mod varints;
 mod writing;
 
+pub use frames::{FrameFault, read_frame};
 pub use listing::{Fields, FieldsFault, LastValues, last_values};
 pub use messages::{fields, merged};
 pub use reading::{Wire, WireFault, WireType, next_field};

@@ -7,7 +7,7 @@ ghost use Rattle.proto_fields.specs.Listing.{Gives};
 ghost use Rattle.proto_fields.specs.Values.{last_varint, last_part, last_values_of};
 
 use crate::reading::{Wire, WireFault, next_field};
-use std::alloc::{AllocFailed, Global};
+use std::alloc::{AllocError, AllocFailed, Global};
 use std::marker::Model;
 use thiserror::Error;
 
@@ -44,6 +44,17 @@ impl<T: Drop> From<AllocFailed<T>> for FieldsFault {
     }
 }
 
+impl From<AllocError> for FieldsFault {
+    ghost use Rattle.std.specs.Prelude.{◌≡◌};
+    ghost use Rattle.proto_fields.specs.declared.listing.FieldsFault.TheVariants.{Memory};
+
+    ghost from_gives = { λ _ e. e ≡ Memory };
+
+    fn from(_error: AllocError) -> FieldsFault {
+        FieldsFault::Memory
+    }
+}
+
 /// The fields of a message in order, each a number and a value.
 #[derive(Debug, Drop)]
 pub struct Fields {
@@ -74,7 +85,7 @@ pub(crate) fn listed(alloc: Global, bytes: &[u8]) -> Result<Fields, FieldsFault>
 
 impl Fields {
     /// The fields in order.
-    pub(crate) fn entries(&self) -> &[(u32, Wire)]
+    pub fn entries(&self) -> &[(u32, Wire)]
         ensures { result.now ≡ self.now }
     {
         &self.entries

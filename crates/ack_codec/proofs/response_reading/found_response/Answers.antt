@@ -1,8 +1,8 @@
 -- The last part of a number lies within the message.
 use Rattle.std.proofs.Common.{subst, sym, arith}
 use Rattle.std.specs.Prelude.{length}
-use Rattle.ack_codec.specs.Responses.{PlacedWithin}
-use Rattle.ack_codec.proofs.ResponseLaws.{last_part_placed}
+use Rattle.proto_fields.specs.Inner.{PlacedWithin}
+use Rattle.proto_fields.proofs.InnerLaws.{last_part_placed}
 use Rattle.ack_codec.proofs.response_reading.found_response.Goals as goal
 
 pub returns-clause-first_bad : goal.returns-clause-first_bad

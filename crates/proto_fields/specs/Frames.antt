@@ -5,8 +5,10 @@ use Rattle.proto_fields.specs.ResultSteps.{◌>>=◌, with_cause}
 use Rattle.proto_fields.specs.Varint.{SpellsVarint, BeginsWithVarint, IsLongVarint, varint_at}
 use Rattle.proto_fields.specs.declared.varints.VarintFault.{VarintFault}
 use Rattle.proto_fields.specs.declared.varints.VarintFault.TheVariants as varint
-use Rattle.ack_codec.specs.declared.faults.FrameFault.{FrameFault}
-use Rattle.ack_codec.specs.declared.faults.FrameFault.TheVariants as fault
+use Rattle.proto_fields.specs.declared.reading.WireFault.{WireFault}
+use Rattle.proto_fields.specs.declared.reading.WireFault.TheVariants.{LongVarint}
+use Rattle.proto_fields.specs.declared.frames.FrameFault.{FrameFault}
+use Rattle.proto_fields.specs.declared.frames.FrameFault.TheVariants as fault
 
 -- the most bytes that a message has
 abbrev pub limit : ℕ
@@ -47,6 +49,11 @@ abbrev pub IsNoFrame : FrameFault → List ℕ → Type 0
 IsNoFrame fault.Short bytes = IsCutFrame bytes
 IsNoFrame (fault.TooLong n) bytes = IsTooLong n bytes
 IsNoFrame fault.LongPrefix bytes = IsLongVarint bytes
+
+-- The length in front of a message has over ten bytes, and this is the fault at its place.
+pub record IsLongPrefix (at : ℕ) (e : WireFault) (bytes : List ℕ) : Type 0 where
+  pub fault_is : e ≡ LongVarint at
+  pub long : IsLongVarint bytes
 
 -- ---- reading
 

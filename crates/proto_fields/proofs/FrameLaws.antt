@@ -1,18 +1,20 @@
 -- Frames: what stands at the front of bytes is read, what is read stands there, and each fault is the one that stands there.
 use Rattle.std.proofs.Common.{◌≡◌, ℕ, ◌+◌, ◌-◌, ◌%◌, ◌^◌, ◌<◌, ◌≤◌, ◌⊎◌, inl, inr, nat_lt, true, false, Bool, cond, List, [], ◌∷◌, ◌++◌, length, take, drop, replicate, Result, Ok, Err, subst, refl, sym, ap, ◌∙◌, arith, append_assoc, length-append, take-append-drop}
+use Rattle.std.specs.Prelude.{IfOk, IfErr}
+use Rattle.std.specs.Borrow.{Bor}
 use Rattle.std.proofs.lemmas.Bool.{ltb-false, ltb-true, lt-ltb, le-ltb}
 use Rattle.std.proofs.lemmas.List.{take_at, take-append-le, length-replicate, length-take}
 use Rattle.proto_fields.specs.declared.varints.VarintFault.{VarintFault}
 use Rattle.proto_fields.specs.declared.varints.VarintFault.TheVariants as varint
-use Rattle.proto_fields.specs.ResultSteps.{◌>>=◌, with_cause}
+use Rattle.proto_fields.specs.ResultSteps.{◌>>=◌, with_cause, with_value}
 use Rattle.proto_fields.specs.Bytes.{IsBytes}
 use Rattle.proto_fields.specs.Varint.{sevens, IsVarint, IsUnended, SpellsVarint, BeginsWithVarint, IsCutVarint, IsLongVarint, varint_at}
 use Rattle.proto_fields.proofs.ByteLaws.{IsBytes-behind, IsBytes-take}
 use Rattle.proto_fields.proofs.ResultLaws.{bind_ok, bind_err, bind-Ok, bind-Err, with_cause_ok, with_cause_err, ok_value, ok_pair}
 use Rattle.proto_fields.proofs.VarintLaws.{read_varint_takes, read_varint_again, read_varint_begins, read_varint_cut, read_varint_cut_is, read_varint_long, read_varint_long_is}
-use Rattle.ack_codec.specs.declared.faults.FrameFault.{FrameFault}
-use Rattle.ack_codec.specs.declared.faults.FrameFault.TheVariants as fault
-use Rattle.ack_codec.specs.Frames.{limit, HasFrame, IsCutFrame, IsNoFrame, prefix_fault, behind_length, frame_at}
+use Rattle.proto_fields.specs.declared.frames.FrameFault.{FrameFault}
+use Rattle.proto_fields.specs.declared.frames.FrameFault.TheVariants as fault
+use Rattle.proto_fields.specs.Frames.{limit, HasFrame, IsCutFrame, IsNoFrame, prefix_fault, behind_length, frame_at, frame_value}
 
 -- ---- the step behind the length
 
@@ -214,3 +216,25 @@ no_frame_fails bytes fault.Short fits s = cut_fails bytes fits s
 no_frame_fails bytes (fault.TooLong n) fits s =
     bind-Ok _ _ (n, s.rest) (ap (with_cause prefix_fault) (read_varint_begins bytes n s.rest s.begins)) ∙ behind-TooLong (length bytes) n s.rest s.over
 no_frame_fails bytes fault.LongPrefix fits s = bind-Err _ _ fault.LongPrefix (ap (with_cause prefix_fault) (read_varint_long bytes s))
+
+-- ---- what a reader that gives `frame_at` promises
+
+pub frame_found : (bytes : List ℕ) (r : Result (Bor (List ℕ) × ℕ) FrameFault) → IsBytes bytes → with_value frame_value r ≡ frame_at bytes → IfOk r (λ f. HasFrame bytes f.0.now)
+frame_found bytes (Ok f) fits e = let t = frame_takes bytes f.0.now f.1 fits (sym e) in t.frame
+frame_found bytes (Err e) fits h = tt
+
+pub frame_refused : (bytes : List ℕ) (r : Result (Bor (List ℕ) × ℕ) FrameFault) → IsBytes bytes → with_value frame_value r ≡ frame_at bytes → IfErr r (λ e. IsNoFrame e bytes)
+frame_refused bytes (Ok f) fits e = tt
+frame_refused bytes (Err e) fits h = frame_fails bytes e fits (sym h)
+
+pub frame_refuses : (bytes : List ℕ) (r : Result (Bor (List ℕ) × ℕ) FrameFault) (e : FrameFault) → IsBytes bytes → with_value frame_value r ≡ frame_at bytes → IsNoFrame e bytes → r ≡ Err e
+frame_refuses bytes r e fits h s = by_result r (h ∙ no_frame_fails bytes e fits s) where
+  by_result : (r : Result (Bor (List ℕ) × ℕ) FrameFault) → with_value frame_value r ≡ Err e → r ≡ Err e
+  by_result (Ok f) h = cc
+  by_result (Err d) h = cc
+
+pub frame_within : (bytes : List ℕ) (r : Result (Bor (List ℕ) × ℕ) FrameFault) → IsBytes bytes → with_value frame_value r ≡ frame_at bytes → IfOk r (λ f. f.1 ≤ length bytes)
+frame_within bytes (Ok f) fits e =
+    let t = frame_takes bytes f.0.now f.1 fits (sym e) in
+    omega (arith, t.size_is, ap length t.frame.parts ∙ length-append t.frame.prefix (f.0.now ++ t.frame.rest), length-append f.0.now t.frame.rest)
+frame_within bytes (Err e) fits h = tt

@@ -5,10 +5,10 @@ use Rattle.std.proofs.lemmas.Grind.{common_steps}
 use Rattle.proto_fields.specs.ResultSteps.{◌>>=◌, with_cause}
 use Rattle.proto_fields.specs.Bytes.{IsBytes}
 use Rattle.proto_fields.proofs.ResultLaws.{bind_ok, bind_err, bind-Ok, bind-Err, with_cause_ok, with_cause_err, ok_pair}
-use Rattle.ack_codec.specs.declared.faults.FrameFault.{FrameFault}
-use Rattle.ack_codec.specs.Frames.{HasFrame, IsNoFrame, frame_at}
-use Rattle.ack_codec.specs.Framed.{FramesSome, framed_at}
-use Rattle.ack_codec.proofs.FrameLaws.{frame_again, frame_takes, frame_fails, no_frame_fails}
+use Rattle.proto_fields.specs.declared.frames.FrameFault.{FrameFault}
+use Rattle.proto_fields.specs.Frames.{HasFrame, IsNoFrame, frame_at}
+use Rattle.proto_fields.specs.Framed.{FramesSome, framed_at}
+use Rattle.proto_fields.proofs.FrameLaws.{frame_again, frame_takes, frame_fails, no_frame_fails}
 
 -- a message in a frame at the front of bytes
 pub framed-message : {X E : Type 0} (cause : FrameFault → E) (read : List ℕ → Result X E) (bytes message : List ℕ) (size : ℕ) (r : Result X E) → frame_at bytes ≡ Ok (message, size) → read message ≡ r → framed_at cause read bytes ≡ (r >>= λ x. Ok (x, size))
@@ -30,6 +30,11 @@ framed_again cause read P x reads text rest s =
     framed-message cause read (text ++ rest) s.message (length s.prefix + length s.message) (Ok x) (frame_again (text ++ rest) s.message frame) (reads s.message s.told)
     ∙ ap (λ n. Ok (x, n)) size
 
+-- Nothing stands behind a list that is as long as the whole.
+pub none_more : (xs ys : List ℕ) → length xs ≡ length (xs ++ ys) → ys ≡ []
+none_more xs [] e = refl
+none_more xs ys e = grind (arith, common_steps, length-append xs ys)
+
 -- No spelling is a proper prefix of another.
 pub framed_prefix : {X E : Type 0} (cause : FrameFault → E) (read : List ℕ → Result X E) (P Q : List ℕ → Type 0) (x y : X) → ((m : List ℕ) → P m → read m ≡ Ok x) → ((m : List ℕ) → Q m → read m ≡ Ok y) → (text more : List ℕ) → FramesSome P text → FramesSome Q (text ++ more) → more ≡ []
 framed_prefix cause read P Q x y reads_x reads_y text more s t =
@@ -37,10 +42,6 @@ framed_prefix cause read P Q x y reads_x reads_y text more s t =
     let two : framed_at cause read ((text ++ more) ++ []) ≡ Ok (y, length (text ++ more)) = framed_again cause read Q y reads_y (text ++ more) [] t in
     let same = ok_pair x y (length text) (length (text ++ more)) (sym one ∙ (ap (framed_at cause read) (sym (append-nil (text ++ more))) ∙ two)) in
     none_more text more same.1
-  where
-    none_more : (xs ys : List ℕ) → length xs ≡ length (xs ++ ys) → ys ≡ []
-    none_more xs [] e = refl
-    none_more xs ys e = grind (arith, common_steps, length-append xs ys)
 
 -- What was read is spelled by as many bytes as were taken.
 pub record TakesFramed (P : List ℕ → Type 0) (bytes : List ℕ) (size : ℕ) : Type 0 where

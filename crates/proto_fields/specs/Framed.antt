@@ -2,8 +2,8 @@
 use Rattle.std.specs.Prelude.{◌≡◌, ℕ, ◌≤◌, List, ◌++◌, length, Result, Ok}
 use Rattle.proto_fields.specs.ResultSteps.{◌>>=◌, with_cause}
 use Rattle.proto_fields.specs.Varint.{SpellsVarint}
-use Rattle.ack_codec.specs.declared.faults.FrameFault.{FrameFault}
-use Rattle.ack_codec.specs.Frames.{limit, HasFrame, frame_at}
+use Rattle.proto_fields.specs.declared.frames.FrameFault.{FrameFault}
+use Rattle.proto_fields.specs.Frames.{limit, HasFrame, frame_at}
 
 -- The bytes are the frame of a message within the limit of which this holds.
 pub record FramesSome (P : List ℕ → Type 0) (bytes : List ℕ) : Type 0 where

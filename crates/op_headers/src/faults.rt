@@ -1,0 +1,116 @@
+//! Why bytes are no request and no answer of a recovery.
+
+use proto_fields::{FieldsFault, FrameFault, WireFault};
+use thiserror::Error;
+
+/// Why bytes are no request, in the order in which it is tried: `Version`, `Opcode`, the faults of
+/// the message's length, `TooLong`, `Short` for the message, `Wire`, `Missing`. `Short` comes
+/// before a fault of what isn't wholly there, and `Memory` may come at any place.
+#[derive(Clone, Copy, Debug, PartialEq, Eq, Hash, PartialOrd, Ord, Error)]
+pub enum OpFault {
+    /// The bytes end before the request does.
+    #[error("the bytes end inside a request")]
+    Short,
+    /// The version isn't 28.
+    #[error("version {got}")]
+    Version { got: u16 },
+    /// No request has this opcode.
+    #[error("opcode {got}")]
+    Opcode { got: u8 },
+    /// The message has over 65,536 bytes.
+    #[error("a message of {length} bytes")]
+    TooLong { length: u64 },
+    /// A field is not whole and lawful: the first of the message itself, and then of the messages
+    /// within, those under a lower field number first, and of one number an earlier one. The place
+    /// counts from the first byte of that message, all its parts joined. A length of more than ten
+    /// bytes is `LongVarint` at 3.
+    #[error("{0}")]
+    Wire(WireFault),
+    /// The first required field that isn't there, by the field numbers that lead to it from the
+    /// top, filled with zeros.
+    #[error("field {path:?} is missing")]
+    Missing { path: [u8; 4] },
+    /// Memory ran out.
+    #[error("out of memory")]
+    Memory,
+}
+
+impl From<FrameFault> for OpFault {
+    ghost use Rattle.std.specs.Prelude.{◌≡◌};
+    ghost use Rattle.op_headers.specs.Requests.{frame_cause};
+
+    ghost from_gives = { λ fault e. e ≡ frame_cause fault };
+
+    fn from(fault: FrameFault) -> OpFault {
+        match fault {
+            FrameFault::Short => OpFault::Short,
+            FrameFault::TooLong { length } => OpFault::TooLong { length },
+            FrameFault::LongPrefix => OpFault::Wire(WireFault::LongVarint { at: 3 }),
+        }
+    }
+}
+
+impl From<FieldsFault> for OpFault {
+    ghost use Rattle.std.specs.Prelude.{◌≡◌};
+    ghost use Rattle.op_headers.specs.Requests.{fields_cause};
+
+    ghost from_gives = { λ fault e. e ≡ fields_cause fault };
+
+    fn from(fault: FieldsFault) -> OpFault {
+        match fault {
+            FieldsFault::Wire(fault) => OpFault::Wire(fault),
+            FieldsFault::Memory => OpFault::Memory,
+        }
+    }
+}
+
+/// Why bytes are no answer of a recovery, in the order in which it is tried: the faults of the
+/// message's length, `TooLong`, `Short` for the message, `Wire`, `Missing`. `Memory` may come at
+/// any place.
+#[derive(Clone, Copy, Debug, PartialEq, Eq, Hash, PartialOrd, Ord, Error)]
+pub enum AnswerFault {
+    /// The bytes end before the message does.
+    #[error("the bytes end inside an answer")]
+    Short,
+    /// The message has over 65,536 bytes.
+    #[error("a message of {length} bytes")]
+    TooLong { length: u64 },
+    /// A field is not whole and lawful. A length of more than ten bytes is `LongVarint` at 0.
+    #[error("{0}")]
+    Wire(WireFault),
+    /// A required field isn't there.
+    #[error("field {field} is missing")]
+    Missing { field: u32 },
+    /// Memory ran out.
+    #[error("out of memory")]
+    Memory,
+}
+
+impl From<FrameFault> for AnswerFault {
+    ghost use Rattle.std.specs.Prelude.{◌≡◌};
+    ghost use Rattle.op_headers.specs.Answers.{frame_cause};
+
+    ghost from_gives = { λ fault e. e ≡ frame_cause fault };
+
+    fn from(fault: FrameFault) -> AnswerFault {
+        match fault {
+            FrameFault::Short => AnswerFault::Short,
+            FrameFault::TooLong { length } => AnswerFault::TooLong { length },
+            FrameFault::LongPrefix => AnswerFault::Wire(WireFault::LongVarint { at: 0 }),
+        }
+    }
+}
+
+impl From<FieldsFault> for AnswerFault {
+    ghost use Rattle.std.specs.Prelude.{◌≡◌};
+    ghost use Rattle.op_headers.specs.Answers.{fields_cause};
+
+    ghost from_gives = { λ fault e. e ≡ fields_cause fault };
+
+    fn from(fault: FieldsFault) -> AnswerFault {
+        match fault {
+            FieldsFault::Wire(fault) => AnswerFault::Wire(fault),
+            FieldsFault::Memory => AnswerFault::Memory,
+        }
+    }
+}
