@@ -1,17 +1,13 @@
 -- Responses: what a message says is read, what is read it says, and each fault is the one that stands in it.
-use Rattle.std.proofs.Common.{◌≡◌, ◌==◌, ℕ, ◌+◌, ◌-◌, ◌≤◌, inl, inr, true, false, Bool, cond, List, [], ◌∷◌, ◌++◌, length, drop, Option, Some, None, Result, Ok, Err, subst, refl, sym, ap, ◌∙◌, arith, length-append}
+use Rattle.std.proofs.Common.{◌≡◌, ℕ, inl, inr, List, [], ◌∷◌, Option, Result, Ok, Err, subst, refl, sym, ap, ◌∙◌}
 use Rattle.std.specs.Prelude.{fold}
-use Rattle.std.specs.Option.{option_or}
-use Rattle.std.specs.List.{flat_map}
 use Rattle.proto_fields.specs.declared.reading.Wire.{Wire}
-use Rattle.proto_fields.specs.declared.reading.Wire.TheVariants as wire
 use Rattle.proto_fields.specs.declared.reading.WireFault.{WireFault}
 use Rattle.proto_fields.specs.ResultSteps.{with_cause, with_value}
 use Rattle.proto_fields.specs.Bytes.{IsBytes}
-use Rattle.proto_fields.specs.Fields.{SpellsValue, SpellsFrom, Spells, FirstFault, fields_at, walked}
-use Rattle.proto_fields.specs.Values.{newer, varint_of, part_of, picked, last_part, parts, part_bytes, joined_parts}
-use Rattle.proto_fields.proofs.ByteLaws.{IsBytes-behind, IsBytes-cons, IsBytes-take, IsBytes-drop}
-use Rattle.proto_fields.proofs.ResultLaws.{bind_ok, bind_err, bind-Ok, bind-Err, with_cause_ok, with_cause_err, with_value_ok, with_value_err, with_value-same, ok_value}
+use Rattle.proto_fields.specs.Fields.{Spells, FirstFault, fields_at, walked}
+use Rattle.proto_fields.specs.Values.{newer, varint_of}
+use Rattle.proto_fields.proofs.ResultLaws.{bind_ok, bind_err, bind-Ok, bind-Err, with_cause_ok, with_cause_err, with_value_ok, with_value_err, with_value-same}
 use Rattle.proto_fields.proofs.PlaceLaws.{fields_at_spell, spelled_fields_at, fields_at_fail, faulty_fields_at}
 use Rattle.proto_fields.proofs.ValueLaws.{fold_newer_last}
 use Rattle.ack_codec.specs.declared.faults.ResponseFault.{ResponseFault}

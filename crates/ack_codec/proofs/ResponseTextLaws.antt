@@ -1,13 +1,12 @@
 -- The written spelling of a response, and that it spells the response.
-use Rattle.std.proofs.Common.{◌≡◌, ℕ, zero, suc, ◌+◌, ◌-◌, ◌*◌, ◌^◌, ◌<◌, ◌≤◌, List, [], ◌∷◌, ◌++◌, length, take, drop, Option, Some, None, Result, Ok, Err, subst, refl, sym, ap, ◌∙◌, arith, append_assoc, append-nil, length-append, true, false, Bool, cond, nat_lt, ◌/◌, ◌%◌}
+use Rattle.std.proofs.Common.{◌≡◌, ℕ, ◌+◌, ◌^◌, ◌<◌, ◌≤◌, List, [], ◌∷◌, ◌++◌, length, drop, Option, Some, None, Result, Ok, Err, subst, refl, sym, ap, ◌∙◌, arith, append_assoc, append-nil, length-append}
 use Rattle.std.specs.Prelude.{IsSome, IfSome, OnOk}
 use Rattle.std.specs.Option.{option_or}
-use Rattle.std.proofs.lemmas.List.{take_at, drop_at}
+use Rattle.std.proofs.lemmas.List.{drop_at}
 use Rattle.hd_base.specs.declared.states.Status.{Status}
 use Rattle.hd_base.specs.Wire.{IsStatus, status_number}
 use Rattle.proto_fields.specs.declared.reading.Wire.{Wire}
 use Rattle.proto_fields.specs.declared.reading.Wire.TheVariants as wire
-use Rattle.proto_fields.specs.declared.reading.WireType.TheVariants as form
 use Rattle.proto_fields.specs.Varint.{least_varint, least_within}
 use Rattle.proto_fields.specs.Fields.{SpellsFrom}
 use Rattle.proto_fields.specs.Values.{last_varint, last_part, parts, part_bytes}

@@ -1,5 +1,5 @@
 -- Why bytes are no response, apart from reading.
-use Rattle.std.specs.Prelude.{◌≡◌, ℕ, ◌⊎◌, List, Option, Some, None, Err}
+use Rattle.std.specs.Prelude.{◌≡◌, ℕ, ◌⊎◌, List, Option, Err}
 use Rattle.proto_fields.specs.Fields.{Spells, FirstFault}
 use Rattle.proto_fields.specs.declared.reading.Wire.{Wire}
 use Rattle.proto_fields.specs.declared.reading.WireFault.{WireFault}

@@ -1,9 +1,9 @@
 -- Responses (BlockOpResponseProto): what a message says, apart from reading, and the function that reads.
-use Rattle.std.specs.Prelude.{◌≡◌, ℕ, ◌%◌, ◌^◌, ◌≤◌, nat_lt, if◌then◌else◌, List, [], ◌∷◌, Option, Some, None, Result, Ok, Err}
+use Rattle.std.specs.Prelude.{◌≡◌, ℕ, ◌%◌, ◌^◌, nat_lt, if◌then◌else◌, List, Option, Some, None, Result, Ok, Err}
 use Rattle.hd_base.specs.declared.states.Status.{Status}
 use Rattle.proto_fields.specs.ResultSteps.{◌>>=◌, with_cause, with_value}
 use Rattle.proto_fields.specs.Fields.{Spells, fields_at}
-use Rattle.proto_fields.specs.Values.{newer, last_of, varint_of, last_varint, last_part, parts, part_bytes, joined_parts}
+use Rattle.proto_fields.specs.Values.{newer, last_of, varint_of, last_varint, last_part}
 use Rattle.proto_fields.specs.declared.reading.Wire.{Wire}
 use Rattle.proto_fields.specs.declared.reading.Wire.TheVariants as wire
 use Rattle.proto_fields.specs.declared.reading.WireFault.{WireFault}

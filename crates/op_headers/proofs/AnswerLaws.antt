@@ -1,5 +1,5 @@
 -- Answers of recoveries: what bytes spell is read, what is read is spelled, each fault is the one that stands there, and what is written is read again.
-use Rattle.std.proofs.Common.{◌≡◌, ℕ, ◌<◌, ◌≤◌, ◌^◌, ◌⊎◌, inl, inr, List, [], ◌∷◌, ◌++◌, length, take, drop, Option, Some, None, unwrap_or, Result, Ok, Err, subst, refl, sym, ap, ◌∙◌, arith, append_assoc}
+use Rattle.std.proofs.Common.{◌≡◌, ℕ, ◌<◌, ◌≤◌, ◌^◌, inl, inr, List, [], ◌∷◌, ◌++◌, length, take, drop, Option, Some, None, unwrap_or, Result, Ok, Err, subst, refl, sym, ap, ◌∙◌, arith, append_assoc}
 use Rattle.std.specs.Prelude.{IfOk, IfErr, IfSome, OnOk}
 use Rattle.std.proofs.lemmas.List.{drop_at}
 use Rattle.hd_base.specs.declared.states.Status.{Status}
@@ -11,7 +11,6 @@ use Rattle.proto_fields.specs.ResultSteps.{with_cause, with_value}
 use Rattle.proto_fields.specs.Bytes.{IsBytes}
 use Rattle.proto_fields.specs.Varint.{least_varint}
 use Rattle.proto_fields.specs.Frames.{limit, HasFrame, IsNoFrame}
-use Rattle.proto_fields.specs.Framed.{HasSome}
 use Rattle.proto_fields.specs.declared.reading.WireFault.{WireFault}
 use Rattle.proto_fields.specs.declared.frames.FrameFault.{FrameFault}
 use Rattle.proto_fields.specs.declared.frames.FrameFault.TheVariants as frame

@@ -1,12 +1,9 @@
 -- The messages of requests: each is read and written exactly, and which values have a text.
-use Rattle.std.proofs.Common.{◌≡◌, ℕ, ◌%◌, ◌^◌, ◌<◌, ◌≤◌, Option, Some, None, unwrap_or, refl, sym, arith, List}
+use Rattle.std.proofs.Common.{◌≡◌, ℕ, ◌%◌, ◌^◌, ◌<◌, ◌≤◌, unwrap_or, refl, sym, arith, List}
 use Rattle.std.specs.Prelude.{IfSome}
 use Rattle.std.proofs.lemmas.Bool.{lt-ltb}
 use Rattle.op_headers.specs.declared.blocks.BlockRef.{BlockRef}
 use Rattle.op_headers.specs.declared.nodes.NodeRef.{NodeRef}
-use Rattle.op_headers.specs.declared.nodes.Identity.{Identity}
-use Rattle.op_headers.specs.declared.headers.BaseHeader.{BaseHeader}
-use Rattle.op_headers.specs.declared.headers.ClientHeader.{ClientHeader}
 use Rattle.op_headers.specs.declared.ops.ReadOp.{ReadOp}
 use Rattle.op_headers.specs.declared.ops.TransferOp.{TransferOp}
 use Rattle.op_headers.specs.declared.ops.ChecksumOp.{ChecksumOp}
@@ -15,7 +12,7 @@ use Rattle.op_headers.specs.declared.ops.RecoveryKind.{RecoveryKind}
 use Rattle.op_headers.specs.declared.ops.RecoveryKind.TheVariants as kind
 use Rattle.op_headers.specs.Values.{ChecksumFields, WriteFields}
 use Rattle.op_headers.specs.Recoveries.{kind_number, kind_with, HasItsLength}
-use Rattle.op_headers.specs.Tables.{Uint64, Below, uint32, FitsForm, EachFits}
+use Rattle.op_headers.specs.Tables.{Uint64, Below, FitsForm, EachFits}
 use Rattle.op_headers.specs.Formats.{block_table, block_from, block_given, block_format, identity_table, identity_from, identity_given, identity_format, node_table, node_from, node_given, node_format, base_table, base_from, base_given, base_format, client_table, client_from, client_given, client_format, checksum_table, checksum_from, checksum_given, checksum_format, write_table, write_from, write_given, write_format, read_table, read_from, read_given, read_format, transfer_table, transfer_from, transfer_given, transfer_format, checksum_op_table, checksum_op_from, checksum_op_given, checksum_op_format, recovery_table, recovery_from, recovery_given, recovery_format, length_given}
 use Rattle.op_headers.proofs.TableLaws.{IsExact, exact_by_table}
 use Rattle.op_headers.proofs.TextLaws.{IsWritten, written_by_table}

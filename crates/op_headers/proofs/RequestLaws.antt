@@ -1,18 +1,18 @@
 -- Requests: what bytes spell is read, what is read is spelled, and each fault is the one that stands there.
-use Rattle.std.proofs.Common.{◌≡◌, ℕ, suc, ◌+◌, ◌*◌, ◌<◌, ◌≤◌, ◌==◌, ◌⊎◌, inl, inr, true, false, Bool, cond, List, [], ◌∷◌, ◌++◌, length, take, drop, Option, Some, None, Result, Ok, Err, subst, refl, sym, ap, ◌∙◌, arith, append-nil, length-append}
+use Rattle.std.proofs.Common.{◌≡◌, ℕ, suc, ◌+◌, ◌*◌, ◌≤◌, ◌==◌, inl, inr, true, List, [], ◌∷◌, ◌++◌, length, take, drop, Option, Some, None, Result, Ok, Err, subst, refl, sym, ap, ◌∙◌, arith, append-nil}
 use Rattle.std.specs.Prelude.{IfOk, IfErr, IsSome}
 use Rattle.std.proofs.lemmas.Bool.{eqb-true, eqb-false, ne_eqb, eq-eqb}
 use Rattle.std.proofs.lemmas.List.{drop_at}
-use Rattle.proto_fields.specs.ResultSteps.{◌>>=◌, with_cause, with_value}
+use Rattle.proto_fields.specs.ResultSteps.{with_cause, with_value}
 use Rattle.proto_fields.specs.Bytes.{IsBytes}
 use Rattle.proto_fields.specs.Varint.{BeginsWithVarint}
-use Rattle.proto_fields.specs.Frames.{limit, IsNoFrame, IsCutFrame, IsWholeFrame, HasFrame}
-use Rattle.proto_fields.specs.Framed.{FramesSome, HasSome, framed_at}
+use Rattle.proto_fields.specs.Frames.{IsNoFrame, IsCutFrame, IsWholeFrame, HasFrame}
+use Rattle.proto_fields.specs.Framed.{framed_at}
 use Rattle.proto_fields.specs.declared.reading.WireFault.{WireFault}
 use Rattle.proto_fields.specs.declared.frames.FrameFault.{FrameFault}
 use Rattle.proto_fields.specs.declared.frames.FrameFault.TheVariants as frame
 use Rattle.proto_fields.proofs.ByteLaws.{IsBytes-behind}
-use Rattle.proto_fields.proofs.ResultLaws.{bind_ok, bind_err, bind-Ok, bind-Err, with_cause_ok, with_cause_err, with_value_ok, with_value_err, ok_value, ok_pair, chosen}
+use Rattle.proto_fields.proofs.ResultLaws.{bind_ok, bind_err, bind-Ok, bind-Err, with_cause_ok, with_cause_err, with_value_ok, with_value_err, ok_pair, chosen}
 use Rattle.proto_fields.proofs.FramedLaws.{framed_again, none_more, framed_takes, framed_fails, no_frame_refused, inside_refused}
 use Rattle.op_headers.specs.declared.ops.Op.{Op}
 use Rattle.op_headers.specs.declared.ops.Op.TheVariants as op
@@ -23,7 +23,7 @@ use Rattle.op_headers.specs.declared.faults.OpFault.TheVariants as fault
 use Rattle.op_headers.specs.Opcodes.{opcode_number, opcode_with}
 use Rattle.op_headers.specs.Paths.{Path}
 use Rattle.op_headers.specs.Tables.{Format}
-use Rattle.op_headers.specs.Requests.{SaysAs, OpSays, OpFaulty, BehindHead, SpellsOp, IsWholeRequest, IsCutRequest, IsFaultyBehind, IsRefusedOp, FailsFor, op_read, op_at, opcode_step, behind_version, head_at, frame_cause, sized, request_at, Gives}
+use Rattle.op_headers.specs.Requests.{SaysAs, OpSays, OpFaulty, SpellsOp, IsCutRequest, IsFaultyBehind, IsRefusedOp, FailsFor, op_read, op_at, opcode_step, behind_version, head_at, frame_cause, sized, request_at, Gives}
 use Rattle.op_headers.proofs.TableLaws.{IsExact}
 use Rattle.op_headers.proofs.FormatLaws.{exact_write, exact_read, exact_transfer, exact_checksum_op, exact_recovery}
 

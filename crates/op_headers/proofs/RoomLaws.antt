@@ -1,5 +1,5 @@
 -- How many bytes the messages of requests have at most, by their texts.
-use Rattle.std.proofs.Common.{ℕ, ◌+◌, ◌*◌, ◌≤◌, List, [], ◌∷◌, ◌++◌, length, Option, Some, None, arith, length-append}
+use Rattle.std.proofs.Common.{ℕ, ◌+◌, ◌≤◌, List, [], ◌∷◌, ◌++◌, length, Option, Some, None, arith, length-append}
 use Rattle.std.specs.List.{flat_map}
 use Rattle.proto_fields.specs.Writing.{varint_field, bytes_field}
 use Rattle.proto_fields.specs.Frames.{limit}

@@ -1,8 +1,8 @@
 -- Reading by a table: what is read is what the message says, what it says is read, and each fault is the first that stands in it.
-use Rattle.std.proofs.Common.{◌≡◌, ℕ, ◌-◌, ◌⊎◌, inl, inr, List, [], ◌∷◌, map, Option, Result, Ok, Err, refl, sym, ap, ◌∙◌, drop}
+use Rattle.std.proofs.Common.{◌≡◌, ℕ, ◌-◌, inl, inr, List, [], ◌∷◌, map, Result, Ok, Err, sym, ap, ◌∙◌, drop}
 use Rattle.proto_fields.specs.declared.reading.Wire.{Wire}
 use Rattle.proto_fields.specs.declared.reading.WireFault.{WireFault}
-use Rattle.proto_fields.specs.ResultSteps.{◌>>=◌, with_cause, with_value}
+use Rattle.proto_fields.specs.ResultSteps.{with_cause, with_value}
 use Rattle.proto_fields.specs.Bytes.{IsBytes}
 use Rattle.proto_fields.specs.Fields.{fields_at}
 use Rattle.proto_fields.specs.Values.{parts, part_bytes}

@@ -1,20 +1,19 @@
 -- Writing by a table: the written text of a value says the value again.
-use Rattle.std.proofs.Common.{◌≡◌, ℕ, ◌+◌, ◌^◌, ◌<◌, ◌≤◌, ◌==◌, true, List, [], ◌∷◌, ◌++◌, length, map, Option, Some, None, option_map, Result, Ok, Err, subst, refl, sym, ap, ◌∙◌, arith, append_assoc, append-nil, length-append}
+use Rattle.std.proofs.Common.{◌≡◌, ℕ, ◌+◌, ◌^◌, ◌<◌, ◌≤◌, List, [], ◌∷◌, ◌++◌, length, map, Option, Some, None, option_map, Ok, subst, refl, sym, ap, ◌∙◌, arith, append_assoc, append-nil, length-append}
 use Rattle.std.specs.Prelude.{IfSome}
 use Rattle.std.specs.List.{flat_map}
 use Rattle.std.proofs.lemmas.Bool.{eq-eqb}
 use Rattle.proto_fields.specs.declared.reading.Wire.{Wire}
 use Rattle.proto_fields.specs.declared.reading.Wire.TheVariants as wire
-use Rattle.proto_fields.specs.ResultSteps.{with_cause, with_value}
 use Rattle.proto_fields.specs.Fields.{SpellsFrom}
 use Rattle.proto_fields.specs.Values.{part_of, last_of, last_part, parts, part_bytes}
 use Rattle.proto_fields.specs.Inner.{joined_of, joined, FindsInner}
 use Rattle.proto_fields.specs.Writing.{varint_field, bytes_field}
 use Rattle.proto_fields.proofs.WrittenLaws.{varint_field_spells, bytes_field_spells, SpellsFrom-cons, SpellsFrom-append}
 use Rattle.proto_fields.proofs.InnerLaws.{part_at, part_field, bytes_field_more, placed_part}
-use Rattle.op_headers.specs.Paths.{Path, below, both}
-use Rattle.op_headers.specs.Tables.{Form, Uint64, Bool32, Below, Need, Required, Default, Optional, Format, Table, End, Number, Text, Message, Messages, Kept, Told, told_number, number_of, text_under, texts_under, kept, kept_message, EachSays, RowsSay, Given, Held, held, as_kept, as_told, if_given, message_field, rows_text, FitsForm, EachFits, RowsFit, FitsBy, by_table}
-use Rattle.op_headers.proofs.NumberLaws.{EachNumber, EachNumber-append, EachNumber-weaker, HasOthers, others_before, others_behind, last_of-between, parts-between}
+use Rattle.op_headers.specs.Paths.{both}
+use Rattle.op_headers.specs.Tables.{Form, Uint64, Bool32, Below, Need, Required, Default, Optional, Format, Table, End, Number, Text, Message, Messages, Told, told_number, number_of, text_under, texts_under, kept, kept_message, EachSays, RowsSay, Given, Held, held, as_kept, as_told, if_given, message_field, rows_text, FitsForm, EachFits, RowsFit, FitsBy, by_table}
+use Rattle.op_headers.proofs.NumberLaws.{EachNumber, EachNumber-append, EachNumber-weaker, others_before, others_behind, last_of-between, parts-between}
 
 -- What is written of a value says it.
 pub record IsWritten {X : Type 0} (format : Format X) : Type 0 where

@@ -1,5 +1,5 @@
 -- Fields that are appended one behind the other.
-use Rattle.std.proofs.Common.{◌≡◌, ℕ, List, [], ◌++◌, refl, append_assoc, append-nil}
+use Rattle.std.proofs.Common.{◌≡◌, ℕ, List, [], ◌++◌, append_assoc, append-nil}
 use Rattle.std.specs.List.{flat_map}
 use Rattle.proto_fields.specs.Writing.{varint_field}
 use Rattle.op_headers.specs.declared.nodes.NodeRef.{NodeRef}

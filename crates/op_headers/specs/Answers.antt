@@ -1,11 +1,10 @@
 -- Answers to steps of block recovery: what a message says, why bytes are no answer, the function that reads, and the written text.
 use Rattle.std.specs.Prelude.{◌≡◌, ℕ, ◌==◌, if◌then◌else◌, ◌⊎◌, List, [], ◌∷◌, ◌++◌, length, slice_index, Option, Some, None, Result, Ok, Err}
-use Rattle.hd_base.specs.declared.states.Status.{Status}
 use Rattle.hd_base.specs.declared.states.ReplicaState.{ReplicaState}
 use Rattle.hd_base.specs.declared.states.ReplicaState.TheVariants as state
 use Rattle.hd_base.specs.declared.numbers.Stamp.{Stamp}
 use Rattle.hd_base.specs.Wire.{status_number, state_number}
-use Rattle.proto_fields.specs.ResultSteps.{◌>>=◌, with_cause, with_value}
+use Rattle.proto_fields.specs.ResultSteps.{◌>>=◌, with_cause}
 use Rattle.proto_fields.specs.Varint.{least_varint}
 use Rattle.proto_fields.specs.Frames.{IsCutFrame, IsTooLong, IsLongPrefix}
 use Rattle.proto_fields.specs.Framed.{FramesSome, HasSome, framed_at}

@@ -1,6 +1,5 @@
 -- Where a required field is missing: the numbers of the fields that lead to it, from the top, filled with zeros to four.
-use Rattle.std.specs.Prelude.{ℕ, List, [], ◌∷◌, take, Option, Some, None, Result, Ok, Err}
-use Rattle.proto_fields.specs.ResultSteps.{with_cause}
+use Rattle.std.specs.Prelude.{ℕ, List, [], ◌∷◌, take, Result, Ok, Err}
 
 -- four field numbers
 abbrev pub Path : Type 0

@@ -1,5 +1,5 @@
 -- Messages by their tables: which fields a message of a type has, and the rules by which any table is read and written.
-use Rattle.std.specs.Prelude.{◌≡◌, ℕ, ◌+◌, ◌%◌, ◌^◌, ◌<◌, ◌==◌, nat_lt, if◌then◌else◌, ◌⊎◌, List, [], ◌∷◌, ◌++◌, map, Option, Some, None, option_map, unwrap_or, Result, Ok, Err, IfSome}
+use Rattle.std.specs.Prelude.{◌≡◌, ℕ, ◌%◌, ◌^◌, ◌<◌, ◌==◌, nat_lt, if◌then◌else◌, ◌⊎◌, List, [], ◌∷◌, ◌++◌, map, Option, Some, None, option_map, unwrap_or, Result, Ok, Err, IfSome}
 use Rattle.std.specs.List.{flat_map}
 use Rattle.proto_fields.specs.ResultSteps.{◌>>=◌, with_cause, with_value}
 use Rattle.proto_fields.specs.Fields.{Spells, FirstFault, fields_at}

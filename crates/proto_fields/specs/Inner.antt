@@ -1,5 +1,5 @@
 -- Messages and texts within a message.
-use Rattle.std.specs.Prelude.{◌≡◌, ℕ, ◌≤◌, List, [], ◌∷◌, Option, Some, None, Result, Ok, Err}
+use Rattle.std.specs.Prelude.{◌≡◌, ℕ, ◌≤◌, List, [], ◌∷◌, Option, Some, None, Result, Ok}
 use Rattle.proto_fields.specs.ResultSteps.{with_value}
 use Rattle.proto_fields.specs.Values.{parts, part_bytes, joined_parts}
 use Rattle.proto_fields.specs.declared.reading.Wire.{Wire}

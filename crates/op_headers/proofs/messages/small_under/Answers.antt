@@ -1,5 +1,5 @@
 -- At the end all fields are behind.
-use Rattle.std.proofs.Common.{◌≤◌, None, length, fold, ap, ◌∙◌, arith}
+use Rattle.std.proofs.Common.{◌≤◌, None, length, fold, ap, ◌∙◌}
 use Rattle.std.proofs.lemmas.List.{take_all}
 use Rattle.proto_fields.specs.Values.{newer, last_of}
 use Rattle.op_headers.specs.Tables.{Below, number_of}

@@ -1,7 +1,7 @@
 -- Each turn takes one field, which has a part of the number or has none.
-use Rattle.std.proofs.Common.{◌≡◌, ◌+◌, ◌≤◌, Ok, length, drop, map, ap, sym, ◌∙◌, arith, rules}
+use Rattle.std.proofs.Common.{◌+◌, ◌≤◌, Ok, length, drop, map, ap, sym, ◌∙◌, arith, rules}
 use Rattle.proto_fields.specs.ResultSteps.{with_value}
-use Rattle.proto_fields.specs.Values.{parts, part_bytes}
+use Rattle.proto_fields.specs.Values.{part_bytes}
 use Rattle.proto_fields.proofs.ResultLaws.{ok_value}
 use Rattle.proto_fields.proofs.ValueLaws.{part_within}
 use Rattle.op_headers.specs.Tables.{each_at, texts_under}

@@ -1,5 +1,5 @@
 -- The fields are appended one behind the other, and the numbers have their widths.
-use Rattle.std.proofs.Common.{◌≡◌, ◌++◌, List, ℕ, subst, arith}
+use Rattle.std.proofs.Common.{◌≡◌, ◌++◌, subst, arith}
 use Rattle.std.specs.Prelude.{OnOk}
 use Rattle.std.proofs.lemmas.Result.{on_ok_weaker}
 use Rattle.op_headers.specs.Values.{WriteFields}

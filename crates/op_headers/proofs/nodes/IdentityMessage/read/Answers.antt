@@ -1,5 +1,4 @@
 -- The fields of the message are those that the node is made of.
-use Rattle.std.proofs.Common.{◌≡◌, Ok}
 use Rattle.proto_fields.proofs.ResultLaws.{ok_value}
 use Rattle.op_headers.proofs.ReadingLaws.{identity_read}
 use Rattle.op_headers.proofs.nodes.IdentityMessage.read.Goals as goal
