@@ -11,6 +11,7 @@ use crate::messages::Message;
 use crate::opcodes::Opcode;
 use crate::ops::{ChecksumOp, Op, ReadOp, RecoveryOp, TransferOp, WriteOp};
 use crate::paths::Told;
+use byteorder::{BigEndian, ByteOrder};
 use proto_fields::read_frame;
 use std::alloc::Global;
 
@@ -58,14 +59,14 @@ fn head_of(bytes: &[u8]) -> Result<(Opcode, &[u8]), OpFault>
     ensures exact { read_of result ≡ head_at bytes.now }
     ensures rest { IfOk result (λ h. 3 + length h.1.now ≡ length bytes.now) }
 {
-    let [high, low, rest @ ..] = bytes else {
+    let [_, _, behind @ ..] = bytes else {
         return Err(OpFault::Short);
     };
-    let got = 256 * u16::from(*high) + u16::from(*low);
+    let got = BigEndian::read_u16(&bytes[..2]);
     if got != VERSION {
         return Err(OpFault::Version { got });
     }
-    let [number, rest @ ..] = rest else {
+    let [number, rest @ ..] = behind else {
         return Err(OpFault::Short);
     };
     match Opcode::with_number(*number) {
