@@ -215,6 +215,11 @@ response_text_spells r listed low link fits few = record {
   told = says_by r.status r.first_bad r.sums_from r.message listed low link fits few;
 }
 
+-- What was written spells the response.
+pub response_spelled : {A E : Type 0} (q : Result A E) (r : Response) → OnOk q (status_number r.status < 2 ^ 32) → OnOk q (IfSome r.sums_from (λ offset. offset < 2 ^ 64)) → IsStatus r.status → (IsSome r.sums_from → r.first_bad ≡ []) → length (response_message r) ≤ limit → OnOk q (SpellsResponse r (response_text r))
+response_spelled (Ok x) r low fits listed link few = response_text_spells r listed low link fits few
+response_spelled (Err e) r low fits listed link few = tt
+
 -- What was written behind other bytes is read there, whatever follows.
 pub response_written : {A E : Type 0} (q : Result A E) (r : Response) (old new rest : List ℕ) → OnOk q (new ≡ old ++ response_text r) → OnOk q (status_number r.status < 2 ^ 32) → OnOk q (IfSome r.sums_from (λ offset. offset < 2 ^ 64)) → IsStatus r.status → (IsSome r.sums_from → r.first_bad ≡ []) → length (response_message r) ≤ limit → OnOk q (response_at (drop (length old) (new ++ rest)) ≡ Ok (r, length (response_text r)))
 response_written (Ok x) r old new rest ok low fits listed link few =

@@ -24,6 +24,7 @@ pub fn encode_response(response: &Response, out: &mut Vec<u8>) -> Result<(), All
     requires few { length (response_message response.now) ≤ limit }
     ensures ok { OnOk result (out.new.items ≡ out.old.items ++ response_text response.now) }
     ensures err { OnErr result (out.new.items ≡ out.old.items) }
+    ensures spelled { OnOk result (SpellsResponse response.now (response_text response.now)) }
     ensures again { (rest : List ℕ) → OnOk result (response_at (drop (length out.old.items) (out.new.items ++ rest)) ≡ Ok (response.now, length (response_text response.now))) }
 {
     let before = out.len();

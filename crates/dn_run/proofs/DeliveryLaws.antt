@@ -1,16 +1,14 @@
--- One packet on an idle connection: what the two exchanges make of the roads and of the member's inbox.
-use Rattle.std.proofs.Common.{◌≡◌, ◌==◌, ℕ, ◌<◌, ◌&&◌, ◌||◌, ◌⊎◌, inl, inr, not, nat_lt, Bool, true, false, cond, List, [], ◌∷◌, ◌++◌, length, map, drop, Option, Some, IfSome, MatchOption, Result, Ok, Err, OnOk, sym, ap, ◌∙◌, refl, arith, append-nil}
+-- One message on an idle connection: what the two exchanges make of the roads and of the taker's inbox, and what bringing the ends back leaves.
+use Rattle.std.proofs.Common.{◌≡◌, ◌==◌, ℕ, zero, suc, ◌+◌, ◌-◌, ◌<◌, ◌&&◌, ◌||◌, ◌⊎◌, inl, inr, not, nat_lt, Bool, true, false, cond, List, [], ◌∷◌, ◌++◌, length, drop, take, Option, Some, IfSome, MatchOption, Result, Ok, Err, OnOk, sym, ap, ◌∙◌, subst, refl, arith, append-nil}
 use Rattle.std.proofs.lemmas.Grind.{common_steps}
 use Rattle.std.proofs.lemmas.Bool.Decides.{nat_tests}
 use Rattle.std.proofs.lemmas.List.{take_all, drop_all, drop_at}
 use Rattle.hd_base.specs.Lists.{joined}
 use Rattle.hd_base.specs.Links.{Inbox}
 use Rattle.hd_base.specs.Ways.{Plain, Carried, Way, empty_way, carry, same_way, Carries, to_hand, with_handed, with_offer, filled, is_hungry}
+use Rattle.hd_base.specs.declared.roads.Conn.{Conn}
 use Rattle.hd_base.proofs.WayLaws.{joined-append}
-use Rattle.packet_codec.specs.Packets.{packet_text}
-use Rattle.dn_run.specs.Runs.{CarriedFor}
-use Rattle.dn_run.specs.Sendings.{packets_of}
-use Rattle.dn_run.specs.declared.script.FirstWrite.{FirstWrite}
+use Rattle.dn_run.specs.Connections.{IsLinked}
 
 same_number : (n : ℕ) → (n == n) ≡ true
 same_number n = grind (arith, nat_tests)
@@ -23,83 +21,173 @@ one_piece_way text = record { pieces = text ∷ []; ended = false }
 last_to_hand : (pieces : List (List ℕ)) (text : List ℕ) → to_hand (pieces ++ text ∷ []) (length pieces) 0 ≡ text ∷ []
 last_to_hand pieces text = ap (drop (length pieces)) (take_all _ (pieces ++ text ∷ []) (omega arith)) ∙ drop_at pieces (text ∷ []) (length pieces) refl
 
--- Where nothing was sent, nothing is to be handed over.
-pub nothing_behind : (n : ℕ) → drop {A = List ℕ} n [] ≡ []
-nothing_behind n = grind (arith, common_steps)
+-- All pieces were handed over.
+pub none_left : (pieces : List (List ℕ)) (handed : ℕ) → handed ≡ length pieces → drop handed pieces ≡ []
+none_left pieces handed all = rw all (drop_all (length pieces) pieces (omega arith))
 
-nothing_to_hand : (handed lost : ℕ) → to_hand [] handed lost ≡ []
-nothing_to_hand handed lost = grind (arith, common_steps)
+none_to_hand : (pieces : List (List ℕ)) (handed lost : ℕ) → handed ≡ length pieces → lost ≡ 0 → to_hand pieces handed lost ≡ []
+none_to_hand pieces handed lost all none =
+    ap (λ n. drop handed (take (length pieces - n) pieces)) none ∙ (ap (drop handed) (take_all (length pieces - 0) pieces (omega arith)) ∙ none_left pieces handed all)
 
--- the roads after the client handed its piece over
-pub record Handed (plain : Option Plain) (conn : ℕ) (text : List ℕ) : Type 0 where
+-- ---- what stands on the roads
+
+-- the roads after an end, lower or not, handed its piece over
+pub record Handed (plain : Option Plain) (conn : ℕ) (lower : Bool) (text : List ℕ) : Type 0 where
   pub net : Plain
   pub is : plain ≡ Some net
-  pub down : net.ways conn true ≡ one_piece_way text
-  pub up : net.ways conn false ≡ empty_way
+  pub there : net.ways conn (not lower) ≡ one_piece_way text
+  pub none : net.ways conn (not (not lower)) ≡ empty_way
 
-pub handed_over : (before after : Option Plain) (sent : Option (List (List ℕ))) (held : Option Inbox) (p : Plain) (conn : ℕ) (lower in_shut out_shut : Bool) (pieces : List (List ℕ)) (text : List ℕ) (handed lost : ℕ) (inbox : Inbox) → IfSome before (λ q. IfSome sent (λ s. IfSome held (λ b. after ≡ Some (with_offer (with_handed q conn lower (to_hand s handed lost) (in_shut || out_shut)) conn lower (false && is_hungry b))))) → before ≡ Some p → sent ≡ Some (pieces ++ text ∷ []) → held ≡ Some inbox → lower ≡ false → handed ≡ length pieces → lost ≡ 0 → in_shut ≡ false → out_shut ≡ false → p.ways conn true ≡ empty_way → p.ways conn false ≡ empty_way → Handed after conn text
-handed_over before after sent held p conn lower in_shut out_shut pieces text handed lost inbox clause is_net is_sent is_held is_upper is_handed none_lost open_in open_out none_down none_up =
+handed_there : (p : Plain) (conn : ℕ) (lower : Bool) (text : List ℕ) → ((d : Bool) → p.ways conn d ≡ empty_way) → (with_handed p conn lower (text ∷ []) false).ways conn (not lower) ≡ one_piece_way text
+handed_there p conn true text none = rw (same_number conn) (rw (none false) refl)
+handed_there p conn false text none = rw (same_number conn) (rw (none true) refl)
+
+handed_none : (p : Plain) (conn : ℕ) (lower : Bool) (text : List ℕ) → ((d : Bool) → p.ways conn d ≡ empty_way) → (with_handed p conn lower (text ∷ []) false).ways conn (not (not lower)) ≡ empty_way
+handed_none p conn true text none = rw (same_number conn) (rw (none true) refl)
+handed_none p conn false text none = rw (same_number conn) (rw (none false) refl)
+
+pub handed_over : (before after : Option Plain) (sent : Option (List (List ℕ))) (held : Option Inbox) (p : Plain) (conn : ℕ) (lower in_shut out_shut : Bool) (pieces : List (List ℕ)) (text : List ℕ) (handed lost : ℕ) (inbox : Inbox) → IfSome before (λ q. IfSome sent (λ s. IfSome held (λ b. after ≡ Some (with_offer (with_handed q conn lower (to_hand s handed lost) (in_shut || out_shut)) conn lower (false && is_hungry b))))) → before ≡ Some p → sent ≡ Some (pieces ++ text ∷ []) → held ≡ Some inbox → handed ≡ length pieces → lost ≡ 0 → in_shut ≡ false → out_shut ≡ false → ((d : Bool) → p.ways conn d ≡ empty_way) → Handed after conn lower text
+handed_over before after sent held p conn lower in_shut out_shut pieces text handed lost inbox clause is_net is_sent is_held is_handed none_lost open_in open_out none =
     let is : after ≡ Some (with_offer (with_handed p conn lower (to_hand (pieces ++ text ∷ []) handed lost) (in_shut || out_shut)) conn lower false) = rw (is_net, is_sent, is_held) at clause in
     record {
-      net = with_handed p conn false (text ∷ []) false;
-      is = is ∙ rw (is_upper, is_handed, none_lost, open_in, open_out) (rw (last_to_hand pieces text) refl);
-      down = rw (same_number conn) (rw none_down refl);
-      up = rw (same_number conn) (rw none_up refl);
+      net = with_handed p conn lower (text ∷ []) false;
+      is = is ∙ rw (is_handed, none_lost, open_in, open_out) (rw (last_to_hand pieces text) refl);
+      there = handed_there p conn lower text none;
+      none = handed_none p conn lower text none;
     }
 
--- the roads after the member took it
+-- the roads after the other end took it
 pub record Taken (plain : Option Plain) (conn : ℕ) : Type 0 where
   pub net : Plain
   pub is : plain ≡ Some net
-  pub down : net.ways conn true ≡ empty_way
-  pub up : net.ways conn false ≡ empty_way
+  pub none : (d : Bool) → net.ways conn d ≡ empty_way
 
-pub taken_up : (before after : Option Plain) (sent : Option (List (List ℕ))) (held : Option Inbox) (p : Plain) (id conn : ℕ) (lower in_shut out_shut : Bool) (text : List ℕ) (handed lost : ℕ) → IfSome before (λ q. IfSome sent (λ s. IfSome held (λ b. after ≡ Some (with_offer (with_handed q id lower (to_hand s handed lost) (in_shut || out_shut)) id lower (true && is_hungry b))))) → before ≡ Some p → sent ≡ Some [] → held ≡ Some (record { bytes = []; ended = false }) → id ≡ conn → lower ≡ true → in_shut ≡ false → out_shut ≡ false → p.ways conn true ≡ one_piece_way text → p.ways conn false ≡ empty_way → Taken after conn
-taken_up before after sent held p id conn lower in_shut out_shut text handed lost clause is_net is_sent is_held is_conn is_lower open_in open_out down up =
-    let is : after ≡ Some (with_offer (with_handed p id lower (to_hand [] handed lost) (in_shut || out_shut)) id lower true) = rw (is_net, is_sent, is_held) at clause in
+taken_none : (p : Plain) (conn : ℕ) (lower : Bool) (text : List ℕ) → p.ways conn lower ≡ one_piece_way text → p.ways conn (not lower) ≡ empty_way → (d : Bool) → (with_offer (with_handed p conn lower [] false) conn lower true).ways conn d ≡ empty_way
+taken_none p conn true text here none true = rw (same_number conn) (rw here refl)
+taken_none p conn true text here none false = rw (same_number conn) (rw none refl)
+taken_none p conn false text here none true = rw (same_number conn) (rw none refl)
+taken_none p conn false text here none false = rw (same_number conn) (rw here refl)
+
+pub taken_up : (before after : Option Plain) (sent : Option (List (List ℕ))) (held : Option Inbox) (p : Plain) (id conn : ℕ) (lower in_shut out_shut : Bool) (pieces : List (List ℕ)) (text : List ℕ) (handed lost : ℕ) → IfSome before (λ q. IfSome sent (λ s. IfSome held (λ b. after ≡ Some (with_offer (with_handed q id lower (to_hand s handed lost) (in_shut || out_shut)) id lower (true && is_hungry b))))) → before ≡ Some p → sent ≡ Some pieces → held ≡ Some (record { bytes = []; ended = false }) → id ≡ conn → handed ≡ length pieces → lost ≡ 0 → in_shut ≡ false → out_shut ≡ false → p.ways conn lower ≡ one_piece_way text → p.ways conn (not lower) ≡ empty_way → Taken after conn
+taken_up before after sent held p id conn lower in_shut out_shut pieces text handed lost clause is_net is_sent is_held is_conn is_handed none_lost open_in open_out here none =
+    let is : after ≡ Some (with_offer (with_handed p id lower (to_hand pieces handed lost) (in_shut || out_shut)) id lower true) = rw (is_net, is_sent, is_held) at clause in
     record {
-      net = with_offer (with_handed p conn true [] false) conn true true;
-      is = is ∙ rw (is_conn, is_lower, open_in, open_out) (rw (nothing_to_hand handed lost) refl);
-      down = rw (same_number conn) (rw down refl);
-      up = rw (same_number conn) (rw up refl);
+      net = with_offer (with_handed p conn lower [] false) conn lower true;
+      is = is ∙ rw (is_conn, open_in, open_out) (rw (none_to_hand pieces handed lost is_handed none_lost) refl);
+      none = taken_none p conn lower text here none;
     }
 
--- what the member's inbox then holds
-pub inbox_filled : (before : Option Plain) (sent : Option (List (List ℕ))) (held after : Option Inbox) (p : Plain) (id conn : ℕ) (lower in_shut out_shut : Bool) (text : List ℕ) (handed lost : ℕ) → IfSome before (λ q. IfSome sent (λ s. IfSome held (λ b. true ≡ true → after ≡ Some (filled b ((with_handed q id lower (to_hand s handed lost) (in_shut || out_shut)).ways id lower))))) → before ≡ Some p → sent ≡ Some [] → held ≡ Some (record { bytes = []; ended = false }) → id ≡ conn → lower ≡ true → in_shut ≡ false → out_shut ≡ false → p.ways conn true ≡ one_piece_way text → after ≡ Some (record { bytes = text; ended = false })
-inbox_filled before sent held after p id conn lower in_shut out_shut text handed lost clause is_net is_sent is_held is_conn is_lower open_in open_out down =
-    let is : true ≡ true → after ≡ Some (filled (record { bytes = []; ended = false }) ((with_handed p id lower (to_hand [] handed lost) (in_shut || out_shut)).ways id lower)) = rw (is_net, is_sent, is_held) at clause in
-    is refl ∙ rw (is_conn, is_lower, open_in, open_out) (rw (same_number conn) (rw down refl))
+filled_here : (p : Plain) (conn : ℕ) (lower : Bool) (text : List ℕ) → p.ways conn lower ≡ one_piece_way text → filled (record { bytes = []; ended = false }) ((with_handed p conn lower [] false).ways conn lower) ≡ record { bytes = text; ended = false }
+filled_here p conn true text here = rw (same_number conn) (rw here refl)
+filled_here p conn false text here = rw (same_number conn) (rw here refl)
 
--- what the roads have carried then: the piece, behind those before it
-pub record Loaded (carried : Option Carried) (conn : ℕ) (pieces : List (List ℕ)) : Type 0 where
+-- what the taker's inbox then holds
+pub inbox_filled : (before : Option Plain) (sent : Option (List (List ℕ))) (held after : Option Inbox) (p : Plain) (id conn : ℕ) (lower in_shut out_shut : Bool) (pieces : List (List ℕ)) (text : List ℕ) (handed lost : ℕ) → IfSome before (λ q. IfSome sent (λ s. IfSome held (λ b. true ≡ true → after ≡ Some (filled b ((with_handed q id lower (to_hand s handed lost) (in_shut || out_shut)).ways id lower))))) → before ≡ Some p → sent ≡ Some pieces → held ≡ Some (record { bytes = []; ended = false }) → id ≡ conn → handed ≡ length pieces → lost ≡ 0 → in_shut ≡ false → out_shut ≡ false → p.ways conn lower ≡ one_piece_way text → after ≡ Some (record { bytes = text; ended = false })
+inbox_filled before sent held after p id conn lower in_shut out_shut pieces text handed lost clause is_net is_sent is_held is_conn is_handed none_lost open_in open_out here =
+    let is : true ≡ true → after ≡ Some (filled (record { bytes = []; ended = false }) ((with_handed p id lower (to_hand pieces handed lost) (in_shut || out_shut)).ways id lower)) = rw (is_net, is_sent, is_held) at clause in
+    is refl ∙ rw (is_conn, open_in, open_out) (rw (none_to_hand pieces handed lost is_handed none_lost) (ap Some (filled_here p conn lower text here)))
+
+-- ---- what was carried
+
+-- what the roads have carried of two ends' pieces: forth of the one's, which is lower or not, and back of the other's
+pub record Loaded (carried : Option Carried) (conn : ℕ) (lower : Bool) (pieces answers : List (List ℕ)) : Type 0 where
   pub load : Carried
   pub is : carried ≡ Some load
-  pub down : load conn true ≡ joined pieces
-  pub up : load conn false ≡ []
+  pub forth : load conn (not lower) ≡ joined pieces
+  pub back : load conn lower ≡ joined answers
 
-pub loaded_down : (told : Option Plain) (before after : Option Carried) (sent : Option (List (List ℕ))) (p : Plain) (load : Carried) (conn : ℕ) (lower : Bool) (pieces : List (List ℕ)) (text : List ℕ) (handed : ℕ) → MatchOption told (after ≡ before) (λ _. Carries before after conn (not lower) handed sent) → told ≡ Some p → before ≡ Some load → sent ≡ Some (pieces ++ text ∷ []) → lower ≡ false → handed ≡ length pieces → load conn true ≡ joined pieces → load conn false ≡ [] → Loaded after conn (pieces ++ text ∷ [])
-loaded_down told before after sent p load conn lower pieces text handed clause is_told is_load is_sent is_upper is_handed down up =
+carried_forth : (load : Carried) (conn : ℕ) (lower : Bool) (pieces : List (List ℕ)) (text : List ℕ) → load conn (not lower) ≡ joined pieces → carry load conn (not lower) (text ++ []) conn (not lower) ≡ joined (pieces ++ text ∷ [])
+carried_forth load conn true pieces text forth = rw (same_number conn) (ap (λ l. l ++ (text ++ [])) forth ∙ sym (joined-append pieces (text ∷ [])))
+carried_forth load conn false pieces text forth = rw (same_number conn) (ap (λ l. l ++ (text ++ [])) forth ∙ sym (joined-append pieces (text ∷ [])))
+
+carried_back : (load : Carried) (conn : ℕ) (lower : Bool) (answers : List (List ℕ)) (text : List ℕ) → load conn lower ≡ joined answers → carry load conn (not lower) (text ++ []) conn lower ≡ joined answers
+carried_back load conn true answers text back = rw (same_number conn) back
+carried_back load conn false answers text back = rw (same_number conn) back
+
+pub loaded_forth : (told : Option Plain) (before after : Option Carried) (sent : Option (List (List ℕ))) (p : Plain) (load : Carried) (conn : ℕ) (lower : Bool) (pieces answers : List (List ℕ)) (text : List ℕ) (handed : ℕ) → MatchOption told (after ≡ before) (λ _. Carries before after conn (not lower) handed sent) → told ≡ Some p → before ≡ Some load → sent ≡ Some (pieces ++ text ∷ []) → handed ≡ length pieces → load conn (not lower) ≡ joined pieces → load conn lower ≡ joined answers → Loaded after conn lower (pieces ++ text ∷ []) answers
+loaded_forth told before after sent p load conn lower pieces answers text handed clause is_told is_load is_sent is_handed forth back =
     let is : after ≡ Some (carry load conn (not lower) (joined (drop handed (pieces ++ text ∷ [])))) = rw (is_told, is_load, is_sent) at clause in
     record {
-      load = carry load conn true (text ++ []);
-      is = is ∙ rw (is_upper, is_handed) (rw (drop_at pieces (text ∷ []) (length pieces) refl) refl);
-      down = rw (same_number conn) (ap (λ l. l ++ (text ++ [])) down ∙ sym (joined-append pieces (text ∷ [])));
-      up = rw (same_number conn) up;
+      load = carry load conn (not lower) (text ++ []);
+      is = is ∙ rw is_handed (rw (drop_at pieces (text ∷ []) (length pieces) refl) refl);
+      forth = carried_forth load conn lower pieces text forth;
+      back = carried_back load conn lower answers text back;
     }
 
-pub loaded_up : (told : Option Plain) (before after : Option Carried) (sent : Option (List (List ℕ))) (p : Plain) (load : Carried) (id conn : ℕ) (lower : Bool) (pieces : List (List ℕ)) (handed : ℕ) → MatchOption told (after ≡ before) (λ _. Carries before after id (not lower) handed sent) → told ≡ Some p → before ≡ Some load → sent ≡ Some [] → id ≡ conn → lower ≡ true → load conn true ≡ joined pieces → load conn false ≡ [] → Loaded after conn pieces
-loaded_up told before after sent p load id conn lower pieces handed clause is_told is_load is_sent is_conn is_lower down up =
-    let is : after ≡ Some (carry load id (not lower) (joined (drop handed []))) = rw (is_told, is_load, is_sent) at clause in
+-- The roads have carried nothing more.
+pub record Still (carried : Option Carried) (load : Carried) : Type 0 where
+  pub now : Carried
+  pub is : carried ≡ Some now
+  pub same : (conn : ℕ) (down : Bool) → now conn down ≡ load conn down
+
+-- An end that has handed over all that it sent has nothing to carry.
+pub carries_none : (before after : Option Carried) (load : Carried) (id : ℕ) (down : Bool) (sent : Option (List (List ℕ))) (pieces : List (List ℕ)) (handed : ℕ) → Carries before after id down handed sent → before ≡ Some load → sent ≡ Some pieces → handed ≡ length pieces → Still after load
+carries_none before after load id down sent pieces handed clause is_load is_sent all =
+    let is : after ≡ Some (carry load id down (joined (drop handed pieces))) = rw (is_load, is_sent) at clause in
     record {
-      load = carry load conn false [];
-      is = is ∙ rw (is_conn, is_lower) (rw (nothing_behind handed) refl);
-      down = rw (same_number conn) down;
-      up = rw (same_number conn) (ap (λ l. l ++ []) up);
+      now = carry load id down [];
+      is = is ∙ ap (λ l. Some (carry load id down (joined l))) (none_left pieces handed all);
+      same = λ conn d. unchanged (load conn d) ((id == conn) && same_way down d);
     }
+  where
+    unchanged : (l : List ℕ) (b : Bool) → cond b (l ++ []) l ≡ l
+    unchanged l true = append-nil l
+    unchanged l false = refl
 
--- how many pieces the client has then handed over
+pub loaded_back : (told : Option Plain) (before after : Option Carried) (load : Carried) (id : ℕ) (down : Bool) (sent : Option (List (List ℕ))) (p : Plain) (pieces : List (List ℕ)) (handed : ℕ) → MatchOption told (after ≡ before) (λ _. Carries before after id down handed sent) → told ≡ Some p → before ≡ Some load → sent ≡ Some pieces → handed ≡ length pieces → Still after load
+loaded_back told before after load id down sent p pieces handed clause is_told is_load is_sent all =
+    let carries : Carries before after id down handed sent = rw is_told at clause in
+    carries_none before after load id down sent pieces handed carries is_load is_sent all
+
+-- how many pieces an end has handed over
 pub all_handed : (told : Option Plain) (sent : Option (List (List ℕ))) (p : Plain) (pieces : List (List ℕ)) (before after : ℕ) → MatchOption told (after ≡ before) (λ _. IfSome sent (λ s. after ≡ length s)) → told ≡ Some p → sent ≡ Some pieces → after ≡ length pieces
 all_handed told sent p pieces before after clause is_told is_sent = rw (is_told, is_sent) at clause
+
+-- ---- both ends
+
+not_not : (b : Bool) → not (not b) ≡ b
+not_not true = refl
+not_not false = refl
+
+-- Ends that are linked are so the other way round.
+pub flipped : {R I O : Type 0} (plain : R → Option Plain) (carried : R → Option Carried) (held : I → Option Inbox) (in_shut : I → Bool) (sent : O → Option (List (List ℕ))) (handed lost : O → ℕ) (out_shut : O → Bool) (roads : R) (one other : Conn I O) (pieces answers : List (List ℕ)) → IsLinked plain carried held in_shut sent handed lost out_shut roads one other pieces answers [] → IsLinked plain carried held in_shut sent handed lost out_shut roads other one answers pieces []
+flipped plain carried held in_shut sent handed lost out_shut roads one other pieces answers l = record {
+  net = l.net;
+  net_is = l.net_is;
+  same = sym l.same;
+  across = sym (not_not one.lower) ∙ ap not (sym l.across);
+  none = λ d. ap (λ n. l.net.ways n d) l.same ∙ l.none d;
+  first = l.second;
+  second = l.first;
+  load = l.load;
+  load_is = l.load_is;
+  forth = ap (λ n. l.load n (not other.lower)) l.same ∙ (ap (λ b. l.load one.id.0 (not b)) l.across ∙ (ap (λ b. l.load one.id.0 b) (not_not one.lower) ∙ l.back));
+  back = ap (λ n. l.load n other.lower) l.same ∙ (ap (λ b. l.load one.id.0 b) l.across ∙ l.forth);
+}
+
+-- ---- bringing both ends back
+
+-- what connection 0 has carried
+pub record Loads (carried : Option Carried) (down up : List (List ℕ)) : Type 0 where
+  pub load : Carried
+  pub is : carried ≡ Some load
+  pub down_is : load 0 true ≡ joined down
+  pub up_is : load 0 false ≡ joined up
+
+-- Where both ends of an idle connection are brought back, nothing more is carried.
+pub brought : {R I O : Type 0} (plain : R → Option Plain) (carried : R → Option Carried) (held : I → Option Inbox) (in_shut : I → Bool) (sent : O → Option (List (List ℕ))) (handed lost : O → ℕ) (out_shut : O → Bool) (roads : R) (one other : Conn I O) (down up : List (List ℕ)) (first second : Option Carried) → IsLinked plain carried held in_shut sent handed lost out_shut roads one other down up [] → Carries (carried roads) first one.id.0 (not one.lower) (handed one.outward) (sent one.outward) → Carries first second other.id.0 (not other.lower) (handed other.outward) (sent other.outward) → one.id.0 ≡ 0 → one.lower ≡ false → Loads second down up
+brought plain carried held in_shut sent handed lost out_shut roads one other down up first second l once twice number upper =
+    let a = carries_none (carried roads) first l.load _ _ _ down _ once l.load_is l.first.sent_is l.first.handed_is in
+    let b = carries_none first second a.now _ _ _ up _ twice a.is l.second.sent_is l.second.handed_is in
+    record {
+      load = b.now;
+      is = b.is;
+      down_is = b.same 0 true ∙ (a.same 0 true ∙ (at_zero (λ n d. l.load n (not d)) one.id.0 one.lower number upper ∙ l.forth));
+      up_is = b.same 0 false ∙ (a.same 0 false ∙ (at_zero (λ n d. l.load n d) one.id.0 one.lower number upper ∙ l.back));
+    }
+  where
+    at_zero : (f : ℕ → Bool → List ℕ) (conn : ℕ) (lower : Bool) → conn ≡ 0 → lower ≡ false → f 0 false ≡ f conn lower
+    at_zero f conn lower number upper = ap (λ n. f n false) (sym number) ∙ ap (λ b. f conn b) (sym upper)
 
 -- What follows where a call succeeded.
 pub on_ok_then : {X E : Type 0} {P Q : Type 0} (r : Result X E) → OnOk r P → (P → Q) → OnOk r Q
@@ -110,39 +198,17 @@ pub on_ok_given : {X E : Type 0} {P : Type 0} (r : Result X E) → P → OnOk r 
 on_ok_given (Ok x) p = p
 on_ok_given (Err e) p = tt
 
--- ---- bringing both ends back
-
--- Nothing more is carried when an end is brought back that has handed over all that it sent.
-pub brought : (before after : Option Carried) (load : Carried) (conn id : ℕ) (down : Bool) (sent : Option (List (List ℕ))) (pieces : List (List ℕ)) (handed : ℕ) (loaded : List (List ℕ)) → Carries before after id down handed sent → before ≡ Some load → sent ≡ Some pieces → drop handed pieces ≡ [] → load conn true ≡ joined loaded → load conn false ≡ [] → Loaded after conn loaded
-brought before after load conn id down sent pieces handed loaded clause is_load is_sent all is_down is_up =
-    let is : after ≡ Some (carry load id down (joined (drop handed pieces))) = rw (is_load, is_sent) at clause in
-    let none : after ≡ Some (carry load id down []) = is ∙ ap (λ l. Some (carry load id down (joined l))) all in
-    record {
-      load = carry load id down [];
-      is = none;
-      down = unchanged (load conn true) ((id == conn) && same_way down true) ∙ is_down;
-      up = unchanged (load conn false) ((id == conn) && same_way down false) ∙ is_up;
-    }
-  where
-    unchanged : (l : List ℕ) (b : Bool) → cond b (l ++ []) l ≡ l
-    unchanged l true = append-nil l
-    unchanged l false = refl
-
--- All pieces were handed over.
-pub none_left : (pieces : List (List ℕ)) (handed : ℕ) → handed ≡ length pieces → drop handed pieces ≡ []
-none_left pieces handed all = rw all (drop_all (length pieces) pieces (omega arith))
-
--- What connection 0 carried is what the script is carried as.
-pub carried_for : (s : FirstWrite) (carried : Option Carried) (conn : ℕ) → Loaded carried conn (map packet_text (packets_of s.body)) → conn ≡ 0 → IfSome carried (CarriedFor s)
-carried_for s carried conn l zero =
-    rw l.is (record { down = ap (λ n. l.load n true) (sym zero) ∙ l.down; up = ap (λ n. l.load n false) (sym zero) ∙ l.up })
-
 -- ---- ends that had failed
 
+-- Of two ends one had failed.
+pub positive : (a b : ℕ) → 0 < a + b → (0 < a) ⊎ (0 < b)
+positive zero b some = inr (omega (arith, some))
+positive (suc n) b some = inl (omega arith)
+
 -- The end of a connection that had failed is remembered, when it is brought back
-pub risen_now : (was now : Bool) (id inward outward : ℕ) → now ≡ (was || ((id == id) && (nat_lt 0 inward || nat_lt 0 outward))) → (0 < outward) ⊎ (0 < inward) → now ≡ true
-risen_now was now id inward outward is (inl some) = is ∙ grind (arith, common_steps, nat_tests)
-risen_now was now id inward outward is (inr some) = is ∙ grind (arith, common_steps, nat_tests)
+pub risen_now : (was now : Bool) (id inward outward : ℕ) → now ≡ (was || ((id == id) && (nat_lt 0 inward || nat_lt 0 outward))) → 0 < inward + outward → now ≡ true
+risen_now was now id zero outward is some = is ∙ grind (arith, common_steps, nat_tests, some)
+risen_now was now id (suc n) outward is some = is ∙ grind (arith, common_steps, nat_tests)
 
 -- and from then on.
 pub risen_still : (was now more : Bool) → now ≡ (was || more) → was ≡ true → now ≡ true

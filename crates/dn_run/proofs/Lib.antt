@@ -3,6 +3,8 @@ pub mod ScriptLaws
 pub mod ReportLaws
 pub mod ReplicaLaws
 pub mod ReceiptLaws
+pub mod MessageLaws
 pub mod SendingLaws
+pub mod AckLaws
 pub mod DeliveryLaws
 pub mod RunLaws

@@ -1,14 +1,8 @@
 -- What was received of a message and what is still held are together the message.
-use Rattle.std.proofs.Common.{◌≡◌, ℕ, ◌+◌, ◌<◌, Bool, false, List, [], ◌∷◌, ◌++◌, length, Option, Some, None, IfSome, Result, Ok, Err, option_map, sym, ap, ◌∙◌, refl, arith, length-append, append-nil}
+use Rattle.std.proofs.Common.{◌≡◌, ℕ, ◌+◌, ◌<◌, ◌≤◌, inl, inr, Bool, false, List, [], ◌∷◌, ◌++◌, length, Option, Some, None, IfSome, Result, Ok, Err, option_map, sym, ap, subst, ◌∙◌, refl, arith, length-append, append-nil}
+use Rattle.std.proofs.Math.Nat.{eq-or-lt_of_le}
 use Rattle.hd_base.specs.Links.{Inbox, in_front}
-use Rattle.packet_codec.specs.Packets.{Gives}
-use Rattle.packet_codec.specs.declared.packets.Packet.{Packet}
-use Rattle.packet_codec.specs.declared.faults.PacketFault.{PacketFault}
-use Rattle.packet_codec.specs.declared.faults.PacketFault.TheVariants as packet
-use Rattle.dn_run.specs.Faults.{packet_fault}
-use Rattle.dn_run.specs.declared.faults.RunFault.TheVariants.{Memory}
-use Rattle.dn_run.specs.declared.faults.StepFault.{StepFault}
-use Rattle.dn_run.specs.declared.faults.StepFault.TheVariants.{Shut, Run}
+use Rattle.dn_run.specs.Messages.{Reaches}
 
 -- what is held in the end, and that it stands behind what was received
 pub record Parts (held : Option Inbox) (text message : List ℕ) (ended : Bool) : Type 0 where
@@ -34,17 +28,10 @@ parted (Some h) text message ended e = record {
   same = sym (ap (λ o. (inbox_or o).ended) e);
 }
 
--- after the first receipt,
+-- after any receipts.
 pub parted_first : (before now : Option Inbox) (text start message : List ℕ) (ended : Bool) → start ≡ [] → before ≡ Some (record { bytes = text; ended = ended }) → option_map (in_front start) before ≡ option_map (in_front message) now → Parts now text message ended
 parted_first before now text start message ended empty held moved =
     parted now text message ended (sym (ap (option_map (in_front [])) held) ∙ (ap (λ l. option_map (in_front l) before) (sym empty) ∙ moved))
-
--- and after a further one.
-pub parted_next : (before now : Option Inbox) (text first message : List ℕ) (ended : Bool) → Parts before text first ended → option_map (in_front first) before ≡ option_map (in_front message) now → Parts now text message ended
-parted_next before now text first message ended p moved =
-    let whole : option_map (in_front first) before ≡ Some (record { bytes = text; ended = ended }) =
-    ap (option_map (in_front first)) p.is ∙ (ap (λ l. Some (record { bytes = l; ended = p.inbox.ended })) p.parts ∙ ap (λ b. Some (record { bytes = text; ended = b })) p.same) in
-    parted now text message ended (sym whole ∙ moved)
 
 -- Where as many bytes were received as the message has, all of it was.
 pub all_there : (message rest text : List ℕ) → message ++ rest ≡ text → length message ≡ length text → (rest ≡ []) × (message ≡ text)
@@ -63,26 +50,27 @@ nothing_left now text message ended p many =
 pub err_ok : {X E : Type 0} (e : E) (x : X) → ◌≡◌ {A = Result X E} (Err e) (Ok x) → ⊥
 err_ok e x is = cc
 
--- A packet that is there is refused for want of memory alone.
-pub only_memory : (fault : PacketFault) (x : Packet × ℕ) → Gives (Err fault) (Ok x) → packet_fault fault ≡ Shut → ⊥
-only_memory packet.Memory x gives is = shut_memory is
-  where
-    shut_memory : ◌≡◌ {A = StepFault} (Run Memory) Shut → ⊥
-    shut_memory e = cc
-only_memory packet.Short x gives is = err_ok _ x gives
-only_memory (packet.Length p h) x gives is = err_ok _ x gives
-only_memory (packet.Header c) x gives is = err_ok _ x gives
-only_memory (packet.SumCount r) x gives is = err_ok _ x gives
-
 pub err_value : {X E : Type 0} (a b : E) → ◌≡◌ {A = Result X E} (Err a) (Err b) → a ≡ b
 err_value a b e = cc
 
--- A message that is wholly there doesn't end short of its length,
-pub not_short : (held : Option Inbox) (text message : List ℕ) (ended : Bool) (size : ℕ) → Parts held text message ended → size ≡ length text → IfSome held (λ h. length message + length h.bytes < size) → ⊥
+-- A message that is wholly there doesn't end short of a size within its length.
+pub not_short : (held : Option Inbox) (text message : List ℕ) (ended : Bool) (size : ℕ) → Parts held text message ended → size ≤ length text → IfSome held (λ h. length message + length h.bytes < size) → ⊥
 not_short held text message ended size p sized short =
     let few : length message + length p.inbox.bytes < size = rw p.is at short in
     omega (arith, few, sized, ap length p.parts, length-append message p.inbox.bytes)
 
--- and is what was received.
+pub reached : (front bytes text : List ℕ) (size : ℕ) → front ≡ bytes → Reaches (length front) (length text) size → Reaches (length bytes) (length text) size
+reached front bytes text size same reaches = subst (λ l. Reaches (length l) (length text) size) same reaches
+
+-- Where no more is wanted, the message was received,
+pub received_many : (held : Option Inbox) (text message : List ℕ) (ended : Bool) (size : ℕ) → Parts held text message ended → Reaches (length message) (length text) size → size ≤ length message → length message ≡ length text
+received_many held text message ended size p reaches enough =
+    let part : length message ≤ length text = omega (arith, ap length p.parts, length-append message p.inbox.bytes) in
+    elim (eq-or-lt_of_le part) [
+      | inl all ↦ all
+      | inr less ↦ absurd (omega (arith, enough, reaches.further less))
+    ]
+
+-- and is what stands there.
 pub received_whole : (held : Option Inbox) (text message : List ℕ) (ended : Bool) → Parts held text message ended → length message ≡ length text → message ≡ text
 received_whole held text message ended p many = (all_there message p.inbox.bytes text p.parts many).1

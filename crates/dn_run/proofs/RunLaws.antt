@@ -4,7 +4,7 @@ use Rattle.std.specs.Str.{bytes_eq}
 use Rattle.std.proofs.lemmas.Grind.{common_steps}
 use Rattle.std.proofs.lemmas.Slice.Eq.{bytes_eq-Decides}
 use Rattle.hd_base.specs.Streams.{Took}
-use Rattle.dn_run.specs.Exits.{IsBadScript, IsReadExit, script_limit}
+use Rattle.dn_run.specs.Exits.{IsBadScript, IsReadExit, script_limit, run_exit}
 use Rattle.dn_run.specs.Scripts.{SpellsScript}
 use Rattle.dn_run.specs.declared.exits.BadKind.{BadKind}
 use Rattle.dn_run.specs.declared.exits.BadKind.TheVariants as kinds
@@ -15,12 +15,17 @@ use Rattle.hd_base.specs.FileMaps.{FileMap}
 use Rattle.proto_fields.proofs.ResultLaws.{ok_value}
 use Rattle.dn_run.proofs.ScriptLaws.{script_again}
 use Rattle.dn_run.proofs.ReceiptLaws.{err_value}
-use Rattle.dn_run.specs.Runs.{entry_for, report_for, first_stamp, first_files}
-use Rattle.dn_run.specs.Sendings.{bytes_of}
+use Rattle.dn_run.specs.Runs.{entry_for, report_for, close_for, first_files, CarriedFor}
+use Rattle.dn_run.specs.Sendings.{first_stamp, sent_down, sent_up}
+use Rattle.dn_run.proofs.DeliveryLaws.{Loads}
+use Rattle.hd_base.specs.Ways.{Carried}
 use Rattle.dn_run.specs.declared.report.ReplicaEntry.{ReplicaEntry}
 use Rattle.dn_run.specs.declared.report.CloseAnswer.{CloseAnswer}
-use Rattle.dn_run.specs.declared.report.CloseAnswer.TheVariants as answer
+use Rattle.dn_run.specs.declared.report.CreateAnswer.{CreateAnswer}
 use Rattle.dn_run.specs.declared.report.CreateAnswer.TheVariants as creation
+use Rattle.dn_run.specs.declared.faults.RunFault.{RunFault}
+use Rattle.dn_run.specs.declared.faults.RunFault.TheVariants as run
+use Rattle.hd_base.specs.declared.numbers.NodeId.{NodeId}
 use Rattle.dn_run.specs.declared.script.FirstWrite.{FirstWrite}
 
 -- Entries with the same fields are one.
@@ -36,8 +41,8 @@ same_entry e f node block state stamp written acked sum = λ i. record {
 }
 
 -- The report of a script, by its parts.
-pub same_report : (s : FirstWrite) (e : ReplicaEntry) (wrote : Bool) (close : CloseAnswer) → e ≡ entry_for s → wrote ≡ is_some s.body → close ≡ answer.Closed (length (bytes_of s.body)) (record { 0 = first_stamp }) (record { 0 = 0 }) → (record { block = s.block; replica = Some e; create = creation.Created (record { 0 = first_stamp }); wrote = wrote; close = close }) ≡ report_for s
-same_report s e wrote close entry did closed = rw (entry, did, closed) refl
+pub same_report : (s : FirstWrite) (e : ReplicaEntry) (create : CreateAnswer) (wrote : Bool) (close : CloseAnswer) → e ≡ entry_for s → create ≡ creation.Created (record { 0 = first_stamp }) → wrote ≡ is_some s.body → close ≡ close_for s.body → (record { block = s.block; replica = Some e; create = create; wrote = wrote; close = close }) ≡ report_for s
+same_report s e create wrote close entry created did closed = rw (entry, created, did, closed) refl
 
 -- ---- words
 
@@ -160,9 +165,9 @@ first_set files (s ∷ ss) shelf some = refl
 
 -- ---- what is told
 
-pub if_some_map : {P Q : List ℕ → Type 0} (told : Option (List ℕ)) → IfSome told P → ((text : List ℕ) → P text → Q text) → IfSome told Q
+pub if_some_map : {A : Type 0} {P Q : A → Type 0} (told : Option A) → IfSome told P → ((x : A) → P x → Q x) → IfSome told Q
 if_some_map None p f = tt
-if_some_map (Some text) p f = f text p
+if_some_map (Some x) p f = f x p
 
 -- ---- refusals
 
@@ -200,3 +205,13 @@ refused_by (Some text) out shelves only bad refused = λ line kind. by kind line
     by kinds.TooLong line is = one_of out _ _ _ (refused shelves line kinds.TooLong (not_nodes kinds.TooLong refl) is)
     by kinds.Word line is = one_of out _ _ _ (refused shelves line kinds.Word (not_nodes kinds.Word refl) is)
     by kinds.TooManyNodes line is = inr (reads_script (Some text) out is.3.0 text only bad refl is.1 is.3.1)
+
+-- What connection 0 carried is what the script is carried as.
+pub carried_for : (s : FirstWrite) (carried : Option Carried) → Loads carried (sent_down s.block.0 s.body) (sent_up s.body) → IfSome carried (CarriedFor s)
+carried_for s carried l = rw l.is (record { down = l.down_is; up = l.up_is })
+
+-- A run ends with a shelf's fault only where the shelf failed.
+pub shelf_alone : (fault : RunFault) (node : NodeId) → run_exit fault ≡ exit.ShelfFault node → fault ≡ run.Shelf
+shelf_alone run.Road node is = cc
+shelf_alone run.Shelf node is = refl
+shelf_alone run.Memory node is = cc

@@ -1,13 +1,22 @@
--- Laws of the packets that a first write sends.
-use Rattle.std.proofs.Common.{◌≡◌, ◌≢◌, ℕ, ◌+◌, ◌*◌, ◌%◌, ◌<◌, ◌≤◌, pos, refl, true, List, length, map, nat_eq, sym, ap, ◌∙◌, arith}
+-- Laws of what a first write sends.
+use Rattle.std.proofs.Common.{◌≡◌, ◌≢◌, ℕ, ◌+◌, ◌*◌, ◌%◌, ◌<◌, ◌≤◌, ℤ, pos, refl, true, List, [], length, map, None, IsSome, subst, nat_eq, sym, ap, ◌∙◌, arith}
 use Rattle.std.proofs.lemmas.Bool.Decides.{nat_tests}
 use Rattle.std.proofs.lemmas.List.{length-map}
 use Rattle.chunk_sums.specs.Pieces.{sums, pieces}
 use Rattle.chunk_sums.specs.Crc.{sum_of}
 use Rattle.std.proofs.lemmas.Grind.{div_ceil_times}
+use Rattle.ack_codec.specs.ResponseTexts.{response_message}
+use Rattle.ack_codec.specs.declared.responses.Response.{Response}
+use Rattle.ack_codec.proofs.ResponseTextLaws.{response_message_few}
+use Rattle.hd_base.specs.Wire.{IsStatus}
+use Rattle.op_headers.specs.Requests.{op_message}
+use Rattle.op_headers.specs.Room.{nodes_room, source_room}
+use Rattle.op_headers.specs.Values.{WriteFields}
+use Rattle.op_headers.specs.declared.ops.Op.TheVariants.{Write}
+use Rattle.op_headers.proofs.RoomLaws.{op_few}
 use Rattle.dn_run.specs.declared.member.Replica.{Replica}
-use Rattle.dn_run.specs.Members.{IsDataPacket, IsLastPacket}
-use Rattle.dn_run.specs.Sendings.{data_packet, last_packet}
+use Rattle.dn_run.specs.Members.{IsRequestFor, IsAckOf, IsDataPacket, IsLastPacket}
+use Rattle.dn_run.specs.Sendings.{success, request_for, ack_for, data_packet, last_packet}
 use Rattle.chunk_sums.proofs.PiecesLemmas.{length-flat_sums, length-sums}
 
 sums_length : (body : List ℕ) → length (sums body) ≡ 4 * length (pieces 512 512 body)
@@ -42,3 +51,27 @@ is_data_packet body some = record { offset = refl; seqno = refl; more = refl; so
 -- and the last packet what it takes behind it.
 pub is_last_packet : (replica : Replica) (len seqno : ℕ) → replica.written ≡ len → replica.next_seqno ≡ seqno → IsLastPacket replica (last_packet len (pos seqno))
 is_last_packet replica len seqno written next = record { offset = ap pos (sym written); seqno = ap pos (sym next); last = refl; no_body = refl; no_sums = refl }
+
+-- A request with short texts and no other node is within the limit of messages.
+pub request_few : (w : WriteFields) → w.targets ≡ [] → w.source ≡ None → length w.block.pool ≤ 100 → length w.client ≤ 100 → length (op_message (Write w)) ≤ 65536
+request_few w alone none pool client = op_few (Write w) (omega (arith, pool, client, ap nodes_room alone, ap source_room none))
+
+-- The client's request is what the member takes,
+pub is_request : (block : ℕ) → IsRequestFor block (request_for block)
+is_request block = record {
+  new = record { pool_is = refl; block_is = refl; stamp_is = refl };
+  alone = refl;
+  stage_is = refl;
+  kind_is = refl;
+  chunk_is = refl;
+}
+
+-- and the member's ack what the client takes.
+pub is_ack : (seqno : ℤ) → IsAckOf seqno (ack_for seqno)
+is_ack seqno = record { number = refl; taken = refl }
+
+-- The member's answer may be written.
+pub success_fits : (r : Response) → r ≡ success → IsStatus r.status × (IsSome r.sums_from → r.first_bad ≡ []) × (length (response_message r) ≤ 65536)
+success_fits r is =
+    let P : Response → Type 0 = λ x. IsStatus x.status × (IsSome x.sums_from → x.first_bad ≡ []) × (length (response_message x) ≤ 65536) in
+    subst P (sym is) (tt, (λ _. refl), response_message_few success (omega arith))

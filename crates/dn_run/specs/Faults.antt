@@ -5,6 +5,10 @@ use Rattle.hd_base.specs.declared.links.LinkError.{LinkError}
 use Rattle.hd_base.specs.declared.links.LinkError.TheVariants as link
 use Rattle.hd_base.specs.declared.roads.RoadError.{RoadError}
 use Rattle.hd_base.specs.declared.roads.RoadError.TheVariants as road
+use Rattle.ack_codec.specs.declared.faults.ResponseFault.{ResponseFault}
+use Rattle.ack_codec.specs.declared.faults.ResponseFault.TheVariants as response
+use Rattle.op_headers.specs.declared.faults.OpFault.{OpFault}
+use Rattle.op_headers.specs.declared.faults.OpFault.TheVariants as op
 use Rattle.packet_codec.specs.declared.faults.PacketFault.{PacketFault}
 use Rattle.packet_codec.specs.declared.faults.PacketFault.TheVariants as packet
 use Rattle.dn_run.specs.declared.faults.StepFault.{StepFault}
@@ -26,7 +30,15 @@ road_fault road.Memory = Memory
 road_fault road.NotListening = Road
 road_fault road.Failed = Road
 
--- bytes that are no packet make a member shut
+-- bytes that are no message of the kind that is to come make their taker shut
 abbrev pub packet_fault : PacketFault → StepFault
 packet_fault packet.Memory = Run Memory
 packet_fault _ = Shut
+
+abbrev pub op_fault : OpFault → StepFault
+op_fault op.Memory = Run Memory
+op_fault _ = Shut
+
+abbrev pub response_fault : ResponseFault → StepFault
+response_fault response.Memory = Run Memory
+response_fault _ = Shut

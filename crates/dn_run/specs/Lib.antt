@@ -2,6 +2,7 @@ pub mod Streams
 pub mod Scripts
 pub mod Reports
 pub mod Faults
+pub mod Messages
 pub mod Replicas
 pub mod Sendings
 pub mod Members

@@ -29,10 +29,11 @@ sum_text sum = encode_lower (to_be_bytes w32 sum)
 unfoldable pub replica_line : ReplicaEntry → List ℕ
 replica_line r = line (codes "replica" ∷ decimal r.node.0 ∷ decimal r.block.0 ∷ state_name r.state ∷ decimal r.stamp.0 ∷ decimal r.written ∷ decimal r.acked ∷ sum_text r.sum ∷ codes "ok" ∷ [])
 
--- `ok STAMP`, or `abandoned NODE` where the pipeline couldn't be set up
+-- `ok STAMP`, `abandoned NODE` where the node isn't reached, or `waiting` where no answer came
 abbrev pub create_result : CreateAnswer → List (List ℕ)
 create_result (creation.Created stamp) = codes "ok" ∷ decimal stamp.0 ∷ []
 create_result (creation.Abandoned node) = codes "abandoned" ∷ decimal node.0 ∷ []
+create_result creation.Waiting = codes "waiting" ∷ []
 
 -- `answer BLOCK 0 create RESULT`
 unfoldable pub create_answer_line : ℕ → CreateAnswer → List ℕ

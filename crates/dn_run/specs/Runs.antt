@@ -6,20 +6,18 @@ use Rattle.dn_run.specs.Exits.{script_limit}
 use Rattle.dn_run.specs.Scripts.{SpellsScript}
 use Rattle.chunk_sums.specs.Crc.{sum_of}
 use Rattle.hd_base.specs.FileMaps.{FileMap, no_files}
+use Rattle.hd_base.specs.Lists.{joined}
 use Rattle.hd_base.specs.Ways.{Plain, Carried}
 use Rattle.hd_base.specs.declared.states.ReplicaState.TheVariants as state
 use Rattle.meta_file.specs.declared.names.Folder.TheVariants as folder
 use Rattle.dn_run.specs.Replicas.{with_replica}
-use Rattle.dn_run.specs.Sendings.{bytes_of, stream_of}
+use Rattle.dn_run.specs.Sendings.{first_stamp, bytes_of, sent_down, sent_up}
+use Rattle.dn_run.specs.declared.report.CloseAnswer.{CloseAnswer}
 use Rattle.dn_run.specs.declared.report.CloseAnswer.TheVariants as answer
 use Rattle.dn_run.specs.declared.report.CreateAnswer.TheVariants as creation
 use Rattle.dn_run.specs.declared.report.ReplicaEntry.{ReplicaEntry}
 use Rattle.dn_run.specs.declared.report.WriteReport.{WriteReport}
 use Rattle.dn_run.specs.declared.script.FirstWrite.{FirstWrite}
-
--- the stamp of the first block that is made
-abbrev pub first_stamp : ℕ
-first_stamp = 1001
 
 -- what the report tells of the replica: node 0 has it finalized, with all bytes
 abbrev pub entry_for : FirstWrite → ReplicaEntry
@@ -33,6 +31,10 @@ entry_for s = record {
   sum = sum_of (bytes_of s.body);
 }
 
+-- how close is answered
+abbrev pub close_for : Option (List ℕ) → CloseAnswer
+close_for body = answer.Closed (length (bytes_of body)) (record { 0 = first_stamp }) (record { 0 = 0 })
+
 -- What the report of a script tells: the replica, and that create and close were answered ok.
 abbrev pub report_for : FirstWrite → WriteReport
 report_for s = record {
@@ -40,7 +42,7 @@ report_for s = record {
   replica = Some (entry_for s);
   create = creation.Created (record { 0 = first_stamp });
   wrote = is_some s.body;
-  close = answer.Closed (length (bytes_of s.body)) (record { 0 = first_stamp }) (record { 0 = 0 });
+  close = close_for s.body;
 }
 
 -- the files that the script leaves on an empty shelf: those of the finalized replica, and no other
@@ -53,10 +55,10 @@ pub record TellEmpty (plain : Option Plain) (carried : Option Carried) (files : 
   pub loads : IsSome carried
   pub none : files ≡ Some no_files
 
--- Connection 0 carried the script's packets down, one behind the other, and nothing up.
+-- Connection 0 carried the request and the script's packets down, and the answer and the acks up, one message behind the other.
 pub record CarriedFor (s : FirstWrite) (carried : Carried) : Type 0 where
-  pub down : carried 0 true ≡ stream_of s.body
-  pub up : carried 0 false ≡ []
+  pub down : carried 0 true ≡ joined (sent_down s.block.0 s.body)
+  pub up : carried 0 false ≡ joined (sent_up s.body)
 
 -- what the first of the shelves tells, where there is one
 abbrev pub first_files : {S : Type 0} → (S → Option FileMap) → List S → Option FileMap

@@ -1,19 +1,16 @@
-//! The connection of a pipeline with one member: making it, and delivering a packet on it.
+//! The connection of a pipeline with one member: making it, and delivering messages on it.
 
-ghost use Rattle.std.specs.Prelude.{◌≡◌, ◌≢◌, ◌+◌, ◌%◌, ◌<◌, ◌≤◌, ◌⊎◌, ◌∷◌, ◌++◌, ℕ, List, [], length, Some, None, Err, IfOk, OnOk, IfSome, IsSome};
+ghost use Rattle.std.specs.Prelude.{◌≡◌, ◌≢◌, ◌<◌, ◌≤◌, ◌⊎◌, ◌∷◌, ◌++◌, ℕ, List, [], false, Some, None, Err, IfOk, OnOk, IfSome, IsSome};
 ghost use Rattle.hd_base.specs.Faults.{Rose};
-ghost use Rattle.packet_codec.specs.Frames.{limit};
-ghost use Rattle.packet_codec.specs.Headers.{header_size};
-ghost use Rattle.packet_codec.specs.Packets.{SpellsPacket, payload_for, packet_text};
-ghost use Rattle.dn_run.specs.Connections.{IsOpen, IsUnused, Knows, RoadRose};
+ghost use Rattle.dn_run.specs.Connections.{IsLinked, IsOpen, IsUnused, Knows, RoadRose, StaysEnd, end_faults};
 ghost use Rattle.dn_run.specs.declared.faults.StepFault.TheVariants.{Shut, Run};
 ghost use Rattle.dn_run.specs.declared.faults.RunFault.TheVariants as fault;
 
 use crate::faults::{RunFault, StepFault};
-use crate::receiving::receive_packet;
-use crate::sending::send_packet;
+use crate::messages::Message;
+use crate::receiving::receive;
+use crate::sending::send;
 use hd_base::{Conn, NodeId, RoadError, Roads};
-use packet_codec::Packet;
 use std::alloc::Global;
 
 /// Both ends of a connection.
@@ -37,6 +34,7 @@ pub(crate) fn connect<R: Roads>(
     ensures reached { IsSome (R.plain roads.old) → IfOk result (λ found. IsSome found) }
     ensures idle { IsSome (R.plain roads.old) → IsSome (R.carried roads.old) → IfOk result (λ found. IfSome found (λ c. IsOpen R.plain R.carried R.Inward.held R.Inward.shut R.Outward.sent R.Outward.handed R.Outward.lost R.Outward.shut roads.new c [] [])) }
     ensures number { IsSome (R.plain roads.old) → IfOk result (λ found. IfSome found (λ c. c.client.id.0 ≡ 0)) }
+    ensures upper { IfOk result (λ found. IfSome found (λ c. c.client.lower ≡ false)) }
     ensures known { IfOk result (λ found. IfSome found (λ c. Knows (R.plain roads.new) c.client.id.0 × Knows (R.plain roads.new) c.member.id.0)) }
     ensures failed { result ≡ Err fault.Road → Rose (R.faults roads.old) (R.faults roads.new) }
     ensures later { R.faults roads.old ≤ R.faults roads.new }
@@ -55,54 +53,113 @@ pub(crate) fn connect<R: Roads>(
     Ok(Some(Connection { client, member }))
 }
 
-/// Sends a packet on the client's end, and receives one on the member's.
-pub(crate) fn deliver<R: Roads>(
+/// Sends a message on the client's end, and receives one on the member's.
+pub(crate) fn deliver_down<R: Roads, M: Message>(
     alloc: Global,
     roads: &mut R,
     connection: &mut Connection<R::Inward, R::Outward>,
-    packet: &Packet,
-) -> Result<Packet, StepFault>
-    requires whole { length packet.now.sums % 4 ≡ 0 }
-    requires within { payload_for packet.now + header_size packet.now.sync ≤ limit }
+    message: &M,
+) -> Result<M, StepFault>
+    requires fits { M.fits message.now }
     requires client { Knows (R.plain roads.old) connection.old.client.id.0 }
     requires member { Knows (R.plain roads.old) connection.old.member.id.0 }
-    // Where all is told and idle, the packet that was sent is received, and all is idle again.
-    ensures same { (pieces : List (List ℕ)) → IsOpen R.plain R.carried R.Inward.held R.Inward.shut R.Outward.sent R.Outward.handed R.Outward.lost R.Outward.shut roads.old connection.old pieces [] → IfOk result (λ taken. taken ≡ packet.now) }
-    ensures idle { (pieces : List (List ℕ)) → IsOpen R.plain R.carried R.Inward.held R.Inward.shut R.Outward.sent R.Outward.handed R.Outward.lost R.Outward.shut roads.old connection.old pieces [] → OnOk result (IsOpen R.plain R.carried R.Inward.held R.Inward.shut R.Outward.sent R.Outward.handed R.Outward.lost R.Outward.shut roads.new connection.new (pieces ++ packet_text packet.now ∷ []) []) }
-    ensures open { (pieces : List (List ℕ)) → IsOpen R.plain R.carried R.Inward.held R.Inward.shut R.Outward.sent R.Outward.handed R.Outward.lost R.Outward.shut roads.old connection.old pieces [] → result ≢ Err Shut }
-    ensures client { (connection.new.client.id ≡ connection.old.client.id) × Knows (R.plain roads.new) connection.new.client.id.0 }
-    ensures member { (connection.new.member.id ≡ connection.old.member.id) × Knows (R.plain roads.new) connection.new.member.id.0 }
-    ensures failed { result ≡ Err (Run fault.Road) → RoadRose (R.faults roads.old) (R.faults roads.new) (R.Outward.faults connection.new.client.outward) (R.Inward.faults connection.new.member.inward) }
+    // Where all is told and idle, the message that was sent is received, and all is idle again.
+    ensures same { (down up : List (List ℕ)) → IsOpen R.plain R.carried R.Inward.held R.Inward.shut R.Outward.sent R.Outward.handed R.Outward.lost R.Outward.shut roads.old connection.old down up → IfOk result (λ taken. taken ≡ message.now) }
+    ensures idle { (down up : List (List ℕ)) → IsOpen R.plain R.carried R.Inward.held R.Inward.shut R.Outward.sent R.Outward.handed R.Outward.lost R.Outward.shut roads.old connection.old down up → OnOk result (IsOpen R.plain R.carried R.Inward.held R.Inward.shut R.Outward.sent R.Outward.handed R.Outward.lost R.Outward.shut roads.new connection.new (down ++ M.text message.now ∷ []) up) }
+    ensures open { (down up : List (List ℕ)) → IsOpen R.plain R.carried R.Inward.held R.Inward.shut R.Outward.sent R.Outward.handed R.Outward.lost R.Outward.shut roads.old connection.old down up → result ≢ Err Shut }
+    ensures client { StaysEnd (R.plain roads.new) connection.old.client connection.new.client }
+    ensures member { StaysEnd (R.plain roads.new) connection.old.member connection.new.member }
+    ensures failed { result ≡ Err (Run fault.Road) → RoadRose (R.faults roads.old) (R.faults roads.new) (end_faults R.Inward.faults R.Outward.faults connection.new.client) (end_faults R.Inward.faults R.Outward.faults connection.new.member) }
     ensures later { R.faults roads.old ≤ R.faults roads.new }
     ensures risen { R.risen roads.new ≡ R.risen roads.old }
     ensures no_shelf { result ≢ Err (Run fault.Shelf) }
 {
-    pass_on(alloc, roads, connection, packet)?;
-    receive_packet(alloc, &mut connection.member.inward)
+    deliver(
+        alloc,
+        roads,
+        &mut connection.client,
+        &mut connection.member,
+        message,
+    )
 }
 
-/// Sends a packet on the client's end, and lets the roads bring what comes next to the member's.
-fn pass_on<R: Roads>(
+/// Sends a message on the member's end, and receives one on the client's.
+pub(crate) fn deliver_up<R: Roads, M: Message>(
     alloc: Global,
     roads: &mut R,
     connection: &mut Connection<R::Inward, R::Outward>,
-    packet: &Packet,
-) -> Result<(), RunFault>
-    requires whole { length packet.now.sums % 4 ≡ 0 }
-    requires within { payload_for packet.now + header_size packet.now.sync ≤ limit }
+    message: &M,
+) -> Result<M, StepFault>
+    requires fits { M.fits message.now }
     requires client { Knows (R.plain roads.old) connection.old.client.id.0 }
     requires member { Knows (R.plain roads.old) connection.old.member.id.0 }
-    ensures arrived { (pieces : List (List ℕ)) → IsOpen R.plain R.carried R.Inward.held R.Inward.shut R.Outward.sent R.Outward.handed R.Outward.lost R.Outward.shut roads.old connection.old pieces [] → OnOk result (IsOpen R.plain R.carried R.Inward.held R.Inward.shut R.Outward.sent R.Outward.handed R.Outward.lost R.Outward.shut roads.new connection.new (pieces ++ packet_text packet.now ∷ []) (packet_text packet.now)) }
-    ensures spelled { OnOk result (SpellsPacket packet.now (packet_text packet.now)) }
-    ensures client { (connection.new.client.id ≡ connection.old.client.id) × Knows (R.plain roads.new) connection.new.client.id.0 }
-    ensures member { (connection.new.member.id ≡ connection.old.member.id) × Knows (R.plain roads.new) connection.new.member.id.0 }
-    ensures failed { result ≡ Err fault.Road → Rose (R.faults roads.old) (R.faults roads.new) ⊎ (0 < R.Outward.faults connection.new.client.outward) }
+    // Where all is told and idle, the message that was sent is received, and all is idle again.
+    ensures same { (down up : List (List ℕ)) → IsOpen R.plain R.carried R.Inward.held R.Inward.shut R.Outward.sent R.Outward.handed R.Outward.lost R.Outward.shut roads.old connection.old down up → IfOk result (λ taken. taken ≡ message.now) }
+    ensures idle { (down up : List (List ℕ)) → IsOpen R.plain R.carried R.Inward.held R.Inward.shut R.Outward.sent R.Outward.handed R.Outward.lost R.Outward.shut roads.old connection.old down up → OnOk result (IsOpen R.plain R.carried R.Inward.held R.Inward.shut R.Outward.sent R.Outward.handed R.Outward.lost R.Outward.shut roads.new connection.new down (up ++ M.text message.now ∷ [])) }
+    ensures open { (down up : List (List ℕ)) → IsOpen R.plain R.carried R.Inward.held R.Inward.shut R.Outward.sent R.Outward.handed R.Outward.lost R.Outward.shut roads.old connection.old down up → result ≢ Err Shut }
+    ensures client { StaysEnd (R.plain roads.new) connection.old.client connection.new.client }
+    ensures member { StaysEnd (R.plain roads.new) connection.old.member connection.new.member }
+    ensures failed { result ≡ Err (Run fault.Road) → RoadRose (R.faults roads.old) (R.faults roads.new) (end_faults R.Inward.faults R.Outward.faults connection.new.client) (end_faults R.Inward.faults R.Outward.faults connection.new.member) }
+    ensures later { R.faults roads.old ≤ R.faults roads.new }
+    ensures risen { R.risen roads.new ≡ R.risen roads.old }
+    ensures no_shelf { result ≢ Err (Run fault.Shelf) }
+{
+    deliver(
+        alloc,
+        roads,
+        &mut connection.member,
+        &mut connection.client,
+        message,
+    )
+}
+
+/// Sends a message on one end, and receives one on the other.
+fn deliver<R: Roads, M: Message>(
+    alloc: Global,
+    roads: &mut R,
+    from: &mut Conn<R::Inward, R::Outward>,
+    to: &mut Conn<R::Inward, R::Outward>,
+    message: &M,
+) -> Result<M, StepFault>
+    requires fits { M.fits message.now }
+    requires from { Knows (R.plain roads.old) from.old.id.0 }
+    requires to { Knows (R.plain roads.old) to.old.id.0 }
+    ensures same { (pieces answers : List (List ℕ)) → IsLinked R.plain R.carried R.Inward.held R.Inward.shut R.Outward.sent R.Outward.handed R.Outward.lost R.Outward.shut roads.old from.old to.old pieces answers [] → IfOk result (λ taken. taken ≡ message.now) }
+    ensures idle { (pieces answers : List (List ℕ)) → IsLinked R.plain R.carried R.Inward.held R.Inward.shut R.Outward.sent R.Outward.handed R.Outward.lost R.Outward.shut roads.old from.old to.old pieces answers [] → OnOk result (IsLinked R.plain R.carried R.Inward.held R.Inward.shut R.Outward.sent R.Outward.handed R.Outward.lost R.Outward.shut roads.new from.new to.new (pieces ++ M.text message.now ∷ []) answers []) }
+    ensures open { (pieces answers : List (List ℕ)) → IsLinked R.plain R.carried R.Inward.held R.Inward.shut R.Outward.sent R.Outward.handed R.Outward.lost R.Outward.shut roads.old from.old to.old pieces answers [] → result ≢ Err Shut }
+    ensures from { StaysEnd (R.plain roads.new) from.old from.new }
+    ensures to { StaysEnd (R.plain roads.new) to.old to.new }
+    ensures failed { result ≡ Err (Run fault.Road) → RoadRose (R.faults roads.old) (R.faults roads.new) (end_faults R.Inward.faults R.Outward.faults from.new) (end_faults R.Inward.faults R.Outward.faults to.new) }
+    ensures later { R.faults roads.old ≤ R.faults roads.new }
+    ensures risen { R.risen roads.new ≡ R.risen roads.old }
+    ensures no_shelf { result ≢ Err (Run fault.Shelf) }
+{
+    pass_on(alloc, roads, from, to, message)?;
+    receive(alloc, &mut to.inward)
+}
+
+/// Sends a message on one end, and lets the roads bring what comes next to the other.
+fn pass_on<R: Roads, M: Message>(
+    alloc: Global,
+    roads: &mut R,
+    from: &mut Conn<R::Inward, R::Outward>,
+    to: &mut Conn<R::Inward, R::Outward>,
+    message: &M,
+) -> Result<(), RunFault>
+    requires fits { M.fits message.now }
+    requires from { Knows (R.plain roads.old) from.old.id.0 }
+    requires to { Knows (R.plain roads.old) to.old.id.0 }
+    ensures arrived { (pieces answers : List (List ℕ)) → IsLinked R.plain R.carried R.Inward.held R.Inward.shut R.Outward.sent R.Outward.handed R.Outward.lost R.Outward.shut roads.old from.old to.old pieces answers [] → OnOk result (IsLinked R.plain R.carried R.Inward.held R.Inward.shut R.Outward.sent R.Outward.handed R.Outward.lost R.Outward.shut roads.new from.new to.new (pieces ++ M.text message.now ∷ []) answers (M.text message.now)) }
+    ensures spelled { OnOk result (M.spells message.now (M.text message.now)) }
+    ensures from { StaysEnd (R.plain roads.new) from.old from.new }
+    ensures to { StaysEnd (R.plain roads.new) to.old to.new }
+    ensures failed { result ≡ Err fault.Road → Rose (R.faults roads.old) (R.faults roads.new) ⊎ (0 < R.Outward.faults from.new.outward) }
     ensures later { R.faults roads.old ≤ R.faults roads.new }
     ensures risen { R.risen roads.new ≡ R.risen roads.old }
     ensures no_shelf { result ≢ Err fault.Shelf }
 {
-    send_packet(alloc, packet, &mut connection.client.outward)?;
-    roads.exchange(alloc, &mut connection.client, false)?;
-    roads.exchange(alloc, &mut connection.member, true)?;
+    send(alloc, message, &mut from.outward)?;
+    roads.exchange(alloc, from, false)?;
+    roads.exchange(alloc, to, true)?;
     Ok(())
 }

@@ -2,7 +2,9 @@
 
 ghost use Rattle.std.specs.Prelude.{◌≡◌};
 
+use ack_codec::{AckFault, ResponseFault};
 use hd_base::{FileError, LinkError, RoadError};
+use op_headers::OpFault;
 use packet_codec::PacketFault;
 use std::alloc::AllocError;
 use thiserror::Error;
@@ -21,12 +23,12 @@ pub enum RunFault {
     Memory,
 }
 
-/// Why a step of a member stopped.
+/// Why a step of the client or the member stopped.
 #[derive(Clone, Copy, Debug, PartialEq, Eq, PartialOrd, Ord, Hash, Error)]
 pub enum StepFault {
-    /// The member shuts: the connection ended first, or the packet can't be read, isn't the one
-    /// that comes next, or has a sum that differs.
-    #[error("the member shuts")]
+    /// The taker shuts: the connection ended first, or the message can't be read or isn't the one
+    /// that is to come, or a packet has a sum that differs.
+    #[error("the taker shuts")]
     Shut,
     /// The run stops.
     #[error("{0}")]
@@ -108,5 +110,44 @@ impl From<PacketFault> for StepFault {
             PacketFault::Memory => StepFault::Run(RunFault::Memory),
             _ => StepFault::Shut,
         }
+    }
+}
+
+impl From<OpFault> for StepFault {
+    ghost use Rattle.std.specs.Prelude.{◌≡◌};
+    ghost use Rattle.dn_run.specs.Faults.{op_fault};
+
+    ghost from_gives = { λ fault step. step ≡ op_fault fault };
+
+    fn from(fault: OpFault) -> StepFault {
+        match fault {
+            OpFault::Memory => StepFault::Run(RunFault::Memory),
+            _ => StepFault::Shut,
+        }
+    }
+}
+
+impl From<ResponseFault> for StepFault {
+    ghost use Rattle.std.specs.Prelude.{◌≡◌};
+    ghost use Rattle.dn_run.specs.Faults.{response_fault};
+
+    ghost from_gives = { λ fault step. step ≡ response_fault fault };
+
+    fn from(fault: ResponseFault) -> StepFault {
+        match fault {
+            ResponseFault::Memory => StepFault::Run(RunFault::Memory),
+            _ => StepFault::Shut,
+        }
+    }
+}
+
+impl From<AckFault> for StepFault {
+    ghost use Rattle.std.specs.Prelude.{◌≡◌};
+    ghost use Rattle.dn_run.specs.declared.faults.StepFault.TheVariants.{Shut};
+
+    ghost from_gives = { λ _ step. step ≡ Shut };
+
+    fn from(_fault: AckFault) -> StepFault {
+        StepFault::Shut
     }
 }

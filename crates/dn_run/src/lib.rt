@@ -7,6 +7,7 @@ mod connection;
 pub mod exits;
 pub mod faults;
 mod member;
+mod messages;
 mod play;
 mod receiving;
 pub mod replica_files;

@@ -1,4 +1,5 @@
-//! The only member of a first write's pipeline: which packets it takes, and what it holds.
+//! The only member of a first write's pipeline: which request and packets it takes, what it answers,
+//! and what it holds.
 
 ghost use Rattle.std.specs.Prelude.{◌≡◌, ◌≢◌, ◌+◌, ◌^◌, ◌<◌, ◌≤◌, ◌↔◌, ℕ, List, [], length, take, true, pos, Err, IfOk, OnOk, OnErr, IfSome};
 ghost use Rattle.chunk_sums.specs.Crc.{sum_of};
@@ -7,18 +8,21 @@ ghost use Rattle.hd_base.specs.Faults.{Rose};
 ghost use Rattle.hd_base.specs.FileMaps.{Steps};
 ghost use Rattle.hd_base.specs.declared.states.ReplicaState.TheVariants as state;
 ghost use Rattle.meta_file.specs.declared.names.Folder.TheVariants as folder;
-ghost use Rattle.dn_run.specs.Members.{IsDataPacket, IsLastPacket, folder_of};
+ghost use Rattle.dn_run.specs.Members.{IsNewBlock, IsCreation, IsRequestFor, IsDataPacket, IsLastPacket, folder_of};
 ghost use Rattle.dn_run.specs.Replicas.{data_path, with_replica, finalized, HasReplica, IsHeld, IsThere};
+ghost use Rattle.dn_run.specs.Sendings.{success as success_answer, ack_for as ack_of_packet};
 ghost use Rattle.dn_run.specs.declared.faults.StepFault.TheVariants.{Shut, Run};
 ghost use Rattle.dn_run.specs.declared.faults.RunFault.TheVariants as fault;
 
-use crate::client::CHUNK;
+use crate::client::{CHUNK, CHUNK_SIZE, CRC32C, FIRST_STAMP, POOL, SETUP_CREATE};
 use crate::faults::{RunFault, StepFault};
 use crate::replica_files::{finalize_files, store, stored_sum};
 use crate::report::ReplicaEntry;
+use ack_codec::{Ack, Replies, Response};
 use chunk_sums::{first_bad, piece_count};
-use hd_base::{BlockId, Files, NodeId, ReplicaState, Stamp};
+use hd_base::{BlockId, ByteList, Files, NodeId, ReplicaState, Stamp, Status};
 use meta_file::Folder;
+use op_headers::{BlockRef, Op, WriteOp};
 use packet_codec::Packet;
 use std::alloc::Global;
 
@@ -143,6 +147,58 @@ impl Replica {
             acked: self.written,
             sum,
         })
+    }
+}
+
+/// Whether a request is to write this block as a new one, through a pipeline of one member.
+pub(crate) fn is_request_for(block: BlockId, op: &Op) -> bool
+    ensures { (result ≡ true) ↔ IsRequestFor block.0 op.now }
+{
+    match op {
+        Op::Write(op) => is_creation(block, op),
+        _ => false,
+    }
+}
+
+/// Whether a write request is to make this block.
+fn is_creation(block: BlockId, op: &WriteOp) -> bool
+    ensures { (result ≡ true) ↔ IsCreation block.0 op.now }
+{
+    is_new_block(block, &op.block)
+        && op.targets.is_empty()
+        && op.stage == SETUP_CREATE
+        && op.kind == CRC32C
+        && op.chunk == CHUNK_SIZE
+}
+
+/// Whether this block is named, in the only pool and under its first stamp.
+fn is_new_block(block: BlockId, named: &BlockRef) -> bool
+    ensures { (result ≡ true) ↔ IsNewBlock block.0 named.now }
+{
+    named.pool.as_slice() == POOL && named.block == block && named.stamp == FIRST_STAMP
+}
+
+/// The answer to a request that is taken.
+pub(crate) fn success(alloc: Global) -> Response
+    ensures { result ≡ success_answer }
+{
+    Response {
+        status: Status::Success,
+        first_bad: ByteList::from_vec(Vec::new(alloc)),
+        sums_from: None,
+        message: ByteList::from_vec(Vec::new(alloc)),
+    }
+}
+
+/// The ack of the packet with this number in its stream.
+pub(crate) fn ack_for(seqno: u32) -> Ack
+    ensures { result ≡ ack_of_packet (pos seqno) }
+{
+    let mut replies = Replies::empty();
+    replies.push(Status::Success);
+    Ack {
+        seqno: i64::from(seqno),
+        replies,
     }
 }
 

@@ -33,6 +33,8 @@ pub enum CreateAnswer {
     Created { stamp: Stamp },
     /// Its pipeline couldn't be set up: this member wasn't reached.
     Abandoned { node: NodeId },
+    /// No answer came.
+    Waiting,
 }
 
 /// How the closing was answered.
@@ -118,6 +120,7 @@ fn push_create_answer(
             push_word(out, b"0 create abandoned", b' ')?;
             push_number(out, u64::from(node.0), b'\n')
         }
+        CreateAnswer::Waiting => push_word(out, b"0 create waiting", b'\n'),
     }
 }
 

@@ -1,26 +1,22 @@
-//! Sending packets as messages.
+//! Sending messages.
 
-ghost use Rattle.std.specs.Prelude.{◌≡◌, ◌≢◌, ◌+◌, ◌%◌, ◌^◌, ◌<◌, ◌≤◌, ◌∷◌, ◌++◌, ℕ, List, [], false, length, Some, Err, IfOk, OnOk, IfSome};
+ghost use Rattle.std.specs.Prelude.{◌≡◌, ◌≢◌, ◌<◌, ◌≤◌, ◌∷◌, ◌++◌, ℕ, List, [], false, length, Some, Err, OnOk, IfSome};
 ghost use Rattle.hd_base.specs.Faults.{Rose};
-ghost use Rattle.packet_codec.specs.Frames.{limit};
-ghost use Rattle.packet_codec.specs.Headers.{header_size};
-ghost use Rattle.packet_codec.specs.Packets.{SpellsPacket, payload_for, packet_text};
 
 use crate::faults::RunFault;
+use crate::messages::Message;
 use hd_base::LinkOut;
-use packet_codec::{Packet, encode_packet};
 use std::alloc::Global;
 
-/// Sends a packet in its written spelling, as one piece where the link takes it whole.
-pub(crate) fn send_packet<O: LinkOut>(
+/// Sends a message in its written spelling, as one piece where the link takes it whole.
+pub(crate) fn send<M: Message, O: LinkOut>(
     alloc: Global,
-    packet: &Packet,
+    message: &M,
     outward: &mut O,
 ) -> Result<(), RunFault>
-    requires whole { length packet.now.sums % 4 ≡ 0 }
-    requires within { payload_for packet.now + header_size packet.now.sync ≤ limit }
-    ensures sent { OnOk result (IfSome (O.sent outward.old) (λ pieces. O.sent outward.new ≡ Some (pieces ++ packet_text packet.now ∷ []))) }
-    ensures spelled { OnOk result (SpellsPacket packet.now (packet_text packet.now)) }
+    requires { M.fits message.now }
+    ensures sent { OnOk result (IfSome (O.sent outward.old) (λ pieces. O.sent outward.new ≡ Some (pieces ++ M.text message.now ∷ []))) }
+    ensures spelled { OnOk result (M.spells message.now (M.text message.now)) }
     ensures handed { O.handed outward.new ≡ O.handed outward.old }
     ensures lost { O.shut outward.old ≡ false → OnOk result (IfSome (O.sent outward.old) (λ _. O.lost outward.new ≡ O.lost outward.old)) }
     ensures shut { O.shut outward.new ≡ O.shut outward.old }
@@ -28,8 +24,7 @@ pub(crate) fn send_packet<O: LinkOut>(
     ensures later { O.faults outward.old ≤ O.faults outward.new }
     ensures no_shelf { result ≢ Err RunFault.Shelf }
 {
-    let mut text = Vec::new(alloc);
-    encode_packet(packet, &mut text)?;
+    let text = message.encode(alloc)?;
     outward.room(alloc, text.len() as u64)?;
     let count = outward.send(&text)?;
     if count < text.len() {

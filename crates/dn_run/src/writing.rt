@@ -1,27 +1,112 @@
-//! One first write: the client's packets, and what the member makes of them.
+//! The exchanges of one first write: the request and its answer, each packet and its ack.
 
-ghost use Rattle.std.specs.Prelude.{◌≡◌, ◌≢◌, ◌+◌, ◌<◌, ◌≤◌, ◌∷◌, ◌++◌, ℕ, List, [], length, map, pos, Option, Some, None, Err, IfOk, OnOk, OnErr, IfSome};
+ghost use Rattle.std.specs.Prelude.{◌≡◌, ◌≢◌, ◌<◌, ◌≤◌, ◌∷◌, ◌++◌, ℕ, List, [], length, pos, Option, Some, None, Err, IfOk, OnOk, IfSome};
+ghost use Rattle.ack_codec.specs.AckTexts.{ack_text};
+ghost use Rattle.ack_codec.specs.ResponseTexts.{response_text};
 ghost use Rattle.hd_base.specs.Faults.{Rose};
 ghost use Rattle.hd_base.specs.FileMaps.{FileMap, Steps};
+ghost use Rattle.hd_base.specs.Lists.{joined};
 ghost use Rattle.hd_base.specs.declared.states.ReplicaState.TheVariants as state;
 ghost use Rattle.meta_file.specs.declared.names.Folder.TheVariants as folder;
+ghost use Rattle.op_headers.specs.Requests.{op_text};
 ghost use Rattle.packet_codec.specs.Packets.{packet_text};
-ghost use Rattle.dn_run.specs.Connections.{IsOpen, Knows, RoadRose};
+ghost use Rattle.dn_run.specs.Connections.{IsOpen, Knows, RoadRose, StaysEnd, end_faults};
+ghost use Rattle.dn_run.specs.Members.{folder_of};
 ghost use Rattle.dn_run.specs.Replicas.{data_path, with_replica, finalized, finished, HasReplica, IsHeld, IsThere};
-ghost use Rattle.dn_run.specs.Sendings.{data_packet as data_packet_of, last_packet as last_packet_of, packets_of, bytes_of};
+ghost use Rattle.dn_run.specs.Sendings.{request_for, success as success_answer, ack_for as ack_of_packet, data_packet as data_packet_of, last_packet as last_packet_of, asked, answered, sent_down, sent_up, bytes_of};
 ghost use Rattle.dn_run.specs.declared.faults.StepFault.TheVariants.{Shut, Run};
 ghost use Rattle.dn_run.specs.declared.faults.RunFault.TheVariants as fault;
 
-use crate::client::{data_packet, last_packet};
-use crate::connection::{Connection, deliver};
+use crate::client::{data_packet, is_ack_of, is_success, last_packet, request};
+use crate::connection::{Connection, deliver_down, deliver_up};
 use crate::faults::StepFault;
-use crate::member::Replica;
-use hd_base::{ByteList, Files, Roads};
+use crate::member::{Replica, ack_for, is_request_for, success};
+use hd_base::{BlockId, ByteList, Files, Roads};
 use std::alloc::Global;
 
-/// Writes a block and closes it: the client sends the packet of its bytes, if there are any, and
-/// the last packet; the member takes both. Gives the block's length. `Shut` is that the member
-/// took a packet not at all, which never comes over roads that tell what they hold.
+/// Asks the member to write a new block. `Shut` is that it doesn't take the request, which never
+/// comes over roads that tell what they hold.
+pub(crate) fn request_block<R: Roads>(
+    alloc: Global,
+    roads: &mut R,
+    connection: &mut Connection<R::Inward, R::Outward>,
+    block: BlockId,
+) -> Result<(), StepFault>
+    requires client { Knows (R.plain roads.old) connection.old.client.id.0 }
+    requires member { Knows (R.plain roads.old) connection.old.member.id.0 }
+    ensures idle { (down up : List (List ℕ)) → IsOpen R.plain R.carried R.Inward.held R.Inward.shut R.Outward.sent R.Outward.handed R.Outward.lost R.Outward.shut roads.old connection.old down up → OnOk result (IsOpen R.plain R.carried R.Inward.held R.Inward.shut R.Outward.sent R.Outward.handed R.Outward.lost R.Outward.shut roads.new connection.new (down ++ op_text (request_for block.0) ∷ []) up) }
+    ensures open { (down up : List (List ℕ)) → IsOpen R.plain R.carried R.Inward.held R.Inward.shut R.Outward.sent R.Outward.handed R.Outward.lost R.Outward.shut roads.old connection.old down up → result ≢ Err Shut }
+    ensures client { StaysEnd (R.plain roads.new) connection.old.client connection.new.client }
+    ensures member { StaysEnd (R.plain roads.new) connection.old.member connection.new.member }
+    ensures road { result ≡ Err (Run fault.Road) → RoadRose (R.faults roads.old) (R.faults roads.new) (end_faults R.Inward.faults R.Outward.faults connection.new.client) (end_faults R.Inward.faults R.Outward.faults connection.new.member) }
+    ensures later { R.faults roads.old ≤ R.faults roads.new }
+    ensures risen { R.risen roads.new ≡ R.risen roads.old }
+    ensures no_shelf { result ≢ Err (Run fault.Shelf) }
+{
+    let request = request(alloc, block)?;
+    let taken = deliver_down(alloc, roads, connection, &request)?;
+    if !is_request_for(block, &taken) {
+        return Err(StepFault::Shut);
+    }
+    Ok(())
+}
+
+/// Answers the client that the pipeline stands. `Shut` is that it doesn't take the answer, which
+/// never comes over roads that tell what they hold.
+pub(crate) fn answer_request<R: Roads>(
+    alloc: Global,
+    roads: &mut R,
+    connection: &mut Connection<R::Inward, R::Outward>,
+) -> Result<(), StepFault>
+    requires client { Knows (R.plain roads.old) connection.old.client.id.0 }
+    requires member { Knows (R.plain roads.old) connection.old.member.id.0 }
+    ensures idle { (down up : List (List ℕ)) → IsOpen R.plain R.carried R.Inward.held R.Inward.shut R.Outward.sent R.Outward.handed R.Outward.lost R.Outward.shut roads.old connection.old down up → OnOk result (IsOpen R.plain R.carried R.Inward.held R.Inward.shut R.Outward.sent R.Outward.handed R.Outward.lost R.Outward.shut roads.new connection.new down (up ++ response_text success_answer ∷ [])) }
+    ensures open { (down up : List (List ℕ)) → IsOpen R.plain R.carried R.Inward.held R.Inward.shut R.Outward.sent R.Outward.handed R.Outward.lost R.Outward.shut roads.old connection.old down up → result ≢ Err Shut }
+    ensures client { StaysEnd (R.plain roads.new) connection.old.client connection.new.client }
+    ensures member { StaysEnd (R.plain roads.new) connection.old.member connection.new.member }
+    ensures road { result ≡ Err (Run fault.Road) → RoadRose (R.faults roads.old) (R.faults roads.new) (end_faults R.Inward.faults R.Outward.faults connection.new.client) (end_faults R.Inward.faults R.Outward.faults connection.new.member) }
+    ensures later { R.faults roads.old ≤ R.faults roads.new }
+    ensures risen { R.risen roads.new ≡ R.risen roads.old }
+    ensures no_shelf { result ≢ Err (Run fault.Shelf) }
+{
+    let taken = deliver_up(alloc, roads, connection, &success(alloc))?;
+    if !is_success(&taken) {
+        return Err(StepFault::Shut);
+    }
+    Ok(())
+}
+
+/// Acknowledges the packet of this number to the client. `Shut` is that it doesn't take the ack,
+/// which never comes over roads that tell what they hold.
+fn acknowledge<R: Roads>(
+    alloc: Global,
+    roads: &mut R,
+    connection: &mut Connection<R::Inward, R::Outward>,
+    seqno: u32,
+) -> Result<(), StepFault>
+    requires client { Knows (R.plain roads.old) connection.old.client.id.0 }
+    requires member { Knows (R.plain roads.old) connection.old.member.id.0 }
+    ensures idle { (down up : List (List ℕ)) → IsOpen R.plain R.carried R.Inward.held R.Inward.shut R.Outward.sent R.Outward.handed R.Outward.lost R.Outward.shut roads.old connection.old down up → OnOk result (IsOpen R.plain R.carried R.Inward.held R.Inward.shut R.Outward.sent R.Outward.handed R.Outward.lost R.Outward.shut roads.new connection.new down (up ++ ack_text (ack_of_packet (pos seqno)) ∷ [])) }
+    ensures open { (down up : List (List ℕ)) → IsOpen R.plain R.carried R.Inward.held R.Inward.shut R.Outward.sent R.Outward.handed R.Outward.lost R.Outward.shut roads.old connection.old down up → result ≢ Err Shut }
+    ensures client { StaysEnd (R.plain roads.new) connection.old.client connection.new.client }
+    ensures member { StaysEnd (R.plain roads.new) connection.old.member connection.new.member }
+    ensures road { result ≡ Err (Run fault.Road) → RoadRose (R.faults roads.old) (R.faults roads.new) (end_faults R.Inward.faults R.Outward.faults connection.new.client) (end_faults R.Inward.faults R.Outward.faults connection.new.member) }
+    ensures later { R.faults roads.old ≤ R.faults roads.new }
+    ensures risen { R.risen roads.new ≡ R.risen roads.old }
+    ensures no_shelf { result ≢ Err (Run fault.Shelf) }
+{
+    let taken = deliver_up(alloc, roads, connection, &ack_for(seqno))?;
+    if !is_ack_of(seqno, &taken) {
+        return Err(StepFault::Shut);
+    }
+    Ok(())
+}
+
+/// Writes a block and closes it, once the pipeline stands: the client sends the packet of its
+/// bytes, if there are any, and once that is acknowledged the last packet; the member takes both,
+/// and acknowledges each when its files are done. Gives the block's length, once the last packet
+/// is acknowledged. `Shut` is that a packet or an ack wasn't taken, which never comes over roads
+/// that tell what they hold.
 pub(crate) fn write_block<R: Roads, F: Files>(
     alloc: Global,
     roads: &mut R,
@@ -35,22 +120,24 @@ pub(crate) fn write_block<R: Roads, F: Files>(
     requires member { Knows (R.plain roads.old) connection.old.member.id.0 }
     requires fresh { (replica.old.written ≡ 0) × (replica.old.next_seqno ≡ 0) × (replica.old.state ≡ state.Rbw) }
     requires empty { HasReplica (F.files drawer.old) folder.Rbw replica.old.block.0 replica.old.stamp.0 [] }
-    // Where all is told and idle, each packet is carried and taken.
-    ensures idle { IsOpen R.plain R.carried R.Inward.held R.Inward.shut R.Outward.sent R.Outward.handed R.Outward.lost R.Outward.shut roads.old connection.old [] [] → OnOk result (IsOpen R.plain R.carried R.Inward.held R.Inward.shut R.Outward.sent R.Outward.handed R.Outward.lost R.Outward.shut roads.new connection.new (map packet_text (packets_of body)) []) }
-    ensures stored { IsOpen R.plain R.carried R.Inward.held R.Inward.shut R.Outward.sent R.Outward.handed R.Outward.lost R.Outward.shut roads.old connection.old [] [] → (before : Option FileMap) → Steps before (F.files drawer.old) (with_replica folder.Rbw replica.old.block.0 replica.old.stamp.0 []) → OnOk result (Steps before (F.files drawer.new) (finished replica.old.block.0 replica.old.stamp.0 (bytes_of body))) }
-    ensures written { IsOpen R.plain R.carried R.Inward.held R.Inward.shut R.Outward.sent R.Outward.handed R.Outward.lost R.Outward.shut roads.old connection.old [] [] → OnOk result (replica.new.written ≡ length (bytes_of body)) }
-    ensures open { IsOpen R.plain R.carried R.Inward.held R.Inward.shut R.Outward.sent R.Outward.handed R.Outward.lost R.Outward.shut roads.old connection.old [] [] → IfSome body (λ bytes. 0 < length bytes) → result ≢ Err Shut }
+    // Where all is told and idle, each packet is carried, taken and acknowledged.
+    ensures idle { IsOpen R.plain R.carried R.Inward.held R.Inward.shut R.Outward.sent R.Outward.handed R.Outward.lost R.Outward.shut roads.old connection.old (asked replica.old.block.0) answered → OnOk result (IsOpen R.plain R.carried R.Inward.held R.Inward.shut R.Outward.sent R.Outward.handed R.Outward.lost R.Outward.shut roads.new connection.new (sent_down replica.old.block.0 body) (sent_up body)) }
+    ensures stored { IsOpen R.plain R.carried R.Inward.held R.Inward.shut R.Outward.sent R.Outward.handed R.Outward.lost R.Outward.shut roads.old connection.old (asked replica.old.block.0) answered → (before : Option FileMap) → Steps before (F.files drawer.old) (with_replica folder.Rbw replica.old.block.0 replica.old.stamp.0 []) → OnOk result (Steps before (F.files drawer.new) (finished replica.old.block.0 replica.old.stamp.0 (bytes_of body))) }
+    ensures written { IsOpen R.plain R.carried R.Inward.held R.Inward.shut R.Outward.sent R.Outward.handed R.Outward.lost R.Outward.shut roads.old connection.old (asked replica.old.block.0) answered → OnOk result (replica.new.written ≡ length (bytes_of body)) }
+    ensures open { IsOpen R.plain R.carried R.Inward.held R.Inward.shut R.Outward.sent R.Outward.handed R.Outward.lost R.Outward.shut roads.old connection.old (asked replica.old.block.0) answered → IfSome body (λ bytes. 0 < length bytes) → result ≢ Err Shut }
+    // Where the files failed, not all acks went up.
+    ensures unacked { IsOpen R.plain R.carried R.Inward.held R.Inward.shut R.Outward.sent R.Outward.handed R.Outward.lost R.Outward.shut roads.old connection.old (asked replica.old.block.0) answered → result ≡ Err (Run fault.Shelf) → (down : List (List ℕ)) × (up : List (List ℕ)) × (IsOpen R.plain R.carried R.Inward.held R.Inward.shut R.Outward.sent R.Outward.handed R.Outward.lost R.Outward.shut roads.new connection.new down up) × (length (joined up) < length (joined (sent_up body))) }
     ensures length { IfOk result (λ n. n ≡ length (bytes_of body)) }
     ensures finalized { OnOk result ((replica.new.state ≡ state.Finalized) × IsThere (F.files drawer.new) (data_path folder.Finalized replica.old.block.0)) }
-    ensures left { result ≡ Err Shut → (replica.new.state ≡ state.Rbw) × IsThere (F.files drawer.new) (data_path folder.Rbw replica.old.block.0) }
+    ensures left { result ≡ Err Shut → IsThere (F.files drawer.new) (data_path (folder_of replica.new.state) replica.old.block.0) }
     ensures named { (replica.new.block ≡ replica.old.block) × (replica.new.stamp ≡ replica.old.stamp) }
-    ensures client { (connection.new.client.id ≡ connection.old.client.id) × Knows (R.plain roads.new) connection.new.client.id.0 }
-    ensures member { (connection.new.member.id ≡ connection.old.member.id) × Knows (R.plain roads.new) connection.new.member.id.0 }
-    ensures road { result ≡ Err (Run fault.Road) → RoadRose (R.faults roads.old) (R.faults roads.new) (R.Outward.faults connection.new.client.outward) (R.Inward.faults connection.new.member.inward) }
-    ensures shelf { result ≡ Err (Run fault.Shelf) → Rose (F.faults drawer.old) (F.faults drawer.new) }
+    ensures client { StaysEnd (R.plain roads.new) connection.old.client connection.new.client }
+    ensures member { StaysEnd (R.plain roads.new) connection.old.member connection.new.member }
+    ensures road { result ≡ Err (Run fault.Road) → RoadRose (R.faults roads.old) (R.faults roads.new) (end_faults R.Inward.faults R.Outward.faults connection.new.client) (end_faults R.Inward.faults R.Outward.faults connection.new.member) }
     ensures later { R.faults roads.old ≤ R.faults roads.new }
-    ensures drawer_later { F.faults drawer.old ≤ F.faults drawer.new }
     ensures risen { R.risen roads.new ≡ R.risen roads.old }
+    ensures shelf { result ≡ Err (Run fault.Shelf) → Rose (F.faults drawer.old) (F.faults drawer.new) }
+    ensures drawer_later { F.faults drawer.old ≤ F.faults drawer.new }
 {
     match body {
         Some(body) => {
@@ -79,25 +166,28 @@ fn send_data<R: Roads, F: Files>(
     requires client { Knows (R.plain roads.old) connection.old.client.id.0 }
     requires member { Knows (R.plain roads.old) connection.old.member.id.0 }
     requires empty { HasReplica (F.files drawer.old) folder.Rbw replica.old.block.0 replica.old.stamp.0 [] }
-    ensures idle { (pieces : List (List ℕ)) → IsOpen R.plain R.carried R.Inward.held R.Inward.shut R.Outward.sent R.Outward.handed R.Outward.lost R.Outward.shut roads.old connection.old pieces [] → OnOk result (IsOpen R.plain R.carried R.Inward.held R.Inward.shut R.Outward.sent R.Outward.handed R.Outward.lost R.Outward.shut roads.new connection.new (pieces ++ packet_text (data_packet_of body) ∷ []) []) }
-    ensures stored { (pieces : List (List ℕ)) → IsOpen R.plain R.carried R.Inward.held R.Inward.shut R.Outward.sent R.Outward.handed R.Outward.lost R.Outward.shut roads.old connection.old pieces [] → OnOk result (Steps (F.files drawer.old) (F.files drawer.new) (with_replica folder.Rbw replica.old.block.0 replica.old.stamp.0 body)) }
-    ensures written { (pieces : List (List ℕ)) → IsOpen R.plain R.carried R.Inward.held R.Inward.shut R.Outward.sent R.Outward.handed R.Outward.lost R.Outward.shut roads.old connection.old pieces [] → OnOk result (replica.new.written ≡ length body) }
+    ensures idle { (down up : List (List ℕ)) → IsOpen R.plain R.carried R.Inward.held R.Inward.shut R.Outward.sent R.Outward.handed R.Outward.lost R.Outward.shut roads.old connection.old down up → OnOk result (IsOpen R.plain R.carried R.Inward.held R.Inward.shut R.Outward.sent R.Outward.handed R.Outward.lost R.Outward.shut roads.new connection.new (down ++ packet_text (data_packet_of body) ∷ []) (up ++ ack_text (ack_of_packet (pos 0)) ∷ [])) }
+    ensures stored { (down up : List (List ℕ)) → IsOpen R.plain R.carried R.Inward.held R.Inward.shut R.Outward.sent R.Outward.handed R.Outward.lost R.Outward.shut roads.old connection.old down up → OnOk result (Steps (F.files drawer.old) (F.files drawer.new) (with_replica folder.Rbw replica.old.block.0 replica.old.stamp.0 body)) }
+    ensures written { (down up : List (List ℕ)) → IsOpen R.plain R.carried R.Inward.held R.Inward.shut R.Outward.sent R.Outward.handed R.Outward.lost R.Outward.shut roads.old connection.old down up → OnOk result (replica.new.written ≡ length body) }
     ensures next { OnOk result (replica.new.next_seqno ≡ 1) }
-    ensures open { 0 < length body → (pieces : List (List ℕ)) → IsOpen R.plain R.carried R.Inward.held R.Inward.shut R.Outward.sent R.Outward.handed R.Outward.lost R.Outward.shut roads.old connection.old pieces [] → result ≢ Err Shut }
+    ensures open { 0 < length body → (down up : List (List ℕ)) → IsOpen R.plain R.carried R.Inward.held R.Inward.shut R.Outward.sent R.Outward.handed R.Outward.lost R.Outward.shut roads.old connection.old down up → result ≢ Err Shut }
+    // Where the files failed, no ack went up.
+    ensures unacked { (down up : List (List ℕ)) → IsOpen R.plain R.carried R.Inward.held R.Inward.shut R.Outward.sent R.Outward.handed R.Outward.lost R.Outward.shut roads.old connection.old down up → result ≡ Err (Run fault.Shelf) → IsOpen R.plain R.carried R.Inward.held R.Inward.shut R.Outward.sent R.Outward.handed R.Outward.lost R.Outward.shut roads.new connection.new (down ++ packet_text (data_packet_of body) ∷ []) up }
     ensures held { OnOk result (IsHeld (F.files drawer.new) replica.old.block.0 replica.old.stamp.0) }
-    ensures unchanged { result ≡ Err Shut → F.files drawer.new ≡ F.files drawer.old }
+    ensures left { result ≡ Err Shut → IsHeld (F.files drawer.new) replica.old.block.0 replica.old.stamp.0 }
     ensures same { (replica.new.block ≡ replica.old.block) × (replica.new.stamp ≡ replica.old.stamp) × (replica.new.state ≡ replica.old.state) }
-    ensures client { (connection.new.client.id ≡ connection.old.client.id) × Knows (R.plain roads.new) connection.new.client.id.0 }
-    ensures member { (connection.new.member.id ≡ connection.old.member.id) × Knows (R.plain roads.new) connection.new.member.id.0 }
-    ensures road { result ≡ Err (Run fault.Road) → RoadRose (R.faults roads.old) (R.faults roads.new) (R.Outward.faults connection.new.client.outward) (R.Inward.faults connection.new.member.inward) }
-    ensures shelf { result ≡ Err (Run fault.Shelf) → Rose (F.faults drawer.old) (F.faults drawer.new) }
+    ensures client { StaysEnd (R.plain roads.new) connection.old.client connection.new.client }
+    ensures member { StaysEnd (R.plain roads.new) connection.old.member connection.new.member }
+    ensures road { result ≡ Err (Run fault.Road) → RoadRose (R.faults roads.old) (R.faults roads.new) (end_faults R.Inward.faults R.Outward.faults connection.new.client) (end_faults R.Inward.faults R.Outward.faults connection.new.member) }
     ensures later { R.faults roads.old ≤ R.faults roads.new }
-    ensures drawer_later { F.faults drawer.old ≤ F.faults drawer.new }
     ensures risen { R.risen roads.new ≡ R.risen roads.old }
+    ensures shelf { result ≡ Err (Run fault.Shelf) → Rose (F.faults drawer.old) (F.faults drawer.new) }
+    ensures drawer_later { F.faults drawer.old ≤ F.faults drawer.new }
 {
     let packet = data_packet(alloc, body.into_vec())?;
-    let taken = deliver(alloc, roads, connection, &packet)?;
-    replica.take_data(alloc, drawer, &taken)
+    let taken = deliver_down(alloc, roads, connection, &packet)?;
+    replica.take_data(alloc, drawer, &taken)?;
+    acknowledge(alloc, roads, connection, 0)
 }
 
 /// Sends the last packet, and lets the member take what it receives.
@@ -113,23 +203,26 @@ fn send_last<R: Roads, F: Files>(
     requires client { Knows (R.plain roads.old) connection.old.client.id.0 }
     requires member { Knows (R.plain roads.old) connection.old.member.id.0 }
     requires held { IsHeld (F.files drawer.old) replica.old.block.0 replica.old.stamp.0 }
-    ensures idle { (pieces : List (List ℕ)) → IsOpen R.plain R.carried R.Inward.held R.Inward.shut R.Outward.sent R.Outward.handed R.Outward.lost R.Outward.shut roads.old connection.old pieces [] → OnOk result (IsOpen R.plain R.carried R.Inward.held R.Inward.shut R.Outward.sent R.Outward.handed R.Outward.lost R.Outward.shut roads.new connection.new (pieces ++ packet_text (last_packet_of len (pos seqno)) ∷ []) []) }
+    requires state { replica.old.state ≡ state.Rbw }
+    ensures idle { (down up : List (List ℕ)) → IsOpen R.plain R.carried R.Inward.held R.Inward.shut R.Outward.sent R.Outward.handed R.Outward.lost R.Outward.shut roads.old connection.old down up → OnOk result (IsOpen R.plain R.carried R.Inward.held R.Inward.shut R.Outward.sent R.Outward.handed R.Outward.lost R.Outward.shut roads.new connection.new (down ++ packet_text (last_packet_of len (pos seqno)) ∷ []) (up ++ ack_text (ack_of_packet (pos seqno)) ∷ [])) }
     ensures moved { OnOk result (Steps (F.files drawer.old) (F.files drawer.new) (finalized replica.old.block.0 replica.old.stamp.0)) }
     ensures there { OnOk result (IsThere (F.files drawer.new) (data_path folder.Finalized replica.old.block.0)) }
     ensures state { OnOk result (replica.new.state ≡ state.Finalized) }
     ensures same { (replica.new.block ≡ replica.old.block) × (replica.new.stamp ≡ replica.old.stamp) × (replica.new.written ≡ replica.old.written) }
-    ensures kept { OnErr result (replica.new ≡ replica.old) }
-    ensures open { (pieces : List (List ℕ)) → IsOpen R.plain R.carried R.Inward.held R.Inward.shut R.Outward.sent R.Outward.handed R.Outward.lost R.Outward.shut roads.old connection.old pieces [] → replica.old.written ≡ len → replica.old.next_seqno ≡ seqno → result ≢ Err Shut }
-    ensures unchanged { result ≡ Err Shut → F.files drawer.new ≡ F.files drawer.old }
-    ensures client { (connection.new.client.id ≡ connection.old.client.id) × Knows (R.plain roads.new) connection.new.client.id.0 }
-    ensures member { (connection.new.member.id ≡ connection.old.member.id) × Knows (R.plain roads.new) connection.new.member.id.0 }
-    ensures road { result ≡ Err (Run fault.Road) → RoadRose (R.faults roads.old) (R.faults roads.new) (R.Outward.faults connection.new.client.outward) (R.Inward.faults connection.new.member.inward) }
-    ensures shelf { result ≡ Err (Run fault.Shelf) → Rose (F.faults drawer.old) (F.faults drawer.new) }
+    ensures open { (down up : List (List ℕ)) → IsOpen R.plain R.carried R.Inward.held R.Inward.shut R.Outward.sent R.Outward.handed R.Outward.lost R.Outward.shut roads.old connection.old down up → replica.old.written ≡ len → replica.old.next_seqno ≡ seqno → result ≢ Err Shut }
+    // Where the files failed, no ack went up.
+    ensures unacked { (down up : List (List ℕ)) → IsOpen R.plain R.carried R.Inward.held R.Inward.shut R.Outward.sent R.Outward.handed R.Outward.lost R.Outward.shut roads.old connection.old down up → result ≡ Err (Run fault.Shelf) → IsOpen R.plain R.carried R.Inward.held R.Inward.shut R.Outward.sent R.Outward.handed R.Outward.lost R.Outward.shut roads.new connection.new (down ++ packet_text (last_packet_of len (pos seqno)) ∷ []) up }
+    ensures left { result ≡ Err Shut → IsThere (F.files drawer.new) (data_path (folder_of replica.new.state) replica.old.block.0) }
+    ensures client { StaysEnd (R.plain roads.new) connection.old.client connection.new.client }
+    ensures member { StaysEnd (R.plain roads.new) connection.old.member connection.new.member }
+    ensures road { result ≡ Err (Run fault.Road) → RoadRose (R.faults roads.old) (R.faults roads.new) (end_faults R.Inward.faults R.Outward.faults connection.new.client) (end_faults R.Inward.faults R.Outward.faults connection.new.member) }
     ensures later { R.faults roads.old ≤ R.faults roads.new }
-    ensures drawer_later { F.faults drawer.old ≤ F.faults drawer.new }
     ensures risen { R.risen roads.new ≡ R.risen roads.old }
+    ensures shelf { result ≡ Err (Run fault.Shelf) → Rose (F.faults drawer.old) (F.faults drawer.new) }
+    ensures drawer_later { F.faults drawer.old ≤ F.faults drawer.new }
 {
     let packet = last_packet(len, seqno);
-    let taken = deliver(alloc, roads, connection, &packet)?;
-    replica.take_last(drawer, &taken)
+    let taken = deliver_down(alloc, roads, connection, &packet)?;
+    replica.take_last(drawer, &taken)?;
+    acknowledge(alloc, roads, connection, seqno)
 }

@@ -33,6 +33,11 @@ op_text_spells request fits step few = record {
   };
 }
 
+-- What was written spells the request.
+pub request_spelled : {A E : Type 0} (q : Result A E) (request : Op) → OnOk q (OpFits request) → IsLawfulStep request → length (op_message request) ≤ limit → OnOk q (SpellsOp request (op_text request))
+request_spelled (Ok x) request fits step few = op_text_spells request fits step few
+request_spelled (Err e) request fits step few = tt
+
 -- What was written behind other bytes is read there, whatever follows.
 pub request_written : {A E : Type 0} (q : Result A E) (request : Op) (old new rest : List ℕ) → OnOk q (new ≡ old ++ op_text request) → OnOk q (OpFits request) → IsLawfulStep request → length (op_message request) ≤ limit → OnOk q (request_at (drop (length old) (new ++ rest)) ≡ Ok (request, length (op_text request)))
 request_written (Ok x) request old new rest ok fits step few =

@@ -2,7 +2,7 @@
 
 ghost use Rattle.std.specs.Prelude.{◌≡◌, ℕ, ◌≤◌, List, ◌++◌, length, take, drop, Ok, OnOk, OnErr};
 ghost use Rattle.proto_fields.specs.Frames.{limit};
-ghost use Rattle.op_headers.specs.Requests.{IsLawfulStep, OpFits, op_code, op_message, op_text, request_at};
+ghost use Rattle.op_headers.specs.Requests.{SpellsOp, IsLawfulStep, OpFits, op_code, op_message, op_text, request_at};
 
 use crate::op_writing::{push_checksum, push_read, push_recovery, push_transfer, push_write};
 use crate::opcodes::Opcode;
@@ -21,6 +21,7 @@ pub fn encode_op(op: &Op, out: &mut Vec<u8>) -> Result<(), AllocError>
     requires step { IsLawfulStep op.now }
     ensures ok { OnOk result (out.new.items ≡ out.old.items ++ op_text op.now) }
     ensures err { OnErr result (out.new.items ≡ out.old.items) }
+    ensures spelled { OnOk result (SpellsOp op.now (op_text op.now)) }
     ensures again { (rest : List ℕ) → OnOk result (request_at (drop (length out.old.items) (out.new.items ++ rest)) ≡ Ok (op.now, length (op_text op.now))) }
 {
     let before = out.len();

@@ -1,48 +1,54 @@
--- The piece that the client hands over is what the member holds then, and nothing else stands on the roads.
-use Rattle.std.proofs.Common.{◌∙◌, ◌++◌, ◌∷◌, [], true, false, sym, ap, refl}
-use Rattle.packet_codec.specs.Packets.{packet_text}
-use Rattle.dn_run.proofs.DeliveryLaws.{handed_over, taken_up, inbox_filled, loaded_down, loaded_up, all_handed}
+-- The piece that the one end hands over is what the other holds then, and nothing else stands on the roads.
+use Rattle.std.proofs.Common.{◌∙◌, ◌++◌, ◌∷◌, [], not, sym, ap, refl}
+use Rattle.hd_base.specs.Ways.{empty_way}
+use Rattle.dn_run.proofs.DeliveryLaws.{one_piece_way, handed_over, taken_up, inbox_filled, loaded_forth, loaded_back, all_handed}
 use Rattle.dn_run.proofs.connection.pass_on.Goals as goal
 
 pub returns-clause-arrived : goal.returns-clause-arrived
-returns-clause-arrived g c pieces i =
-    let text = packet_text c.args.packet.now in
-    let client = c.args.connection.now.client in
-    let member = c.args.connection.now.member in
-    let conn = client.id.0 in
-    let first = c.in_ok-exchange.ensures in
-    let second = c.in_ok-exchange-2.ensures in
-    let sent = rw i.sent_is at c.in_ok-send_packet.ensures.sent in
-    let lost = rw i.sent_is at c.in_ok-send_packet.ensures.lost i.client_out in
-    let handed = c.in_ok-send_packet.ensures.handed ∙ i.handed_is in
-    let out = c.in_ok-send_packet.ensures.shut ∙ i.client_out in
-    let h = handed_over (g.R.Roads.plain c.args.roads.now) (g.R.Roads.plain c.exchange.new.self) (g.R.Outward.LinkOut.sent c.send_packet.new.outward) (g.R.Inward.LinkIn.held client.inward) i.net conn client.lower (g.R.Inward.LinkIn.shut client.inward) (g.R.Outward.LinkOut.shut c.send_packet.new.outward) pieces text _ _ i.client_holds first.plain i.net_is sent i.client_held i.upper handed (lost ∙ i.none_lost) i.client_in out i.none_down i.none_up in
-    let l = loaded_down (g.R.Roads.plain c.args.roads.now) (g.R.Roads.carried c.args.roads.now) (g.R.Roads.carried c.exchange.new.self) (g.R.Outward.LinkOut.sent c.send_packet.new.outward) i.net i.load conn client.lower pieces text _ first.carried i.net_is i.load_is sent i.upper handed i.down i.up in
-    let t = taken_up (g.R.Roads.plain c.exchange.new.self) (g.R.Roads.plain c.exchange-2.new.self) (g.R.Outward.LinkOut.sent member.outward) (g.R.Inward.LinkIn.held member.inward) h.net member.id.0 conn member.lower (g.R.Inward.LinkIn.shut member.inward) (g.R.Outward.LinkOut.shut member.outward) text _ _ second.plain h.is i.member_sent i.member_held i.one i.lower i.member_in i.member_out h.down h.up in
-    let held = inbox_filled (g.R.Roads.plain c.exchange.new.self) (g.R.Outward.LinkOut.sent member.outward) (g.R.Inward.LinkIn.held member.inward) (g.R.Inward.LinkIn.held c.exchange-2.new.end.inward) h.net member.id.0 conn member.lower (g.R.Inward.LinkIn.shut member.inward) (g.R.Outward.LinkOut.shut member.outward) text _ _ second.taken h.is i.member_sent i.member_held i.one i.lower i.member_in i.member_out h.down in
-    let m = loaded_up (g.R.Roads.plain c.exchange.new.self) (g.R.Roads.carried c.exchange.new.self) (g.R.Roads.carried c.exchange-2.new.self) (g.R.Outward.LinkOut.sent member.outward) h.net l.load member.id.0 conn member.lower (pieces ++ text ∷ []) _ second.carried h.is l.is i.member_sent i.one i.lower l.down l.up in
-    let same = ap (λ id. id.0) first.same_end.0 in
+returns-clause-arrived g c pieces answers i =
+    let text = g.M.Message.text c.args.message.now in
+    let from = c.args.from.now in
+    let to = c.args.to.now in
+    let conn = from.id.0 in
+    let one = c.in_ok-exchange.ensures in
+    let two = c.in_ok-exchange-2.ensures in
+    let sent = rw i.first.sent_is at c.in_ok-send.ensures.sent in
+    let lost = rw i.first.sent_is at c.in_ok-send.ensures.lost i.first.out_open in
+    let handed = c.in_ok-send.ensures.handed ∙ i.first.handed_is in
+    let out = c.in_ok-send.ensures.shut ∙ i.first.out_open in
+    let h = handed_over _ (g.R.Roads.plain c.exchange.new.self) _ _ i.net conn from.lower _ _ pieces text _ _ _ one.plain i.net_is sent i.first.held_is handed (lost ∙ i.first.none_lost) i.first.in_open out i.none in
+    let l = loaded_forth _ _ (g.R.Roads.carried c.exchange.new.self) _ i.net i.load conn from.lower pieces answers text _ one.carried i.net_is i.load_is sent handed i.forth i.back in
+    let here = ap (λ b. h.net.ways conn b) i.across ∙ h.there in
+    let none = ap (λ b. h.net.ways conn (not b)) i.across ∙ h.none in
+    let t = taken_up _ (g.R.Roads.plain c.exchange-2.new.self) _ _ h.net to.id.0 conn to.lower _ _ answers text _ _ two.plain h.is i.second.sent_is i.second.held_is i.same i.second.handed_is i.second.none_lost i.second.in_open i.second.out_open here none in
+    let held = inbox_filled _ _ _ (g.R.Inward.LinkIn.held c.exchange-2.new.end.inward) h.net to.id.0 conn to.lower _ _ answers text _ _ two.taken h.is i.second.sent_is i.second.held_is i.same i.second.handed_is i.second.none_lost i.second.in_open i.second.out_open here in
+    let m = loaded_back _ _ (g.R.Roads.carried c.exchange-2.new.self) l.load to.id.0 _ _ h.net answers _ two.carried h.is l.is i.second.sent_is i.second.handed_is in
+    let same = ap (λ id. id.0) one.same_end.0 in
+    let lower = one.same_end.1 in
     record {
       net = t.net;
       net_is = t.is;
-      one = ap (λ id. id.0) second.same_end.0 ∙ (i.one ∙ sym same);
-      upper = first.same_end.1 ∙ i.upper;
-      lower = second.same_end.1 ∙ i.lower;
-      none_down = ap (λ n. t.net.ways n true) same ∙ t.down;
-      none_up = ap (λ n. t.net.ways n false) same ∙ t.up;
-      sent_is = first.sent ∙ sent;
-      handed_is = all_handed (g.R.Roads.plain c.args.roads.now) (g.R.Outward.LinkOut.sent c.send_packet.new.outward) i.net (pieces ++ text ∷ []) _ _ first.handed i.net_is sent;
-      none_lost = first.lost ∙ (lost ∙ i.none_lost);
-      client_in = first.in_shut ∙ i.client_in;
-      client_out = first.out_shut ∙ out;
-      client_holds = i.client_holds;
-      client_held = first.untaken refl ∙ i.client_held;
-      member_in = second.in_shut ∙ i.member_in;
-      member_out = second.out_shut ∙ i.member_out;
-      member_sent = second.sent ∙ i.member_sent;
-      member_held = held;
-      load = m.load;
+      same = ap (λ id. id.0) two.same_end.0 ∙ (i.same ∙ sym same);
+      across = two.same_end.1 ∙ (i.across ∙ ap not (sym lower));
+      none = λ d. ap (λ n. t.net.ways n d) same ∙ t.none d;
+      first = record {
+        sent_is = one.sent ∙ sent;
+        handed_is = all_handed _ _ i.net (pieces ++ text ∷ []) _ _ one.handed i.net_is sent;
+        none_lost = one.lost ∙ (lost ∙ i.first.none_lost);
+        out_open = one.out_shut ∙ out;
+        in_open = one.in_shut ∙ i.first.in_open;
+        held_is = one.untaken refl ∙ i.first.held_is;
+      };
+      second = record {
+        sent_is = two.sent ∙ i.second.sent_is;
+        handed_is = all_handed _ _ h.net answers _ _ two.handed h.is i.second.sent_is;
+        none_lost = two.lost ∙ i.second.none_lost;
+        out_open = two.out_shut ∙ i.second.out_open;
+        in_open = two.in_shut ∙ i.second.in_open;
+        held_is = held;
+      };
+      load = m.now;
       load_is = m.is;
-      down = ap (λ n. m.load n true) same ∙ m.down;
-      up = ap (λ n. m.load n false) same ∙ m.up;
+      forth = ap (λ n. m.now n (not c.exchange.new.end.lower)) same ∙ (ap (λ b. m.now conn (not b)) lower ∙ (m.same conn (not from.lower) ∙ l.forth));
+      back = ap (λ n. m.now n c.exchange.new.end.lower) same ∙ (ap (λ b. m.now conn b) lower ∙ (m.same conn from.lower ∙ l.back));
     }

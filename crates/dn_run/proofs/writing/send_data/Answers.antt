@@ -1,6 +1,5 @@
--- What the member takes is the packet that was sent.
+-- What the member takes is the packet that was sent, and then the client its ack.
 use Rattle.std.proofs.Common.{◌∙◌, ◌++◌, ◌∷◌, [], length, Err, sym, ap, subst}
-use Rattle.std.specs.Result.{OnOk}
 use Rattle.std.proofs.lemmas.Result.{err_from_is_err_and}
 use Rattle.hd_base.specs.FileMaps.{Steps}
 use Rattle.packet_codec.specs.Packets.{packet_text}
@@ -9,34 +8,42 @@ use Rattle.dn_run.specs.Connections.{IsOpen}
 use Rattle.dn_run.specs.Members.{IsDataPacket}
 use Rattle.dn_run.specs.Replicas.{with_replica}
 use Rattle.dn_run.specs.Sendings.{data_packet}
-use Rattle.dn_run.proofs.DeliveryLaws.{on_ok_then, on_ok_given}
+use Rattle.dn_run.proofs.DeliveryLaws.{on_ok_given}
 use Rattle.dn_run.proofs.ReceiptLaws.{err_value}
 use Rattle.dn_run.proofs.SendingLaws.{is_data_packet}
 use Rattle.dn_run.proofs.writing.send_data.Goals as goal
 
 pub returns-in_err-taken-clause-open : goal.returns-in_err-taken-clause-open
-returns-in_err-taken-clause-open g c some pieces i is =
+returns-in_err-taken-clause-open g c some down up i is =
     let e = err_from_is_err_and c.from_residual-in_err-taken.result c.from_residual-in_err-taken.ensures.1 in
-    c.in_err-taken.ensures.open pieces i (ap Err (err_value _ _ (sym (e.1 ∙ ap Err e.2) ∙ is)))
+    c.in_err-taken.ensures.open down up i (ap Err (err_value _ _ (sym (e.1 ∙ ap Err e.2) ∙ is)))
+
+pub returns-in_err-take_data-clause-open : goal.returns-in_err-take_data-clause-open
+returns-in_err-take_data-clause-open g c some down up i is =
+    let packet = c.in_ok-packet.ensures.packet ∙ ap data_packet c.into_vec.ensures in
+    let e = err_from_is_err_and c.from_residual-in_err-take_data.result c.from_residual-in_err-take_data.ensures.1 in
+    c.in_err-take_data.ensures.shut.0 (ap Err (err_value _ _ (sym (e.1 ∙ ap Err e.2) ∙ is)))
+    (subst IsDataPacket (sym (c.in_ok-taken.ensures.same down up i ∙ packet)) (is_data_packet c.args.body some))
 
 pub returns-clause-idle : goal.returns-clause-idle
-returns-clause-idle g c pieces i =
+returns-clause-idle g c down up i =
     let packet = c.in_ok-packet.ensures.packet ∙ ap data_packet c.into_vec.ensures in
-    on_ok_given c.take_data.result
-    (subst (λ l. IsOpen g.R.Roads.plain g.R.Roads.carried g.R.Inward.LinkIn.held g.R.Inward.LinkIn.shut g.R.Outward.LinkOut.sent g.R.Outward.LinkOut.handed g.R.Outward.LinkOut.lost g.R.Outward.LinkOut.shut c.deliver.new.roads c.deliver.new.connection l []) (ap (λ p. pieces ++ packet_text p ∷ []) packet) (c.in_ok-taken.ensures.idle pieces i))
+    let sent = subst (λ p. IsOpen g.R.Roads.plain g.R.Roads.carried g.R.Inward.LinkIn.held g.R.Inward.LinkIn.shut g.R.Outward.LinkOut.sent g.R.Outward.LinkOut.handed g.R.Outward.LinkOut.lost g.R.Outward.LinkOut.shut c.deliver_down.new.roads c.deliver_down.new.connection (down ++ packet_text p ∷ []) up) packet (c.in_ok-taken.ensures.idle down up i) in
+    c.acknowledge.ensures.idle (down ++ packet_text (data_packet c.args.body) ∷ []) up sent
 
 pub returns-clause-stored : goal.returns-clause-stored
-returns-clause-stored g c pieces i =
+returns-clause-stored g c down up i =
     let packet = c.in_ok-packet.ensures.packet ∙ ap data_packet c.into_vec.ensures in
-    let body = ap (λ p. p.body) (c.in_ok-taken.ensures.same pieces i ∙ packet) in
-    subst (λ b. OnOk c.take_data.result (Steps (g.F.Files.files c.args.drawer.now) (g.F.Files.files c.take_data.new.drawer) (with_replica Rbw c.args.replica.now.block.0 c.args.replica.now.stamp.0 b))) body c.take_data.ensures.stored
+    let body = ap (λ p. p.body) (c.in_ok-taken.ensures.same down up i ∙ packet) in
+    on_ok_given c.acknowledge.result
+    (subst (λ b. Steps (g.F.Files.files c.args.drawer.now) (g.F.Files.files c.take_data.new.drawer) (with_replica Rbw c.args.replica.now.block.0 c.args.replica.now.stamp.0 b)) body c.in_ok-take_data.ensures.stored)
 
 pub returns-clause-written : goal.returns-clause-written
-returns-clause-written g c pieces i =
+returns-clause-written g c down up i =
     let packet = c.in_ok-packet.ensures.packet ∙ ap data_packet c.into_vec.ensures in
-    on_ok_then c.take_data.result c.take_data.ensures.written (λ w. w.0 ∙ ap (λ p. length p.body) (c.in_ok-taken.ensures.same pieces i ∙ packet))
+    on_ok_given c.acknowledge.result (c.in_ok-take_data.ensures.written.0 ∙ ap (λ p. length p.body) (c.in_ok-taken.ensures.same down up i ∙ packet))
 
 pub returns-clause-open : goal.returns-clause-open
-returns-clause-open g c some pieces i is =
+returns-clause-open g c some down up i is =
     let packet = c.in_ok-packet.ensures.packet ∙ ap data_packet c.into_vec.ensures in
-    c.take_data.ensures.shut.0 is (subst IsDataPacket (sym (c.in_ok-taken.ensures.same pieces i ∙ packet)) (is_data_packet c.args.body some))
+    c.acknowledge.ensures.open (down ++ packet_text c.in_ok-packet.packet ∷ []) up (c.in_ok-taken.ensures.idle down up i) is

@@ -1,0 +1,57 @@
+-- The report tells what the member holds, which is what the script wrote.
+use Rattle.std.proofs.Common.{◌∙◌, [], Err, inl, inr, sym, ap, subst}
+use Rattle.std.proofs.lemmas.Result.{err_from_is_err_and}
+use Rattle.hd_base.specs.FileMaps.{Steps}
+use Rattle.dn_run.specs.Replicas.{finished}
+use Rattle.dn_run.specs.Sendings.{first_stamp, asked, sent_down, sent_up, bytes_of}
+use Rattle.dn_run.proofs.AckLaws.{none_answered}
+use Rattle.dn_run.proofs.ReceiptLaws.{err_value}
+use Rattle.dn_run.proofs.ReplicaLaws.{finished_sum}
+use Rattle.dn_run.proofs.RunLaws.{same_entry, same_report}
+use Rattle.dn_run.proofs.play.make.Goals as goal
+
+pub returns-in_err-make_files-clause-acked : goal.returns-in_err-make_files-clause-acked
+returns-in_err-make_files-clause-acked g c i _ = (asked c.args.script.block.0, [], i, inl (none_answered c.args.script.body))
+
+pub returns-in_err-create-clause-acked : goal.returns-in_err-create-clause-acked
+returns-in_err-create-clause-acked g c i is =
+    let e = err_from_is_err_and c.from_residual-in_err-create.result c.from_residual-in_err-create.ensures.1 in
+    let a = (rw c.new-replica.ensures.named.0 at c.in_err-create.ensures.unacked) i (ap Err (err_value _ _ (sym (e.1 ∙ ap Err e.2) ∙ is))) in
+    (a.0, a.1, a.2, inl a.3)
+
+pub returns-in_err-entry-clause-acked : goal.returns-in_err-entry-clause-acked
+returns-in_err-entry-clause-acked g c i _ =
+    let named = c.new-replica.ensures.named in
+    let block = c.args.script.block.0 in
+    let body = c.args.script.body in
+    let before = g.F.Files.files c.args.drawer.now in
+    let stored = (rw (named.0, named.1) at c.in_ok-create.ensures.stored) i before c.in_ok-make_files.ensures.made in (
+      sent_down block body,
+      sent_up body,
+      (rw named.0 at c.in_ok-create.ensures.idle) i,
+      inr (subst (λ files. Steps before files (finished block first_stamp (bytes_of body))) (sym c.entry.ensures.files) stored),
+    )
+
+pub returns-clause-idle : goal.returns-clause-idle
+returns-clause-idle g c i = (rw c.new-replica.ensures.named.0 at c.in_ok-create.ensures.idle) i
+
+pub returns-clause-stored : goal.returns-clause-stored
+returns-clause-stored g c i =
+    let named = c.new-replica.ensures.named in
+    let before = g.F.Files.files c.args.drawer.now in
+    let stored = (rw (named.0, named.1) at c.in_ok-create.ensures.stored) i before c.in_ok-make_files.ensures.made in
+    subst (λ files. Steps before files (finished c.args.script.block.0 first_stamp (bytes_of c.args.script.body))) (sym c.in_ok-entry.ensures.files) stored
+
+pub returns-clause-report : goal.returns-clause-report
+returns-clause-report g c i told =
+    let named = c.new-replica.ensures.named in
+    let after = c.answers.ensures.named in
+    let e = c.in_ok-entry.ensures in
+    let answered = (rw named.0 at c.in_ok-create.ensures.answered) i in
+    let written = (rw named.0 at c.in_ok-create.ensures.written) i in
+    let stored = (rw (named.0, named.1) at c.in_ok-create.ensures.stored) i (g.F.Files.files c.args.drawer.now) c.in_ok-make_files.ensures.made in
+    let sum = rw (written.0, after.0 ∙ named.0) at e.sum in
+    let whole = finished_sum _ _ c.args.script.block.0 first_stamp c.in_ok-entry.entry.sum c.answers.new.replica.written (bytes_of c.args.script.body) told stored sum written.1 in
+    same_report c.args.script c.in_ok-entry.entry c.in_ok-create.create c.is_some-wrote.result c.in_ok-create.close
+    (same_entry c.in_ok-entry.entry _ e.named.0 (e.named.1 ∙ (after.0 ∙ named.0)) (e.state.0 ∙ written.0) (e.named.2 ∙ (after.1 ∙ named.1)) (e.state.1 ∙ written.1) (e.state.2 ∙ written.1) whole)
+    answered.0 c.is_some-wrote.ensures answered.1
