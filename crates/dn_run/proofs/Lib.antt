@@ -5,6 +5,5 @@ pub mod ReplicaLaws
 pub mod ReceiptLaws
 pub mod MessageLaws
 pub mod SendingLaws
-pub mod AckLaws
 pub mod DeliveryLaws
 pub mod RunLaws

@@ -1,7 +1,7 @@
 -- Laws of what a first write sends.
-use Rattle.std.proofs.Common.{◌≡◌, ◌≢◌, ℕ, ◌+◌, ◌*◌, ◌%◌, ◌<◌, ◌≤◌, ℤ, pos, refl, true, List, [], length, map, None, IsSome, subst, nat_eq, sym, ap, ◌∙◌, arith}
+use Rattle.std.proofs.Common.{◌≡◌, ◌≢◌, ℕ, ◌+◌, ◌*◌, ◌%◌, ◌<◌, ◌≤◌, ℤ, pos, refl, true, List, [], length, map, take, Option, Some, None, IsSome, subst, nat_eq, sym, ap, ◌∙◌, arith}
 use Rattle.std.proofs.lemmas.Bool.Decides.{nat_tests}
-use Rattle.std.proofs.lemmas.List.{length-map}
+use Rattle.std.proofs.lemmas.List.{length-map, take_all}
 use Rattle.chunk_sums.specs.Pieces.{sums, pieces}
 use Rattle.chunk_sums.specs.Crc.{sum_of}
 use Rattle.std.proofs.lemmas.Grind.{div_ceil_times}
@@ -16,7 +16,7 @@ use Rattle.op_headers.specs.declared.ops.Op.TheVariants.{Write}
 use Rattle.op_headers.proofs.RoomLaws.{op_few}
 use Rattle.dn_run.specs.declared.member.Replica.{Replica}
 use Rattle.dn_run.specs.Members.{IsRequestFor, IsAckOf, IsDataPacket, IsLastPacket}
-use Rattle.dn_run.specs.Sendings.{success, request_for, ack_for, data_packet, last_packet}
+use Rattle.dn_run.specs.Sendings.{success, sent_down, sent_up, request_for, ack_for, data_packet, last_packet}
 use Rattle.chunk_sums.proofs.PiecesLemmas.{length-flat_sums, length-sums}
 
 sums_length : (body : List ℕ) → length (sums body) ≡ 4 * length (pieces 512 512 body)
@@ -75,3 +75,16 @@ pub success_fits : (r : Response) → r ≡ success → IsStatus r.status × (Is
 success_fits r is =
     let P : Response → Type 0 = λ x. IsStatus x.status × (IsSome x.sums_from → x.first_bad ≡ []) × (length (response_message x) ≤ 65536) in
     subst P (sym is) (tt, (λ _. refl), response_message_few success (omega arith))
+
+-- Something goes up,
+pub some_answers : (body : Option (List ℕ)) → 0 < length (sent_up body)
+some_answers None = omega arith
+some_answers (Some body) = omega arith
+
+-- and as many messages as go down.
+pub all_answers : (body : Option (List ℕ)) → take (length (sent_up body)) (sent_up body) ≡ sent_up body
+all_answers body = take_all (length (sent_up body)) (sent_up body) (omega arith)
+
+pub all_requests : (block : ℕ) (body : Option (List ℕ)) → take (length (sent_up body) + 1) (sent_down block body) ≡ sent_down block body
+all_requests block None = refl
+all_requests block (Some body) = refl

@@ -1,5 +1,5 @@
 -- A run of one first write: its words, its script, and what it leaves.
-use Rattle.std.specs.Prelude.{◌≡◌, ℕ, ◌≤◌, true, false, List, [], ◌∷◌, length, Option, Some, None, IsSome}
+use Rattle.std.specs.Prelude.{◌≡◌, ℕ, ◌+◌, ◌<◌, ◌≤◌, ◌⊎◌, true, false, List, [], ◌∷◌, length, take, Option, Some, None, IsSome}
 use Rattle.std.specs.Option.{is_some}
 use Rattle.hd_base.specs.Faults.{Rose}
 use Rattle.dn_run.specs.Exits.{script_limit}
@@ -59,6 +59,13 @@ pub record TellEmpty (plain : Option Plain) (carried : Option Carried) (files : 
 pub record CarriedFor (s : FirstWrite) (carried : Carried) : Type 0 where
   pub down : carried 0 true ≡ joined (sent_down s.block.0 s.body)
   pub up : carried 0 false ≡ joined (sent_up s.body)
+
+-- The run stopped for a failing shelf: so many messages were answered, and the next one was sent down, where there is one. Unless all were answered the block isn't closed; where all were, the replica is stored.
+pub record StoppedAt (s : FirstWrite) (files : Option FileMap) (carried : Carried) : Type 0 where
+  pub answers : ℕ
+  pub down : carried 0 true ≡ joined (take (answers + 1) (sent_down s.block.0 s.body))
+  pub up : carried 0 false ≡ joined (take answers (sent_up s.body))
+  pub stored : (answers < length (sent_up s.body)) ⊎ (files ≡ Some (files_for s))
 
 -- what the first of the shelves tells, where there is one
 abbrev pub first_files : {S : Type 0} → (S → Option FileMap) → List S → Option FileMap

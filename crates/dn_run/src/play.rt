@@ -1,16 +1,15 @@
 //! The run of one first write, on a node and over roads.
 
-ghost use Rattle.std.specs.Prelude.{◌≡◌, ◌<◌, ◌≤◌, ◌⊎◌, ℕ, List, [], length, true, false, Option, Some, Err, IfOk, OnOk, IfSome, IsSome};
+ghost use Rattle.std.specs.Prelude.{◌≡◌, ◌+◌, ◌<◌, ◌≤◌, ◌⊎◌, ℕ, List, [], length, take, true, Option, Some, Err, IfOk, OnOk, IfSome, IsSome};
 ghost use Rattle.hd_base.specs.Faults.{Rose};
 ghost use Rattle.hd_base.specs.FileMaps.{Steps};
 ghost use Rattle.meta_file.specs.declared.names.Folder.TheVariants as folder;
 ghost use Rattle.hd_base.specs.FileMaps.{FileMap};
-ghost use Rattle.hd_base.specs.Lists.{joined};
 ghost use Rattle.hd_base.specs.declared.states.ReplicaState.TheVariants as state;
 ghost use Rattle.dn_run.specs.Connections.{IsOpen, IsUnused, Knows, RoadRose, StaysEnd, end_faults};
 ghost use Rattle.dn_run.specs.Members.{folder_of};
 ghost use Rattle.dn_run.specs.Replicas.{data_path, with_replica, finished, HasReplica, IsThere};
-ghost use Rattle.dn_run.specs.Runs.{report_for, close_for, files_for, TellEmpty, CarriedFor};
+ghost use Rattle.dn_run.specs.Runs.{report_for, close_for, files_for, TellEmpty, CarriedFor, StoppedAt};
 ghost use Rattle.dn_run.specs.Sendings.{first_stamp, asked, answered, sent_down, sent_up, bytes_of};
 ghost use Rattle.dn_run.specs.declared.report.CreateAnswer.TheVariants as creation;
 ghost use Rattle.dn_run.specs.declared.faults.RunFault.TheVariants as fault;
@@ -44,8 +43,8 @@ pub(crate) fn play<S: Shelf, R: Roads>(
     ensures report { TellEmpty (R.plain roads.old) (R.carried roads.old) (S.files shelf.old) → IfOk result (λ report. report ≡ report_for script) }
     ensures held { TellEmpty (R.plain roads.old) (R.carried roads.old) (S.files shelf.old) → OnOk result (S.files shelf.new ≡ Some (files_for script)) }
     ensures carried { TellEmpty (R.plain roads.old) (R.carried roads.old) (S.files shelf.old) → OnOk result (IfSome (R.carried roads.new) (CarriedFor script)) }
-    // What was acknowledged is stored, also where the shelf failed.
-    ensures acked { TellEmpty (R.plain roads.old) (R.carried roads.old) (S.files shelf.old) → result ≡ Err fault.Shelf → IfSome (R.carried roads.new) (λ carried. carried 0 false ≡ joined (sent_up script.body) → S.files shelf.new ≡ Some (files_for script)) }
+    // Where the shelf failed, one message more went down than was answered, unless all was stored.
+    ensures stopped { TellEmpty (R.plain roads.old) (R.carried roads.old) (S.files shelf.old) → result ≡ Err fault.Shelf → IfSome (R.carried roads.new) (StoppedAt script (S.files shelf.new)) }
     ensures road { result ≡ Err fault.Road → Rose (R.faults roads.old) (R.faults roads.new) ⊎ ((conn : ℕ) × (R.risen roads.new conn ≡ true)) }
     ensures shelf { result ≡ Err fault.Shelf → Rose (S.faults shelf.old) (S.faults shelf.new) }
     ensures road_later { R.faults roads.old ≤ R.faults roads.new }
@@ -101,7 +100,7 @@ fn write<R: Roads, F: Files>(
     ensures idle { IsOpen R.plain R.carried R.Inward.held R.Inward.shut R.Outward.sent R.Outward.handed R.Outward.lost R.Outward.shut roads.old connection.old [] [] → OnOk result (IsOpen R.plain R.carried R.Inward.held R.Inward.shut R.Outward.sent R.Outward.handed R.Outward.lost R.Outward.shut roads.new connection.new (sent_down script.block.0 script.body) (sent_up script.body)) }
     ensures stored { IsOpen R.plain R.carried R.Inward.held R.Inward.shut R.Outward.sent R.Outward.handed R.Outward.lost R.Outward.shut roads.old connection.old [] [] → OnOk result (Steps (F.files drawer.old) (F.files drawer.new) (finished script.block.0 first_stamp (bytes_of script.body))) }
     ensures report { IsOpen R.plain R.carried R.Inward.held R.Inward.shut R.Outward.sent R.Outward.handed R.Outward.lost R.Outward.shut roads.old connection.old [] [] → IsSome (F.files drawer.old) → IfOk result (λ report. report ≡ report_for script) }
-    ensures acked { IsOpen R.plain R.carried R.Inward.held R.Inward.shut R.Outward.sent R.Outward.handed R.Outward.lost R.Outward.shut roads.old connection.old [] [] → result ≡ Err fault.Shelf → (down : List (List ℕ)) × (up : List (List ℕ)) × (IsOpen R.plain R.carried R.Inward.held R.Inward.shut R.Outward.sent R.Outward.handed R.Outward.lost R.Outward.shut roads.new connection.new down up) × ((length (joined up) < length (joined (sent_up script.body))) ⊎ Steps (F.files drawer.old) (F.files drawer.new) (finished script.block.0 first_stamp (bytes_of script.body))) }
+    ensures stopped { IsOpen R.plain R.carried R.Inward.held R.Inward.shut R.Outward.sent R.Outward.handed R.Outward.lost R.Outward.shut roads.old connection.old [] [] → result ≡ Err fault.Shelf → (n : ℕ) × (IsOpen R.plain R.carried R.Inward.held R.Inward.shut R.Outward.sent R.Outward.handed R.Outward.lost R.Outward.shut roads.new connection.new (take (n + 1) (sent_down script.block.0 script.body)) (take n (sent_up script.body))) × ((n < length (sent_up script.body)) ⊎ Steps (F.files drawer.old) (F.files drawer.new) (finished script.block.0 first_stamp (bytes_of script.body))) }
     ensures client { StaysEnd (R.plain roads.new) connection.old.client connection.new.client }
     ensures member { StaysEnd (R.plain roads.new) connection.old.member connection.new.member }
     ensures road { result ≡ Err fault.Road → RoadRose (R.faults roads.old) (R.faults roads.new) (end_faults R.Inward.faults R.Outward.faults connection.new.client) (end_faults R.Inward.faults R.Outward.faults connection.new.member) }
@@ -133,7 +132,7 @@ fn make<R: Roads, F: Files>(
     ensures idle { IsOpen R.plain R.carried R.Inward.held R.Inward.shut R.Outward.sent R.Outward.handed R.Outward.lost R.Outward.shut roads.old connection.old (asked script.block.0) [] → OnOk result (IsOpen R.plain R.carried R.Inward.held R.Inward.shut R.Outward.sent R.Outward.handed R.Outward.lost R.Outward.shut roads.new connection.new (sent_down script.block.0 script.body) (sent_up script.body)) }
     ensures stored { IsOpen R.plain R.carried R.Inward.held R.Inward.shut R.Outward.sent R.Outward.handed R.Outward.lost R.Outward.shut roads.old connection.old (asked script.block.0) [] → OnOk result (Steps (F.files drawer.old) (F.files drawer.new) (finished script.block.0 first_stamp (bytes_of script.body))) }
     ensures report { IsOpen R.plain R.carried R.Inward.held R.Inward.shut R.Outward.sent R.Outward.handed R.Outward.lost R.Outward.shut roads.old connection.old (asked script.block.0) [] → IsSome (F.files drawer.old) → IfOk result (λ report. report ≡ report_for script) }
-    ensures acked { IsOpen R.plain R.carried R.Inward.held R.Inward.shut R.Outward.sent R.Outward.handed R.Outward.lost R.Outward.shut roads.old connection.old (asked script.block.0) [] → result ≡ Err fault.Shelf → (down : List (List ℕ)) × (up : List (List ℕ)) × (IsOpen R.plain R.carried R.Inward.held R.Inward.shut R.Outward.sent R.Outward.handed R.Outward.lost R.Outward.shut roads.new connection.new down up) × ((length (joined up) < length (joined (sent_up script.body))) ⊎ Steps (F.files drawer.old) (F.files drawer.new) (finished script.block.0 first_stamp (bytes_of script.body))) }
+    ensures stopped { IsOpen R.plain R.carried R.Inward.held R.Inward.shut R.Outward.sent R.Outward.handed R.Outward.lost R.Outward.shut roads.old connection.old (asked script.block.0) [] → result ≡ Err fault.Shelf → (n : ℕ) × (IsOpen R.plain R.carried R.Inward.held R.Inward.shut R.Outward.sent R.Outward.handed R.Outward.lost R.Outward.shut roads.new connection.new (take (n + 1) (sent_down script.block.0 script.body)) (take n (sent_up script.body))) × ((n < length (sent_up script.body)) ⊎ Steps (F.files drawer.old) (F.files drawer.new) (finished script.block.0 first_stamp (bytes_of script.body))) }
     ensures client { StaysEnd (R.plain roads.new) connection.old.client connection.new.client }
     ensures member { StaysEnd (R.plain roads.new) connection.old.member connection.new.member }
     ensures road { result ≡ Err fault.Road → RoadRose (R.faults roads.old) (R.faults roads.new) (end_faults R.Inward.faults R.Outward.faults connection.new.client) (end_faults R.Inward.faults R.Outward.faults connection.new.member) }
@@ -177,7 +176,7 @@ fn answers<R: Roads, F: Files>(
     ensures idle { IsOpen R.plain R.carried R.Inward.held R.Inward.shut R.Outward.sent R.Outward.handed R.Outward.lost R.Outward.shut roads.old connection.old (asked replica.old.block.0) [] → OnOk result (IsOpen R.plain R.carried R.Inward.held R.Inward.shut R.Outward.sent R.Outward.handed R.Outward.lost R.Outward.shut roads.new connection.new (sent_down replica.old.block.0 body) (sent_up body)) }
     ensures stored { IsOpen R.plain R.carried R.Inward.held R.Inward.shut R.Outward.sent R.Outward.handed R.Outward.lost R.Outward.shut roads.old connection.old (asked replica.old.block.0) [] → (before : Option FileMap) → Steps before (F.files drawer.old) (with_replica folder.Rbw replica.old.block.0 replica.old.stamp.0 []) → OnOk result (Steps before (F.files drawer.new) (finished replica.old.block.0 replica.old.stamp.0 (bytes_of body))) }
     ensures written { IsOpen R.plain R.carried R.Inward.held R.Inward.shut R.Outward.sent R.Outward.handed R.Outward.lost R.Outward.shut roads.old connection.old (asked replica.old.block.0) [] → OnOk result ((replica.new.state ≡ state.Finalized) × (replica.new.written ≡ length (bytes_of body))) }
-    ensures unacked { IsOpen R.plain R.carried R.Inward.held R.Inward.shut R.Outward.sent R.Outward.handed R.Outward.lost R.Outward.shut roads.old connection.old (asked replica.old.block.0) [] → result ≡ Err fault.Shelf → (down : List (List ℕ)) × (up : List (List ℕ)) × (IsOpen R.plain R.carried R.Inward.held R.Inward.shut R.Outward.sent R.Outward.handed R.Outward.lost R.Outward.shut roads.new connection.new down up) × (length (joined up) < length (joined (sent_up body))) }
+    ensures stopped { IsOpen R.plain R.carried R.Inward.held R.Inward.shut R.Outward.sent R.Outward.handed R.Outward.lost R.Outward.shut roads.old connection.old (asked replica.old.block.0) [] → result ≡ Err fault.Shelf → (n : ℕ) × (IsOpen R.plain R.carried R.Inward.held R.Inward.shut R.Outward.sent R.Outward.handed R.Outward.lost R.Outward.shut roads.new connection.new (take (n + 1) (sent_down replica.old.block.0 body)) (take n (sent_up body))) × (n < length (sent_up body)) }
     ensures there { OnOk result (IsThere (F.files drawer.new) (data_path (folder_of replica.new.state) replica.old.block.0)) }
     ensures named { (replica.new.block ≡ replica.old.block) × (replica.new.stamp ≡ replica.old.stamp) }
     ensures client { StaysEnd (R.plain roads.new) connection.old.client connection.new.client }
@@ -217,7 +216,7 @@ fn write_and_close<R: Roads, F: Files>(
     ensures idle { IsOpen R.plain R.carried R.Inward.held R.Inward.shut R.Outward.sent R.Outward.handed R.Outward.lost R.Outward.shut roads.old connection.old (asked replica.old.block.0) answered → OnOk result (IsOpen R.plain R.carried R.Inward.held R.Inward.shut R.Outward.sent R.Outward.handed R.Outward.lost R.Outward.shut roads.new connection.new (sent_down replica.old.block.0 body) (sent_up body)) }
     ensures stored { IsOpen R.plain R.carried R.Inward.held R.Inward.shut R.Outward.sent R.Outward.handed R.Outward.lost R.Outward.shut roads.old connection.old (asked replica.old.block.0) answered → (before : Option FileMap) → Steps before (F.files drawer.old) (with_replica folder.Rbw replica.old.block.0 replica.old.stamp.0 []) → OnOk result (Steps before (F.files drawer.new) (finished replica.old.block.0 replica.old.stamp.0 (bytes_of body))) }
     ensures written { IsOpen R.plain R.carried R.Inward.held R.Inward.shut R.Outward.sent R.Outward.handed R.Outward.lost R.Outward.shut roads.old connection.old (asked replica.old.block.0) answered → OnOk result ((replica.new.state ≡ state.Finalized) × (replica.new.written ≡ length (bytes_of body))) }
-    ensures unacked { IsOpen R.plain R.carried R.Inward.held R.Inward.shut R.Outward.sent R.Outward.handed R.Outward.lost R.Outward.shut roads.old connection.old (asked replica.old.block.0) answered → result ≡ Err fault.Shelf → (down : List (List ℕ)) × (up : List (List ℕ)) × (IsOpen R.plain R.carried R.Inward.held R.Inward.shut R.Outward.sent R.Outward.handed R.Outward.lost R.Outward.shut roads.new connection.new down up) × (length (joined up) < length (joined (sent_up body))) }
+    ensures stopped { IsOpen R.plain R.carried R.Inward.held R.Inward.shut R.Outward.sent R.Outward.handed R.Outward.lost R.Outward.shut roads.old connection.old (asked replica.old.block.0) answered → result ≡ Err fault.Shelf → (n : ℕ) × (IsOpen R.plain R.carried R.Inward.held R.Inward.shut R.Outward.sent R.Outward.handed R.Outward.lost R.Outward.shut roads.new connection.new (take (n + 1) (sent_down replica.old.block.0 body)) (take n (sent_up body))) × (n < length (sent_up body)) }
     ensures there { OnOk result (IsThere (F.files drawer.new) (data_path (folder_of replica.new.state) replica.old.block.0)) }
     ensures named { (replica.new.block ≡ replica.old.block) × (replica.new.stamp ≡ replica.old.stamp) }
     ensures client { StaysEnd (R.plain roads.new) connection.old.client connection.new.client }

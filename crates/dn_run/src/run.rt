@@ -3,14 +3,12 @@
 ghost use Rattle.std.specs.Prelude.{◌≡◌, ◌≢◌, ◌+◌, ◌<◌, ◌≤◌, ◌⊎◌, ◌↔◌, ℕ, List, [], length, map, take, drop, true, false, Option, Some, None, Ok, Err, IfOk, IfErr, OnOk, IfSome, IsSome, MatchOption, vec_items};
 ghost use Rattle.std.specs.String.{string_bytes};
 ghost use Rattle.hd_base.specs.Faults.{Rose};
-ghost use Rattle.hd_base.specs.Lists.{joined};
 ghost use Rattle.hd_base.specs.Streams.{Wrote};
 ghost use Rattle.dn_run.specs.Connections.{IsUnused};
 ghost use Rattle.dn_run.specs.Exits.{ArePlay, IsBadScript, IsFault, IsReadExit, script_limit};
 ghost use Rattle.dn_run.specs.Reports.{report_of};
-ghost use Rattle.dn_run.specs.Runs.{report_for, files_for, first_files, FirstRose, IsGiven, CarriedFor};
+ghost use Rattle.dn_run.specs.Runs.{report_for, files_for, first_files, FirstRose, IsGiven, CarriedFor, StoppedAt};
 ghost use Rattle.dn_run.specs.Scripts.{SpellsScript};
-ghost use Rattle.dn_run.specs.Sendings.{sent_up};
 ghost use Rattle.dn_run.specs.Streams.{TookSome, WroteFront};
 ghost use Rattle.dn_run.specs.declared.exits.BadKind.{BadKind};
 ghost use Rattle.dn_run.specs.declared.exits.BadKind.TheVariants as kinds;
@@ -78,8 +76,9 @@ pub fn run<I: Source, O: Sink, S: Shelf, R: Roads>(
     // else, and connection 0 carried the request and the packets down, the answer and the acks up.
     ensures held { (first : FirstWrite) → IsGiven first (I.left script.old) (R.plain roads.old) (R.carried roads.old) (first_files (λ s. S.files s) shelves.old.items) → (result ≡ exit.Done) ⊎ (result ≡ exit.ReportFault) → first_files (λ s. S.files s) shelves.new.items ≡ Some (files_for first) }
     ensures carried { (first : FirstWrite) → IsGiven first (I.left script.old) (R.plain roads.old) (R.carried roads.old) (first_files (λ s. S.files s) shelves.old.items) → (result ≡ exit.Done) ⊎ (result ≡ exit.ReportFault) → IfSome (R.carried roads.new) (CarriedFor first) }
-    // What was acknowledged whole is stored, also where the shelf failed.
-    ensures acked { (first : FirstWrite) (node : NodeId) → IsGiven first (I.left script.old) (R.plain roads.old) (R.carried roads.old) (first_files (λ s. S.files s) shelves.old.items) → result ≡ exit.ShelfFault node → IfSome (R.carried roads.new) (λ carried. carried 0 false ≡ joined (sent_up first.body) → first_files (λ s. S.files s) shelves.new.items ≡ Some (files_for first)) }
+    // Where the shelf failed, the client had sent one message more than was answered, so that nothing
+    // went up for files that weren't done; or all was stored.
+    ensures stopped { (first : FirstWrite) (node : NodeId) → IsGiven first (I.left script.old) (R.plain roads.old) (R.carried roads.old) (first_files (λ s. S.files s) shelves.old.items) → result ≡ exit.ShelfFault node → IfSome (R.carried roads.new) (StoppedAt first (first_files (λ s. S.files s) shelves.new.items)) }
     ensures others { drop 1 shelves.new.items ≡ drop 1 shelves.old.items }
 
     // With a script and no fault the exit is Done, unless memory runs out.

@@ -1,10 +1,11 @@
-//! Whole runs over memory: the worked examples, and each call that can fail failing in turn.
+//! Whole runs over memory: the worked examples with what they carry and store, and each call that
+//! can fail failing in turn.
 
 ghost use Rattle.std.specs.Prelude.{◌<◌, length, IfOk};
 
 use crate::exits::{BadKind, Exit, UsageRule};
 use crate::run::run;
-use hd_base::{BlockId, FileName, Files, NodeId, Shelf};
+use hd_base::{BlockId, ConnId, FileName, Files, NodeId, Shelf};
 use mem_ports::{MemRoads, MemShelf, MemSink, MemSource};
 use std::alloc::Global;
 use std::test::Fail;
@@ -26,6 +27,20 @@ const EMPTY_REPORT: &[u8] =
 /// The report of 64,512 bytes 5a.
 const LONG_REPORT: &[u8] =
     b"replica 0 7 FINALIZED 1001 64512 64512 4c3561b8 ok\nanswer 7 0 create ok 1001\nanswer 7 2 close ok 64512 1001 0\nend\n";
+
+/// What goes down of a run: the request to write the block, the packet of the nine bytes and the last
+/// packet.
+const NINE_DOWN: &[u8] =
+    b"\x00\x1c\x50\x4a\x0a\x37\x0a\x1f\x0a\x1d\x0a\x10\x42\x50\x2d\x31\x2d\x31\x32\x37\x2e\x30\x2e\x30\x2e\x31\x2d\x31\x10\x81\x80\x80\x80\x04\x18\xe9\x07\x20\x00\x12\x14\x44\x46\x53\x43\x6c\x69\x65\x6e\x74\x5f\x31\x30\x37\x33\x37\x34\x31\x38\x32\x35\x20\x06\x28\x01\x30\x00\x38\x00\x40\x00\x4a\x05\x08\x02\x10\x80\x04\x00\x00\x00\x11\x00\x19\x09\x00\x00\x00\x00\x00\x00\x00\x00\x11\x00\x00\x00\x00\x00\x00\x00\x00\x18\x00\x25\x09\x00\x00\x00\xe3\x06\x92\x83\x31\x32\x33\x34\x35\x36\x37\x38\x39\x00\x00\x00\x04\x00\x19\x09\x09\x00\x00\x00\x00\x00\x00\x00\x11\x01\x00\x00\x00\x00\x00\x00\x00\x18\x01\x25\x00\x00\x00\x00";
+
+/// What goes up: the answer, and the acks of the packets 0 and 1.
+const NINE_UP: &[u8] = b"\x04\x08\x00\x12\x00\x04\x08\x00\x10\x00\x04\x08\x02\x10\x00";
+
+/// The same of an empty block, which has the last packet alone.
+const EMPTY_DOWN: &[u8] =
+    b"\x00\x1c\x50\x4a\x0a\x37\x0a\x1f\x0a\x1d\x0a\x10\x42\x50\x2d\x31\x2d\x31\x32\x37\x2e\x30\x2e\x30\x2e\x31\x2d\x31\x10\x81\x80\x80\x80\x04\x18\xe9\x07\x20\x00\x12\x14\x44\x46\x53\x43\x6c\x69\x65\x6e\x74\x5f\x31\x30\x37\x33\x37\x34\x31\x38\x32\x35\x20\x06\x28\x01\x30\x00\x38\x00\x40\x00\x4a\x05\x08\x02\x10\x80\x04\x00\x00\x00\x04\x00\x19\x09\x00\x00\x00\x00\x00\x00\x00\x00\x11\x00\x00\x00\x00\x00\x00\x00\x00\x18\x01\x25\x00\x00\x00\x00";
+
+const EMPTY_UP: &[u8] = b"\x04\x08\x00\x12\x00\x04\x08\x00\x10\x00";
 
 /// What a run stands on.
 #[derive(Clone, Copy, PartialEq, Eq)]
@@ -62,6 +77,7 @@ struct Left {
     exit: Exit,
     report: MemSink,
     shelves: Vec<MemShelf>,
+    roads: MemRoads,
 }
 
 /// Runs a script on one shelf.
@@ -83,6 +99,7 @@ fn run_one(alloc: Global, word: &str, text: &[u8], failing: Failing) -> Result<L
         exit,
         report,
         shelves,
+        roads,
     })
 }
 
@@ -109,6 +126,19 @@ fn examples_are_reported(rt: HostRuntime) -> Result<(), Fail> {
         let left = run_one(rt.alloc(), "play", script, NONE)?;
         assert_eq!(rt; left.exit, Exit::Done);
         assert_eq!(rt; left.report.bytes(), report);
+    }
+    Ok(())
+}
+
+#[test]
+fn messages_are_carried(rt: HostRuntime) -> Result<(), Fail> {
+    let table = [(NINE, NINE_DOWN, NINE_UP), (EMPTY, EMPTY_DOWN, EMPTY_UP)];
+    for (script, down, up) in table {
+        let left = run_one(rt.alloc(), "play", script, NONE)?;
+        let carried = left.roads.carried_bytes(rt.alloc(), ConnId(0), true)?;
+        assert_eq!(rt; carried.as_slice(), down);
+        let carried = left.roads.carried_bytes(rt.alloc(), ConnId(0), false)?;
+        assert_eq!(rt; carried.as_slice(), up);
     }
     Ok(())
 }
@@ -151,7 +181,7 @@ fn each_call_fails_in_turn(rt: HostRuntime) -> Result<(), Fail> {
     let table = [
         (Port::Script, 2, Exit::ScriptFault),
         (Port::Report, 1, Exit::ReportFault),
-        (Port::Roads, 7, Exit::RoadFault),
+        (Port::Roads, 15, Exit::RoadFault),
         (Port::Shelf, 12, Exit::ShelfFault { node: NodeId(0) }),
     ];
     for (port, calls, fault) in table {
@@ -167,7 +197,7 @@ fn each_call_fails_in_turn(rt: HostRuntime) -> Result<(), Fail> {
 #[test]
 fn receipts_fail_in_turn(rt: HostRuntime) -> Result<(), Fail> {
     let long = long_script(rt.alloc())?;
-    for number in 8..=19 {
+    for number in 16..=25 {
         let failing = Failing {
             port: Port::Roads,
             number,

@@ -1,11 +1,10 @@
 //! The exchanges of one first write: the request and its answer, each packet and its ack.
 
-ghost use Rattle.std.specs.Prelude.{◌≡◌, ◌≢◌, ◌<◌, ◌≤◌, ◌∷◌, ◌++◌, ℕ, List, [], length, pos, Option, Some, None, Err, IfOk, OnOk, IfSome};
+ghost use Rattle.std.specs.Prelude.{◌≡◌, ◌≢◌, ◌+◌, ◌<◌, ◌≤◌, ◌∷◌, ◌++◌, ℕ, List, [], length, take, pos, Option, Some, None, Err, IfOk, OnOk, IfSome};
 ghost use Rattle.ack_codec.specs.AckTexts.{ack_text};
 ghost use Rattle.ack_codec.specs.ResponseTexts.{response_text};
 ghost use Rattle.hd_base.specs.Faults.{Rose};
 ghost use Rattle.hd_base.specs.FileMaps.{FileMap, Steps};
-ghost use Rattle.hd_base.specs.Lists.{joined};
 ghost use Rattle.hd_base.specs.declared.states.ReplicaState.TheVariants as state;
 ghost use Rattle.meta_file.specs.declared.names.Folder.TheVariants as folder;
 ghost use Rattle.op_headers.specs.Requests.{op_text};
@@ -125,8 +124,8 @@ pub(crate) fn write_block<R: Roads, F: Files>(
     ensures stored { IsOpen R.plain R.carried R.Inward.held R.Inward.shut R.Outward.sent R.Outward.handed R.Outward.lost R.Outward.shut roads.old connection.old (asked replica.old.block.0) answered → (before : Option FileMap) → Steps before (F.files drawer.old) (with_replica folder.Rbw replica.old.block.0 replica.old.stamp.0 []) → OnOk result (Steps before (F.files drawer.new) (finished replica.old.block.0 replica.old.stamp.0 (bytes_of body))) }
     ensures written { IsOpen R.plain R.carried R.Inward.held R.Inward.shut R.Outward.sent R.Outward.handed R.Outward.lost R.Outward.shut roads.old connection.old (asked replica.old.block.0) answered → OnOk result (replica.new.written ≡ length (bytes_of body)) }
     ensures open { IsOpen R.plain R.carried R.Inward.held R.Inward.shut R.Outward.sent R.Outward.handed R.Outward.lost R.Outward.shut roads.old connection.old (asked replica.old.block.0) answered → IfSome body (λ bytes. 0 < length bytes) → result ≢ Err Shut }
-    // Where the files failed, not all acks went up.
-    ensures unacked { IsOpen R.plain R.carried R.Inward.held R.Inward.shut R.Outward.sent R.Outward.handed R.Outward.lost R.Outward.shut roads.old connection.old (asked replica.old.block.0) answered → result ≡ Err (Run fault.Shelf) → (down : List (List ℕ)) × (up : List (List ℕ)) × (IsOpen R.plain R.carried R.Inward.held R.Inward.shut R.Outward.sent R.Outward.handed R.Outward.lost R.Outward.shut roads.new connection.new down up) × (length (joined up) < length (joined (sent_up body))) }
+    // Where the files failed, one message more went down than was answered.
+    ensures stopped { IsOpen R.plain R.carried R.Inward.held R.Inward.shut R.Outward.sent R.Outward.handed R.Outward.lost R.Outward.shut roads.old connection.old (asked replica.old.block.0) answered → result ≡ Err (Run fault.Shelf) → (n : ℕ) × (IsOpen R.plain R.carried R.Inward.held R.Inward.shut R.Outward.sent R.Outward.handed R.Outward.lost R.Outward.shut roads.new connection.new (take (n + 1) (sent_down replica.old.block.0 body)) (take n (sent_up body))) × (n < length (sent_up body)) }
     ensures length { IfOk result (λ n. n ≡ length (bytes_of body)) }
     ensures finalized { OnOk result ((replica.new.state ≡ state.Finalized) × IsThere (F.files drawer.new) (data_path folder.Finalized replica.old.block.0)) }
     ensures left { result ≡ Err Shut → IsThere (F.files drawer.new) (data_path (folder_of replica.new.state) replica.old.block.0) }

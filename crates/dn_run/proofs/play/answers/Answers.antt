@@ -4,10 +4,10 @@ use Rattle.std.proofs.lemmas.Result.{err_from_is_err_and}
 use Rattle.dn_run.proofs.ReceiptLaws.{err_value}
 use Rattle.dn_run.proofs.play.answers.Goals as goal
 
-pub returns-in_err-close-in-Ok-clause-unacked : goal.returns-in_err-close-in-Ok-clause-unacked
-returns-in_err-close-in-Ok-clause-unacked g c i is =
+pub returns-in_err-close-in-Ok-clause-stopped : goal.returns-in_err-close-in-Ok-clause-stopped
+returns-in_err-close-in-Ok-clause-stopped g c i is =
     let e = err_from_is_err_and c.from_residual.result c.from_residual.ensures.1 in
-    c.in_err-close-in-Ok.ensures.unacked (c.in-Ok.ensures.idle _ [] i) (ap Err (err_value _ _ (sym (e.1 ∙ ap Err e.2) ∙ is)))
+    c.in_err-close-in-Ok.ensures.stopped (c.in-Ok.ensures.idle _ [] i) (ap Err (err_value _ _ (sym (e.1 ∙ ap Err e.2) ∙ is)))
 
 pub returns-in-Ok-clause-answered : goal.returns-in-Ok-clause-answered
 returns-in-Ok-clause-answered g c i = (refl, c.in_ok-close-in-Ok.ensures.answered (c.in-Ok.ensures.idle _ [] i))

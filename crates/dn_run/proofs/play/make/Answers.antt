@@ -1,36 +1,36 @@
 -- The report tells what the member holds, which is what the script wrote.
-use Rattle.std.proofs.Common.{◌∙◌, [], Err, inl, inr, sym, ap, subst}
+use Rattle.std.proofs.Common.{◌∙◌, ◌+◌, length, take, Err, inl, inr, sym, ap, subst}
 use Rattle.std.proofs.lemmas.Result.{err_from_is_err_and}
 use Rattle.hd_base.specs.FileMaps.{Steps}
+use Rattle.dn_run.specs.Connections.{IsOpen}
 use Rattle.dn_run.specs.Replicas.{finished}
-use Rattle.dn_run.specs.Sendings.{first_stamp, asked, sent_down, sent_up, bytes_of}
-use Rattle.dn_run.proofs.AckLaws.{none_answered}
+use Rattle.dn_run.specs.Sendings.{first_stamp, sent_down, sent_up, bytes_of}
 use Rattle.dn_run.proofs.ReceiptLaws.{err_value}
 use Rattle.dn_run.proofs.ReplicaLaws.{finished_sum}
 use Rattle.dn_run.proofs.RunLaws.{same_entry, same_report}
+use Rattle.dn_run.proofs.SendingLaws.{some_answers, all_answers, all_requests}
 use Rattle.dn_run.proofs.play.make.Goals as goal
 
-pub returns-in_err-make_files-clause-acked : goal.returns-in_err-make_files-clause-acked
-returns-in_err-make_files-clause-acked g c i _ = (asked c.args.script.block.0, [], i, inl (none_answered c.args.script.body))
+pub returns-in_err-make_files-clause-stopped : goal.returns-in_err-make_files-clause-stopped
+returns-in_err-make_files-clause-stopped g c i _ = (0, i, inl (some_answers c.args.script.body))
 
-pub returns-in_err-create-clause-acked : goal.returns-in_err-create-clause-acked
-returns-in_err-create-clause-acked g c i is =
+pub returns-in_err-create-clause-stopped : goal.returns-in_err-create-clause-stopped
+returns-in_err-create-clause-stopped g c i is =
     let e = err_from_is_err_and c.from_residual-in_err-create.result c.from_residual-in_err-create.ensures.1 in
-    let a = (rw c.new-replica.ensures.named.0 at c.in_err-create.ensures.unacked) i (ap Err (err_value _ _ (sym (e.1 ∙ ap Err e.2) ∙ is))) in
-    (a.0, a.1, a.2, inl a.3)
+    let a = (rw c.new-replica.ensures.named.0 at c.in_err-create.ensures.stopped) i (ap Err (err_value _ _ (sym (e.1 ∙ ap Err e.2) ∙ is))) in
+    (a.0, a.1, inl a.2)
 
-pub returns-in_err-entry-clause-acked : goal.returns-in_err-entry-clause-acked
-returns-in_err-entry-clause-acked g c i _ =
+pub returns-in_err-entry-clause-stopped : goal.returns-in_err-entry-clause-stopped
+returns-in_err-entry-clause-stopped g c i _ =
     let named = c.new-replica.ensures.named in
     let block = c.args.script.block.0 in
     let body = c.args.script.body in
     let before = g.F.Files.files c.args.drawer.now in
-    let stored = (rw (named.0, named.1) at c.in_ok-create.ensures.stored) i before c.in_ok-make_files.ensures.made in (
-      sent_down block body,
-      sent_up body,
-      (rw named.0 at c.in_ok-create.ensures.idle) i,
-      inr (subst (λ files. Steps before files (finished block first_stamp (bytes_of body))) (sym c.entry.ensures.files) stored),
-    )
+    let stored = (rw (named.0, named.1) at c.in_ok-create.ensures.stored) i before c.in_ok-make_files.ensures.made in
+    let idle : IsOpen g.R.Roads.plain g.R.Roads.carried g.R.Inward.LinkIn.held g.R.Inward.LinkIn.shut g.R.Outward.LinkOut.sent g.R.Outward.LinkOut.handed g.R.Outward.LinkOut.lost g.R.Outward.LinkOut.shut c.answers.new.roads c.answers.new.connection (sent_down block body) (sent_up body) = (rw named.0 at c.in_ok-create.ensures.idle) i in
+    let most = subst (λ down. IsOpen g.R.Roads.plain g.R.Roads.carried g.R.Inward.LinkIn.held g.R.Inward.LinkIn.shut g.R.Outward.LinkOut.sent g.R.Outward.LinkOut.handed g.R.Outward.LinkOut.lost g.R.Outward.LinkOut.shut c.answers.new.roads c.answers.new.connection down (sent_up body)) (sym (all_requests block body)) idle in
+    let all = subst (λ up. IsOpen g.R.Roads.plain g.R.Roads.carried g.R.Inward.LinkIn.held g.R.Inward.LinkIn.shut g.R.Outward.LinkOut.sent g.R.Outward.LinkOut.handed g.R.Outward.LinkOut.lost g.R.Outward.LinkOut.shut c.answers.new.roads c.answers.new.connection (take (length (sent_up body) + 1) (sent_down block body)) up) (sym (all_answers body)) most in
+    (length (sent_up body), all, inr (subst (λ files. Steps before files (finished block first_stamp (bytes_of body))) (sym c.entry.ensures.files) stored))
 
 pub returns-clause-idle : goal.returns-clause-idle
 returns-clause-idle g c i = (rw c.new-replica.ensures.named.0 at c.in_ok-create.ensures.idle) i

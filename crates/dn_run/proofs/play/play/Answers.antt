@@ -1,9 +1,7 @@
 -- What the run leaves on an empty shelf and on unused roads, where both tell, and why it fails.
-use Rattle.std.proofs.Common.{◌∙◌, inl, inr, ap, sym, arith}
-use Rattle.hd_base.specs.Lists.{joined}
-use Rattle.dn_run.specs.Sendings.{first_stamp, sent_down, sent_up, bytes_of}
-use Rattle.dn_run.proofs.AckLaws.{unlike}
-use Rattle.dn_run.proofs.DeliveryLaws.{Loads, on_ok_then, brought, risen_now, risen_still, positive}
+use Rattle.std.proofs.Common.{◌∙◌, inl, inr, ap, arith}
+use Rattle.dn_run.specs.Sendings.{first_stamp, bytes_of}
+use Rattle.dn_run.proofs.DeliveryLaws.{on_ok_then, brought, risen_now, risen_still, positive}
 use Rattle.dn_run.proofs.ReplicaLaws.{shelf_filled}
 use Rattle.dn_run.proofs.RunLaws.{carried_for}
 use Rattle.dn_run.proofs.play.play.Goals as goal
@@ -23,18 +21,23 @@ returns-clause-carried g c t =
     on_ok_then c.write-outcome.result (c.write-outcome.ensures.idle open_first)
     (λ o. carried_for c.args.script _ (brought _ _ _ _ _ _ _ _ _ _ _ _ _ _ _ o c.in_ok-bring.ensures.carried c.in_ok-bring-2.ensures.carried number upper))
 
-pub returns-clause-acked : goal.returns-clause-acked
-returns-clause-acked g c t is =
+pub returns-clause-stopped : goal.returns-clause-stopped
+returns-clause-stopped g c t is =
     let open_first = rw c.in-Some.is at (c.in_ok-connection.ensures.idle t.net t.loads) in
     let number = ap (λ id. id.0) c.write-outcome.ensures.client.id ∙ rw c.in-Some.is at (c.in_ok-connection.ensures.number t.net) in
     let upper = c.write-outcome.ensures.client.lower ∙ rw c.in-Some.is at c.in_ok-connection.ensures.upper in
-    let a = c.write-outcome.ensures.acked open_first is in
-    let l = brought _ _ _ _ _ _ _ _ _ _ _ _ _ _ _ a.2 c.in_ok-bring.ensures.carried c.in_ok-bring-2.ensures.carried number upper in
-    rw l.is (λ all. elim a.3 [
-      | inl less ↦ absurd (unlike a.1 (sent_up c.args.script.body) less (sym l.up_is ∙ all))
-      | inr wrote ↦ shelf_filled (g.S.Shelf.files c.args.shelf.now) (g.S.Shelf.files c.lend.new.self) (g.S.Drawer.Files.files c.in_ok-drawer.drawer) (g.S.Drawer.Files.files c.write-outcome.new.drawer) (g.S.Shelf.files c.give_back.new.self) c.args.script.block.0 first_stamp (bytes_of c.args.script.body)
-          (omega arith) (omega arith) t.none c.in_ok-drawer.ensures.drawer c.in_ok-drawer.ensures.rest wrote c.give_back.ensures.files
-    ])
+    let a = c.write-outcome.ensures.stopped open_first is in
+    let l = brought _ _ _ _ _ _ _ _ _ _ _ _ _ _ _ a.1 c.in_ok-bring.ensures.carried c.in_ok-bring-2.ensures.carried number upper in
+    rw l.is (record {
+      answers = a.0;
+      down = l.down_is;
+      up = l.up_is;
+      stored = elim a.2 [
+        | inl less ↦ inl less
+        | inr wrote ↦ inr (shelf_filled (g.S.Shelf.files c.args.shelf.now) (g.S.Shelf.files c.lend.new.self) (g.S.Drawer.Files.files c.in_ok-drawer.drawer) (g.S.Drawer.Files.files c.write-outcome.new.drawer) (g.S.Shelf.files c.give_back.new.self) c.args.script.block.0 first_stamp (bytes_of c.args.script.body)
+    (omega arith) (omega arith) t.none c.in_ok-drawer.ensures.drawer c.in_ok-drawer.ensures.rest wrote c.give_back.ensures.files)
+      ];
+    })
 
 pub returns-clause-road : goal.returns-clause-road
 returns-clause-road g c is = elim (c.write-outcome.ensures.road is) [

@@ -1,11 +1,9 @@
 -- The script that is given is the one that is read and run, and nothing else is refused.
 use Rattle.std.proofs.Common.{◌∙◌, Some, Err, IfSome, inl, inr, sym, ap, subst}
-use Rattle.hd_base.specs.Lists.{joined}
 use Rattle.hd_base.specs.Streams.{Wrote}
 use Rattle.dn_run.specs.Exits.{IsFault}
 use Rattle.dn_run.specs.Reports.{report_of}
-use Rattle.dn_run.specs.Runs.{TellEmpty, CarriedFor, report_for, files_for}
-use Rattle.dn_run.specs.Sendings.{sent_up}
+use Rattle.dn_run.specs.Runs.{TellEmpty, CarriedFor, StoppedAt, report_for, files_for}
 use Rattle.dn_run.specs.Streams.{WroteFront}
 use Rattle.dn_run.proofs.RunLaws.{same_first, no_shelf, reads_script, first_is, first_set, if_some_map, refused_by, bad_first_line, some_shelf, shelf_alone}
 use Rattle.dn_run.proofs.run.run.Goals as goal
@@ -62,12 +60,11 @@ returns-in-Ok-play-clause-carried g c first given _ =
     let shelf = first_is g.S.Shelf.files c.args.shelves.now.items c.in-Some.shelf.now c.in-Some.ensures.value c.in-Some.ensures.item.3.0 in
     subst (λ f. IfSome (g.R.Roads.carried c.play.new.roads) (CarriedFor f)) same (c.in-Ok-play.ensures.carried (subst (TellEmpty _ _) shelf given.empty))
 
-pub returns-in-Err-play-clause-acked : goal.returns-in-Err-play-clause-acked
-returns-in-Err-play-clause-acked g c first node given is =
+pub returns-in-Err-play-clause-stopped : goal.returns-in-Err-play-clause-stopped
+returns-in-Err-play-clause-stopped g c first node given is =
     let same = same_first c.in-Ok.first first _ given.text c.in-Ok.ensures.found given.left_is given.spelled in
     let shelf = first_is g.S.Shelf.files c.args.shelves.now.items c.in-Some.shelf.now c.in-Some.ensures.value c.in-Some.ensures.item.3.0 in
     let failed = shelf_alone c.in-Err-play.fault node (sym c.from.ensures ∙ is) in
-    if_some_map (g.R.Roads.carried c.play.new.roads) (c.in-Err-play.ensures.acked (subst (TellEmpty _ _) shelf given.empty) (ap Err failed))
-    (λ carried stored all.
-    first_set g.S.Shelf.files c.args.shelves.now.items c.play.new.shelf c.in-Some.ensures.item.3.0
-    ∙ (stored (all ∙ ap (λ f. joined (sent_up f.body)) (sym same)) ∙ ap (λ f. Some (files_for f)) same))
+    let set = first_set g.S.Shelf.files c.args.shelves.now.items c.play.new.shelf c.in-Some.ensures.item.3.0 in
+    subst (λ files. IfSome (g.R.Roads.carried c.play.new.roads) (StoppedAt first files)) (sym set)
+    (subst (λ f. IfSome (g.R.Roads.carried c.play.new.roads) (StoppedAt f (g.S.Shelf.files c.play.new.shelf))) same (c.in-Err-play.ensures.stopped (subst (TellEmpty _ _) shelf given.empty) (ap Err failed)))
