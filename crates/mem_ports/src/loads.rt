@@ -1,6 +1,6 @@
 //! What was carried.
 
-ghost use Rattle.std.specs.Prelude.{◌≡◌, ◌<◌, ℕ, true, IfOk, vec_len, vec_capacity};
+ghost use Rattle.std.specs.Prelude.{◌≡◌, ◌<◌, ◌++◌, ℕ, true, IfOk, OnOk, vec_len, vec_capacity};
 ghost use Rattle.hd_base.specs.Lists.{joined};
 ghost use Rattle.hd_base.specs.Ways.{carry};
 ghost use Rattle.mem_ports.specs.Pieces.{pieces_of};
@@ -45,4 +45,32 @@ pub fn all_below(loads: &[Load], count: u64) -> bool
     ensures { result ≡ loads_below count loads.now }
 {
     loads.iter().all(|load| load.conn.0 < count)
+}
+
+/// The bytes that a connection's direction carried.
+pub fn bytes_carried(
+    alloc: Global,
+    loads: &[Load],
+    conn: ConnId,
+    down: bool,
+) -> Result<Vec<u8>, AllocError>
+    ensures { IfOk result (λ bytes. bytes.items ≡ carried_of loads.now conn.0 down) }
+{
+    let mut bytes = Vec::new(alloc);
+    for load in loads {
+        if load.conn == conn && load.down == down {
+            push_pieces(&mut bytes, &load.pieces)?;
+        }
+    }
+    Ok(bytes)
+}
+
+/// Puts the bytes of each piece behind these.
+fn push_pieces(bytes: &mut Vec<u8>, pieces: &[Arc<Vec<u8>>]) -> Result<(), AllocError>
+    ensures { OnOk result (bytes.new.items ≡ bytes.old.items ++ joined (pieces_of pieces.now)) }
+{
+    for piece in pieces {
+        bytes.extend_from_slice(piece)?;
+    }
+    Ok(())
 }

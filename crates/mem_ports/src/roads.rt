@@ -15,7 +15,7 @@ ghost use Rattle.mem_ports.specs.Roads.{listening_of, waiting_at, plain_of, noth
 use crate::dials::{Dial, find_dial};
 use crate::inward::MemIn;
 use crate::lanes::Lane;
-use crate::loads::{Load, all_below, carry_on, share_pieces};
+use crate::loads::{Load, all_below, bytes_carried, carry_on, share_pieces};
 use crate::outward::MemOut;
 use crate::schedules::Schedule;
 use hd_base::{Conn, ConnId, NodeId, RoadError, Roads, Standing};
@@ -65,6 +65,18 @@ impl MemRoads {
             brought: 0,
             schedule: Schedule::new(alloc, failing)?,
         })
+    }
+
+    /// The bytes that a connection's direction has carried, in the order sent, in one list.
+    pub fn carried_bytes(
+        &self,
+        alloc: Global,
+        conn: ConnId,
+        down: bool,
+    ) -> Result<Vec<u8>, AllocError>
+        ensures { IfOk result (λ bytes. IfSome (⟦<MemRoads as Roads>⟧.carried self.now) (λ carried. bytes.items ≡ carried conn.0 down)) }
+    {
+        bytes_carried(alloc, &self.loads, conn, down)
     }
 
     /// Whether somebody listens on the port.

@@ -289,17 +289,18 @@ fn roads_fail_at_each_call(rt: HostRuntime) -> Result<(), Fail> {
     let taken = [Standing::End, Standing::End];
     let (three, one, not_yet) = (Ok(Got::Bytes(3)), Ok(Got::Bytes(1)), Ok(Got::NotYet));
     let failed = Err(LinkError::Failed);
+    let (ping, nothing): (&[u8], &[u8]) = (b"ping", b"");
     let table = [
-        (Ok([three, one, not_yet]), 0, taken),
-        (Err(RoadError::Failed), 1, none),
-        (Err(RoadError::Failed), 1, none),
-        (Err(RoadError::Failed), 1, none),
-        (Err(RoadError::Failed), 1, sent),
-        (Err(RoadError::Failed), 1, sent),
-        (Ok([three, failed, one]), 0, taken),
-        (Ok([three, one, failed]), 0, taken),
+        (Ok([three, one, not_yet]), 0, taken, ping),
+        (Err(RoadError::Failed), 1, none, nothing),
+        (Err(RoadError::Failed), 1, none, nothing),
+        (Err(RoadError::Failed), 1, none, nothing),
+        (Err(RoadError::Failed), 1, sent, ping),
+        (Err(RoadError::Failed), 1, sent, ping),
+        (Ok([three, failed, one]), 0, taken, ping),
+        (Ok([three, one, failed]), 0, taken, ping),
     ];
-    for (number, (wanted, faults, left)) in table.iter().enumerate() {
+    for (number, (wanted, faults, left, bytes)) in table.iter().enumerate() {
         let mut roads = MemRoads::new(rt.alloc(), &[number as u64])?;
         let answer = meet(rt.alloc(), &mut roads);
         if answer == Err(RoadError::Memory) {
@@ -308,6 +309,10 @@ fn roads_fail_at_each_call(rt: HostRuntime) -> Result<(), Fail> {
         assert_eq!(rt; answer, *wanted, "call {number}");
         assert_eq!(rt; roads.schedule.faults, *faults, "call {number}");
         assert_eq!(rt; stand(&mut roads), *left, "call {number}");
+        let down = roads.carried_bytes(rt.alloc(), ConnId(0), true)?;
+        assert_eq!(rt; down.as_slice(), *bytes, "call {number}");
+        let up = roads.carried_bytes(rt.alloc(), ConnId(0), false)?;
+        assert!(rt; up.is_empty(), "call {number}");
     }
     Ok(())
 }
