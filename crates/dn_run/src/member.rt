@@ -1,7 +1,7 @@
 //! The only member of a first write's pipeline: which request and packets it takes, what it answers,
 //! and what it holds.
 
-ghost use Rattle.std.specs.Prelude.{◌≡◌, ◌≢◌, ◌+◌, ◌^◌, ◌<◌, ◌≤◌, ◌↔◌, ℕ, List, [], length, take, true, pos, Err, IfOk, OnOk, OnErr, IfSome};
+ghost use Rattle.std.specs.Prelude.{◌≡◌, ◌≢◌, ◌+◌, ◌^◌, ◌<◌, ◌≤◌, ◌↔◌, ℕ, List, [], length, take, true, pos, Err, IfOk, IfErr, OnOk, OnErr, IfSome};
 ghost use Rattle.chunk_sums.specs.Crc.{sum_of};
 ghost use Rattle.chunk_sums.specs.Pieces.{sums as chunk_sums_of};
 ghost use Rattle.hd_base.specs.Faults.{Rose};
@@ -10,7 +10,7 @@ ghost use Rattle.hd_base.specs.declared.states.ReplicaState.TheVariants as state
 ghost use Rattle.meta_file.specs.declared.names.Folder.TheVariants as folder;
 ghost use Rattle.dn_run.specs.Members.{IsNewBlock, IsCreation, IsRequestFor, IsDataPacket, IsLastPacket, folder_of};
 ghost use Rattle.dn_run.specs.Replicas.{data_path, with_replica, finalized, HasReplica, IsHeld, IsThere};
-ghost use Rattle.dn_run.specs.Sendings.{success as success_answer, ack_for as ack_of_packet};
+ghost use Rattle.dn_run.specs.Sendings.{first_stamp, success as success_answer, ack_for as ack_of_packet};
 ghost use Rattle.dn_run.specs.declared.faults.StepFault.TheVariants.{Shut, Run};
 ghost use Rattle.dn_run.specs.declared.faults.RunFault.TheVariants as fault;
 
@@ -54,6 +54,22 @@ impl Replica {
             state: ReplicaState::Rbw,
             written: 0,
             next_seqno: 0,
+        }
+    }
+
+    /// The replica that a request to write this block as a new one names, without bytes. `Shut`
+    /// comes exactly where the request is another one.
+    pub(crate) fn requested(block: BlockId, op: &Op) -> Result<Replica, StepFault>
+        ensures named { IfOk result (λ r. (r.block ≡ block) × (r.stamp ≡ record { 0 = first_stamp })) }
+        ensures fresh { IfOk result (λ r. (r.written ≡ 0) × (r.next_seqno ≡ 0) × (r.state ≡ state.Rbw)) }
+        ensures shut { (result ≡ Err Shut) ↔ ¬ (IsRequestFor block.0 op.now) }
+        ensures only { IfErr result (λ fault. fault ≡ Shut) }
+    {
+        match op {
+            Op::Write(op) if is_creation(block, op) => {
+                Ok(Replica::new(op.block.block, op.block.stamp))
+            }
+            _ => Err(StepFault::Shut),
         }
     }
 
@@ -150,17 +166,7 @@ impl Replica {
     }
 }
 
-/// Whether a request is to write this block as a new one, through a pipeline of one member.
-pub(crate) fn is_request_for(block: BlockId, op: &Op) -> bool
-    ensures { (result ≡ true) ↔ IsRequestFor block.0 op.now }
-{
-    match op {
-        Op::Write(op) => is_creation(block, op),
-        _ => false,
-    }
-}
-
-/// Whether a write request is to make this block.
+/// Whether a write request is to make this block, through a pipeline of one member.
 fn is_creation(block: BlockId, op: &WriteOp) -> bool
     ensures { (result ≡ true) ↔ IsCreation block.0 op.now }
 {

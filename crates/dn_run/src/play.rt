@@ -110,7 +110,7 @@ fn write<R: Roads, F: Files>(
     ensures drawer_later { F.faults drawer.old ≤ F.faults drawer.new }
 {
     match request_block(alloc, roads, connection, script.block) {
-        Ok(()) => make(alloc, roads, connection, drawer, script),
+        Ok(replica) => make(alloc, roads, connection, drawer, replica, script),
         Err(StepFault::Shut) => Ok(unanswered(&script)),
         Err(StepFault::Run(fault)) => Err(fault),
     }
@@ -123,12 +123,15 @@ fn make<R: Roads, F: Files>(
     roads: &mut R,
     connection: &mut Connection<R::Inward, R::Outward>,
     drawer: &mut F,
+    mut replica: Replica,
     script: FirstWrite,
 ) -> Result<WriteReport, RunFault>
     requires few { IfSome script.body (λ bytes. length bytes ≤ 64512) }
     requires some { IfSome script.body (λ bytes. 0 < length bytes) }
     requires client { Knows (R.plain roads.old) connection.old.client.id.0 }
     requires member { Knows (R.plain roads.old) connection.old.member.id.0 }
+    requires named { (replica.block ≡ script.block) × (replica.stamp ≡ record { 0 = first_stamp }) }
+    requires fresh { (replica.written ≡ 0) × (replica.next_seqno ≡ 0) × (replica.state ≡ state.Rbw) }
     ensures idle { IsOpen R.plain R.carried R.Inward.held R.Inward.shut R.Outward.sent R.Outward.handed R.Outward.lost R.Outward.shut roads.old connection.old (asked script.block.0) [] → OnOk result (IsOpen R.plain R.carried R.Inward.held R.Inward.shut R.Outward.sent R.Outward.handed R.Outward.lost R.Outward.shut roads.new connection.new (sent_down script.block.0 script.body) (sent_up script.body)) }
     ensures stored { IsOpen R.plain R.carried R.Inward.held R.Inward.shut R.Outward.sent R.Outward.handed R.Outward.lost R.Outward.shut roads.old connection.old (asked script.block.0) [] → OnOk result (Steps (F.files drawer.old) (F.files drawer.new) (finished script.block.0 first_stamp (bytes_of script.body))) }
     ensures report { IsOpen R.plain R.carried R.Inward.held R.Inward.shut R.Outward.sent R.Outward.handed R.Outward.lost R.Outward.shut roads.old connection.old (asked script.block.0) [] → IsSome (F.files drawer.old) → IfOk result (λ report. report ≡ report_for script) }
@@ -143,8 +146,7 @@ fn make<R: Roads, F: Files>(
 {
     let FirstWrite { block, body, .. } = script;
     let wrote = body.is_some();
-    let mut replica = Replica::new(block, FIRST_STAMP);
-    make_files(alloc, drawer, block, FIRST_STAMP)?;
+    make_files(alloc, drawer, replica.block, replica.stamp)?;
     let (create, close) = answers(alloc, roads, connection, drawer, &mut replica, body)?;
     let entry = replica.entry(alloc, drawer, NODE)?;
     Ok(WriteReport {

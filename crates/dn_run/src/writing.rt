@@ -12,29 +12,31 @@ ghost use Rattle.packet_codec.specs.Packets.{packet_text};
 ghost use Rattle.dn_run.specs.Connections.{IsOpen, Knows, RoadRose, StaysEnd, end_faults};
 ghost use Rattle.dn_run.specs.Members.{folder_of};
 ghost use Rattle.dn_run.specs.Replicas.{data_path, with_replica, finalized, finished, HasReplica, IsHeld, IsThere};
-ghost use Rattle.dn_run.specs.Sendings.{request_for, success as success_answer, ack_for as ack_of_packet, data_packet as data_packet_of, last_packet as last_packet_of, asked, answered, sent_down, sent_up, bytes_of};
+ghost use Rattle.dn_run.specs.Sendings.{first_stamp, request_for, success as success_answer, ack_for as ack_of_packet, data_packet as data_packet_of, last_packet as last_packet_of, asked, answered, sent_down, sent_up, bytes_of};
 ghost use Rattle.dn_run.specs.declared.faults.StepFault.TheVariants.{Shut, Run};
 ghost use Rattle.dn_run.specs.declared.faults.RunFault.TheVariants as fault;
 
 use crate::client::{data_packet, is_ack_of, is_success, last_packet, request};
 use crate::connection::{Connection, deliver_down, deliver_up};
 use crate::faults::StepFault;
-use crate::member::{Replica, ack_for, is_request_for, success};
+use crate::member::{Replica, ack_for, success};
 use hd_base::{BlockId, ByteList, Files, Roads};
 use std::alloc::Global;
 
-/// Asks the member to write a new block. `Shut` is that it doesn't take the request, which never
-/// comes over roads that tell what they hold.
+/// Asks the member to write a new block, and gives the replica that it takes the request for. `Shut`
+/// is that it takes none, which never comes over roads that tell what they hold.
 pub(crate) fn request_block<R: Roads>(
     alloc: Global,
     roads: &mut R,
     connection: &mut Connection<R::Inward, R::Outward>,
     block: BlockId,
-) -> Result<(), StepFault>
+) -> Result<Replica, StepFault>
     requires client { Knows (R.plain roads.old) connection.old.client.id.0 }
     requires member { Knows (R.plain roads.old) connection.old.member.id.0 }
     ensures idle { (down up : List (List ℕ)) → IsOpen R.plain R.carried R.Inward.held R.Inward.shut R.Outward.sent R.Outward.handed R.Outward.lost R.Outward.shut roads.old connection.old down up → OnOk result (IsOpen R.plain R.carried R.Inward.held R.Inward.shut R.Outward.sent R.Outward.handed R.Outward.lost R.Outward.shut roads.new connection.new (down ++ op_text (request_for block.0) ∷ []) up) }
     ensures open { (down up : List (List ℕ)) → IsOpen R.plain R.carried R.Inward.held R.Inward.shut R.Outward.sent R.Outward.handed R.Outward.lost R.Outward.shut roads.old connection.old down up → result ≢ Err Shut }
+    ensures named { IfOk result (λ r. (r.block ≡ block) × (r.stamp ≡ record { 0 = first_stamp })) }
+    ensures fresh { IfOk result (λ r. (r.written ≡ 0) × (r.next_seqno ≡ 0) × (r.state ≡ state.Rbw)) }
     ensures client { StaysEnd (R.plain roads.new) connection.old.client connection.new.client }
     ensures member { StaysEnd (R.plain roads.new) connection.old.member connection.new.member }
     ensures road { result ≡ Err (Run fault.Road) → RoadRose (R.faults roads.old) (R.faults roads.new) (end_faults R.Inward.faults R.Outward.faults connection.new.client) (end_faults R.Inward.faults R.Outward.faults connection.new.member) }
@@ -44,10 +46,7 @@ pub(crate) fn request_block<R: Roads>(
 {
     let request = request(alloc, block)?;
     let taken = deliver_down(alloc, roads, connection, &request)?;
-    if !is_request_for(block, &taken) {
-        return Err(StepFault::Shut);
-    }
-    Ok(())
+    Replica::requested(block, &taken)
 }
 
 /// Answers the client that the pipeline stands. `Shut` is that it doesn't take the answer, which

@@ -35,7 +35,7 @@ returns-clause-stopped g c t is =
       stored = elim a.2 [
         | inl less ↦ inl less
         | inr wrote ↦ inr (shelf_filled (g.S.Shelf.files c.args.shelf.now) (g.S.Shelf.files c.lend.new.self) (g.S.Drawer.Files.files c.in_ok-drawer.drawer) (g.S.Drawer.Files.files c.write-outcome.new.drawer) (g.S.Shelf.files c.give_back.new.self) c.args.script.block.0 first_stamp (bytes_of c.args.script.body)
-    (omega arith) (omega arith) t.none c.in_ok-drawer.ensures.drawer c.in_ok-drawer.ensures.rest wrote c.give_back.ensures.files)
+            (omega arith) (omega arith) t.none c.in_ok-drawer.ensures.drawer c.in_ok-drawer.ensures.rest wrote c.give_back.ensures.files)
       ];
     })
 
