@@ -1,11 +1,11 @@
 -- Messages: how many bytes they have, by their fronts, and that one that is there is refused for want of memory alone.
-use Rattle.std.proofs.Common.{◌≡◌, ℕ, ◌+◌, ◌-◌, ◌<◌, ◌≤◌, List, [], ◌∷◌, ◌++◌, length, take, drop, Result, Ok, Err, sym, ap, ◌∙◌, refl, subst, arith, append_assoc, append-nil, length-append}
+use Rattle.std.proofs.Common.{◌≡◌, ℕ, ◌+◌, ◌-◌, ◌<◌, ◌≤◌, List, [], ◌∷◌, ◌++◌, length, take, drop, Result, Ok, Err, sym, ap, ◌∙◌, subst, arith, append_assoc, append-nil, length-append}
 use Rattle.std.proofs.lemmas.List.{take-append-le}
 use Rattle.ack_codec.specs.Responses.{Gives as GivesResponse}
 use Rattle.ack_codec.specs.declared.responses.Response.{Response}
 use Rattle.ack_codec.specs.declared.faults.ResponseFault.{ResponseFault}
 use Rattle.ack_codec.specs.declared.faults.ResponseFault.TheVariants as response
-use Rattle.op_headers.specs.Requests.{Gives as GivesOp, SpellsOp}
+use Rattle.op_headers.specs.Requests.{Gives as GivesOp}
 use Rattle.op_headers.specs.declared.ops.Op.{Op}
 use Rattle.op_headers.specs.declared.faults.OpFault.{OpFault}
 use Rattle.op_headers.specs.declared.faults.OpFault.TheVariants as op
@@ -15,11 +15,9 @@ use Rattle.packet_codec.specs.declared.faults.PacketFault.{PacketFault}
 use Rattle.packet_codec.specs.declared.faults.PacketFault.TheVariants as packet
 use Rattle.proto_fields.specs.Framed.{FramesSome}
 use Rattle.proto_fields.specs.Varint.{BeginsWithVarint, IsCutVarint, IsLongVarint, IsUnended, varint_at}
-use Rattle.proto_fields.specs.declared.varints.VarintFault.{VarintFault}
 use Rattle.proto_fields.proofs.ResultLaws.{ok_pair}
 use Rattle.proto_fields.proofs.VarintLaws.{read_varint_begins, read_varint_cut, read_varint_long}
 use Rattle.dn_run.specs.Faults.{op_fault, packet_fault, response_fault}
-use Rattle.dn_run.specs.Messages.{Reaches}
 use Rattle.dn_run.specs.declared.faults.RunFault.TheVariants.{Memory}
 use Rattle.dn_run.specs.declared.faults.StepFault.{StepFault}
 use Rattle.dn_run.specs.declared.faults.StepFault.TheVariants.{Shut, Run}

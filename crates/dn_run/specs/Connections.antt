@@ -1,5 +1,5 @@
 -- The connection of a pipeline with one member, between two messages.
-use Rattle.std.specs.Prelude.{◌≡◌, ℕ, ◌+◌, ◌<◌, ◌⊎◌, not, Bool, true, false, List, [], length, Option, Some, IfSome}
+use Rattle.std.specs.Prelude.{◌≡◌, ℕ, ◌+◌, ◌<◌, ◌⊎◌, not, Bool, false, List, [], length, Option, Some, IfSome}
 use Rattle.hd_base.specs.Faults.{Rose}
 use Rattle.hd_base.specs.Lists.{joined}
 use Rattle.hd_base.specs.Links.{Inbox}

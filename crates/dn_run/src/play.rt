@@ -29,8 +29,8 @@ use std::alloc::Global;
 pub(crate) const NODE: NodeId = NodeId(0);
 
 /// Runs a first write: the node listens, the client dials it, asks for the block, sends its packets
-/// and takes the acks, and the member writes the block to its shelf. The shelf gets its drawer back, and the roads both ends, whatever
-/// happened.
+/// and takes the acks, and the member writes the block to its shelf. The shelf gets its drawer back,
+/// and the roads both ends, whatever happened.
 pub(crate) fn play<S: Shelf, R: Roads>(
     alloc: Global,
     script: FirstWrite,

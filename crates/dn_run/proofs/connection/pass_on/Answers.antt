@@ -1,7 +1,6 @@
 -- The piece that the one end hands over is what the other holds then, and nothing else stands on the roads.
 use Rattle.std.proofs.Common.{◌∙◌, ◌++◌, ◌∷◌, [], not, sym, ap, refl}
-use Rattle.hd_base.specs.Ways.{empty_way}
-use Rattle.dn_run.proofs.DeliveryLaws.{one_piece_way, handed_over, taken_up, inbox_filled, loaded_forth, loaded_back, all_handed}
+use Rattle.dn_run.proofs.DeliveryLaws.{handed_over, taken_up, inbox_filled, loaded_forth, loaded_back, all_handed}
 use Rattle.dn_run.proofs.connection.pass_on.Goals as goal
 
 pub returns-clause-arrived : goal.returns-clause-arrived

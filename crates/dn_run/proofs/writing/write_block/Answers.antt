@@ -1,5 +1,5 @@
 -- The member takes each packet that was sent, and the client each ack, and so the block is written and finalized.
-use Rattle.std.proofs.Common.{ℕ, List, Option, take, ◌+◌, ◌∙◌, ◌++◌, ◌∷◌, ◌<◌, [], arith, pos, length, Err, sym, ap, subst}
+use Rattle.std.proofs.Common.{ℕ, List, Option, take, ◌∙◌, ◌++◌, ◌∷◌, ◌<◌, [], arith, pos, length, Err, sym, ap, subst}
 use Rattle.std.proofs.lemmas.Result.{err_from_is_err_and}
 use Rattle.hd_base.specs.FileMaps.{Steps}
 use Rattle.ack_codec.specs.AckTexts.{ack_text}
