@@ -135,6 +135,7 @@ fn messages_are_carried(rt: HostRuntime) -> Result<(), Fail> {
     let table = [(NINE, NINE_DOWN, NINE_UP), (EMPTY, EMPTY_DOWN, EMPTY_UP)];
     for (script, down, up) in table {
         let left = run_one(rt.alloc(), "play", script, NONE)?;
+        assert_eq!(rt; left.exit, Exit::Done);
         let carried = left.roads.carried_bytes(rt.alloc(), ConnId(0), true)?;
         assert_eq!(rt; carried.as_slice(), down);
         let carried = left.roads.carried_bytes(rt.alloc(), ConnId(0), false)?;
