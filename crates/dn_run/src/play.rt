@@ -190,7 +190,7 @@ fn answers<R: Roads, F: Files>(
     ensures drawer_later { F.faults drawer.old ≤ F.faults drawer.new }
 {
     match answer_request(alloc, roads, connection) {
-        Ok(()) => {
+        Ok(_) => {
             let close = write_and_close(alloc, roads, connection, drawer, replica, body)?;
             Ok((CreateAnswer::Created { stamp: FIRST_STAMP }, close))
         }

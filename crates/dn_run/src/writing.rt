@@ -6,11 +6,12 @@ ghost use Rattle.ack_codec.specs.ResponseTexts.{response_text};
 ghost use Rattle.hd_base.specs.Faults.{Rose};
 ghost use Rattle.hd_base.specs.FileMaps.{FileMap, Steps};
 ghost use Rattle.hd_base.specs.declared.states.ReplicaState.TheVariants as state;
+ghost use Rattle.hd_base.specs.declared.states.Status.TheVariants.{Success};
 ghost use Rattle.meta_file.specs.declared.names.Folder.TheVariants as folder;
 ghost use Rattle.op_headers.specs.Requests.{op_text};
 ghost use Rattle.packet_codec.specs.Packets.{packet_text};
 ghost use Rattle.dn_run.specs.Connections.{IsOpen, Knows, RoadRose, StaysEnd, end_faults};
-ghost use Rattle.dn_run.specs.Members.{folder_of};
+ghost use Rattle.dn_run.specs.Members.{IsAckOf, folder_of};
 ghost use Rattle.dn_run.specs.Replicas.{data_path, with_replica, finalized, finished, HasReplica, IsHeld, IsThere};
 ghost use Rattle.dn_run.specs.Sendings.{first_stamp, request_for, success as success_answer, ack_for as ack_of_packet, data_packet as data_packet_of, last_packet as last_packet_of, asked, answered, sent_down, sent_up, bytes_of};
 ghost use Rattle.dn_run.specs.declared.faults.StepFault.TheVariants.{Shut, Run};
@@ -20,6 +21,7 @@ use crate::client::{data_packet, is_ack_of, is_success, last_packet, request};
 use crate::connection::{Connection, deliver_down, deliver_up};
 use crate::faults::StepFault;
 use crate::member::{Replica, ack_for, success};
+use ack_codec::{Ack, Response};
 use hd_base::{BlockId, ByteList, Files, Roads};
 use std::alloc::Global;
 
@@ -49,17 +51,18 @@ pub(crate) fn request_block<R: Roads>(
     Replica::requested(block, &taken)
 }
 
-/// Answers the client that the pipeline stands. `Shut` is that it doesn't take the answer, which
-/// never comes over roads that tell what they hold.
+/// Answers the client that the pipeline stands, and gives the answer that it takes. `Shut` is that it
+/// takes none, which never comes over roads that tell what they hold.
 pub(crate) fn answer_request<R: Roads>(
     alloc: Global,
     roads: &mut R,
     connection: &mut Connection<R::Inward, R::Outward>,
-) -> Result<(), StepFault>
+) -> Result<Response, StepFault>
     requires client { Knows (R.plain roads.old) connection.old.client.id.0 }
     requires member { Knows (R.plain roads.old) connection.old.member.id.0 }
     ensures idle { (down up : List (List ℕ)) → IsOpen R.plain R.carried R.Inward.held R.Inward.shut R.Outward.sent R.Outward.handed R.Outward.lost R.Outward.shut roads.old connection.old down up → OnOk result (IsOpen R.plain R.carried R.Inward.held R.Inward.shut R.Outward.sent R.Outward.handed R.Outward.lost R.Outward.shut roads.new connection.new down (up ++ response_text success_answer ∷ [])) }
     ensures open { (down up : List (List ℕ)) → IsOpen R.plain R.carried R.Inward.held R.Inward.shut R.Outward.sent R.Outward.handed R.Outward.lost R.Outward.shut roads.old connection.old down up → result ≢ Err Shut }
+    ensures taken { IfOk result (λ r. r.status ≡ Success) }
     ensures client { StaysEnd (R.plain roads.new) connection.old.client connection.new.client }
     ensures member { StaysEnd (R.plain roads.new) connection.old.member connection.new.member }
     ensures road { result ≡ Err (Run fault.Road) → RoadRose (R.faults roads.old) (R.faults roads.new) (end_faults R.Inward.faults R.Outward.faults connection.new.client) (end_faults R.Inward.faults R.Outward.faults connection.new.member) }
@@ -71,21 +74,22 @@ pub(crate) fn answer_request<R: Roads>(
     if !is_success(&taken) {
         return Err(StepFault::Shut);
     }
-    Ok(())
+    Ok(taken)
 }
 
-/// Acknowledges the packet of this number to the client. `Shut` is that it doesn't take the ack,
-/// which never comes over roads that tell what they hold.
+/// Acknowledges the packet of this number to the client, and gives the ack that it takes. `Shut` is
+/// that it takes none, which never comes over roads that tell what they hold.
 fn acknowledge<R: Roads>(
     alloc: Global,
     roads: &mut R,
     connection: &mut Connection<R::Inward, R::Outward>,
     seqno: u32,
-) -> Result<(), StepFault>
+) -> Result<Ack, StepFault>
     requires client { Knows (R.plain roads.old) connection.old.client.id.0 }
     requires member { Knows (R.plain roads.old) connection.old.member.id.0 }
     ensures idle { (down up : List (List ℕ)) → IsOpen R.plain R.carried R.Inward.held R.Inward.shut R.Outward.sent R.Outward.handed R.Outward.lost R.Outward.shut roads.old connection.old down up → OnOk result (IsOpen R.plain R.carried R.Inward.held R.Inward.shut R.Outward.sent R.Outward.handed R.Outward.lost R.Outward.shut roads.new connection.new down (up ++ ack_text (ack_of_packet (pos seqno)) ∷ [])) }
     ensures open { (down up : List (List ℕ)) → IsOpen R.plain R.carried R.Inward.held R.Inward.shut R.Outward.sent R.Outward.handed R.Outward.lost R.Outward.shut roads.old connection.old down up → result ≢ Err Shut }
+    ensures taken { IfOk result (IsAckOf (pos seqno)) }
     ensures client { StaysEnd (R.plain roads.new) connection.old.client connection.new.client }
     ensures member { StaysEnd (R.plain roads.new) connection.old.member connection.new.member }
     ensures road { result ≡ Err (Run fault.Road) → RoadRose (R.faults roads.old) (R.faults roads.new) (end_faults R.Inward.faults R.Outward.faults connection.new.client) (end_faults R.Inward.faults R.Outward.faults connection.new.member) }
@@ -97,7 +101,7 @@ fn acknowledge<R: Roads>(
     if !is_ack_of(seqno, &taken) {
         return Err(StepFault::Shut);
     }
-    Ok(())
+    Ok(taken)
 }
 
 /// Writes a block and closes it, once the pipeline stands: the client sends the packet of its
@@ -185,7 +189,8 @@ fn send_data<R: Roads, F: Files>(
     let packet = data_packet(alloc, body.into_vec())?;
     let taken = deliver_down(alloc, roads, connection, &packet)?;
     replica.take_data(alloc, drawer, &taken)?;
-    acknowledge(alloc, roads, connection, 0)
+    acknowledge(alloc, roads, connection, 0)?;
+    Ok(())
 }
 
 /// Sends the last packet, and lets the member take what it receives.
@@ -222,5 +227,6 @@ fn send_last<R: Roads, F: Files>(
     let packet = last_packet(len, seqno);
     let taken = deliver_down(alloc, roads, connection, &packet)?;
     replica.take_last(drawer, &taken)?;
-    acknowledge(alloc, roads, connection, seqno)
+    acknowledge(alloc, roads, connection, seqno)?;
+    Ok(())
 }

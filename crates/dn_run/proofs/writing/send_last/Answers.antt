@@ -26,7 +26,9 @@ returns-in_err-take_last-clause-unacked g c down up i _ =
 pub returns-clause-idle : goal.returns-clause-idle
 returns-clause-idle g c down up i =
     let sent = subst (λ p. IsOpen g.R.Roads.plain g.R.Roads.carried g.R.Inward.LinkIn.held g.R.Inward.LinkIn.shut g.R.Outward.LinkOut.sent g.R.Outward.LinkOut.handed g.R.Outward.LinkOut.lost g.R.Outward.LinkOut.shut c.deliver_down.new.roads c.deliver_down.new.connection (down ++ packet_text p ∷ []) up) c.last_packet-packet.ensures (c.in_ok-taken.ensures.idle down up i) in
-    c.acknowledge.ensures.idle _ up sent
+    c.in_ok-acknowledge.ensures.idle _ up sent
 
-pub returns-clause-open : goal.returns-clause-open
-returns-clause-open g c down up i _ _ is = c.acknowledge.ensures.open _ up (c.in_ok-taken.ensures.idle down up i) is
+pub returns-in_err-acknowledge-clause-open : goal.returns-in_err-acknowledge-clause-open
+returns-in_err-acknowledge-clause-open g c down up i _ _ is =
+    let e = err_from_is_err_and c.from_residual-in_err-acknowledge.result c.from_residual-in_err-acknowledge.ensures.1 in
+    c.in_err-acknowledge.ensures.open _ up (c.in_ok-taken.ensures.idle down up i) (ap Err (err_value _ _ (sym (e.1 ∙ ap Err e.2) ∙ is)))
