@@ -43,7 +43,8 @@ pub(crate) fn play<S: Shelf, R: Roads>(
     ensures report { TellEmpty (R.plain roads.old) (R.carried roads.old) (S.files shelf.old) → IfOk result (λ report. report ≡ report_for script) }
     ensures held { TellEmpty (R.plain roads.old) (R.carried roads.old) (S.files shelf.old) → OnOk result (S.files shelf.new ≡ Some (files_for script)) }
     ensures carried { TellEmpty (R.plain roads.old) (R.carried roads.old) (S.files shelf.old) → OnOk result (IfSome (R.carried roads.new) (CarriedFor script)) }
-    // Where the shelf failed, one message more went down than was answered, unless all was stored.
+    // Where the shelf failed, one message more went down than was answered; or all was answered, and
+    // the replica is stored.
     ensures stopped { TellEmpty (R.plain roads.old) (R.carried roads.old) (S.files shelf.old) → result ≡ Err fault.Shelf → IfSome (R.carried roads.new) (StoppedAt script (S.files shelf.new)) }
     ensures road { result ≡ Err fault.Road → Rose (R.faults roads.old) (R.faults roads.new) ⊎ ((conn : ℕ) × (R.risen roads.new conn ≡ true)) }
     ensures shelf { result ≡ Err fault.Shelf → Rose (S.faults shelf.old) (S.faults shelf.new) }

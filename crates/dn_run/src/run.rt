@@ -76,8 +76,8 @@ pub fn run<I: Source, O: Sink, S: Shelf, R: Roads>(
     // else, and connection 0 carried the request and the packets down, the answer and the acks up.
     ensures held { (first : FirstWrite) → IsGiven first (I.left script.old) (R.plain roads.old) (R.carried roads.old) (first_files (λ s. S.files s) shelves.old.items) → (result ≡ exit.Done) ⊎ (result ≡ exit.ReportFault) → first_files (λ s. S.files s) shelves.new.items ≡ Some (files_for first) }
     ensures carried { (first : FirstWrite) → IsGiven first (I.left script.old) (R.plain roads.old) (R.carried roads.old) (first_files (λ s. S.files s) shelves.old.items) → (result ≡ exit.Done) ⊎ (result ≡ exit.ReportFault) → IfSome (R.carried roads.new) (CarriedFor first) }
-    // Where the shelf failed, the client had sent one message more than was answered, so that nothing
-    // went up for files that weren't done; or all was stored.
+    // Where the shelf failed, the client had sent one message more than was answered; or all was
+    // answered, and the replica is stored.
     ensures stopped { (first : FirstWrite) (node : NodeId) → IsGiven first (I.left script.old) (R.plain roads.old) (R.carried roads.old) (first_files (λ s. S.files s) shelves.old.items) → result ≡ exit.ShelfFault node → IfSome (R.carried roads.new) (StoppedAt first (first_files (λ s. S.files s) shelves.new.items)) }
     ensures others { drop 1 shelves.new.items ≡ drop 1 shelves.old.items }
 

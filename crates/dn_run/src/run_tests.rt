@@ -156,6 +156,7 @@ fn contents<F: Files>(alloc: Global, drawer: &mut F, name: &[u8]) -> Result<Vec<
 #[test]
 fn both_files_are_stored(rt: HostRuntime) -> Result<(), Fail> {
     let mut left = run_one(rt.alloc(), "play", NINE, NONE)?;
+    assert_eq!(rt; left.exit, Exit::Done);
     let shelf = left.shelves.first_mut().ok_or("a shelf")?;
     let mut drawer = shelf.lend(rt.alloc(), BlockId(1073741825))?;
     assert_eq!(rt; drawer.names(rt.alloc())?.len(), 2);
