@@ -1,23 +1,24 @@
 //! The same passes as the proved program, over the same bytes, by a plain slicing by 16 in its usual order and by
-//! ISA-L's `crc32_iscsi`. The lines have the name of the way in front of those of the proved program.
+//! ISA-L's `crc32_iscsi` and `crc32_gzip_refl`. The lines have the name of the way in front of those of the proved program.
 
 use std::time::Instant;
 
 #[link(name = "isal")]
 unsafe extern "C" {
     fn crc32_iscsi(buffer: *const u8, len: i32, init: u32) -> u32;
+    fn crc32_gzip_refl(init: u32, buffer: *const u8, len: u64) -> u32;
 }
 
 type Table = [[u32; 256]; 16];
 
-const fn table() -> Table {
+const fn table(polynomial: u32) -> Table {
     let mut rows = [[0; 256]; 16];
     let mut byte = 0;
     while byte < 256 {
         let mut state = byte as u32;
         let mut bit = 0;
         while bit < 8 {
-            state = if state & 1 == 1 { (state >> 1) ^ 0x82F6_3B78 } else { state >> 1 };
+            state = if state & 1 == 1 { (state >> 1) ^ polynomial } else { state >> 1 };
             bit += 1;
         }
         rows[0][byte] = state;
@@ -36,41 +37,57 @@ const fn table() -> Table {
     rows
 }
 
-static TABLE: Table = table();
+static CRC32C: Table = table(0x82F6_3B78);
+static CRC32: Table = table(0xEDB8_8320);
 
 /// Slicing by 16, first byte first.
-#[inline(never)]
-fn slicing(sum: u32, body: &[u8]) -> u32 {
+#[inline(always)]
+fn slicing(table: &'static Table, sum: u32, body: &[u8]) -> u32 {
     let mut state = !sum;
     let mut chunks = body.chunks_exact(16);
     for c in &mut chunks {
         let first = (state ^ u32::from_le_bytes([c[0], c[1], c[2], c[3]])).to_le_bytes();
-        state = TABLE[15][first[0] as usize]
-            ^ TABLE[14][first[1] as usize]
-            ^ TABLE[13][first[2] as usize]
-            ^ TABLE[12][first[3] as usize]
-            ^ TABLE[11][c[4] as usize]
-            ^ TABLE[10][c[5] as usize]
-            ^ TABLE[9][c[6] as usize]
-            ^ TABLE[8][c[7] as usize]
-            ^ TABLE[7][c[8] as usize]
-            ^ TABLE[6][c[9] as usize]
-            ^ TABLE[5][c[10] as usize]
-            ^ TABLE[4][c[11] as usize]
-            ^ TABLE[3][c[12] as usize]
-            ^ TABLE[2][c[13] as usize]
-            ^ TABLE[1][c[14] as usize]
-            ^ TABLE[0][c[15] as usize];
+        state = table[15][first[0] as usize]
+            ^ table[14][first[1] as usize]
+            ^ table[13][first[2] as usize]
+            ^ table[12][first[3] as usize]
+            ^ table[11][c[4] as usize]
+            ^ table[10][c[5] as usize]
+            ^ table[9][c[6] as usize]
+            ^ table[8][c[7] as usize]
+            ^ table[7][c[8] as usize]
+            ^ table[6][c[9] as usize]
+            ^ table[5][c[10] as usize]
+            ^ table[4][c[11] as usize]
+            ^ table[3][c[12] as usize]
+            ^ table[2][c[13] as usize]
+            ^ table[1][c[14] as usize]
+            ^ table[0][c[15] as usize];
     }
     for byte in chunks.remainder() {
-        state = TABLE[0][((state ^ u32::from(*byte)) & 0xff) as usize] ^ (state >> 8);
+        state = table[0][((state ^ u32::from(*byte)) & 0xff) as usize] ^ (state >> 8);
     }
     !state
 }
 
 #[inline(never)]
-fn isal(sum: u32, body: &[u8]) -> u32 {
+fn plain_crc32c(sum: u32, body: &[u8]) -> u32 {
+    slicing(&CRC32C, sum, body)
+}
+
+#[inline(never)]
+fn plain_crc32(sum: u32, body: &[u8]) -> u32 {
+    slicing(&CRC32, sum, body)
+}
+
+#[inline(never)]
+fn isal_crc32c(sum: u32, body: &[u8]) -> u32 {
     !unsafe { crc32_iscsi(body.as_ptr(), body.len() as i32, !sum) }
+}
+
+#[inline(never)]
+fn isal_crc32(sum: u32, body: &[u8]) -> u32 {
+    unsafe { crc32_gzip_refl(sum, body.as_ptr(), body.len() as u64) }
 }
 
 fn noise(len: usize) -> Vec<u8> {
@@ -108,30 +125,32 @@ fn best(rounds: u32, passes: u32, mut pass: impl FnMut()) -> u128 {
         .unwrap()
 }
 
-fn all<F: Fn(u32, &[u8]) -> u32 + Copy>(name: &str, extend: F) {
+fn all<F: Fn(u32, &[u8]) -> u32 + Copy>(way: &str, kind: &str, extend: F) {
     let mut body = noise(65_536);
     let mut sums = [0; 512];
     let nanos = best(400, 16, || {
         body[0] = body[0].wrapping_add(1);
         write_sums(extend, &body, &mut sums);
     });
-    println!("{name} writing 65536 16 {nanos} {}", extend(0, &sums));
+    println!("{way} {kind}-writing 65536 16 {nanos} {}", extend(0, &sums));
     write_sums(extend, &body, &mut sums);
     let mut found = 0u64;
     let nanos = best(400, 16, || {
         body[65_535] ^= 1;
         found = found.wrapping_add(first_bad(extend, &body, &sums).unwrap_or(0) as u64);
     });
-    println!("{name} testing 65536 16 {nanos} {found}");
+    println!("{way} {kind}-testing 65536 16 {nanos} {found}");
     for (len, rounds, passes) in [(65_536, 400, 16), (1_048_576, 200, 4), (67_108_864, 12, 1)] {
         let body = noise(len);
         let mut sum = 0;
         let nanos = best(rounds, passes, || sum = extend(sum, &body));
-        println!("{name} body {len} {passes} {nanos} {sum}");
+        println!("{way} {kind}-body {len} {passes} {nanos} {sum}");
     }
 }
 
 fn main() {
-    all("plain", slicing);
-    all("isal", isal);
+    all("plain", "crc32c", plain_crc32c);
+    all("isal", "crc32c", isal_crc32c);
+    all("plain", "crc32", plain_crc32);
+    all("isal", "crc32", isal_crc32);
 }

@@ -1,7 +1,7 @@
 #!/usr/bin/env bash
-# Times chunk_sums beside a plain Rust slicing by 16 and ISA-L's crc32_iscsi, on this machine, and prints a table of ratios.
+# Times chunk_sums beside a plain Rust slicing by 16 and ISA-L, for CRC32C and CRC32, on this machine, and prints a table of ratios.
 #
-# The proved program is built in a folder of its own, from a copy of the crate, with nothing of the repository changed. All
+# The proved program is built in a folder of its own, from a copy of the crate and of hd_base, with nothing of the repository changed. All
 # three ways go over the same bytes, and the script stops where what they computed differs. Usage: run.sh [RUNS], 3 if left out.
 set -euo pipefail
 here=$(cd "$(dirname "$0")" && pwd)
@@ -15,10 +15,13 @@ if [ ! -e /usr/include/isa-l/crc.h ]; then
   $sudo apt-get update -qq && $sudo apt-get install -y -qq libisal-dev
 fi
 
-mkdir -p "$work/crates/chunk_sums" "$work/crates/sums_bench/src"
 git init -q "$work"
-printf 'chunk_sums:\nsums_bench: chunk_sums\n' > "$work/crates.txt"
-tar -C "$top/crates/chunk_sums" --exclude=./out --exclude=./must-fail -cf - . | tar -C "$work/crates/chunk_sums" -xf -
+printf 'hd_base: thiserror\nchunk_sums: hd_base\nsums_bench: hd_base chunk_sums\n' > "$work/crates.txt"
+mkdir -p "$work/crates/sums_bench/src"
+for crate in hd_base chunk_sums; do
+  mkdir -p "$work/crates/$crate"
+  tar -C "$top/crates/$crate" --exclude=./out --exclude=./must-fail -cf - . | tar -C "$work/crates/$crate" -xf -
+done
 cp "$here/program.rattle" "$work/crates/sums_bench/src/main.rt"
 echo "proving and building; this takes some minutes" >&2
 (cd "$work/crates/sums_bench" && rt run > "$work/build.txt" 2>&1) || { tail -n 20 "$work/build.txt" >&2; exit 1; }
@@ -37,8 +40,14 @@ awk '
     if (speed > best[$1, key]) best[$1, key] = speed }
   END {
     if (failed) exit 1
-    title["writing 65536"] = "pieces of 512 B, written"; title["testing 65536"] = "pieces of 512 B, tested"
-    title["body 65536"] = "64 KiB"; title["body 1048576"] = "1 MiB"; title["body 67108864"] = "64 MiB"
+    split("crc32c crc32", kinds, " "); name["crc32c"] = "CRC32C"; name["crc32"] = "CRC32"
+    for (k in kinds) {
+      kind = kinds[k]
+      title[kind "-writing 65536"] = name[kind] ", chunks of 512 B, written"
+      title[kind "-testing 65536"] = name[kind] ", chunks of 512 B, tested"
+      title[kind "-body 65536"] = name[kind] ", 64 KiB"; title[kind "-body 1048576"] = name[kind] ", 1 MiB"
+      title[kind "-body 67108864"] = name[kind] ", 64 MiB"
+    }
     print "| | chunk_sums GB/s | plain GB/s | ISA-L GB/s | to plain | to ISA-L |"
     print "|---|---|---|---|---|---|"
     for (i = 1; i <= count; i++) {

@@ -1,9 +1,8 @@
-pub mod StatusLaws
-pub mod PackedLaws
-pub mod TallyLaws
-pub mod AckLaws
-pub mod DecodingLaws
-pub mod AckTextLaws
-pub mod ResponseLaws
-pub mod ResponseDecodingLaws
-pub mod ResponseTextLaws
+pub mod PackedLemmas
+pub mod TallyLemmas
+pub mod AckLemmas
+pub mod DecodingLemmas
+pub mod AckTextLemmas
+pub mod ResponseLemmas
+pub mod ResponseDecodingLemmas
+pub mod ResponseTextLemmas

@@ -1,4 +1,4 @@
-pub mod Statuses
+pub mod Replies
 pub mod Required
 pub mod Packed
 pub mod Tallies

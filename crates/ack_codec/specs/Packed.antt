@@ -1,6 +1,6 @@
 -- Repeated numbers of a message: a field has one as a varint, or a packed list of them, which is one varint after the other.
 use Rattle.std.specs.Prelude.{◌≡◌, ℕ, zero, suc, ◌+◌, ◌-◌, ◌<◌, ◌==◌, if◌then◌else◌, List, [], ◌∷◌, ◌++◌, length, Result, Ok, MatchBool}
-use Rattle.proto_fields.specs.ResultSteps.{◌>>=◌, with_cause, with_value}
+use Rattle.hd_base.specs.Results.{◌>>=◌, with_cause, with_value}
 use Rattle.proto_fields.specs.Varint.{SpellsVarint, IsCutVarint, IsLongVarint, varint_at}
 use Rattle.proto_fields.specs.Fields.{place_of}
 use Rattle.proto_fields.specs.Values.{part_bytes}

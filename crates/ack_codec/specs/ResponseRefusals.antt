@@ -10,7 +10,7 @@ use Rattle.ack_codec.specs.declared.response_reading.FoundResponse.{FoundRespons
 use Rattle.proto_fields.specs.Frames.{IsCutFrame, IsTooLong, IsLongPrefix}
 use Rattle.proto_fields.specs.Framed.{HasSome}
 use Rattle.proto_fields.specs.Inner.{joined, FindsInner, IsFaultyInner}
-use Rattle.ack_codec.specs.Responses.{FindsSums, FindsResponse, status_told}
+use Rattle.ack_codec.specs.Responses.{FindsSums, FindsResponse, decoded_parts}
 
 -- The fields of readOpChecksumInfo are whole, and the first fault stands in its checksum.
 pub record HasFaultyChecksum (bytes : List ℕ) (e : WireFault) : Type 0 where
@@ -43,7 +43,7 @@ IsFaultyResponse e message = FirstFault message e ⊎ (HasFaultySums message e �
 pub record LacksField (field : ℕ) (message : List ℕ) : Type 0 where
   pub found : FoundResponse
   pub finds : FindsResponse message found
-  pub told : status_told found ≡ Err field
+  pub decoded : decoded_parts found ≡ Err field
 
 -- This is why the bytes are no response.
 abbrev pub IsRefusedResponse : ResponseFault → List ℕ → Type 0
@@ -52,8 +52,3 @@ IsRefusedResponse (fault.TooLong n) bytes = IsTooLong n bytes
 IsRefusedResponse (fault.Wire e) bytes = IsLongPrefix 0 e bytes ⊎ HasSome (IsFaultyResponse e) bytes
 IsRefusedResponse (fault.Missing field) bytes = HasSome (LacksField field) bytes
 IsRefusedResponse fault.Memory bytes = ⊥
-
--- The same, or memory ran out.
-abbrev pub FailsFor : ResponseFault → List ℕ → Type 0
-FailsFor fault.Memory bytes = Unit {0}
-FailsFor e bytes = IsRefusedResponse e bytes

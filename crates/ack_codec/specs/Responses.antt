@@ -1,17 +1,13 @@
 -- Responses (BlockOpResponseProto): what a message says, apart from reading, and the function that reads.
-use Rattle.std.specs.Prelude.{◌≡◌, ℕ, ◌%◌, ◌^◌, nat_lt, if◌then◌else◌, List, Option, Some, None, Result, Ok, Err}
+use Rattle.std.specs.Prelude.{◌≡◌, ℕ, ◌%◌, ◌^◌, nat_lt, if◌then◌else◌, List, Option, Some, None, Result, Ok}
 use Rattle.hd_base.specs.declared.states.Status.{Status}
-use Rattle.proto_fields.specs.ResultSteps.{◌>>=◌, with_cause, with_value}
+use Rattle.hd_base.specs.Results.{◌>>=◌, with_cause, with_value}
 use Rattle.proto_fields.specs.Fields.{Spells, fields_at}
 use Rattle.proto_fields.specs.Values.{newer, last_of, varint_of, last_varint, last_part}
 use Rattle.proto_fields.specs.declared.reading.Wire.{Wire}
 use Rattle.proto_fields.specs.declared.reading.Wire.TheVariants as wire
 use Rattle.proto_fields.specs.declared.reading.WireFault.{WireFault}
-use Rattle.proto_fields.specs.declared.reading.WireFault.TheVariants as wire_fault
-use Rattle.proto_fields.specs.declared.listing.FieldsFault.{FieldsFault}
-use Rattle.proto_fields.specs.declared.listing.FieldsFault.TheVariants as fields
 use Rattle.proto_fields.specs.declared.frames.FrameFault.{FrameFault}
-use Rattle.proto_fields.specs.declared.frames.FrameFault.TheVariants as frame
 use Rattle.ack_codec.specs.declared.faults.ResponseFault.{ResponseFault}
 use Rattle.ack_codec.specs.declared.faults.ResponseFault.TheVariants as fault
 use Rattle.ack_codec.specs.declared.responses.Response.{Response}
@@ -21,8 +17,8 @@ use Rattle.ack_codec.specs.declared.response_reading.FoundInfo.{FoundInfo}
 use Rattle.ack_codec.specs.declared.response_reading.FoundResponse.{FoundResponse}
 use Rattle.proto_fields.specs.Inner.{joined, FindsInner, inner, text_of}
 use Rattle.ack_codec.specs.Required.{required}
-use Rattle.ack_codec.specs.Statuses.{told_status}
-use Rattle.proto_fields.specs.Framed.{FramesSome, framed_at}
+use Rattle.hd_base.specs.Wire.{decoded_status}
+use Rattle.proto_fields.specs.Framed.{FramesSome, framed_at, frame_cause}
 
 -- ---- what the fields of each message have
 
@@ -42,12 +38,12 @@ checksum_in fs = record { kind = last_of listed_kind 1 fs; chunk = last_varint 2
 pub record FindsSums (bytes : List ℕ) (found : FoundSums) : Type 0 where
   pub fields : List (ℕ × Wire)
   pub spelled : Spells fields bytes
-  pub told : found ≡ sums_in fields
+  pub decoded : found ≡ sums_in fields
 
 pub record FindsChecksum (bytes : List ℕ) (found : FoundChecksum) : Type 0 where
   pub fields : List (ℕ × Wire)
   pub spelled : Spells fields bytes
-  pub told : found ≡ checksum_in fields
+  pub decoded : found ≡ checksum_in fields
 
 -- ReadOpChecksumInfoProto: checksum, chunkOffset
 pub record FindsInfo (bytes : List ℕ) (found : FoundInfo) : Type 0 where
@@ -66,42 +62,44 @@ pub record FindsResponse (message : List ℕ) (found : FoundResponse) : Type 0 w
   pub info : FindsInner FindsInfo (joined 4 message fields) found.info
   pub message_is : found.message ≡ last_part 5 fields
 
--- ---- what was found, told
+-- ---- what was found, decoded
 
 -- What must be there, in ascending order, a message within before what stands behind it. The fault is the number of the first field that is missing.
-unfoldable pub sums_told : FoundSums → Result (Unit {0}) ℕ
-sums_told found = do
+unfoldable pub checked_sums : FoundSums → Result (Unit {0}) ℕ
+checked_sums found = do
   per_crc ← required (λ n. n) 1 found.per_crc
   crcs ← required (λ n. n) 2 found.crcs
   sum ← required (λ n. n) 3 found.sum
   Ok tt
 
--- The kind and the chunk's length of a checksum, of which nothing is kept.
-unfoldable pub checksum_told : FoundChecksum → Result (Unit {0}) ℕ
-checksum_told found = do
+-- The kind and the chunk's length of a checksum: of an enum and of a uint32 the low 32 bits.
+unfoldable pub decoded_checksum : FoundChecksum → Result (ℕ × ℕ) ℕ
+decoded_checksum found = do
   kind ← required (λ n. n) 1 found.kind
   chunk ← required (λ n. n) 2 found.chunk
-  Ok tt
+  Ok (kind % 2 ^ 32, chunk % 2 ^ 32)
 
-unfoldable pub info_told : FoundInfo → Result ℕ ℕ
-info_told found = do
+-- The kind of the sums, the chunk's length, and where in the block they begin.
+unfoldable pub decoded_info : FoundInfo → Result (ℕ × ℕ × ℕ) ℕ
+decoded_info found = do
   checksum ← required (λ n. n) 1 found.checksum
-  whole ← checksum_told checksum
-  required (λ n. n) 2 found.offset
+  sums ← decoded_checksum checksum
+  offset ← required (λ n. n) 2 found.offset
+  Ok (sums.0, sums.1, offset)
 
-unfoldable pub status_told : FoundResponse → Result (Status × Option ℕ) ℕ
-status_told found = do
+unfoldable pub decoded_parts : FoundResponse → Result (Status × Option (ℕ × ℕ × ℕ)) ℕ
+decoded_parts found = do
   number ← required (λ n. n) 1 found.status
-  sums ← inner sums_told found.sums
-  sums_from ← inner info_told found.info
-  Ok (told_status number, sums_from)
+  sums ← inner checked_sums found.sums
+  sums_from ← inner decoded_info found.info
+  Ok (decoded_status number, sums_from)
 
 -- the response with these texts
-abbrev pub response_with : List ℕ → FoundResponse → Status × Option ℕ → Response
-response_with message found told = record {
-  status = told.0;
+abbrev pub response_with : List ℕ → FoundResponse → Status × Option (ℕ × ℕ × ℕ) → Response
+response_with message found decoded = record {
+  status = decoded.0;
   first_bad = text_of message found.first_bad;
-  sums_from = told.1;
+  sums_from = decoded.1;
   message = text_of message found.message;
 }
 
@@ -109,9 +107,9 @@ response_with message found told = record {
 pub record SaysResponse (response : Response) (message : List ℕ) : Type 0 where
   pub found : FoundResponse
   pub finds : FindsResponse message found
-  pub told : Status × Option ℕ
-  pub told_is : status_told found ≡ Ok told
-  pub response_is : response ≡ response_with message found told
+  pub decoded : Status × Option (ℕ × ℕ × ℕ)
+  pub decoded_is : decoded_parts found ≡ Ok decoded
+  pub response_is : response ≡ response_with message found decoded
 
 -- The bytes are the frame of a message that says the response.
 abbrev pub SpellsResponse : Response → List ℕ → Type 0
@@ -153,31 +151,20 @@ abbrev pub found_response_at : List ℕ → Result FoundResponse WireFault
 found_response_at message = fields_at message >>= found_from message
 
 -- what is left to do once the fields are found
-abbrev pub response_told : List ℕ → FoundResponse → Result Response ResponseFault
-response_told message found = with_value (response_with message found) (with_cause fault.Missing (status_told found))
+abbrev pub decoded_response : List ℕ → FoundResponse → Result Response ResponseFault
+decoded_response message found = with_value (response_with message found) (with_cause fault.Missing (decoded_parts found))
 
 -- The response that a message says.
 unfoldable pub response_of : List ℕ → Result Response ResponseFault
-response_of message = with_cause fault.Wire (found_response_at message) >>= response_told message
+response_of message = with_cause fault.Wire (found_response_at message) >>= decoded_response message
 
 -- the fault of a response's frame
 abbrev pub response_frame_cause : FrameFault → ResponseFault
-response_frame_cause frame.Short = fault.Short
-response_frame_cause (frame.TooLong n) = fault.TooLong n
-response_frame_cause frame.LongPrefix = fault.Wire (wire_fault.LongVarint 0)
-
-abbrev pub fields_cause : FieldsFault → ResponseFault
-fields_cause (fields.Wire e) = fault.Wire e
-fields_cause fields.Memory = fault.Memory
+response_frame_cause = frame_cause fault.Short fault.TooLong fault.Wire 0
 
 -- The response at the front of the bytes, and how many bytes it has.
 abbrev pub response_at : List ℕ → Result (Response × ℕ) ResponseFault
 response_at bytes = framed_at response_frame_cause response_of bytes
-
--- The result is what reading gives, unless memory ran out.
-abbrev pub Gives : {X : Type 0} → Result X ResponseFault → Result X ResponseFault → Type 0
-Gives (Err fault.Memory) read = Unit {0}
-Gives result read = result ≡ read
 
 -- no field of a ChecksumProto so far, and what is found once this field is behind
 abbrev pub no_checksum : FoundChecksum

@@ -1,10 +1,10 @@
 -- Repeated numbers, counted one after the other: the first 16 are kept as statuses.
 use Rattle.std.specs.Prelude.{ℕ, ◌+◌, ◌-◌, ◌^◌, ◌≤◌, nat_lt, if◌then◌else◌, List, [], ◌∷◌, ◌++◌, length, Result, fold, min}
-use Rattle.proto_fields.specs.ResultSteps.{◌>>=◌, with_value}
+use Rattle.hd_base.specs.Results.{◌>>=◌, with_value}
 use Rattle.proto_fields.specs.declared.reading.Wire.{Wire}
 use Rattle.proto_fields.specs.declared.reading.Wire.TheVariants as wire
 use Rattle.proto_fields.specs.declared.reading.WireFault.{WireFault}
-use Rattle.ack_codec.specs.Statuses.{told_status}
+use Rattle.hd_base.specs.Wire.{decoded_status}
 use Rattle.ack_codec.specs.Packed.{given, given_under}
 use Rattle.ack_codec.specs.declared.tallies.Tally.{Tally}
 
@@ -15,7 +15,7 @@ empty_tally = record { kept = []; count = 0 }
 -- one number more
 unfoldable pub counted : Tally → ℕ → Tally
 counted t n = record {
-  kept = if nat_lt (length t.kept) 16 then t.kept ++ told_status n ∷ [] else t.kept;
+  kept = if nat_lt (length t.kept) 16 then t.kept ++ decoded_status n ∷ [] else t.kept;
   count = min (t.count + 1) (2 ^ 64 - 1);
 }
 

@@ -1,6 +1,7 @@
 //! Reading acks, read statuses and responses.
 
 ghost use Rattle.std.specs.Prelude.{◌≡◌, ℕ, ◌≤◌, List, [], ◌++◌, length, take, All, Ok, Err, IfOk, IfErr};
+ghost use Rattle.hd_base.specs.Results.{Gives, FailsFor};
 ghost use Rattle.hd_base.specs.Wire.{IsStatus};
 ghost use Rattle.hd_base.specs.declared.states.Status.{Status};
 ghost use Rattle.ack_codec.specs.declared.acks.Ack.{Ack};
@@ -9,8 +10,8 @@ ghost use Rattle.ack_codec.specs.declared.faults.ResponseFault.{ResponseFault};
 ghost use Rattle.ack_codec.specs.declared.responses.Response.{Response};
 ghost use Rattle.ack_codec.specs.Acks.{SpellsAck, SpellsReadStatus, ack_at, read_status_at};
 ghost use Rattle.ack_codec.specs.AckRefusals.{IsRefusedAck, IsRefusedReadStatus};
-ghost use Rattle.ack_codec.specs.Responses.{SpellsResponse, response_at, Gives};
-ghost use Rattle.ack_codec.specs.ResponseRefusals.{IsRefusedResponse, FailsFor};
+ghost use Rattle.ack_codec.specs.Responses.{SpellsResponse, response_at};
+ghost use Rattle.ack_codec.specs.ResponseRefusals.{IsRefusedResponse};
 
 use crate::acks::Ack;
 use crate::faults::{AckFault, ResponseFault};
@@ -28,7 +29,8 @@ pub fn decode_ack(bytes: &[u8]) -> Result<(Ack, usize), AckFault>
     // spelling is a proper prefix of another.
     ensures found { IfOk result (λ x. SpellsAck x.0 (take x.1 bytes.now)) }
     ensures within { IfOk result (λ x. x.1 ≤ length bytes.now) }
-    ensures only { (ack : Ack) (text rest : List ℕ) → SpellsAck ack text → bytes.now ≡ text ++ rest → result ≡ Ok (ack, length text) }
+    ensures only { (ack : Ack) (text rest : List ℕ) → SpellsAck ack text → bytes.now ≡ text ++ rest
+        → result ≡ Ok (ack, length text) }
     ensures prefix { (a b : Ack) (text more : List ℕ) → SpellsAck a text → SpellsAck b (text ++ more) → more ≡ [] }
 
     // The fault is the one that stands there, and the one that stands there comes.
@@ -62,8 +64,10 @@ pub fn decode_read_status(bytes: &[u8]) -> Result<(Status, usize), AckFault>
     // spelling is a proper prefix of another.
     ensures found { IfOk result (λ x. SpellsReadStatus x.0 (take x.1 bytes.now)) }
     ensures within { IfOk result (λ x. x.1 ≤ length bytes.now) }
-    ensures only { (status : Status) (text rest : List ℕ) → SpellsReadStatus status text → bytes.now ≡ text ++ rest → result ≡ Ok (status, length text) }
-    ensures prefix { (a b : Status) (text more : List ℕ) → SpellsReadStatus a text → SpellsReadStatus b (text ++ more) → more ≡ [] }
+    ensures only { (status : Status) (text rest : List ℕ) → SpellsReadStatus status text → bytes.now ≡ text ++ rest
+        → result ≡ Ok (status, length text) }
+    ensures prefix { (a b : Status) (text more : List ℕ) → SpellsReadStatus a text → SpellsReadStatus b (text ++ more)
+        → more ≡ [] }
 
     // The fault is the one that stands there, and the one that stands there comes.
     ensures refused { IfErr result (λ e. IsRefusedReadStatus e bytes.now) }
@@ -95,19 +99,21 @@ pub fn decode_response(alloc: Global, bytes: &[u8]) -> Result<(Response, usize),
     // spelling is a proper prefix of another.
     ensures found { IfOk result (λ x. SpellsResponse x.0 (take x.1 bytes.now)) }
     ensures within { IfOk result (λ x. x.1 ≤ length bytes.now) }
-    ensures only { (response : Response) (text rest : List ℕ) → SpellsResponse response text → bytes.now ≡ text ++ rest → Gives result (Ok (response, length text)) }
-    ensures prefix { (a b : Response) (text more : List ℕ) → SpellsResponse a text → SpellsResponse b (text ++ more) → more ≡ [] }
+    ensures only { (response : Response) (text rest : List ℕ) → SpellsResponse response text → bytes.now ≡ text ++ rest
+        → Gives ResponseFault.Memory result (Ok (response, length text)) }
+    ensures prefix { (a b : Response) (text more : List ℕ) → SpellsResponse a text → SpellsResponse b (text ++ more)
+        → more ≡ [] }
 
     // The fault is the one that stands there, and the one that stands there comes, unless memory
     // runs out.
-    ensures refused { IfErr result (λ e. FailsFor e bytes.now) }
-    ensures refuses { (e : ResponseFault) → IsRefusedResponse e bytes.now → Gives result (Err e) }
+    ensures refused { IfErr result (λ e. FailsFor ResponseFault.Memory IsRefusedResponse e bytes.now) }
+    ensures refuses { (e : ResponseFault) → IsRefusedResponse e bytes.now → Gives ResponseFault.Memory result (Err e) }
 
     // The status is no `Other` in place of one that is listed.
     ensures listed { IfOk result (λ x. IsStatus x.0.status) }
 
     // The same as a function of the bytes.
-    ensures exact { Gives result (response_at bytes.now) }
+    ensures exact { Gives ResponseFault.Memory result (response_at bytes.now) }
 {
     framed_response(alloc, bytes)
 }
@@ -115,7 +121,7 @@ pub fn decode_response(alloc: Global, bytes: &[u8]) -> Result<(Response, usize),
 /// Reads the frame at the front and the response in it.
 #[tactic(auto, unfolding(proto_fields::specs::Framed::framed_at))]
 fn framed_response(alloc: Global, bytes: &[u8]) -> Result<(Response, usize), ResponseFault>
-    ensures { Gives result (response_at bytes.now) }
+    ensures { Gives ResponseFault.Memory result (response_at bytes.now) }
 {
     let (message, size) = read_frame(bytes)?;
     let response = response_of(alloc, message)?;

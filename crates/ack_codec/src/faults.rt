@@ -29,9 +29,9 @@ pub enum AckFault {
 
 impl From<FrameFault> for AckFault {
     ghost use Rattle.std.specs.Prelude.{◌≡◌};
-    ghost use Rattle.ack_codec.specs.Acks.{frame_cause};
+    ghost use Rattle.ack_codec.specs.Acks.{ack_frame_cause};
 
-    ghost from_gives = { λ fault e. e ≡ frame_cause fault };
+    ghost from_gives = { λ fault e. e ≡ ack_frame_cause fault };
 
     fn from(fault: FrameFault) -> AckFault {
         match fault {
@@ -105,9 +105,10 @@ impl From<WireFault> for ResponseFault {
 
 impl From<FieldsFault> for ResponseFault {
     ghost use Rattle.std.specs.Prelude.{◌≡◌};
-    ghost use Rattle.ack_codec.specs.Responses.{fields_cause};
+    ghost use Rattle.proto_fields.specs.Framed.{fields_cause};
+    ghost use Rattle.ack_codec.specs.declared.faults.ResponseFault.TheVariants as response;
 
-    ghost from_gives = { λ fault e. e ≡ fields_cause fault };
+    ghost from_gives = { λ fault e. e ≡ fields_cause response.Memory response.Wire fault };
 
     fn from(fault: FieldsFault) -> ResponseFault {
         match fault {

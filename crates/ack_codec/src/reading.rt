@@ -1,14 +1,23 @@
 //! The messages of acks and read statuses.
 
 ghost use Rattle.std.specs.Prelude.{◌≡◌, length, Ok};
-ghost use Rattle.proto_fields.specs.ResultSteps.{with_value};
+ghost use Rattle.hd_base.specs.Results.{with_value};
 ghost use Rattle.proto_fields.specs.Fields.{fields_at};
 ghost use Rattle.ack_codec.specs.Tallies.{LiesWithin};
-ghost use Rattle.ack_codec.specs.Acks.{none_found, newer_found, found_in, unzigzag, ack_from, ack_of as ack_said, read_status_of as read_status_said};
+ghost use Rattle.ack_codec.specs.Acks.{
+  none_found,
+  newer_found,
+  found_in,
+  unzigzag,
+  ack_from,
+  ack_of as ack_said,
+  read_status_of as read_status_said,
+};
 
 use crate::acks::Ack;
 use crate::faults::AckFault;
-use crate::tallies::{Tally, newer, status_of};
+use crate::replies::MAX_REPLIES;
+use crate::tallies::{Tally, newer};
 use hd_base::Status;
 use proto_fields::{Wire, WireFault, last_values, next_field};
 
@@ -47,6 +56,25 @@ impl FoundAck {
             flags: newer(4, self.flags, bytes, number, value),
         }
     }
+
+    /// The ack that was found, or why there is none.
+    #[tactic(auto, unfolding(crate::specs::Acks::ack_from))]
+    fn ack(self) -> Result<Ack, AckFault>
+        ensures { result ≡ ack_from self }
+    {
+        let replies = self.replies?;
+        self.flags?;
+        let seqno = self.seqno.ok_or(AckFault::Missing { field: 1 })?;
+        if replies.count > MAX_REPLIES as u64 {
+            return Err(AckFault::Replies {
+                count: replies.count,
+            });
+        }
+        Ok(Ack {
+            seqno: signed(seqno),
+            replies: replies.kept,
+        })
+    }
 }
 
 /// Reads the ack that a message says: seqno in field 1, replies in field 2 and flags, which are
@@ -56,10 +84,10 @@ pub(crate) fn ack_of(message: &[u8]) -> Result<Ack, AckFault>
     ensures { result ≡ ack_said message.now }
 {
     let found = found_fields(message)?;
-    told(found)
+    found.ack()
 }
 
-/// What the fields of a message tell.
+/// What the fields of a message have.
 fn found_fields(message: &[u8]) -> Result<FoundAck, WireFault>
     ensures { result ≡ with_value (found_in message.now) (fields_at message.now) }
 {
@@ -70,25 +98,6 @@ fn found_fields(message: &[u8]) -> Result<FoundAck, WireFault>
         at = next;
     }
     Ok(found)
-}
-
-/// The ack that was found, or why there is none.
-#[tactic(auto, unfolding(crate::specs::Acks::ack_from))]
-fn told(found: FoundAck) -> Result<Ack, AckFault>
-    ensures { result ≡ ack_from found }
-{
-    let replies = found.replies?;
-    found.flags?;
-    let seqno = found.seqno.ok_or(AckFault::Missing { field: 1 })?;
-    if replies.count > 16 {
-        return Err(AckFault::Replies {
-            count: replies.count,
-        });
-    }
-    Ok(Ack {
-        seqno: signed(seqno),
-        replies: replies.kept,
-    })
 }
 
 /// The signed number that a zigzag number stands for.
@@ -105,5 +114,5 @@ pub(crate) fn read_status_of(message: &[u8]) -> Result<Status, AckFault>
 {
     let number = last_values(message, 1)?.varint;
     let number = number.ok_or(AckFault::Missing { field: 1 })?;
-    Ok(status_of(number))
+    Ok(Status::from_varint(number))
 }

@@ -1,17 +1,36 @@
 //! The messages of responses.
 
 ghost use Rattle.std.specs.Prelude.{◌≡◌, length, Ok, IfOk, IfErr, option_map};
-ghost use Rattle.proto_fields.specs.ResultSteps.{with_cause, with_value};
+ghost use Rattle.hd_base.specs.Results.{with_cause, with_value, Gives};
 ghost use Rattle.proto_fields.specs.Fields.{fields_at};
 ghost use Rattle.proto_fields.specs.Inner.{joined, inner, text_of, PlacedWithin};
-ghost use Rattle.ack_codec.specs.Responses.{listed_kind, checksum_in, no_checksum, newer_checksum, found_sums_at, found_checksum_at, found_info_at, found_response_at, sums_told, checksum_told, info_told, status_told, response_of as response_said, Gives};
+ghost use Rattle.ack_codec.specs.Responses.{
+  listed_kind,
+  checksum_in,
+  no_checksum,
+  newer_checksum,
+  found_sums_at,
+  found_checksum_at,
+  found_info_at,
+  found_response_at,
+  checked_sums,
+  decoded_checksum,
+  decoded_info,
+  decoded_parts,
+  response_of as response_said,
+};
 
 use crate::faults::ResponseFault;
 use crate::responses::Response;
-use crate::tallies::status_of;
 use hd_base::{ByteList, Status};
-use proto_fields::{Fields, Wire, WireFault, fields, merged, next_field};
+use proto_fields::{Fields, Wire, WireFault, fields, merged, next_field, text_at};
 use std::alloc::Global;
+
+/// The bound of a number of 32 bits.
+const UINT32: u64 = 0x1_0000_0000;
+
+/// How many kinds of sums there are.
+const KINDS: u64 = 3;
 
 /// What was found of a block's checksum (HDFS `OpBlockChecksumResponseProto`).
 #[derive(Clone, Copy)]
@@ -52,7 +71,7 @@ impl FoundChecksum {
         ensures { result ≡ newer_checksum self (number, value) }
     {
         match (number, value) {
-            (1, Wire::Varint(kind)) if kind % 0x1_0000_0000 < 3 => FoundChecksum {
+            (1, Wire::Varint(kind)) if kind % UINT32 < KINDS => FoundChecksum {
                 kind: Some(kind),
                 ..self
             },
@@ -66,42 +85,39 @@ impl FoundChecksum {
 }
 
 /// Reads the response that a message says: status in field 1, firstBadLink in field 2,
-/// checksumResponse in field 3, which is whole but not kept, readOpChecksumInfo in field 4, of
-/// which chunkOffset is kept, and message in field 5. A message within that is given several times
+/// checksumResponse in field 3, which is whole but not kept, readOpChecksumInfo in field 4, and
+/// message in field 5. A message within that is given several times
 /// is its parts joined; of other fields the last counts. Unknown fields are skipped.
 #[tactic(auto, unfolding(crate::specs::Responses::response_of))]
 pub(crate) fn response_of(alloc: Global, message: &[u8]) -> Result<Response, ResponseFault>
-    ensures { Gives result (response_said message.now) }
+    ensures { Gives ResponseFault.Memory result (response_said message.now) }
 {
     let found = found_response(alloc, message)?;
-    let (status, sums_from) = told(found)?;
+    let (status, sums_from) = found.parts()?;
     Ok(Response {
         status,
-        first_bad: text_at(alloc, message, found.first_bad)?,
+        first_bad: text_or_empty(alloc, message, found.first_bad)?,
         sums_from,
-        message: text_at(alloc, message, found.message)?,
+        message: text_or_empty(alloc, message, found.message)?,
     })
 }
 
 /// The text at this place, which is empty where there is none.
-fn text_at(
+fn text_or_empty(
     alloc: Global,
     message: &[u8],
     place: Option<(u64, u64)>,
 ) -> Result<ByteList, ResponseFault>
     requires { PlacedWithin (length message.now) place }
-    ensures { Gives result (Ok (text_of message.now place)) }
+    ensures { Gives ResponseFault.Memory result (Ok (text_of message.now place)) }
 {
-    let Some((from, to)) = place else {
-        return Ok(ByteList::from_vec(Vec::new(alloc)));
-    };
-    let bytes = Vec::from_slice(alloc, &message[from as usize..to as usize])?;
-    Ok(ByteList::from_vec(bytes))
+    let text = text_at(alloc, message, place)?;
+    Ok(text.unwrap_or(ByteList::from_vec(Vec::new(alloc))))
 }
 
 /// What a message has, and each message within it.
 fn found_response(alloc: Global, message: &[u8]) -> Result<FoundResponse, ResponseFault>
-    ensures found { Gives result (with_cause ResponseFault.Wire (found_response_at message.now)) }
+    ensures found { Gives ResponseFault.Memory result (with_cause ResponseFault.Wire (found_response_at message.now)) }
     ensures first_bad { IfOk result (λ f. PlacedWithin (length message.now) f.first_bad) }
     ensures message { IfOk result (λ f. PlacedWithin (length message.now) f.message) }
 {
@@ -124,9 +140,10 @@ fn sums_under(
     listed: &Fields,
 ) -> Result<Option<FoundSums>, ResponseFault>
     requires { fields_at message.now ≡ Ok listed.now }
-    ensures { Gives result (with_cause ResponseFault.Wire (inner found_sums_at (joined 3 message.now listed.now))) }
+    ensures { Gives ResponseFault.Memory result
+        (with_cause ResponseFault.Wire (inner found_sums_at (joined 3 message.now listed.now))) }
 {
-    let Some(bytes) = joined_under(alloc, message, 3, listed)? else {
+    let Some(bytes) = merged(alloc, message, 3, listed)? else {
         return Ok(None);
     };
     let listed = fields(alloc, bytes.as_slice())?;
@@ -144,9 +161,10 @@ fn info_under(
     listed: &Fields,
 ) -> Result<Option<FoundInfo>, ResponseFault>
     requires { fields_at message.now ≡ Ok listed.now }
-    ensures { Gives result (with_cause ResponseFault.Wire (inner found_info_at (joined 4 message.now listed.now))) }
+    ensures { Gives ResponseFault.Memory result
+        (with_cause ResponseFault.Wire (inner found_info_at (joined 4 message.now listed.now))) }
 {
-    let Some(bytes) = joined_under(alloc, message, 4, listed)? else {
+    let Some(bytes) = merged(alloc, message, 4, listed)? else {
         return Ok(None);
     };
     let listed = fields(alloc, bytes.as_slice())?;
@@ -164,28 +182,14 @@ fn checksum_under(
     listed: &Fields,
 ) -> Result<Option<FoundChecksum>, ResponseFault>
     requires { fields_at message.now ≡ Ok listed.now }
-    ensures { Gives result (with_cause ResponseFault.Wire (inner found_checksum_at (joined 1 message.now listed.now))) }
+    ensures { Gives ResponseFault.Memory result
+        (with_cause ResponseFault.Wire (inner found_checksum_at (joined 1 message.now listed.now))) }
 {
-    let Some(bytes) = joined_under(alloc, message, 1, listed)? else {
+    let Some(bytes) = merged(alloc, message, 1, listed)? else {
         return Ok(None);
     };
     let found = found_checksum(bytes.as_slice())?;
     Ok(Some(found))
-}
-
-/// All parts of the message under this field number, joined.
-fn joined_under(
-    alloc: Global,
-    message: &[u8],
-    field: u32,
-    listed: &Fields,
-) -> Result<Option<Vec<u8>>, ResponseFault>
-    requires { fields_at message.now ≡ Ok listed.now }
-    ensures joined { IfOk result (λ m. option_map (λ v. v.items) m ≡ joined field message.now listed.now) }
-    ensures err { IfErr result (λ e. e ≡ ResponseFault.Memory) }
-{
-    let joined = merged(alloc, message, field, listed)?;
-    Ok(joined)
 }
 
 /// What a ChecksumProto has. It takes no memory.
@@ -204,49 +208,58 @@ fn found_checksum(bytes: &[u8]) -> Result<FoundChecksum, WireFault>
     Ok(found)
 }
 
-/// The status and where the sums begin, or the first required field that is missing.
-#[tactic(auto, unfolding(crate::specs::Responses::status_told))]
-fn told(found: FoundResponse) -> Result<(Status, Option<u64>), ResponseFault>
-    ensures { result ≡ with_cause ResponseFault.Missing (status_told found) }
-{
-    let number = found.status.ok_or(ResponseFault::Missing { field: 1 })?;
-    if let Some(sums) = found.sums {
-        check_sums(sums)?;
+impl FoundResponse {
+    /// The status and the sums, or the first required field that is missing.
+    #[tactic(auto, unfolding(crate::specs::Responses::decoded_parts))]
+    fn parts(self) -> Result<(Status, Option<(u32, u32, u64)>), ResponseFault>
+        ensures { result ≡ with_cause ResponseFault.Missing (decoded_parts self) }
+    {
+        let number = self.status.ok_or(ResponseFault::Missing { field: 1 })?;
+        if let Some(sums) = self.sums {
+            sums.check()?;
+        }
+        let sums_from = match self.info {
+            Some(info) => Some(info.sums_from()?),
+            None => None,
+        };
+        Ok((Status::from_varint(number), sums_from))
     }
-    let sums_from = match found.info {
-        Some(info) => Some(offset_told(info)?),
-        None => None,
-    };
-    Ok((status_of(number), sums_from))
 }
 
-/// Whether a block's checksum has all that it must have.
-#[tactic(auto, unfolding(crate::specs::Responses::sums_told))]
-fn check_sums(found: FoundSums) -> Result<(), ResponseFault>
-    ensures { result ≡ with_cause ResponseFault.Missing (sums_told found) }
-{
-    found.per_crc.ok_or(ResponseFault::Missing { field: 1 })?;
-    found.crcs.ok_or(ResponseFault::Missing { field: 2 })?;
-    found.sum.ok_or(ResponseFault::Missing { field: 3 })?;
-    Ok(())
+impl FoundSums {
+    /// Whether a block's checksum has all that it must have.
+    #[tactic(auto, unfolding(crate::specs::Responses::checked_sums))]
+    fn check(self) -> Result<(), ResponseFault>
+        ensures { result ≡ with_cause ResponseFault.Missing (checked_sums self) }
+    {
+        self.per_crc.ok_or(ResponseFault::Missing { field: 1 })?;
+        self.crcs.ok_or(ResponseFault::Missing { field: 2 })?;
+        self.sum.ok_or(ResponseFault::Missing { field: 3 })?;
+        Ok(())
+    }
 }
 
-/// Whether a kind of sums has all that it must have.
-#[tactic(auto, unfolding(crate::specs::Responses::checksum_told))]
-fn check_checksum(found: FoundChecksum) -> Result<(), ResponseFault>
-    ensures { result ≡ with_cause ResponseFault.Missing (checksum_told found) }
-{
-    found.kind.ok_or(ResponseFault::Missing { field: 1 })?;
-    found.chunk.ok_or(ResponseFault::Missing { field: 2 })?;
-    Ok(())
+impl FoundChecksum {
+    /// The kind of the sums and how many bytes a chunk has: the low 32 bits of each.
+    #[tactic(auto, unfolding(crate::specs::Responses::decoded_checksum))]
+    fn kind_and_chunk(self) -> Result<(u32, u32), ResponseFault>
+        ensures { result ≡ with_cause ResponseFault.Missing (decoded_checksum self) }
+    {
+        let kind = self.kind.ok_or(ResponseFault::Missing { field: 1 })?;
+        let chunk = self.chunk.ok_or(ResponseFault::Missing { field: 2 })?;
+        Ok(((kind % UINT32) as u32, (chunk % UINT32) as u32))
+    }
 }
 
-/// Where the sums of a read's answer begin.
-#[tactic(auto, unfolding(crate::specs::Responses::info_told))]
-fn offset_told(found: FoundInfo) -> Result<u64, ResponseFault>
-    ensures { result ≡ with_cause ResponseFault.Missing (info_told found) }
-{
-    let checksum = found.checksum.ok_or(ResponseFault::Missing { field: 1 })?;
-    check_checksum(checksum)?;
-    found.offset.ok_or(ResponseFault::Missing { field: 2 })
+impl FoundInfo {
+    /// The kind of the sums, how many bytes a chunk has, and where in the block they begin.
+    #[tactic(auto, unfolding(crate::specs::Responses::decoded_info))]
+    fn sums_from(self) -> Result<(u32, u32, u64), ResponseFault>
+        ensures { result ≡ with_cause ResponseFault.Missing (decoded_info self) }
+    {
+        let checksum = self.checksum.ok_or(ResponseFault::Missing { field: 1 })?;
+        let (kind, chunk) = checksum.kind_and_chunk()?;
+        let offset = self.offset.ok_or(ResponseFault::Missing { field: 2 })?;
+        Ok((kind, chunk, offset))
+    }
 }

@@ -1,12 +1,12 @@
 //! Repeated numbers, counted while they are read.
 
 ghost use Rattle.std.specs.Prelude.{◌≡◌, ◌^◌, ◌<◌, ◌≤◌, length, fold};
-ghost use Rattle.proto_fields.specs.ResultSteps.{with_value};
-ghost use Rattle.ack_codec.specs.Statuses.{told_status};
+ghost use Rattle.hd_base.specs.Results.{with_value};
+ghost use Rattle.hd_base.specs.Wire.{decoded_status};
 ghost use Rattle.ack_codec.specs.Packed.{numbers_at, varint_fault};
 ghost use Rattle.ack_codec.specs.Tallies.{empty_tally, counted, tallied, newer_tally, LiesWithin};
 
-use crate::replies::Replies;
+use crate::replies::{MAX_REPLIES, Replies};
 use hd_base::Status;
 use proto_fields::{VarintFault, Wire, WireFault, read_varint};
 
@@ -33,8 +33,8 @@ impl Tally {
     fn add(&mut self, number: u64)
         ensures { self.new ≡ counted self.old number }
     {
-        if self.kept.len() < 16 {
-            self.kept.push(status_of(number));
+        if self.kept.len() < MAX_REPLIES {
+            self.kept.push(Status::from_varint(number));
         }
         self.count = self.count.saturating_add(1);
     }
@@ -97,11 +97,4 @@ fn fault_at(at: u64, fault: VarintFault) -> WireFault
         VarintFault::Short => WireFault::Short { at },
         VarintFault::Long => WireFault::LongVarint { at },
     }
-}
-
-/// The status that a varint stands for: an enum takes the low 32 bits.
-pub(crate) fn status_of(number: u64) -> Status
-    ensures { result ≡ told_status number }
-{
-    Status::from_number((number % 0x1_0000_0000) as u32)
 }

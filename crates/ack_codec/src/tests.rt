@@ -1,11 +1,8 @@
 //! Worked examples of the format, byte for byte.
 
-ghost use Rattle.std.specs.Prelude.{◌≡◌, ◌+◌, ◌≤◌, [], length, IfOk, IsSome};
-ghost use Rattle.hd_base.specs.Wire.{IsStatus};
-
 use crate::{
-    Ack, AckBytes, AckFault, Replies, Response, ResponseFault, decode_ack, decode_read_status,
-    decode_response, encode_ack, encode_response,
+    Ack, AckBytes, AckFault, MAX_REPLIES, Replies, Response, ResponseFault, decode_ack,
+    decode_read_status, decode_response, encode_ack, encode_response,
 };
 use hd_base::{ByteList, Status};
 use proto_fields::WireFault;
@@ -33,71 +30,58 @@ fn reads_and_writes_acks(rt: HostRuntime) -> Result<(), Fail> {
     ] {
         let (ack, taken) = decode_ack(bytes)?;
         assert_eq!(rt; taken, bytes.len());
-        assert_eq!(rt; ack.seqno, seqno);
-        assert_eq!(rt; ack.replies.len(), count);
-        for status in ack.replies.as_slice() {
-            assert_eq!(rt; *status, Status::Success);
-        }
-        let kept = Replies::new(&[Status::Success; 3][..count.min(3)]).ok_or("at most 16")?;
-        let ack = Ack {
-            seqno,
-            replies: kept,
-        };
-        let mut out = AckBytes::new();
-        encode_ack(&ack, &mut out);
-        assert!(rt; out.as_slice() == written);
+        let replies = Replies::new(&[Status::Success; 3][..count.min(3)]).ok_or("at most 16")?;
+        assert!(rt; ack == Ack { seqno, replies });
         for cut in 0..bytes.len() {
             assert_eq!(rt; decode_ack(&bytes[..cut]).err(), Some(AckFault::Short));
+        }
+        if ack
+            .replies
+            .into_iter()
+            .all(|status| *status == Status::Success)
+        {
+            let mut out = AckBytes::new();
+            let replies = Replies::new(&[Status::Success; 3][..count.min(3)]).ok_or("at most 16")?;
+            encode_ack(&Ack { seqno, replies }, &mut out);
+            assert!(rt; out.as_slice() == written);
         }
     }
     Ok(())
 }
 
-/// So many SUCCESS replies to packet 0.
-fn replied(alloc: Global, count: usize) -> Result<Vec<u8>, Fail> {
-    let mut bytes = Vec::new(alloc);
-    let length = u8::try_from(count.saturating_mul(2).saturating_add(2))
-        .ok()
-        .ok_or("one byte")?;
-    bytes.push(length)?;
-    bytes.extend_from_slice(b"\x08\x00")?;
-    for _ in 0..count {
-        bytes.extend_from_slice(b"\x10\x00")?;
-    }
-    Ok(bytes)
-}
-
+/// Sixteen replies of the longest numbers are written, and of seventeen none is read.
 #[test]
 fn takes_at_most_sixteen_replies(rt: HostRuntime) -> Result<(), Fail> {
-    let sixteen = replied(rt.alloc(), 16)?;
-    let (ack, _) = decode_ack(sixteen.as_slice())?;
-    assert_eq!(rt; ack.replies.len(), 16);
-    let bytes = replied(rt.alloc(), 17)?;
-    let seventeen = bytes.as_slice();
-    assert_eq!(rt; seventeen.len(), 37);
+    let replies = Replies::new(&[Status::Other(u32::MAX); MAX_REPLIES]).ok_or("at most 16")?;
+    let ack = Ack {
+        seqno: i64::MIN,
+        replies,
+    };
+    let mut out = AckBytes::new();
+    encode_ack(&ack.duplicate(), &mut out);
+    assert_eq!(rt; out.len(), 108);
+    let (read, _) = decode_ack(out.as_slice())?;
+    assert!(rt; read == ack);
+    assert_eq!(rt;
+        format!(in rt.alloc(); "{:?}", Replies::empty())?.as_str(),
+        "[]"
+    );
+    assert!(rt; Replies::new(&[Status::Error; 17]).is_none());
+    let seventeen = b"\x15\x08\x00\x12\x11\0\0\0\0\0\0\0\0\0\0\0\0\0\0\0\0\0";
     assert_eq!(rt;
         decode_ack(seventeen).err(),
         Some(AckFault::Replies { count: 17 })
     );
-    for cut in 0..seventeen.len() {
-        assert_eq!(rt; decode_ack(&seventeen[..cut]).err(), Some(AckFault::Short));
-    }
-    assert!(rt; Replies::new(&[Status::Error; 17]).is_none());
     Ok(())
 }
 
 #[test]
-fn refuses_acks_in_order(rt: HostRuntime) {
-    let long = AckFault::Wire(WireFault::LongVarint { at: 0 });
+fn refuses_acks_in_order(rt: HostRuntime) -> Result<(), Fail> {
     let short = |at| AckFault::Wire(WireFault::Short { at });
     for (bytes, fault) in [
         (
             b"\xff\xff\xff\xff\xff\xff\xff\xff\xff\xff\x00".as_slice(),
-            long,
-        ),
-        (
-            b"\xff\xff\xff\xff\xff\xff\xff\xff\xff".as_slice(),
-            AckFault::Short,
+            AckFault::Wire(WireFault::LongVarint { at: 0 }),
         ),
         (
             b"\x81\x80\x04".as_slice(),
@@ -111,41 +95,14 @@ fn refuses_acks_in_order(rt: HostRuntime) {
         (b"\x07\x22\x02\x01\x80\x12\x01\x80".as_slice(), short(0)),
         (b"\x04\x22\x02\x01\x80".as_slice(), short(1)),
         (b"\x02\x10\x00".as_slice(), AckFault::Missing { field: 1 }),
-        (b"\x00".as_slice(), AckFault::Missing { field: 1 }),
     ] {
         assert_eq!(rt; decode_ack(bytes).err(), Some(fault));
     }
-}
-
-#[test]
-fn reads_read_statuses(rt: HostRuntime) -> Result<(), Fail> {
-    let bytes = b"\x02\x08\x06";
-    assert_eq!(rt; decode_read_status(bytes)?, (Status::ChecksumOk, 3));
-    for cut in 0..bytes.len() {
-        assert_eq!(rt;
-            decode_read_status(&bytes[..cut]).err(),
-            Some(AckFault::Short)
-        );
-    }
-    assert_eq!(rt; decode_read_status(b"\x02\x08\x08")?.0, Status::Other(8));
-    assert_eq!(rt;
-        decode_read_status(b"\x00").err(),
-        Some(AckFault::Missing { field: 1 })
-    );
-    Ok(())
-}
-
-#[test]
-fn prints_ack_faults(rt: HostRuntime) -> Result<(), Fail> {
     for (fault, text) in [
         (AckFault::Short, "the bytes end inside an ack"),
         (
             AckFault::TooLong { length: 65_537 },
             "a message of 65537 bytes",
-        ),
-        (
-            AckFault::Wire(WireFault::Kind { at: 7 }),
-            "the field at 7 has a wire type that is not read",
         ),
         (AckFault::Missing { field: 1 }, "field 1 is missing"),
         (AckFault::Replies { count: 17 }, "17 replies"),
@@ -155,86 +112,120 @@ fn prints_ack_faults(rt: HostRuntime) -> Result<(), Fail> {
     Ok(())
 }
 
-/// A setup that was taken, one whose mirror was not reached, one that was refused for an old
-/// stamp, and the answer to a read.
-const TAKEN: &[u8] = b"\x04\x08\x00\x12\x00";
-
-const UNREACHED: &[u8] = b"\x12\x08\x01\x12\x0e127.0.0.1:9867";
-
-const OLD_STAMP: &[u8] = b"\x16\x08\x01\x12\x00\x2a\x104 1003 1001 1002";
-
-const READ: &[u8] = b"\x0d\x08\x00\x22\x09\x0a\x05\x08\x02\x10\x80\x04\x10\x00";
-
-fn text(alloc: Global, bytes: &[u8]) -> Result<ByteList, AllocError>
-    ensures { IfOk result (λ list. list ≡ bytes.now) }
-{
-    let bytes = Vec::from_slice(alloc, bytes)?;
-    Ok(ByteList::from_vec(bytes))
+#[test]
+fn reads_read_statuses(rt: HostRuntime) -> Result<(), Fail> {
+    assert_eq!(rt;
+        decode_read_status(b"\x02\x08\x06")?,
+        (Status::ChecksumOk, 3)
+    );
+    assert_eq!(rt;
+        decode_read_status(b"\x02\x08").err(),
+        Some(AckFault::Short)
+    );
+    assert_eq!(rt; decode_read_status(b"\x02\x08\x08")?.0, Status::Other(8));
+    assert_eq!(rt;
+        decode_read_status(b"\x00").err(),
+        Some(AckFault::Missing { field: 1 })
+    );
+    Ok(())
 }
 
-/// Compares what is read of the bytes, and what is written, with these parts. Each front of the
-/// bytes is Short.
-fn compare(
-    rt: &impl Abort,
+/// A response with these texts.
+fn response(
     alloc: Global,
-    bytes: &[u8],
     status: Status,
     first_bad: &[u8],
-    sums_from: Option<u64>,
+    sums_from: Option<(u32, u32, u64)>,
     message: &[u8],
-) -> Result<(), Fail>
-    requires status { IsStatus status }
-    requires no_link { IsSome sums_from → first_bad.now ≡ [] }
-    requires few { length first_bad.now + length message.now ≤ 65000 }
-{
+) -> Result<Response, AllocError> {
+    Ok(Response {
+        status,
+        first_bad: ByteList::from_vec(Vec::from_slice(alloc, first_bad)?),
+        sums_from,
+        message: ByteList::from_vec(Vec::from_slice(alloc, message)?),
+    })
+}
+
+/// Compares what is read of the bytes, and what is written, with this response. Each front of the
+/// bytes is Short.
+fn compare(rt: &impl Abort, alloc: Global, bytes: &[u8], wanted: &Response) -> Result<(), Fail> {
     let (read, taken) = decode_response(alloc, bytes)?;
     assert_eq!(rt; taken, bytes.len());
-    assert_eq!(rt; read.status, status);
-    assert!(rt; read.first_bad.as_slice() == first_bad);
-    assert_eq!(rt; read.sums_from, sums_from);
-    assert!(rt; read.message.as_slice() == message);
-    let response = Response {
-        status,
-        first_bad: text(alloc, first_bad)?,
-        sums_from,
-        message: text(alloc, message)?,
-    };
+    assert!(rt; read == wanted.duplicate()?);
+    let may = wanted.is_encodable(alloc)?;
+    assert!(rt; may);
     let mut out = Vec::new(alloc);
-    encode_response(&response, &mut out)?;
+    encode_response(wanted, &mut out)?;
     assert!(rt; out.as_slice() == bytes);
-    for cut in 0..bytes.len() {
+    for cut in 0..bytes.len().min(32) {
         let front = decode_response(alloc, &bytes[..cut]);
         assert_eq!(rt; front.err(), Some(ResponseFault::Short));
     }
     Ok(())
 }
 
+/// A setup that was taken, one whose mirror was not reached, one that was refused for an old
+/// stamp, and the answers to reads under two rules.
 #[test]
 fn reads_and_writes_responses(rt: HostRuntime) -> Result<(), Fail> {
-    compare(&rt, rt.alloc(), TAKEN, Status::Success, b"", None, b"")?;
+    let alloc = rt.alloc();
+    let taken = response(alloc, Status::Success, b"", None, b"")?;
+    compare(&rt, alloc, b"\x04\x08\x00\x12\x00", &taken)?;
+    let unreached = response(alloc, Status::Error, b"127.0.0.1:9867", None, b"")?;
     compare(
         &rt,
-        rt.alloc(),
-        UNREACHED,
-        Status::Error,
-        b"127.0.0.1:9867",
-        None,
-        b"",
+        alloc,
+        b"\x12\x08\x01\x12\x0e127.0.0.1:9867",
+        &unreached,
     )?;
+    let stale = response(alloc, Status::Error, b"", None, b"4 1003 1001 1002")?;
     compare(
         &rt,
-        rt.alloc(),
-        OLD_STAMP,
-        Status::Error,
-        b"",
-        None,
-        b"4 1003 1001 1002",
+        alloc,
+        b"\x16\x08\x01\x12\x00\x2a\x104 1003 1001 1002",
+        &stale,
     )?;
-    compare(&rt, rt.alloc(), READ, Status::Success, b"", Some(0), b"")
+    let read = response(alloc, Status::Success, b"", Some((2, 512, 0)), b"")?;
+    compare(
+        &rt,
+        alloc,
+        b"\x0d\x08\x00\x22\x09\x0a\x05\x08\x02\x10\x80\x04\x10\x00",
+        &read,
+    )?;
+    let read = response(alloc, Status::Success, b"", Some((1, 16, 32)), b"")?;
+    compare(
+        &rt,
+        alloc,
+        b"\x0c\x08\x00\x22\x08\x0a\x04\x08\x01\x10\x10\x10\x20",
+        &read,
+    )
+}
+
+/// A message of 65,536 bytes and one of a byte more, a kind that isn't listed, and a status that is.
+#[test]
+fn tells_what_may_be_written(rt: HostRuntime) -> Result<(), Fail> {
+    let alloc = rt.alloc();
+    let longest = vec![in alloc; b'x'; 65_528]?;
+    let most = response(alloc, Status::Success, b"", None, &longest)?;
+    let mut bytes = Vec::from_slice(alloc, b"\x80\x80\x04\x08\x00\x12\x00\x2a\xf8\xff\x03")?;
+    bytes.extend_from_slice(&longest)?;
+    compare(&rt, alloc, &bytes, &most)?;
+    let longer = vec![in alloc; b'x'; 65_529]?;
+    for (status, first_bad, sums_from, message) in [
+        (Status::Success, b"".as_slice(), None, longer.as_slice()),
+        (Status::Success, b"", Some((3, 512, 0)), b""),
+        (Status::Success, b"x", Some((2, 512, 0)), b""),
+        (Status::Other(7), b"", None, b""),
+    ] {
+        let wrong = response(alloc, status, first_bad, sums_from, message)?;
+        let may = wrong.is_encodable(alloc)?;
+        assert!(rt; !may);
+    }
+    Ok(())
 }
 
 #[test]
-fn refuses_responses_in_order(rt: HostRuntime) {
+fn refuses_responses_in_order(rt: HostRuntime) -> Result<(), Fail> {
     let missing = |field| ResponseFault::Missing { field };
     let short = ResponseFault::Wire(WireFault::Short { at: 0 });
     for (bytes, fault) in [
@@ -245,9 +236,7 @@ fn refuses_responses_in_order(rt: HostRuntime) {
         (b"\x00".as_slice(), missing(1)),
         (b"\x03\x1a\x01\x08".as_slice(), short),
         (b"\x05\x08\x00\x1a\x01\x08".as_slice(), short),
-        (b"\x04\x08\x00\x1a\x00".as_slice(), missing(1)),
         (b"\x06\x08\x00\x1a\x02\x08\x01".as_slice(), missing(2)),
-        (b"\x04\x08\x00\x22\x00".as_slice(), missing(1)),
         (
             b"\x0a\x08\x00\x22\x06\x0a\x04\x08\x03\x10\x01".as_slice(),
             missing(1),
@@ -259,21 +248,13 @@ fn refuses_responses_in_order(rt: HostRuntime) {
     ] {
         assert_eq!(rt; decode_response(rt.alloc(), bytes).err(), Some(fault));
     }
-}
-
-#[test]
-fn prints_response_faults(rt: HostRuntime) -> Result<(), Fail> {
     for (fault, text) in [
         (ResponseFault::Short, "the bytes end inside a response"),
         (
             ResponseFault::TooLong { length: 65_537 },
             "a message of 65537 bytes",
         ),
-        (
-            ResponseFault::Wire(WireFault::Kind { at: 7 }),
-            "the field at 7 has a wire type that is not read",
-        ),
-        (ResponseFault::Missing { field: 1 }, "field 1 is missing"),
+        (missing(1), "field 1 is missing"),
         (ResponseFault::Memory, "out of memory"),
     ] {
         assert_eq!(rt; fault.to_string(rt.alloc())?.as_str(), text);

@@ -4,12 +4,17 @@ ghost use Rattle.std.specs.Prelude.{◌≡◌, ◌==◌, ◌+◌, ◌<◌, ◌�
 ghost use Rattle.proto_fields.specs.Varint.{least_varint};
 ghost use Rattle.proto_fields.specs.Writing.{varint_field};
 
+use std::fmt;
+use std::fmt::{Debug, Formatter, Write};
 use std::marker::Model;
 
+/// The most bytes that a written ack has.
+pub const MAX_ACK_SIZE: usize = 108;
+
 /// The bytes of a written ack, which are at most 108, seen as their list. Takes no memory.
-#[derive(Debug, Drop)]
+#[derive(Drop)]
 pub struct AckBytes {
-    bytes: [u8; 108],
+    bytes: [u8; MAX_ACK_SIZE],
     count: usize,
 }
 
@@ -29,7 +34,7 @@ impl AckBytes {
         ensures { result ≡ [] }
     {
         AckBytes {
-            bytes: [0; 108],
+            bytes: [0; MAX_ACK_SIZE],
             count: 0,
         }
     }
@@ -37,7 +42,7 @@ impl AckBytes {
     /// The bytes.
     pub fn as_slice(&self) -> &[u8]
         ensures value { result.now ≡ self.now }
-        ensures few { length result.now ≤ 108 }
+        ensures within_limit { length result.now ≤ MAX_ACK_SIZE }
     {
         &self.bytes[..self.count]
     }
@@ -45,7 +50,7 @@ impl AckBytes {
     /// How many bytes there are, at most 108.
     pub fn len(&self) -> usize
         ensures value { result ≡ length self.now }
-        ensures few { result ≤ 108 }
+        ensures within_limit { result ≤ MAX_ACK_SIZE }
     {
         self.as_slice().len()
     }
@@ -74,7 +79,7 @@ impl AckBytes {
 
     /// Appends a byte.
     pub(crate) fn push(&mut self, byte: u8)
-        requires { length self.old < 108 }
+        requires { length self.old < MAX_ACK_SIZE }
         ensures { self.new ≡ self.old ++ byte ∷ [] }
     {
         self.bytes[self.count] = byte;
@@ -102,5 +107,11 @@ impl AckBytes {
     {
         self.push_varint(u64::from(field) * 8);
         self.push_varint(value);
+    }
+}
+
+impl Debug for AckBytes {
+    fn fmt<W: Write>(&self, f: &mut Formatter<W>) -> fmt::Result {
+        Debug::fmt(&self.as_slice(), f)
     }
 }

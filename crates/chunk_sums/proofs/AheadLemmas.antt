@@ -9,9 +9,10 @@ use lib.Bits.{bit_xor, xor_assoc, xor_comm, xor_self, xor_zero_r, xor_shifted, x
 use lib.Dec.{ltb→lt, leb→le, eqb→eq}
 use lib.Ieee.Fits.{and_l, and_r}
 use Rattle.std.specs.Int.{w32, bit_not}
-use Rattle.chunk_sums.specs.Crc.{bit_step, byte_step, enter, register, advance, sum_of}
+use Rattle.hd_base.specs.declared.sum_rule.SumKind.TheVariants.{Crc32c}
+use Rattle.chunk_sums.specs.Crc.{crc32c_polynomial, bit_step, byte_step, enter, register, advance, sum_of}
 use Rattle.chunk_sums.specs.Ahead.{joined, mixed, held, far_places, near_places}
-use Rattle.chunk_sums.proofs.Linear.{regroup, xor_last, bit_step-xor, bit_step-double, byte_step-xor, byte_step-shifted, low_byte, advance-xor}
+use Rattle.chunk_sums.proofs.LinearLemmas.{regroup, xor_last, bit_step-xor, bit_step-double, byte_step-xor, byte_step-shifted, low_byte, advance-xor}
 
 -- ---- one byte alone in the window
 
@@ -33,9 +34,9 @@ struck [] p v b = b
 struck (i ∷ is) p v b = struck is p v (bit_xor b (only i p v))
 
 -- the register after the bytes that such a window gives as it slides along, until v has left it
-walk : List ℕ → ℕ → ℕ → ℕ → ℕ
-walk places zero r v = r
-walk places (suc p) r v = walk places p (byte_step (bit_xor r (struck places p v 0))) v
+walk : (poly : ℕ) → List ℕ → ℕ → ℕ → ℕ → ℕ
+walk poly places zero r v = r
+walk poly places (suc p) r v = walk poly places p (byte_step poly (bit_xor r (struck places p v 0))) v
 
 only-xor : (i p a b : ℕ) → only i p (bit_xor a b) ≡ bit_xor (only i p a) (only i p b)
 unfolding only
@@ -53,88 +54,88 @@ struck-xor (i ∷ is) p a b c d =
     ∙ ap (struck is p (bit_xor a b)) (sym (regroup c (only i p a) d (only i p b)))
     ∙ struck-xor is p a b (bit_xor c (only i p a)) (bit_xor d (only i p b))
 
-walk-xor : (places : List ℕ) (p r s a b : ℕ) → walk places p (bit_xor r s) (bit_xor a b) ≡ bit_xor (walk places p r a) (walk places p s b)
+walk-xor : (poly : ℕ) (places : List ℕ) (p r s a b : ℕ) → walk poly places p (bit_xor r s) (bit_xor a b) ≡ bit_xor (walk poly places p r a) (walk poly places p s b)
 unfolding walk
-walk-xor places zero r s a b = refl
-walk-xor places (suc p) r s a b =
+walk-xor poly places zero r s a b = refl
+walk-xor poly places (suc p) r s a b =
     let x = struck places p a 0 in
     let y = struck places p b 0 in
-    ap (λ (v : ℕ). walk places p (byte_step (bit_xor (bit_xor r s) v)) (bit_xor a b)) (struck-xor places p a b 0 0)
-    ∙ ap (λ (v : ℕ). walk places p v (bit_xor a b)) (ap byte_step (sym (regroup r x s y)) ∙ byte_step-xor (bit_xor r x) (bit_xor s y))
-    ∙ walk-xor places p (byte_step (bit_xor r x)) (byte_step (bit_xor s y)) a b
+    ap (λ (v : ℕ). walk poly places p (byte_step poly (bit_xor (bit_xor r s) v)) (bit_xor a b)) (struck-xor places p a b 0 0)
+    ∙ ap (λ (v : ℕ). walk poly places p v (bit_xor a b)) (ap (byte_step poly) (sym (regroup r x s y)) ∙ byte_step-xor poly (bit_xor r x) (bit_xor s y))
+    ∙ walk-xor poly places p (byte_step poly (bit_xor r x)) (byte_step poly (bit_xor s y)) a b
 
-only-step : (i p v : ℕ) → only i p (bit_step v) ≡ bit_step (only i p v)
+only-step : (poly i p v : ℕ) → only i p (bit_step poly v) ≡ bit_step poly (only i p v)
 unfolding only bit_step
-only-step i p v = by (eqb i p)
+only-step poly i p v = by (eqb i p)
   where
-    by : (t : Bool) → cond t (bit_step v) 0 ≡ bit_step (cond t v 0)
+    by : (t : Bool) → cond t (bit_step poly v) 0 ≡ bit_step poly (cond t v 0)
     by true = refl
     by false = refl
 
-struck-step : (is : List ℕ) (p v b : ℕ) → struck is p (bit_step v) (bit_step b) ≡ bit_step (struck is p v b)
+struck-step : (poly : ℕ) (is : List ℕ) (p v b : ℕ) → struck is p (bit_step poly v) (bit_step poly b) ≡ bit_step poly (struck is p v b)
 unfolding struck
-struck-step [] p v b = refl
-struck-step (i ∷ is) p v b =
-    ap (λ (x : ℕ). struck is p (bit_step v) (bit_xor (bit_step b) x)) (only-step i p v)
-    ∙ ap (struck is p (bit_step v)) (sym (bit_step-xor b (only i p v)))
-    ∙ struck-step is p v (bit_xor b (only i p v))
+struck-step poly [] p v b = refl
+struck-step poly (i ∷ is) p v b =
+    ap (λ (x : ℕ). struck is p (bit_step poly v) (bit_xor (bit_step poly b) x)) (only-step poly i p v)
+    ∙ ap (struck is p (bit_step poly v)) (sym (bit_step-xor poly b (only i p v)))
+    ∙ struck-step poly is p v (bit_xor b (only i p v))
 
-byte_step-bit_step : (r : ℕ) → byte_step (bit_step r) ≡ bit_step (byte_step r)
+byte_step-bit_step : (poly r : ℕ) → byte_step poly (bit_step poly r) ≡ bit_step poly (byte_step poly r)
 unfolding byte_step
-byte_step-bit_step r = refl
+byte_step-bit_step poly r = refl
 
-bit_step-zero : bit_step 0 ≡ 0
+bit_step-zero : (poly : ℕ) → bit_step poly 0 ≡ 0
 unfolding bit_step
-bit_step-zero = refl
+bit_step-zero poly = refl
 
-walk-step : (places : List ℕ) (p r v : ℕ) → walk places p (bit_step r) (bit_step v) ≡ bit_step (walk places p r v)
+walk-step : (poly : ℕ) (places : List ℕ) (p r v : ℕ) → walk poly places p (bit_step poly r) (bit_step poly v) ≡ bit_step poly (walk poly places p r v)
 unfolding walk
-walk-step places zero r v = refl
-walk-step places (suc p) r v =
-    ap (λ (x : ℕ). walk places p (byte_step (bit_xor (bit_step r) x)) (bit_step v))
-    (ap (struck places p (bit_step v)) (sym bit_step-zero) ∙ struck-step places p v 0)
-    ∙ ap (λ (x : ℕ). walk places p x (bit_step v))
-    (ap byte_step (sym (bit_step-xor r (struck places p v 0))) ∙ byte_step-bit_step (bit_xor r (struck places p v 0)))
-    ∙ walk-step places p (byte_step (bit_xor r (struck places p v 0))) v
+walk-step poly places zero r v = refl
+walk-step poly places (suc p) r v =
+    ap (λ (x : ℕ). walk poly places p (byte_step poly (bit_xor (bit_step poly r) x)) (bit_step poly v))
+    (ap (struck places p (bit_step poly v)) (sym (bit_step-zero poly)) ∙ struck-step poly places p v 0)
+    ∙ ap (λ (x : ℕ). walk poly places p x (bit_step poly v))
+    (ap (byte_step poly) (sym (bit_step-xor poly r (struck places p v 0))) ∙ byte_step-bit_step poly (bit_xor r (struck places p v 0)))
+    ∙ walk-step poly places p (byte_step poly (bit_xor r (struck places p v 0))) v
 
-advance-step : (n r : ℕ) → advance n (bit_step r) ≡ bit_step (advance n r)
+advance-step : (poly n r : ℕ) → advance poly n (bit_step poly r) ≡ bit_step poly (advance poly n r)
 unfolding advance
-advance-step zero r = refl
-advance-step (suc n) r = ap (advance n) (byte_step-bit_step r) ∙ advance-step n (byte_step r)
+advance-step poly zero r = refl
+advance-step poly (suc n) r = ap (advance poly n) (byte_step-bit_step poly r) ∙ advance-step poly n (byte_step poly r)
 
 -- ---- the one equation gives all bytes
 
 -- v counts as much from the places as where it stands
-pub Agrees : List ℕ → ℕ → ℕ → Type 0
-Agrees places far v = walk places far 0 v ≡ advance (suc far) v
+pub Agrees : (poly : ℕ) → List ℕ → ℕ → ℕ → Type 0
+Agrees poly places far v = walk poly places far 0 v ≡ advance poly (suc far) v
 
-Agrees-half : (places : List ℕ) (far q : ℕ) → Agrees places far (q * 2) → Agrees places far q
+Agrees-half : (poly : ℕ) (places : List ℕ) (far q : ℕ) → Agrees poly places far (q * 2) → Agrees poly places far q
 unfolding Agrees
-Agrees-half places far q h =
-    ap (walk places far 0) (sym (bit_step-double q))
-    ∙ ap (λ (z : ℕ). walk places far z (bit_step (q * 2))) (sym bit_step-zero)
-    ∙ walk-step places far 0 (q * 2) ∙ ap bit_step h
-    ∙ sym (advance-step (suc far) (q * 2)) ∙ ap (advance (suc far)) (bit_step-double q)
+Agrees-half poly places far q h =
+    ap (walk poly places far 0) (sym (bit_step-double poly q))
+    ∙ ap (λ (z : ℕ). walk poly places far z (bit_step poly (q * 2))) (sym (bit_step-zero poly))
+    ∙ walk-step poly places far 0 (q * 2) ∙ ap (bit_step poly) h
+    ∙ sym (advance-step poly (suc far) (q * 2)) ∙ ap (advance poly (suc far)) (bit_step-double poly q)
 
-Agrees-xor : (places : List ℕ) (far a b : ℕ) → Agrees places far a → Agrees places far b → Agrees places far (bit_xor a b)
+Agrees-xor : (poly : ℕ) (places : List ℕ) (far a b : ℕ) → Agrees poly places far a → Agrees poly places far b → Agrees poly places far (bit_xor a b)
 unfolding Agrees
-Agrees-xor places far a b ha hb =
-    walk-xor places far 0 0 a b ∙ ap (λ (v : ℕ). bit_xor v (walk places far 0 b)) ha
-    ∙ ap (bit_xor (advance (suc far) a)) hb ∙ sym (advance-xor (suc far) a b)
+Agrees-xor poly places far a b ha hb =
+    walk-xor poly places far 0 0 a b ∙ ap (λ (v : ℕ). bit_xor v (walk poly places far 0 b)) ha
+    ∙ ap (bit_xor (advance poly (suc far) a)) hb ∙ sym (advance-xor poly (suc far) a b)
 
-module _ (places : List ℕ) (far : ℕ) (top : Agrees places far (2 ^ 31)) where
-  Agrees-pow : (j k : ℕ) → j + k ≡ 31 → Agrees places far (2 ^ k)
+module _ (poly : ℕ) (places : List ℕ) (far : ℕ) (top : Agrees poly places far (2 ^ 31)) where
+  Agrees-pow : (j k : ℕ) → j + k ≡ 31 → Agrees poly places far (2 ^ k)
   Agrees-pow zero k e =
       let last : 31 ≡ k = omega arith in
-      subst (λ (n : ℕ). Agrees places far (2 ^ n)) last top
+      subst (λ (n : ℕ). Agrees poly places far (2 ^ n)) last top
   Agrees-pow (suc j) k e =
-      Agrees-half places far (2 ^ k)
-      (subst (Agrees places far) (pow-suc 2 k) (Agrees-pow j (suc k) (omega arith)))
+      Agrees-half poly places far (2 ^ k)
+      (subst (Agrees poly places far) (pow-suc 2 k) (Agrees-pow j (suc k) (omega arith)))
 
-  Agrees-below : (k v : ℕ) → k ≤ 32 → v < 2 ^ k → Agrees places far v
+  Agrees-below : (k v : ℕ) → k ≤ 32 → v < 2 ^ k → Agrees poly places far v
   Agrees-below zero v room h =
       let none : 0 ≡ v = omega arith in
-      subst (Agrees places far) (xor_self (2 ^ 31) ∙ none) (Agrees-xor places far (2 ^ 31) (2 ^ 31) top top)
+      subst (Agrees poly places far) (xor_self (2 ^ 31) ∙ none) (Agrees-xor poly places far (2 ^ 31) (2 ^ 31) top top)
   Agrees-below (suc k) v room h = elim (cases_lt v (2 ^ k)) [
     | inl below ↦ Agrees-below k v (omega arith) below
     | inr above ↦
@@ -142,8 +143,8 @@ module _ (places : List ℕ) (far : ℕ) (top : Agrees places far (2 ^ 31)) wher
         let less : v - 2 ^ k < 2 ^ k = omega arith in
         let one : 1 * 2 ^ k ≡ 2 ^ k = omega arith in
         let whole : 1 * 2 ^ k + (v - 2 ^ k) ≡ v = omega arith in
-        subst (Agrees places far) (ap (λ (n : ℕ). bit_xor n (v - 2 ^ k)) (sym one) ∙ xor_shifted 1 k (v - 2 ^ k) less ∙ whole)
-        (Agrees-xor places far (2 ^ k) (v - 2 ^ k) (Agrees-pow (31 - k) k (omega arith)) (Agrees-below k (v - 2 ^ k) (omega arith) less))
+        subst (Agrees poly places far) (ap (λ (n : ℕ). bit_xor n (v - 2 ^ k)) (sym one) ∙ xor_shifted 1 k (v - 2 ^ k) less ∙ whole)
+        (Agrees-xor poly places far (2 ^ k) (v - 2 ^ k) (Agrees-pow (31 - k) k (omega arith)) (Agrees-below k (v - 2 ^ k) (omega arith) less))
   ]
 
 -- ---- a window with one byte more at its end
@@ -174,65 +175,65 @@ joined-push (i ∷ is) w v a b =
     ∙ ap (joined is (w ++ v ∷ [])) (sym (regroup a (get_or w i 0) b (only i (length w) v)))
     ∙ joined-push is w v (bit_xor a (get_or w i 0)) (bit_xor b (only i (length w) v))
 
-enter-push : (places w : List ℕ) (v r s b : ℕ)
-    → enter (bit_xor r s) (joined places (w ++ v ∷ []) b) ≡ bit_xor (enter r (joined places w b)) (byte_step (bit_xor s (struck places (length w) v 0)))
+enter-push : (poly : ℕ) (places w : List ℕ) (v r s b : ℕ)
+    → enter poly (bit_xor r s) (joined places (w ++ v ∷ []) b) ≡ bit_xor (enter poly r (joined places w b)) (byte_step poly (bit_xor s (struck places (length w) v 0)))
 unfolding enter
-enter-push places w v r s b =
+enter-push poly places w v r s b =
     let x = joined places w b in
     let y = struck places (length w) v 0 in
-    ap (λ (n : ℕ). byte_step (bit_xor (bit_xor r s) (joined places (w ++ v ∷ []) n))) (sym (xor_zero_r b))
-    ∙ ap (λ (n : ℕ). byte_step (bit_xor (bit_xor r s) n)) (joined-push places w v b 0)
-    ∙ ap byte_step (sym (regroup r x s y)) ∙ byte_step-xor (bit_xor r x) (bit_xor s y)
+    ap (λ (n : ℕ). byte_step poly (bit_xor (bit_xor r s) (joined places (w ++ v ∷ []) n))) (sym (xor_zero_r b))
+    ∙ ap (λ (n : ℕ). byte_step poly (bit_xor (bit_xor r s) n)) (joined-push places w v b 0)
+    ∙ ap (byte_step poly) (sym (regroup r x s y)) ∙ byte_step-xor poly (bit_xor r x) (bit_xor s y)
 
 -- what is joined to the register goes through as if alone
-register-xor : (a d : ℕ) (bytes : List ℕ) → register (bit_xor a d) bytes ≡ bit_xor (register a bytes) (advance (length bytes) d)
+register-xor : (poly a d : ℕ) (bytes : List ℕ) → register poly (bit_xor a d) bytes ≡ bit_xor (register poly a bytes) (advance poly (length bytes) d)
 unfolding enter advance
-register-xor a d [] = refl
-register-xor a d (b ∷ bs) =
-    ap (λ (r : ℕ). register r bs) (ap byte_step (xor_last a d b) ∙ byte_step-xor (bit_xor a b) d)
-    ∙ register-xor (byte_step (bit_xor a b)) (byte_step d) bs
+register-xor poly a d [] = refl
+register-xor poly a d (b ∷ bs) =
+    ap (λ (r : ℕ). register poly r bs) (ap (byte_step poly) (xor_last a d b) ∙ byte_step-xor poly (bit_xor a b) d)
+    ∙ register-xor poly (byte_step poly (bit_xor a b)) (byte_step poly d) bs
 
 length-mixed : (places w bytes : List ℕ) → length (mixed places w bytes) ≡ length bytes
 unfolding mixed
 length-mixed places w [] = refl
 length-mixed places w (b ∷ bs) = ap suc (length-mixed places (drop 1 w) bs)
 
-register-push : (places w : List ℕ) (v r s : ℕ) (bytes : List ℕ) (n : ℕ) → length bytes ≡ suc (length w) + n
-    → register (bit_xor r s) (mixed places (w ++ v ∷ []) bytes) ≡ bit_xor (register r (mixed places w bytes)) (advance n (walk places (suc (length w)) s v))
+register-push : (poly : ℕ) (places w : List ℕ) (v r s : ℕ) (bytes : List ℕ) (n : ℕ) → length bytes ≡ suc (length w) + n
+    → register poly (bit_xor r s) (mixed places (w ++ v ∷ []) bytes) ≡ bit_xor (register poly r (mixed places w bytes)) (advance poly n (walk poly places (suc (length w)) s v))
 unfolding mixed walk
-register-push places w v r s [] n e = absurd (omega arith)
-register-push places [] v r s (b ∷ bs) n e =
+register-push poly places w v r s [] n e = absurd (omega arith)
+register-push poly places [] v r s (b ∷ bs) n e =
     let len : length (mixed places [] bs) ≡ n = length-mixed places [] bs ∙ omega arith in
-    ap (λ (x : ℕ). register x (mixed places [] bs)) (enter-push places [] v r s b)
-    ∙ register-xor (enter r (joined places [] b)) (byte_step (bit_xor s (struck places 0 v 0))) (mixed places [] bs)
-    ∙ ap (λ (m : ℕ). bit_xor (register (enter r (joined places [] b)) (mixed places [] bs)) (advance m (byte_step (bit_xor s (struck places 0 v 0))))) len
-register-push places (x ∷ w) v r s (b ∷ bs) n e =
-    ap (λ (y : ℕ). register y (mixed places (w ++ v ∷ []) bs)) (enter-push places (x ∷ w) v r s b)
-    ∙ register-push places w v (enter r (joined places (x ∷ w) b)) (byte_step (bit_xor s (struck places (suc (length w)) v 0))) bs n (omega arith)
+    ap (λ (x : ℕ). register poly x (mixed places [] bs)) (enter-push poly places [] v r s b)
+    ∙ register-xor poly (enter poly r (joined places [] b)) (byte_step poly (bit_xor s (struck places 0 v 0))) (mixed places [] bs)
+    ∙ ap (λ (m : ℕ). bit_xor (register poly (enter poly r (joined places [] b)) (mixed places [] bs)) (advance poly m (byte_step poly (bit_xor s (struck places 0 v 0))))) len
+register-push poly places (x ∷ w) v r s (b ∷ bs) n e =
+    ap (λ (y : ℕ). register poly y (mixed places (w ++ v ∷ []) bs)) (enter-push poly places (x ∷ w) v r s b)
+    ∙ register-push poly places w v (enter poly r (joined places (x ∷ w) b)) (byte_step poly (bit_xor s (struck places (suc (length w)) v 0))) bs n (omega arith)
 
-advance-add : (m n r : ℕ) → advance (m + n) r ≡ advance n (advance m r)
+advance-add : (poly m n r : ℕ) → advance poly (m + n) r ≡ advance poly n (advance poly m r)
 unfolding advance
-advance-add zero n r =
+advance-add poly zero n r =
     let e : 0 + n ≡ n = omega arith in
-    ap (λ (k : ℕ). advance k r) e
-advance-add (suc m) n r =
+    ap (λ (k : ℕ). advance poly k r) e
+advance-add poly (suc m) n r =
     let e : suc m + n ≡ suc (m + n) = omega arith in
-    ap (λ (k : ℕ). advance k r) e ∙ advance-add m n (byte_step r)
+    ap (λ (k : ℕ). advance poly k r) e ∙ advance-add poly m n (byte_step poly r)
 
 -- the first byte, joined to what the window has for it, goes to the window's end, and nothing else changes
-moved : (places window : List ℕ) (b : ℕ) (bytes : List ℕ) → 0 < length window → length window ≤ length bytes
-    → Agrees places (length window) (joined places window b)
-    → held places window (b ∷ bytes) ≡ held places (drop 1 window ++ joined places window b ∷ []) bytes
+moved : (poly : ℕ) (places window : List ℕ) (b : ℕ) (bytes : List ℕ) → 0 < length window → length window ≤ length bytes
+    → Agrees poly places (length window) (joined places window b)
+    → held poly places window (b ∷ bytes) ≡ held poly places (drop 1 window ++ joined places window b ∷ []) bytes
 unfolding mixed enter Agrees advance
-moved places [] b bytes some long agrees = absurd (omega arith)
-moved places (x ∷ w) b bytes some long agrees =
+moved poly places [] b bytes some long agrees = absurd (omega arith)
+moved poly places (x ∷ w) b bytes some long agrees =
     let v = joined places (x ∷ w) b in
     let n = length bytes - suc (length w) in
     let parts : length (mixed places w bytes) ≡ suc (length w) + n = length-mixed places w bytes ∙ omega arith in
-    register-xor 0 (byte_step v) (mixed places w bytes)
-    ∙ ap (bit_xor (register 0 (mixed places w bytes)))
-    (ap (λ (k : ℕ). advance k (byte_step v)) parts ∙ advance-add (suc (length w)) n (byte_step v) ∙ ap (advance n) (sym agrees))
-    ∙ sym (register-push places w v 0 0 bytes n (omega arith))
+    register-xor poly 0 (byte_step poly v) (mixed places w bytes)
+    ∙ ap (bit_xor (register poly 0 (mixed places w bytes)))
+    (ap (λ (k : ℕ). advance poly k (byte_step poly v)) parts ∙ advance-add poly (suc (length w)) n (byte_step poly v) ∙ ap (advance poly n) (sym agrees))
+    ∙ sym (register-push poly places w v 0 0 bytes n (omega arith))
 
 -- ---- windows of a buffer
 
@@ -248,16 +249,16 @@ from_fourth (i ∷ []) = eqb i 0
 from_fourth (i ∷ j ∷ is) = leb 4 i && from_fourth (j ∷ is)
 
 -- the places of a window that moves bytes ahead: the one equation, and where the places stand
-pub record IsSpan (places : List ℕ) (far : ℕ) : Type 0 where
-  pub top : Agrees places far (2 ^ 31)
+pub record IsSpan (poly : ℕ) (places : List ℕ) (far : ℕ) : Type 0 where
+  pub top : Agrees poly places far (2 ^ 31)
   pub inside : T (within far places)
   pub front : T (from_fourth places)
 
-pub IsSpan-far : IsSpan far_places 418
+pub IsSpan-far : IsSpan crc32c_polynomial far_places 418
 unfolding Agrees walk struck only advance byte_step bit_step within from_fourth
 IsSpan-far = record { top = refl; inside = tt; front = tt }
 
-pub IsSpan-near : IsSpan near_places 104
+pub IsSpan-near : IsSpan crc32c_polynomial near_places 104
 unfolding Agrees walk struck only advance byte_step bit_step within from_fourth
 IsSpan-near = record { top = refl; inside = tt; front = tt }
 
@@ -311,24 +312,24 @@ window-next buffer j f v room =
     ∙ ap (take (suc f)) (sym (ap (λ (n : ℕ). drop (j + 1) (set buffer n v)) place ∙ drop-set-add (j + 1) buffer f v))
 
 -- a step of a loop that moves the bytes of a body ahead
-pub moved-more : (places : List ℕ) (f : ℕ) → IsSpan places (suc f) → (buffer body : List ℕ) (j at v : ℕ) → j + suc f < length buffer
+pub moved-more : (poly : ℕ) (places : List ℕ) (f : ℕ) → IsSpan poly places (suc f) → (buffer body : List ℕ) (j at v : ℕ) → j + suc f < length buffer
     → at + suc f < length body → get_or body at 0 < 2 ^ 8 → ReadsBytes places buffer j → v ≡ read places buffer j (get_or body at 0)
-    → held places (take (suc f) (drop j buffer)) (drop at body)
-    ≡ held places (take (suc f) (drop (j + 1) (set buffer (j + suc f) v))) (drop (at + 1) body)
-moved-more places f span buffer body j at v room long small reads is_v =
+    → held poly places (take (suc f) (drop j buffer)) (drop at body)
+    ≡ held poly places (take (suc f) (drop (j + 1) (set buffer (j + suc f) v))) (drop (at + 1) body)
+moved-more poly places f span buffer body j at v room long small reads is_v =
     let b = get_or body at 0 in
     let window = take (suc f) (drop j buffer) in
     let window_len : length window ≡ suc f = length-take-le (suc f) (drop j buffer) (omega (arith, length-drop j buffer)) in
     let value : joined places window b ≡ v = joined-window places buffer (suc f) j b span.inside ∙ sym is_v in
     let byte : joined places window b < 2 ^ 8 =
     subst (λ (n : ℕ). n < 2 ^ 8) (sym (joined-window places buffer (suc f) j b span.inside)) (read-lt places buffer j b small reads) in
-    let agrees : Agrees places (length window) (joined places window b) =
-    subst (λ (n : ℕ). Agrees places n (joined places window b)) (sym window_len)
-    (Agrees-below places (suc f) span.top 8 (joined places window b) (omega arith) byte) in
-    ap (held places window) (drop_more body at 0 (omega arith))
-    ∙ moved places window b (drop (at + 1) body) (omega arith) (omega (arith, length-drop (at + 1) body)) agrees
-    ∙ ap (λ (n : ℕ). held places (drop 1 window ++ n ∷ []) (drop (at + 1) body)) value
-    ∙ ap (λ (l : List ℕ). held places l (drop (at + 1) body)) (window-next buffer j f v room)
+    let agrees : Agrees poly places (length window) (joined places window b) =
+    subst (λ (n : ℕ). Agrees poly places n (joined places window b)) (sym window_len)
+    (Agrees-below poly places (suc f) span.top 8 (joined places window b) (omega arith) byte) in
+    ap (held poly places window) (drop_more body at 0 (omega arith))
+    ∙ moved poly places window b (drop (at + 1) body) (omega arith) (omega (arith, length-drop (at + 1) body)) agrees
+    ∙ ap (λ (n : ℕ). held poly places (drop 1 window ++ n ∷ []) (drop (at + 1) body)) value
+    ∙ ap (λ (l : List ℕ). held poly places l (drop (at + 1) body)) (window-next buffer j f v room)
 
 -- ---- the last bytes, onto which the window is moved
 
@@ -415,33 +416,33 @@ Begins zero w r = r ≡ 0
 Begins (suc n) w r = (get_or w 0 0 ≡ r % 256) × Begins n (drop 1 w) (r / 256)
 
 -- a register joined to another is its lowest byte joined to the next byte, and the rest joined behind it
-enter-low : (x r b : ℕ) → enter (bit_xor x r) b ≡ bit_xor (enter x (bit_xor b (r % 256))) (r / 256)
+enter-low : (poly x r b : ℕ) → enter poly (bit_xor x r) b ≡ bit_xor (enter poly x (bit_xor b (r % 256))) (r / 256)
 unfolding enter
-enter-low x r b =
+enter-low poly x r b =
     let high = r / 256 * 256 in
     let low = r % 256 in
-    ap (λ (v : ℕ). byte_step (bit_xor (bit_xor x v) b)) (low_byte r ∙ xor_comm high low)
-    ∙ ap byte_step (
+    ap (λ (v : ℕ). byte_step poly (bit_xor (bit_xor x v) b)) (low_byte r ∙ xor_comm high low)
+    ∙ ap (byte_step poly) (
     xor_assoc x (bit_xor low high) b
     ∙ ap (bit_xor x) (xor_last low high b ∙ ap (λ (v : ℕ). bit_xor v high) (xor_comm low b))
     ∙ sym (xor_assoc x (bit_xor b low) high))
-    ∙ byte_step-xor (bit_xor x (bit_xor b low)) high
-    ∙ ap (bit_xor (byte_step (bit_xor x (bit_xor b low)))) (byte_step-shifted (r / 256))
+    ∙ byte_step-xor poly (bit_xor x (bit_xor b low)) high
+    ∙ ap (bit_xor (byte_step poly (bit_xor x (bit_xor b low)))) (byte_step-shifted poly (r / 256))
 
-register-begins : (places : List ℕ) → T (from_fourth places) → (n : ℕ) (w : List ℕ) (x r : ℕ) (bytes : List ℕ) → n ≤ 4 → n ≤ length bytes
-    → Begins n w r → ((i : ℕ) → n ≤ i → get_or w i 0 ≡ 0) → register x (mixed places w bytes) ≡ register (bit_xor x r) bytes
+register-begins : (poly : ℕ) (places : List ℕ) → T (from_fourth places) → (n : ℕ) (w : List ℕ) (x r : ℕ) (bytes : List ℕ) → n ≤ 4 → n ≤ length bytes
+    → Begins n w r → ((i : ℕ) → n ≤ i → get_or w i 0 ≡ 0) → register poly x (mixed places w bytes) ≡ register poly (bit_xor x r) bytes
 unfolding mixed Begins
-register-begins places front zero w x r bytes few long begins zeros =
-    ap (register x) (mixed-zeros places w bytes (λ i. zeros i (omega arith)))
-    ∙ ap (λ (v : ℕ). register v bytes) (sym (ap (bit_xor x) begins ∙ xor_zero_r x))
-register-begins places front (suc n) w x r [] few long begins zeros = absurd (omega arith)
-register-begins places front (suc n) w x r (b ∷ bs) few long begins zeros =
+register-begins poly places front zero w x r bytes few long begins zeros =
+    ap (register poly x) (mixed-zeros places w bytes (λ i. zeros i (omega arith)))
+    ∙ ap (λ (v : ℕ). register poly v bytes) (sym (ap (bit_xor x) begins ∙ xor_zero_r x))
+register-begins poly places front (suc n) w x r [] few long begins zeros = absurd (omega arith)
+register-begins poly places front (suc n) w x r (b ∷ bs) few long begins zeros =
     let first : joined places w b ≡ bit_xor b (r % 256) =
     joined-front places w b front (λ i h. zeros i (omega arith)) ∙ ap (bit_xor b) begins.0 in
-    ap (λ (v : ℕ). register (enter x v) (mixed places (drop 1 w) bs)) first
-    ∙ register-begins places front n (drop 1 w) (enter x (bit_xor b (r % 256))) (r / 256) bs (omega arith) (omega arith) begins.1
+    ap (λ (v : ℕ). register poly (enter poly x v) (mixed places (drop 1 w) bs)) first
+    ∙ register-begins poly places front n (drop 1 w) (enter poly x (bit_xor b (r % 256))) (r / 256) bs (omega arith) (omega arith) begins.1
     (λ i h. get_or-drop 1 w i 0 ∙ zeros (1 + i) (omega arith))
-    ∙ ap (λ (v : ℕ). register v bs) (sym (enter-low x r b))
+    ∙ ap (λ (v : ℕ). register poly v bs) (sym (enter-low poly x r b))
 
 -- a buffer to which nothing was written
 abbrev pub zeros : ℕ → List ℕ
@@ -464,18 +465,18 @@ get_or-take-zeros n pad none i = elim (cases_lt i n) [
 ]
 
 -- a window that begins with the four bytes of the register, and has zeros behind them
-pub held-start : (places : List ℕ) (m r : ℕ) → IsSpan places (suc (suc (suc (suc m)))) → (buffer front pad bytes : List ℕ) → r < 2 ^ 32
+pub held-start : (poly : ℕ) (places : List ℕ) (m r : ℕ) → IsSpan poly places (suc (suc (suc (suc m)))) → (buffer front pad bytes : List ℕ) → r < 2 ^ 32
     → buffer ≡ front ++ pad → front ≡ r % 256 ∷ r / 256 % 256 ∷ r / 65536 % 256 ∷ r / 16777216 % 256 ∷ []
-    → ((i : ℕ) → get_or pad i 0 ≡ 0) → 4 ≤ length bytes → register r bytes ≡ held places (take (suc (suc (suc (suc m)))) buffer) bytes
+    → ((i : ℕ) → get_or pad i 0 ≡ 0) → 4 ≤ length bytes → register poly r bytes ≡ held poly places (take (suc (suc (suc (suc m)))) buffer) bytes
 unfolding Begins
-held-start places m r span buffer front pad bytes fits is_buffer is_front none long =
+held-start poly places m r span buffer front pad bytes fits is_buffer is_front none long =
     let four : List ℕ = r % 256 ∷ r / 256 % 256 ∷ r / 65536 % 256 ∷ r / 16777216 % 256 ∷ [] in
     let third : r / 65536 % 256 ≡ r / 256 / 256 % 256 = omega arith in
     let fourth : r / 16777216 % 256 ≡ r / 256 / 256 / 256 % 256 = omega arith in
     let nothing : r / 256 / 256 / 256 / 256 ≡ 0 = omega arith in
     sym (
-    ap (λ (l : List ℕ). held places (take (suc (suc (suc (suc m)))) l) bytes) (is_buffer ∙ ap (λ (l : List ℕ). l ++ pad) is_front)
-    ∙ register-begins places span.front 4 (four ++ take m pad) 0 r bytes (omega arith) long (refl, (refl, (third, (fourth, nothing))))
+    ap (λ (l : List ℕ). held poly places (take (suc (suc (suc (suc m)))) l) bytes) (is_buffer ∙ ap (λ (l : List ℕ). l ++ pad) is_front)
+    ∙ register-begins poly places span.front 4 (four ++ take m pad) 0 r bytes (omega arith) long (refl, (refl, (third, (fourth, nothing))))
     (λ i h. get_or-append_right four (take m pad) 4 i 0 refl h ∙ get_or-take-zeros m pad none (i - 4)))
 
 -- a loop over the bytes of a buffer that brings those from n on down to its front
@@ -495,26 +496,26 @@ pub kept-more : (buffer old : List ℕ) (i v : ℕ) → drop i buffer ≡ drop i
 kept-more buffer old i v kept =
     drop-set-lt (i + 1) buffer i v (omega arith) ∙ sym (drop-drop 1 i buffer) ∙ ap (drop 1) kept ∙ drop-drop 1 i old
 
--- ---- a piece of 512 bytes in a lane of its own
+-- ---- a chunk of 512 bytes in a lane of its own
 
--- the lane stands before byte `at` of the piece
-pub record LaneSoFar (piece lane : List ℕ) (at : ℕ) : Type 0 where
-  pub so_far : register 0xFFFF_FFFF piece ≡ held near_places (take 104 (drop at lane)) (drop at piece)
+-- the lane stands before byte `at` of the chunk
+pub record LaneSoFar (chunk lane : List ℕ) (at : ℕ) : Type 0 where
+  pub so_far : register crc32c_polynomial 0xFFFF_FFFF chunk ≡ held crc32c_polynomial near_places (take 104 (drop at lane)) (drop at chunk)
   pub len : length lane ≡ 488
 
-pub LaneSoFar-start : (piece lane : List ℕ) → 4 ≤ length piece → lane ≡ (255 ∷ 255 ∷ 255 ∷ 255 ∷ []) ++ drop 4 (zeros 488) → LaneSoFar piece lane 0
-LaneSoFar-start piece lane long is_lane = record {
+pub LaneSoFar-start : (chunk lane : List ℕ) → 4 ≤ length chunk → lane ≡ (255 ∷ 255 ∷ 255 ∷ 255 ∷ []) ++ drop 4 (zeros 488) → LaneSoFar chunk lane 0
+LaneSoFar-start chunk lane long is_lane = record {
   so_far =
-      held-start near_places 100 4294967295 IsSpan-near lane (255 ∷ 255 ∷ 255 ∷ 255 ∷ []) (drop 4 (zeros 488)) piece (omega arith) is_lane refl
+      held-start crc32c_polynomial near_places 100 4294967295 IsSpan-near lane (255 ∷ 255 ∷ 255 ∷ 255 ∷ []) (drop 4 (zeros 488)) chunk (omega arith) is_lane refl
       (get_or-drop-zeros 4 488) long;
   len = ap length is_lane ∙ omega (arith, length-drop 4 (zeros 488), length-zeros 488);
 }
 
-pub LaneSoFar-sum : (piece lane : List ℕ) (at result : ℕ) → LaneSoFar piece lane at → at ≡ 384
-    → result ≡ bit_not w32 (held near_places (drop 384 lane) (drop 384 piece)) → result ≡ sum_of piece
-LaneSoFar-sum piece lane at result s is_at is_result =
+pub LaneSoFar-sum : (chunk lane : List ℕ) (at result : ℕ) → LaneSoFar chunk lane at → at ≡ 384
+    → result ≡ bit_not w32 (held crc32c_polynomial near_places (drop 384 lane) (drop 384 chunk)) → result ≡ sum_of Crc32c chunk
+LaneSoFar-sum chunk lane at result s is_at is_result =
     let short : length (drop 384 lane) ≤ 104 = omega (arith, length-drop 384 lane, s.len) in
     is_result
     ∙ ap (bit_not w32)
-    (sym (s.so_far ∙ ap (λ (n : ℕ). held near_places (take 104 (drop n lane)) (drop n piece)) is_at
-    ∙ ap (λ (l : List ℕ). held near_places l (drop 384 piece)) (take_all 104 (drop 384 lane) short)))
+    (sym (s.so_far ∙ ap (λ (n : ℕ). held crc32c_polynomial near_places (take 104 (drop n lane)) (drop n chunk)) is_at
+    ∙ ap (λ (l : List ℕ). held crc32c_polynomial near_places l (drop 384 chunk)) (take_all 104 (drop 384 lane) short)))

@@ -1,5 +1,5 @@
 pub mod AheadLemmas
-pub mod Linear
-pub mod PiecesLemmas
+pub mod LinearLemmas
+pub mod ChunkLemmas
 pub mod SlicingLemmas
 pub mod TableLemmas

@@ -16,8 +16,8 @@ mixed places window [] = []
 mixed places window (b ∷ bs) = joined places window b ∷ mixed places (drop 1 window) bs
 
 -- the register after bytes onto which a window is still to be moved, from 0
-abbrev pub held : List ℕ → List ℕ → List ℕ → ℕ
-held places window bytes = register 0 (mixed places window bytes)
+abbrev pub held : ℕ → List ℕ → List ℕ → List ℕ → ℕ
+held poly places window bytes = register poly 0 (mixed places window bytes)
 
 -- 130, 310, 340, 390 and 418 bytes on, in a window of 418
 abbrev pub far_places : List ℕ

@@ -1,3 +1,3 @@
 pub mod Ahead
 pub mod Crc
-pub mod Pieces
+pub mod Chunks

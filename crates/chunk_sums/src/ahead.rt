@@ -1,4 +1,4 @@
-//! The register over a long body: its bytes are moved ahead onto later bytes until a few hundred are
+//! The register of CRC32C over a long body: its bytes are moved ahead onto later bytes until a few hundred are
 //! left, and only those go through the tables. The compiler moves sixteen bytes in one step.
 //!
 //! The polynomial x^3344 + x^2304 + x^864 + x^624 + x^224 + 1 is a multiple of that of CRC32C. A bit
@@ -7,9 +7,10 @@
 
 ghost use Rattle.std.specs.Prelude.{◌≡◌, ◌+◌, ◌≤◌, length, take, drop};
 ghost use Rattle.chunk_sums.specs.Ahead.{held, far_places};
-ghost use Rattle.chunk_sums.specs.Crc.{register};
+ghost use Rattle.chunk_sums.specs.Crc.{register, crc32c_polynomial};
 
 use crate::slicing::sliced;
+use crate::tables::Crc32c;
 use crate::window::put_front;
 
 /// How far ahead a byte is moved at most, and so how many moved bytes are still held.
@@ -25,7 +26,7 @@ const BLOCK: usize = 96;
 /// The register that starts at `start` after all bytes of a body that has at least 418.
 pub fn moved_ahead(start: u32, body: &[u8]) -> u32
     requires { 418 ≤ length body.now }
-    ensures { result ≡ register start body.now }
+    ensures { result ≡ register crc32c_polynomial start body.now }
 {
     let mut buffer = [0; FAR + SPAN];
     put_front(&mut buffer, &start.to_le_bytes());
@@ -47,8 +48,8 @@ pub fn moved_ahead(start: u32, body: &[u8]) -> u32
 fn spread(buffer: &mut [u8], body: &[u8], count: usize)
     requires room { count + 418 ≤ length buffer.old }
     requires behind { count + 418 ≤ length body.now }
-    ensures { held far_places (take 418 buffer.old) body.now
-        ≡ held far_places (take 418 (drop count buffer.new)) (drop count body.now) }
+    ensures { held crc32c_polynomial far_places (take 418 buffer.old) body.now
+        ≡ held crc32c_polynomial far_places (take 418 (drop count buffer.new)) (drop count body.now) }
 {
     let blocks = count / BLOCK;
     for block in 0..blocks {
@@ -64,8 +65,8 @@ fn move_range(buffer: &mut [u8], body: &[u8], from: usize, to: usize)
     requires range { from ≤ to }
     requires room { to + 418 ≤ length buffer.old }
     requires behind { to + 418 ≤ length body.now }
-    ensures { held far_places (take 418 (drop from buffer.old)) (drop from body.now)
-        ≡ held far_places (take 418 (drop to buffer.new)) (drop to body.now) }
+    ensures { held crc32c_polynomial far_places (take 418 (drop from buffer.old)) (drop from body.now)
+        ≡ held crc32c_polynomial far_places (take 418 (drop to buffer.new)) (drop to body.now) }
 {
     for i in from..to {
         buffer[i + FAR] = body[i]
@@ -91,7 +92,7 @@ fn bring_down(buffer: &mut [u8])
 fn settle(window: &[u8], last: &[u8]) -> u32
     requires window_len { 418 ≤ length window.now }
     requires last_len { length last.now ≡ 418 }
-    ensures { result ≡ held far_places (take 418 window.now) last.now }
+    ensures { result ≡ held crc32c_polynomial far_places (take 418 window.now) last.now }
 {
     let mut padded = [0; 2 * FAR];
     let (front, _) = window.split_at(FAR);
@@ -105,5 +106,5 @@ fn settle(window: &[u8], last: &[u8]) -> u32
             ^ padded[i + 28]
             ^ padded[i];
     }
-    sliced(0, &mixed)
+    sliced::<Crc32c>(0, &mixed)
 }

@@ -1,22 +1,20 @@
 -- Messages: how many bytes they have, by their fronts, and that one that is there is refused for want of memory alone.
-use Rattle.std.proofs.Common.{◌≡◌, ℕ, ◌+◌, ◌-◌, ◌<◌, ◌≤◌, List, [], ◌∷◌, ◌++◌, length, take, drop, Result, Ok, Err, sym, ap, ◌∙◌, subst, arith, append_assoc, append-nil, length-append}
+use Rattle.std.proofs.Common.{◌≡◌, ℕ, ◌+◌, ◌-◌, ◌<◌, ◌≤◌, List, [], ◌∷◌, ◌++◌, length, take, drop, Ok, Err, inl, inr, refl, sym, ap, ◌∙◌, subst, arith, append_assoc, append-nil, length-append}
 use Rattle.std.proofs.lemmas.List.{take-append-le}
-use Rattle.ack_codec.specs.Responses.{Gives as GivesResponse}
 use Rattle.ack_codec.specs.declared.responses.Response.{Response}
 use Rattle.ack_codec.specs.declared.faults.ResponseFault.{ResponseFault}
 use Rattle.ack_codec.specs.declared.faults.ResponseFault.TheVariants as response
-use Rattle.op_headers.specs.Requests.{Gives as GivesOp}
 use Rattle.op_headers.specs.declared.ops.Op.{Op}
 use Rattle.op_headers.specs.declared.faults.OpFault.{OpFault}
 use Rattle.op_headers.specs.declared.faults.OpFault.TheVariants as op
-use Rattle.packet_codec.specs.Packets.{Gives as GivesPacket}
+use Rattle.hd_base.specs.Results.{Gives}
 use Rattle.packet_codec.specs.declared.packets.Packet.{Packet}
 use Rattle.packet_codec.specs.declared.faults.PacketFault.{PacketFault}
 use Rattle.packet_codec.specs.declared.faults.PacketFault.TheVariants as packet
 use Rattle.proto_fields.specs.Framed.{FramesSome}
 use Rattle.proto_fields.specs.Varint.{BeginsWithVarint, IsCutVarint, IsLongVarint, IsUnended, varint_at}
-use Rattle.proto_fields.proofs.ResultLaws.{ok_pair}
-use Rattle.proto_fields.proofs.VarintLaws.{read_varint_begins, read_varint_cut, read_varint_long}
+use Rattle.hd_base.proofs.ResultLaws.{ok_pair, err_ok}
+use Rattle.proto_fields.proofs.VarintLemmas.{read_varint_begins, read_varint_cut, read_varint_long}
 use Rattle.dn_run.specs.Faults.{op_fault, packet_fault, response_fault}
 use Rattle.dn_run.specs.declared.faults.RunFault.TheVariants.{Memory}
 use Rattle.dn_run.specs.declared.faults.StepFault.{StepFault}
@@ -27,15 +25,12 @@ abbrev pub Framed : List ℕ → Type 0
 Framed bytes = FramesSome (λ _. Unit {0}) bytes
 
 pub unsaid : (P : List ℕ → Type 0) (bytes : List ℕ) → FramesSome P bytes → Framed bytes
-unsaid P bytes f = record { prefix = f.prefix; message = f.message; parts = f.parts; spelled = f.spelled; few = f.few; told = tt }
+unsaid P bytes f = record { prefix = f.prefix; message = f.message; parts = f.parts; spelled = f.spelled; few = f.few; holds = tt }
 
 -- ---- the length in front of a message
 
 length_read : (bytes : List ℕ) (f : Framed bytes) → varint_at bytes ≡ Ok (length f.message, f.message)
 length_read bytes f = read_varint_begins bytes (length f.message) f.message (record { text = f.prefix; parts = f.parts; spelled = f.spelled })
-
-err_ok : {X E : Type 0} (e : E) (x : X) → ◌≡◌ {A = Result X E} (Err e) (Ok x) → ⊥
-err_ok e x is = cc
 
 -- The length that a message's front has is the message's.
 pub length_told : (front bytes more rest : List ℕ) (n : ℕ) → Framed bytes → front ++ more ≡ bytes → BeginsWithVarint front n rest → (n ≤ 65536) × (length front - length rest + n ≡ length bytes)
@@ -72,28 +67,18 @@ behind_head (x ∷ y ∷ z ∷ front) more bytes rest a b c parts head three = a
 shut_memory : ◌≡◌ {A = StepFault} (Run Memory) Shut → ⊥
 shut_memory e = cc
 
+only_memory : {E X : Type 0} (memory e : E) (fault_of : E → StepFault) (x : X) → fault_of memory ≡ Run Memory → Gives memory (Err e) (Ok x) → fault_of e ≡ Shut → ⊥
+only_memory memory e fault_of x runs (inl is) shut = shut_memory (sym runs ∙ (ap fault_of (sym is) ∙ shut))
+only_memory memory e fault_of x runs (inr is) shut = err_ok e x is
+
 -- A packet that is there is refused for want of memory alone,
-pub packet_only_memory : (fault : PacketFault) (x : Packet × ℕ) → GivesPacket (Err fault) (Ok x) → packet_fault fault ≡ Shut → ⊥
-packet_only_memory packet.Memory x gives is = shut_memory is
-packet_only_memory packet.Short x gives is = err_ok _ x gives
-packet_only_memory (packet.Length p h) x gives is = err_ok _ x gives
-packet_only_memory (packet.Header c) x gives is = err_ok _ x gives
-packet_only_memory (packet.SumCount r) x gives is = err_ok _ x gives
+pub packet_only_memory : (fault : PacketFault) (x : Packet × ℕ) → Gives packet.Memory (Err fault) (Ok x) → packet_fault fault ≡ Shut → ⊥
+packet_only_memory fault x gives shut = only_memory packet.Memory fault packet_fault x refl gives shut
 
 -- and so are a request
-pub op_only_memory : (fault : OpFault) (x : Op × ℕ) → GivesOp (Err fault) (Ok x) → op_fault fault ≡ Shut → ⊥
-op_only_memory op.Memory x gives is = shut_memory is
-op_only_memory op.Short x gives is = err_ok _ x gives
-op_only_memory (op.Version got) x gives is = err_ok _ x gives
-op_only_memory (op.Opcode got) x gives is = err_ok _ x gives
-op_only_memory (op.TooLong n) x gives is = err_ok _ x gives
-op_only_memory (op.Wire e) x gives is = err_ok _ x gives
-op_only_memory (op.Missing path) x gives is = err_ok _ x gives
+pub op_only_memory : (fault : OpFault) (x : Op × ℕ) → Gives op.Memory (Err fault) (Ok x) → op_fault fault ≡ Shut → ⊥
+op_only_memory fault x gives shut = only_memory op.Memory fault op_fault x refl gives shut
 
 -- and a response.
-pub response_only_memory : (fault : ResponseFault) (x : Response × ℕ) → GivesResponse (Err fault) (Ok x) → response_fault fault ≡ Shut → ⊥
-response_only_memory response.Memory x gives is = shut_memory is
-response_only_memory response.Short x gives is = err_ok _ x gives
-response_only_memory (response.TooLong n) x gives is = err_ok _ x gives
-response_only_memory (response.Wire e) x gives is = err_ok _ x gives
-response_only_memory (response.Missing field) x gives is = err_ok _ x gives
+pub response_only_memory : (fault : ResponseFault) (x : Response × ℕ) → Gives response.Memory (Err fault) (Ok x) → response_fault fault ≡ Shut → ⊥
+response_only_memory fault x gives shut = only_memory response.Memory fault response_fault x refl gives shut

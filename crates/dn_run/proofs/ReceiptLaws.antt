@@ -1,5 +1,5 @@
 -- What was received of a message and what is still held are together the message.
-use Rattle.std.proofs.Common.{◌≡◌, ℕ, ◌+◌, ◌<◌, ◌≤◌, inl, inr, Bool, false, List, [], ◌∷◌, ◌++◌, length, Option, Some, None, IfSome, Result, Ok, Err, option_map, sym, ap, subst, ◌∙◌, refl, arith, length-append, append-nil}
+use Rattle.std.proofs.Common.{◌≡◌, ℕ, ◌+◌, ◌<◌, ◌≤◌, inl, inr, Bool, false, List, [], ◌∷◌, ◌++◌, length, Option, Some, None, IfSome, option_map, sym, ap, subst, ◌∙◌, refl, arith, length-append, append-nil}
 use Rattle.std.proofs.Math.Nat.{eq-or-lt_of_le}
 use Rattle.hd_base.specs.Links.{Inbox, in_front}
 use Rattle.dn_run.specs.Messages.{Reaches}
@@ -46,12 +46,6 @@ pub nothing_left : (now : Option Inbox) (text message : List ℕ) (ended : Bool)
 nothing_left now text message ended p many =
     p.is ∙ (ap (λ l. Some (record { bytes = l; ended = p.inbox.ended })) (all_there message p.inbox.bytes text p.parts many).0
     ∙ ap (λ b. Some (record { bytes = []; ended = b })) p.same)
-
-pub err_ok : {X E : Type 0} (e : E) (x : X) → ◌≡◌ {A = Result X E} (Err e) (Ok x) → ⊥
-err_ok e x is = cc
-
-pub err_value : {X E : Type 0} (a b : E) → ◌≡◌ {A = Result X E} (Err a) (Err b) → a ≡ b
-err_value a b e = cc
 
 -- A message that is wholly there doesn't end short of a size within its length.
 pub not_short : (held : Option Inbox) (text message : List ℕ) (ended : Bool) (size : ℕ) → Parts held text message ended → size ≤ length text → IfSome held (λ h. length message + length h.bytes < size) → ⊥

@@ -12,13 +12,13 @@ use Rattle.dn_run.specs.declared.exits.Exit.{Exit}
 use Rattle.dn_run.specs.declared.exits.Exit.TheVariants as exit
 use Rattle.std.specs.Option.{is_some}
 use Rattle.hd_base.specs.FileMaps.{FileMap}
-use Rattle.proto_fields.proofs.ResultLaws.{ok_value}
+use Rattle.hd_base.proofs.ResultLaws.{ok_value}
 use Rattle.dn_run.proofs.ScriptLaws.{script_again}
-use Rattle.dn_run.proofs.ReceiptLaws.{err_value}
+use Rattle.hd_base.proofs.ResultLaws.{err_value}
 use Rattle.dn_run.specs.Runs.{entry_for, report_for, close_for, first_files, CarriedFor}
 use Rattle.dn_run.specs.Sendings.{first_stamp, sent_down, sent_up}
-use Rattle.dn_run.proofs.DeliveryLaws.{Loads}
-use Rattle.hd_base.specs.Ways.{Carried}
+use Rattle.dn_run.proofs.DeliveryLaws.{Traces}
+use Rattle.hd_base.specs.Channels.{Carried}
 use Rattle.dn_run.specs.declared.report.ReplicaEntry.{ReplicaEntry}
 use Rattle.dn_run.specs.declared.report.CloseAnswer.{CloseAnswer}
 use Rattle.dn_run.specs.declared.report.CreateAnswer.{CreateAnswer}
@@ -207,7 +207,7 @@ refused_by (Some text) out shelves only bad refused = λ line kind. by kind line
     by kinds.TooManyNodes line is = inr (reads_script (Some text) out is.3.0 text only bad refl is.1 is.3.1)
 
 -- What connection 0 carried is what the script is carried as.
-pub carried_for : (s : FirstWrite) (carried : Option Carried) → Loads carried (sent_down s.block.0 s.body) (sent_up s.body) → IfSome carried (CarriedFor s)
+pub carried_for : (s : FirstWrite) (carried : Option Carried) → Traces carried (sent_down s.block.0 s.body) (sent_up s.body) → IfSome carried (CarriedFor s)
 carried_for s carried l = rw l.is (record { down = l.down_is; up = l.up_is })
 
 -- A run ends with a shelf's fault only where the shelf failed.

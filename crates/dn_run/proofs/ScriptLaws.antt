@@ -6,16 +6,13 @@ use Rattle.std.proofs.lemmas.Bool.Decides.{nat_tests, Decides-eqb, eqb_tells}
 use Rattle.std.proofs.lemmas.Slice.Eq.{slice_eq-Decides}
 use Rattle.std.proofs.lemmas.List.{take_at, drop_at}
 use Rattle.std.proofs.lemmas.Grind.{common_steps}
-use Rattle.proto_fields.specs.ResultSteps.{◌>>=◌}
-use Rattle.proto_fields.proofs.ResultLaws.{bind_ok, bind-Ok, ok_value, ok_pair, chosen}
-use Rattle.hd_base.specs.Blocks.{is_digit}
+use Rattle.hd_base.specs.Results.{◌>>=◌}
+use Rattle.hd_base.proofs.ResultLaws.{bind_ok, bind-Ok, ok_value, ok_pair, chosen, err_ok}
+use Rattle.hd_base.specs.Numerals.{is_digit}
 use Rattle.dn_run.specs.declared.script.FirstWrite.{FirstWrite}
 use Rattle.dn_run.specs.declared.script.Stop.{Stop}
 use Rattle.dn_run.specs.declared.script.Stop.TheVariants as stop
 use Rattle.dn_run.specs.Scripts.{line, AreDigits, read_on, IsNumeral, hex_value, SpellsByte, SpellsBytes, write_limit, IsWriteLine, SpellsWrite, SpellsScript, behind, digits_on, begins_with_digit, number_at, this_number_at, fixed_line_at, number_line_at, create_line_at, digit_of, byte_of, bytes_on, written_at, written_or_none, write_line_at, ended, script_at}
-
-err_ok : {A : Type 0} (x : Stop) (y : A) → ◌≡◌ {A = Result A Stop} (Err x) (Ok y) → ⊥
-err_ok x y e = cc
 
 none_some : {A : Type 0} (x : A) → None ≡ Some x → ⊥
 none_some x e = cc

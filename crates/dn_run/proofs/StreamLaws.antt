@@ -2,7 +2,7 @@
 use Rattle.std.proofs.Common.{◌≡◌, ℕ, ◌+◌, ◌≤◌, List, ◌++◌, length, take, drop, Option, Some, None, Result, subst, sym, arith, length-append, length-take, take-add}
 use Rattle.hd_base.specs.Streams.{Took, Wrote}
 use Rattle.hd_base.proofs.StreamLaws.{Took-join, Wrote-join}
-use Rattle.hd_base.specs.Faults.{Plan, FollowsPlan}
+use Rattle.hd_base.specs.Faults.{FaultSchedule, FollowsSchedule}
 use Rattle.dn_run.specs.Streams.{NoneFails, TookSome}
 
 -- one more read
@@ -17,11 +17,11 @@ wrote_more a b c text rest at n e p q =
     subst (Wrote a c) (sym (take-add at n text)) (Wrote-join a b c (take at text) (take n (drop at text)) p r)
 
 -- Where no call is to fail, the count stays,
-pub follows_still : {T E : Type 0} (old new : Option Plan) (before now : ℕ) (r : Result T E) → FollowsPlan old new before now r → NoneFails old → now ≡ before
+pub follows_still : {T E : Type 0} (old new : Option FaultSchedule) (before now : ℕ) (r : Result T E) → FollowsSchedule old new before now r → NoneFails old → now ≡ before
 follows_still None new before now r f none = absurd none
-follows_still (Some plan) new before now r f none = let e = none 0 in let h = rw e at f.counts in omega (arith, h)
+follows_still (Some schedule) new before now r f none = let e = none 0 in let h = rw e at f.counts in omega (arith, h)
 
 -- and no call after it is to fail.
-pub follows_on : {T E : Type 0} (old new : Option Plan) (before now : ℕ) (r : Result T E) → FollowsPlan old new before now r → NoneFails old → NoneFails new
+pub follows_on : {T E : Type 0} (old new : Option FaultSchedule) (before now : ℕ) (r : Result T E) → FollowsSchedule old new before now r → NoneFails old → NoneFails new
 follows_on None new before now r f none = absurd none
-follows_on (Some plan) new before now r f none = subst NoneFails (sym f.goes_on) (λ k. none (k + 1))
+follows_on (Some schedule) new before now r f none = subst NoneFails (sym f.goes_on) (λ k. none (k + 1))

@@ -3,8 +3,8 @@ use Rattle.hd_base.specs.declared.files.FileError.{FileError}
 use Rattle.hd_base.specs.declared.files.FileError.TheVariants as file
 use Rattle.hd_base.specs.declared.links.LinkError.{LinkError}
 use Rattle.hd_base.specs.declared.links.LinkError.TheVariants as link
-use Rattle.hd_base.specs.declared.roads.RoadError.{RoadError}
-use Rattle.hd_base.specs.declared.roads.RoadError.TheVariants as road
+use Rattle.hd_base.specs.declared.ends.RoadError.{RoadError}
+use Rattle.hd_base.specs.declared.ends.RoadError.TheVariants as road
 use Rattle.ack_codec.specs.declared.faults.ResponseFault.{ResponseFault}
 use Rattle.ack_codec.specs.declared.faults.ResponseFault.TheVariants as response
 use Rattle.op_headers.specs.declared.faults.OpFault.{OpFault}

@@ -1,6 +1,7 @@
 pub mod Streams
 pub mod Scripts
 pub mod Reports
+pub mod Sums
 pub mod Faults
 pub mod Messages
 pub mod Replicas

@@ -9,7 +9,7 @@ use Rattle.op_headers.specs.declared.ops.Op.TheVariants.{Write}
 use Rattle.dn_run.specs.Sendings.{pool, first_stamp}
 use Rattle.hd_base.specs.declared.states.ReplicaState.{ReplicaState}
 use Rattle.hd_base.specs.declared.states.ReplicaState.TheVariants as state
-use Rattle.chunk_sums.specs.Pieces.{sums}
+use Rattle.dn_run.specs.Sums.{block_sums}
 use Rattle.meta_file.specs.declared.names.Folder.{Folder}
 use Rattle.meta_file.specs.declared.names.Folder.TheVariants as folder
 use Rattle.packet_codec.specs.declared.packets.Packet.{Packet}
@@ -44,7 +44,7 @@ pub record IsDataPacket (p : Packet) : Type 0 where
   pub seqno : p.seqno ≡ pos 0
   pub more : p.last ≡ false
   pub some : 0 < length p.body
-  pub sums : p.sums ≡ sums p.body
+  pub sums : p.sums ≡ block_sums p.body
 
 -- The last packet behind what is written, with the next number and no bytes.
 pub record IsLastPacket (replica : Replica) (p : Packet) : Type 0 where

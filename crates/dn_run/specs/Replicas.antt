@@ -1,8 +1,8 @@
 -- A replica's two files: the data file has its bytes, the metadata file the header and a sum for each chunk.
 use Rattle.std.specs.Prelude.{ℕ, List, ◌++◌, Option, IfSome, IsSome}
 use Rattle.hd_base.specs.FileMaps.{FileMap, put, moved, HasFile}
-use Rattle.chunk_sums.specs.Pieces.{sums}
-use Rattle.meta_file.specs.Headers.{header_bytes}
+use Rattle.dn_run.specs.Sums.{block_sums}
+use Rattle.dn_run.specs.Sums.{header_bytes}
 use Rattle.meta_file.specs.Names.{path_of, data_base, meta_base}
 use Rattle.meta_file.specs.declared.names.Folder.{Folder}
 use Rattle.meta_file.specs.declared.names.Folder.TheVariants.{Rbw, Finalized}
@@ -16,7 +16,7 @@ meta_path folder block stamp = path_of folder block ++ meta_base block stamp
 
 -- what the metadata file of these bytes holds
 unfoldable pub metadata : List ℕ → List ℕ
-metadata bytes = header_bytes ++ sums bytes
+metadata bytes = header_bytes ++ block_sums bytes
 
 -- the files with those of a replica that holds these bytes
 abbrev pub with_replica : Folder → ℕ → ℕ → List ℕ → FileMap → FileMap

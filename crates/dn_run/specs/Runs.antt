@@ -1,13 +1,13 @@
 -- A run of one first write: its words, its script, and what it leaves.
 use Rattle.std.specs.Prelude.{◌≡◌, ℕ, ◌+◌, ◌<◌, ◌≤◌, ◌⊎◌, true, false, List, [], ◌∷◌, length, take, Option, Some, None, IsSome}
 use Rattle.std.specs.Option.{is_some}
-use Rattle.hd_base.specs.Faults.{Rose}
+use Rattle.hd_base.specs.Faults.{FaultsIncreased}
 use Rattle.dn_run.specs.Exits.{script_limit}
 use Rattle.dn_run.specs.Scripts.{SpellsScript}
-use Rattle.chunk_sums.specs.Crc.{sum_of}
+use Rattle.dn_run.specs.Sums.{crc32c}
 use Rattle.hd_base.specs.FileMaps.{FileMap, no_files}
 use Rattle.hd_base.specs.Lists.{joined}
-use Rattle.hd_base.specs.Ways.{Plain, Carried}
+use Rattle.hd_base.specs.Channels.{Plain, Carried}
 use Rattle.hd_base.specs.declared.states.ReplicaState.TheVariants as state
 use Rattle.meta_file.specs.declared.names.Folder.TheVariants as folder
 use Rattle.dn_run.specs.Replicas.{with_replica}
@@ -28,7 +28,7 @@ entry_for s = record {
   stamp = record { 0 = first_stamp };
   written = length (bytes_of s.body);
   acked = length (bytes_of s.body);
-  sum = sum_of (bytes_of s.body);
+  sum = crc32c (bytes_of s.body);
 }
 
 -- how close is answered
@@ -45,6 +45,26 @@ report_for s = record {
   close = close_for s.body;
 }
 
+-- What the report tells where the node isn't reached.
+abbrev pub abandoned_report : FirstWrite → WriteReport
+abandoned_report s = record {
+  block = s.block;
+  replica = None;
+  create = creation.Abandoned (record { 0 = 0 });
+  wrote = is_some s.body;
+  close = answer.Abandoned (record { 0 = 0 });
+}
+
+-- What the report tells where the member took no request.
+abbrev pub unanswered_report : FirstWrite → WriteReport
+unanswered_report s = record {
+  block = s.block;
+  replica = None;
+  create = creation.Waiting;
+  wrote = is_some s.body;
+  close = answer.Waiting;
+}
+
 -- the files that the script leaves on an empty shelf: those of the finalized replica, and no other
 abbrev pub files_for : FirstWrite → FileMap
 files_for s = with_replica folder.Finalized s.block.0 first_stamp (bytes_of s.body) no_files
@@ -52,7 +72,7 @@ files_for s = with_replica folder.Finalized s.block.0 first_stamp (bytes_of s.bo
 -- Roads and a shelf tell what they hold, and the shelf has no file.
 pub record TellEmpty (plain : Option Plain) (carried : Option Carried) (files : Option FileMap) : Type 0 where
   pub net : IsSome plain
-  pub loads : IsSome carried
+  pub trace : IsSome carried
   pub none : files ≡ Some no_files
 
 -- Connection 0 carried the request and the script's packets down, and the answer and the acks up, one message behind the other.
@@ -74,7 +94,7 @@ first_files files (shelf ∷ shelves) = files shelf
 
 -- The first shelf's count has risen.
 abbrev pub FirstRose : {S : Type 0} → (S → ℕ) → List S → List S → Type 0
-FirstRose faults (old ∷ olds) (new ∷ news) = Rose (faults old) (faults new)
+FirstRose faults (old ∷ olds) (new ∷ news) = FaultsIncreased (faults old) (faults new)
 FirstRose faults _ _ = ⊥
 
 -- The source tells a text that spells this script, and the roads and the first shelf tell that nothing is on them yet.

@@ -1,8 +1,8 @@
 -- The script of one first write: the bytes that spell one, apart from reading, and the function that reads.
 use Rattle.std.specs.Prelude.{◌≡◌, ◌==◌, ℕ, ◌+◌, ◌-◌, ◌*◌, ◌^◌, ◌<◌, ◌≤◌, ◌&&◌, nat_lt, nat_le, Bool, true, false, if◌then◌else◌, List, [], ◌∷◌, ◌++◌, length, take, drop, codes, nat_eq, Option, Some, None, Result, Ok, Err}
 use Rattle.std.specs.Cmp.Lexicographic.{pointwise}
-use Rattle.proto_fields.specs.ResultSteps.{◌>>=◌}
-use Rattle.hd_base.specs.Blocks.{is_digit}
+use Rattle.hd_base.specs.Results.{◌>>=◌}
+use Rattle.hd_base.specs.Numerals.{is_digit}
 use Rattle.dn_run.specs.declared.script.FirstWrite.{FirstWrite}
 use Rattle.dn_run.specs.declared.script.Stop.{Stop}
 use Rattle.dn_run.specs.declared.script.Stop.TheVariants as stop

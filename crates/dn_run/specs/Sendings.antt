@@ -4,7 +4,7 @@ use Rattle.ack_codec.specs.AckTexts.{ack_text}
 use Rattle.ack_codec.specs.ResponseTexts.{response_text}
 use Rattle.ack_codec.specs.declared.acks.Ack.{Ack}
 use Rattle.ack_codec.specs.declared.responses.Response.{Response}
-use Rattle.chunk_sums.specs.Pieces.{sums}
+use Rattle.dn_run.specs.Sums.{block_sums}
 use Rattle.hd_base.specs.declared.states.Status.TheVariants.{Success}
 use Rattle.op_headers.specs.Requests.{op_text}
 use Rattle.op_headers.specs.declared.ops.Op.{Op}
@@ -46,7 +46,7 @@ ack_for seqno = record { seqno = seqno; replies = Success ∷ [] }
 
 -- the packet of a block's first bytes, with a sum for each chunk
 abbrev pub data_packet : List ℕ → Packet
-data_packet body = record { offset = pos 0; seqno = pos 0; last = false; sync = false; sums = sums body; body = body }
+data_packet body = record { offset = pos 0; seqno = pos 0; last = false; sync = false; sums = block_sums body; body = body }
 
 -- the last packet, behind so many bytes
 abbrev pub last_packet : ℕ → ℤ → Packet

@@ -1,12 +1,12 @@
 -- Words on what a whole run of reads or writes meets.
 use Rattle.std.specs.Prelude.{◌≡◌, ℕ, ◌≤◌, false, List, length, take, Option, Some, None}
-use Rattle.hd_base.specs.Faults.{Plan}
+use Rattle.hd_base.specs.Faults.{FaultSchedule}
 use Rattle.hd_base.specs.Streams.{Took, Wrote}
 
 -- The faults to come are told, and no call to come is to fail.
-abbrev pub NoneFails : Option Plan → Type 0
+abbrev pub NoneFails : Option FaultSchedule → Type 0
 NoneFails None = ⊥
-NoneFails (Some plan) = (k : ℕ) → plan k ≡ false
+NoneFails (Some schedule) = (k : ℕ) → schedule k ≡ false
 
 -- Where told, some bytes were taken, at most so many.
 abbrev pub TookSome : Option (List ℕ) → Option (List ℕ) → ℕ → Type 0

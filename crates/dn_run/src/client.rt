@@ -14,7 +14,7 @@ use crate::faults::RunFault;
 use ack_codec::{Ack, Response};
 use bytes::Bytes;
 use chunk_sums::{piece_count, write_sums};
-use hd_base::{BlockId, ByteList, Stamp, Status};
+use hd_base::{BlockId, ByteList, Stamp, Status, SumKind};
 use itoa::Buffer;
 use op_headers::{BlockRef, Op, Targets, WriteOp};
 use packet_codec::Packet;
@@ -96,9 +96,9 @@ pub(crate) fn data_packet(alloc: Global, body: Vec<u8>) -> Result<Packet, RunFau
     ensures within { IfOk result (λ packet. payload_for packet + header_size packet.sync ≤ limit) }
     ensures only_memory { IfErr result (λ fault. fault ≡ RunFault.Memory) }
 {
-    let count = piece_count(body.len() as u64, CHUNK, CHUNK) as usize;
+    let count = piece_count(SumKind::Crc32c, body.len() as u64, CHUNK, CHUNK) as usize;
     let mut sums = vec![in alloc; 0; 4 * count]?;
-    write_sums(&body, CHUNK, CHUNK, &mut sums);
+    write_sums(SumKind::Crc32c, &body, CHUNK, CHUNK, &mut sums);
     Ok(Packet {
         offset: 0,
         seqno: 0,

@@ -20,5 +20,7 @@ mod sending;
 pub mod standard;
 pub mod streams;
 #[cfg(test)]
+mod stream_tests;
+#[cfg(test)]
 mod tests;
 mod writing;

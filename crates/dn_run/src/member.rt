@@ -2,10 +2,9 @@
 //! and what it holds.
 
 ghost use Rattle.std.specs.Prelude.{◌≡◌, ◌≢◌, ◌+◌, ◌^◌, ◌<◌, ◌≤◌, ◌↔◌, ℕ, List, [], length, take, true, pos, Err, IfOk, IfErr, OnOk, OnErr, IfSome};
-ghost use Rattle.chunk_sums.specs.Crc.{sum_of};
-ghost use Rattle.chunk_sums.specs.Pieces.{sums as chunk_sums_of};
-ghost use Rattle.hd_base.specs.Faults.{Rose};
-ghost use Rattle.hd_base.specs.FileMaps.{Steps};
+ghost use Rattle.dn_run.specs.Sums.{crc32c, block_sums};
+ghost use Rattle.hd_base.specs.Faults.{FaultsIncreased};
+ghost use Rattle.hd_base.specs.FileMaps.{Becomes};
 ghost use Rattle.hd_base.specs.declared.states.ReplicaState.TheVariants as state;
 ghost use Rattle.meta_file.specs.declared.names.Folder.TheVariants as folder;
 ghost use Rattle.dn_run.specs.Members.{IsNewBlock, IsCreation, IsRequestFor, IsDataPacket, IsLastPacket, folder_of};
@@ -20,7 +19,7 @@ use crate::replica_files::{finalize_files, store, stored_sum};
 use crate::report::ReplicaEntry;
 use ack_codec::{Ack, Replies, Response};
 use chunk_sums::{first_bad, piece_count};
-use hd_base::{BlockId, ByteList, Files, NodeId, ReplicaState, Stamp, Status};
+use hd_base::{BlockId, ByteList, Files, NodeId, ReplicaState, Stamp, Status, SumKind};
 use meta_file::Folder;
 use op_headers::{BlockRef, Op, WriteOp};
 use packet_codec::Packet;
@@ -82,15 +81,15 @@ impl Replica {
         packet: &Packet,
     ) -> Result<(), StepFault>
         requires { HasReplica (F.files drawer.old) folder.Rbw self.old.block.0 self.old.stamp.0 [] }
-        ensures stored { OnOk result (Steps (F.files drawer.old) (F.files drawer.new) (with_replica folder.Rbw self.old.block.0 self.old.stamp.0 packet.now.body)) }
+        ensures stored { OnOk result (Becomes (F.files drawer.old) (F.files drawer.new) (with_replica folder.Rbw self.old.block.0 self.old.stamp.0 packet.now.body)) }
         ensures held { OnOk result (IsHeld (F.files drawer.new) self.old.block.0 self.old.stamp.0) }
         ensures written { OnOk result ((self.new.written ≡ length packet.now.body) × (self.new.next_seqno ≡ 1)) }
         ensures same { (self.new.block ≡ self.old.block) × (self.new.stamp ≡ self.old.stamp) × (self.new.state ≡ self.old.state) }
         ensures kept { OnErr result (self.new ≡ self.old) }
         ensures shut { (result ≡ Err Shut) ↔ ¬ (IsDataPacket packet.now) }
         ensures unchanged { result ≡ Err Shut → F.files drawer.new ≡ F.files drawer.old }
-        ensures failed { result ≡ Err (Run fault.Shelf) → Rose (F.faults drawer.old) (F.faults drawer.new) }
-        ensures later { F.faults drawer.old ≤ F.faults drawer.new }
+        ensures failed { result ≡ Err (Run fault.Shelf) → FaultsIncreased (F.faults drawer.old) (F.faults drawer.new) }
+        ensures never_falls { F.faults drawer.old ≤ F.faults drawer.new }
         ensures no_road { result ≢ Err (Run fault.Road) }
     {
         if !is_data_packet(packet) {
@@ -118,15 +117,15 @@ impl Replica {
         packet: &Packet,
     ) -> Result<(), StepFault>
         requires { IsHeld (F.files drawer.old) self.old.block.0 self.old.stamp.0 }
-        ensures moved { OnOk result (Steps (F.files drawer.old) (F.files drawer.new) (finalized self.old.block.0 self.old.stamp.0)) }
+        ensures moved { OnOk result (Becomes (F.files drawer.old) (F.files drawer.new) (finalized self.old.block.0 self.old.stamp.0)) }
         ensures there { OnOk result (IsThere (F.files drawer.new) (data_path folder.Finalized self.old.block.0)) }
         ensures state { OnOk result (self.new.state ≡ state.Finalized) }
         ensures same { (self.new.block ≡ self.old.block) × (self.new.stamp ≡ self.old.stamp) × (self.new.written ≡ self.old.written) }
         ensures kept { OnErr result (self.new ≡ self.old) }
         ensures shut { (result ≡ Err Shut) ↔ ¬ (IsLastPacket self.old packet.now) }
         ensures unchanged { result ≡ Err Shut → F.files drawer.new ≡ F.files drawer.old }
-        ensures failed { result ≡ Err (Run fault.Shelf) → Rose (F.faults drawer.old) (F.faults drawer.new) }
-        ensures later { F.faults drawer.old ≤ F.faults drawer.new }
+        ensures failed { result ≡ Err (Run fault.Shelf) → FaultsIncreased (F.faults drawer.old) (F.faults drawer.new) }
+        ensures never_falls { F.faults drawer.old ≤ F.faults drawer.new }
         ensures no_road { result ≢ Err (Run fault.Road) }
     {
         if !is_last_packet(self, packet) {
@@ -147,10 +146,10 @@ impl Replica {
         requires { IsThere (F.files drawer.old) (data_path (folder_of self.now.state) self.now.block.0) }
         ensures named { IfOk result (λ e. (e.node ≡ node) × (e.block ≡ self.now.block) × (e.stamp ≡ self.now.stamp)) }
         ensures state { IfOk result (λ e. (e.state ≡ self.now.state) × (e.written ≡ self.now.written) × (e.acked ≡ self.now.written)) }
-        ensures sum { IfOk result (λ e. IfSome (F.files drawer.old) (λ m. IfSome (m (data_path (folder_of self.now.state) self.now.block.0)) (λ bytes. e.sum ≡ sum_of (take self.now.written bytes)))) }
+        ensures sum { IfOk result (λ e. IfSome (F.files drawer.old) (λ m. IfSome (m (data_path (folder_of self.now.state) self.now.block.0)) (λ bytes. e.sum ≡ crc32c (take self.now.written bytes)))) }
         ensures files { F.files drawer.new ≡ F.files drawer.old }
-        ensures failed { result ≡ Err fault.Shelf → Rose (F.faults drawer.old) (F.faults drawer.new) }
-        ensures later { F.faults drawer.old ≤ F.faults drawer.new }
+        ensures failed { result ≡ Err fault.Shelf → FaultsIncreased (F.faults drawer.old) (F.faults drawer.new) }
+        ensures never_falls { F.faults drawer.old ≤ F.faults drawer.new }
         ensures no_road { result ≢ Err fault.Road }
     {
         let sum = stored_sum(alloc, drawer, self.block, folder(self.state), self.written)?;
@@ -231,12 +230,12 @@ fn is_data_packet(packet: &Packet) -> bool
 
 /// Whether a packet has for each chunk of its body, which begins at a chunk, the right sum.
 fn has_sums(packet: &Packet) -> bool
-    ensures { (result ≡ true) ↔ (packet.now.sums ≡ chunk_sums_of packet.now.body) }
+    ensures { (result ≡ true) ↔ (packet.now.sums ≡ block_sums packet.now.body) }
 {
     let body = packet.body.as_slice();
     let sums = packet.sums.as_slice();
-    sums.len() as u64 == 4 * piece_count(body.len() as u64, CHUNK, CHUNK)
-        && first_bad(body, sums, CHUNK, CHUNK).is_none()
+    sums.len() as u64 == 4 * piece_count(SumKind::Crc32c, body.len() as u64, CHUNK, CHUNK)
+        && first_bad(SumKind::Crc32c, body, sums, CHUNK, CHUNK).is_none()
 }
 
 /// Whether a packet is the last one, behind what the replica has.

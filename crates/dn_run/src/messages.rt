@@ -131,9 +131,10 @@ impl Message for Response {
     ghost use Rattle.hd_base.specs.Wire.{IsStatus};
     ghost use Rattle.proto_fields.specs.Frames.{limit};
     ghost use Rattle.ack_codec.specs.Responses.{SpellsResponse};
-    ghost use Rattle.ack_codec.specs.ResponseTexts.{response_message, response_text};
+    ghost use Rattle.ack_codec.specs.ResponseTexts.{HasListedKind, response_message, response_text};
 
-    ghost fits = { λ r. IsStatus r.status × (IsSome r.sums_from → r.first_bad ≡ []) × (length (response_message r) ≤ limit) };
+    ghost fits = { λ r. IsStatus r.status × (IsSome r.sums_from → r.first_bad ≡ []) × HasListedKind r.sums_from
+        × (length (response_message r) ≤ limit) };
 
     ghost spells = { SpellsResponse };
 

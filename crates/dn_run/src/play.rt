@@ -1,15 +1,15 @@
 //! The run of one first write, on a node and over roads.
 
 ghost use Rattle.std.specs.Prelude.{◌≡◌, ◌+◌, ◌<◌, ◌≤◌, ◌⊎◌, ℕ, List, [], length, take, true, Option, Some, Err, IfOk, OnOk, IfSome, IsSome};
-ghost use Rattle.hd_base.specs.Faults.{Rose};
-ghost use Rattle.hd_base.specs.FileMaps.{Steps};
+ghost use Rattle.hd_base.specs.Faults.{FaultsIncreased};
+ghost use Rattle.hd_base.specs.FileMaps.{Becomes};
 ghost use Rattle.meta_file.specs.declared.names.Folder.TheVariants as folder;
 ghost use Rattle.hd_base.specs.FileMaps.{FileMap};
 ghost use Rattle.hd_base.specs.declared.states.ReplicaState.TheVariants as state;
 ghost use Rattle.dn_run.specs.Connections.{IsOpen, IsUnused, Knows, RoadRose, StaysEnd, end_faults};
 ghost use Rattle.dn_run.specs.Members.{folder_of};
 ghost use Rattle.dn_run.specs.Replicas.{data_path, with_replica, finished, HasReplica, IsThere};
-ghost use Rattle.dn_run.specs.Runs.{report_for, close_for, files_for, TellEmpty, CarriedFor, StoppedAt};
+ghost use Rattle.dn_run.specs.Runs.{report_for, abandoned_report, unanswered_report, close_for, files_for, TellEmpty, CarriedFor, StoppedAt};
 ghost use Rattle.dn_run.specs.Sendings.{first_stamp, asked, answered, sent_down, sent_up, bytes_of};
 ghost use Rattle.dn_run.specs.declared.report.CreateAnswer.TheVariants as creation;
 ghost use Rattle.dn_run.specs.declared.faults.RunFault.TheVariants as fault;
@@ -29,8 +29,9 @@ use std::alloc::Global;
 pub(crate) const NODE: NodeId = NodeId(0);
 
 /// Runs a first write: the node listens, the client dials it, asks for the block, sends its packets
-/// and takes the acks, and the member writes the block to its shelf. The shelf gets its drawer back,
-/// and the roads both ends, whatever happened.
+/// and takes the acks, and the member writes the block to its shelf. A drawer that was lent goes back
+/// to its shelf. The ends go back to the roads, unless memory runs out where no drawer is lent or the
+/// first end is brought.
 pub(crate) fn play<S: Shelf, R: Roads>(
     alloc: Global,
     script: FirstWrite,
@@ -46,8 +47,8 @@ pub(crate) fn play<S: Shelf, R: Roads>(
     // Where the shelf failed, one message more went down than was answered; or all was answered, and
     // the replica is stored.
     ensures stopped { TellEmpty (R.plain roads.old) (R.carried roads.old) (S.files shelf.old) → result ≡ Err fault.Shelf → IfSome (R.carried roads.new) (StoppedAt script (S.files shelf.new)) }
-    ensures road { result ≡ Err fault.Road → Rose (R.faults roads.old) (R.faults roads.new) ⊎ ((conn : ℕ) × (R.risen roads.new conn ≡ true)) }
-    ensures shelf { result ≡ Err fault.Shelf → Rose (S.faults shelf.old) (S.faults shelf.new) }
+    ensures road { result ≡ Err fault.Road → FaultsIncreased (R.faults roads.old) (R.faults roads.new) ⊎ ((conn : ℕ) × (R.risen roads.new conn ≡ true)) }
+    ensures shelf { result ≡ Err fault.Shelf → FaultsIncreased (S.faults shelf.old) (S.faults shelf.new) }
     ensures road_later { R.faults roads.old ≤ R.faults roads.new }
     ensures shelf_later { S.faults shelf.old ≤ S.faults shelf.new }
 {
@@ -65,7 +66,9 @@ pub(crate) fn play<S: Shelf, R: Roads>(
 }
 
 /// What the report tells where the node isn't reached.
-fn abandoned(script: &FirstWrite) -> WriteReport {
+fn abandoned(script: &FirstWrite) -> WriteReport
+    ensures { result ≡ abandoned_report script.now }
+{
     WriteReport {
         block: script.block,
         replica: None,
@@ -76,7 +79,9 @@ fn abandoned(script: &FirstWrite) -> WriteReport {
 }
 
 /// What the report tells where the member took no request.
-fn unanswered(script: &FirstWrite) -> WriteReport {
+fn unanswered(script: &FirstWrite) -> WriteReport
+    ensures { result ≡ unanswered_report script.now }
+{
     WriteReport {
         block: script.block,
         replica: None,
@@ -98,16 +103,16 @@ fn write<R: Roads, F: Files>(
     requires some { IfSome script.body (λ bytes. 0 < length bytes) }
     requires client { Knows (R.plain roads.old) connection.old.client.id.0 }
     requires member { Knows (R.plain roads.old) connection.old.member.id.0 }
-    ensures idle { IsOpen R.plain R.carried R.Inward.held R.Inward.shut R.Outward.sent R.Outward.handed R.Outward.lost R.Outward.shut roads.old connection.old [] [] → OnOk result (IsOpen R.plain R.carried R.Inward.held R.Inward.shut R.Outward.sent R.Outward.handed R.Outward.lost R.Outward.shut roads.new connection.new (sent_down script.block.0 script.body) (sent_up script.body)) }
-    ensures stored { IsOpen R.plain R.carried R.Inward.held R.Inward.shut R.Outward.sent R.Outward.handed R.Outward.lost R.Outward.shut roads.old connection.old [] [] → OnOk result (Steps (F.files drawer.old) (F.files drawer.new) (finished script.block.0 first_stamp (bytes_of script.body))) }
-    ensures report { IsOpen R.plain R.carried R.Inward.held R.Inward.shut R.Outward.sent R.Outward.handed R.Outward.lost R.Outward.shut roads.old connection.old [] [] → IsSome (F.files drawer.old) → IfOk result (λ report. report ≡ report_for script) }
-    ensures stopped { IsOpen R.plain R.carried R.Inward.held R.Inward.shut R.Outward.sent R.Outward.handed R.Outward.lost R.Outward.shut roads.old connection.old [] [] → result ≡ Err fault.Shelf → (n : ℕ) × (IsOpen R.plain R.carried R.Inward.held R.Inward.shut R.Outward.sent R.Outward.handed R.Outward.lost R.Outward.shut roads.new connection.new (take (n + 1) (sent_down script.block.0 script.body)) (take n (sent_up script.body))) × ((n < length (sent_up script.body)) ⊎ Steps (F.files drawer.old) (F.files drawer.new) (finished script.block.0 first_stamp (bytes_of script.body))) }
+    ensures idle { IsOpen R.plain R.carried R.Inward.held R.Inward.shut R.Outward.sent R.Outward.flushed R.Outward.lost R.Outward.shut roads.old connection.old [] [] → OnOk result (IsOpen R.plain R.carried R.Inward.held R.Inward.shut R.Outward.sent R.Outward.flushed R.Outward.lost R.Outward.shut roads.new connection.new (sent_down script.block.0 script.body) (sent_up script.body)) }
+    ensures stored { IsOpen R.plain R.carried R.Inward.held R.Inward.shut R.Outward.sent R.Outward.flushed R.Outward.lost R.Outward.shut roads.old connection.old [] [] → OnOk result (Becomes (F.files drawer.old) (F.files drawer.new) (finished script.block.0 first_stamp (bytes_of script.body))) }
+    ensures report { IsOpen R.plain R.carried R.Inward.held R.Inward.shut R.Outward.sent R.Outward.flushed R.Outward.lost R.Outward.shut roads.old connection.old [] [] → IsSome (F.files drawer.old) → IfOk result (λ report. report ≡ report_for script) }
+    ensures stopped { IsOpen R.plain R.carried R.Inward.held R.Inward.shut R.Outward.sent R.Outward.flushed R.Outward.lost R.Outward.shut roads.old connection.old [] [] → result ≡ Err fault.Shelf → (n : ℕ) × (IsOpen R.plain R.carried R.Inward.held R.Inward.shut R.Outward.sent R.Outward.flushed R.Outward.lost R.Outward.shut roads.new connection.new (take (n + 1) (sent_down script.block.0 script.body)) (take n (sent_up script.body))) × ((n < length (sent_up script.body)) ⊎ Becomes (F.files drawer.old) (F.files drawer.new) (finished script.block.0 first_stamp (bytes_of script.body))) }
     ensures client { StaysEnd (R.plain roads.new) connection.old.client connection.new.client }
     ensures member { StaysEnd (R.plain roads.new) connection.old.member connection.new.member }
     ensures road { result ≡ Err fault.Road → RoadRose (R.faults roads.old) (R.faults roads.new) (end_faults R.Inward.faults R.Outward.faults connection.new.client) (end_faults R.Inward.faults R.Outward.faults connection.new.member) }
-    ensures later { R.faults roads.old ≤ R.faults roads.new }
+    ensures never_falls { R.faults roads.old ≤ R.faults roads.new }
     ensures risen { R.risen roads.new ≡ R.risen roads.old }
-    ensures shelf { result ≡ Err fault.Shelf → Rose (F.faults drawer.old) (F.faults drawer.new) }
+    ensures shelf { result ≡ Err fault.Shelf → FaultsIncreased (F.faults drawer.old) (F.faults drawer.new) }
     ensures drawer_later { F.faults drawer.old ≤ F.faults drawer.new }
 {
     match request_block(alloc, roads, connection, script.block) {
@@ -133,16 +138,16 @@ fn make<R: Roads, F: Files>(
     requires member { Knows (R.plain roads.old) connection.old.member.id.0 }
     requires named { (replica.block ≡ script.block) × (replica.stamp ≡ record { 0 = first_stamp }) }
     requires fresh { (replica.written ≡ 0) × (replica.next_seqno ≡ 0) × (replica.state ≡ state.Rbw) }
-    ensures idle { IsOpen R.plain R.carried R.Inward.held R.Inward.shut R.Outward.sent R.Outward.handed R.Outward.lost R.Outward.shut roads.old connection.old (asked script.block.0) [] → OnOk result (IsOpen R.plain R.carried R.Inward.held R.Inward.shut R.Outward.sent R.Outward.handed R.Outward.lost R.Outward.shut roads.new connection.new (sent_down script.block.0 script.body) (sent_up script.body)) }
-    ensures stored { IsOpen R.plain R.carried R.Inward.held R.Inward.shut R.Outward.sent R.Outward.handed R.Outward.lost R.Outward.shut roads.old connection.old (asked script.block.0) [] → OnOk result (Steps (F.files drawer.old) (F.files drawer.new) (finished script.block.0 first_stamp (bytes_of script.body))) }
-    ensures report { IsOpen R.plain R.carried R.Inward.held R.Inward.shut R.Outward.sent R.Outward.handed R.Outward.lost R.Outward.shut roads.old connection.old (asked script.block.0) [] → IsSome (F.files drawer.old) → IfOk result (λ report. report ≡ report_for script) }
-    ensures stopped { IsOpen R.plain R.carried R.Inward.held R.Inward.shut R.Outward.sent R.Outward.handed R.Outward.lost R.Outward.shut roads.old connection.old (asked script.block.0) [] → result ≡ Err fault.Shelf → (n : ℕ) × (IsOpen R.plain R.carried R.Inward.held R.Inward.shut R.Outward.sent R.Outward.handed R.Outward.lost R.Outward.shut roads.new connection.new (take (n + 1) (sent_down script.block.0 script.body)) (take n (sent_up script.body))) × ((n < length (sent_up script.body)) ⊎ Steps (F.files drawer.old) (F.files drawer.new) (finished script.block.0 first_stamp (bytes_of script.body))) }
+    ensures idle { IsOpen R.plain R.carried R.Inward.held R.Inward.shut R.Outward.sent R.Outward.flushed R.Outward.lost R.Outward.shut roads.old connection.old (asked script.block.0) [] → OnOk result (IsOpen R.plain R.carried R.Inward.held R.Inward.shut R.Outward.sent R.Outward.flushed R.Outward.lost R.Outward.shut roads.new connection.new (sent_down script.block.0 script.body) (sent_up script.body)) }
+    ensures stored { IsOpen R.plain R.carried R.Inward.held R.Inward.shut R.Outward.sent R.Outward.flushed R.Outward.lost R.Outward.shut roads.old connection.old (asked script.block.0) [] → OnOk result (Becomes (F.files drawer.old) (F.files drawer.new) (finished script.block.0 first_stamp (bytes_of script.body))) }
+    ensures report { IsOpen R.plain R.carried R.Inward.held R.Inward.shut R.Outward.sent R.Outward.flushed R.Outward.lost R.Outward.shut roads.old connection.old (asked script.block.0) [] → IsSome (F.files drawer.old) → IfOk result (λ report. report ≡ report_for script) }
+    ensures stopped { IsOpen R.plain R.carried R.Inward.held R.Inward.shut R.Outward.sent R.Outward.flushed R.Outward.lost R.Outward.shut roads.old connection.old (asked script.block.0) [] → result ≡ Err fault.Shelf → (n : ℕ) × (IsOpen R.plain R.carried R.Inward.held R.Inward.shut R.Outward.sent R.Outward.flushed R.Outward.lost R.Outward.shut roads.new connection.new (take (n + 1) (sent_down script.block.0 script.body)) (take n (sent_up script.body))) × ((n < length (sent_up script.body)) ⊎ Becomes (F.files drawer.old) (F.files drawer.new) (finished script.block.0 first_stamp (bytes_of script.body))) }
     ensures client { StaysEnd (R.plain roads.new) connection.old.client connection.new.client }
     ensures member { StaysEnd (R.plain roads.new) connection.old.member connection.new.member }
     ensures road { result ≡ Err fault.Road → RoadRose (R.faults roads.old) (R.faults roads.new) (end_faults R.Inward.faults R.Outward.faults connection.new.client) (end_faults R.Inward.faults R.Outward.faults connection.new.member) }
-    ensures later { R.faults roads.old ≤ R.faults roads.new }
+    ensures never_falls { R.faults roads.old ≤ R.faults roads.new }
     ensures risen { R.risen roads.new ≡ R.risen roads.old }
-    ensures shelf { result ≡ Err fault.Shelf → Rose (F.faults drawer.old) (F.faults drawer.new) }
+    ensures shelf { result ≡ Err fault.Shelf → FaultsIncreased (F.faults drawer.old) (F.faults drawer.new) }
     ensures drawer_later { F.faults drawer.old ≤ F.faults drawer.new }
 {
     let FirstWrite { block, body, .. } = script;
@@ -175,19 +180,19 @@ fn answers<R: Roads, F: Files>(
     requires member { Knows (R.plain roads.old) connection.old.member.id.0 }
     requires fresh { (replica.old.written ≡ 0) × (replica.old.next_seqno ≡ 0) × (replica.old.state ≡ state.Rbw) }
     requires empty { HasReplica (F.files drawer.old) folder.Rbw replica.old.block.0 replica.old.stamp.0 [] }
-    ensures answered { IsOpen R.plain R.carried R.Inward.held R.Inward.shut R.Outward.sent R.Outward.handed R.Outward.lost R.Outward.shut roads.old connection.old (asked replica.old.block.0) [] → IfOk result (λ a. (a.0 ≡ creation.Created (record { 0 = first_stamp })) × (a.1 ≡ close_for body)) }
-    ensures idle { IsOpen R.plain R.carried R.Inward.held R.Inward.shut R.Outward.sent R.Outward.handed R.Outward.lost R.Outward.shut roads.old connection.old (asked replica.old.block.0) [] → OnOk result (IsOpen R.plain R.carried R.Inward.held R.Inward.shut R.Outward.sent R.Outward.handed R.Outward.lost R.Outward.shut roads.new connection.new (sent_down replica.old.block.0 body) (sent_up body)) }
-    ensures stored { IsOpen R.plain R.carried R.Inward.held R.Inward.shut R.Outward.sent R.Outward.handed R.Outward.lost R.Outward.shut roads.old connection.old (asked replica.old.block.0) [] → (before : Option FileMap) → Steps before (F.files drawer.old) (with_replica folder.Rbw replica.old.block.0 replica.old.stamp.0 []) → OnOk result (Steps before (F.files drawer.new) (finished replica.old.block.0 replica.old.stamp.0 (bytes_of body))) }
-    ensures written { IsOpen R.plain R.carried R.Inward.held R.Inward.shut R.Outward.sent R.Outward.handed R.Outward.lost R.Outward.shut roads.old connection.old (asked replica.old.block.0) [] → OnOk result ((replica.new.state ≡ state.Finalized) × (replica.new.written ≡ length (bytes_of body))) }
-    ensures stopped { IsOpen R.plain R.carried R.Inward.held R.Inward.shut R.Outward.sent R.Outward.handed R.Outward.lost R.Outward.shut roads.old connection.old (asked replica.old.block.0) [] → result ≡ Err fault.Shelf → (n : ℕ) × (IsOpen R.plain R.carried R.Inward.held R.Inward.shut R.Outward.sent R.Outward.handed R.Outward.lost R.Outward.shut roads.new connection.new (take (n + 1) (sent_down replica.old.block.0 body)) (take n (sent_up body))) × (n < length (sent_up body)) }
+    ensures answered { IsOpen R.plain R.carried R.Inward.held R.Inward.shut R.Outward.sent R.Outward.flushed R.Outward.lost R.Outward.shut roads.old connection.old (asked replica.old.block.0) [] → IfOk result (λ a. (a.0 ≡ creation.Created (record { 0 = first_stamp })) × (a.1 ≡ close_for body)) }
+    ensures idle { IsOpen R.plain R.carried R.Inward.held R.Inward.shut R.Outward.sent R.Outward.flushed R.Outward.lost R.Outward.shut roads.old connection.old (asked replica.old.block.0) [] → OnOk result (IsOpen R.plain R.carried R.Inward.held R.Inward.shut R.Outward.sent R.Outward.flushed R.Outward.lost R.Outward.shut roads.new connection.new (sent_down replica.old.block.0 body) (sent_up body)) }
+    ensures stored { IsOpen R.plain R.carried R.Inward.held R.Inward.shut R.Outward.sent R.Outward.flushed R.Outward.lost R.Outward.shut roads.old connection.old (asked replica.old.block.0) [] → (before : Option FileMap) → Becomes before (F.files drawer.old) (with_replica folder.Rbw replica.old.block.0 replica.old.stamp.0 []) → OnOk result (Becomes before (F.files drawer.new) (finished replica.old.block.0 replica.old.stamp.0 (bytes_of body))) }
+    ensures written { IsOpen R.plain R.carried R.Inward.held R.Inward.shut R.Outward.sent R.Outward.flushed R.Outward.lost R.Outward.shut roads.old connection.old (asked replica.old.block.0) [] → OnOk result ((replica.new.state ≡ state.Finalized) × (replica.new.written ≡ length (bytes_of body))) }
+    ensures stopped { IsOpen R.plain R.carried R.Inward.held R.Inward.shut R.Outward.sent R.Outward.flushed R.Outward.lost R.Outward.shut roads.old connection.old (asked replica.old.block.0) [] → result ≡ Err fault.Shelf → (n : ℕ) × (IsOpen R.plain R.carried R.Inward.held R.Inward.shut R.Outward.sent R.Outward.flushed R.Outward.lost R.Outward.shut roads.new connection.new (take (n + 1) (sent_down replica.old.block.0 body)) (take n (sent_up body))) × (n < length (sent_up body)) }
     ensures there { OnOk result (IsThere (F.files drawer.new) (data_path (folder_of replica.new.state) replica.old.block.0)) }
     ensures named { (replica.new.block ≡ replica.old.block) × (replica.new.stamp ≡ replica.old.stamp) }
     ensures client { StaysEnd (R.plain roads.new) connection.old.client connection.new.client }
     ensures member { StaysEnd (R.plain roads.new) connection.old.member connection.new.member }
     ensures road { result ≡ Err fault.Road → RoadRose (R.faults roads.old) (R.faults roads.new) (end_faults R.Inward.faults R.Outward.faults connection.new.client) (end_faults R.Inward.faults R.Outward.faults connection.new.member) }
-    ensures later { R.faults roads.old ≤ R.faults roads.new }
+    ensures never_falls { R.faults roads.old ≤ R.faults roads.new }
     ensures risen { R.risen roads.new ≡ R.risen roads.old }
-    ensures shelf { result ≡ Err fault.Shelf → Rose (F.faults drawer.old) (F.faults drawer.new) }
+    ensures shelf { result ≡ Err fault.Shelf → FaultsIncreased (F.faults drawer.old) (F.faults drawer.new) }
     ensures drawer_later { F.faults drawer.old ≤ F.faults drawer.new }
 {
     match answer_request(alloc, roads, connection) {
@@ -215,19 +220,19 @@ fn write_and_close<R: Roads, F: Files>(
     requires member { Knows (R.plain roads.old) connection.old.member.id.0 }
     requires fresh { (replica.old.written ≡ 0) × (replica.old.next_seqno ≡ 0) × (replica.old.state ≡ state.Rbw) }
     requires empty { HasReplica (F.files drawer.old) folder.Rbw replica.old.block.0 replica.old.stamp.0 [] }
-    ensures answered { IsOpen R.plain R.carried R.Inward.held R.Inward.shut R.Outward.sent R.Outward.handed R.Outward.lost R.Outward.shut roads.old connection.old (asked replica.old.block.0) answered → IfOk result (λ close. close ≡ close_for body) }
-    ensures idle { IsOpen R.plain R.carried R.Inward.held R.Inward.shut R.Outward.sent R.Outward.handed R.Outward.lost R.Outward.shut roads.old connection.old (asked replica.old.block.0) answered → OnOk result (IsOpen R.plain R.carried R.Inward.held R.Inward.shut R.Outward.sent R.Outward.handed R.Outward.lost R.Outward.shut roads.new connection.new (sent_down replica.old.block.0 body) (sent_up body)) }
-    ensures stored { IsOpen R.plain R.carried R.Inward.held R.Inward.shut R.Outward.sent R.Outward.handed R.Outward.lost R.Outward.shut roads.old connection.old (asked replica.old.block.0) answered → (before : Option FileMap) → Steps before (F.files drawer.old) (with_replica folder.Rbw replica.old.block.0 replica.old.stamp.0 []) → OnOk result (Steps before (F.files drawer.new) (finished replica.old.block.0 replica.old.stamp.0 (bytes_of body))) }
-    ensures written { IsOpen R.plain R.carried R.Inward.held R.Inward.shut R.Outward.sent R.Outward.handed R.Outward.lost R.Outward.shut roads.old connection.old (asked replica.old.block.0) answered → OnOk result ((replica.new.state ≡ state.Finalized) × (replica.new.written ≡ length (bytes_of body))) }
-    ensures stopped { IsOpen R.plain R.carried R.Inward.held R.Inward.shut R.Outward.sent R.Outward.handed R.Outward.lost R.Outward.shut roads.old connection.old (asked replica.old.block.0) answered → result ≡ Err fault.Shelf → (n : ℕ) × (IsOpen R.plain R.carried R.Inward.held R.Inward.shut R.Outward.sent R.Outward.handed R.Outward.lost R.Outward.shut roads.new connection.new (take (n + 1) (sent_down replica.old.block.0 body)) (take n (sent_up body))) × (n < length (sent_up body)) }
+    ensures answered { IsOpen R.plain R.carried R.Inward.held R.Inward.shut R.Outward.sent R.Outward.flushed R.Outward.lost R.Outward.shut roads.old connection.old (asked replica.old.block.0) answered → IfOk result (λ close. close ≡ close_for body) }
+    ensures idle { IsOpen R.plain R.carried R.Inward.held R.Inward.shut R.Outward.sent R.Outward.flushed R.Outward.lost R.Outward.shut roads.old connection.old (asked replica.old.block.0) answered → OnOk result (IsOpen R.plain R.carried R.Inward.held R.Inward.shut R.Outward.sent R.Outward.flushed R.Outward.lost R.Outward.shut roads.new connection.new (sent_down replica.old.block.0 body) (sent_up body)) }
+    ensures stored { IsOpen R.plain R.carried R.Inward.held R.Inward.shut R.Outward.sent R.Outward.flushed R.Outward.lost R.Outward.shut roads.old connection.old (asked replica.old.block.0) answered → (before : Option FileMap) → Becomes before (F.files drawer.old) (with_replica folder.Rbw replica.old.block.0 replica.old.stamp.0 []) → OnOk result (Becomes before (F.files drawer.new) (finished replica.old.block.0 replica.old.stamp.0 (bytes_of body))) }
+    ensures written { IsOpen R.plain R.carried R.Inward.held R.Inward.shut R.Outward.sent R.Outward.flushed R.Outward.lost R.Outward.shut roads.old connection.old (asked replica.old.block.0) answered → OnOk result ((replica.new.state ≡ state.Finalized) × (replica.new.written ≡ length (bytes_of body))) }
+    ensures stopped { IsOpen R.plain R.carried R.Inward.held R.Inward.shut R.Outward.sent R.Outward.flushed R.Outward.lost R.Outward.shut roads.old connection.old (asked replica.old.block.0) answered → result ≡ Err fault.Shelf → (n : ℕ) × (IsOpen R.plain R.carried R.Inward.held R.Inward.shut R.Outward.sent R.Outward.flushed R.Outward.lost R.Outward.shut roads.new connection.new (take (n + 1) (sent_down replica.old.block.0 body)) (take n (sent_up body))) × (n < length (sent_up body)) }
     ensures there { OnOk result (IsThere (F.files drawer.new) (data_path (folder_of replica.new.state) replica.old.block.0)) }
     ensures named { (replica.new.block ≡ replica.old.block) × (replica.new.stamp ≡ replica.old.stamp) }
     ensures client { StaysEnd (R.plain roads.new) connection.old.client connection.new.client }
     ensures member { StaysEnd (R.plain roads.new) connection.old.member connection.new.member }
     ensures road { result ≡ Err fault.Road → RoadRose (R.faults roads.old) (R.faults roads.new) (end_faults R.Inward.faults R.Outward.faults connection.new.client) (end_faults R.Inward.faults R.Outward.faults connection.new.member) }
-    ensures later { R.faults roads.old ≤ R.faults roads.new }
+    ensures never_falls { R.faults roads.old ≤ R.faults roads.new }
     ensures risen { R.risen roads.new ≡ R.risen roads.old }
-    ensures shelf { result ≡ Err fault.Shelf → Rose (F.faults drawer.old) (F.faults drawer.new) }
+    ensures shelf { result ≡ Err fault.Shelf → FaultsIncreased (F.faults drawer.old) (F.faults drawer.new) }
     ensures drawer_later { F.faults drawer.old ≤ F.faults drawer.new }
 {
     match write_block(alloc, roads, connection, drawer, replica, body) {

@@ -1,7 +1,7 @@
 //! Receiving messages.
 
 ghost use Rattle.std.specs.Prelude.{◌≡◌, ◌≢◌, ◌+◌, ◌<◌, ◌≤◌, ◌++◌, ℕ, List, [], Bool, length, Some, Err, option_map, IfOk, OnOk, IfSome};
-ghost use Rattle.hd_base.specs.Faults.{Rose};
+ghost use Rattle.hd_base.specs.Faults.{FaultsIncreased};
 ghost use Rattle.hd_base.specs.Links.{Inbox, in_front};
 
 use crate::faults::{RunFault, StepFault};
@@ -20,8 +20,8 @@ pub(crate) fn receive<M: Message, I: LinkIn>(alloc: Global, inward: &mut I) -> R
     ensures rest { (message : M) (text : List ℕ) (ended : Bool) → M.spells message text → I.held inward.old ≡ Some (record { bytes = text; ended = ended }) → OnOk result (I.held inward.new ≡ Some (record { bytes = []; ended = ended })) }
     ensures open { (message : M) (text : List ℕ) (ended : Bool) → M.spells message text → I.held inward.old ≡ Some (record { bytes = text; ended = ended }) → result ≢ Err StepFault.Shut }
     ensures shut { I.shut inward.new ≡ I.shut inward.old }
-    ensures failed { result ≡ Err (StepFault.Run RunFault.Road) → Rose (I.faults inward.old) (I.faults inward.new) }
-    ensures later { I.faults inward.old ≤ I.faults inward.new }
+    ensures failed { result ≡ Err (StepFault.Run RunFault.Road) → FaultsIncreased (I.faults inward.old) (I.faults inward.new) }
+    ensures never_falls { I.faults inward.old ≤ I.faults inward.new }
     ensures no_shelf { result ≢ Err (StepFault.Run RunFault.Shelf) }
 {
     let mut bytes = Vec::new(alloc);
@@ -47,8 +47,8 @@ fn receive_until<I: LinkIn>(
     ensures whole { OnOk result (length message.new.items ≡ until) }
     ensures short { result ≡ Err StepFault.Shut → IfSome (I.held inward.old) (λ held. length message.old.items + length held.bytes < until) }
     ensures shut { I.shut inward.new ≡ I.shut inward.old }
-    ensures failed { result ≡ Err (StepFault.Run RunFault.Road) → Rose (I.faults inward.old) (I.faults inward.new) }
-    ensures later { I.faults inward.old ≤ I.faults inward.new }
+    ensures failed { result ≡ Err (StepFault.Run RunFault.Road) → FaultsIncreased (I.faults inward.old) (I.faults inward.new) }
+    ensures never_falls { I.faults inward.old ≤ I.faults inward.new }
     ensures no_shelf { result ≢ Err (StepFault.Run RunFault.Shelf) }
 {
     if message.reserve(until - message.len()).is_err() {

@@ -1,17 +1,16 @@
 //! The two files of a replica that one first write makes, in the drawer of its block.
 
 ghost use Rattle.std.specs.Prelude.{◌≡◌, ◌≢◌, ◌+◌, ◌^◌, ◌<◌, ◌≤◌, ℕ, List, [], length, take, true, Err, IfOk, IfErr, OnOk, OnErr, IfSome};
-ghost use Rattle.chunk_sums.specs.Crc.{sum_of};
-ghost use Rattle.chunk_sums.specs.Pieces.{sums as chunk_sums_of};
+ghost use Rattle.dn_run.specs.Sums.{crc32c, block_sums};
 ghost use Rattle.hd_base.specs.Blocks.{is_of_block};
-ghost use Rattle.hd_base.specs.Faults.{Rose};
-ghost use Rattle.hd_base.specs.FileMaps.{FileMap, Steps, HasFile};
+ghost use Rattle.hd_base.specs.Faults.{FaultsIncreased};
+ghost use Rattle.hd_base.specs.FileMaps.{FileMap, Becomes, HasFile};
 ghost use Rattle.dn_run.specs.Replicas.{data_path, meta_path, metadata, with_replica, finalized, HasReplica, IsHeld, IsThere};
 ghost use Rattle.meta_file.specs.declared.names.Folder.TheVariants as folder;
 
 use crate::faults::RunFault;
 use chunk_sums::crc;
-use hd_base::{BlockId, FileName, Files, Stamp};
+use hd_base::{BlockId, FileName, Files, Stamp, SumKind, SumRule};
 use meta_file::{Folder, data_name, header, meta_name};
 use std::alloc::Global;
 
@@ -26,11 +25,11 @@ pub fn make_files<F: Files>(
     block: BlockId,
     stamp: Stamp,
 ) -> Result<(), RunFault>
-    ensures made { OnOk result (Steps (F.files drawer.old) (F.files drawer.new) (with_replica folder.Rbw block.0 stamp.0 [])) }
+    ensures made { OnOk result (Becomes (F.files drawer.old) (F.files drawer.new) (with_replica folder.Rbw block.0 stamp.0 [])) }
     ensures empty { OnOk result (HasReplica (F.files drawer.new) folder.Rbw block.0 stamp.0 []) }
     ensures memory { result ≡ Err RunFault.Memory → F.files drawer.new ≡ F.files drawer.old }
-    ensures failed { result ≡ Err RunFault.Shelf → Rose (F.faults drawer.old) (F.faults drawer.new) }
-    ensures later { F.faults drawer.old ≤ F.faults drawer.new }
+    ensures failed { result ≡ Err RunFault.Shelf → FaultsIncreased (F.faults drawer.old) (F.faults drawer.new) }
+    ensures never_falls { F.faults drawer.old ≤ F.faults drawer.new }
     ensures no_road { result ≢ Err RunFault.Road }
 {
     let data = data_file(block, Folder::Rbw);
@@ -39,7 +38,7 @@ pub fn make_files<F: Files>(
     drawer.room(alloc, &sums, HEADER)?;
     drawer.make(&data)?;
     drawer.make(&sums)?;
-    drawer.write_at(&sums, 0, &header())?;
+    drawer.write_at(&sums, 0, &header(SumRule::default()))?;
     Ok(())
 }
 
@@ -54,12 +53,12 @@ pub fn store<F: Files>(
     sums: &[u8],
 ) -> Result<(), RunFault>
     requires empty { HasReplica (F.files drawer.old) folder.Rbw block.0 stamp.0 [] }
-    requires sums { sums.now ≡ chunk_sums_of body.now }
+    requires sums { sums.now ≡ block_sums body.now }
     ensures held { OnOk result (IsHeld (F.files drawer.new) block.0 stamp.0) }
-    ensures stored { OnOk result (Steps (F.files drawer.old) (F.files drawer.new) (with_replica folder.Rbw block.0 stamp.0 body.now)) }
+    ensures stored { OnOk result (Becomes (F.files drawer.old) (F.files drawer.new) (with_replica folder.Rbw block.0 stamp.0 body.now)) }
     ensures memory { result ≡ Err RunFault.Memory → F.files drawer.new ≡ F.files drawer.old }
-    ensures failed { result ≡ Err RunFault.Shelf → Rose (F.faults drawer.old) (F.faults drawer.new) }
-    ensures later { F.faults drawer.old ≤ F.faults drawer.new }
+    ensures failed { result ≡ Err RunFault.Shelf → FaultsIncreased (F.faults drawer.old) (F.faults drawer.new) }
+    ensures never_falls { F.faults drawer.old ≤ F.faults drawer.new }
     ensures no_road { result ≢ Err RunFault.Road }
 {
     let body_name = data_file(block, Folder::Rbw);
@@ -82,11 +81,11 @@ pub fn finalize_files<F: Files>(
     stamp: Stamp,
 ) -> Result<(), RunFault>
     requires held { IsHeld (F.files drawer.old) block.0 stamp.0 }
-    ensures moved { OnOk result (Steps (F.files drawer.old) (F.files drawer.new) (finalized block.0 stamp.0)) }
+    ensures moved { OnOk result (Becomes (F.files drawer.old) (F.files drawer.new) (finalized block.0 stamp.0)) }
     ensures there { OnOk result (IsThere (F.files drawer.new) (data_path folder.Finalized block.0)) }
-    ensures failed { OnErr result (Rose (F.faults drawer.old) (F.faults drawer.new)) }
+    ensures failed { OnErr result (FaultsIncreased (F.faults drawer.old) (F.faults drawer.new)) }
     ensures only { IfErr result (λ fault. fault ≡ RunFault.Shelf) }
-    ensures later { F.faults drawer.old ≤ F.faults drawer.new }
+    ensures never_falls { F.faults drawer.old ≤ F.faults drawer.new }
 {
     drawer.rename(
         &sums_file(block, stamp, Folder::Rbw),
@@ -108,15 +107,15 @@ pub fn stored_sum<F: Files>(
     len: u64,
 ) -> Result<u32, RunFault>
     requires there { IsThere (F.files drawer.old) (data_path folder block.0) }
-    ensures sum { IfOk result (λ sum. IfSome (F.files drawer.old) (λ m. IfSome (m (data_path folder block.0)) (λ bytes. sum ≡ sum_of (take len bytes)))) }
+    ensures sum { IfOk result (λ sum. IfSome (F.files drawer.old) (λ m. IfSome (m (data_path folder block.0)) (λ bytes. sum ≡ crc32c (take len bytes)))) }
     ensures files { F.files drawer.new ≡ F.files drawer.old }
-    ensures failed { result ≡ Err RunFault.Shelf → Rose (F.faults drawer.old) (F.faults drawer.new) }
-    ensures later { F.faults drawer.old ≤ F.faults drawer.new }
+    ensures failed { result ≡ Err RunFault.Shelf → FaultsIncreased (F.faults drawer.old) (F.faults drawer.new) }
+    ensures never_falls { F.faults drawer.old ≤ F.faults drawer.new }
     ensures no_road { result ≢ Err RunFault.Road }
 {
     let mut bytes = vec![in alloc; 0; len as usize]?;
     let count = drawer.read_at(&data_file(block, folder), 0, &mut bytes)?;
-    Ok(crc(&bytes[..count]))
+    Ok(crc(SumKind::Crc32c, &bytes[..count]))
 }
 
 /// The name of a block's data file.

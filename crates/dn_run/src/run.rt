@@ -2,7 +2,7 @@
 
 ghost use Rattle.std.specs.Prelude.{◌≡◌, ◌≢◌, ◌+◌, ◌<◌, ◌≤◌, ◌⊎◌, ◌↔◌, ℕ, List, [], length, map, take, drop, true, false, Option, Some, None, Ok, Err, IfOk, IfErr, OnOk, IfSome, IsSome, MatchOption, vec_items};
 ghost use Rattle.std.specs.String.{string_bytes};
-ghost use Rattle.hd_base.specs.Faults.{Rose};
+ghost use Rattle.hd_base.specs.Faults.{FaultsIncreased};
 ghost use Rattle.hd_base.specs.Streams.{Wrote};
 ghost use Rattle.dn_run.specs.Connections.{IsUnused};
 ghost use Rattle.dn_run.specs.Exits.{ArePlay, IsBadScript, IsFault, IsReadExit, script_limit};
@@ -62,9 +62,9 @@ pub fn run<I: Source, O: Sink, S: Shelf, R: Roads>(
     ensures to_end { result ≡ exit.Done → IfSome (I.left script.new) (λ rest. rest ≡ []) }
 
     // Each fault has its cause in this call.
-    ensures script_fault { result ≡ exit.ScriptFault → Rose (I.faults script.old) (I.faults script.new) }
-    ensures report_fault { result ≡ exit.ReportFault → Rose (O.faults report.old) (O.faults report.new) }
-    ensures road_fault { result ≡ exit.RoadFault → Rose (R.faults roads.old) (R.faults roads.new) ⊎ ((conn : ℕ) × (R.risen roads.new conn ≡ true)) }
+    ensures script_fault { result ≡ exit.ScriptFault → FaultsIncreased (I.faults script.old) (I.faults script.new) }
+    ensures report_fault { result ≡ exit.ReportFault → FaultsIncreased (O.faults report.old) (O.faults report.new) }
+    ensures road_fault { result ≡ exit.RoadFault → FaultsIncreased (R.faults roads.old) (R.faults roads.new) ⊎ ((conn : ℕ) × (R.risen roads.new conn ≡ true)) }
     ensures shelf_fault { (node : NodeId) → result ≡ exit.ShelfFault node → (node.0 ≡ 0) × FirstRose (λ s. S.faults s) shelves.old.items shelves.new.items }
 
     // The report is written where the exit is Done, and a front of it where it is ReportFault.
@@ -122,7 +122,7 @@ fn read_first_write<I: Source>(alloc: Global, source: &mut I) -> Result<FirstWri
     ensures refused { (shelves line : ℕ) (kind : BadKind) → kind ≢ kinds.TooManyNodes → IfSome (I.left source.old) (λ text. IsBadScript text shelves line kind → (result ≡ Err (exit.BadScript line kind)) ⊎ ((result ≡ Err exit.ScriptFault) ⊎ (result ≡ Err exit.Memory))) }
     ensures read { TookSome (I.left source.old) (I.left source.new) (script_limit + 1) }
     ensures to_end { OnOk result (IfSome (I.left source.new) (λ rest. rest ≡ [])) }
-    ensures failed { result ≡ Err exit.ScriptFault → Rose (I.faults source.old) (I.faults source.new) }
+    ensures failed { result ≡ Err exit.ScriptFault → FaultsIncreased (I.faults source.old) (I.faults source.new) }
     ensures only { IfErr result IsReadExit }
 {
     let text = read_to_end(alloc, source, SCRIPT_LIMIT)?;
@@ -140,7 +140,7 @@ fn write_report<O: Sink>(alloc: Global, sink: &mut O, told: &WriteReport) -> Exi
     ensures done { result ≡ exit.Done → Wrote (O.written sink.old) (O.written sink.new) (report_of told.now) }
     ensures front { result ≡ exit.ReportFault → WroteFront (O.written sink.old) (O.written sink.new) (report_of told.now) }
     ensures memory { result ≡ exit.Memory → O.written sink.new ≡ O.written sink.old }
-    ensures failed { result ≡ exit.ReportFault → Rose (O.faults sink.old) (O.faults sink.new) }
+    ensures failed { result ≡ exit.ReportFault → FaultsIncreased (O.faults sink.old) (O.faults sink.new) }
     ensures only { (result ≡ exit.Done) ⊎ ((result ≡ exit.ReportFault) ⊎ (result ≡ exit.Memory)) }
 {
     let Ok(text) = report_text(alloc, told) else {

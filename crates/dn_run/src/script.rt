@@ -1,7 +1,7 @@
 //! The script of one first write.
 
 ghost use Rattle.std.specs.Prelude.{◌≡◌, ◌+◌, ◌-◌, ◌*◌, ◌^◌, ◌<◌, ◌≤◌, SomeIff, Some, None, [], Ok, IfOk, IfSome, IsNone};
-ghost use Rattle.proto_fields.specs.ResultSteps.{read_of, with_value};
+ghost use Rattle.hd_base.specs.Results.{read_of, with_value};
 ghost use Rattle.dn_run.specs.Scripts.{SpellsScript, behind as behind_of, digits_on, number_at, this_number_at, fixed_line_at, number_line_at, create_line_at, hex_value, byte_of, bytes_on, written_at, write_line_at, script_at, Gives};
 ghost use Rattle.dn_run.specs.declared.script.FirstWrite.{FirstWrite};
 

@@ -18,9 +18,9 @@ const SHELVES: usize = 16;
 
 /// A reader as a source, which tells nothing.
 #[derive(Drop)]
-struct Reading<R> {
-    inner: R,
-    faults: u64,
+pub(crate) struct Reading<R> {
+    pub(crate) inner: R,
+    pub(crate) faults: u64,
 }
 
 impl<R: Read + Drop> Source for Reading<R> {
@@ -28,7 +28,7 @@ impl<R: Read + Drop> Source for Reading<R> {
 
     ghost faults = { λ s. s.faults };
 
-    ghost plan = { λ _. None };
+    ghost schedule = { λ _. None };
 
     fn read(&mut self, into: &mut [u8]) -> Result<usize, Failed> {
         match self.inner.read(into) {
@@ -43,9 +43,9 @@ impl<R: Read + Drop> Source for Reading<R> {
 
 /// A writer as a sink, which tells nothing and takes no memory.
 #[derive(Drop)]
-struct Writing<W> {
-    inner: W,
-    faults: u64,
+pub(crate) struct Writing<W> {
+    pub(crate) inner: W,
+    pub(crate) faults: u64,
 }
 
 impl<W: Write + Drop> Sink for Writing<W> {
@@ -55,7 +55,7 @@ impl<W: Write + Drop> Sink for Writing<W> {
 
     ghost faults = { λ s. s.faults };
 
-    ghost plan = { λ _. None };
+    ghost schedule = { λ _. None };
 
     fn room(&mut self, _alloc: Global, _len: u64) -> Result<(), AllocError> {
         Ok(())

@@ -1,7 +1,7 @@
 //! Reading a source to its end, and writing a whole text to a sink.
 
 ghost use Rattle.std.specs.Prelude.{◌≡◌, ◌≢◌, ℕ, ◌+◌, ◌-◌, ◌^◌, ◌<◌, ◌≤◌, List, [], length, take, Err, IfOk, OnOk, OnErr, IfSome};
-ghost use Rattle.hd_base.specs.Faults.{Rose};
+ghost use Rattle.hd_base.specs.Faults.{FaultsIncreased};
 ghost use Rattle.hd_base.specs.Streams.{Took, Wrote};
 ghost use Rattle.dn_run.specs.Streams.{NoneFails, TookSome};
 
@@ -58,11 +58,11 @@ pub fn read_to_end<S: Source>(
     ensures taken { OnErr result (TookSome (S.left source.old) (S.left source.new) (limit + 1)) }
 
     // A read fails only where the count rose, and where none is to fail the count stays.
-    ensures failed { result ≡ Err ReadFault.Failed → Rose (S.faults source.old) (S.faults source.new) }
-    ensures later { S.faults source.old ≤ S.faults source.new }
-    ensures still { NoneFails (S.plan source.old) → S.faults source.new ≡ S.faults source.old }
-    ensures goes_on { NoneFails (S.plan source.old) → NoneFails (S.plan source.new) }
-    ensures sound { NoneFails (S.plan source.old) → S.faults source.old < 2 ^ 64 - 1 → result ≢ Err ReadFault.Failed }
+    ensures failed { result ≡ Err ReadFault.Failed → FaultsIncreased (S.faults source.old) (S.faults source.new) }
+    ensures never_falls { S.faults source.old ≤ S.faults source.new }
+    ensures still { NoneFails (S.schedule source.old) → S.faults source.new ≡ S.faults source.old }
+    ensures goes_on { NoneFails (S.schedule source.old) → NoneFails (S.schedule source.new) }
+    ensures sound { NoneFails (S.schedule source.old) → S.faults source.old < 2 ^ 64 - 1 → result ≢ Err ReadFault.Failed }
 {
     let mut bytes = Vec::new(alloc);
     let mut piece = [0; PIECE];
@@ -89,14 +89,14 @@ pub fn write_all<O: Sink>(alloc: Global, sink: &mut O, text: &[u8]) -> Result<()
     ensures ok { OnOk result (Wrote (O.written sink.old) (O.written sink.new) text.now) }
     ensures front { OnErr result ((n : ℕ) × (n ≤ length text.now) × Wrote (O.written sink.old) (O.written sink.new) (take n text.now)) }
     ensures memory { result ≡ Err WriteFault.Memory → O.written sink.new ≡ O.written sink.old }
-    ensures no_call { result ≡ Err WriteFault.Memory → O.plan sink.new ≡ O.plan sink.old }
+    ensures no_call { result ≡ Err WriteFault.Memory → O.schedule sink.new ≡ O.schedule sink.old }
 
     // A write fails only where the count rose, and where none is to fail the count stays.
-    ensures failed { result ≡ Err WriteFault.Failed → Rose (O.faults sink.old) (O.faults sink.new) }
-    ensures later { O.faults sink.old ≤ O.faults sink.new }
-    ensures still { NoneFails (O.plan sink.old) → O.faults sink.new ≡ O.faults sink.old }
-    ensures goes_on { NoneFails (O.plan sink.old) → NoneFails (O.plan sink.new) }
-    ensures sound { NoneFails (O.plan sink.old) → O.faults sink.old < 2 ^ 64 - 1 → result ≢ Err WriteFault.Failed }
+    ensures failed { result ≡ Err WriteFault.Failed → FaultsIncreased (O.faults sink.old) (O.faults sink.new) }
+    ensures never_falls { O.faults sink.old ≤ O.faults sink.new }
+    ensures still { NoneFails (O.schedule sink.old) → O.faults sink.new ≡ O.faults sink.old }
+    ensures goes_on { NoneFails (O.schedule sink.old) → NoneFails (O.schedule sink.new) }
+    ensures sound { NoneFails (O.schedule sink.old) → O.faults sink.old < 2 ^ 64 - 1 → result ≢ Err WriteFault.Failed }
 {
     if sink.room(alloc, text.len() as u64).is_err() {
         return Err(WriteFault::Memory);

@@ -1,12 +1,8 @@
-//! Scripts and reports from worked examples, and streams that give and take little, or fail.
-
-ghost use Rattle.std.specs.Prelude.{None};
+//! Scripts and reports from worked examples.
 
 use crate::report::{CloseAnswer, CreateAnswer, ReplicaEntry, WriteReport, report_text};
 use crate::script::read_script;
-use crate::streams::{ReadFault, WriteFault, read_to_end, write_all};
-use hd_base::{BlockId, Failed, NodeId, ReplicaState, Sink, Source, Stamp};
-use std::alloc::{AllocError, Global};
+use hd_base::{BlockId, NodeId, ReplicaState, Stamp};
 use std::test::Fail;
 
 /// A script of one write.
@@ -113,111 +109,6 @@ fn reports_are_written(rt: HostRuntime) -> Result<(), Fail> {
         };
         let written = report_text(rt.alloc(), &report)?;
         assert_eq!(rt; written.as_slice(), text);
-    }
-    Ok(())
-}
-
-/// A source of zeros that gives three bytes a read, and fails once so many reads are behind.
-#[derive(Drop)]
-struct Trickle {
-    left: usize,
-    reads: u32,
-    failing: Option<u32>,
-    faults: u64,
-}
-
-impl Source for Trickle {
-    ghost left = { λ _. None };
-
-    ghost faults = { λ s. s.faults };
-
-    ghost plan = { λ _. None };
-
-    fn read(&mut self, into: &mut [u8]) -> Result<usize, Failed> {
-        if self.failing == Some(self.reads) {
-            self.faults = self.faults.saturating_add(1);
-            return Err(Failed);
-        }
-        self.reads = self.reads.saturating_add(1);
-        let count = into.len().min(3).min(self.left);
-        self.left -= count;
-        Ok(count)
-    }
-}
-
-/// A sink that keeps what is written, two bytes a write, and fails once so many are behind.
-#[derive(Drop)]
-struct Notes {
-    kept: Vec<u8>,
-    room: u64,
-    failing: Option<usize>,
-    faults: u64,
-}
-
-impl Sink for Notes {
-    ghost written = { λ _. None };
-
-    ghost room = { λ s. s.room };
-
-    ghost faults = { λ s. s.faults };
-
-    ghost plan = { λ _. None };
-
-    fn room(&mut self, _alloc: Global, len: u64) -> Result<(), AllocError> {
-        if len == u64::MAX {
-            return Err(AllocError);
-        }
-        self.room = self.room.max(len + 1);
-        Ok(())
-    }
-
-    fn write(&mut self, piece: &[u8]) -> Result<usize, Failed> {
-        let count = piece.len().min(2);
-        let full = self.failing.is_some_and(|most| self.kept.len() >= most);
-        if full || self.kept.extend_from_slice(&piece[..count]).is_err() {
-            self.faults = self.faults.saturating_add(1);
-            return Err(Failed);
-        }
-        Ok(count)
-    }
-}
-
-#[test]
-fn sources_are_read_to_their_end(rt: HostRuntime) -> Result<(), Fail> {
-    let table = [
-        (10, 10, None, Ok(10)),
-        (10, 9, None, Err(ReadFault::TooLong)),
-        (0, 0, None, Ok(0)),
-        (10, 10, Some(2), Err(ReadFault::Failed)),
-    ];
-    for (left, limit, failing, wanted) in table {
-        let mut source = Trickle {
-            left,
-            reads: 0,
-            failing,
-            faults: 0,
-        };
-        let read = read_to_end(rt.alloc(), &mut source, limit).map(|bytes| bytes.len());
-        assert_eq!(rt; read, wanted);
-    }
-    Ok(())
-}
-
-#[test]
-fn texts_are_written_whole(rt: HostRuntime) -> Result<(), Fail> {
-    let table: [(Option<usize>, Result<(), WriteFault>, &[u8]); 2] = [
-        (None, Ok(()), b"abcde"),
-        (Some(4), Err(WriteFault::Failed), b"abcd"),
-    ];
-    for (failing, wanted, kept) in table {
-        let mut sink = Notes {
-            kept: Vec::new(rt.alloc()),
-            room: 0,
-            failing,
-            faults: 0,
-        };
-        assert_eq!(rt; write_all(rt.alloc(), &mut sink, b"abcde"), wanted);
-        assert_eq!(rt; sink.kept.as_slice(), kept);
     }
     Ok(())
 }

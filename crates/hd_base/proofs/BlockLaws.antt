@@ -6,7 +6,8 @@ use Rattle.std.specs.Fmt.{decimal}
 use Rattle.std.proofs.lemmas.Fmt.{decimal_digit, digits_decimal, digits_value-decimal, decimal-digits_value, first_decimal}
 use Rattle.std.proofs.lemmas.Str.Parse.{IsNumeralModel, numerals_by_fold}
 use Rattle.std.proofs.lemmas.Grind.{common_steps}
-use Rattle.hd_base.specs.Blocks.{is_digit, digits_at, number_at, behind_slash, IsBare}
+use Rattle.hd_base.specs.Numerals.{is_digit}
+use Rattle.hd_base.specs.Blocks.{digits_at, number_at, behind_slash, IsBare}
 
 -- digits alone
 abbrev pub all_digits : List ℕ → Bool

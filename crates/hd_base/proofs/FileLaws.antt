@@ -4,45 +4,45 @@ use Rattle.std.specs.Str.{bytes_eq}
 use Rattle.std.proofs.lemmas.Slice.Eq.{bytes_eq-Decides}
 use Rattle.std.proofs.lemmas.Grind.{common_steps}
 use Rattle.std.proofs.lemmas.List.{take_all, drop_all}
-use Rattle.hd_base.specs.FileMaps.{FileMap, put, changed, overwritten, Steps, HasFile, IsPlaceIn}
+use Rattle.hd_base.specs.FileMaps.{FileMap, put, changed, overwritten, Becomes, HasFile, IsPlaceIn}
 
 -- A name is itself.
 pub bytes_eq-same : (name : List ℕ) → bytes_eq name name ≡ true
 bytes_eq-same name = grind (arith, common_steps, bytes_eq-Decides name name)
 
--- Two names that differ are told apart.
+-- Two names that differ differ as bytes.
 pub bytes_eq-other : (name other : List ℕ) → name ≢ other → bytes_eq name other ≡ false
 bytes_eq-other name other apart = grind (arith, common_steps, bytes_eq-Decides name other)
 
 -- Two steps make one.
-pub Steps-join : (a b c : Option FileMap) (f g : FileMap → FileMap) → Steps a b f → Steps b c g → Steps a c (λ m. g (f m))
-Steps-join None b c f g p q = q ∙ ap (option_map g) p
-Steps-join (Some m) b c f g p q = q ∙ ap (option_map g) p
+pub Becomes-join : (a b c : Option FileMap) (f g : FileMap → FileMap) → Becomes a b f → Becomes b c g → Becomes a c (λ m. g (f m))
+Becomes-join None b c f g p q = q ∙ ap (option_map g) p
+Becomes-join (Some m) b c f g p q = q ∙ ap (option_map g) p
 
 -- A call that changed nothing, and then a step.
-pub Steps-after : (a b c : Option FileMap) (f : FileMap → FileMap) → b ≡ a → Steps b c f → Steps a c f
-Steps-after a b c f p q = q ∙ ap (option_map f) p
+pub Becomes-after : (a b c : Option FileMap) (f : FileMap → FileMap) → b ≡ a → Becomes b c f → Becomes a c f
+Becomes-after a b c f p q = q ∙ ap (option_map f) p
 
 -- A step, and then a call that changed nothing.
-pub Steps-before : (a b c : Option FileMap) (f : FileMap → FileMap) → Steps a b f → c ≡ b → Steps a c f
-Steps-before a b c f p q = q ∙ p
+pub Becomes-before : (a b c : Option FileMap) (f : FileMap → FileMap) → Becomes a b f → c ≡ b → Becomes a c f
+Becomes-before a b c f p q = q ∙ p
 
 -- Two steps that make the same of every map are one.
-pub Steps-same : (a b : Option FileMap) (f g : FileMap → FileMap) → ((m : FileMap) (name : List ℕ) → f m name ≡ g m name) → Steps a b f → Steps a b g
-Steps-same None b f g same p = p
-Steps-same (Some m) b f g same p =
+pub Becomes-same : (a b : Option FileMap) (f g : FileMap → FileMap) → ((m : FileMap) (name : List ℕ) → f m name ≡ g m name) → Becomes a b f → Becomes a b g
+Becomes-same None b f g same p = p
+Becomes-same (Some m) b f g same p =
     let here : f m ≡ g m = λ i name. same m name i in
     p ∙ ap Some here
 
--- What a step makes of a file is what the file has after it, where told.
-pub Steps-has : (a b : Option FileMap) (f : FileMap → FileMap) (name bytes : List ℕ) → Steps a b f → ((m : FileMap) → f m name ≡ Some bytes) → HasFile b name bytes
-Steps-has None b f name bytes p has = let e : b ≡ None = p in rw e tt
-Steps-has (Some m) b f name bytes p has = let e : b ≡ Some (f m) = p in rw e (has m)
+-- What a step makes of a file is what the file has after it, where observable.
+pub Becomes-has : (a b : Option FileMap) (f : FileMap → FileMap) (name bytes : List ℕ) → Becomes a b f → ((m : FileMap) → f m name ≡ Some bytes) → HasFile b name bytes
+Becomes-has None b f name bytes p has = let e : b ≡ None = p in rw e tt
+Becomes-has (Some m) b f name bytes p has = let e : b ≡ Some (f m) = p in rw e (has m)
 
--- A file that a step makes longer than a place has that place, where told.
-pub Steps-place : (a b : Option FileMap) (f : FileMap → FileMap) (name bytes : List ℕ) (place : ℕ) → Steps a b f → ((m : FileMap) → f m name ≡ Some bytes) → place ≤ length bytes → IsPlaceIn b name place
-Steps-place None b f name bytes place p has fits = let e : b ≡ None = p in rw e tt
-Steps-place (Some m) b f name bytes place p has fits =
+-- A file that a step makes longer than a place has that place, where observable.
+pub Becomes-place : (a b : Option FileMap) (f : FileMap → FileMap) (name bytes : List ℕ) (place : ℕ) → Becomes a b f → ((m : FileMap) → f m name ≡ Some bytes) → place ≤ length bytes → IsPlaceIn b name place
+Becomes-place None b f name bytes place p has fits = let e : b ≡ None = p in rw e tt
+Becomes-place (Some m) b f name bytes place p has fits =
     let e : b ≡ Some (f m) = p in rw e (let h : f m name ≡ Some bytes = has m in rw h fits)
 
 -- A write that took nothing changed nothing.

@@ -1,4 +1,7 @@
+pub mod ResultLaws
+pub mod OptionLaws
+pub mod ByteLaws
 pub mod FileLaws
 pub mod StreamLaws
-pub mod WayLaws
+pub mod ChannelLaws
 pub mod BlockLaws

@@ -1,10 +1,7 @@
 -- Which block a file's name belongs to, and numbers in least decimal.
-use Rattle.std.specs.Prelude.{◌≡◌, ◌==◌, ℕ, ◌+◌, ◌-◌, ◌*◌, ◌^◌, ◌&&◌, Bool, false, nat_lt, nat_le, if◌then◌else◌, List, [], ◌∷◌, drop, Option, Some, None, codes, nat_eq}
+use Rattle.std.specs.Prelude.{◌≡◌, ◌==◌, ℕ, ◌+◌, ◌-◌, ◌*◌, ◌^◌, ◌&&◌, Bool, true, false, nat_lt, if◌then◌else◌, List, [], ◌∷◌, drop, Option, Some, None, codes, nat_eq}
 use Rattle.std.specs.List.{starts_with}
-
--- a decimal digit
-abbrev pub is_digit : ℕ → Bool
-is_digit c = nat_le 48 c && nat_le c 57
+use Rattle.hd_base.specs.Numerals.{is_digit}
 
 -- digits read on from a value, with what stands behind them; None past 64 bits
 abbrev pub digits_at : ℕ → List ℕ → Option (ℕ × List ℕ)
@@ -48,6 +45,20 @@ is_this block (Some b) = b == block
 -- the name belongs to this block
 abbrev pub is_of_block : ℕ → List ℕ → Bool
 is_of_block block name = is_this block (block_of name)
+
+-- nothing stands behind the number
+abbrev pub ends_there : Option (ℕ × List ℕ) → Bool
+ends_there None = false
+ends_there (Some (n, [])) = true
+ends_there (Some (n, c ∷ cs)) = false
+
+-- The name is of a block's data file: the last part of the path is `blk_` and the block's number in least decimal, and nothing more.
+unfoldable pub is_data : List ℕ → Bool
+is_data name = starts_with nat_eq (base_of name) (codes "blk_") && ends_there (number_at (drop 4 (base_of name)))
+
+-- the name of the one block pool
+abbrev pub block_pool : List ℕ
+block_pool = codes "BP-1-127.0.0.1-1"
 
 -- no digit stands first
 abbrev pub IsBare : List ℕ → Type 0

@@ -1,5 +1,5 @@
 -- Files as a finite map from names to bytes, and what each call on them does to that map.
-use Rattle.std.specs.Prelude.{◌≡◌, ◌==◌, ℕ, ◌+◌, ◌<◌, ◌≤◌, ◌⊎◌, ◌↔◌, Bool, true, false, cond, List, ◌++◌, length, take, drop, Option, Some, None, option_map, option_and_then, IsSome, IfSome, Contains, AllPairs, bytes_eq}
+use Rattle.std.specs.Prelude.{◌≡◌, ◌==◌, ℕ, ◌+◌, ◌<◌, ◌≤◌, ◌↔◌, Bool, true, false, cond, List, ◌++◌, length, take, drop, Option, Some, None, option_map, option_and_then, IsSome, IfSome, Contains, AllPairs, bytes_eq}
 use Rattle.std.specs.Option.{option_or}
 use Rattle.std.specs.Ordering.{nat_cmp, is_lt}
 use Rattle.std.specs.Cmp.Lexicographic.{slice_cmp}
@@ -46,32 +46,31 @@ rest_of block files = λ name. cond (is_of_block block name) None (files name)
 abbrev pub beside : FileMap → FileMap → FileMap
 beside files more = λ name. option_or (more name) (files name)
 
--- both told maps as one, where both are told
-abbrev pub both_told : Option FileMap → Option FileMap → Option FileMap
-both_told files more = option_and_then (λ m. option_map (λ n. beside m n) more) files
+-- both maps as one, where both are observable
+abbrev pub both_observable : Option FileMap → Option FileMap → Option FileMap
+both_observable files more = option_and_then (λ m. option_map (λ n. beside m n) more) files
 
--- Where told, the map is now what the step makes of it; who doesn't tell goes on not telling.
-abbrev pub Steps : Option FileMap → Option FileMap → (FileMap → FileMap) → Type 0
-Steps old new step = new ≡ option_map step old
+-- Where the map is observable, it is now what the step makes of it; where it isn't, it stays so.
+abbrev pub Becomes : Option FileMap → Option FileMap → (FileMap → FileMap) → Type 0
+Becomes old new step = new ≡ option_map step old
 
--- Where told, the map is as it was, or what the step makes of it.
-abbrev pub StepsOrStays : Option FileMap → Option FileMap → (FileMap → FileMap) → Type 0
-StepsOrStays old new step = (new ≡ old) ⊎ Steps old new step
+-- Where observable, the file is there and has so many bytes.
+abbrev pub HasLength : Option FileMap → List ℕ → ℕ → Type 0
+HasLength files name len = IfSome files (λ m. option_map (λ bytes. length bytes) (m name) ≡ Some len)
 
--- Where told, a prefix of the piece stands at its place.
-abbrev pub WritesFront : Option FileMap → Option FileMap → List ℕ → ℕ → List ℕ → Type 0
-WritesFront old new name place piece =
-    (n : ℕ) × (n ≤ length piece) × Steps old new (λ files. changed files name (λ bytes. overwritten bytes place (take n piece)))
+-- Where observable, the file is there, and these are its bytes from a place on, so many at the most.
+abbrev pub HasBytesAt : Option FileMap → List ℕ → ℕ → ℕ → List ℕ → Type 0
+HasBytesAt files name place most bytes = IfSome files (λ m. option_map (λ b. take most (drop place b)) (m name) ≡ Some bytes)
 
--- Where told and there, the place is within the file.
+-- Where observable and there, the place is within the file.
 abbrev pub IsPlaceIn : Option FileMap → List ℕ → ℕ → Type 0
 IsPlaceIn files name place = IfSome files (λ m. IfSome (m name) (λ bytes. place ≤ length bytes))
 
--- Where told, the file is there with these bytes.
+-- Where observable, the file is there with these bytes.
 abbrev pub HasFile : Option FileMap → List ℕ → List ℕ → Type 0
 HasFile files name bytes = IfSome files (λ m. m name ≡ Some bytes)
 
--- Where told, each file is of this block.
+-- Where observable, each file is of this block.
 abbrev pub OnlyOf : ℕ → Option FileMap → Type 0
 OnlyOf block files = IfSome files (λ m. (name : List ℕ) → is_of_block block name ≡ false → m name ≡ None)
 
@@ -89,9 +88,14 @@ pub record CarriesRoom (old new : List ℕ → ℕ) (from to : List ℕ) : Type 
   pub carried : old from ≤ new to
   pub others : (name : List ℕ) → bytes_eq from name ≡ false → bytes_eq to name ≡ false → old name ≤ new name
 
--- Where told, no file is longer than its name's room allows.
+-- Where observable, no file is longer than its name's room allows.
 abbrev pub HasRoomForAll : Option FileMap → (List ℕ → ℕ) → Type 0
 HasRoomForAll files room = IfSome files (λ m. (name : List ℕ) → IfSome (m name) (λ bytes. length bytes < room name))
+
+-- Where both are observable, the files of other blocks are as they were.
+abbrev pub KeepsOthers : ℕ → Option FileMap → Option FileMap → Type 0
+KeepsOthers block old new =
+    IfSome old (λ m. IfSome new (λ n. (name : List ℕ) → is_of_block block name ≡ false → n name ≡ m name))
 
 -- which blocks are lent, with this one's mark set
 abbrev pub marked : (ℕ → Bool) → ℕ → Bool → ℕ → Bool

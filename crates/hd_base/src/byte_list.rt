@@ -1,11 +1,11 @@
 //! The list of bytes that public fields use.
 
-ghost use Rattle.std.specs.Prelude.{◌≡◌, ◌==◌, length, IfOk};
+ghost use Rattle.std.specs.Prelude.{◌≡◌, ◌==◌, ◌↔◌, length, IfOk, IsTrue};
 ghost use Rattle.std.proofs.Common.{rules};
 ghost use Rattle.std.specs.Cmp.Lexicographic.{pointwise};
 ghost use Rattle.std.specs.Cmp.Rules.{comparing};
 
-use std::alloc::AllocError;
+use std::alloc::{AllocError, Global};
 use std::marker::Model;
 
 /// A list of bytes, seen as that list. It is made from a `Vec` and gives it back without taking
@@ -31,7 +31,15 @@ impl ByteList {
         ByteList { bytes }
     }
 
-    /// The bytes.
+    /// A copy of these bytes.
+    pub fn from_slice(alloc: Global, bytes: &[u8]) -> Result<ByteList, AllocError>
+        ensures { IfOk result (λ list. list ≡ bytes.now) }
+    {
+        let bytes = Vec::from_slice(alloc, bytes)?;
+        Ok(ByteList { bytes })
+    }
+
+    /// The bytes, in the vector that holds them: nothing is copied.
     pub fn into_vec(self) -> Vec<u8>
         ensures { result.items ≡ self }
     {
@@ -55,7 +63,7 @@ impl ByteList {
 
     /// Whether there is no byte.
     pub fn is_empty(&self) -> bool
-        ensures { result ≡ (length self.now == 0) }
+        ensures { IsTrue result ↔ (length self.now ≡ 0) }
     {
         self.bytes.is_empty()
     }

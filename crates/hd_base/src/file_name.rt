@@ -6,42 +6,46 @@ ghost use Rattle.std.specs.Cmp.{partial_order_from_own_ties};
 ghost use Rattle.std.specs.Cmp.Lexicographic.{pointwise, slice_cmp};
 ghost use Rattle.std.specs.Cmp.Rules.{comparing};
 ghost use Rattle.std.specs.Ordering.{nat_cmp, as_partial_cmp};
-ghost use Rattle.hd_base.specs.Lists.{IsPlainText};
-ghost use Rattle.hd_base.specs.Blocks.{block_of, base_of, behind_slash, digits_at, number_at, whole_number};
+ghost use Rattle.hd_base.specs.Lists.{IsAsciiText};
+ghost use Rattle.hd_base.specs.Blocks.{block_of, is_data, ends_there, base_of, behind_slash, digits_at, number_at, whole_number};
 
 use crate::numbers::BlockId;
 use std::alloc::AllocError;
 use std::cmp::Ordering;
 use std::marker::Model;
+use std::{fmt, str};
+
+/// The most bytes that a file's name has.
+pub const MAX_NAME_LENGTH: usize = 255;
 
 /// The name of a file: at most 255 ASCII bytes, seen as their list. Takes no memory.
-#[derive(Debug, Drop)]
+#[derive(Drop)]
 pub struct FileName {
-    bytes: [u8; 255],
+    bytes: [u8; MAX_NAME_LENGTH],
     count: usize,
 }
 
 impl Model for FileName {
     ghost use Rattle.std.specs.Prelude.{ℕ, ◌≤◌, List, take};
-    ghost use Rattle.hd_base.specs.Lists.{IsPlainText};
+    ghost use Rattle.hd_base.specs.Lists.{IsAsciiText};
 
     ghost Value = { List ℕ };
 
     ghost view = { λ n. take n.count n.bytes };
 
-    ghost invariant = { λ n. (n.count ≤ 255) × IsPlainText (take n.count n.bytes) };
+    ghost invariant = { λ n. (n.count ≤ 255) × IsAsciiText (take n.count n.bytes) };
 }
 
 impl FileName {
     /// The name of these bytes, `None` exactly where there are over 255 or one is past ASCII.
     pub fn new(bytes: &[u8]) -> Option<FileName>
-        ensures made { IsSome result ↔ ((length bytes.now ≤ 255) × IsPlainText bytes.now) }
+        ensures made { IsSome result ↔ ((length bytes.now ≤ MAX_NAME_LENGTH) × IsAsciiText bytes.now) }
         ensures value { IfSome result (λ name. name ≡ bytes.now) }
     {
-        if bytes.len() > 255 || !bytes.iter().all(|b| *b < 128) {
+        if bytes.len() > MAX_NAME_LENGTH || !bytes.iter().all(|b| *b < 128) {
             return None;
         }
-        let mut kept = [0; 255];
+        let mut kept = [0; MAX_NAME_LENGTH];
         kept[..bytes.len()].copy_from_slice(bytes);
         Some(FileName {
             bytes: kept,
@@ -52,8 +56,8 @@ impl FileName {
     /// The name's bytes.
     pub fn as_slice(&self) -> &[u8]
         ensures value { result.now ≡ self.now }
-        ensures few { length result.now ≤ 255 }
-        ensures text { IsPlainText result.now }
+        ensures within_limit { length result.now ≤ MAX_NAME_LENGTH }
+        ensures text { IsAsciiText result.now }
     {
         &self.bytes[..self.count]
     }
@@ -61,14 +65,14 @@ impl FileName {
     /// How many bytes the name has, at most 255.
     pub fn len(&self) -> usize
         ensures value { result ≡ length self.now }
-        ensures few { result ≤ 255 }
+        ensures within_limit { result ≤ MAX_NAME_LENGTH }
     {
         self.count
     }
 
     /// Whether the name has no byte.
     pub fn is_empty(&self) -> bool
-        ensures { result ≡ (length self.now == 0) }
+        ensures { IsTrue result ↔ (length self.now ≡ 0) }
     {
         self.count == 0
     }
@@ -78,15 +82,15 @@ impl FileName {
         ensures { result ≡ [] }
     {
         FileName {
-            bytes: [0; 255],
+            bytes: [0; MAX_NAME_LENGTH],
             count: 0,
         }
     }
 
     /// Puts more ASCII bytes behind the name, which has room for them.
     pub fn push(&mut self, part: &[u8])
-        requires room { length self.old + length part.now ≤ 255 }
-        requires text { IsPlainText part.now }
+        requires room { length self.old + length part.now ≤ MAX_NAME_LENGTH }
+        requires text { IsAsciiText part.now }
         ensures { self.new ≡ self.old ++ part.now }
     {
         let end = self.count + part.len();
@@ -115,6 +119,27 @@ impl FileName {
         match rest {
             [] | [b'_', ..] => Some(BlockId(number)),
             _ => None,
+        }
+    }
+
+    /// Whether the file is a block's data file: the last part of its path is `blk_` and the block's
+    /// number in least decimal, and nothing more.
+    #[tactic(auto, unfolding(crate::specs::Blocks::is_data))]
+    pub fn is_data(&self) -> bool
+        ensures { IsTrue result ↔ IsTrue (is_data self.now) }
+    {
+        match base(self.as_slice()).strip_prefix(b"blk_") {
+            Some(rest) => matches!(least_decimal(rest), Some((_, []))),
+            None => false,
+        }
+    }
+}
+
+impl fmt::Debug for FileName {
+    fn fmt<W: fmt::Write>(&self, f: &mut fmt::Formatter<W>) -> fmt::Result {
+        match str::from_utf8(self.as_slice()) {
+            Ok(text) => write!(f, "{text:?}"),
+            Err(_) => write!(f, "{:?}", self.as_slice()),
         }
     }
 }
@@ -146,7 +171,8 @@ impl Eq for FileName {
 impl PartialOrd for FileName {
     ghost partial_cmp = { as_partial_cmp (slice_cmp nat_cmp) };
 
-    ghost laws = { partial_order_from_own_ties (Prim.search (comparing, rules)) (Prim.search (comparing, rules)) };
+    ghost laws = { partial_order_from_own_ties
+        (Prim.search (comparing, rules)) (Prim.search (comparing, rules)) };
 
     fn partial_cmp(&self, other: &FileName) -> Option<Ordering> {
         Some(self.cmp(other))

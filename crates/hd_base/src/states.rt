@@ -1,7 +1,9 @@
 //! Replica states and reply statuses, with their numbers in messages.
 
-ghost use Rattle.std.specs.Prelude.{◌≡◌, ◌<◌, ◌≤◌, IfSome, IsNone, ◌↔◌};
-ghost use Rattle.hd_base.specs.Wire.{status_number, state_number, IsStatus};
+ghost use Rattle.std.specs.Prelude.{◌≡◌, ◌<◌, ◌≤◌, Some, IfSome, IsNone, ◌↔◌};
+ghost use Rattle.hd_base.specs.Wire.{status_number, status_with, decoded_status, state_number, state_name, IsStatus};
+
+use std::fmt;
 
 /// The state of a replica, in the order of its numbers 0 to 4 in messages (HDFS `ReplicaState`).
 #[derive(Clone, Copy, Debug, PartialEq, Eq, PartialOrd, Ord, Hash)]
@@ -32,6 +34,19 @@ impl ReplicaState {
         }
     }
 
+    /// The state's name in reports.
+    pub fn name(&self) -> &'static str
+        ensures { result.now ≡ state_name self.now }
+    {
+        match self {
+            ReplicaState::Finalized => "FINALIZED",
+            ReplicaState::Rbw => "RBW",
+            ReplicaState::Rwr => "RWR",
+            ReplicaState::Rur => "RUR",
+            ReplicaState::Temporary => "TEMPORARY",
+        }
+    }
+
     /// The state with this number in messages, `None` past 4.
     pub fn from_number(number: u32) -> Option<ReplicaState>
         ensures found { IfSome result (λ state. state_number state ≡ number) }
@@ -45,6 +60,14 @@ impl ReplicaState {
             4 => Some(ReplicaState::Temporary),
             _ => None,
         }
+    }
+}
+
+impl fmt::Display for ReplicaState {
+    ghost output = { λ state. Some (state_name state) };
+
+    fn fmt<W: fmt::Write>(&self, f: &mut fmt::Formatter<W>) -> fmt::Result {
+        f.write_str(self.name())
     }
 }
 
@@ -83,6 +106,7 @@ impl Status {
 
     /// The status with this number in messages.
     pub fn from_number(number: u32) -> Status
+        ensures value { result ≡ status_with number }
         ensures number { status_number result ≡ number }
         ensures listed { IsStatus result }
     {
@@ -97,5 +121,14 @@ impl Status {
             7 => Status::ErrorUnsupported,
             _ => Status::Other(number),
         }
+    }
+
+    /// The status that a varint of a message stands for: an enum takes its low 32 bits.
+    #[tactic(auto, unfolding(crate::specs::Wire::decoded_status))]
+    pub fn from_varint(value: u64) -> Status
+        ensures value { result ≡ decoded_status value }
+        ensures listed { IsStatus result }
+    {
+        Status::from_number((value % (1 << 32)) as u32)
     }
 }

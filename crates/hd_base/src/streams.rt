@@ -1,23 +1,23 @@
 //! Where bytes come from and go to: sources and sinks.
 
 ghost use Rattle.std.specs.Prelude.{◌≡◌, ℕ, ◌+◌, ◌<◌, ◌≤◌, List, length, take, Option, option_map, IfOk, OnOk, OnErr};
-ghost use Rattle.hd_base.specs.Faults.{HasCause, Plan, one_on, FollowsPlan, LeavesPlan};
+ghost use Rattle.hd_base.specs.Faults.{HasCause, FaultSchedule, after_one_call, FollowsSchedule, KeepsSchedule};
 ghost use Rattle.hd_base.specs.Streams.{Took, Wrote, EndsAtZero};
 
 use std::alloc::{AllocError, Global};
 
 /// A call failed, and the object's count of faults rose in it.
-#[derive(Clone, Copy, Debug, PartialEq, Eq)]
+#[derive(Clone, Copy, Debug, PartialEq, Eq, PartialOrd, Ord, Hash)]
 pub struct Failed;
 
 /// What bytes are read from. Its meaning is the bytes that are left, where the implementation
-/// tells them; its count of faults never falls.
+/// shows them; its count of faults never falls.
 pub trait Source: Drop {
     ghost left: { Self → Option (List ℕ) };
 
     ghost faults: { Self → ℕ };
 
-    ghost plan: { Self → Option Plan };
+    ghost schedule: { Self → Option FaultSchedule };
 
     /// Reads into the front of the buffer and answers how many bytes. 0 for a buffer that isn't
     /// empty is the end. A failed read takes nothing.
@@ -27,10 +27,11 @@ pub trait Source: Drop {
         ensures ended { IfOk result (λ n. EndsAtZero (left self.old) n into.new) }
         ensures err { OnErr result (left self.new ≡ left self.old) }
         ensures cause { HasCause (faults self.old) (faults self.new) result }
-        ensures plan { FollowsPlan (plan self.old) (plan self.new) (faults self.old) (faults self.new) result };
+        ensures schedule { FollowsSchedule
+            (schedule self.old) (schedule self.new) (faults self.old) (faults self.new) result };
 }
 
-/// What bytes are written to. Its meaning is the bytes written, where the implementation tells
+/// What bytes are written to. Its meaning is the bytes written, where the implementation shows
 /// them; its room is a bound below which a piece's length needs no memory (0 is none); its count
 /// of faults never falls.
 pub trait Sink: Drop {
@@ -40,7 +41,7 @@ pub trait Sink: Drop {
 
     ghost faults: { Self → ℕ };
 
-    ghost plan: { Self → Option Plan };
+    ghost schedule: { Self → Option FaultSchedule };
 
     /// Secures that so many bytes can be written without memory. Its only error is want of memory,
     /// which changes nothing.
@@ -49,7 +50,7 @@ pub trait Sink: Drop {
         ensures room { room self.old ≤ room self.new }
         ensures written { written self.new ≡ written self.old }
         ensures faults { faults self.old ≤ faults self.new }
-        ensures plan { LeavesPlan (plan self.old) (plan self.new) (faults self.old) (faults self.new) };
+        ensures schedule { KeepsSchedule (schedule self.old) (schedule self.new) (faults self.old) (faults self.new) };
 
     /// Writes a front of the piece and answers how many bytes, at least 1 for a piece that isn't
     /// empty. A failed write writes nothing. A sink that has to grow and finds no memory fails: a
@@ -61,6 +62,9 @@ pub trait Sink: Drop {
         ensures room { IfOk result (λ n. room self.old ≤ room self.new + n) }
         ensures err { OnErr result (written self.new ≡ written self.old) }
         ensures cause { HasCause (faults self.old) (faults self.new) result }
-        ensures goes_on { plan self.new ≡ option_map one_on (plan self.old) }
-        ensures plan { length piece.now < room self.old → FollowsPlan (plan self.old) (plan self.new) (faults self.old) (faults self.new) result };
+        ensures goes_on { schedule self.new ≡ option_map after_one_call (schedule self.old) }
+        ensures ok_schedule { OnOk result (FollowsSchedule
+            (schedule self.old) (schedule self.new) (faults self.old) (faults self.new) result) }
+        ensures schedule { length piece.now < room self.old → FollowsSchedule
+            (schedule self.old) (schedule self.new) (faults self.old) (faults self.new) result };
 }

@@ -1,4 +1,4 @@
--- Laws of entries: what the entry at a name's place tells, and what a write to it changes.
+-- Laws of entries: what the entry at a name's place shows, and what a write to it changes.
 use Rattle.std.proofs.Common.{◌≡◌, ℕ, ◌+◌, ◌≤◌, Bool, true, false, cond, List, [], ◌∷◌, ◌++◌, length, get_or, set, Option, Some, None, option_map, get_or-set_same, zero, suc, arith, refl, sym, ap, ◌∙◌, vec_capacity, IsSome, IfSome, is_some}
 use Rattle.std.specs.List.{position_from}
 use Rattle.std.proofs.lemmas.List.{map-append}
@@ -7,8 +7,8 @@ use Rattle.std.specs.Map.{update}
 use Rattle.std.proofs.lemmas.Grind.{common_steps}
 use Rattle.std.proofs.lemmas.Slice.Eq.{bytes_eq-Decides}
 use Rattle.hd_base.specs.Blocks.{is_of_block}
-use Rattle.hd_base.specs.FileMaps.{FileMap, KeepsRoom, changed, overwritten, WritesFront}
-use Rattle.hd_base.proofs.FileLaws.{bytes_eq-same, bytes_eq-other, overwritten-nothing}
+use Rattle.hd_base.specs.FileMaps.{FileMap, KeepsRoom, changed}
+use Rattle.hd_base.proofs.FileLaws.{bytes_eq-same, bytes_eq-other}
 use Rattle.mem_ports.specs.declared.entries.Entry.{Entry}
 use Rattle.mem_ports.specs.Apart.{is_among, all_apart}
 use Rattle.mem_ports.specs.Entries.{shown, look, space, names_of, names_apart, present, of_block, all_of_block}
@@ -78,10 +78,10 @@ names_set (x ∷ es) name (suc i) e at same = ap (λ ns. x.name ∷ ns) (names_s
 
 -- A write to the entry of a name.
 pub look-written : (es : List Entry) (name : List ℕ) (i : ℕ) (old new : Entry) (v : Option (List ℕ)) → Some i ≡ place_of es name → old ≡ get_or es i old → new.name ≡ old.name → shown new ≡ v → look (set es i new) ≡ update bytes_eq (look es) name v
-look-written es name i old new v found is same told =
+look-written es name i old new v found is same is_shown =
     let named : new.name ≡ name = same ∙ name-at es name i old found is in
     let all : look (set es i new) ≡ update bytes_eq (look es) name (shown new) = λ j q. look_set es name i new q (place_found (is_named name) es i found) named j in
-    all ∙ ap (update bytes_eq (look es) name) told
+    all ∙ ap (update bytes_eq (look es) name) is_shown
 
 shown_changed : (there : Bool) (old new : List ℕ) (f : List ℕ → List ℕ) → new ≡ f old → cond there (Some new) None ≡ option_map f (cond there (Some old) None)
 shown_changed true old new f is = ap Some is
@@ -112,8 +112,8 @@ place_fits false bytes place within some = absurd (cc some)
 -- a place within a file that is there
 pub place-fits : (es : List Entry) (name : List ℕ) (i : ℕ) (old : Entry) (place : ℕ) → Some i ≡ place_of es name → old ≡ get_or es i old → IfSome (look es name) (λ b. place ≤ length b) → IsSome (look es name) → place ≤ length old.bytes.items
 place-fits es name i old place found is within some =
-    let told : look es name ≡ shown old = look-at es name i old found is in
-    place_fits old.there old.bytes.items place (rw told at within) (rw told at some)
+    let is_shown : look es name ≡ shown old = look-at es name i old found is in
+    place_fits old.there old.bytes.items place (rw is_shown at within) (rw is_shown at some)
 
 -- A name without an entry.
 look_nowhere : (es : List Entry) (name : List ℕ) → IsNowhere (is_named name) es → look es name ≡ None
@@ -233,14 +233,3 @@ present-look (e ∷ es) name apart =
       | false ↦ λ here.
           elim e.there as (λ t. is_among bytes_eq (cond t (e.name ∷ present es) (present es)) name ≡ is_some (look es name)) [ true ↦ rw here rest | false ↦ rest ]
     ] refl
-
-same_bytes : (bytes : Option (List ℕ)) (place : ℕ) → option_map (λ b. overwritten b place []) bytes ≡ bytes
-same_bytes None place = refl
-same_bytes (Some b) place = ap Some (overwritten-nothing b place)
-
--- A write of nothing, where told or not, changes nothing.
-pub writes-nothing : (old new : Option FileMap) (name : List ℕ) (place : ℕ) (piece : List ℕ) → new ≡ old → WritesFront old new name place piece
-writes-nothing None new name place piece same = (0, omega arith, same)
-writes-nothing (Some m) new name place piece same =
-    let kept : option_map (λ b. overwritten b place []) (m name) ≡ m name = same_bytes (m name) place in
-    (0, omega arith, same ∙ ap Some (sym (update-same m name (option_map (λ b. overwritten b place []) (m name)) (sym kept))))

@@ -5,7 +5,7 @@ pub mod EntryLaws
 pub mod RenameLaws
 pub mod NameLaws
 pub mod SlotLaws
-pub mod LoadLaws
-pub mod LaneLaws
+pub mod TraceLaws
+pub mod DuplexLaws
 pub mod DialLaws
 pub mod RoadLaws

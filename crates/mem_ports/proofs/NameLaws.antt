@@ -56,11 +56,11 @@ is_among-append eq (x ∷ xs) ys q = let rest = is_among-append eq xs ys q in gr
 
 -- A list in order that holds the names at which a map has a file.
 pub names_by : {E : Type 0} (r : Result (Vec (List ℕ) Global) E) (names : List (List ℕ)) (m : FileMap) → IfOk r (λ v. (name : List ℕ) → Contains v.items name ↔ Contains names name) → IfOk r (λ v. AllPairs (λ a b. is_lt (slice_cmp nat_cmp a b) ≡ true) v.items) → ((name : List ℕ) → is_among bytes_eq names name ≡ is_some (m name)) → IfOk r (λ v. AreNamesOf m v.items)
-names_by (Ok v) names m each ascending told = record {
+names_by (Ok v) names m each ascending is_shown = record {
   each = λ name. (
-    λ there. let at = (each name).0 there in sym (told name) ∙ among_from_contains names name at.0 at.1 at.2,
-    λ some. (each name).1 (contains_from_among names name (told name ∙ some)),
+    λ there. let at = (each name).0 there in sym (is_shown name) ∙ among_from_contains names name at.0 at.1 at.2,
+    λ some. (each name).1 (contains_from_among names name (is_shown name ∙ some)),
   );
   ascending = ascending;
 }
-names_by (Err e) names m each ascending told = tt
+names_by (Err e) names m each ascending is_shown = tt

@@ -39,7 +39,7 @@ apart-swapped from to (n ∷ ns) = rw (among-swapped from to ns n, apart-swapped
 pub apart-renamed : (from to : List ℕ) (es : List Entry) → names_apart es ≡ true → names_apart (map (renamed from to) es) ≡ true
 apart-renamed from to es apart = ap (all_apart bytes_eq) (names-renamed from to es) ∙ apart-swapped from to (names_of es) ∙ apart
 
--- what the first of several entries tells after a rename
+-- what the first of several entries shows after a rename
 look_first : (from to q : List ℕ) (e : Entry) (m : FileMap) → bytes_eq from to ≡ false → cond (bytes_eq (renamed from to e).name q) (shown (renamed from to e)) (moved m from to q) ≡ moved (λ n. cond (bytes_eq e.name n) (shown e) (m n)) from to q
 look_first from to q e m apart =
     grind (arith, common_steps, bytes_eq-Decides e.name from, bytes_eq-Decides e.name to, bytes_eq-Decides e.name q, bytes_eq-Decides from q, bytes_eq-Decides to q, bytes_eq-Decides from to)

@@ -1,4 +1,4 @@
--- Laws of slots: what a block's slot tells, and what a write to it changes.
+-- Laws of slots: what a block's slot shows, and what a write to it changes.
 use Rattle.std.proofs.Common.{◌≡◌, ◌==◌, ◌||◌, ℕ, Bool, true, false, cond, List, [], ◌∷◌, ◌++◌, map, get_or, set, Option, Some, None, is_some, zero, suc, arith, refl, sym, ap, ◌∙◌}
 use Rattle.std.specs.List.{position_from}
 use Rattle.std.specs.Option.{option_or}
@@ -113,6 +113,12 @@ part_at ss block i old name found is =
 -- The slot's files are the block's.
 pub files-lent : (ss : List Slot) (block i : ℕ) (old : Slot) → Some i ≡ slot_place ss block → old ≡ get_or ss i old → look old.table.entries.items ≡ part_of block (files_of ss)
 files-lent ss block i old found is = λ j name. part_at ss block i old name found is j
+
+-- A write to the block's slot leaves the files of other blocks.
+pub others-kept : (ss : List Slot) (block i : ℕ) (old new : Slot) → Some i ≡ slot_place ss block → old ≡ get_or ss i old → new.block.0 ≡ old.block.0 → (name : List ℕ) → is_of_block block name ≡ false → files_of (set ss i new) name ≡ files_of ss name
+others-kept ss block i old new found is same name other =
+    files_set ss block i new name (place_found (is_slot block) ss i found) (same ∙ block-at ss block i old found is)
+    ∙ ap (λ b. cond b (look new.table.entries.items name) (files_of ss name)) other
 
 -- Without them the others are left.
 pub files-left : (ss : List Slot) (block i : ℕ) (old new : Slot) → Some i ≡ slot_place ss block → old ≡ get_or ss i old → new.block.0 ≡ old.block.0 → new.table.entries.items ≡ [] → files_of (set ss i new) ≡ rest_of block (files_of ss)

@@ -12,7 +12,7 @@ use Rattle.std.proofs.Common.{arith}
 abbrev pub shown : Entry → Option (List ℕ)
 shown entry = cond entry.there (Some entry.bytes.items) None
 
--- the files: the first entry of a name tells
+-- the files: the first entry of a name shows its file
 abbrev pub look : List Entry → FileMap
 look [] name = None
 look (entry ∷ rest) name = cond (bytes_eq entry.name name) (shown entry) (look rest name)

@@ -1,9 +1,11 @@
 pub mod Failing
+pub mod Schedules
 pub mod Apart
 pub mod Entries
 pub mod Slots
 pub mod Pieces
-pub mod Lanes
-pub mod Loads
+pub mod Duplexes
+pub mod Traces
 pub mod Roads
 pub mod Ends
+pub mod RoadStates

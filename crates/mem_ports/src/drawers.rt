@@ -1,24 +1,23 @@
 //! The files of one block, lent by a shelf in memory.
 
-ghost use Rattle.std.specs.Prelude.{◌≡◌, Some, IsSome, IfOk, OnOk};
-ghost use Rattle.hd_base.specs.Faults.{FollowsPlan};
+ghost use Rattle.std.specs.Prelude.{◌≡◌, Some, None, IsSome, IfOk, OnOk};
 ghost use Rattle.hd_base.specs.FileMaps.{AreNamesOf};
 ghost use Rattle.hd_base.specs.FileCauses.{FileCause, FaultCause};
 ghost use Rattle.mem_ports.specs.Entries.{look, space, look-fits};
-ghost use Rattle.mem_ports.specs.Failing.{plan_of};
+ghost use Rattle.mem_ports.specs.Schedules.{coming, CountsCall};
 
 use crate::copies::copy_front;
 use crate::listings::{in_order, push_names};
-use crate::schedules::Schedule;
+use crate::schedules::FaultSchedule;
 use crate::tables::FileTable;
 use hd_base::{FileError, FileName, Files};
 use std::alloc::{AllocError, Global};
 
-/// The files of one block in memory. A call that fails by the list changes nothing.
+/// The files of one block in memory, which fail at the calls of their schedule.
 #[derive(Debug, Drop)]
 pub struct MemDrawer {
     pub(crate) table: FileTable,
-    pub(crate) schedule: Schedule,
+    pub(crate) schedule: FaultSchedule,
 }
 
 impl MemDrawer {
@@ -26,7 +25,7 @@ impl MemDrawer {
     fn count(&mut self) -> Result<(), FileError>
         ensures table { self.new.table ≡ self.old.table }
         ensures cause { FaultCause self.old.schedule.faults self.new.schedule.faults result }
-        ensures plan { FollowsPlan (Some (plan_of self.old.schedule.coming.items)) (Some (plan_of self.new.schedule.coming.items)) self.old.schedule.faults self.new.schedule.faults result }
+        ensures schedule { CountsCall self.old.schedule self.new.schedule result }
     {
         if self.schedule.next() {
             return Err(FileError::Failed);
@@ -38,8 +37,10 @@ impl MemDrawer {
     fn reach(&mut self, name: &FileName) -> Result<(), FileError>
         ensures table { self.new.table ≡ self.old.table }
         ensures there { OnOk result (IsSome (look self.old.table.entries.items name.now)) }
-        ensures cause { FileCause (Some (look self.old.table.entries.items)) name.now self.old.schedule.faults self.new.schedule.faults result }
-        ensures plan { FollowsPlan (Some (plan_of self.old.schedule.coming.items)) (Some (plan_of self.new.schedule.coming.items)) self.old.schedule.faults self.new.schedule.faults result }
+        ensures cause { FileCause
+            (Some (look self.old.table.entries.items)) name.now
+            self.old.schedule.faults self.new.schedule.faults result }
+        ensures schedule { CountsCall self.old.schedule self.new.schedule result }
     {
         let due = self.schedule.next();
         if self.table.bytes_of(name).is_none() {
@@ -64,11 +65,13 @@ impl MemDrawer {
 impl Files for MemDrawer {
     ghost files = { λ d. Some (look d.table.entries.items) };
 
+    ghost log = { λ _. None };
+
     ghost room = { λ d. space d.table.entries.items };
 
     ghost faults = { λ d. d.schedule.faults };
 
-    ghost plan = { λ d. Some (plan_of d.schedule.coming.items) };
+    ghost schedule = { λ d. coming d.schedule };
 
     fn names(&mut self, alloc: Global) -> Result<Vec<FileName>, FileError> {
         self.count()?;
@@ -141,4 +144,6 @@ impl Files for MemDrawer {
     }
 
     ghost covers_files = { λ d. look-fits d.table.entries.items };
+
+    ghost log_makes_files = { λ _. tt };
 }

@@ -1,12 +1,12 @@
 //! The inward half of a connection's end in memory.
 
 ghost use Rattle.std.specs.Prelude.{◌≡◌, Some, None, false};
-ghost use Rattle.hd_base.specs.Ways.{is_hungry};
-ghost use Rattle.mem_ports.specs.Failing.{plan_of};
+ghost use Rattle.hd_base.specs.Channels.{is_hungry};
+ghost use Rattle.mem_ports.specs.Schedules.{coming};
 ghost use Rattle.mem_ports.specs.Pieces.{rest_of, inbox_of};
 
 use crate::copies::copy_front;
-use crate::schedules::Schedule;
+use crate::schedules::FaultSchedule;
 use hd_base::{Got, LinkError, LinkIn};
 use std::sync::Arc;
 
@@ -17,12 +17,12 @@ pub struct MemIn {
     pub(crate) taken: usize,
     pub(crate) ended: bool,
     pub(crate) shut: bool,
-    pub(crate) schedule: Schedule,
+    pub(crate) schedule: FaultSchedule,
 }
 
 impl MemIn {
     /// A half that holds nothing.
-    pub(crate) fn new(schedule: Schedule) -> MemIn
+    pub(crate) fn new(schedule: FaultSchedule) -> MemIn
         ensures piece { result.piece ≡ None }
         ensures ended { result.ended ≡ false }
         ensures shut { result.shut ≡ false }
@@ -62,7 +62,7 @@ impl LinkIn for MemIn {
 
     ghost faults = { λ l. l.schedule.faults };
 
-    ghost plan = { λ l. Some (plan_of l.schedule.coming.items) };
+    ghost schedule = { λ l. coming l.schedule };
 
     fn recv(&mut self, into: &mut [u8]) -> Result<Got, LinkError> {
         if self.schedule.next() {

@@ -1,15 +1,14 @@
-//! Sources, sinks, shelves and roads in memory. Each tells what it holds, and fails at the calls
+//! Sources, sinks, shelves and roads in memory. Each shows what it holds, and fails at the calls
 //! whose numbers it was made with.
 #![tactic(auto)]
 
 mod copies;
 mod dials;
 mod drawers;
+mod duplexes;
 mod entries;
 mod inward;
-mod lanes;
 mod listings;
-mod loads;
 mod outward;
 mod queues;
 mod roads;
@@ -21,6 +20,7 @@ mod sources;
 mod tables;
 #[cfg(test)]
 mod tests;
+mod trace;
 
 pub use drawers::MemDrawer;
 pub use inward::MemIn;

@@ -1,11 +1,11 @@
 //! The outward half of a connection's end in memory.
 
 ghost use Rattle.std.specs.Prelude.{◌≡◌, ◌+◌, ◌≤◌, Some, None, [], false, IsNone, OnOk, drop, vec_len};
-ghost use Rattle.hd_base.specs.Ways.{to_hand};
-ghost use Rattle.mem_ports.specs.Failing.{plan_of};
+ghost use Rattle.hd_base.specs.Channels.{unflushed};
+ghost use Rattle.mem_ports.specs.Schedules.{coming};
 ghost use Rattle.mem_ports.specs.Pieces.{pieces_of, sent_of, fresh_count, lost_of, room_of};
 
-use crate::schedules::Schedule;
+use crate::schedules::FaultSchedule;
 use hd_base::{LinkError, LinkOut};
 use std::alloc::{AllocError, Global};
 use std::mem;
@@ -19,22 +19,22 @@ pub struct MemOut {
     /// Memory for the next piece.
     pub(crate) spare: Vec<u8>,
     /// How many pieces the roads have.
-    pub(crate) handed: usize,
+    pub(crate) flushed: usize,
     pub(crate) shut: bool,
     /// How many pieces were sent before it was shut.
     pub(crate) kept: usize,
-    pub(crate) schedule: Schedule,
+    pub(crate) schedule: FaultSchedule,
     ghost empty: { vec_len spare ≡ 0 },
-    ghost handed_within: { handed ≤ vec_len sent },
+    ghost flushed_within: { flushed ≤ vec_len sent },
     ghost kept_within: { kept ≤ vec_len sent + fresh_count fresh },
 }
 
 impl MemOut {
     /// A half that has sent nothing.
-    pub(crate) fn new(alloc: Global, schedule: Schedule) -> MemOut
+    pub(crate) fn new(alloc: Global, schedule: FaultSchedule) -> MemOut
         ensures sent { result.sent.items ≡ [] }
         ensures fresh { result.fresh ≡ None }
-        ensures handed { result.handed ≡ 0 }
+        ensures flushed { result.flushed ≡ 0 }
         ensures shut { result.shut ≡ false }
         ensures schedule { result.schedule ≡ schedule }
     {
@@ -42,7 +42,7 @@ impl MemOut {
             sent: Vec::new(alloc),
             fresh: None,
             spare: Vec::new(alloc),
-            handed: 0,
+            flushed: 0,
             shut: false,
             kept: 0,
             schedule,
@@ -60,17 +60,19 @@ impl MemOut {
     }
 
     /// The pieces that the roads don't have yet.
-    pub(crate) fn unhanded(&self) -> &[Arc<Vec<u8>>]
+    pub(crate) fn unflushed(&self) -> &[Arc<Vec<u8>>]
         requires { IsNone self.now.fresh }
-        ensures { pieces_of result.now ≡ drop self.now.handed (sent_of self.now.sent.items self.now.fresh) }
+        ensures { pieces_of result.now ≡ drop self.now.flushed (sent_of self.now.sent.items self.now.fresh) }
     {
-        self.sent.split_at(self.handed).1
+        self.sent.split_at(self.flushed).1
     }
 
     /// Of these, the pieces that were sent before it was shut.
-    pub(crate) fn living(&self) -> &[Arc<Vec<u8>>]
+    pub(crate) fn deliverable(&self) -> &[Arc<Vec<u8>>]
         requires { IsNone self.now.fresh }
-        ensures { pieces_of result.now ≡ to_hand (sent_of self.now.sent.items self.now.fresh) self.now.handed (lost_of self.now.shut self.now.kept (vec_len self.now.sent + fresh_count self.now.fresh)) }
+        ensures { pieces_of result.now ≡ unflushed
+            (sent_of self.now.sent.items self.now.fresh) self.now.flushed
+            (lost_of self.now.shut self.now.kept (vec_len self.now.sent + fresh_count self.now.fresh)) }
     {
         let kept = if self.shut {
             self.kept
@@ -78,17 +80,18 @@ impl MemOut {
             self.sent.len()
         };
         let before = self.sent.split_at(kept).0;
-        before.split_at(self.handed.min(kept)).1
+        before.split_at(self.flushed.min(kept)).1
     }
 
     /// Puts the latest piece to the others.
     pub(crate) fn settle(&mut self, alloc: Global) -> Result<(), AllocError>
         ensures settled { OnOk result (self.new.fresh ≡ None) }
         ensures sent { sent_of self.new.sent.items self.new.fresh ≡ sent_of self.old.sent.items self.old.fresh }
-        ensures count { vec_len self.new.sent + fresh_count self.new.fresh ≡ vec_len self.old.sent + fresh_count self.old.fresh }
+        ensures count { vec_len self.new.sent + fresh_count self.new.fresh
+            ≡ vec_len self.old.sent + fresh_count self.old.fresh }
         ensures fresh { IsNone self.old.fresh → IsNone self.new.fresh }
         ensures spare { self.new.spare ≡ self.old.spare }
-        ensures handed { self.new.handed ≡ self.old.handed }
+        ensures flushed { self.new.flushed ≡ self.old.flushed }
         ensures shut { self.new.shut ≡ self.old.shut }
         ensures kept { self.new.kept ≡ self.old.kept }
         ensures schedule { self.new.schedule ≡ self.old.schedule }
@@ -116,7 +119,7 @@ impl MemOut {
 impl LinkOut for MemOut {
     ghost sent = { λ l. Some (sent_of l.sent.items l.fresh) };
 
-    ghost handed = { λ l. l.handed };
+    ghost flushed = { λ l. l.flushed };
 
     ghost lost = { λ l. lost_of l.shut l.kept (vec_len l.sent + fresh_count l.fresh) };
 
@@ -126,7 +129,7 @@ impl LinkOut for MemOut {
 
     ghost faults = { λ l. l.schedule.faults };
 
-    ghost plan = { λ l. Some (plan_of l.schedule.coming.items) };
+    ghost schedule = { λ l. coming l.schedule };
 
     fn room(&mut self, alloc: Global, len: u64) -> Result<(), LinkError> {
         if self.settle(alloc).is_err() || self.spare.reserve(len as usize).is_err() {

@@ -1,9 +1,10 @@
 //! One direction of a connection.
 
 ghost use Rattle.std.specs.Prelude.{◌≡◌, OnOk, OnErr, if◌then◌else◌};
-ghost use Rattle.hd_base.specs.Ways.{empty_way, is_hungry, filled, longer_way, closed_way, standing_of};
-ghost use Rattle.mem_ports.specs.Pieces.{pieces_of, inbox_of};
-ghost use Rattle.mem_ports.specs.Lanes.{way_of, first_taken};
+ghost use Rattle.hd_base.specs.Channels.{empty_channel, is_hungry, filled, extended_channel, closed_channel, standing_of};
+ghost use Rattle.mem_ports.specs.Pieces.{pieces_of};
+ghost use Rattle.mem_ports.specs.Ends.{held_by};
+ghost use Rattle.mem_ports.specs.Duplexes.{channel_of, first_taken};
 
 use crate::inward::MemIn;
 use hd_base::Standing;
@@ -11,7 +12,7 @@ use std::alloc::{AllocError, Global};
 use std::collections::VecDeque;
 use std::sync::Arc;
 
-/// Pieces that were handed over and not yet taken, and whether the end stands behind them.
+/// Pieces that were flushed and not yet taken, and whether the end stands behind them.
 #[derive(Debug, Drop)]
 pub struct Queue {
     pub pieces: VecDeque<Arc<Vec<u8>>>,
@@ -21,7 +22,7 @@ pub struct Queue {
 impl Queue {
     /// Nothing stands.
     pub fn new(alloc: Global) -> Queue
-        ensures { way_of result ≡ empty_way }
+        ensures { channel_of result ≡ empty_channel }
     {
         Queue {
             pieces: VecDeque::new(alloc),
@@ -35,8 +36,9 @@ impl Queue {
         pieces: &mut VecDeque<Arc<Vec<u8>>>,
         shut: bool,
     ) -> Result<(), AllocError>
-        ensures ok { OnOk result (way_of self.new ≡ longer_way (way_of self.old) (pieces_of pieces.old.items) shut) }
-        ensures err { OnErr result (way_of self.new ≡ way_of self.old) }
+        ensures ok { OnOk result (
+            channel_of self.new ≡ extended_channel (channel_of self.old) (pieces_of pieces.old.items) shut) }
+        ensures err { OnErr result (channel_of self.new ≡ channel_of self.old) }
     {
         if !self.ended {
             self.pieces.append(pieces)?;
@@ -47,15 +49,16 @@ impl Queue {
 
     /// Ends behind what stands, where a shut was made.
     pub fn close(&mut self, shut: bool)
-        ensures { way_of self.new ≡ closed_way (way_of self.old) shut }
+        ensures { channel_of self.new ≡ closed_channel (channel_of self.old) shut }
     {
         self.ended = self.ended || shut;
     }
 
     /// Gives what stands next to a half that holds nothing, and no end.
     pub fn feed(&mut self, half: &mut MemIn)
-        ensures held { inbox_of half.new.piece half.new.taken half.new.ended ≡ filled (inbox_of half.old.piece half.old.taken half.old.ended) (way_of self.old) }
-        ensures way { way_of self.new ≡ (if is_hungry (inbox_of half.old.piece half.old.taken half.old.ended) then first_taken (way_of self.old) else way_of self.old) }
+        ensures held { held_by half.new ≡ filled (held_by half.old) (channel_of self.old) }
+        ensures channel { channel_of self.new
+            ≡ (if is_hungry (held_by half.old) then first_taken (channel_of self.old) else channel_of self.old) }
         ensures shut { half.new.shut ≡ half.old.shut }
         ensures schedule { half.new.schedule ≡ half.old.schedule }
     {
@@ -73,7 +76,7 @@ impl Queue {
 
     /// What stands next.
     pub fn standing(&self) -> Standing
-        ensures { result ≡ standing_of (way_of self.now) }
+        ensures { result ≡ standing_of (channel_of self.now) }
     {
         if !self.pieces.is_empty() {
             Standing::Piece

@@ -2,31 +2,32 @@
 
 ghost use Rattle.std.specs.Prelude.{◌≡◌, ◌==◌, ◌+◌, ◌<◌, ◌≤◌, ◌&&◌, ◌||◌, ◌∷◌, ◌++◌, ℕ, not, nat_lt, true, false, Some, None, [], length, drop, IfSome, IfOk, OnOk, OnErr, if◌then◌else◌, vec_len};
 ghost use Rattle.std.specs.List.{position_from};
-ghost use Rattle.hd_base.specs.Faults.{LeavesPlan};
+ghost use Rattle.hd_base.specs.Faults.{KeepsSchedule};
 ghost use Rattle.hd_base.specs.Lists.{joined};
-ghost use Rattle.hd_base.specs.Ways.{Carries, nothing_carried, carry, to_hand, with_handed, with_given};
+ghost use Rattle.hd_base.specs.Channels.{Carries, nothing_carried, carry, unflushed, with_flushed, with_given};
 ghost use Rattle.hd_base.specs.RoadCauses.{OnlyMemory};
+ghost use Rattle.hd_base.specs.Ends.{CarriesOf, Flushes, KeepsConnections, IsKnown, has_failed};
 ghost use Rattle.mem_ports.specs.Ends.{sent_by, lost_by, room_by};
-ghost use Rattle.mem_ports.specs.Failing.{plan_of};
-ghost use Rattle.mem_ports.specs.Lanes.{ways_of};
-ghost use Rattle.mem_ports.specs.Loads.{carried_of, loads_below};
-ghost use Rattle.mem_ports.specs.Roads.{listening_of, waiting_at, plain_of, nothing_held, risen_of, dials_below};
+ghost use Rattle.mem_ports.specs.Failing.{schedule_of};
+ghost use Rattle.mem_ports.specs.Schedules.{coming};
+ghost use Rattle.mem_ports.specs.Duplexes.{channels_of};
+ghost use Rattle.mem_ports.specs.Traces.{carried_of, trace_below};
+ghost use Rattle.mem_ports.specs.Roads.{listening_of, waiting_at, waiting_with, plain_of, nothing_held, risen_of, dials_below};
 
 use crate::dials::{Dial, find_dial};
+use crate::duplexes::DuplexChannel;
 use crate::inward::MemIn;
-use crate::lanes::Lane;
-use crate::loads::{Load, all_below, bytes_carried, carry_on, share_pieces};
 use crate::outward::MemOut;
-use crate::schedules::Schedule;
-use hd_base::{Conn, ConnId, NodeId, RoadError, Roads, Standing};
+use crate::schedules::FaultSchedule;
+use crate::trace::{TraceEntry, all_below, bytes_carried, carry_on, share_pieces};
+use hd_base::{
+    Conn, ConnId, FIRST_PORT, LinkIn, LinkOut, MAX_NODES, NodeId, RoadError, Roads, Standing,
+};
 use std::alloc::{AllocError, Global};
 use std::collections::VecDeque;
 
-/// The port of node 0.
-const FIRST_PORT: u16 = 9866;
-
 /// How many nodes there may be.
-const NODES: usize = 16;
+const NODES: usize = MAX_NODES as usize;
 
 /// Roads over plain memory, which fail at the calls of their list. What an end gives out counts
 /// on from the call that gave it.
@@ -35,18 +36,20 @@ pub struct MemRoads {
     /// Which nodes listen.
     listening: [bool; NODES],
     dials: Vec<Dial>,
-    lanes: Vec<Lane>,
-    loads: Vec<Load>,
+    duplexes: Vec<DuplexChannel>,
+    trace: Vec<TraceEntry>,
     /// The connections an end of which had failed.
     risen: Vec<u64>,
     /// The faults of the shares that came back.
     pub(crate) brought: u64,
-    pub(crate) schedule: Schedule,
-    ghost dials_known: { dials_below (vec_len lanes) dials.items ≡ true },
-    ghost loads_known: { loads_below (vec_len lanes) loads.items ≡ true },
+    pub(crate) schedule: FaultSchedule,
+    ghost dials_known: { dials_below (vec_len duplexes) dials.items ≡ true },
+    ghost trace_known: { trace_below (vec_len duplexes) trace.items ≡ true },
 }
 
 impl MemRoads {
+    ghost use Rattle.mem_ports.specs.RoadStates.{carried_with, channels_with};
+
     /// Roads on which nothing was dialled, which fail at the calls with these numbers, counting
     /// from 1.
     pub fn new(alloc: Global, failing: &[u64]) -> Result<MemRoads, AllocError>
@@ -54,16 +57,16 @@ impl MemRoads {
         ensures plain { IfOk result (λ r. ⟦<MemRoads as Roads>⟧.plain r ≡ Some nothing_held) }
         ensures risen { IfOk result (λ r. (conn : ℕ) → ⟦<MemRoads as Roads>⟧.risen r conn ≡ false) }
         ensures sound { IfOk result (λ r. ⟦<MemRoads as Roads>⟧.faults r ≡ 0) }
-        ensures plan { IfOk result (λ r. ⟦<MemRoads as Roads>⟧.plan r ≡ Some (plan_of failing.now)) }
+        ensures schedule { IfOk result (λ r. ⟦<MemRoads as Roads>⟧.schedule r ≡ Some (schedule_of failing.now)) }
     {
         Ok(MemRoads {
             listening: [false; NODES],
             dials: Vec::new(alloc),
-            lanes: Vec::new(alloc),
-            loads: Vec::new(alloc),
+            duplexes: Vec::new(alloc),
+            trace: Vec::new(alloc),
             risen: Vec::new(alloc),
             brought: 0,
-            schedule: Schedule::new(alloc, failing)?,
+            schedule: FaultSchedule::new(alloc, failing)?,
         })
     }
 
@@ -74,9 +77,10 @@ impl MemRoads {
         conn: ConnId,
         down: bool,
     ) -> Result<Vec<u8>, AllocError>
-        ensures { IfOk result (λ bytes. IfSome (⟦<MemRoads as Roads>⟧.carried self.now) (λ carried. bytes.items ≡ carried conn.0 down)) }
+        ensures { IfOk result (λ bytes. IfSome (⟦<MemRoads as Roads>⟧.carried self.now) (λ carried.
+            bytes.items ≡ carried conn.0 down)) }
     {
-        bytes_carried(alloc, &self.loads, conn, down)
+        bytes_carried(alloc, &self.trace, conn, down)
     }
 
     /// Whether somebody listens on the port.
@@ -102,10 +106,14 @@ impl MemRoads {
     fn end(&self, alloc: Global, id: ConnId, lower: bool) -> Result<Conn<MemIn, MemOut>, AllocError>
         ensures id { IfOk result (λ c. (c.id ≡ id) × (c.lower ≡ lower)) }
         ensures held { IfOk result (λ c. (c.inward.piece ≡ None) × (c.inward.ended ≡ false)) }
-        ensures sent { IfOk result (λ c. (c.outward.sent.items ≡ []) × (c.outward.fresh ≡ None) × (c.outward.handed ≡ 0)) }
+        ensures sent { IfOk result (λ c.
+            (c.outward.sent.items ≡ []) × (c.outward.fresh ≡ None) × (c.outward.flushed ≡ 0)) }
         ensures open { IfOk result (λ c. (c.inward.shut ≡ false) × (c.outward.shut ≡ false)) }
         ensures sound { IfOk result (λ c. (c.inward.schedule.faults ≡ 0) × (c.outward.schedule.faults ≡ 0)) }
-        ensures plans { IfOk result (λ c. (c.inward.schedule.coming.items ≡ self.now.schedule.coming.items) × (c.outward.schedule.coming.items ≡ self.now.schedule.coming.items)) }
+        ensures in_schedule { IfOk result (λ c.
+            c.inward.schedule.coming.items ≡ self.now.schedule.coming.items) }
+        ensures out_schedule { IfOk result (λ c.
+            c.outward.schedule.coming.items ≡ self.now.schedule.coming.items) }
     {
         Ok(Conn {
             id,
@@ -117,43 +125,51 @@ impl MemRoads {
 
     /// Makes a connection, whose upper end is given and whose lower one waits at the port.
     fn connect(&mut self, alloc: Global, port: u16) -> Result<Conn<MemIn, MemOut>, AllocError>
-        ensures upper { IfOk result (λ c. (c.lower ≡ false) × (c.id.0 ≡ length self.old.lanes.items)) }
+        ensures upper { IfOk result (λ c. (c.lower ≡ false) × (c.id.0 ≡ length self.old.duplexes.items)) }
         ensures held { IfOk result (λ c. (c.inward.piece ≡ None) × (c.inward.ended ≡ false)) }
-        ensures sent { IfOk result (λ c. (c.outward.sent.items ≡ []) × (c.outward.fresh ≡ None) × (c.outward.handed ≡ 0)) }
+        ensures sent { IfOk result (λ c.
+            (c.outward.sent.items ≡ []) × (c.outward.fresh ≡ None) × (c.outward.flushed ≡ 0)) }
         ensures open { IfOk result (λ c. (c.inward.shut ≡ false) × (c.outward.shut ≡ false)) }
         ensures sound { IfOk result (λ c. (c.inward.schedule.faults ≡ 0) × (c.outward.schedule.faults ≡ 0)) }
-        ensures plans { IfOk result (λ c. (c.inward.schedule.coming.items ≡ self.old.schedule.coming.items) × (c.outward.schedule.coming.items ≡ self.old.schedule.coming.items)) }
-        ensures lanes { OnOk result (length self.new.lanes.items ≡ length self.old.lanes.items + 1) }
-        ensures ways { ways_of self.new.lanes.items ≡ ways_of self.old.lanes.items }
-        ensures dials { OnOk result (waiting_at self.new.dials.items ≡ (λ p. if p == port then waiting_at self.old.dials.items p ++ length self.old.lanes.items ∷ [] else waiting_at self.old.dials.items p)) }
-        ensures err_lanes { OnErr result (length self.new.lanes.items ≡ length self.old.lanes.items) }
+        ensures in_schedule { IfOk result (λ c.
+            c.inward.schedule.coming.items ≡ self.old.schedule.coming.items) }
+        ensures out_schedule { IfOk result (λ c.
+            c.outward.schedule.coming.items ≡ self.old.schedule.coming.items) }
+        ensures duplexes { OnOk result (length self.new.duplexes.items ≡ length self.old.duplexes.items + 1) }
+        ensures channels { channels_of self.new.duplexes.items ≡ channels_of self.old.duplexes.items }
+        ensures dials { OnOk result (waiting_at self.new.dials.items
+            ≡ waiting_with (waiting_at self.old.dials.items) port (length self.old.duplexes.items)) }
+        ensures err_duplexes { OnErr result (length self.new.duplexes.items ≡ length self.old.duplexes.items) }
         ensures err_dials { OnErr result (waiting_at self.new.dials.items ≡ waiting_at self.old.dials.items) }
         ensures listening { self.new.listening ≡ self.old.listening }
-        ensures loads { self.new.loads ≡ self.old.loads }
+        ensures trace { self.new.trace ≡ self.old.trace }
         ensures risen { self.new.risen ≡ self.old.risen }
         ensures brought { self.new.brought ≡ self.old.brought }
         ensures schedule { self.new.schedule ≡ self.old.schedule }
     {
-        let conn = ConnId(self.lanes.len() as u64);
+        let conn = ConnId(self.duplexes.len() as u64);
         let end = self.end(alloc, conn, false)?;
         self.dials.reserve(1)?;
-        self.lanes.reserve(1)?;
-        self.lanes.push_reserved(Lane::new(alloc));
+        self.duplexes.reserve(1)?;
+        self.duplexes.push_reserved(DuplexChannel::new(alloc));
         self.dials.push_reserved(Dial { port, conn });
         Ok(end)
     }
 
-    /// Takes over what an end sent since it was handed last, and its shut. After an error nothing
+    /// Takes over what an end sent since it was flushed last, and its shut. After an error nothing
     /// has changed.
     fn take_over(&mut self, alloc: Global, end: &mut Conn<MemIn, MemOut>) -> Result<(), AllocError>
-        requires { end.old.id.0 < length self.old.lanes.items }
-        ensures handed { OnOk result (end.new.outward.handed ≡ length (sent_by end.old.outward)) }
-        ensures carried { OnOk result (carried_of self.new.loads.items ≡ carry (carried_of self.old.loads.items) end.old.id.0 (not end.old.lower) (joined (drop end.old.outward.handed (sent_by end.old.outward)))) }
-        ensures ways { OnOk result (ways_of self.new.lanes.items ≡ with_given (ways_of self.old.lanes.items) end.old.id.0 (not end.old.lower) (to_hand (sent_by end.old.outward) end.old.outward.handed (lost_by end.old.outward)) (end.old.inward.shut || end.old.outward.shut)) }
-        ensures err_handed { OnErr result (end.new.outward.handed ≡ end.old.outward.handed) }
-        ensures err_carried { OnErr result (carried_of self.new.loads.items ≡ carried_of self.old.loads.items) }
-        ensures err_ways { OnErr result (ways_of self.new.lanes.items ≡ ways_of self.old.lanes.items) }
-        ensures lanes { length self.new.lanes.items ≡ length self.old.lanes.items }
+        requires { end.old.id.0 < length self.old.duplexes.items }
+        ensures flushed { OnOk result (end.new.outward.flushed ≡ length (sent_by end.old.outward)) }
+        ensures carried { OnOk result (
+            carried_of self.new.trace.items ≡ carried_with (carried_of self.old.trace.items) end.old) }
+        ensures channels { OnOk result (
+            channels_of self.new.duplexes.items ≡ channels_with (channels_of self.old.duplexes.items) end.old) }
+        ensures err_flushed { OnErr result (end.new.outward.flushed ≡ end.old.outward.flushed) }
+        ensures err_carried { OnErr result (carried_of self.new.trace.items ≡ carried_of self.old.trace.items) }
+        ensures err_channels { OnErr result (
+            channels_of self.new.duplexes.items ≡ channels_of self.old.duplexes.items) }
+        ensures duplexes { length self.new.duplexes.items ≡ length self.old.duplexes.items }
         ensures listening { self.new.listening ≡ self.old.listening }
         ensures dials { self.new.dials ≡ self.old.dials }
         ensures risen { self.new.risen ≡ self.old.risen }
@@ -171,32 +187,32 @@ impl MemRoads {
         let down = !end.lower;
         let shut = is_shut(end);
         end.outward.settle(alloc)?;
-        let load = share_pieces(alloc, end.outward.unhanded())?;
-        let mut given = VecDeque::from_vec(share_pieces(alloc, end.outward.living())?);
-        self.loads.reserve(1)?;
-        let lane = &mut self.lanes[place];
-        lane.give(down, &mut given, shut)?;
-        carry_on(&mut self.loads, end.id, down, load);
-        end.outward.handed = end.outward.sent.len();
+        let entry = share_pieces(alloc, end.outward.unflushed())?;
+        let mut given = VecDeque::from_vec(share_pieces(alloc, end.outward.deliverable())?);
+        self.trace.reserve(1)?;
+        let duplex = &mut self.duplexes[place];
+        duplex.give(down, &mut given, shut)?;
+        carry_on(&mut self.trace, end.id, down, entry);
+        end.outward.flushed = end.outward.sent.len();
         Ok(())
     }
 
-    /// Puts a share's loads and risen connections to the others. After an error nothing has
+    /// Puts a share's trace entries and risen connections to the others. After an error nothing has
     /// changed.
-    fn join(&mut self, mut loads: Vec<Load>, mut risen: Vec<u64>) -> Result<(), AllocError>
-        requires { loads_below (vec_len self.old.lanes) loads.items ≡ true }
-        ensures loads { OnOk result (self.new.loads.items ≡ self.old.loads.items ++ loads.items) }
+    fn join(&mut self, mut trace: Vec<TraceEntry>, mut risen: Vec<u64>) -> Result<(), AllocError>
+        requires { trace_below (vec_len self.old.duplexes) trace.items ≡ true }
+        ensures trace { OnOk result (self.new.trace.items ≡ self.old.trace.items ++ trace.items) }
         ensures risen { OnOk result (self.new.risen.items ≡ self.old.risen.items ++ risen.items) }
-        ensures err_loads { OnErr result (self.new.loads.items ≡ self.old.loads.items) }
+        ensures err_trace { OnErr result (self.new.trace.items ≡ self.old.trace.items) }
         ensures err_risen { OnErr result (self.new.risen.items ≡ self.old.risen.items) }
         ensures listening { self.new.listening ≡ self.old.listening }
         ensures dials { self.new.dials ≡ self.old.dials }
-        ensures lanes { self.new.lanes ≡ self.old.lanes }
+        ensures duplexes { self.new.duplexes ≡ self.old.duplexes }
         ensures brought { self.new.brought ≡ self.old.brought }
         ensures schedule { self.new.schedule ≡ self.old.schedule }
     {
         self.risen.reserve(risen.len())?;
-        self.loads.append(&mut loads)?;
+        self.trace.append(&mut trace)?;
         self.risen.append(&mut risen)
     }
 }
@@ -209,19 +225,21 @@ fn is_shut(end: &Conn<MemIn, MemOut>) -> bool
 }
 
 impl Roads for MemRoads {
+    ghost use Rattle.mem_ports.specs.RoadStates.{carried_by, plain_shown, faults_of};
+
     type Inward = MemIn;
 
     type Outward = MemOut;
 
-    ghost carried = { λ r. Some (carried_of r.loads.items) };
+    ghost carried = { λ r. Some (carried_of r.trace.items) };
 
-    ghost plain = { λ r. Some (plain_of r.listening r.dials.items r.lanes.items) };
+    ghost plain = { λ r. Some (plain_of r.listening r.dials.items r.duplexes.items) };
 
     ghost risen = { λ r. risen_of r.risen.items };
 
     ghost faults = { λ r. r.schedule.faults + r.brought };
 
-    ghost plan = { λ r. Some (plan_of r.schedule.coming.items) };
+    ghost schedule = { λ r. coming r.schedule };
 
     /// These roads can't be shared: the call is counted and answers `Memory`, or `Failed` where it
     /// was to fail.
@@ -283,8 +301,8 @@ impl Roads for MemRoads {
 
     fn standing(&mut self, conn: ConnId, down: bool) -> Standing {
         let place = conn.0 as usize;
-        if place < self.lanes.len() {
-            self.lanes[place].standing(down)
+        if place < self.duplexes.len() {
+            self.duplexes[place].standing(down)
         } else {
             Standing::Nothing
         }
@@ -305,23 +323,28 @@ impl Roads for MemRoads {
             return Err(RoadError::Memory);
         };
         if take {
-            let lane = &mut self.lanes[place];
-            lane.feed(lower, &mut end.inward);
+            let duplex = &mut self.duplexes[place];
+            duplex.feed(lower, &mut end.inward);
         }
         Ok(())
     }
 
     fn bring(&mut self, alloc: Global, mut end: Conn<MemIn, MemOut>) -> Result<(), RoadError>
-        requires { end.id.0 < length self.old.lanes.items }
-        ensures carried { OnOk result (Carries (Some (carried_of self.old.loads.items)) (Some (carried_of self.new.loads.items)) end.id.0 (not end.lower) end.outward.handed (Some (sent_by end.outward))) }
-        ensures plain { OnOk result (Some (plain_of self.new.listening self.new.dials.items self.new.lanes.items) ≡ Some (with_handed (plain_of self.old.listening self.old.dials.items self.old.lanes.items) end.id.0 end.lower (to_hand (sent_by end.outward) end.outward.handed (lost_by end.outward)) (end.inward.shut || end.outward.shut))) }
-        ensures dialled { length self.new.lanes.items ≡ length self.old.lanes.items }
-        ensures risen { OnOk result ((c : ℕ) → risen_of self.new.risen.items c ≡ (risen_of self.old.risen.items c || ((end.id.0 == c) && (nat_lt 0 end.inward.schedule.faults || nat_lt 0 end.outward.schedule.faults)))) }
-        ensures err_carried { OnErr result (Some (carried_of self.new.loads.items) ≡ Some (carried_of self.old.loads.items)) }
-        ensures err_plain { OnErr result (Some (plain_of self.new.listening self.new.dials.items self.new.lanes.items) ≡ Some (plain_of self.old.listening self.old.dials.items self.old.lanes.items)) }
+        requires { IsKnown (plain_shown self.old) end.id.0 }
+        ensures carried { OnOk result (CarriesOf
+            ⟦<MemOut as LinkOut>⟧ end (carried_by self.old) (carried_by self.new)) }
+        ensures plain { OnOk result (Flushes
+            ⟦<MemIn as LinkIn>⟧ ⟦<MemOut as LinkOut>⟧ end (plain_shown self.old) (plain_shown self.new)) }
+        ensures connections { KeepsConnections (plain_shown self.old) (plain_shown self.new) }
+        ensures risen { OnOk result ((c : ℕ) → risen_of self.new.risen.items c
+            ≡ (risen_of self.old.risen.items c
+            || ((end.id.0 == c) && has_failed ⟦<MemIn as LinkIn>⟧ ⟦<MemOut as LinkOut>⟧ end))) }
+        ensures err_carried { OnErr result (carried_by self.new ≡ carried_by self.old) }
+        ensures err_plain { OnErr result (plain_shown self.new ≡ plain_shown self.old) }
         ensures err_risen { OnErr result (risen_of self.new.risen.items ≡ risen_of self.old.risen.items) }
-        ensures cause { OnlyMemory (self.old.schedule.faults + self.old.brought) (self.new.schedule.faults + self.new.brought) result }
-        ensures plan { LeavesPlan (Some (plan_of self.old.schedule.coming.items)) (Some (plan_of self.new.schedule.coming.items)) (self.old.schedule.faults + self.old.brought) (self.new.schedule.faults + self.new.brought) }
+        ensures cause { OnlyMemory (faults_of self.old) (faults_of self.new) result }
+        ensures schedule { KeepsSchedule
+            (coming self.old.schedule) (coming self.new.schedule) (faults_of self.old) (faults_of self.new) }
     {
         let failed = end.inward.schedule.faults > 0 || end.outward.schedule.faults > 0;
         if self.risen.reserve(1).is_err() || self.take_over(alloc, &mut end).is_err() {
@@ -343,16 +366,16 @@ impl Roads for MemRoads {
         let MemRoads {
             listening: _,
             dials: _,
-            lanes: _,
-            loads,
+            duplexes: _,
+            trace,
             risen,
             brought,
             schedule,
         } = share;
-        if !all_below(&loads, self.lanes.len() as u64) {
+        if !all_below(&trace, self.duplexes.len() as u64) {
             return Err(RoadError::Memory);
         }
-        let Ok(()) = self.join(loads, risen) else {
+        let Ok(()) = self.join(trace, risen) else {
             return Err(RoadError::Memory);
         };
         self.brought = self

@@ -3,12 +3,13 @@
 ghost use Rattle.std.specs.Prelude.{◌≡◌, ◌==◌, ◌+◌, ◌<◌, ℕ, true, false, Some, IfSome, IfOk, IfErr, vec_len};
 ghost use Rattle.std.specs.List.{position_from};
 ghost use Rattle.hd_base.specs.FileMaps.{no_files, AreNamesOf};
-ghost use Rattle.mem_ports.specs.Failing.{plan_of};
+ghost use Rattle.mem_ports.specs.Failing.{schedule_of};
+ghost use Rattle.mem_ports.specs.Schedules.{coming};
 ghost use Rattle.mem_ports.specs.Slots.{files_of, lent_of, blocks_apart};
 
 use crate::drawers::MemDrawer;
 use crate::listings::{in_order, push_names};
-use crate::schedules::Schedule;
+use crate::schedules::FaultSchedule;
 use crate::slots::{Slot, find_slot};
 use crate::tables::FileTable;
 use hd_base::{BlockId, FileError, FileName, Shelf};
@@ -22,7 +23,7 @@ pub struct MemShelf {
     slots: Vec<Slot>,
     /// The faults of the drawers that came back.
     pub(crate) brought: u64,
-    pub(crate) schedule: Schedule,
+    pub(crate) schedule: FaultSchedule,
     ghost apart: { blocks_apart slots.items ≡ true },
 }
 
@@ -33,12 +34,12 @@ impl MemShelf {
         ensures files { IfOk result (λ s. ⟦<MemShelf as Shelf>⟧.files s ≡ Some no_files) }
         ensures lent { IfOk result (λ s. (block : ℕ) → ⟦<MemShelf as Shelf>⟧.lent s block ≡ false) }
         ensures sound { IfOk result (λ s. ⟦<MemShelf as Shelf>⟧.faults s ≡ 0) }
-        ensures plan { IfOk result (λ s. ⟦<MemShelf as Shelf>⟧.plan s ≡ Some (plan_of failing.now)) }
+        ensures schedule { IfOk result (λ s. ⟦<MemShelf as Shelf>⟧.schedule s ≡ Some (schedule_of failing.now)) }
     {
         Ok(MemShelf {
             slots: Vec::new(alloc),
             brought: 0,
-            schedule: Schedule::new(alloc, failing)?,
+            schedule: FaultSchedule::new(alloc, failing)?,
         })
     }
 
@@ -52,7 +53,8 @@ impl MemShelf {
 
     /// The place of a block's slot, which is made where there is none. Its only error is `Memory`.
     fn slot(&mut self, alloc: Global, block: BlockId) -> Result<usize, FileError>
-        ensures place { IfOk result (λ i. Some i ≡ position_from (λ s. s.block.0 == block.0) 0 self.new.slots.items) }
+        ensures place { IfOk result (λ i.
+            Some i ≡ position_from (λ s. s.block.0 == block.0) 0 self.new.slots.items) }
         ensures within { IfOk result (λ i. i < vec_len self.new.slots) }
         ensures files { files_of self.new.slots.items ≡ files_of self.old.slots.items }
         ensures lent { lent_of self.new.slots.items ≡ lent_of self.old.slots.items }
@@ -96,7 +98,7 @@ impl Shelf for MemShelf {
 
     ghost faults = { λ s. s.schedule.faults + s.brought };
 
-    ghost plan = { λ s. Some (plan_of s.schedule.coming.items) };
+    ghost schedule = { λ s. coming s.schedule };
 
     fn list(&mut self, alloc: Global) -> Result<Vec<FileName>, FileError> {
         if self.schedule.next() {

@@ -1,9 +1,10 @@
 //! A sink that keeps its bytes in memory.
 
 ghost use Rattle.std.specs.Prelude.{◌≡◌, ◌+◌, ◌-◌, Some, [], IfOk, vec_len, vec_capacity};
-ghost use Rattle.mem_ports.specs.Failing.{plan_of};
+ghost use Rattle.mem_ports.specs.Failing.{schedule_of};
+ghost use Rattle.mem_ports.specs.Schedules.{coming};
 
-use crate::schedules::Schedule;
+use crate::schedules::FaultSchedule;
 use hd_base::{Failed, Sink};
 use std::alloc::{AllocError, Global};
 
@@ -13,7 +14,7 @@ pub struct MemSink {
     bytes: Vec<u8>,
     /// How many writes failed for want of memory.
     starved: u64,
-    pub(crate) schedule: Schedule,
+    pub(crate) schedule: FaultSchedule,
 }
 
 impl MemSink {
@@ -21,12 +22,12 @@ impl MemSink {
     pub fn new(alloc: Global, failing: &[u64]) -> Result<MemSink, AllocError>
         ensures written { IfOk result (λ s. ⟦<MemSink as Sink>⟧.written s ≡ Some []) }
         ensures sound { IfOk result (λ s. ⟦<MemSink as Sink>⟧.faults s ≡ 0) }
-        ensures plan { IfOk result (λ s. ⟦<MemSink as Sink>⟧.plan s ≡ Some (plan_of failing.now)) }
+        ensures schedule { IfOk result (λ s. ⟦<MemSink as Sink>⟧.schedule s ≡ Some (schedule_of failing.now)) }
     {
         Ok(MemSink {
             bytes: Vec::new(alloc),
             starved: 0,
-            schedule: Schedule::new(alloc, failing)?,
+            schedule: FaultSchedule::new(alloc, failing)?,
         })
     }
 
@@ -45,7 +46,7 @@ impl Sink for MemSink {
 
     ghost faults = { λ s. s.schedule.faults + s.starved };
 
-    ghost plan = { λ s. Some (plan_of s.schedule.coming.items) };
+    ghost schedule = { λ s. coming s.schedule };
 
     fn room(&mut self, _alloc: Global, len: u64) -> Result<(), AllocError> {
         self.bytes.reserve(len as usize)

@@ -1,10 +1,11 @@
 //! A source over bytes in memory.
 
 ghost use Rattle.std.specs.Prelude.{◌≡◌, ◌≤◌, Some, IfOk, drop, vec_len};
-ghost use Rattle.mem_ports.specs.Failing.{plan_of};
+ghost use Rattle.mem_ports.specs.Failing.{schedule_of};
+ghost use Rattle.mem_ports.specs.Schedules.{coming};
 
 use crate::copies::copy_front;
-use crate::schedules::Schedule;
+use crate::schedules::FaultSchedule;
 use hd_base::{Failed, Source};
 use std::alloc::{AllocError, Global};
 
@@ -13,7 +14,7 @@ use std::alloc::{AllocError, Global};
 pub struct MemSource {
     bytes: Vec<u8>,
     taken: usize,
-    pub(crate) schedule: Schedule,
+    pub(crate) schedule: FaultSchedule,
     ghost within: { taken ≤ vec_len bytes },
 }
 
@@ -22,12 +23,13 @@ impl MemSource {
     pub fn new(alloc: Global, bytes: &[u8], failing: &[u64]) -> Result<MemSource, AllocError>
         ensures left { IfOk result (λ s. ⟦<MemSource as Source>⟧.left s ≡ Some bytes.now) }
         ensures sound { IfOk result (λ s. ⟦<MemSource as Source>⟧.faults s ≡ 0) }
-        ensures plan { IfOk result (λ s. ⟦<MemSource as Source>⟧.plan s ≡ Some (plan_of failing.now)) }
+        ensures schedule { IfOk result (λ s.
+            ⟦<MemSource as Source>⟧.schedule s ≡ Some (schedule_of failing.now)) }
     {
         Ok(MemSource {
             bytes: Vec::from_slice(alloc, bytes)?,
             taken: 0,
-            schedule: Schedule::new(alloc, failing)?,
+            schedule: FaultSchedule::new(alloc, failing)?,
         })
     }
 }
@@ -37,7 +39,7 @@ impl Source for MemSource {
 
     ghost faults = { λ s. s.schedule.faults };
 
-    ghost plan = { λ s. Some (plan_of s.schedule.coming.items) };
+    ghost schedule = { λ s. coming s.schedule };
 
     fn read(&mut self, into: &mut [u8]) -> Result<usize, Failed> {
         if self.schedule.next() {

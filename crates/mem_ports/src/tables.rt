@@ -85,7 +85,8 @@ impl FileTable {
         requires room { place + length piece.now < space self.old.entries.items name.now }
         requires place { IsPlaceIn (Some (look self.old.entries.items)) name.now place }
         requires there { IsSome (look self.old.entries.items name.now) }
-        ensures files { look self.new.entries.items ≡ changed (look self.old.entries.items) name.now (λ b. overwritten b place piece.now) }
+        ensures files { look self.new.entries.items
+            ≡ changed (look self.old.entries.items) name.now (λ b. overwritten b place piece.now) }
         ensures room { KeepsRoom (space self.old.entries.items) (space self.new.entries.items) }
     {
         if let Some(found) = self.find(name) {

@@ -1,1 +1,1 @@
-pub mod NameLaws
+pub mod NameLemmas

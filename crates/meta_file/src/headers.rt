@@ -1,47 +1,67 @@
 //! The header of a metadata file.
 
-ghost use Rattle.std.specs.Prelude.{◌≡◌, ◌↔◌, take, IsOk};
-ghost use Rattle.meta_file.specs.Headers.{header_bytes};
+ghost use Rattle.std.specs.Prelude.{◌≡◌, take, IfOk, Ok, Some};
+ghost use Rattle.hd_base.specs.SumRules.{Rule, IsChunkSize, kind_number};
+ghost use Rattle.meta_file.specs.Headers.{header_of};
 
 use byteorder::{BigEndian, ByteOrder};
+use hd_base::{SumKind, SumRule};
 use thiserror::Error;
 
 /// The version of the metadata format.
 const VERSION: u16 = 1;
 
-/// The number of CRC32C among the checksum types.
-const CRC32C: u8 = 2;
-
-/// How many bytes of a block have one sum.
-const BYTES_PER_CHECKSUM: u32 = 512;
+/// How many bytes the header has.
+const HEADER_LEN: usize = 7;
 
 /// Why a metadata file isn't read.
-#[derive(Clone, Copy, Debug, PartialEq, Eq, Error)]
+#[derive(Clone, Copy, Debug, PartialEq, Eq, PartialOrd, Ord, Hash, Error)]
 pub enum MetaFault {
-    /// It doesn't begin with the header.
-    #[error("the metadata file doesn't begin with the header")]
+    /// It doesn't begin with the header of a rule.
+    #[error("the metadata file doesn't begin with a header")]
     Header,
 }
 
-/// The header: the version 1 as two bytes, the checksum type 2 (CRC32C) as one byte, and the bytes
-/// per checksum, 512, as four bytes, all big-endian.
-pub fn header() -> [u8; 7]
-    ensures { result ≡ header_bytes }
+/// The header of the sums under a rule (HDFS `BlockMetadataHeader`): the version 1 as two bytes, the
+/// kind of the sums as one byte, and how many bytes a chunk has as four bytes, all big-endian.
+pub fn header(rule: SumRule) -> [u8; 7]
+    ensures { result ≡ header_of rule }
 {
-    let mut bytes = [0; 7];
+    let mut bytes = [0; HEADER_LEN];
     BigEndian::write_u16(&mut bytes[..2], VERSION);
-    bytes[2] = CRC32C;
-    BigEndian::write_u32(&mut bytes[3..], BYTES_PER_CHECKSUM);
+    bytes[2] = kind_byte(rule.kind());
+    BigEndian::write_u32(&mut bytes[3..], rule.chunk());
     bytes
 }
 
-/// Reads the header. `Header` comes exactly where the first seven bytes aren't it.
-pub fn read_header(bytes: &[u8]) -> Result<(), MetaFault>
-    ensures { IsOk result ↔ (take 7 bytes.now ≡ header_bytes) }
+/// The number of a kind of sums as one byte.
+fn kind_byte(kind: SumKind) -> u8
+    ensures { result ≡ kind_number kind }
 {
-    if bytes.starts_with(&header()) {
-        Ok(())
-    } else {
-        Err(MetaFault::Header)
+    kind.number() as u8
+}
+
+/// Reads the header. `Header` comes exactly where the first seven bytes are no rule's header.
+pub fn read_header(bytes: &[u8]) -> Result<SumRule, MetaFault>
+    ensures found { IfOk result (λ rule. take 7 bytes.now ≡ header_of rule) }
+    ensures only { (rule : Rule) → IsChunkSize rule.chunk → take 7 bytes.now ≡ header_of rule → result ≡ Ok rule }
+{
+    let Some(front) = bytes.first_chunk::<HEADER_LEN>() else {
+        return Err(MetaFault::Header);
+    };
+    let Some(rule) = candidate(front) else {
+        return Err(MetaFault::Header);
+    };
+    if header(rule) != *front {
+        return Err(MetaFault::Header);
     }
+    Ok(rule)
+}
+
+/// The rule that a header spells, if it is any rule's.
+fn candidate(front: &[u8; 7]) -> Option<SumRule>
+    ensures { (rule : Rule) → IsChunkSize rule.chunk → front.now ≡ header_of rule → result ≡ Some rule }
+{
+    let kind = SumKind::from_number(u32::from(front[2]))?;
+    SumRule::new(kind, BigEndian::read_u32(&front[3..]))
 }

@@ -1,5 +1,5 @@
-//! The names of replica files, and the header of metadata files (HDFS block metadata version 1,
-//! folder layout -57). Takes no memory.
+//! The names of replica files, in the folder layouts -57 and -56, and the header of metadata files
+//! (HDFS block metadata version 1). Takes no memory.
 #![tactic(auto)]
 
 mod headers;

@@ -1,9 +1,12 @@
 //! The names of replica files.
 
-ghost use Rattle.std.specs.Prelude.{◌≡◌, ◌+◌, ◌++◌, ◌/◌, ◌%◌, ◌^◌, ◌≤◌, true, Some, IfOk, Ok, length, codes, decimal, option_map, option_and_then};
+ghost use Rattle.std.specs.Prelude.{◌≡◌, ◌+◌, ◌++◌, ◌/◌, ◌%◌, ◌^◌, ◌≤◌, true, Some, IfOk, Ok, length, codes, decimal};
+ghost use Rattle.std.specs.Prelude.{option_map, option_and_then};
 ghost use Rattle.hd_base.specs.Blocks.{base_of, number_at, is_of_block};
-ghost use Rattle.hd_base.specs.Lists.{IsPlainText};
-ghost use Rattle.meta_file.specs.Names.{front_of, subfolders, path_of, data_base, meta_base, printed, IsNamed, folder_of, stamp_of, named_by, named_in, candidate_of};
+ghost use Rattle.hd_base.specs.Lists.{IsAsciiText};
+ghost use Rattle.meta_file.specs.Names.{front_of, subfolders, path_of, data_base, meta_base, printed, IsNamed};
+ghost use Rattle.meta_file.specs.Names.{in_present_layout, as_read, in_older_layout};
+ghost use Rattle.meta_file.specs.Names.{folder_of, stamp_of, named_by, named_in, candidate_of};
 
 use hd_base::{BlockId, FileName, Stamp, base, least_decimal};
 use itoa::Buffer;
@@ -14,13 +17,15 @@ use thiserror::Error;
 pub enum Folder {
     /// Replicas being written, and those that wait for recovery.
     Rbw,
-    /// Finalized replicas.
+    /// Finalized replicas, in the subfolders of folder layout -57.
     Finalized,
+    /// Finalized replicas, in the subfolders of folder layout -56.
+    Finalized56,
     /// Temporary replicas.
     Tmp,
 }
 
-/// What a replica file's name tells.
+/// What a replica file's name says.
 #[derive(Clone, Copy, Debug, PartialEq, Eq, PartialOrd, Ord, Hash)]
 pub enum Named {
     /// A data file.
@@ -37,7 +42,7 @@ pub enum Named {
 }
 
 /// Why a name isn't a replica file's.
-#[derive(Clone, Copy, Debug, PartialEq, Eq, Error)]
+#[derive(Clone, Copy, Debug, PartialEq, Eq, PartialOrd, Ord, Hash, Error)]
 pub enum NameFault {
     /// No block, stamp and folder print to it.
     #[error("not the name of a replica file")]
@@ -64,18 +69,46 @@ pub fn meta_name(block: BlockId, stamp: Stamp, folder: Folder) -> FileName
     name
 }
 
-/// Reads a name. `Name` comes exactly where no block, stamp and folder print to it.
+/// Reads a name. Where the folders of both layouts print to it, the answer is `Finalized`. `Name`
+/// comes exactly where no block, stamp and folder print to it.
 pub fn read_name(name: &FileName) -> Result<Named, NameFault>
     ensures found { IfOk result (λ named. printed named ≡ name.now) }
-    ensures only { (named : Named) → IsNamed named → printed named ≡ name.now → result ≡ Ok named }
+    ensures only { (named : Named) → IsNamed named → printed named ≡ name.now → result ≡ Ok (as_read named) }
 {
     let Some(named) = candidate(name.as_slice()) else {
         return Err(NameFault::Name);
     };
-    if print(&named) != *name {
-        return Err(NameFault::Name);
+    if print(&named) == *name {
+        return Ok(named);
     }
-    Ok(named)
+    let older = older(named);
+    if print(&older) == *name {
+        return Ok(older);
+    }
+    Err(NameFault::Name)
+}
+
+/// The same in the folder of layout -56, where it is in that of layout -57.
+fn older(named: Named) -> Named
+    ensures { result ≡ in_older_layout named }
+{
+    let folder = Folder::Finalized56;
+    match named {
+        Named::Body {
+            block,
+            folder: Folder::Finalized,
+        } => Named::Body { block, folder },
+        Named::Sums {
+            block,
+            stamp,
+            folder: Folder::Finalized,
+        } => Named::Sums {
+            block,
+            stamp,
+            folder,
+        },
+        _ => named,
+    }
 }
 
 /// The name that a block, a folder and perhaps a stamp print to.
@@ -100,34 +133,44 @@ fn path(block: BlockId, folder: Folder) -> FileName
     let mut name = FileName::empty();
     name.push(front(folder));
     match folder {
-        Folder::Finalized => push_subfolders(&mut name, block),
+        Folder::Finalized => push_subfolders(&mut name, block, SUBFOLDERS),
+        Folder::Finalized56 => push_subfolders(&mut name, block, SUBFOLDERS_56),
         Folder::Rbw | Folder::Tmp => {}
     }
     name
 }
 
-/// Puts the subfolders of a finalized replica behind the front of its path: bits 16 to 20 and bits
-/// 8 to 12 of the block's number.
-fn push_subfolders(name: &mut FileName, block: BlockId)
-    requires { length name.old ≤ 50 }
-    ensures text { name.new ≡ name.old ++ subfolders block.0 }
+/// How many subfolders a folder has in layout -57.
+const SUBFOLDERS: u64 = 32;
+
+/// How many subfolders a folder has in layout -56.
+const SUBFOLDERS_56: u64 = 256;
+
+/// Puts the subfolders of a finalized replica behind the front of its path: the bits of the block's
+/// number from the sixteenth on and those from the eighth on, by the count of subfolders.
+fn push_subfolders(name: &mut FileName, block: BlockId, count: u64)
+    requires short { length name.old ≤ 50 }
+    requires some { 1 ≤ count }
+    ensures text { name.new ≡ name.old ++ subfolders count block.0 }
     ensures room { length name.new ≤ 98 }
 {
-    push_number(name, (block.0 >> 16) % 32);
+    push_number(name, (block.0 >> 16) % count);
     name.push(b"/subdir");
-    push_number(name, (block.0 >> 8) % 32);
+    push_number(name, (block.0 >> 8) % count);
     name.push(b"/");
 }
 
 /// How the names of a folder begin.
 fn front(folder: Folder) -> &'static [u8]
     ensures front { result.now ≡ front_of folder }
-    ensures text { IsPlainText result.now }
+    ensures text { IsAsciiText result.now }
     ensures few { length result.now ≤ 50 }
 {
     match folder {
         Folder::Rbw => b"current/BP-1-127.0.0.1-1/current/rbw/",
-        Folder::Finalized => b"current/BP-1-127.0.0.1-1/current/finalized/subdir",
+        Folder::Finalized | Folder::Finalized56 => {
+            b"current/BP-1-127.0.0.1-1/current/finalized/subdir"
+        }
         Folder::Tmp => b"current/BP-1-127.0.0.1-1/tmp/",
     }
 }
@@ -162,23 +205,23 @@ fn push_number(name: &mut FileName, number: u64)
     name.push(Buffer::new().format(number).as_bytes());
 }
 
-/// What a name tells, if any name of a replica's file does: whatever prints to it.
+/// What a name says in the folders of layout -57, if any replica file's name is like it.
 fn candidate(name: &[u8]) -> Option<Named>
-    ensures { (named : Named) → IsNamed named → printed named ≡ name.now → result ≡ Some named }
+    ensures { (named : Named) → IsNamed named → printed named ≡ name.now → result ≡ Some (in_present_layout named) }
 {
-    told_by_parts(name)
+    named_by_parts(name)
 }
 
-/// What a name's folder and its last part tell.
+/// What a name's folder and its last part say.
 #[tactic(auto, unfolding(crate::specs::Names::candidate_of))]
-fn told_by_parts(name: &[u8]) -> Option<Named>
+fn named_by_parts(name: &[u8]) -> Option<Named>
     ensures { result ≡ candidate_of name.now }
 {
     let folder = folder_at(name)?;
     named_at(folder, base(name))
 }
 
-/// The folder that a name's beginning tells.
+/// The folder that a name begins with, of those of layout -57.
 #[tactic(auto, unfolding(crate::specs::Names::folder_of))]
 fn folder_at(name: &[u8]) -> Option<Folder>
     ensures { result ≡ folder_of name.now }
@@ -194,7 +237,7 @@ fn folder_at(name: &[u8]) -> Option<Folder>
     }
 }
 
-/// What the last part of a path tells, in a folder.
+/// What the last part of a path says, in a folder.
 #[tactic(auto, unfolding(crate::specs::Names::named_in))]
 fn named_at(folder: Folder, base: &[u8]) -> Option<Named>
     ensures { result ≡ named_in folder base.now }
@@ -203,7 +246,7 @@ fn named_at(folder: Folder, base: &[u8]) -> Option<Named>
     named_by_rest(folder, block, rest)
 }
 
-/// What a block's number and the rest of a name tell, in a folder.
+/// What a block's number and the rest of a name say, in a folder.
 fn named_by_rest(folder: Folder, block: u64, rest: &[u8]) -> Option<Named>
     ensures { result ≡ named_by folder block rest.now }
 {
@@ -217,7 +260,8 @@ fn named_by_rest(folder: Folder, block: u64, rest: &[u8]) -> Option<Named>
 
 /// A metadata file of a block, where the rest of its name follows the underscore.
 fn sums_at(folder: Folder, block: BlockId, rest: &[u8]) -> Option<Named>
-    ensures { result ≡ option_map (λ stamp. Named.Sums block (record { 0 = stamp }) folder) (stamp_of (number_at rest.now)) }
+    ensures { result ≡ option_map
+        (λ stamp. Named.Sums block (record { 0 = stamp }) folder) (stamp_of (number_at rest.now)) }
 {
     stamp_at(rest).map(|stamp| Named::Sums {
         block,

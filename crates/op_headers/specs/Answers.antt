@@ -1,24 +1,21 @@
 -- Answers to steps of block recovery: what a message says, why bytes are no answer, the function that reads, and the written text.
-use Rattle.std.specs.Prelude.{◌≡◌, ℕ, ◌==◌, if◌then◌else◌, ◌⊎◌, List, [], ◌∷◌, ◌++◌, length, slice_index, Option, Some, None, Result, Ok, Err}
+use Rattle.std.specs.Prelude.{◌≡◌, ℕ, ◌==◌, if◌then◌else◌, ◌⊎◌, List, [], ◌∷◌, ◌++◌, length, drop, ◌≤◌, slice_index, Option, Some, None, Result, Ok, Err}
 use Rattle.hd_base.specs.declared.states.ReplicaState.{ReplicaState}
 use Rattle.hd_base.specs.declared.states.ReplicaState.TheVariants as state
 use Rattle.hd_base.specs.declared.numbers.Stamp.{Stamp}
-use Rattle.hd_base.specs.Wire.{status_number, state_number}
-use Rattle.proto_fields.specs.ResultSteps.{◌>>=◌, with_cause}
+use Rattle.hd_base.specs.Wire.{status_number, state_number, IsStatus}
+use Rattle.hd_base.specs.Results.{◌>>=◌, with_cause}
 use Rattle.proto_fields.specs.Varint.{least_varint}
-use Rattle.proto_fields.specs.Frames.{IsCutFrame, IsTooLong, IsLongPrefix}
-use Rattle.proto_fields.specs.Framed.{FramesSome, HasSome, framed_at}
-use Rattle.proto_fields.specs.declared.reading.WireFault.TheVariants as wire_fault
-use Rattle.proto_fields.specs.declared.listing.FieldsFault.{FieldsFault}
-use Rattle.proto_fields.specs.declared.listing.FieldsFault.TheVariants as fields
+use Rattle.proto_fields.specs.Writing.{varint_field}
+use Rattle.proto_fields.specs.Frames.{limit, IsCutFrame, IsTooLong, IsLongPrefix}
+use Rattle.proto_fields.specs.Framed.{FramesSome, HasSome, framed_at, frame_cause}
 use Rattle.proto_fields.specs.declared.frames.FrameFault.{FrameFault}
-use Rattle.proto_fields.specs.declared.frames.FrameFault.TheVariants as frame
-use Rattle.ack_codec.specs.Statuses.{told_status}
+use Rattle.hd_base.specs.Wire.{decoded_status}
 use Rattle.op_headers.specs.declared.answers.RecoveryAnswer.{RecoveryAnswer}
 use Rattle.op_headers.specs.declared.faults.AnswerFault.{AnswerFault}
 use Rattle.op_headers.specs.declared.faults.AnswerFault.TheVariants as fault
 use Rattle.op_headers.specs.Paths.{Path}
-use Rattle.op_headers.specs.Tables.{Uint64, Below, uint32, Required, Default, Optional, Format, Table, End, Number, Text, Told, Given, by_table}
+use Rattle.op_headers.specs.Tables.{if_there, Uint64, Below, uint32, Required, Default, Optional, Format, Table, End, Number, Text, DecodedFields, FieldsToEncode, by_table}
 
 -- ---- the message
 
@@ -35,36 +32,40 @@ state_with n =
     else if n == 3 then state.Rur
     else state.Temporary
 
--- what is told of a replica, where all of it is there
+-- what is decoded of a replica, where all of it is there
 abbrev pub info_from : Option ℕ → Option ℕ → Option ℕ → Option (ReplicaState × Stamp × ℕ)
 info_from (Some s) (Some stamp) (Some n) = Some (state_with s, record { 0 = stamp }, n)
 info_from _ _ _ = None
 
-abbrev pub answer_from : Told answer_table → RecoveryAnswer
-answer_from v = record { status = told_status v.0; message = v.1.0; info = info_from v.1.1.0 v.1.1.1.0 v.1.1.1.1.0 }
+abbrev pub answer_from : DecodedFields answer_table → RecoveryAnswer
+answer_from v = record { status = decoded_status v.0; message = v.1.0; info = info_from v.1.1.0 v.1.1.1.0 v.1.1.1.1.0 }
 
 -- an empty text isn't written
-abbrev pub message_given : List ℕ → Option (List ℕ)
-message_given [] = None
-message_given (b ∷ bs) = Some (b ∷ bs)
+abbrev pub message_to_encode : List ℕ → Option (List ℕ)
+message_to_encode [] = None
+message_to_encode (b ∷ bs) = Some (b ∷ bs)
 
-abbrev pub state_given : Option (ReplicaState × Stamp × ℕ) → Option ℕ
-state_given None = None
-state_given (Some i) = Some (state_number i.0)
+abbrev pub state_to_encode : Option (ReplicaState × Stamp × ℕ) → Option ℕ
+state_to_encode None = None
+state_to_encode (Some i) = Some (state_number i.0)
 
-abbrev pub stamp_given : Option (ReplicaState × Stamp × ℕ) → Option ℕ
-stamp_given None = None
-stamp_given (Some i) = Some i.1.0
+abbrev pub stamp_to_encode : Option (ReplicaState × Stamp × ℕ) → Option ℕ
+stamp_to_encode None = None
+stamp_to_encode (Some i) = Some i.1.0
 
-abbrev pub length_told : Option (ReplicaState × Stamp × ℕ) → Option ℕ
-length_told None = None
-length_told (Some i) = Some i.2
+abbrev pub answer_length_to_encode : Option (ReplicaState × Stamp × ℕ) → Option ℕ
+answer_length_to_encode None = None
+answer_length_to_encode (Some i) = Some i.2
 
-abbrev pub answer_given : RecoveryAnswer → Given answer_table
-answer_given a = (status_number a.status, (message_given a.message, (state_given a.info, (stamp_given a.info, (length_told a.info, tt)))))
+abbrev pub answer_to_encode : RecoveryAnswer → FieldsToEncode answer_table
+answer_to_encode a = (status_number a.status, (message_to_encode a.message, (state_to_encode a.info, (stamp_to_encode a.info, (answer_length_to_encode a.info, tt)))))
+
+-- state, stamp and length, where they are there
+abbrev pub info_text : Option (ReplicaState × Stamp × ℕ) → List ℕ
+info_text info = if_there (varint_field 3) (state_to_encode info) ++ (if_there (varint_field 4) (stamp_to_encode info) ++ if_there (varint_field 5) (answer_length_to_encode info))
 
 unfoldable pub answer_format : Format RecoveryAnswer
-answer_format = by_table answer_table answer_from answer_given
+answer_format = by_table answer_table answer_from answer_to_encode
 
 -- The bytes are the frame of a message that says the answer.
 abbrev pub SpellsAnswer : RecoveryAnswer → List ℕ → Type 0
@@ -85,11 +86,6 @@ IsRefusedAnswer (fault.Wire e) bytes = IsLongPrefix 0 e bytes ⊎ HasSome (λ me
 IsRefusedAnswer (fault.Missing field) bytes = HasSome (LacksAnswerField field) bytes
 IsRefusedAnswer fault.Memory bytes = ⊥
 
--- The same, or memory ran out.
-abbrev pub FailsFor : AnswerFault → List ℕ → Type 0
-FailsFor fault.Memory bytes = Unit {0}
-FailsFor e bytes = IsRefusedAnswer e bytes
-
 -- ---- reading
 
 abbrev pub missing_field : Path → AnswerFault
@@ -99,25 +95,23 @@ unfoldable pub answer_of : List ℕ → Result RecoveryAnswer AnswerFault
 answer_of message = with_cause fault.Wire (answer_format.read message) >>= with_cause missing_field
 
 -- the fault of an answer's frame
-abbrev pub frame_cause : FrameFault → AnswerFault
-frame_cause frame.Short = fault.Short
-frame_cause (frame.TooLong n) = fault.TooLong n
-frame_cause frame.LongPrefix = fault.Wire (wire_fault.LongVarint 0)
-
-abbrev pub fields_cause : FieldsFault → AnswerFault
-fields_cause (fields.Wire e) = fault.Wire e
-fields_cause fields.Memory = fault.Memory
+abbrev pub answer_frame_cause : FrameFault → AnswerFault
+answer_frame_cause = frame_cause fault.Short fault.TooLong fault.Wire 0
 
 -- The answer at the front of the bytes, and how many bytes it has.
 abbrev pub answer_at : List ℕ → Result (RecoveryAnswer × ℕ) AnswerFault
-answer_at bytes = framed_at frame_cause answer_of bytes
-
--- The result is what reading gives, unless memory ran out.
-abbrev pub Gives : {X : Type 0} → Result X AnswerFault → Result X AnswerFault → Type 0
-Gives (Err fault.Memory) read = Unit {0}
-Gives result read = result ≡ read
+answer_at bytes = framed_at answer_frame_cause answer_of bytes
 
 -- ---- writing
 
 abbrev pub answer_text : RecoveryAnswer → List ℕ
 answer_text answer = least_varint (length (answer_format.text answer)) ++ answer_format.text answer
+
+-- The answer has a written spelling: its status is no Other in place of one that is listed, and its message is within the limit.
+pub record IsEncodable (answer : RecoveryAnswer) : Type 0 where
+  pub listed : IsStatus answer.status
+  pub within_limit : length (answer_format.text answer) ≤ limit
+
+-- Where the old bytes end the answer is read, whatever follows the new bytes.
+abbrev pub ReadsAnswer : List ℕ → List ℕ → RecoveryAnswer → Type 0
+ReadsAnswer old new answer = (rest : List ℕ) → answer_at (drop (length old) (new ++ rest)) ≡ Ok (answer, length (answer_text answer))

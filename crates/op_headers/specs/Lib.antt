@@ -7,3 +7,4 @@ pub mod Opcodes
 pub mod Requests
 pub mod Answers
 pub mod Room
+pub mod Stages

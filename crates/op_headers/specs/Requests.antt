@@ -1,15 +1,11 @@
 -- Requests: the frame, what the message of each opcode says, why bytes are no request, the function that reads, and the written text.
-use Rattle.std.specs.Prelude.{◌≡◌, ◌≢◌, ℕ, ◌+◌, ◌*◌, ◌<◌, ◌≤◌, ◌==◌, if◌then◌else◌, ◌⊎◌, List, [], ◌∷◌, ◌++◌, length, Option, Some, None, IsSome, Result, Ok, Err}
-use Rattle.proto_fields.specs.ResultSteps.{◌>>=◌, with_cause, with_value}
+use Rattle.std.specs.Prelude.{◌≡◌, ◌≢◌, ℕ, ◌+◌, ◌*◌, ◌<◌, ◌≤◌, ◌==◌, if◌then◌else◌, ◌⊎◌, List, [], ◌∷◌, ◌++◌, length, drop, Option, Some, None, IsSome, Result, Ok, Err}
+use Rattle.hd_base.specs.Results.{◌>>=◌, with_cause, with_value}
 use Rattle.proto_fields.specs.Varint.{BeginsWithVarint, least_varint}
 use Rattle.proto_fields.specs.Frames.{limit, IsWholeFrame, IsTooLong, IsLongPrefix}
-use Rattle.proto_fields.specs.Framed.{FramesSome, HasSome, framed_at}
+use Rattle.proto_fields.specs.Framed.{FramesSome, HasSome, framed_at, frame_cause}
 use Rattle.proto_fields.specs.declared.reading.WireFault.{WireFault}
-use Rattle.proto_fields.specs.declared.reading.WireFault.TheVariants as wire_fault
-use Rattle.proto_fields.specs.declared.listing.FieldsFault.{FieldsFault}
-use Rattle.proto_fields.specs.declared.listing.FieldsFault.TheVariants as fields
 use Rattle.proto_fields.specs.declared.frames.FrameFault.{FrameFault}
-use Rattle.proto_fields.specs.declared.frames.FrameFault.TheVariants as frame
 use Rattle.op_headers.specs.declared.ops.Op.{Op}
 use Rattle.op_headers.specs.declared.ops.Op.TheVariants as op
 use Rattle.op_headers.specs.declared.opcodes.Opcode.{Opcode}
@@ -26,9 +22,9 @@ use Rattle.op_headers.specs.Formats.{write_format, read_format, transfer_format,
 
 -- The message says a value of this format, as a request.
 pub record SaysAs {X : Type 0} (wrap : X → Op) (format : Format X) (message : List ℕ) (r : Result Op Path) : Type 0 where
-  pub told : Result X Path
-  pub says : format.says message told
-  pub op_is : r ≡ with_value wrap told
+  pub decoded : Result X Path
+  pub says : format.says message decoded
+  pub op_is : r ≡ with_value wrap decoded
 
 -- A message of this opcode says this: a request, or the first field that it misses.
 abbrev pub OpSays : Opcode → List ℕ → Result Op Path → Type 0
@@ -106,11 +102,6 @@ IsRefusedOp (fault.Wire e) bytes = BehindHead (IsFaultyBehind e) bytes
 IsRefusedOp (fault.Missing path) bytes = BehindHead (λ code rest. HasSome (λ message. OpSays code message (Err path)) rest) bytes
 IsRefusedOp fault.Memory bytes = ⊥
 
--- The same, or memory ran out.
-abbrev pub FailsFor : OpFault → List ℕ → Type 0
-FailsFor fault.Memory bytes = Unit {0}
-FailsFor e bytes = IsRefusedOp e bytes
-
 -- ---- reading
 
 abbrev pub op_read : Opcode → List ℕ → Result (Result Op Path) WireFault
@@ -139,14 +130,8 @@ head_at (high ∷ []) = Err fault.Short
 head_at (high ∷ low ∷ rest) = if 256 * high + low == 28 then behind_version rest else Err (fault.Version (256 * high + low))
 
 -- the fault of a request's frame, whose length stands behind three bytes
-abbrev pub frame_cause : FrameFault → OpFault
-frame_cause frame.Short = fault.Short
-frame_cause (frame.TooLong n) = fault.TooLong n
-frame_cause frame.LongPrefix = fault.Wire (wire_fault.LongVarint 3)
-
-abbrev pub fields_cause : FieldsFault → OpFault
-fields_cause (fields.Wire e) = fault.Wire e
-fields_cause fields.Memory = fault.Memory
+abbrev pub op_frame_cause : FrameFault → OpFault
+op_frame_cause = frame_cause fault.Short fault.TooLong fault.Wire 3
 
 -- a request with the bytes that it has
 abbrev pub sized : Op × ℕ → Op × ℕ
@@ -156,12 +141,7 @@ sized x = (x.0, 3 + x.1)
 unfoldable pub request_at : List ℕ → Result (Op × ℕ) OpFault
 request_at bytes = do
   head ← head_at bytes
-  with_value sized (framed_at frame_cause (op_at head.0) head.1)
-
--- The result is what reading gives, unless memory ran out.
-abbrev pub Gives : {X : Type 0} → Result X OpFault → Result X OpFault → Type 0
-Gives (Err fault.Memory) read = Unit {0}
-Gives result read = result ≡ read
+  with_value sized (framed_at op_frame_cause (op_at head.0) head.1)
 
 -- ---- writing
 
@@ -196,3 +176,12 @@ OpFits (op.Recovery r) = HasItsLength r.kind r.new_length → recovery_format.fi
 abbrev pub IsLawfulStep : Op → Type 0
 IsLawfulStep (op.Recovery r) = HasItsLength r.kind r.new_length × HasItsTargets r.kind r.targets
 IsLawfulStep _ = Unit {0}
+
+-- The request has a written spelling: its message is within the limit, only a last step has a length, and only a first one has targets.
+pub record IsEncodable (request : Op) : Type 0 where
+  pub within_limit : length (op_message request) ≤ limit
+  pub step : IsLawfulStep request
+
+-- Where the old bytes end the request is read, whatever follows the new bytes.
+abbrev pub ReadsOp : List ℕ → List ℕ → Op → Type 0
+ReadsOp old new request = (rest : List ℕ) → request_at (drop (length old) (new ++ rest)) ≡ Ok (request, length (op_text request))

@@ -1,7 +1,7 @@
 -- Messages by their tables: which fields a message of a type has, and the rules by which any table is read and written.
 use Rattle.std.specs.Prelude.{◌≡◌, ℕ, ◌%◌, ◌^◌, ◌<◌, ◌==◌, nat_lt, if◌then◌else◌, ◌⊎◌, List, [], ◌∷◌, ◌++◌, map, Option, Some, None, option_map, unwrap_or, Result, Ok, Err, IfSome}
 use Rattle.std.specs.List.{flat_map}
-use Rattle.proto_fields.specs.ResultSteps.{◌>>=◌, with_cause, with_value}
+use Rattle.hd_base.specs.Results.{◌>>=◌, with_cause, with_value}
 use Rattle.proto_fields.specs.Fields.{Spells, FirstFault, fields_at}
 use Rattle.proto_fields.specs.Values.{varint_of, last_of, last_part, parts, part_bytes}
 use Rattle.proto_fields.specs.Inner.{joined, FindsInner, IsFaultyInner, inner}
@@ -13,21 +13,21 @@ use Rattle.op_headers.specs.Paths.{Path, only, below, both}
 
 -- ---- tables
 
--- How a number is told by a varint: uint64 by all of it, bool by whether it isn't 0. Of uint32 and of enums the low 32 bits count,
+-- How a number is decoded by a varint: uint64 by all of it, bool by whether it isn't 0. Of uint32 and of enums the low 32 bits count,
 -- and a number from the bound on counts as a field that isn't there.
-pub data Form : Type 0 where
-  Uint64 : Form
-  Bool32 : Form
-  Below : (bound : ℕ) → Form
+pub data NumberKind : Type 0 where
+  Uint64 : NumberKind
+  Bool32 : NumberKind
+  Below : (bound : ℕ) → NumberKind
 
-abbrev pub uint32 : Form
+abbrev pub uint32 : NumberKind
 uint32 = Below (2 ^ 32)
 
 -- Whether a field must be there, what it is where it isn't, or that it may be left out.
-pub data Need (X : Type 0) : Type 0 where
-  Required : Need X
-  Default : (value : X) → Need X
-  Optional : Need X
+pub data Presence (X : Type 0) : Type 0 where
+  Required : Presence X
+  Default : (value : X) → Presence X
+  Optional : Presence X
 
 -- How a type of message is read and written: what a message says, a value or the first field that it misses; the first fault
 -- that it has; both as a function of the bytes; and the written text of a value, and which values have one.
@@ -41,36 +41,36 @@ pub record Format (X : Type 0) : Type 1 where
 -- The fields of a message in ascending number. A field holds a number, a text, a message, or each time that it is given a message more.
 pub data Table : Type 1 where
   End : Table
-  Number : (number : ℕ) (form : Form) (need : Need ℕ) (rest : Table) → Table
-  Text : (number : ℕ) (need : Need (List ℕ)) (rest : Table) → Table
-  Message : {X : Type 0} (number : ℕ) (format : Format X) (need : Need X) (rest : Table) → Table
+  Number : (number : ℕ) (kind : NumberKind) (presence : Presence ℕ) (rest : Table) → Table
+  Text : (number : ℕ) (presence : Presence (List ℕ)) (rest : Table) → Table
+  Message : {X : Type 0} (number : ℕ) (format : Format X) (presence : Presence X) (rest : Table) → Table
   Messages : {X : Type 0} (number : ℕ) (format : Format X) (rest : Table) → Table
 
 -- ---- what a message tells
 
 -- what a field is once it is read
-abbrev pub Kept : {X : Type 0} → Need X → Type 0
-Kept {X} Required = X
-Kept {X} (Default d) = X
-Kept {X} Optional = Option X
+abbrev pub DecodedField : {X : Type 0} → Presence X → Type 0
+DecodedField {X} Required = X
+DecodedField {X} (Default d) = X
+DecodedField {X} Optional = Option X
 
-abbrev pub Told : Table → Type 0
-Told End = Unit {0}
-Told (Number number form need rest) = Kept need × Told rest
-Told (Text number need rest) = Kept need × Told rest
-Told (Message {X} number format need rest) = Kept need × Told rest
-Told (Messages {X} number format rest) = List X × Told rest
+abbrev pub DecodedFields : Table → Type 0
+DecodedFields End = Unit {0}
+DecodedFields (Number number kind presence rest) = DecodedField presence × DecodedFields rest
+DecodedFields (Text number presence rest) = DecodedField presence × DecodedFields rest
+DecodedFields (Message {X} number format presence rest) = DecodedField presence × DecodedFields rest
+DecodedFields (Messages {X} number format rest) = List X × DecodedFields rest
 
 -- the number that a varint tells
-abbrev pub told_number : Form → ℕ → Option ℕ
-told_number Uint64 n = Some n
-told_number Bool32 n = Some (if n == 0 then 0 else 1)
-told_number (Below bound) n = if nat_lt (n % 2 ^ 32) bound then Some (n % 2 ^ 32) else None
+abbrev pub decoded_number : NumberKind → ℕ → Option ℕ
+decoded_number Uint64 n = Some n
+decoded_number Bool32 n = Some (if n == 0 then 0 else 1)
+decoded_number (Below bound) n = if nat_lt (n % 2 ^ 32) bound then Some (n % 2 ^ 32) else None
 
-abbrev pub number_of : Form → Wire → Option ℕ
+abbrev pub number_of : NumberKind → Wire → Option ℕ
 number_of Uint64 value = varint_of value
-number_of form (wire.Varint n) = told_number form n
-number_of form _ = None
+number_of kind (wire.Varint n) = decoded_number kind n
+number_of kind _ = None
 
 -- the text of a singular field: its last part
 abbrev pub text_under : ℕ → List ℕ → List (ℕ × Wire) → Option (List ℕ)
@@ -81,17 +81,17 @@ abbrev pub texts_under : ℕ → List ℕ → List (ℕ × Wire) → List (List 
 texts_under number bytes fs = map (part_bytes bytes) (parts number fs)
 
 -- what a field is, where it was found or not
-abbrev pub kept : {X : Type 0} (need : Need X) → ℕ → Option X → Result (Kept need) Path
-kept Required number None = Err (only number)
-kept Required number (Some x) = Ok x
-kept (Default d) number o = Ok (unwrap_or o d)
-kept Optional number o = Ok o
+abbrev pub decoded_field : {X : Type 0} (presence : Presence X) → ℕ → Option X → Result (DecodedField presence) Path
+decoded_field Required number None = Err (only number)
+decoded_field Required number (Some x) = Ok x
+decoded_field (Default d) number o = Ok (unwrap_or o d)
+decoded_field Optional number o = Ok o
 
 -- the same of a message, which may itself miss a field
-abbrev pub kept_message : {X : Type 0} (need : Need X) → ℕ → Option (Result X Path) → Result (Kept need) Path
-kept_message need number None = kept need number None
-kept_message need number (Some (Ok x)) = kept need number (Some x)
-kept_message need number (Some (Err p)) = Err (below number p)
+abbrev pub decoded_message : {X : Type 0} (presence : Presence X) → ℕ → Option (Result X Path) → Result (DecodedField presence) Path
+decoded_message presence number None = decoded_field presence number None
+decoded_message presence number (Some (Ok x)) = decoded_field presence number (Some x)
+decoded_message presence number (Some (Err p)) = Err (below number p)
 
 -- one message more in front
 abbrev pub more : {X : Type 0} → Result X Path → Result (List X) Path → Result (List X) Path
@@ -99,32 +99,32 @@ more x xs = with_value (λ p. p.0 ∷ p.1) (both x xs)
 
 -- one message more behind
 abbrev pub then_one : {X : Type 0} → Result (List X) Path → Result X Path → Result (List X) Path
-then_one told x = with_value (λ p. p.0 ++ p.1 ∷ []) (both told x)
+then_one decoded x = with_value (λ p. p.0 ++ p.1 ∷ []) (both decoded x)
 
 -- What each of several messages says.
 abbrev pub EachSays : {X : Type 0} → (List ℕ → Result X Path → Type 0) → List (List ℕ) → Result (List X) Path → Type 0
-EachSays {X} says [] told = told ≡ Ok []
-EachSays {X} says (b ∷ bs) told = (x : Result X Path) × says b x × (later : Result (List X) Path) × EachSays says bs later × (told ≡ more x later)
+EachSays {X} says [] decoded = decoded ≡ Ok []
+EachSays {X} says (b ∷ bs) decoded = (x : Result X Path) × says b x × (later : Result (List X) Path) × EachSays says bs later × (decoded ≡ more x later)
 
 -- What the rows of a table make of these fields of the bytes: of a singular number the last value, of a singular message all parts joined.
-abbrev pub RowsSay : (t : Table) → List ℕ → List (ℕ × Wire) → Result (Told t) Path → Type 0
-RowsSay End bytes fs told = told ≡ Ok tt
-RowsSay (Number number form need rest) bytes fs told =
-    (later : Result (Told rest) Path) × RowsSay rest bytes fs later × (told ≡ both (kept need number (last_of (number_of form) number fs)) later)
-RowsSay (Text number need rest) bytes fs told =
-    (later : Result (Told rest) Path) × RowsSay rest bytes fs later × (told ≡ both (kept need number (text_under number bytes fs)) later)
-RowsSay (Message {X} number format need rest) bytes fs told =
+abbrev pub RowsSay : (t : Table) → List ℕ → List (ℕ × Wire) → Result (DecodedFields t) Path → Type 0
+RowsSay End bytes fs decoded = decoded ≡ Ok tt
+RowsSay (Number number kind presence rest) bytes fs decoded =
+    (later : Result (DecodedFields rest) Path) × RowsSay rest bytes fs later × (decoded ≡ both (decoded_field presence number (last_of (number_of kind) number fs)) later)
+RowsSay (Text number presence rest) bytes fs decoded =
+    (later : Result (DecodedFields rest) Path) × RowsSay rest bytes fs later × (decoded ≡ both (decoded_field presence number (text_under number bytes fs)) later)
+RowsSay (Message {X} number format presence rest) bytes fs decoded =
     (x : Option (Result X Path)) × FindsInner format.says (joined number bytes fs) x
-    × (later : Result (Told rest) Path) × RowsSay rest bytes fs later × (told ≡ both (kept_message need number x) later)
-RowsSay (Messages {X} number format rest) bytes fs told =
+    × (later : Result (DecodedFields rest) Path) × RowsSay rest bytes fs later × (decoded ≡ both (decoded_message presence number x) later)
+RowsSay (Messages {X} number format rest) bytes fs decoded =
     (xs : Result (List X) Path) × EachSays format.says (texts_under number bytes fs) xs
-    × (later : Result (Told rest) Path) × RowsSay rest bytes fs later × (told ≡ both (with_cause (below number) xs) later)
+    × (later : Result (DecodedFields rest) Path) × RowsSay rest bytes fs later × (decoded ≡ both (with_cause (below number) xs) later)
 
 -- The message says this by its table.
-pub record Says (t : Table) (bytes : List ℕ) (told : Result (Told t) Path) : Type 0 where
+pub record Says (t : Table) (bytes : List ℕ) (decoded : Result (DecodedFields t) Path) : Type 0 where
   pub fields : List (ℕ × Wire)
   pub spelled : Spells fields bytes
-  pub rows : RowsSay t bytes fields told
+  pub rows : RowsSay t bytes fields decoded
 
 -- ---- the first fault within
 
@@ -136,9 +136,9 @@ EachFaulty {X} format (b ∷ bs) e = format.faulty b e ⊎ ((x : Result X Path) 
 -- Of the messages within, the first that isn't whole has this fault.
 abbrev pub RowsFaulty : Table → List ℕ → List (ℕ × Wire) → WireFault → Type 0
 RowsFaulty End bytes fs e = ⊥
-RowsFaulty (Number number form need rest) bytes fs e = RowsFaulty rest bytes fs e
-RowsFaulty (Text number need rest) bytes fs e = RowsFaulty rest bytes fs e
-RowsFaulty (Message {X} number format need rest) bytes fs e =
+RowsFaulty (Number number kind presence rest) bytes fs e = RowsFaulty rest bytes fs e
+RowsFaulty (Text number presence rest) bytes fs e = RowsFaulty rest bytes fs e
+RowsFaulty (Message {X} number format presence rest) bytes fs e =
     IsFaultyInner format.faulty (joined number bytes fs) e
     ⊎ ((x : Option (Result X Path)) × FindsInner format.says (joined number bytes fs) x × RowsFaulty rest bytes fs e)
 RowsFaulty (Messages {X} number format rest) bytes fs e =
@@ -163,19 +163,19 @@ each_at read (b ∷ bs) = do
   x ← read b
   with_value (more x) (each_at read bs)
 
-abbrev pub rows_at : (t : Table) → List ℕ → List (ℕ × Wire) → Result (Result (Told t) Path) WireFault
+abbrev pub rows_at : (t : Table) → List ℕ → List (ℕ × Wire) → Result (Result (DecodedFields t) Path) WireFault
 rows_at End bytes fs = Ok (Ok tt)
-rows_at (Number number form need rest) bytes fs = with_value (both (kept need number (last_of (number_of form) number fs))) (rows_at rest bytes fs)
-rows_at (Text number need rest) bytes fs = with_value (both (kept need number (text_under number bytes fs))) (rows_at rest bytes fs)
-rows_at (Message number format need rest) bytes fs = do
+rows_at (Number number kind presence rest) bytes fs = with_value (both (decoded_field presence number (last_of (number_of kind) number fs))) (rows_at rest bytes fs)
+rows_at (Text number presence rest) bytes fs = with_value (both (decoded_field presence number (text_under number bytes fs))) (rows_at rest bytes fs)
+rows_at (Message number format presence rest) bytes fs = do
   x ← inner format.read (joined number bytes fs)
-  with_value (both (kept_message need number x)) (rows_at rest bytes fs)
+  with_value (both (decoded_message presence number x)) (rows_at rest bytes fs)
 rows_at (Messages number format rest) bytes fs = do
   xs ← each_at format.read (texts_under number bytes fs)
   with_value (both (with_cause (below number) xs)) (rows_at rest bytes fs)
 
 -- What the message says by its table, or its first fault.
-abbrev pub message_at : (t : Table) → List ℕ → Result (Result (Told t) Path) WireFault
+abbrev pub message_at : (t : Table) → List ℕ → Result (Result (DecodedFields t) Path) WireFault
 message_at t bytes = do
   fs ← fields_at bytes
   rows_at t bytes fs
@@ -183,84 +183,84 @@ message_at t bytes = do
 -- ---- writing
 
 -- what a field is given as: a field that may be left out is written where it is given
-abbrev pub Held : {X : Type 0} → Need X → Type 0
-Held {X} Required = X
-Held {X} (Default d) = Option X
-Held {X} Optional = Option X
+abbrev pub FieldToEncode : {X : Type 0} → Presence X → Type 0
+FieldToEncode {X} Required = X
+FieldToEncode {X} (Default d) = Option X
+FieldToEncode {X} Optional = Option X
 
-abbrev pub Given : Table → Type 0
-Given End = Unit {0}
-Given (Number number form need rest) = Held need × Given rest
-Given (Text number need rest) = Held need × Given rest
-Given (Message {X} number format need rest) = Held need × Given rest
-Given (Messages {X} number format rest) = List X × Given rest
+abbrev pub FieldsToEncode : Table → Type 0
+FieldsToEncode End = Unit {0}
+FieldsToEncode (Number number kind presence rest) = FieldToEncode presence × FieldsToEncode rest
+FieldsToEncode (Text number presence rest) = FieldToEncode presence × FieldsToEncode rest
+FieldsToEncode (Message {X} number format presence rest) = FieldToEncode presence × FieldsToEncode rest
+FieldsToEncode (Messages {X} number format rest) = List X × FieldsToEncode rest
 
-abbrev pub held : {X : Type 0} (need : Need X) → Held need → Option X
-held Required x = Some x
-held (Default d) o = o
-held Optional o = o
+abbrev pub field_to_encode : {X : Type 0} (presence : Presence X) → FieldToEncode presence → Option X
+field_to_encode Required x = Some x
+field_to_encode (Default d) o = o
+field_to_encode Optional o = o
 
 -- what is read of a field that is given so
-abbrev pub as_kept : {X : Type 0} (need : Need X) → Held need → Kept need
-as_kept Required x = x
-as_kept (Default d) o = unwrap_or o d
-as_kept Optional o = o
+abbrev pub decoded_again : {X : Type 0} (presence : Presence X) → FieldToEncode presence → DecodedField presence
+decoded_again Required x = x
+decoded_again (Default d) o = unwrap_or o d
+decoded_again Optional o = o
 
-abbrev pub as_told : (t : Table) → Given t → Told t
-as_told End given = tt
-as_told (Number number form need rest) given = (as_kept need given.0, as_told rest given.1)
-as_told (Text number need rest) given = (as_kept need given.0, as_told rest given.1)
-as_told (Message number format need rest) given = (as_kept need given.0, as_told rest given.1)
-as_told (Messages number format rest) given = (given.0, as_told rest given.1)
+abbrev pub decoded_fields : (t : Table) → FieldsToEncode t → DecodedFields t
+decoded_fields End given = tt
+decoded_fields (Number number kind presence rest) given = (decoded_again presence given.0, decoded_fields rest given.1)
+decoded_fields (Text number presence rest) given = (decoded_again presence given.0, decoded_fields rest given.1)
+decoded_fields (Message number format presence rest) given = (decoded_again presence given.0, decoded_fields rest given.1)
+decoded_fields (Messages number format rest) given = (given.0, decoded_fields rest given.1)
 
 -- the text of a field, where it is given
-abbrev pub if_given : {X : Type 0} → (X → List ℕ) → Option X → List ℕ
-if_given text None = []
-if_given text (Some x) = text x
+abbrev pub if_there : {X : Type 0} → (X → List ℕ) → Option X → List ℕ
+if_there text None = []
+if_there text (Some x) = text x
 
 -- a message as a field
 unfoldable pub message_field : {X : Type 0} → ℕ → Format X → X → List ℕ
 message_field number format x = bytes_field number (format.text x)
 
 -- The fields in ascending number, each varint in its least spelling.
-abbrev pub rows_text : (t : Table) → Given t → List ℕ
+abbrev pub rows_text : (t : Table) → FieldsToEncode t → List ℕ
 rows_text End given = []
-rows_text (Number number form need rest) given = if_given (varint_field number) (held need given.0) ++ rows_text rest given.1
-rows_text (Text number need rest) given = if_given (bytes_field number) (held need given.0) ++ rows_text rest given.1
-rows_text (Message number format need rest) given = if_given (message_field number format) (held need given.0) ++ rows_text rest given.1
+rows_text (Number number kind presence rest) given = if_there (varint_field number) (field_to_encode presence given.0) ++ rows_text rest given.1
+rows_text (Text number presence rest) given = if_there (bytes_field number) (field_to_encode presence given.0) ++ rows_text rest given.1
+rows_text (Message number format presence rest) given = if_there (message_field number format) (field_to_encode presence given.0) ++ rows_text rest given.1
 rows_text (Messages number format rest) given = flat_map (message_field number format) given.0 ++ rows_text rest given.1
 
 -- The number is one that its varint tells again.
-pub record FitsForm (form : Form) (n : ℕ) : Type 0 where
+pub record FitsKind (kind : NumberKind) (n : ℕ) : Type 0 where
   pub small : n < 2 ^ 64
-  pub told : told_number form n ≡ Some n
+  pub decoded : decoded_number kind n ≡ Some n
 
 abbrev pub EachFits : {X : Type 0} → (X → Type 0) → List X → Type 0
 EachFits fits [] = Unit {0}
 EachFits fits (x ∷ xs) = fits x × EachFits fits xs
 
-abbrev pub RowsFit : (t : Table) → Given t → Type 0
+abbrev pub RowsFit : (t : Table) → FieldsToEncode t → Type 0
 RowsFit End given = Unit {0}
-RowsFit (Number number form need rest) given = IfSome (held need given.0) (FitsForm form) × RowsFit rest given.1
-RowsFit (Text number need rest) given = RowsFit rest given.1
-RowsFit (Message number format need rest) given = IfSome (held need given.0) format.fits × RowsFit rest given.1
+RowsFit (Number number kind presence rest) given = IfSome (field_to_encode presence given.0) (FitsKind kind) × RowsFit rest given.1
+RowsFit (Text number presence rest) given = RowsFit rest given.1
+RowsFit (Message number format presence rest) given = IfSome (field_to_encode presence given.0) format.fits × RowsFit rest given.1
 RowsFit (Messages number format rest) given = EachFits format.fits given.0 × RowsFit rest given.1
 
 -- ---- a type of message, by its table
 
--- The message says a value, told by what its table tells, or misses a field.
-pub record SaysBy {X : Type 0} (t : Table) (from : Told t → X) (bytes : List ℕ) (r : Result X Path) : Type 0 where
-  pub told : Result (Told t) Path
-  pub says : Says t bytes told
-  pub value_is : r ≡ with_value from told
+-- The message says a value, decoded by what its table tells, or misses a field.
+pub record SaysBy {X : Type 0} (t : Table) (from : DecodedFields t → X) (bytes : List ℕ) (r : Result X Path) : Type 0 where
+  pub decoded : Result (DecodedFields t) Path
+  pub says : Says t bytes decoded
+  pub value_is : r ≡ with_value from decoded
 
 -- The value is what is read of the fields that it is given as.
-pub record FitsBy {X : Type 0} (t : Table) (from : Told t → X) (given : X → Given t) (x : X) : Type 0 where
+pub record FitsBy {X : Type 0} (t : Table) (from : DecodedFields t → X) (given : X → FieldsToEncode t) (x : X) : Type 0 where
   pub rows : RowsFit t (given x)
-  pub same : from (as_told t (given x)) ≡ x
+  pub same : from (decoded_fields t (given x)) ≡ x
 
 -- The format of values that a table tells, and that are given to it.
-abbrev pub by_table : {X : Type 0} (t : Table) → (Told t → X) → (X → Given t) → Format X
+abbrev pub by_table : {X : Type 0} (t : Table) → (DecodedFields t → X) → (X → FieldsToEncode t) → Format X
 by_table t from given = record {
   says = SaysBy t from;
   faulty = IsFaulty t;

@@ -1,35 +1,72 @@
 //! Answers to steps of block recovery.
 
-ghost use Rattle.std.specs.Prelude.{◌≡◌, ◌<◌, ℕ, ◌≤◌, ◌^◌, List, [], ◌++◌, length, take, drop, Ok, Err, IfOk, IfErr, OnOk, OnErr, IfSome};
+ghost use Rattle.std.specs.Prelude.{
+  ◌≡◌,
+  ◌<◌,
+  ℕ,
+  ◌≤◌,
+  ◌^◌,
+  ◌↔◌,
+  List,
+  [],
+  ◌++◌,
+  length,
+  take,
+  Ok,
+  Err,
+  IfOk,
+  IfErr,
+  OnOk,
+  OnErr,
+  IfSome,
+  IsTrue,
+};
 ghost use Rattle.hd_base.specs.Wire.{IsStatus};
-ghost use Rattle.ack_codec.specs.Statuses.{told_status};
+ghost use Rattle.hd_base.specs.Wire.{decoded_status};
 ghost use Rattle.proto_fields.specs.Frames.{limit};
-ghost use Rattle.proto_fields.specs.ResultSteps.{with_cause, with_value};
+ghost use Rattle.hd_base.specs.Results.{with_cause, with_value, Gives, FailsFor};
 ghost use Rattle.proto_fields.specs.Writing.{varint_field, bytes_field};
 ghost use Rattle.op_headers.specs.Paths.{both};
-ghost use Rattle.op_headers.specs.Tables.{kept, if_given, Required, Default, Optional};
+ghost use Rattle.op_headers.specs.Tables.{decoded_field, if_there, Required, Default, Optional};
 ghost use Rattle.op_headers.specs.declared.faults.AnswerFault.{AnswerFault};
 ghost use Rattle.op_headers.specs.declared.answers.RecoveryAnswer.{RecoveryAnswer};
-ghost use Rattle.op_headers.specs.Answers.{answer_from, info_from, answer_format, answer_text, state_with, state_given, stamp_given, length_told, message_given, missing_field, answer_of, answer_at, SpellsAnswer, IsRefusedAnswer, FailsFor, Gives};
+ghost use Rattle.op_headers.specs.Answers.{
+  answer_from,
+  info_from,
+  answer_format,
+  answer_text,
+  info_text,
+  state_with,
+  message_to_encode,
+  missing_field,
+  answer_of,
+  answer_at,
+  SpellsAnswer,
+  IsRefusedAnswer,
+  IsEncodable,
+  ReadsAnswer,
+};
 
 use crate::faults::AnswerFault;
 use crate::messages::{Message, UINT32, small_under, text_under};
-use crate::paths::{Told, required};
+use crate::paths::{Decoded, required};
 use hd_base::{ByteList, ReplicaState, Stamp, Status};
-use proto_fields::{FieldsFault, fields, put_bytes, put_number, put_varint, read_frame};
+use proto_fields::{
+    FieldsFault, MAX_MESSAGE_SIZE, cut_back, fields, put_bytes, put_number, put_varint, read_frame,
+};
 use std::alloc::{AllocError, Global};
 
 /// How many states of replicas there are.
 const STATES: u64 = 5;
 
 /// The answer to a step of block recovery. An empty text stands for one that isn't there.
-#[derive(Debug, Drop)]
+#[derive(Debug, Drop, PartialEq, Eq)]
 pub struct RecoveryAnswer {
     /// How the step was taken.
     pub status: Status,
     /// Why it was refused.
     pub message: ByteList,
-    /// The replica's state, its generation stamp and its length in bytes, where all three are told.
+    /// The replica's state, its generation stamp and its length in bytes, where all three are decoded.
     pub info: Option<(ReplicaState, Stamp, u64)>,
 }
 
@@ -39,7 +76,7 @@ impl Message for RecoveryAnswer {
     ghost format = { answer_format };
 
     #[tactic(auto, unfolding(crate::specs::Answers::answer_format))]
-    fn read(alloc: Global, bytes: &[u8]) -> Result<Told<RecoveryAnswer>, FieldsFault> {
+    fn read(alloc: Global, bytes: &[u8]) -> Result<Decoded<RecoveryAnswer>, FieldsFault> {
         let listed = fields(alloc, bytes)?;
         let status = small_under(&listed, 1, UINT32);
         let message = text_under(alloc, bytes, 2, &listed)?;
@@ -47,36 +84,30 @@ impl Message for RecoveryAnswer {
         let state = small_under(&listed, 3, STATES);
         let stamp = listed.number(4);
         let length = listed.number(5);
-        Ok(answer_told(status, message, state, stamp, length))
+        Ok(decoded_answer(status, message, state, stamp, length))
     }
 }
 
 /// The answer that these fields tell.
-fn answer_told(
+fn decoded_answer(
     status: Option<u32>,
     message: ByteList,
     state: Option<u32>,
     stamp: Option<u64>,
     length: Option<u64>,
-) -> Told<RecoveryAnswer>
-    ensures { result ≡ with_value answer_from (both (kept Required 1 status) (Ok (message, (state, (stamp, (length, tt)))))) }
+) -> Decoded<RecoveryAnswer>
+    ensures { result ≡ with_value answer_from
+        (both (decoded_field Required 1 status) (Ok (message, (state, (stamp, (length, tt)))))) }
 {
     let status = required(1, status)?;
     Ok(RecoveryAnswer {
-        status: status_of(status),
+        status: Status::from_varint(u64::from(status)),
         message,
         info: info_of(state, stamp, length),
     })
 }
 
-/// The status that a number stands for.
-fn status_of(number: u32) -> Status
-    ensures { result ≡ told_status number }
-{
-    Status::from_number(number)
-}
-
-/// What is told of a replica, where all of it is there.
+/// What is decoded of a replica, where all of it is there.
 fn info_of(
     state: Option<u32>,
     stamp: Option<u64>,
@@ -107,19 +138,21 @@ pub fn decode_answer(alloc: Global, bytes: &[u8]) -> Result<(RecoveryAnswer, usi
     // spelling is a proper prefix of another.
     ensures found { IfOk result (λ x. SpellsAnswer x.0 (take x.1 bytes.now)) }
     ensures within { IfOk result (λ x. x.1 ≤ length bytes.now) }
-    ensures only { (answer : RecoveryAnswer) (text rest : List ℕ) → SpellsAnswer answer text → bytes.now ≡ text ++ rest → Gives result (Ok (answer, length text)) }
-    ensures prefix { (a b : RecoveryAnswer) (text more : List ℕ) → SpellsAnswer a text → SpellsAnswer b (text ++ more) → more ≡ [] }
+    ensures only { (answer : RecoveryAnswer) (text rest : List ℕ) → SpellsAnswer answer text → bytes.now ≡ text ++ rest
+        → Gives AnswerFault.Memory result (Ok (answer, length text)) }
+    ensures prefix { (a b : RecoveryAnswer) (text more : List ℕ) → SpellsAnswer a text → SpellsAnswer b (text ++ more)
+        → more ≡ [] }
 
     // The fault is the one that stands there, and the one that stands there comes, unless memory
     // runs out.
-    ensures refused { IfErr result (λ e. FailsFor e bytes.now) }
-    ensures refuses { (e : AnswerFault) → IsRefusedAnswer e bytes.now → Gives result (Err e) }
+    ensures refused { IfErr result (λ e. FailsFor AnswerFault.Memory IsRefusedAnswer e bytes.now) }
+    ensures refuses { (e : AnswerFault) → IsRefusedAnswer e bytes.now → Gives AnswerFault.Memory result (Err e) }
 
     // The status is no `Other` in place of one that is listed.
     ensures listed { IfOk result (λ x. IsStatus x.0.status) }
 
     // The same as a function of the bytes.
-    ensures exact { Gives result (answer_at bytes.now) }
+    ensures exact { Gives AnswerFault.Memory result (answer_at bytes.now) }
 {
     framed_answer(alloc, bytes)
 }
@@ -127,18 +160,18 @@ pub fn decode_answer(alloc: Global, bytes: &[u8]) -> Result<(RecoveryAnswer, usi
 /// Reads the frame at the front and the answer in it.
 #[tactic(auto, unfolding(proto_fields::specs::Framed::framed_at, crate::specs::Answers::answer_of))]
 fn framed_answer(alloc: Global, bytes: &[u8]) -> Result<(RecoveryAnswer, usize), AnswerFault>
-    ensures { Gives result (answer_at bytes.now) }
+    ensures { Gives AnswerFault.Memory result (answer_at bytes.now) }
 {
     let (message, size) = read_frame(bytes)?;
     let answer = whole(RecoveryAnswer::read(alloc, message)?)?;
     Ok((answer, size))
 }
 
-/// What is told, or the fault of the field that is missing.
-fn whole(told: Told<RecoveryAnswer>) -> Result<RecoveryAnswer, AnswerFault>
-    ensures { result ≡ with_cause missing_field told }
+/// What is decoded, or the fault of the field that is missing.
+fn whole(decoded: Decoded<RecoveryAnswer>) -> Result<RecoveryAnswer, AnswerFault>
+    ensures { result ≡ with_cause missing_field decoded }
 {
-    match told {
+    match decoded {
         Ok(answer) => Ok(answer),
         Err(path) => Err(AnswerFault::Missing {
             field: u32::from(path[0]),
@@ -152,17 +185,50 @@ fn whole(told: Told<RecoveryAnswer>) -> Result<RecoveryAnswer, AnswerFault>
 /// leaves `out` as it was.
 pub fn encode_answer(answer: &RecoveryAnswer, out: &mut Vec<u8>) -> Result<(), AllocError>
     requires listed { IsStatus answer.now.status }
-    requires few { length (answer_format.text answer.now) ≤ limit }
+    requires within_limit { length (answer_format.text answer.now) ≤ limit }
     ensures ok { OnOk result (out.new.items ≡ out.old.items ++ answer_text answer.now) }
     ensures err { OnErr result (out.new.items ≡ out.old.items) }
-    ensures again { (rest : List ℕ) → OnOk result (answer_at (drop (length out.old.items) (out.new.items ++ rest)) ≡ Ok (answer.now, length (answer_text answer.now))) }
+    ensures again { OnOk result (ReadsAnswer out.old.items out.new.items answer.now) }
 {
     let before = out.len();
     let done = push_answer(answer, out);
-    if done.is_err() {
-        out.truncate(before);
+    cut_back(out, before, done)
+}
+
+impl RecoveryAnswer {
+    /// Whether `encode_answer` may write the answer. It writes the message into a list of its own to
+    /// see its length, so it may want memory.
+    pub fn is_encodable(&self, alloc: Global) -> Result<bool, AllocError>
+        ensures { IfOk result (λ may. IsTrue may ↔ IsEncodable self.now) }
+    {
+        if !is_listed(self.status) {
+            return Ok(false);
+        }
+        let mut message = Vec::new(alloc);
+        push_message(self, &mut message)?;
+        Ok(message.len() as u64 <= MAX_MESSAGE_SIZE)
     }
-    done
+
+    /// The same answer once more.
+    pub fn duplicate(&self) -> Result<RecoveryAnswer, AllocError>
+        ensures { IfOk result (λ copy. copy ≡ self.now) }
+    {
+        Ok(RecoveryAnswer {
+            status: self.status,
+            message: self.message.duplicate()?,
+            info: self.info,
+        })
+    }
+}
+
+/// Whether the status is no `Other` in place of one that is listed.
+fn is_listed(status: Status) -> bool
+    ensures { IsTrue result ↔ IsStatus status }
+{
+    match status {
+        Status::Other(number) => number > 7,
+        _ => true,
+    }
 }
 
 /// Appends the length of the message and the message.
@@ -190,7 +256,7 @@ fn push_message(answer: &RecoveryAnswer, out: &mut Vec<u8>) -> Result<(), AllocE
 
 /// Appends the text, where it isn't empty.
 fn put_text(text: &[u8], out: &mut Vec<u8>) -> Result<(), AllocError>
-    ensures { OnOk result (out.new.items ≡ out.old.items ++ if_given (bytes_field 2) (message_given text.now)) }
+    ensures { OnOk result (out.new.items ≡ out.old.items ++ if_there (bytes_field 2) (message_to_encode text.now)) }
 {
     match text {
         [] => Ok(()),
@@ -198,9 +264,9 @@ fn put_text(text: &[u8], out: &mut Vec<u8>) -> Result<(), AllocError>
     }
 }
 
-/// Appends state, stamp and length, where they are told.
+/// Appends state, stamp and length, where they are decoded.
 fn put_info(info: Option<(ReplicaState, Stamp, u64)>, out: &mut Vec<u8>) -> Result<(), AllocError>
-    ensures ok { OnOk result (out.new.items ≡ out.old.items ++ (if_given (varint_field 3) (state_given info) ++ (if_given (varint_field 4) (stamp_given info) ++ if_given (varint_field 5) (length_told info)))) }
+    ensures ok { OnOk result (out.new.items ≡ out.old.items ++ info_text info) }
     ensures fits { OnOk result (IfSome info (λ i. (i.1.0 < 2 ^ 64) × (i.2 < 2 ^ 64))) }
 {
     let Some((state, stamp, length)) = info else {

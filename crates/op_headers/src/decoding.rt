@@ -1,16 +1,16 @@
 //! Reading requests.
 
 ghost use Rattle.std.specs.Prelude.{◌≡◌, ℕ, ◌+◌, ◌≤◌, List, [], ◌++◌, length, take, Ok, Err, IfOk, IfErr};
-ghost use Rattle.proto_fields.specs.ResultSteps.{read_of, with_cause};
+ghost use Rattle.hd_base.specs.Results.{read_of, with_cause, Gives, FailsFor};
 ghost use Rattle.op_headers.specs.declared.ops.Op.{Op};
 ghost use Rattle.op_headers.specs.declared.faults.OpFault.{OpFault};
-ghost use Rattle.op_headers.specs.Requests.{SpellsOp, IsRefusedOp, FailsFor, Gives, op_at, head_at, request_at};
+ghost use Rattle.op_headers.specs.Requests.{SpellsOp, IsRefusedOp, op_at, head_at, request_at};
 
 use crate::faults::OpFault;
 use crate::messages::Message;
 use crate::opcodes::Opcode;
 use crate::ops::{ChecksumOp, Op, ReadOp, RecoveryOp, TransferOp, WriteOp};
-use crate::paths::Told;
+use crate::paths::Decoded;
 use byteorder::{BigEndian, ByteOrder};
 use proto_fields::read_frame;
 use std::alloc::Global;
@@ -28,16 +28,17 @@ pub fn decode_op(alloc: Global, bytes: &[u8]) -> Result<(Op, usize), OpFault>
     // spelling is a proper prefix of another.
     ensures found { IfOk result (λ x. SpellsOp x.0 (take x.1 bytes.now)) }
     ensures within { IfOk result (λ x. x.1 ≤ length bytes.now) }
-    ensures only { (op : Op) (text rest : List ℕ) → SpellsOp op text → bytes.now ≡ text ++ rest → Gives result (Ok (op, length text)) }
+    ensures only { (op : Op) (text rest : List ℕ) → SpellsOp op text → bytes.now ≡ text ++ rest
+        → Gives OpFault.Memory result (Ok (op, length text)) }
     ensures prefix { (a b : Op) (text more : List ℕ) → SpellsOp a text → SpellsOp b (text ++ more) → more ≡ [] }
 
     // The fault is the one that stands there, and the one that stands there comes, unless memory
     // runs out.
-    ensures refused { IfErr result (λ e. FailsFor e bytes.now) }
-    ensures refuses { (e : OpFault) → IsRefusedOp e bytes.now → Gives result (Err e) }
+    ensures refused { IfErr result (λ e. FailsFor OpFault.Memory IsRefusedOp e bytes.now) }
+    ensures refuses { (e : OpFault) → IsRefusedOp e bytes.now → Gives OpFault.Memory result (Err e) }
 
     // The same as a function of the bytes.
-    ensures exact { Gives result (request_at bytes.now) }
+    ensures exact { Gives OpFault.Memory result (request_at bytes.now) }
 {
     framed_op(alloc, bytes)
 }
@@ -45,7 +46,7 @@ pub fn decode_op(alloc: Global, bytes: &[u8]) -> Result<(Op, usize), OpFault>
 /// Reads the head, the frame behind it and the request in it.
 #[tactic(auto, unfolding(crate::specs::Requests::request_at, proto_fields::specs::Framed::framed_at))]
 fn framed_op(alloc: Global, bytes: &[u8]) -> Result<(Op, usize), OpFault>
-    ensures { Gives result (request_at bytes.now) }
+    ensures { Gives OpFault.Memory result (request_at bytes.now) }
 {
     let (code, rest) = head_of(bytes)?;
     let (message, size) = read_frame(rest)?;
@@ -78,7 +79,7 @@ fn head_of(bytes: &[u8]) -> Result<(Opcode, &[u8]), OpFault>
 /// The request that the message of this opcode says.
 #[tactic(auto, unfolding(crate::specs::Requests::op_at))]
 fn op_of(alloc: Global, code: Opcode, message: &[u8]) -> Result<Op, OpFault>
-    ensures { Gives result (op_at code message.now) }
+    ensures { Gives OpFault.Memory result (op_at code message.now) }
 {
     match code {
         Opcode::WriteBlock => Ok(Op::Write(whole(WriteOp::read(alloc, message)?)?)),
@@ -89,11 +90,11 @@ fn op_of(alloc: Global, code: Opcode, message: &[u8]) -> Result<Op, OpFault>
     }
 }
 
-/// What is told, or the fault of the field that is missing.
-fn whole<T: Drop>(told: Told<T>) -> Result<T, OpFault>
-    ensures { result ≡ with_cause OpFault.Missing told }
+/// What is decoded, or the fault of the field that is missing.
+fn whole<T: Drop>(decoded: Decoded<T>) -> Result<T, OpFault>
+    ensures { result ≡ with_cause OpFault.Missing decoded }
 {
-    match told {
+    match decoded {
         Ok(value) => Ok(value),
         Err(path) => Err(OpFault::Missing { path }),
     }

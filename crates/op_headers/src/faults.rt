@@ -1,6 +1,8 @@
 //! Why bytes are no request and no answer of a recovery.
 
+use crate::paths::FieldPath;
 use proto_fields::{FieldsFault, FrameFault, WireFault};
+use std::alloc::AllocError;
 use thiserror::Error;
 
 /// Why bytes are no request, in the order in which it is tried: `Version`, `Opcode`, the faults of
@@ -28,7 +30,7 @@ pub enum OpFault {
     Wire(WireFault),
     /// The first required field that isn't there, by the field numbers that lead to it from the
     /// top, filled with zeros.
-    #[error("field {path:?} is missing")]
+    #[error("field {place} is missing", place = FieldPath(*path))]
     Missing { path: [u8; 4] },
     /// Memory ran out.
     #[error("out of memory")]
@@ -37,9 +39,9 @@ pub enum OpFault {
 
 impl From<FrameFault> for OpFault {
     ghost use Rattle.std.specs.Prelude.{◌≡◌};
-    ghost use Rattle.op_headers.specs.Requests.{frame_cause};
+    ghost use Rattle.op_headers.specs.Requests.{op_frame_cause};
 
-    ghost from_gives = { λ fault e. e ≡ frame_cause fault };
+    ghost from_gives = { λ fault e. e ≡ op_frame_cause fault };
 
     fn from(fault: FrameFault) -> OpFault {
         match fault {
@@ -52,15 +54,27 @@ impl From<FrameFault> for OpFault {
 
 impl From<FieldsFault> for OpFault {
     ghost use Rattle.std.specs.Prelude.{◌≡◌};
-    ghost use Rattle.op_headers.specs.Requests.{fields_cause};
+    ghost use Rattle.proto_fields.specs.Framed.{fields_cause};
+    ghost use Rattle.op_headers.specs.declared.faults.OpFault.TheVariants as op;
 
-    ghost from_gives = { λ fault e. e ≡ fields_cause fault };
+    ghost from_gives = { λ fault e. e ≡ fields_cause op.Memory op.Wire fault };
 
     fn from(fault: FieldsFault) -> OpFault {
         match fault {
             FieldsFault::Wire(fault) => OpFault::Wire(fault),
             FieldsFault::Memory => OpFault::Memory,
         }
+    }
+}
+
+impl From<AllocError> for OpFault {
+    ghost use Rattle.std.specs.Prelude.{◌≡◌};
+    ghost use Rattle.op_headers.specs.declared.faults.OpFault.TheVariants.{Memory};
+
+    ghost from_gives = { λ _ e. e ≡ Memory };
+
+    fn from(_error: AllocError) -> OpFault {
+        OpFault::Memory
     }
 }
 
@@ -88,9 +102,9 @@ pub enum AnswerFault {
 
 impl From<FrameFault> for AnswerFault {
     ghost use Rattle.std.specs.Prelude.{◌≡◌};
-    ghost use Rattle.op_headers.specs.Answers.{frame_cause};
+    ghost use Rattle.op_headers.specs.Answers.{answer_frame_cause};
 
-    ghost from_gives = { λ fault e. e ≡ frame_cause fault };
+    ghost from_gives = { λ fault e. e ≡ answer_frame_cause fault };
 
     fn from(fault: FrameFault) -> AnswerFault {
         match fault {
@@ -103,14 +117,26 @@ impl From<FrameFault> for AnswerFault {
 
 impl From<FieldsFault> for AnswerFault {
     ghost use Rattle.std.specs.Prelude.{◌≡◌};
-    ghost use Rattle.op_headers.specs.Answers.{fields_cause};
+    ghost use Rattle.proto_fields.specs.Framed.{fields_cause};
+    ghost use Rattle.op_headers.specs.declared.faults.AnswerFault.TheVariants as answer;
 
-    ghost from_gives = { λ fault e. e ≡ fields_cause fault };
+    ghost from_gives = { λ fault e. e ≡ fields_cause answer.Memory answer.Wire fault };
 
     fn from(fault: FieldsFault) -> AnswerFault {
         match fault {
             FieldsFault::Wire(fault) => AnswerFault::Wire(fault),
             FieldsFault::Memory => AnswerFault::Memory,
         }
+    }
+}
+
+impl From<AllocError> for AnswerFault {
+    ghost use Rattle.std.specs.Prelude.{◌≡◌};
+    ghost use Rattle.op_headers.specs.declared.faults.AnswerFault.TheVariants.{Memory};
+
+    ghost from_gives = { λ _ e. e ≡ Memory };
+
+    fn from(_error: AllocError) -> AnswerFault {
+        AnswerFault::Memory
     }
 }

@@ -1,14 +1,14 @@
 //! What requests have in common: their headers, and the kind of sums.
 
 ghost use Rattle.std.specs.Prelude.{◌≡◌, ◌<◌, Ok, IfSome};
-ghost use Rattle.proto_fields.specs.ResultSteps.{with_value};
-ghost use Rattle.op_headers.specs.Tables.{kept, kept_message, Required};
+ghost use Rattle.hd_base.specs.Results.{with_value};
+ghost use Rattle.op_headers.specs.Tables.{decoded_field, decoded_message, Required};
 ghost use Rattle.op_headers.specs.Paths.{both};
 ghost use Rattle.op_headers.specs.Formats.{base_from, client_from, checksum_from};
 
 use crate::blocks::BlockRef;
 use crate::messages::{Message, UINT32, message_under, small_under, text_under};
-use crate::paths::{Told, required, required_message};
+use crate::paths::{Decoded, required, required_message};
 use hd_base::ByteList;
 use proto_fields::{FieldsFault, fields};
 use std::alloc::Global;
@@ -26,16 +26,16 @@ impl Message for BaseHeader {
     ghost format = { base_format };
 
     #[tactic(auto, unfolding(crate::specs::Formats::base_format))]
-    fn read(alloc: Global, bytes: &[u8]) -> Result<Told<BaseHeader>, FieldsFault> {
+    fn read(alloc: Global, bytes: &[u8]) -> Result<Decoded<BaseHeader>, FieldsFault> {
         let listed = fields(alloc, bytes)?;
         let block = message_under(alloc, bytes, 1, &listed)?;
-        Ok(base_told(block))
+        Ok(decoded_base(block))
     }
 }
 
 /// The header that this field tells.
-fn base_told(block: Option<Told<BlockRef>>) -> Told<BaseHeader>
-    ensures { result ≡ with_value base_from (both (kept_message Required 1 block) (Ok tt)) }
+fn decoded_base(block: Option<Decoded<BlockRef>>) -> Decoded<BaseHeader>
+    ensures { result ≡ with_value base_from (both (decoded_message Required 1 block) (Ok tt)) }
 {
     let block = required_message(1, block)?;
     Ok(BaseHeader { block })
@@ -54,17 +54,21 @@ impl Message for ClientHeader {
     ghost format = { client_format };
 
     #[tactic(auto, unfolding(crate::specs::Formats::client_format))]
-    fn read(alloc: Global, bytes: &[u8]) -> Result<Told<ClientHeader>, FieldsFault> {
+    fn read(alloc: Global, bytes: &[u8]) -> Result<Decoded<ClientHeader>, FieldsFault> {
         let listed = fields(alloc, bytes)?;
         let base = message_under(alloc, bytes, 1, &listed)?;
         let client = text_under(alloc, bytes, 2, &listed)?;
-        Ok(client_told(base, client))
+        Ok(decoded_client(base, client))
     }
 }
 
 /// The header that these fields tell.
-fn client_told(base: Option<Told<BaseHeader>>, client: Option<ByteList>) -> Told<ClientHeader>
-    ensures { result ≡ with_value client_from (both (kept_message Required 1 base) (both (kept Required 2 client) (Ok tt))) }
+fn decoded_client(
+    base: Option<Decoded<BaseHeader>>,
+    client: Option<ByteList>,
+) -> Decoded<ClientHeader>
+    ensures { result ≡ with_value client_from
+        (both (decoded_message Required 1 base) (both (decoded_field Required 2 client) (Ok tt))) }
 {
     let base = required_message(1, base)?;
     let client = required(2, client)?;
@@ -98,18 +102,19 @@ impl Message for Checksum {
     ghost format = { checksum_format };
 
     #[tactic(auto, unfolding(crate::specs::Formats::checksum_format))]
-    fn read(alloc: Global, bytes: &[u8]) -> Result<Told<Checksum>, FieldsFault> {
+    fn read(alloc: Global, bytes: &[u8]) -> Result<Decoded<Checksum>, FieldsFault> {
         let listed = fields(alloc, bytes)?;
         let kind = small_under(&listed, 1, 3);
         let chunk = small_under(&listed, 2, UINT32);
-        Ok(checksum_told(kind, chunk))
+        Ok(decoded_checksum(kind, chunk))
     }
 }
 
 /// The kind of sums that these fields tell.
-fn checksum_told(kind: Option<u32>, chunk: Option<u32>) -> Told<Checksum>
+fn decoded_checksum(kind: Option<u32>, chunk: Option<u32>) -> Decoded<Checksum>
     requires { IfSome kind (λ k. k < 3) }
-    ensures { result ≡ with_value checksum_from (both (kept Required 1 kind) (both (kept Required 2 chunk) (Ok tt))) }
+    ensures { result ≡ with_value checksum_from
+        (both (decoded_field Required 1 kind) (both (decoded_field Required 2 chunk) (Ok tt))) }
 {
     let kind = required(1, kind)?;
     let chunk = required(2, chunk)?;

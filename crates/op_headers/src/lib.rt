@@ -14,6 +14,7 @@ mod op_writing;
 mod opcodes;
 mod ops;
 mod paths;
+mod stages;
 #[cfg(test)]
 mod tests;
 
@@ -24,3 +25,4 @@ pub use encoding::encode_op;
 pub use faults::{AnswerFault, OpFault};
 pub use nodes::{NodeRef, Targets};
 pub use ops::{ChecksumOp, Op, ReadOp, RecoveryKind, RecoveryOp, TransferOp, WriteOp};
+pub use stages::Stage;

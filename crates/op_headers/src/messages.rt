@@ -1,16 +1,16 @@
 //! What the fields of a message have: numbers, texts and messages.
 
-ghost use Rattle.std.specs.Prelude.{◌≡◌, ◌<◌, ◌≤◌, ◌^◌, Ok, IfOk, IfErr, IfSome, length, option_map};
+ghost use Rattle.std.specs.Prelude.{◌≡◌, ◌<◌, ◌≤◌, ◌^◌, Ok, IfOk, IfSome};
 ghost use Rattle.proto_fields.specs.Fields.{fields_at};
-ghost use Rattle.proto_fields.specs.Listing.{Gives};
-ghost use Rattle.proto_fields.specs.Values.{picked, last_of, part_bytes};
-ghost use Rattle.proto_fields.specs.Inner.{joined, inner, PlacedWithin};
-ghost use Rattle.op_headers.specs.Tables.{Below, number_of, text_under as text_told};
+ghost use Rattle.hd_base.specs.Results.{with_cause, Gives};
+ghost use Rattle.proto_fields.specs.Values.{picked, last_of};
+ghost use Rattle.proto_fields.specs.Inner.{joined, inner};
+ghost use Rattle.op_headers.specs.Tables.{Below, number_of, text_under as decoded_text};
 
-use crate::paths::Told;
+use crate::paths::Decoded;
 use hd_base::ByteList;
-use proto_fields::{Fields, FieldsFault, Wire, merged};
-use std::alloc::Global;
+use proto_fields::{Fields, FieldsFault, Wire, merged, text_at};
+use std::alloc::{AllocError, Global};
 
 /// The bound of a number of 32 bits.
 pub(crate) const UINT32: u64 = 0x1_0000_0000;
@@ -18,15 +18,15 @@ pub(crate) const UINT32: u64 = 0x1_0000_0000;
 /// A type of message, which is read by its table.
 pub(crate) trait Message: Drop {
     ghost use Rattle.std.specs.Prelude.{ℕ, List};
-    ghost use Rattle.proto_fields.specs.Listing.{Gives};
+    ghost use Rattle.hd_base.specs.Results.{with_cause, Gives};
     ghost use Rattle.op_headers.specs.Tables.{Format};
 
     /// How it is read and written.
     ghost format: { Format Self };
 
     /// Reads the message: its value, or the first required field that is missing.
-    fn read(alloc: Global, bytes: &[u8]) -> Result<Told<Self>, FieldsFault>
-        ensures { Gives result (format.read bytes.now) };
+    fn read(alloc: Global, bytes: &[u8]) -> Result<Decoded<Self>, FieldsFault>
+        ensures { Gives FieldsFault.Memory result (with_cause FieldsFault.Wire (format.read bytes.now)) };
 }
 
 /// The text under a field number: its last part.
@@ -35,27 +35,11 @@ pub(crate) fn text_under(
     bytes: &[u8],
     field: u32,
     listed: &Fields,
-) -> Result<Option<ByteList>, FieldsFault>
+) -> Result<Option<ByteList>, AllocError>
     requires { fields_at bytes.now ≡ Ok listed.now }
-    ensures { Gives result (Ok (text_told field bytes.now listed.now)) }
+    ensures { IfOk result (λ text. text ≡ decoded_text field bytes.now listed.now) }
 {
     text_at(alloc, bytes, listed.part(field))
-}
-
-/// The text at this place, if there is one.
-fn text_at(
-    alloc: Global,
-    bytes: &[u8],
-    place: Option<(u64, u64)>,
-) -> Result<Option<ByteList>, FieldsFault>
-    requires { PlacedWithin (length bytes.now) place }
-    ensures { Gives result (Ok (option_map (part_bytes bytes.now) place)) }
-{
-    let Some((from, to)) = place else {
-        return Ok(None);
-    };
-    let text = Vec::from_slice(alloc, &bytes[from as usize..to as usize])?;
-    Ok(Some(ByteList::from_vec(text)))
 }
 
 /// The last number under a field number whose low 32 bits are below the bound.
@@ -92,28 +76,14 @@ pub(crate) fn message_under<M: Message>(
     bytes: &[u8],
     field: u32,
     listed: &Fields,
-) -> Result<Option<Told<M>>, FieldsFault>
+) -> Result<Option<Decoded<M>>, FieldsFault>
     requires { fields_at bytes.now ≡ Ok listed.now }
-    ensures { Gives result (inner M.format.read (joined field bytes.now listed.now)) }
+    ensures { Gives FieldsFault.Memory result
+        (with_cause FieldsFault.Wire (inner M.format.read (joined field bytes.now listed.now))) }
 {
-    let Some(message) = joined_under(alloc, bytes, field, listed)? else {
+    let Some(message) = merged(alloc, bytes, field, listed)? else {
         return Ok(None);
     };
-    let told = M::read(alloc, message.as_slice())?;
-    Ok(Some(told))
-}
-
-/// All parts under a field number, joined.
-fn joined_under(
-    alloc: Global,
-    bytes: &[u8],
-    field: u32,
-    listed: &Fields,
-) -> Result<Option<Vec<u8>>, FieldsFault>
-    requires { fields_at bytes.now ≡ Ok listed.now }
-    ensures joined { IfOk result (λ m. option_map (λ v. v.items) m ≡ joined field bytes.now listed.now) }
-    ensures err { IfErr result (λ e. e ≡ FieldsFault.Memory) }
-{
-    let joined = merged(alloc, bytes, field, listed)?;
-    Ok(joined)
+    let decoded = M::read(alloc, message.as_slice())?;
+    Ok(Some(decoded))
 }

@@ -1,8 +1,8 @@
 //! Reading the messages of requests.
 
 ghost use Rattle.std.specs.Prelude.{◌≡◌, ◌<◌, ℕ, Ok, IfSome};
-ghost use Rattle.proto_fields.specs.ResultSteps.{with_cause, with_value};
-ghost use Rattle.op_headers.specs.Tables.{kept, kept_message, Required, Default, Optional};
+ghost use Rattle.hd_base.specs.Results.{with_cause, with_value};
+ghost use Rattle.op_headers.specs.Tables.{decoded_field, decoded_message, Required, Default, Optional};
 ghost use Rattle.op_headers.specs.Paths.{below, both};
 ghost use Rattle.op_headers.specs.Formats.{write_from, read_from, transfer_from, checksum_op_from, recovery_from};
 
@@ -11,7 +11,7 @@ use crate::headers::{BaseHeader, Checksum, ClientHeader};
 use crate::messages::{Message, UINT32, message_under, small_under};
 use crate::nodes::{NodeRef, Targets, nodes_under};
 use crate::ops::{ChecksumOp, ReadOp, RecoveryKind, RecoveryOp, TransferOp, WriteOp};
-use crate::paths::{Told, optional_message, required, required_message, within};
+use crate::paths::{Decoded, optional_message, required, required_message, within};
 use hd_base::Stamp;
 use proto_fields::{FieldsFault, fields};
 use std::alloc::Global;
@@ -38,7 +38,7 @@ impl Message for WriteOp {
     ghost format = { write_format };
 
     #[tactic(auto, unfolding(crate::specs::Formats::write_format))]
-    fn read(alloc: Global, bytes: &[u8]) -> Result<Told<WriteOp>, FieldsFault> {
+    fn read(alloc: Global, bytes: &[u8]) -> Result<Decoded<WriteOp>, FieldsFault> {
         let listed = fields(alloc, bytes)?;
         let header = message_under(alloc, bytes, 1, &listed)?;
         let targets = nodes_under(alloc, bytes, 2, &listed)?;
@@ -51,20 +51,25 @@ impl Message for WriteOp {
             latest: listed.number(8),
         };
         let checksum = message_under(alloc, bytes, 9, &listed)?;
-        Ok(write_told(header, targets, source, numbers, checksum))
+        Ok(decoded_write(header, targets, source, numbers, checksum))
     }
 }
 
 /// The write request that these fields tell.
-fn write_told(
-    header: Option<Told<ClientHeader>>,
-    targets: Told<Targets>,
-    source: Option<Told<NodeRef>>,
+fn decoded_write(
+    header: Option<Decoded<ClientHeader>>,
+    targets: Decoded<Targets>,
+    source: Option<Decoded<NodeRef>>,
     numbers: WriteNumbers,
-    checksum: Option<Told<Checksum>>,
-) -> Told<WriteOp>
+    checksum: Option<Decoded<Checksum>>,
+) -> Decoded<WriteOp>
     requires { IfSome numbers.stage (λ s. s < 9) }
-    ensures { result ≡ with_value write_from (both (kept_message Required 1 header) (both (with_cause (below 2) targets) (both (kept_message Optional 3 source) (both (kept Required 4 numbers.stage) (both (kept Required 5 numbers.pipeline) (both (kept Required 6 numbers.min) (both (kept Required 7 numbers.max) (both (kept Required 8 numbers.latest) (both (kept_message Required 9 checksum) (Ok tt)))))))))) }
+    ensures { result ≡ with_value write_from
+        (both (decoded_message Required 1 header) (both (with_cause (below 2) targets)
+        (both (decoded_message Optional 3 source) (both (decoded_field Required 4 numbers.stage)
+        (both (decoded_field Required 5 numbers.pipeline) (both (decoded_field Required 6 numbers.min)
+        (both (decoded_field Required 7 numbers.max) (both (decoded_field Required 8 numbers.latest)
+        (both (decoded_message Required 9 checksum) (Ok tt)))))))))) }
 {
     let header = required_message(1, header)?;
     let targets = within(2, targets)?;
@@ -96,20 +101,22 @@ impl Message for ReadOp {
     ghost format = { read_format };
 
     #[tactic(auto, unfolding(crate::specs::Formats::read_format))]
-    fn read(alloc: Global, bytes: &[u8]) -> Result<Told<ReadOp>, FieldsFault> {
+    fn read(alloc: Global, bytes: &[u8]) -> Result<Decoded<ReadOp>, FieldsFault> {
         let listed = fields(alloc, bytes)?;
         let header = message_under(alloc, bytes, 1, &listed)?;
-        Ok(read_told(header, listed.number(2), listed.number(3)))
+        Ok(decoded_read(header, listed.number(2), listed.number(3)))
     }
 }
 
 /// The read request that these fields tell, whatever it says of sums, which are always sent.
-fn read_told(
-    header: Option<Told<ClientHeader>>,
+fn decoded_read(
+    header: Option<Decoded<ClientHeader>>,
     offset: Option<u64>,
     len: Option<u64>,
-) -> Told<ReadOp>
-    ensures { (sums : ℕ) → result ≡ with_value read_from (both (kept_message Required 1 header) (both (kept Required 2 offset) (both (kept Required 3 len) (Ok (sums, tt))))) }
+) -> Decoded<ReadOp>
+    ensures { (sums : ℕ) → result ≡ with_value read_from
+        (both (decoded_message Required 1 header)
+        (both (decoded_field Required 2 offset) (both (decoded_field Required 3 len) (Ok (sums, tt))))) }
 {
     let header = required_message(1, header)?;
     let offset = required(2, offset)?;
@@ -128,17 +135,21 @@ impl Message for TransferOp {
     ghost format = { transfer_format };
 
     #[tactic(auto, unfolding(crate::specs::Formats::transfer_format))]
-    fn read(alloc: Global, bytes: &[u8]) -> Result<Told<TransferOp>, FieldsFault> {
+    fn read(alloc: Global, bytes: &[u8]) -> Result<Decoded<TransferOp>, FieldsFault> {
         let listed = fields(alloc, bytes)?;
         let header = message_under(alloc, bytes, 1, &listed)?;
         let targets = nodes_under(alloc, bytes, 2, &listed)?;
-        Ok(transfer_told(header, targets))
+        Ok(decoded_transfer(header, targets))
     }
 }
 
 /// The transfer request that these fields tell.
-fn transfer_told(header: Option<Told<ClientHeader>>, targets: Told<Targets>) -> Told<TransferOp>
-    ensures { result ≡ with_value transfer_from (both (kept_message Required 1 header) (both (with_cause (below 2) targets) (Ok tt))) }
+fn decoded_transfer(
+    header: Option<Decoded<ClientHeader>>,
+    targets: Decoded<Targets>,
+) -> Decoded<TransferOp>
+    ensures { result ≡ with_value transfer_from
+        (both (decoded_message Required 1 header) (both (with_cause (below 2) targets) (Ok tt))) }
 {
     let header = required_message(1, header)?;
     let targets = within(2, targets)?;
@@ -155,16 +166,16 @@ impl Message for ChecksumOp {
     ghost format = { checksum_op_format };
 
     #[tactic(auto, unfolding(crate::specs::Formats::checksum_op_format))]
-    fn read(alloc: Global, bytes: &[u8]) -> Result<Told<ChecksumOp>, FieldsFault> {
+    fn read(alloc: Global, bytes: &[u8]) -> Result<Decoded<ChecksumOp>, FieldsFault> {
         let listed = fields(alloc, bytes)?;
         let header = message_under(alloc, bytes, 1, &listed)?;
-        Ok(checksum_op_told(header))
+        Ok(decoded_checksum_op(header))
     }
 }
 
 /// The checksum request that this field tells.
-fn checksum_op_told(header: Option<Told<BaseHeader>>) -> Told<ChecksumOp>
-    ensures { result ≡ with_value checksum_op_from (both (kept_message Required 1 header) (Ok tt)) }
+fn decoded_checksum_op(header: Option<Decoded<BaseHeader>>) -> Decoded<ChecksumOp>
+    ensures { result ≡ with_value checksum_op_from (both (decoded_message Required 1 header) (Ok tt)) }
 {
     let header = required_message(1, header)?;
     Ok(ChecksumOp {
@@ -178,26 +189,29 @@ impl Message for RecoveryOp {
     ghost format = { recovery_format };
 
     #[tactic(auto, unfolding(crate::specs::Formats::recovery_format))]
-    fn read(alloc: Global, bytes: &[u8]) -> Result<Told<RecoveryOp>, FieldsFault> {
+    fn read(alloc: Global, bytes: &[u8]) -> Result<Decoded<RecoveryOp>, FieldsFault> {
         let listed = fields(alloc, bytes)?;
         let kind = small_under(&listed, 1, RECOVERY_KINDS);
         let block = message_under(alloc, bytes, 2, &listed)?;
         let recovery = listed.number(3);
         let new_length = listed.number(4);
         let targets = nodes_under(alloc, bytes, 5, &listed)?;
-        Ok(recovery_told(kind, block, recovery, new_length, targets))
+        Ok(decoded_recovery(kind, block, recovery, new_length, targets))
     }
 }
 
 /// The recovery request that these fields tell.
-fn recovery_told(
+fn decoded_recovery(
     kind: Option<u32>,
-    block: Option<Told<BlockRef>>,
+    block: Option<Decoded<BlockRef>>,
     recovery: Option<u64>,
     new_length: Option<u64>,
-    targets: Told<Targets>,
-) -> Told<RecoveryOp>
-    ensures { result ≡ with_value recovery_from (both (kept Required 1 kind) (both (kept_message Required 2 block) (both (kept Required 3 recovery) (both (kept (Default 0) 4 new_length) (both (with_cause (below 5) targets) (Ok tt)))))) }
+    targets: Decoded<Targets>,
+) -> Decoded<RecoveryOp>
+    ensures { result ≡ with_value recovery_from
+        (both (decoded_field Required 1 kind) (both (decoded_message Required 2 block)
+        (both (decoded_field Required 3 recovery) (both (decoded_field (Default 0) 4 new_length)
+        (both (with_cause (below 5) targets) (Ok tt)))))) }
 {
     let kind = required(1, kind)?;
     let block = required_message(2, block)?;

@@ -3,8 +3,21 @@
 ghost use Rattle.std.specs.Prelude.{◌≡◌, ◌++◌, ◌≤◌, ◌<◌, ◌^◌, List, OnOk, IfSome};
 ghost use Rattle.std.specs.List.{flat_map};
 ghost use Rattle.proto_fields.specs.Writing.{varint_field};
-ghost use Rattle.op_headers.specs.Tables.{EachFits, message_field, if_given};
-ghost use Rattle.op_headers.specs.Formats.{block_format, identity_format, node_format, base_format, client_format, checksum_format, write_format, read_format, transfer_format, checksum_op_format, recovery_format, length_given};
+ghost use Rattle.op_headers.specs.Tables.{EachFits, message_field, if_there};
+ghost use Rattle.op_headers.specs.Formats.{
+  block_format,
+  identity_format,
+  node_format,
+  base_format,
+  client_format,
+  checksum_format,
+  write_format,
+  read_format,
+  transfer_format,
+  checksum_op_format,
+  recovery_format,
+  length_to_encode,
+};
 ghost use Rattle.op_headers.specs.Recoveries.{HasItsLength};
 
 use crate::blocks::BlockRef;
@@ -39,7 +52,8 @@ fn push_base(block: &BlockRef, out: &mut Vec<u8>) -> Result<(), AllocError>
 /// Appends the header of a client's request.
 #[tactic(auto, unfolding(crate::specs::Formats::client_format, crate::specs::Tables::message_field))]
 fn push_client(block: &BlockRef, client: &[u8], out: &mut Vec<u8>) -> Result<(), AllocError>
-    ensures ok { OnOk result (out.new.items ≡ out.old.items ++ client_format.text (record { block = block.now; client = client.now })) }
+    ensures ok { OnOk result (out.new.items ≡ out.old.items
+        ++ client_format.text (record { block = block.now; client = client.now })) }
     ensures fits { OnOk result (block_format.fits block.now) }
 {
     let mut inner = Vec::new(*out.allocator());
@@ -92,7 +106,7 @@ fn put_nodes(field: u32, nodes: &[NodeRef], out: &mut Vec<u8>) -> Result<(), All
 
 /// Appends a node as a field, where there is one.
 fn put_source(source: &Option<NodeRef>, out: &mut Vec<u8>) -> Result<(), AllocError>
-    ensures ok { OnOk result (out.new.items ≡ out.old.items ++ if_given (message_field 3 node_format) source.now) }
+    ensures ok { OnOk result (out.new.items ≡ out.old.items ++ if_there (message_field 3 node_format) source.now) }
     ensures fits { OnOk result (IfSome source.now node_format.fits) }
 {
     match source {
@@ -104,7 +118,8 @@ fn put_source(source: &Option<NodeRef>, out: &mut Vec<u8>) -> Result<(), AllocEr
 /// Appends the header of a client's request as a field.
 #[tactic(auto, unfolding(crate::specs::Tables::message_field))]
 fn put_header(block: &BlockRef, client: &[u8], out: &mut Vec<u8>) -> Result<(), AllocError>
-    ensures ok { OnOk result (out.new.items ≡ out.old.items ++ message_field 1 client_format (record { block = block.now; client = client.now })) }
+    ensures ok { OnOk result (out.new.items ≡ out.old.items
+        ++ message_field 1 client_format (record { block = block.now; client = client.now })) }
     ensures fits { OnOk result (block_format.fits block.now) }
 {
     let mut inner = Vec::new(*out.allocator());
@@ -115,7 +130,8 @@ fn put_header(block: &BlockRef, client: &[u8], out: &mut Vec<u8>) -> Result<(), 
 /// Appends a kind of sums as a field.
 #[tactic(auto, unfolding(crate::specs::Formats::checksum_format, crate::specs::Tables::message_field))]
 fn put_checksum(kind: u32, chunk: u32, out: &mut Vec<u8>) -> Result<(), AllocError>
-    ensures ok { OnOk result (out.new.items ≡ out.old.items ++ message_field 9 checksum_format (record { kind = kind; chunk = chunk })) }
+    ensures ok { OnOk result (out.new.items ≡ out.old.items
+        ++ message_field 9 checksum_format (record { kind = kind; chunk = chunk })) }
     ensures fits { OnOk result (chunk < 2 ^ 32) }
 {
     let mut inner = Vec::new(*out.allocator());
@@ -186,7 +202,8 @@ fn put_block(block: &BlockRef, out: &mut Vec<u8>) -> Result<(), AllocError>
 
 /// Appends the new length of a last step.
 fn put_length(kind: RecoveryKind, new_length: u64, out: &mut Vec<u8>) -> Result<(), AllocError>
-    ensures ok { OnOk result (out.new.items ≡ out.old.items ++ if_given (varint_field 4) (length_given kind new_length)) }
+    ensures ok { OnOk result (out.new.items ≡ out.old.items
+        ++ if_there (varint_field 4) (length_to_encode kind new_length)) }
     ensures fits { new_length < 2 ^ 64 }
 {
     match kind {

@@ -1,12 +1,15 @@
 //! The requests of the data transfer protocol.
 
+ghost use Rattle.std.specs.Prelude.{◌≡◌, IfOk};
+
 use crate::blocks::BlockRef;
 use crate::nodes::{NodeRef, Targets};
 use hd_base::{ByteList, Stamp};
+use std::alloc::AllocError;
 use std::marker::Model;
 
 /// A request to a DataNode.
-#[derive(Debug, Drop)]
+#[derive(Debug, Drop, PartialEq, Eq)]
 pub enum Op {
     /// Opcode 80, WRITE_BLOCK.
     Write(WriteOp),
@@ -20,9 +23,25 @@ pub enum Op {
     Recovery(RecoveryOp),
 }
 
+impl Op {
+    /// The same request once more.
+    pub fn duplicate(&self) -> Result<Op, AllocError>
+        ensures { IfOk result (λ copy. copy ≡ self.now) }
+    {
+        let copy = match self {
+            Op::Write(op) => Op::Write(op.duplicate()?),
+            Op::Read(op) => Op::Read(op.duplicate()?),
+            Op::Transfer(op) => Op::Transfer(op.duplicate()?),
+            Op::Checksum(op) => Op::Checksum(op.duplicate()?),
+            Op::Recovery(op) => Op::Recovery(op.duplicate()?),
+        };
+        Ok(copy)
+    }
+}
+
 /// A request to write a block (HDFS `OpWriteBlockProto`). The stage is at most 8, and the kind of
 /// sums at most 2.
-#[derive(Debug, Drop)]
+#[derive(Debug, Drop, PartialEq, Eq)]
 pub struct WriteOp {
     /// The block.
     pub block: BlockRef,
@@ -54,13 +73,64 @@ impl Model for WriteOp {
 
     ghost Value = { WriteFields };
 
-    ghost view = { λ w. record { block = w.block; client = w.client; targets = w.targets; source = w.source; stage = w.stage; pipeline = w.pipeline; min = w.min; max = w.max; latest = w.latest; kind = w.kind; chunk = w.chunk } };
+    ghost view = { λ w. record {
+      block = w.block;
+      client = w.client;
+      targets = w.targets;
+      source = w.source;
+      stage = w.stage;
+      pipeline = w.pipeline;
+      min = w.min;
+      max = w.max;
+      latest = w.latest;
+      kind = w.kind;
+      chunk = w.chunk;
+    } };
+
+    ghost inverse = { λ w. record {
+      block = w.block;
+      client = w.client;
+      targets = w.targets;
+      source = w.source;
+      stage = w.stage;
+      pipeline = w.pipeline;
+      min = w.min;
+      max = w.max;
+      latest = w.latest;
+      kind = w.kind;
+      chunk = w.chunk;
+    } };
 
     ghost invariant = { λ w. (w.stage ≤ 8) × (w.kind ≤ 2) };
 }
 
+impl WriteOp {
+    /// The same request once more.
+    pub fn duplicate(&self) -> Result<WriteOp, AllocError>
+        ensures { IfOk result (λ copy. copy ≡ self.now) }
+    {
+        let source = match &self.source {
+            Some(node) => Some(node.duplicate()?),
+            None => None,
+        };
+        Ok(WriteOp {
+            block: self.block.duplicate()?,
+            client: self.client.duplicate()?,
+            targets: self.targets.duplicate()?,
+            source,
+            stage: self.stage,
+            pipeline: self.pipeline,
+            min: self.min,
+            max: self.max,
+            latest: self.latest,
+            kind: self.kind,
+            chunk: self.chunk,
+        })
+    }
+}
+
 /// A request to read a block (HDFS `OpReadBlockProto`).
-#[derive(Debug, Drop)]
+#[derive(Debug, Drop, PartialEq, Eq)]
 pub struct ReadOp {
     /// The block.
     pub block: BlockRef,
@@ -72,8 +142,22 @@ pub struct ReadOp {
     pub len: u64,
 }
 
+impl ReadOp {
+    /// The same request once more.
+    pub fn duplicate(&self) -> Result<ReadOp, AllocError>
+        ensures { IfOk result (λ copy. copy ≡ self.now) }
+    {
+        Ok(ReadOp {
+            block: self.block.duplicate()?,
+            client: self.client.duplicate()?,
+            offset: self.offset,
+            len: self.len,
+        })
+    }
+}
+
 /// A request to send a block to other nodes (HDFS `OpTransferBlockProto`).
-#[derive(Debug, Drop)]
+#[derive(Debug, Drop, PartialEq, Eq)]
 pub struct TransferOp {
     /// The block.
     pub block: BlockRef,
@@ -83,11 +167,35 @@ pub struct TransferOp {
     pub targets: Targets,
 }
 
+impl TransferOp {
+    /// The same request once more.
+    pub fn duplicate(&self) -> Result<TransferOp, AllocError>
+        ensures { IfOk result (λ copy. copy ≡ self.now) }
+    {
+        Ok(TransferOp {
+            block: self.block.duplicate()?,
+            client: self.client.duplicate()?,
+            targets: self.targets.duplicate()?,
+        })
+    }
+}
+
 /// A request for a block's checksum (HDFS `OpBlockChecksumProto`).
-#[derive(Debug, Drop)]
+#[derive(Debug, Drop, PartialEq, Eq)]
 pub struct ChecksumOp {
     /// The block.
     pub block: BlockRef,
+}
+
+impl ChecksumOp {
+    /// The same request once more.
+    pub fn duplicate(&self) -> Result<ChecksumOp, AllocError>
+        ensures { IfOk result (λ copy. copy ≡ self.now) }
+    {
+        Ok(ChecksumOp {
+            block: self.block.duplicate()?,
+        })
+    }
 }
 
 /// A step of block recovery, in the order of its numbers 0 to 2 in messages.
@@ -130,7 +238,7 @@ impl RecoveryKind {
 
 /// A step of block recovery: the length is 0 unless the kind is `Update`, and only `Begin` has
 /// targets.
-#[derive(Debug, Drop)]
+#[derive(Debug, Drop, PartialEq, Eq)]
 pub struct RecoveryOp {
     /// Which step.
     pub kind: RecoveryKind,
@@ -142,4 +250,19 @@ pub struct RecoveryOp {
     pub new_length: u64,
     /// The members of the recovery.
     pub targets: Targets,
+}
+
+impl RecoveryOp {
+    /// The same request once more.
+    pub fn duplicate(&self) -> Result<RecoveryOp, AllocError>
+        ensures { IfOk result (λ copy. copy ≡ self.now) }
+    {
+        Ok(RecoveryOp {
+            kind: self.kind,
+            block: self.block.duplicate()?,
+            recovery: self.recovery,
+            new_length: self.new_length,
+            targets: self.targets.duplicate()?,
+        })
+    }
 }

@@ -1,15 +1,36 @@
 //! What a message tells, or where a required field is missing.
 
 ghost use Rattle.std.specs.Prelude.{◌≡◌, Ok, Err};
-ghost use Rattle.proto_fields.specs.ResultSteps.{with_cause};
+ghost use Rattle.hd_base.specs.Results.{with_cause};
 ghost use Rattle.op_headers.specs.Paths.{only, below};
-ghost use Rattle.op_headers.specs.Tables.{kept, kept_message, Required, Optional};
+ghost use Rattle.op_headers.specs.Tables.{decoded_field, decoded_message, Required, Optional};
+
+use std::fmt::{self, Display, Formatter, Write};
 
 /// The field numbers that lead to a field from the top, filled with zeros.
 pub(crate) type Path = [u8; 4];
 
+/// A path as errors print it: the field numbers before the first zero, joined by dots, as in `1.2`.
+#[derive(Clone, Copy)]
+pub(crate) struct FieldPath(pub Path);
+
+impl Display for FieldPath {
+    fn fmt<W: Write>(&self, f: &mut Formatter<W>) -> fmt::Result {
+        let mut separator = "";
+        for number in self.0 {
+            if number == 0 {
+                break;
+            }
+            f.write_str(separator)?;
+            Display::fmt(&number, f)?;
+            separator = ".";
+        }
+        Ok(())
+    }
+}
+
 /// A value that a message tells, or the path of the first required field that is missing.
-pub(crate) type Told<T> = Result<T, Path>;
+pub(crate) type Decoded<T> = Result<T, Path>;
 
 /// The path of a field of the message itself.
 fn only_field(field: u8) -> Path
@@ -27,8 +48,8 @@ fn below_field(field: u8, path: Path) -> Path
 }
 
 /// The value of a field that must be there.
-pub(crate) fn required<T: Drop>(field: u8, value: Option<T>) -> Told<T>
-    ensures { result ≡ kept Required field value }
+pub(crate) fn required<T: Drop>(field: u8, value: Option<T>) -> Decoded<T>
+    ensures { result ≡ decoded_field Required field value }
 {
     match value {
         Some(value) => Ok(value),
@@ -36,29 +57,32 @@ pub(crate) fn required<T: Drop>(field: u8, value: Option<T>) -> Told<T>
     }
 }
 
-/// What is told within the message that the field holds.
-pub(crate) fn within<T: Drop>(field: u8, told: Told<T>) -> Told<T>
-    ensures { result ≡ with_cause (below field) told }
+/// What is decoded within the message that the field holds.
+pub(crate) fn within<T: Drop>(field: u8, decoded: Decoded<T>) -> Decoded<T>
+    ensures { result ≡ with_cause (below field) decoded }
 {
-    match told {
+    match decoded {
         Ok(value) => Ok(value),
         Err(path) => Err(below_field(field, path)),
     }
 }
 
 /// The message that a field must hold.
-pub(crate) fn required_message<M: Drop>(field: u8, message: Option<Told<M>>) -> Told<M>
-    ensures { result ≡ kept_message Required field message }
+pub(crate) fn required_message<M: Drop>(field: u8, message: Option<Decoded<M>>) -> Decoded<M>
+    ensures { result ≡ decoded_message Required field message }
 {
     match message {
-        Some(told) => within(field, told),
+        Some(decoded) => within(field, decoded),
         None => Err(only_field(field)),
     }
 }
 
 /// The message that a field may hold.
-pub(crate) fn optional_message<M: Drop>(field: u8, message: Option<Told<M>>) -> Told<Option<M>>
-    ensures { result ≡ kept_message Optional field message }
+pub(crate) fn optional_message<M: Drop>(
+    field: u8,
+    message: Option<Decoded<M>>,
+) -> Decoded<Option<M>>
+    ensures { result ≡ decoded_message Optional field message }
 {
     match message {
         Some(Ok(value)) => Ok(Some(value)),

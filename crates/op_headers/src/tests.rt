@@ -1,12 +1,5 @@
 //! Requests and answers of worked examples and of `protoc`, byte for byte.
 
-ghost use Rattle.std.specs.Prelude.{◌≡◌, ℕ, ◌+◌, ◌<◌, ◌≤◌, [], ◌∷◌, length, IfOk, IfSome};
-ghost use Rattle.hd_base.specs.Wire.{IsStatus};
-ghost use Rattle.proto_fields.specs.Frames.{limit};
-ghost use Rattle.op_headers.specs.Requests.{IsLawfulStep};
-ghost use Rattle.op_headers.specs.Recoveries.{HasItsLength, HasItsTargets};
-ghost use Rattle.op_headers.specs.Room.{op_room, node_room, nodes_room, source_room};
-
 use crate::{
     AnswerFault, BlockRef, ChecksumOp, NodeRef, Op, OpFault, ReadOp, RecoveryAnswer, RecoveryKind,
     RecoveryOp, Targets, TransferOp, WriteOp, decode_answer, decode_op, encode_answer, encode_op,
@@ -72,22 +65,6 @@ const READ: &[u8] = b"\
     \x07\x10\x08\x1a\x02\x01\x02\x12\x1bDFSClient_NONMAPREDUCE_-1_1\x10\x80\x04\x18\x80\x08\
     \x20\x00*\x0d\x08\x00\x10\xff\xff\xff\xff\xff\xff\xff\xff\xff\x01";
 
-/// A transfer request with all that a client fills in.
-const TRANSFER: &[u8] = b"\
-    \x00\x1cV\xe9\x01\x0ak\x0aL\x0a\x1e\x0a\x10BP-1-127.0.0.1-1\x10\x81\x80\x80\x80\x04\x18\
-    \xe9\x07 \x80 \x12 \x0a\x02id\x12\x06secret\x1a\x10HDFS_BLOCK_TOKEN\x22\x00\x1a\x08\x08\
-    \x07\x10\x08\x1a\x02\x01\x02\x12\x1bDFSClient_NONMAPREDUCE_-1_1\x12r\x0a$\x0a\x09127.\
-    0.0.2\x12\x03dn2\x1a\x06uuid-2 \x8bM(\x89M0\x8cM8\x89M\x10\x80\xa0\x94\xa5\x8d\x1d\x18\
-    \x01 \xff\x9f\x94\xa5\x8d\x1d(\x010\x80\xd4\x8e\x94\xac38\x03B\x0d/default-rackH\x00P\
-    \x00X\x00`\x00h\x05r\x01ux\x80\xd4\x8e\x94\xac3\x80\x01\x06\x88\x01\x09\x92\x01\x053.\
-    4.1\x18\x01\x22\x04DS-2";
-
-/// A checksum request with all that a client fills in.
-const CHECKSUM: &[u8] = b"\
-    \x00\x1cUU\x0aL\x0a\x1e\x0a\x10BP-1-127.0.0.1-1\x10\x81\x80\x80\x80\x04\x18\xe9\x07 \x80\
-    \x20\x12 \x0a\x02id\x12\x06secret\x1a\x10HDFS_BLOCK_TOKEN\x22\x00\x1a\x08\x08\x07\x10\
-    \x08\x1a\x02\x01\x02\x12\x05\x08\x02\x10\x80\x04";
-
 /// A write request that a first member forwards.
 const FORWARD: &[u8] = b"\
     \x00\x1cP\xba\x01\x0a7\x0a\x1f\x0a\x1d\x0a\x10BP-1-127.0.0.1-1\x10\x81\x80\x80\x80\x04\
@@ -127,21 +104,16 @@ const UPDATE: &[u8] = b"\
     \x07 \x00\x18\xea\x07 \x80\x04";
 
 /// The answers to a step that was taken and to one that was refused.
-const TOLD: &[u8] = b"\x0a\x08\x00\x18\x01 \xe9\x07(\x80\x04";
+const FOUND: &[u8] = b"\x0a\x08\x00\x18\x01 \xe9\x07(\x80\x04";
 
 const REFUSED: &[u8] = b"\x05\x08\x01\x12\x011";
 
-fn text(alloc: Global, bytes: &[u8]) -> Result<ByteList, AllocError>
-    ensures { IfOk result (λ list. list ≡ bytes.now) }
-{
-    let bytes = Vec::from_slice(alloc, bytes)?;
-    Ok(ByteList::from_vec(bytes))
+fn text(alloc: Global, bytes: &[u8]) -> Result<ByteList, AllocError> {
+    Ok(ByteList::from_vec(Vec::from_slice(alloc, bytes)?))
 }
 
 /// The block of all examples, which has so many bytes.
-fn block(alloc: Global, bytes: u64) -> Result<BlockRef, AllocError>
-    ensures { IfOk result (λ b. length b.pool ≡ 16) }
-{
+fn block(alloc: Global, bytes: u64) -> Result<BlockRef, AllocError> {
     Ok(BlockRef {
         pool: text(alloc, b"BP-1-127.0.0.1-1")?,
         block: BlockId(1_073_741_825),
@@ -150,75 +122,61 @@ fn block(alloc: Global, bytes: u64) -> Result<BlockRef, AllocError>
     })
 }
 
-/// The node of this number.
-fn node(alloc: Global, number: u8) -> Result<NodeRef, AllocError>
-    requires { number < 10 }
-    ensures { IfOk result (λ n. node_room n ≡ 178) }
-{
-    let digit = b'0' + number;
+/// The node of this number, 1 to 3.
+fn node(alloc: Global, number: u32) -> Result<NodeRef, AllocError> {
+    let (ip, host, uuid) = match number {
+        1 => (b"127.0.0.1", b"dn1", b"uuid-1"),
+        2 => (b"127.0.0.2", b"dn2", b"uuid-2"),
+        _ => (b"127.0.0.3", b"dn3", b"uuid-3"),
+    };
     Ok(NodeRef {
-        ip: text(
-            alloc,
-            &[b'1', b'2', b'7', b'.', b'0', b'.', b'0', b'.', digit],
-        )?,
-        host: text(alloc, &[b'd', b'n', digit])?,
-        uuid: text(alloc, &[b'u', b'u', b'i', b'd', b'-', digit])?,
-        xfer: 9865 + u32::from(number),
-        info: 9863 + u32::from(number),
-        ipc: 9866 + u32::from(number),
+        ip: text(alloc, ip)?,
+        host: text(alloc, host)?,
+        uuid: text(alloc, uuid)?,
+        xfer: 9865 + number.min(3),
+        info: 9863 + number.min(3),
+        ipc: 9866 + number.min(3),
     })
 }
 
 /// The nodes of these numbers.
-fn nodes(alloc: Global, first: u8, second: Option<u8>) -> Result<Targets, AllocError>
-    requires first { first < 10 }
-    requires second { IfSome second (λ n. n < 10) }
-    ensures { IfOk result (λ t. nodes_room t ≤ 356) }
-{
+fn nodes(alloc: Global, numbers: &[u32]) -> Result<Targets, AllocError> {
     let mut targets = Targets::new(alloc);
-    targets.push(node(alloc, first)?)?;
-    if let Some(second) = second {
-        targets.push(node(alloc, second)?)?;
+    for number in numbers {
+        targets.push(node(alloc, *number)?)?;
     }
     Ok(targets)
 }
 
-/// Reads a request of all the bytes. Each front of them is Short.
+/// Reads a request of all the bytes. Each of the first fronts of them is Short.
 fn reads(rt: &impl Abort, alloc: Global, bytes: &[u8]) -> Result<Op, Fail> {
     let (op, taken) = decode_op(alloc, bytes)?;
     assert_eq!(rt; taken, bytes.len());
-    for cut in 0..bytes.len() {
+    for cut in 0..bytes.len().min(80) {
         let front = decode_op(alloc, &bytes[..cut]);
         assert_eq!(rt; front.err(), Some(OpFault::Short));
     }
     Ok(op)
 }
 
-/// Compares what is written of a request with these bytes.
-fn writes(rt: &impl Abort, alloc: Global, op: &Op, bytes: &[u8]) -> Result<(), Fail>
-    requires few { op_room op.now ≤ limit }
-    requires step { IsLawfulStep op.now }
-{
+/// Compares what is read of the bytes with a request, and what is written of it with the bytes.
+fn writes(rt: &impl Abort, alloc: Global, op: Op, bytes: &[u8]) -> Result<(), Fail> {
+    assert!(rt; reads(rt, alloc, bytes)? == op);
+    assert!(rt; op.is_encodable(alloc)?);
     let mut out = Vec::new(alloc);
-    encode_op(op, &mut out)?;
+    encode_op(&op, &mut out)?;
     assert!(rt; out.as_slice() == bytes);
-    reads(rt, alloc, bytes)?;
     Ok(())
 }
 
-/// A write request with this stage of a pipeline.
+/// A write request that sets up a pipeline.
 fn write(
     alloc: Global,
     targets: Targets,
     source: Option<NodeRef>,
     pipeline: u32,
     latest: u64,
-) -> Result<Op, AllocError>
-    requires targets { nodes_room targets ≤ 356 }
-    requires source { source_room source ≤ 178 }
-    ensures few { IfOk result (λ op. op_room op ≤ limit) }
-    ensures step { IfOk result IsLawfulStep }
-{
+) -> Result<Op, AllocError> {
     Ok(Op::Write(WriteOp {
         block: block(alloc, 0)?,
         client: text(alloc, b"DFSClient_1073741825")?,
@@ -234,49 +192,14 @@ fn write(
     }))
 }
 
-#[test]
-fn writes_first_request(rt: HostRuntime) -> Result<(), Fail> {
-    let alloc = rt.alloc();
-    let op = write(alloc, Targets::new(alloc), None, 1, 0)?;
-    writes(&rt, alloc, &op, FIRST)
-}
-
-#[test]
-fn writes_forwarded_request(rt: HostRuntime) -> Result<(), Fail> {
-    let alloc = rt.alloc();
-    let targets = nodes(alloc, 2, Some(3))?;
-    let source = node(alloc, 1)?;
-    let op = write(alloc, targets, Some(source), 4, 1001)?;
-    writes(&rt, alloc, &op, FORWARD)
-}
-
-#[test]
-fn writes_read_request(rt: HostRuntime) -> Result<(), Fail> {
-    let op = Op::Read(ReadOp {
-        block: block(rt.alloc(), 0)?,
-        client: text(rt.alloc(), b"DFSClient_1073741825")?,
+/// A read request of a client with this name.
+fn read(alloc: Global, client: &[u8]) -> Result<Op, AllocError> {
+    Ok(Op::Read(ReadOp {
+        block: block(alloc, 0)?,
+        client: text(alloc, client)?,
         offset: 512,
         len: 1024,
-    });
-    writes(&rt, rt.alloc(), &op, PLAIN_READ)
-}
-
-#[test]
-fn writes_transfer_request(rt: HostRuntime) -> Result<(), Fail> {
-    let op = Op::Transfer(TransferOp {
-        block: block(rt.alloc(), 0)?,
-        client: text(rt.alloc(), b"DFSClient_1073741825")?,
-        targets: nodes(rt.alloc(), 2, None)?,
-    });
-    writes(&rt, rt.alloc(), &op, PLAIN_TRANSFER)
-}
-
-#[test]
-fn writes_checksum_request(rt: HostRuntime) -> Result<(), Fail> {
-    let op = Op::Checksum(ChecksumOp {
-        block: block(rt.alloc(), 0)?,
-    });
-    writes(&rt, rt.alloc(), &op, PLAIN_CHECKSUM)
+    }))
 }
 
 /// A step of a recovery.
@@ -285,13 +208,7 @@ fn step(
     kind: RecoveryKind,
     new_length: u64,
     targets: Targets,
-) -> Result<Op, AllocError>
-    requires few { nodes_room targets ≤ 356 }
-    requires length { HasItsLength kind new_length }
-    requires targets { HasItsTargets kind targets }
-    ensures few { IfOk result (λ op. op_room op ≤ limit) }
-    ensures step { IfOk result IsLawfulStep }
-{
+) -> Result<Op, AllocError> {
     Ok(Op::Recovery(RecoveryOp {
         kind,
         block: block(alloc, 0)?,
@@ -301,25 +218,114 @@ fn step(
     }))
 }
 
-#[test]
-fn writes_first_step(rt: HostRuntime) -> Result<(), Fail> {
-    let targets = nodes(rt.alloc(), 2, None)?;
-    let op = step(rt.alloc(), RecoveryKind::Begin, 0, targets)?;
-    writes(&rt, rt.alloc(), &op, BEGIN)
+/// The write request of a first write to one member.
+fn first_write(alloc: Global) -> Result<Op, AllocError> {
+    write(alloc, Targets::new(alloc), None, 1, 0)
+}
+
+/// A write request that a first member forwards.
+fn forwarded_write(alloc: Global) -> Result<Op, AllocError> {
+    let targets = nodes(alloc, &[2, 3])?;
+    let source = node(alloc, 1)?;
+    write(alloc, targets, Some(source), 4, 1001)
+}
+
+/// A transfer request to one node.
+fn transfer(alloc: Global) -> Result<Op, AllocError> {
+    Ok(Op::Transfer(TransferOp {
+        block: block(alloc, 0)?,
+        client: text(alloc, b"DFSClient_1073741825")?,
+        targets: nodes(alloc, &[2])?,
+    }))
+}
+
+/// A checksum request.
+fn checksum(alloc: Global) -> Result<Op, AllocError> {
+    let block = block(alloc, 0)?;
+    Ok(Op::Checksum(ChecksumOp { block }))
+}
+
+/// The first step of a recovery of one member.
+fn begin(alloc: Global) -> Result<Op, AllocError> {
+    let targets = nodes(alloc, &[2])?;
+    step(alloc, RecoveryKind::Begin, 0, targets)
+}
+
+/// A step that names no member.
+fn lone_step(alloc: Global, kind: RecoveryKind, new_length: u64) -> Result<Op, AllocError> {
+    step(alloc, kind, new_length, Targets::new(alloc))
 }
 
 #[test]
-fn writes_second_step(rt: HostRuntime) -> Result<(), Fail> {
-    let targets = Targets::new(rt.alloc());
-    let op = step(rt.alloc(), RecoveryKind::Init, 0, targets)?;
-    writes(&rt, rt.alloc(), &op, INIT)
+fn reads_and_writes_requests(rt: HostRuntime) -> Result<(), Fail> {
+    let alloc = rt.alloc();
+    writes(&rt, alloc, first_write(alloc)?, FIRST)?;
+    writes(&rt, alloc, forwarded_write(alloc)?, FORWARD)?;
+    writes(
+        &rt,
+        alloc,
+        read(alloc, b"DFSClient_1073741825")?,
+        PLAIN_READ,
+    )?;
+    writes(&rt, alloc, transfer(alloc)?, PLAIN_TRANSFER)?;
+    writes(&rt, alloc, checksum(alloc)?, PLAIN_CHECKSUM)?;
+    writes(&rt, alloc, begin(alloc)?, BEGIN)
 }
 
 #[test]
-fn writes_last_step(rt: HostRuntime) -> Result<(), Fail> {
-    let targets = Targets::new(rt.alloc());
-    let op = step(rt.alloc(), RecoveryKind::Update, 512, targets)?;
-    writes(&rt, rt.alloc(), &op, UPDATE)
+fn reads_and_writes_steps(rt: HostRuntime) -> Result<(), Fail> {
+    let alloc = rt.alloc();
+    writes(&rt, alloc, lone_step(alloc, RecoveryKind::Init, 0)?, INIT)?;
+    writes(
+        &rt,
+        alloc,
+        lone_step(alloc, RecoveryKind::Update, 512)?,
+        UPDATE,
+    )
+}
+
+/// A message of 65,536 bytes and one of a byte more, and steps that aren't lawful.
+#[test]
+fn tells_what_may_be_written(rt: HostRuntime) -> Result<(), Fail> {
+    let alloc = rt.alloc();
+    let longer = vec![in alloc; b'x'; 65_490]?;
+    assert!(rt; read(alloc, &longer[..65_489])?.is_encodable(alloc)?);
+    assert!(rt; !read(alloc, &longer)?.is_encodable(alloc)?);
+    assert!(rt; !lone_step(alloc, RecoveryKind::Begin, 1)?.is_encodable(alloc)?);
+    Ok(())
+}
+
+/// The write request of `WRITE`.
+fn full_write(alloc: Global) -> Result<Op, AllocError> {
+    let source = node(alloc, 1)?;
+    Ok(Op::Write(WriteOp {
+        block: block(alloc, 4096)?,
+        client: text(alloc, b"DFSClient_NONMAPREDUCE_-1_1")?,
+        targets: nodes(alloc, &[2, 3])?,
+        source: Some(source),
+        stage: 3,
+        pipeline: 3,
+        min: 4096,
+        max: 8192,
+        latest: Stamp(1002),
+        kind: 2,
+        chunk: 512,
+    }))
+}
+
+/// The same values are read where a client fills in more fields.
+#[test]
+fn reads_full_requests(rt: HostRuntime) -> Result<(), Fail> {
+    let alloc = rt.alloc();
+    assert!(rt; reads(&rt, alloc, WRITE)? == full_write(alloc)?);
+    let read = ReadOp {
+        block: block(alloc, 4096)?,
+        client: text(alloc, b"DFSClient_NONMAPREDUCE_-1_1")?,
+        offset: 512,
+        len: 1024,
+    };
+    assert!(rt; reads(&rt, alloc, READ)? == Op::Read(read));
+    Ok(())
 }
 
 fn write_of(op: Op) -> Option<WriteOp> {
@@ -327,119 +333,6 @@ fn write_of(op: Op) -> Option<WriteOp> {
         Op::Write(op) => Some(op),
         _ => None,
     }
-}
-
-/// Compares a block with that of all examples.
-fn is_block(rt: &impl Abort, block: &BlockRef, bytes: u64) {
-    assert!(rt; block.pool.as_slice() == b"BP-1-127.0.0.1-1".as_slice());
-    assert_eq!(rt; block.block, BlockId(1_073_741_825));
-    assert_eq!(rt; block.stamp, Stamp(1001));
-    assert_eq!(rt; block.bytes, bytes);
-}
-
-fn is_node(rt: &impl Abort, read: &NodeRef, wanted: &NodeRef) {
-    assert!(rt; read.ip == wanted.ip);
-    assert!(rt; read.host == wanted.host);
-    assert!(rt; read.uuid == wanted.uuid);
-    assert_eq!(rt; read.xfer, wanted.xfer);
-    assert_eq!(rt; read.info, wanted.info);
-    assert_eq!(rt; read.ipc, wanted.ipc);
-}
-
-/// Compares the client's name.
-fn is_client(rt: &impl Abort, client: &ByteList, name: &[u8]) {
-    assert!(rt; client.as_slice() == name);
-}
-
-fn are_nodes(rt: &impl Abort, read: &Targets, wanted: &Targets) {
-    assert_eq!(rt; read.len(), wanted.len());
-    for (read, wanted) in read.as_slice().iter().zip(wanted.as_slice()) {
-        is_node(rt, read, wanted);
-    }
-}
-
-/// The same values are read where a client fills in more fields.
-#[test]
-fn reads_full_write_request(rt: HostRuntime) -> Result<(), Fail> {
-    let alloc = rt.alloc();
-    let op = write_of(reads(&rt, alloc, WRITE)?).ok_or("a write request")?;
-    is_block(&rt, &op.block, 4096);
-    is_client(&rt, &op.client, b"DFSClient_NONMAPREDUCE_-1_1");
-    are_nodes(&rt, &op.targets, &nodes(alloc, 2, Some(3))?);
-    let source = op.source.as_ref().ok_or("a source")?;
-    is_node(&rt, source, &node(alloc, 1)?);
-    assert_eq!(rt; (op.stage, op.pipeline), (3, 3));
-    assert_eq!(rt; (op.min, op.max), (4096, 8192));
-    assert_eq!(rt; op.latest, Stamp(1002));
-    assert_eq!(rt; (op.kind, op.chunk), (2, 512));
-    Ok(())
-}
-
-#[test]
-fn reads_full_read_request(rt: HostRuntime) -> Result<(), Fail> {
-    let Op::Read(op) = reads(&rt, rt.alloc(), READ)? else {
-        return Err("a read request")?;
-    };
-    is_block(&rt, &op.block, 4096);
-    is_client(&rt, &op.client, b"DFSClient_NONMAPREDUCE_-1_1");
-    assert_eq!(rt; (op.offset, op.len), (512, 1024));
-    Ok(())
-}
-
-#[test]
-fn reads_full_transfer_request(rt: HostRuntime) -> Result<(), Fail> {
-    let Op::Transfer(op) = reads(&rt, rt.alloc(), TRANSFER)? else {
-        return Err("a transfer request")?;
-    };
-    is_block(&rt, &op.block, 4096);
-    is_client(&rt, &op.client, b"DFSClient_NONMAPREDUCE_-1_1");
-    are_nodes(&rt, &op.targets, &nodes(rt.alloc(), 2, None)?);
-    Ok(())
-}
-
-#[test]
-fn reads_full_checksum_request(rt: HostRuntime) -> Result<(), Fail> {
-    let Op::Checksum(op) = reads(&rt, rt.alloc(), CHECKSUM)? else {
-        return Err("a checksum request")?;
-    };
-    is_block(&rt, &op.block, 4096);
-    Ok(())
-}
-
-/// Compares a recovery step of all the bytes.
-fn is_step(
-    rt: &impl Abort,
-    alloc: Global,
-    bytes: &[u8],
-    kind: RecoveryKind,
-    new_length: u64,
-    targets: usize,
-) -> Result<(), Fail> {
-    let Op::Recovery(op) = reads(rt, alloc, bytes)? else {
-        return Err("a recovery step")?;
-    };
-    is_block(rt, &op.block, 0);
-    assert_eq!(rt; op.kind, kind);
-    assert_eq!(rt; op.recovery, Stamp(1002));
-    assert_eq!(rt; op.new_length, new_length);
-    assert_eq!(rt; op.targets.len(), targets);
-    Ok(())
-}
-
-#[test]
-fn reads_recovery_steps(rt: HostRuntime) -> Result<(), Fail> {
-    is_step(&rt, rt.alloc(), BEGIN, RecoveryKind::Begin, 0, 1)?;
-    is_step(&rt, rt.alloc(), INIT, RecoveryKind::Init, 0, 0)?;
-    is_step(&rt, rt.alloc(), UPDATE, RecoveryKind::Update, 512, 0)
-}
-
-/// Compares a first write's request of all the bytes, but for the pipeline's size.
-fn is_first(rt: &impl Abort, alloc: Global, bytes: &[u8], pipeline: u32) -> Result<(), Fail> {
-    let op = write_of(reads(rt, alloc, bytes)?).ok_or("a write request")?;
-    is_block(rt, &op.block, 0);
-    is_client(rt, &op.client, b"DFSClient_1073741825");
-    assert_eq!(rt; (op.stage, op.pipeline), (6, pipeline));
-    Ok(())
 }
 
 fn refuses(rt: &impl Abort, alloc: Global, bytes: &[u8], fault: OpFault) {
@@ -450,45 +343,37 @@ fn refuses(rt: &impl Abort, alloc: Global, bytes: &[u8], fault: OpFault) {
 /// counts as a field that isn't there.
 #[test]
 fn reads_repeated_fields(rt: HostRuntime) -> Result<(), Fail> {
-    is_first(&rt, rt.alloc(), MERGED, 1)?;
-    is_first(&rt, rt.alloc(), LATER_UNLISTED, 1)?;
-    is_first(&rt, rt.alloc(), LATER_SIZE, 3)?;
+    for (bytes, pipeline) in [(MERGED, 1), (LATER_UNLISTED, 1), (LATER_SIZE, 3)] {
+        let op = write_of(reads(&rt, rt.alloc(), bytes)?).ok_or("a write request")?;
+        assert!(rt; op.client.as_slice() == b"DFSClient_1073741825".as_slice());
+        assert_eq!(rt; (op.stage, op.pipeline), (6, pipeline));
+    }
     let missing = OpFault::Missing { path: [4, 0, 0, 0] };
     refuses(&rt, rt.alloc(), UNLISTED, missing);
     Ok(())
 }
 
 #[test]
-fn refuses_heads_in_order(rt: HostRuntime) {
-    let long = b"\x00\x1cP\xff\xff\xff\xff\xff\xff\xff\xff\xff\xff";
-    let fault = OpFault::Wire(WireFault::LongVarint { at: 3 });
-    refuses(&rt, rt.alloc(), long, fault);
+fn refuses_in_order(rt: HostRuntime) -> Result<(), Fail> {
+    let missing = |path| OpFault::Missing { path };
+    let short = |at| OpFault::Wire(WireFault::Short { at });
+    let kind = |at| OpFault::Wire(WireFault::Kind { at });
     for (bytes, fault) in [
+        (
+            b"\x00\x1cP\xff\xff\xff\xff\xff\xff\xff\xff\xff\xff".as_slice(),
+            OpFault::Wire(WireFault::LongVarint { at: 3 }),
+        ),
         (b"\x01".as_slice(), OpFault::Short),
-        (b"\x00\x1bP".as_slice(), OpFault::Version { got: 27 }),
         (b"\x00\x1bS".as_slice(), OpFault::Version { got: 27 }),
         (b"\x00\x1cS".as_slice(), OpFault::Opcode { got: 83 }),
         (
             b"\x00\x1cP\x81\x80\x04".as_slice(),
             OpFault::TooLong { length: 65_537 },
         ),
-        (b"\x00\x1cP\x02\x08".as_slice(), OpFault::Short),
-    ] {
-        refuses(&rt, rt.alloc(), bytes, fault);
-    }
-}
-
-#[test]
-fn refuses_messages_in_order(rt: HostRuntime) {
-    let missing = |path| OpFault::Missing { path };
-    let short = |at| OpFault::Wire(WireFault::Short { at });
-    let kind = |at| OpFault::Wire(WireFault::Kind { at });
-    for (bytes, fault) in [
         (b"\x00\x1cP\x01\x08".as_slice(), short(0)),
         (b"\x00\x1cP\x05\x0a\x01\x0b\x20\x80".as_slice(), short(3)),
         (b"\x00\x1cP\x06\x12\x01\x00\x0a\x01\x0b".as_slice(), kind(0)),
         (b"\x00\x1cP\x00".as_slice(), missing([1, 0, 0, 0])),
-        (b"\x00\x1cP\x02\x0a\x00".as_slice(), missing([1, 1, 0, 0])),
         (
             b"\x00\x1cP\x06\x0a\x04\x0a\x02\x0a\x00".as_slice(),
             missing([1, 1, 1, 1]),
@@ -500,10 +385,6 @@ fn refuses_messages_in_order(rt: HostRuntime) {
     ] {
         refuses(&rt, rt.alloc(), bytes, fault);
     }
-}
-
-#[test]
-fn prints_request_faults(rt: HostRuntime) -> Result<(), Fail> {
     for (fault, text) in [
         (OpFault::Short, "the bytes end inside a request"),
         (OpFault::Version { got: 27 }, "version 27"),
@@ -512,14 +393,7 @@ fn prints_request_faults(rt: HostRuntime) -> Result<(), Fail> {
             OpFault::TooLong { length: 65_537 },
             "a message of 65537 bytes",
         ),
-        (
-            OpFault::Wire(WireFault::Kind { at: 7 }),
-            "the field at 7 has a wire type that is not read",
-        ),
-        (
-            OpFault::Missing { path: [1, 2, 0, 0] },
-            "field [1, 2, 0, 0] is missing",
-        ),
+        (missing([1, 2, 0, 0]), "field 1.2 is missing"),
         (OpFault::Memory, "out of memory"),
     ] {
         assert_eq!(rt; fault.to_string(rt.alloc())?.as_str(), text);
@@ -533,25 +407,15 @@ fn answers(
     rt: &impl Abort,
     alloc: Global,
     bytes: &[u8],
-    status: Status,
-    message: &[u8],
-    info: Option<(ReplicaState, Stamp, u64)>,
-) -> Result<(), Fail>
-    requires status { IsStatus status }
-    requires few { length message.now ≤ 65000 }
-{
+    answer: &RecoveryAnswer,
+) -> Result<(), Fail> {
     let (read, taken) = decode_answer(alloc, bytes)?;
     assert_eq!(rt; taken, bytes.len());
-    assert_eq!(rt; read.status, status);
-    assert!(rt; read.message.as_slice() == message);
-    assert_eq!(rt; read.info, info);
-    let answer = RecoveryAnswer {
-        status,
-        message: text(alloc, message)?,
-        info,
-    };
+    assert!(rt; read == answer.duplicate()?);
+    let may = answer.is_encodable(alloc)?;
+    assert!(rt; may);
     let mut out = Vec::new(alloc);
-    encode_answer(&answer, &mut out)?;
+    encode_answer(answer, &mut out)?;
     assert!(rt; out.as_slice() == bytes);
     for cut in 0..bytes.len() {
         let front = decode_answer(alloc, &bytes[..cut]);
@@ -562,47 +426,35 @@ fn answers(
 
 #[test]
 fn reads_and_writes_answers(rt: HostRuntime) -> Result<(), Fail> {
-    let info = Some((ReplicaState::Rbw, Stamp(1001), 512));
-    answers(&rt, rt.alloc(), TOLD, Status::Success, b"", info)?;
-    answers(&rt, rt.alloc(), REFUSED, Status::Error, b"1", None)
-}
-
-#[test]
-fn refuses_answers_in_order(rt: HostRuntime) -> Result<(), Fail> {
-    for (bytes, fault) in [
+    let alloc = rt.alloc();
+    let found = RecoveryAnswer {
+        status: Status::Success,
+        message: text(alloc, b"")?,
+        info: Some((ReplicaState::Rbw, Stamp(1001), 512)),
+    };
+    answers(&rt, alloc, FOUND, &found)?;
+    let refused = RecoveryAnswer {
+        status: Status::Error,
+        message: text(alloc, b"1")?,
+        info: None,
+    };
+    answers(&rt, alloc, REFUSED, &refused)?;
+    let (part, _) = decode_answer(alloc, b"\x06\x08\x00\x18\x01\x20\x05")?;
+    assert_eq!(rt; part.info, None);
+    for (bytes, fault, text) in [
         (
             b"\x81\x80\x04".as_slice(),
-            AnswerFault::TooLong { length: 65_537 },
-        ),
-        (
-            b"\x02\x18\x80".as_slice(),
-            AnswerFault::Wire(WireFault::Short { at: 0 }),
-        ),
-        (b"\x00".as_slice(), AnswerFault::Missing { field: 1 }),
-    ] {
-        assert_eq!(rt; decode_answer(rt.alloc(), bytes).err(), Some(fault));
-    }
-    let (part, _) = decode_answer(rt.alloc(), b"\x06\x08\x00\x18\x01\x20\x05")?;
-    assert_eq!(rt; part.info, None);
-    Ok(())
-}
-
-#[test]
-fn prints_answer_faults(rt: HostRuntime) -> Result<(), Fail> {
-    for (fault, text) in [
-        (AnswerFault::Short, "the bytes end inside an answer"),
-        (
             AnswerFault::TooLong { length: 65_537 },
             "a message of 65537 bytes",
         ),
         (
-            AnswerFault::Wire(WireFault::Kind { at: 7 }),
-            "the field at 7 has a wire type that is not read",
+            b"\x00".as_slice(),
+            AnswerFault::Missing { field: 1 },
+            "field 1 is missing",
         ),
-        (AnswerFault::Missing { field: 1 }, "field 1 is missing"),
-        (AnswerFault::Memory, "out of memory"),
     ] {
-        assert_eq!(rt; fault.to_string(rt.alloc())?.as_str(), text);
+        assert_eq!(rt; decode_answer(alloc, bytes).err(), Some(fault));
+        assert_eq!(rt; fault.to_string(alloc)?.as_str(), text);
     }
     Ok(())
 }

@@ -1,5 +1,5 @@
-pub mod HeaderLaws
-pub mod FrameLaws
-pub mod PacketLaws
-pub mod RefusalLaws
-pub mod WrittenLaws
+pub mod HeaderLemmas
+pub mod FrameLemmas
+pub mod PacketLemmas
+pub mod RefusalLemmas
+pub mod WrittenLemmas

@@ -1,10 +1,10 @@
 -- The header of a packet: the fields of PacketHeaderProto.
 use Rattle.std.specs.Prelude.{ℕ, ◌==◌, ◌++◌, List, [], Bool, true, false, not, if◌then◌else◌, Option, Some, None, Result, Ok, Err}
 use Rattle.std.specs.Int.{w32, w64, cast_signed, cast_unsigned}
-use Rattle.proto_fields.specs.ResultSteps.{◌>>=◌, with_cause}
+use Rattle.hd_base.specs.Results.{◌>>=◌, with_cause}
 use Rattle.proto_fields.specs.Fields.{fields_at}
-use Rattle.proto_fields.specs.Values.{newer, varint_of, eight_of, four_of, last_varint, last_eight, last_four}
-use Rattle.proto_fields.specs.Writing.{varint_field, eight_field, four_field}
+use Rattle.proto_fields.specs.Values.{newer, varint_of, fixed64_of, fixed32_of, last_varint, last_fixed64, last_fixed32}
+use Rattle.proto_fields.specs.Writing.{varint_field, fixed64_field, fixed32_field}
 use Rattle.proto_fields.specs.declared.reading.Wire.{Wire}
 use Rattle.packet_codec.specs.declared.headers.Header.{Header}
 use Rattle.packet_codec.specs.declared.headers.Found.{Found}
@@ -14,10 +14,10 @@ use Rattle.packet_codec.specs.declared.faults.HeaderCause.TheVariants as cause
 -- the last values of the header's fields: offsetInBlock, seqno, lastPacketInBlock, dataLen, syncBlock
 abbrev pub found_in : List (ℕ × Wire) → Found
 found_in fs = record {
-  offset = last_eight 1 fs;
-  seqno = last_eight 2 fs;
+  offset = last_fixed64 1 fs;
+  seqno = last_fixed64 2 fs;
   last = last_varint 3 fs;
-  data_len = last_four 4 fs;
+  data_len = last_fixed32 4 fs;
   sync = last_varint 5 fs;
 }
 
@@ -28,10 +28,10 @@ none_found = record { offset = None; seqno = None; last = None; data_len = None;
 -- the last values once this field is behind
 abbrev pub newer_found : Found → ℕ × Wire → Found
 newer_found found f = record {
-  offset = newer eight_of 1 found.offset f;
-  seqno = newer eight_of 2 found.seqno f;
+  offset = newer fixed64_of 1 found.offset f;
+  seqno = newer fixed64_of 2 found.seqno f;
   last = newer varint_of 3 found.last f;
-  data_len = newer four_of 4 found.data_len f;
+  data_len = newer fixed32_of 4 found.data_len f;
   sync = newer varint_of 5 found.sync f;
 }
 
@@ -87,11 +87,11 @@ header_size sync = if sync then 27 else 25
 
 -- offsetInBlock and seqno, in two's complement
 unfoldable pub places_text : ℕ → ℕ → List ℕ
-places_text offset seqno = eight_field 1 offset ++ eight_field 2 seqno
+places_text offset seqno = fixed64_field 1 offset ++ fixed64_field 2 seqno
 
 -- lastPacketInBlock, dataLen in two's complement, and syncBlock
 unfoldable pub marks_text : Bool → ℕ → Bool → List ℕ
-marks_text last data_len sync = varint_field 3 (flag last) ++ (four_field 4 data_len ++ sync_text sync)
+marks_text last data_len sync = varint_field 3 (flag last) ++ (fixed32_field 4 data_len ++ sync_text sync)
 
 -- The written spelling of a header: 25 bytes, or 27 where syncBlock is there, which is written only where it is true.
 unfoldable pub header_text : Header → List ℕ

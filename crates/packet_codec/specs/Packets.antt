@@ -1,7 +1,7 @@
 -- Packets: the bytes that spell one, apart from reading, and the function that reads.
 use Rattle.std.specs.Prelude.{◌≡◌, ℕ, ◌+◌, ◌-◌, ◌%◌, ◌^◌, ◌<◌, ◌≤◌, ◌==◌, nat_lt, if◌then◌else◌, List, ◌++◌, length, take, drop, Result, Ok, Err, ℤ, pos, negsuc, ◌-ℤ◌}
 use Rattle.std.specs.Int.{w16, w32, to_be_bytes}
-use Rattle.proto_fields.specs.ResultSteps.{◌>>=◌, with_cause}
+use Rattle.hd_base.specs.Results.{◌>>=◌, with_cause}
 use Rattle.proto_fields.specs.Fields.{Spells}
 use Rattle.proto_fields.specs.declared.reading.Wire.{Wire}
 use Rattle.packet_codec.specs.Headers.{header_of, header_at, header_text, header_size}
@@ -25,12 +25,17 @@ pub record IsWritable (m : Packet) (header : ℕ) : Type 0 where
   pub short : header < 2 ^ 16
   pub within : payload_for m + header ≤ limit
 
+-- Payload and header are within the limit, and the sums are of four bytes each: the packet has a written spelling.
+pub record IsEncodable (m : Packet) : Type 0 where
+  pub whole : length m.sums % 4 ≡ 0
+  pub within : payload_for m + header_size m.sync ≤ limit
+
 -- The bytes are the packet's frame, with a header in some spelling.
 pub record SpellsPacket (m : Packet) (bytes : List ℕ) : Type 0 where
   pub header : List ℕ
   pub fields : List (ℕ × Wire)
   pub spelled : Spells fields header
-  pub told : header_of fields ≡ Ok (header_for m)
+  pub decoded : header_of fields ≡ Ok (header_for m)
   pub writable : IsWritable m (length header)
   pub parts : bytes ≡ to_be_bytes w32 (payload_for m) ++ (to_be_bytes w16 (length header) ++ (header ++ (m.sums ++ m.body)))
 
@@ -65,7 +70,6 @@ packet_at bytes = do
   sums ← sums_within (length frame.rest) header.data_len
   Ok (packet_of header frame.rest sums, frame.size)
 
--- The result is what reading gives, unless memory ran out.
-abbrev pub Gives : Result (Packet × ℕ) PacketFault → Result (Packet × ℕ) PacketFault → Type 0
-Gives (Err fault.Memory) read = Unit {0}
-Gives result read = result ≡ read
+-- Where the old bytes end the packet is read, whatever follows the new bytes.
+abbrev pub ReadsPacket : List ℕ → List ℕ → Packet → Type 0
+ReadsPacket old new m = (rest : List ℕ) → packet_at (drop (length old) (new ++ rest)) ≡ Ok (m, length (packet_text m))

@@ -68,7 +68,7 @@ pub record LacksField (bytes : List ℕ) (field : ℕ) : Type 0 where
   pub framed : HasFrame bytes frame
   pub fields : List (ℕ × Wire)
   pub spelled : Spells fields frame.header
-  pub told : header_of fields ≡ Err (cause.Missing field)
+  pub decoded : header_of fields ≡ Err (cause.Missing field)
 
 -- The header is whole, and its length of the body leaves no sums.
 pub record LacksSums (bytes : List ℕ) (rest : ℤ) : Type 0 where
@@ -77,7 +77,7 @@ pub record LacksSums (bytes : List ℕ) (rest : ℤ) : Type 0 where
   pub fields : List (ℕ × Wire)
   pub spelled : Spells fields frame.header
   pub header : Header
-  pub told : header_of fields ≡ Ok header
+  pub decoded : header_of fields ≡ Ok header
   pub no_sums : AreNoSums (length frame.rest) header.data_len rest
 
 -- This is why the bytes are no packet.
@@ -88,8 +88,3 @@ IsRefused (fault.Header (cause.Wire e)) bytes = HasFaultyHeader bytes e
 IsRefused (fault.Header (cause.Missing field)) bytes = LacksField bytes field
 IsRefused (fault.SumCount rest) bytes = LacksSums bytes rest
 IsRefused fault.Memory bytes = ⊥
-
--- The same, or memory ran out.
-abbrev pub FailsFor : PacketFault → List ℕ → Type 0
-FailsFor fault.Memory bytes = Unit {0}
-FailsFor e bytes = IsRefused e bytes

@@ -1,33 +1,43 @@
 //! Writing packets.
 
-ghost use Rattle.std.specs.Prelude.{◌≡◌, ◌+◌, ◌%◌, ◌≤◌, ◌<◌, ◌^◌, ◌++◌, ℕ, List, length, take, drop, Ok, OnOk, OnErr, if◌then◌else◌};
+ghost use Rattle.std.specs.Prelude.{◌≡◌, ◌+◌, ◌%◌, ◌≤◌, ◌++◌, length, take, OnOk, OnErr};
 ghost use Rattle.packet_codec.specs.Headers.{header_text, header_size, places_text, marks_text};
 ghost use Rattle.packet_codec.specs.Frames.{limit};
-ghost use Rattle.packet_codec.specs.Packets.{SpellsPacket, payload_for, packet_text, packet_at, front_text, lengths_text};
+ghost use Rattle.packet_codec.specs.Packets.{
+  SpellsPacket,
+  ReadsPacket,
+  payload_for,
+  packet_text,
+  front_text,
+  lengths_text,
+};
 
 use crate::headers::Header;
 use crate::packets::Packet;
 use byteorder::{BigEndian, ByteOrder};
-use proto_fields::{put_eight, put_four, put_varint};
+use proto_fields::{cut_back, put_fixed32, put_fixed64, put_varint};
 use std::alloc::AllocError;
 
+/// How many bytes a written header has without syncBlock.
+const HEADER_SIZE: u16 = 25;
+
+/// How many bytes a written header has with syncBlock.
+const SYNC_HEADER_SIZE: u16 = 27;
+
 /// Appends a packet in its written spelling: fields in ascending order, and syncBlock only where it
-/// is true. Its sums are of four bytes each, and payload and header have at most 16,777,216 bytes.
-/// Want of memory leaves `out` as it was.
+/// is true. Its sums are of four bytes each, and payload and header have at most 16,777,216 bytes,
+/// which `Packet::is_encodable` tests. Want of memory leaves `out` as it was.
 pub fn encode_packet(packet: &Packet, out: &mut Vec<u8>) -> Result<(), AllocError>
     requires whole { length packet.now.sums % 4 ≡ 0 }
     requires within { payload_for packet.now + header_size packet.now.sync ≤ limit }
     ensures ok { OnOk result (out.new.items ≡ out.old.items ++ packet_text packet.now) }
     ensures err { OnErr result (out.new.items ≡ out.old.items) }
     ensures spelled { OnOk result (SpellsPacket packet.now (packet_text packet.now)) }
-    ensures again { (rest : List ℕ) → OnOk result (packet_at (drop (length out.old.items) (out.new.items ++ rest)) ≡ Ok (packet.now, length (packet_text packet.now))) }
+    ensures again { OnOk result (ReadsPacket out.old.items out.new.items packet.now) }
 {
     let before = out.len();
     let done = push_packet(packet, out);
-    if done.is_err() {
-        out.truncate(before);
-    }
-    done
+    cut_back(out, before, done)
 }
 
 /// Appends a packet.
@@ -57,9 +67,15 @@ fn push_front(payload: u32, header: Header, out: &mut Vec<u8>) -> Result<(), All
     ensures ok { OnOk result (out.new.items ≡ out.old.items ++ front_text payload header) }
     ensures front { take (length out.old.items) out.new.items ≡ out.old.items }
 {
-    let header_len = if header.sync { 27 } else { 25 };
-    push_lengths(payload, header_len, out)?;
+    push_lengths(payload, written_header_size(header.sync), out)?;
     push_header(header, out)
+}
+
+/// How many bytes a written header has.
+pub(crate) fn written_header_size(sync: bool) -> u16
+    ensures { result ≡ header_size sync }
+{
+    if sync { SYNC_HEADER_SIZE } else { HEADER_SIZE }
 }
 
 /// Appends the payload's and the header's length, big-endian.
@@ -97,8 +113,8 @@ fn push_places(offset: u64, seqno: u64, out: &mut Vec<u8>) -> Result<(), AllocEr
     ensures ok { OnOk result (out.new.items ≡ out.old.items ++ places_text offset seqno) }
     ensures front { take (length out.old.items) out.new.items ≡ out.old.items }
 {
-    put_eight(out, 1, offset)?;
-    put_eight(out, 2, seqno)
+    put_fixed64(out, 1, offset)?;
+    put_fixed64(out, 2, seqno)
 }
 
 /// Appends lastPacketInBlock and dataLen, and syncBlock where it is true.
@@ -108,7 +124,7 @@ fn push_marks(last: bool, data_len: u32, sync: bool, out: &mut Vec<u8>) -> Resul
     ensures front { take (length out.old.items) out.new.items ≡ out.old.items }
 {
     put_varint(out, 3, u64::from(last))?;
-    put_four(out, 4, data_len)?;
+    put_fixed32(out, 4, data_len)?;
     if sync {
         put_varint(out, 5, 1)?;
     }

@@ -1,6 +1,7 @@
 //! Why bytes are no packet.
 
 use proto_fields::WireFault;
+use std::alloc::AllocError;
 use thiserror::Error;
 
 /// Why bytes are no packet, in the order in which it is tried: `Short` for the first six bytes,
@@ -34,4 +35,37 @@ pub enum HeaderCause {
     /// The first required field that isn't there, by its number.
     #[error("field {field} is missing")]
     Missing { field: u32 },
+}
+
+impl From<WireFault> for HeaderCause {
+    ghost use Rattle.std.specs.Prelude.{◌≡◌};
+    ghost use Rattle.packet_codec.specs.declared.faults.HeaderCause.TheVariants.{Wire};
+
+    ghost from_gives = { λ fault e. e ≡ Wire fault };
+
+    fn from(fault: WireFault) -> HeaderCause {
+        HeaderCause::Wire(fault)
+    }
+}
+
+impl From<HeaderCause> for PacketFault {
+    ghost use Rattle.std.specs.Prelude.{◌≡◌};
+    ghost use Rattle.packet_codec.specs.declared.faults.PacketFault.TheVariants.{Header};
+
+    ghost from_gives = { λ cause e. e ≡ Header cause };
+
+    fn from(cause: HeaderCause) -> PacketFault {
+        PacketFault::Header { cause }
+    }
+}
+
+impl From<AllocError> for PacketFault {
+    ghost use Rattle.std.specs.Prelude.{◌≡◌};
+    ghost use Rattle.packet_codec.specs.declared.faults.PacketFault.TheVariants.{Memory};
+
+    ghost from_gives = { λ _ e. e ≡ Memory };
+
+    fn from(_error: AllocError) -> PacketFault {
+        PacketFault::Memory
+    }
 }

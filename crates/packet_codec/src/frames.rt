@@ -1,9 +1,8 @@
 //! The frame of a packet.
 
-ghost use Rattle.std.specs.Prelude.{◌≡◌, ◌+◌, ◌-◌, ◌≤◌, ◌<◌, ◌++◌, ℕ, List, Ok, IfOk, length, take, drop};
-ghost use Rattle.std.specs.Int.{w16, w32, from_be_bytes};
-ghost use Rattle.proto_fields.specs.ResultSteps.{with_value};
-ghost use Rattle.packet_codec.specs.Frames.{payload_of, header_len_of, frame_len, frame_with, frame_at, length_at, frame_value};
+ghost use Rattle.std.specs.Prelude.{◌≡◌, ◌+◌, ◌-◌, ◌≤◌, ◌++◌, ℕ, List, Ok, IfOk, length};
+ghost use Rattle.hd_base.specs.Results.{with_value};
+ghost use Rattle.packet_codec.specs.Frames.{limit, payload_of, header_len_of, frame_at, length_at, frame_value};
 ghost use Rattle.packet_codec.specs.Packets.{SpellsPacket};
 ghost use Rattle.packet_codec.specs.declared.packets.Packet.{Packet};
 
@@ -13,14 +12,14 @@ use byteorder::{BigEndian, ByteOrder};
 /// How many bytes the two lengths have.
 const LENGTHS: usize = 6;
 
-/// The most bytes that payload and header have together.
-const LIMIT: u64 = 16_777_216;
+/// The most bytes that payload and header have together (HDFS `MAX_PACKET_SIZE`).
+pub const MAX_PACKET_SIZE: u64 = 16_777_216;
 
 /// The header's bytes, the data behind it, and how many bytes the frame at the front has.
 #[tactic(auto, unfolding(crate::specs::Frames::frame_at, crate::specs::Frames::length_at))]
 pub(crate) fn frame_of(bytes: &[u8]) -> Result<(&[u8], &[u8], usize), PacketFault>
     ensures frame { with_value frame_value result ≡ frame_at bytes.now }
-    ensures few { IfOk result (λ f. length f.1.now ≤ 16777216) }
+    ensures within_limit { IfOk result (λ f. length f.1.now ≤ limit) }
 {
     let (header_len, rest_len) = lawful_lengths(bytes)?;
     if bytes.len() < LENGTHS + header_len + rest_len {
@@ -37,10 +36,11 @@ pub(crate) fn frame_of(bytes: &[u8]) -> Result<(&[u8], &[u8], usize), PacketFaul
 pub fn packet_length(front: &[u8]) -> Result<usize, PacketFault>
     ensures exact { result ≡ length_at front.now }
     ensures least { IfOk result (λ size. 6 ≤ size) }
-    ensures most { IfOk result (λ size. size ≤ 16777218) }
+    ensures most { IfOk result (λ size. size ≤ limit + 2) }
 
     // A packet has as many bytes as its front says.
-    ensures spelled { (m : Packet) (text rest more : List ℕ) → SpellsPacket m text → front.now ++ more ≡ text ++ rest → 6 ≤ length front.now → result ≡ Ok (length text) }
+    ensures spelled { (m : Packet) (text rest more : List ℕ) → SpellsPacket m text → front.now ++ more ≡ text ++ rest
+        → 6 ≤ length front.now → result ≡ Ok (length text) }
 {
     let (header_len, rest_len) = lawful_lengths(front)?;
     Ok(LENGTHS + header_len + rest_len)
@@ -52,13 +52,13 @@ fn lawful_lengths(bytes: &[u8]) -> Result<(usize, usize), PacketFault>
     ensures size { with_value (λ x. 6 + x.0 + x.1) result ≡ length_at bytes.now }
     ensures header { IfOk result (λ x. x.0 ≡ header_len_of bytes.now) }
     ensures rest { IfOk result (λ x. x.1 ≡ payload_of bytes.now - 4) }
-    ensures within { IfOk result (λ x. x.0 + x.1 ≤ 16777212) }
+    ensures within_limit { IfOk result (λ x. 4 + x.0 + x.1 ≤ limit) }
 {
     if bytes.len() < LENGTHS {
         return Err(PacketFault::Short);
     }
     let (payload, header) = lengths(bytes);
-    if payload < 4 || u64::from(payload) + u64::from(header) > LIMIT {
+    if payload < 4 || u64::from(payload) + u64::from(header) > MAX_PACKET_SIZE {
         return Err(PacketFault::Length { payload, header });
     }
     Ok((usize::from(header), payload as usize - 4))

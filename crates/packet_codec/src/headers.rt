@@ -1,14 +1,23 @@
 //! The header of a packet.
 
-ghost use Rattle.std.specs.Prelude.{◌≡◌, Ok, Err, ◌++◌, OnOk, take, length, vec_items};
-ghost use Rattle.proto_fields.specs.ResultSteps.{with_value};
+ghost use Rattle.std.specs.Prelude.{◌≡◌};
+ghost use Rattle.hd_base.specs.Results.{with_value};
 ghost use Rattle.proto_fields.specs.Fields.{fields_at};
-ghost use Rattle.packet_codec.specs.Headers.{found_in, none_found, newer_found, required as required_of, header_from, header_at, header_text, is_set, is_set_if_there};
+ghost use Rattle.packet_codec.specs.Headers.{
+  found_in,
+  none_found,
+  newer_found,
+  required as required_of,
+  header_from,
+  header_at,
+  is_set,
+  is_set_if_there,
+};
 
 use crate::faults::HeaderCause;
 use proto_fields::{Wire, WireFault, next_field};
 
-/// What a packet's header says.
+/// The fields of a packet's header.
 #[derive(Clone, Copy, Debug, PartialEq, Eq)]
 pub(crate) struct Header {
     pub offset: i64,
@@ -57,6 +66,24 @@ impl Found {
         }
         found
     }
+
+    /// The header that the last values make, or the first required field that is missing.
+    #[tactic(auto, unfolding(crate::specs::Headers::header_from))]
+    fn header(self) -> Result<Header, HeaderCause>
+        ensures { result ≡ header_from self }
+    {
+        let offset = required(1, self.offset)?;
+        let seqno = required(2, self.seqno)?;
+        let last = required(3, self.last)?;
+        let data_len = required(4, self.data_len)?;
+        Ok(Header {
+            offset: offset.cast_signed(),
+            seqno: seqno.cast_signed(),
+            last: last != 0,
+            sync: self.sync.is_some_and(|sync| sync != 0),
+            data_len: data_len.cast_signed(),
+        })
+    }
 }
 
 /// Reads the header that a message spells. Unknown fields are skipped, the last of a repeated
@@ -64,8 +91,8 @@ impl Found {
 pub(crate) fn header_of(bytes: &[u8]) -> Result<Header, HeaderCause>
     ensures { result ≡ header_at bytes.now }
 {
-    let found = found_fields(bytes).map_err(HeaderCause::Wire)?;
-    told(found)
+    let found = found_fields(bytes)?;
+    found.header()
 }
 
 /// The last values of the header's fields in a message.
@@ -79,24 +106,6 @@ fn found_fields(bytes: &[u8]) -> Result<Found, WireFault>
         at = next;
     }
     Ok(found)
-}
-
-/// The header that the last values tell, or the first required field that is missing.
-#[tactic(auto, unfolding(crate::specs::Headers::header_from))]
-fn told(found: Found) -> Result<Header, HeaderCause>
-    ensures { result ≡ header_from found }
-{
-    let offset = required(1, found.offset)?;
-    let seqno = required(2, found.seqno)?;
-    let last = required(3, found.last)?;
-    let data_len = required(4, found.data_len)?;
-    Ok(Header {
-        offset: offset.cast_signed(),
-        seqno: seqno.cast_signed(),
-        last: last != 0,
-        sync: found.sync.is_some_and(|sync| sync != 0),
-        data_len: data_len.cast_signed(),
-    })
 }
 
 /// A required field's value.

@@ -14,5 +14,5 @@ mod tests;
 pub use decoding::decode_packet;
 pub use encoding::encode_packet;
 pub use faults::{HeaderCause, PacketFault};
-pub use frames::packet_length;
+pub use frames::{MAX_PACKET_SIZE, packet_length};
 pub use packets::Packet;

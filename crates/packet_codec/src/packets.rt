@@ -1,9 +1,12 @@
 //! Packets.
 
+use crate::encoding::written_header_size;
+use crate::frames::MAX_PACKET_SIZE;
 use bytes::Bytes;
 
-/// A packet of a block's bytes, in the order of its place in the block.
-#[derive(Debug, Drop)]
+/// A packet of a block's bytes (HDFS `PacketHeaderProto`, the sums and the body). A clone shares the
+/// sums and the body.
+#[derive(Clone, Debug, Drop, PartialEq, Eq)]
 pub struct Packet {
     /// Where in the block the body begins, in bytes.
     pub offset: i64,
@@ -17,4 +20,20 @@ pub struct Packet {
     pub sums: Bytes,
     /// The block's bytes.
     pub body: Bytes,
+}
+
+impl Packet {
+    ghost use Rattle.std.specs.Prelude.{◌↔◌, IsTrue};
+    ghost use Rattle.packet_codec.specs.Packets.{IsEncodable};
+
+    /// Whether `encode_packet` may write the packet: its sums are of four bytes each, and payload and
+    /// header have at most 16,777,216 bytes.
+    pub fn is_encodable(&self) -> bool
+        ensures { IsTrue result ↔ IsEncodable self.now }
+    {
+        let header = written_header_size(self.sync);
+        let whole = self.sums.len() % 4 == 0;
+        let most = MAX_PACKET_SIZE as usize - 4 - usize::from(header);
+        whole && self.sums.len() <= most && self.body.len() <= most - self.sums.len()
+    }
 }

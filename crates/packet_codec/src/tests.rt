@@ -1,81 +1,90 @@
 //! Packets from worked examples, byte for byte, and other spellings of their headers.
 
-ghost use Rattle.std.specs.Prelude.{◌≡◌, ◌<◌, false, length, IfOk};
+ghost use Rattle.std.specs.Prelude.{◌<◌, length};
 
-use crate::{HeaderCause, Packet, PacketFault, decode_packet, encode_packet};
+use crate::{
+    HeaderCause, MAX_PACKET_SIZE, Packet, PacketFault, decode_packet, encode_packet, packet_length,
+};
 use bytes::Bytes;
 use proto_fields::WireFault;
-use std::alloc::Global;
+use std::alloc::{AllocError, Global};
 use std::test::Fail;
 
-/// The packet of a block's nine bytes `123456789`.
-const NINE: [u8; 44] =
-    *b"\x00\x00\x00\x11\x00\x19\x09\0\0\0\0\0\0\0\0\x11\0\0\0\0\0\0\0\0\x18\x00\x25\x09\0\0\0\xe3\x06\x92\x83123456789";
+/// The packet of a block's nine bytes `123456789`, as hsync sends it: the header has syncBlock.
+const SYNCED: &[u8] =
+    b"\0\0\0\x11\0\x1b\x09\0\0\0\0\0\0\0\0\x11\0\0\0\0\0\0\0\0\x18\0\x25\x09\0\0\0\x28\x01\
+    \xe3\x06\x92\x83123456789";
+
+/// The same without syncBlock.
+const NINE: &[u8] = b"\0\0\0\x11\0\x19\x09\0\0\0\0\0\0\0\0\x11\0\0\0\0\0\0\0\0\x18\0\x25\x09\0\0\0\
+    \xe3\x06\x92\x83123456789";
 
 /// The last packet behind them.
-const LAST: [u8; 31] =
-    *b"\x00\x00\x00\x04\x00\x19\x09\x09\0\0\0\0\0\0\0\x11\x01\0\0\0\0\0\0\0\x18\x01\x25\0\0\0\0";
-
-/// The last packet of an empty block.
-const EMPTY: [u8; 31] =
-    *b"\x00\x00\x00\x04\x00\x19\x09\0\0\0\0\0\0\0\0\x11\0\0\0\0\0\0\0\0\x18\x01\x25\0\0\0\0";
+const LAST: &[u8] =
+    b"\0\0\0\x04\0\x19\x09\x09\0\0\0\0\0\0\0\x11\x01\0\0\0\0\0\0\0\x18\x01\x25\0\0\0\0";
 
 /// A packet with its sums and its body.
-fn packet(alloc: Global, offset: i64, seqno: i64, sums: &[u8], body: &[u8]) -> Result<Packet, Fail>
-    ensures { IfOk result (λ m. (m.sums ≡ sums.now) × (m.body ≡ body.now) × (m.sync ≡ false)) }
-{
+fn packet(
+    alloc: Global,
+    (offset, seqno): (i64, i64),
+    sync: bool,
+    sums: &[u8],
+    body: &[u8],
+) -> Result<Packet, AllocError> {
     Ok(Packet {
         offset,
         seqno,
         last: body.is_empty(),
-        sync: false,
+        sync,
         sums: Bytes::copy_from_slice(alloc, sums)?,
         body: Bytes::copy_from_slice(alloc, body)?,
     })
 }
 
 #[test]
-fn packets_are_written(rt: HostRuntime) -> Result<(), Fail> {
+fn packets_are_read_and_written(rt: HostRuntime) -> Result<(), Fail> {
     let alloc = rt.alloc();
-    let mut out = Vec::new(alloc);
-    encode_packet(
-        &packet(alloc, 0, 0, b"\xe3\x06\x92\x83", b"123456789")?,
-        &mut out,
-    )?;
-    assert_eq!(rt; out.as_slice(), NINE.as_slice());
-    encode_packet(&packet(alloc, 9, 1, b"", b"")?, &mut out)?;
-    assert_eq!(rt; &out[44..], LAST.as_slice());
-    Ok(())
-}
-
-#[test]
-fn packets_are_read(rt: HostRuntime) -> Result<(), Fail> {
-    let table: [(&[u8], i64, i64, &[u8]); 3] = [
-        (&NINE, 0, 0, b"123456789"),
-        (&LAST, 9, 1, b""),
-        (&EMPTY, 0, 0, b""),
-    ];
-    for (bytes, offset, seqno, body) in table {
-        let (read, size) = decode_packet(rt.alloc(), bytes)?;
+    for (bytes, place, sync, sums, body) in [
+        (
+            NINE,
+            (0, 0),
+            false,
+            b"\xe3\x06\x92\x83".as_slice(),
+            b"123456789".as_slice(),
+        ),
+        (
+            SYNCED,
+            (0, 0),
+            true,
+            b"\xe3\x06\x92\x83".as_slice(),
+            b"123456789".as_slice(),
+        ),
+        (LAST, (9, 1), false, b"".as_slice(), b"".as_slice()),
+    ] {
+        let wanted = packet(alloc, place, sync, sums, body)?;
+        let (read, size) = decode_packet(alloc, bytes)?;
         assert_eq!(rt; size, bytes.len());
-        assert_eq!(rt; (read.offset, read.seqno), (offset, seqno));
-        assert_eq!(rt; (read.last, read.sync), (body.is_empty(), false));
-        assert_eq!(rt; read.body.as_slice(), body);
+        assert!(rt; read == wanted.clone()?);
+        assert!(rt; wanted.is_encodable());
+        let mut out = Vec::new(alloc);
+        encode_packet(&wanted, &mut out)?;
+        assert_eq!(rt; out.as_slice(), bytes);
         for end in 0..bytes.len() {
             assert_eq!(rt;
-                decode_packet(rt.alloc(), &bytes[..end]).err(),
+                decode_packet(alloc, &bytes[..end]).err(),
                 Some(PacketFault::Short)
             );
         }
     }
+    assert!(rt; !packet(alloc, (0, 0), false, b"\0\0\0", b"1")?.is_encodable());
     Ok(())
 }
 
 /// The nine bytes' packet with another header.
-fn under(alloc: Global, header: &[u8]) -> Result<Vec<u8>, Fail>
+fn under(alloc: Global, header: &[u8]) -> Result<Vec<u8>, AllocError>
     requires { length header.now < 256 }
 {
-    let mut bytes = Vec::from_slice(alloc, b"\x00\x00\x00\x11\x00")?;
+    let mut bytes = Vec::from_slice(alloc, b"\0\0\0\x11\0")?;
     bytes.push(header.len() as u8)?;
     bytes.extend_from_slice(header)?;
     bytes.extend_from_slice(b"\xe3\x06\x92\x83123456789")?;
@@ -86,11 +95,14 @@ fn under(alloc: Global, header: &[u8]) -> Result<Vec<u8>, Fail>
 fn headers_are_read_in_any_spelling(rt: HostRuntime) -> Result<(), Fail> {
     let spellings: [&[u8]; 4] = [
         // Out of order, with unknown fields of each kind.
-        b"\x25\x09\0\0\0\x18\x02\x30\x07\x3a\x02ab\x11\x03\0\0\0\0\0\0\0\x41\0\0\0\0\0\0\0\0\x4d\0\0\0\0\x09\x05\0\0\0\0\0\0\0",
+        b"\x25\x09\0\0\0\x18\x02\x30\x07\x3a\x02ab\x11\x03\0\0\0\0\0\0\0\
+        \x41\0\0\0\0\0\0\0\0\x4d\0\0\0\0\x09\x05\0\0\0\0\0\0\0",
         // Repeated fields: the last counts.
-        b"\x09\0\0\0\0\0\0\0\0\x09\x05\0\0\0\0\0\0\0\x11\x03\0\0\0\0\0\0\0\x18\x00\x18\x01\x25\x07\0\0\0\x25\x09\0\0\0",
+        b"\x09\0\0\0\0\0\0\0\0\x09\x05\0\0\0\0\0\0\0\x11\x03\0\0\0\0\0\0\0\
+        \x18\x00\x18\x01\x25\x07\0\0\0\x25\x09\0\0\0",
         // Varints that aren't the least.
-        b"\x89\x00\x05\0\0\0\0\0\0\0\x91\x80\x00\x03\0\0\0\0\0\0\0\x98\x00\x81\x80\x80\x80\x80\x80\x80\x80\x80\x00\xa5\x00\x09\0\0\0",
+        b"\x89\x00\x05\0\0\0\0\0\0\0\x91\x80\x00\x03\0\0\0\0\0\0\0\
+        \x98\x00\x81\x80\x80\x80\x80\x80\x80\x80\x80\x00\xa5\x00\x09\0\0\0",
         // A listed number with another wire type is skipped.
         b"\x09\x05\0\0\0\0\0\0\0\x08\x01\x11\x03\0\0\0\0\0\0\0\x18\x01\x25\x09\0\0\0\x2d\0\0\0\0",
     ];
@@ -103,46 +115,55 @@ fn headers_are_read_in_any_spelling(rt: HostRuntime) -> Result<(), Fail> {
     Ok(())
 }
 
+/// The lengths at both ends of what is lawful, and one beside each.
+#[test]
+fn lengths_have_limits(rt: HostRuntime) {
+    assert_eq!(rt; packet_length(b"\0\0\0\x04\0\0"), Ok(6));
+    let most = MAX_PACKET_SIZE as usize + 2;
+    assert_eq!(rt; packet_length(b"\0\xff\xff\xe7\0\x19"), Ok(most));
+    for (front, payload) in [
+        (b"\0\xff\xff\xe8\0\x19".as_slice(), 16_777_192),
+        (b"\0\0\0\x03\0\x19".as_slice(), 3),
+    ] {
+        let fault = PacketFault::Length {
+            payload,
+            header: 25,
+        };
+        assert_eq!(rt; packet_length(front), Err(fault));
+        assert_eq!(rt; decode_packet(rt.alloc(), front).err(), Some(fault));
+    }
+}
+
 #[test]
 fn refusals(rt: HostRuntime) -> Result<(), Fail> {
-    let seven =
-        b"\x00\x00\x00\x11\x00\x19\x09\0\0\0\0\0\0\0\0\x11\0\0\0\0\0\0\0\0\x18\x00\x25\x07\0\0\0\xe3\x06\x92\x83123456789";
+    let seven = b"\0\0\0\x11\0\x19\x09\0\0\0\0\0\0\0\0\x11\0\0\0\0\0\0\0\0\x18\0\x25\x07\0\0\0\
+        \xe3\x06\x92\x83123456789";
     let negative =
-        b"\x00\x00\x00\x04\x00\x19\x09\0\0\0\0\0\0\0\0\x11\0\0\0\0\0\0\0\0\x18\x00\x25\xff\xff\xff\xff";
-    let missing = b"\x00\x00\x00\x04\x00\x02\x18\x00";
-    let faulty = b"\x00\x00\x00\x04\x00\x03\x18\x00\x0b";
-    let table: [(&[u8], PacketFault); 6] = [
-        (seven, PacketFault::SumCount { rest: 6 }),
-        (negative, PacketFault::SumCount { rest: 1 }),
+        b"\0\0\0\x04\0\x19\x09\0\0\0\0\0\0\0\0\x11\0\0\0\0\0\0\0\0\x18\0\x25\xff\xff\xff\xff";
+    for (bytes, fault, text) in [
         (
-            b"\x01\x00\x00\x00\x00\x19",
-            PacketFault::Length {
-                payload: 16777216,
-                header: 25,
-            },
+            seven.as_slice(),
+            PacketFault::SumCount { rest: 6 },
+            "6 bytes are no sums",
         ),
         (
-            b"\x00\x00\x00\x03\x00\x19",
-            PacketFault::Length {
-                payload: 3,
-                header: 25,
-            },
+            negative.as_slice(),
+            PacketFault::SumCount { rest: 1 },
+            "1 bytes are no sums",
         ),
         (
-            missing,
-            PacketFault::Header {
-                cause: HeaderCause::Missing { field: 1 },
-            },
+            b"\0\0\0\x04\0\x02\x18\0".as_slice(),
+            PacketFault::from(HeaderCause::Missing { field: 1 }),
+            "the packet's header: field 1 is missing",
         ),
         (
-            faulty,
-            PacketFault::Header {
-                cause: HeaderCause::Wire(WireFault::Kind { at: 2 }),
-            },
+            b"\0\0\0\x04\0\x03\x18\0\x0b".as_slice(),
+            PacketFault::from(HeaderCause::from(WireFault::Kind { at: 2 })),
+            "the packet's header: the field at 2 has a wire type that is not read",
         ),
-    ];
-    for (bytes, fault) in table {
+    ] {
         assert_eq!(rt; decode_packet(rt.alloc(), bytes).err(), Some(fault));
+        assert_eq!(rt; fault.to_string(rt.alloc())?.as_str(), text);
     }
     Ok(())
 }

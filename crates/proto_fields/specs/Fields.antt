@@ -7,29 +7,29 @@ use Rattle.proto_fields.specs.declared.varints.VarintFault.TheVariants as varint
 use Rattle.proto_fields.specs.declared.reading.Wire.{Wire}
 use Rattle.proto_fields.specs.declared.reading.Wire.TheVariants as wire
 use Rattle.proto_fields.specs.declared.reading.WireType.{WireType}
-use Rattle.proto_fields.specs.declared.reading.WireType.TheVariants as form
+use Rattle.proto_fields.specs.declared.reading.WireType.TheVariants as wire_type
 use Rattle.proto_fields.specs.declared.reading.WireFault.{WireFault}
 use Rattle.proto_fields.specs.declared.reading.WireFault.TheVariants as fault
 use Rattle.proto_fields.specs.declared.reading.Cause.{Cause}
 use Rattle.proto_fields.specs.declared.reading.Cause.TheVariants as cause
-use Rattle.proto_fields.specs.ResultSteps.{◌>>=◌, with_cause, with_value}
+use Rattle.hd_base.specs.Results.{◌>>=◌, with_cause, with_value}
 use Rattle.proto_fields.specs.Varint.{SpellsVarint, IsCutVarint, IsLongVarint, varint_at}
 
 -- ---- the grammar
 
 -- the number that a tag has for a wire type
 abbrev pub code_of : WireType → ℕ
-code_of form.Varint = 0
-code_of form.Eight = 1
-code_of form.Part = 2
-code_of form.Four = 5
+code_of wire_type.Varint = 0
+code_of wire_type.Fixed64 = 1
+code_of wire_type.LengthDelimited = 2
+code_of wire_type.Fixed32 = 5
 
 -- the wire type of a value
 abbrev pub type_of : Wire → WireType
-type_of (wire.Varint n) = form.Varint
-type_of (wire.Eight n) = form.Eight
-type_of (wire.Part from to) = form.Part
-type_of (wire.Four n) = form.Four
+type_of (wire.Varint n) = wire_type.Varint
+type_of (wire.Eight n) = wire_type.Fixed64
+type_of (wire.Part from to) = wire_type.LengthDelimited
+type_of (wire.Four n) = wire_type.Fixed32
 
 -- The text is a varint whose low 32 bits are the field number times 8 and the code of the wire type.
 pub record SpellsTag (number code : ℕ) (text : List ℕ) : Type 0 where
@@ -105,17 +105,17 @@ pub record IsCutPart (bytes : List ℕ) : Type 0 where
 
 -- The bytes end before the value of this wire type that they begin with.
 abbrev pub IsCutValue : WireType → List ℕ → Type 0
-IsCutValue form.Varint bytes = IsCutVarint bytes
-IsCutValue form.Eight bytes = length bytes < 8
-IsCutValue form.Part bytes = IsCutVarint bytes ⊎ IsCutPart bytes
-IsCutValue form.Four bytes = length bytes < 4
+IsCutValue wire_type.Varint bytes = IsCutVarint bytes
+IsCutValue wire_type.Fixed64 bytes = length bytes < 8
+IsCutValue wire_type.LengthDelimited bytes = IsCutVarint bytes ⊎ IsCutPart bytes
+IsCutValue wire_type.Fixed32 bytes = length bytes < 4
 
 -- The value of this wire type begins with a varint that is too long.
 abbrev pub IsLongValue : WireType → List ℕ → Type 0
-IsLongValue form.Varint bytes = IsLongVarint bytes
-IsLongValue form.Eight bytes = ⊥
-IsLongValue form.Part bytes = IsLongVarint bytes
-IsLongValue form.Four bytes = ⊥
+IsLongValue wire_type.Varint bytes = IsLongVarint bytes
+IsLongValue wire_type.Fixed64 bytes = ⊥
+IsLongValue wire_type.LengthDelimited bytes = IsLongVarint bytes
+IsLongValue wire_type.Fixed32 bytes = ⊥
 
 -- The code is of no wire type that a field may have.
 pub record IsRefusedCode (code : ℕ) : Type 0 where
@@ -168,10 +168,10 @@ fault_at at cause.FieldZero = fault.FieldZero at
 
 abbrev pub type_at : ℕ → Result WireType Cause
 type_at code =
-    if code == 0 then Ok form.Varint
-    else if code == 1 then Ok form.Eight
-    else if code == 2 then Ok form.Part
-    else if code == 5 then Ok form.Four
+    if code == 0 then Ok wire_type.Varint
+    else if code == 1 then Ok wire_type.Fixed64
+    else if code == 2 then Ok wire_type.LengthDelimited
+    else if code == 5 then Ok wire_type.Fixed32
     else Err cause.Kind
 
 -- The number and the wire type of the tag at the front, and the bytes behind it.
@@ -188,13 +188,13 @@ part_at end bytes = do
   if nat_lt (length len.1) len.0 then Err cause.Short else Ok (wire.Part (end - length len.1) (end - length len.1 + len.0), drop len.0 len.1)
 
 unfoldable pub value_at : ℕ → WireType → List ℕ → Result (Wire × List ℕ) Cause
-value_at end form.Varint bytes = do
+value_at end wire_type.Varint bytes = do
   n ← with_cause varint_cause (varint_at bytes)
   Ok (wire.Varint n.0, n.1)
-value_at end form.Eight bytes =
+value_at end wire_type.Fixed64 bytes =
     if nat_lt (length bytes) 8 then Err cause.Short else Ok (wire.Eight (from_le_bytes w64 (take 8 bytes)), drop 8 bytes)
-value_at end form.Part bytes = part_at end bytes
-value_at end form.Four bytes =
+value_at end wire_type.LengthDelimited bytes = part_at end bytes
+value_at end wire_type.Fixed32 bytes =
     if nat_lt (length bytes) 4 then Err cause.Short else Ok (wire.Four (from_le_bytes w32 (take 4 bytes)), drop 4 bytes)
 
 -- The field at the front, where the bytes end at the place `end`, and the bytes behind it.

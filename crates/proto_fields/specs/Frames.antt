@@ -1,7 +1,7 @@
 -- The frame of a message: the message's length as a varint, and then so many bytes.
 use Rattle.std.specs.Prelude.{◌≡◌, ℕ, ◌+◌, ◌-◌, ◌<◌, ◌≤◌, nat_lt, if◌then◌else◌, List, ◌++◌, length, take, Result, Ok, Err}
 use Rattle.std.specs.Borrow.{Bor}
-use Rattle.proto_fields.specs.ResultSteps.{◌>>=◌, with_cause}
+use Rattle.hd_base.specs.Results.{◌>>=◌, with_cause}
 use Rattle.proto_fields.specs.Varint.{SpellsVarint, BeginsWithVarint, IsLongVarint, varint_at}
 use Rattle.proto_fields.specs.declared.varints.VarintFault.{VarintFault}
 use Rattle.proto_fields.specs.declared.varints.VarintFault.TheVariants as varint

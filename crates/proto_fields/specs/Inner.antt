@@ -1,7 +1,9 @@
 -- Messages and texts within a message.
-use Rattle.std.specs.Prelude.{◌≡◌, ℕ, ◌≤◌, List, [], ◌∷◌, Option, Some, None, Result, Ok}
-use Rattle.proto_fields.specs.ResultSteps.{with_value}
+use Rattle.std.specs.Prelude.{◌≡◌, ℕ, ◌≤◌, List, [], ◌∷◌, length, Option, Some, None, Result, Ok}
+use Rattle.hd_base.specs.Results.{with_value}
 use Rattle.proto_fields.specs.Values.{parts, part_bytes, joined_parts}
+use Rattle.proto_fields.specs.declared.messages.Places.{Places}
+use Rattle.proto_fields.specs.declared.messages.Places.TheVariants as places
 use Rattle.proto_fields.specs.declared.reading.Wire.{Wire}
 use Rattle.proto_fields.specs.declared.reading.WireFault.{WireFault}
 
@@ -12,6 +14,21 @@ joined_of (p ∷ ps) bytes = Some bytes
 
 abbrev pub joined : ℕ → List ℕ → List (ℕ × Wire) → Option (List ℕ)
 joined number bytes fs = joined_of (parts number fs) (joined_parts bytes number fs)
+
+-- There is one part alone.
+abbrev pub IsSingle : List (ℕ × ℕ) → Type 0
+IsSingle ps = length ps ≡ 1
+
+-- where parts lie: nowhere, at one place, or at several
+abbrev pub places_of : List (ℕ × ℕ) → Places
+places_of [] = places.Nowhere
+places_of (p ∷ []) = places.Once p.0 p.1
+places_of (p ∷ q ∷ ps) = places.Several
+
+-- the same with one part more behind
+abbrev pub one_more : Places → ℕ × ℕ → Places
+one_more places.Nowhere p = places.Once p.0 p.1
+one_more _ p = places.Several
 
 -- What is found of a message within, where it is there.
 abbrev pub FindsInner : {X : Type 0} → (List ℕ → X → Type 0) → Option (List ℕ) → Option X → Type 0

@@ -1,10 +1,7 @@
-pub mod ResultSteps
-pub mod OptionSteps
-pub mod Bytes
+pub mod Numbers
 pub mod Varint
 pub mod Fields
 pub mod Values
-pub mod Listing
 pub mod Writing
 pub mod Inner
 pub mod Frames

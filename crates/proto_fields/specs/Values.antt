@@ -1,5 +1,5 @@
 -- The values that a list of fields has under one number.
-use Rattle.std.specs.Prelude.{ℕ, ◌==◌, List, [], ◌∷◌, if◌then◌else◌, Option, Some, None, slice_range}
+use Rattle.std.specs.Prelude.{ℕ, zero, suc, ◌+◌, ◌==◌, List, [], ◌∷◌, if◌then◌else◌, Option, Some, None, slice_range}
 use Rattle.std.specs.Option.{option_or}
 use Rattle.std.specs.List.{filter_map, flat_map}
 use Rattle.proto_fields.specs.declared.reading.Wire.{Wire}
@@ -11,17 +11,17 @@ abbrev pub varint_of : Wire → Option ℕ
 varint_of (wire.Varint n) = Some n
 varint_of _ = None
 
-abbrev pub eight_of : Wire → Option ℕ
-eight_of (wire.Eight n) = Some n
-eight_of _ = None
+abbrev pub fixed64_of : Wire → Option ℕ
+fixed64_of (wire.Eight n) = Some n
+fixed64_of _ = None
 
 abbrev pub part_of : Wire → Option (ℕ × ℕ)
 part_of (wire.Part from to) = Some (from, to)
 part_of _ = None
 
-abbrev pub four_of : Wire → Option ℕ
-four_of (wire.Four n) = Some n
-four_of _ = None
+abbrev pub fixed32_of : Wire → Option ℕ
+fixed32_of (wire.Four n) = Some n
+fixed32_of _ = None
 
 -- the value of a field, if it has this number and this wire type
 abbrev pub picked : {X : Type 0} → (Wire → Option X) → ℕ → ℕ × Wire → Option X
@@ -39,14 +39,14 @@ last_of pick number (f ∷ fs) = option_or (last_of pick number fs) (picked pick
 abbrev pub last_varint : ℕ → List (ℕ × Wire) → Option ℕ
 last_varint number fs = last_of varint_of number fs
 
-abbrev pub last_eight : ℕ → List (ℕ × Wire) → Option ℕ
-last_eight number fs = last_of eight_of number fs
+abbrev pub last_fixed64 : ℕ → List (ℕ × Wire) → Option ℕ
+last_fixed64 number fs = last_of fixed64_of number fs
 
 abbrev pub last_part : ℕ → List (ℕ × Wire) → Option (ℕ × ℕ)
 last_part number fs = last_of part_of number fs
 
-abbrev pub last_four : ℕ → List (ℕ × Wire) → Option ℕ
-last_four number fs = last_of four_of number fs
+abbrev pub last_fixed32 : ℕ → List (ℕ × Wire) → Option ℕ
+last_fixed32 number fs = last_of fixed32_of number fs
 
 -- The places of all parts of this number, in order.
 abbrev pub parts : ℕ → List (ℕ × Wire) → List (ℕ × ℕ)
@@ -64,10 +64,15 @@ joined_parts bytes number fs = flat_map (part_bytes bytes) (parts number fs)
 abbrev pub last_values_of : ℕ → List (ℕ × Wire) → LastValues
 last_values_of number fs = record {
   varint = last_varint number fs;
-  eight = last_eight number fs;
+  fixed64 = last_fixed64 number fs;
   part = last_part number fs;
-  four = last_four number fs;
+  fixed32 = last_fixed32 number fs;
 }
+
+-- The last values of so many numbers, from the first of them on.
+abbrev pub last_values_from : ℕ → ℕ → List (ℕ × Wire) → List LastValues
+last_values_from zero first fs = []
+last_values_from (suc count) first fs = last_values_of first fs ∷ last_values_from count (first + 1) fs
 
 -- ---- the last value, one field after the other
 
@@ -78,11 +83,16 @@ newer pick number last f = option_or (picked pick number f) last
 abbrev pub newer_values : ℕ → LastValues → ℕ × Wire → LastValues
 newer_values number last f = record {
   varint = newer varint_of number last.varint f;
-  eight = newer eight_of number last.eight f;
+  fixed64 = newer fixed64_of number last.fixed64 f;
   part = newer part_of number last.part f;
-  four = newer four_of number last.four f;
+  fixed32 = newer fixed32_of number last.fixed32 f;
 }
 
 -- no value of any wire type
 abbrev pub no_values : LastValues
-no_values = record { varint = None; eight = None; part = None; four = None }
+no_values = record { varint = None; fixed64 = None; part = None; fixed32 = None }
+
+-- The last values of several numbers, from the first of them on, once this field is behind.
+abbrev pub newer_list : ℕ → List LastValues → ℕ × Wire → List LastValues
+newer_list first [] f = []
+newer_list first (last ∷ more) f = newer_values first last f ∷ newer_list (first + 1) more f

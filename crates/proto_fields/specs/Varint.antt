@@ -2,7 +2,7 @@
 use Rattle.std.specs.Prelude.{◌≡◌, ℕ, zero, suc, ◌+◌, ◌-◌, ◌*◌, ◌/◌, ◌%◌, ◌^◌, ◌<◌, ◌≤◌, List, [], ◌∷◌, ◌++◌, length, take, nat_lt, if◌then◌else◌, Result, Ok, Err}
 use Rattle.proto_fields.specs.declared.varints.VarintFault.{VarintFault}
 use Rattle.proto_fields.specs.declared.varints.VarintFault.TheVariants.{Short, Long}
-use Rattle.proto_fields.specs.ResultSteps.{◌>>=◌}
+use Rattle.hd_base.specs.Results.{◌>>=◌}
 
 -- the number that the low seven bits of the bytes spell, the least first
 abbrev pub sevens : List ℕ → ℕ

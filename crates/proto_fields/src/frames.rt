@@ -1,7 +1,7 @@
 //! Messages behind their length, one after the other in a stream of bytes.
 
 ghost use Rattle.std.specs.Prelude.{◌≡◌, ◌+◌, ◌≤◌, ℕ, List, Ok, Err, IfOk, IfErr, length, take, drop};
-ghost use Rattle.proto_fields.specs.ResultSteps.{with_value};
+ghost use Rattle.hd_base.specs.Results.{with_value};
 ghost use Rattle.proto_fields.specs.Frames.{HasFrame, IsNoFrame, frame_at, frame_value};
 ghost use Rattle.proto_fields.specs.declared.frames.FrameFault.{FrameFault};
 
@@ -37,7 +37,7 @@ impl From<VarintFault> for FrameFault {
 }
 
 /// The most bytes that a message has.
-const LIMIT: u64 = 65_536;
+pub const MAX_MESSAGE_SIZE: u64 = 65_536;
 
 /// The message of the frame at the front of the bytes, which is its length as a varint and so many
 /// bytes, at most 65,536, and how many bytes the frame has. It takes no memory.
@@ -45,7 +45,8 @@ pub fn read_frame(bytes: &[u8]) -> Result<(&[u8], usize), FrameFault>
     // What is read stands there, and what stands there is read.
     ensures found { IfOk result (λ f. HasFrame bytes.now f.0.now) }
     ensures within { IfOk result (λ f. f.1 ≤ length bytes.now) }
-    ensures only { (message : List ℕ) → (f : HasFrame bytes.now message) → with_value frame_value result ≡ Ok (message, length f.prefix + length message) }
+    ensures only { (message : List ℕ) → (f : HasFrame bytes.now message)
+        → with_value frame_value result ≡ Ok (message, length f.prefix + length message) }
 
     // The fault is the one that stands there, and the one that stands there comes.
     ensures refused { IfErr result (λ e. IsNoFrame e bytes.now) }
@@ -63,7 +64,7 @@ fn frame_of(bytes: &[u8]) -> Result<(&[u8], usize), FrameFault>
     ensures { with_value frame_value result ≡ frame_at bytes.now }
 {
     let (length, rest) = read_varint(bytes)?;
-    if length > LIMIT {
+    if length > MAX_MESSAGE_SIZE {
         return Err(FrameFault::TooLong { length });
     }
     let len = length as usize;

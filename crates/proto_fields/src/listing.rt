@@ -1,10 +1,9 @@
 //! The fields of a message as a list, and the last values of one number.
 
 ghost use Rattle.std.specs.Prelude.{◌≡◌};
-ghost use Rattle.proto_fields.specs.ResultSteps.{with_value};
+ghost use Rattle.hd_base.specs.Results.{with_cause, with_value, Gives};
 ghost use Rattle.proto_fields.specs.Fields.{fields_at};
-ghost use Rattle.proto_fields.specs.Listing.{Gives};
-ghost use Rattle.proto_fields.specs.Values.{last_varint, last_part, last_values_of};
+ghost use Rattle.proto_fields.specs.Values.{last_varint, last_part, last_values_of, last_values_from, newer_list};
 
 use crate::reading::{Wire, WireFault, next_field};
 use std::alloc::{AllocError, AllocFailed, Global};
@@ -72,7 +71,7 @@ impl Model for Fields {
 
 /// Lists all fields of a message.
 pub(crate) fn listed(alloc: Global, bytes: &[u8]) -> Result<Fields, FieldsFault>
-    ensures { Gives result (fields_at bytes.now) }
+    ensures { Gives FieldsFault.Memory result (with_cause FieldsFault.Wire (fields_at bytes.now)) }
 {
     let mut entries = Vec::new(alloc);
     let mut at = 0;
@@ -89,6 +88,18 @@ impl Fields {
         ensures { result.now ≡ self.now }
     {
         &self.entries
+    }
+
+    /// The last values of the fields 1 to `N` in one walk over the list: those of field k stand at
+    /// place k - 1.
+    pub fn last_values<const N: usize>(&self) -> [LastValues; N]
+        ensures { result ≡ last_values_from N 1 self.now }
+    {
+        let mut last = [LastValues::none(); N];
+        for (number, value) in &self.entries {
+            replace_last(&mut last, *number, *value);
+        }
+        last
     }
 
     /// The last varint of this field number.
@@ -111,17 +122,24 @@ impl Fields {
 pub struct LastValues {
     /// The last varint, its low 64 bits.
     pub varint: Option<u64>,
-    /// The last eight bytes, little-endian.
-    pub eight: Option<u64>,
+    /// The last `Eight`.
+    pub fixed64: Option<u64>,
     /// The places from and to of the last part.
     pub part: Option<(u64, u64)>,
-    /// The last four bytes, little-endian.
-    pub four: Option<u32>,
+    /// The last `Four`.
+    pub fixed32: Option<u32>,
 }
 
 impl LastValues {
     ghost use Rattle.std.specs.Prelude.{◌≡◌};
-    ghost use Rattle.proto_fields.specs.Values.{newer_values};
+    ghost use Rattle.proto_fields.specs.Values.{newer_values, no_values};
+
+    /// No value of any wire type.
+    fn none() -> Self
+        ensures { result ≡ no_values }
+    {
+        LastValues::default()
+    }
 
     /// The last values of the number `field` once a field of this number and value is behind.
     fn after(self, field: u32, number: u32, value: Wire) -> Self
@@ -136,7 +154,7 @@ impl LastValues {
                 ..self
             },
             Wire::Eight(number) => LastValues {
-                eight: Some(number),
+                fixed64: Some(number),
                 ..self
             },
             Wire::Part { from, to } => LastValues {
@@ -144,10 +162,24 @@ impl LastValues {
                 ..self
             },
             Wire::Four(number) => LastValues {
-                four: Some(number),
+                fixed32: Some(number),
                 ..self
             },
         }
+    }
+}
+
+/// Puts a field's value in place of the last one of its number, where that is from 1 to the length
+/// of the list.
+fn replace_last(last: &mut [LastValues], number: u32, value: Wire)
+    ensures { last.new ≡ newer_list 1 last.old (number, value) }
+{
+    if number == 0 {
+        return;
+    }
+    let place = number as usize - 1;
+    if place < last.len() {
+        last[place] = last[place].after(number, number, value);
     }
 }
 
@@ -155,7 +187,7 @@ impl LastValues {
 fn last_among(entries: &[(u32, Wire)], field: u32) -> LastValues
     ensures { result ≡ last_values_of field entries.now }
 {
-    let mut last = LastValues::default();
+    let mut last = LastValues::none();
     for (number, value) in entries {
         last = last.after(field, *number, *value);
     }
@@ -166,7 +198,7 @@ fn last_among(entries: &[(u32, Wire)], field: u32) -> LastValues
 pub fn last_values(bytes: &[u8], field: u32) -> Result<LastValues, WireFault>
     ensures { result ≡ with_value (last_values_of field) (fields_at bytes.now) }
 {
-    let mut last = LastValues::default();
+    let mut last = LastValues::none();
     let mut at = 0;
     while let Some((number, value, next)) = next_field(bytes, at)? {
         last = last.after(field, number, value);

@@ -1,7 +1,7 @@
 //! Fields, one after the other.
 
 ghost use Rattle.std.specs.Prelude.{◌≡◌, ℕ, ◌≤◌, ◌<◌, ◌↔◌, length, IfOk, IfErr, IfSome};
-ghost use Rattle.proto_fields.specs.ResultSteps.{read_of};
+ghost use Rattle.hd_base.specs.Results.{read_of};
 ghost use Rattle.proto_fields.specs.Fields.{StandsAt, FaultAt, tag_at, part_at, value_at, field_at, next_at, type_at};
 ghost use Rattle.proto_fields.specs.declared.reading.Wire.{Wire};
 ghost use Rattle.proto_fields.specs.declared.reading.WireFault.{WireFault};
@@ -44,12 +44,12 @@ pub enum Wire {
 pub enum WireType {
     /// Wire type 0.
     Varint,
-    /// Wire type 1.
-    Eight,
-    /// Wire type 2.
-    Part,
-    /// Wire type 5.
-    Four,
+    /// Wire type 1, of fixed64, sfixed64 and double.
+    Fixed64,
+    /// Wire type 2, of strings, bytes, messages and packed lists.
+    LengthDelimited,
+    /// Wire type 5, of fixed32, sfixed32 and float.
+    Fixed32,
 }
 
 impl WireType {
@@ -62,9 +62,9 @@ impl WireType {
     {
         match self {
             WireType::Varint => 0,
-            WireType::Eight => 1,
-            WireType::Part => 2,
-            WireType::Four => 5,
+            WireType::Fixed64 => 1,
+            WireType::LengthDelimited => 2,
+            WireType::Fixed32 => 5,
         }
     }
 }
@@ -109,7 +109,8 @@ impl Cause {
     }
 }
 
-/// Reads the field at the place `at`: its number, its value and the place behind it; `None` at the end. It takes no memory.
+/// Reads the field at the place `at`, which is at most the length: its number, its value and the
+/// place behind it; `None` at the end. It takes no memory.
 pub fn next_field(bytes: &[u8], at: u64) -> Result<Option<(u32, Wire, u64)>, WireFault>
     requires { at ≤ length bytes.now }
 
@@ -180,9 +181,9 @@ fn wire_type_of(code: u32) -> Result<WireType, Cause>
 {
     match code {
         0 => Ok(WireType::Varint),
-        1 => Ok(WireType::Eight),
-        2 => Ok(WireType::Part),
-        5 => Ok(WireType::Four),
+        1 => Ok(WireType::Fixed64),
+        2 => Ok(WireType::LengthDelimited),
+        5 => Ok(WireType::Fixed32),
         _ => Err(Cause::Kind),
     }
 }
@@ -199,12 +200,12 @@ fn value_of(end: u64, wire_type: WireType, bytes: &[u8]) -> Result<(Wire, &[u8])
             let (value, rest) = read_varint(bytes)?;
             Ok((Wire::Varint(value), rest))
         }
-        WireType::Eight => {
+        WireType::Fixed64 => {
             let (number, rest) = bytes.split_first_chunk::<8>().ok_or(Cause::Short)?;
             Ok((Wire::Eight(u64::from_le_bytes(*number)), rest))
         }
-        WireType::Part => part_of(end, bytes),
-        WireType::Four => {
+        WireType::LengthDelimited => part_of(end, bytes),
+        WireType::Fixed32 => {
             let (number, rest) = bytes.split_first_chunk::<4>().ok_or(Cause::Short)?;
             Ok((Wire::Four(u32::from_le_bytes(*number)), rest))
         }

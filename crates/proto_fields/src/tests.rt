@@ -2,11 +2,11 @@
 
 use super::*;
 use std::alloc::{AllocError, Global};
-use std::process::Abort;
+use std::borrow::CowSlice;
 use std::test::Fail;
 
-// The rows of `reads_least_spellings` and the bytes of `MESSAGE` are what `protoc` 3.21.12 of Debian's protobuf-compiler writes.
-// For the file row.proto
+// The bytes of `MESSAGE` and of the first rows of `SPELLINGS` are what `protoc` 3.21.12 of Debian's
+// protobuf-compiler writes. For the file row.proto
 //
 //     syntax = "proto2";
 //     message Row {
@@ -53,182 +53,91 @@ const FIELDS: [(u32, Wire); 10] = [
     (536870911, Wire::Varint(128)),
 ];
 
-fn reads(rt: &impl Abort, bytes: &[u8], number: u32, value: Wire) {
-    let end = bytes.len() as u64;
-    assert_eq!(rt; next_field(bytes, 0), Ok(Some((number, value, end))));
-    assert_eq!(rt; next_field(bytes, end), Ok(None));
-}
-
-/// Least varints under field 1, from one byte to ten, at both ends of each length, and their values.
-const LEAST: [(&[u8], u64); 20] = [
-    (b"\x08\x00", 0),
-    (b"\x08\x7f", 127),
-    (b"\x08\x80\x01", 128),
-    (b"\x08\xff\x7f", 16383),
-    (b"\x08\x80\x80\x01", 16384),
-    (b"\x08\xff\xff\x7f", 2097151),
-    (b"\x08\x80\x80\x80\x01", 2097152),
-    (b"\x08\xff\xff\xff\x7f", 268435455),
-    (b"\x08\x80\x80\x80\x80\x01", 268435456),
-    (b"\x08\xff\xff\xff\xff\x7f", 34359738367),
-    (b"\x08\x80\x80\x80\x80\x80\x01", 34359738368),
-    (b"\x08\xff\xff\xff\xff\xff\x7f", 4398046511103),
-    (b"\x08\x80\x80\x80\x80\x80\x80\x01", 4398046511104),
-    (b"\x08\xff\xff\xff\xff\xff\xff\x7f", 562949953421311),
-    (b"\x08\x80\x80\x80\x80\x80\x80\x80\x01", 562949953421312),
-    (b"\x08\xff\xff\xff\xff\xff\xff\xff\x7f", 72057594037927935),
+/// Fields alone: least spellings at the ends of each length, a value of each kind, and spellings
+/// that no writer gives, with more bytes than need be, bits above the low 32 of a tag, and bits
+/// above the low 64 of a value.
+const SPELLINGS: [(&[u8], u32, Wire); 14] = [
+    (b"\x08\x00", 1, Wire::Varint(0)),
+    (b"\x08\x7f", 1, Wire::Varint(127)),
+    (b"\x08\x80\x01", 1, Wire::Varint(128)),
+    (b"\x08\xff\x7f", 1, Wire::Varint(16383)),
     (
-        b"\x08\x80\x80\x80\x80\x80\x80\x80\x80\x01",
-        72057594037927936,
-    ),
-    (
-        b"\x08\xff\xff\xff\xff\xff\xff\xff\xff\x7f",
-        9223372036854775807,
-    ),
-    (
-        b"\x08\x80\x80\x80\x80\x80\x80\x80\x80\x80\x01",
-        9223372036854775808,
-    ),
-    (
-        b"\x08\xff\xff\xff\xff\xff\xff\xff\xff\xff\x01",
-        18446744073709551615,
-    ),
-];
-
-/// Varints of one to ten bytes.
-#[test]
-fn reads_least_spellings(rt: HostRuntime) {
-    for (bytes, value) in LEAST {
-        reads(&rt, bytes, 1, Wire::Varint(value));
-    }
-}
-
-/// Values of the other kinds, and longer tags.
-#[test]
-fn reads_each_kind(rt: HostRuntime) {
-    reads(
-        &rt,
-        b"\x11\x01\x00\x00\x00\x00\x00\x00\x00",
-        2,
-        Wire::Eight(1),
-    );
-    reads(
-        &rt,
         b"\x11\x10\x32\x54\x76\x98\xba\xdc\xfe",
         2,
         Wire::Eight(0xfedcba9876543210),
-    );
-    reads(&rt, b"\x25\xef\xcd\xab\x89", 4, Wire::Four(0x89abcdef));
-    reads(&rt, b"\x1a\x00", 3, Wire::Part { from: 2, to: 2 });
-    reads(
-        &rt,
-        b"\x1a\x03\x61\x62\x63",
-        3,
-        Wire::Part { from: 2, to: 5 },
-    );
-    reads(&rt, b"\x80\x80\x01\x05", 2048, Wire::Varint(5));
-    reads(&rt, b"\xf8\xff\xff\xff\x0f\x01", 536870911, Wire::Varint(1));
-    reads(&rt, b"\xfd\xff\x7f\x07\x00\x00\x00", 262143, Wire::Four(7));
-}
-
-/// More bytes than need be, bits above the low 32 of a tag, and bits above the low 64 of a value.
-#[test]
-fn reads_longer_spellings(rt: HostRuntime) {
-    for (bytes, value) in [
-        (b"\x08\x80\x00".as_slice(), 0u64),
-        (b"\x08\xff\x80\x80\x00".as_slice(), 127u64),
-        (
-            b"\x08\xac\x82\x80\x80\x80\x80\x80\x80\x00".as_slice(),
-            300u64,
-        ),
-        (b"\x88\x00\x05".as_slice(), 5u64),
-        (
-            b"\x88\x80\x80\x80\x80\x80\x80\x80\x80\x00\x05".as_slice(),
-            5u64,
-        ),
-        (b"\x88\x80\x80\x80\x80\x01\x05".as_slice(), 5u64),
-        (
-            b"\x88\x80\x80\x80\x80\x80\x80\x80\x80\x7f\x05".as_slice(),
-            5u64,
-        ),
-        (
-            b"\x08\xff\xff\xff\xff\xff\xff\xff\xff\xff\x7f".as_slice(),
-            18446744073709551615u64,
-        ),
-        (
-            b"\x08\x80\x80\x80\x80\x80\x80\x80\x80\x80\x02".as_slice(),
-            0u64,
-        ),
-        (
-            b"\x08\x81\x80\x80\x80\x80\x80\x80\x80\x80\x02".as_slice(),
-            1u64,
-        ),
-    ] {
-        reads(&rt, bytes, 1, Wire::Varint(value));
-    }
-    reads(
-        &rt,
-        b"\x1a\x83\x00\x61\x62\x63",
-        3,
-        Wire::Part { from: 3, to: 6 },
-    );
-}
-
-/// The faults at the first byte.
-const SHORT: WireFault = WireFault::Short { at: 0 };
-
-const LONG: WireFault = WireFault::LongVarint { at: 0 };
-
-const KIND: WireFault = WireFault::Kind { at: 0 };
-
-const ZERO: WireFault = WireFault::FieldZero { at: 0 };
-
-/// Bytes that begin with no field, and why.
-const NO_FIELDS: [(&[u8], WireFault); 24] = [
-    (b"\x0b", KIND),
-    (b"\x0c", KIND),
-    (b"\x0e", KIND),
-    (b"\x0f", KIND),
-    (b"\x03", KIND),
-    (b"\x00", ZERO),
-    (b"\x01", ZERO),
-    (b"\x02", ZERO),
-    (b"\x05", ZERO),
-    (b"\x80\x00", ZERO),
-    (b"\x80", SHORT),
-    (b"\x08\x80", SHORT),
-    (b"\x08", SHORT),
-    (b"\x11\x01\x02\x03\x04\x05\x06\x07", SHORT),
-    (b"\x25\x01\x02\x03", SHORT),
-    (b"\x1a", SHORT),
-    (b"\x1a\x80", SHORT),
-    (b"\x1a\x02\x61", SHORT),
-    (b"\x1a\xff\xff\xff\xff\xff\xff\xff\xff\xff\x01\x00", SHORT),
-    (b"\xff\xff\xff\xff\xff\xff\xff\xff\xff", SHORT),
-    (b"\xff\xff\xff\xff\xff\xff\xff\xff\xff\xff", LONG),
-    (b"\x08\xff\xff\xff\xff\xff\xff\xff\xff\xff\xff\xff", LONG),
-    (b"\x08\xff\xff\xff\xff\xff\xff\xff\xff\xff\xff", LONG),
-    (b"\x1a\xff\xff\xff\xff\xff\xff\xff\xff\xff\xff", LONG),
+    ),
+    (b"\x25\xef\xcd\xab\x89", 4, Wire::Four(0x89abcdef)),
+    (b"\x1a\x03abc", 3, Wire::Part { from: 2, to: 5 }),
+    (b"\xf8\xff\xff\xff\x0f\x01", 536870911, Wire::Varint(1)),
+    (b"\x08\xff\x80\x80\x00", 1, Wire::Varint(127)),
+    (b"\x88\x80\x80\x80\x80\x01\x05", 1, Wire::Varint(5)),
+    (
+        b"\x88\x80\x80\x80\x80\x80\x80\x80\x80\x7f\x05",
+        1,
+        Wire::Varint(5),
+    ),
+    (
+        b"\x08\xff\xff\xff\xff\xff\xff\xff\xff\xff\x7f",
+        1,
+        Wire::Varint(u64::MAX),
+    ),
+    (
+        b"\x08\x81\x80\x80\x80\x80\x80\x80\x80\x80\x02",
+        1,
+        Wire::Varint(1),
+    ),
+    (b"\x1a\x83\x00abc", 3, Wire::Part { from: 3, to: 6 }),
 ];
 
-/// Each fault with its place, and which comes first.
+/// Bytes that begin with no field, and why: of two faults the first in order.
+const NO_FIELDS: [(&[u8], WireFault); 12] = [
+    (b"\x0b", WireFault::Kind { at: 0 }),
+    (b"\x0c", WireFault::Kind { at: 0 }),
+    (b"\x0e", WireFault::Kind { at: 0 }),
+    (b"\x0f", WireFault::Kind { at: 0 }),
+    (b"\x03", WireFault::Kind { at: 0 }),
+    (b"\x02", WireFault::FieldZero { at: 0 }),
+    (b"\x80", WireFault::Short { at: 0 }),
+    (
+        b"\x11\x01\x02\x03\x04\x05\x06\x07",
+        WireFault::Short { at: 0 },
+    ),
+    (
+        b"\x1a\xff\xff\xff\xff\xff\xff\xff\xff\xff\x01\x00",
+        WireFault::Short { at: 0 },
+    ),
+    (
+        b"\xff\xff\xff\xff\xff\xff\xff\xff\xff",
+        WireFault::Short { at: 0 },
+    ),
+    (
+        b"\xff\xff\xff\xff\xff\xff\xff\xff\xff\xff",
+        WireFault::LongVarint { at: 0 },
+    ),
+    (
+        b"\x1a\xff\xff\xff\xff\xff\xff\xff\xff\xff\xff",
+        WireFault::LongVarint { at: 0 },
+    ),
+];
+
 #[test]
-fn refuses(rt: HostRuntime) {
+fn reads_any_spelling(rt: HostRuntime) {
+    for (bytes, number, value) in SPELLINGS {
+        let end = bytes.len() as u64;
+        assert_eq!(rt; next_field(bytes, 0), Ok(Some((number, value, end))));
+        assert_eq!(rt; next_field(bytes, end), Ok(None));
+    }
     for (bytes, fault) in NO_FIELDS {
         assert_eq!(rt; next_field(bytes, 0), Err(fault));
-        assert_eq!(rt;
-            fields(rt.alloc(), bytes).err(),
-            Some(FieldsFault::Wire(fault))
-        );
     }
-    let second = b"\x08\x01\x0b";
     assert_eq!(rt;
-        fields(rt.alloc(), second).err(),
-        Some(FieldsFault::Wire(WireFault::Kind { at: 2 }))
+        next_field(b"\x08\x01\x0b", 2),
+        Err(WireFault::Kind { at: 2 })
     );
 }
 
-/// Whole up to each place where a field ends, and cut off in the field that begins at the last such place elsewhere.
+/// Whole up to each place where a field ends, and cut off in the field that begins at the last such
+/// place elsewhere.
 #[test]
 fn reads_each_front_of_a_message(rt: HostRuntime) {
     for cut in 0..=MESSAGE.len() {
@@ -259,49 +168,79 @@ fn reads_each_front_of_a_message(rt: HostRuntime) {
 fn written(alloc: Global) -> Result<Vec<u8>, AllocError> {
     let mut out = Vec::new(alloc);
     put_varint(&mut out, 1, 300)?;
-    put_eight(&mut out, 2, 0x0102030405060708)?;
+    put_fixed64(&mut out, 2, 0x0102030405060708)?;
     put_bytes(&mut out, 3, b"hdfs")?;
-    put_four(&mut out, 4, 0x0a0b0c0d)?;
+    put_fixed32(&mut out, 4, 0x0a0b0c0d)?;
     put_varint(&mut out, 15, 1)?;
     put_varint(&mut out, 16, 0)?;
     put_bytes(&mut out, 17, b"")?;
     put_varint(&mut out, 2048, 18446744073709551615)?;
-    put_four(&mut out, 262143, 3)?;
-    put_varint(&mut out, 536870911, 128)?;
+    put_fixed32(&mut out, 262143, 3)?;
+    put_varint(&mut out, MAX_FIELD_NUMBER, 128)?;
     Ok(out)
-}
-
-#[test]
-fn writes_bare_numbers(rt: HostRuntime) -> Result<(), Fail> {
-    let mut out = Vec::new(rt.alloc());
-    put_number(&mut out, 300)?;
-    put_number(&mut out, 7)?;
-    assert!(rt; out.as_slice() == b"\xac\x02\x07".as_slice());
-    let (first, rest) = read_varint(out.as_slice()).ok().ok_or("a varint")?;
-    assert_eq!(rt; first, 300);
-    assert!(rt; rest == b"\x07".as_slice());
-    assert_eq!(rt; read_varint(b"\xac").err(), Some(VarintFault::Short));
-    Ok(())
 }
 
 #[test]
 fn writes_the_message(rt: HostRuntime) -> Result<(), Fail> {
     assert!(rt; written(rt.alloc())?.as_slice() == MESSAGE.as_slice());
+    let mut out = Vec::new(rt.alloc());
+    put_number(&mut out, 300)?;
+    assert!(rt; out.as_slice() == b"\xac\x02".as_slice());
+    for (number, may) in [
+        (0, false),
+        (1, true),
+        (536_870_911, true),
+        (536_870_912, false),
+    ] {
+        assert_eq!(rt; is_field_number(number), may);
+    }
     Ok(())
 }
 
 #[test]
 fn takes_the_last_and_joins_all(rt: HostRuntime) -> Result<(), Fail> {
-    let bytes = b"\x1a\x02ab\x08\x05\x1a\x02cd\x08\x07\x11\x08\x07\x06\x05\x04\x03\x02\x01";
+    let bytes =
+        b"\x1a\x02ab\x08\x05\x1a\x02cd\x08\x07\x12\x01e\x11\x08\x07\x06\x05\x04\x03\x02\x01";
     let listed = fields(rt.alloc(), bytes)?;
     assert_eq!(rt; listed.number(1), Some(7));
     assert_eq!(rt; listed.number(3), None);
     assert_eq!(rt; listed.part(3), Some((8, 10)));
+    let [one, two, three] = listed.last_values::<3>();
+    assert_eq!(rt; (one.varint, one.part), (Some(7), None));
+    assert_eq!(rt;
+        (two.fixed64, two.part),
+        (Some(0x0102030405060708), Some((14, 15)))
+    );
+    assert_eq!(rt; three.part, Some((8, 10)));
+    assert_eq!(rt; last_values(bytes, 2)?, two);
     let joined = merged(rt.alloc(), bytes, 3, &listed)?.ok_or("there are parts")?;
     assert!(rt; joined.as_slice() == b"abcd".as_slice());
+    let single = merged(rt.alloc(), bytes, 2, &listed)?.ok_or("there is a part")?;
+    assert!(rt; single.as_slice() == b"e".as_slice());
+    assert!(rt; matches!(&single, CowSlice::Borrowed(_)));
     assert!(rt; merged(rt.alloc(), bytes, 1, &listed)?.is_none());
-    assert_eq!(rt; last_values(bytes, 2)?.eight, Some(0x0102030405060708));
-    assert_eq!(rt; last_values(bytes, 1)?.varint, Some(7));
+    Ok(())
+}
+
+/// Frames up to the limit of a message.
+#[test]
+fn reads_frames(rt: HostRuntime) -> Result<(), Fail> {
+    let (message, size) = read_frame(b"\x02abc")?;
+    assert!(rt; message == b"ab".as_slice());
+    assert_eq!(rt; size, 3);
+    for (bytes, fault) in [
+        (b"\x80\x80\x04".as_slice(), FrameFault::Short),
+        (
+            b"\x81\x80\x04".as_slice(),
+            FrameFault::TooLong { length: 65_537 },
+        ),
+        (
+            b"\xff\xff\xff\xff\xff\xff\xff\xff\xff\xff".as_slice(),
+            FrameFault::LongPrefix,
+        ),
+    ] {
+        assert_eq!(rt; read_frame(bytes).err(), Some(fault));
+    }
     Ok(())
 }
 
@@ -322,7 +261,6 @@ fn prints_faults(rt: HostRuntime) -> Result<(), Fail> {
             "the field at 7 has the number 0",
         ),
     ] {
-        assert_eq!(rt; fault.to_string(rt.alloc())?.as_str(), text);
         assert_eq!(rt;
             FieldsFault::Wire(fault).to_string(rt.alloc())?.as_str(),
             text

@@ -1,7 +1,7 @@
 //! Varints: seven bits a byte, the least first, and the high bit on all bytes but the last.
 
 ghost use Rattle.std.specs.Prelude.{◌≡◌, ℕ, ◌<◌, ◌↔◌, List, length, IfOk};
-ghost use Rattle.proto_fields.specs.ResultSteps.{read_of};
+ghost use Rattle.hd_base.specs.Results.{read_of};
 ghost use Rattle.proto_fields.specs.Varint.{BeginsWithVarint, IsCutVarint, IsLongVarint, varint_at, varint_within};
 
 use thiserror::Error;

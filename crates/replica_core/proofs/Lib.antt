@@ -1,4 +1,4 @@
-pub mod Steps
-pub mod HeldLaws
-pub mod SoundLaws
-pub mod RowLaws
+pub mod StepLemmas
+pub mod InfoLemmas
+pub mod SoundLemmas
+pub mod TransitionLemmas

@@ -1,7 +1,7 @@
 pub mod Refusals
-pub mod Held
-pub mod Pieces
-pub mod Rows
+pub mod Info
+pub mod Extents
+pub mod Transitions
 pub mod Views
 pub mod Sound
 pub mod Laws

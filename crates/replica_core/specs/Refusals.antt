@@ -1,5 +1,5 @@
 -- The numbers of refusals, and tests that refuse.
-use Rattle.std.specs.Prelude.{ℕ, Bool, if◌then◌else◌, Result, Ok, Err}
+use Rattle.std.specs.Prelude.{ℕ, Bool, if◌then◌else◌, Result, Err}
 use Rattle.replica_core.specs.declared.refusals.Refusal.{Refusal}
 use Rattle.replica_core.specs.declared.refusals.Refusal.TheVariants as refusal
 use Rattle.replica_core.specs.declared.refusals.PieceRule.{PieceRule}
@@ -10,7 +10,7 @@ abbrev pub refusal_number : Refusal → ℕ
 refusal_number refusal.NoReplica = 1
 refusal_number refusal.Exists = 2
 refusal_number (refusal.WrongState state) = 3
-refusal_number (refusal.Stale held low high) = 4
+refusal_number (refusal.Stale info low high) = 4
 refusal_number (refusal.LengthOut acked written min max) = 5
 refusal_number refusal.NotWriter = 6
 refusal_number (refusal.Gap written offset) = 7
@@ -34,9 +34,3 @@ rule_number rule.TooLong = 6
 -- a test, its refusal where it fails, and what follows where it holds
 abbrev pub check : {X : Type 0} → Bool → Refusal → Result X Refusal → Result X Refusal
 check holds refused next = if holds then next else Err refused
-
--- what follows a step that may be refused
-infixl 10 ◌>>=◌
-abbrev pub ◌>>=◌ : {A B : Type 0} → Result A Refusal → (A → Result B Refusal) → Result B Refusal
-(Ok x) >>= f = f x
-(Err e) >>= f = Err e

@@ -1,7 +1,10 @@
 //! What happens to a replica, and what it answers.
 
+ghost use Rattle.std.specs.Prelude.{◌↔◌, IsTrue};
+ghost use Rattle.replica_core.specs.Transitions.{IsLawful};
+
 use crate::refusals::Refusal;
-use hd_base::{ConnId, ReplicaState, Stamp};
+use hd_base::{ConnId, ReplicaState, Stamp, SumRule};
 
 /// What happens to a replica: what a write request, a packet, an ack, a recovery or a read asks of
 /// it, and what befalls it. Offsets and lengths are in bytes.
@@ -11,6 +14,14 @@ pub enum Event {
     Create {
         conn: ConnId,
         stamp: Stamp,
+        sums: SumRule,
+    },
+    /// The write request of a block that is transferred (HDFS `TRANSFER_RBW`, `TRANSFER_FINALIZED`): a
+    /// temporary replica, which the transfer writes.
+    Temporary {
+        conn: ConnId,
+        stamp: Stamp,
+        sums: SumRule,
     },
     /// The write request of an append to a block of this length (HDFS `PIPELINE_SETUP_APPEND`).
     Append {
@@ -43,7 +54,7 @@ pub enum Event {
         length: u64,
     },
     /// A packet of the stream with `length` bytes from `offset` and `sums` sums; `bad` is the least
-    /// piece of it whose sum differs, counting from 0. The seqno -1 is a heartbeat.
+    /// of its chunks whose sum differs, counting from 0. The seqno -1 is a heartbeat.
     Packet {
         conn: ConnId,
         seqno: i64,
@@ -54,7 +65,7 @@ pub enum Event {
         sync: bool,
         bad: Option<u64>,
     },
-    /// The ack of the oldest pending entry, good where all below acked it.
+    /// The ack of the oldest pending packet, good where all below acked it.
     Ack {
         conn: ConnId,
         seqno: i64,
@@ -80,8 +91,33 @@ pub enum Event {
         offset: u64,
         length: u64,
     },
+    /// A transfer asks for `length` bytes from `offset` of a replica being written under just this
+    /// stamp.
+    Give {
+        named: Stamp,
+        offset: u64,
+        length: u64,
+    },
     /// A call on the replica's files failed.
     FileFault,
+}
+
+impl Event {
+    /// Whether the event's numbers fit: a packet's bad chunk has one of its sums, and a recovery id
+    /// isn't 0.
+    pub fn is_lawful(&self) -> bool
+        ensures { IsTrue result ↔ IsLawful self.now }
+    {
+        match *self {
+            Event::Packet {
+                sums,
+                bad: Some(chunk),
+                ..
+            } => chunk < sums,
+            Event::Init { recovery, .. } => recovery.0 > 0,
+            _ => true,
+        }
+    }
 }
 
 /// What a replica answers an event.
@@ -89,13 +125,13 @@ pub enum Event {
 pub enum Answer {
     /// The event was taken.
     Done,
-    /// The recovery that begins is told the original state, the stamp and the written length.
+    /// The recovery begins, with the original state, the stamp and the written length.
     Info {
         state: ReplicaState,
         stamp: Stamp,
         length: u64,
     },
-    /// The reader may read up to this length.
+    /// The reader or the transfer may have the bytes up to this length.
     Visible {
         length: u64,
     },

@@ -3,19 +3,19 @@
 //! matter here.
 #![tactic(auto)]
 
-mod cores;
-mod entries;
+mod ack_queue;
 mod events;
-mod held;
+mod extents;
+mod info;
 mod laws;
-mod pieces;
+mod records;
 mod refusals;
 mod replica;
 mod streams;
 #[cfg(test)]
 mod tests;
 
-pub use entries::Entry;
+pub use ack_queue::{MAX_PENDING, PendingPacket};
 pub use events::{Answer, Event};
 pub use laws::{
     acked_is_written, one_connection_writes, packets_leave_no_gap, readers_see_the_visible,

@@ -4,10 +4,11 @@ ghost use Rattle.std.specs.Prelude.{◌≡◌};
 ghost use Rattle.replica_core.specs.Refusals.{refusal_number, rule_number};
 
 use hd_base::{ReplicaState, Stamp};
+use std::fmt;
 use thiserror::Error;
 
-/// Why a replica refuses an event. What a refusal keeps tells what was held and what was asked.
-#[derive(Clone, Copy, Debug, PartialEq, Eq, Error)]
+/// Why a replica refuses an event. A refusal keeps what was held and what was asked.
+#[derive(Clone, Copy, Debug, PartialEq, Eq, PartialOrd, Ord, Hash, Error)]
 pub enum Refusal {
     /// The replica is absent.
     #[error("no replica")]
@@ -16,7 +17,7 @@ pub enum Refusal {
     #[error("the replica exists")]
     Exists,
     /// The event doesn't fit the replica's state.
-    #[error("the state is {state:?}")]
+    #[error("the state is {state}")]
     WrongState {
         state: ReplicaState,
     },
@@ -50,7 +51,7 @@ pub enum Refusal {
         chunk: u64,
     },
     /// The packet breaks a rule on its place and form.
-    #[error("the packet breaks the rule {rule:?}")]
+    #[error("the packet breaks the rule {rule}")]
     Piece {
         rule: PieceRule,
     },
@@ -63,7 +64,7 @@ pub enum Refusal {
         id: Stamp,
     },
     /// The number isn't the one that is wanted, if any is.
-    #[error("the seqno {got} isn't {want:?}")]
+    #[error("the seqno is {got}, expected {}", Expected(*.want))]
     Seqno {
         want: Option<i64>,
         got: i64,
@@ -99,7 +100,7 @@ impl Refusal {
 }
 
 /// The rules on a packet's place and form.
-#[derive(Clone, Copy, Debug, PartialEq, Eq)]
+#[derive(Clone, Copy, Debug, PartialEq, Eq, PartialOrd, Ord, Hash)]
 pub enum PieceRule {
     /// An offset isn't negative.
     Negative,
@@ -111,7 +112,7 @@ pub enum PieceRule {
     LastShape,
     /// A packet that begins amid a chunk ends within it.
     MidChunk,
-    /// There is one sum for each piece.
+    /// There is one sum for each chunk, and none where the replica has no sums.
     Sums,
     /// A block has at most 134,217,728 bytes.
     TooLong,
@@ -130,6 +131,33 @@ impl PieceRule {
             PieceRule::MidChunk => 4,
             PieceRule::Sums => 5,
             PieceRule::TooLong => 6,
+        }
+    }
+}
+
+impl fmt::Display for PieceRule {
+    fn fmt<W: fmt::Write>(&self, f: &mut fmt::Formatter<W>) -> fmt::Result {
+        f.write_str(match self {
+            PieceRule::Negative => "Negative",
+            PieceRule::Heartbeat => "Heartbeat",
+            PieceRule::AfterLast => "AfterLast",
+            PieceRule::LastShape => "LastShape",
+            PieceRule::MidChunk => "MidChunk",
+            PieceRule::Sums => "Sums",
+            PieceRule::TooLong => "TooLong",
+        })
+    }
+}
+
+/// A number that is expected, or `none`.
+#[derive(Clone, Copy)]
+struct Expected(Option<i64>);
+
+impl fmt::Display for Expected {
+    fn fmt<W: fmt::Write>(&self, f: &mut fmt::Formatter<W>) -> fmt::Result {
+        match self.0 {
+            Some(number) => write!(f, "{number}"),
+            None => f.write_str("none"),
         }
     }
 }

@@ -1,9 +1,9 @@
 //! The stream of packets that writes a replica.
 
 ghost use Rattle.std.specs.Prelude.{◌≡◌};
-ghost use Rattle.replica_core.specs.Pieces.{fresh, wanted as wanted_after, follows as follows_on, streamed};
+ghost use Rattle.replica_core.specs.Extents.{fresh, wanted, follows, stream_after};
 
-use crate::pieces::Piece;
+use crate::extents::PacketExtent;
 use crate::refusals::{PieceRule, Refusal};
 use hd_base::ConnId;
 
@@ -31,14 +31,14 @@ impl Stream {
     }
 
     /// The stream after this packet, which isn't a heartbeat.
-    #[tactic(auto, unfolding(crate::specs::Pieces::streamed))]
-    pub fn after(&self, piece: &Piece) -> Result<Stream, Refusal>
-        ensures { result ≡ streamed self.now piece.now }
+    #[tactic(auto, unfolding(crate::specs::Extents::stream_after))]
+    pub fn after(&self, extent: &PacketExtent) -> Result<Stream, Refusal>
+        ensures { result ≡ stream_after self.now extent.now }
     {
-        if !self.is_followed_by(piece.seqno) {
+        if !self.is_followed_by(extent.seqno) {
             return Err(Refusal::Seqno {
                 want: self.wanted(),
-                got: piece.seqno,
+                got: extent.seqno,
             });
         }
         if self.is_over {
@@ -48,14 +48,14 @@ impl Stream {
         }
         Ok(Stream {
             conn: self.conn,
-            previous: Some(piece.seqno),
-            is_over: piece.last,
+            previous: Some(extent.seqno),
+            is_over: extent.last,
         })
     }
 
     /// The one seqno that is wanted: `None` before the first packet and after the greatest seqno.
     fn wanted(&self) -> Option<i64>
-        ensures { result ≡ wanted_after self.now.previous }
+        ensures { result ≡ wanted self.now.previous }
     {
         match self.previous {
             Some(previous) if previous < i64::MAX => Some(previous + 1),
@@ -65,7 +65,7 @@ impl Stream {
 
     /// Whether a packet with this seqno may be next.
     fn is_followed_by(&self, seqno: i64) -> bool
-        ensures { result ≡ follows_on self.now.previous seqno }
+        ensures { result ≡ follows self.now.previous seqno }
     {
         match self.previous {
             Some(_) => self.wanted().is_some_and(|wanted| wanted == seqno),

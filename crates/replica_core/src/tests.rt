@@ -1,10 +1,7 @@
 //! Worked examples of the write pipeline, over lengths.
 
-ghost use Rattle.std.specs.Prelude.{◌↔◌, IsTrue};
-ghost use Rattle.replica_core.specs.Rows.{IsLawful};
-
-use crate::{Answer, Event, PieceRule, Refusal, Replica};
-use hd_base::{BlockId, ConnId, ReplicaState, Stamp};
+use crate::{Answer, Event, MAX_PENDING, PieceRule, Refusal, Replica};
+use hd_base::{BlockId, ConnId, ReplicaState, Stamp, SumKind, SumRule};
 use std::process::Abort;
 use std::test::Fail;
 
@@ -14,24 +11,9 @@ const CONN: ConnId = ConnId(1);
 
 const OTHER: ConnId = ConnId(2);
 
-/// Whether the event's numbers fit.
-fn is_lawful(event: &Event) -> bool
-    ensures { IsTrue result ↔ IsLawful event.now }
-{
-    match *event {
-        Event::Packet {
-            sums,
-            bad: Some(piece),
-            ..
-        } => piece < sums,
-        Event::Init { recovery, .. } => recovery.0 > 0,
-        _ => true,
-    }
-}
-
 /// Takes an event whose numbers fit, where there is room.
 fn step(rt: &impl Abort, replica: &mut Replica, event: Event) -> Answer {
-    assert!(rt; is_lawful(&event));
+    assert!(rt; event.is_lawful());
     assert!(rt; !replica.is_full());
     replica.step(&event)
 }
@@ -46,10 +28,32 @@ fn after(rt: &(impl Abort + AllocGlobal), events: &[Event]) -> Result<Replica, F
     Ok(replica)
 }
 
-const CREATE: Event = Event::Create {
-    conn: CONN,
-    stamp: Stamp(1001),
-};
+/// The write request of a new block.
+fn create() -> Event {
+    Event::Create {
+        conn: CONN,
+        stamp: Stamp(1001),
+        sums: SumRule::default(),
+    }
+}
+
+/// The write request of a block that is transferred.
+fn temporary(sums: SumRule) -> Event {
+    Event::Temporary {
+        conn: CONN,
+        stamp: Stamp(1001),
+        sums,
+    }
+}
+
+/// A transfer's request of bytes from the block's beginning on.
+fn give(named: u64, length: u64) -> Event {
+    Event::Give {
+        named: Stamp(named),
+        offset: 0,
+        length,
+    }
+}
 
 /// A packet without fault.
 fn packet(seqno: i64, offset: i64, length: u64, sums: u64) -> Event {
@@ -151,74 +155,31 @@ fn wanted(
 }
 
 #[test]
-fn a_chunk_is_written_in_two_packets(rt: HostRuntime) -> Result<(), Fail> {
-    let mut replica = after(&rt, &[CREATE, packet(0, 0, 600, 2), ack(0)])?;
-    play(&rt, &mut replica, &[(packet(1, 512, 188, 1), Answer::Done)]);
-    let open = wanted(ReplicaState::Rbw, 1001, 700, 600, Some(CONN));
-    assert_eq!(rt; shown(&replica), open);
-    assert_eq!(rt; replica.acked(), 600);
-    Ok(())
-}
-
-#[test]
-fn an_append_goes_on_amid_a_chunk(rt: HostRuntime) -> Result<(), Fail> {
-    let state = ReplicaState::Finalized;
-    let mut replica = Replica::found(rt.alloc(), BLOCK, state, Stamp(1001), 600)?;
-    let append = Event::Append {
-        conn: CONN,
-        named: Stamp(1001),
-        new: Stamp(1002),
-        length: 600,
-    };
-    let rule = PieceRule::MidChunk;
-    let mid_chunk = Answer::Refused(Refusal::Piece { rule });
-    let events = [
-        (append, Answer::Done),
-        (packet(0, 600, 425, 1), mid_chunk),
-        (packet(0, 600, 424, 1), Answer::Done),
-        (packet(1, 1024, 576, 2), Answer::Done),
-        (last(2, 1600), Answer::Done),
-        (ack(0), Answer::Done),
-        (ack(1), Answer::Done),
-        (ack(2), Answer::Done),
-    ];
-    play(&rt, &mut replica, &events);
-    assert_eq!(rt; shown(&replica), wanted(state, 1002, 1600, 1600, None));
-    Ok(())
-}
-
-#[test]
 fn a_stream_is_recovered(rt: HostRuntime) -> Result<(), Fail> {
-    let sent = [packet(0, 0, 512, 1), packet(1, 512, 488, 1)];
-    let mut replica = after(&rt, &[CREATE, sent[0], sent[1], ack(0)])?;
-    let again = recovery(1001, 1002, 512, 1000);
-    let old = Answer::Refused(Refusal::NotWriter);
-    let events = [(again, Answer::Done), (again, Answer::Done), (sent[1], old)];
+    let sent = [
+        create(),
+        packet(0, 0, 512, 1),
+        packet(1, 512, 488, 1),
+        ack(0),
+    ];
+    let mut replica = after(&rt, &sent)?;
+    let events = [
+        (recovery(1001, 1002, 512, 1000), Answer::Done),
+        (recovery(1001, 1002, 512, 1000), Answer::Done),
+        (packet(1, 512, 488, 1), Answer::Refused(Refusal::NotWriter)),
+    ];
     play(&rt, &mut replica, &events);
     let cut = wanted(ReplicaState::Rbw, 1002, 512, 512, Some(OTHER));
     assert_eq!(rt; shown(&replica), cut);
+    assert_eq!(rt; replica.acked(), 512);
     assert_eq!(rt; replica.oldest(), None);
     Ok(())
 }
 
 #[test]
-fn a_late_recovery_is_stale(rt: HostRuntime) -> Result<(), Fail> {
-    let stamp = Stamp(1003);
-    let mut replica = after(&rt, &[Event::Create { conn: CONN, stamp }])?;
-    let stale = Refusal::Stale {
-        held: stamp,
-        low: Stamp(1001),
-        high: Stamp(1002),
-    };
-    let late = (recovery(1001, 1002, 0, 0), Answer::Refused(stale));
-    play(&rt, &mut replica, &[late]);
-    Ok(())
-}
-
-#[test]
 fn a_block_is_recovered(rt: HostRuntime) -> Result<(), Fail> {
-    let sent = [packet(0, 0, 300, 1), packet(1, 0, 900, 2)];
-    let mut replica = after(&rt, &[CREATE, sent[0], ack(0), sent[1]])?;
+    let sent = [create(), packet(0, 0, 300, 1), ack(0), packet(1, 0, 900, 2)];
+    let mut replica = after(&rt, &sent)?;
     let info = Answer::Info {
         state: ReplicaState::Rbw,
         stamp: Stamp(1001),
@@ -242,20 +203,30 @@ fn a_block_is_recovered(rt: HostRuntime) -> Result<(), Fail> {
     Ok(())
 }
 
+/// The most bytes that a block may have.
+const WHOLE: u64 = 134_217_728;
+
 #[test]
 fn appends_and_closes_are_recovered(rt: HostRuntime) -> Result<(), Fail> {
     let state = ReplicaState::Finalized;
-    let mut replica = Replica::found(rt.alloc(), BLOCK, state, Stamp(1001), 600)?;
+    let mut replica = Replica::found(
+        rt.alloc(),
+        BLOCK,
+        state,
+        Stamp(1001),
+        SumRule::default(),
+        WHOLE,
+    )?;
     let append = Event::AppendRecovery {
         conn: CONN,
         named: Stamp(1001),
         new: Stamp(1003),
-        length: 600,
+        length: WHOLE,
     };
     let close = Event::CloseRecovery {
         named: Stamp(1002),
         new: Stamp(1004),
-        length: 600,
+        length: WHOLE,
     };
     let gone = Answer::Refused(Refusal::NotWriter);
     let events = [
@@ -267,59 +238,87 @@ fn appends_and_closes_are_recovered(rt: HostRuntime) -> Result<(), Fail> {
         (close, Answer::Done),
     ];
     play(&rt, &mut replica, &events);
-    assert_eq!(rt; shown(&replica), wanted(state, 1004, 600, 600, None));
+    assert_eq!(rt; shown(&replica), wanted(state, 1004, WHOLE, WHOLE, None));
     assert_eq!(rt; replica.block(), BLOCK);
     assert_eq!(rt; replica.original(), Some(state));
     Ok(())
 }
 
+/// The refusal of a state.
+fn wrong_state(state: ReplicaState) -> Answer {
+    Answer::Refused(Refusal::WrongState { state })
+}
+
 #[test]
-fn readers_see_what_is_acked(rt: HostRuntime) -> Result<(), Fail> {
-    let sent = [packet(0, 0, 300, 1), packet(1, 0, 900, 2)];
-    let mut replica = after(&rt, &[CREATE, sent[0], ack(0), sent[1]])?;
-    let visible = Answer::Visible { length: 300 };
-    let out = Answer::Refused(Refusal::OutOfRange { visible: 300 });
-    let events = [
-        (read(100, 10), visible),
-        (read(300, 0), visible),
-        (read(0, 301), out),
-        (read(u64::MAX, 1), out),
+fn a_transfer_is_taken_and_given(rt: HostRuntime) -> Result<(), Fail> {
+    let sums = SumRule::new(SumKind::Crc32, 512).ok_or("a rule")?;
+    let mut replica = Replica::new(rt.alloc(), BLOCK)?;
+    let absent = Answer::Refused(Refusal::NoReplica);
+    let exists = Answer::Refused(Refusal::Exists);
+    let gone = Answer::Refused(Refusal::NotWriter);
+    let visible = Answer::Visible { length: 600 };
+    let out = Answer::Refused(Refusal::OutOfRange { visible: 600 });
+    let stale = Answer::Refused(Refusal::Stale {
+        held: Stamp(1001),
+        low: Stamp(1000),
+        high: Stamp(1000),
+    });
+    let close = Event::CloseRecovery {
+        named: Stamp(1001),
+        new: Stamp(1002),
+        length: 600,
+    };
+    let table = [
+        (give(1001, 0), absent),
+        (temporary(sums), Answer::Done),
+        (temporary(sums), exists),
+        (give(1001, 0), wrong_state(ReplicaState::Temporary)),
+        (packet(0, 0, 600, 2), Answer::Done),
+        (last(1, 600), Answer::Done),
+        (ack(0), Answer::Done),
+        (read(0, 1), wrong_state(ReplicaState::Temporary)),
+        (ack(1), Answer::Done),
+        (packet(2, 600, 1, 1), gone),
+        (give(1001, 600), visible),
+        (give(1001, 601), out),
+        (give(1000, 600), stale),
+        (close, Answer::Done),
+        (give(1002, 600), wrong_state(ReplicaState::Finalized)),
+        (Event::FileFault, Answer::Done),
+        (temporary(sums), Answer::Refused(Refusal::Broken)),
     ];
-    play(&rt, &mut replica, &events);
-    let state = ReplicaState::Rwr;
-    let mut replica = Replica::found(rt.alloc(), BLOCK, state, Stamp(1001), 600)?;
-    let wrong = Answer::Refused(Refusal::WrongState { state });
-    play(&rt, &mut replica, &[(read(0, 1), wrong)]);
+    play(&rt, &mut replica, &table);
+    assert_eq!(rt; replica.rule(), Some(sums));
     Ok(())
 }
 
-/// The refusal of a seqno.
-fn seqno_refused(want: Option<i64>, got: i64) -> Answer {
-    Answer::Refused(Refusal::Seqno { want, got })
-}
-
 #[test]
-fn seqnos_end(rt: HostRuntime) -> Result<(), Fail> {
-    let mut replica = after(&rt, &[CREATE])?;
-    let most = i64::MAX;
+fn packets_keep_the_rule_of_sums(rt: HostRuntime) -> Result<(), Fail> {
+    let few = Answer::Refused(Refusal::Piece {
+        rule: PieceRule::Sums,
+    });
+    let null = SumRule::new(SumKind::Null, 512).ok_or("a rule")?;
+    let mut replica = after(&rt, &[temporary(null)])?;
     let events = [
-        (packet(-2, 0, 9, 1), seqno_refused(None, -2)),
-        (packet(most - 1, 0, 9, 1), Answer::Done),
-        (packet(7, 0, 9, 1), seqno_refused(Some(most), 7)),
-        (packet(most, 0, 9, 1), Answer::Done),
-        (packet(i64::MIN, 0, 9, 1), seqno_refused(None, i64::MIN)),
-        (packet(-1, 0, 0, 0), Answer::Done),
-        (ack(0), seqno_refused(Some(most - 1), 0)),
+        (packet(0, 0, 9, 1), few),
+        (packet(0, 0, 9, 0), Answer::Done),
+    ];
+    play(&rt, &mut replica, &events);
+    let short = SumRule::new(SumKind::Crc32c, 16).ok_or("a rule")?;
+    let mut replica = after(&rt, &[temporary(short)])?;
+    let events = [
+        (packet(0, 0, 40, 2), few),
+        (packet(0, 0, 40, 3), Answer::Done),
     ];
     play(&rt, &mut replica, &events);
     Ok(())
 }
 
 #[test]
-fn so_many_entries_may_be_pending(rt: HostRuntime) -> Result<(), Fail> {
-    let mut replica = after(&rt, &[CREATE])?;
+fn so_many_packets_may_be_pending(rt: HostRuntime) -> Result<(), Fail> {
+    let mut replica = after(&rt, &[create()])?;
     let beat = (packet(-1, 0, 0, 0), Answer::Done);
-    for _ in 0..1024 {
+    for _ in 0..MAX_PENDING {
         play(&rt, &mut replica, &[beat]);
     }
     assert!(rt; replica.is_full());
@@ -333,103 +332,69 @@ fn so_many_entries_may_be_pending(rt: HostRuntime) -> Result<(), Fail> {
     Ok(())
 }
 
-/// A packet whose fourth sum differs.
-const DAMAGED: Event = Event::Packet {
-    conn: CONN,
-    seqno: 0,
-    offset: 0,
-    length: 2560,
-    sums: 5,
-    last: false,
-    sync: false,
-    bad: Some(3),
-};
-
-/// After these events this one is refused, with this text and number.
-type Case<'a> = (&'a [Event], Event, &'a str, u32);
-
-fn compare(rt: &(impl Abort + AllocGlobal), cases: &[Case<'_>]) -> Result<(), Fail> {
-    for (events, event, text, number) in cases {
-        let mut replica = after(rt, events)?;
-        let Answer::Refused(refusal) = step(rt, &mut replica, *event) else {
-            return Err("not refused".into());
-        };
+/// Compares what refusals print.
+fn compare(rt: &(impl Abort + AllocGlobal), table: &[(Refusal, &str)]) -> Result<(), Fail> {
+    for (refusal, text) in table {
         assert_eq!(rt; format!(in rt.alloc(); "{refusal}")?.as_str(), *text);
-        assert_eq!(rt; refusal.number(), *number);
     }
     Ok(())
 }
 
 #[test]
-fn refused_setups_keep_their_values(rt: HostRuntime) -> Result<(), Fail> {
-    let append = Event::Append {
-        conn: CONN,
-        named: Stamp(1001),
-        new: Stamp(1002),
-        length: 0,
+fn refused_setups_are_printed(rt: HostRuntime) -> Result<(), Fail> {
+    let state = ReplicaState::Rbw;
+    let (held, low, high) = (Stamp(1001), Stamp(1002), Stamp(1003));
+    let (acked, written, min, max) = (0, 600, 1, 500);
+    let stale = Refusal::Stale { held, low, high };
+    let length_out = Refusal::LengthOut {
+        acked,
+        written,
+        min,
+        max,
     };
-    let stale = "the stamp 1001 isn't from 1002 to 1003";
-    let written = [CREATE, packet(0, 0, 600, 2)];
-    let misfit = "0 acked and 600 written don't fit 1 to 600";
-    let held = [CREATE, init(1001, 1005)];
-    let taken = "the recovery 1005 holds the replica";
-    compare(
-        &rt,
-        &[
-            (&[], append, "no replica", 1),
-            (&[CREATE], CREATE, "the replica exists", 2),
-            (&[CREATE], append, "the state is Rbw", 3),
-            (&[CREATE], recovery(1002, 1003, 0, 0), stale, 4),
-            (&written, recovery(1001, 1002, 1, 600), misfit, 5),
-            (&[Event::FileFault], CREATE, "the replica is broken", 10),
-            (&held, init(1001, 1005), taken, 11),
-        ],
-    )
+    let table = [
+        (Refusal::NoReplica, "no replica"),
+        (Refusal::Exists, "the replica exists"),
+        (Refusal::WrongState { state }, "the state is RBW"),
+        (stale, "the stamp 1001 isn't from 1002 to 1003"),
+        (length_out, "0 acked and 600 written don't fit 1 to 500"),
+        (Refusal::Broken, "the replica is broken"),
+        (
+            Refusal::RecoveryHeld { id: held },
+            "the recovery 1001 holds the replica",
+        ),
+    ];
+    compare(&rt, &table)
 }
 
 #[test]
-fn refused_packets_keep_their_values(rt: HostRuntime) -> Result<(), Fail> {
-    let other = Event::Ack {
-        conn: OTHER,
-        seqno: 0,
-        good: true,
-    };
-    let stranger = "the connection doesn't write the replica";
-    let gap = "a packet at 512 leaves a gap behind 0";
-    let negative = "the packet breaks the rule Negative";
-    compare(
-        &rt,
-        &[
-            (&[CREATE], other, stranger, 6),
-            (&[CREATE], packet(0, 512, 9, 1), gap, 7),
-            (&[CREATE], DAMAGED, "the sum of chunk 3 differs", 8),
-            (&[CREATE], packet(0, -1, 9, 1), negative, 9),
-            (&[CREATE], ack(0), "the seqno 0 isn't None", 12),
-            (&[CREATE], read(0, 1), "only 0 bytes are visible", 13),
-        ],
-    )
-}
-
-#[test]
-fn every_rule_of_packets_is_kept(rt: HostRuntime) -> Result<(), Fail> {
-    let chunk = [CREATE, packet(0, 0, 512, 1)];
-    let closed = [CREATE, last(0, 0)];
-    let heartbeat = "the packet breaks the rule Heartbeat";
-    let after_last = "the packet breaks the rule AfterLast";
-    let last_shape = "the packet breaks the rule LastShape";
-    let mid_chunk = "the packet breaks the rule MidChunk";
-    let sums = "the packet breaks the rule Sums";
-    let too_long = "the packet breaks the rule TooLong";
-    compare(
-        &rt,
-        &[
-            (&[CREATE], packet(-1, 0, 9, 1), heartbeat, 9),
-            (&closed, packet(1, 0, 9, 1), after_last, 9),
-            (&chunk, last(1, 0), last_shape, 9),
-            (&chunk, packet(1, 1, 512, 1), mid_chunk, 9),
-            (&chunk, packet(1, 512, 513, 1), sums, 9),
-            (&chunk, packet(1, 512, 134_217_217, 262_144), too_long, 9),
-            (&chunk, packet(1, i64::MAX, u64::MAX, 0), too_long, 9),
-        ],
-    )
+fn refused_packets_are_printed(rt: HostRuntime) -> Result<(), Fail> {
+    let (written, offset, got) = (0, 512, 7);
+    let rule = PieceRule::LastShape;
+    let want = Some(6);
+    let table = [
+        (
+            Refusal::NotWriter,
+            "the connection doesn't write the replica",
+        ),
+        (
+            Refusal::Gap { written, offset },
+            "a packet at 512 leaves a gap behind 0",
+        ),
+        (Refusal::BadSum { chunk: 3 }, "the sum of chunk 3 differs"),
+        (
+            Refusal::Piece { rule },
+            "the packet breaks the rule LastShape",
+        ),
+        (Refusal::Seqno { want, got }, "the seqno is 7, expected 6"),
+        (
+            Refusal::Seqno { want: None, got },
+            "the seqno is 7, expected none",
+        ),
+        (
+            Refusal::OutOfRange { visible: 9 },
+            "only 9 bytes are visible",
+        ),
+    ];
+    compare(&rt, &table)
 }

@@ -1,7 +1,7 @@
 -- Each clause from what reading gives, by the laws of acks.
 use Rattle.std.proofs.Common.{ap, ◌∙◌, arith}
 use Rattle.ack_codec.specs.Acks.{ack_at}
-use Rattle.ack_codec.proofs.DecodingLaws.{ack_found, ack_within, ack_again, ack_prefix, ack_refused, refuses_ack, ack_listed}
+use Rattle.ack_codec.proofs.DecodingLemmas.{ack_found, ack_within, ack_again, ack_prefix, ack_refused, refuses_ack, ack_listed}
 use Rattle.ack_codec.proofs.decoding.decode_ack.Goals as goal
 
 pub returns-clause-found : goal.returns-clause-found

@@ -1,7 +1,7 @@
 -- Each clause from what reading gives, by the laws of read statuses.
 use Rattle.std.proofs.Common.{ap, ◌∙◌, arith}
 use Rattle.ack_codec.specs.Acks.{read_status_at}
-use Rattle.ack_codec.proofs.DecodingLaws.{read_status_found, read_status_within, read_status_again, read_status_prefix, read_status_refused, refuses_read_status, read_status_listed}
+use Rattle.ack_codec.proofs.DecodingLemmas.{read_status_found, read_status_within, read_status_again, read_status_prefix, read_status_refused, refuses_read_status, read_status_listed}
 use Rattle.ack_codec.proofs.decoding.decode_read_status.Goals as goal
 
 pub returns-clause-found : goal.returns-clause-found

@@ -1,6 +1,6 @@
 -- Each clause from what reading gives, by the laws of responses.
 use Rattle.std.proofs.Common.{arith}
-use Rattle.ack_codec.proofs.ResponseDecodingLaws.{read_found, read_within, read_only, response_prefix, read_refused, read_refuses, read_listed}
+use Rattle.ack_codec.proofs.ResponseDecodingLemmas.{read_found, read_within, read_only, response_prefix, read_refused, read_refuses, read_listed}
 use Rattle.ack_codec.proofs.decoding.decode_response.Goals as goal
 
 pub returns-clause-found : goal.returns-clause-found

@@ -2,8 +2,8 @@
 use Rattle.std.proofs.Common.{◌≡◌, ◌-◌, ◌≤◌, [], ◌∷◌, ◌++◌, length, subst, ap, sym, ◌∙◌, arith}
 use Rattle.ack_codec.specs.Acks.{SpellsAck}
 use Rattle.ack_codec.specs.AckTexts.{ack_message, ack_text}
-use Rattle.ack_codec.proofs.AckTextLaws.{length_first, ack_text_spells}
-use Rattle.ack_codec.proofs.DecodingLaws.{ack_again}
+use Rattle.ack_codec.proofs.AckTextLemmas.{length_first, ack_text_spells}
+use Rattle.ack_codec.proofs.DecodingLemmas.{ack_again}
 use Rattle.ack_codec.proofs.encoding.encode_ack.Goals as goal
 use Rattle.ack_codec.proofs.encoding.encode_ack.Goals.{After-set_first}
 

@@ -8,7 +8,7 @@ use Rattle.hd_base.specs.declared.states.Status.{Status}
 use Rattle.std.proofs.lemmas.List.{take_all}
 use Rattle.proto_fields.specs.Writing.{varint_field}
 use Rattle.ack_codec.specs.AckTexts.{zigzag, reply_text, ack_message}
-use Rattle.ack_codec.proofs.AckTextLaws.{varint_field_few, varint_field_most, reply_more, low_more}
+use Rattle.ack_codec.proofs.AckTextLemmas.{varint_field_few, varint_field_most, reply_more, low_more}
 use Rattle.ack_codec.proofs.encoding.put_message.Goals as goal
 
 pub push_field-requires : goal.push_field-requires
@@ -26,7 +26,7 @@ loop-status-init c =
 
 pub push_field-requires-in-loop-status : goal.push_field-requires-in-loop-status
 push_field-requires-in-loop-status c =
-    omega (arith, c.loop-status.invariant.few, c.as_slice-status-items.ensures.few, varint_field_few 2 c.from.result (omega arith) (omega arith))
+    omega (arith, c.loop-status.invariant.few, c.as_slice-status-items.ensures.within_limit, varint_field_few 2 c.from.result (omega arith) (omega arith))
 
 pub loop-status-preserved : goal.loop-status-preserved
 loop-status-preserved c =

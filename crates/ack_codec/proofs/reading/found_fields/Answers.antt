@@ -3,7 +3,7 @@ use Rattle.std.proofs.Common.{◌≡◌, Ok, Err, Some, None, ap, sym, ◌∙◌
 use Rattle.std.proofs.lemmas.Result.{err_from_is_err_and}
 use Rattle.proto_fields.specs.Fields.{next_at, walked}
 use Rattle.ack_codec.specs.Acks.{newer_found}
-use Rattle.proto_fields.proofs.PlaceLaws.{next_at-room, walked-end, walked-field, walked-fault}
+use Rattle.proto_fields.proofs.PlaceLemmas.{next_at-room, walked-end, walked-field, walked-fault}
 use Rattle.ack_codec.proofs.reading.found_fields.Goals as goal
 
 pub returns-in_err-number : goal.returns-in_err-number

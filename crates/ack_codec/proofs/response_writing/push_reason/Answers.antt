@@ -2,7 +2,7 @@
 use Rattle.std.proofs.Common.{◌≡◌, ◌<◌, ◌++◌, length, ap, sym, ◌∙◌, append-nil, arith}
 use Rattle.std.proofs.lemmas.Bool.Decides.{nat_tests}
 use Rattle.std.proofs.lemmas.Result.{on_ok_weaker}
-use Rattle.ack_codec.proofs.ResponseTextLaws.{reason_empty, reason_there}
+use Rattle.ack_codec.proofs.ResponseTextLemmas.{reason_empty, reason_there}
 use Rattle.ack_codec.proofs.response_writing.push_reason.Goals as goal
 
 pub returns-then-is_empty : goal.returns-then-is_empty

@@ -1,5 +1,5 @@
 use Rattle.std.proofs.Common.{◌≡◌, ◌++◌, ap, ◌∙◌, arith, refl, take, drop}
-use Rattle.chunk_sums.specs.Crc.{register}
+use Rattle.chunk_sums.specs.Crc.{register, crc32c_polynomial}
 use Rattle.chunk_sums.specs.Ahead.{far_places}
 use Rattle.chunk_sums.proofs.AheadLemmas.{MixedSoFar-more, MixedSoFar-all, get_or-drop-zeros, zeros, read, place}
 use Rattle.chunk_sums.proofs.ahead.settle.Goals as goal
@@ -16,4 +16,4 @@ loop-i-preserved c =
 
 pub returns : goal.returns
 returns c =
-    c.sliced.ensures ∙ ap (register 0) (MixedSoFar-all far_places _ _ _ _ c.loop-i.invariant (omega arith))
+    c.sliced.ensures ∙ ap (register crc32c_polynomial 0) (MixedSoFar-all far_places _ _ _ _ c.loop-i.invariant (omega arith))

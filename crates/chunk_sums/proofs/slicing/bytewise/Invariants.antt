@@ -3,4 +3,4 @@ use Rattle.chunk_sums.specs.Crc.{register}
 use Rattle.chunk_sums.proofs.slicing.bytewise.Given as goal
 
 abbrev pub invariant-loop-byte : goal.invariant-loop-byte
-invariant-loop-byte l = l.state ≡ register l.start (take l.byte-index l.body)
+invariant-loop-byte g l = l.state ≡ register g.P.Polynomial.reflected l.start (take l.byte-index l.body)

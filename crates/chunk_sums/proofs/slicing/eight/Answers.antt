@@ -1,12 +1,13 @@
 use Rattle.std.proofs.Common.{◌≡◌, ℕ, ◌+◌, ◌/◌, get_or, ap, sym, ◌∙◌, arith}
 use lib.Bits.{bit_xor, xor_zero_r}
 use Rattle.chunk_sums.specs.Crc.{advance}
-use Rattle.chunk_sums.proofs.Linear.{advance-zero}
+use Rattle.chunk_sums.proofs.LinearLemmas.{advance-zero}
 use Rattle.chunk_sums.proofs.SlicingLemmas.{look_up_more}
 use Rattle.chunk_sums.proofs.slicing.eight.Goals as goal
 
 pub returns : goal.returns
-returns c =
+returns g c =
+    let poly = g.P.Polynomial.reflected in
     let x = c.args.word in
     let k = c.args.behind in
     let e0 = c.entry.result in
@@ -20,12 +21,12 @@ returns c =
     let none : x / 18446744073709551616 ≡ 0 = omega arith in
     let byte : (i : ℕ) → get_or c.to_le_bytes.result i 0 ≡ _ = λ i. ap (λ l. get_or l i 0) c.to_le_bytes.ensures in
     sym (
-    look_up_more 0 (k + 7) (k + 8) _ x (x / 256) _ _ (omega arith) (omega arith) (byte 0) (omega arith) c.entry.ensures
-    ∙ look_up_more e0 (k + 6) (k + 7) _ (x / 256) (x / 65536) _ _ (omega arith) (omega arith) (byte 1) (omega arith) c.entry-2.ensures
-    ∙ look_up_more e1 (k + 5) (k + 6) _ (x / 65536) (x / 16777216) _ _ (omega arith) (omega arith) (byte 2) (omega arith) c.entry-3.ensures
-    ∙ look_up_more e2 (k + 4) (k + 5) _ (x / 16777216) (x / 4294967296) _ _ (omega arith) (omega arith) (byte 3) (omega arith) c.entry-4.ensures
-    ∙ look_up_more e3 (k + 3) (k + 4) _ (x / 4294967296) (x / 1099511627776) _ _ (omega arith) (omega arith) (byte 4) (omega arith) c.entry-5.ensures
-    ∙ look_up_more e4 (k + 2) (k + 3) _ (x / 1099511627776) (x / 281474976710656) _ _ (omega arith) (omega arith) (byte 5) (omega arith) c.entry-6.ensures
-    ∙ look_up_more e5 (k + 1) (k + 2) _ (x / 281474976710656) (x / 72057594037927936) _ _ (omega arith) (omega arith) (byte 6) (omega arith) c.entry-7.ensures
-    ∙ look_up_more e6 k (k + 1) _ (x / 72057594037927936) (x / 18446744073709551616) _ _ (omega arith) (omega arith) (byte 7) (omega arith) c.entry-8.ensures
-    ∙ ap (λ v. bit_xor e7 (advance k v)) none ∙ ap (bit_xor e7) (advance-zero k) ∙ xor_zero_r e7)
+    look_up_more poly 0 (k + 7) (k + 8) _ x (x / 256) _ _ (omega arith) (omega arith) (byte 0) (omega arith) c.entry.ensures
+    ∙ look_up_more poly e0 (k + 6) (k + 7) _ (x / 256) (x / 65536) _ _ (omega arith) (omega arith) (byte 1) (omega arith) c.entry-2.ensures
+    ∙ look_up_more poly e1 (k + 5) (k + 6) _ (x / 65536) (x / 16777216) _ _ (omega arith) (omega arith) (byte 2) (omega arith) c.entry-3.ensures
+    ∙ look_up_more poly e2 (k + 4) (k + 5) _ (x / 16777216) (x / 4294967296) _ _ (omega arith) (omega arith) (byte 3) (omega arith) c.entry-4.ensures
+    ∙ look_up_more poly e3 (k + 3) (k + 4) _ (x / 4294967296) (x / 1099511627776) _ _ (omega arith) (omega arith) (byte 4) (omega arith) c.entry-5.ensures
+    ∙ look_up_more poly e4 (k + 2) (k + 3) _ (x / 1099511627776) (x / 281474976710656) _ _ (omega arith) (omega arith) (byte 5) (omega arith) c.entry-6.ensures
+    ∙ look_up_more poly e5 (k + 1) (k + 2) _ (x / 281474976710656) (x / 72057594037927936) _ _ (omega arith) (omega arith) (byte 6) (omega arith) c.entry-7.ensures
+    ∙ look_up_more poly e6 k (k + 1) _ (x / 72057594037927936) (x / 18446744073709551616) _ _ (omega arith) (omega arith) (byte 7) (omega arith) c.entry-8.ensures
+    ∙ ap (λ v. bit_xor e7 (advance poly k v)) none ∙ ap (bit_xor e7) (advance-zero poly k) ∙ xor_zero_r e7)

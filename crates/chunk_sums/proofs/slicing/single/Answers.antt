@@ -6,6 +6,6 @@ use Rattle.chunk_sums.proofs.slicing.single.Goals as goal
 
 pub returns : goal.returns
 unfolding advance enter
-returns c =
-    look_up_low _ _ c.entry.result (ap (λ l. get_or l 0 0) c.to_le_bytes.ensures) c.entry.ensures
-    ∙ ap (λ b. byte_step (bit_xor c.args.state b)) c.from.ensures
+returns g c =
+    look_up_low g.P.Polynomial.reflected _ _ c.entry.result (ap (λ l. get_or l 0 0) c.to_le_bytes.ensures) c.entry.ensures
+    ∙ ap (λ b. byte_step g.P.Polynomial.reflected (bit_xor c.args.state b)) c.from.ensures

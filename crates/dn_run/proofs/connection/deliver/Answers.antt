@@ -22,14 +22,14 @@ returns-clause-idle g c pieces answers i =
       first = o.first;
       second = record {
         sent_is = o.second.sent_is;
-        handed_is = o.second.handed_is;
+        flushed_is = o.second.flushed_is;
         none_lost = o.second.none_lost;
         out_open = o.second.out_open;
         in_open = c.receive.ensures.shut ∙ o.second.in_open;
         held_is = rest;
       };
-      load = o.load;
-      load_is = o.load_is;
+      entry = o.entry;
+      entry_is = o.entry_is;
       forth = o.forth;
       back = o.back;
     })

@@ -1,7 +1,7 @@
 -- The client takes the answer, and so the block is written and closed.
 use Rattle.std.proofs.Common.{◌∙◌, [], Err, refl, sym, ap}
 use Rattle.std.proofs.lemmas.Result.{err_from_is_err_and}
-use Rattle.dn_run.proofs.ReceiptLaws.{err_value}
+use Rattle.hd_base.proofs.ResultLaws.{err_value}
 use Rattle.dn_run.proofs.play.answers.Goals as goal
 
 pub returns-in_err-close-in-Ok-clause-stopped : goal.returns-in_err-close-in-Ok-clause-stopped

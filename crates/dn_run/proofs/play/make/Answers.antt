@@ -1,11 +1,11 @@
 -- The report tells what the member holds, which is what the script wrote.
 use Rattle.std.proofs.Common.{◌∙◌, ◌+◌, length, take, Err, inl, inr, sym, ap, subst}
 use Rattle.std.proofs.lemmas.Result.{err_from_is_err_and}
-use Rattle.hd_base.specs.FileMaps.{Steps}
+use Rattle.hd_base.specs.FileMaps.{Becomes}
 use Rattle.dn_run.specs.Connections.{IsOpen}
 use Rattle.dn_run.specs.Replicas.{finished}
 use Rattle.dn_run.specs.Sendings.{first_stamp, sent_down, sent_up, bytes_of}
-use Rattle.dn_run.proofs.ReceiptLaws.{err_value}
+use Rattle.hd_base.proofs.ResultLaws.{err_value}
 use Rattle.dn_run.proofs.ReplicaLaws.{finished_sum}
 use Rattle.dn_run.proofs.RunLaws.{same_entry, same_report}
 use Rattle.dn_run.proofs.SendingLaws.{some_answers, all_answers, all_requests}
@@ -27,10 +27,10 @@ returns-in_err-entry-clause-stopped g c i _ =
     let body = c.args.script.body in
     let before = g.F.Files.files c.args.drawer.now in
     let stored = (rw (named.0, named.1) at c.in_ok-create.ensures.stored) i before (rw (named.0, named.1) at c.in_ok-make_files.ensures.made) in
-    let idle : IsOpen g.R.Roads.plain g.R.Roads.carried g.R.Inward.LinkIn.held g.R.Inward.LinkIn.shut g.R.Outward.LinkOut.sent g.R.Outward.LinkOut.handed g.R.Outward.LinkOut.lost g.R.Outward.LinkOut.shut c.answers.new.roads c.answers.new.connection (sent_down block body) (sent_up body) = (rw named.0 at c.in_ok-create.ensures.idle) i in
-    let most = subst (λ down. IsOpen g.R.Roads.plain g.R.Roads.carried g.R.Inward.LinkIn.held g.R.Inward.LinkIn.shut g.R.Outward.LinkOut.sent g.R.Outward.LinkOut.handed g.R.Outward.LinkOut.lost g.R.Outward.LinkOut.shut c.answers.new.roads c.answers.new.connection down (sent_up body)) (sym (all_requests block body)) idle in
-    let all = subst (λ up. IsOpen g.R.Roads.plain g.R.Roads.carried g.R.Inward.LinkIn.held g.R.Inward.LinkIn.shut g.R.Outward.LinkOut.sent g.R.Outward.LinkOut.handed g.R.Outward.LinkOut.lost g.R.Outward.LinkOut.shut c.answers.new.roads c.answers.new.connection (take (length (sent_up body) + 1) (sent_down block body)) up) (sym (all_answers body)) most in
-    (length (sent_up body), all, inr (subst (λ files. Steps before files (finished block first_stamp (bytes_of body))) (sym c.entry.ensures.files) stored))
+    let idle : IsOpen g.R.Roads.plain g.R.Roads.carried g.R.Inward.LinkIn.held g.R.Inward.LinkIn.shut g.R.Outward.LinkOut.sent g.R.Outward.LinkOut.flushed g.R.Outward.LinkOut.lost g.R.Outward.LinkOut.shut c.answers.new.roads c.answers.new.connection (sent_down block body) (sent_up body) = (rw named.0 at c.in_ok-create.ensures.idle) i in
+    let most = subst (λ down. IsOpen g.R.Roads.plain g.R.Roads.carried g.R.Inward.LinkIn.held g.R.Inward.LinkIn.shut g.R.Outward.LinkOut.sent g.R.Outward.LinkOut.flushed g.R.Outward.LinkOut.lost g.R.Outward.LinkOut.shut c.answers.new.roads c.answers.new.connection down (sent_up body)) (sym (all_requests block body)) idle in
+    let all = subst (λ up. IsOpen g.R.Roads.plain g.R.Roads.carried g.R.Inward.LinkIn.held g.R.Inward.LinkIn.shut g.R.Outward.LinkOut.sent g.R.Outward.LinkOut.flushed g.R.Outward.LinkOut.lost g.R.Outward.LinkOut.shut c.answers.new.roads c.answers.new.connection (take (length (sent_up body) + 1) (sent_down block body)) up) (sym (all_answers body)) most in
+    (length (sent_up body), all, inr (subst (λ files. Becomes before files (finished block first_stamp (bytes_of body))) (sym c.entry.ensures.files) stored))
 
 pub returns-clause-idle : goal.returns-clause-idle
 returns-clause-idle g c i = (rw c.requires.named.0 at c.in_ok-create.ensures.idle) i
@@ -40,7 +40,7 @@ returns-clause-stored g c i =
     let named = c.requires.named in
     let before = g.F.Files.files c.args.drawer.now in
     let stored = (rw (named.0, named.1) at c.in_ok-create.ensures.stored) i before (rw (named.0, named.1) at c.in_ok-make_files.ensures.made) in
-    subst (λ files. Steps before files (finished c.args.script.block.0 first_stamp (bytes_of c.args.script.body))) (sym c.in_ok-entry.ensures.files) stored
+    subst (λ files. Becomes before files (finished c.args.script.block.0 first_stamp (bytes_of c.args.script.body))) (sym c.in_ok-entry.ensures.files) stored
 
 pub returns-clause-report : goal.returns-clause-report
 returns-clause-report g c i told =

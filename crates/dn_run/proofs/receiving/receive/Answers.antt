@@ -2,7 +2,8 @@
 use Rattle.std.proofs.Common.{◌++◌, ◌∙◌, [], refl, Err, sym, ap, subst, arith}
 use Rattle.std.proofs.lemmas.Result.{err_from_is_err_and}
 use Rattle.dn_run.proofs.DeliveryLaws.{on_ok_given}
-use Rattle.dn_run.proofs.ReceiptLaws.{parted_first, nothing_left, not_short, reached, received_many, received_whole, err_value}
+use Rattle.dn_run.proofs.ReceiptLaws.{parted_first, nothing_left, not_short, reached, received_many, received_whole}
+use Rattle.hd_base.proofs.ResultLaws.{err_value}
 use Rattle.dn_run.proofs.receiving.receive.Goals as goal
 
 pub returns-then-wanted-len-clause-rest : goal.returns-then-wanted-len-clause-rest

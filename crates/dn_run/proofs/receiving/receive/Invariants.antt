@@ -8,7 +8,7 @@ invariant-parts g l = record {
   moved : option_map (in_front []) (g.I.LinkIn.held l.initial.inward) ≡ option_map (in_front l.bytes.items) (g.I.LinkIn.held l.inward);
   within : length l.bytes.items ≤ 16777218;
   shut : g.I.LinkIn.shut l.inward ≡ g.I.LinkIn.shut l.initial.inward;
-  later : g.I.LinkIn.faults l.initial.inward ≤ g.I.LinkIn.faults l.inward;
+  never_falls : g.I.LinkIn.faults l.initial.inward ≤ g.I.LinkIn.faults l.inward;
 }
 
 abbrev pub decreases-parts : goal.decreases-parts

@@ -8,7 +8,7 @@ invariant-receipts g l = record {
   moved : option_map (in_front l.initial.message.items) (g.I.LinkIn.held l.initial.inward) ≡ option_map (in_front l.message.items) (g.I.LinkIn.held l.inward);
   within : length l.message.items ≤ l.until;
   shut : g.I.LinkIn.shut l.inward ≡ g.I.LinkIn.shut l.initial.inward;
-  later : g.I.LinkIn.faults l.initial.inward ≤ g.I.LinkIn.faults l.inward;
+  never_falls : g.I.LinkIn.faults l.initial.inward ≤ g.I.LinkIn.faults l.inward;
 }
 
 abbrev pub decreases-receipts : goal.decreases-receipts

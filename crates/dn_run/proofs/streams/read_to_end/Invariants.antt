@@ -8,9 +8,9 @@ abbrev pub invariant-reads : goal.invariant-reads
 invariant-reads g l = record {
   few : vec_len l.bytes ≤ l.limit;
   taken : Took (g.S.Source.left l.initial.source) (g.S.Source.left l.source) l.bytes.items;
-  later : g.S.Source.faults l.initial.source ≤ g.S.Source.faults l.source;
-  still : NoneFails (g.S.Source.plan l.initial.source) → g.S.Source.faults l.source ≡ g.S.Source.faults l.initial.source;
-  goes_on : NoneFails (g.S.Source.plan l.initial.source) → NoneFails (g.S.Source.plan l.source);
+  never_falls : g.S.Source.faults l.initial.source ≤ g.S.Source.faults l.source;
+  still : NoneFails (g.S.Source.schedule l.initial.source) → g.S.Source.faults l.source ≡ g.S.Source.faults l.initial.source;
+  goes_on : NoneFails (g.S.Source.schedule l.initial.source) → NoneFails (g.S.Source.schedule l.source);
 }
 
 abbrev pub decreases-reads : goal.decreases-reads

@@ -9,12 +9,12 @@ writes-preserved g c =
     let rest = take (length c.args.text.now - c.writes.at) (drop c.writes.at c.args.text.now) in
     let whole : rest ≡ drop c.writes.at c.args.text.now = grind (arith, common_steps) in
     let small : length rest < g.O.Sink.room c.writes.sink = grind (arith, common_steps) in
-    let plan = c.write.ensures.plan small in
+    let schedule = c.write.ensures.schedule small in
     record {
       within = grind (arith, common_steps);
       wrote = wrote_more _ _ _ c.args.text.now rest c.writes.at c.in-Ok.count whole c.writes.invariant.wrote c.in-Ok.ensures.wrote;
       room = omega (arith, c.in-Ok.ensures.room, c.writes.invariant.room);
-      later = omega (arith, c.in-Ok.ensures.cause.later, c.writes.invariant.later);
-      still = λ none. follows_still _ _ _ _ _ plan (c.writes.invariant.goes_on none) ∙ c.writes.invariant.still none;
-      goes_on = λ none. follows_on _ _ _ _ _ plan (c.writes.invariant.goes_on none);
+      never_falls = omega (arith, c.in-Ok.ensures.cause.never_falls, c.writes.invariant.never_falls);
+      still = λ none. follows_still _ _ _ _ _ schedule (c.writes.invariant.goes_on none) ∙ c.writes.invariant.still none;
+      goes_on = λ none. follows_on _ _ _ _ _ schedule (c.writes.invariant.goes_on none);
     }

@@ -9,9 +9,9 @@ invariant-writes g l = record {
   within : l.at ≤ length l.text;
   wrote : Wrote (g.O.Sink.written l.initial.sink) (g.O.Sink.written l.sink) (take l.at l.text);
   room : length l.text < g.O.Sink.room l.sink + l.at;
-  later : g.O.Sink.faults l.initial.sink ≤ g.O.Sink.faults l.sink;
-  still : NoneFails (g.O.Sink.plan l.initial.sink) → g.O.Sink.faults l.sink ≡ g.O.Sink.faults l.initial.sink;
-  goes_on : NoneFails (g.O.Sink.plan l.initial.sink) → NoneFails (g.O.Sink.plan l.sink);
+  never_falls : g.O.Sink.faults l.initial.sink ≤ g.O.Sink.faults l.sink;
+  still : NoneFails (g.O.Sink.schedule l.initial.sink) → g.O.Sink.faults l.sink ≡ g.O.Sink.faults l.initial.sink;
+  goes_on : NoneFails (g.O.Sink.schedule l.initial.sink) → NoneFails (g.O.Sink.schedule l.sink);
 }
 
 abbrev pub decreases-writes : goal.decreases-writes

@@ -2,7 +2,7 @@
 use Rattle.std.proofs.Common.{◌∙◌, Err, pos, sym, ap, subst}
 use Rattle.std.proofs.lemmas.Result.{err_from_is_err_and}
 use Rattle.dn_run.specs.Members.{IsAckOf}
-use Rattle.dn_run.proofs.ReceiptLaws.{err_value}
+use Rattle.hd_base.proofs.ResultLaws.{err_value}
 use Rattle.dn_run.proofs.SendingLaws.{is_ack}
 use Rattle.dn_run.proofs.writing.acknowledge.Goals as goal
 

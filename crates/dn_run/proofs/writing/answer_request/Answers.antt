@@ -1,7 +1,7 @@
 -- The client takes the answer that the member sent.
 use Rattle.std.proofs.Common.{◌∙◌, Err, sym, ap}
 use Rattle.std.proofs.lemmas.Result.{err_from_is_err_and}
-use Rattle.dn_run.proofs.ReceiptLaws.{err_value}
+use Rattle.hd_base.proofs.ResultLaws.{err_value}
 use Rattle.dn_run.proofs.SendingLaws.{success_fits}
 use Rattle.dn_run.proofs.writing.answer_request.Goals as goal
 

@@ -5,7 +5,7 @@ use Rattle.op_headers.specs.Requests.{op_text}
 use Rattle.dn_run.specs.Connections.{IsOpen}
 use Rattle.dn_run.specs.Members.{IsRequestFor}
 use Rattle.dn_run.proofs.DeliveryLaws.{on_ok_given}
-use Rattle.dn_run.proofs.ReceiptLaws.{err_value}
+use Rattle.hd_base.proofs.ResultLaws.{err_value}
 use Rattle.dn_run.proofs.SendingLaws.{is_request}
 use Rattle.dn_run.proofs.writing.request_block.Goals as goal
 
@@ -21,4 +21,4 @@ returns-clause-open g c down up i is =
 
 pub returns-clause-idle : goal.returns-clause-idle
 returns-clause-idle g c down up i =
-    on_ok_given c.requested.result (subst (λ request. IsOpen g.R.Roads.plain g.R.Roads.carried g.R.Inward.LinkIn.held g.R.Inward.LinkIn.shut g.R.Outward.LinkOut.sent g.R.Outward.LinkOut.handed g.R.Outward.LinkOut.lost g.R.Outward.LinkOut.shut c.deliver_down.new.roads c.deliver_down.new.connection (down ++ op_text request ∷ []) up) c.in_ok-request.ensures.request (c.in_ok-taken.ensures.idle down up i))
+    on_ok_given c.requested.result (subst (λ request. IsOpen g.R.Roads.plain g.R.Roads.carried g.R.Inward.LinkIn.held g.R.Inward.LinkIn.shut g.R.Outward.LinkOut.sent g.R.Outward.LinkOut.flushed g.R.Outward.LinkOut.lost g.R.Outward.LinkOut.shut c.deliver_down.new.roads c.deliver_down.new.connection (down ++ op_text request ∷ []) up) c.in_ok-request.ensures.request (c.in_ok-taken.ensures.idle down up i))

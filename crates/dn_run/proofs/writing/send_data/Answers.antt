@@ -1,14 +1,14 @@
 -- What the member takes is the packet that was sent, and then the client its ack.
 use Rattle.std.proofs.Common.{◌∙◌, ◌++◌, ◌∷◌, [], length, Err, sym, ap, subst}
 use Rattle.std.proofs.lemmas.Result.{err_from_is_err_and}
-use Rattle.hd_base.specs.FileMaps.{Steps}
+use Rattle.hd_base.specs.FileMaps.{Becomes}
 use Rattle.packet_codec.specs.Packets.{packet_text}
 use Rattle.meta_file.specs.declared.names.Folder.TheVariants.{Rbw}
 use Rattle.dn_run.specs.Connections.{IsOpen}
 use Rattle.dn_run.specs.Members.{IsDataPacket}
 use Rattle.dn_run.specs.Replicas.{with_replica}
 use Rattle.dn_run.specs.Sendings.{data_packet}
-use Rattle.dn_run.proofs.ReceiptLaws.{err_value}
+use Rattle.hd_base.proofs.ResultLaws.{err_value}
 use Rattle.dn_run.proofs.SendingLaws.{is_data_packet}
 use Rattle.dn_run.proofs.writing.send_data.Goals as goal
 
@@ -27,14 +27,14 @@ returns-in_err-take_data-clause-open g c some down up i is =
 pub returns-clause-idle : goal.returns-clause-idle
 returns-clause-idle g c down up i =
     let packet = c.in_ok-packet.ensures.packet ∙ ap data_packet c.into_vec.ensures in
-    let sent = subst (λ p. IsOpen g.R.Roads.plain g.R.Roads.carried g.R.Inward.LinkIn.held g.R.Inward.LinkIn.shut g.R.Outward.LinkOut.sent g.R.Outward.LinkOut.handed g.R.Outward.LinkOut.lost g.R.Outward.LinkOut.shut c.deliver_down.new.roads c.deliver_down.new.connection (down ++ packet_text p ∷ []) up) packet (c.in_ok-taken.ensures.idle down up i) in
+    let sent = subst (λ p. IsOpen g.R.Roads.plain g.R.Roads.carried g.R.Inward.LinkIn.held g.R.Inward.LinkIn.shut g.R.Outward.LinkOut.sent g.R.Outward.LinkOut.flushed g.R.Outward.LinkOut.lost g.R.Outward.LinkOut.shut c.deliver_down.new.roads c.deliver_down.new.connection (down ++ packet_text p ∷ []) up) packet (c.in_ok-taken.ensures.idle down up i) in
     c.in_ok-acknowledge.ensures.idle (down ++ packet_text (data_packet c.args.body) ∷ []) up sent
 
 pub returns-clause-stored : goal.returns-clause-stored
 returns-clause-stored g c down up i =
     let packet = c.in_ok-packet.ensures.packet ∙ ap data_packet c.into_vec.ensures in
     let body = ap (λ p. p.body) (c.in_ok-taken.ensures.same down up i ∙ packet) in
-    (subst (λ b. Steps (g.F.Files.files c.args.drawer.now) (g.F.Files.files c.take_data.new.drawer) (with_replica Rbw c.args.replica.now.block.0 c.args.replica.now.stamp.0 b)) body c.in_ok-take_data.ensures.stored)
+    (subst (λ b. Becomes (g.F.Files.files c.args.drawer.now) (g.F.Files.files c.take_data.new.drawer) (with_replica Rbw c.args.replica.now.block.0 c.args.replica.now.stamp.0 b)) body c.in_ok-take_data.ensures.stored)
 
 pub returns-clause-written : goal.returns-clause-written
 returns-clause-written g c down up i =

@@ -4,7 +4,7 @@ use Rattle.std.proofs.lemmas.Result.{err_from_is_err_and}
 use Rattle.packet_codec.specs.Packets.{packet_text}
 use Rattle.dn_run.specs.Connections.{IsOpen}
 use Rattle.dn_run.specs.Members.{IsLastPacket}
-use Rattle.dn_run.proofs.ReceiptLaws.{err_value}
+use Rattle.hd_base.proofs.ResultLaws.{err_value}
 use Rattle.dn_run.proofs.SendingLaws.{is_last_packet}
 use Rattle.dn_run.proofs.writing.send_last.Goals as goal
 
@@ -21,11 +21,11 @@ returns-in_err-take_last-clause-open g c down up i written next is =
 
 pub returns-in_err-take_last-clause-unacked : goal.returns-in_err-take_last-clause-unacked
 returns-in_err-take_last-clause-unacked g c down up i _ =
-    subst (λ p. IsOpen g.R.Roads.plain g.R.Roads.carried g.R.Inward.LinkIn.held g.R.Inward.LinkIn.shut g.R.Outward.LinkOut.sent g.R.Outward.LinkOut.handed g.R.Outward.LinkOut.lost g.R.Outward.LinkOut.shut c.deliver_down.new.roads c.deliver_down.new.connection (down ++ packet_text p ∷ []) up) c.last_packet-packet.ensures (c.in_ok-taken.ensures.idle down up i)
+    subst (λ p. IsOpen g.R.Roads.plain g.R.Roads.carried g.R.Inward.LinkIn.held g.R.Inward.LinkIn.shut g.R.Outward.LinkOut.sent g.R.Outward.LinkOut.flushed g.R.Outward.LinkOut.lost g.R.Outward.LinkOut.shut c.deliver_down.new.roads c.deliver_down.new.connection (down ++ packet_text p ∷ []) up) c.last_packet-packet.ensures (c.in_ok-taken.ensures.idle down up i)
 
 pub returns-clause-idle : goal.returns-clause-idle
 returns-clause-idle g c down up i =
-    let sent = subst (λ p. IsOpen g.R.Roads.plain g.R.Roads.carried g.R.Inward.LinkIn.held g.R.Inward.LinkIn.shut g.R.Outward.LinkOut.sent g.R.Outward.LinkOut.handed g.R.Outward.LinkOut.lost g.R.Outward.LinkOut.shut c.deliver_down.new.roads c.deliver_down.new.connection (down ++ packet_text p ∷ []) up) c.last_packet-packet.ensures (c.in_ok-taken.ensures.idle down up i) in
+    let sent = subst (λ p. IsOpen g.R.Roads.plain g.R.Roads.carried g.R.Inward.LinkIn.held g.R.Inward.LinkIn.shut g.R.Outward.LinkOut.sent g.R.Outward.LinkOut.flushed g.R.Outward.LinkOut.lost g.R.Outward.LinkOut.shut c.deliver_down.new.roads c.deliver_down.new.connection (down ++ packet_text p ∷ []) up) c.last_packet-packet.ensures (c.in_ok-taken.ensures.idle down up i) in
     c.in_ok-acknowledge.ensures.idle _ up sent
 
 pub returns-in_err-acknowledge-clause-open : goal.returns-in_err-acknowledge-clause-open

@@ -1,8 +1,6 @@
 -- The name is of its block, as it is printed.
-use Rattle.std.proofs.Common.{◌∙◌, ap, arith}
-use Rattle.hd_base.specs.Blocks.{is_of_block}
-use Rattle.meta_file.specs.Names.{path_of, data_base}
-use Rattle.meta_file.proofs.NameLaws.{is_of_block-data}
+use Rattle.std.proofs.Common.{arith}
+use Rattle.meta_file.proofs.NameLemmas.{is_of_block-data}
 use Rattle.meta_file.proofs.names.data_name.Goals as goal
 
 pub returns-clause-block : goal.returns-clause-block

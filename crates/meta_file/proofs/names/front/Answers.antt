@@ -2,7 +2,7 @@
 use Rattle.std.proofs.Common.{refl}
 use Rattle.meta_file.specs.declared.names.Folder.TheVariants.{Rbw, Finalized, Tmp}
 use Rattle.meta_file.specs.Names.{front_of}
-use Rattle.meta_file.proofs.NameLaws.{plain_from_test}
+use Rattle.meta_file.proofs.NameLemmas.{plain_from_test}
 use Rattle.meta_file.proofs.names.front.Goals as goal
 
 pub returns-in-Rbw-clause-text : goal.returns-in-Rbw-clause-text

@@ -1,6 +1,6 @@
 -- The name is of its block, as it is printed.
 use Rattle.std.proofs.Common.{arith}
-use Rattle.meta_file.proofs.NameLaws.{is_of_block-meta}
+use Rattle.meta_file.proofs.NameLemmas.{is_of_block-meta}
 use Rattle.meta_file.proofs.names.meta_name.Goals as goal
 
 pub returns-clause-block : goal.returns-clause-block

@@ -1,6 +1,8 @@
 -- Each clause from what reading gives, by the laws of requests.
 use Rattle.std.proofs.Common.{arith}
-use Rattle.op_headers.proofs.RequestLaws.{request_found, request_within, request_only, request_prefix, request_refused, request_refuses, Gives-same}
+use Rattle.proto_fields.proofs.GivesLemmas.{Gives-same}
+use Rattle.op_headers.specs.declared.faults.OpFault.TheVariants as fault
+use Rattle.op_headers.proofs.RequestLemmas.{request_found, request_within, request_only, request_prefix, request_refused, request_refuses}
 use Rattle.op_headers.proofs.decoding.decode_op.Goals as goal
 
 pub returns-clause-found : goal.returns-clause-found
@@ -19,4 +21,4 @@ pub returns-clause-refused : goal.returns-clause-refused
 returns-clause-refused c = request_refused c.args.bytes.now c.framed_op.result (λ i. omega (arith, c.type_inv.bytes i)) c.framed_op.ensures
 
 pub returns-clause-refuses : goal.returns-clause-refuses
-returns-clause-refuses c = λ e s. Gives-same _ _ _ (request_refuses c.args.bytes.now e (λ i. omega (arith, c.type_inv.bytes i)) s) c.framed_op.ensures
+returns-clause-refuses c = λ e s. Gives-same fault.Memory _ _ _ (request_refuses c.args.bytes.now e (λ i. omega (arith, c.type_inv.bytes i)) s) c.framed_op.ensures

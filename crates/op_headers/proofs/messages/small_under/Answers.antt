@@ -3,7 +3,7 @@ use Rattle.std.proofs.Common.{◌≤◌, None, length, fold, ap, ◌∙◌}
 use Rattle.std.proofs.lemmas.List.{take_all}
 use Rattle.proto_fields.specs.Values.{newer, last_of}
 use Rattle.op_headers.specs.Tables.{Below, number_of}
-use Rattle.proto_fields.proofs.ValueLaws.{fold_newer_last}
+use Rattle.proto_fields.proofs.ValueLemmas.{fold_newer_last}
 use Rattle.op_headers.proofs.messages.small_under.Goals as goal
 
 pub returns-clause-last : goal.returns-clause-last

@@ -2,7 +2,7 @@
 use Rattle.std.proofs.Common.{subst, sym, arith}
 use Rattle.std.specs.Prelude.{length}
 use Rattle.proto_fields.specs.Inner.{PlacedWithin}
-use Rattle.proto_fields.proofs.InnerLaws.{last_part_placed}
+use Rattle.proto_fields.proofs.InnerLemmas.{last_part_placed}
 use Rattle.op_headers.proofs.messages.text_under.Goals as goal
 
 pub text_at-requires : goal.text_at-requires

@@ -1,6 +1,6 @@
 -- The block's numbers have their widths.
 use Rattle.std.proofs.lemmas.Result.{on_ok_weaker}
-use Rattle.op_headers.proofs.FormatLaws.{checksum_op_fits}
+use Rattle.op_headers.proofs.FormatLemmas.{checksum_op_fits}
 use Rattle.op_headers.proofs.op_writing.push_checksum.Goals as goal
 
 pub returns-clause-fits : goal.returns-clause-fits

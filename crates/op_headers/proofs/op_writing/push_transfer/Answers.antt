@@ -3,7 +3,7 @@ use Rattle.std.proofs.Common.{subst}
 use Rattle.std.proofs.lemmas.Result.{on_ok_weaker}
 use Rattle.op_headers.specs.Tables.{EachFits}
 use Rattle.op_headers.specs.Formats.{node_format}
-use Rattle.op_headers.proofs.FormatLaws.{transfer_fits}
+use Rattle.op_headers.proofs.FormatLemmas.{transfer_fits}
 use Rattle.op_headers.proofs.op_writing.push_transfer.Goals as goal
 
 pub returns-clause-fits : goal.returns-clause-fits

@@ -5,8 +5,8 @@ use Rattle.std.proofs.lemmas.Result.{on_ok_weaker}
 use Rattle.op_headers.specs.Values.{WriteFields}
 use Rattle.op_headers.specs.Tables.{EachFits}
 use Rattle.op_headers.specs.Formats.{node_format, write_format}
-use Rattle.op_headers.proofs.FormatLaws.{write_fits}
-use Rattle.op_headers.proofs.WritingLaws.{write_appended}
+use Rattle.op_headers.proofs.FormatLemmas.{write_fits}
+use Rattle.op_headers.proofs.WritingLemmas.{write_appended}
 use Rattle.op_headers.proofs.op_writing.push_write.Goals as goal
 
 pub returns-clause-ok : goal.returns-clause-ok

@@ -1,6 +1,6 @@
 -- The ports have their widths.
 use Rattle.std.proofs.lemmas.Result.{on_ok_weaker}
-use Rattle.op_headers.proofs.FormatLaws.{node_fits}
+use Rattle.op_headers.proofs.FormatLemmas.{node_fits}
 use Rattle.op_headers.proofs.op_writing.put_node.Goals as goal
 
 pub returns-clause-fits : goal.returns-clause-fits

@@ -1,7 +1,7 @@
 -- What is read is spelled, what is spelled is read, and each refusal is the one that stands there.
 use Rattle.std.proofs.Common.{arith}
-use Rattle.packet_codec.proofs.PacketLaws.{packet_prefix}
-use Rattle.packet_codec.proofs.RefusalLaws.{read_found, read_within, read_only, read_refused, read_refuses}
+use Rattle.packet_codec.proofs.PacketLemmas.{packet_prefix}
+use Rattle.packet_codec.proofs.RefusalLemmas.{read_found, read_within, read_only, read_refused, read_refuses}
 use Rattle.packet_codec.proofs.decoding.decode_packet.Goals as goal
 
 pub returns-clause-found : goal.returns-clause-found

@@ -2,7 +2,7 @@
 use Rattle.std.proofs.Common.{rules}
 use Rattle.std.specs.Int.{w32, w64}
 use mir.Val.{SFits}
-use Rattle.packet_codec.proofs.WrittenLaws.{header_written}
+use Rattle.packet_codec.proofs.WrittenLemmas.{header_written}
 use Rattle.packet_codec.proofs.encoding.push_header.Goals as goal
 
 pub returns-clause-ok : goal.returns-clause-ok

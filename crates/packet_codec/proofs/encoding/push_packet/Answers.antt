@@ -2,7 +2,7 @@
 use Rattle.std.proofs.Common.{rules}
 use Rattle.std.specs.Int.{w64}
 use mir.Val.{SFits}
-use Rattle.packet_codec.proofs.WrittenLaws.{packet_text_spells, held}
+use Rattle.packet_codec.proofs.WrittenLemmas.{packet_text_spells, held}
 use Rattle.packet_codec.proofs.encoding.push_packet.Goals as goal
 
 pub returns-clause-spelled : goal.returns-clause-spelled

@@ -1,7 +1,7 @@
 -- A packet has as many bytes as its front says.
 use Rattle.std.proofs.Common.{◌∙◌}
-use Rattle.packet_codec.proofs.FrameLaws.{err_ok}
-use Rattle.packet_codec.proofs.RefusalLaws.{spelled_length}
+use Rattle.hd_base.proofs.ResultLaws.{err_ok}
+use Rattle.packet_codec.proofs.RefusalLemmas.{spelled_length}
 use Rattle.packet_codec.proofs.frames.packet_length.Goals as goal
 
 pub returns-in_err-header_len-clause-spelled : goal.returns-in_err-header_len-clause-spelled

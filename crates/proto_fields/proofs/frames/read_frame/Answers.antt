@@ -1,6 +1,6 @@
 -- Each clause from what the reader ensures, by the laws of frames.
 use Rattle.std.proofs.Common.{◌∙◌, arith}
-use Rattle.proto_fields.proofs.FrameLaws.{frame_again, frame_found, frame_within, frame_refused, frame_refuses}
+use Rattle.proto_fields.proofs.FrameLemmas.{frame_again, frame_found, frame_within, frame_refused, frame_refuses}
 use Rattle.proto_fields.proofs.frames.read_frame.Goals as goal
 
 pub returns-clause-found : goal.returns-clause-found

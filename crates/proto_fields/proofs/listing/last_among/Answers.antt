@@ -2,7 +2,7 @@
 use Rattle.std.proofs.Common.{length, fold, ap, ◌∙◌, ◌≤◌, arith}
 use Rattle.std.proofs.lemmas.List.{take_all}
 use Rattle.proto_fields.specs.Values.{newer_values, no_values}
-use Rattle.proto_fields.proofs.ValueLaws.{fold_last_values}
+use Rattle.proto_fields.proofs.ValueLemmas.{fold_last_values}
 use Rattle.proto_fields.proofs.listing.last_among.Goals as goal
 
 pub returns : goal.returns

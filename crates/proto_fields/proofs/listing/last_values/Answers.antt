@@ -3,8 +3,8 @@ use Rattle.std.proofs.Common.{◌≡◌, Ok, Err, Some, None, ap, sym, ◌∙◌
 use Rattle.std.proofs.lemmas.Result.{err_from_is_err_and}
 use Rattle.proto_fields.specs.Fields.{next_at, walked}
 use Rattle.proto_fields.specs.Values.{newer_values}
-use Rattle.proto_fields.proofs.PlaceLaws.{next_at-room, walked-end, walked-field, walked-fault}
-use Rattle.proto_fields.proofs.ValueLaws.{walked_last_values}
+use Rattle.proto_fields.proofs.PlaceLemmas.{next_at-room, walked-end, walked-field, walked-fault}
+use Rattle.proto_fields.proofs.ValueLemmas.{walked_last_values}
 use Rattle.proto_fields.proofs.listing.last_values.Goals as goal
 
 pub returns-in_err-number : goal.returns-in_err-number

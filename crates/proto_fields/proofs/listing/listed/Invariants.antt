@@ -1,6 +1,6 @@
 -- The entries so far and the fields from here on are those of the whole message.
 use Rattle.std.proofs.Common.{◌≡◌, ◌++◌, ◌-◌, ◌≤◌, length}
-use Rattle.proto_fields.specs.ResultSteps.{with_value}
+use Rattle.hd_base.specs.Results.{with_value}
 use Rattle.proto_fields.specs.Fields.{fields_from, fields_at}
 use Rattle.proto_fields.proofs.listing.listed.Given as goal
 

@@ -1,49 +1,26 @@
--- Each turn takes one field, which has a part of the number or has none.
-use Rattle.std.proofs.Common.{◌≡◌, true, List, ℕ, ◌≤◌, ◌++◌, ◌∷◌, [], Ok, length, nat_lt, ap, sym, ◌∙◌, length-append, arith, rules}
-use Rattle.std.specs.List.{flat_map}
-use Rattle.std.proofs.lemmas.Bool.{lt-ltb}
-use Rattle.proto_fields.specs.Values.{part_bytes}
-use Rattle.proto_fields.proofs.ValueLaws.{parts-none, parts-some, joined_parts-some, part_within}
+-- A part that is alone lies within the bytes.
+use Rattle.std.proofs.Common.{◌≤◌, length, ap, sym, ◌∙◌, arith, rules}
+use Rattle.proto_fields.proofs.InnerLemmas.{once_within}
+use Rattle.proto_fields.specs.Inner.{places_of}
+use Rattle.proto_fields.specs.Values.{parts}
 use Rattle.proto_fields.proofs.messages.merged.Goals as goal
-use Rattle.proto_fields.proofs.messages.merged.Goals.{In-Some}
+use Rattle.proto_fields.proofs.messages.merged.Goals.{In-Once}
 
--- the part of this turn lies within the bytes
-within : (c : In-Some) → (c.in-Some.from ≤ c.in-Some.to) × (c.in-Some.to ≤ length c.args.bytes.now)
+-- the part lies within the bytes
+within : (c : In-Once) → (c.in-Once.from ≤ c.in-Once.to) × (c.in-Once.to ≤ length c.args.bytes.now)
 within c =
-    part_within c.args.bytes.now c.entries-number-items.result.now c.args.field c.loop-number.number-index _ (c.in-Some.from, c.in-Some.to)
-    (λ i. omega (arith, c.type_inv.bytes i)) (c.requires ∙ ap Ok (sym c.entries-number-items.ensures)) (omega arith) (sym c.part_under.ensures ∙ c.in-Some.is)
+    let once = ap (λ fs. places_of (parts c.args.field fs)) (sym c.entries.ensures) ∙ (sym c.places_under.ensures ∙ c.in-Once.is) in
+    once_within c.args.bytes.now c.args.of.now c.args.field c.in-Once.from c.in-Once.to (λ i. omega (arith, c.type_inv.bytes i)) c.requires once
 
-pub slice_bounds-extend_from_slice-count : goal.slice_bounds-extend_from_slice-count
-slice_bounds-extend_from_slice-count c = (within (goal.at.slice_bounds-extend_from_slice-count c).In-Some).0
+pub slice_bounds-result-count : goal.slice_bounds-result-count
+slice_bounds-result-count c = (within (goal.at.slice_bounds-result-count c).In-Once).0
 
-pub slice_bounds-extend_from_slice-start : goal.slice_bounds-extend_from_slice-start
-slice_bounds-extend_from_slice-start c =
-    let w = within (goal.at.slice_bounds-extend_from_slice-start c).In-Some in
+pub slice_bounds-result-start : goal.slice_bounds-result-start
+slice_bounds-result-start c =
+    let w = within (goal.at.slice_bounds-result-start c).In-Once in
     search (rules, w.0)
 
-pub slice_bounds-extend_from_slice-end : goal.slice_bounds-extend_from_slice-end
-slice_bounds-extend_from_slice-end c =
-    let w = within (goal.at.slice_bounds-extend_from_slice-end c).In-Some in
+pub slice_bounds-result-end : goal.slice_bounds-result-end
+slice_bounds-result-end c =
+    let w = within (goal.at.slice_bounds-result-end c).In-Once in
     search (rules, w.1)
-
-pub loop-number-preserved-in_default : goal.loop-number-preserved-in_default
-loop-number-preserved-in_default c =
-    let none = parts-none c.args.field c.entries-number-items.result.now c.loop-number.number-index _ (omega arith) (sym c.part_under.ensures ∙ c.in_default.is) in (
-      c.loop-number.invariant.0 ∙ ap (flat_map (part_bytes c.args.bytes.now)) (sym none),
-      c.loop-number.invariant.1 ∙ ap (λ ps. nat_lt 0 (length ps)) (sym none),
-    )
-
--- a list with one more at its end is not empty
-pushed : (ps : List (ℕ × ℕ)) (p : ℕ × ℕ) → nat_lt 0 (length (ps ++ p ∷ [])) ≡ true
-pushed ps p = lt-ltb 0 (length (ps ++ p ∷ [])) (omega (arith, length-append ps (p ∷ [])))
-
-pub loop-number-preserved : goal.loop-number-preserved
-loop-number-preserved c =
-    let fs = c.entries-number-items.result.now in
-    let i = c.loop-number.number-index in
-    let here = sym c.part_under.ensures ∙ c.in-Some.is in (
-      c.in_ok-extend_from_slice.ensures.items
-          ∙ (ap (λ l. l ++ part_bytes c.args.bytes.now (c.in-Some.from, c.in-Some.to)) c.loop-number.invariant.0
-          ∙ sym (joined_parts-some c.args.bytes.now c.args.field fs i _ (c.in-Some.from, c.in-Some.to) (omega arith) here)),
-      sym (ap (λ ps. nat_lt 0 (length ps)) (parts-some c.args.field fs i _ (c.in-Some.from, c.in-Some.to) (omega arith) here) ∙ pushed _ _),
-    )

@@ -1,7 +1,7 @@
 -- Each clause from what the reader ensures, by the laws of fields.
 use Rattle.std.proofs.Common.{ap, sym, ◌∙◌, arith}
 use Rattle.proto_fields.specs.Fields.{next_at}
-use Rattle.proto_fields.proofs.PlaceLaws.{next_at-end, next_at-none, next_found, next_fault, stands_at_next, fault_at_next}
+use Rattle.proto_fields.proofs.PlaceLemmas.{next_at-end, next_at-none, next_found, next_fault, stands_at_next, fault_at_next}
 use Rattle.proto_fields.proofs.reading.next_field.Goals as goal
 
 pub returns-clause-found : goal.returns-clause-found

@@ -1,6 +1,6 @@
 -- Each clause from what the recursion ensures, by the laws of varints.
 use Rattle.std.proofs.Common.{arith}
-use Rattle.proto_fields.proofs.VarintLaws.{read_found, read_only, read_fault, read_fault_is, read_varint_cut, read_varint_cut_is, read_varint_long, read_varint_long_is}
+use Rattle.proto_fields.proofs.VarintLemmas.{read_found, read_only, read_fault, read_fault_is, read_varint_cut, read_varint_cut_is, read_varint_long, read_varint_long_is}
 use Rattle.proto_fields.proofs.varints.read_varint.Goals as goal
 
 pub returns-clause-found : goal.returns-clause-found

@@ -2,7 +2,7 @@
 use Rattle.std.proofs.Common.{◌+◌, ◌/◌, ◌%◌, [], ◌++◌, ◌∷◌, ap, sym, ◌∙◌, append_assoc, arith}
 use Rattle.std.proofs.lemmas.Result.{on_ok_weaker}
 use Rattle.proto_fields.specs.Varint.{least_varint}
-use Rattle.proto_fields.proofs.VarintLaws.{least_varint-last, least_varint-more}
+use Rattle.proto_fields.proofs.VarintLemmas.{least_varint-last, least_varint-more}
 use Rattle.proto_fields.proofs.writing.+push_number.Goals as goal
 
 pub returns-then-value-lt128-clause-ok : goal.returns-then-value-lt128-clause-ok

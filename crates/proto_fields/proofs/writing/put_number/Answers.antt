@@ -1,15 +1,14 @@
--- What was written is read again.
+-- What was written is read again, and no spelling is shorter.
 use Rattle.std.proofs.Common.{arith}
-use Rattle.proto_fields.proofs.VarintLaws.{least_varint_least}
-use Rattle.proto_fields.proofs.WrittenLaws.{number_again}
+use Rattle.proto_fields.proofs.VarintLemmas.{least_varint_least}
+use Rattle.proto_fields.proofs.WrittenLemmas.{kept_ok, number_again}
 use Rattle.proto_fields.proofs.writing.put_number.Goals as goal
 
-pub returns-else-is_err-clause-again : goal.returns-else-is_err-clause-again
-returns-else-is_err-clause-again c = λ rest.
-    number_again c.push_number-done.result c.args.out.now.items c.push_number-done.new.out.items rest c.args.value (omega arith) c.push_number-done.ensures.ok
+pub returns-clause-again : goal.returns-clause-again
+returns-clause-again c =
+    let old = c.args.out.now.items in
+    let ok = kept_ok c.cut_back.result c.push_number-done.result old c.push_number-done.new.out.items c.cut_back.new.out.items _ c.cut_back.ensures.same c.push_number-done.ensures.ok c.cut_back.ensures.ok in
+    number_again c.cut_back.result old c.cut_back.new.out.items c.args.value (omega arith) ok
 
-pub returns-then-is_err-clause-least : goal.returns-then-is_err-clause-least
-returns-then-is_err-clause-least c = λ text s. least_varint_least text c.args.value s
-
-pub returns-else-is_err-clause-least : goal.returns-else-is_err-clause-least
-returns-else-is_err-clause-least c = λ text s. least_varint_least text c.args.value s
+pub returns-clause-least : goal.returns-clause-least
+returns-clause-least c = λ text s. least_varint_least text c.args.value s

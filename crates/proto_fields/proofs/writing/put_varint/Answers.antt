@@ -1,9 +1,11 @@
 -- What was written is read again.
 use Rattle.std.proofs.Common.{length, arith}
 use Rattle.proto_fields.specs.declared.reading.Wire.TheVariants as Wire
-use Rattle.proto_fields.proofs.WrittenLaws.{written_again, varint_field_spells}
+use Rattle.proto_fields.proofs.WrittenLemmas.{kept_ok, written_again, varint_field_spells}
 use Rattle.proto_fields.proofs.writing.put_varint.Goals as goal
 
-pub returns-else-is_err-clause-again : goal.returns-else-is_err-clause-again
-returns-else-is_err-clause-again c = λ rest.
-    written_again c.push_varint-done.result c.args.out.now.items c.push_varint-done.new.out.items _ rest (c.args.field, Wire.Varint c.args.value) c.push_varint-done.ensures.ok (varint_field_spells (length c.args.out.now.items) c.args.field c.args.value c.requires.least c.requires.most (omega arith))
+pub returns-clause-again : goal.returns-clause-again
+returns-clause-again c =
+    let old = c.args.out.now.items in
+    let ok = kept_ok c.cut_back.result c.push_varint-done.result old c.push_varint-done.new.out.items c.cut_back.new.out.items _ c.cut_back.ensures.same c.push_varint-done.ensures.ok c.cut_back.ensures.ok in
+    written_again c.cut_back.result old c.cut_back.new.out.items _ (c.args.field, Wire.Varint c.args.value) ok (varint_field_spells (length old) c.args.field c.args.value c.requires.least c.requires.most (omega arith))

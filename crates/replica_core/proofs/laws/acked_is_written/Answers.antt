@@ -1,5 +1,5 @@
-use Rattle.replica_core.proofs.SoundLaws.{run_sound}
-use Rattle.replica_core.proofs.RowLaws.{made_acked, found_acked}
+use Rattle.replica_core.proofs.SoundLemmas.{run_sound}
+use Rattle.replica_core.proofs.TransitionLemmas.{made_acked, found_acked}
 use Rattle.replica_core.proofs.laws.acked_is_written.Goals as goal
 
 pub returns-clause-made : goal.returns-clause-made

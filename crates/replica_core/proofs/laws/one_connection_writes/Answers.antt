@@ -1,4 +1,4 @@
-use Rattle.replica_core.proofs.RowLaws.{others, written_rises, pending_rises}
+use Rattle.replica_core.proofs.TransitionLemmas.{others, written_rises, pending_rises}
 use Rattle.replica_core.proofs.laws.one_connection_writes.Goals as goal
 
 pub returns-clause-others : goal.returns-clause-others

@@ -1,4 +1,4 @@
-use Rattle.replica_core.proofs.RowLaws.{no_gap}
+use Rattle.replica_core.proofs.TransitionLemmas.{no_gap}
 use Rattle.replica_core.proofs.laws.packets_leave_no_gap.Goals as goal
 
 pub returns : goal.returns

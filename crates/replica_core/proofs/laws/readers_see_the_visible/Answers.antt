@@ -1,4 +1,4 @@
-use Rattle.replica_core.proofs.RowLaws.{seen, broken_unread}
+use Rattle.replica_core.proofs.TransitionLemmas.{seen, broken_unread}
 use Rattle.replica_core.proofs.laws.readers_see_the_visible.Goals as goal
 
 pub returns-clause-none : goal.returns-clause-none

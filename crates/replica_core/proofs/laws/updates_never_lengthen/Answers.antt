@@ -1,4 +1,4 @@
-use Rattle.replica_core.proofs.RowLaws.{update_less}
+use Rattle.replica_core.proofs.TransitionLemmas.{update_less}
 use Rattle.replica_core.proofs.laws.updates_never_lengthen.Goals as goal
 
 pub returns : goal.returns

@@ -2,12 +2,12 @@
 use Rattle.std.proofs.Common.{◌≡◌, ◌<◌, Ok, Err, length, ap, sym, ◌∙◌, arith}
 use Rattle.std.specs.Prelude.{fold}
 use Rattle.std.proofs.lemmas.Bool.Decides.{nat_tests}
-use Rattle.proto_fields.specs.ResultSteps.{read_of, with_value}
+use Rattle.hd_base.specs.Results.{read_of, with_value}
 use Rattle.proto_fields.specs.Varint.{varint_at}
 use Rattle.ack_codec.specs.Packed.{numbers_from}
 use Rattle.ack_codec.specs.Tallies.{counted}
-use Rattle.ack_codec.proofs.PackedLaws.{numbers_from-number, numbers_from-fault, numbers_from-none}
-use Rattle.ack_codec.proofs.TallyLaws.{counted-cons}
+use Rattle.ack_codec.proofs.PackedLemmas.{numbers_from-number, numbers_from-fault, numbers_from-none}
+use Rattle.ack_codec.proofs.TallyLemmas.{counted-cons}
 use Rattle.ack_codec.proofs.tallies.Tally.with_list.Goals as goal
 
 pub returns-in-Err : goal.returns-in-Err

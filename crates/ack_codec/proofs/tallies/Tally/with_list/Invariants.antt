@@ -1,7 +1,7 @@
 -- Counting on from here ends as counting the whole list does.
 use Rattle.std.proofs.Common.{◌≡◌, ◌≤◌, length}
 use Rattle.std.specs.Prelude.{fold}
-use Rattle.proto_fields.specs.ResultSteps.{with_value}
+use Rattle.hd_base.specs.Results.{with_value}
 use Rattle.ack_codec.specs.Packed.{numbers_from, numbers_at}
 use Rattle.ack_codec.specs.Tallies.{counted}
 use Rattle.ack_codec.proofs.tallies.Tally.with_list.Given as goal

@@ -1,7 +1,7 @@
 -- The last byte stands for itself, and one before it has seven bits of the number.
 use Rattle.std.proofs.Common.{◌≡◌, ◌+◌, ◌/◌, ◌%◌, [], ◌++◌, ◌∷◌, length, ap, sym, ◌∙◌, append_assoc, length-append, arith}
 use Rattle.proto_fields.specs.Varint.{least_varint}
-use Rattle.proto_fields.proofs.VarintLaws.{least_varint-last, least_varint-more}
+use Rattle.proto_fields.proofs.VarintLemmas.{least_varint-last, least_varint-more}
 use Rattle.ack_codec.proofs.texts.AckBytes.+push_varint.Goals as goal
 
 pub push-requires : goal.push-requires

@@ -1,7 +1,7 @@
 -- An ack that is there is taken.
 use Rattle.std.proofs.Common.{length, sym, [], append-nil}
-use Rattle.proto_fields.proofs.ResultLaws.{ok_pair}
-use Rattle.dn_run.proofs.ReceiptLaws.{err_ok}
+use Rattle.hd_base.proofs.ResultLaws.{ok_pair}
+use Rattle.hd_base.proofs.ResultLaws.{err_ok}
 use Rattle.dn_run.proofs.messages.AckMessage.decode.Goals as goal
 
 pub returns-in_err-ack-clause-open : goal.returns-in_err-ack-clause-open

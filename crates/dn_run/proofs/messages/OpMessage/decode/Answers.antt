@@ -1,9 +1,9 @@
 -- A message that is there is taken, unless memory runs out.
 use Rattle.std.proofs.Common.{length, Err, sym, ap, ◌∙◌, [], append-nil}
 use Rattle.std.proofs.lemmas.Result.{err_from_is_err_and}
-use Rattle.proto_fields.proofs.ResultLaws.{ok_pair}
+use Rattle.hd_base.proofs.ResultLaws.{ok_pair}
 use Rattle.dn_run.proofs.MessageLaws.{op_only_memory}
-use Rattle.dn_run.proofs.ReceiptLaws.{err_value}
+use Rattle.hd_base.proofs.ResultLaws.{err_value}
 use Rattle.dn_run.proofs.messages.OpMessage.decode.Goals as goal
 
 pub returns-in_err-op-clause-open : goal.returns-in_err-op-clause-open

@@ -1,7 +1,7 @@
 -- The lengths at a packet's front tell how many bytes it has.
 use Rattle.std.proofs.Common.{◌∙◌, [], sym, length, append-nil, arith}
-use Rattle.proto_fields.proofs.ResultLaws.{ok_value}
-use Rattle.dn_run.proofs.ReceiptLaws.{err_ok}
+use Rattle.hd_base.proofs.ResultLaws.{ok_value}
+use Rattle.hd_base.proofs.ResultLaws.{err_ok}
 use Rattle.dn_run.proofs.messages.PacketMessage.wanted.Goals as goal
 
 pub returns-in-Ok-clause-reaches : goal.returns-in-Ok-clause-reaches

@@ -11,8 +11,8 @@ returns-in_default-clause-none c = (λ _. waiting-nowhere c.args.self.now.dials.
 
 pub invariant_of-self-2 : goal.invariant_of-self-2
 invariant_of-self-2 c = record {
-  dials_known = ap (dials_below (vec_len c.args.self.now.lanes)) c.remove.ensures.items ∙ below-remove (vec_len c.args.self.now.lanes) c.args.self.now.dials.items c.in-Some.place c.args.self.now.dials_known;
-  loads_known = c.args.self.now.loads_known;
+  dials_known = ap (dials_below (vec_len c.args.self.now.duplexes)) c.remove.ensures.items ∙ below-remove (vec_len c.args.self.now.duplexes) c.args.self.now.dials.items c.in-Some.place c.args.self.now.dials_known;
+  trace_known = c.args.self.now.trace_known;
 }
 
 pub returns-clause-none : goal.returns-clause-none
@@ -26,4 +26,4 @@ returns-clause-number c =
 
 pub returns-clause-plain : goal.returns-clause-plain
 returns-clause-plain c =
-    ap Some (plain-parts c.args.self.now.listening c.remove.new.self.items c.args.self.now.lanes.items _ _ _ (ap waiting_at c.remove.ensures.items ∙ waiting-remove c.args.self.now.dials.items c.args.port c.in-Some.place (place_found (is_at c.args.port) c.args.self.now.dials.items c.in-Some.place c.in-Some.ensures.place)) refl refl)
+    ap Some (plain-parts c.args.self.now.listening c.remove.new.self.items c.args.self.now.duplexes.items _ _ _ (ap waiting_at c.remove.ensures.items ∙ waiting-remove c.args.self.now.dials.items c.args.port c.in-Some.place (place_found (is_at c.args.port) c.args.self.now.dials.items c.in-Some.place c.in-Some.ensures.place)) refl refl)

@@ -1,15 +1,15 @@
--- What stands on the lane, or nothing past the last one.
+-- What stands on the connection, or nothing past the last one.
 use Rattle.std.proofs.Common.{arith, ap, sym, ◌∙◌}
-use Rattle.hd_base.specs.Ways.{standing_of}
-use Rattle.mem_ports.proofs.LaneLaws.{ways-at, ways-past}
+use Rattle.hd_base.specs.Channels.{standing_of}
+use Rattle.mem_ports.proofs.DuplexLaws.{channels-at, channels-past}
 use Rattle.mem_ports.proofs.roads.MemRoadsRoads.standing.Goals as goal
 
 pub returns-then-place-len-clause-next : goal.returns-then-place-len-clause-next
 returns-then-place-len-clause-next c =
-    let lanes = c.args.self.now.lanes in
-    c.standing.ensures ∙ ap standing_of (sym (ways-at lanes.items c.args.conn.0 c.index.result.now c.args.down (omega (arith, c.if-place-len.true, c.len.ensures, lanes.ok.0)) c.index.ensures))
+    let duplexes = c.args.self.now.duplexes in
+    c.standing.ensures ∙ ap standing_of (sym (channels-at duplexes.items c.args.conn.0 c.index.result.now c.args.down (omega (arith, c.if-place-len.true, c.len.ensures, duplexes.ok.0)) c.index.ensures))
 
 pub returns-else-place-len-clause-next : goal.returns-else-place-len-clause-next
 returns-else-place-len-clause-next c =
-    let lanes = c.args.self.now.lanes in
-    ap standing_of (sym (ways-past lanes.items c.args.conn.0 c.args.down (omega (arith, c.if-place-len.false, c.len.ensures, lanes.ok.0))))
+    let duplexes = c.args.self.now.duplexes in
+    ap standing_of (sym (channels-past duplexes.items c.args.conn.0 c.args.down (omega (arith, c.if-place-len.false, c.len.ensures, duplexes.ok.0))))

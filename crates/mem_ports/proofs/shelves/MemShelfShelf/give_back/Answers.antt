@@ -3,7 +3,7 @@ use Rattle.std.proofs.Common.{◌≡◌, true, Some, arith, ap, sym, refl, ◌�
 use Rattle.std.proofs.lemmas.List.{nil_from_length}
 use Rattle.mem_ports.specs.Entries.{look, all_of_block}
 use Rattle.mem_ports.proofs.EntryLaws.{look-of_block, all-of_block}
-use Rattle.mem_ports.proofs.SlotLaws.{block-at, lent-at, lent-written, apart-written, files-back, lent-nowhere}
+use Rattle.mem_ports.proofs.SlotLaws.{block-at, lent-at, lent-written, apart-written, others-kept, files-back, lent-nowhere}
 use Rattle.mem_ports.proofs.shelves.MemShelfShelf.give_back.Goals as goal
 
 pub invariant_of-slot : goal.invariant_of-slot
@@ -22,6 +22,9 @@ returns-clause-files c =
     let lent : old.lent ≡ true = sym (lent-at c.args.self.now.slots.items c.args.block.0 c.in-Some.place c.index_mut-slot.result.now c.in-Some.ensures.place c.index_mut-slot.ensures.value) ∙ c.requires in
     let empty : old.table.entries.items ≡ [] = nil_from_length old.table.entries.items (omega (arith, old.out lent, old.table.entries.ok.0)) in
     λ only. ap Some (files-back c.args.self.now.slots.items c.args.block.0 c.in-Some.place c.index_mut-slot.result.now _ (look c.args.drawer.table.entries.items) c.in-Some.ensures.place c.index_mut-slot.ensures.value refl empty (λ name own. ap (λ es. look es name) c.keep_block.ensures ∙ look-of_block c.args.block.0 c.args.drawer.table.entries.items name own) only)
+
+pub returns-clause-others : goal.returns-clause-others
+returns-clause-others c = others-kept c.args.self.now.slots.items c.args.block.0 c.in-Some.place c.index_mut-slot.result.now _ c.in-Some.ensures.place c.index_mut-slot.ensures.value refl
 
 pub returns-clause-lent : goal.returns-clause-lent
 returns-clause-lent c = lent-written c.args.self.now.slots.items c.args.block.0 c.in-Some.place c.index_mut-slot.result.now _ c.in-Some.ensures.place c.index_mut-slot.ensures.value refl

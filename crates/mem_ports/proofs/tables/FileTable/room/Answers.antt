@@ -26,9 +26,9 @@ pub returns-in-Some-clause-files : goal.returns-in-Some-clause-files
 returns-in-Some-clause-files c =
     let es = c.args.self.now.entries.items in
     let old = c.index_mut.result.now in
-    let told : cond old.there (Some c.reserve.new.self.items) None ≡ look es c.args.name.now =
+    let is_shown : cond old.there (Some c.reserve.new.self.items) None ≡ look es c.args.name.now =
     ap (λ b. cond old.there (Some b) None) c.reserve.ensures.items ∙ sym (look-at es c.args.name.now c.in-Some.place old c.in-Some.ensures.place c.index_mut.ensures.value) in
-    look-written es c.args.name.now c.in-Some.place old _ (look es c.args.name.now) c.in-Some.ensures.place c.index_mut.ensures.value refl told ∙ update-same (look es) c.args.name.now (look es c.args.name.now) refl
+    look-written es c.args.name.now c.in-Some.place old _ (look es c.args.name.now) c.in-Some.ensures.place c.index_mut.ensures.value refl is_shown ∙ update-same (look es) c.args.name.now (look es c.args.name.now) refl
 
 pub returns-in-Some-clause-room : goal.returns-in-Some-clause-room
 returns-in-Some-clause-room c =

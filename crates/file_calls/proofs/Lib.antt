@@ -1,0 +1,5 @@
+pub mod ByteLemmas
+pub mod DurableLaws
+pub mod PlanLaws
+pub mod ProgressLaws
+pub mod DiskLaws
