@@ -69,6 +69,16 @@ fn a_loss_keeps_what_was_synced(rt: HostRuntime) -> Result<(), Fail> {
     Ok(())
 }
 
+#[test]
+fn a_loss_draws_what_was_not_synced(rt: HostRuntime) -> Result<(), Fail> {
+    let data = name(b"blk_1")?;
+    let (bytes, count) = lost(rt.alloc(), &data, 1)?;
+    let (others, other_count) = lost(rt.alloc(), &data, 4)?;
+    assert_eq!(rt; (count, other_count), (6, 6));
+    assert!(rt; bytes[5] != others[5]);
+    Ok(())
+}
+
 /// What a stop at the write leaves.
 fn stopped(alloc: Global, name: &FileName, keep: Keep) -> Result<usize, Fail> {
     let mut files = StopAt::new(LossyFiles::new(alloc)?, 1, keep);
