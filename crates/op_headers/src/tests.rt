@@ -284,14 +284,26 @@ fn reads_and_writes_steps(rt: HostRuntime) -> Result<(), Fail> {
     )
 }
 
-/// A message of 65,536 bytes and one of a byte more, and steps that aren't lawful.
+/// Whether a read request of a client with a name of so many bytes may be written.
+fn name_fits(alloc: Global, len: usize) -> Result<bool, AllocError> {
+    let client = vec![in alloc; b'x'; len]?;
+    read(alloc, &client)?.is_encodable(alloc)
+}
+
+/// A message of 65,536 bytes and one of a byte more.
 #[test]
-fn tells_what_may_be_written(rt: HostRuntime) -> Result<(), Fail> {
+fn tells_how_long_a_message_may_be(rt: HostRuntime) -> Result<(), Fail> {
+    assert!(rt; name_fits(rt.alloc(), 65_489)?);
+    assert!(rt; !name_fits(rt.alloc(), 65_490)?);
+    Ok(())
+}
+
+/// Only an update has a length.
+#[test]
+fn tells_which_steps_are_lawful(rt: HostRuntime) -> Result<(), Fail> {
     let alloc = rt.alloc();
-    let longer = vec![in alloc; b'x'; 65_490]?;
-    assert!(rt; read(alloc, &longer[..65_489])?.is_encodable(alloc)?);
-    assert!(rt; !read(alloc, &longer)?.is_encodable(alloc)?);
-    assert!(rt; !lone_step(alloc, RecoveryKind::Begin, 1)?.is_encodable(alloc)?);
+    let may = lone_step(alloc, RecoveryKind::Begin, 1)?.is_encodable(alloc)?;
+    assert!(rt; !may);
     Ok(())
 }
 
