@@ -18,9 +18,9 @@ mod run_tests;
 pub mod script;
 mod sending;
 pub mod standard;
-pub mod streams;
 #[cfg(test)]
 mod stream_tests;
+pub mod streams;
 #[cfg(test)]
 mod tests;
 mod writing;
