@@ -1,0 +1,3 @@
+pub mod CaseLemmas
+pub mod OfficeLemmas
+pub mod BookLemmas

@@ -1,0 +1,5 @@
+pub mod Steps
+pub mod Records
+pub mod Offices
+pub mod Books
+pub mod Desks
