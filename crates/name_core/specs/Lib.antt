@@ -3,3 +3,5 @@ pub mod Records
 pub mod Offices
 pub mod Books
 pub mod Desks
+pub mod Infos
+pub mod Choice

@@ -5,14 +5,18 @@
 
 mod book;
 mod calls;
+mod choice;
 mod desks;
 mod faults;
+mod infos;
 mod office;
 mod records;
 
 pub use book::OfficeBook;
 pub use calls::{Begun, OfficeAnswer, OfficeCall, Reopened};
+pub use choice::{ChooseFault, Chosen, choose};
 pub use desks::{Desk, SharedDesk};
 pub use faults::OfficeFault;
+pub use infos::{Info, Infos};
 pub use office::{FIRST_STAMP, Office};
 pub use records::MAX_APPEND_LENGTH;
