@@ -3,3 +3,7 @@ pub mod OfficeLemmas
 pub mod BookLemmas
 pub mod InfoLemmas
 pub mod ChoiceLemmas
+pub mod BlockLemmas
+pub mod StampLemmas
+pub mod LeaseLemmas
+pub mod ChosenLemmas

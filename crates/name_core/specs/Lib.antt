@@ -5,3 +5,4 @@ pub mod Books
 pub mod Desks
 pub mod Infos
 pub mod Choice
+pub mod Laws

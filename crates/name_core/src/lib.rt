@@ -9,6 +9,7 @@ mod choice;
 mod desks;
 mod faults;
 mod infos;
+mod laws;
 mod office;
 mod records;
 
@@ -18,5 +19,6 @@ pub use choice::{ChooseFault, Chosen, choose};
 pub use desks::{Desk, SharedDesk};
 pub use faults::OfficeFault;
 pub use infos::{Info, Infos};
+pub use laws::{chosen_length_is_held, lease_stays_lost, stamps_rise};
 pub use office::{FIRST_STAMP, Office};
 pub use records::MAX_APPEND_LENGTH;
