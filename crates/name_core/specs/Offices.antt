@@ -119,6 +119,11 @@ GivesStamp (call.NewStamp block) = Unit {0}
 GivesStamp (call.BeginRecovery block) = Unit {0}
 GivesStamp _ = ⊥
 
+-- a call that makes a block known, and may want memory for it
+abbrev pub IsCreate : OfficeCall → Type 0
+IsCreate (call.Create block members) = Unit {0}
+IsCreate _ = ⊥
+
 -- the office after a call
 abbrev pub office_after : OfficeState → OfficeCall → OfficeState
 office_after o c = state_after o (office_case o c)

@@ -1,7 +1,9 @@
 //! Calls on the office, and their answers, as values.
 
-ghost use Rattle.std.specs.Prelude.{◌≡◌};
+ghost use Rattle.std.specs.Prelude.{◌≡◌, ◌↔◌, IsTrue};
+ghost use Rattle.name_core.specs.Desks.{FitsCall};
 
+use crate::records::MAX_APPEND_LENGTH;
 use hd_base::{BlockId, Members, Stamp};
 
 /// A call on the office.
@@ -122,4 +124,29 @@ pub enum OfficeAnswer {
     Begun(Begun),
     /// No more than that it is granted.
     Nothing,
+}
+
+impl OfficeAnswer {
+    /// Whether a desk may answer this call so: the answer has the form of the call, and an append is
+    /// told a length of at most `MAX_APPEND_LENGTH`.
+    pub fn fits(&self, call: &OfficeCall) -> bool
+        ensures { IsTrue result ↔ FitsCall call.now self.now }
+    {
+        match (call, self) {
+            (OfficeCall::Create { .. } | OfficeCall::NewStamp { .. }, OfficeAnswer::Stamp(_)) => {
+                true
+            }
+            (OfficeCall::Append { .. }, OfficeAnswer::Reopened(reopened)) => {
+                reopened.length <= MAX_APPEND_LENGTH
+            }
+            (OfficeCall::BeginRecovery { .. }, OfficeAnswer::Begun(_)) => true,
+            (
+                OfficeCall::Commit { .. }
+                | OfficeCall::Complete { .. }
+                | OfficeCall::CommitSync { .. },
+                OfficeAnswer::Nothing,
+            ) => true,
+            _ => false,
+        }
+    }
 }

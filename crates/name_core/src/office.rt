@@ -1,9 +1,9 @@
 //! The name office.
 
-ghost use Rattle.std.specs.Prelude.{◌≡◌, ◌↔◌, IsTrue, OnOk, OnErr, Ok};
+ghost use Rattle.std.specs.Prelude.{◌≡◌, ◌↔◌, IsTrue, OnOk, OnErr, Ok, Err};
 ghost use Rattle.hd_base.specs.Results.{Gives};
 ghost use Rattle.name_core.specs.Steps.{state_after, reply};
-ghost use Rattle.name_core.specs.Offices.{HasStampLeft, GivesStamp, new_office, committed_in, create_case};
+ghost use Rattle.name_core.specs.Offices.{HasStampLeft, GivesStamp, IsCreate, new_office, committed_in, create_case};
 ghost use Rattle.name_core.specs.Offices.{append_case, new_stamp_case, commit_case, complete_case, begin_case, sync_case};
 ghost use Rattle.name_core.specs.Offices.{office_after, answer_to};
 
@@ -188,6 +188,7 @@ impl Office {
         requires { GivesStamp call.now → HasStampLeft self.old }
         ensures answer { Gives OfficeFault.Memory result (answer_to self.old call.now) }
         ensures office { OnOk result (self.new ≡ office_after self.old call.now) }
+        ensures memory { result ≡ Err OfficeFault.Memory → IsCreate call.now }
         ensures refused { OnErr result (self.new ≡ self.old) }
     {
         Ok(match call {
