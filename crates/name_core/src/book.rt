@@ -156,8 +156,10 @@ impl OfficeBook {
         length: u64,
         members: &Members,
     ) -> Result<(), OfficeFault>
-        ensures answer { Gives OfficeFault.Memory result (reply (sync_case self.old.office block id length members.now)) }
-        ensures book { self.new ≡ book_after self.old (OfficeCall.CommitSync block id length members.now) result }
+        ensures answer { Gives OfficeFault.Memory result
+            (reply (sync_case self.old.office block id length members.now)) }
+        ensures book { self.new ≡
+            book_after self.old (OfficeCall.CommitSync block id length members.now) result }
         ensures replay { IsReplay self.new }
     {
         let members = members.duplicate();

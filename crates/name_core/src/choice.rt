@@ -1,8 +1,8 @@
 //! The choice of a block recovery: which replicas it keeps, and at which length.
 
 ghost use Rattle.std.specs.Prelude.{◌≡◌, map, find, option_map};
-ghost use Rattle.name_core.specs.Choice.{is_candidate, is_finalized_candidate, is_kept, is_chosen};
-ghost use Rattle.name_core.specs.Choice.{kept_infos, kept_lengths, lesser, least, other_length, finalized_choice, shortest, choice};
+ghost use Rattle.name_core.specs.Choice.{is_candidate, is_finalized_candidate, is_kept, is_chosen, kept_infos};
+ghost use Rattle.name_core.specs.Choice.{kept_lengths, lesser, least, other_length, finalized_choice, shortest, choice};
 
 use crate::infos::{Info, Infos};
 use hd_base::{MAX_MEMBERS, Members, NodeId, ReplicaState, Stamp};

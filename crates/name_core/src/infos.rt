@@ -6,7 +6,7 @@ ghost use Rattle.name_core.specs.Infos.{NodesDiffer};
 
 use hd_base::{MAX_MEMBERS, NodeId, ReplicaState, Stamp};
 use std::marker::Model;
-use std::slice;
+use std::{fmt, slice};
 
 /// What a block recovery learns of a replica from the node's answer.
 #[derive(Clone, Copy, Debug, PartialEq, Eq, Hash)]
@@ -50,7 +50,7 @@ impl Infos {
         if infos.len() > MAX_MEMBERS || !are_of_different_nodes(infos) {
             return None;
         }
-        let mut kept = [NOTHING; MAX_MEMBERS];
+        let mut kept = [UNUSED; MAX_MEMBERS];
         kept[..infos.len()].copy_from_slice(infos);
         Some(Infos {
             infos: kept,
@@ -75,8 +75,14 @@ impl Infos {
     }
 }
 
-/// What stands behind the last info.
-const NOTHING: Info = Info {
+impl fmt::Debug for Infos {
+    fn fmt<W: fmt::Write>(&self, f: &mut fmt::Formatter<W>) -> fmt::Result {
+        write!(f, "{:?}", self.as_slice())
+    }
+}
+
+/// What stands in the places behind the last info.
+const UNUSED: Info = Info {
     node: NodeId(0),
     state: ReplicaState::Rbw,
     stamp: Stamp(0),

@@ -4,8 +4,8 @@ ghost use Rattle.std.specs.Prelude.{◌≡◌, ◌↔◌, IsTrue, OnOk, OnErr, O
 ghost use Rattle.hd_base.specs.Results.{Gives};
 ghost use Rattle.name_core.specs.Steps.{state_after, reply};
 ghost use Rattle.name_core.specs.Offices.{HasStampLeft, GivesStamp, IsCreate, new_office, committed_in, create_case};
-ghost use Rattle.name_core.specs.Offices.{append_case, new_stamp_case, commit_case, complete_case, begin_case, sync_case};
-ghost use Rattle.name_core.specs.Offices.{office_after, answer_to};
+ghost use Rattle.name_core.specs.Offices.{append_case, new_stamp_case, commit_case, complete_case, begin_case};
+ghost use Rattle.name_core.specs.Offices.{sync_case, office_after, answer_to};
 
 use crate::calls::{Begun, OfficeAnswer, OfficeCall, Reopened};
 use crate::faults::OfficeFault;
@@ -213,9 +213,9 @@ impl Office {
                 self.complete(*block, *stamp, *length)?;
                 OfficeAnswer::Nothing
             }
-            OfficeCall::BeginRecovery { block } => OfficeAnswer::Begun(self.begin_recovery(
-                *block,
-            )?),
+            OfficeCall::BeginRecovery { block } => {
+                OfficeAnswer::Begun(self.begin_recovery(*block)?)
+            }
             OfficeCall::CommitSync {
                 block,
                 id,

@@ -9,7 +9,8 @@ use crate::calls::{Begun, Reopened};
 use crate::faults::OfficeFault;
 use hd_base::{Members, Stamp};
 
-/// The most bytes that a block may have for an append: a packet and a chunk always fit behind them.
+/// The most bytes that a block may have for an append: with the 33,554,432 bytes that a client may
+/// write, it stays within the 134,217,728 that a block may have.
 pub const MAX_APPEND_LENGTH: u64 = 100_663_296;
 
 /// What the office has of a block.

@@ -228,15 +228,20 @@ fn a_lost_lease_refuses(rt: HostRuntime) -> Result<(), Fail> {
     Ok(())
 }
 
+/// One call at a desk.
+fn asked<D: Desk>(mut desk: D, call: &OfficeCall) -> Result<OfficeAnswer, OfficeFault> {
+    desk.ask(call)
+}
+
 #[test]
-fn a_shared_desk_asks_the_book(rt: HostRuntime) -> Result<(), Fail> {
-    let book = book(&rt)?;
-    let mut desk = SharedDesk::new(rt, Arc::new(rt.alloc(), Mutex::new(book))?);
+fn desks_ask_the_book(rt: HostRuntime) -> Result<(), Fail> {
     let call = OfficeCall::NewStamp { block: BLOCK };
-    let answer = desk.ask(&call);
-    assert_eq!(rt; answer, Ok(OfficeAnswer::Stamp(Stamp(1002))));
-    assert!(rt; OfficeAnswer::Stamp(Stamp(1002)).fits(&call));
+    let answer = OfficeAnswer::Stamp(Stamp(1002));
+    assert!(rt; answer.fits(&call));
     assert!(rt; !OfficeAnswer::Nothing.fits(&call));
+    assert_eq!(rt; asked(book(&rt)?, &call), Ok(answer));
+    let shared = Arc::new(rt.alloc(), Mutex::new(book(&rt)?))?;
+    assert_eq!(rt; asked(SharedDesk::new(rt, shared), &call), Ok(answer));
     Ok(())
 }
 
@@ -256,6 +261,12 @@ fn faults_are_printed(rt: HostRuntime) -> Result<(), Fail> {
         (
             OfficeFault::OldRecovery { latest: None },
             "the latest recovery is none",
+        ),
+        (
+            OfficeFault::OldRecovery {
+                latest: Some(Stamp(1002)),
+            },
+            "the latest recovery is 1002",
         ),
         (
             OfficeFault::TooLong { length: 9 },
