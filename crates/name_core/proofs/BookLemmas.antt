@@ -1,5 +1,5 @@
 -- From the answer of a call as a value to that of the method.
-use Rattle.std.proofs.Common.{◌≡◌, Result, Ok, Err, ◌⊎◌, inl, inr, refl, sym, ap, ◌∙◌}
+use Rattle.std.proofs.Common.{◌≡◌, Result, Ok, Err, ◌⊎◌, inl, inr, refl}
 use Rattle.hd_base.specs.declared.numbers.Stamp.{Stamp}
 use Rattle.hd_base.specs.Results.{Gives}
 use Rattle.name_core.specs.declared.calls.Begun.{Begun}

@@ -3,7 +3,7 @@ use Rattle.std.proofs.Common.{◌≡◌, Bool, true, false, ℕ, List, Option, S
 use Rattle.hd_base.specs.declared.numbers.BlockId.{BlockId}
 use Rattle.hd_base.specs.declared.numbers.NodeId.{NodeId}
 use Rattle.hd_base.specs.declared.numbers.Stamp.{Stamp}
-use Rattle.hd_base.specs.Results.{◌>>=◌, with_value}
+use Rattle.hd_base.specs.Results.{◌>>=◌}
 use Rattle.name_core.specs.declared.calls.Begun.{Begun}
 use Rattle.name_core.specs.declared.calls.Reopened.{Reopened}
 use Rattle.name_core.specs.declared.calls.OfficeAnswer.{OfficeAnswer}
@@ -14,7 +14,7 @@ use Rattle.name_core.specs.declared.faults.OfficeFault.{OfficeFault}
 use Rattle.name_core.specs.declared.faults.OfficeFault.TheVariants as fault
 use Rattle.name_core.specs.declared.records.BlockRecord.{BlockRecord}
 use Rattle.name_core.specs.declared.records.TheConstants.{MAX_APPEND_LENGTH}
-use Rattle.name_core.specs.Steps.{Granted, Step, grant, check}
+use Rattle.name_core.specs.Steps.{Step, grant, check}
 use Rattle.name_core.specs.Records.{opened, lease_check, writer_check, is_stamp, append_step, new_stamp_step, commit_step, complete_step, begin_step, sync_step}
 use Rattle.name_core.specs.Offices.{OfficeState, known, record_of, stamp_given, with_record, with_new_record, answering, office_case}
 

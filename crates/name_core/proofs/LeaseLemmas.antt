@@ -1,5 +1,5 @@
 -- A lease that was lost stays lost.
-use Rattle.std.proofs.Common.{◌≡◌, ℕ, ◌+◌, ◌<◌, ◌≤◌, Bool, true, false, List, [], ◌∷◌, Option, Some, None, Result, Ok, Err, ◌⊎◌, inl, inr, refl, sym, ap, ◌∙◌, subst, arith, nat_lt, nat_le}
+use Rattle.std.proofs.Common.{◌≡◌, ℕ, ◌<◌, ◌≤◌, true, false, List, [], ◌∷◌, Option, Some, None, Result, Ok, ◌⊎◌, inl, inr, refl, sym, ap, ◌∙◌, subst, arith, nat_lt, nat_le}
 use Rattle.std.specs.Option.{IfSome, IsSome}
 use Rattle.std.specs.Result.{IsErr}
 use Rattle.std.proofs.lemmas.Bool.Decides.{nat_tests}
@@ -15,11 +15,11 @@ use Rattle.name_core.specs.declared.calls.OfficeCall.TheVariants as call
 use Rattle.name_core.specs.declared.faults.OfficeFault.{OfficeFault}
 use Rattle.name_core.specs.declared.records.BlockRecord.{BlockRecord}
 use Rattle.name_core.specs.Records.{opened, is_stamp}
-use Rattle.name_core.specs.Steps.{Step, state_after, reply}
-use Rattle.name_core.specs.Offices.{OfficeState, block_order, stamp_given, record_of, with_record, with_new_record, office_case, office_after, answer_to, run}
+use Rattle.name_core.specs.Steps.{state_after, reply}
+use Rattle.name_core.specs.Offices.{OfficeState, block_order, stamp_given, record_of, with_record, with_new_record, office_after, answer_to, run}
 use Rattle.name_core.specs.Laws.{RefusesWriter}
 use Rattle.name_core.proofs.BlockLemmas.{same_or_other, record_of-with_record_same, record_of-with_record_other, record_of-with_new_record_other}
-use Rattle.name_core.proofs.CaseLemmas.{Cases, IsWriters, each_case}
+use Rattle.name_core.proofs.CaseLemmas.{IsWriters, each_case}
 
 -- A block's record from the beginning of a block recovery with this id on: recoveries are this one or later ones, and either a recovery is under
 -- way, or one of them was committed.

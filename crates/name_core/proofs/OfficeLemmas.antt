@@ -1,22 +1,17 @@
 -- What calls make of the office.
-use Rattle.std.proofs.Common.{◌≡◌, ◌≢◌, ℕ, ◌+◌, ◌<◌, ◌≤◌, Bool, true, false, cond, not, List, [], ◌∷◌, ◌++◌, length, Option, Some, None, Result, Ok, Err, ◌⊎◌, inl, inr, refl, sym, ap, ◌∙◌, subst, arith, rules}
+use Rattle.std.proofs.Common.{◌≡◌, ◌+◌, ◌≤◌, true, not, List, [], ◌∷◌, ◌++◌, length, Result, Ok, Err, inl, inr, refl, sym, ◌∙◌, subst, arith}
 use Rattle.std.specs.Result.{OnOk, OnErr, IfOk}
 use Rattle.std.proofs.lemmas.Bool.Decides.{nat_tests}
-use Rattle.hd_base.specs.declared.numbers.BlockId.{BlockId}
-use Rattle.hd_base.specs.Results.{Gives, ◌>>=◌, with_value}
+use Rattle.hd_base.specs.Results.{Gives}
 use Rattle.name_core.specs.declared.calls.OfficeAnswer.{OfficeAnswer}
-use Rattle.name_core.specs.declared.calls.OfficeAnswer.TheVariants as answer
 use Rattle.name_core.specs.declared.calls.OfficeCall.{OfficeCall}
-use Rattle.name_core.specs.declared.calls.OfficeCall.TheVariants as call
 use Rattle.name_core.specs.declared.faults.OfficeFault.{OfficeFault}
 use Rattle.name_core.specs.declared.faults.OfficeFault.TheVariants as fault
-use Rattle.name_core.specs.declared.office.TheConstants.{FIRST_STAMP}
-use Rattle.name_core.specs.declared.records.BlockRecord.{BlockRecord}
-use Rattle.name_core.specs.Steps.{Granted, Step, grant, state_after, reply, check}
-use Rattle.name_core.specs.Offices.{OfficeState, new_office, office_case, office_after, answer_to, run}
+use Rattle.name_core.specs.Steps.{Step, state_after, reply}
+use Rattle.name_core.specs.Offices.{OfficeState, office_case, office_after, answer_to, run}
 use Rattle.name_core.specs.Books.{is_memory, is_entry}
 use Rattle.name_core.specs.Desks.{FitsCall}
-use Rattle.name_core.proofs.CaseLemmas.{Cases, each_case}
+use Rattle.name_core.proofs.CaseLemmas.{each_case}
 
 -- calls, and then one more
 pub run-append : (o : OfficeState) (calls : List OfficeCall) (c : OfficeCall) → run o (calls ++ c ∷ []) ≡ office_after (run o calls) c

@@ -1,5 +1,5 @@
 -- Stamps rise.
-use Rattle.std.proofs.Common.{◌≡◌, ℕ, ◌+◌, ◌<◌, ◌≤◌, List, [], ◌∷◌, ◌++◌, Option, Some, None, Result, Ok, Err, ◌⊎◌, inl, inr, refl, sym, ap, ◌∙◌, subst, arith}
+use Rattle.std.proofs.Common.{◌≡◌, ℕ, ◌+◌, ◌<◌, ◌≤◌, List, [], ◌∷◌, ◌++◌, refl, arith}
 use Rattle.std.specs.List.{All, AllPairs}
 use Rattle.std.proofs.lemmas.List.Elements.{All-nil, All-cons}
 use Rattle.std.proofs.lemmas.List.Kept.{AllPairs-cons}
@@ -7,8 +7,8 @@ use Rattle.name_core.specs.declared.calls.OfficeCall.{OfficeCall}
 use Rattle.name_core.specs.Steps.{state_after, reply}
 use Rattle.name_core.specs.Offices.{OfficeState, office_after, answer_to, run}
 use Rattle.name_core.specs.Laws.{given_by, stamps_given}
-use Rattle.name_core.proofs.CaseLemmas.{Cases, each_case}
-use Rattle.name_core.proofs.OfficeLemmas.{NextRises, next_rises}
+use Rattle.name_core.proofs.CaseLemmas.{each_case}
+use Rattle.name_core.proofs.OfficeLemmas.{next_rises}
 
 -- no stamp is given, or the next one is
 abbrev Gives : ℕ → ℕ → List ℕ → Type 0

@@ -1,5 +1,5 @@
 -- What a desk answers.
-use Rattle.std.specs.Prelude.{ℕ, ◌≤◌, Option, Some, None, option_map, Result, Ok, Err, if◌then◌else◌}
+use Rattle.std.specs.Prelude.{◌≤◌, Option, Some, None, Result, if◌then◌else◌}
 use Rattle.hd_base.specs.Results.{Gives}
 use Rattle.name_core.specs.declared.calls.OfficeAnswer.{OfficeAnswer}
 use Rattle.name_core.specs.declared.calls.OfficeAnswer.TheVariants as answer

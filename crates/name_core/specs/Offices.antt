@@ -18,7 +18,7 @@ use Rattle.name_core.specs.declared.faults.OfficeFault.{OfficeFault}
 use Rattle.name_core.specs.declared.faults.OfficeFault.TheVariants as fault
 use Rattle.name_core.specs.declared.office.TheConstants.{FIRST_STAMP}
 use Rattle.name_core.specs.declared.records.BlockRecord.{BlockRecord}
-use Rattle.name_core.specs.Steps.{Granted, Step, grant, state_after, reply, check}
+use Rattle.name_core.specs.Steps.{Step, grant, state_after, reply, check}
 use Rattle.name_core.specs.Records.{opened, append_step, new_stamp_step, commit_step, complete_step, begin_step, sync_step}
 
 -- the next stamp, and what is known of each block, in the order of the blocks' numbers

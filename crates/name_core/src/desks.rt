@@ -33,13 +33,18 @@ impl Desk for OfficeBook {
 /// A desk over an office that others call too. It holds the lock for the one call alone.
 #[derive(Drop)]
 pub struct SharedDesk<H: Wait> {
-    handle: H,
-    book: Arc<Mutex<OfficeBook>>,
+    /// What waits for the lock.
+    pub handle: H,
+    /// The book, behind the lock that all of its desks share.
+    pub book: Arc<Mutex<OfficeBook>>,
 }
 
 impl<H: Wait> SharedDesk<H> {
     /// A desk over the book behind this lock.
-    pub fn new(handle: H, book: Arc<Mutex<OfficeBook>>) -> SharedDesk<H> {
+    pub fn new(handle: H, book: Arc<Mutex<OfficeBook>>) -> SharedDesk<H>
+        ensures handle { result.handle ≡ handle }
+        ensures book { result.book ≡ book }
+    {
         SharedDesk { handle, book }
     }
 }

@@ -8,6 +8,7 @@ use hd_base::{BlockId, Members, NodeId, ReplicaState, Stamp};
 use std::process::Abort;
 use std::sync::{Arc, Mutex};
 use std::test::Fail;
+use std::thread;
 
 const BLOCK: BlockId = BlockId(7);
 
@@ -240,8 +241,25 @@ fn desks_ask_the_book(rt: HostRuntime) -> Result<(), Fail> {
     assert!(rt; answer.fits(&call));
     assert!(rt; !OfficeAnswer::Nothing.fits(&call));
     assert_eq!(rt; asked(book(&rt)?, &call), Ok(answer));
+    Ok(())
+}
+
+/// The next stamp of the block, asked for at this desk.
+fn next_stamp<D: Desk>(desk: D) -> Option<OfficeAnswer> {
+    asked(desk, &OfficeCall::NewStamp { block: BLOCK }).ok()
+}
+
+#[test]
+fn threads_share_a_book(rt: HostRuntime) -> Result<(), Fail> {
     let shared = Arc::new(rt.alloc(), Mutex::new(book(&rt)?))?;
-    assert_eq!(rt; asked(SharedDesk::new(rt, shared), &call), Ok(answer));
+    let mine = SharedDesk::new(rt, Arc::try_clone(&shared)?);
+    let theirs = SharedDesk::new(rt, shared);
+    let (one, two) = thread::join(&rt, move || next_stamp(mine), move || next_stamp(theirs));
+    let (low, high) = (
+        OfficeAnswer::Stamp(Stamp(1002)),
+        OfficeAnswer::Stamp(Stamp(1003)),
+    );
+    assert!(rt; (one == Some(low) && two == Some(high)) || (one == Some(high) && two == Some(low)));
     Ok(())
 }
 

@@ -1,5 +1,5 @@
 -- One info more, and at the end the members.
-use Rattle.std.proofs.Common.{◌≡◌, sym, ◌∙◌, rules, arith}
+use Rattle.std.proofs.Common.{sym, ◌∙◌, arith}
 use Rattle.name_core.proofs.InfoLemmas.{past_end}
 use Rattle.name_core.proofs.ChoiceLemmas.{kept_so_far-more, kept_so_far-same, kept_members_fit}
 use Rattle.name_core.proofs.choice.kept_members.Goals as goal

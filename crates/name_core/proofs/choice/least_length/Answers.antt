@@ -1,5 +1,5 @@
 -- One info more.
-use Rattle.std.proofs.Common.{◌≡◌, Some, get_or, ap, sym, ◌∙◌}
+use Rattle.std.proofs.Common.{Some, get_or, ap, sym, ◌∙◌}
 use Rattle.name_core.specs.Choice.{lesser}
 use Rattle.name_core.proofs.InfoLemmas.{past_end}
 use Rattle.name_core.proofs.ChoiceLemmas.{least_more, least_same}

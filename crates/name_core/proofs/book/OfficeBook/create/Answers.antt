@@ -1,5 +1,5 @@
 -- The answer is that of the call as a value.
-use Rattle.std.proofs.Common.{◌≡◌, sym, rules}
+use Rattle.std.proofs.Common.{sym, rules}
 use Rattle.name_core.specs.declared.calls.OfficeAnswer.TheVariants as answer
 use Rattle.name_core.specs.Offices.{office_case, create_case}
 use Rattle.name_core.proofs.BookLemmas.{refusal, stamp}
