@@ -1,0 +1,9 @@
+pub mod CaseLemmas
+pub mod OfficeLemmas
+pub mod BookLemmas
+pub mod InfoLemmas
+pub mod ChoiceLemmas
+pub mod BlockLemmas
+pub mod StampLemmas
+pub mod LeaseLemmas
+pub mod ChosenLemmas

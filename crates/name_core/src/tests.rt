@@ -1,0 +1,298 @@
+//! Worked examples of the office's calls and of choices.
+
+use crate::{
+    Begun, ChooseFault, Chosen, Desk, FIRST_STAMP, Info, Infos, MAX_APPEND_LENGTH, Office,
+    OfficeAnswer, OfficeBook, OfficeCall, OfficeFault, Reopened, SharedDesk, choose,
+};
+use hd_base::{BlockId, Members, NodeId, ReplicaState, Stamp};
+use std::process::Abort;
+use std::sync::{Arc, Mutex};
+use std::test::Fail;
+use std::thread;
+
+const BLOCK: BlockId = BlockId(7);
+
+const OTHER: BlockId = BlockId(3);
+
+/// The members of these numbers.
+fn members(rt: &impl Abort, nodes: &[NodeId]) -> Members {
+    Members::new(nodes).expect(rt, "nodes that differ")
+}
+
+/// What is learnt of a replica under this stamp.
+fn info(node: u32, state: ReplicaState, stamp: u64, length: u64) -> Info {
+    Info {
+        node: NodeId(node),
+        state,
+        stamp: Stamp(stamp),
+        length,
+    }
+}
+
+/// The choice among these replicas of a block of stamp 1001.
+fn chosen(rt: &impl Abort, infos: &[Info]) -> Result<Chosen, ChooseFault> {
+    let infos = Infos::new(infos).expect(rt, "nodes that differ");
+    choose(Stamp(1001), &infos)
+}
+
+/// A choice of this length at these nodes.
+fn choice(rt: &impl Abort, length: u64, nodes: &[NodeId]) -> Result<Chosen, ChooseFault> {
+    let members = members(rt, nodes);
+    Ok(Chosen { length, members })
+}
+
+#[test]
+fn the_shortest_being_written_is_chosen(rt: HostRuntime) {
+    let rbw = [
+        info(0, ReplicaState::Rbw, 1001, 700),
+        info(1, ReplicaState::Rbw, 1001, 1000),
+        info(2, ReplicaState::Rbw, 1001, 900),
+    ];
+    let all = [NodeId(0), NodeId(1), NodeId(2)];
+    assert_eq!(rt; chosen(&rt, &rbw), choice(&rt, 700, &all));
+}
+
+#[test]
+fn a_finalized_length_is_chosen(rt: HostRuntime) {
+    let infos = [
+        info(0, ReplicaState::Finalized, 1001, 1000),
+        info(1, ReplicaState::Rbw, 1001, 1000),
+        info(2, ReplicaState::Rbw, 1001, 900),
+    ];
+    assert_eq!(rt;
+        chosen(&rt, &infos),
+        choice(&rt, 1000, &[NodeId(0), NodeId(1)])
+    );
+}
+
+#[test]
+fn those_waiting_are_chosen_last(rt: HostRuntime) {
+    let rwr = [
+        info(0, ReplicaState::Rwr, 1001, 600),
+        info(1, ReplicaState::Rwr, 1001, 512),
+    ];
+    assert_eq!(rt;
+        chosen(&rt, &rwr),
+        choice(&rt, 512, &[NodeId(0), NodeId(1)])
+    );
+    let empty = [info(0, ReplicaState::Rbw, 1001, 0)];
+    assert_eq!(rt; chosen(&rt, &empty), Err(ChooseFault::Nothing));
+}
+
+#[test]
+fn an_old_stamp_is_no_candidate(rt: HostRuntime) {
+    let infos = [
+        info(0, ReplicaState::Rbw, 1000, 400),
+        info(1, ReplicaState::Rbw, 1001, 700),
+    ];
+    assert_eq!(rt; chosen(&rt, &infos), choice(&rt, 700, &[NodeId(1)]));
+}
+
+#[test]
+fn finalized_lengths_that_differ(rt: HostRuntime) {
+    let infos = [
+        info(0, ReplicaState::Finalized, 1002, 512),
+        info(1, ReplicaState::Finalized, 1001, 1000),
+    ];
+    let unequal = ChooseFault::Unequal { a: 512, b: 1000 };
+    assert_eq!(rt; chosen(&rt, &infos), Err(unequal));
+    assert!(rt; Infos::new(&[infos[0], infos[0]]).is_none());
+}
+
+/// An office that knows a block of node 0, under the stamp 1001.
+fn office(rt: &(impl Abort + AllocGlobal)) -> Result<Office, Fail> {
+    let mut office = Office::new(rt.alloc())?;
+    assert!(rt; office.has_stamp_left());
+    let stamp = office.create(BLOCK, &members(rt, &[NodeId(0)]))?;
+    assert_eq!(rt; stamp, Stamp(FIRST_STAMP));
+    Ok(office)
+}
+
+#[test]
+fn a_block_is_written_and_appended_to(rt: HostRuntime) -> Result<(), Fail> {
+    let mut office = office(&rt)?;
+    assert!(rt; office.has_stamp_left());
+    assert_eq!(rt; office.new_stamp(BLOCK), Ok(Stamp(1002)));
+    office.commit(BLOCK, Stamp(1002), &members(&rt, &[NodeId(1)]))?;
+    office.complete(BLOCK, Stamp(1002), 600)?;
+    assert!(rt; office.has_stamp_left());
+    let reopened = Reopened {
+        committed: Stamp(1002),
+        length: 600,
+        new: Stamp(1003),
+    };
+    assert_eq!(rt; office.append(BLOCK), Ok(reopened));
+    assert_eq!(rt; office.committed(OTHER), Stamp(0));
+    Ok(())
+}
+
+#[test]
+fn a_block_is_recovered(rt: HostRuntime) -> Result<(), Fail> {
+    let mut office = office(&rt)?;
+    assert!(rt; office.has_stamp_left());
+    let begun = Begun {
+        id: Stamp(1002),
+        committed: Stamp(1001),
+    };
+    assert_eq!(rt; office.begin_recovery(BLOCK), Ok(begun));
+    office.commit_sync(BLOCK, begun.id, 512, &members(&rt, &[NodeId(0)]))?;
+    assert_eq!(rt; office.committed(BLOCK), Stamp(1002));
+    Ok(())
+}
+
+/// A book that knows a block of node 0, under the stamp 1001.
+fn book(rt: &(impl Abort + AllocGlobal)) -> Result<OfficeBook, Fail> {
+    let mut book = OfficeBook::new(rt.alloc())?;
+    book.create(BLOCK, &members(rt, &[NodeId(0)]))?;
+    Ok(book)
+}
+
+#[test]
+fn blocks_that_are_known_or_not(rt: HostRuntime) -> Result<(), Fail> {
+    let mut book = book(&rt)?;
+    let one = members(&rt, &[NodeId(0)]);
+    assert_eq!(rt; book.create(BLOCK, &one), Err(OfficeFault::Known));
+    assert_eq!(rt; book.append(OTHER), Err(OfficeFault::Unknown));
+    assert_eq!(rt; book.new_stamp(OTHER), Err(OfficeFault::Unknown));
+    assert_eq!(rt;
+        book.commit(OTHER, Stamp(1), &one),
+        Err(OfficeFault::Unknown)
+    );
+    assert_eq!(rt;
+        book.complete(OTHER, Stamp(1), 0),
+        Err(OfficeFault::Unknown)
+    );
+    assert_eq!(rt; book.begin_recovery(OTHER), Err(OfficeFault::Unknown));
+    assert_eq!(rt;
+        book.commit_sync(OTHER, Stamp(1), 0, &one),
+        Err(OfficeFault::Unknown)
+    );
+    assert_eq!(rt; book.history().len(), 8);
+    Ok(())
+}
+
+#[test]
+fn an_open_block_refuses(rt: HostRuntime) -> Result<(), Fail> {
+    let mut book = book(&rt)?;
+    let one = members(&rt, &[NodeId(0)]);
+    let old = OfficeFault::OldStamp {
+        committed: Stamp(1001),
+    };
+    assert_eq!(rt; book.append(BLOCK), Err(OfficeFault::NotClosed));
+    assert_eq!(rt; book.commit(BLOCK, Stamp(1001), &one), Err(old));
+    assert_eq!(rt; book.complete(BLOCK, Stamp(1000), 9), Err(old));
+    let latest = OfficeFault::OldRecovery { latest: None };
+    assert_eq!(rt; book.commit_sync(BLOCK, Stamp(1002), 9, &one), Err(latest));
+    Ok(())
+}
+
+#[test]
+fn a_closed_block_refuses(rt: HostRuntime) -> Result<(), Fail> {
+    let mut book = book(&rt)?;
+    let one = members(&rt, &[NodeId(0)]);
+    let length = MAX_APPEND_LENGTH + 1;
+    book.complete(BLOCK, Stamp(1001), length)?;
+    assert_eq!(rt; book.append(BLOCK), Err(OfficeFault::TooLong { length }));
+    assert_eq!(rt; book.new_stamp(BLOCK), Err(OfficeFault::NotOpen));
+    assert_eq!(rt;
+        book.commit(BLOCK, Stamp(1002), &one),
+        Err(OfficeFault::NotOpen)
+    );
+    assert_eq!(rt;
+        book.complete(BLOCK, Stamp(1001), 9),
+        Err(OfficeFault::NotOpen)
+    );
+    assert_eq!(rt; book.begin_recovery(BLOCK), Err(OfficeFault::NotOpen));
+    assert_eq!(rt;
+        book.commit_sync(BLOCK, Stamp(1002), 9, &one),
+        Err(OfficeFault::NotOpen)
+    );
+    Ok(())
+}
+
+#[test]
+fn a_lost_lease_refuses(rt: HostRuntime) -> Result<(), Fail> {
+    let mut book = book(&rt)?;
+    let one = members(&rt, &[NodeId(0)]);
+    let recovery = book.begin_recovery(BLOCK)?.id;
+    let lost = OfficeFault::LeaseLost { recovery };
+    assert_eq!(rt; book.new_stamp(BLOCK), Err(lost));
+    assert_eq!(rt; book.commit(BLOCK, Stamp(1002), &one), Err(lost));
+    assert_eq!(rt; book.complete(BLOCK, Stamp(1001), 9), Err(lost));
+    book.commit_sync(BLOCK, recovery, 9, &one)?;
+    assert_eq!(rt;
+        book.complete(BLOCK, Stamp(1001), 9),
+        Err(lost),
+        "also once it is closed"
+    );
+    assert_eq!(rt; book.committed(BLOCK), recovery);
+    Ok(())
+}
+
+/// One call at a desk.
+fn asked<D: Desk>(mut desk: D, call: &OfficeCall) -> Result<OfficeAnswer, OfficeFault> {
+    desk.ask(call)
+}
+
+#[test]
+fn desks_ask_the_book(rt: HostRuntime) -> Result<(), Fail> {
+    let call = OfficeCall::NewStamp { block: BLOCK };
+    let answer = OfficeAnswer::Stamp(Stamp(1002));
+    assert!(rt; answer.fits(&call));
+    assert!(rt; !OfficeAnswer::Nothing.fits(&call));
+    assert_eq!(rt; asked(book(&rt)?, &call), Ok(answer));
+    Ok(())
+}
+
+/// The next stamp of the block, asked for at this desk.
+fn next_stamp<D: Desk>(desk: D) -> Option<OfficeAnswer> {
+    asked(desk, &OfficeCall::NewStamp { block: BLOCK }).ok()
+}
+
+#[test]
+fn threads_share_a_book(rt: HostRuntime) -> Result<(), Fail> {
+    let shared = Arc::new(rt.alloc(), Mutex::new(book(&rt)?))?;
+    let mine = SharedDesk::new(rt, Arc::try_clone(&shared)?);
+    let theirs = SharedDesk::new(rt, shared);
+    let (one, two) = thread::join(&rt, move || next_stamp(mine), move || next_stamp(theirs));
+    let (low, high) = (
+        OfficeAnswer::Stamp(Stamp(1002)),
+        OfficeAnswer::Stamp(Stamp(1003)),
+    );
+    assert!(rt; (one == Some(low) && two == Some(high)) || (one == Some(high) && two == Some(low)));
+    Ok(())
+}
+
+#[test]
+fn faults_are_printed(rt: HostRuntime) -> Result<(), Fail> {
+    let cases = [
+        (OfficeFault::Known, "the block is known"),
+        (OfficeFault::Unknown, "the block isn't known"),
+        (OfficeFault::NotOpen, "the block is closed"),
+        (OfficeFault::NotClosed, "the block is open"),
+        (
+            OfficeFault::LeaseLost {
+                recovery: Stamp(1002),
+            },
+            "the lease is lost to the recovery 1002",
+        ),
+        (
+            OfficeFault::OldRecovery { latest: None },
+            "the latest recovery is none",
+        ),
+        (
+            OfficeFault::OldRecovery {
+                latest: Some(Stamp(1002)),
+            },
+            "the latest recovery is 1002",
+        ),
+        (
+            OfficeFault::TooLong { length: 9 },
+            "the length 9 is too long for an append",
+        ),
+    ];
+    for (fault, text) in cases {
+        assert_eq!(rt; format!(in rt.alloc(); "{fault}")?.as_str(), text);
+    }
+    Ok(())
+}
