@@ -1,0 +1,7 @@
+pub mod Faults
+pub mod Framings
+pub mod Kinds
+pub mod Feeds
+pub mod Buffers
+pub mod Parts
+pub mod KindLaws

@@ -1,0 +1,14 @@
+//! Messages from a stream of bytes, however it is cut into pieces.
+#![tactic(auto)]
+
+mod buffer;
+mod faults;
+mod feed;
+mod framing;
+mod kinds;
+mod notes;
+mod packet_parts;
+
+pub use faults::FeedFault;
+pub use feed::Feed;
+pub use notes::{Message, Note, NoteList, Notes, SentList, Took};
