@@ -12,7 +12,8 @@ use Rattle.frame_feed.specs.declared.framing.Framing.{Framing}
 use Rattle.frame_feed.specs.Framings.{IsCut, missing}
 use Rattle.frame_feed.specs.Faults.{IsOfStream, IsAnswer}
 use Rattle.frame_feed.specs.Kinds.{Kind, IsSound}
-use Rattle.frame_feed.specs.Feeds.{FeedState, holding, waiting, refusing, Answers, TakesOne, TakesNext, AnswersAsRead, answer_of, state_after}
+use Rattle.frame_feed.proofs.FramingLemmas.{cut_bounded, cut_wants, missing_within, size_told}
+use Rattle.frame_feed.specs.Feeds.{FeedState, holding, waiting, refusing, Answers, TakesOne, TakesNext, Wants, AnswersAsRead, answer_of, state_after}
 
 -- ---- answers that differ
 
@@ -40,6 +41,17 @@ fault_of {M = M} r e f a b = err_value e f (sym a ∙ b)
 going : (old : FeedState) (e : FeedFault) → old.refused ≡ None → old.refused ≡ Some e → ⊥
 going old e a b = let h : ◌≡◌ {A = Option FeedFault} None (Some e) = sym a ∙ b in cc
 
+-- ---- what is wanted
+
+-- While the message at the front is cut off, more is wanted, and no more than it has.
+waits_for : {M : Type 0} (kind : Kind M) (rest : List ℕ) → IsSound kind → IsCut kind.framing rest → Wants kind (waiting kind.framing rest)
+waits_for kind rest sound cut = record {
+  some = cut_wants kind.framing rest cut;
+  within = λ m text more s parts. missing_within kind.framing rest text more (sound.sized m text s) parts cut;
+  whole = λ size m text more shows s parts. size_told kind.framing rest text more size (sound.sized m text s) parts shows;
+  bounded = cut_bounded kind.framing rest cut;
+}
+
 -- ---- memory ran out
 
 takes_memory : {M : Type 0} (kind : Kind M) (old : FeedState) (r : Result (Option M) FeedFault) (new : FeedState) → old.refused ≡ None → r ≡ Err feed.Memory → new ≡ old → TakesNext kind old r new
@@ -47,10 +59,12 @@ takes_memory kind old r new on is same = record {
   found = λ m e. absurd (ok_fault r (Some m) feed.Memory e is);
   only = λ _ m text rest s parts. inl (is, same);
   none = λ e. absurd (ok_fault r None feed.Memory e is);
+  wants = λ e. absurd (ok_fault r None feed.Memory e is);
   short = λ _ s. inl (is, same);
   fails = λ e h. inl (fault_of r e feed.Memory h is);
   refuses = λ e _ s. inl (is, same);
   again = λ e h. absurd (going old e on h);
+  stays = λ _. ap FeedState.rest same;
   memory = λ _. same;
 }
 
@@ -61,10 +75,12 @@ takes_message {M = M} kind old r new m k sound fits on read is left = record {
   found = λ n e. taken n (same_message r m n is e);
   only = λ _ n text rest s parts. whole n text rest s parts;
   none = λ e. absurd (none_some r m e is);
+  wants = λ e. absurd (none_some r m e is);
   short = λ _ s. absurd (value_why (kind.reads old.rest) (m, k) Short read (sound.stopped Short old.rest fits s));
   fails = λ e h. absurd (ok_fault r (Some m) e is h);
   refuses = λ e _ s. absurd (value_why (kind.reads old.rest) (m, k) (Refused e) read (sound.stopped (Refused e) old.rest fits s));
   again = λ e h. absurd (going old e on h);
+  stays = λ never. absurd (never m is);
   memory = λ e. absurd (ok_fault r (Some m) feed.Memory is e);
 }
   where
@@ -96,10 +112,12 @@ takes_none kind old r new sound fits on short is left =
       found = λ m e. absurd (none_some r m is e);
       only = λ _ m text rest s parts. absurd (value_why (kind.reads old.rest) (m, length text) Short (ap kind.reads parts ∙ sound.only m text rest s) read);
       none = λ _. short;
+      wants = λ _. subst (Wants kind) (sym left) (waits_for kind old.rest sound (sound.is_cut old.rest short));
       short = λ _ _. inr (is, left);
       fails = λ e h. absurd (ok_fault r None e is h);
       refuses = λ e _ s. absurd (short_refused (kind.reads old.rest) e read (sound.stopped (Refused e) old.rest fits s));
       again = λ e h. absurd (going old e on h);
+      stays = λ _. ap FeedState.rest left;
       memory = λ e. absurd (ok_fault r None feed.Memory is e);
     }
 
@@ -112,12 +130,14 @@ takes_fault kind old r new f sound fits on read is left =
       found = λ m e. absurd (ok_fault r (Some m) f e is);
       only = λ _ m text rest s parts. absurd (value_why (kind.reads old.rest) (m, length text) (Refused f) (ap kind.reads parts ∙ sound.only m text rest s) read);
       none = λ e. absurd (ok_fault r None f e is);
+      wants = λ e. absurd (ok_fault r None f e is);
       short = λ _ s. absurd (short_refused (kind.reads old.rest) f (sound.stopped Short old.rest fits s) read);
       fails = λ e h. inr (inr (subst (λ (x : FeedFault). kind.stops (Refused x) old.rest) (fault_of r f e is h) stands));
       refuses = λ e _ s.
           let same = same_fault (kind.reads old.rest) f e read (sound.stopped (Refused e) old.rest fits s) in
           inr (is ∙ ap Err same, left ∙ ap (λ x. refusing x old.rest) same);
       again = λ e h. absurd (going old e on h);
+      stays = λ _. ap FeedState.rest left;
       memory = λ e. absurd (subst IsOfStream (fault_of r f feed.Memory is e) (sound.of_stream f old.rest stands));
     }
 
@@ -139,10 +159,12 @@ takes_again kind old r new f stays is same = record {
   found = λ m e. absurd (ok_fault r (Some m) f e is);
   only = λ on m text rest s parts. absurd (going old f on stays);
   none = λ e. absurd (ok_fault r None f e is);
+  wants = λ e. absurd (ok_fault r None f e is);
   short = λ on s. absurd (going old f on stays);
   fails = λ e h. inr (inl (stays ∙ ap Some (fault_of r f e is h)));
   refuses = λ e on s. absurd (going old f on stays);
   again = λ e h. (is ∙ ap Err (some_value f e (sym stays ∙ h)), same);
+  stays = λ _. ap FeedState.rest same;
   memory = λ _. same;
 }
   where

@@ -3,11 +3,12 @@ use Rattle.std.proofs.Common.{◌≡◌, ℕ, zero, suc, ◌+◌, ◌-◌, ◌*�
 use Rattle.std.proofs.lemmas.Bool.{cases_lt, ltb-false, ltb-true, lt-ltb, le-ltb}
 use Rattle.std.proofs.lemmas.List.{take_all, take_at, take-append-le, drop-append-le, length-replicate, length-drop}
 use Rattle.std.proofs.Math.Seq.{drop-append_seam}
-use Rattle.hd_base.proofs.ResultLaws.{bind_ok, bind-Ok, ok_pair, ok_value, chosen}
-use Rattle.proto_fields.specs.Varint.{SpellsVarint, BeginsWithVarint, varint_at, varint_within}
+use Rattle.hd_base.proofs.ResultLaws.{bind_ok, bind-Ok, ok_pair, err_ok, chosen}
+use Rattle.proto_fields.specs.Varint.{SpellsVarint, BeginsWithVarint, IsUnended, IsLongVarint, varint_at, varint_within}
 use Rattle.proto_fields.specs.declared.varints.VarintFault.{VarintFault}
+use Rattle.proto_fields.specs.declared.varints.VarintFault.TheVariants.{Short, Long}
 use Rattle.proto_fields.specs.Frames.{limit, IsCutFrame, IsWholeFrame}
-use Rattle.proto_fields.proofs.VarintLemmas.{read_varint_again, read_varint_begins, varint_at-rest}
+use Rattle.proto_fields.proofs.VarintLemmas.{read_varint_again, read_varint_begins, read_varint_cut_is, read_varint_long, read_varint_long_is, varint_at-rest}
 use Rattle.packet_codec.specs.Frames.{payload_of, header_len_of, frame_len, length_at}
 use Rattle.packet_codec.specs.Refusals.{AreLawful, IsCutFrame as IsCutPacket}
 use Rattle.op_headers.specs.Requests.{IsCutRequest}
@@ -18,7 +19,7 @@ use Rattle.frame_feed.specs.Feeds.{IsKnown}
 use Rattle.std.specs.Int.{w16, w32, from_be_bytes}
 use Rattle.frame_feed.specs.declared.framing.Framing.{Framing}
 use Rattle.frame_feed.specs.declared.framing.Framing.TheVariants as framing
-use Rattle.frame_feed.specs.Framings.{IsCut, size_at, prefixed_size, packet_size, request_size, behind_varint}
+use Rattle.frame_feed.specs.Framings.{IsCut, size_at, missing, missing_of, prefixed_size, packet_size, request_size, behind_varint}
 
 -- ---- lists
 
@@ -326,3 +327,100 @@ packet_length-size bytes c =
           let lawful : AreLawful (payload_of bytes) (header_len_of bytes) = c.lawful six in
           rw (le-ltb (length bytes) 6 six, le-ltb (payload_of bytes) 4 lawful.low, le-ltb 16777216 (payload_of bytes + header_len_of bytes) lawful.high) refl
     ]
+
+-- ---- what is wanted
+
+-- a length of more than ten bytes begins no frame
+never_long : (bytes : List ℕ) → IsCutFrame bytes → varint_at bytes ≡ Err Long → ⊥
+never_long bytes c e =
+    let long = read_varint_long_is bytes e in
+    let same : take 10 (bytes ++ c.missing) ≡ take 10 bytes = take-append-le 10 bytes c.missing long.many in
+    let far : IsLongVarint (bytes ++ c.missing) = record { open_end = subst IsUnended (sym same) long.open_end; many = omega (arith, long.many, length-append bytes c.missing) } in
+    let whole : varint_at (bytes ++ c.missing) ≡ Ok (length c.whole.message, c.whole.message) = ap varint_at c.whole.parts ∙ read_varint_again c.whole.prefix (length c.whole.message) c.whole.message c.whole.spelled in
+    err_ok Long (length c.whole.message, c.whole.message) (sym (read_varint_long (bytes ++ c.missing) far) ∙ whole)
+
+prefixed_bounded : (bytes : List ℕ) → IsCutFrame bytes → length bytes + missing framing.Prefixed bytes ≤ 65546
+prefixed_bounded bytes c = by_varint (varint_at bytes) refl where
+  by_varint : (r : Result (ℕ × List ℕ) VarintFault) → varint_at bytes ≡ r → length bytes + missing framing.Prefixed bytes ≤ 65546
+  by_varint (Ok x) e =
+      let h = has_length bytes x.0 x.1 c e in
+      let short = h.begins.spelled.short in
+      let parts = h.begins.parts in
+      let size : missing_of (behind_varint (length bytes) (varint_at bytes)) (length bytes) ≡ length bytes - length x.1 + x.0 - length bytes = ap (λ r. missing_of (behind_varint (length bytes) r) (length bytes)) e in
+      omega (arith, size, short, h.lawful, h.cut, ap length parts, length-append h.begins.text x.1)
+  by_varint (Err Short) e =
+      let cut = read_varint_cut_is bytes e in
+      let one : missing_of (behind_varint (length bytes) (varint_at bytes)) (length bytes) ≡ 1 = ap (λ r. missing_of (behind_varint (length bytes) r) (length bytes)) e in
+      omega (arith, one, cut.few)
+  by_varint (Err Long) e = absurd (never_long bytes c e)
+
+packet_bounded : (bytes : List ℕ) → IsCutPacket bytes → length bytes + missing framing.Packet bytes ≤ 16777218
+packet_bounded bytes c =
+    elim (cases_lt (length bytes) 6) [
+      | inl few ↦
+          let one : missing framing.Packet bytes ≡ 1 = ap (λ b. missing_of (cond b None (Some (frame_len (payload_of bytes) (header_len_of bytes)))) (length bytes)) (lt-ltb (length bytes) 6 few) in
+          omega (arith, one, few)
+      | inr six ↦
+          let told = packet_size-told bytes six in
+          let size : missing framing.Packet bytes ≡ frame_len (payload_of bytes) (header_len_of bytes) - length bytes = ap (λ o. missing_of o (length bytes)) told in
+          let less = packet_less bytes (frame_len (payload_of bytes) (header_len_of bytes)) c told in
+          let lawful : AreLawful (payload_of bytes) (header_len_of bytes) = c.lawful six in
+          omega (arith, size, less, lawful.low, lawful.high)
+    ]
+
+-- one more step in front of a size
+missing_behind : (o : Option ℕ) (n there : ℕ) → missing_of (option_map (λ k. n + k) o) (n + there) ≡ missing_of o there
+missing_behind None n there = refl
+missing_behind (Some k) n there = omega arith
+
+request_bounded : (bytes : List ℕ) → IsCutRequest bytes → length bytes + missing framing.Request bytes ≤ 65549
+request_bounded bytes c =
+    elim (cases_lt (length bytes) 3) [
+      | inl few ↦
+          let one : missing framing.Request bytes ≡ 1 = ap (λ b. missing_of (cond b None (option_map (λ k. 3 + k) (prefixed_size (drop 3 bytes)))) (length bytes)) (lt-ltb (length bytes) 3 few) in
+          omega (arith, one, few)
+      | inr three ↦
+          let behind : length bytes ≡ 3 + length (drop 3 bytes) = omega (arith, three, length-drop 3 bytes) in
+          let told : missing framing.Request bytes ≡ missing_of (option_map (λ k. 3 + k) (prefixed_size (drop 3 bytes))) (length bytes) = ap (λ b. missing_of (cond b None (option_map (λ k. 3 + k) (prefixed_size (drop 3 bytes)))) (length bytes)) (le-ltb (length bytes) 3 three) in
+          let same : missing_of (option_map (λ k. 3 + k) (prefixed_size (drop 3 bytes))) (length bytes) ≡ missing framing.Prefixed (drop 3 bytes) = ap (missing_of (option_map (λ k. 3 + k) (prefixed_size (drop 3 bytes)))) behind ∙ missing_behind (prefixed_size (drop 3 bytes)) 3 (length (drop 3 bytes)) in
+          let few = prefixed_bounded (drop 3 bytes) (request_frame bytes c three) in
+          omega (arith, told, same, few, behind)
+    ]
+
+-- the bytes there and those that are wanted are within the longest message
+pub cut_bounded : (f : Framing) (bytes : List ℕ) → IsCut f bytes → length bytes + missing f bytes ≤ 16777218
+cut_bounded framing.Packet bytes c = packet_bounded bytes c
+cut_bounded framing.Request bytes c = let h = request_bounded bytes c in omega arith
+cut_bounded framing.Prefixed bytes c = let h = prefixed_bounded bytes c in omega arith
+
+-- Some bytes are missing of what is cut off.
+pub cut_wants : (f : Framing) (bytes : List ℕ) → IsCut f bytes → 0 < missing f bytes
+cut_wants f bytes c = by_size (size_at f bytes) refl where
+  by_size : (o : Option ℕ) → size_at f bytes ≡ o → 0 < missing f bytes
+  by_size None e = let one : missing f bytes ≡ 1 = ap (λ o. missing_of o (length bytes)) e in omega arith
+  by_size (Some n) e =
+      let less = cut_less f bytes n c e in
+      let size : missing f bytes ≡ n - length bytes = ap (λ o. missing_of o (length bytes)) e in
+      omega arith
+
+some_value : (a b : ℕ) → ◌≡◌ {A = Option ℕ} (Some a) (Some b) → a ≡ b
+some_value a b e = cc
+
+-- A size that shows is the message's.
+pub size_told : (f : Framing) (bytes text more : List ℕ) (n : ℕ) → size_at f text ≡ Some (length text) → bytes ++ more ≡ text → size_at f bytes ≡ Some n → missing f bytes ≡ length more
+size_told f bytes text more n whole parts e =
+    let later : size_at f text ≡ Some n = subst (λ (l : List ℕ). size_at f l ≡ Some n) parts (size_grows f bytes more n e) in
+    let same : n ≡ length text = some_value n (length text) (sym later ∙ whole) in
+    let size : missing f bytes ≡ n - length bytes = ap (λ o. missing_of o (length bytes)) e in
+    omega (arith, same, size, ap length parts, length-append bytes more)
+
+-- No more is missing than what the message has behind the bytes.
+pub missing_within : (f : Framing) (bytes text more : List ℕ) → size_at f text ≡ Some (length text) → bytes ++ more ≡ text → IsCut f bytes → missing f bytes ≤ length more
+missing_within f bytes text more whole parts c = by_size (size_at f bytes) refl where
+  more_left : (more : List ℕ) → bytes ++ more ≡ text → size_at f bytes ≡ None → 0 < length more
+  more_left [] parts e = let here : bytes ≡ text = sym (append-nil bytes) ∙ parts in let no : ◌≡◌ {A = Option ℕ} None (Some (length text)) = sym e ∙ (ap (size_at f) here ∙ whole) in cc
+  more_left (x ∷ xs) parts e = omega arith
+
+  by_size : (o : Option ℕ) → size_at f bytes ≡ o → missing f bytes ≤ length more
+  by_size (Some n) e = let h = size_told f bytes text more n whole parts e in omega arith
+  by_size None e = let one : missing f bytes ≡ 1 = ap (λ o. missing_of o (length bytes)) e in let some = more_left more parts e in omega arith

@@ -1,5 +1,5 @@
 -- What a feed holds, and what its calls answer and leave.
-use Rattle.std.specs.Prelude.{◌≡◌, ◌<◌, ◌⊎◌, ℕ, List, [], ◌++◌, length, drop, Option, Some, None, Result, Ok, Err}
+use Rattle.std.specs.Prelude.{◌≡◌, ◌+◌, ◌<◌, ◌≤◌, ◌⊎◌, ℕ, List, [], ◌++◌, length, drop, Option, Some, None, Result, Ok, Err}
 use Rattle.frame_feed.specs.declared.faults.FeedFault.{FeedFault}
 use Rattle.frame_feed.specs.declared.faults.FeedFault.TheVariants as feed
 use Rattle.frame_feed.specs.declared.faults.NoMessage.{NoMessage}
@@ -42,6 +42,13 @@ pub record TakesOne {M : Type 0} (kind : Kind M) (m : M) (old new : FeedState) :
   pub front : old.rest ≡ text ++ new.rest
   pub left : new ≡ holding new.rest
 
+-- At least one byte is wanted, and never more than the message at the front lacks; where its size shows, all that it lacks. The bytes there and those that are wanted are never more than the longest message has.
+pub record Wants {M : Type 0} (kind : Kind M) (s : FeedState) : Type 0 where
+  pub some : 0 < s.wanted
+  pub within : (m : M) (text more : List ℕ) → kind.spells m text → s.rest ++ more ≡ text → s.wanted ≤ length more
+  pub whole : (size : ℕ) (m : M) (text more : List ℕ) → size_at kind.framing s.rest ≡ Some size → kind.spells m text → s.rest ++ more ≡ text → s.wanted ≡ length more
+  pub bounded : length s.rest + s.wanted ≤ 16777218
+
 -- What a call answers that asks for the next message of a kind, and what it leaves.
 pub record TakesNext {M : Type 0} (kind : Kind M) (old : FeedState) (r : Result (Option M) FeedFault) (new : FeedState) : Type 0 where
   -- What is taken is spelled at the front, and what is spelled there is taken, whatever follows.
@@ -50,10 +57,13 @@ pub record TakesNext {M : Type 0} (kind : Kind M) (old : FeedState) (r : Result 
   -- None comes exactly where the message is cut off.
   pub none : r ≡ Ok None → kind.stops Short old.rest
   pub short : old.refused ≡ None → kind.stops Short old.rest → Answers old r new (Ok None) (waiting kind.framing old.rest)
+  pub wants : r ≡ Ok None → Wants kind new
   -- A fault comes exactly where it stands at the front, and from then on it is answered for good.
   pub fails : (e : FeedFault) → r ≡ Err e → (e ≡ feed.Memory) ⊎ ((old.refused ≡ Some e) ⊎ kind.stops (Refused e) old.rest)
   pub refuses : (e : FeedFault) → old.refused ≡ None → kind.stops (Refused e) old.rest → Answers old r new (Err e) (refusing e old.rest)
   pub again : (e : FeedFault) → old.refused ≡ Some e → (r ≡ Err e) × (new ≡ old)
+  -- Where nothing is taken, the bytes stay.
+  pub stays : ((m : M) → r ≡ Ok (Some m) → ⊥) → new.rest ≡ old.rest
   -- Want of memory changes nothing.
   pub memory : r ≡ Err feed.Memory → new ≡ old
 

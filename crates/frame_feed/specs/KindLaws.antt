@@ -1,5 +1,5 @@
 -- Each kind is sound, by what its decoder promises.
-use Rattle.std.proofs.Common.{◌≡◌, ◌≢◌, ℕ, ◌+◌, ◌*◌, ◌≤◌, ◌==◌, List, [], ◌∷◌, Option, Some, None, ◌++◌, length, take, Result, Ok, Err, ◌⊎◌, inl, inr, refl, sym, ap, ◌∙◌, subst}
+use Rattle.std.proofs.Common.{◌≡◌, ◌≢◌, ℕ, ◌+◌, ◌*◌, ◌≤◌, ◌==◌, List, [], ◌∷◌, Option, Some, None, ◌++◌, length, take, drop, option_map, append-nil, length-append, arith, Result, Ok, Err, ◌⊎◌, inl, inr, refl, sym, ap, ◌∙◌, subst}
 use Rattle.std.specs.Prelude.{IfOk, IfErr}
 use Rattle.hd_base.specs.Results.{with_cause, Gives, FailsFor}
 use Rattle.hd_base.specs.Bytes.{IsBytes}
@@ -7,8 +7,14 @@ use Rattle.hd_base.proofs.ResultLaws.{bind_err, with_cause_ok, with_cause_err, w
 use Rattle.proto_fields.specs.declared.frames.FrameFault.{FrameFault}
 use Rattle.proto_fields.specs.declared.frames.FrameFault.TheVariants as frame
 use Rattle.proto_fields.specs.Frames.{frame_at}
-use Rattle.proto_fields.specs.Framed.{framed_at}
-use Rattle.packet_codec.proofs.PacketLemmas.{packet_again}
+use Rattle.proto_fields.specs.Framed.{FramesSome, framed_at}
+use Rattle.packet_codec.proofs.PacketLemmas.{packet_again, read_steps}
+use Rattle.packet_codec.proofs.FrameLemmas.{frame_passes}
+use Rattle.packet_codec.specs.Frames.{Frame}
+use Rattle.proto_fields.specs.Varint.{varint_at}
+use Rattle.proto_fields.proofs.VarintLemmas.{read_varint_again}
+use Rattle.std.proofs.lemmas.Bool.{le-ltb}
+use Rattle.frame_feed.specs.Framings.{behind_varint, prefixed_size, packet_size, request_size}
 use Rattle.hd_base.specs.declared.states.Status.{Status}
 use Rattle.packet_codec.specs.declared.packets.Packet.{Packet}
 use Rattle.packet_codec.specs.declared.faults.PacketFault.{PacketFault}
@@ -22,9 +28,9 @@ use Rattle.ack_codec.specs.declared.faults.AckFault.{AckFault}
 use Rattle.ack_codec.specs.declared.faults.AckFault.TheVariants as ack
 use Rattle.ack_codec.specs.declared.faults.ResponseFault.{ResponseFault}
 use Rattle.ack_codec.specs.declared.faults.ResponseFault.TheVariants as response
-use Rattle.ack_codec.specs.Acks.{SpellsAck, SpellsReadStatus, ack_at, read_status_at}
+use Rattle.ack_codec.specs.Acks.{SaysAck, SaysReadStatus, SpellsAck, SpellsReadStatus, ack_at, read_status_at}
 use Rattle.ack_codec.specs.AckRefusals.{IsRefusedAck, IsRefusedReadStatus}
-use Rattle.ack_codec.specs.Responses.{SpellsResponse, response_at, response_of, response_frame_cause, found_response_at, decoded_response, decoded_parts, response_with}
+use Rattle.ack_codec.specs.Responses.{SaysResponse, SpellsResponse, response_at, response_of, response_frame_cause, found_response_at, decoded_response, decoded_parts, response_with}
 use Rattle.ack_codec.specs.ResponseRefusals.{IsRefusedResponse}
 use Rattle.ack_codec.proofs.DecodingLemmas as ack_laws
 use Rattle.ack_codec.proofs.ResponseDecodingLemmas as response_laws
@@ -162,6 +168,25 @@ op_never bytes e =
 packet_never : (bytes : List ℕ) → IsBytes bytes → packet_at bytes ≡ Err packet.Memory → ⊥
 packet_never bytes fits e = packet_laws.packet_refused bytes packet.Memory fits e
 
+-- ---- a message's own size
+
+prefixed_sized : (P : List ℕ → Type 0) (text : List ℕ) → FramesSome P text → prefixed_size text ≡ Some (length text)
+prefixed_sized P text f =
+    let read : varint_at text ≡ Ok (length f.message, f.message) = ap varint_at f.parts ∙ read_varint_again f.prefix (length f.message) f.message f.spelled in
+    ap (behind_varint (length text)) read ∙ ap Some (omega (arith, ap length f.parts, length-append f.prefix f.message))
+
+request_sized : (request : Op) (text : List ℕ) → SpellsOp request text → request_size text ≡ Some (length text)
+request_sized request text s =
+    let size : length text ≡ 3 + length s.rest = omega (arith, ap length s.parts) in
+    let told : prefixed_size (drop 3 text) ≡ Some (length s.rest) = ap prefixed_size (ap (drop 3) s.parts) ∙ prefixed_sized _ s.rest s.holds in
+    rw (le-ltb (length text) 3 (omega arith)) (ap (option_map (λ k. 3 + k)) told ∙ ap Some (sym size))
+
+packet_sized : (m : Packet) (text : List ℕ) → SpellsPacket m text → packet_size text ≡ Some (length text)
+packet_sized m text s =
+    let read = read_steps text m (length text) (ap packet_at (sym (append-nil text)) ∙ packet_again m text [] s) in
+    let passes = frame_passes text read.frame read.framed in
+    rw (le-ltb (length text) 6 passes.0.six) (ap Some (ap Frame.size passes.1 ∙ read.size))
+
 -- ---- requests
 
 op_short : (fault : OpFault) → no_op fault ≡ Short → fault ≡ op.Short
@@ -201,6 +226,7 @@ requests_sound = record {
   is_cut = λ bytes s. subst (λ (e : OpFault). IsRefusedOp e bytes) (op_short s.0 s.1) s.2;
   cut = λ bytes c. (op.Short, refl, c);
   no_memory = λ bytes s. subst (λ (e : OpFault). IsRefusedOp e bytes) (op_memory s.0 s.1) s.2;
+  sized = λ m text s. request_sized m text s;
   of_stream = λ e bytes s. op_refused s.0 e s.1;
 }
   where
@@ -244,6 +270,7 @@ packets_sound = record {
   is_cut = λ bytes s. subst (λ (e : PacketFault). IsRefused e bytes) (packet_short s.0 s.1) s.2;
   cut = λ bytes c. (packet.Short, refl, c);
   no_memory = λ bytes s. subst (λ (e : PacketFault). IsRefused e bytes) (packet_memory s.0 s.1) s.2;
+  sized = λ m text s. packet_sized m text s;
   of_stream = λ e bytes s. packet_refused s.0 e s.1;
 }
   where
@@ -283,6 +310,7 @@ responses_sound = record {
   is_cut = λ bytes s. subst (λ (e : ResponseFault). IsRefusedResponse e bytes) (response_short s.0 s.1) s.2;
   cut = λ bytes c. (response.Short, refl, c);
   no_memory = λ bytes s. subst (λ (e : ResponseFault). IsRefusedResponse e bytes) (response_memory s.0 s.1) s.2;
+  sized = λ m text s. prefixed_sized (SaysResponse m) text s;
   of_stream = λ e bytes s. response_refused s.0 e s.1;
 }
   where
@@ -326,6 +354,7 @@ answers_sound = record {
   is_cut = λ bytes s. subst (λ (e : AnswerFault). IsRefusedAnswer e bytes) (answer_short s.0 s.1) s.2;
   cut = λ bytes c. (answer.Short, refl, c);
   no_memory = λ bytes s. subst (λ (e : AnswerFault). IsRefusedAnswer e bytes) (answer_memory s.0 s.1) s.2;
+  sized = λ m text s. prefixed_sized (λ message. answer_format.says message (Ok m)) text s;
   of_stream = λ e bytes s. answer_refused s.0 e s.1;
 }
   where
@@ -369,6 +398,7 @@ acks_sound = record {
   is_cut = λ bytes s. subst (λ (e : AckFault). IsRefusedAck e bytes) (ack_short s.0 s.1) s.2;
   cut = λ bytes c. (ack.Short, refl, c);
   no_memory = λ bytes s. ack_memory s.0 s.1;
+  sized = λ m text s. prefixed_sized (SaysAck m) text s;
   of_stream = λ e bytes s. ack_refused s.0 e s.1;
 }
   where
@@ -385,6 +415,7 @@ read_statuses_sound = record {
   is_cut = λ bytes s. subst (λ (e : AckFault). IsRefusedReadStatus e bytes) (ack_short s.0 s.1) s.2;
   cut = λ bytes c. (ack.Short, refl, c);
   no_memory = λ bytes s. ack_memory s.0 s.1;
+  sized = λ m text s. prefixed_sized (SaysReadStatus m) text s;
   of_stream = λ e bytes s. ack_refused s.0 e s.1;
 }
   where

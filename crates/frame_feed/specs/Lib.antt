@@ -5,3 +5,4 @@ pub mod Feeds
 pub mod Buffers
 pub mod Parts
 pub mod KindLaws
+pub mod Streams

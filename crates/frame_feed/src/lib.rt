@@ -6,9 +6,13 @@ mod faults;
 mod feed;
 mod framing;
 mod kinds;
+mod laws;
 mod notes;
 mod packet_parts;
+#[cfg(test)]
+mod tests;
 
 pub use faults::FeedFault;
 pub use feed::Feed;
+pub use laws::pieces_do_not_matter;
 pub use notes::{Message, Note, NoteList, Notes, SentList, Took};
