@@ -91,6 +91,7 @@ takes_message {M = M} kind old r new m k sound fits on read is left = record {
     taken n same = record {
       text = take k old.rest;
       spelled = subst (λ (x : M). kind.spells x (take k old.rest)) same (sound.found m k old.rest fits read);
+      listed = subst kind.listed same (sound.listed m k old.rest fits read);
       front = sym (take-append-drop k old.rest) ∙ ap (λ l. take k old.rest ++ l) (sym behind);
       left = left ∙ ap holding (sym behind);
     }

@@ -39,6 +39,7 @@ Answers old r new answer left = ((r ≡ Err feed.Memory) × (new ≡ old)) ⊎ (
 pub record TakesOne {M : Type 0} (kind : Kind M) (m : M) (old new : FeedState) : Type 0 where
   pub text : List ℕ
   pub spelled : kind.spells m text
+  pub listed : kind.listed m
   pub front : old.rest ≡ text ++ new.rest
   pub left : new ≡ holding new.rest
 

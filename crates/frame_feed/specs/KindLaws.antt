@@ -220,6 +220,7 @@ pub requests_sound : IsSound requests
 requests_sound = record {
   found = λ m k bytes fits e. request_laws.request_found bytes (Ok (m, k)) fits (sym (with_cause_ok no_op (request_at bytes) (m, k) e));
   within = λ m k bytes fits e. request_laws.request_within bytes (Ok (m, k)) fits (sym (with_cause_ok no_op (request_at bytes) (m, k) e));
+  listed = λ m k bytes fits e. tt;
   only = λ m text rest s. ap (with_cause no_op) (exactly op.Memory (request_at (text ++ rest)) (Ok (m, length text)) (op_never (text ++ rest)) (request_laws.request_only (text ++ rest) (request_at (text ++ rest)) m text rest (gives_itself op.Memory (request_at (text ++ rest))) s refl));
   fails = λ why bytes fits e. requests_fails why bytes fits (with_cause_err no_op (request_at bytes) why e);
   stopped = λ why bytes fits s. ap (with_cause no_op) (request_laws.request_refuses bytes s.0 fits s.2) ∙ ap Err s.1;
@@ -264,6 +265,7 @@ pub packets_sound : IsSound packets
 packets_sound = record {
   found = λ m k bytes fits e. packet_laws.read_found bytes (Ok (m, k)) fits (sym (with_cause_ok no_packet (packet_at bytes) (m, k) e));
   within = λ m k bytes fits e. packet_laws.read_within bytes (Ok (m, k)) fits (sym (with_cause_ok no_packet (packet_at bytes) (m, k) e));
+  listed = λ m k bytes fits e. tt;
   only = λ m text rest s. ap (with_cause no_packet) (packet_again m text rest s);
   fails = λ why bytes fits e. packets_fails why bytes fits (with_cause_err no_packet (packet_at bytes) why e);
   stopped = λ why bytes fits s. ap (with_cause no_packet) (packet_laws.refused_packet bytes s.0 s.2) ∙ ap Err s.1;
@@ -304,6 +306,7 @@ pub responses_sound : IsSound responses
 responses_sound = record {
   found = λ m k bytes fits e. response_laws.read_found bytes (Ok (m, k)) fits (sym (with_cause_ok no_response (response_at bytes) (m, k) e));
   within = λ m k bytes fits e. response_laws.read_within bytes (Ok (m, k)) fits (sym (with_cause_ok no_response (response_at bytes) (m, k) e));
+  listed = λ m k bytes fits e. response_laws.read_listed bytes (Ok (m, k)) fits (sym (with_cause_ok no_response (response_at bytes) (m, k) e));
   only = λ m text rest s. ap (with_cause no_response) (exactly response.Memory (response_at (text ++ rest)) (Ok (m, length text)) (response_never (text ++ rest)) (response_laws.read_only (text ++ rest) (response_at (text ++ rest)) m text rest (gives_itself response.Memory (response_at (text ++ rest))) s refl));
   fails = λ why bytes fits e. responses_fails why bytes fits (with_cause_err no_response (response_at bytes) why e);
   stopped = λ why bytes fits s. ap (with_cause no_response) (exactly response.Memory (response_at bytes) (Err s.0) (response_never bytes) (response_laws.read_refuses bytes (response_at bytes) s.0 fits (gives_itself response.Memory (response_at bytes)) s.2)) ∙ ap Err s.1;
@@ -348,6 +351,7 @@ pub answers_sound : IsSound answers
 answers_sound = record {
   found = λ m k bytes fits e. answer_laws.answer_found bytes (Ok (m, k)) fits (sym (with_cause_ok no_answer (answer_at bytes) (m, k) e));
   within = λ m k bytes fits e. answer_laws.answer_within bytes (Ok (m, k)) fits (sym (with_cause_ok no_answer (answer_at bytes) (m, k) e));
+  listed = λ m k bytes fits e. answer_laws.answer_listed bytes (Ok (m, k)) fits (sym (with_cause_ok no_answer (answer_at bytes) (m, k) e));
   only = λ m text rest s. ap (with_cause no_answer) (exactly answer.Memory (answer_at (text ++ rest)) (Ok (m, length text)) (answer_never (text ++ rest)) (answer_laws.answer_only (text ++ rest) (answer_at (text ++ rest)) m text rest (gives_itself answer.Memory (answer_at (text ++ rest))) s refl));
   fails = λ why bytes fits e. answers_fails why bytes fits (with_cause_err no_answer (answer_at bytes) why e);
   stopped = λ why bytes fits s. ap (with_cause no_answer) (answer_laws.answer_refuses bytes s.0 fits s.2) ∙ ap Err s.1;
@@ -392,6 +396,7 @@ pub acks_sound : IsSound acks
 acks_sound = record {
   found = λ m k bytes fits e. ack_laws.ack_found bytes (Ok (m, k)) fits (sym (with_cause_ok no_ack (ack_at bytes) (m, k) e));
   within = λ m k bytes fits e. ack_laws.ack_within bytes (Ok (m, k)) fits (sym (with_cause_ok no_ack (ack_at bytes) (m, k) e));
+  listed = λ m k bytes fits e. ack_laws.ack_listed bytes (Ok (m, k)) fits (sym (with_cause_ok no_ack (ack_at bytes) (m, k) e));
   only = λ m text rest s. ap (with_cause no_ack) (ack_laws.ack_again m text rest s);
   fails = λ why bytes fits e. acks_fails why bytes fits (with_cause_err no_ack (ack_at bytes) why e);
   stopped = λ why bytes fits s. ap (with_cause no_ack) (ack_laws.refuses_ack bytes s.0 fits s.2) ∙ ap Err s.1;
@@ -409,6 +414,7 @@ pub read_statuses_sound : IsSound read_statuses
 read_statuses_sound = record {
   found = λ m k bytes fits e. ack_laws.read_status_found bytes (Ok (m, k)) fits (sym (with_cause_ok no_ack (read_status_at bytes) (m, k) e));
   within = λ m k bytes fits e. ack_laws.read_status_within bytes (Ok (m, k)) fits (sym (with_cause_ok no_ack (read_status_at bytes) (m, k) e));
+  listed = λ m k bytes fits e. ack_laws.read_status_listed bytes (Ok (m, k)) fits (sym (with_cause_ok no_ack (read_status_at bytes) (m, k) e));
   only = λ m text rest s. ap (with_cause no_ack) (ack_laws.read_status_again m text rest s);
   fails = λ why bytes fits e. read_statuses_fails why bytes fits (with_cause_err no_ack (read_status_at bytes) why e);
   stopped = λ why bytes fits s. ap (with_cause no_ack) (ack_laws.refuses_read_status bytes s.0 fits s.2) ∙ ap Err s.1;
