@@ -1,9 +1,9 @@
 -- The size of a message at the front stays when more bytes come, and so do bytes that are cut off, while some of the message is missing.
-use Rattle.std.proofs.Common.{◌≡◌, ℕ, zero, suc, ◌+◌, ◌-◌, ◌*◌, ◌<◌, ◌≤◌, nat_lt, cond, true, false, List, [], ◌∷◌, ◌++◌, length, take, drop, replicate, Option, Some, None, option_map, Result, Ok, Err, inl, inr, refl, sym, ap, ◌∙◌, subst, arith, append_assoc, append-nil, length-append}
-use Rattle.std.proofs.lemmas.Bool.{cases_lt, ltb-false, ltb-true, lt-ltb, le-ltb}
+use Rattle.std.proofs.Common.{◌≡◌, ℕ, zero, suc, ◌+◌, ◌-◌, ◌<◌, ◌≤◌, nat_lt, cond, List, [], ◌∷◌, ◌++◌, length, take, drop, replicate, Option, Some, None, option_map, Result, Ok, Err, inl, inr, refl, sym, ap, ◌∙◌, subst, arith, append_assoc, append-nil, length-append}
+use Rattle.std.proofs.lemmas.Bool.{cases_lt, ltb-false, lt-ltb, le-ltb}
 use Rattle.std.proofs.lemmas.List.{take_all, take_at, take-append-le, drop-append-le, length-replicate, length-drop}
 use Rattle.std.proofs.Math.Seq.{drop-append_seam}
-use Rattle.hd_base.proofs.ResultLaws.{bind_ok, bind-Ok, ok_pair, err_ok, chosen}
+use Rattle.hd_base.proofs.ResultLaws.{bind_ok, ok_pair, err_ok, chosen}
 use Rattle.proto_fields.specs.Varint.{SpellsVarint, BeginsWithVarint, IsUnended, IsLongVarint, varint_at, varint_within}
 use Rattle.proto_fields.specs.declared.varints.VarintFault.{VarintFault}
 use Rattle.proto_fields.specs.declared.varints.VarintFault.TheVariants.{Short, Long}

@@ -1,23 +1,21 @@
 -- The parts of a packet lie where its decoder reads them.
-use Rattle.std.proofs.Common.{◌≡◌, ℕ, ◌+◌, ◌-◌, ◌<◌, ◌≤◌, ◌||◌, nat_lt, true, false, Bool, cond, List, ◌++◌, length, take, drop, Result, Ok, Err, inl, inr, refl, sym, ap, ◌∙◌, subst, arith}
+use Rattle.std.proofs.Common.{◌≡◌, ℕ, ◌+◌, ◌-◌, ◌<◌, ◌≤◌, ◌||◌, nat_lt, true, false, Bool, cond, List, length, take, drop, Ok, Err, inl, inr, refl, sym, ap, ◌∙◌, arith}
 use Rattle.std.proofs.lemmas.Bool.{ltb-false, lt-ltb, le-ltb}
 use Rattle.std.proofs.lemmas.List.{drop-take, drop-drop, length-take, length-drop}
-use Rattle.hd_base.specs.Results.{◌>>=◌, with_cause, with_value}
+use Rattle.hd_base.specs.Results.{with_cause}
 use Rattle.hd_base.proofs.ResultLaws.{bind_ok, bind_err, bind-Ok, bind-Err, ok_value, err_value, err_ok}
-use Rattle.proto_fields.specs.Fields.{fields_at}
 use Rattle.packet_codec.specs.declared.packets.Packet.{Packet}
 use Rattle.packet_codec.specs.declared.faults.HeaderCause.{HeaderCause}
-use Rattle.packet_codec.specs.declared.faults.HeaderCause.TheVariants as cause
 use Rattle.packet_codec.specs.declared.faults.PacketFault.{PacketFault}
 use Rattle.packet_codec.specs.declared.faults.PacketFault.TheVariants as fault
 use Rattle.packet_codec.specs.Frames.{limit, payload_of, header_len_of, frame_len, Frame, frame_with, frame_at, length_at}
 use Rattle.packet_codec.specs.Headers.{header_at}
 use Rattle.packet_codec.specs.Packets.{sums_within, packet_at}
 use Rattle.packet_codec.proofs.FrameLemmas.{frame_at-Ok}
-use Rattle.packet_codec.proofs.PacketLemmas.{packet_at-steps, of_frame, of_header}
+use Rattle.packet_codec.proofs.PacketLemmas.{packet_at-steps, of_frame}
 use Rattle.frame_feed.specs.declared.packet_parts.Header.{Header}
 use Rattle.frame_feed.specs.declared.packet_parts.PacketParts.{PacketParts}
-use Rattle.frame_feed.specs.Parts.{header_told, fields_told, header_read, data_of, packet_in}
+use Rattle.frame_feed.specs.Parts.{header_read, data_of, packet_in}
 
 -- ---- the lengths
 

@@ -1,13 +1,13 @@
 -- The messages that a feed gives are those of the stream.
-use Rattle.std.proofs.Common.{◌≡◌, ℕ, List, [], ◌∷◌, ◌++◌, length, drop, Result, Ok, refl, sym, ap, ◌∙◌, subst, append_assoc, append-nil}
+use Rattle.std.proofs.Common.{◌≡◌, ℕ, List, [], ◌∷◌, ◌++◌, length, drop, refl, sym, ap, ◌∙◌, append_assoc, append-nil}
 use Rattle.std.proofs.Math.Seq.{drop-append_seam}
 use Rattle.hd_base.proofs.ResultLaws.{ok_pair}
 use Rattle.frame_feed.specs.declared.notes.Message.{Message}
 use Rattle.frame_feed.specs.declared.notes.Message.TheVariants as message
 use Rattle.frame_feed.specs.Kinds.{Kind, IsSound, requests, packets, acks, responses, answers, read_statuses}
 use Rattle.frame_feed.specs.KindLaws.{requests_sound, packets_sound, acks_sound, responses_sound, answers_sound, read_statuses_sound}
-use Rattle.frame_feed.specs.Feeds.{FeedState, TakesOne, holding}
-use Rattle.frame_feed.specs.Streams.{Spells, BeginsWith, IsStream, IsSameKind, AreSameKinds, Turn, Push, Give, Nothing, Goes, Passes, Runs, pushed, given, SplitsInto}
+use Rattle.frame_feed.specs.Feeds.{FeedState, holding}
+use Rattle.frame_feed.specs.Streams.{Spells, IsStream, IsSameKind, AreSameKinds, Turn, Push, Give, Nothing, Goes, Runs, pushed, given, SplitsInto}
 
 -- ---- one message at the front
 

@@ -1,5 +1,5 @@
 -- What a feed holds, and what its calls answer and leave.
-use Rattle.std.specs.Prelude.{◌≡◌, ◌+◌, ◌<◌, ◌≤◌, ◌⊎◌, ℕ, List, [], ◌++◌, length, drop, Option, Some, None, Result, Ok, Err}
+use Rattle.std.specs.Prelude.{◌≡◌, ◌+◌, ◌<◌, ◌≤◌, ◌⊎◌, ℕ, List, ◌++◌, length, drop, Option, Some, None, Result, Ok, Err}
 use Rattle.frame_feed.specs.declared.faults.FeedFault.{FeedFault}
 use Rattle.frame_feed.specs.declared.faults.FeedFault.TheVariants as feed
 use Rattle.frame_feed.specs.declared.faults.NoMessage.{NoMessage}

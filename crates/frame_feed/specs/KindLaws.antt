@@ -1,7 +1,6 @@
 -- Each kind is sound, by what its decoder promises.
-use Rattle.std.proofs.Common.{◌≡◌, ◌≢◌, ℕ, ◌+◌, ◌*◌, ◌≤◌, ◌==◌, List, [], ◌∷◌, Option, Some, None, ◌++◌, length, take, drop, option_map, append-nil, length-append, arith, Result, Ok, Err, ◌⊎◌, inl, inr, refl, sym, ap, ◌∙◌, subst}
-use Rattle.std.specs.Prelude.{IfOk, IfErr}
-use Rattle.hd_base.specs.Results.{with_cause, Gives, FailsFor}
+use Rattle.std.proofs.Common.{◌≡◌, ℕ, ◌+◌, ◌*◌, ◌==◌, List, [], ◌∷◌, Some, None, ◌++◌, length, drop, option_map, append-nil, length-append, arith, Result, Ok, Err, inl, inr, refl, sym, ap, ◌∙◌, subst}
+use Rattle.hd_base.specs.Results.{with_cause, Gives}
 use Rattle.hd_base.specs.Bytes.{IsBytes}
 use Rattle.hd_base.proofs.ResultLaws.{bind_err, with_cause_ok, with_cause_err, with_value_err, err_value, chosen}
 use Rattle.proto_fields.specs.declared.frames.FrameFault.{FrameFault}
@@ -15,27 +14,23 @@ use Rattle.proto_fields.specs.Varint.{varint_at}
 use Rattle.proto_fields.proofs.VarintLemmas.{read_varint_again}
 use Rattle.std.proofs.lemmas.Bool.{le-ltb}
 use Rattle.frame_feed.specs.Framings.{behind_varint, prefixed_size, packet_size, request_size}
-use Rattle.hd_base.specs.declared.states.Status.{Status}
 use Rattle.packet_codec.specs.declared.packets.Packet.{Packet}
 use Rattle.packet_codec.specs.declared.faults.PacketFault.{PacketFault}
 use Rattle.packet_codec.specs.declared.faults.PacketFault.TheVariants as packet
 use Rattle.packet_codec.specs.Packets.{SpellsPacket, packet_at}
 use Rattle.packet_codec.specs.Refusals.{IsRefused}
 use Rattle.packet_codec.proofs.RefusalLemmas as packet_laws
-use Rattle.ack_codec.specs.declared.acks.Ack.{Ack}
-use Rattle.ack_codec.specs.declared.responses.Response.{Response}
 use Rattle.ack_codec.specs.declared.faults.AckFault.{AckFault}
 use Rattle.ack_codec.specs.declared.faults.AckFault.TheVariants as ack
 use Rattle.ack_codec.specs.declared.faults.ResponseFault.{ResponseFault}
 use Rattle.ack_codec.specs.declared.faults.ResponseFault.TheVariants as response
-use Rattle.ack_codec.specs.Acks.{SaysAck, SaysReadStatus, SpellsAck, SpellsReadStatus, ack_at, read_status_at}
+use Rattle.ack_codec.specs.Acks.{SaysAck, SaysReadStatus, ack_at, read_status_at}
 use Rattle.ack_codec.specs.AckRefusals.{IsRefusedAck, IsRefusedReadStatus}
-use Rattle.ack_codec.specs.Responses.{SaysResponse, SpellsResponse, response_at, response_of, response_frame_cause, found_response_at, decoded_response, decoded_parts, response_with}
+use Rattle.ack_codec.specs.Responses.{SaysResponse, response_at, response_of, response_frame_cause, found_response_at, decoded_response, decoded_parts, response_with}
 use Rattle.ack_codec.specs.ResponseRefusals.{IsRefusedResponse}
 use Rattle.ack_codec.proofs.DecodingLemmas as ack_laws
 use Rattle.ack_codec.proofs.ResponseDecodingLemmas as response_laws
 use Rattle.op_headers.specs.declared.ops.Op.{Op}
-use Rattle.op_headers.specs.declared.answers.RecoveryAnswer.{RecoveryAnswer}
 use Rattle.op_headers.specs.declared.faults.OpFault.{OpFault}
 use Rattle.op_headers.specs.declared.faults.OpFault.TheVariants as op
 use Rattle.op_headers.specs.declared.faults.AnswerFault.{AnswerFault}
@@ -44,7 +39,7 @@ use Rattle.op_headers.specs.Requests.{SpellsOp, IsRefusedOp, request_at, head_at
 use Rattle.proto_fields.specs.declared.reading.WireFault.{WireFault}
 use Rattle.op_headers.specs.Opcodes.{opcode_with}
 use Rattle.op_headers.specs.Paths.{Path}
-use Rattle.op_headers.specs.Answers.{SpellsAnswer, IsRefusedAnswer, answer_at, answer_of, answer_format, answer_frame_cause, missing_field}
+use Rattle.op_headers.specs.Answers.{IsRefusedAnswer, answer_at, answer_of, answer_format, answer_frame_cause, missing_field}
 use Rattle.op_headers.proofs.RequestLemmas as request_laws
 use Rattle.op_headers.proofs.AnswerLemmas as answer_laws
 use Rattle.frame_feed.specs.declared.faults.FeedFault.{FeedFault}
@@ -52,7 +47,7 @@ use Rattle.frame_feed.specs.declared.faults.FeedFault.TheVariants as feed
 use Rattle.frame_feed.specs.declared.faults.NoMessage.{NoMessage}
 use Rattle.frame_feed.specs.declared.faults.NoMessage.TheVariants.{Short, Memory, Refused}
 use Rattle.frame_feed.specs.Faults.{no_op, no_packet, no_ack, no_response, no_answer, StandsThere, IsOfStream}
-use Rattle.frame_feed.specs.Kinds.{Kind, IsSound, requests, packets, acks, responses, answers, read_statuses}
+use Rattle.frame_feed.specs.Kinds.{IsSound, requests, packets, acks, responses, answers, read_statuses}
 
 -- ---- a decoder's result
 

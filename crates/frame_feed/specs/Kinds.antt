@@ -1,5 +1,5 @@
 -- The kinds of messages.
-use Rattle.std.specs.Prelude.{◌≡◌, ◌≢◌, ℕ, ◌+◌, ◌<◌, ◌≤◌, List, ◌++◌, length, take, All, Option, Some, None, Result, Ok, Err}
+use Rattle.std.specs.Prelude.{◌≡◌, ℕ, ◌≤◌, List, ◌++◌, length, take, All, Some, Result, Ok, Err}
 use Rattle.hd_base.specs.Results.{with_cause}
 use Rattle.hd_base.specs.Bytes.{IsBytes}
 use Rattle.hd_base.specs.Wire.{IsStatus}

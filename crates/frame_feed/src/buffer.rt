@@ -84,8 +84,9 @@ impl Buffer {
         self.bytes.advance(count);
     }
 
-    /// Takes `size` bytes off the front, and gives those from `from` on in two shares: the first `count`
-    /// of them, and the others. Nothing is copied. Want of memory leaves the bytes as they were.
+    /// Takes `size` bytes off the front, and gives those from `from` on in two shares: the first
+    /// `count` of them, and the others. Nothing is copied. Want of memory leaves the bytes as they
+    /// were.
     pub fn cut(
         &mut self,
         size: usize,

@@ -19,7 +19,9 @@ use std::alloc::{AllocError, Global};
 use std::marker::Model;
 
 /// Takes messages off a stream whose bytes come in any pieces. The caller says which kind of
-/// message comes next.
+/// message comes next. A call answers `None` while that message isn't whole, and a fault where no
+/// message of the kind begins so; from then on every call answers that fault. Want of memory is
+/// `FeedFault::Memory` alone, and changes nothing.
 #[derive(Debug, Drop)]
 pub struct Feed {
     /// The bytes that are not yet taken.
@@ -29,6 +31,7 @@ pub struct Feed {
     known: Option<(Framing, usize)>,
     /// The fault that is answered for good.
     refused: Option<FeedFault>,
+    /// How many bytes the message at the front lacks, where the last call waits for them.
     wanted: u64,
 }
 
@@ -38,7 +41,11 @@ impl Model for Feed {
 
     ghost Value = { FeedState };
 
-    ghost view = { λ f. record { rest = f.buffer.front ++ f.buffer.bytes.items; refused = f.refused; wanted = f.wanted } };
+    ghost view = { λ f. record {
+      rest = f.buffer.front ++ f.buffer.bytes.items;
+      refused = f.refused;
+      wanted = f.wanted;
+    } };
 
     ghost invariant = { λ f. IsKnown f.known (f.buffer.front ++ f.buffer.bytes.items) × IsRefusal f.refused };
 }
@@ -198,8 +205,8 @@ impl Feed {
     }
 }
 
-/// How many bytes are missing of a message of this size, of which so many are there; 1 where the size
-/// doesn't show.
+/// How many bytes are missing of a message of this size, of which so many are there; 1 where the
+/// size doesn't show.
 fn missing_of(size: Option<usize>, len: usize) -> u64
     requires { IfSome size (λ size. len ≤ size) }
     ensures { result ≡ missing_in size len }

@@ -16,7 +16,7 @@ pub(crate) trait Kind: Sized + Drop {
     ghost use Rattle.frame_feed.specs.Buffers.{held, TakesAsRead};
     ghost use Rattle.frame_feed.specs.Kinds.{Kind as KindOf, IsSound};
 
-    // Which bytes spell one, why bytes begin with none, and how its length shows.
+    // Which bytes spell one, why bytes begin with none, how its length shows, and what reading gives.
     ghost kind: { KindOf Self };
 
     /// How the message's length shows at its front.

@@ -59,7 +59,8 @@ pub struct Note {
     pub took: Took,
     /// The entry of the replica's book, where it booked one.
     pub receipt: Option<Receipt>,
-    /// The block whose book the event looked at without booking, and how many entries that had then.
+    /// The block whose book the event looked at without booking, and how many entries that had
+    /// then.
     pub seen: Option<(BlockId, u64)>,
     /// What it sent, in order, and on which connections.
     pub sent: SentList,

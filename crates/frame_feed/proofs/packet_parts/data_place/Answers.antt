@@ -1,5 +1,5 @@
 -- The data begins behind both lengths and the header.
-use Rattle.std.proofs.Common.{length, arith}
+use Rattle.std.proofs.Common.{arith}
 use Rattle.frame_feed.proofs.PartLemmas.{told}
 use Rattle.frame_feed.proofs.packet_parts.data_place.Goals as goal
 

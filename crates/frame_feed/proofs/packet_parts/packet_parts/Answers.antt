@@ -1,11 +1,10 @@
 -- The parts lie where the decoder reads them, and each fault is the decoder's.
-use Rattle.std.proofs.Common.{◌≡◌, ℕ, ◌+◌, ◌-◌, ◌≤◌, List, length, take, drop, Result, Ok, Err, refl, sym, ap, ◌∙◌, subst, arith}
+use Rattle.std.proofs.Common.{◌≡◌, ℕ, ◌+◌, ◌-◌, List, take, drop, Ok, Err, refl, sym, ap, ◌∙◌, arith}
 use Rattle.std.proofs.lemmas.Result.{err_from_is_err_and}
-use Rattle.packet_codec.specs.declared.faults.PacketFault.{PacketFault}
-use Rattle.packet_codec.specs.Frames.{payload_of, header_len_of, length_at}
-use Rattle.packet_codec.specs.Packets.{packet_at, sums_within}
+use Rattle.packet_codec.specs.Frames.{payload_of, header_len_of}
+use Rattle.packet_codec.specs.Packets.{sums_within}
 use Rattle.frame_feed.specs.Parts.{header_read}
-use Rattle.frame_feed.proofs.PartLemmas.{Told, told, header_bytes, packet_fault, packet_short, packet_header_fault, packet_sums_fault, packet_whole}
+use Rattle.frame_feed.proofs.PartLemmas.{told, header_bytes, packet_fault, packet_short, packet_header_fault, packet_sums_fault, packet_whole}
 use Rattle.frame_feed.proofs.packet_parts.packet_parts.Goals as goal
 
 pub returns-in_err-size-clause-exact : goal.returns-in_err-size-clause-exact

@@ -1,5 +1,5 @@
 -- What is answered by what reading gives is the next message.
-use Rattle.std.proofs.Common.{◌≡◌, ℕ, None, refl, sym, ap, ◌∙◌, subst}
+use Rattle.std.proofs.Common.{◌≡◌, None, refl, sym, ap, ◌∙◌, subst}
 use Rattle.frame_feed.specs.declared.framing.Framing.{Framing}
 use Rattle.frame_feed.specs.Framings.{IsCut, missing}
 use Rattle.frame_feed.proofs.FeedLemmas.{takes_next, takes_none, answers_of_stream, waits}

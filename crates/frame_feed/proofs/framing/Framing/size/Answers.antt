@@ -1,5 +1,5 @@
 -- A size shows as the decoder reads it, and what is there is less.
-use Rattle.std.proofs.Common.{◌≡◌, ℕ, ◌+◌, List, length, drop, Some, sym, ap, ◌∙◌, subst, arith}
+use Rattle.std.proofs.Common.{◌≡◌, ℕ, List, drop, Some, sym, ap, ◌∙◌, subst, arith}
 use Rattle.std.proofs.lemmas.List.{length-drop}
 use Rattle.std.specs.Result.{result_ok}
 use Rattle.proto_fields.specs.Frames.{IsCutFrame}
