@@ -76,7 +76,7 @@ takes_message {M = M} kind old r new m k sound fits on read is left = record {
   only = λ _ n text rest s parts. whole n text rest s parts;
   none = λ e. absurd (none_some r m e is);
   wants = λ e. absurd (none_some r m e is);
-  short = λ _ s. absurd (value_why (kind.reads old.rest) (m, k) Short read (sound.stopped Short old.rest fits s));
+  short = λ _ s. absurd (value_why (kind.reads old.rest) (m, k) Short read (sound.stopped Short old.rest fits (sound.cut old.rest s)));
   fails = λ e h. absurd (ok_fault r (Some m) e is h);
   refuses = λ e _ s. absurd (value_why (kind.reads old.rest) (m, k) (Refused e) read (sound.stopped (Refused e) old.rest fits s));
   again = λ e h. absurd (going old e on h);
@@ -112,7 +112,7 @@ takes_none kind old r new sound fits on short is left =
     record {
       found = λ m e. absurd (none_some r m is e);
       only = λ _ m text rest s parts. absurd (value_why (kind.reads old.rest) (m, length text) Short (ap kind.reads parts ∙ sound.only m text rest s) read);
-      none = λ _. short;
+      none = λ _. sound.is_cut old.rest short;
       wants = λ _. subst (Wants kind) (sym left) (waits_for kind old.rest sound (sound.is_cut old.rest short));
       short = λ _ _. inr (is, left);
       fails = λ e h. absurd (ok_fault r None e is h);
@@ -132,7 +132,7 @@ takes_fault kind old r new f sound fits on read is left =
       only = λ _ m text rest s parts. absurd (value_why (kind.reads old.rest) (m, length text) (Refused f) (ap kind.reads parts ∙ sound.only m text rest s) read);
       none = λ e. absurd (ok_fault r None f e is);
       wants = λ e. absurd (ok_fault r None f e is);
-      short = λ _ s. absurd (short_refused (kind.reads old.rest) f (sound.stopped Short old.rest fits s) read);
+      short = λ _ s. absurd (short_refused (kind.reads old.rest) f (sound.stopped Short old.rest fits (sound.cut old.rest s)) read);
       fails = λ e h. inr (inr (subst (λ (x : FeedFault). kind.stops (Refused x) old.rest) (fault_of r f e is h) stands));
       refuses = λ e _ s.
           let same = same_fault (kind.reads old.rest) f e read (sound.stopped (Refused e) old.rest fits s) in

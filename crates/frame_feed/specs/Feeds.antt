@@ -56,8 +56,8 @@ pub record TakesNext {M : Type 0} (kind : Kind M) (old : FeedState) (r : Result 
   pub found : (m : M) → r ≡ Ok (Some m) → TakesOne kind m old new
   pub only : old.refused ≡ None → (m : M) (text rest : List ℕ) → kind.spells m text → old.rest ≡ text ++ rest → Answers old r new (Ok (Some m)) (holding rest)
   -- None comes exactly where the message is cut off.
-  pub none : r ≡ Ok None → kind.stops Short old.rest
-  pub short : old.refused ≡ None → kind.stops Short old.rest → Answers old r new (Ok None) (waiting kind.framing old.rest)
+  pub none : r ≡ Ok None → IsCut kind.framing old.rest
+  pub short : old.refused ≡ None → IsCut kind.framing old.rest → Answers old r new (Ok None) (waiting kind.framing old.rest)
   pub wants : r ≡ Ok None → Wants kind new
   -- A fault comes exactly where it stands at the front, and from then on it is answered for good.
   pub fails : (e : FeedFault) → r ≡ Err e → (e ≡ feed.Memory) ⊎ ((old.refused ≡ Some e) ⊎ kind.stops (Refused e) old.rest)
