@@ -1,0 +1,5 @@
+pub mod BufferLemmas
+pub mod FramingLemmas
+pub mod FeedLemmas
+pub mod PartLemmas
+pub mod StreamLemmas

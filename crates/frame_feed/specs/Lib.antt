@@ -1,0 +1,8 @@
+pub mod Faults
+pub mod Framings
+pub mod Kinds
+pub mod Feeds
+pub mod Buffers
+pub mod Parts
+pub mod KindLaws
+pub mod Streams
