@@ -1,0 +1,209 @@
+-- Lines, words and items from the front of a text.
+use Rattle.std.proofs.Common.{◌≡◌, ◌≢◌, ◌==◌, ℕ, ◌+◌, ◌<◌, ◌≤◌, ◌&&◌, ◌||◌, not, nat_le, Bool, true, false, cond, List, [], ◌∷◌, ◌++◌, length, take, drop, refl, sym, ◌∙◌, ap, arith, take-append-drop, one-add, append-nil, subst, inl, inr}
+use Rattle.std.specs.List.{prefix_len, list_all}
+use Rattle.std.proofs.lemmas.Bool.{and_parts, eqb-true, eq-eqb}
+use Rattle.std.proofs.lemmas.Bool.Decides.{nat_tests, eqb_tells}
+use Rattle.std.proofs.lemmas.Grind.{common_steps}
+use Rattle.script_lang.specs.Words.{into_first, begins_with_newline, lines_of, is_nothing, without_return, is_blank, begins_with_word, words_of, items_of}
+
+pub not_true : (b : Bool) → not b ≡ true → b ≡ false
+not_true true e = cc
+not_true false e = refl
+
+pub not_false : (b : Bool) → not b ≡ false → b ≡ true
+not_false true e = refl
+not_false false e = cc
+
+-- a test that can't pass
+pub and_false : {A : Type 0} (b : Bool) (x y : A) → cond (b && false) x y ≡ y
+and_false true x y = refl
+and_false false x y = refl
+
+-- the one byte of a line
+one_byte : (b : Bool) (d : ℕ) (rest : List (List ℕ)) → cond (b && true) ([] ∷ rest) ((d ∷ []) ∷ rest) ≡ cond (b && true) [] (d ∷ []) ∷ rest
+one_byte true d rest = refl
+one_byte false d rest = refl
+
+-- a test fails at the first element
+abbrev pub Stops : (ℕ → Bool) → List ℕ → Type 0
+Stops p [] = Unit {0}
+Stops p (x ∷ xs) = p x ≡ false
+
+-- the longest front that passes, and what stands behind it
+pub record Splits (p : ℕ → Bool) (xs front behind : List ℕ) : Type 0 where
+  pub parts : xs ≡ front ++ behind
+  pub passes : list_all p front ≡ true
+  pub stops : Stops p behind
+
+longer : (p : ℕ → Bool) (x : ℕ) (xs front behind : List ℕ) → p x ≡ true → Splits p xs front behind → Splits p (x ∷ xs) (x ∷ front) behind
+longer p x xs front behind pass s = record { parts = ap (λ l. x ∷ l) s.parts; passes = rw pass s.passes; stops = s.stops }
+
+split_step : (p : ℕ → Bool) (x : ℕ) (xs : List ℕ) (n : ℕ) (b : Bool) → p x ≡ b → Splits p xs (take n xs) (drop n xs) → Splits p (x ∷ xs) (take (cond b (1 + n) 0) (x ∷ xs)) (drop (cond b (1 + n) 0) (x ∷ xs))
+split_step p x xs n true e s = rw one-add (longer p x xs _ _ e s)
+split_step p x xs n false e s = record { parts = refl; passes = refl; stops = e }
+
+pub split_front : (p : ℕ → Bool) (xs : List ℕ) → Splits p xs (take (prefix_len p xs) xs) (drop (prefix_len p xs) xs)
+split_front p [] = record { parts = refl; passes = refl; stops = tt }
+split_front p (x ∷ xs) = split_step p x xs (prefix_len p xs) (p x) refl (split_front p xs)
+
+-- what a slice was split into
+pub split_is : (p : ℕ → Bool) (xs front behind : List ℕ) (n : ℕ) → n ≡ prefix_len p xs → front ≡ take n xs → behind ≡ drop n xs → Splits p xs front behind
+split_is p xs front behind n e f g =
+    let F : List ℕ → Type 0 = λ l. Splits p xs l behind in
+    let B : List ℕ → Type 0 = λ l. Splits p xs (take (prefix_len p xs) xs) l in
+    subst F (sym (f ∙ ap (λ k. take k xs) e)) (subst B (sym (g ∙ ap (λ k. drop k xs) e)) (split_front p xs))
+
+pub nothing : (l : List ℕ) → length l ≡ 0 → l ≡ []
+nothing [] e = refl
+nothing (x ∷ xs) e = absurd (omega arith)
+
+-- a test that found nothing, or something
+pub none_there : (l : List ℕ) (b : Bool) → b ≡ (length l == 0) → b ≡ true → l ≡ []
+none_there l b e t = nothing l (eqb-true (length l) 0 (sym e ∙ t))
+
+pub some_there : (l : List ℕ) (b : Bool) → b ≡ (length l == 0) → b ≡ false → 0 < length l
+some_there [] b e f = absurd (let h : true ≡ false = sym e ∙ f in cc)
+some_there (x ∷ xs) b e f = omega arith
+
+-- ---- lines
+
+abbrev newline_free : List ℕ → Bool
+newline_free cs = list_all (λ c. not (c == 10)) cs
+
+-- a byte that doesn't end its line
+lines_of-step : (c : ℕ) (cs : List ℕ) → (c == 10) ≡ false → begins_with_newline cs ≡ false → lines_of (c ∷ cs) ≡ into_first c (lines_of cs)
+lines_of-step c cs first second = rw first (rw second (and_false (c == 13) _ _))
+
+without_return-step : (d : ℕ) (cs : List ℕ) → is_nothing cs ≡ false → without_return (d ∷ cs) ≡ d ∷ without_return cs
+without_return-step d cs more = rw more (and_false (d == 13) _ _)
+
+-- a text with no LF is one line
+pub lines_of-plain : (c : ℕ) (cs : List ℕ) → newline_free (c ∷ cs) ≡ true → lines_of (c ∷ cs) ≡ (c ∷ cs) ∷ []
+lines_of-plain c [] all =
+    let first : (c == 10) ≡ false = not_true (c == 10) (and_parts (not (c == 10)) true all).0 in
+    lines_of-step c [] first refl
+lines_of-plain c (d ∷ ds) all =
+    let both = and_parts (not (c == 10)) (newline_free (d ∷ ds)) all in
+    let first : (c == 10) ≡ false = not_true (c == 10) both.0 in
+    let second : (d == 10) ≡ false = not_true (d == 10) (and_parts (not (d == 10)) (newline_free ds) both.1).0 in
+    lines_of-step c (d ∷ ds) first second ∙ ap (into_first c) (lines_of-plain d ds both.1)
+
+-- the last byte of a line, and its LF
+last_byte : (d c : ℕ) (rest : List ℕ) → (d == 10) ≡ false → (c == 10) ≡ true → lines_of (d ∷ c ∷ rest) ≡ without_return (d ∷ []) ∷ lines_of rest
+last_byte d c rest first last = rw first (rw last (one_byte (d == 13) d (lines_of rest)))
+
+-- the first line of a text, up to the LF
+pub lines_of-next : (front rest : List ℕ) (c : ℕ) → newline_free front ≡ true → not (c == 10) ≡ false → lines_of (front ++ c ∷ rest) ≡ without_return front ∷ lines_of rest
+lines_of-next [] rest c all stop = rw (not_false (c == 10) stop) refl
+lines_of-next (d ∷ []) rest c all stop = last_byte d c rest (not_true (d == 10) (and_parts (not (d == 10)) true all).0) (not_false (c == 10) stop)
+lines_of-next (d ∷ e ∷ front) rest c all stop =
+    let both = and_parts (not (d == 10)) (newline_free (e ∷ front)) all in
+    let first : (d == 10) ≡ false = not_true (d == 10) both.0 in
+    let second : (e == 10) ≡ false = not_true (e == 10) (and_parts (not (e == 10)) (newline_free front) both.1).0 in
+    lines_of-step d (e ∷ front ++ c ∷ rest) first second ∙ (ap (into_first d) (lines_of-next (e ∷ front) rest c both.1 stop) ∙ ap (λ l. l ∷ lines_of rest) (sym (without_return-step d (e ∷ front) refl)))
+
+-- a text that is one line
+pub only_line : (text front behind : List ℕ) → 0 < length text → Splits (λ c. not (c == 10)) text front behind → behind ≡ [] → lines_of text ≡ front ∷ lines_of behind
+only_line text [] behind some s none = absurd (let e : text ≡ [] = s.parts ∙ none in omega (arith, ap length e))
+only_line text (c ∷ cs) behind some s none =
+    let whole : text ≡ c ∷ cs = s.parts ∙ (ap (λ l. (c ∷ cs) ++ l) none ∙ append-nil (c ∷ cs)) in
+    ap lines_of whole ∙ (lines_of-plain c cs s.passes ∙ ap (λ l. (c ∷ cs) ∷ lines_of l) (sym none))
+
+-- a text whose first line has an LF
+pub first_line : (text front behind rest : List ℕ) (c : ℕ) → Splits (λ c. not (c == 10)) text front behind → behind ≡ c ∷ rest → lines_of text ≡ without_return front ∷ lines_of rest
+first_line text front behind rest c s e =
+    let stop : not (c == 10) ≡ false = subst (Stops (λ c. not (c == 10))) e s.stops in
+    ap lines_of (s.parts ∙ ap (λ l. front ++ l) e) ∙ lines_of-next front rest c s.passes stop
+
+-- a CR at the end is dropped
+pub without_return-last : (front : List ℕ) → without_return (front ++ 13 ∷ []) ≡ front
+without_return-last [] = refl
+without_return-last (c ∷ []) = without_return-step c (13 ∷ []) refl
+without_return-last (c ∷ d ∷ front) = without_return-step c (d ∷ front ++ 13 ∷ []) refl ∙ ap (λ l. c ∷ l) (without_return-last (d ∷ front))
+
+-- a line without a CR at its end stays
+pub without_return-same : (line : List ℕ) → ((front : List ℕ) → line ≢ front ++ 13 ∷ []) → without_return line ≡ line
+without_return-same [] other = refl
+without_return-same (c ∷ []) other =
+    elim (eqb_tells c 13) [
+      | inl same ↦ absurd (other [] (ap (λ k. k ∷ []) same.1))
+      | inr apart ↦ rw apart.0 refl
+    ]
+without_return-same (c ∷ d ∷ line) other = without_return-step c (d ∷ line) refl ∙ ap (λ l. c ∷ l) (without_return-same (d ∷ line) (λ front e. other (c ∷ front) (ap (λ l. c ∷ l) e)))
+
+-- ---- words
+
+words_of-blank : (c : ℕ) (cs : List ℕ) → is_blank c ≡ true → words_of (c ∷ cs) ≡ words_of cs
+words_of-blank c cs blank = rw blank refl
+
+-- blanks in front are passed over
+pub words_of-blanks : (blanks rest : List ℕ) → list_all is_blank blanks ≡ true → words_of (blanks ++ rest) ≡ words_of rest
+words_of-blanks [] rest all = refl
+words_of-blanks (c ∷ cs) rest all =
+    let both = and_parts (is_blank c) (list_all is_blank cs) all in
+    words_of-blank c (cs ++ rest) both.0 ∙ words_of-blanks cs rest both.1
+
+abbrev blank_free : List ℕ → Bool
+blank_free cs = list_all (λ c. not (is_blank c)) cs
+
+words_of-more : (c : ℕ) (cs : List ℕ) → is_blank c ≡ false → begins_with_word cs ≡ true → words_of (c ∷ cs) ≡ into_first c (words_of cs)
+words_of-more c cs first second = rw first (rw second refl)
+
+words_of-end : (c : ℕ) (cs : List ℕ) → is_blank c ≡ false → begins_with_word cs ≡ false → words_of (c ∷ cs) ≡ (c ∷ []) ∷ words_of cs
+words_of-end c cs first second = rw first (rw second refl)
+
+-- a blank or nothing ends a word
+pub words_of-word : (c : ℕ) (word rest : List ℕ) → blank_free (c ∷ word) ≡ true → Stops (λ c. not (is_blank c)) rest → words_of ((c ∷ word) ++ rest) ≡ (c ∷ word) ∷ words_of rest
+words_of-word c [] [] all stop = words_of-end c [] (not_true (is_blank c) (and_parts (not (is_blank c)) true all).0) refl
+words_of-word c [] (d ∷ rest) all stop = words_of-end c (d ∷ rest) (not_true (is_blank c) (and_parts (not (is_blank c)) true all).0) stop
+words_of-word c (d ∷ word) rest all stop =
+    let both = and_parts (not (is_blank c)) (blank_free (d ∷ word)) all in
+    let first : is_blank c ≡ false = not_true (is_blank c) both.0 in
+    let second : not (is_blank d) ≡ true = (and_parts (not (is_blank d)) (blank_free word) both.1).0 in
+    words_of-more c (d ∷ word ++ rest) first second ∙ ap (into_first c) (words_of-word d word rest both.1 stop)
+
+-- blanks alone
+pub no_word : (line front behind : List ℕ) → Splits is_blank line front behind → behind ≡ [] → words_of line ≡ []
+no_word line front behind s none = ap words_of s.parts ∙ (words_of-blanks front behind s.passes ∙ ap words_of none)
+
+-- a word behind blanks
+pub first_word : (line front behind word rest : List ℕ) → 0 < length behind → Splits is_blank line front behind → Splits (λ c. not (is_blank c)) behind word rest → words_of line ≡ word ∷ words_of rest
+first_word line front behind [] [] some s t = absurd (omega (arith, ap length t.parts))
+first_word line front behind [] (c ∷ rest) some s t =
+    let blank : is_blank c ≡ true = not_false (is_blank c) t.stops in
+    let bare : is_blank c ≡ false = subst (Stops is_blank) t.parts s.stops in
+    absurd (let e : true ≡ false = sym blank ∙ bare in cc)
+first_word line front behind (c ∷ word) rest some s t =
+    ap words_of s.parts ∙ (words_of-blanks front behind s.passes ∙ (ap words_of t.parts ∙ words_of-word c word rest t.passes t.stops))
+
+-- ---- items
+
+abbrev comma_free : List ℕ → Bool
+comma_free cs = list_all (λ c. not (c == 44)) cs
+
+items_of-more : (c : ℕ) (cs : List ℕ) → (c == 44) ≡ false → items_of (c ∷ cs) ≡ into_first c (items_of cs)
+items_of-more c cs first = rw first refl
+
+-- the last item of a word
+pub items_of-last : (item : List ℕ) → comma_free item ≡ true → items_of item ≡ item ∷ []
+items_of-last [] all = refl
+items_of-last (c ∷ cs) all =
+    let both = and_parts (not (c == 44)) (comma_free cs) all in
+    items_of-more c cs (not_true (c == 44) both.0) ∙ ap (into_first c) (items_of-last cs both.1)
+
+-- an item up to its comma
+pub items_of-next : (item rest : List ℕ) (c : ℕ) → comma_free item ≡ true → not (c == 44) ≡ false → items_of (item ++ c ∷ rest) ≡ item ∷ items_of rest
+items_of-next [] rest c all stop = rw (not_false (c == 44) stop) refl
+items_of-next (d ∷ item) rest c all stop =
+    let both = and_parts (not (d == 44)) (comma_free item) all in
+    items_of-more d (item ++ c ∷ rest) (not_true (d == 44) both.0) ∙ ap (into_first d) (items_of-next item rest c both.1 stop)
+
+-- a word with no comma
+pub only_item : (word front behind : List ℕ) → Splits (λ c. not (c == 44)) word front behind → behind ≡ [] → items_of word ≡ front ∷ []
+only_item word front behind s none = ap items_of (s.parts ∙ (ap (λ l. front ++ l) none ∙ append-nil front)) ∙ items_of-last front s.passes
+
+-- a word whose first item has a comma
+pub first_item : (word front behind rest : List ℕ) (c : ℕ) → Splits (λ c. not (c == 44)) word front behind → behind ≡ c ∷ rest → items_of word ≡ front ∷ items_of rest
+first_item word front behind rest c s e =
+    let stop : not (c == 44) ≡ false = subst (Stops (λ c. not (c == 44))) e s.stops in
+    ap items_of (s.parts ∙ ap (λ l. front ++ l) e) ∙ items_of-next front rest c s.passes stop

@@ -1,0 +1,9 @@
+//! Scripts and reports: what the player and the running nodes are told, and what is told of a run.
+#![tactic(auto)]
+
+mod faults;
+mod instructions;
+mod words;
+
+pub use faults::{BadKind, ScriptError};
+pub use instructions::{Instruction, LineList, ScriptLine, StepEvent};
