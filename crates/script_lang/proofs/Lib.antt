@@ -1,1 +1,4 @@
+pub mod ItemLaws
+pub mod NumberLaws
+pub mod RuleLaws
 pub mod WordLaws

@@ -3,6 +3,7 @@
 
 mod faults;
 mod instructions;
+mod numbers;
 mod words;
 
 pub use faults::{BadKind, ScriptError};

@@ -1,6 +1,6 @@
 //! The lines, words and items of a text, from its front.
 
-ghost use Rattle.std.specs.Prelude.{◌≡◌, ◌==◌, ◌+◌, ◌<◌, ℕ, not, [], ◌∷◌, length, MatchOption};
+ghost use Rattle.std.specs.Prelude.{◌≡◌, ◌==◌, ◌+◌, ◌<◌, ℕ, not, [], ◌∷◌, length, IfSome, MatchOption};
 ghost use Rattle.std.specs.List.{prefix_len};
 ghost use Rattle.script_lang.specs.Words.{lines_of, words_of, items_of, is_blank, without_return};
 
@@ -65,7 +65,8 @@ fn is_blank(byte: u8) -> bool
 
 /// The first item of a word, and what stands behind the comma after it, if there is one.
 pub(crate) fn split_item(word: &[u8]) -> (&[u8], Option<&[u8]>)
-    ensures { MatchOption result.1 (items_of word.now ≡ result.0.now ∷ []) (λ rest. items_of word.now ≡ result.0.now ∷ items_of rest.now) }
+    ensures first { MatchOption result.1 (items_of word.now ≡ result.0.now ∷ []) (λ rest. items_of word.now ≡ result.0.now ∷ items_of rest.now) }
+    ensures shorter { IfSome result.1 (λ rest. length rest.now < length word.now) }
 {
     let (item, behind) = word.split_at(item_length(word));
     match behind.split_first() {

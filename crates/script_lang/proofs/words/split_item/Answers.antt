@@ -7,12 +7,12 @@ use Rattle.script_lang.proofs.words.split_item.Goals as goal
 pub split_at-requires : goal.split_at-requires
 split_at-requires c = rw c.item_length.ensures (prefix_len-le-length _ c.args.word.now)
 
-pub returns-in-Some : goal.returns-in-Some
-returns-in-Some c =
+pub returns-in-Some-clause-first : goal.returns-in-Some-clause-first
+returns-in-Some-clause-first c =
     let s = split_is (λ c. not (c == 44)) c.args.word.now c.split_at.result.0.now c.split_at.result.1.now c.item_length.result c.item_length.ensures c.split_at.ensures.front c.split_at.ensures.back in
     first_item c.args.word.now c.split_at.result.0.now c.split_at.result.1.now _ _ s c.in-Some.ensures.cases.0
 
-pub returns-in-None : goal.returns-in-None
-returns-in-None c =
+pub returns-in-None-clause-first : goal.returns-in-None-clause-first
+returns-in-None-clause-first c =
     let s = split_is (λ c. not (c == 44)) c.args.word.now c.split_at.result.0.now c.split_at.result.1.now c.item_length.result c.item_length.ensures c.split_at.ensures.front c.split_at.ensures.back in
     only_item c.args.word.now c.split_at.result.0.now c.split_at.result.1.now s (nothing c.split_at.result.1.now c.in-None.ensures.cases)
