@@ -3,6 +3,7 @@
 
 mod faults;
 mod instructions;
+mod names;
 mod numbers;
 mod words;
 
