@@ -1,4 +1,5 @@
 pub mod Names
 pub mod Numbers
 pub mod Rules
+pub mod Said
 pub mod Words

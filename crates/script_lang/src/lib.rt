@@ -1,8 +1,10 @@
 //! Scripts and reports: what the player and the running nodes are told, and what is told of a run.
 #![tactic(auto)]
 
+mod arguments;
 mod faults;
 mod instructions;
+mod lines;
 mod names;
 mod numbers;
 mod words;
