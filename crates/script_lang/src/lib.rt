@@ -7,6 +7,7 @@ mod instructions;
 mod lines;
 mod names;
 mod numbers;
+mod progress;
 mod words;
 
 pub use faults::{BadKind, ScriptError};
