@@ -1,5 +1,5 @@
 -- What fits the lines before, and what a line leaves behind it.
-use Rattle.std.specs.Prelude.{◌≡◌, ℕ, ◌+◌, ◌<◌, ◌==◌, ◌&&◌, not, nat_lt, nat_le, Bool, true, false, if◌then◌else◌, List, [], ◌∷◌, length, Option, Some, None, is_none, Result, slice_index_or}
+use Rattle.std.specs.Prelude.{◌≡◌, ℕ, ◌+◌, ◌<◌, ◌≤◌, ◌==◌, ◌&&◌, not, nat_lt, nat_le, Bool, true, false, if◌then◌else◌, List, [], ◌∷◌, length, Option, Some, None, is_none, Result, slice_index_or}
 use Rattle.std.specs.Ordering.{nat_cmp}
 use Rattle.std.specs.BTreeMap.{get}
 use Rattle.hd_base.specs.declared.numbers.BlockId.{BlockId}
@@ -115,8 +115,9 @@ before_of p = record {
   read = p.read;
 }
 
--- the nodes that a line's stop or start names are below this many
-abbrev pub StopsBelow : ℕ → Instruction → Type 0
-StopsBelow nodes (says.Stop node) = node.0 < nodes
-StopsBelow nodes (says.Start node) = node.0 < nodes
-StopsBelow nodes _ = Unit {0}
+-- There are at most 16 nodes, and a node that stops or starts is one of them.
+abbrev pub IsInRange : Instruction → Type 0
+IsInRange (says.Nodes count) = count ≤ 16
+IsInRange (says.Stop node) = node.0 < 16
+IsInRange (says.Start node) = node.0 < 16
+IsInRange _ = Unit {0}

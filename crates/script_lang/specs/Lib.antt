@@ -3,4 +3,5 @@ pub mod Names
 pub mod Numbers
 pub mod Rules
 pub mod Said
+pub mod Scripts
 pub mod Words

@@ -9,12 +9,6 @@ abbrev pub by_rules : {A : Type 0} → List (BadKind × Bool) → A → Result A
 by_rules [] value = Ok value
 by_rules (rule ∷ rules) value = if rule.1 then by_rules rules value else Err rule.0
 
--- what a line says where the part before says this
-infixl 10 ◌>>=◌
-abbrev pub ◌>>=◌ : {A B : Type 0} → Result A BadKind → (A → Result B BadKind) → Result B BadKind
-(Ok x) >>= f = f x
-(Err e) >>= f = Err e
-
 -- The result is what was said, or memory ran out.
 abbrev pub Gives : {A : Type 0} → Result A Stop → Result A BadKind → Type 0
 Gives (Ok x) said = said ≡ Ok x

@@ -1,6 +1,7 @@
 -- What a line's words say where the script has so many nodes, or the kind of the first rule that they break by themselves.
-use Rattle.std.specs.Prelude.{ℕ, ◌*◌, ◌&&◌, nat_lt, nat_le, ◌^◌, ◌-◌, Bool, List, [], ◌∷◌, Result, Ok, Err, codes, bytes_eq}
-use Rattle.std.specs.List.{list_all}
+use Rattle.std.specs.Prelude.{ℕ, ◌<◌, ◌≤◌, ◌&&◌, nat_lt, nat_le, ◌^◌, ◌-◌, Bool, List, [], ◌∷◌, Result, Ok, Err, codes, bytes_eq}
+use Rattle.std.specs.List.{list_all, All}
+use Rattle.hd_base.specs.Results.{◌>>=◌}
 use Rattle.hd_base.specs.Wire.{state_name}
 use Rattle.hd_base.specs.declared.numbers.BlockId.{BlockId}
 use Rattle.hd_base.specs.declared.numbers.NodeId.{NodeId}
@@ -17,7 +18,7 @@ use Rattle.script_lang.specs.declared.names.Keyword.{Keyword}
 use Rattle.script_lang.specs.declared.names.Keyword.TheVariants as keyword
 use Rattle.script_lang.specs.declared.names.EventName.{EventName}
 use Rattle.script_lang.specs.declared.names.EventName.TheVariants as event
-use Rattle.script_lang.specs.Rules.{◌>>=◌, by_rules}
+use Rattle.script_lang.specs.Rules.{by_rules}
 use Rattle.script_lang.specs.Names.{named, keyword_name, keywords, sum_name, sum_kinds, states, event_name, events}
 use Rattle.script_lang.specs.Numbers.{value_of, is_number, is_number_within, is_hex, bytes_of, are_items, are_members, members_of, node}
 
@@ -228,3 +229,18 @@ unfoldable pub body_said : ℕ → List ℕ → List (List ℕ) → Result Instr
 body_said nodes word words = do
   keyword ← named keyword_name keywords word
   keyword_said keyword nodes words
+
+-- ---- which nodes a line names
+
+-- each node that the line names is below this many; `nodes N` names all below N
+abbrev pub NamesBelow : ℕ → Instruction → Type 0
+NamesBelow nodes (says.Nodes count) = count ≤ nodes
+NamesBelow nodes (says.Create block members) = All (λ member. member.0 < nodes) members
+NamesBelow nodes (says.Append block members) = All (λ member. member.0 < nodes) members
+NamesBelow nodes (says.Read block at offset count) = at.0 < nodes
+NamesBelow nodes (says.Recover block at members) = (at.0 < nodes) × All (λ member. member.0 < nodes) members
+NamesBelow nodes (says.Fault at nth) = at.0 < nodes
+NamesBelow nodes (says.Stop stopped) = stopped.0 < nodes
+NamesBelow nodes (says.Start started) = started.0 < nodes
+NamesBelow nodes (says.Expect at block state stamp written) = at.0 < nodes
+NamesBelow nodes _ = Unit {0}

@@ -90,13 +90,13 @@ pub struct ScriptLine {
     pub instruction: Instruction,
 }
 
-/// Lines of a script in order, seen as their list.
+/// A script: its lines that say something, in order, seen as their list.
 #[derive(Debug, Drop)]
-pub struct LineList {
+pub struct Script {
     lines: Vec<ScriptLine>,
 }
 
-impl Model for LineList {
+impl Model for Script {
     ghost use Rattle.std.specs.Prelude.{List};
     ghost use Rattle.script_lang.specs.declared.instructions.ScriptLine.{ScriptLine};
 
@@ -105,19 +105,19 @@ impl Model for LineList {
     ghost view = { λ l. l.lines.items };
 }
 
-impl LineList {
-    /// The list of these lines.
-    pub fn from_vec(lines: Vec<ScriptLine>) -> LineList
+impl Script {
+    /// The script of these lines.
+    pub fn from_vec(lines: Vec<ScriptLine>) -> Script
         ensures { result ≡ lines.items }
     {
-        LineList { lines }
+        Script { lines }
     }
 
     /// The lines, in the vector that holds them: nothing is copied.
     pub fn into_vec(self) -> Vec<ScriptLine>
         ensures { result.items ≡ self }
     {
-        let LineList { lines } = self;
+        let Script { lines } = self;
         lines
     }
 

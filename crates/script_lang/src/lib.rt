@@ -8,7 +8,9 @@ mod lines;
 mod names;
 mod numbers;
 mod progress;
+mod reading;
 mod words;
 
 pub use faults::{BadKind, ScriptError};
-pub use instructions::{Instruction, LineList, ScriptLine, StepEvent};
+pub use instructions::{Instruction, Script, ScriptLine, StepEvent};
+pub use reading::{MAX_SCRIPT_LINES, MAX_SCRIPT_SIZE, read_script};

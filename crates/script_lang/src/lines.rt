@@ -10,11 +10,8 @@ use crate::faults::{BadKind, Stop};
 use crate::instructions::{Instruction, StepEvent};
 use crate::names::{EventName, Keyword, read_event, read_keyword, read_state, read_sum_kind};
 use crate::numbers::{bytes, members, node, number, number_within};
-use hd_base::Stamp;
+use hd_base::{MAX_NODES, Stamp};
 use std::alloc::Global;
-
-/// The most nodes of a script.
-const MAX_SCRIPT_NODES: u64 = 16;
 
 /// The most events of one `run` line.
 const MAX_RUN: u64 = 1_000_000;
@@ -24,7 +21,7 @@ const MAX_RUN: u64 = 1_000_000;
 pub(crate) fn nodes(shelves: u64, line: &[u8]) -> Result<Instruction, BadKind>
     ensures { result ≡ nodes_said shelves (words_of line.now) }
 {
-    let count = number_within(one(line)?, 1, MAX_SCRIPT_NODES)?;
+    let count = number_within(one(line)?, 1, u64::from(MAX_NODES))?;
     if count > shelves {
         return Err(BadKind::TooManyNodes);
     }

@@ -3,13 +3,15 @@
 ghost use Rattle.std.specs.Prelude.{◌≡◌, ◌<◌, ◌≤◌, ◌+◌, ◌∷◌, [], ◌&&◌, not, nat_lt, nat_le, is_none, OnOk, true, false};
 ghost use Rattle.hd_base.specs.Results.{with_value};
 ghost use Rattle.script_lang.specs.Rules.{by_rules, Gives};
-ghost use Rattle.script_lang.specs.Fits.{Before, start, is_open, is_closed, is_created, block_rule, most_blocks, most_bytes, with_stage, with_stopped, after, fit_rules, taken, before_of, StopsBelow};
 
 use crate::faults::{BadKind, Stop};
 use crate::instructions::Instruction;
-use hd_base::{BlockId, NodeId};
+use hd_base::{BlockId, MAX_NODES, NodeId};
 use std::alloc::{AllocError, Global};
 use std::collections::BTreeMap;
+
+/// A slot for each node that there may be.
+const NODE_SLOTS: usize = MAX_NODES as usize;
 
 /// The most blocks that a script creates.
 const MAX_BLOCKS: u64 = 1_024;
@@ -46,14 +48,17 @@ pub(crate) struct Progress {
     pub head: Head,
     /// How many nodes there are.
     pub nodes: u32,
-    stopped: [bool; 16],
+    stopped: [bool; NODE_SLOTS],
     blocks: BTreeMap<u64, Stage>,
     created: u64,
     written: u64,
     read: u64,
+    ghost few: { nodes ≤ 16 },
 }
 
 impl Progress {
+    ghost use Rattle.script_lang.specs.Fits.{start, is_open, is_closed, is_created, block_rule, most_blocks, most_bytes, with_stage, with_stopped, taken, before_of, IsInRange};
+
     /// Before the first line.
     pub fn new(alloc: Global) -> Progress
         ensures { before_of result ≡ start }
@@ -61,7 +66,7 @@ impl Progress {
         Progress {
             head: Head::Nodes,
             nodes: 0,
-            stopped: [false; 16],
+            stopped: [false; NODE_SLOTS],
             blocks: BTreeMap::new(alloc),
             created: 0,
             written: 0,
@@ -71,7 +76,7 @@ impl Progress {
 
     /// Takes a line, which must fit those before it.
     pub fn take(&mut self, line: &Instruction) -> Result<(), Stop>
-        requires { StopsBelow 16 line.now }
+        requires { IsInRange line.now }
         ensures { Gives (with_value (λ _. before_of self.new) result) (taken (before_of self.old) line.now) }
     {
         match line {
@@ -252,7 +257,7 @@ impl Progress {
 
 /// A sum of bytes with more of them, which must be within the limit.
 fn total(bytes: u64, more: u64) -> Result<u64, BadKind>
-    ensures { result ≡ by_rules ((BadKind.TooMuch, nat_le (bytes + more) most_bytes) ∷ []) (bytes + more) }
+    ensures { result ≡ by_rules ((BadKind.TooMuch, nat_le (bytes + more) MAX_BYTES) ∷ []) (bytes + more) }
 {
     match bytes.checked_add(more) {
         Some(total) if total <= MAX_BYTES => Ok(total),
