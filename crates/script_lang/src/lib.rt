@@ -9,6 +9,8 @@ mod names;
 mod numbers;
 mod progress;
 mod reading;
+#[cfg(test)]
+mod tests;
 mod words;
 
 pub use faults::{BadKind, ScriptError};
