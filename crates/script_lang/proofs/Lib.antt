@@ -1,5 +1,6 @@
 pub mod ItemLaws
 pub mod NumberLaws
+pub mod ReportLaws
 pub mod RuleLaws
 pub mod SaidLaws
 pub mod ScriptLaws

@@ -4,7 +4,7 @@ use Rattle.std.specs.List.{prefix_len, list_all}
 use Rattle.std.proofs.lemmas.Bool.{and_parts, eqb-true, eq-eqb}
 use Rattle.std.proofs.lemmas.Bool.Decides.{nat_tests, eqb_tells}
 use Rattle.std.proofs.lemmas.Grind.{common_steps}
-use Rattle.script_lang.specs.Words.{into_first, begins_with_newline, lines_of, is_nothing, without_return, is_blank, begins_with_word, words_of, items_of}
+use Rattle.script_lang.specs.Words.{into_first, begins_with_newline, lines_of, is_nothing, without_return, is_blank, begins_with_word, words_of, parts_of}
 
 pub not_true : (b : Bool) → not b ≡ true → b ≡ false
 not_true true e = cc
@@ -176,34 +176,38 @@ first_word line front behind [] (c ∷ rest) some s t =
 first_word line front behind (c ∷ word) rest some s t =
     ap words_of s.parts ∙ (words_of-blanks front behind s.passes ∙ (ap words_of t.parts ∙ words_of-word c word rest t.passes t.stops))
 
--- ---- items
+-- ---- parts
 
-abbrev comma_free : List ℕ → Bool
-comma_free cs = list_all (λ c. not (c == 44)) cs
+-- the separator doesn't stand in it
+abbrev pub is_free_of : ℕ → List ℕ → Bool
+is_free_of separator cs = list_all (λ c. not (c == separator)) cs
 
-items_of-more : (c : ℕ) (cs : List ℕ) → (c == 44) ≡ false → items_of (c ∷ cs) ≡ into_first c (items_of cs)
-items_of-more c cs first = rw first refl
+parts_of-more : (s c : ℕ) (cs : List ℕ) → (c == s) ≡ false → parts_of s (c ∷ cs) ≡ into_first c (parts_of s cs)
+parts_of-more s c cs first = rw first refl
 
--- the last item of a word
-pub items_of-last : (item : List ℕ) → comma_free item ≡ true → items_of item ≡ item ∷ []
-items_of-last [] all = refl
-items_of-last (c ∷ cs) all =
-    let both = and_parts (not (c == 44)) (comma_free cs) all in
-    items_of-more c cs (not_true (c == 44) both.0) ∙ ap (into_first c) (items_of-last cs both.1)
+parts_of-separator : (s c : ℕ) (cs : List ℕ) → (c == s) ≡ true → parts_of s (c ∷ cs) ≡ [] ∷ parts_of s cs
+parts_of-separator s c cs first = rw first refl
 
--- an item up to its comma
-pub items_of-next : (item rest : List ℕ) (c : ℕ) → comma_free item ≡ true → not (c == 44) ≡ false → items_of (item ++ c ∷ rest) ≡ item ∷ items_of rest
-items_of-next [] rest c all stop = rw (not_false (c == 44) stop) refl
-items_of-next (d ∷ item) rest c all stop =
-    let both = and_parts (not (d == 44)) (comma_free item) all in
-    items_of-more d (item ++ c ∷ rest) (not_true (d == 44) both.0) ∙ ap (into_first d) (items_of-next item rest c both.1 stop)
+-- the last part of a text
+pub parts_of-last : (s : ℕ) (part : List ℕ) → is_free_of s part ≡ true → parts_of s part ≡ part ∷ []
+parts_of-last s [] all = refl
+parts_of-last s (c ∷ cs) all =
+    let both = and_parts (not (c == s)) (is_free_of s cs) all in
+    parts_of-more s c cs (not_true (c == s) both.0) ∙ ap (into_first c) (parts_of-last s cs both.1)
 
--- a word with no comma
-pub only_item : (word front behind : List ℕ) → Splits (λ c. not (c == 44)) word front behind → behind ≡ [] → items_of word ≡ front ∷ []
-only_item word front behind s none = ap items_of (s.parts ∙ (ap (λ l. front ++ l) none ∙ append-nil front)) ∙ items_of-last front s.passes
+-- a part up to its separator
+pub parts_of-next : (s : ℕ) (part rest : List ℕ) (c : ℕ) → is_free_of s part ≡ true → not (c == s) ≡ false → parts_of s (part ++ c ∷ rest) ≡ part ∷ parts_of s rest
+parts_of-next s [] rest c all stop = parts_of-separator s c rest (not_false (c == s) stop)
+parts_of-next s (d ∷ part) rest c all stop =
+    let both = and_parts (not (d == s)) (is_free_of s part) all in
+    parts_of-more s d (part ++ c ∷ rest) (not_true (d == s) both.0) ∙ ap (into_first d) (parts_of-next s part rest c both.1 stop)
 
--- a word whose first item has a comma
-pub first_item : (word front behind rest : List ℕ) (c : ℕ) → Splits (λ c. not (c == 44)) word front behind → behind ≡ c ∷ rest → items_of word ≡ front ∷ items_of rest
-first_item word front behind rest c s e =
-    let stop : not (c == 44) ≡ false = subst (Stops (λ c. not (c == 44))) e s.stops in
-    ap items_of (s.parts ∙ ap (λ l. front ++ l) e) ∙ items_of-next front rest c s.passes stop
+-- a text with no separator
+pub only_part : (s : ℕ) (text front behind : List ℕ) → Splits (λ c. not (c == s)) text front behind → behind ≡ [] → parts_of s text ≡ front ∷ []
+only_part s text front behind p none = ap (parts_of s) (p.parts ∙ (ap (λ l. front ++ l) none ∙ append-nil front)) ∙ parts_of-last s front p.passes
+
+-- a text whose first part has a separator behind it
+pub first_part : (s : ℕ) (text front behind rest : List ℕ) (c : ℕ) → Splits (λ c. not (c == s)) text front behind → behind ≡ c ∷ rest → parts_of s text ≡ front ∷ parts_of s rest
+first_part s text front behind rest c p e =
+    let stop : not (c == s) ≡ false = subst (Stops (λ c. not (c == s))) e p.stops in
+    ap (parts_of s) (p.parts ∙ ap (λ l. front ++ l) e) ∙ parts_of-next s front rest c p.passes stop

@@ -51,7 +51,11 @@ words_of (c ∷ cs) =
     else if begins_with_word cs then into_first c (words_of cs)
     else (c ∷ []) ∷ words_of cs
 
--- The items of a word: what stands between commas, which may be nothing.
+-- The parts of a text: what stands between these bytes, which may be nothing.
+abbrev pub parts_of : ℕ → List ℕ → List (List ℕ)
+parts_of separator [] = [] ∷ []
+parts_of separator (c ∷ cs) = if c == separator then [] ∷ parts_of separator cs else into_first c (parts_of separator cs)
+
+-- the items of a word: what stands between commas
 abbrev pub items_of : List ℕ → List (List ℕ)
-items_of [] = [] ∷ []
-items_of (c ∷ cs) = if c == 44 then [] ∷ items_of cs else into_first c (items_of cs)
+items_of word = parts_of 44 word

@@ -7,8 +7,10 @@ mod instructions;
 mod lines;
 mod names;
 mod numbers;
+mod printing;
 mod progress;
 mod reading;
+mod report;
 #[cfg(test)]
 mod tests;
 mod words;

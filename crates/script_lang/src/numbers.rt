@@ -5,7 +5,7 @@ ghost use Rattle.script_lang.specs.Rules.{by_rules, Gives};
 ghost use Rattle.script_lang.specs.Numbers.{value_of, is_number, is_number_within, is_hex, bytes_of, digits_on, is_item, is_member, are_items, are_members, members_of, node};
 
 use crate::faults::{BadKind, Stop};
-use crate::words::split_item;
+use crate::words::split_part;
 use hd_base::{ByteList, MAX_MEMBERS, Members, NodeId};
 use hex::FromHexError;
 use std::alloc::Global;
@@ -98,7 +98,7 @@ fn named_members(word: &[u8], nodes: u32) -> Result<Members, BadKind>
     let mut count = 0;
     let mut rest = Some(word);
     'items: while let Some(text) = rest {
-        let (item, behind) = split_item(text);
+        let (item, behind) = split_part(text, b',');
         let member = member(item, nodes)?;
         if count == MAX_MEMBERS {
             return Err(BadKind::Member);
@@ -127,7 +127,7 @@ fn check_items(word: &[u8]) -> Result<(), BadKind>
 {
     let mut rest = Some(word);
     'items: while let Some(text) = rest {
-        let (item, behind) = split_item(text);
+        let (item, behind) = split_part(text, b',');
         check_item(item)?;
         rest = behind;
     }

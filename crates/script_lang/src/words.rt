@@ -1,8 +1,8 @@
-//! The lines, words and items of a text, from its front.
+//! The lines, words and parts of a text, from its front.
 
 ghost use Rattle.std.specs.Prelude.{◌≡◌, ◌==◌, ◌+◌, ◌<◌, ℕ, not, [], ◌∷◌, length, IfSome, MatchOption};
 ghost use Rattle.std.specs.List.{prefix_len};
-ghost use Rattle.script_lang.specs.Words.{lines_of, words_of, items_of, is_blank, without_return};
+ghost use Rattle.script_lang.specs.Words.{lines_of, words_of, parts_of, is_blank, without_return};
 
 /// The first line of a text that isn't empty, without its end, and what stands behind its end.
 pub(crate) fn split_line(text: &[u8]) -> (&[u8], &[u8])
@@ -63,21 +63,21 @@ fn is_blank(byte: u8) -> bool
     byte == b' ' || byte == b'\t'
 }
 
-/// The first item of a word, and what stands behind the comma after it, if there is one.
-pub(crate) fn split_item(word: &[u8]) -> (&[u8], Option<&[u8]>)
-    ensures first { MatchOption result.1 (items_of word.now ≡ result.0.now ∷ []) (λ rest. items_of word.now ≡ result.0.now ∷ items_of rest.now) }
-    ensures shorter { IfSome result.1 (λ rest. length rest.now < length word.now) }
+/// The first part of a text, and what stands behind the separator after it, if there is one.
+pub(crate) fn split_part(text: &[u8], separator: u8) -> (&[u8], Option<&[u8]>)
+    ensures first { MatchOption result.1 (parts_of separator text.now ≡ result.0.now ∷ []) (λ rest. parts_of separator text.now ≡ result.0.now ∷ parts_of separator rest.now) }
+    ensures shorter { IfSome result.1 (λ rest. length rest.now < length text.now) }
 {
-    let (item, behind) = word.split_at(item_length(word));
+    let (part, behind) = text.split_at(part_length(text, separator));
     match behind.split_first() {
-        Some((_, rest)) => (item, Some(rest)),
-        None => (item, None),
+        Some((_, rest)) => (part, Some(rest)),
+        None => (part, None),
     }
 }
 
-/// How many bytes stand before the first comma, or in all.
-fn item_length(word: &[u8]) -> usize
-    ensures { result ≡ prefix_len (λ c. not (c == 44)) word.now }
+/// How many bytes stand before the first separator, or in all.
+fn part_length(text: &[u8], separator: u8) -> usize
+    ensures { result ≡ prefix_len (λ c. not (c == separator)) text.now }
 {
-    word.iter().take_while(|byte| **byte != b',').count()
+    text.iter().take_while(|byte| **byte != separator).count()
 }

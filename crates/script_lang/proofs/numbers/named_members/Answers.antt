@@ -18,20 +18,20 @@ left_is rest text item (Some r) e f = e ∙ f
 pub returns-then-count-eq-MAX_MEMBERS : goal.returns-then-count-eq-MAX_MEMBERS
 returns-then-count-eq-MAX_MEMBERS c =
     let K : List (List ℕ) → Type 0 = λ l. Keeps c.args.nodes c.items.count c.args.word.now (take c.items.count c.items.named) l in
-    let left = left_is c.items.rest c.in-Some.text.now c.split_item.result.0.now c.split_item.result.1 (ap left_of c.in-Some.is) c.split_item.ensures.first in
+    let left = left_is c.items.rest c.in-Some.text.now c.split_part.result.0.now c.split_part.result.1 (ap left_of c.in-Some.is) c.split_part.ensures.first in
     let no = too_many c.args.nodes c.items.count c.args.word.now _ _ _ (subst K left c.items.invariant.keeps) c.if-count-eq-MAX_MEMBERS.true in
     rw no refl
 
 pub items-preserved : goal.items-preserved
 items-preserved c =
     let K : List (List ℕ) → Type 0 = λ l. Keeps c.args.nodes c.items.count c.args.word.now (take c.items.count c.items.named) l in
-    let left = left_is c.items.rest c.in-Some.text.now c.split_item.result.0.now c.split_item.result.1 (ap left_of c.in-Some.is) c.split_item.ensures.first in
-    let member = rule_ok kind.Member (is_member c.args.nodes c.split_item.result.0.now) _ _ c.in_ok-member.ensures in
+    let left = left_is c.items.rest c.in-Some.text.now c.split_part.result.0.now c.split_part.result.1 (ap left_of c.in-Some.is) c.split_part.ensures.first in
+    let member = rule_ok kind.Member (is_member c.args.nodes c.split_part.result.0.now) _ _ c.in_ok-member.ensures in
     let more = one_more c.args.nodes c.items.count c.args.word.now _ _ _ (subst K left c.items.invariant.keeps) member.0 in
     let here : c.items.count < length c.items.named = grind (arith, common_steps, c.items.invariant.room) in
     let put : take (c.items.count + 1) (set c.items.named c.items.count c.in_ok-member.member) ≡ take c.items.count c.items.named ++ c.in_ok-member.member ∷ [] = rw add-one (take-suc-set c.items.named c.items.count c.in_ok-member.member here) in
     record {
-      keeps = subst (λ l. Keeps c.args.nodes (c.items.count + 1) c.args.word.now l (left_of c.split_item.result.1)) (ap (λ n. take c.items.count c.items.named ++ n ∷ []) member.1 ∙ sym put) more;
+      keeps = subst (λ l. Keeps c.args.nodes (c.items.count + 1) c.args.word.now l (left_of c.split_part.result.1)) (ap (λ n. take c.items.count c.items.named ++ n ∷ []) member.1 ∙ sym put) more;
       few = grind (arith, common_steps);
       room = grind (arith, common_steps, c.items.invariant.room);
     }
