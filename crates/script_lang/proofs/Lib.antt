@@ -1,4 +1,5 @@
 pub mod ItemLaws
+pub mod MemberLaws
 pub mod NumberLaws
 pub mod ReportLaws
 pub mod RuleLaws

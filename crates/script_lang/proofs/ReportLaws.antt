@@ -5,6 +5,7 @@ use Rattle.std.proofs.lemmas.Bool.{eqb-true}
 use Rattle.std.proofs.lemmas.Bool.Decides.{eqb_tells}
 use Rattle.script_lang.specs.Words.{into_first, parts_of}
 use Rattle.script_lang.specs.Reports.{spaced, words_text}
+use Rattle.script_lang.proofs.WordLaws.{parts_of-some}
 
 cons_tail : (a b : ℕ) (xs ys : List ℕ) → a ∷ xs ≡ b ∷ ys → xs ≡ ys
 cons_tail a b xs ys e = cc
@@ -32,3 +33,9 @@ spaced-parts (c ∷ cs) = parts_step c cs (spaced-parts cs)
 pub appended : {T E : Type 0} (r : Result T E) (old mid new w ws zs : List ℕ) → mid ≡ old ++ w → OnOk r (new ≡ mid ++ ws) → ws ≡ zs → OnOk r (new ≡ old ++ (w ++ zs))
 appended (Ok x) old mid new w ws zs e f same = f ∙ (ap (λ l. l ++ ws) e ∙ (append_assoc old w ws ∙ ap (λ l. old ++ (w ++ l)) same))
 appended (Err x) old mid new w ws zs e f same = tt
+
+-- the parts of a text with spaces between them are the text
+pub words_text-parts : (text : List ℕ) → words_text (parts_of 32 text) ≡ text
+words_text-parts text =
+    let p = parts_of-some 32 text in
+    ap words_text p.1.1 ∙ cons_tail 32 32 (p.0 ++ spaced p.1.0) text (sym (ap spaced p.1.1) ∙ spaced-parts text)

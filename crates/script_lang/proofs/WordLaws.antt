@@ -211,3 +211,13 @@ pub first_part : (s : ℕ) (text front behind rest : List ℕ) (c : ℕ) → Spl
 first_part s text front behind rest c p e =
     let stop : not (c == s) ≡ false = subst (Stops (λ c. not (c == s))) e p.stops in
     ap (parts_of s) (p.parts ∙ ap (λ l. front ++ l) e) ∙ parts_of-next s front rest c p.passes stop
+
+-- a text has a part, though it may be nothing
+pub parts_of-some : (s : ℕ) (text : List ℕ) → (part : List ℕ) × ((parts : List (List ℕ)) × (parts_of s text ≡ part ∷ parts))
+parts_of-some s [] = ([], ([], refl))
+parts_of-some s (c ∷ cs) =
+    let behind = parts_of-some s cs in
+    elim (eqb_tells c s) [
+      | inl same ↦ ([], (parts_of s cs, parts_of-separator s c cs same.0))
+      | inr other ↦ (c ∷ behind.0, (behind.1.0, parts_of-more s c cs other.0 ∙ ap (into_first c) behind.1.1))
+    ]

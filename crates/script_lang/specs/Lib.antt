@@ -1,6 +1,7 @@
 pub mod Fits
 pub mod Names
 pub mod Numbers
+pub mod ReportReading
 pub mod Reports
 pub mod Rules
 pub mod Said

@@ -11,6 +11,8 @@ mod printing;
 mod progress;
 mod reading;
 mod report;
+mod report_reading;
+mod report_words;
 #[cfg(test)]
 mod tests;
 mod words;

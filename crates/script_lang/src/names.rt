@@ -140,7 +140,14 @@ const STATES: [ReplicaState; 5] = [
 pub(crate) fn read_state(word: &[u8]) -> Result<ReplicaState, BadKind>
     ensures { result ≡ named state_name all_states word.now }
 {
-    find_state(&STATES, word).ok_or(BadKind::Word)
+    state_named(word).ok_or(BadKind::Word)
+}
+
+/// The state of a replica with this name.
+pub(crate) fn state_named(word: &[u8]) -> Option<ReplicaState>
+    ensures { result ≡ find (λ x. bytes_eq (state_name x) word.now) all_states }
+{
+    find_state(&STATES, word)
 }
 
 /// The first of these states with this name.

@@ -297,7 +297,7 @@ fn push_word(out: &mut Vec<u8>, word: &[u8]) -> Result<(), AllocError>
 
 /// The office's refusal in a report.
 #[tactic(auto, unfolding(crate::specs::Reports::refusal_name))]
-fn refusal_name(refusal: OfficeRefusal) -> &'static [u8]
+pub(crate) fn refusal_name(refusal: OfficeRefusal) -> &'static [u8]
     ensures { result.now ≡ name_of_refusal refusal }
 {
     match refusal {
