@@ -1,5 +1,11 @@
+pub mod FieldLaws
+pub mod InverseLaws
 pub mod ItemLaws
+pub mod LineAgains
+pub mod LineFronts
+pub mod LineTexts
 pub mod MemberLaws
+pub mod MemberTextLaws
 pub mod NumberLaws
 pub mod ReportLaws
 pub mod RuleLaws

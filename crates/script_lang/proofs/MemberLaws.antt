@@ -34,7 +34,7 @@ too_many front all left item more n kept e is full = at (nodes_of more) (sym (ap
       let many : nat_le (length (front ++ n ∷ others)) 16 ≡ false = grind (arith, nat_tests, length-append front (n ∷ others)) in
       ap (λ o. o >>= few_distinct) (sym k) ∙ not_few (front ++ n ∷ others) many
 
-same_nodes : (nodes : List NodeId) → map node (numbers_in nodes) ≡ nodes
+pub same_nodes : (nodes : List NodeId) → map node (numbers_in nodes) ≡ nodes
 same_nodes [] = refl
 same_nodes (n ∷ nodes) = ap (λ l. n ∷ l) (same_nodes nodes)
 

@@ -1,6 +1,7 @@
 -- What the words of a report line say.
 use Rattle.std.specs.Prelude.{◌≡◌, ℕ, ◌+◌, ◌<◌, ◌≤◌, ◌==◌, ◌^◌, ◌&&◌, nat_lt, nat_le, Bool, if◌then◌else◌, List, [], ◌∷◌, ◌++◌, length, map, find, bytes_eq, Option, Some, None, Result, Ok, Err, codes, IfSome, All}
 use Rattle.std.specs.Borrow.{Bor}
+use Rattle.std.specs.List.{AllByRecursion}
 use Rattle.std.specs.Int.{w32, from_be_bytes}
 use Rattle.hex.specs.Hex.{encode_lower, decode_sized}
 use Rattle.hex.specs.declared.error.FromHexError.{FromHexError}
@@ -303,3 +304,52 @@ abbrev pub Says : {A : Type 0} → Result A LineFault → Option A → Type 0
 Says (Ok x) said = said ≡ Some x
 Says (Err fault.Line) said = said ≡ None
 Says (Err fault.Memory) said = Unit {0}
+
+-- ---- what a line of the program's types may hold
+
+-- at most 16 distinct nodes
+pub record IsMembers (nodes : List NodeId) : Type 0 where
+  pub few : length nodes ≤ 16
+  pub distinct : AllDistinct nodes
+  pub each : AllByRecursion (λ n. n.0 < 2 ^ 32) nodes
+
+abbrev pub HoldsFailure : Failure → Type 0
+HoldsFailure (failure.Abandoned n) = n.0 < 2 ^ 32
+HoldsFailure (failure.AllBad n) = n.0 < 2 ^ 32
+HoldsFailure (failure.Lost stamp) = stamp.0 < 2 ^ 64
+HoldsFailure _ = Unit {0}
+
+abbrev pub HoldsSetup : SetupResult → Type 0
+HoldsSetup (setup.Ok stamp) = stamp.0 < 2 ^ 64
+HoldsSetup (setup.Failed why) = HoldsFailure why
+
+abbrev pub HoldsFlush : FlushResult → Type 0
+HoldsFlush (flush.Ok length stamp members) = (length < 2 ^ 64) × (stamp.0 < 2 ^ 64) × IsMembers members
+HoldsFlush (flush.Failed why) = HoldsFailure why
+
+abbrev pub HoldsAnswer : Answer → Type 0
+HoldsAnswer (answer.Create result) = HoldsSetup result
+HoldsAnswer (answer.Append result) = HoldsSetup result
+HoldsAnswer (answer.Hflush result) = HoldsFlush result
+HoldsAnswer (answer.Hsync result) = HoldsFlush result
+HoldsAnswer (answer.Close result) = HoldsFlush result
+
+abbrev pub HoldsRead : ReadResult → Type 0
+HoldsRead (read.Ok sum) = sum < 2 ^ 32
+HoldsRead (read.BadSum chunk) = chunk < 2 ^ 64
+HoldsRead _ = Unit {0}
+
+abbrev pub HoldsRecovery : RecoveryResult → Type 0
+HoldsRecovery (recovery.Ok id length members) = (id.0 < 2 ^ 64) × (length < 2 ^ 64) × IsMembers members
+HoldsRecovery (recovery.Unequal first second) = (first < 2 ^ 64) × (second < 2 ^ 64)
+HoldsRecovery _ = Unit {0}
+
+-- The numbers of a line have the bits of their types, and its members are some.
+abbrev pub Holds : ReportLine → Type 0
+Holds (line.Replica n block state stamp written acked sum) =
+    (n.0 < 2 ^ 32) × (block.0 < 2 ^ 64) × (stamp.0 < 2 ^ 64) × (written < 2 ^ 64) × (acked < 2 ^ 64) × IfSome sum (λ s. s < 2 ^ 32)
+Holds (line.Down n) = n.0 < 2 ^ 32
+Holds (line.Answer block ordinal result) = (block.0 < 2 ^ 64) × (ordinal < 2 ^ 64) × HoldsAnswer result
+Holds (line.Read number result) = (number < 2 ^ 64) × HoldsRead result
+Holds (line.Recovery number result) = (number < 2 ^ 64) × HoldsRecovery result
+Holds line.End = Unit {0}

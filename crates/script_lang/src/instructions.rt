@@ -9,25 +9,50 @@ use std::marker::Model;
 #[derive(Debug, PartialEq, Eq, Drop)]
 pub enum Instruction {
     /// `nodes N`: there are so many DataNodes, 1 to 16, numbered from 0.
-    Nodes { count: u32 },
+    Nodes {
+        count: u32,
+    },
     /// `seed S`: where the drawing of events begins.
-    Seed { seed: u64 },
+    Seed {
+        seed: u64,
+    },
     /// `sums B KIND CHUNK`: the rule of the block's sums.
-    Sums { block: BlockId, rule: SumRule },
+    Sums {
+        block: BlockId,
+        rule: SumRule,
+    },
     /// `create B MEMBERS`: the client makes the block and its pipeline.
-    Create { block: BlockId, members: Members },
+    Create {
+        block: BlockId,
+        members: Members,
+    },
     /// `append B MEMBERS`: the client opens a closed block again.
-    Append { block: BlockId, members: Members },
+    Append {
+        block: BlockId,
+        members: Members,
+    },
     /// `write B HEX`: the client appends these bytes, at least one.
-    Write { block: BlockId, bytes: ByteList },
+    Write {
+        block: BlockId,
+        bytes: ByteList,
+    },
     /// `fill B COUNT`: the client appends so many bytes, at least one.
-    Fill { block: BlockId, count: u64 },
+    Fill {
+        block: BlockId,
+        count: u64,
+    },
     /// `hflush B`: the client waits until readers see what it has written.
-    Hflush { block: BlockId },
+    Hflush {
+        block: BlockId,
+    },
     /// `hsync B`: the client waits until that is also on the members' disks.
-    Hsync { block: BlockId },
+    Hsync {
+        block: BlockId,
+    },
     /// `close B`: the client closes the block.
-    Close { block: BlockId },
+    Close {
+        block: BlockId,
+    },
     /// `read B NODE OFFSET LEN`: a reading client asks the node for so many bytes.
     Read {
         block: BlockId,
@@ -49,17 +74,29 @@ pub enum Instruction {
         up: u64,
     },
     /// `fault NODE NTH`: the write with this number to come, from 1, to a data file at the node fails.
-    Fault { node: NodeId, nth: u64 },
+    Fault {
+        node: NodeId,
+        nth: u64,
+    },
     /// `stop NODE`: the node's process stops.
-    Stop { node: NodeId },
+    Stop {
+        node: NodeId,
+    },
     /// `start NODE`: the node's process starts again.
-    Start { node: NodeId },
+    Start {
+        node: NodeId,
+    },
     /// `run K`: up to so many drawn events, at most 1,000,000.
-    Run { events: u64 },
+    Run {
+        events: u64,
+    },
     /// `settle`: drawn events until none is enabled.
     Settle,
     /// `step B ..`: one event of the block's pipeline.
-    Step { block: BlockId, event: StepEvent },
+    Step {
+        block: BlockId,
+        event: StepEvent,
+    },
     /// `expect NODE B STATE STAMP LENGTH`: what the node's replica is at the end.
     Expect {
         node: NodeId,

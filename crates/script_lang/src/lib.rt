@@ -17,6 +17,12 @@ mod report_words;
 mod tests;
 mod words;
 
-pub use faults::{BadKind, ScriptError};
+pub use faults::{BadKind, LineFault, ScriptError};
 pub use instructions::{Instruction, Script, ScriptLine, StepEvent};
+pub use printing::print_line;
 pub use reading::{MAX_SCRIPT_LINES, MAX_SCRIPT_SIZE, read_script};
+pub use report::{
+    Answer, Failure, FlushResult, OfficeRefusal, ReadResult, RecoveryResult, ReportLine,
+    SetupResult,
+};
+pub use report_reading::read_line;

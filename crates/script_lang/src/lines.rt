@@ -49,7 +49,12 @@ pub(crate) fn body(alloc: Global, nodes: u32, word: &[u8], line: &[u8]) -> Resul
 }
 
 /// A line whose first word is known.
-fn instruction(alloc: Global, keyword: Keyword, nodes: u32, line: &[u8]) -> Result<Instruction, Stop>
+fn instruction(
+    alloc: Global,
+    keyword: Keyword,
+    nodes: u32,
+    line: &[u8],
+) -> Result<Instruction, Stop>
     ensures { Gives result (keyword_said keyword nodes (words_of line.now)) }
 {
     match keyword {

@@ -122,10 +122,7 @@ pub(crate) fn read_sum_kind(word: &[u8]) -> Result<SumKind, BadKind>
 fn find_sum_kind(kinds: &[SumKind], word: &[u8]) -> Option<SumKind>
     ensures { result ≡ find (λ x. bytes_eq (name_of_sums x) word.now) kinds.now }
 {
-    kinds
-        .iter()
-        .copied()
-        .find(|kind| sum_name(*kind) == word)
+    kinds.iter().copied().find(|kind| sum_name(*kind) == word)
 }
 
 const STATES: [ReplicaState; 5] = [
@@ -202,8 +199,5 @@ pub(crate) fn read_event(word: &[u8]) -> Result<EventName, BadKind>
 fn find_event(events: &[EventName], word: &[u8]) -> Option<EventName>
     ensures { result ≡ find (λ x. bytes_eq (name_of_event x) word.now) events.now }
 {
-    events
-        .iter()
-        .copied()
-        .find(|event| event.name() == word)
+    events.iter().copied().find(|event| event.name() == word)
 }

@@ -140,7 +140,7 @@ impl Progress {
     fn create(&mut self, block: BlockId) -> Result<(), Stop>
         ensures { Gives (with_value (λ _. before_of self.new) result)
             (by_rules ((BadKind.Block, not (is_created ((before_of self.old).stage block.0)) && nat_lt self.old.created most_blocks) ∷ [])
-                (with_stage (record (before_of self.old) { created = self.old.created + 1 }) block Stage.Open)) }
+            (with_stage (record (before_of self.old) { created = self.old.created + 1 }) block Stage.Open)) }
     {
         if self.is_created(block) || self.created >= MAX_BLOCKS {
             return Err(Stop::Bad(BadKind::Block));
@@ -184,7 +184,7 @@ impl Progress {
     fn write(&mut self, block: BlockId, count: u64) -> Result<(), BadKind>
         ensures { with_value (λ _. before_of self.new) result
             ≡ by_rules (block_rule is_open (before_of self.old) block ∷ (BadKind.TooMuch, nat_le (self.old.written + count) most_bytes) ∷ [])
-                (record (before_of self.old) { written = self.old.written + count }) }
+            (record (before_of self.old) { written = self.old.written + count }) }
     {
         self.flush(block)?;
         self.written = total(self.written, count)?;
@@ -195,7 +195,7 @@ impl Progress {
     fn read(&mut self, block: BlockId, count: u64) -> Result<(), BadKind>
         ensures { with_value (λ _. before_of self.new) result
             ≡ by_rules (block_rule is_created (before_of self.old) block ∷ (BadKind.TooMuch, nat_le (self.old.read + count) most_bytes) ∷ [])
-                (record (before_of self.old) { read = self.old.read + count }) }
+            (record (before_of self.old) { read = self.old.read + count }) }
     {
         self.look_up(block)?;
         self.read = total(self.read, count)?;

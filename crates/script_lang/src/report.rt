@@ -16,7 +16,9 @@ pub enum ReportLine {
         sum: Option<u32>,
     },
     /// A stopped node.
-    Down { node: NodeId },
+    Down {
+        node: NodeId,
+    },
     /// How a client command was answered; its ordinal counts the block's client commands from 0.
     Answer {
         block: BlockId,
@@ -24,9 +26,15 @@ pub enum ReportLine {
         answer: Answer,
     },
     /// What the `read` line with this number gave.
-    Read { line: u64, result: ReadResult },
+    Read {
+        line: u64,
+        result: ReadResult,
+    },
     /// What the `recover` line with this number gave.
-    Recovery { line: u64, result: RecoveryResult },
+    Recovery {
+        line: u64,
+        result: RecoveryResult,
+    },
     /// The end of the report.
     End,
 }
@@ -128,7 +136,10 @@ pub enum RecoveryResult {
     /// No replica is left to recover.
     Nothing,
     /// Two finalized replicas have these lengths.
-    Unequal { first: u64, second: u64 },
+    Unequal {
+        first: u64,
+        second: u64,
+    },
     /// No member was updated.
     NoneUpdated,
     /// The office refused it.

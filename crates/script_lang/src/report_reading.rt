@@ -1,12 +1,13 @@
 //! Lines of reports, read.
 
-ghost use Rattle.std.specs.Prelude.{◌≡◌, ◌<◌, ◌^◌, find, bytes_eq, option_map, IfOk, None, Some};
+ghost use Rattle.std.specs.Prelude.{◌≡◌, ◌<◌, ◌^◌, find, bytes_eq, option_map, IfOk, IsErrOf, None, Some};
 ghost use Rattle.hd_base.specs.Wire.{state_name};
 ghost use Rattle.script_lang.specs.Words.{parts_of};
 ghost use Rattle.script_lang.specs.Names.{states};
 ghost use Rattle.script_lang.specs.Numbers.{node};
+ghost use Rattle.script_lang.specs.declared.report.ReportLine.{ReportLine};
 ghost use Rattle.script_lang.specs.Reports.{refusal_name, printed};
-ghost use Rattle.script_lang.specs.ReportReading.{found, line_name, line_names, command_name, commands, result_name, results, refusals, number_of, node_of, sum_of, members_of, left_of, next as next_of, no_more, failure_said, setup_by, setup_said, flushed_said, flush_by, flush_said, answer_by, text_said, whole_said, bad_sum_said, numbered_said, read_by, recovered_said, unequal_said, recovery_by, items_named, mark, sum_said, replica_said, down_said, answer_said, read_said, recovery_said, line_by, line_said, Says};
+ghost use Rattle.script_lang.specs.ReportReading.{found, line_name, line_names, command_name, commands, result_name, results, refusals, number_of, node_of, sum_of, members_of, left_of, next as next_of, no_more, failure_said, setup_by, setup_said, flushed_said, flush_by, flush_said, answer_by, text_said, whole_said, bad_sum_said, numbered_said, read_by, recovered_said, unequal_said, recovery_by, items_named, mark, sum_said, replica_said, down_said, answer_said, read_said, recovery_said, line_by, line_said, Holds, Says};
 
 use crate::faults::LineFault;
 use crate::names::state_named;
@@ -18,7 +19,9 @@ use crate::report_words::{
     CommandWord, LineWord, ResultWord, command_word, line_word, refusal_word, result_word,
 };
 use crate::words::split_part;
-use hd_base::{BlockId, ByteList, MAX_MEMBERS, Members, NodeId, ReplicaState, Stamp, least_decimal};
+use hd_base::{
+    BlockId, ByteList, MAX_MEMBERS, Members, NodeId, ReplicaState, Stamp, least_decimal,
+};
 use std::alloc::Global;
 
 /// The words of a line that are left, with one space between them; `None` where no word is left.
@@ -533,6 +536,18 @@ fn line(alloc: Global, text: &[u8]) -> Result<ReportLine, LineFault>
         Some((LineWord::Read, left)) => read_line_of(alloc, left),
         Some((LineWord::Recovery, left)) => recovery_line(left).ok_or(LineFault::Line),
         Some((LineWord::End, left)) => end(left).ok_or(LineFault::Line),
+        None => Err(LineFault::Line),
+    }
+}
+
+/// Reads a line of a report, with its LF. `Line` comes exactly where no report line prints to these bytes.
+pub fn read_line(alloc: Global, bytes: &[u8]) -> Result<ReportLine, LineFault>
+    ensures found { IfOk result (λ line. printed line ≡ bytes.now) }
+    ensures only { (line : ReportLine) → Holds line → printed line ≡ bytes.now → Says result (Some line) }
+    ensures none { IsErrOf result LineFault.Line → (line : ReportLine) → Holds line → printed line ≡ bytes.now → ⊥ }
+{
+    match bytes.strip_suffix(b"\n") {
+        Some(text) => line(alloc, text),
         None => Err(LineFault::Line),
     }
 }

@@ -41,10 +41,22 @@ fn the_head_is_read_as_any_line(rt: HostRuntime) {
     let bad = |line: u64, kind: BadKind| Some(ScriptError::Bad { line, kind });
     assert_eq!(rt; fault_of(rt.alloc(), b"nodes\n"), bad(1, BadKind::Arity));
     assert_eq!(rt; fault_of(rt.alloc(), b"nodes 0\n"), bad(1, BadKind::Number));
-    assert_eq!(rt; fault_of(rt.alloc(), b"nodes 17\n"), bad(1, BadKind::Number));
-    assert_eq!(rt; fault_of(rt.alloc(), b"nodes 3\n"), bad(1, BadKind::TooManyNodes));
-    assert_eq!(rt; fault_of(rt.alloc(), b"nodes 1\nseed 0 0\n"), bad(2, BadKind::Arity));
-    assert_eq!(rt; fault_of(rt.alloc(), b"nodes 1\nseed -1\n"), bad(2, BadKind::Number));
+    assert_eq!(rt;
+        fault_of(rt.alloc(), b"nodes 17\n"),
+        bad(1, BadKind::Number)
+    );
+    assert_eq!(rt;
+        fault_of(rt.alloc(), b"nodes 3\n"),
+        bad(1, BadKind::TooManyNodes)
+    );
+    assert_eq!(rt;
+        fault_of(rt.alloc(), b"nodes 1\nseed 0 0\n"),
+        bad(2, BadKind::Arity)
+    );
+    assert_eq!(rt;
+        fault_of(rt.alloc(), b"nodes 1\nseed -1\n"),
+        bad(2, BadKind::Number)
+    );
 }
 
 /// Bodies of one line that break a rule by themselves.
