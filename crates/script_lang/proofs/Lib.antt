@@ -1,4 +1,5 @@
 pub mod FieldLaws
+pub mod GrammarLaws
 pub mod InverseLaws
 pub mod ItemLaws
 pub mod LineAgains

@@ -19,16 +19,11 @@ use Rattle.script_lang.specs.declared.names.Keyword.TheVariants as keyword
 use Rattle.script_lang.specs.declared.names.EventName.{EventName}
 use Rattle.script_lang.specs.declared.names.EventName.TheVariants as event
 use Rattle.script_lang.specs.Words.{items_of}
-use Rattle.script_lang.specs.Rules.{by_rules}
+use Rattle.script_lang.specs.Rules.{by_rules, AllKept}
 use Rattle.script_lang.specs.Names.{named, keyword_name, keywords, sum_name, sum_kinds, states, event_name, events}
 use Rattle.script_lang.specs.Numbers.{value_of, is_number, is_number_within, is_hex, bytes_of, are_items, is_member, are_members, are_distinct, numbers_of, members_of, node}
 use Rattle.script_lang.specs.Said
 use Rattle.script_lang.specs.Fits.{IsInRange}
-
--- each rule is kept
-abbrev pub AllKept : List (BadKind × Bool) → Type 0
-AllKept [] = Unit {0}
-AllKept (rule ∷ rules) = (rule.1 ≡ true) × AllKept rules
 
 -- rules that were kept, and the value behind them
 pub kept : {A : Type 0} (rules : List (BadKind × Bool)) (v w : A) → by_rules rules v ≡ Ok w → AllKept rules × (v ≡ w)
@@ -235,7 +230,7 @@ seed_free words i e =
 
 -- a line whose nodes are below 16
 pub in_range : (nodes : ℕ) (i : Instruction) → nodes ≤ 16 → Said.NamesBelow nodes i → IsInRange i
-in_range nodes (says.Nodes count) few names = omega arith
+in_range nodes (says.Nodes count) few names = absurd names
 in_range nodes (says.Stop n) few names = omega arith
 in_range nodes (says.Start n) few names = omega arith
 in_range nodes _ few names = tt

@@ -1,4 +1,5 @@
 pub mod Fits
+pub mod Grammar
 pub mod Names
 pub mod Numbers
 pub mod ReportReading

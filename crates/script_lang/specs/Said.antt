@@ -232,9 +232,10 @@ body_said nodes word words = do
 
 -- ---- which nodes a line names
 
--- each node that the line names is below this many; `nodes N` names all below N
+-- The line is none of the head, and each node that it names is below this many.
 abbrev pub NamesBelow : ℕ → Instruction → Type 0
-NamesBelow nodes (says.Nodes count) = count ≤ nodes
+NamesBelow nodes (says.Nodes count) = ⊥
+NamesBelow nodes (says.Seed seed) = ⊥
 NamesBelow nodes (says.Create block members) = All (λ member. member.0 < nodes) members
 NamesBelow nodes (says.Append block members) = All (λ member. member.0 < nodes) members
 NamesBelow nodes (says.Read block at offset count) = at.0 < nodes

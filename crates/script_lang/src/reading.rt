@@ -1,10 +1,13 @@
 //! Scripts, read line by line.
 
-ghost use Rattle.std.specs.Prelude.{◌≡◌, ◌+◌, ◌≤◌, ◌∷◌, [], bytes_eq, IfOk, IfSome, OnOk, Some};
+ghost use Rattle.std.specs.Prelude.{◌≡◌, ◌+◌, ◌≤◌, ◌∷◌, [], ℕ, List, bytes_eq, IfOk, IfErr, IfSome, OnOk, Some, Ok, Err};
 ghost use Rattle.std.specs.List.{list_all};
 ghost use Rattle.hd_base.specs.Results.{with_value, with_cause};
 ghost use Rattle.script_lang.specs.Rules.{by_rules, Gives};
 ghost use Rattle.script_lang.specs.Words.{is_plain, words_of, lines_of};
+ghost use Rattle.script_lang.specs.declared.faults.BadKind.{BadKind};
+ghost use Rattle.script_lang.specs.declared.instructions.ScriptLine.{ScriptLine};
+ghost use Rattle.script_lang.specs.Grammar.{IsScript, IsBad, IsBadFor};
 ghost use Rattle.script_lang.specs.Fits.{start, before_of, IsInRange};
 ghost use Rattle.script_lang.specs.Scripts.{most_lines, line_rules, command_said, words_said, line_said, told, line_told, script_from, script_of, Reads};
 
@@ -21,9 +24,20 @@ pub const MAX_SCRIPT_SIZE: usize = 16_777_216;
 /// The most lines of a script.
 pub const MAX_SCRIPT_LINES: u64 = 65_536;
 
-/// Reads a script for so many shelves.
-#[tactic(auto, unfolding(crate::specs::Scripts::script_of))]
+/// Reads a script for so many shelves, in one pass over the bytes. `Bad` names the first line that
+/// breaks a rule, and the first rule that it breaks.
 pub fn read_script(alloc: Global, bytes: &[u8], shelves: u64) -> Result<Script, ScriptError>
+    ensures found { IfOk result (IsScript shelves bytes.now) }
+    ensures only { (lines : List ScriptLine) → IsScript shelves bytes.now lines → Reads result (Ok lines) }
+    ensures bad { IfErr result (IsBadFor shelves bytes.now) }
+    ensures refused { (line : ℕ) (kind : BadKind) → IsBad shelves bytes.now line kind → Reads result (Err (line, kind)) }
+{
+    read_text(alloc, bytes, shelves)
+}
+
+/// Reads the lines of a text that isn't too long.
+#[tactic(auto, unfolding(crate::specs::Scripts::script_of))]
+fn read_text(alloc: Global, bytes: &[u8], shelves: u64) -> Result<Script, ScriptError>
     ensures { Reads result (script_of shelves bytes.now) }
 {
     if bytes.len() > MAX_SCRIPT_SIZE {
