@@ -12,4 +12,5 @@ pub mod ReportLaws
 pub mod RuleLaws
 pub mod SaidLaws
 pub mod ScriptLaws
+pub mod WholeLaws
 pub mod WordLaws

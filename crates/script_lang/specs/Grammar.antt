@@ -1,6 +1,6 @@
 -- What a script is, and which line of another text is bad and of which kind.
-use Rattle.std.specs.Prelude.{◌≡◌, ◌⊎◌, ℕ, ◌+◌, ◌<◌, ◌≤◌, Bool, true, false, List, [], ◌∷◌, ◌++◌, length, Option, Some, None, Result, Ok, Err}
-use Rattle.std.specs.List.{AllByRecursion}
+use Rattle.std.specs.Prelude.{◌≡◌, ◌==◌, ◌⊎◌, ℕ, ◌+◌, ◌<◌, ◌≤◌, Bool, true, false, List, [], ◌∷◌, ◌++◌, length, Option, Some, None, Result, Ok, Err}
+use Rattle.std.specs.List.{AllByRecursion, list_any}
 use Rattle.hd_base.specs.declared.numbers.BlockId.{BlockId}
 use Rattle.script_lang.specs.declared.faults.BadKind.{BadKind}
 use Rattle.script_lang.specs.declared.faults.BadKind.TheVariants as kind
@@ -57,3 +57,51 @@ IsBad shelves text bad why =
 abbrev pub IsBadFor : ℕ → List ℕ → ScriptError → Type 0
 IsBadFor shelves text (error.Bad line why) = IsBad shelves text line why
 IsBadFor shelves text error.Memory = Unit {0}
+
+-- ---- what holds of every script
+
+-- The first two lines are `nodes N` and `seed S`, N is at most 16 and no more than the shelves, and each node that a later line names is below N.
+pub record NamesItsNodes (shelves : ℕ) (said : List ScriptLine) : Type 0 where
+  pub nodes : ℕ
+  pub seed : ℕ
+  pub first : ℕ
+  pub second : ℕ
+  pub body : List ScriptLine
+  pub parts : said ≡ numbered first (says.Nodes nodes) ∷ numbered second (says.Seed seed) ∷ body
+  pub few : nodes ≤ 16
+  pub shelved : nodes ≤ shelves
+  pub named : AllByRecursion (λ line. NamesBelow nodes line.instruction) body
+
+-- how many bytes a line writes, and how many it reads
+abbrev pub written_by : Instruction → ℕ
+written_by (says.Write block bytes) = length bytes
+written_by (says.Fill block count) = count
+written_by _ = 0
+
+abbrev pub read_by : Instruction → ℕ
+read_by (says.Read block node offset count) = count
+read_by _ = 0
+
+-- what lines write, or read, together
+abbrev pub total_of : (Instruction → ℕ) → List ScriptLine → ℕ
+total_of by [] = 0
+total_of by (line ∷ lines) = by line.instruction + total_of by lines
+
+-- whether a line opens this block again, and whether it needs the block open
+abbrev pub is_append_of : ℕ → Instruction → Bool
+is_append_of b (says.Append block members) = block.0 == b
+is_append_of b _ = false
+
+abbrev pub writes_to : ℕ → Instruction → Bool
+writes_to b (says.Write block bytes) = block.0 == b
+writes_to b (says.Fill block count) = block.0 == b
+writes_to b (says.Hflush block) = block.0 == b
+writes_to b (says.Hsync block) = block.0 == b
+writes_to b (says.Close block) = block.0 == b
+writes_to b _ = false
+
+-- Between a close of a block and a later line that needs it open, a line opens it again.
+abbrev pub OpensBeforeWrites : List ScriptLine → Type 0
+OpensBeforeWrites said =
+    (b : BlockId) (n m : ℕ) (i : Instruction) (front between rest : List ScriptLine) → said ≡ front ++ numbered n (says.Close b) ∷ (between ++ numbered m i ∷ rest) → writes_to b.0 i ≡ true
+    → list_any (λ line. is_append_of b.0 line.instruction) between ≡ true

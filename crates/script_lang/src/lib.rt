@@ -4,6 +4,7 @@
 mod arguments;
 mod faults;
 mod instructions;
+mod laws;
 mod lines;
 mod names;
 mod numbers;
@@ -12,6 +13,8 @@ mod progress;
 mod reading;
 mod report;
 mod report_reading;
+#[cfg(test)]
+mod report_tests;
 mod report_words;
 #[cfg(test)]
 mod tests;
@@ -19,6 +22,7 @@ mod words;
 
 pub use faults::{BadKind, LineFault, ScriptError};
 pub use instructions::{Instruction, Script, ScriptLine, StepEvent};
+pub use laws::{script_lengths_fit, script_names_its_nodes, script_opens_before_writes};
 pub use printing::print_line;
 pub use reading::{MAX_SCRIPT_LINES, MAX_SCRIPT_SIZE, read_script};
 pub use report::{

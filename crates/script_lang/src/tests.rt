@@ -1,6 +1,6 @@
 //! Worked scripts, one line for each rule, and reading with memory that runs out.
 
-use crate::{BadKind, Instruction, Script, ScriptError, ScriptLine, StepEvent, read_script};
+use crate::{BadKind, Instruction, ScriptError, ScriptLine, StepEvent, read_script};
 use hd_base::{BlockId, ByteList, Members, NodeId, ReplicaState, Stamp, SumKind, SumRule};
 use std::alloc::{AllocError, Global};
 use std::test::Fail;
@@ -100,5 +100,155 @@ fn a_line_breaks_a_rule(rt: HostRuntime) -> Result<(), Fail> {
     for (line, kind) in LINES {
         assert_eq!(rt; fault(rt.alloc(), line)?, Some((3, kind)));
     }
+    Ok(())
+}
+
+/// Bodies of two lines, of which the second doesn't fit the first.
+const PAIRS: [(&[u8], BadKind); 14] = [
+    (b"create 1 0\ncreate 1 1", BadKind::Block),
+    (b"create 1 0\nappend 1 0", BadKind::Block),
+    (b"create 1 0\nsums 1 null 512", BadKind::Block),
+    (b"sums 1 null 512\nsums 1 crc32 16", BadKind::Block),
+    (b"sums 1 null 512\nhflush 1", BadKind::Block),
+    (b"create 1 0\nhsync 2", BadKind::Block),
+    (b"create 1 0\nread 2 0 0 33554433", BadKind::Block),
+    (b"create 1 0\nrecover 2 0 0", BadKind::Block),
+    (b"create 1 0\ncut 2 0 0 0", BadKind::Block),
+    (b"create 1 0\nstep 2 writer", BadKind::Block),
+    (b"create 1 0\nfill 1 33554433", BadKind::TooMuch),
+    (b"create 1 0\nread 1 0 0 33554433", BadKind::TooMuch),
+    (b"stop 1\nstop 01", BadKind::Node),
+    (b"# \r\nstart 1", BadKind::Node),
+];
+
+#[test]
+fn a_line_does_not_fit(rt: HostRuntime) -> Result<(), Fail> {
+    for (body, kind) in PAIRS {
+        assert_eq!(rt; fault(rt.alloc(), body)?, Some((4, kind)));
+    }
+    Ok(())
+}
+
+/// Bodies that are good.
+const GOOD: [&[u8]; 8] = [
+    b"",
+    b" \t \n#\n \tsettle \t\r\nrun 1000000",
+    b"create 18446744073709551615 0,1,02\nclose 18446744073709551615\nappend 18446744073709551615 2",
+    b"sums 1 crc32c 65536\ncreate 1 0\nfill 1 33554432\nread 1 2 9 33554432",
+    b"expect 2 7 TEMPORARY 0 0\nfault 0 1\nfault 0 2",
+    b"create 1 0\nstep 1 writer\nstep 1 down 0\nstep 1 ready 0\nstep 1 up 0\ncut 1 9 9 9",
+    b"create 1 0\nwrite 1 aAfF00\nhflush 1\nhsync 1\nclose 1\nrecover 1 2 0,2",
+    b"stop 0\nfault 0 1\nstart 0\nstop 0",
+];
+
+#[test]
+fn good_bodies_are_read(rt: HostRuntime) -> Result<(), Fail> {
+    for body in GOOD {
+        assert_eq!(rt; fault(rt.alloc(), body)?, None);
+    }
+    Ok(())
+}
+
+#[test]
+fn a_long_text_is_refused(rt: HostRuntime) -> Result<(), Fail> {
+    let bad = |line: u64, kind: BadKind| Some(ScriptError::Bad { line, kind });
+    let text = vec![in rt.alloc(); b'\n'; 65_537]?;
+    assert_eq!(rt;
+        fault_of(rt.alloc(), text.as_slice()),
+        bad(65_537, BadKind::Lines)
+    );
+    let text = vec![in rt.alloc(); b' '; 16_777_217]?;
+    assert_eq!(rt;
+        fault_of(rt.alloc(), text.as_slice()),
+        bad(0, BadKind::TooLong)
+    );
+    let text = vec![in rt.alloc(); b' '; 16_777_216]?;
+    assert_eq!(rt;
+        fault_of(rt.alloc(), text.as_slice()),
+        bad(2, BadKind::Head)
+    );
+    Ok(())
+}
+
+/// A first write.
+const FIRST_WRITE: &[u8] =
+    b"nodes 1\nseed 0\ncreate 1073741825 0\nwrite 1073741825 313233343536373839\nclose 1073741825\n";
+
+#[test]
+fn a_first_write_is_read(rt: HostRuntime) -> Result<(), Fail> {
+    let script = read_script(rt.alloc(), FIRST_WRITE, 1)?;
+    let lines = script.as_slice();
+    assert_eq!(rt; lines.len(), 5);
+    let block = BlockId(1_073_741_825);
+    assert_eq!(rt; lines[0].instruction, Instruction::Nodes { count: 1 });
+    let write = Instruction::Write {
+        block,
+        bytes: ByteList::from_slice(rt.alloc(), b"123456789")?,
+    };
+    assert_eq!(rt;
+        lines[3],
+        ScriptLine {
+            number: 4,
+            instruction: write
+        }
+    );
+    assert_eq!(rt; lines[4].instruction, Instruction::Close { block });
+    Ok(())
+}
+
+#[test]
+fn each_word_has_its_place(rt: HostRuntime) -> Result<(), Fail> {
+    let text =
+        b"nodes 3\nseed 7\ncreate 1 2,0\n\nread 1 2 3 4\ncut 1 5 6 7\nexpect 1 2 RWR 8 9\nstep 1 up 2";
+    let script = read_script(rt.alloc(), text, 3)?;
+    let lines = script.as_slice();
+    assert_eq!(rt; lines.len(), 7);
+    let block = BlockId(1);
+    let members = Members::new(&[NodeId(2), NodeId(0)]).ok_or("members")?;
+    assert_eq!(rt;
+        lines[2].instruction,
+        Instruction::Create { block, members }
+    );
+    let read = Instruction::Read {
+        block,
+        node: NodeId(2),
+        offset: 3,
+        count: 4,
+    };
+    assert_eq!(rt;
+        lines[3],
+        ScriptLine {
+            number: 5,
+            instruction: read
+        }
+    );
+    let cut = Instruction::Cut {
+        block,
+        connection: 5,
+        down: 6,
+        up: 7,
+    };
+    assert_eq!(rt; lines[4].instruction, cut);
+    let expect = Instruction::Expect {
+        node: NodeId(1),
+        block: BlockId(2),
+        state: ReplicaState::Rwr,
+        stamp: Stamp(8),
+        written: 9,
+    };
+    assert_eq!(rt; lines[5].instruction, expect);
+    let event = StepEvent::Up { connection: 2 };
+    assert_eq!(rt; lines[6].instruction, Instruction::Step { block, event });
+    Ok(())
+}
+
+#[test]
+fn a_rule_of_sums_is_read(rt: HostRuntime) -> Result<(), Fail> {
+    let script = read_script(rt.alloc(), b"nodes 1\nseed 0\nsums 1 null 16", 1)?;
+    let lines = script.as_slice();
+    assert_eq!(rt; lines.len(), 3);
+    let rule = SumRule::new(SumKind::Null, 16).ok_or("rule")?;
+    let block = BlockId(1);
+    assert_eq!(rt; lines[2].instruction, Instruction::Sums { block, rule });
     Ok(())
 }
