@@ -99,6 +99,34 @@ after before (says.Stop node) = with_stopped before node true
 after before (says.Start node) = with_stopped before node false
 after before _ = before
 
+-- ---- the same, kind by kind
+
+-- a line that moves its block to this stage, from one that passes
+abbrev pub moved : (Option Stage → Bool) → Before → BlockId → Stage → Result Before BadKind
+moved test before block stage = by_rules (block_rule test before block ∷ []) (with_stage before block stage)
+
+-- a block that wasn't created before
+abbrev pub created_now : Before → BlockId → Result Before BadKind
+created_now before block =
+    by_rules ((kind.Block, not (is_created (before.stage block.0)) && nat_lt before.created most_blocks) ∷ [])
+    (with_stage (record before { created = before.created + 1 }) block stage.Open)
+
+-- so many bytes written to a block, and so many read of it
+abbrev pub wrote : Before → BlockId → ℕ → Result Before BadKind
+wrote before block count =
+    by_rules (block_rule is_open before block ∷ (kind.TooMuch, nat_le (before.written + count) most_bytes) ∷ []) (record before { written = before.written + count })
+
+abbrev pub has_read : Before → BlockId → ℕ → Result Before BadKind
+has_read before block count =
+    by_rules (block_rule is_created before block ∷ (kind.TooMuch, nat_le (before.read + count) most_bytes) ∷ []) (record before { read = before.read + count })
+
+-- a node that stops, and one that starts
+abbrev pub stopped_now : Before → NodeId → Result Before BadKind
+stopped_now before node = by_rules ((kind.Node, not (before.stopped node.0)) ∷ []) (with_stopped before node true)
+
+abbrev pub started_now : Before → NodeId → Result Before BadKind
+started_now before node = by_rules ((kind.Node, before.stopped node.0) ∷ []) (with_stopped before node false)
+
 -- what is taken where a line fits, and the first rule that it breaks else
 abbrev pub taken : Before → Instruction → Result Before BadKind
 taken before line = by_rules (fit_rules before line) (after before line)

@@ -25,7 +25,8 @@ abbrev pub AreGood : ℕ → ℕ → Before → List (List ℕ) → List ScriptL
 AreGood shelves number before [] said = (said ≡ []) × (head_is_there before.head ≡ true)
 AreGood shelves number before (line ∷ lines) said =
     ((line_said shelves number before line ≡ Ok None) × AreGood shelves (number + 1) before lines said)
-    ⊎ ((i : Instruction) × (rest : List ScriptLine) × (line_said shelves number before line ≡ Ok (Some i)) × AllKept (fit_rules before i) × (said ≡ numbered number i ∷ rest) × AreGood shelves (number + 1) (after before i) lines rest)
+    ⊎ ((i : Instruction) × (rest : List ScriptLine) × (line_said shelves number before line ≡ Ok (Some i)) × AllKept (fit_rules before i)
+    × (said ≡ numbered number i ∷ rest) × AreGood shelves (number + 1) (after before i) lines rest)
 
 -- A text is a script of these lines.
 pub record IsScript (shelves : ℕ) (text : List ℕ) (said : List ScriptLine) : Type 0 where
@@ -45,7 +46,8 @@ FirstBad shelves number before [] bad why = (bad ≡ number) × (why ≡ kind.He
 FirstBad shelves number before (line ∷ lines) bad kind =
     ((bad ≡ number) × Breaks shelves number before line kind)
     ⊎ (((line_said shelves number before line ≡ Ok None) × FirstBad shelves (number + 1) before lines bad kind)
-    ⊎ ((i : Instruction) × (line_said shelves number before line ≡ Ok (Some i)) × AllKept (fit_rules before i) × FirstBad shelves (number + 1) (after before i) lines bad kind))
+    ⊎ ((i : Instruction) × (line_said shelves number before line ≡ Ok (Some i)) × AllKept (fit_rules before i)
+    × FirstBad shelves (number + 1) (after before i) lines bad kind))
 
 -- A text is too long, or this is its first bad line.
 abbrev pub IsBad : ℕ → List ℕ → ℕ → BadKind → Type 0
@@ -59,6 +61,10 @@ IsBadFor shelves text (error.Bad line why) = IsBad shelves text line why
 IsBadFor shelves text error.Memory = Unit {0}
 
 -- ---- what holds of every script
+
+-- a fact of every script, and of the shelves that it was read for
+abbrev pub EachScript : (ℕ → List ScriptLine → Type 0) → Type 0
+EachScript P = (shelves : ℕ) (text : List ℕ) (said : List ScriptLine) → IsScript shelves text said → P shelves said
 
 -- The first two lines are `nodes N` and `seed S`, N is at most 16 and no more than the shelves, and each node that a later line names is below N.
 pub record NamesItsNodes (shelves : ℕ) (said : List ScriptLine) : Type 0 where
@@ -103,5 +109,6 @@ writes_to b _ = false
 -- Between a close of a block and a later line that needs it open, a line opens it again.
 abbrev pub OpensBeforeWrites : List ScriptLine → Type 0
 OpensBeforeWrites said =
-    (b : BlockId) (n m : ℕ) (i : Instruction) (front between rest : List ScriptLine) → said ≡ front ++ numbered n (says.Close b) ∷ (between ++ numbered m i ∷ rest) → writes_to b.0 i ≡ true
+    (b : BlockId) (n m : ℕ) (i : Instruction) (front between rest : List ScriptLine) →
+    said ≡ front ++ numbered n (says.Close b) ∷ (between ++ numbered m i ∷ rest) → writes_to b.0 i ≡ true
     → list_any (λ line. is_append_of b.0 line.instruction) between ≡ true

@@ -2,6 +2,7 @@ pub mod Fits
 pub mod Grammar
 pub mod Names
 pub mod Numbers
+pub mod Readers
 pub mod ReportReading
 pub mod Reports
 pub mod Rules

@@ -7,6 +7,7 @@ use Rattle.hd_base.specs.declared.numbers.BlockId.{BlockId}
 use Rattle.hd_base.specs.declared.numbers.NodeId.{NodeId}
 use Rattle.hd_base.specs.declared.numbers.Stamp.{Stamp}
 use Rattle.hd_base.specs.declared.states.ReplicaState.{ReplicaState}
+use Rattle.hd_base.specs.SumRules.{Rule}
 use Rattle.hd_base.specs.declared.sum_rule.SumKind.{SumKind}
 use Rattle.script_lang.specs.declared.faults.BadKind.{BadKind}
 use Rattle.script_lang.specs.declared.faults.BadKind.TheVariants as kind
@@ -70,6 +71,14 @@ numbers_rule words = (kind.Number, list_all is_number words)
 abbrev pub node_rule : ℕ → List ℕ → BadKind × Bool
 node_rule nodes word = (kind.Node, nat_lt (value_of word) nodes)
 
+-- the rule of sums that a kind and a word make
+abbrev pub rule_said : SumKind → List ℕ → Result Rule BadKind
+rule_said sum_kind chunk = by_rules ((kind.Number, is_number_within 16 65536 chunk) ∷ []) (record { kind = sum_kind; chunk = value_of chunk })
+
+-- the members that a word names
+abbrev pub members_said : ℕ → List ℕ → Result (List NodeId) BadKind
+members_said nodes word = by_rules ((kind.Number, are_items word) ∷ (kind.Member, are_members nodes word) ∷ []) (members_of word)
+
 -- ---- the head
 
 -- `nodes N`
@@ -93,7 +102,8 @@ sums_said words = do
   sums ← next_of block.1
   sum_kind ← named sum_name sum_kinds sums.0
   chunk ← one_of sums.1
-  by_rules ((kind.Number, is_number block.0 && is_number_within 16 65536 chunk) ∷ []) (says.Sums (block_of block.0) (record { kind = sum_kind; chunk = value_of chunk }))
+  by_rules ((kind.Number, is_number block.0 && is_number_within 16 65536 chunk) ∷ [])
+      (says.Sums (block_of block.0) (record { kind = sum_kind; chunk = value_of chunk }))
 
 -- `create B MEMBERS`, `append B MEMBERS`
 abbrev pub members_rules : ℕ → List ℕ → List ℕ → List (BadKind × Bool)
@@ -137,7 +147,8 @@ read_said nodes words = do
 unfoldable pub recover_said : ℕ → List (List ℕ) → Result Instruction BadKind
 recover_said nodes words = do
   w ← three_of words
-  by_rules ((kind.Number, is_number w.0 && is_number w.1 && are_items w.2) ∷ (kind.Member, are_members nodes w.2) ∷ node_rule nodes w.1 ∷ []) (says.Recover (block_of w.0) (node_of w.1) (members_of w.2))
+  by_rules ((kind.Number, is_number w.0 && is_number w.1 && are_items w.2) ∷ (kind.Member, are_members nodes w.2) ∷ node_rule nodes w.1 ∷ [])
+      (says.Recover (block_of w.0) (node_of w.1) (members_of w.2))
 
 -- `cut B K DOWN UP`
 unfoldable pub cut_said : List (List ℕ) → Result Instruction BadKind
@@ -201,7 +212,8 @@ expect_said nodes words = do
   name ← next_of block.1
   state ← named state_name states name.0
   w ← two_of name.1
-  by_rules (numbers_rule (first.0 ∷ block.0 ∷ w.0 ∷ w.1 ∷ []) ∷ node_rule nodes first.0 ∷ []) (says.Expect (node_of first.0) (block_of block.0) state (stamp_of w.0) (value_of w.1))
+  by_rules (numbers_rule (first.0 ∷ block.0 ∷ w.0 ∷ w.1 ∷ []) ∷ node_rule nodes first.0 ∷ [])
+      (says.Expect (node_of first.0) (block_of block.0) state (stamp_of w.0) (value_of w.1))
 
 -- a line whose first word is known
 abbrev pub keyword_said : Keyword → ℕ → List (List ℕ) → Result Instruction BadKind

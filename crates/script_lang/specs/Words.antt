@@ -1,5 +1,6 @@
 -- Lines, words and items of a text.
-use Rattle.std.specs.Prelude.{ℕ, ◌==◌, ◌&&◌, ◌||◌, not, nat_le, Bool, true, false, if◌then◌else◌, List, [], ◌∷◌}
+use Rattle.std.specs.Prelude.{◌≡◌, ℕ, ◌==◌, ◌&&◌, ◌||◌, not, nat_le, Bool, true, false, if◌then◌else◌, List, [], ◌∷◌, Option, Some, None}
+use Rattle.std.specs.Borrow.{Bor}
 
 -- parts of a text with one more byte in front of the first
 abbrev pub into_first : ℕ → List (List ℕ) → List (List ℕ)
@@ -55,6 +56,11 @@ words_of (c ∷ cs) =
 abbrev pub parts_of : ℕ → List ℕ → List (List ℕ)
 parts_of separator [] = [] ∷ []
 parts_of separator (c ∷ cs) = if c == separator then [] ∷ parts_of separator cs else into_first c (parts_of separator cs)
+
+-- the first part of a text, and what stands behind its separator, or nothing where it is the last
+abbrev pub IsFirstPart : ℕ → List ℕ → List ℕ → Option (Bor (List ℕ)) → Type 0
+IsFirstPart separator text part None = parts_of separator text ≡ part ∷ []
+IsFirstPart separator text part (Some rest) = parts_of separator text ≡ part ∷ parts_of separator rest.now
 
 -- the items of a word: what stands between commas
 abbrev pub items_of : List ℕ → List (List ℕ)

@@ -4,8 +4,8 @@ ghost use Rattle.std.specs.Prelude.{◌≡◌, ◌∷◌, []};
 ghost use Rattle.hd_base.specs.Results.{with_value};
 ghost use Rattle.script_lang.specs.Rules.{by_rules};
 ghost use Rattle.script_lang.specs.Words.{words_of};
-ghost use Rattle.script_lang.specs.Numbers.{is_number, is_number_within, value_of};
-ghost use Rattle.script_lang.specs.Said.{next_of, none_of, one_of, two_of, three_of, four_of, block_of, block_said, node_said};
+ghost use Rattle.script_lang.specs.Numbers.{is_number};
+ghost use Rattle.script_lang.specs.Said.{next_of, none_of, one_of, two_of, three_of, four_of, block_of, block_said, node_said, rule_said};
 
 use crate::faults::BadKind;
 use crate::numbers::{node, number, number_within};
@@ -79,7 +79,7 @@ pub(crate) fn block(word: &[u8]) -> Result<BlockId, BadKind>
 
 /// The rule of sums of this kind whose chunks have as many bytes as a word says.
 pub(crate) fn sum_rule(kind: SumKind, word: &[u8]) -> Result<SumRule, BadKind>
-    ensures { result ≡ by_rules ((BadKind.Number, is_number_within 16 65536 word.now) ∷ []) (record { kind = kind; chunk = value_of word.now }) }
+    ensures { result ≡ rule_said kind word.now }
 {
     let chunk = number_within(word, u64::from(MIN_CHUNK_SIZE), u64::from(MAX_CHUNK_SIZE))?;
     SumRule::new(kind, chunk as u32).ok_or(BadKind::Number)

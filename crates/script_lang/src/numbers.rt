@@ -2,6 +2,7 @@
 
 ghost use Rattle.std.specs.Prelude.{◌≡◌, ◌*◌, ◌+◌, ◌^◌, ◌<◌, ◌≤◌, ◌∷◌, [], SomeIff, true, nat_lt};
 ghost use Rattle.script_lang.specs.Rules.{by_rules, Gives};
+ghost use Rattle.script_lang.specs.Said.{members_said};
 ghost use Rattle.script_lang.specs.Numbers.{value_of, is_number, is_number_within, is_hex, bytes_of, digits_on, is_item, is_member, are_items, are_members, members_of, node};
 
 use crate::faults::{BadKind, Stop};
@@ -83,7 +84,7 @@ pub(crate) fn bytes(alloc: Global, word: &[u8]) -> Result<ByteList, Stop>
 /// The members that a word names, between commas: at most 16 distinct nodes below the number of
 /// nodes. That an item is no number is found first, wherever it stands.
 pub(crate) fn members(word: &[u8], nodes: u32) -> Result<Members, BadKind>
-    ensures { result ≡ by_rules ((BadKind.Number, are_items word.now) ∷ (BadKind.Member, are_members nodes word.now) ∷ []) (members_of word.now) }
+    ensures { result ≡ members_said nodes word.now }
 {
     check_items(word)?;
     named_members(word, nodes)

@@ -57,7 +57,7 @@ pub(crate) struct Progress {
 }
 
 impl Progress {
-    ghost use Rattle.script_lang.specs.Fits.{start, is_open, is_closed, is_created, block_rule, most_blocks, most_bytes, with_stage, with_stopped, taken, before_of, IsInRange};
+    ghost use Rattle.script_lang.specs.Fits.{start, is_open, is_closed, is_created, block_rule, with_stage, with_stopped, moved, created_now, wrote, has_read, stopped_now, started_now, taken, before_of, IsInRange};
 
     /// Before the first line.
     pub fn new(alloc: Global) -> Progress
@@ -127,8 +127,7 @@ impl Progress {
 
     /// `sums` of a block.
     fn rule(&mut self, block: BlockId) -> Result<(), Stop>
-        ensures { Gives (with_value (λ _. before_of self.new) result)
-            (by_rules (block_rule is_none (before_of self.old) block ∷ []) (with_stage (before_of self.old) block Stage.Ruled)) }
+        ensures { Gives (with_value (λ _. before_of self.new) result) (moved is_none (before_of self.old) block Stage.Ruled) }
     {
         if self.stage(block).is_some() {
             return Err(Stop::Bad(BadKind::Block));
@@ -138,9 +137,7 @@ impl Progress {
 
     /// `create` of a block.
     fn create(&mut self, block: BlockId) -> Result<(), Stop>
-        ensures { Gives (with_value (λ _. before_of self.new) result)
-            (by_rules ((BadKind.Block, not (is_created ((before_of self.old).stage block.0)) && nat_lt self.old.created most_blocks) ∷ [])
-            (with_stage (record (before_of self.old) { created = self.old.created + 1 }) block Stage.Open)) }
+        ensures { Gives (with_value (λ _. before_of self.new) result) (created_now (before_of self.old) block) }
     {
         if self.is_created(block) || self.created >= MAX_BLOCKS {
             return Err(Stop::Bad(BadKind::Block));
@@ -151,8 +148,7 @@ impl Progress {
 
     /// `append` to a block.
     fn append(&mut self, block: BlockId) -> Result<(), Stop>
-        ensures { Gives (with_value (λ _. before_of self.new) result)
-            (by_rules (block_rule is_closed (before_of self.old) block ∷ []) (with_stage (before_of self.old) block Stage.Open)) }
+        ensures { Gives (with_value (λ _. before_of self.new) result) (moved is_closed (before_of self.old) block Stage.Open) }
     {
         if self.stage(block) != Some(Stage::Closed) {
             return Err(Stop::Bad(BadKind::Block));
@@ -162,8 +158,7 @@ impl Progress {
 
     /// `close` of a block.
     fn close(&mut self, block: BlockId) -> Result<(), Stop>
-        ensures { Gives (with_value (λ _. before_of self.new) result)
-            (by_rules (block_rule is_open (before_of self.old) block ∷ []) (with_stage (before_of self.old) block Stage.Closed)) }
+        ensures { Gives (with_value (λ _. before_of self.new) result) (moved is_open (before_of self.old) block Stage.Closed) }
     {
         self.flush(block)?;
         Ok(self.set_stage(block, Stage::Closed)?)
@@ -182,9 +177,7 @@ impl Progress {
 
     /// `write` or `fill` of a block, by so many bytes.
     fn write(&mut self, block: BlockId, count: u64) -> Result<(), BadKind>
-        ensures { with_value (λ _. before_of self.new) result
-            ≡ by_rules (block_rule is_open (before_of self.old) block ∷ (BadKind.TooMuch, nat_le (self.old.written + count) most_bytes) ∷ [])
-            (record (before_of self.old) { written = self.old.written + count }) }
+        ensures { with_value (λ _. before_of self.new) result ≡ wrote (before_of self.old) block count }
     {
         self.flush(block)?;
         self.written = total(self.written, count)?;
@@ -193,9 +186,7 @@ impl Progress {
 
     /// `read` of a block, of so many bytes.
     fn read(&mut self, block: BlockId, count: u64) -> Result<(), BadKind>
-        ensures { with_value (λ _. before_of self.new) result
-            ≡ by_rules (block_rule is_created (before_of self.old) block ∷ (BadKind.TooMuch, nat_le (self.old.read + count) most_bytes) ∷ [])
-            (record (before_of self.old) { read = self.old.read + count }) }
+        ensures { with_value (λ _. before_of self.new) result ≡ has_read (before_of self.old) block count }
     {
         self.look_up(block)?;
         self.read = total(self.read, count)?;
@@ -223,8 +214,7 @@ impl Progress {
     /// `stop` of a node.
     fn stop(&mut self, node: NodeId) -> Result<(), BadKind>
         requires { node.0 < 16 }
-        ensures { with_value (λ _. before_of self.new) result
-            ≡ by_rules ((BadKind.Node, not ((before_of self.old).stopped node.0)) ∷ []) (with_stopped (before_of self.old) node true) }
+        ensures { with_value (λ _. before_of self.new) result ≡ stopped_now (before_of self.old) node }
     {
         if self.stopped[node.0 as usize] {
             return Err(BadKind::Node);
@@ -236,8 +226,7 @@ impl Progress {
     /// `start` of a node.
     fn start(&mut self, node: NodeId) -> Result<(), BadKind>
         requires { node.0 < 16 }
-        ensures { with_value (λ _. before_of self.new) result
-            ≡ by_rules ((BadKind.Node, (before_of self.old).stopped node.0) ∷ []) (with_stopped (before_of self.old) node false) }
+        ensures { with_value (λ _. before_of self.new) result ≡ started_now (before_of self.old) node }
     {
         if !self.stopped[node.0 as usize] {
             return Err(BadKind::Node);

@@ -30,7 +30,7 @@ pub fn read_script(alloc: Global, bytes: &[u8], shelves: u64) -> Result<Script, 
     ensures found { IfOk result (IsScript shelves bytes.now) }
     ensures only { (lines : List ScriptLine) → IsScript shelves bytes.now lines → Reads result (Ok lines) }
     ensures bad { IfErr result (IsBadFor shelves bytes.now) }
-    ensures refused { (line : ℕ) (kind : BadKind) → IsBad shelves bytes.now line kind → Reads result (Err (line, kind)) }
+    ensures refused { (n : ℕ) (kind : BadKind) → IsBad shelves bytes.now n kind → Reads result (Err (n, kind)) }
 {
     read_text(alloc, bytes, shelves)
 }
@@ -74,6 +74,8 @@ struct Reader {
 }
 
 impl Reader {
+    ghost use Rattle.script_lang.specs.Readers.{kept_by, next_told, told_at, command_of, script_behind};
+
     /// Before the first line.
     fn new(alloc: Global, shelves: u64) -> Reader
         ensures shelves { result.shelves ≡ shelves }
@@ -91,8 +93,7 @@ impl Reader {
 
     /// Takes the next line.
     fn take(&mut self, alloc: Global, line: &[u8]) -> Result<(), ScriptError>
-        ensures told { Reads (with_value (λ _. (before_of self.new.progress, self.new.lines.items)) result)
-            (with_cause (λ kind. (self.old.number, kind)) (line_told self.old.shelves self.old.number (before_of self.old.progress) self.old.lines.items line.now)) }
+        ensures told { Reads (with_value (λ _. kept_by self.new) result) (told_at self.old line.now) }
         ensures number { OnOk result (self.new.number ≡ self.old.number + 1) }
         ensures shelves { self.new.shelves ≡ self.old.shelves }
     {
@@ -110,8 +111,7 @@ impl Reader {
     /// Takes the next line, or says which rule it breaks.
     #[tactic(auto, unfolding(crate::specs::Scripts::line_told))]
     fn take_line(&mut self, alloc: Global, line: &[u8]) -> Result<(), Stop>
-        ensures told { Gives (with_value (λ _. (before_of self.new.progress, self.new.lines.items)) result)
-            (line_told self.old.shelves self.old.number (before_of self.old.progress) self.old.lines.items line.now) }
+        ensures told { Gives (with_value (λ _. kept_by self.new) result) (next_told self.old line.now) }
         ensures number { OnOk result (self.new.number ≡ self.old.number + 1) }
         ensures shelves { self.new.shelves ≡ self.old.shelves }
     {
@@ -125,7 +125,7 @@ impl Reader {
     /// Keeps what the next line says, which must fit those before it.
     fn keep(&mut self, instruction: Instruction) -> Result<(), Stop>
         requires { IsInRange instruction }
-        ensures told { Gives (with_value (λ _. (before_of self.new.progress, self.new.lines.items)) result)
+        ensures told { Gives (with_value (λ _. kept_by self.new) result)
             (told self.old.number (before_of self.old.progress) self.old.lines.items (Some instruction)) }
         ensures number { self.new.number ≡ self.old.number }
         ensures shelves { self.new.shelves ≡ self.old.shelves }
@@ -176,7 +176,7 @@ impl Reader {
     /// What a command line says, by its first word and what stands behind it.
     #[tactic(auto, unfolding(crate::specs::Scripts::command_said))]
     fn command(&self, alloc: Global, word: &[u8], rest: &[u8]) -> Result<Instruction, Stop>
-        ensures said { Gives result (command_said self.now.progress.head self.now.shelves self.now.progress.nodes word.now (words_of rest.now)) }
+        ensures said { Gives result (command_of self.now word.now (words_of rest.now)) }
         ensures in_range { IfOk result IsInRange }
     {
         match self.progress.head {
@@ -195,7 +195,7 @@ impl Reader {
     /// The script, where the head is there.
     #[tactic(auto, unfolding(crate::specs::Scripts::script_from))]
     fn finished(self) -> Result<Script, ScriptError>
-        ensures { Reads result (script_from self.shelves self.number (before_of self.progress) self.lines.items []) }
+        ensures { Reads result (script_behind self []) }
     {
         let Reader {
             number,

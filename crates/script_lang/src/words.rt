@@ -2,7 +2,7 @@
 
 ghost use Rattle.std.specs.Prelude.{◌≡◌, ◌==◌, ◌+◌, ◌<◌, ℕ, not, [], ◌∷◌, length, IfSome, MatchOption};
 ghost use Rattle.std.specs.List.{prefix_len};
-ghost use Rattle.script_lang.specs.Words.{lines_of, words_of, parts_of, is_blank, without_return};
+ghost use Rattle.script_lang.specs.Words.{lines_of, words_of, IsFirstPart, is_blank, without_return};
 
 /// The first line of a text that isn't empty, without its end, and what stands behind its end.
 pub(crate) fn split_line(text: &[u8]) -> (&[u8], &[u8])
@@ -65,7 +65,7 @@ fn is_blank(byte: u8) -> bool
 
 /// The first part of a text, and what stands behind the separator after it, if there is one.
 pub(crate) fn split_part(text: &[u8], separator: u8) -> (&[u8], Option<&[u8]>)
-    ensures first { MatchOption result.1 (parts_of separator text.now ≡ result.0.now ∷ []) (λ rest. parts_of separator text.now ≡ result.0.now ∷ parts_of separator rest.now) }
+    ensures first { IsFirstPart separator text.now result.0.now result.1 }
     ensures shorter { IfSome result.1 (λ rest. length rest.now < length text.now) }
 {
     let (part, behind) = text.split_at(part_length(text, separator));

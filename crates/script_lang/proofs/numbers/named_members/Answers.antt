@@ -4,14 +4,14 @@ use Rattle.std.proofs.Math.Seq.{take-suc-set}
 use Rattle.std.proofs.lemmas.Grind.{common_steps}
 use Rattle.hd_base.specs.declared.numbers.NodeId.{NodeId}
 use Rattle.script_lang.specs.declared.faults.BadKind.TheVariants as kind
-use Rattle.script_lang.specs.Words.{items_of}
+use Rattle.script_lang.specs.Words.{items_of, IsFirstPart}
 use Rattle.script_lang.specs.Numbers.{value_of, is_member, node}
 use Rattle.script_lang.proofs.ItemLaws.{left_of, Keeps, too_many, one_more, all_kept}
 use Rattle.script_lang.proofs.RuleLaws.{rule_ok}
 use Rattle.script_lang.proofs.numbers.named_members.Goals as goal
 
 -- the items that were left are the next one and those behind it
-left_is : (rest : Option (Bor (List ℕ))) (text item : List ℕ) (behind : Option (Bor (List ℕ))) → left_of rest ≡ items_of text → MatchOption behind (items_of text ≡ item ∷ []) (λ r. items_of text ≡ item ∷ items_of r.now) → left_of rest ≡ item ∷ left_of behind
+left_is : (rest : Option (Bor (List ℕ))) (text item : List ℕ) (behind : Option (Bor (List ℕ))) → left_of rest ≡ items_of text → IsFirstPart 44 text item behind → left_of rest ≡ item ∷ left_of behind
 left_is rest text item None e f = e ∙ f
 left_is rest text item (Some r) e f = e ∙ f
 

@@ -1,14 +1,14 @@
 -- Item by item, and all of them at the end.
 use Rattle.std.proofs.Common.{◌≡◌, ℕ, ◌≤◌, arith, List, [], ◌∷◌, Option, Some, None, Bor, MatchOption, take, length, sym, ◌∙◌, ap}
 use Rattle.std.proofs.lemmas.Grind.{common_steps}
-use Rattle.script_lang.specs.Words.{parts_of}
+use Rattle.script_lang.specs.Words.{parts_of, IsFirstPart}
 use Rattle.script_lang.specs.ReportReading.{nodes_of, node_of, items_named}
 use Rattle.script_lang.proofs.ItemLaws.{left_of}
 use Rattle.script_lang.proofs.MemberLaws.{with_front, no_node, too_many, all_named}
 use Rattle.script_lang.proofs.report_reading.named_members.Goals as goal
 
 -- the items that were left are the next one and those behind it
-left_is : (rest : Option (Bor (List ℕ))) (text item : List ℕ) (behind : Option (Bor (List ℕ))) → left_of rest ≡ parts_of 44 text → MatchOption behind (parts_of 44 text ≡ item ∷ []) (λ r. parts_of 44 text ≡ item ∷ parts_of 44 r.now) → left_of rest ≡ item ∷ left_of behind
+left_is : (rest : Option (Bor (List ℕ))) (text item : List ℕ) (behind : Option (Bor (List ℕ))) → left_of rest ≡ parts_of 44 text → IsFirstPart 44 text item behind → left_of rest ≡ item ∷ left_of behind
 left_is rest text item None e f = e ∙ f
 left_is rest text item (Some r) e f = e ∙ f
 

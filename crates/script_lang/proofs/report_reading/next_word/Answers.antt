@@ -1,10 +1,10 @@
 -- The next word, with a space behind it or as the last.
 use Rattle.std.proofs.Common.{◌≡◌, ℕ, List, [], ◌∷◌, Option, Some, None, Bor, MatchOption, refl, sym, ◌∙◌, ap}
-use Rattle.script_lang.specs.Words.{parts_of}
+use Rattle.script_lang.specs.Words.{parts_of, IsFirstPart}
 use Rattle.script_lang.specs.ReportReading.{left_of, next}
 use Rattle.script_lang.proofs.report_reading.next_word.Goals as goal
 
-one_word : (text word : List ℕ) (behind : Option (Bor (List ℕ))) → MatchOption behind (parts_of 32 text ≡ word ∷ []) (λ rest. parts_of 32 text ≡ word ∷ parts_of 32 rest.now) → Some (word, left_of behind) ≡ next (λ w. Some w) (parts_of 32 text)
+one_word : (text word : List ℕ) (behind : Option (Bor (List ℕ))) → IsFirstPart 32 text word behind → Some (word, left_of behind) ≡ next (λ w. Some w) (parts_of 32 text)
 unfolding next
 one_word text word None e = rw e refl
 one_word text word (Some rest) e = rw e refl
