@@ -1,8 +1,8 @@
 -- What was read is the one script that the text is, and what was refused is refused for its first bad line and first broken rule.
-use Rattle.std.proofs.Common.{◌≡◌, ◌⊎◌, ℕ, ◌+◌, ◌<◌, ◌≤◌, nat_le, Bool, true, false, cond, List, [], ◌∷◌, ◌++◌, length, Option, Some, None, Result, Ok, Err, IfOk, IfErr, inl, inr, refl, sym, ◌∙◌, ap, subst, arith, append_assoc, append-nil}
+use Rattle.std.proofs.Common.{◌≡◌, ◌⊎◌, ℕ, ◌+◌, ◌<◌, nat_le, Bool, true, false, cond, List, [], ◌∷◌, ◌++◌, length, Option, Some, None, Result, Ok, Err, IfOk, IfErr, inl, inr, refl, sym, ◌∙◌, ap, subst, arith, append_assoc, append-nil}
 use Rattle.std.proofs.lemmas.Bool.Decides.{nat_tests}
 use Rattle.std.proofs.lemmas.Bool.{leb-true}
-use Rattle.hd_base.specs.Results.{◌>>=◌, with_cause}
+use Rattle.hd_base.specs.Results.{with_cause}
 use Rattle.hd_base.proofs.ResultLaws.{bind-Ok, bind-Err, ok_value, err_value, err_ok}
 use Rattle.script_lang.specs.declared.faults.BadKind.{BadKind}
 use Rattle.script_lang.specs.declared.faults.BadKind.TheVariants as kind

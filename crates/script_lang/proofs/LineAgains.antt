@@ -1,16 +1,12 @@
 -- The words of report lines: a line's words say that line.
-use Rattle.std.proofs.Common.{◌≡◌, ◌==◌, ℕ, ◌^◌, ◌<◌, ◌&&◌, Bool, true, false, cond, List, [], ◌∷◌, ◌++◌, codes, bytes_eq, decimal, Option, Some, None, IfSome, inl, inr, refl, sym, ◌∙◌, ap, subst, arith}
-use Rattle.std.specs.List.{list_all}
-use Rattle.std.proofs.lemmas.Bool.{and_parts}
-use Rattle.std.proofs.lemmas.Slice.Eq.{bytes_eq-Decides}
+use Rattle.std.proofs.Common.{◌≡◌, ℕ, ◌^◌, ◌<◌, List, [], ◌∷◌, codes, decimal, Option, Some, None, IfSome, refl, sym, ◌∙◌, ap}
 use Rattle.hd_base.specs.Options.{◌>>=◌}
-use Rattle.hd_base.proofs.OptionLaws.{bind_some, bind-Some}
+use Rattle.hd_base.proofs.OptionLaws.{bind-Some}
 use Rattle.hd_base.specs.Wire.{state_name}
 use Rattle.hd_base.specs.declared.numbers.BlockId.{BlockId}
 use Rattle.hd_base.specs.declared.numbers.NodeId.{NodeId}
 use Rattle.hd_base.specs.declared.numbers.Stamp.{Stamp}
 use Rattle.hd_base.specs.declared.states.ReplicaState.{ReplicaState}
-use Rattle.hd_base.specs.declared.states.ReplicaState.TheVariants as state
 use Rattle.script_lang.specs.declared.report.ReportLine.{ReportLine}
 use Rattle.script_lang.specs.declared.report.ReportLine.TheVariants as line
 use Rattle.script_lang.specs.declared.report.Answer.{Answer}
@@ -21,8 +17,6 @@ use Rattle.script_lang.specs.declared.report.FlushResult.{FlushResult}
 use Rattle.script_lang.specs.declared.report.FlushResult.TheVariants as flush
 use Rattle.script_lang.specs.declared.report.Failure.{Failure}
 use Rattle.script_lang.specs.declared.report.Failure.TheVariants as failure
-use Rattle.script_lang.specs.declared.report.OfficeRefusal.{OfficeRefusal}
-use Rattle.script_lang.specs.declared.report.OfficeRefusal.TheVariants as refusal
 use Rattle.script_lang.specs.declared.report.ReadResult.{ReadResult}
 use Rattle.script_lang.specs.declared.report.ReadResult.TheVariants as read
 use Rattle.script_lang.specs.declared.report.RecoveryResult.{RecoveryResult}
@@ -35,8 +29,8 @@ use Rattle.script_lang.specs.declared.report_words.ResultWord.{ResultWord}
 use Rattle.script_lang.specs.declared.report_words.ResultWord.TheVariants as word
 use Rattle.script_lang.specs.Words.{parts_of}
 use Rattle.script_lang.specs.Names.{states}
-use Rattle.script_lang.specs.Reports.{words_text, spaced, members_text, sum_text, refusal_name, sum_words, failure_words, setup_words, flush_words, answer_words, read_words, recovery_words, line_words}
-use Rattle.script_lang.specs.ReportReading.{found, line_name, line_names, command_name, commands, result_name, results, refusals, number_of, node_of, sum_of, members_of, next, no_more, failure_said, setup_by, setup_said, flushed_said, flush_by, flush_said, answer_by, text_said, whole_said, bad_sum_said, read_by, recovered_said, unequal_said, recovery_by, mark, sum_said, replica_said, down_said, answer_said, numbered_said, read_said, recovery_said, line_by, line_said, HoldsFailure, HoldsSetup, HoldsFlush, HoldsAnswer, HoldsRead, HoldsRecovery, Holds}
+use Rattle.script_lang.specs.Reports.{words_text, members_text, sum_text, refusal_name, sum_words, failure_words, setup_words, flush_words, answer_words, read_words, recovery_words, line_words}
+use Rattle.script_lang.specs.ReportReading.{found, line_name, line_names, command_name, commands, result_name, results, refusals, number_of, node_of, sum_of, members_of, next, no_more, failure_said, setup_by, setup_said, flushed_said, flush_by, flush_said, answer_by, text_said, whole_said, bad_sum_said, read_by, recovered_said, unequal_said, recovery_by, sum_said, replica_said, down_said, answer_said, numbered_said, read_said, recovery_said, line_by, line_said, HoldsFailure, HoldsSetup, HoldsFlush, HoldsAnswer, HoldsRead, HoldsRecovery, Holds}
 use Rattle.script_lang.proofs.WordLaws.{parts_of-some}
 use Rattle.script_lang.proofs.ReportLaws.{words_text-parts}
 use Rattle.script_lang.proofs.FieldLaws.{number_again, node_again, sum_again, refusal_again, state_again, result_again, command_again, line_again, next_again, one_again}

@@ -1,16 +1,11 @@
 -- The words of report lines: words that say a line are that line's words, and the line holds what its types may hold.
-use Rattle.std.proofs.Common.{◌≡◌, ◌==◌, ℕ, ◌^◌, ◌<◌, ◌&&◌, Bool, true, false, cond, List, [], ◌∷◌, ◌++◌, codes, bytes_eq, decimal, Option, Some, None, IfSome, inl, inr, refl, sym, ◌∙◌, ap, subst, arith}
-use Rattle.std.specs.List.{list_all}
+use Rattle.std.proofs.Common.{◌≡◌, ℕ, ◌^◌, ◌<◌, ◌&&◌, Bool, true, false, cond, List, [], ◌∷◌, ◌++◌, codes, bytes_eq, decimal, Option, Some, None, IfSome, refl, sym, ◌∙◌, ap, subst}
 use Rattle.std.proofs.lemmas.Bool.{and_parts}
 use Rattle.std.proofs.lemmas.Slice.Eq.{bytes_eq-Decides}
 use Rattle.hd_base.specs.Options.{◌>>=◌}
-use Rattle.hd_base.proofs.OptionLaws.{bind_some, bind-Some}
+use Rattle.hd_base.proofs.OptionLaws.{bind_some}
 use Rattle.hd_base.specs.Wire.{state_name}
-use Rattle.hd_base.specs.declared.numbers.BlockId.{BlockId}
 use Rattle.hd_base.specs.declared.numbers.NodeId.{NodeId}
-use Rattle.hd_base.specs.declared.numbers.Stamp.{Stamp}
-use Rattle.hd_base.specs.declared.states.ReplicaState.{ReplicaState}
-use Rattle.hd_base.specs.declared.states.ReplicaState.TheVariants as state
 use Rattle.script_lang.specs.declared.report.ReportLine.{ReportLine}
 use Rattle.script_lang.specs.declared.report.ReportLine.TheVariants as line
 use Rattle.script_lang.specs.declared.report.Answer.{Answer}
@@ -22,7 +17,6 @@ use Rattle.script_lang.specs.declared.report.FlushResult.TheVariants as flush
 use Rattle.script_lang.specs.declared.report.Failure.{Failure}
 use Rattle.script_lang.specs.declared.report.Failure.TheVariants as failure
 use Rattle.script_lang.specs.declared.report.OfficeRefusal.{OfficeRefusal}
-use Rattle.script_lang.specs.declared.report.OfficeRefusal.TheVariants as refusal
 use Rattle.script_lang.specs.declared.report.ReadResult.{ReadResult}
 use Rattle.script_lang.specs.declared.report.ReadResult.TheVariants as read
 use Rattle.script_lang.specs.declared.report.RecoveryResult.{RecoveryResult}
@@ -36,9 +30,9 @@ use Rattle.script_lang.specs.declared.report_words.ResultWord.TheVariants as wor
 use Rattle.script_lang.specs.Words.{parts_of}
 use Rattle.script_lang.specs.Names.{states}
 use Rattle.script_lang.specs.Reports.{words_text, spaced, members_text, sum_text, refusal_name, sum_words, failure_words, setup_words, flush_words, answer_words, read_words, recovery_words, line_words}
-use Rattle.script_lang.specs.ReportReading.{found, line_name, line_names, command_name, commands, result_name, results, refusals, number_of, node_of, sum_of, members_of, next, no_more, failure_said, setup_by, setup_said, flushed_said, flush_by, flush_said, answer_by, text_said, whole_said, bad_sum_said, read_by, recovered_said, unequal_said, recovery_by, mark, sum_said, replica_said, down_said, answer_said, numbered_said, read_said, recovery_said, line_by, line_said, IsMembers, HoldsFailure, HoldsSetup, HoldsFlush, HoldsAnswer, HoldsRead, HoldsRecovery, Holds}
+use Rattle.script_lang.specs.ReportReading.{found, line_name, line_names, command_name, commands, result_name, results, refusals, number_of, node_of, sum_of, members_of, next, no_more, failure_said, setup_by, setup_said, flushed_said, flush_by, flush_said, answer_by, text_said, whole_said, bad_sum_said, read_by, recovered_said, unequal_said, recovery_by, sum_said, replica_said, down_said, answer_said, numbered_said, read_said, recovery_said, line_by, line_said, IsMembers, HoldsFailure, HoldsSetup, HoldsFlush, HoldsAnswer, HoldsRead, HoldsRecovery, Holds}
 use Rattle.script_lang.proofs.ReportLaws.{spaced-parts}
-use Rattle.script_lang.proofs.FieldLaws.{some_value, none_some, number_front, node_front, sum_front, found_front, Takes, next_front, no_more_front, one_front}
+use Rattle.script_lang.proofs.FieldLaws.{some_value, none_some, number_front, node_front, sum_front, found_front, next_front, no_more_front, one_front}
 use Rattle.script_lang.proofs.MemberTextLaws.{members_front}
 
 -- the next word is a number, and those behind it

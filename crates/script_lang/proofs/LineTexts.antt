@@ -1,15 +1,10 @@
 -- Lines of reports: what they print to, cut at its spaces, is their words again.
-use Rattle.std.proofs.Common.{◌≡◌, ◌==◌, ℕ, zero, suc, ◌/◌, ◌%◌, ◌^◌, ◌<◌, ◌&&◌, Bool, true, false, cond, List, [], ◌∷◌, ◌++◌, codes, get_or, not, bytes_eq, decimal, Option, Some, None, IfSome, inl, inr, refl, sym, ◌∙◌, ap, subst, arith}
+use Rattle.std.proofs.Common.{◌≡◌, ◌==◌, ℕ, zero, suc, ◌/◌, ◌%◌, ◌^◌, ◌<◌, Bool, true, false, List, [], ◌∷◌, codes, get_or, not, decimal, Option, Some, None, inl, inr, refl, arith}
 use Rattle.std.specs.List.{list_all}
 use Rattle.std.proofs.lemmas.Bool.{and_parts}
 use Rattle.std.proofs.lemmas.Bool.Decides.{eqb_tells}
-use Rattle.std.proofs.lemmas.Slice.Eq.{bytes_eq-Decides}
-use Rattle.hd_base.specs.Options.{◌>>=◌}
-use Rattle.hd_base.proofs.OptionLaws.{bind_some, bind-Some}
 use Rattle.hd_base.specs.Wire.{state_name}
-use Rattle.hd_base.specs.declared.numbers.BlockId.{BlockId}
 use Rattle.hd_base.specs.declared.numbers.NodeId.{NodeId}
-use Rattle.hd_base.specs.declared.numbers.Stamp.{Stamp}
 use Rattle.hd_base.specs.declared.states.ReplicaState.{ReplicaState}
 use Rattle.hd_base.specs.declared.states.ReplicaState.TheVariants as state
 use Rattle.script_lang.specs.declared.report.ReportLine.{ReportLine}
@@ -28,20 +23,13 @@ use Rattle.script_lang.specs.declared.report.ReadResult.{ReadResult}
 use Rattle.script_lang.specs.declared.report.ReadResult.TheVariants as read
 use Rattle.script_lang.specs.declared.report.RecoveryResult.{RecoveryResult}
 use Rattle.script_lang.specs.declared.report.RecoveryResult.TheVariants as recovery
-use Rattle.script_lang.specs.declared.report_words.LineWord.{LineWord}
-use Rattle.script_lang.specs.declared.report_words.LineWord.TheVariants as begins
-use Rattle.script_lang.specs.declared.report_words.CommandWord.{CommandWord}
-use Rattle.script_lang.specs.declared.report_words.CommandWord.TheVariants as command
-use Rattle.script_lang.specs.declared.report_words.ResultWord.{ResultWord}
-use Rattle.script_lang.specs.declared.report_words.ResultWord.TheVariants as word
 use Rattle.script_lang.specs.Words.{parts_of, into_first}
-use Rattle.script_lang.specs.Names.{states}
-use Rattle.script_lang.specs.Reports.{words_text, spaced, members_text, sum_text, refusal_name, sum_words, failure_words, setup_words, flush_words, answer_words, read_words, recovery_words, line_words}
+use Rattle.script_lang.specs.Reports.{words_text, members_text, sum_text, refusal_name, sum_words, failure_words, setup_words, flush_words, answer_words, read_words, recovery_words, line_words}
 use Rattle.std.specs.Int.{w32, to_be_bytes}
 use Rattle.hex.specs.Hex.{encode_lower, encode_with, lower_digits}
-use Rattle.script_lang.specs.ReportReading.{IsMembers, HoldsFailure, HoldsSetup, HoldsFlush, HoldsAnswer, HoldsRead, HoldsRecovery, Holds}
+use Rattle.script_lang.specs.ReportReading.{HoldsFailure, HoldsSetup, HoldsFlush, HoldsAnswer, HoldsRead, HoldsRecovery, Holds}
 use Rattle.script_lang.proofs.WordLaws.{is_free_of}
-use Rattle.script_lang.proofs.ReportLaws.{behind_each, parts_of-words}
+use Rattle.script_lang.proofs.ReportLaws.{parts_of-words}
 use Rattle.script_lang.proofs.MemberTextLaws.{decimal_free, members_free}
 
 -- no space stands in any of these words

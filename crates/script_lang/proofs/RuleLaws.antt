@@ -1,6 +1,5 @@
 -- What rules say, each by itself.
 use Rattle.std.proofs.Common.{◌≡◌, Bool, true, false, cond, Result, Ok, Err, refl}
-use Rattle.hd_base.proofs.ResultLaws.{ok_value, err_ok}
 use Rattle.script_lang.specs.declared.faults.BadKind.{BadKind}
 
 -- a rule that was kept

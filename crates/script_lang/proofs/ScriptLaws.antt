@@ -1,6 +1,6 @@
 -- Scripts, one line further.
-use Rattle.std.proofs.Common.{◌≡◌, ℕ, ◌+◌, List, [], ◌∷◌, Result, Ok, Err, sym, ◌∙◌, ap}
-use Rattle.hd_base.specs.Results.{◌>>=◌, with_cause, with_value}
+use Rattle.std.proofs.Common.{◌≡◌, ℕ, ◌+◌, List, ◌∷◌, Result, Ok, Err}
+use Rattle.hd_base.specs.Results.{with_cause}
 use Rattle.hd_base.proofs.ResultLaws.{bind-Ok, bind-Err}
 use Rattle.script_lang.specs.declared.faults.BadKind.{BadKind}
 use Rattle.script_lang.specs.declared.faults.ScriptError.{ScriptError}

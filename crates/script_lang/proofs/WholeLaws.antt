@@ -1,9 +1,8 @@
 -- What holds of every script.
-use Rattle.std.proofs.Common.{◌≡◌, ◌==◌, ◌⊎◌, ℕ, ◌+◌, ◌<◌, ◌≤◌, ◌&&◌, ◌||◌, not, nat_lt, nat_le, is_none, Bool, true, false, cond, List, [], ◌∷◌, ◌++◌, length, codes, bytes_eq, Option, Some, None, Result, Ok, Err, inl, inr, refl, sym, ◌∙◌, ap, subst, arith}
+use Rattle.std.proofs.Common.{◌≡◌, ◌==◌, ℕ, ◌+◌, ◌≤◌, ◌&&◌, ◌||◌, not, nat_lt, nat_le, is_none, Bool, true, false, cond, List, [], ◌∷◌, ◌++◌, length, codes, bytes_eq, Option, Some, None, Result, Ok, Err, inl, inr, refl, sym, ◌∙◌, ap, subst, arith}
 use Rattle.std.specs.List.{list_any, AllByRecursion}
 use Rattle.std.proofs.lemmas.Bool.{leb-true, eqb-true, eq-eqb, and_parts}
-use Rattle.std.proofs.lemmas.Bool.Decides.{nat_tests, eqb_tells}
-use Rattle.hd_base.specs.Results.{◌>>=◌}
+use Rattle.std.proofs.lemmas.Bool.Decides.{eqb_tells}
 use Rattle.hd_base.proofs.ResultLaws.{bind_ok, ok_value, err_ok}
 use Rattle.hd_base.specs.declared.numbers.BlockId.{BlockId}
 use Rattle.script_lang.specs.declared.faults.BadKind.{BadKind}
@@ -18,7 +17,7 @@ use Rattle.script_lang.specs.declared.progress.Stage.TheVariants as stage
 use Rattle.script_lang.specs.Rules.{by_rules, AllKept}
 use Rattle.script_lang.specs.Words.{words_of, lines_of}
 use Rattle.script_lang.specs.Numbers.{value_of, is_number, is_number_within}
-use Rattle.script_lang.specs.Said.{NamesBelow, nodes_said, seed_said, body_said, one_of}
+use Rattle.script_lang.specs.Said.{NamesBelow, nodes_said, seed_said, one_of}
 use Rattle.script_lang.specs.Fits.{Before, start, fit_rules, after, most_bytes, is_open, is_created}
 use Rattle.script_lang.specs.Scripts.{line_said, line_rules, words_said, some_said, is_comment, command_said, head_said, head_is_there}
 use Rattle.script_lang.specs.Grammar.{numbered, AreGood, IsScript, NamesItsNodes, written_by, read_by, total_of, is_append_of, writes_to, OpensBeforeWrites}

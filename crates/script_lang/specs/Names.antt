@@ -1,7 +1,6 @@
 -- Words that stand for one thing each.
-use Rattle.std.specs.Prelude.{◌≡◌, ℕ, Bool, List, [], ◌∷◌, Option, Some, None, Result, Ok, Err, codes, find, bytes_eq}
+use Rattle.std.specs.Prelude.{ℕ, List, [], ◌∷◌, Result, codes, find, bytes_eq}
 use Rattle.std.specs.Option.{ok_or}
-use Rattle.hd_base.specs.Wire.{state_name}
 use Rattle.hd_base.specs.declared.states.ReplicaState.{ReplicaState}
 use Rattle.hd_base.specs.declared.states.ReplicaState.TheVariants as state
 use Rattle.hd_base.specs.declared.sum_rule.SumKind.{SumKind}

@@ -1,5 +1,5 @@
 -- What the reader keeps, and what the next line leads to.
-use Rattle.std.specs.Prelude.{ℕ, List, Option, Result}
+use Rattle.std.specs.Prelude.{ℕ, List, Result}
 use Rattle.hd_base.specs.Results.{with_cause}
 use Rattle.script_lang.specs.declared.faults.BadKind.{BadKind}
 use Rattle.script_lang.specs.declared.instructions.Instruction.{Instruction}

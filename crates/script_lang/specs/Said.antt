@@ -1,12 +1,11 @@
 -- What a line's words say where the script has so many nodes, or the kind of the first rule that they break by themselves.
-use Rattle.std.specs.Prelude.{ℕ, ◌<◌, ◌≤◌, ◌&&◌, nat_lt, nat_le, ◌^◌, ◌-◌, Bool, List, [], ◌∷◌, Result, Ok, Err, codes, bytes_eq}
+use Rattle.std.specs.Prelude.{ℕ, ◌<◌, ◌&&◌, nat_lt, nat_le, ◌^◌, ◌-◌, Bool, List, [], ◌∷◌, Result, Ok, Err}
 use Rattle.std.specs.List.{list_all, All}
 use Rattle.hd_base.specs.Results.{◌>>=◌}
 use Rattle.hd_base.specs.Wire.{state_name}
 use Rattle.hd_base.specs.declared.numbers.BlockId.{BlockId}
 use Rattle.hd_base.specs.declared.numbers.NodeId.{NodeId}
 use Rattle.hd_base.specs.declared.numbers.Stamp.{Stamp}
-use Rattle.hd_base.specs.declared.states.ReplicaState.{ReplicaState}
 use Rattle.hd_base.specs.SumRules.{Rule}
 use Rattle.hd_base.specs.declared.sum_rule.SumKind.{SumKind}
 use Rattle.script_lang.specs.declared.faults.BadKind.{BadKind}

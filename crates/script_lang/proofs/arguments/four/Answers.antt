@@ -1,6 +1,6 @@
 -- The first word, and the three behind it.
-use Rattle.std.proofs.Common.{◌≡◌, ℕ, List, [], ◌∷◌, Result, Ok, Err, refl, sym, ◌∙◌, ap}
-use Rattle.hd_base.proofs.ResultLaws.{ok_value, err_ok}
+use Rattle.std.proofs.Common.{◌≡◌, ℕ, List, [], ◌∷◌, Result, Ok, ◌∙◌, ap}
+use Rattle.hd_base.proofs.ResultLaws.{ok_value}
 use Rattle.script_lang.specs.declared.faults.BadKind.{BadKind}
 use Rattle.script_lang.specs.Words.{words_of}
 use Rattle.script_lang.specs.Said.{next_of, three_of, four_of}

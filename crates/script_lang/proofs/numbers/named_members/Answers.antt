@@ -1,11 +1,10 @@
 -- Item by item, and all of them at the end.
-use Rattle.std.proofs.Common.{◌≡◌, ℕ, ◌+◌, ◌<◌, ◌≤◌, List, [], ◌∷◌, ◌++◌, length, take, set, refl, Option, Some, None, Bor, MatchOption, true, sym, ◌∙◌, ap, subst, arith, add-one}
+use Rattle.std.proofs.Common.{◌≡◌, ℕ, ◌+◌, ◌<◌, List, [], ◌∷◌, ◌++◌, length, take, set, refl, Option, Some, None, Bor, sym, ◌∙◌, ap, subst, arith, add-one}
 use Rattle.std.proofs.Math.Seq.{take-suc-set}
 use Rattle.std.proofs.lemmas.Grind.{common_steps}
-use Rattle.hd_base.specs.declared.numbers.NodeId.{NodeId}
 use Rattle.script_lang.specs.declared.faults.BadKind.TheVariants as kind
 use Rattle.script_lang.specs.Words.{items_of, IsFirstPart}
-use Rattle.script_lang.specs.Numbers.{value_of, is_member, node}
+use Rattle.script_lang.specs.Numbers.{is_member}
 use Rattle.script_lang.proofs.ItemLaws.{left_of, Keeps, too_many, one_more, all_kept}
 use Rattle.script_lang.proofs.RuleLaws.{rule_ok}
 use Rattle.script_lang.proofs.numbers.named_members.Goals as goal

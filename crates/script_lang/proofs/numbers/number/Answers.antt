@@ -1,6 +1,5 @@
 -- A word of some digits, as its rule says.
-use Rattle.std.proofs.Common.{◌≡◌, ◌==◌, ℕ, ◌^◌, ◌&&◌, not, nat_lt, Bool, true, false, cond, List, [], ◌∷◌, length, Result, Ok, Err, refl, sym, ◌∙◌, ap, arith}
-use Rattle.script_lang.specs.declared.faults.BadKind.{BadKind}
+use Rattle.std.proofs.Common.{◌≡◌, ◌==◌, ℕ, Bool, true, false, List, [], ◌∷◌, length, sym, ◌∙◌, arith}
 use Rattle.script_lang.specs.declared.faults.BadKind.TheVariants as kind
 use Rattle.script_lang.specs.Rules.{by_rules}
 use Rattle.script_lang.specs.Numbers.{digits_on, is_number, value_of}

@@ -1,5 +1,5 @@
 -- A text is its parts, with a space between them.
-use Rattle.std.proofs.Common.{◌≡◌, ◌++◌, ◌∷◌, codes, OnOk, ℕ, List, ◌∙◌, ap, sym}
+use Rattle.std.proofs.Common.{◌≡◌, ◌++◌, ◌∷◌, codes, OnOk, ◌∙◌, ap, sym}
 use Rattle.script_lang.specs.declared.report.ReadResult.{ReadResult}
 use Rattle.script_lang.specs.Reports.{spaced, read_words}
 use Rattle.script_lang.proofs.ReportLaws.{spaced-parts, appended}

@@ -1,10 +1,10 @@
 -- Line by line.
-use Rattle.std.proofs.Common.{◌≡◌, ℕ, ◌+◌, List, [], ◌∷◌, Result, Ok, Err, sym, ◌∙◌, ap, subst}
+use Rattle.std.proofs.Common.{ℕ, List, Result, Err, sym, ◌∙◌, ap, subst}
 use Rattle.std.proofs.lemmas.Result.{err_from_is_err_and}
 use Rattle.script_lang.specs.declared.faults.BadKind.{BadKind}
 use Rattle.script_lang.specs.declared.instructions.ScriptLine.{ScriptLine}
 use Rattle.script_lang.specs.Words.{lines_of}
-use Rattle.script_lang.specs.Fits.{start, before_of}
+use Rattle.script_lang.specs.Fits.{before_of}
 use Rattle.script_lang.specs.Scripts.{script_from, Reads}
 use Rattle.script_lang.proofs.ScriptLaws.{script_next, script_stops}
 use Rattle.script_lang.proofs.reading.read_lines.Goals as goal

@@ -1,5 +1,5 @@
 -- The message is the words that are left, with a space between them.
-use Rattle.std.proofs.Common.{◌≡◌, ℕ, List, ◌∷◌, Option, Some, None, sym, ◌∙◌, ap}
+use Rattle.std.proofs.Common.{◌≡◌, ℕ, List, Some, sym, ◌∙◌, ap}
 use Rattle.script_lang.specs.Words.{parts_of}
 use Rattle.script_lang.specs.Reports.{words_text}
 use Rattle.script_lang.specs.ReportReading.{text_said, left_of}

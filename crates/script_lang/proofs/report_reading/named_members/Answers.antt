@@ -1,8 +1,8 @@
 -- Item by item, and all of them at the end.
-use Rattle.std.proofs.Common.{◌≡◌, ℕ, ◌≤◌, arith, List, [], ◌∷◌, Option, Some, None, Bor, MatchOption, take, length, sym, ◌∙◌, ap}
+use Rattle.std.proofs.Common.{◌≡◌, ℕ, ◌≤◌, arith, List, ◌∷◌, Option, Some, None, Bor, take, length, sym, ◌∙◌, ap}
 use Rattle.std.proofs.lemmas.Grind.{common_steps}
 use Rattle.script_lang.specs.Words.{parts_of, IsFirstPart}
-use Rattle.script_lang.specs.ReportReading.{nodes_of, node_of, items_named}
+use Rattle.script_lang.specs.ReportReading.{nodes_of, items_named}
 use Rattle.script_lang.proofs.ItemLaws.{left_of}
 use Rattle.script_lang.proofs.MemberLaws.{with_front, no_node, too_many, all_named}
 use Rattle.script_lang.proofs.report_reading.named_members.Goals as goal

@@ -1,5 +1,5 @@
 -- The items so far are kept as nodes, in order.
-use Rattle.std.proofs.Common.{◌≡◌, ℕ, ◌≤◌, take, length}
+use Rattle.std.proofs.Common.{◌≡◌, ◌≤◌, take, length}
 use Rattle.script_lang.specs.Words.{parts_of}
 use Rattle.script_lang.specs.ReportReading.{nodes_of}
 use Rattle.script_lang.proofs.ItemLaws.{left_of, size_of}

@@ -1,5 +1,5 @@
 -- The next word, with a space behind it or as the last.
-use Rattle.std.proofs.Common.{◌≡◌, ℕ, List, [], ◌∷◌, Option, Some, None, Bor, MatchOption, refl, sym, ◌∙◌, ap}
+use Rattle.std.proofs.Common.{◌≡◌, ℕ, List, Option, Some, None, Bor, refl}
 use Rattle.script_lang.specs.Words.{parts_of, IsFirstPart}
 use Rattle.script_lang.specs.ReportReading.{left_of, next}
 use Rattle.script_lang.proofs.report_reading.next_word.Goals as goal

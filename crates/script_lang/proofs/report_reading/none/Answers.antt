@@ -1,5 +1,5 @@
 -- A text that is left has a word.
-use Rattle.std.proofs.Common.{◌≡◌, ℕ, List, ◌∷◌, Option, Some, None, sym, ◌∙◌, ap}
+use Rattle.std.proofs.Common.{sym, ◌∙◌, ap}
 use Rattle.script_lang.specs.ReportReading.{left_of, no_more}
 use Rattle.script_lang.proofs.WordLaws.{parts_of-some}
 use Rattle.script_lang.proofs.report_reading.none.Goals as goal

@@ -1,9 +1,8 @@
 -- The next word is a state.
-use Rattle.std.proofs.Common.{◌≡◌, ℕ, List, [], ◌∷◌, Option, Some, None, sym, ◌∙◌, ap}
+use Rattle.std.proofs.Common.{◌≡◌, ℕ, List, [], ◌∷◌, Option, Some, ◌∙◌, ap}
 use Rattle.hd_base.specs.Options.{◌>>=◌}
 use Rattle.hd_base.proofs.OptionLaws.{some_pair}
 use Rattle.hd_base.specs.Wire.{state_name}
-use Rattle.hd_base.specs.declared.states.ReplicaState.{ReplicaState}
 use Rattle.script_lang.specs.Names.{states}
 use Rattle.script_lang.specs.ReportReading.{found, left_of, next}
 use Rattle.script_lang.proofs.report_reading.state.Goals as goal

@@ -1,5 +1,5 @@
 -- Blanks, and a word behind them or none.
-use Rattle.std.proofs.Common.{◌≡◌, ◌==◌, ◌∷◌, [], not}
+use Rattle.std.proofs.Common.{not}
 use Rattle.std.proofs.lemmas.List.Sums.{prefix_len-le-length}
 use Rattle.script_lang.specs.Words.{is_blank}
 use Rattle.script_lang.proofs.WordLaws.{split_is, none_there, some_there, no_word, first_word}

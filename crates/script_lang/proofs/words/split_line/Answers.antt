@@ -1,5 +1,5 @@
 -- The first line, with an LF behind it or as the whole text.
-use Rattle.std.proofs.Common.{◌≡◌, ◌==◌, ◌∷◌, [], not, sym, ◌∙◌, ap}
+use Rattle.std.proofs.Common.{◌==◌, ◌∷◌, not, sym, ◌∙◌, ap}
 use Rattle.std.proofs.lemmas.List.Sums.{prefix_len-le-length}
 use Rattle.script_lang.specs.Words.{lines_of}
 use Rattle.script_lang.proofs.WordLaws.{split_is, nothing, only_line, first_line}

@@ -1,5 +1,5 @@
 -- The first part, with a separator behind it or as the whole text.
-use Rattle.std.proofs.Common.{◌≡◌, ◌==◌, not}
+use Rattle.std.proofs.Common.{◌==◌, not}
 use Rattle.std.proofs.lemmas.List.Sums.{prefix_len-le-length}
 use Rattle.script_lang.proofs.WordLaws.{split_is, nothing, only_part, first_part}
 use Rattle.script_lang.proofs.words.split_part.Goals as goal

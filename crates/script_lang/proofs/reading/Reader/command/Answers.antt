@@ -1,5 +1,5 @@
 -- What is said is in range.
-use Rattle.std.proofs.Common.{◌≡◌, ℕ, ◌≤◌, List, Result, Ok, Err, IfOk, sym}
+use Rattle.std.proofs.Common.{ℕ, ◌≤◌, List, Result, Ok, Err, IfOk, sym}
 use Rattle.script_lang.specs.declared.faults.Stop.{Stop}
 use Rattle.script_lang.specs.declared.instructions.Instruction.{Instruction}
 use Rattle.script_lang.specs.Words.{words_of}
