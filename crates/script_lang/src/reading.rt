@@ -24,7 +24,7 @@ pub const MAX_SCRIPT_SIZE: usize = 16_777_216;
 /// The most lines of a script.
 pub const MAX_SCRIPT_LINES: u64 = 65_536;
 
-/// Reads a script for so many shelves, in one pass over the bytes. `Bad` names the first line that
+/// Reads a script for so many shelves, line by line. `Bad` names the first line that
 /// breaks a rule, and the first rule that it breaks.
 pub fn read_script(alloc: Global, bytes: &[u8], shelves: u64) -> Result<Script, ScriptError>
     ensures found { IfOk result (IsScript shelves bytes.now) }
