@@ -1,0 +1,16 @@
+pub mod FieldLaws
+pub mod GrammarLaws
+pub mod InverseLaws
+pub mod ItemLaws
+pub mod LineAgains
+pub mod LineFronts
+pub mod LineTexts
+pub mod MemberLaws
+pub mod MemberTextLaws
+pub mod NumberLaws
+pub mod ReportLaws
+pub mod RuleLaws
+pub mod SaidLaws
+pub mod ScriptLaws
+pub mod WholeLaws
+pub mod WordLaws

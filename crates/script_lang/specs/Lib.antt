@@ -1,0 +1,11 @@
+pub mod Fits
+pub mod Grammar
+pub mod Names
+pub mod Numbers
+pub mod Readers
+pub mod ReportReading
+pub mod Reports
+pub mod Rules
+pub mod Said
+pub mod Scripts
+pub mod Words
