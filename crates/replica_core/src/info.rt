@@ -1,6 +1,7 @@
 //! What a replica that is there holds, and what events make of it.
 
-ghost use Rattle.std.specs.Prelude.{◌≡◌, ◌≤◌};
+ghost use Rattle.std.specs.Prelude.{◌≡◌, ◌≤◌, ◌↔◌, IsTrue};
+ghost use Rattle.replica_core.specs.Sound.{IsConsistent};
 ghost use Rattle.replica_core.specs.Info.{state_of, visible_of, stamp_check, settled_at, reopen, recover_setup};
 ghost use Rattle.replica_core.specs.Info.{cut_to_acked, recover_stream, begin_recovery, end_recovery};
 ghost use Rattle.replica_core.specs.Info.{readable, within, given};
@@ -27,6 +28,14 @@ pub struct ReplicaInfo {
 }
 
 impl ReplicaInfo {
+    /// Whether no more is acked than is written, and as much where the replica is FINALIZED or RWR.
+    pub fn is_consistent(&self) -> bool
+        ensures { IsTrue result ↔ IsConsistent self.now }
+    {
+        let settled = matches!(self.original, ReplicaState::Finalized | ReplicaState::Rwr);
+        self.acked <= self.written && (!settled || self.acked == self.written)
+    }
+
     /// A replica in this state with nothing but these bytes, all acked.
     pub fn settled_at(
         original: ReplicaState,

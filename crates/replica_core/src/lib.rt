@@ -17,6 +17,7 @@ mod tests;
 
 pub use ack_queue::{MAX_PENDING, PendingPacket};
 pub use events::{Answer, Event};
+pub use info::ReplicaInfo;
 pub use laws::{
     acked_is_written, one_connection_writes, packets_leave_no_gap, readers_see_the_visible,
     updates_never_lengthen,

@@ -302,7 +302,7 @@ impl ReplicaRecord {
     }
 
     /// A failed call on the files.
-    fn mark_broken(&mut self) -> Answer
+    pub fn mark_broken(&mut self) -> Answer
         ensures answer { result ≡ Answer.Done }
         ensures replica { self.new ≡ mark_broken self.old }
     {

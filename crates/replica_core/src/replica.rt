@@ -5,7 +5,8 @@ ghost use Rattle.replica_core.specs.declared.refusals.Refusal.{Refusal};
 ghost use Rattle.replica_core.specs.Info.{settled_at};
 ghost use Rattle.replica_core.specs.Extents.{IsPacket};
 ghost use Rattle.replica_core.specs.Transitions.{absent, found, answer_to, state_after, answer_of, IsLawful};
-ghost use Rattle.replica_core.specs.Sound.{Sound};
+ghost use Rattle.replica_core.specs.Sound.{Sound, IsConsistent};
+ghost use Rattle.replica_core.specs.Transitions.{mark_broken};
 ghost use Rattle.replica_core.specs.Views.{state_in, original_in, stamp_in, rule_in};
 ghost use Rattle.replica_core.specs.Views.{written_in, acked_in, writer_in, visible_in};
 
@@ -85,6 +86,24 @@ impl Replica {
         ensures refused { (e : Refusal) → result ≡ Answer.Refused e → self.new ≡ self.old }
     {
         answered(self.known.take(event))
+    }
+
+    /// Breaks the replica in place of the event that it took last, in which a call on its files failed: it
+    /// holds again what it held before, which `info` answered then. Takes no memory.
+    pub fn break_from(&mut self, before: Option<ReplicaInfo>)
+        requires { IfSome before IsConsistent }
+        ensures { self.new ≡ mark_broken (record self.old { info = before }) }
+    {
+        self.known.info = before;
+        self.known.mark_broken();
+    }
+
+    /// What is there, `None` exactly for an absent replica.
+    pub fn info(&self) -> Option<ReplicaInfo>
+        ensures value { result ≡ self.now.info }
+        ensures consistent { IfSome result IsConsistent }
+    {
+        self.known.info
     }
 
     /// The block.
