@@ -1,0 +1,369 @@
+//! Roads whose connections can be cut.
+
+ghost use Rattle.std.specs.Prelude.{◌≡◌, Some, None, IfSome};
+ghost use Rattle.std.proofs.Props.{props};
+ghost use Rattle.hd_base.specs.Channels.{Plain};
+ghost use Rattle.fault_ports.specs.Cuts.{AllObservable, CountsAll, dialled_by};
+
+use crate::halves::{CutIn, CutOut};
+use crate::passes::{counted_fault, given_back, lent_exchange, probe, wrapped};
+use crate::piece_counts::{PieceCount, PieceCounts};
+use hd_base::{Conn, ConnId, LinkIn, LinkOut, NodeId, RoadError, Roads, Standing};
+use std::alloc::{AllocError, Global};
+
+/// What an exchange is to give the inward half.
+#[derive(Clone, Copy, Debug, PartialEq, Eq)]
+pub enum Offer {
+    /// Nothing: it takes nothing, or holds something.
+    Nothing,
+    /// The end or nothing, whichever the roads themselves have.
+    Rest,
+    /// A piece.
+    Piece,
+    /// The end of a cut.
+    End,
+}
+
+impl Offer {
+    ghost use Rattle.std.specs.Prelude.{◌≡◌};
+    ghost use Rattle.fault_ports.specs.Offers.{passes};
+
+    /// Whether the roads themselves are to give it.
+    fn passes(self) -> bool
+        ensures { result ≡ passes self }
+    {
+        match self {
+            Offer::Nothing => false,
+            Offer::Rest => true,
+            Offer::Piece => true,
+            Offer::End => false,
+        }
+    }
+}
+
+/// Roads whose connections can be cut: of the pieces in flight so many still arrive, and then the
+/// end; what is sent later is lost.
+#[derive(Drop)]
+pub struct Cutting<R: Roads> {
+    inner: R,
+    /// The newest connection that was dialled.
+    newest: Option<u64>,
+    counts: PieceCounts,
+    /// The connections an end of which had failed.
+    risen: Vec<u64>,
+    faults: u64,
+    ghost dialled: { IfSome (R.plain inner) (λ p. p.dialled ≡ dialled_by newest) } by { Prim.hlevel props },
+    ghost counted: { IfSome (R.plain inner) (CountsAll counts.duplexes.items) } by { Prim.hlevel props },
+    ghost observable: { IfSome (R.plain inner) (λ _. AllObservable R.Inward.LinkIn R.Outward.LinkOut) } by { Prim.hlevel props },
+}
+
+impl<R: Roads> Cutting<R> {
+    ghost use Rattle.std.specs.Prelude.{◌≡◌, ◌≤◌, ◌<◌, ℕ, Bool, true, false, Some, None, IfSome, IfOk, OnOk, OnErr, IsErrOf, option_map, length};
+    ghost use Rattle.hd_base.specs.Ends.{IsKnown};
+    ghost use Rattle.hd_base.specs.Faults.{FaultsIncreased};
+    ghost use Rattle.fault_ports.specs.Cuts.{AllObservable, with_cut};
+    ghost use Rattle.fault_ports.specs.PieceCounts.{count_at};
+    ghost use Rattle.fault_ports.specs.Offers.{Offers, passes};
+
+    /// The roads with no connection cut. No connection was made on them, and what their ends hold
+    /// and have sent is observable, both where the roads over plain memory are.
+    pub fn new(alloc: Global, inner: R) -> Cutting<R>
+        requires unused { IfSome (R.plain inner) (λ p. p.dialled ≡ 0) }
+        requires observable { IfSome (R.plain inner) (λ _. AllObservable R.Inward.LinkIn R.Outward.LinkOut) }
+        ensures plain { ⟦<Cutting<R> as Roads>⟧.plain result ≡ R.plain inner }
+        ensures carried { ⟦<Cutting<R> as Roads>⟧.carried result ≡ R.carried inner }
+        ensures risen { (c : ℕ) → ⟦<Cutting<R> as Roads>⟧.risen result c ≡ false }
+        ensures sound { ⟦<Cutting<R> as Roads>⟧.faults result ≡ 0 }
+    {
+        Cutting {
+            inner,
+            newest: None,
+            counts: PieceCounts::new(alloc),
+            risen: Vec::new(alloc),
+            faults: 0,
+        }
+    }
+
+    /// The roads themselves, with all pieces on them.
+    pub fn into_inner(self) -> R
+        ensures carried { R.carried result ≡ ⟦<Cutting<R> as Roads>⟧.carried self }
+    {
+        let Cutting { inner, .. } = self;
+        inner
+    }
+
+    /// Ends a connection that was dialled on these roads behind so many of the pieces in flight
+    /// down, and up. What is sent on it later is lost. Of links that carry by themselves nothing is
+    /// promised.
+    pub fn cut(&mut self, conn: ConnId, down: u64, up: u64) -> Result<(), AllocError>
+        requires { IsKnown (⟦<Cutting<R> as Roads>⟧.plain self.old) conn.0 }
+        ensures cut { OnOk result (⟦<Cutting<R> as Roads>⟧.plain self.new
+            ≡ option_map (λ p. with_cut p conn.0 down up) (⟦<Cutting<R> as Roads>⟧.plain self.old)) }
+        ensures err { OnErr result (⟦<Cutting<R> as Roads>⟧.plain self.new ≡ ⟦<Cutting<R> as Roads>⟧.plain self.old) }
+        ensures carried { ⟦<Cutting<R> as Roads>⟧.carried self.new ≡ ⟦<Cutting<R> as Roads>⟧.carried self.old }
+        ensures risen { ⟦<Cutting<R> as Roads>⟧.risen self.new ≡ ⟦<Cutting<R> as Roads>⟧.risen self.old }
+        ensures faults { ⟦<Cutting<R> as Roads>⟧.faults self.new ≡ ⟦<Cutting<R> as Roads>⟧.faults self.old }
+    {
+        self.list(conn)?;
+        let count = self.counts.get(conn, true).cut(down);
+        self.counts.set(conn, true, count);
+        let count = self.counts.get(conn, false).cut(up);
+        self.counts.set(conn, false, count);
+        Ok(())
+    }
+
+    /// Lists a connection among the counts, where it was dialled on these roads.
+    fn list(&mut self, conn: ConnId) -> Result<(), AllocError>
+        ensures listed { OnOk result (IsKnown (R.plain self.old.inner) conn.0 → IfSome (R.plain self.old.inner) (λ _.
+            conn.0 < length self.new.counts.duplexes.items)) }
+        ensures counts { (c : ℕ) (d : Bool) →
+            count_at self.new.counts.duplexes.items c d ≡ count_at self.old.counts.duplexes.items c d }
+        ensures inner { self.new.inner ≡ self.old.inner }
+        ensures newest { self.new.newest ≡ self.old.newest }
+        ensures risen { self.new.risen ≡ self.old.risen }
+        ensures faults { self.new.faults ≡ self.old.faults }
+    {
+        match self.newest {
+            Some(newest) if conn.0 <= newest => self.counts.list(conn),
+            _ => Ok(()),
+        }
+    }
+
+    /// The count of a direction after so many more pieces were sent there.
+    fn grown(&mut self, conn: ConnId, down: bool, more: u64) -> Result<PieceCount, AllocError>
+        ensures grown { IfOk result (λ count. count ≡ record (count_at self.old.counts.duplexes.items conn.0 down) {
+            standing = (count_at self.old.counts.duplexes.items conn.0 down).standing + more }) }
+        ensures listed { OnOk result (IsKnown (R.plain self.old.inner) conn.0 → IfSome (R.plain self.old.inner) (λ _.
+            conn.0 < length self.new.counts.duplexes.items)) }
+        ensures counts { (c : ℕ) (d : Bool) →
+            count_at self.new.counts.duplexes.items c d ≡ count_at self.old.counts.duplexes.items c d }
+        ensures inner { self.new.inner ≡ self.old.inner }
+        ensures newest { self.new.newest ≡ self.old.newest }
+        ensures risen { self.new.risen ≡ self.old.risen }
+        ensures faults { self.new.faults ≡ self.old.faults }
+    {
+        self.list(conn)?;
+        let count = self.counts.get(conn, down);
+        match count.standing.checked_add(more) {
+            Some(standing) => Ok(PieceCount { standing, left: count.left }),
+            None => Err(AllocError),
+        }
+    }
+}
+
+impl<R: Roads> Cutting<R> {
+    ghost use Rattle.std.specs.Prelude.{◌≡◌, ℕ, ◌≤◌, true, false, Some, None, IfSome, IfOk, OnOk, OnErr, IsErrOf};
+    ghost use Rattle.hd_base.specs.Channels.{is_hungry};
+    ghost use Rattle.hd_base.specs.Ends.{KeepsEnd};
+    ghost use Rattle.hd_base.specs.Faults.{FaultsIncreased};
+    ghost use Rattle.fault_ports.specs.PieceCounts.{count_at};
+    ghost use Rattle.fault_ports.specs.Offers.{Offers, passes};
+
+    /// What an exchange is to give the inward half of an end. To see whether it is hungry, a byte
+    /// may be received in advance.
+    fn offer(
+        &mut self,
+        end: &mut Conn<CutIn<R::Inward>, CutOut<R::Outward>>,
+        take: bool,
+    ) -> Result<Offer, RoadError>
+        ensures offer { IfOk result (λ offer. IfSome (R.plain self.old.inner) (λ p.
+            IfSome (⟦<CutIn<R::Inward> as LinkIn>⟧.held end.old.inward) (λ inbox.
+            Offers offer take (count_at self.old.counts.duplexes.items end.old.id.0 end.old.lower)
+                (p.channels end.old.id.0 end.old.lower) inbox))) }
+        ensures bare { IfOk result (λ offer. passes offer ≡ true →
+            (end.new.inward.first ≡ None) × (end.new.inward.ended ≡ false)) }
+        ensures err { OnErr result (IsErrOf result RoadError.Failed) }
+        ensures fault { OnErr result (FaultsIncreased self.old.faults self.new.faults) }
+        ensures no_fault { OnOk result (self.new.faults ≡ self.old.faults) }
+        ensures never_falls { self.old.faults ≤ self.new.faults }
+        ensures held { ⟦<CutIn<R::Inward> as LinkIn>⟧.held end.new.inward
+            ≡ ⟦<CutIn<R::Inward> as LinkIn>⟧.held end.old.inward }
+        ensures end { KeepsEnd ⟦<CutIn<R::Inward> as LinkIn>⟧ ⟦<CutOut<R::Outward> as LinkOut>⟧ end.old end.new }
+        ensures outward { end.new.outward ≡ end.old.outward }
+        ensures plain { R.plain self.new.inner ≡ R.plain self.old.inner }
+        ensures carried { R.carried self.new.inner ≡ R.carried self.old.inner }
+        ensures newest { self.new.newest ≡ self.old.newest }
+        ensures counts { self.new.counts ≡ self.old.counts }
+        ensures risen { self.new.risen ≡ self.old.risen }
+    {
+        if !take || end.inward.first.is_some() || end.inward.ended {
+            return Ok(Offer::Nothing);
+        }
+        let left = self.counts.get(end.id, end.lower).left;
+        match (self.inner.standing(end.id, end.lower), left) {
+            (_, Some(0)) => Ok(Offer::End),
+            (Standing::Piece, _) => match probe(&mut end.inward) {
+                Ok(true) => Ok(Offer::Piece),
+                Ok(false) => Ok(Offer::Nothing),
+                Err(_) => Err(counted_fault(&mut self.faults, RoadError::Failed)),
+            },
+            (_, Some(_)) => Ok(Offer::End),
+            (_, None) => Ok(Offer::Rest),
+        }
+    }
+}
+
+impl<R: Roads> Roads for Cutting<R> {
+    ghost use Rattle.std.specs.Prelude.{◌≡◌, ◌==◌, ◌||◌, ◌&&◌, ℕ, None, option_map, OnOk, OnErr};
+    ghost use Rattle.hd_base.specs.Ends.{IsKnown, CarriesOf, Flushes, KeepsConnections, has_failed};
+    ghost use Rattle.hd_base.specs.RoadCauses.{OnlyMemory};
+    ghost use Rattle.hd_base.specs.Faults.{KeepsSchedule};
+    ghost use Rattle.fault_ports.specs.Cuts.{seen_plain};
+    ghost use Rattle.mem_ports.specs.Roads.{risen_of};
+
+    type Inward = CutIn<R::Inward>;
+
+    type Outward = CutOut<R::Outward>;
+
+    ghost carried = { λ c. R.carried c.inner };
+
+    ghost plain = { λ c. option_map (seen_plain c.counts.duplexes.items) (R.plain c.inner) };
+
+    ghost risen = { λ c. risen_of c.risen.items };
+
+    ghost faults = { λ c. c.faults };
+
+    ghost schedule = { λ _. None };
+
+    fn share(&mut self, alloc: Global) -> Result<Cutting<R>, RoadError> {
+        match self.inner.share(alloc) {
+            Ok(inner) => Ok(Cutting {
+                inner,
+                newest: None,
+                counts: PieceCounts::new(alloc),
+                risen: Vec::new(alloc),
+                faults: 0,
+            }),
+            Err(error) => Err(counted_fault(&mut self.faults, error)),
+        }
+    }
+
+    fn listen(&mut self, alloc: Global, node: NodeId) -> Result<u16, RoadError> {
+        match self.inner.listen(alloc, node) {
+            Ok(port) => Ok(port),
+            Err(error) => Err(counted_fault(&mut self.faults, error)),
+        }
+    }
+
+    fn dial(
+        &mut self,
+        alloc: Global,
+        port: u16,
+    ) -> Result<Conn<CutIn<R::Inward>, CutOut<R::Outward>>, RoadError> {
+        match self.inner.dial(alloc, port) {
+            Ok(end) => {
+                self.newest = Some(end.id.0);
+                Ok(wrapped(end))
+            }
+            Err(error) => Err(counted_fault(&mut self.faults, error)),
+        }
+    }
+
+    fn accept(
+        &mut self,
+        alloc: Global,
+        port: u16,
+    ) -> Result<Option<Conn<CutIn<R::Inward>, CutOut<R::Outward>>>, RoadError> {
+        match self.inner.accept(alloc, port) {
+            Ok(Some(end)) => Ok(Some(wrapped(end))),
+            Ok(None) => Ok(None),
+            Err(error) => Err(counted_fault(&mut self.faults, error)),
+        }
+    }
+
+    fn hang_up(&mut self, port: u16) {
+        self.inner.hang_up(port);
+    }
+
+    fn standing(&mut self, conn: ConnId, down: bool) -> Standing {
+        let left = self.counts.get(conn, down).left;
+        match (self.inner.standing(conn, down), left) {
+            (_, Some(0)) => Standing::End,
+            (Standing::Nothing, Some(_)) => Standing::End,
+            (standing, _) => standing,
+        }
+    }
+
+    fn exchange(
+        &mut self,
+        alloc: Global,
+        end: &mut Conn<CutIn<R::Inward>, CutOut<R::Outward>>,
+        take: bool,
+    ) -> Result<(), RoadError> {
+        let Ok(grown) = self.grown(end.id, !end.lower, end.outward.pending) else {
+            return Err(RoadError::Memory);
+        };
+        let offer = self.offer(end, take)?;
+        match lent_exchange(&mut self.inner, alloc, end, offer.passes()) {
+            Ok(()) => {
+                self.counts.set(end.id, !end.lower, grown);
+                Ok(())
+            }
+            Err(error) => Err(counted_fault(&mut self.faults, error)),
+        }
+    }
+
+    fn bring(
+        &mut self,
+        alloc: Global,
+        end: Conn<CutIn<R::Inward>, CutOut<R::Outward>>,
+    ) -> Result<(), RoadError>
+        requires { IsKnown (option_map (seen_plain self.old.counts.duplexes.items) (R.plain self.old.inner)) end.id.0 }
+        ensures carried { OnOk result (CarriesOf
+            ⟦<CutOut<R::Outward> as LinkOut>⟧ end (R.carried self.old.inner) (R.carried self.new.inner)) }
+        ensures plain { OnOk result (Flushes
+            ⟦<CutIn<R::Inward> as LinkIn>⟧ ⟦<CutOut<R::Outward> as LinkOut>⟧ end
+            (option_map (seen_plain self.old.counts.duplexes.items) (R.plain self.old.inner))
+            (option_map (seen_plain self.new.counts.duplexes.items) (R.plain self.new.inner))) }
+        ensures connections { KeepsConnections
+            (option_map (seen_plain self.old.counts.duplexes.items) (R.plain self.old.inner))
+            (option_map (seen_plain self.new.counts.duplexes.items) (R.plain self.new.inner)) }
+        ensures risen { OnOk result ((c : ℕ) → risen_of self.new.risen.items c
+            ≡ (risen_of self.old.risen.items c || ((end.id.0 == c)
+            && has_failed ⟦<CutIn<R::Inward> as LinkIn>⟧ ⟦<CutOut<R::Outward> as LinkOut>⟧ end))) }
+        ensures err_carried { OnErr result (R.carried self.new.inner ≡ R.carried self.old.inner) }
+        ensures err_plain { OnErr result (
+            option_map (seen_plain self.new.counts.duplexes.items) (R.plain self.new.inner)
+            ≡ option_map (seen_plain self.old.counts.duplexes.items) (R.plain self.old.inner)) }
+        ensures err_risen { OnErr result (risen_of self.new.risen.items ≡ risen_of self.old.risen.items) }
+        ensures cause { OnlyMemory self.old.faults self.new.faults result }
+        ensures schedule { KeepsSchedule None None self.old.faults self.new.faults }
+    {
+        let Ok(grown) = self.grown(end.id, !end.lower, end.outward.pending) else {
+            return Err(RoadError::Memory);
+        };
+        if self.risen.reserve(1).is_err() {
+            return Err(RoadError::Memory);
+        }
+        let id = end.id;
+        let down = !end.lower;
+        let failed = end.inward.faults > 0 || end.outward.faults > 0;
+        given_back(&mut self.inner, alloc, end)?;
+        self.counts.set(id, down, grown);
+        if failed {
+            self.risen.push_reserved(id.0);
+        }
+        Ok(())
+    }
+
+    fn risen(&self, conn: ConnId) -> bool {
+        self.risen.contains(&conn.0)
+    }
+
+    fn gather(&mut self, alloc: Global, share: Cutting<R>) -> Result<(), RoadError> {
+        let Cutting {
+            inner,
+            newest: _,
+            counts: _,
+            mut risen,
+            faults,
+        } = share;
+        if self.risen.reserve(risen.len()).is_err() {
+            return Err(RoadError::Memory);
+        }
+        self.inner.gather(alloc, inner)?;
+        let _ = self.risen.append(&mut risen);
+        self.faults = self.faults.saturating_add(faults);
+        Ok(())
+    }
+}

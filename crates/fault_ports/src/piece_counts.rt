@@ -1,0 +1,118 @@
+//! How many pieces stand on connections.
+
+ghost use Rattle.std.specs.Prelude.{◌≡◌, ◌+◌, ◌<◌, ◌≤◌, ◌==◌, ◌&&◌, ℕ, Bool, cond, Some, None, [], length, OnOk};
+ghost use Rattle.hd_base.specs.Channels.{same_direction};
+ghost use Rattle.fault_ports.specs.PieceCounts.{count_at, none_counted, cut_count, taken_count};
+
+use hd_base::ConnId;
+use std::alloc::{AllocError, Global};
+
+/// The pieces on one direction of a connection.
+#[derive(Clone, Copy, Debug, PartialEq, Eq)]
+pub struct PieceCount {
+    /// How many stand there, lost ones among them.
+    pub standing: u64,
+    /// How many of them may still be taken, where the connection was cut.
+    pub left: Option<u64>,
+}
+
+impl PieceCount {
+    /// Nothing stands there, and the connection wasn't cut.
+    const NONE: PieceCount = PieceCount {
+        standing: 0,
+        left: None,
+    };
+
+    /// The count after a cut behind so many pieces.
+    pub fn cut(self, pieces: u64) -> PieceCount
+        ensures { result ≡ cut_count pieces self }
+    {
+        let left = match self.left {
+            Some(left) => left,
+            None => self.standing,
+        };
+        PieceCount {
+            standing: self.standing,
+            left: Some(pieces.min(left)),
+        }
+    }
+
+    /// The count after a piece was taken.
+    pub fn taken(self) -> PieceCount
+        ensures { result ≡ taken_count self }
+    {
+        PieceCount {
+            standing: self.standing.saturating_sub(1),
+            left: match self.left {
+                Some(left) => Some(left.saturating_sub(1)),
+                None => None,
+            },
+        }
+    }
+}
+
+/// The pieces on the two directions of a connection.
+#[derive(Clone, Copy, Debug, PartialEq, Eq)]
+pub struct DuplexCount {
+    pub down: PieceCount,
+    pub up: PieceCount,
+}
+
+/// The pieces on each connection, by number; on those that aren't listed nothing stands.
+#[derive(Debug, Drop)]
+pub struct PieceCounts {
+    pub duplexes: Vec<DuplexCount>,
+}
+
+impl PieceCounts {
+    /// Nothing stands anywhere.
+    pub fn new(alloc: Global) -> PieceCounts
+        ensures { result.duplexes.items ≡ [] }
+    {
+        PieceCounts {
+            duplexes: Vec::new(alloc),
+        }
+    }
+
+    /// What stands on one direction.
+    pub fn get(&self, conn: ConnId, down: bool) -> PieceCount
+        ensures { result ≡ count_at self.now.duplexes.items conn.0 down }
+    {
+        match self.duplexes.get(conn.0 as usize) {
+            Some(duplex) if down => duplex.down,
+            Some(duplex) => duplex.up,
+            None => PieceCount::NONE,
+        }
+    }
+
+    /// Lists a connection, and those below it.
+    pub fn list(&mut self, conn: ConnId) -> Result<(), AllocError>
+        ensures listed { OnOk result (conn.0 < length self.new.duplexes.items) }
+        ensures counts { (c : ℕ) (d : Bool) →
+            count_at self.new.duplexes.items c d ≡ count_at self.old.duplexes.items c d }
+    {
+        let place = conn.0 as usize;
+        while self.duplexes.len() <= place {
+            self.duplexes.push(DuplexCount {
+                down: PieceCount::NONE,
+                up: PieceCount::NONE,
+            })?;
+        }
+        Ok(())
+    }
+
+    /// Puts another count in place of that of a direction of a connection that is listed.
+    pub fn set(&mut self, conn: ConnId, down: bool, count: PieceCount)
+        requires { conn.0 < length self.old.duplexes.items }
+        ensures counts { (c : ℕ) (d : Bool) → count_at self.new.duplexes.items c d
+            ≡ cond ((conn.0 == c) && same_direction down d) count (count_at self.old.duplexes.items c d) }
+        ensures listed { length self.new.duplexes.items ≡ length self.old.duplexes.items }
+    {
+        let duplex = &mut self.duplexes[conn.0 as usize];
+        if down {
+            duplex.down = count;
+        } else {
+            duplex.up = count;
+        }
+    }
+}
