@@ -1,73 +1,48 @@
 //! Roads whose connections can be cut.
 
-ghost use Rattle.std.specs.Prelude.{◌≡◌, Some, None, IfSome};
+ghost use Rattle.std.specs.Prelude.{◌≡◌, Some, None, IfSome, is_some};
 ghost use Rattle.std.proofs.Props.{props};
 ghost use Rattle.hd_base.specs.Channels.{Plain};
 ghost use Rattle.fault_ports.specs.Cuts.{AllObservable, CountsAll, dialled_by};
 
 use crate::halves::{CutIn, CutOut};
+use crate::offers::{Offer, book};
 use crate::passes::{counted_fault, given_back, lent_exchange, probe, wrapped};
 use crate::piece_counts::{PieceCount, PieceCounts};
 use hd_base::{Conn, ConnId, LinkIn, LinkOut, NodeId, RoadError, Roads, Standing};
 use std::alloc::{AllocError, Global};
-
-/// What an exchange is to give the inward half.
-#[derive(Clone, Copy, Debug, PartialEq, Eq)]
-pub enum Offer {
-    /// Nothing: it takes nothing, or holds something.
-    Nothing,
-    /// The end or nothing, whichever the roads themselves have.
-    Rest,
-    /// A piece.
-    Piece,
-    /// The end of a cut.
-    End,
-}
-
-impl Offer {
-    ghost use Rattle.std.specs.Prelude.{◌≡◌};
-    ghost use Rattle.fault_ports.specs.Offers.{passes};
-
-    /// Whether the roads themselves are to give it.
-    fn passes(self) -> bool
-        ensures { result ≡ passes self }
-    {
-        match self {
-            Offer::Nothing => false,
-            Offer::Rest => true,
-            Offer::Piece => true,
-            Offer::End => false,
-        }
-    }
-}
 
 /// Roads whose connections can be cut: of the pieces in flight so many still arrive, and then the
 /// end; what is sent later is lost.
 #[derive(Drop)]
 pub struct Cutting<R: Roads> {
     inner: R,
+    /// Whether these are roads over plain memory.
+    plain: bool,
     /// The newest connection that was dialled.
     newest: Option<u64>,
     counts: PieceCounts,
     /// The connections an end of which had failed.
     risen: Vec<u64>,
     faults: u64,
+    ghost plain_seen: { plain ≡ is_some (R.plain inner) },
     ghost dialled: { IfSome (R.plain inner) (λ p. p.dialled ≡ dialled_by newest) } by { Prim.hlevel props },
     ghost counted: { IfSome (R.plain inner) (CountsAll counts.duplexes.items) } by { Prim.hlevel props },
     ghost observable: { IfSome (R.plain inner) (λ _. AllObservable R.Inward.LinkIn R.Outward.LinkOut) } by { Prim.hlevel props },
 }
 
 impl<R: Roads> Cutting<R> {
-    ghost use Rattle.std.specs.Prelude.{◌≡◌, ◌≤◌, ◌<◌, ℕ, Bool, true, false, Some, None, IfSome, IfOk, OnOk, OnErr, IsErrOf, option_map, length};
+    ghost use Rattle.std.specs.Prelude.{◌≡◌, ◌+◌, ◌≤◌, ◌<◌, ℕ, Bool, true, false, Some, None, IfSome, IfOk, OnOk, OnErr, IsErrOf, IsSome, is_some, [], option_map, length};
     ghost use Rattle.hd_base.specs.Ends.{IsKnown};
     ghost use Rattle.hd_base.specs.Faults.{FaultsIncreased};
     ghost use Rattle.fault_ports.specs.Cuts.{AllObservable, with_cut};
     ghost use Rattle.fault_ports.specs.PieceCounts.{count_at};
     ghost use Rattle.fault_ports.specs.Offers.{Offers, passes};
 
-    /// The roads with no connection cut. No connection was made on them, and what their ends hold
-    /// and have sent is observable, both where the roads over plain memory are.
+    /// Roads over plain memory with no connection cut. No connection was made on them, and what
+    /// their ends hold and have sent is observable.
     pub fn new(alloc: Global, inner: R) -> Cutting<R>
+        requires plain { IsSome (R.plain inner) }
         requires unused { IfSome (R.plain inner) (λ p. p.dialled ≡ 0) }
         requires observable { IfSome (R.plain inner) (λ _. AllObservable R.Inward.LinkIn R.Outward.LinkOut) }
         ensures plain { ⟦<Cutting<R> as Roads>⟧.plain result ≡ R.plain inner }
@@ -75,8 +50,33 @@ impl<R: Roads> Cutting<R> {
         ensures risen { (c : ℕ) → ⟦<Cutting<R> as Roads>⟧.risen result c ≡ false }
         ensures sound { ⟦<Cutting<R> as Roads>⟧.faults result ≡ 0 }
     {
+        Cutting::uncut(alloc, inner, true)
+    }
+
+    /// Roads whose links carry by themselves. Of a cut of these nothing is promised.
+    pub fn over_links(alloc: Global, inner: R) -> Cutting<R>
+        requires { R.plain inner ≡ None }
+        ensures plain { ⟦<Cutting<R> as Roads>⟧.plain result ≡ None }
+        ensures carried { ⟦<Cutting<R> as Roads>⟧.carried result ≡ R.carried inner }
+        ensures risen { (c : ℕ) → ⟦<Cutting<R> as Roads>⟧.risen result c ≡ false }
+        ensures sound { ⟦<Cutting<R> as Roads>⟧.faults result ≡ 0 }
+    {
+        Cutting::uncut(alloc, inner, false)
+    }
+
+    /// The roads, over plain memory or not, with no connection cut.
+    fn uncut(alloc: Global, inner: R, plain: bool) -> Cutting<R>
+        requires plain { plain ≡ is_some (R.plain inner) }
+        requires unused { IfSome (R.plain inner) (λ p. p.dialled ≡ 0) }
+        requires observable { IfSome (R.plain inner) (λ _. AllObservable R.Inward.LinkIn R.Outward.LinkOut) }
+        ensures inner { result.inner ≡ inner }
+        ensures counts { result.counts.duplexes.items ≡ [] }
+        ensures risen { result.risen.items ≡ [] }
+        ensures sound { result.faults ≡ 0 }
+    {
         Cutting {
             inner,
+            plain,
             newest: None,
             counts: PieceCounts::new(alloc),
             risen: Vec::new(alloc),
@@ -93,8 +93,8 @@ impl<R: Roads> Cutting<R> {
     }
 
     /// Ends a connection that was dialled on these roads behind so many of the pieces in flight
-    /// down, and up. What is sent on it later is lost. Of links that carry by themselves nothing is
-    /// promised.
+    /// down, and up. What is sent on it later is lost. Connections over links that carry by
+    /// themselves stay as they are.
     pub fn cut(&mut self, conn: ConnId, down: u64, up: u64) -> Result<(), AllocError>
         requires { IsKnown (⟦<Cutting<R> as Roads>⟧.plain self.old) conn.0 }
         ensures cut { OnOk result (⟦<Cutting<R> as Roads>⟧.plain self.new
@@ -104,6 +104,9 @@ impl<R: Roads> Cutting<R> {
         ensures risen { ⟦<Cutting<R> as Roads>⟧.risen self.new ≡ ⟦<Cutting<R> as Roads>⟧.risen self.old }
         ensures faults { ⟦<Cutting<R> as Roads>⟧.faults self.new ≡ ⟦<Cutting<R> as Roads>⟧.faults self.old }
     {
+        if !self.plain {
+            return Ok(());
+        }
         self.list(conn)?;
         let count = self.counts.get(conn, true).cut(down);
         self.counts.set(conn, true, count);
@@ -189,6 +192,9 @@ impl<R: Roads> Cutting<R> {
         if !take || end.inward.first.is_some() || end.inward.ended {
             return Ok(Offer::Nothing);
         }
+        if !self.plain {
+            return Ok(Offer::Rest);
+        }
         let left = self.counts.get(end.id, end.lower).left;
         match (self.inner.standing(end.id, end.lower), left) {
             (_, Some(0)) => Ok(Offer::End),
@@ -227,13 +233,10 @@ impl<R: Roads> Roads for Cutting<R> {
 
     fn share(&mut self, alloc: Global) -> Result<Cutting<R>, RoadError> {
         match self.inner.share(alloc) {
-            Ok(inner) => Ok(Cutting {
-                inner,
-                newest: None,
-                counts: PieceCounts::new(alloc),
-                risen: Vec::new(alloc),
-                faults: 0,
-            }),
+            Ok(inner) => {
+                self.plain = false;
+                Ok(Cutting::uncut(alloc, inner, false))
+            }
             Err(error) => Err(counted_fault(&mut self.faults, error)),
         }
     }
@@ -276,8 +279,11 @@ impl<R: Roads> Roads for Cutting<R> {
     }
 
     fn standing(&mut self, conn: ConnId, down: bool) -> Standing {
-        let left = self.counts.get(conn, down).left;
-        match (self.inner.standing(conn, down), left) {
+        let standing = self.inner.standing(conn, down);
+        if !self.plain {
+            return standing;
+        }
+        match (standing, self.counts.get(conn, down).left) {
             (_, Some(0)) => Standing::End,
             (Standing::Nothing, Some(_)) => Standing::End,
             (standing, _) => standing,
@@ -297,6 +303,7 @@ impl<R: Roads> Roads for Cutting<R> {
         match lent_exchange(&mut self.inner, alloc, end, offer.passes()) {
             Ok(()) => {
                 self.counts.set(end.id, !end.lower, grown);
+                book(&mut self.counts, end, offer);
                 Ok(())
             }
             Err(error) => Err(counted_fault(&mut self.faults, error)),
@@ -353,6 +360,7 @@ impl<R: Roads> Roads for Cutting<R> {
     fn gather(&mut self, alloc: Global, share: Cutting<R>) -> Result<(), RoadError> {
         let Cutting {
             inner,
+            plain: _,
             newest: _,
             counts: _,
             mut risen,

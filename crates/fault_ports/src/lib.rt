@@ -13,6 +13,7 @@ mod listings;
 mod losing;
 mod lossy;
 mod made_calls;
+mod offers;
 mod passes;
 mod piece_counts;
 mod stop_at;

@@ -99,7 +99,9 @@ pub fn lent_exchange<R: Roads>(
         ≡ ⟦<CutOut<R::Outward> as LinkOut>⟧.flushed end.old.outward) }
     ensures no_dial { IsErrOf result RoadError.NotListening → ⊥ }
 {
-    let (Some(inward), Some(outward)) = (end.inward.inner.take(), end.outward.inner.take()) else {
+    let cut_in = &mut end.inward;
+    let cut_out = &mut end.outward;
+    let (Some(inward), Some(outward)) = (cut_in.inner.take(), cut_out.inner.take()) else {
         unreachable!();
     };
     let mut lent = Conn {
@@ -115,11 +117,11 @@ pub fn lent_exchange<R: Roads>(
         inward,
         outward,
     } = lent;
-    end.inward.inner = Some(inward);
-    end.outward.inner = Some(outward);
+    cut_in.inner = Some(inward);
+    cut_out.inner = Some(outward);
     match done {
         Ok(()) => {
-            end.outward.pending = still_pending(roads, id, !lower, end.outward.pending);
+            cut_out.pending = still_pending(roads, id, !lower, cut_out.pending);
             Ok(())
         }
         Err(error) => Err(error),

@@ -101,14 +101,18 @@ impl PieceCounts {
         Ok(())
     }
 
-    /// Puts another count in place of that of a direction of a connection that is listed.
+    /// Puts another count in place of that of a direction, where the connection is listed.
     pub fn set(&mut self, conn: ConnId, down: bool, count: PieceCount)
-        requires { conn.0 < length self.old.duplexes.items }
-        ensures counts { (c : ℕ) (d : Bool) → count_at self.new.duplexes.items c d
+        ensures counts { conn.0 < length self.old.duplexes.items → (c : ℕ) (d : Bool) →
+            count_at self.new.duplexes.items c d
             ≡ cond ((conn.0 == c) && same_direction down d) count (count_at self.old.duplexes.items c d) }
         ensures listed { length self.new.duplexes.items ≡ length self.old.duplexes.items }
     {
-        let duplex = &mut self.duplexes[conn.0 as usize];
+        let place = conn.0 as usize;
+        if place >= self.duplexes.len() {
+            return;
+        }
+        let duplex = &mut self.duplexes[place];
         if down {
             duplex.down = count;
         } else {
