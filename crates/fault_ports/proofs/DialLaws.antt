@@ -3,8 +3,8 @@ use Rattle.std.proofs.Common.{◌≡◌, ℕ, zero, suc, ◌+◌, ◌<◌, ◌�
 use Rattle.hd_base.specs.Channels.{Plain, Channel, empty_channel, with_dial}
 use Rattle.fault_ports.specs.declared.piece_counts.PieceCount.{PieceCount}
 use Rattle.fault_ports.specs.declared.piece_counts.DuplexCount.{DuplexCount}
-use Rattle.fault_ports.specs.PieceCounts.{none_counted, count_at}
-use Rattle.fault_ports.specs.Cuts.{limited, seen_plain, CountsPieces, CountsAll, dialled_by}
+use Rattle.fault_ports.specs.PieceCounts.{none_counted, count_at, dialled_by}
+use Rattle.fault_ports.specs.Cuts.{limited, seen_plain, CountsPieces, CountsAll}
 use Rattle.fault_ports.proofs.CountLaws.{count-past}
 
 newest : (old : Option Plain) (port conn : ℕ) → IfSome old (λ p. conn ≡ p.dialled) → IfSome (option_map (λ p. with_dial p port) old) (λ p. p.dialled ≡ dialled_by (Some conn))

@@ -5,7 +5,6 @@ pub mod UnchangedLaws
 pub mod PresentLaws
 pub mod StopLaws
 pub mod OutcomeLaws
-pub mod CutLaws
 pub mod CountLaws
 pub mod HalfLaws
 pub mod DialLaws

@@ -46,11 +46,6 @@ CountsAll counts plain =
     (length counts ≤ plain.dialled)
     × ((c : ℕ) (d : Bool) → c < plain.dialled → CountsPieces (count_at counts c d) (plain.channels c d))
 
--- how many connections were dialled, where the newest has this number
-abbrev pub dialled_by : Option ℕ → ℕ
-dialled_by None = 0
-dialled_by (Some newest) = newest + 1
-
 -- What every end of these kinds holds and has sent is observable.
 abbrev pub AllObservable : {I O : Type 0} → link_in.Ghosts I → link_out.Ghosts O → Type 0
 AllObservable {I} {O} i o = ((half : I) → IsSome (i.held half)) × ((half : O) → IsSome (o.sent half))

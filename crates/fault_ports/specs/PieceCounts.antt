@@ -1,5 +1,5 @@
 -- How many pieces stand on connections, and how many may still be taken.
-use Rattle.std.specs.Prelude.{ℕ, ◌-◌, min, Bool, cond, List, Option, Some, None, option_map, unwrap_or, slice_get}
+use Rattle.std.specs.Prelude.{ℕ, ◌+◌, ◌-◌, min, Bool, cond, List, Option, Some, None, option_map, unwrap_or, slice_get}
 use Rattle.fault_ports.specs.declared.piece_counts.PieceCount.{PieceCount}
 use Rattle.fault_ports.specs.declared.piece_counts.DuplexCount.{DuplexCount}
 
@@ -27,3 +27,12 @@ cut_count pieces count = record count { left = Some (min pieces (unwrap_or count
 -- the count after a piece was taken
 abbrev pub taken_count : PieceCount → PieceCount
 taken_count count = record { standing = count.standing - 1; left = option_map (λ n. n - 1) count.left }
+
+-- the count after so many more pieces were sent
+abbrev pub grown_count : PieceCount → ℕ → PieceCount
+grown_count count more = record count { standing = count.standing + more }
+
+-- how many connections were dialled, where the newest has this number
+abbrev pub dialled_by : Option ℕ → ℕ
+dialled_by None = 0
+dialled_by (Some newest) = newest + 1

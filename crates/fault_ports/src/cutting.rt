@@ -3,12 +3,13 @@
 ghost use Rattle.std.specs.Prelude.{◌≡◌, Some, None, IfSome, is_some};
 ghost use Rattle.std.proofs.Props.{props};
 ghost use Rattle.hd_base.specs.Channels.{Plain};
-ghost use Rattle.fault_ports.specs.Cuts.{AllObservable, CountsAll, dialled_by};
+ghost use Rattle.fault_ports.specs.Cuts.{AllObservable, CountsAll};
+ghost use Rattle.fault_ports.specs.PieceCounts.{dialled_by};
 
 use crate::halves::{CutIn, CutOut};
-use crate::offers::{Offer, book};
-use crate::passes::{counted_fault, given_back, lent_exchange, probe, wrapped};
-use crate::piece_counts::{PieceCount, PieceCounts};
+use crate::offers::offer_next;
+use crate::passes::{counted_fault, has_failed, still_pending, unwrapped, wrapped};
+use crate::piece_counts::PieceCounts;
 use hd_base::{Conn, ConnId, LinkIn, LinkOut, NodeId, RoadError, Roads, Standing};
 use std::alloc::{AllocError, Global};
 
@@ -107,111 +108,18 @@ impl<R: Roads> Cutting<R> {
         if !self.plain {
             return Ok(());
         }
-        self.list(conn)?;
+        self.counts.list(self.newest, conn)?;
         let count = self.counts.get(conn, true).cut(down);
         self.counts.set(conn, true, count);
         let count = self.counts.get(conn, false).cut(up);
         self.counts.set(conn, false, count);
         Ok(())
     }
-
-    /// Lists a connection among the counts, where it was dialled on these roads.
-    fn list(&mut self, conn: ConnId) -> Result<(), AllocError>
-        ensures listed { OnOk result (IsKnown (R.plain self.old.inner) conn.0 → IfSome (R.plain self.old.inner) (λ _.
-            conn.0 < length self.new.counts.duplexes.items)) }
-        ensures counts { (c : ℕ) (d : Bool) →
-            count_at self.new.counts.duplexes.items c d ≡ count_at self.old.counts.duplexes.items c d }
-        ensures inner { self.new.inner ≡ self.old.inner }
-        ensures newest { self.new.newest ≡ self.old.newest }
-        ensures risen { self.new.risen ≡ self.old.risen }
-        ensures faults { self.new.faults ≡ self.old.faults }
-    {
-        match self.newest {
-            Some(newest) if conn.0 <= newest => self.counts.list(conn),
-            _ => Ok(()),
-        }
-    }
-
-    /// The count of a direction after so many more pieces were sent there.
-    fn grown(&mut self, conn: ConnId, down: bool, more: u64) -> Result<PieceCount, AllocError>
-        ensures grown { IfOk result (λ count. count ≡ record (count_at self.old.counts.duplexes.items conn.0 down) {
-            standing = (count_at self.old.counts.duplexes.items conn.0 down).standing + more }) }
-        ensures listed { OnOk result (IsKnown (R.plain self.old.inner) conn.0 → IfSome (R.plain self.old.inner) (λ _.
-            conn.0 < length self.new.counts.duplexes.items)) }
-        ensures counts { (c : ℕ) (d : Bool) →
-            count_at self.new.counts.duplexes.items c d ≡ count_at self.old.counts.duplexes.items c d }
-        ensures inner { self.new.inner ≡ self.old.inner }
-        ensures newest { self.new.newest ≡ self.old.newest }
-        ensures risen { self.new.risen ≡ self.old.risen }
-        ensures faults { self.new.faults ≡ self.old.faults }
-    {
-        self.list(conn)?;
-        let count = self.counts.get(conn, down);
-        match count.standing.checked_add(more) {
-            Some(standing) => Ok(PieceCount { standing, left: count.left }),
-            None => Err(AllocError),
-        }
-    }
-}
-
-impl<R: Roads> Cutting<R> {
-    ghost use Rattle.std.specs.Prelude.{◌≡◌, ℕ, ◌≤◌, true, false, Some, None, IfSome, IfOk, OnOk, OnErr, IsErrOf};
-    ghost use Rattle.hd_base.specs.Channels.{is_hungry};
-    ghost use Rattle.hd_base.specs.Ends.{KeepsEnd};
-    ghost use Rattle.hd_base.specs.Faults.{FaultsIncreased};
-    ghost use Rattle.fault_ports.specs.PieceCounts.{count_at};
-    ghost use Rattle.fault_ports.specs.Offers.{Offers, passes};
-
-    /// What an exchange is to give the inward half of an end. To see whether it is hungry, a byte
-    /// may be received in advance.
-    fn offer(
-        &mut self,
-        end: &mut Conn<CutIn<R::Inward>, CutOut<R::Outward>>,
-        take: bool,
-    ) -> Result<Offer, RoadError>
-        ensures offer { IfOk result (λ offer. IfSome (R.plain self.old.inner) (λ p.
-            IfSome (⟦<CutIn<R::Inward> as LinkIn>⟧.held end.old.inward) (λ inbox.
-            Offers offer take (count_at self.old.counts.duplexes.items end.old.id.0 end.old.lower)
-                (p.channels end.old.id.0 end.old.lower) inbox))) }
-        ensures bare { IfOk result (λ offer. passes offer ≡ true →
-            (end.new.inward.first ≡ None) × (end.new.inward.ended ≡ false)) }
-        ensures err { OnErr result (IsErrOf result RoadError.Failed) }
-        ensures fault { OnErr result (FaultsIncreased self.old.faults self.new.faults) }
-        ensures no_fault { OnOk result (self.new.faults ≡ self.old.faults) }
-        ensures never_falls { self.old.faults ≤ self.new.faults }
-        ensures held { ⟦<CutIn<R::Inward> as LinkIn>⟧.held end.new.inward
-            ≡ ⟦<CutIn<R::Inward> as LinkIn>⟧.held end.old.inward }
-        ensures end { KeepsEnd ⟦<CutIn<R::Inward> as LinkIn>⟧ ⟦<CutOut<R::Outward> as LinkOut>⟧ end.old end.new }
-        ensures outward { end.new.outward ≡ end.old.outward }
-        ensures plain { R.plain self.new.inner ≡ R.plain self.old.inner }
-        ensures carried { R.carried self.new.inner ≡ R.carried self.old.inner }
-        ensures newest { self.new.newest ≡ self.old.newest }
-        ensures counts { self.new.counts ≡ self.old.counts }
-        ensures risen { self.new.risen ≡ self.old.risen }
-    {
-        if !take || end.inward.first.is_some() || end.inward.ended {
-            return Ok(Offer::Nothing);
-        }
-        if !self.plain {
-            return Ok(Offer::Rest);
-        }
-        let left = self.counts.get(end.id, end.lower).left;
-        match (self.inner.standing(end.id, end.lower), left) {
-            (_, Some(0)) => Ok(Offer::End),
-            (Standing::Piece, _) => match probe(&mut end.inward) {
-                Ok(true) => Ok(Offer::Piece),
-                Ok(false) => Ok(Offer::Nothing),
-                Err(_) => Err(counted_fault(&mut self.faults, RoadError::Failed)),
-            },
-            (_, Some(_)) => Ok(Offer::End),
-            (_, None) => Ok(Offer::Rest),
-        }
-    }
 }
 
 impl<R: Roads> Roads for Cutting<R> {
     ghost use Rattle.std.specs.Prelude.{◌≡◌, ◌==◌, ◌||◌, ◌&&◌, ℕ, None, option_map, OnOk, OnErr};
-    ghost use Rattle.hd_base.specs.Ends.{IsKnown, CarriesOf, Flushes, KeepsConnections, has_failed};
+    ghost use Rattle.hd_base.specs.Ends.{IsKnown, CarriesOf, Flushes, KeepsConnections, has_failed as end_failed};
     ghost use Rattle.hd_base.specs.RoadCauses.{OnlyMemory};
     ghost use Rattle.hd_base.specs.Faults.{KeepsSchedule};
     ghost use Rattle.fault_ports.specs.Cuts.{seen_plain};
@@ -235,7 +143,14 @@ impl<R: Roads> Roads for Cutting<R> {
         match self.inner.share(alloc) {
             Ok(inner) => {
                 self.plain = false;
-                Ok(Cutting::uncut(alloc, inner, false))
+                Ok(Cutting {
+                    inner,
+                    plain: false,
+                    newest: None,
+                    counts: PieceCounts::new(alloc),
+                    risen: Vec::new(alloc),
+                    faults: 0,
+                })
             }
             Err(error) => Err(counted_fault(&mut self.faults, error)),
         }
@@ -296,18 +211,41 @@ impl<R: Roads> Roads for Cutting<R> {
         end: &mut Conn<CutIn<R::Inward>, CutOut<R::Outward>>,
         take: bool,
     ) -> Result<(), RoadError> {
-        let Ok(grown) = self.grown(end.id, !end.lower, end.outward.pending) else {
+        let Ok(grown) = self.counts.grown(self.newest, end.id, !end.lower, end.outward.pending)
+        else {
             return Err(RoadError::Memory);
         };
-        let offer = self.offer(end, take)?;
-        match lent_exchange(&mut self.inner, alloc, end, offer.passes()) {
-            Ok(()) => {
-                self.counts.set(end.id, !end.lower, grown);
-                book(&mut self.counts, end, offer);
-                Ok(())
-            }
-            Err(error) => Err(counted_fault(&mut self.faults, error)),
+        let standing = self.inner.standing(end.id, end.lower);
+        let left = self.counts.get(end.id, end.lower).left;
+        let Ok(offer) = offer_next(&mut end.inward, self.plain, standing, left, take) else {
+            return Err(counted_fault(&mut self.faults, RoadError::Failed));
+        };
+        let (id, lower) = (end.id, end.lower);
+        let cut_in = &mut end.inward;
+        let cut_out = &mut end.outward;
+        let (Some(inward), Some(outward)) = (cut_in.inner.take(), cut_out.inner.take()) else {
+            unreachable!();
+        };
+        let mut lent = Conn {
+            id,
+            lower,
+            inward,
+            outward,
+        };
+        let done = self.inner.exchange(alloc, &mut lent, offer.passes());
+        let Conn {
+            inward, outward, ..
+        } = lent;
+        cut_in.inner = Some(inward);
+        cut_out.inner = Some(outward);
+        if let Err(error) = done {
+            return Err(counted_fault(&mut self.faults, error));
         }
+        cut_out.pending = still_pending(self.plain, cut_out.pending);
+        cut_in.ended = cut_in.ended || offer.is_end();
+        self.counts.set(id, !lower, grown);
+        self.counts.book(id, lower, offer);
+        Ok(())
     }
 
     fn bring(
@@ -327,7 +265,7 @@ impl<R: Roads> Roads for Cutting<R> {
             (option_map (seen_plain self.new.counts.duplexes.items) (R.plain self.new.inner)) }
         ensures risen { OnOk result ((c : ℕ) → risen_of self.new.risen.items c
             ≡ (risen_of self.old.risen.items c || ((end.id.0 == c)
-            && has_failed ⟦<CutIn<R::Inward> as LinkIn>⟧ ⟦<CutOut<R::Outward> as LinkOut>⟧ end))) }
+            && end_failed ⟦<CutIn<R::Inward> as LinkIn>⟧ ⟦<CutOut<R::Outward> as LinkOut>⟧ end))) }
         ensures err_carried { OnErr result (R.carried self.new.inner ≡ R.carried self.old.inner) }
         ensures err_plain { OnErr result (
             option_map (seen_plain self.new.counts.duplexes.items) (R.plain self.new.inner)
@@ -336,16 +274,17 @@ impl<R: Roads> Roads for Cutting<R> {
         ensures cause { OnlyMemory self.old.faults self.new.faults result }
         ensures schedule { KeepsSchedule None None self.old.faults self.new.faults }
     {
-        let Ok(grown) = self.grown(end.id, !end.lower, end.outward.pending) else {
+        let Ok(grown) = self.counts.grown(self.newest, end.id, !end.lower, end.outward.pending)
+        else {
             return Err(RoadError::Memory);
         };
         if self.risen.reserve(1).is_err() {
             return Err(RoadError::Memory);
         }
-        let id = end.id;
-        let down = !end.lower;
-        let failed = end.inward.faults > 0 || end.outward.faults > 0;
-        given_back(&mut self.inner, alloc, end)?;
+        let failed = has_failed(&end);
+        let lent = unwrapped(end);
+        let (id, down) = (lent.id, !lent.lower);
+        self.inner.bring(alloc, lent)?;
         self.counts.set(id, down, grown);
         if failed {
             self.risen.push_reserved(id.0);

@@ -1,11 +1,12 @@
 //! What an exchange is to give the inward half of an end.
 
-ghost use Rattle.std.specs.Prelude.{◌≡◌, ◌||◌, length};
-ghost use Rattle.fault_ports.specs.Offers.{passes, is_end, IsBooked};
+ghost use Rattle.std.specs.Prelude.{◌≡◌, true, false, None, IfSome, IfOk, IsErrOf};
+ghost use Rattle.hd_base.specs.Channels.{is_hungry};
+ghost use Rattle.fault_ports.specs.Offers.{passes, is_end, OffersNext};
 
-use crate::halves::{CutIn, CutOut};
-use crate::piece_counts::PieceCounts;
-use hd_base::{Conn, LinkIn, LinkOut};
+use crate::halves::CutIn;
+use crate::passes::probe;
+use hd_base::{LinkError, LinkIn, Standing};
 
 /// What an exchange is to give the inward half.
 #[derive(Clone, Copy, Debug, PartialEq, Eq)]
@@ -32,29 +33,53 @@ impl Offer {
             Offer::End => false,
         }
     }
+
+    /// Whether it is the end of a cut.
+    pub fn is_end(self) -> bool
+        ensures { result ≡ is_end self }
+    {
+        match self {
+            Offer::Nothing => false,
+            Offer::Rest => false,
+            Offer::Piece => false,
+            Offer::End => true,
+        }
+    }
 }
 
-/// Counts what an exchange gave the inward half, and puts the end of a cut behind nothing.
-pub fn book<I: LinkIn, O: LinkOut>(
-    counts: &mut PieceCounts,
-    end: &mut Conn<CutIn<I>, CutOut<O>>,
-    offer: Offer,
-)
-    ensures counts { IsBooked counts.old.duplexes.items counts.new.duplexes.items
-        end.old.id.0 end.old.lower offer }
-    ensures listed { length counts.new.duplexes.items ≡ length counts.old.duplexes.items }
-    ensures end { end.new ≡ record end.old { inward = end.new.inward } }
-    ensures inward { end.new.inward.inner ≡ end.old.inward.inner }
-    ensures first { end.new.inward.first ≡ end.old.inward.first }
-    ensures faults { end.new.inward.faults ≡ end.old.inward.faults }
-    ensures ended { end.new.inward.ended ≡ (end.old.inward.ended || is_end offer) }
+/// What an exchange is to give the inward half of an end, where this stands next on roads over
+/// plain memory, and so many pieces may still be taken. To see whether the half is hungry, a byte
+/// may be received in advance.
+pub fn offer_next<I: LinkIn>(
+    half: &mut CutIn<I>,
+    plain: bool,
+    standing: Standing,
+    left: Option<u64>,
+    take: bool,
+) -> Result<Offer, LinkError>
+    ensures offer { IfOk result (λ offer. plain ≡ true → IfSome (⟦<CutIn<I> as LinkIn>⟧.held half.old) (λ inbox.
+        OffersNext offer take (is_hungry inbox) standing left)) }
+    ensures bare { IfOk result (λ offer. passes offer ≡ true →
+        (half.new.first ≡ None) × (half.new.ended ≡ false)) }
+    ensures held { ⟦<CutIn<I> as LinkIn>⟧.held half.new ≡ ⟦<CutIn<I> as LinkIn>⟧.held half.old }
+    ensures shut { ⟦<CutIn<I> as LinkIn>⟧.shut half.new ≡ ⟦<CutIn<I> as LinkIn>⟧.shut half.old }
+    ensures faults { half.new.faults ≡ half.old.faults }
+    ensures no_memory { IsErrOf result LinkError.Memory → ⊥ }
 {
-    match offer {
-        Offer::Piece => {
-            let count = counts.get(end.id, end.lower).taken();
-            counts.set(end.id, end.lower, count);
-        }
-        Offer::End => end.inward.ended = true,
-        Offer::Nothing | Offer::Rest => {}
+    if !take || half.first.is_some() || half.ended {
+        return Ok(Offer::Nothing);
+    }
+    if !plain {
+        return Ok(Offer::Rest);
+    }
+    match (standing, left) {
+        (_, Some(0)) => Ok(Offer::End),
+        (Standing::Piece, _) => match probe(half) {
+            Ok(true) => Ok(Offer::Piece),
+            Ok(false) => Ok(Offer::Nothing),
+            Err(error) => Err(error),
+        },
+        (_, Some(_)) => Ok(Offer::End),
+        (_, None) => Ok(Offer::Rest),
     }
 }

@@ -1,15 +1,12 @@
 //! Calls that roads get with the halves themselves of an end whose connection may be cut.
 
-ghost use Rattle.std.specs.Prelude.{◌≡◌, ◌≢◌, ◌+◌, ◌≤◌, ◌<◌, ◌||◌, ◌&&◌, ◌==◌, ℕ, Some, None, false, true, IfSome, IfOk, OnOk, OnErr, IsErrOf, MatchOption, IsTrue, ◌↔◌};
-ghost use Rattle.hd_base.specs.Channels.{is_hungry, standing_of};
-ghost use Rattle.hd_base.specs.Ends.{IsFresh, KeepsEnd, FlushesAll, CarriesOf, CarriesFlushed, Exchanges, TakesNext, Flushes, KeepsConnections, IsKnown};
+ghost use Rattle.std.specs.Prelude.{◌≡◌, ◌≢◌, ◌≤◌, Some, None, false, true, cond, IfSome, IfOk, IsErrOf};
+ghost use Rattle.hd_base.specs.Channels.{is_hungry};
+ghost use Rattle.hd_base.specs.Ends.{IsFresh, has_failed as end_failed};
 ghost use Rattle.hd_base.specs.Faults.{FaultsIncreased};
-ghost use Rattle.hd_base.specs.declared.ends.Standing.TheVariants as standing;
-ghost use Rattle.fault_ports.specs.Cuts.{AllObservable};
 
 use crate::halves::{CutIn, CutOut};
-use hd_base::{Conn, ConnId, Got, LinkError, LinkIn, LinkOut, RoadError, Roads, Standing};
-use std::alloc::Global;
+use hd_base::{Conn, Got, LinkError, LinkIn, LinkOut, RoadError};
 
 /// Counts an error that is a fault.
 pub fn counted_fault(faults: &mut u64, error: RoadError) -> RoadError
@@ -24,20 +21,18 @@ pub fn counted_fault(faults: &mut u64, error: RoadError) -> RoadError
     error
 }
 
-/// How many of the pieces that were to be flushed still wait: none where something stands there
-/// now, all where the links carry by themselves.
-fn still_pending<R: Roads>(roads: &mut R, conn: ConnId, down: bool, pending: u64) -> u64
-    ensures pending { MatchOption (R.plain roads.old) (result ≡ pending) (λ p.
-        (standing_of (p.channels conn.0 down) ≢ standing.Nothing → result ≡ 0) × (result ≤ pending)) }
-    ensures plain { R.plain roads.new ≡ R.plain roads.old }
-    ensures carried { R.carried roads.new ≡ R.carried roads.old }
-    ensures risen { R.risen roads.new ≡ R.risen roads.old }
+/// How many pieces still wait to be flushed after an exchange.
+pub fn still_pending(plain: bool, pending: u64) -> u64
+    ensures { result ≡ cond plain 0 pending }
 {
-    match roads.standing(conn, down) {
-        Standing::Nothing => pending,
-        Standing::Piece => 0,
-        Standing::End => 0,
-    }
+    if plain { 0 } else { pending }
+}
+
+/// Whether a count of an end has risen.
+pub fn has_failed<I: LinkIn, O: LinkOut>(end: &Conn<CutIn<I>, CutOut<O>>) -> bool
+    ensures { result ≡ end_failed ⟦<CutIn<I> as LinkIn>⟧ ⟦<CutOut<O> as LinkOut>⟧ end.now }
+{
+    end.inward.faults > 0 || end.outward.faults > 0
 }
 
 /// Whether a half that was given nothing in advance is hungry.
@@ -67,82 +62,11 @@ pub fn probe<I: LinkIn>(half: &mut CutIn<I>) -> Result<bool, LinkError>
     }
 }
 
-/// Exchanges an end's halves themselves.
-pub fn lent_exchange<R: Roads>(
-    roads: &mut R,
-    alloc: Global,
-    end: &mut Conn<CutIn<R::Inward>, CutOut<R::Outward>>,
-    take: bool,
-) -> Result<(), RoadError>
-    requires known { IsKnown (R.plain roads.old) end.old.id.0 }
-    requires observable { IfSome (R.plain roads.old) (λ _. AllObservable R.Inward.LinkIn R.Outward.LinkOut) }
-    requires bare { take ≡ true → (end.old.inward.first ≡ None) × (end.old.inward.ended ≡ false) }
-    ensures flushed { OnOk result (FlushesAll
-        ⟦<CutOut<R::Outward> as LinkOut>⟧ end.old end.new (R.plain roads.old)) }
-    ensures carried { OnOk result (CarriesFlushed
-        ⟦<CutOut<R::Outward> as LinkOut>⟧ end.old (R.plain roads.old) (R.carried roads.old) (R.carried roads.new)) }
-    ensures plain { OnOk result (Exchanges ⟦<CutIn<R::Inward> as LinkIn>⟧ ⟦<CutOut<R::Outward> as LinkOut>⟧
-        end.old take (R.plain roads.old) (R.plain roads.new)) }
-    ensures taken { OnOk result (TakesNext ⟦<CutIn<R::Inward> as LinkIn>⟧ ⟦<CutOut<R::Outward> as LinkOut>⟧
-        end.old end.new take (R.plain roads.old)) }
-    ensures untaken { take ≡ false →
-        ⟦<CutIn<R::Inward> as LinkIn>⟧.held end.new.inward ≡ ⟦<CutIn<R::Inward> as LinkIn>⟧.held end.old.inward }
-    ensures connections { KeepsConnections (R.plain roads.old) (R.plain roads.new) }
-    ensures end { KeepsEnd ⟦<CutIn<R::Inward> as LinkIn>⟧ ⟦<CutOut<R::Outward> as LinkOut>⟧ end.old end.new }
-    ensures first { end.new.inward.first ≡ end.old.inward.first }
-    ensures ended { end.new.inward.ended ≡ end.old.inward.ended }
-    ensures err_plain { OnErr result (R.plain roads.new ≡ R.plain roads.old) }
-    ensures err_carried { OnErr result (R.carried roads.new ≡ R.carried roads.old) }
-    ensures err_held { OnErr result (
-        ⟦<CutIn<R::Inward> as LinkIn>⟧.held end.new.inward ≡ ⟦<CutIn<R::Inward> as LinkIn>⟧.held end.old.inward) }
-    ensures err_flushed { OnErr result (⟦<CutOut<R::Outward> as LinkOut>⟧.flushed end.new.outward
-        ≡ ⟦<CutOut<R::Outward> as LinkOut>⟧.flushed end.old.outward) }
-    ensures no_dial { IsErrOf result RoadError.NotListening → ⊥ }
-{
-    let cut_in = &mut end.inward;
-    let cut_out = &mut end.outward;
-    let (Some(inward), Some(outward)) = (cut_in.inner.take(), cut_out.inner.take()) else {
-        unreachable!();
-    };
-    let mut lent = Conn {
-        id: end.id,
-        lower: end.lower,
-        inward,
-        outward,
-    };
-    let done = roads.exchange(alloc, &mut lent, take);
-    let Conn {
-        id,
-        lower,
-        inward,
-        outward,
-    } = lent;
-    cut_in.inner = Some(inward);
-    cut_out.inner = Some(outward);
-    match done {
-        Ok(()) => {
-            cut_out.pending = still_pending(roads, id, !lower, cut_out.pending);
-            Ok(())
-        }
-        Err(error) => Err(error),
-    }
-}
-
-/// Brings an end's halves themselves back.
-pub fn given_back<R: Roads>(
-    roads: &mut R,
-    alloc: Global,
-    end: Conn<CutIn<R::Inward>, CutOut<R::Outward>>,
-) -> Result<(), RoadError>
-    requires { IsKnown (R.plain roads.old) end.id.0 }
-    ensures carried { OnOk result (CarriesOf
-        ⟦<CutOut<R::Outward> as LinkOut>⟧ end (R.carried roads.old) (R.carried roads.new)) }
-    ensures plain { OnOk result (Flushes ⟦<CutIn<R::Inward> as LinkIn>⟧ ⟦<CutOut<R::Outward> as LinkOut>⟧
-        end (R.plain roads.old) (R.plain roads.new)) }
-    ensures connections { KeepsConnections (R.plain roads.old) (R.plain roads.new) }
-    ensures err_carried { OnErr result (R.carried roads.new ≡ R.carried roads.old) }
-    ensures err_plain { OnErr result (R.plain roads.new ≡ R.plain roads.old) }
-    ensures only_memory { OnErr result (IsErrOf result RoadError.Memory) }
+/// The end with the halves that the roads themselves gave.
+pub fn unwrapped<I: LinkIn, O: LinkOut>(end: Conn<CutIn<I>, CutOut<O>>) -> Conn<I, O>
+    ensures inward { end.inward.inner ≡ Some result.inward }
+    ensures outward { end.outward.inner ≡ Some result.outward }
+    ensures place { (result.id ≡ end.id) × (result.lower ≡ end.lower) }
 {
     let Conn {
         id,
@@ -155,16 +79,14 @@ pub fn given_back<R: Roads>(
     let (Some(inward), Some(outward)) = (inward, outward) else {
         unreachable!();
     };
-    roads.bring(
-        alloc,
-        Conn {
-            id,
-            lower,
-            inward,
-            outward,
-        },
-    )
+    Conn {
+        id,
+        lower,
+        inward,
+        outward,
+    }
 }
+
 /// The end with its halves as those of roads whose connections may be cut.
 pub fn wrapped<I: LinkIn, O: LinkOut>(end: Conn<I, O>) -> Conn<CutIn<I>, CutOut<O>>
     requires { IsFresh I.LinkIn O.LinkOut end }

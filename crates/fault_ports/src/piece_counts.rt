@@ -1,9 +1,11 @@
 //! How many pieces stand on connections.
 
-ghost use Rattle.std.specs.Prelude.{◌≡◌, ◌+◌, ◌<◌, ◌≤◌, ◌==◌, ◌&&◌, ℕ, Bool, cond, Some, None, [], length, OnOk};
+ghost use Rattle.std.specs.Prelude.{◌≡◌, ◌+◌, ◌<◌, ◌≤◌, ◌==◌, ◌&&◌, ℕ, Bool, cond, Some, None, [], length, OnOk, IfOk};
 ghost use Rattle.hd_base.specs.Channels.{same_direction};
-ghost use Rattle.fault_ports.specs.PieceCounts.{count_at, none_counted, cut_count, taken_count};
+ghost use Rattle.fault_ports.specs.Offers.{count_given};
+ghost use Rattle.fault_ports.specs.PieceCounts.{count_at, cut_count, taken_count, grown_count, dialled_by};
 
+use crate::offers::Offer;
 use hd_base::ConnId;
 use std::alloc::{AllocError, Global};
 
@@ -85,13 +87,28 @@ impl PieceCounts {
         }
     }
 
-    /// Lists a connection, and those below it.
-    pub fn list(&mut self, conn: ConnId) -> Result<(), AllocError>
-        ensures listed { OnOk result (conn.0 < length self.new.duplexes.items) }
+    /// Lists a connection and those below it, where it is no newer than the newest one.
+    pub fn list(&mut self, newest: Option<u64>, conn: ConnId) -> Result<(), AllocError>
+        ensures listed { OnOk result (conn.0 < dialled_by newest → conn.0 < length self.new.duplexes.items) }
         ensures counts { (c : ℕ) (d : Bool) →
             count_at self.new.duplexes.items c d ≡ count_at self.old.duplexes.items c d }
+        ensures bounded { length self.old.duplexes.items ≤ dialled_by newest →
+            length self.new.duplexes.items ≤ dialled_by newest }
     {
-        let place = conn.0 as usize;
+        match newest {
+            Some(newest) if conn.0 <= newest => self.extend(conn.0 as usize),
+            _ => Ok(()),
+        }
+    }
+
+    /// Lists the connection with this number, and those below it.
+    fn extend(&mut self, place: usize) -> Result<(), AllocError>
+        ensures listed { OnOk result (place < length self.new.duplexes.items) }
+        ensures counts { (c : ℕ) (d : Bool) →
+            count_at self.new.duplexes.items c d ≡ count_at self.old.duplexes.items c d }
+        ensures bounded { (n : ℕ) → length self.old.duplexes.items ≤ n → place < n →
+            length self.new.duplexes.items ≤ n }
+    {
         while self.duplexes.len() <= place {
             self.duplexes.push(DuplexCount {
                 down: PieceCount::NONE,
@@ -99,6 +116,34 @@ impl PieceCounts {
             })?;
         }
         Ok(())
+    }
+
+    /// The count of a direction after so many more pieces were sent there. The connection is then
+    /// listed, where it is no newer than the newest one.
+    pub fn grown(
+        &mut self,
+        newest: Option<u64>,
+        conn: ConnId,
+        down: bool,
+        more: u64,
+    ) -> Result<PieceCount, AllocError>
+        ensures grown { IfOk result (λ count.
+            count ≡ grown_count (count_at self.old.duplexes.items conn.0 down) more) }
+        ensures listed { OnOk result (conn.0 < dialled_by newest → conn.0 < length self.new.duplexes.items) }
+        ensures counts { (c : ℕ) (d : Bool) →
+            count_at self.new.duplexes.items c d ≡ count_at self.old.duplexes.items c d }
+        ensures bounded { length self.old.duplexes.items ≤ dialled_by newest →
+            length self.new.duplexes.items ≤ dialled_by newest }
+    {
+        self.list(newest, conn)?;
+        let count = self.get(conn, down);
+        match count.standing.checked_add(more) {
+            Some(standing) => Ok(PieceCount {
+                standing,
+                left: count.left,
+            }),
+            None => Err(AllocError),
+        }
     }
 
     /// Puts another count in place of that of a direction, where the connection is listed.
@@ -117,6 +162,20 @@ impl PieceCounts {
             duplex.down = count;
         } else {
             duplex.up = count;
+        }
+    }
+
+    /// Counts what an exchange gave the inward half that takes from this direction, where the
+    /// connection is listed.
+    pub fn book(&mut self, conn: ConnId, down: bool, offer: Offer)
+        ensures counts { conn.0 < length self.old.duplexes.items → (c : ℕ) (d : Bool) →
+            count_at self.new.duplexes.items c d ≡ cond ((conn.0 == c) && same_direction down d)
+                (count_given offer (count_at self.old.duplexes.items c d)) (count_at self.old.duplexes.items c d) }
+        ensures listed { length self.new.duplexes.items ≡ length self.old.duplexes.items }
+    {
+        if offer == Offer::Piece {
+            let count = self.get(conn, down).taken();
+            self.set(conn, down, count);
         }
     }
 }
