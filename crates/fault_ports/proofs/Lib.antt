@@ -5,6 +5,8 @@ pub mod UnchangedLaws
 pub mod PresentLaws
 pub mod StopLaws
 pub mod OutcomeLaws
+pub mod CutLaws
+pub mod ExchangeLaws
 pub mod CountLaws
 pub mod HalfLaws
 pub mod DialLaws

@@ -38,7 +38,6 @@ impl<R: Roads> Cutting<R> {
     ghost use Rattle.hd_base.specs.Faults.{FaultsIncreased};
     ghost use Rattle.fault_ports.specs.Cuts.{AllObservable, with_cut};
     ghost use Rattle.fault_ports.specs.PieceCounts.{count_at};
-    ghost use Rattle.fault_ports.specs.Offers.{Offers, passes};
 
     /// Roads over plain memory with no connection cut. No connection was made on them, and what
     /// their ends hold and have sent is observable.
@@ -242,7 +241,7 @@ impl<R: Roads> Roads for Cutting<R> {
             return Err(counted_fault(&mut self.faults, error));
         }
         cut_out.pending = still_pending(self.plain, cut_out.pending);
-        cut_in.ended = cut_in.ended || offer.is_end();
+        cut_in.ended = offer.ends(cut_in.ended);
         self.counts.set(id, !lower, grown);
         self.counts.book(id, lower, offer);
         Ok(())

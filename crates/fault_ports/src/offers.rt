@@ -1,6 +1,6 @@
 //! What an exchange is to give the inward half of an end.
 
-ghost use Rattle.std.specs.Prelude.{◌≡◌, true, false, None, IfSome, IfOk, IsErrOf};
+ghost use Rattle.std.specs.Prelude.{◌≡◌, ◌||◌, true, false, None, IfSome, IfOk, IsErrOf};
 ghost use Rattle.hd_base.specs.Channels.{is_hungry};
 ghost use Rattle.fault_ports.specs.Offers.{passes, is_end, OffersNext};
 
@@ -34,14 +34,14 @@ impl Offer {
         }
     }
 
-    /// Whether it is the end of a cut.
-    pub fn is_end(self) -> bool
-        ensures { result ≡ is_end self }
+    /// Whether the end stands behind nothing after it was given.
+    pub fn ends(self, ended: bool) -> bool
+        ensures { result ≡ (ended || is_end self) }
     {
         match self {
-            Offer::Nothing => false,
-            Offer::Rest => false,
-            Offer::Piece => false,
+            Offer::Nothing => ended,
+            Offer::Rest => ended,
+            Offer::Piece => ended,
             Offer::End => true,
         }
     }
