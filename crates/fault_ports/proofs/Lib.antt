@@ -7,6 +7,7 @@ pub mod StopLaws
 pub mod OutcomeLaws
 pub mod CutLaws
 pub mod ExchangeLaws
+pub mod EndLaws
 pub mod CountLaws
 pub mod HalfLaws
 pub mod DialLaws

@@ -1,4 +1,4 @@
-use Rattle.fault_ports.proofs.ExchangeLaws.{seen-exchanged}
+use Rattle.fault_ports.proofs.EndLaws.{seen-after}
 use Rattle.fault_ports.proofs.passes.still_pending.Goals as goal
 
 pub returns-then-plain : goal.returns-then-plain
