@@ -47,7 +47,7 @@ limited_taken : (left : Option ℕ) (ch : Channel) → left ≢ Some 0 → limit
 limited_taken None ch more = refl
 limited_taken (Some k) ch more = ap (λ (ps : List (List ℕ)). channel_with ps true) (cut_first k ch.pieces (λ z. more (ap Some z)))
 
-none_stands : (pieces : List (List ℕ)) (ended : Bool) → standing_of (channel_with pieces ended) ≢ standing.Piece → pieces ≡ []
+pub none_stands : (pieces : List (List ℕ)) (ended : Bool) → standing_of (channel_with pieces ended) ≢ standing.Piece → pieces ≡ []
 none_stands [] ended other = refl
 none_stands (x ∷ xs) ended other = absurd (other refl)
 
@@ -55,7 +55,7 @@ first_of_none : (h : Bool) (pieces : List (List ℕ)) (ended : Bool) → pieces 
 first_of_none true pieces ended none = ap (λ (ps : List (List ℕ)). channel_with ps ended) (ap (λ (ps : List (List ℕ)). drop 1 ps) none ∙ sym none)
 first_of_none false pieces ended none = refl
 
-cut_to_none : (left : Option ℕ) (pieces : List (List ℕ)) (ended : Bool) → IsSome left → (left ≡ Some 0) ⊎ (pieces ≡ []) → (limited left (channel_with pieces ended)).pieces ≡ []
+pub cut_to_none : (left : Option ℕ) (pieces : List (List ℕ)) (ended : Bool) → IsSome left → (left ≡ Some 0) ⊎ (pieces ≡ []) → (limited left (channel_with pieces ended)).pieces ≡ []
 cut_to_none None pieces ended some none = absurd (cc)
 cut_to_none (Some k) pieces ended some (inl z) = let e : k ≡ 0 = grind arith in rw e refl
 cut_to_none (Some k) pieces ended some (inr n) = rw n (grind (arith, common_steps))

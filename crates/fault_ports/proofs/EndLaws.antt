@@ -16,7 +16,7 @@ use Rattle.fault_ports.specs.Offers.{passes, is_end, OffersNext, count_given}
 use Rattle.fault_ports.specs.Cuts.{limited, seen_plain, CountsAll}
 use Rattle.fault_ports.proofs.ExchangeLaws.{Exchanged, count_after, seen-exchanged, counts-exchanged}
 
-or_false : (b : Bool) → (b || false) ≡ b
+pub or_false : (b : Bool) → (b || false) ≡ b
 or_false true = refl
 or_false false = refl
 

@@ -8,6 +8,8 @@ pub mod OutcomeLaws
 pub mod CutLaws
 pub mod ExchangeLaws
 pub mod EndLaws
+pub mod GivenLaws
+pub mod PendingLaws
 pub mod CountLaws
 pub mod HalfLaws
 pub mod DialLaws
