@@ -9,6 +9,7 @@ pub mod CutLaws
 pub mod ExchangeLaws
 pub mod EndLaws
 pub mod GivenLaws
+pub mod StandingLaws
 pub mod PendingLaws
 pub mod CountLaws
 pub mod HalfLaws

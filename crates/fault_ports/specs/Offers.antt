@@ -1,5 +1,5 @@
 -- What an exchange is to give the inward half.
-use Rattle.std.specs.Prelude.{◌≡◌, ◌≢◌, ◌⊎◌, ℕ, ◌&&◌, Bool, true, false, Option, Some, None, IsSome}
+use Rattle.std.specs.Prelude.{◌≡◌, ◌≢◌, ◌⊎◌, ℕ, ◌&&◌, ◌==◌, Bool, true, false, cond, Option, Some, None, IsSome}
 use Rattle.hd_base.specs.declared.ends.Standing.{Standing}
 use Rattle.hd_base.specs.declared.ends.Standing.TheVariants as standing
 use Rattle.fault_ports.specs.declared.piece_counts.PieceCount.{PieceCount}
@@ -34,3 +34,14 @@ OffersNext offer.Nothing take hungry next left = (take && hungry) ≡ false
 OffersNext offer.Rest take hungry next left = (take ≡ true) × (left ≡ None) × (next ≢ standing.Piece)
 OffersNext offer.Piece take hungry next left = (take ≡ true) × (hungry ≡ true) × (left ≢ Some 0) × (next ≡ standing.Piece)
 OffersNext offer.End take hungry next left = (take ≡ true) × IsSome left × ((left ≡ Some 0) ⊎ (next ≢ standing.Piece))
+
+-- a piece, or else the end of a cut
+abbrev pub piece_or_end : Standing → Standing
+piece_or_end standing.Piece = standing.Piece
+piece_or_end standing.End = standing.End
+piece_or_end standing.Nothing = standing.End
+
+-- what is seen to stand next where this does on the roads themselves, and so many pieces may still be taken
+abbrev pub seen_next : Standing → Option ℕ → Standing
+seen_next next None = next
+seen_next next (Some left) = cond (left == 0) standing.End (piece_or_end next)

@@ -7,8 +7,8 @@ ghost use Rattle.fault_ports.specs.Cuts.{AllObservable, CountsAll};
 ghost use Rattle.fault_ports.specs.PieceCounts.{dialled_by};
 
 use crate::halves::{CutIn, CutOut};
-use crate::offers::offer_next;
-use crate::passes::{counted_fault, has_failed, still_pending, unwrapped, wrapped};
+use crate::offers::{offer_next, seen_next};
+use crate::passes::{add_risen, counted_fault, has_failed, own_halves, still_pending, wrapped};
 use crate::piece_counts::PieceCounts;
 use hd_base::{Conn, ConnId, LinkIn, LinkOut, NodeId, RoadError, Roads, Standing};
 use std::alloc::{AllocError, Global};
@@ -108,10 +108,7 @@ impl<R: Roads> Cutting<R> {
             return Ok(());
         }
         self.counts.list(self.newest, conn)?;
-        let count = self.counts.get(conn, true).cut(down);
-        self.counts.set(conn, true, count);
-        let count = self.counts.get(conn, false).cut(up);
-        self.counts.set(conn, false, count);
+        self.counts.cut(conn, down, up);
         Ok(())
     }
 }
@@ -197,11 +194,7 @@ impl<R: Roads> Roads for Cutting<R> {
         if !self.plain {
             return standing;
         }
-        match (standing, self.counts.get(conn, down).left) {
-            (_, Some(0)) => Standing::End,
-            (Standing::Nothing, Some(_)) => Standing::End,
-            (standing, _) => standing,
-        }
+        seen_next(standing, self.counts.get(conn, down).left)
     }
 
     fn exchange(
@@ -281,13 +274,17 @@ impl<R: Roads> Roads for Cutting<R> {
             return Err(RoadError::Memory);
         }
         let failed = has_failed(&end);
-        let lent = unwrapped(end);
-        let (id, down) = (lent.id, !lent.lower);
+        let (id, lower) = (end.id, end.lower);
+        let (inward, outward) = own_halves(end.inward, end.outward);
+        let lent = Conn {
+            id,
+            lower,
+            inward,
+            outward,
+        };
         self.inner.bring(alloc, lent)?;
-        self.counts.set(id, down, grown);
-        if failed {
-            self.risen.push_reserved(id.0);
-        }
+        self.counts.set(id, !lower, grown);
+        add_risen(&mut self.risen, id, failed);
         Ok(())
     }
 

@@ -2,7 +2,7 @@
 
 ghost use Rattle.std.specs.Prelude.{◌≡◌, ◌||◌, true, false, None, IfSome, IfOk, IsErrOf};
 ghost use Rattle.hd_base.specs.Channels.{is_hungry};
-ghost use Rattle.fault_ports.specs.Offers.{passes, is_end, OffersNext};
+ghost use Rattle.fault_ports.specs.Offers.{passes, is_end, OffersNext, seen_next};
 
 use crate::halves::CutIn;
 use crate::passes::probe;
@@ -82,5 +82,21 @@ pub fn offer_next<I: LinkIn>(
         },
         (_, Some(_)) => Ok(Offer::End),
         (_, None) => Ok(Offer::Rest),
+    }
+}
+
+/// What is seen to stand next where this does on the roads themselves, and so many pieces may
+/// still be taken.
+pub fn seen_next(standing: Standing, left: Option<u64>) -> Standing
+    ensures { result ≡ seen_next standing left }
+{
+    match left {
+        None => standing,
+        Some(0) => Standing::End,
+        Some(_) => match standing {
+            Standing::Piece => Standing::Piece,
+            Standing::End => Standing::End,
+            Standing::Nothing => Standing::End,
+        },
     }
 }

@@ -1,12 +1,13 @@
 //! Calls that roads get with the halves themselves of an end whose connection may be cut.
 
-ghost use Rattle.std.specs.Prelude.{◌≡◌, ◌≢◌, ◌≤◌, Some, None, false, true, cond, IfSome, IfOk, IsErrOf};
+ghost use Rattle.std.specs.Prelude.{◌≡◌, ◌≢◌, ◌≤◌, ◌<◌, ◌==◌, ◌&&◌, ◌||◌, ℕ, vec_len, vec_capacity, Some, None, false, true, cond, IfSome, IfOk, IsErrOf};
 ghost use Rattle.hd_base.specs.Channels.{is_hungry};
 ghost use Rattle.hd_base.specs.Ends.{IsFresh, has_failed as end_failed};
 ghost use Rattle.hd_base.specs.Faults.{FaultsIncreased};
+ghost use Rattle.mem_ports.specs.Roads.{risen_of};
 
 use crate::halves::{CutIn, CutOut};
-use hd_base::{Conn, Got, LinkError, LinkIn, LinkOut, RoadError};
+use hd_base::{Conn, ConnId, Got, LinkError, LinkIn, LinkOut, RoadError};
 
 /// Counts an error that is a fault.
 pub fn counted_fault(faults: &mut u64, error: RoadError) -> RoadError
@@ -62,28 +63,26 @@ pub fn probe<I: LinkIn>(half: &mut CutIn<I>) -> Result<bool, LinkError>
     }
 }
 
-/// The end with the halves that the roads themselves gave.
-pub fn unwrapped<I: LinkIn, O: LinkOut>(end: Conn<CutIn<I>, CutOut<O>>) -> Conn<I, O>
-    ensures inward { end.inward.inner ≡ Some result.inward }
-    ensures outward { end.outward.inner ≡ Some result.outward }
-    ensures place { (result.id ≡ end.id) × (result.lower ≡ end.lower) }
+/// The halves that the roads themselves gave.
+pub fn own_halves<I: LinkIn, O: LinkOut>(inward: CutIn<I>, outward: CutOut<O>) -> (I, O)
+    ensures inward { inward.inner ≡ Some result.0 }
+    ensures outward { outward.inner ≡ Some result.1 }
 {
-    let Conn {
-        id,
-        lower,
-        inward,
-        outward,
-    } = end;
     let CutIn { inner: inward, .. } = inward;
     let CutOut { inner: outward, .. } = outward;
     let (Some(inward), Some(outward)) = (inward, outward) else {
         unreachable!();
     };
-    Conn {
-        id,
-        lower,
-        inward,
-        outward,
+    (inward, outward)
+}
+
+/// Remembers a connection an end of which had failed.
+pub fn add_risen(risen: &mut Vec<u64>, conn: ConnId, failed: bool)
+    requires { vec_len risen.old < vec_capacity risen.old }
+    ensures { (c : ℕ) → risen_of risen.new.items c ≡ (risen_of risen.old.items c || ((conn.0 == c) && failed)) }
+{
+    if failed {
+        risen.push_reserved(conn.0);
     }
 }
 

@@ -165,6 +165,23 @@ impl PieceCounts {
         }
     }
 
+    /// Cuts a connection behind so many pieces down, and up, where it is listed.
+    pub fn cut(&mut self, conn: ConnId, down: u64, up: u64)
+        ensures counts { conn.0 < length self.old.duplexes.items → (c : ℕ) (d : Bool) →
+            count_at self.new.duplexes.items c d ≡ cond (conn.0 == c)
+                (cut_count (cond d down up) (count_at self.old.duplexes.items c d))
+                (count_at self.old.duplexes.items c d) }
+        ensures listed { length self.new.duplexes.items ≡ length self.old.duplexes.items }
+    {
+        let place = conn.0 as usize;
+        if place >= self.duplexes.len() {
+            return;
+        }
+        let duplex = &mut self.duplexes[place];
+        duplex.down = duplex.down.cut(down);
+        duplex.up = duplex.up.cut(up);
+    }
+
     /// Counts what an exchange gave the inward half that takes from this direction, where the
     /// connection is listed.
     pub fn book(&mut self, conn: ConnId, down: bool, offer: Offer)
