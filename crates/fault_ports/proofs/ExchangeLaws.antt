@@ -65,7 +65,7 @@ counted_at true true false takes hungry off grown n k ch m shut is b h = grown_c
 counted_at true false true takes hungry off grown n k ch m shut is b h = grown_counted grown k n ch m shut is (b.grows refl) h
 counted_at true false false takes hungry off grown n k ch m shut is b h = taken_counted off takes hungry k ch shut (b.offers refl) h
 
-same_both : {X : Type 0} (b : Bool) (x : X) → cond b x x ≡ x
+pub same_both : {X : Type 0} (b : Bool) (x : X) → cond b x x ≡ x
 same_both true x = refl
 same_both false x = refl
 
