@@ -19,6 +19,8 @@ mod piece_counts;
 mod stop_at;
 mod stored_files;
 #[cfg(test)]
+mod cut_tests;
+#[cfg(test)]
 mod tests;
 
 pub use cutting::Cutting;
