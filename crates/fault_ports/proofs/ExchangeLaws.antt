@@ -92,9 +92,9 @@ before old new p conn n lower takes hungry off grown m x c d = record {
   counted = λ here. x.all.1 c d (let same : conn ≡ c = eqb-true conn c here in omega (arith, x.known, same));
   grows = λ here. x.grows ∙ ap (λ (k : PieceCount). grown_count k n) (same_place (count_at old) conn c (not lower) d here);
   offers = λ here.
-  let P : Channel → Type 0 = λ ch. OffersNext off takes hungry (standing_of ch) (count_at old c d).left in
-  let Q : PieceCount → Type 0 = λ k. OffersNext off takes hungry (standing_of (p.channels conn lower)) k.left in
-  subst P (same_place p.channels conn c lower d here) (subst Q (same_place (count_at old) conn c lower d here) x.offers);
+      let P : Channel → Type 0 = λ ch. OffersNext off takes hungry (standing_of ch) (count_at old c d).left in
+      let Q : PieceCount → Type 0 = λ k. OffersNext off takes hungry (standing_of (p.channels conn lower)) k.left in
+      subst P (same_place p.channels conn c lower d here) (subst Q (same_place (count_at old) conn c lower d here) x.offers);
 }
 
 -- What is seen after an exchange.
@@ -111,9 +111,11 @@ seen-exchanged old new p conn n lower takes hungry off grown m shut x =
 -- Each connection is counted after an exchange.
 pub counts-exchanged : (old new : List DuplexCount) (p : Plain) (conn n : ℕ) (lower takes hungry : Bool) (off : Offer) (grown : PieceCount) (m : List (List ℕ)) (shut : Bool) → Exchanged old new p conn n lower takes hungry off grown m
     → CountsAll new (with_offer (with_flushed p conn lower m shut) conn lower (passes off && hungry))
-counts-exchanged old new p conn n lower takes hungry off grown m shut x =
-    (x.bounded, (λ c d below.
-    let P : Channel → Type 0 = λ ch. CountsPieces (count_at new c d) ch in
-    let Q : PieceCount → Type 0 = λ k. CountsPieces k (channel_after (conn == c) (same_direction (not lower) d) ((conn == c) && same_direction lower d) (passes off && hungry) lower m shut (p.channels c d)) in
-    subst P (sym (given_at p.channels conn lower (passes off && hungry) m shut c d)) (subst Q (sym (x.counts c d))
-    (counted_at (conn == c) lower d takes hungry off grown n (count_at old c d) (p.channels c d) m shut x.sends (before old new p conn n lower takes hungry off grown m x c d) (x.all.1 c d below)))))
+counts-exchanged old new p conn n lower takes hungry off grown m shut x = (
+  x.bounded,
+  (λ c d below.
+      let P : Channel → Type 0 = λ ch. CountsPieces (count_at new c d) ch in
+      let Q : PieceCount → Type 0 = λ k. CountsPieces k (channel_after (conn == c) (same_direction (not lower) d) ((conn == c) && same_direction lower d) (passes off && hungry) lower m shut (p.channels c d)) in
+      subst P (sym (given_at p.channels conn lower (passes off && hungry) m shut c d)) (subst Q (sym (x.counts c d))
+      (counted_at (conn == c) lower d takes hungry off grown n (count_at old c d) (p.channels c d) m shut x.sends (before old new p conn n lower takes hungry off grown m x c d) (x.all.1 c d below)))),
+)

@@ -3,6 +3,7 @@ use Rattle.std.proofs.Common.{◌≡◌, ◌≢◌, ◌==◌, ◌&&◌, ◌||◌
 use Rattle.std.proofs.lemmas.Grind.{common_steps}
 use Rattle.std.proofs.lemmas.Bool.Decides.{nat_tests}
 use Rattle.hd_base.specs.Channels.{Channel, Plain, standing_of, next_standing}
+use Rattle.hd_base.specs.Ends.{KeepsConnections}
 use Rattle.hd_base.specs.declared.ends.Standing.{Standing}
 use Rattle.hd_base.specs.declared.ends.Standing.TheVariants as standing
 use Rattle.fault_ports.specs.declared.piece_counts.PieceCount.{PieceCount}
@@ -103,3 +104,8 @@ seen_cut-of (Some p) old new conn down up h = ap Some (seen-cut old new p conn d
 pub counts_cut-of : (P : Option Plain) (old new : List DuplexCount) (conn down up : ℕ) → IfSome P (λ p. Cuts old new p conn down up) → IfSome P (CountsAll new)
 counts_cut-of None old new conn down up h = h
 counts_cut-of (Some p) old new conn down up h = counts-cut old new p conn down up h
+
+-- A cut leaves the number of connections.
+pub keeps_cut : (P : Option Plain) (old new : List DuplexCount) → KeepsConnections (option_map (seen_plain old) P) (option_map (seen_plain new) P)
+keeps_cut None old new = record { stays_hidden = λ e. e; dialled = _ }
+keeps_cut (Some p) old new = record { stays_hidden = λ e. absurd (cc); dialled = refl }

@@ -1,9 +1,9 @@
 //! A connection that is cut, with three pieces in flight each way.
 
-ghost use Rattle.std.specs.Prelude.{◌≡◌, ◌<◌, IfSome, IfOk};
+ghost use Rattle.std.specs.Prelude.{◌≡◌, ◌<◌, IfSome};
 
-use crate::Cutting;
-use hd_base::{Conn, ConnId, Got, LinkError, LinkIn, LinkOut, NodeId, RoadError, Roads};
+use crate::{CutIn, CutOut, Cutting};
+use hd_base::{Conn, Got, LinkError, LinkIn, LinkOut, NodeId, RoadError, Roads};
 use mem_ports::MemRoads;
 use std::alloc::{AllocError, Global};
 use std::test::Fail;
@@ -83,22 +83,34 @@ fn taken<R: Roads>(
     Ok([first, second, third])
 }
 
-/// Sends three pieces down, or up, cuts the connection behind the first, and takes.
-fn cut_after_one(alloc: Global, down: bool) -> Result<[(Option<Got>, u8); 3], RoadError> {
+/// Sends three pieces, cuts the connection behind the first each way, and takes.
+fn cut_after_one<R: Roads>(
+    alloc: Global,
+    roads: &mut Cutting<R>,
+    from: &mut Conn<CutIn<R::Inward>, CutOut<R::Outward>>,
+    to: &mut Conn<CutIn<R::Inward>, CutOut<R::Outward>>,
+) -> Result<[(Option<Got>, u8); 3], RoadError>
+    requires from { IfSome (⟦<Cutting<R> as Roads>⟧.plain roads.old) (λ p. from.old.id.0 < p.dialled) }
+    requires to { IfSome (⟦<Cutting<R> as Roads>⟧.plain roads.old) (λ p. to.old.id.0 < p.dialled) }
+{
+    say_three(alloc, roads, from)?;
+    roads.cut(from.id, 1, 1)?;
+    taken(alloc, roads, from, to)
+}
+
+/// What is taken of three pieces that were sent down, or up.
+fn cut_way(alloc: Global, down: bool) -> Result<[(Option<Got>, u8); 3], RoadError> {
     let mut roads = Cutting::new(alloc, MemRoads::new(alloc, &[])?);
     let port = roads.listen(alloc, NodeId(3))?;
     let mut upper = roads.dial(alloc, port)?;
     let Some(mut lower) = roads.accept(alloc, port)? else {
         return Err(RoadError::NotListening);
     };
-    let (from, to) = if down {
-        (&mut upper, &mut lower)
+    if down {
+        cut_after_one(alloc, &mut roads, &mut upper, &mut lower)
     } else {
-        (&mut lower, &mut upper)
-    };
-    say_three(alloc, &mut roads, from)?;
-    roads.cut(ConnId(0), 1, 1)?;
-    taken(alloc, &mut roads, from, to)
+        cut_after_one(alloc, &mut roads, &mut lower, &mut upper)
+    }
 }
 
 #[test]
@@ -109,7 +121,7 @@ fn one_piece_and_the_end_are_taken(rt: HostRuntime) -> Result<(), Fail> {
         (Some(Got::End), 0),
     ];
     for down in [true, false] {
-        let answer = cut_after_one(rt.alloc(), down).map_err(|_| AllocError)?;
+        let answer = cut_way(rt.alloc(), down).map_err(|_| AllocError)?;
         assert_eq!(rt; answer, wanted);
     }
     Ok(())

@@ -33,11 +33,9 @@ pub struct Cutting<R: Roads> {
 }
 
 impl<R: Roads> Cutting<R> {
-    ghost use Rattle.std.specs.Prelude.{◌≡◌, ◌+◌, ◌≤◌, ◌<◌, ℕ, Bool, true, false, Some, None, IfSome, IfOk, OnOk, OnErr, IsErrOf, IsSome, is_some, [], option_map, length};
-    ghost use Rattle.hd_base.specs.Ends.{IsKnown};
-    ghost use Rattle.hd_base.specs.Faults.{FaultsIncreased};
+    ghost use Rattle.std.specs.Prelude.{◌≡◌, ℕ, false, None, IfSome, OnOk, OnErr, IsSome, is_some, [], option_map};
+    ghost use Rattle.hd_base.specs.Ends.{IsKnown, KeepsConnections};
     ghost use Rattle.fault_ports.specs.Cuts.{AllObservable, with_cut};
-    ghost use Rattle.fault_ports.specs.PieceCounts.{count_at};
 
     /// Roads over plain memory with no connection cut. No connection was made on them, and what
     /// their ends hold and have sent is observable.
@@ -99,7 +97,10 @@ impl<R: Roads> Cutting<R> {
         requires { IsKnown (⟦<Cutting<R> as Roads>⟧.plain self.old) conn.0 }
         ensures cut { OnOk result (⟦<Cutting<R> as Roads>⟧.plain self.new
             ≡ option_map (λ p. with_cut p conn.0 down up) (⟦<Cutting<R> as Roads>⟧.plain self.old)) }
-        ensures err { OnErr result (⟦<Cutting<R> as Roads>⟧.plain self.new ≡ ⟦<Cutting<R> as Roads>⟧.plain self.old) }
+        ensures err { OnErr result (
+            ⟦<Cutting<R> as Roads>⟧.plain self.new ≡ ⟦<Cutting<R> as Roads>⟧.plain self.old) }
+        ensures connections { KeepsConnections
+            (⟦<Cutting<R> as Roads>⟧.plain self.old) (⟦<Cutting<R> as Roads>⟧.plain self.new) }
         ensures carried { ⟦<Cutting<R> as Roads>⟧.carried self.new ≡ ⟦<Cutting<R> as Roads>⟧.carried self.old }
         ensures risen { ⟦<Cutting<R> as Roads>⟧.risen self.new ≡ ⟦<Cutting<R> as Roads>⟧.risen self.old }
         ensures faults { ⟦<Cutting<R> as Roads>⟧.faults self.new ≡ ⟦<Cutting<R> as Roads>⟧.faults self.old }
@@ -203,7 +204,9 @@ impl<R: Roads> Roads for Cutting<R> {
         end: &mut Conn<CutIn<R::Inward>, CutOut<R::Outward>>,
         take: bool,
     ) -> Result<(), RoadError> {
-        let Ok(grown) = self.counts.grown(self.newest, end.id, !end.lower, end.outward.pending)
+        let Ok(grown) = self
+            .counts
+            .grown(self.newest, end.id, !end.lower, end.outward.pending)
         else {
             return Err(RoadError::Memory);
         };
@@ -226,7 +229,9 @@ impl<R: Roads> Roads for Cutting<R> {
         };
         let done = self.inner.exchange(alloc, &mut lent, offer.passes());
         let Conn {
-            inward, outward, ..
+            inward,
+            outward,
+            ..
         } = lent;
         cut_in.inner = Some(inward);
         cut_out.inner = Some(outward);
@@ -266,7 +271,9 @@ impl<R: Roads> Roads for Cutting<R> {
         ensures cause { OnlyMemory self.old.faults self.new.faults result }
         ensures schedule { KeepsSchedule None None self.old.faults self.new.faults }
     {
-        let Ok(grown) = self.counts.grown(self.newest, end.id, !end.lower, end.outward.pending)
+        let Ok(grown) = self
+            .counts
+            .grown(self.newest, end.id, !end.lower, end.outward.pending)
         else {
             return Err(RoadError::Memory);
         };

@@ -88,8 +88,8 @@ pub struct CutOut<O: LinkOut> {
     pub(crate) faults: u64,
     ghost present: { IsSome inner },
     ghost shut_seen: { shut ≡ test_of O.shut inner },
-    ghost counted: { PendingIs pending
-        (option_and_then O.sent inner) (number_of O.flushed inner) (number_of O.lost inner) shut } by { Prim.hlevel props },
+    ghost counted: { PendingIs pending (option_and_then O.sent inner)
+        (number_of O.flushed inner) (number_of O.lost inner) shut } by { Prim.hlevel props },
 }
 
 impl<O: LinkOut> CutOut<O> {

@@ -4,6 +4,8 @@
 
 mod certain;
 mod copies;
+#[cfg(test)]
+mod cut_tests;
 mod cutting;
 mod entries;
 mod fused;
@@ -18,8 +20,6 @@ mod passes;
 mod piece_counts;
 mod stop_at;
 mod stored_files;
-#[cfg(test)]
-mod cut_tests;
 #[cfg(test)]
 mod tests;
 

@@ -40,7 +40,8 @@ pub fn has_failed<I: LinkIn, O: LinkOut>(end: &Conn<CutIn<I>, CutOut<O>>) -> boo
 pub fn probe<I: LinkIn>(half: &mut CutIn<I>) -> Result<bool, LinkError>
     requires first { half.old.first ≡ None }
     requires ended { half.old.ended ≡ false }
-    ensures hungry { IfOk result (λ hungry. IfSome (⟦<CutIn<I> as LinkIn>⟧.held half.old) (λ inbox. hungry ≡ is_hungry inbox)) }
+    ensures hungry { IfOk result (λ hungry. IfSome (⟦<CutIn<I> as LinkIn>⟧.held half.old) (λ inbox.
+        hungry ≡ is_hungry inbox)) }
     ensures bare { IfOk result (λ hungry. hungry ≡ true → half.new.first ≡ None) }
     ensures ended { half.new.ended ≡ false }
     ensures held { ⟦<CutIn<I> as LinkIn>⟧.held half.new ≡ ⟦<CutIn<I> as LinkIn>⟧.held half.old }
@@ -89,7 +90,8 @@ pub fn add_risen(risen: &mut Vec<u64>, conn: ConnId, failed: bool)
 /// The end with its halves as those of roads whose connections may be cut.
 pub fn wrapped<I: LinkIn, O: LinkOut>(end: Conn<I, O>) -> Conn<CutIn<I>, CutOut<O>>
     requires { IsFresh I.LinkIn O.LinkOut end }
-    ensures inward { (result.inward.inner ≡ Some end.inward) × (result.inward.first ≡ None) × (result.inward.ended ≡ false) }
+    ensures inward { (result.inward.inner ≡ Some end.inward)
+        × (result.inward.first ≡ None) × (result.inward.ended ≡ false) }
     ensures outward { (result.outward.inner ≡ Some end.outward) × (result.outward.faults ≡ 0) }
     ensures place { (result.id ≡ end.id) × (result.lower ≡ end.lower) × (result.inward.faults ≡ 0) }
 {

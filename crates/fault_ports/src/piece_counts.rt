@@ -169,8 +169,8 @@ impl PieceCounts {
     pub fn cut(&mut self, conn: ConnId, down: u64, up: u64)
         ensures counts { conn.0 < length self.old.duplexes.items → (c : ℕ) (d : Bool) →
             count_at self.new.duplexes.items c d ≡ cond (conn.0 == c)
-                (cut_count (cond d down up) (count_at self.old.duplexes.items c d))
-                (count_at self.old.duplexes.items c d) }
+            (cut_count (cond d down up) (count_at self.old.duplexes.items c d))
+            (count_at self.old.duplexes.items c d) }
         ensures listed { length self.new.duplexes.items ≡ length self.old.duplexes.items }
     {
         let place = conn.0 as usize;
@@ -187,7 +187,7 @@ impl PieceCounts {
     pub fn book(&mut self, conn: ConnId, down: bool, offer: Offer)
         ensures counts { conn.0 < length self.old.duplexes.items → (c : ℕ) (d : Bool) →
             count_at self.new.duplexes.items c d ≡ cond ((conn.0 == c) && same_direction down d)
-                (count_given offer (count_at self.old.duplexes.items c d)) (count_at self.old.duplexes.items c d) }
+            (count_given offer (count_at self.old.duplexes.items c d)) (count_at self.old.duplexes.items c d) }
         ensures listed { length self.new.duplexes.items ≡ length self.old.duplexes.items }
     {
         if offer == Offer::Piece {
