@@ -5,3 +5,12 @@ pub mod UnchangedLaws
 pub mod PresentLaws
 pub mod StopLaws
 pub mod OutcomeLaws
+pub mod CutLaws
+pub mod ExchangeLaws
+pub mod EndLaws
+pub mod GivenLaws
+pub mod StandingLaws
+pub mod PendingLaws
+pub mod CountLaws
+pub mod HalfLaws
+pub mod DialLaws

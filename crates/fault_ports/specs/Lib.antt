@@ -5,3 +5,7 @@ pub mod Kept
 pub mod Stops
 pub mod Outcomes
 pub mod ArmedWrites
+pub mod PieceCounts
+pub mod Halves
+pub mod Cuts
+pub mod Offers

@@ -4,19 +4,28 @@
 
 mod certain;
 mod copies;
+#[cfg(test)]
+mod cut_tests;
+mod cutting;
 mod entries;
 mod fused;
 mod fused_shelves;
+mod halves;
 mod listings;
 mod losing;
 mod lossy;
 mod made_calls;
+mod offers;
+mod passes;
+mod piece_counts;
 mod stop_at;
 mod stored_files;
 #[cfg(test)]
 mod tests;
 
+pub use cutting::Cutting;
 pub use fused::FusedDrawer;
 pub use fused_shelves::Fused;
+pub use halves::{CutIn, CutOut};
 pub use lossy::LossyFiles;
 pub use stop_at::{Keep, StopAt};
