@@ -1,9 +1,8 @@
 -- No event changes the block, and a replica that breaks in an event is the one before it, broken.
-use Rattle.std.proofs.Common.{◌≡◌, ℕ, ℤ, negsuc, not, is_none, slice_get, Option, Some, None, Result, Ok, Err, Bool, true, false, [], List, if◌then◌else◌, refl, sym, ap, ◌∙◌}
+use Rattle.std.proofs.Common.{◌≡◌, ℕ, negsuc, not, is_none, slice_get, Option, Some, None, Result, Ok, Err, Bool, true, false, [], refl, ap}
 use Rattle.std.specs.Ordering.{int_eq}
 use Rattle.hd_base.specs.declared.states.ReplicaState.{ReplicaState}
 use Rattle.hd_base.specs.declared.states.ReplicaState.TheVariants as state
-use Rattle.hd_base.specs.declared.numbers.BlockId.{BlockId}
 use Rattle.hd_base.specs.declared.numbers.ConnId.{ConnId}
 use Rattle.hd_base.specs.declared.numbers.Stamp.{Stamp}
 use Rattle.hd_base.specs.SumRules.{Rule}
@@ -15,13 +14,12 @@ use Rattle.replica_core.specs.declared.events.Event.TheVariants as event
 use Rattle.replica_core.specs.declared.info.ReplicaInfo.{ReplicaInfo}
 use Rattle.replica_core.specs.declared.extents.PacketExtent.{PacketExtent}
 use Rattle.replica_core.specs.declared.refusals.Refusal.{Refusal}
-use Rattle.replica_core.specs.declared.streams.Stream.{Stream}
 use Rattle.replica_core.specs.declared.refusals.Refusal.TheVariants as refusal
 use Rattle.replica_core.specs.declared.events.Answer.TheVariants as answer
 use Rattle.replica_core.specs.Refusals.{check}
 use Rattle.replica_core.specs.Info.{state_of, is_writable, settled_at, reopen, recover_setup, recover_stream, begin_recovery, end_recovery, readable, given, visible_of}
 use Rattle.replica_core.specs.Extents.{stream_after, heartbeat_of, pending_of}
-use Rattle.replica_core.specs.Transitions.{new_transition, set_writer, done, enqueue, extend, stream_by, oldest_of, Outcome, record_after, there, present, with_writer, packet_transition, extent_transition, ack_transition, acknowledge, is_written_by, end_connection, mark_broken, transition, state_after}
+use Rattle.replica_core.specs.Transitions.{new_transition, set_writer, done, enqueue, extend, stream_by, oldest_of, Outcome, record_after, present, with_writer, packet_transition, extent_transition, acknowledge, is_written_by, mark_broken, transition, state_after}
 use Rattle.replica_core.proofs.StepLemmas.{after_check, after_step, choice}
 
 abbrev SameBlock : ReplicaRecord → ReplicaRecord → Type 0

@@ -1,5 +1,5 @@
 -- What the calls of a plan make of where the files of a replica lie.
-use Rattle.std.proofs.Common.{◌≡◌, ◌==◌, ℕ, ◌+◌, ◌%◌, ◌<◌, ◌≤◌, ◌&&◌, not, nat_lt, Bool, true, false, if◌then◌else◌, List, [], ◌∷◌, ◌++◌, length, take, drop, append-nil, refl, sym, ap, subst, ◌∙◌, arith}
+use Rattle.std.proofs.Common.{◌≡◌, ◌==◌, ℕ, ◌%◌, ◌<◌, ◌≤◌, ◌&&◌, not, nat_lt, Bool, true, false, List, [], ◌∷◌, ◌++◌, length, take, append-nil, refl, sym, ap, subst, ◌∙◌, arith}
 use Rattle.std.proofs.lemmas.List.{length-take-le, take_all}
 use Rattle.std.proofs.lemmas.Grind.{common_steps}
 use Rattle.std.proofs.lemmas.Bool.Decides.{nat_tests}
@@ -10,11 +10,11 @@ use Rattle.chunk_sums.specs.Chunks.{sums}
 use Rattle.meta_file.specs.declared.names.Folder.{Folder}
 use Rattle.meta_file.specs.declared.names.Folder.TheVariants.{Rbw, Finalized, Finalized56, Tmp}
 use Rattle.meta_file.specs.Headers.{header_of}
-use Rattle.block_files.specs.Placements.{Placement, Nowhere, DataAlone, Both}
-use Rattle.block_files.specs.BlockCalls.{BlockCall, MakeData, MakeMeta, WriteData, WriteMeta, CutData, CutMeta, SyncData, SyncMeta, MoveData, MoveMeta, placed, all_placed, IsAble, AreAble}
+use Rattle.block_files.specs.Placements.{Placement, Nowhere, Both}
+use Rattle.block_files.specs.BlockCalls.{BlockCall, MakeData, MakeMeta, WriteData, WriteMeta, CutData, CutMeta, MoveData, MoveMeta, placed, all_placed, IsAble, AreAble}
 use Rattle.replica_model.specs.Sums.{tail, sum_place, meta_len, meta_of}
 use Rattle.replica_model.specs.Plans.{when, has_sums, grow_calls, sync_calls, packet_calls, last_sum_calls, cut_calls, same_folder, move_calls}
-use Rattle.replica_model.proofs.SumLemmas.{over_behind, meta_grows, meta_null, len_null, meta_cut_short, meta_cut_whole, sum_within, length_cut_short, length_meta, sums_nothing}
+use Rattle.replica_model.proofs.SumLemmas.{meta_grows, meta_null, len_null, meta_cut_short, meta_cut_whole, sum_within, length_cut_short, length_meta, sums_nothing}
 
 -- The calls find their files, and lead from the one place to the other.
 pub record Leads (from : Placement) (calls : List BlockCall) (to : Placement) : Type 0 where

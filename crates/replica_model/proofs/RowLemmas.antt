@@ -1,10 +1,9 @@
 -- What every event makes of what is held, of the bytes, and of where the files lie.
-use Rattle.std.proofs.Common.{◌≡◌, ◌==◌, ℕ, ℤ, pos, negsuc, nat_abs, ◌+◌, ◌-◌, ◌/◌, ◌<◌, ◌≤◌, max, ◌&&◌, not, is_none, Bool, true, false, if◌then◌else◌, List, [], ◌++◌, length, take, drop, append-nil, Option, Some, None, option_map, Result, Ok, Err, IfSome, refl, sym, ap, subst, ◌∙◌, arith}
+use Rattle.std.proofs.Common.{◌≡◌, ℕ, ℤ, pos, negsuc, nat_abs, ◌+◌, ◌-◌, ◌≤◌, max, not, is_none, Bool, true, false, List, [], ◌++◌, length, take, drop, append-nil, Option, Some, None, Result, Ok, Err, IfSome, refl, sym, ap, subst, ◌∙◌, arith}
 use Rattle.std.specs.Result.{IfOk}
 use Rattle.std.specs.Ordering.{int_eq}
 use Rattle.std.proofs.lemmas.List.{length-append, length-drop, length-take-le, take_all}
 use Rattle.std.proofs.Math.Seq.{take-append_seam}
-use Rattle.std.proofs.lemmas.Grind.{common_steps}
 use Rattle.std.proofs.lemmas.Bool.Decides.{nat_tests}
 use Rattle.hd_base.specs.declared.states.ReplicaState.{ReplicaState}
 use Rattle.hd_base.specs.declared.states.ReplicaState.TheVariants as state
@@ -12,33 +11,29 @@ use Rattle.hd_base.specs.declared.numbers.ConnId.{ConnId}
 use Rattle.hd_base.specs.declared.numbers.Stamp.{Stamp}
 use Rattle.hd_base.specs.SumRules.{Rule, IsChunkSize}
 use Rattle.hd_base.specs.Results.{◌>>=◌}
-use Rattle.block_files.specs.Placements.{Placement, Nowhere, Both}
-use Rattle.block_files.specs.BlockCalls.{AreAble, all_placed}
+use Rattle.block_files.specs.Placements.{Nowhere, Both}
 use Rattle.packet_codec.specs.declared.packets.Packet.{Packet}
 use Rattle.replica_core.specs.declared.records.ReplicaRecord.{ReplicaRecord}
 use Rattle.replica_core.specs.declared.ack_queue.PendingPacket.{PendingPacket}
 use Rattle.replica_core.specs.declared.events.Event.{Event}
 use Rattle.replica_core.specs.declared.events.Event.TheVariants as event
-use Rattle.replica_core.specs.declared.events.Answer.TheVariants as answer
 use Rattle.replica_core.specs.declared.info.ReplicaInfo.{ReplicaInfo}
 use Rattle.replica_core.specs.declared.extents.PacketExtent.{PacketExtent}
 use Rattle.replica_core.specs.declared.refusals.Refusal.{Refusal}
 use Rattle.replica_core.specs.declared.refusals.Refusal.TheVariants as refusal
-use Rattle.replica_core.specs.declared.streams.Stream.{Stream}
 use Rattle.replica_core.specs.Refusals.{check}
-use Rattle.replica_core.specs.Laws.{Adjoins}
 use Rattle.replica_core.specs.Info.{state_of, is_writable, settled_at, reopen, recover_setup, recover_stream, begin_recovery, end_recovery, readable, given, visible_of, advance_acked, close_stream, extend_written}
 use Rattle.replica_core.specs.Extents.{stream_after, heartbeat_of, pending_of}
-use Rattle.replica_core.specs.Transitions.{Taken, Outcome, done, record_after, there, present, set_writer, with_writer, new_transition, enqueue, extend, extent_transition, packet_transition, stream_by, oldest_of, acknowledge, ack_transition, is_written_by, end_connection, mark_broken, transition, state_after}
+use Rattle.replica_core.specs.Transitions.{Taken, Outcome, done, record_after, present, set_writer, with_writer, new_transition, extent_transition, packet_transition, stream_by, oldest_of, acknowledge, is_written_by, end_connection, transition}
 use Rattle.replica_core.specs.Views.{written_at, written_in}
-use Rattle.replica_core.specs.Sound.{IsConsistent, Sound}
+use Rattle.replica_core.specs.Sound.{Sound}
 use Rattle.replica_core.proofs.StepLemmas.{choice, if_check, if_step}
-use Rattle.replica_core.proofs.InfoLemmas.{present_is, reopen_is, recover_setup_is, recover_stream_is, begin_recovery_is, end_recovery_is, pending_of_is, IsPendingOf}
+use Rattle.replica_core.proofs.InfoLemmas.{present_is, reopen_is, recover_setup_is, recover_stream_is, begin_recovery_is, end_recovery_is, pending_of_is}
 use Rattle.replica_core.proofs.SoundLemmas.{info_in, kept}
 use Rattle.replica_model.specs.declared.events.ReplicaEvent.{ReplicaEvent}
 use Rattle.replica_model.specs.declared.events.ReplicaEvent.TheVariants as replica_event
 use Rattle.replica_model.specs.Sums.{meta_of}
-use Rattle.replica_model.specs.Rows.{FullReplica, IsFull, IsOther, IsWithBytes, bad_under, record_event, event_at, brought, row}
+use Rattle.replica_model.specs.Rows.{FullReplica, IsFull, IsOther, IsWithBytes, event_at, brought, row}
 use Rattle.replica_model.specs.Plans.{folder_of, placed_info, placed_under, placement_of, when, sync_calls, settle_calls, create_calls, leaves_temporary, taken_calls, outcome_calls, plan}
 use Rattle.replica_model.specs.Laws.{RowsKeepBytes, PlansFindFiles, PlansFollowRows}
 use Rattle.replica_model.proofs.PlacementLemmas.{Leads, leads_nowhere, leads_append, leads_to, leads_when, leads_sync, leads_move, leads_packet, leads_cut, leads_new}

@@ -1,5 +1,5 @@
 -- Where the files of a replica lie, and the calls on them that each event takes, in their order. A call that would change nothing is left out.
-use Rattle.std.specs.Prelude.{ℕ, ◌==◌, ◌+◌, ◌*◌, ◌/◌, ◌%◌, nat_lt, not, ◌&&◌, ◌||◌, Bool, true, false, if◌then◌else◌, List, [], ◌∷◌, ◌++◌, length, take, drop, Option, Some, None, IfSome, Result, Ok, Err, ◌≡◌}
+use Rattle.std.specs.Prelude.{ℕ, ◌==◌, ◌%◌, nat_lt, not, ◌&&◌, ◌||◌, Bool, true, false, if◌then◌else◌, List, [], ◌∷◌, ◌++◌, length, take, Option, Some, None, IfSome, Ok, Err, ◌≡◌}
 use Rattle.hd_base.specs.declared.sum_rule.SumKind.{SumKind}
 use Rattle.hd_base.specs.declared.sum_rule.SumKind.TheVariants as kind
 use Rattle.hd_base.specs.declared.states.ReplicaState.{ReplicaState}
@@ -13,13 +13,12 @@ use Rattle.meta_file.specs.Headers.{header_of}
 use Rattle.block_files.specs.Placements.{Placement, Nowhere, Both, files_of}
 use Rattle.block_files.specs.BlockCalls.{BlockCall, MakeData, MakeMeta, WriteData, WriteMeta, CutData, CutMeta, SyncData, SyncMeta, MoveData, MoveMeta}
 use Rattle.replica_core.specs.declared.info.ReplicaInfo.{ReplicaInfo}
-use Rattle.replica_core.specs.declared.records.ReplicaRecord.{ReplicaRecord}
-use Rattle.replica_core.specs.Info.{is_temporary, is_finalized}
+use Rattle.replica_core.specs.Info.{is_temporary}
 use Rattle.replica_core.specs.Transitions.{Outcome, transition}
 use Rattle.replica_model.specs.declared.events.ReplicaEvent.{ReplicaEvent}
 use Rattle.replica_model.specs.declared.events.ReplicaEvent.TheVariants as replica_event
-use Rattle.replica_model.specs.Sums.{tail, header_len, sum_place, meta_len, meta_of}
-use Rattle.replica_model.specs.Rows.{FullReplica, event_at, brought, row}
+use Rattle.replica_model.specs.Sums.{tail, sum_place, meta_len, meta_of}
+use Rattle.replica_model.specs.Rows.{FullReplica, event_at, brought}
 
 -- the folder of a replica with this state apart from a recovery
 abbrev pub folder_of : ReplicaState → Folder

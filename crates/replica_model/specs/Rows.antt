@@ -1,5 +1,5 @@
 -- A replica beside its bytes, and what each event makes of both.
-use Rattle.std.specs.Prelude.{ℕ, ℤ, ◌≡◌, ◌/◌, ◌-◌, nat_abs, List, [], ◌++◌, length, take, drop, Option, Some, None, IfSome}
+use Rattle.std.specs.Prelude.{ℕ, ◌≡◌, ◌/◌, ◌-◌, nat_abs, List, [], ◌++◌, length, take, drop, Option, Some, None, IfSome}
 use Rattle.hd_base.specs.declared.numbers.BlockId.{BlockId}
 use Rattle.hd_base.specs.SumRules.{Rule, IsChunkSize}
 use Rattle.packet_codec.specs.declared.packets.Packet.{Packet}
