@@ -1,17 +1,15 @@
 -- Laws of roads whose connections were cut: what is seen of what the roads themselves hold after a flush and an offer.
-use Rattle.std.proofs.Common.{◌≡◌, ◌≢◌, ◌==◌, ◌&&◌, ◌||◌, ◌⊎◌, ℕ, zero, suc, ◌+◌, ◌-◌, ◌<◌, ◌≤◌, min, not, Bool, true, false, cond, if◌then◌else◌, List, [], ◌∷◌, ◌++◌, length, take, drop, Option, Some, None, option_map, unwrap_or, IfSome, IsSome, refl, sym, ap, subst, ◌∙◌, arith, inl, inr, eqb-true}
+use Rattle.std.proofs.Common.{◌≡◌, ◌≢◌, ◌&&◌, ◌||◌, ◌⊎◌, ℕ, zero, suc, ◌+◌, ◌-◌, ◌≤◌, Bool, true, false, cond, List, [], ◌∷◌, length, take, drop, Option, Some, None, option_map, IfSome, IsSome, refl, sym, ap, subst, ◌∙◌, arith, inl, inr}
 use Rattle.std.proofs.lemmas.List.{take-append-le}
 use Rattle.std.proofs.lemmas.Grind.{common_steps}
-use Rattle.hd_base.specs.Channels.{Channel, Channels, Plain, same_direction, extended_channel, closed_channel, with_given, with_taken, with_flushed, with_offer, standing_of}
-use Rattle.hd_base.specs.declared.ends.Standing.{Standing}
+use Rattle.hd_base.specs.Channels.{Channel, extended_channel, closed_channel, standing_of}
 use Rattle.hd_base.specs.declared.ends.Standing.TheVariants as standing
 use Rattle.fault_ports.specs.declared.piece_counts.PieceCount.{PieceCount}
-use Rattle.fault_ports.specs.declared.piece_counts.DuplexCount.{DuplexCount}
-use Rattle.fault_ports.specs.PieceCounts.{count_at, taken_count, grown_count}
+use Rattle.fault_ports.specs.PieceCounts.{taken_count, grown_count}
 use Rattle.fault_ports.specs.declared.offers.Offer.{Offer}
 use Rattle.fault_ports.specs.declared.offers.Offer.TheVariants as offer
 use Rattle.fault_ports.specs.Offers.{passes, OffersNext, count_given}
-use Rattle.fault_ports.specs.Cuts.{cut_channel, limited, seen_channels, seen_plain, CountsPieces, CountsAll}
+use Rattle.fault_ports.specs.Cuts.{cut_channel, limited, CountsPieces}
 
 -- a channel with these parts
 abbrev pub channel_with : List (List ℕ) → Bool → Channel

@@ -1,19 +1,17 @@
 -- Laws of an end in an exchange on roads whose connections were cut.
-use Rattle.std.proofs.Common.{◌≡◌, ◌≢◌, ◌==◌, ◌&&◌, ◌||◌, ◌⊎◌, ℕ, zero, suc, ◌+◌, ◌<◌, ◌≤◌, not, Bool, true, false, cond, if◌then◌else◌, List, [], ◌∷◌, length, take, Option, Some, None, option_map, IfSome, IsSome, MatchOption, is_some, refl, sym, ap, subst, ◌∙◌, arith, inl, inr, eq-eqb}
-use Rattle.std.proofs.lemmas.Grind.{common_steps}
-use Rattle.std.proofs.lemmas.Bool.Decides.{nat_tests}
+use Rattle.std.proofs.Common.{◌≡◌, ◌==◌, ◌&&◌, ◌||◌, ℕ, ◌<◌, ◌≤◌, not, Bool, true, false, cond, List, length, Option, Some, None, option_map, IfSome, IsSome, MatchOption, is_some, refl, sym, ap, subst, ◌∙◌, arith}
 use Rattle.hd_base.specs.Links.{Inbox}
-use Rattle.hd_base.specs.Channels.{Channel, Channels, Plain, same_direction, extended_channel, closed_channel, with_given, with_flushed, with_offer, standing_of, next_standing, next_inbox, is_hungry, unflushed, filled}
+use Rattle.hd_base.specs.Channels.{Plain, same_direction, with_flushed, with_offer, standing_of, is_hungry, unflushed}
 use Rattle.hd_base.specs.declared.ends.Standing.{Standing}
 use Rattle.hd_base.specs.declared.ends.Standing.TheVariants as standing
 use Rattle.fault_ports.specs.declared.piece_counts.PieceCount.{PieceCount}
 use Rattle.fault_ports.specs.declared.piece_counts.DuplexCount.{DuplexCount}
 use Rattle.fault_ports.specs.PieceCounts.{count_at, grown_count}
-use Rattle.fault_ports.specs.Halves.{behind, inbox_behind}
+use Rattle.fault_ports.specs.Halves.{inbox_behind}
 use Rattle.fault_ports.specs.declared.offers.Offer.{Offer}
 use Rattle.fault_ports.specs.declared.offers.Offer.TheVariants as offer
-use Rattle.fault_ports.specs.Offers.{passes, is_end, OffersNext, count_given}
-use Rattle.fault_ports.specs.Cuts.{limited, seen_plain, CountsAll}
+use Rattle.fault_ports.specs.Offers.{passes, OffersNext, count_given}
+use Rattle.fault_ports.specs.Cuts.{seen_plain, CountsAll}
 use Rattle.fault_ports.proofs.ExchangeLaws.{Exchanged, count_after, seen-exchanged, counts-exchanged}
 
 pub or_false : (b : Bool) → (b || false) ≡ b

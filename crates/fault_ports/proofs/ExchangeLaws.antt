@@ -1,7 +1,6 @@
 -- Laws of an exchange on roads whose connections were cut.
-use Rattle.std.proofs.Common.{◌≡◌, ◌==◌, ◌&&◌, ◌||◌, ℕ, ◌+◌, ◌<◌, ◌≤◌, not, Bool, true, false, cond, if◌then◌else◌, List, [], length, Option, Some, None, option_map, IfSome, IsSome, refl, sym, ap, subst, ◌∙◌, arith, eqb-true}
-use Rattle.hd_base.specs.Links.{Inbox}
-use Rattle.hd_base.specs.Channels.{Channel, Channels, Plain, same_direction, extended_channel, closed_channel, with_given, with_taken, with_flushed, with_offer, standing_of, is_hungry, unflushed, filled}
+use Rattle.std.proofs.Common.{◌≡◌, ◌==◌, ◌&&◌, ℕ, ◌<◌, ◌≤◌, not, Bool, true, false, cond, if◌then◌else◌, List, length, refl, sym, ap, subst, ◌∙◌, arith, eqb-true}
+use Rattle.hd_base.specs.Channels.{Channel, Channels, Plain, same_direction, extended_channel, closed_channel, with_given, with_taken, with_flushed, with_offer, standing_of}
 use Rattle.fault_ports.specs.declared.piece_counts.PieceCount.{PieceCount}
 use Rattle.fault_ports.specs.declared.piece_counts.DuplexCount.{DuplexCount}
 use Rattle.fault_ports.specs.PieceCounts.{count_at, grown_count}

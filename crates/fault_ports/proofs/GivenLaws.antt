@@ -1,9 +1,8 @@
 -- Laws of what an inward half holds after an exchange on roads whose connections were cut.
-use Rattle.std.proofs.Common.{◌≡◌, ◌≢◌, ◌==◌, ◌&&◌, ◌||◌, ◌⊎◌, ℕ, zero, suc, ◌+◌, ◌<◌, not, Bool, true, false, cond, if◌then◌else◌, List, [], ◌∷◌, length, take, Option, Some, None, option_map, IfSome, IsSome, refl, sym, ap, subst, ◌∙◌, arith, inl, inr, eq-eqb}
-use Rattle.std.proofs.lemmas.Grind.{common_steps}
+use Rattle.std.proofs.Common.{◌≡◌, ◌≢◌, ◌==◌, ◌&&◌, ◌||◌, ◌⊎◌, ℕ, zero, suc, not, Bool, true, false, List, [], ◌∷◌, length, take, Option, Some, None, option_map, IfSome, IsSome, refl, sym, ap, subst, ◌∙◌, arith, inl, inr, eq-eqb}
 use Rattle.std.proofs.lemmas.Bool.Decides.{nat_tests}
 use Rattle.hd_base.specs.Links.{Inbox}
-use Rattle.hd_base.specs.Channels.{Channel, Channels, Plain, same_direction, extended_channel, closed_channel, with_given, with_flushed, standing_of, next_standing, next_inbox, is_hungry, unflushed, filled}
+use Rattle.hd_base.specs.Channels.{Channel, Channels, Plain, closed_channel, with_given, with_flushed, standing_of, next_standing, next_inbox, is_hungry, unflushed, filled}
 use Rattle.hd_base.specs.declared.ends.Standing.TheVariants as standing
 use Rattle.fault_ports.specs.declared.piece_counts.PieceCount.{PieceCount}
 use Rattle.fault_ports.specs.declared.piece_counts.DuplexCount.{DuplexCount}

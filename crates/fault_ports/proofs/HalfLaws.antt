@@ -1,5 +1,5 @@
 -- Laws of what an inward half holds behind a byte that was received in advance.
-use Rattle.std.proofs.Common.{◌≡◌, ℕ, ◌<◌, ◌≤◌, ◌||◌, ◌==◌, Bool, true, false, List, [], ◌∷◌, ◌++◌, length, take, set, Option, Some, None, option_map, option_and_then, refl, sym, ap, ◌∙◌, arith, lit<, length-set}
+use Rattle.std.proofs.Common.{◌≡◌, ℕ, ◌<◌, ◌≤◌, ◌==◌, Bool, true, false, List, [], ◌∷◌, length, take, set, Option, Some, None, option_map, option_and_then, refl, ap, arith, lit<, length-set}
 use Rattle.std.proofs.lemmas.Grind.{common_steps}
 use Rattle.std.proofs.lemmas.Bool.Decides.{nat_tests}
 use Rattle.hd_base.specs.Links.{Inbox, in_front}

@@ -1,5 +1,5 @@
 -- Laws of the pieces that wait to be flushed.
-use Rattle.std.proofs.Common.{◌≡◌, ℕ, ◌-◌, ◌≤◌, ◌+◌, Bool, true, false, cond, List, length, take, drop, Option, Some, None, IfSome, MatchOption, is_some, refl, sym, ap, subst, ◌∙◌, arith, length-drop}
+use Rattle.std.proofs.Common.{◌≡◌, ℕ, Bool, cond, List, length, Option, Some, None, IfSome, MatchOption, is_some, arith}
 use Rattle.std.proofs.lemmas.Grind.{common_steps}
 use Rattle.hd_base.specs.Channels.{Plain, unflushed}
 use Rattle.fault_ports.specs.Halves.{PendingIs}

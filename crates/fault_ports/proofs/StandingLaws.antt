@@ -1,5 +1,5 @@
 -- Laws of what is seen to stand next, and of a cut.
-use Rattle.std.proofs.Common.{◌≡◌, ◌≢◌, ◌==◌, ◌&&◌, ◌||◌, ℕ, zero, suc, ◌+◌, ◌<◌, ◌≤◌, min, Bool, true, false, cond, List, [], ◌∷◌, length, take, Option, Some, None, option_map, unwrap_or, IfSome, MatchOption, is_some, refl, sym, ap, subst, ◌∙◌, arith, eqb-true}
+use Rattle.std.proofs.Common.{◌≡◌, ◌==◌, ℕ, zero, suc, ◌<◌, ◌≤◌, min, Bool, true, false, cond, List, [], ◌∷◌, length, take, Option, Some, None, option_map, unwrap_or, IfSome, MatchOption, is_some, refl, sym, ap, subst, ◌∙◌, arith, eqb-true}
 use Rattle.std.proofs.lemmas.Grind.{common_steps}
 use Rattle.std.proofs.lemmas.Bool.Decides.{nat_tests}
 use Rattle.hd_base.specs.Channels.{Channel, Plain, standing_of, next_standing}
@@ -109,3 +109,9 @@ counts_cut-of (Some p) old new conn down up h = counts-cut old new p conn down u
 pub keeps_cut : (P : Option Plain) (old new : List DuplexCount) → KeepsConnections (option_map (seen_plain old) P) (option_map (seen_plain new) P)
 keeps_cut None old new = record { stays_hidden = λ e. e; dialled = _ }
 keeps_cut (Some p) old new = record { stays_hidden = λ e. absurd (cc); dialled = refl }
+
+-- A connection that was known stays so where the number of connections does.
+pub known_after : (P Q : Option Plain) (n : ℕ) → KeepsConnections P Q → IfSome P (λ p. n < p.dialled) → IfSome Q (λ q. n < q.dialled)
+known_after None Q n keeps known = let R : Option Plain → Type 0 = λ o. IfSome o (λ q. n < q.dialled) in subst R (sym (keeps.stays_hidden refl)) known
+known_after (Some p) None n keeps known = _
+known_after (Some p) (Some q) n keeps known = let e : q.dialled ≡ p.dialled = keeps.dialled in omega (arith, known, e)

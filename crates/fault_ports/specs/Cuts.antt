@@ -1,7 +1,6 @@
 -- What a cut makes of connections, and what roads hold whose connections were cut.
-use Rattle.std.specs.Prelude.{◌≡◌, ◌≢◌, ℕ, ◌+◌, ◌<◌, ◌≤◌, ◌==◌, ◌&&◌, Bool, true, false, cond, List, [], length, take, Option, Some, None, IfSome, IsSome}
-use Rattle.hd_base.specs.Links.{Inbox}
-use Rattle.hd_base.specs.Channels.{Channel, Channels, Plain, is_hungry}
+use Rattle.std.specs.Prelude.{◌≡◌, ℕ, ◌<◌, ◌≤◌, ◌==◌, Bool, true, false, cond, List, length, take, Option, Some, None, IfSome, IsSome}
+use Rattle.hd_base.specs.Channels.{Channel, Channels, Plain}
 use Rattle.hd_base.specs.declared.links.LinkIn as link_in
 use Rattle.hd_base.specs.declared.links.LinkOut as link_out
 use Rattle.fault_ports.specs.declared.piece_counts.PieceCount.{PieceCount}

@@ -1,5 +1,5 @@
 -- What the halves of an end whose connection may be cut hold and have sent.
-use Rattle.std.specs.Prelude.{◌≡◌, ℕ, ◌≤◌, ◌==◌, ◌&&◌, ◌||◌, Bool, true, false, List, [], ◌∷◌, length, Option, Some, None, option_map, option_and_then, unwrap_or, IfSome, ⊤}
+use Rattle.std.specs.Prelude.{◌≡◌, ℕ, ◌≤◌, ◌==◌, ◌&&◌, ◌||◌, Bool, false, List, ◌∷◌, length, Option, Some, None, option_map, option_and_then, unwrap_or, IfSome}
 use Rattle.hd_base.specs.Links.{Inbox}
 use Rattle.hd_base.specs.Channels.{unflushed}
 

@@ -1,11 +1,11 @@
 -- What the roads themselves make of the end that is brought back, as it is seen.
-use Rattle.std.proofs.Common.{◌≡◌, ℕ, ◌<◌, ◌≤◌, ◌||◌, ◌&&◌, ◌==◌, Bool, true, false, List, [], length, Option, Some, None, option_map, option_and_then, IfSome, IsSome, is_some, refl, sym, ap, subst, ◌∙◌}
+use Rattle.std.proofs.Common.{◌≡◌, ◌<◌, ◌≤◌, ◌||◌, ◌&&◌, ◌==◌, Bool, false, [], length, Option, Some, None, option_map, option_and_then, IfSome, IsSome, refl, sym, ap, subst, ◌∙◌}
 use Rattle.hd_base.specs.Links.{Inbox}
-use Rattle.hd_base.specs.Channels.{Plain, same_direction, with_flushed, unflushed, is_hungry}
+use Rattle.hd_base.specs.Channels.{same_direction, with_flushed, unflushed, is_hungry}
 use Rattle.fault_ports.specs.PieceCounts.{count_at, dialled_by}
 use Rattle.fault_ports.specs.Halves.{number_of, test_of, PendingIs}
 use Rattle.fault_ports.specs.declared.offers.Offer.TheVariants as offer
-use Rattle.fault_ports.specs.Cuts.{AllObservable, CountsAll, seen_plain}
+use Rattle.fault_ports.specs.Cuts.{AllObservable, seen_plain}
 use Rattle.fault_ports.proofs.ExchangeLaws.{same_both}
 use Rattle.fault_ports.proofs.EndLaws.{Happens, if_some, known_seen, counts_of, bounded_of, seen-after, counted-after, plain-after, dialled-after}
 use Rattle.fault_ports.proofs.cutting.CuttingRoads.bring.Goals as goal

@@ -1,12 +1,12 @@
 -- What the roads themselves make of the exchange, as it is seen.
-use Rattle.std.proofs.Common.{◌≡◌, ℕ, ◌<◌, ◌≤◌, ◌||◌, ◌&&◌, Bool, true, false, List, length, Option, Some, None, option_map, option_and_then, IfSome, IsSome, MatchOption, is_some, sym, ap, subst, ◌∙◌}
+use Rattle.std.proofs.Common.{◌≡◌, ◌≤◌, ◌||◌, ◌&&◌, Bool, true, false, length, Option, Some, option_map, option_and_then, IfSome, IsSome, MatchOption, sym, ap, subst, ◌∙◌}
 use Rattle.hd_base.specs.Links.{Inbox}
 use Rattle.hd_base.specs.Channels.{Plain, with_offer, with_flushed, unflushed, is_hungry, filled}
 use Rattle.fault_ports.specs.declared.piece_counts.PieceCount.{PieceCount}
 use Rattle.fault_ports.specs.PieceCounts.{count_at, dialled_by}
 use Rattle.fault_ports.specs.Halves.{held_behind, inbox_behind, number_of, test_of, PendingIs}
 use Rattle.fault_ports.specs.Offers.{OffersNext}
-use Rattle.fault_ports.specs.Cuts.{AllObservable, CountsAll, seen_plain}
+use Rattle.fault_ports.specs.Cuts.{AllObservable, seen_plain}
 use Rattle.fault_ports.proofs.EndLaws.{Happens, if_some, known_seen, offers_of, counts_of, bounded_of, seen-after, counted-after, plain-after, dialled-after}
 use Rattle.fault_ports.proofs.GivenLaws.{taken-after}
 use Rattle.fault_ports.proofs.PendingLaws.{pending-after}
