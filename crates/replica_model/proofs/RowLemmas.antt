@@ -41,13 +41,13 @@ use Rattle.replica_model.proofs.PlacementLemmas.{Leads, leads_nowhere, leads_app
 -- ---- events that aren't packets: a new replica has no bytes, and others keep their rule and no more bytes
 
 -- What is held becomes this.
-Settles : Option ReplicaInfo → Option ReplicaInfo → Type 0
+unfoldable pub Settles : Option ReplicaInfo → Option ReplicaInfo → Type 0
 Settles None None = Unit {0}
 Settles None (Some k) = (k.written ≡ 0) × IsChunkSize k.sums.chunk
 Settles (Some h) None = ⊥
 Settles (Some h) (Some k) = (k.sums ≡ h.sums) × (k.written ≤ h.written)
 
-abbrev SettlesTo : ReplicaRecord → Taken → Type 0
+abbrev pub SettlesTo : ReplicaRecord → Taken → Type 0
 SettlesTo c t = Settles c.info t.replica.info
 
 settles_same : (o : Option ReplicaInfo) → Settles o o
@@ -114,7 +114,7 @@ end_settles : (c : ReplicaRecord) (conn : ConnId) → Settles c.info (end_connec
 end_settles c conn = choice (λ (k : ReplicaRecord). Settles c.info k.info) (is_written_by c.stream conn) _ _ (λ _. settles_same c.info) (λ _. settles_same c.info)
 
 -- Every event that isn't a packet.
-settles : (c : ReplicaRecord) (e : Event) → Sound c → IsOther e → IfOk (transition c e) (SettlesTo c)
+pub settles : (c : ReplicaRecord) (e : Event) → Sound c → IsOther e → IfOk (transition c e) (SettlesTo c)
 unfolding transition
 settles c (event.Create conn stamp sums) s size = new_settles c state.Rbw conn stamp sums size
 settles c (event.Temporary conn stamp sums) s size = new_settles c state.Temporary conn stamp sums size
