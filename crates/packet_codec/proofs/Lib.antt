@@ -3,3 +3,4 @@ pub mod FrameLemmas
 pub mod PacketLemmas
 pub mod RefusalLemmas
 pub mod WrittenLemmas
+pub mod PartLemmas

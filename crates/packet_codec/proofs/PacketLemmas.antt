@@ -75,7 +75,7 @@ cut_packet : (m : Packet) → packet_of (header_for m) (m.sums ++ m.body) (lengt
 cut_packet m = rw (take_at m.sums m.body (length m.sums) refl, drop_at m.sums m.body (length m.sums) refl) refl
 
 -- the steps of reading, put together
-steps : (bytes : List ℕ) (f : Frame) (h : Header) (n : ℕ) → frame_at bytes ≡ Ok f → with_cause fault.Header (header_at f.header) ≡ Ok h → sums_within (length f.rest) h.data_len ≡ Ok n → packet_at bytes ≡ Ok (packet_of h f.rest n, f.size)
+pub steps : (bytes : List ℕ) (f : Frame) (h : Header) (n : ℕ) → frame_at bytes ≡ Ok f → with_cause fault.Header (header_at f.header) ≡ Ok h → sums_within (length f.rest) h.data_len ≡ Ok n → packet_at bytes ≡ Ok (packet_of h f.rest n, f.size)
 unfolding packet_at
 steps bytes f h n frame header sums = rw frame (rw header (rw sums refl))
 

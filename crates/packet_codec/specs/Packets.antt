@@ -58,9 +58,13 @@ sums_within available (pos n) =
     else if (available - n) % 4 == 0 then Ok (available - n) else Err (fault.SumCount (pos (available - n)))
 sums_within available (negsuc n) = Err (fault.SumCount (pos available -ℤ negsuc n))
 
+-- the packet of a header, its sums and its body
+abbrev pub packet_with : Header → List ℕ → List ℕ → Packet
+packet_with h sums body = record { offset = h.offset; seqno = h.seqno; last = h.last; sync = h.sync; sums = sums; body = body }
+
 -- the packet of a header and its data, cut behind the sums
 abbrev pub packet_of : Header → List ℕ → ℕ → Packet
-packet_of h data_bytes sums = record { offset = h.offset; seqno = h.seqno; last = h.last; sync = h.sync; sums = take sums data_bytes; body = drop sums data_bytes }
+packet_of h data_bytes sums = packet_with h (take sums data_bytes) (drop sums data_bytes)
 
 -- The packet at the front of the bytes, and how many bytes it has.
 unfoldable pub packet_at : List ℕ → Result (Packet × ℕ) PacketFault

@@ -2,16 +2,14 @@
 
 ghost use Rattle.std.specs.Prelude.{◌≡◌, ◌≤◌, ◌++◌, ℕ, List, [], length, take, Ok, Err, IfOk, IfErr};
 ghost use Rattle.hd_base.specs.Results.{Gives, FailsFor};
-ghost use Rattle.packet_codec.specs.Frames.{limit};
-ghost use Rattle.packet_codec.specs.Packets.{SpellsPacket, sums_within, packet_at};
+ghost use Rattle.packet_codec.specs.Packets.{SpellsPacket, packet_at};
 ghost use Rattle.packet_codec.specs.Refusals.{IsRefused};
 ghost use Rattle.packet_codec.specs.declared.packets.Packet.{Packet};
 ghost use Rattle.packet_codec.specs.declared.faults.PacketFault.{PacketFault};
 
 use crate::faults::PacketFault;
-use crate::frames::frame_of;
-use crate::headers::header_of;
 use crate::packets::Packet;
+use crate::parts::packet_parts;
 use bytes::Bytes;
 use std::alloc::Global;
 
@@ -39,34 +37,13 @@ pub fn decode_packet(alloc: Global, bytes: &[u8]) -> Result<(Packet, usize), Pac
 }
 
 /// Reads the packet at the front of the bytes.
-#[tactic(auto, unfolding(crate::specs::Packets::packet_at))]
 fn packet(alloc: Global, bytes: &[u8]) -> Result<(Packet, usize), PacketFault>
     ensures { Gives PacketFault.Memory result (packet_at bytes.now) }
 {
-    let (header, rest, size) = frame_of(bytes)?;
-    let header = header_of(header)?;
-    let (sums, body) = rest.split_at(sums_of(rest.len(), header.data_len)?);
-    let packet = Packet {
-        offset: header.offset,
-        seqno: header.seqno,
-        last: header.last,
-        sync: header.sync,
-        sums: Bytes::copy_from_slice(alloc, sums)?,
-        body: Bytes::copy_from_slice(alloc, body)?,
-    };
-    Ok((packet, size))
-}
-
-/// How many bytes of the data are sums, where the header says how many are the body.
-#[tactic(auto, unfolding(crate::specs::Packets::sums_within))]
-fn sums_of(available: usize, data_len: i32) -> Result<usize, PacketFault>
-    requires { available ≤ limit }
-    ensures sums { result ≡ sums_within available data_len }
-    ensures within { IfOk result (λ n. n ≤ available) }
-{
-    let rest = available as i64 - i64::from(data_len);
-    if data_len < 0 || rest < 0 || rest % 4 != 0 {
-        return Err(PacketFault::SumCount { rest });
-    }
-    Ok(rest as usize)
+    let parts = packet_parts(bytes)?;
+    let (_, data) = bytes[..parts.size].split_at(parts.data_at);
+    let (sums, body) = data.split_at(parts.sums);
+    let sums = Bytes::copy_from_slice(alloc, sums)?;
+    let body = Bytes::copy_from_slice(alloc, body)?;
+    Ok((Packet::from_parts(parts.header, sums, body), parts.size))
 }

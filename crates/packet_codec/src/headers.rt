@@ -17,13 +17,18 @@ ghost use Rattle.packet_codec.specs.Headers.{
 use crate::faults::HeaderCause;
 use proto_fields::{Wire, WireFault, next_field};
 
-/// The fields of a packet's header.
+/// The fields of a packet's header (HDFS `PacketHeaderProto`).
 #[derive(Clone, Copy, Debug, PartialEq, Eq)]
-pub(crate) struct Header {
+pub struct Header {
+    /// Where in the block the body begins, in bytes.
     pub offset: i64,
+    /// The packet's number in its stream; -1 is a heartbeat.
     pub seqno: i64,
+    /// Whether it is the last packet of the block.
     pub last: bool,
+    /// Whether the member is to bring the block to the disk.
     pub sync: bool,
+    /// How many bytes the body has.
     pub data_len: i32,
 }
 

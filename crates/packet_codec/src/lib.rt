@@ -8,6 +8,7 @@ mod faults;
 mod frames;
 mod headers;
 mod packets;
+mod parts;
 #[cfg(test)]
 mod tests;
 
@@ -15,4 +16,6 @@ pub use decoding::decode_packet;
 pub use encoding::encode_packet;
 pub use faults::{HeaderCause, PacketFault};
 pub use frames::{MAX_PACKET_SIZE, packet_length};
+pub use headers::Header;
 pub use packets::Packet;
+pub use parts::{PacketParts, packet_parts};

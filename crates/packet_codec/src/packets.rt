@@ -2,6 +2,7 @@
 
 use crate::encoding::written_header_size;
 use crate::frames::MAX_PACKET_SIZE;
+use crate::headers::Header;
 use bytes::Bytes;
 
 /// A packet of a block's bytes (HDFS `PacketHeaderProto`, the sums and the body). A clone shares the
@@ -23,8 +24,22 @@ pub struct Packet {
 }
 
 impl Packet {
-    ghost use Rattle.std.specs.Prelude.{◌↔◌, IsTrue};
-    ghost use Rattle.packet_codec.specs.Packets.{IsEncodable};
+    ghost use Rattle.std.specs.Prelude.{◌≡◌, ◌↔◌, IsTrue};
+    ghost use Rattle.packet_codec.specs.Packets.{IsEncodable, packet_with};
+
+    /// The packet of a header, its sums and its body. The header's length of the body isn't looked at.
+    pub fn from_parts(header: Header, sums: Bytes, body: Bytes) -> Packet
+        ensures { result ≡ packet_with header sums body }
+    {
+        Packet {
+            offset: header.offset,
+            seqno: header.seqno,
+            last: header.last,
+            sync: header.sync,
+            sums,
+            body,
+        }
+    }
 
     /// Whether `encode_packet` may write the packet: its sums are of four bytes each, and payload and
     /// header have at most 16,777,216 bytes.

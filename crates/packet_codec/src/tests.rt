@@ -4,10 +4,12 @@ ghost use Rattle.std.specs.Prelude.{◌<◌, length};
 
 use crate::{
     HeaderCause, MAX_PACKET_SIZE, Packet, PacketFault, decode_packet, encode_packet, packet_length,
+    packet_parts,
 };
 use bytes::Bytes;
 use proto_fields::WireFault;
 use std::alloc::{AllocError, Global};
+use std::process::Abort;
 use std::test::Fail;
 
 /// The packet of a block's nine bytes `123456789`, as hsync sends it: the header has syncBlock.
@@ -64,6 +66,7 @@ fn packets_are_read_and_written(rt: HostRuntime) -> Result<(), Fail> {
         let wanted = packet(alloc, place, sync, sums, body)?;
         let (read, size) = decode_packet(alloc, bytes)?;
         assert_eq!(rt; size, bytes.len());
+        assert_eq!(rt; packet_parts(bytes)?.sums, sums.len());
         assert!(rt; read == wanted.clone()?);
         assert!(rt; wanted.is_encodable());
         let mut out = Vec::new(alloc);
@@ -78,6 +81,42 @@ fn packets_are_read_and_written(rt: HostRuntime) -> Result<(), Fail> {
     }
     assert!(rt; !packet(alloc, (0, 0), false, b"\0\0\0", b"1")?.is_encodable());
     Ok(())
+}
+
+/// So many bytes that count up.
+fn counting(alloc: Global, len: usize) -> Result<Vec<u8>, AllocError> {
+    let mut bytes = Vec::new(alloc);
+    for place in 0..len {
+        bytes.push((place % 251) as u8)?;
+    }
+    Ok(bytes)
+}
+
+/// A packet with so many bytes of sums and of a body is written whole, and read again.
+fn goes_through(
+    rt: &impl Abort,
+    alloc: Global,
+    sums: usize,
+    body: usize,
+    sync: bool,
+) -> Result<(), Fail> {
+    let sums = counting(alloc, sums)?;
+    let body = counting(alloc, body)?;
+    let wanted = packet(alloc, (7, 3), sync, sums.as_slice(), body.as_slice())?;
+    assert!(rt; wanted.is_encodable());
+    let mut out = Vec::new(alloc);
+    encode_packet(&wanted, &mut out)?;
+    let (read, size) = decode_packet(alloc, out.as_slice())?;
+    assert_eq!(rt; size, out.len());
+    assert!(rt; read == wanted);
+    Ok(())
+}
+
+/// The sums of 1,024 chunks of 512 bytes.
+#[test]
+fn long_packets_are_written(rt: HostRuntime) -> Result<(), Fail> {
+    goes_through(&rt, rt.alloc(), 4_096, 524_288, false)?;
+    goes_through(&rt, rt.alloc(), 4_096, 524_288, true)
 }
 
 /// The nine bytes' packet with another header.
