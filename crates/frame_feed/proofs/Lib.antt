@@ -1,5 +1,4 @@
 pub mod BufferLemmas
 pub mod FramingLemmas
 pub mod FeedLemmas
-pub mod PartLemmas
 pub mod StreamLemmas

@@ -3,6 +3,5 @@ pub mod Framings
 pub mod Kinds
 pub mod Feeds
 pub mod Buffers
-pub mod Parts
 pub mod KindLaws
 pub mod Streams

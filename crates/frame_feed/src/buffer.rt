@@ -38,12 +38,16 @@ impl Buffer {
         len_of(self.front.as_slice()) + len_of(self.bytes.as_slice())
     }
 
-    /// Puts a piece behind the bytes. Want of memory leaves them as they were.
-    pub fn push(&mut self, piece: &[u8]) -> Result<(), AllocError>
+    /// Puts a piece behind the bytes, once there is room for so many: the bytes don't move again
+    /// until that many came. Want of memory leaves them as they were.
+    pub fn push(&mut self, piece: &[u8], coming: usize) -> Result<(), AllocError>
         ensures ok { OnOk result (held self.new ≡ held self.old ++ piece.now) }
+        ensures room { OnOk result (coming ≤ length piece.now + self.new.bytes.spare) }
         ensures err { OnErr result (held self.new ≡ held self.old) }
     {
-        self.bytes.extend_from_slice(piece)
+        self.bytes.reserve(coming.max(piece.len()))?;
+        self.bytes.extend_reserved(piece);
+        Ok(())
     }
 
     /// Brings the bytes into one piece. They are in one, unless a cut stopped halfway.

@@ -63,12 +63,14 @@ impl Feed {
         })
     }
 
-    /// Puts a piece of the stream behind what was pushed before. Want of memory changes nothing.
+    /// Puts a piece of the stream behind what was pushed before. Where the last call waits for a
+    /// message whose length shows, it makes room for the whole of it first, so that the message's
+    /// bytes are moved once at most. Want of memory changes nothing.
     pub fn push(&mut self, piece: &[u8]) -> Result<(), AllocError>
         ensures ok { OnOk result (self.new ≡ with_piece self.old piece.now) }
         ensures err { OnErr result (self.new ≡ self.old) }
     {
-        self.buffer.push(piece)?;
+        self.buffer.push(piece, self.wanted as usize)?;
         self.wanted = 0;
         Ok(())
     }

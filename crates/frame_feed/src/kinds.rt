@@ -3,11 +3,10 @@
 use crate::buffer::Buffer;
 use crate::faults::NoMessage;
 use crate::framing::Framing;
-use crate::packet_parts::packet_parts;
 use ack_codec::{Ack, Response, decode_ack, decode_read_status, decode_response};
 use hd_base::Status;
 use op_headers::{Op, RecoveryAnswer, decode_answer, decode_op};
-use packet_codec::Packet;
+use packet_codec::{Packet, packet_parts};
 
 /// A kind of message.
 pub(crate) trait Kind: Sized + Drop {
@@ -68,14 +67,7 @@ impl Kind for Packet {
     fn take(from: &mut Buffer) -> Result<Packet, NoMessage> {
         let parts = packet_parts(from.as_slice())?;
         let (sums, body) = from.cut(parts.size, parts.data_at, parts.sums)?;
-        Ok(Packet {
-            offset: parts.header.offset,
-            seqno: parts.header.seqno,
-            last: parts.header.last,
-            sync: parts.header.sync,
-            sums,
-            body,
-        })
+        Ok(Packet::from_parts(parts.header, sums, body))
     }
 }
 

@@ -8,7 +8,6 @@ mod framing;
 mod kinds;
 mod laws;
 mod notes;
-mod packet_parts;
 #[cfg(test)]
 mod tests;
 
