@@ -1,17 +1,26 @@
 -- Each kind is sound, by what its decoder promises.
-use Rattle.std.proofs.Common.{◌≡◌, ℕ, ◌+◌, ◌*◌, ◌==◌, List, [], ◌∷◌, Some, None, ◌++◌, length, drop, option_map, append-nil, length-append, arith, Result, Ok, Err, inl, inr, refl, sym, ap, ◌∙◌, subst}
+use Rattle.std.proofs.Common.{◌≡◌, ℕ, ◌+◌, ◌*◌, ◌<◌, ◌≤◌, ◌==◌, List, [], ◌∷◌, Some, None, ◌++◌, length, take, drop, option_map, append_assoc, append-nil, length-append, length-drop, arith, Result, Ok, Err, inl, inr, refl, sym, ap, ◌∙◌, subst}
 use Rattle.hd_base.specs.Results.{with_cause, Gives}
 use Rattle.hd_base.specs.Bytes.{IsBytes}
-use Rattle.hd_base.proofs.ResultLaws.{bind_err, with_cause_ok, with_cause_err, with_value_err, err_value, chosen}
+use Rattle.hd_base.proofs.ResultLaws.{bind_err, with_cause_ok, with_cause_err, with_value_err, err_value, ok_pair, chosen}
 use Rattle.proto_fields.specs.declared.frames.FrameFault.{FrameFault}
 use Rattle.proto_fields.specs.declared.frames.FrameFault.TheVariants as frame
 use Rattle.proto_fields.specs.Frames.{frame_at}
 use Rattle.proto_fields.specs.Framed.{FramesSome, framed_at}
 use Rattle.packet_codec.proofs.PacketLemmas.{packet_again, read_steps}
 use Rattle.packet_codec.proofs.FrameLemmas.{frame_passes}
-use Rattle.packet_codec.specs.Frames.{Frame}
+use Rattle.packet_codec.specs.Frames.{Frame, payload_of, header_len_of, frame_len}
+use Rattle.packet_codec.specs.Refusals.{AreLawful, IsWholeFrame as IsWholePacket, IsCutFrame as IsCutPacket}
+use Rattle.std.specs.Int.{w16, w32, from_be_bytes}
+use Rattle.std.specs.Prelude.{IsSome}
+use Rattle.std.proofs.lemmas.List.{take-append-le, drop-append-le}
+use Rattle.proto_fields.specs.Frames.{IsCutFrame}
+use Rattle.proto_fields.specs.Varint.{BeginsWithVarint}
+use Rattle.op_headers.specs.Requests.{IsCutRequest}
+use Rattle.op_headers.specs.declared.opcodes.Opcode.{Opcode}
+use Rattle.op_headers.specs.declared.opcodes.Opcode.TheVariants as opcode
 use Rattle.proto_fields.specs.Varint.{varint_at}
-use Rattle.proto_fields.proofs.VarintLemmas.{read_varint_again}
+use Rattle.proto_fields.proofs.VarintLemmas.{read_varint_again, read_varint_begins}
 use Rattle.std.proofs.lemmas.Bool.{le-ltb}
 use Rattle.frame_feed.specs.Framings.{behind_varint, prefixed_size, packet_size, request_size}
 use Rattle.packet_codec.specs.declared.packets.Packet.{Packet}
@@ -37,7 +46,7 @@ use Rattle.op_headers.specs.declared.faults.AnswerFault.{AnswerFault}
 use Rattle.op_headers.specs.declared.faults.AnswerFault.TheVariants as answer
 use Rattle.op_headers.specs.Requests.{SpellsOp, IsRefusedOp, request_at, head_at, op_at, op_read, op_frame_cause, opcode_step, sized}
 use Rattle.proto_fields.specs.declared.reading.WireFault.{WireFault}
-use Rattle.op_headers.specs.Opcodes.{opcode_with}
+use Rattle.op_headers.specs.Opcodes.{opcode_number, opcode_with}
 use Rattle.op_headers.specs.Paths.{Path}
 use Rattle.op_headers.specs.Answers.{IsRefusedAnswer, answer_at, answer_of, answer_format, answer_frame_cause, missing_field}
 use Rattle.op_headers.proofs.RequestLemmas as request_laws
@@ -182,6 +191,71 @@ packet_sized m text s =
     let passes = frame_passes text read.frame read.framed in
     rw (le-ltb (length text) 6 passes.0.six) (ap Some (ap Frame.size passes.1 ∙ read.size))
 
+-- ---- the front of a message
+
+prefixed_front : (P : List ℕ → Type 0) (text bytes more : List ℕ) → FramesSome P text → bytes ++ more ≡ text → 0 < length more → IsCutFrame bytes
+prefixed_front P text bytes more f parts some = record {
+  missing = more;
+  some = some;
+  whole = record { prefix = f.prefix; message = f.message; parts = parts ∙ f.parts; spelled = f.spelled };
+  lawful = λ n rest b. few n rest b;
+}
+  where
+    few : (n : ℕ) (rest : List ℕ) → BeginsWithVarint bytes n rest → n ≤ 65536
+    few n rest b =
+        let whole : text ≡ b.text ++ (rest ++ more) = sym parts ∙ (ap (λ l. l ++ more) b.parts ∙ append_assoc b.text rest more) in
+        let one = read_varint_begins text n (rest ++ more) (record { text = b.text; parts = whole; spelled = b.spelled }) in
+        let two = read_varint_begins text (length f.message) f.message (record { text = f.prefix; parts = f.parts; spelled = f.spelled }) in
+        let same = ok_pair n (length f.message) (rest ++ more) f.message (sym one ∙ two) in
+        omega (arith, same.0, f.few)
+
+opcode_listed : (code : Opcode) → IsSome (opcode_with (opcode_number code))
+opcode_listed opcode.WriteBlock = tt
+opcode_listed opcode.ReadBlock = tt
+opcode_listed opcode.BlockChecksum = tt
+opcode_listed opcode.TransferBlock = tt
+opcode_listed opcode.Custom = tt
+
+request_front : (request : Op) (text bytes more : List ℕ) → SpellsOp request text → bytes ++ more ≡ text → 0 < length more → IsCutRequest bytes
+request_front request text bytes more s parts some = record {
+  missing = more;
+  some = some;
+  whole = record {
+    head = 0 ∷ 28 ∷ opcode_number s.code ∷ [];
+    rest = s.rest;
+    parts = parts ∙ s.parts;
+    three = refl;
+    framed = record { prefix = s.holds.prefix; message = s.holds.message; parts = s.holds.parts; spelled = s.holds.spelled };
+  };
+  version = λ high low rest e.
+      let same : high ∷ low ∷ (rest ++ more) ≡ 0 ∷ 28 ∷ opcode_number s.code ∷ s.rest = ap (λ l. l ++ more) (sym e) ∙ (parts ∙ s.parts) in
+      let a : high ≡ 0 = cc in let b : low ≡ 28 = cc in omega arith;
+  code = λ high low number rest e.
+      let same : high ∷ low ∷ number ∷ (rest ++ more) ≡ 0 ∷ 28 ∷ opcode_number s.code ∷ s.rest = ap (λ l. l ++ more) (sym e) ∙ (parts ∙ s.parts) in
+      let a : opcode_number s.code ≡ number = cc in subst (λ (k : ℕ). IsSome (opcode_with k)) a (opcode_listed s.code);
+  lawful = λ high low number rest e n behind begins.
+      let same : high ∷ low ∷ number ∷ (rest ++ more) ≡ 0 ∷ 28 ∷ opcode_number s.code ∷ s.rest = ap (λ l. l ++ more) (sym e) ∙ (parts ∙ s.parts) in
+      let a : rest ++ more ≡ s.rest = cc in (prefixed_front _ s.rest rest more s.holds a some).lawful n behind begins;
+}
+
+packet_front : (m : Packet) (text bytes more : List ℕ) → SpellsPacket m text → bytes ++ more ≡ text → 0 < length more → IsCutPacket bytes
+packet_front m text bytes more s parts some =
+    let read = read_steps text m (length text) (ap packet_at (sym (append-nil text)) ∙ packet_again m text [] s) in
+    let passes = frame_passes text read.frame read.framed in
+    let size : length text ≡ frame_len (payload_of text) (header_len_of text) = sym (ap Frame.size passes.1 ∙ read.size) in
+    record {
+      missing = more;
+      some = some;
+      whole = subst IsWholePacket (sym parts) (record { lengths = passes.0.six; size = size });
+      lawful = λ six. lengths six passes.0.low passes.0.high;
+    }
+  where
+    lengths : 6 ≤ length bytes → 4 ≤ payload_of text → payload_of text + header_len_of text ≤ 16777216 → AreLawful (payload_of bytes) (header_len_of bytes)
+    lengths six low high =
+        let payload : payload_of text ≡ payload_of bytes = ap payload_of (sym parts) ∙ ap (from_be_bytes w32) (take-append-le 4 bytes more (omega arith)) in
+        let header : header_len_of text ≡ header_len_of bytes = ap header_len_of (sym parts) ∙ ap (from_be_bytes w16) (ap (take 2) (drop-append-le 4 bytes more (omega arith)) ∙ take-append-le 2 (drop 4 bytes) more (omega (arith, length-drop 4 bytes))) in
+        record { low = omega (arith, payload, low); high = omega (arith, payload, header, high) }
+
 -- ---- requests
 
 op_short : (fault : OpFault) → no_op fault ≡ Short → fault ≡ op.Short
@@ -221,6 +295,7 @@ requests_sound = record {
   stopped = λ why bytes fits s. ap (with_cause no_op) (request_laws.request_refuses bytes s.0 fits s.2) ∙ ap Err s.1;
   is_cut = λ bytes s. subst (λ (e : OpFault). IsRefusedOp e bytes) (op_short s.0 s.1) s.2;
   cut = λ bytes c. (op.Short, refl, c);
+  front = λ m text bytes more s parts some. request_front m text bytes more s parts some;
   no_memory = λ bytes s. subst (λ (e : OpFault). IsRefusedOp e bytes) (op_memory s.0 s.1) s.2;
   sized = λ m text s. request_sized m text s;
   of_stream = λ e bytes s. op_refused s.0 e s.1;
@@ -266,6 +341,7 @@ packets_sound = record {
   stopped = λ why bytes fits s. ap (with_cause no_packet) (packet_laws.refused_packet bytes s.0 s.2) ∙ ap Err s.1;
   is_cut = λ bytes s. subst (λ (e : PacketFault). IsRefused e bytes) (packet_short s.0 s.1) s.2;
   cut = λ bytes c. (packet.Short, refl, c);
+  front = λ m text bytes more s parts some. packet_front m text bytes more s parts some;
   no_memory = λ bytes s. subst (λ (e : PacketFault). IsRefused e bytes) (packet_memory s.0 s.1) s.2;
   sized = λ m text s. packet_sized m text s;
   of_stream = λ e bytes s. packet_refused s.0 e s.1;
@@ -307,6 +383,7 @@ responses_sound = record {
   stopped = λ why bytes fits s. ap (with_cause no_response) (exactly response.Memory (response_at bytes) (Err s.0) (response_never bytes) (response_laws.read_refuses bytes (response_at bytes) s.0 fits (gives_itself response.Memory (response_at bytes)) s.2)) ∙ ap Err s.1;
   is_cut = λ bytes s. subst (λ (e : ResponseFault). IsRefusedResponse e bytes) (response_short s.0 s.1) s.2;
   cut = λ bytes c. (response.Short, refl, c);
+  front = λ m text bytes more s parts some. prefixed_front (SaysResponse m) text bytes more s parts some;
   no_memory = λ bytes s. subst (λ (e : ResponseFault). IsRefusedResponse e bytes) (response_memory s.0 s.1) s.2;
   sized = λ m text s. prefixed_sized (SaysResponse m) text s;
   of_stream = λ e bytes s. response_refused s.0 e s.1;
@@ -352,6 +429,7 @@ answers_sound = record {
   stopped = λ why bytes fits s. ap (with_cause no_answer) (answer_laws.answer_refuses bytes s.0 fits s.2) ∙ ap Err s.1;
   is_cut = λ bytes s. subst (λ (e : AnswerFault). IsRefusedAnswer e bytes) (answer_short s.0 s.1) s.2;
   cut = λ bytes c. (answer.Short, refl, c);
+  front = λ m text bytes more s parts some. prefixed_front (λ message. answer_format.says message (Ok m)) text bytes more s parts some;
   no_memory = λ bytes s. subst (λ (e : AnswerFault). IsRefusedAnswer e bytes) (answer_memory s.0 s.1) s.2;
   sized = λ m text s. prefixed_sized (λ message. answer_format.says message (Ok m)) text s;
   of_stream = λ e bytes s. answer_refused s.0 e s.1;
@@ -397,6 +475,7 @@ acks_sound = record {
   stopped = λ why bytes fits s. ap (with_cause no_ack) (ack_laws.refuses_ack bytes s.0 fits s.2) ∙ ap Err s.1;
   is_cut = λ bytes s. subst (λ (e : AckFault). IsRefusedAck e bytes) (ack_short s.0 s.1) s.2;
   cut = λ bytes c. (ack.Short, refl, c);
+  front = λ m text bytes more s parts some. prefixed_front (SaysAck m) text bytes more s parts some;
   no_memory = λ bytes s. ack_memory s.0 s.1;
   sized = λ m text s. prefixed_sized (SaysAck m) text s;
   of_stream = λ e bytes s. ack_refused s.0 e s.1;
@@ -415,6 +494,7 @@ read_statuses_sound = record {
   stopped = λ why bytes fits s. ap (with_cause no_ack) (ack_laws.refuses_read_status bytes s.0 fits s.2) ∙ ap Err s.1;
   is_cut = λ bytes s. subst (λ (e : AckFault). IsRefusedReadStatus e bytes) (ack_short s.0 s.1) s.2;
   cut = λ bytes c. (ack.Short, refl, c);
+  front = λ m text bytes more s parts some. prefixed_front (SaysReadStatus m) text bytes more s parts some;
   no_memory = λ bytes s. ack_memory s.0 s.1;
   sized = λ m text s. prefixed_sized (SaysReadStatus m) text s;
   of_stream = λ e bytes s. ack_refused s.0 e s.1;
