@@ -36,5 +36,9 @@ awk '
     print "|---|---|---|---|---|"
     for (i = 1; i <= count; i++) {
       split(keys[i], part, " "); piece = part[2] < part[1] ? part[2] : part[1]
-      printf "| %s | %s | %s | %.3f | %.1f |\n", part[1], part[2], part[3], best[keys[i]], best[keys[i]] * piece } }
+      printf "| %s | %s | %s | %.3f | %.1f |\n", part[1], part[2], part[3], best[keys[i]], best[keys[i]] * piece
+      cost[part[1] " " part[2]] = best[keys[i]] }
+    printf "\nOf 16 MiB, a byte in pieces of 1 byte costs %.1f times a byte in pieces of 64 KiB.\n", cost["16777218 1"] / cost["16777218 65536"]
+    printf "A byte of 16 MiB costs, against one of 1 MiB: in pieces of 1 byte %.2f times as much, in pieces of 64 KiB %.2f times.\n",
+      cost["16777218 1"] / cost["1048578 1"], cost["16777218 65536"] / cost["1048578 65536"] }
 ' "$work/lines.txt"
