@@ -2,7 +2,7 @@
 use Rattle.std.proofs.Common.{◌≡◌, ℕ, ◌+◌, ◌*◌, ◌<◌, ◌≤◌, ◌==◌, List, [], ◌∷◌, Some, None, ◌++◌, length, take, drop, option_map, append_assoc, append-nil, length-append, length-drop, arith, Result, Ok, Err, inl, inr, refl, sym, ap, ◌∙◌, subst}
 use Rattle.hd_base.specs.Results.{with_cause, Gives}
 use Rattle.hd_base.specs.Bytes.{IsBytes}
-use Rattle.hd_base.proofs.ResultLaws.{bind_err, with_cause_ok, with_cause_err, with_value_err, err_value, ok_pair, chosen}
+use Rattle.hd_base.proofs.ResultLaws.{bind_ok, bind_err, with_cause_ok, with_cause_err, with_value_err, err_value, ok_pair, chosen}
 use Rattle.proto_fields.specs.declared.frames.FrameFault.{FrameFault}
 use Rattle.proto_fields.specs.declared.frames.FrameFault.TheVariants as frame
 use Rattle.proto_fields.specs.Frames.{frame_at}
@@ -17,8 +17,6 @@ use Rattle.std.proofs.lemmas.List.{take-append-le, drop-append-le}
 use Rattle.proto_fields.specs.Frames.{IsCutFrame}
 use Rattle.proto_fields.specs.Varint.{BeginsWithVarint}
 use Rattle.op_headers.specs.Requests.{IsCutRequest}
-use Rattle.op_headers.specs.declared.opcodes.Opcode.{Opcode}
-use Rattle.op_headers.specs.declared.opcodes.Opcode.TheVariants as opcode
 use Rattle.proto_fields.specs.Varint.{varint_at}
 use Rattle.proto_fields.proofs.VarintLemmas.{read_varint_again, read_varint_begins}
 use Rattle.std.proofs.lemmas.Bool.{le-ltb}
@@ -209,12 +207,20 @@ prefixed_front P text bytes more f parts some = record {
         let same = ok_pair n (length f.message) (rest ++ more) f.message (sym one ∙ two) in
         omega (arith, same.0, f.few)
 
-opcode_listed : (code : Opcode) → IsSome (opcode_with (opcode_number code))
-opcode_listed opcode.WriteBlock = tt
-opcode_listed opcode.ReadBlock = tt
-opcode_listed opcode.BlockChecksum = tt
-opcode_listed opcode.TransferBlock = tt
-opcode_listed opcode.Custom = tt
+opcode_some : (number : ℕ) (rest : List ℕ) (o : _) (x : _) → opcode_step number rest o ≡ Ok x → IsSome o
+opcode_some number rest None x e = cc
+opcode_some number rest (Some code) x e = refl
+
+head_some : (number : ℕ) (rest : List ℕ) (x : _) → head_at (0 ∷ 28 ∷ number ∷ rest) ≡ Ok x → IsSome (opcode_with number)
+unfolding head_at
+head_some number rest x e = opcode_some number rest (opcode_with number) x e
+
+request_listed : (request : Op) (text : List ℕ) (s : SpellsOp request text) → IsSome (opcode_with (opcode_number s.code))
+unfolding request_at
+request_listed request text s =
+    let read : request_at text ≡ Ok (request, length text) = exactly op.Memory (request_at text) (Ok (request, length text)) (op_never text) (request_laws.request_only text (request_at text) request text [] (gives_itself op.Memory (request_at text)) s (sym (append-nil text))) in
+    let head = bind_ok (head_at text) _ (request, length text) read in
+    head_some (opcode_number s.code) s.rest head.0 (ap head_at (sym s.parts) ∙ head.1.0)
 
 request_front : (request : Op) (text bytes more : List ℕ) → SpellsOp request text → bytes ++ more ≡ text → 0 < length more → IsCutRequest bytes
 request_front request text bytes more s parts some = record {
@@ -232,7 +238,7 @@ request_front request text bytes more s parts some = record {
       let a : high ≡ 0 = cc in let b : low ≡ 28 = cc in omega arith;
   code = λ high low number rest e.
       let same : high ∷ low ∷ number ∷ (rest ++ more) ≡ 0 ∷ 28 ∷ opcode_number s.code ∷ s.rest = ap (λ l. l ++ more) (sym e) ∙ (parts ∙ s.parts) in
-      let a : opcode_number s.code ≡ number = cc in subst (λ (k : ℕ). IsSome (opcode_with k)) a (opcode_listed s.code);
+      let a : opcode_number s.code ≡ number = cc in subst (λ (k : ℕ). IsSome (opcode_with k)) a (request_listed request text s);
   lawful = λ high low number rest e n behind begins.
       let same : high ∷ low ∷ number ∷ (rest ++ more) ≡ 0 ∷ 28 ∷ opcode_number s.code ∷ s.rest = ap (λ l. l ++ more) (sym e) ∙ (parts ∙ s.parts) in
       let a : rest ++ more ≡ s.rest = cc in (prefixed_front _ s.rest rest more s.holds a some).lawful n behind begins;
