@@ -1,0 +1,3 @@
+pub mod LastSums
+pub mod CallLists
+pub mod Performed
