@@ -1,5 +1,6 @@
 -- Lists of calls on a replica's files, by the files' names.
 use Rattle.std.specs.Prelude.{ℕ, ◌==◌, ◌%◌, nat_lt, not, ◌&&◌, Bool, true, false, if◌then◌else◌, List, [], ◌∷◌, ◌++◌, length}
+use Rattle.std.specs.Int.{w32, to_be_bytes}
 use Rattle.hd_base.specs.SumRules.{Rule}
 use Rattle.hd_base.specs.Calls.{Call, Make, Write, Cut, Sync, Rename, Remove}
 use Rattle.meta_file.specs.declared.names.Folder.{Folder}
@@ -58,10 +59,10 @@ move_list before after from held folder stamp =
     ++ only (not (same_folder from folder)) (Rename before.«data» after.«data»)
 
 -- the calls by which what is held becomes another
-abbrev pub settle_list : FileNames → FileNames → ReplicaInfo → ReplicaInfo → List ℕ → List Call
-settle_list before after h k sum =
+abbrev pub settle_list : FileNames → FileNames → ReplicaInfo → ReplicaInfo → ℕ → List Call
+settle_list before after h k last_sum =
     all_if (leaves_temporary h k) (sync_list before)
-    ++ (cut_list before h.sums h.written k.written sum
+    ++ (cut_list before h.sums h.written k.written (to_be_bytes w32 last_sum)
     ++ move_list before after (folder_of h.original) h.stamp.0 (folder_of k.original) k.stamp.0)
 
 -- the removal of these files

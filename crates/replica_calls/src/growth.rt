@@ -43,7 +43,8 @@ pub fn grown_sums(
         });
     }
     let sums = summed(alloc, rule, written, last_sum, more)?;
-    let last = last_sum_in(rule, written + more.len() as u64, &sums);
+    let end = written % u64::from(rule.chunk()) + more.len() as u64;
+    let last = last_sum_in(rule, end, &sums);
     Ok(GrownSums { sums, last })
 }
 
@@ -80,15 +81,15 @@ fn push_sums(into: &mut Vec<u8>, rule: SumRule, body: &[u8]) -> Result<(), Alloc
     Ok(())
 }
 
-/// The sum of the bytes of the last chunk, where it is short, and else that of no bytes, of bytes that
-/// end in the chunk in which the place `written` stands. `sums` are their sums.
-fn last_sum_in(rule: SumRule, written: u64, sums: &[u8]) -> u32
+/// The sum of the bytes in the last chunk of `len` bytes, where it is short, and else that of no bytes.
+/// `sums` are the sums of all of them.
+fn last_sum_in(rule: SumRule, len: u64, sums: &[u8]) -> u32
     requires { has_sums rule.kind ≡ true }
-    ensures { (bytes : List ℕ) → length bytes % rule.chunk ≡ written % rule.chunk
-        → sums.now ≡ sums_under rule bytes → IsLastSum rule result bytes }
+    ensures { (bytes : List ℕ) → length bytes ≡ len → sums.now ≡ sums_under rule bytes → IsLastSum rule result bytes }
 {
+    let chunk = u64::from(rule.chunk());
     match sums.last_chunk::<SUM_LEN>() {
-        Some(last) if written % u64::from(rule.chunk()) > 0 => u32::from_be_bytes(*last),
+        Some(last) if len % chunk > 0 => u32::from_be_bytes(*last),
         _ => 0,
     }
 }

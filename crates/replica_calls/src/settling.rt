@@ -1,7 +1,7 @@
 //! What a recovery or an ack makes of a replica's files.
 
 ghost use Rattle.std.specs.Prelude.{◌≡◌, ◌==◌, ◌%◌, ◌&&◌, not};
-ghost use Rattle.replica_model.specs.Plans.{folder_of, has_sums, leaves_temporary};
+ghost use Rattle.replica_model.specs.Plans.{folder_of, has_sums, same_folder, leaves_temporary};
 ghost use Rattle.replica_calls.specs.Performed.{IsReady, Performs};
 ghost use Rattle.replica_calls.specs.CallLists.{shorter_list, cut_list, move_list, settle_list};
 
@@ -13,22 +13,23 @@ use replica_core::ReplicaInfo;
 use replica_model::{folder_of, has_sums, meta_len, sum_place};
 
 /// Makes of the files of a replica those of what it holds next: a TEMPORARY replica that becomes another
-/// is synced, bytes past the next length are cut off, and the files get their next names. `sum` is that
-/// of the last chunk of the bytes that are left, four bytes big-endian.
+/// is synced, bytes past the next length are cut off, and the files get their next names. `last_sum`
+/// is the sum of the bytes that are left in the last chunk, where it is short.
 pub fn settle<F: Files>(
     files: &mut F,
     before: &FileNames,
     after: &FileNames,
     held: &ReplicaInfo,
     next: &ReplicaInfo,
-    sum: &[u8],
+    last_sum: u32,
 ) -> Result<(), FileError>
-    requires { IsReady F.Files files.old (settle_list before.now after.now held.now next.now sum.now) }
+    requires { IsReady F.Files files.old (settle_list before.now after.now held.now next.now last_sum) }
     ensures { Performs F.Files files.old files.new
-        (settle_list before.now after.now held.now next.now sum.now) result }
+        (settle_list before.now after.now held.now next.now last_sum) result }
 {
+    let sum = last_sum.to_be_bytes();
     sync_if(files, leaves_temporary(held, next), before)?;
-    cut(files, before, held, next.written, sum)?;
+    cut(files, before, held, next.written, &sum)?;
     rename(files, before, after, held, next)
 }
 
@@ -39,7 +40,8 @@ fn leaves_temporary(held: &ReplicaInfo, next: &ReplicaInfo) -> bool
     held.original == ReplicaState::Temporary && next.original != ReplicaState::Temporary
 }
 
-/// Cuts the bytes past `len` off, and their sums.
+/// Cuts the bytes past `len` off, and their sums. `sum` is that of the bytes that are left in the last
+/// chunk, four bytes big-endian.
 fn cut<F: Files>(
     files: &mut F,
     names: &FileNames,
@@ -97,8 +99,23 @@ fn rename<F: Files>(
     ensures { Performs F.Files files.old files.new (move_list before.now after.now
         (folder_of held.now.original) held.now.stamp.0 (folder_of next.now.original) next.now.stamp.0) result }
 {
-    let stays = folder_of(held.original) == folder_of(next.original);
-    let is_named_so = stays && held.stamp == next.stamp;
-    step_if(files, !is_named_so, &FileCall::Rename(&before.meta, &after.meta))?;
-    step_if(files, !stays, &FileCall::Rename(&before.data, &after.data))
+    let moves = !keeps_folder(held, next);
+    let is_renamed = !keeps_name(held, next);
+    step_if(files, is_renamed, &FileCall::Rename(&before.meta, &after.meta))?;
+    step_if(files, moves, &FileCall::Rename(&before.data, &after.data))
+}
+
+/// Whether the files lie in one folder before and after.
+fn keeps_folder(held: &ReplicaInfo, next: &ReplicaInfo) -> bool
+    ensures { result ≡ same_folder (folder_of held.now.original) (folder_of next.now.original) }
+{
+    folder_of(held.original) == folder_of(next.original)
+}
+
+/// Whether the metadata file has one name before and after.
+fn keeps_name(held: &ReplicaInfo, next: &ReplicaInfo) -> bool
+    ensures { result ≡ (same_folder (folder_of held.now.original) (folder_of next.now.original)
+        && held.now.stamp.0 == next.now.stamp.0) }
+{
+    keeps_folder(held, next) && held.stamp == next.stamp
 }

@@ -23,11 +23,11 @@ returns-in_err-step_if g c =
     let failed = err_from_is_err_and c.from_residual-in_err-step_if.result c.from_residual-in_err-step_if.ensures.1 in
     rw (failed.1, failed.2)
     (performs_then g.F.Files c.args.files.now c.step.new.files c.step_if.new.files (Cut c.args.names.now.«data» n ∷ []) ((only (has_sums r.kind && not (n % r.chunk == 0)) (Write c.args.names.now.meta (sum_place r n) c.args.sum.now)) ++ (only (nat_lt (meta_len r n) (meta_len r c.args.held.now.written)) (Cut c.args.names.now.meta (meta_len r n)))) _ _ c.in_ok-step.ensures
-    (performs_fails g.F.Files c.step.new.files c.step_if.new.files (only (has_sums r.kind && not (n % r.chunk == 0)) (Write c.args.names.now.meta (sum_place r n) c.args.sum.now)) (only (nat_lt (meta_len r n) (meta_len r c.args.held.now.written)) (Cut c.args.names.now.meta (meta_len r n))) _ c.in_err-step_if.ensures))
+    (performs_fails g.F.Files c.step.new.files c.step_if.new.files (only (has_sums r.kind && not (n % r.chunk == 0)) (Write c.args.names.now.meta (sum_place r n) c.args.sum.now)) (only (nat_lt (meta_len r n) (meta_len r c.args.held.now.written)) (Cut c.args.names.now.meta (meta_len r n))) _ (rw c.sum_place.ensures at (rw c.is_summed.ensures at c.in_err-step_if.ensures))))
 
 pub returns : goal.returns
 returns g c =
     let r = c.args.held.now.sums in
     let n = c.args.len in
     performs_then g.F.Files c.args.files.now c.step.new.files c.step_if-2.new.files (Cut c.args.names.now.«data» n ∷ []) ((only (has_sums r.kind && not (n % r.chunk == 0)) (Write c.args.names.now.meta (sum_place r n) c.args.sum.now)) ++ (only (nat_lt (meta_len r n) (meta_len r c.args.held.now.written)) (Cut c.args.names.now.meta (meta_len r n)))) _ c.step_if-2.result c.in_ok-step.ensures
-    (performs_then g.F.Files c.step.new.files c.step_if.new.files c.step_if-2.new.files (only (has_sums r.kind && not (n % r.chunk == 0)) (Write c.args.names.now.meta (sum_place r n) c.args.sum.now)) (only (nat_lt (meta_len r n) (meta_len r c.args.held.now.written)) (Cut c.args.names.now.meta (meta_len r n))) _ c.step_if-2.result c.in_ok-step_if.ensures c.step_if-2.ensures)
+    (performs_then g.F.Files c.step.new.files c.step_if.new.files c.step_if-2.new.files (only (has_sums r.kind && not (n % r.chunk == 0)) (Write c.args.names.now.meta (sum_place r n) c.args.sum.now)) (only (nat_lt (meta_len r n) (meta_len r c.args.held.now.written)) (Cut c.args.names.now.meta (meta_len r n))) _ c.step_if-2.result (rw c.sum_place.ensures at (rw c.is_summed.ensures at c.in_ok-step_if.ensures)) (rw c.meta_len-left.ensures at (rw c.meta_len.ensures at c.step_if-2.ensures)))

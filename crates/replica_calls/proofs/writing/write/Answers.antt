@@ -20,4 +20,4 @@ pub returns : goal.returns
 returns g c =
     let r = c.args.rule in
     let n = c.args.written in
-    performs_then g.F.Files c.args.files.now c.step.new.files c.step_if.new.files (Write c.args.names.now.«data» n c.args.more.now ∷ []) (only (has_sums r.kind) (Write c.args.names.now.meta (sum_place r n) c.args.sums.now)) _ c.step_if.result c.in_ok-step.ensures c.step_if.ensures
+    performs_then g.F.Files c.args.files.now c.step.new.files c.step_if.new.files (Write c.args.names.now.«data» n c.args.more.now ∷ []) (only (has_sums r.kind) (Write c.args.names.now.meta (sum_place r n) c.args.sums.now)) _ c.step_if.result c.in_ok-step.ensures (rw c.sum_place-place.ensures at (rw c.kind.ensures at (rw c.has_sums.ensures at c.step_if.ensures)))
