@@ -1,6 +1,6 @@
 -- The sums of bytes that grow.
-use Rattle.std.proofs.Common.{◌≡◌, ℕ, zero, suc, ◌+◌, ◌-◌, ◌*◌, ◌/◌, ◌%◌, ◌^◌, ◌<◌, ◌≤◌, min, true, false, List, [], ◌∷◌, ◌++◌, length, take, drop, get_or, inl, inr, refl, sym, ap, subst, ◌∙◌, arith, append-nil}
-use Rattle.std.proofs.lemmas.List.{length-append, length-take-le, length-drop, append_assoc, take_all, drop_all, drop-drop, nil_from_length}
+use Rattle.std.proofs.Common.{◌≡◌, Option, Some, None, option_map, ℕ, zero, suc, ◌+◌, ◌-◌, ◌*◌, ◌/◌, ◌%◌, ◌^◌, ◌<◌, ◌≤◌, min, true, false, List, [], ◌∷◌, ◌++◌, length, take, drop, get_or, inl, inr, refl, sym, ap, subst, ◌∙◌, arith, append-nil}
+use Rattle.std.proofs.lemmas.List.{length-append, length-take-le, length-drop, drop-take, append_assoc, take_all, drop_all, drop-drop, nil_from_length}
 use Rattle.std.proofs.lemmas.List.{get_or-drop}
 use Rattle.std.proofs.lemmas.Bool.{cases_lt}
 use Rattle.std.proofs.lemmas.Nat.{from_be_bytes-to_be_bytes_4}
@@ -10,6 +10,7 @@ use Rattle.std.specs.Int.{w32, bit_not, to_be_bytes, from_be_bytes}
 use Rattle.hd_base.specs.declared.sum_rule.SumKind.{SumKind}
 use Rattle.hd_base.specs.declared.sum_rule.SumKind.TheVariants.{Null, Crc32, Crc32c}
 use Rattle.hd_base.specs.Bytes.{IsBytes}
+use Rattle.hd_base.specs.FileMaps.{FileMap, HasBytesAt}
 use Rattle.hd_base.specs.SumRules.{Rule}
 use Rattle.chunk_sums.specs.Crc.{sum_of}
 use Rattle.chunk_sums.specs.Chunks.{summed_chunks, sums_of, flat_sums, sums}
@@ -36,7 +37,7 @@ sums_next : (r : Rule) (x : List ℕ) → has_sums r.kind ≡ true → 1 ≤ r.c
 sums_next r x h some grown = summed_next r.kind r.chunk x h some grown
 
 -- one chunk
-sums_short : (r : Rule) (x : List ℕ) → has_sums r.kind ≡ true → 1 ≤ r.chunk → 0 < length x → length x ≤ r.chunk → sums r x ≡ to_be_bytes w32 (sum_of r.kind x)
+pub sums_short : (r : Rule) (x : List ℕ) → has_sums r.kind ≡ true → 1 ≤ r.chunk → 0 < length x → length x ≤ r.chunk → sums r x ≡ to_be_bytes w32 (sum_of r.kind x)
 sums_short r x h some grown short =
     sums_next r x h some grown
     ∙ (ap (λ l. to_be_bytes w32 (sum_of r.kind l) ++ sums r (drop r.chunk x)) (take_all r.chunk x short)
@@ -171,3 +172,25 @@ null_last r sum x none h = absurd (not_true (none ∙ h))
 
 pub length_grown : (r : Rule) (bytes more : List ℕ) → length (tail r bytes ++ more) ≡ length bytes % r.chunk + length more
 length_grown r bytes more = omega (arith, length-append (tail r bytes) more, length_tail r bytes)
+
+-- the bytes in the last chunk of a front, by where they stand
+pub tail_part : (r : Rule) (bytes : List ℕ) (len past : ℕ) → past ≡ len % r.chunk → len ≤ length bytes → take past (drop (len - past) bytes) ≡ tail r (take len bytes)
+tail_part r bytes len past is within =
+    let place = r.chunk * (len / r.chunk) in
+    let whole_len : place + len % r.chunk ≡ len = div-add-mod len r.chunk in
+    let at : len - past ≡ place = omega (arith, is, whole_len) in
+    let parts : place + past ≡ len = omega (arith, is, whole_len) in
+    let all : length (take len bytes) ≡ len = length-take-le len bytes within in
+    ap (λ n. take past (drop n bytes)) at
+    ∙ (sym (drop-take place past bytes)
+    ∙ (ap (λ n. drop place (take n bytes)) parts ∙ ap (λ n. drop (r.chunk * (n / r.chunk)) (take len bytes)) (sym all)))
+
+some_bytes : (x y : List ℕ) → Some x ≡ Some y → x ≡ y
+some_bytes x y e = cc
+
+-- what was read there
+pub read_is : (files : Option FileMap) (m : FileMap) (name bytes got : List ℕ) (place most : ℕ) → files ≡ Some m → m name ≡ Some bytes → HasBytesAt files name place most got
+    → got ≡ take most (drop place bytes)
+read_is files m name bytes got place most is_m is_b has =
+    let here : option_map (λ b. take most (drop place b)) (m name) ≡ Some got = rw is_m at has in
+    some_bytes got (take most (drop place bytes)) (sym here ∙ ap (option_map (λ b. take most (drop place b))) is_b)

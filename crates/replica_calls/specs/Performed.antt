@@ -1,11 +1,13 @@
 -- Lists of calls that are made on files one after another.
-use Rattle.std.specs.Prelude.{ℕ, ◌≡◌, List, ◌++◌, Option, None, IfSome, Result, OnOk, OnErr, IsErrOf}
-use Rattle.hd_base.specs.Faults.{HasCause}
+use Rattle.std.specs.Prelude.{ℕ, ◌≡◌, ◌<◌, ◌≤◌, List, ◌++◌, Option, None, IfSome, Result, OnOk, OnErr, IsErrOf}
+use Rattle.hd_base.specs.Faults.{HasCause, FaultsIncreased}
 use Rattle.hd_base.specs.Calls.{Call, MakesCalls, StopsWithin}
 use Rattle.hd_base.specs.declared.files.Files as files
 use Rattle.hd_base.specs.declared.files.FileError.{FileError}
-use Rattle.hd_base.specs.declared.files.FileError.TheVariants.{Absent, Memory}
+use Rattle.hd_base.specs.declared.files.FileError.TheVariants.{Absent, Failed, Memory}
+use Rattle.hd_base.specs.FileMaps.{KeepsRoom}
 use Rattle.file_calls.specs.Plans.{FindFiles, HasRoom}
+use Rattle.replica_calls.specs.declared.names.FileNames.{FileNames}
 
 -- The calls find their files, where observable, and have their room.
 pub record IsReady {F : Type 0} (f : files.Ghosts F) (at : F) (calls : List Call) : Type 0 where
@@ -20,3 +22,20 @@ pub record Performs {F T : Type 0} (f : files.Ghosts F) (old new : F) (calls : L
   pub absent : IsErrOf result Absent → f.files old ≡ None
   pub no_memory : IsErrOf result Memory → ⊥
   pub rest : OnOk result ((more : List Call) → HasRoom (f.room old) (calls ++ more) → HasRoom (f.room new) more)
+
+-- Files and log are as they were, where observable, and each name has at least the room that it had.
+pub record KeepsAll {F : Type 0} (f : files.Ghosts F) (old new : F) : Type 0 where
+  pub same : f.files new ≡ f.files old
+  pub log : f.log new ≡ f.log old
+  pub room : KeepsRoom (f.room old) (f.room new)
+
+-- The data file and the metadata file may have these lengths without memory.
+pub record Covers (room : List ℕ → ℕ) (names : FileNames) (data_len meta_len : ℕ) : Type 0 where
+  pub bytes : data_len < room names.«data»
+  pub sums : meta_len < room names.meta
+
+-- Calls that look for no file and may take memory: Failed only where the count rose, never Absent.
+pub record RoomCause {T : Type 0} (before now : ℕ) (result : Result T FileError) : Type 0 where
+  pub never_falls : before ≤ now
+  pub failed : IsErrOf result Failed → FaultsIncreased before now
+  pub no_absent : IsErrOf result Absent → ⊥
