@@ -55,15 +55,15 @@ drop_behind t more c n e = ap (λ i. drop i (t ++ more)) (sym e) ∙ drop-append
 
 take_least : (n m : ℕ) (l : List ℕ) → m ≡ min n (length l) → take n l ≡ take m l
 take_least n m l e = elim (cases_lt n (length l)) [
-    | inl below ↦ ap (λ i. take i l) (let is : n ≡ m = omega (arith, e, below) in is)
-    | inr above ↦ take_all n l (omega (arith, above)) ∙ sym (take_all m l (omega (arith, e, above)))
-  ]
+  | inl below ↦ ap (λ i. take i l) (let is : n ≡ m = omega (arith, e, below) in is)
+  | inr above ↦ take_all n l (omega (arith, above)) ∙ sym (take_all m l (omega (arith, e, above)))
+]
 
 drop_least : (n m : ℕ) (l : List ℕ) → m ≡ min n (length l) → drop n l ≡ drop m l
 drop_least n m l e = elim (cases_lt n (length l)) [
-    | inl below ↦ ap (λ i. drop i l) (let is : n ≡ m = omega (arith, e, below) in is)
-    | inr above ↦ drop_all n l (omega (arith, above)) ∙ sym (drop_all m l (omega (arith, e, above)))
-  ]
+  | inl below ↦ ap (λ i. drop i l) (let is : n ≡ m = omega (arith, e, below) in is)
+  | inr above ↦ drop_all n l (omega (arith, above)) ∙ sym (drop_all m l (omega (arith, e, above)))
+]
 
 -- the sums from the last chunk on: the one that is extended, and those of the chunks behind it
 pub grown_is : (r : Rule) (bytes more : List ℕ) (first : ℕ) → has_sums r.kind ≡ true → 1 ≤ r.chunk → 0 < length more

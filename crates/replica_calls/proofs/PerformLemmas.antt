@@ -164,8 +164,12 @@ performs_then f a b c xs ys u (Err e) one two =
     let stop = two.stopped in
     record {
       done = tt;
-      stopped = (length xs + stop.0, stop.1, subst (MakesCalls (f.files a) (f.files c) (f.log a) (f.log c)) (sym (stopped_after xs ys stop.0 stop.1))
-        (MakesCalls-join (f.files a) (f.files b) (f.files c) (f.log a) (f.log b) (f.log c) xs (stopped stop.0 stop.1 ys) one.done stop.2));
+      stopped = (
+        length xs + stop.0,
+        stop.1,
+        subst (MakesCalls (f.files a) (f.files c) (f.log a) (f.log c)) (sym (stopped_after xs ys stop.0 stop.1))
+            (MakesCalls-join (f.files a) (f.files b) (f.files c) (f.log a) (f.log b) (f.log c) xs (stopped stop.0 stop.1 ys) one.done stop.2),
+      );
       cause = record { never_falls = omega (arith, one.cause.never_falls, two.cause.never_falls); failed = omega (arith, one.cause.never_falls, two.cause.failed) };
       absent = λ is. option_none (run xs) (f.files a) (sym one.done.files ∙ two.absent is);
       no_memory = two.no_memory;

@@ -72,13 +72,14 @@ below_differs a b less = sym (is_eq-slice_cmp a b) ∙ less_differs (slice_cmp n
 -- names in ascending order that all have files
 finds_all : (m : FileMap) (names : List (List ℕ)) → AllPairs IsBelow names → ((k : ℕ) → k < length names → IsSome (m (get_or names k []))) → FindFiles m (remove_list names)
 finds_all m [] pairs some = tt
-finds_all m (name ∷ names) pairs some =
-    (some 0 (omega arith),
-    finds_all (without m name) names
-    (λ i j d before within. pairs (suc i) (suc j) d (omega (arith, before)) (omega (arith, within)))
-    (λ k within.
-    let differs = below_differs name (get_or names k []) (pairs 0 (suc k) [] (omega arith) (omega (arith, within))) in
-    subst (λ b. IsSome (cond b None (m (get_or names k [])))) (sym differs) (some (suc k) (omega (arith, within)))))
+finds_all m (name ∷ names) pairs some = (
+  some 0 (omega arith),
+  finds_all (without m name) names
+      (λ i j d before within. pairs (suc i) (suc j) d (omega (arith, before)) (omega (arith, within)))
+      (λ k within.
+      let differs = below_differs name (get_or names k []) (pairs 0 (suc k) [] (omega arith) (omega (arith, within))) in
+      subst (λ b. IsSome (cond b None (m (get_or names k [])))) (sym differs) (some (suc k) (omega (arith, within)))),
+)
 
 -- a name that is removed, or had no file
 gone : (m : FileMap) (names : List (List ℕ)) (q : List ℕ) → (m q ≡ None) ⊎ Contains names q → run (remove_list names) m q ≡ None
@@ -110,11 +111,12 @@ none_or_some None = inl refl
 none_or_some (Some x) = inr refl
 
 pub strays_are_removed : StraysAreRemoved
-strays_are_removed m names are =
-    (finds_all m names are.ascending (λ k within. (are.each (get_or names k [])).0 (k, within, same_default k within)),
-    λ i q. all_gone q i) where
-      same_default : (k : ℕ) → k < length names → get_or names k (get_or names k []) ≡ get_or names k []
-      same_default k within = same_or names k _ _ within
+strays_are_removed m names are = (
+  finds_all m names are.ascending (λ k within. (are.each (get_or names k [])).0 (k, within, same_default k within)),
+  λ i q. all_gone q i,
+) where
+  same_default : (k : ℕ) → k < length names → get_or names k (get_or names k []) ≡ get_or names k []
+  same_default k within = same_or names k _ _ within
 
-      all_gone : (q : List ℕ) → run (remove_list names) m q ≡ None
-      all_gone q = gone m names q (elim (none_or_some (m q)) [ | inl none ↦ inl none | inr some ↦ inr ((are.each q).1 some) ])
+  all_gone : (q : List ℕ) → run (remove_list names) m q ≡ None
+  all_gone q = gone m names q (elim (none_or_some (m q)) [ inl none ↦ inl none | inr some ↦ inr ((are.each q).1 some) ])

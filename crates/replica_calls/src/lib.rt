@@ -10,6 +10,8 @@ mod reading;
 mod rooms;
 mod settling;
 mod steps;
+#[cfg(test)]
+mod tests;
 mod writing;
 
 pub use creating::create;

@@ -75,7 +75,11 @@ fn cut_to<F: Files>(
     let left = meta_len(rule, len);
     let is_longer = left < meta_len(rule, held.written);
     step(files, &FileCall::Cut(&names.data, len))?;
-    step_if(files, is_summed(rule, len), &FileCall::Write(&names.meta, sum_place(rule, len), sum))?;
+    step_if(
+        files,
+        is_summed(rule, len),
+        &FileCall::Write(&names.meta, sum_place(rule, len), sum),
+    )?;
     step_if(files, is_longer, &FileCall::Cut(&names.meta, left))
 }
 
@@ -101,7 +105,11 @@ fn rename<F: Files>(
 {
     let moves = !keeps_folder(held, next);
     let is_renamed = !keeps_name(held, next);
-    step_if(files, is_renamed, &FileCall::Rename(&before.meta, &after.meta))?;
+    step_if(
+        files,
+        is_renamed,
+        &FileCall::Rename(&before.meta, &after.meta),
+    )?;
     step_if(files, moves, &FileCall::Rename(&before.data, &after.data))
 }
 

@@ -62,5 +62,9 @@ fn write<F: Files>(
 {
     let place = sum_place(rule, written);
     step(files, &FileCall::Write(&names.data, written, more))?;
-    step_if(files, has_sums(rule.kind()), &FileCall::Write(&names.meta, place, sums))
+    step_if(
+        files,
+        has_sums(rule.kind()),
+        &FileCall::Write(&names.meta, place, sums),
+    )
 }
