@@ -1,0 +1,4 @@
+mod PerformLemmas
+mod GrowthLemmas
+mod ListLemmas
+mod RemovalLemmas

@@ -1,0 +1,4 @@
+pub mod LastSums
+pub mod CallLists
+pub mod Performed
+pub mod Laws
