@@ -108,9 +108,6 @@ const FOUND: &[u8] = b"\x0a\x08\x00\x18\x01 \xe9\x07(\x80\x04";
 
 const REFUSED: &[u8] = b"\x05\x08\x01\x12\x011";
 
-/// The client of most examples.
-const CLIENT: &[u8] = b"DFSClient_1073741825";
-
 fn text(alloc: Global, bytes: &[u8]) -> Result<ByteList, AllocError> {
     Ok(ByteList::from_vec(Vec::from_slice(alloc, bytes)?))
 }
@@ -172,10 +169,9 @@ fn writes(rt: &impl Abort, alloc: Global, op: Op, bytes: &[u8]) -> Result<(), Fa
     Ok(())
 }
 
-/// A write request of a client with this name that sets up a pipeline.
+/// A write request that sets up a pipeline.
 fn write(
     alloc: Global,
-    client: &[u8],
     targets: Targets,
     source: Option<NodeRef>,
     pipeline: u32,
@@ -183,7 +179,7 @@ fn write(
 ) -> Result<Op, AllocError> {
     Ok(Op::Write(WriteOp {
         block: block(alloc, 0)?,
-        client: text(alloc, client)?,
+        client: text(alloc, b"DFSClient_1073741825")?,
         targets,
         source,
         stage: 6,
@@ -224,21 +220,21 @@ fn step(
 
 /// The write request of a first write to one member.
 fn first_write(alloc: Global) -> Result<Op, AllocError> {
-    write(alloc, CLIENT, Targets::new(alloc), None, 1, 0)
+    write(alloc, Targets::new(alloc), None, 1, 0)
 }
 
-/// A write request of a client with this name that a first member forwards.
-fn forwarded_write(alloc: Global, client: &[u8]) -> Result<Op, AllocError> {
+/// A write request that a first member forwards.
+fn forwarded_write(alloc: Global) -> Result<Op, AllocError> {
     let targets = nodes(alloc, &[2, 3])?;
     let source = node(alloc, 1)?;
-    write(alloc, client, targets, Some(source), 4, 1001)
+    write(alloc, targets, Some(source), 4, 1001)
 }
 
 /// A transfer request to one node.
 fn transfer(alloc: Global) -> Result<Op, AllocError> {
     Ok(Op::Transfer(TransferOp {
         block: block(alloc, 0)?,
-        client: text(alloc, CLIENT)?,
+        client: text(alloc, b"DFSClient_1073741825")?,
         targets: nodes(alloc, &[2])?,
     }))
 }
@@ -264,8 +260,13 @@ fn lone_step(alloc: Global, kind: RecoveryKind, new_length: u64) -> Result<Op, A
 fn reads_and_writes_requests(rt: HostRuntime) -> Result<(), Fail> {
     let alloc = rt.alloc();
     writes(&rt, alloc, first_write(alloc)?, FIRST)?;
-    writes(&rt, alloc, forwarded_write(alloc, CLIENT)?, FORWARD)?;
-    writes(&rt, alloc, read(alloc, CLIENT)?, PLAIN_READ)?;
+    writes(&rt, alloc, forwarded_write(alloc)?, FORWARD)?;
+    writes(
+        &rt,
+        alloc,
+        read(alloc, b"DFSClient_1073741825")?,
+        PLAIN_READ,
+    )?;
     writes(&rt, alloc, transfer(alloc)?, PLAIN_TRANSFER)?;
     writes(&rt, alloc, checksum(alloc)?, PLAIN_CHECKSUM)?;
     writes(&rt, alloc, begin(alloc)?, BEGIN)
@@ -283,32 +284,18 @@ fn reads_and_writes_steps(rt: HostRuntime) -> Result<(), Fail> {
     )
 }
 
-/// The first request has the longest message, which is written whole and read again; the second
-/// has a byte more.
-fn fits_up_to(rt: &impl Abort, alloc: Global, longest: Op, longer: Op) -> Result<(), Fail> {
-    assert!(rt; !longer.is_encodable(alloc)?);
-    assert!(rt; longest.is_encodable(alloc)?);
-    let mut out = Vec::new(alloc);
-    encode_op(&longest, &mut out)?;
-    assert_eq!(rt; out.len(), 6 + 65_536);
-    assert!(rt; reads(rt, alloc, out.as_slice())? == longest);
-    Ok(())
+/// Whether a read request of a client with a name of so many bytes may be written.
+fn name_fits(alloc: Global, len: usize) -> Result<bool, AllocError> {
+    let client = vec![in alloc; b'x'; len]?;
+    read(alloc, &client)?.is_encodable(alloc)
 }
 
-/// A client's name of so many bytes.
-fn name(alloc: Global, len: usize) -> Result<Vec<u8>, AllocError> {
-    Ok(vec![in alloc; b'x'; len]?)
-}
-
+/// A message of 65,536 bytes and one of a byte more.
 #[test]
-fn writes_the_longest_messages(rt: HostRuntime) -> Result<(), Fail> {
-    let alloc = rt.alloc();
-    let longest = read(alloc, &name(alloc, 65_489)?)?;
-    let longer = read(alloc, &name(alloc, 65_490)?)?;
-    fits_up_to(&rt, alloc, longest, longer)?;
-    let longest = forwarded_write(alloc, &name(alloc, 65_366)?)?;
-    let longer = forwarded_write(alloc, &name(alloc, 65_367)?)?;
-    fits_up_to(&rt, alloc, longest, longer)
+fn tells_how_long_a_message_may_be(rt: HostRuntime) -> Result<(), Fail> {
+    assert!(rt; name_fits(rt.alloc(), 65_489)?);
+    assert!(rt; !name_fits(rt.alloc(), 65_490)?);
+    Ok(())
 }
 
 /// Only an update has a length.
@@ -370,7 +357,7 @@ fn refuses(rt: &impl Abort, alloc: Global, bytes: &[u8], fault: OpFault) {
 fn reads_repeated_fields(rt: HostRuntime) -> Result<(), Fail> {
     for (bytes, pipeline) in [(MERGED, 1), (LATER_UNLISTED, 1), (LATER_SIZE, 3)] {
         let op = write_of(reads(&rt, rt.alloc(), bytes)?).ok_or("a write request")?;
-        assert!(rt; op.client.as_slice() == CLIENT);
+        assert!(rt; op.client.as_slice() == b"DFSClient_1073741825".as_slice());
         assert_eq!(rt; (op.stage, op.pipeline), (6, pipeline));
     }
     let missing = OpFault::Missing { path: [4, 0, 0, 0] };
