@@ -1,5 +1,5 @@
 -- The parts of a packet lie where it is read.
-use Rattle.std.proofs.Common.{◌≡◌, ℕ, ◌+◌, ◌-◌, ◌≤◌, List, length, take, drop, Ok, Err, sym, ap, ◌∙◌, subst, arith, length-take, length-drop}
+use Rattle.std.proofs.Common.{◌≡◌, ℕ, ◌+◌, ◌-◌, ◌≤◌, List, length, take, drop, Ok, sym, ap, ◌∙◌, subst, arith, length-take, length-drop}
 use Rattle.std.proofs.lemmas.List.{drop-take, drop-drop}
 use Rattle.packet_codec.specs.declared.headers.Header.{Header}
 use Rattle.packet_codec.specs.Frames.{payload_of, header_len_of, frame_len, Frame, frame_with, frame_at}

@@ -1,6 +1,6 @@
 -- The parts lie where the frame does.
 use Rattle.std.proofs.Common.{◌≡◌, Ok, sym, arith}
-use Rattle.packet_codec.specs.Frames.{Frame, frame_at}
+use Rattle.packet_codec.specs.Frames.{Frame}
 use Rattle.packet_codec.specs.Headers.{header_at}
 use Rattle.packet_codec.proofs.PartLemmas.{frame_lies, parts_read}
 use Rattle.packet_codec.proofs.parts.packet_parts.Goals as goal
