@@ -1,0 +1,4 @@
+pub mod Requests
+pub mod Acks
+pub mod Members
+pub mod Steps
