@@ -2,8 +2,6 @@
 use Rattle.std.specs.Prelude.{ℕ, ◌==◌, ◌&&◌, nat_le, if◌then◌else◌, Bool, true, false, List, [], ◌∷◌, ◌++◌, length, decimal, Option, Some, None, Result, Ok, Err}
 use Rattle.hd_base.specs.declared.numbers.ConnId.{ConnId}
 use Rattle.hd_base.specs.declared.states.Status.TheVariants as status
-use Rattle.hd_base.specs.declared.sum_rule.SumKind.{SumKind}
-use Rattle.hd_base.specs.declared.sum_rule.SumKind.TheVariants as kind
 use Rattle.hd_base.specs.SumRules.{Rule, kind_number}
 use Rattle.hd_base.specs.Results.{◌>>=◌}
 use Rattle.ack_codec.specs.declared.responses.Response.{Response}
@@ -15,6 +13,7 @@ use Rattle.replica_core.specs.declared.events.Event.TheVariants as event
 use Rattle.request_refusals.specs.declared.refusals.RequestRefusal.{RequestRefusal}
 use Rattle.request_refusals.specs.declared.refusals.RequestRefusal.TheVariants as refusal
 use Rattle.request_refusals.specs.Pools.{is_in_pool}
+use Rattle.request_refusals.specs.Rules.{rule_with}
 use Rattle.request_refusals.specs.Texts.{refusal_text}
 use Rattle.member_core.specs.declared.requests.SetupKind.{SetupKind}
 use Rattle.member_core.specs.declared.requests.SetupKind.TheVariants as setup
@@ -36,19 +35,6 @@ setup_with stage =
     else if stage == 6 then Some setup.Create
     else None
 
--- the kind of sums with this number
-abbrev pub kind_with : ℕ → Option SumKind
-kind_with number =
-    if number == 0 then Some kind.Null
-    else if number == 1 then Some kind.Crc32
-    else if number == 2 then Some kind.Crc32c
-    else None
-
--- the rule of this kind, where a chunk may have so many bytes
-abbrev pub rule_of_kind : Option SumKind → ℕ → Option Rule
-rule_of_kind None chunk = None
-rule_of_kind (Some k) chunk = if nat_le 16 chunk && nat_le chunk 65536 then Some (record { kind = k; chunk = chunk }) else None
-
 -- this rule, where the replica has none or the same
 abbrev pub unless_other : Option Rule → Rule → Option Rule
 unless_other None rule = Some rule
@@ -60,7 +46,7 @@ fitting held (Some rule) = unless_other held rule
 
 -- The rule of sums that a request asks for, where there is such a rule and the replica has no other.
 unfoldable pub rule_for : WriteFields → Option Rule → Option Rule
-rule_for op held = fitting held (rule_of_kind (kind_with op.kind) op.chunk)
+rule_for op held = fitting held (rule_with op.kind op.chunk)
 
 abbrev pub named_setup : ℕ → Option SetupKind → Result SetupKind RequestRefusal
 named_setup stage None = Err (refusal.Stage stage)

@@ -1,6 +1,6 @@
 //! A member of a pipeline.
 
-ghost use Rattle.std.specs.Prelude.{◌≡◌, ◌≤◌, ◌<◌, ◌×◌, length, slice_get, Some, IfSome};
+ghost use Rattle.std.specs.Prelude.{◌≡◌, ◌≤◌, ◌<◌, length, slice_get, Some, IfSome};
 ghost use Rattle.replica_core.specs.Transitions.{is_written_by};
 ghost use Rattle.member_core.specs.Members.{
   MemberState,
@@ -19,6 +19,7 @@ ghost use Rattle.member_core.specs.Members.{
   stream_turn,
   up_turn,
   bad_turn,
+  turn_of,
   idle_turn,
   quiet_turn,
   ready_at,

@@ -3,8 +3,6 @@
 ghost use Rattle.std.specs.Prelude.{◌≡◌, ◌≤◌, ◌↔◌, length, option_map, IfOk, IsTrue};
 ghost use Rattle.member_core.specs.Requests.{
   setup_with,
-  kind_with,
-  rule_of_kind,
   unless_other,
   rule_for,
   named_setup,
@@ -20,11 +18,11 @@ ghost use Rattle.member_core.specs.Requests.{
 
 use crate::effects::SetupAnswer;
 use ack_codec::Response;
-use hd_base::{ByteList, ConnId, Status, SumKind, SumRule};
+use hd_base::{ByteList, ConnId, Status, SumRule};
 use itoa::Buffer;
 use op_headers::{NodeRef, Targets, WriteOp};
 use replica_core::Event;
-use request_refusals::{RequestRefusal, is_in_pool};
+use request_refusals::{RequestRefusal, is_in_pool, rule_with};
 use std::alloc::{AllocError, Global};
 
 /// The most members that a pipeline has below one.
@@ -100,25 +98,6 @@ pub(crate) fn closes(op: &WriteOp) -> bool
     matches!(setup_with(op.stage), Some(SetupKind::CloseRecovery))
 }
 
-/// The kind of sums with this number.
-fn kind_with(number: u32) -> Option<SumKind>
-    ensures { result ≡ kind_with number }
-{
-    match number {
-        0 => Some(SumKind::Null),
-        1 => Some(SumKind::Crc32),
-        2 => Some(SumKind::Crc32c),
-        _ => None,
-    }
-}
-
-/// The rule of this kind, where a chunk may have so many bytes.
-fn rule_of_kind(kind: SumKind, chunk: u32) -> Option<SumRule>
-    ensures { result ≡ rule_of_kind (Option.Some kind) chunk }
-{
-    SumRule::new(kind, chunk)
-}
-
 /// This rule, where the replica has none or the same.
 fn unless_other(held: Option<SumRule>, rule: SumRule) -> Option<SumRule>
     ensures { result ≡ unless_other held rule }
@@ -138,9 +117,7 @@ fn unless_other(held: Option<SumRule>, rule: SumRule) -> Option<SumRule>
 fn rule_for(op: &WriteOp, held: Option<SumRule>) -> Option<SumRule>
     ensures { result ≡ rule_for op.now held }
 {
-    let kind = kind_with(op.kind)?;
-    let rule = rule_of_kind(kind, op.chunk)?;
-    unless_other(held, rule)
+    unless_other(held, rule_with(op.kind, op.chunk)?)
 }
 
 /// The rule of sums that a request asks for.
