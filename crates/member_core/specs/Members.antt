@@ -128,12 +128,13 @@ abbrev pub named_bad : List ℕ → SetupAnswer
 named_bad [] = answer.Unreached
 named_bad (c ∷ cs) = answer.Below (c ∷ cs)
 
+-- the mirror has accepted: so does the member
+abbrev pub accept_turn : MemberState → Turn
+accept_turn m = turn_of side.Responder None mirror.Open (sending (upward.Answer answer.Success) m.closes)
+
 -- the mirror's answer to the request
 abbrev pub answered_turn : MemberState → Response → Turn
-answered_turn m r =
-    if is_success r.status
-    then turn_of side.Responder None mirror.Open (sending (upward.Answer answer.Success) m.closes)
-    else fail_turn m (named_bad r.first_bad)
+answered_turn m r = if is_success r.status then accept_turn m else fail_turn m (named_bad r.first_bad)
 
 abbrev pub setup_turn : MemberState → FromBelow → Turn
 setup_turn m (below.Response r) = answered_turn m r
@@ -149,12 +150,21 @@ give_up_turn m e =
     turn_of side.Responder (ack_call m e false) mirror.Ended
     (sending (upward.Ack (ack_of e.seqno (status.Success ∷ status.Error ∷ []))) true)
 
--- An ack that was read: all SUCCESS; or the mirror found a wrong sum, and no ack goes up; or some other reply isn't SUCCESS.
+-- the mirror has found a wrong sum: no ack goes up, the end is booked, and both connections are shut
+abbrev pub spoiled_turn : MemberState → Turn
+spoiled_turn m = turn_of side.Responder (ended_call m) m.mirror shut_both
+
+-- the ack of a packet is booked as not good, and these replies go up
+abbrev pub partial_turn : MemberState → PendingPacket → List Status → Turn
+partial_turn m e replies = turn_of side.Responder (ack_call m e false) m.mirror (sending (upward.Ack (ack_of e.seqno replies)) false)
+
+-- an ack that was read, of which a reply isn't SUCCESS
+abbrev pub failed_turn : MemberState → PendingPacket → List Status → Turn
+failed_turn m e replies = if begins_with_bad_sum replies then spoiled_turn m else partial_turn m e (with_own replies)
+
+-- an ack that was read
 abbrev pub pass_turn : MemberState → PendingPacket → List Status → Turn
-pass_turn m e replies =
-    if failures replies == 0 then good_turn m e (with_own replies)
-    else if begins_with_bad_sum replies then turn_of side.Responder (ended_call m) m.mirror shut_both
-    else turn_of side.Responder (ack_call m e false) m.mirror (sending (upward.Ack (ack_of e.seqno (with_own replies))) false)
+pass_turn m e replies = if failures replies == 0 then good_turn m e (with_own replies) else failed_turn m e replies
 
 abbrev pub ack_turn : MemberState → PendingPacket → FromBelow → Turn
 ack_turn m e (below.Ack a) = if is_read m.below e.seqno a then pass_turn m e a.replies else give_up_turn m e

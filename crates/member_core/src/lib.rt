@@ -5,6 +5,7 @@
 mod acks;
 mod effects;
 mod inputs;
+mod laws;
 mod member;
 mod requests;
 #[cfg(test)]
@@ -13,6 +14,7 @@ mod turns;
 
 pub use effects::{Effect, SetupAnswer, Shuts, Upward};
 pub use inputs::{FromAbove, FromBelow};
+pub use laws::{refused_is_silent, success_is_booked};
 pub use member::{Member, Mirror};
 pub use requests::{MAX_BELOW, MAX_PORT, SetupKind, mirror_request, request_event, response};
 pub use turns::{Booked, Side, Turn};
