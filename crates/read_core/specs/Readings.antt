@@ -1,5 +1,5 @@
 -- The reading client: what it makes of the answer and of each packet.
-use Rattle.std.specs.Prelude.{ℕ, ℤ, pos, ◌==◌, ◌+◌, ◌-◌, ◌*◌, ◌/◌, ◌^◌, ◌&&◌, not, nat_lt, int_lt, nat_abs, min, if◌then◌else◌, Bool, true, false, List, [], ◌++◌, length, take, drop, Option, Some, None, Result, Ok, Err}
+use Rattle.std.specs.Prelude.{ℕ, ℤ, pos, ◌==◌, ◌+◌, ◌-◌, ◌*◌, ◌/◌, ◌^◌, ◌<◌, ◌≡◌, ◌&&◌, not, nat_lt, int_lt, nat_abs, min, if◌then◌else◌, Bool, true, false, List, [], ◌++◌, length, take, drop, Option, Some, None, Result, Ok, Err}
 use Rattle.std.specs.Ordering.{int_eq}
 use Rattle.hd_base.specs.declared.states.Status.{Status}
 use Rattle.hd_base.specs.declared.states.Status.TheVariants as status
@@ -89,6 +89,12 @@ place_check s at seqno p =
     (check (int_eq p.offset (pos at)) (fault.OutOfPlace at p.offset)
     (check (not (is_short s p)) (fault.OutOfPlace (asked_end s) p.offset)
     (Ok tt)))
+
+-- the packet begins here, and both this and its number have 63 bits
+pub record IsPlaced (at seqno : ℕ) (p : Packet) : Type 0 where
+  pub begins : nat_abs p.offset ≡ at
+  pub short : at < 2 ^ 63
+  pub few : seqno < 2 ^ 63
 
 -- it has as many sums, of four bytes each, as its body has chunks under the rule
 abbrev pub has_all_sums : Rule → ℕ → Packet → Bool

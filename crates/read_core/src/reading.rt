@@ -1,7 +1,6 @@
 //! The reading client.
 
-ghost use Rattle.std.specs.Prelude.{◌≡◌, ◌+◌, ◌<◌, ◌≤◌, ◌^◌, ℕ, nat_abs, length, Some, IfOk, OnErr, IfSome};
-ghost use Rattle.replica_model.specs.Sums.{bad_chunk};
+ghost use Rattle.std.specs.Prelude.{◌≡◌, ◌++◌, nat_abs, IfOk, OnErr};
 ghost use Rattle.read_core.specs.Readings.{
   ReadingState,
   asked,
@@ -13,6 +12,7 @@ ghost use Rattle.read_core.specs.Readings.{
   answered,
   asked_end,
   is_short,
+  IsPlaced,
   place_check,
   has_all_sums,
   unless_bad,
@@ -195,16 +195,16 @@ impl Reading {
         ensures does { IfOk result (λ does. does ≡ (received self.old rule at seqno packet.now).does) }
         ensures err { OnErr result (self.new ≡ self.old) }
     {
-        if let Err(fault) = self.check(rule, at, seqno, packet) {
-            return Ok(self.fail(fault));
+        match self.check(rule, at, seqno, packet) {
+            Ok(()) => self.verified(rule, at, seqno, packet),
+            Err(fault) => Ok(self.fail(fault)),
         }
-        self.verified(rule, at, seqno, packet)
     }
 
     /// Tries a packet's place, and then its sums.
     fn check(&self, rule: SumRule, at: u64, seqno: u64, packet: &Packet) -> Result<(), ReadFault>
         ensures value { result ≡ packet_check self.now rule at seqno packet.now }
-        ensures short { IfOk result (λ _. (at < 2 ^ 63) × (seqno < 2 ^ 63)) }
+        ensures placed { IfOk result (λ _. IsPlaced at seqno packet.now) }
     {
         self.check_place(at, seqno, packet)?;
         check_sums(rule, at, packet)
@@ -214,7 +214,7 @@ impl Reading {
     #[tactic(auto, unfolding(crate::specs::Readings::place_check))]
     fn check_place(&self, at: u64, seqno: u64, packet: &Packet) -> Result<(), ReadFault>
         ensures value { result ≡ place_check self.now at seqno packet.now }
-        ensures short { IfOk result (λ _. (at < 2 ^ 63) × (seqno < 2 ^ 63)) }
+        ensures placed { IfOk result (λ _. IsPlaced at seqno packet.now) }
     {
         if i128::from(packet.seqno) != i128::from(seqno) {
             return Err(ReadFault::OutOfPlace {
@@ -259,8 +259,7 @@ impl Reading {
         seqno: u64,
         packet: &Packet,
     ) -> Result<ReadTurn, AllocError>
-        requires at { at < 2 ^ 63 }
-        requires seqno { seqno < 2 ^ 63 }
+        requires { IsPlaced at seqno packet.now }
         ensures reading { IfOk result (λ _. self.new ≡ (verified self.old rule at seqno packet.now).reading) }
         ensures does { IfOk result (λ does. does ≡ (verified self.old rule at seqno packet.now).does) }
         ensures err { OnErr result (self.new ≡ self.old) }

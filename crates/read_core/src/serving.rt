@@ -130,7 +130,8 @@ impl Serving {
     /// How many bytes the next packet has: none where it is the last one.
     #[tactic(auto, unfolding(crate::specs::Servings::piece_len))]
     pub fn piece_len(&self) -> u64
-        ensures { result ≡ piece_len self.now }
+        ensures value { result ≡ piece_len self.now }
+        ensures few { result ≤ 65536 }
     {
         let rest = self.end.saturating_sub(self.at);
         rest.min(most_bytes(u64::from(self.rule.chunk())))
@@ -223,6 +224,7 @@ fn most_bytes(size: u64) -> u64
     requires fits { size ≤ 65536 }
     ensures value { result ≡ most_bytes size }
     ensures some { 1 ≤ result }
+    ensures few { result ≤ 65536 }
 {
     size * (MOST_BYTES / size).max(1)
 }

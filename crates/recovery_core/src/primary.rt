@@ -211,12 +211,8 @@ impl Primary {
     fn infos(&self, alloc: Global) -> Result<Infos, AllocError>
         ensures { IfOk result (λ told. told ≡ infos self.now.members self.now.standings) }
     {
-        let told: Vec<Info> = self
-            .members
-            .iter()
-            .zip(self.standings.iter())
-            .filter_map(|(node, standing)| standing.info(*node))
-            .collect(alloc)?;
+        let members = self.members.as_slice();
+        let told = told_infos(alloc, members, &self.standings)?;
         Ok(Infos::new(&told).unwrap())
     }
 
@@ -224,12 +220,8 @@ impl Primary {
     fn updated_members(&self, alloc: Global) -> Result<Members, AllocError>
         ensures { IfOk result (λ updated. updated ≡ updated_members self.now.members self.now.standings) }
     {
-        let updated: Vec<NodeId> = self
-            .members
-            .iter()
-            .zip(self.standings.iter())
-            .filter_map(|(node, standing)| standing.updated_node(*node))
-            .collect(alloc)?;
+        let members = self.members.as_slice();
+        let updated = updated_nodes(alloc, members, &self.standings)?;
         Ok(Members::new(&updated).unwrap())
     }
 
@@ -305,6 +297,36 @@ pub fn office_refused(fault: OfficeFault) -> Recovered
         OfficeFault::Memory => Recovered::Memory,
         fault => Recovered::OfficeRefused(fault),
     }
+}
+
+/// What the members told, in their order.
+fn told_infos(
+    alloc: Global,
+    members: &[NodeId],
+    standings: &[Standing],
+) -> Result<Vec<Info>, AllocError>
+    ensures { IfOk result (λ told. told.items ≡ infos members.now standings.now) }
+{
+    members
+        .iter()
+        .zip(standings.iter())
+        .filter_map(|(node, standing)| standing.info(*node))
+        .collect(alloc)
+}
+
+/// The members that were updated, in their order.
+fn updated_nodes(
+    alloc: Global,
+    members: &[NodeId],
+    standings: &[Standing],
+) -> Result<Vec<NodeId>, AllocError>
+    ensures { IfOk result (λ updated. updated.items ≡ updated_members members.now standings.now) }
+{
+    members
+        .iter()
+        .zip(standings.iter())
+        .filter_map(|(node, standing)| standing.updated_node(*node))
+        .collect(alloc)
 }
 
 /// Whether the node is one of these: a chosen member is sent the UPDATE, and no other.
