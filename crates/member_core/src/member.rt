@@ -28,8 +28,11 @@ ghost use Rattle.member_core.specs.Members.{
   is_heard,
   takes_messages,
   hears,
-  closed_by,
   closed,
+  done,
+  shut_both,
+  bad_sum,
+  refused_turn,
   settled,
 };
 
@@ -224,24 +227,58 @@ impl Member {
         ensures member { self.new ≡ (settled self.old turn booked).0 }
         ensures effect { result ≡ (settled self.old turn booked).1 }
     {
-        match (booked, turn.call) {
-            (Booked::Taken, _) => {
-                self.mirror = turn.mirror;
-                if !matches!(turn.effect.shuts, Shuts::Nothing) {
-                    self.close(turn.side);
-                }
-                turn.effect
-            }
-            (Booked::Refused(Refusal::BadSum { .. }), Some(ReplicaEvent::Packet { packet, .. })) =>
-                {
-                    self.bad = self.bad.or(Some(packet.seqno));
-                    Effect::nothing()
-                }
-            _ => {
-                self.close(turn.side);
-                Effect::shut_both()
-            }
+        match booked {
+            Booked::Taken => self.done(turn),
+            Booked::Refused(refusal) => self.refused(turn, refusal),
+            Booked::Failed => self.cut_off(turn.side),
         }
+    }
+
+    /// The turn is done.
+    fn done(&mut self, turn: Turn) -> Effect
+        ensures member { self.new ≡ (done self.old turn).0 }
+        ensures effect { result ≡ (done self.old turn).1 }
+    {
+        self.mirror = turn.mirror;
+        match turn.effect.shuts {
+            Shuts::Nothing => {}
+            Shuts::Mirror | Shuts::Both => self.close(turn.side),
+        }
+        turn.effect
+    }
+
+    /// The replica refused the turn's call.
+    fn refused(&mut self, turn: Turn, refusal: Refusal) -> Effect
+        ensures member { self.new ≡ (refused_turn self.old turn refusal).0 }
+        ensures effect { result ≡ (refused_turn self.old turn refusal).1 }
+    {
+        match refusal {
+            Refusal::BadSum { .. } => self.bad_sum(turn),
+            _ => self.cut_off(turn.side),
+        }
+    }
+
+    /// A packet with a wrong sum isn't sent on, and its seqno is kept.
+    fn bad_sum(&mut self, turn: Turn) -> Effect
+        ensures member { self.new ≡ (bad_sum self.old turn.call turn).0 }
+        ensures effect { result ≡ (bad_sum self.old turn.call turn).1 }
+    {
+        match turn.call {
+            Some(ReplicaEvent::Packet { packet, .. }) => {
+                self.bad = self.bad.or(Some(packet.seqno));
+                Effect::nothing()
+            }
+            _ => self.cut_off(turn.side),
+        }
+    }
+
+    /// Both connections are shut, and nothing is sent.
+    fn cut_off(&mut self, side: Side) -> Effect
+        ensures member { self.new ≡ closed side self.old }
+        ensures effect { result ≡ shut_both }
+    {
+        self.close(side);
+        Effect::shut_both()
     }
 
     /// This side no longer acts.

@@ -1,5 +1,6 @@
 -- The message of a refusal: its number and the values that it keeps, in the order of its fields, in decimal, with a space between two.
-use Rattle.std.specs.Prelude.{ℕ, ℤ, List, [], ◌∷◌, ◌++◌, Option, Some, None, decimal, signed_decimal}
+use Rattle.std.specs.Prelude.{ℕ, ℤ, List, [], ◌∷◌, ◌++◌, Option, Some, None, decimal}
+use Rattle.std.specs.Fmt.{signed_decimal}
 use Rattle.hd_base.specs.Wire.{state_number}
 use Rattle.replica_core.specs.Refusals.{refusal_number, rule_number}
 use Rattle.replica_core.specs.declared.refusals.Refusal.{Refusal}

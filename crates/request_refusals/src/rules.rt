@@ -28,7 +28,7 @@ fn kind_with(number: u32) -> Option<SumKind>
 
 /// The rule of this kind, where a chunk may have so many bytes.
 fn rule_of_kind(kind: SumKind, chunk: u32) -> Option<SumRule>
-    ensures { result ≡ rule_of_kind (Option.Some kind) chunk }
+    ensures { result ≡ rule_of_kind (Some kind) chunk }
 {
     SumRule::new(kind, chunk)
 }
