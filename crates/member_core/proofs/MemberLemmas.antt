@@ -49,14 +49,12 @@ good_books m e replies = record { packet = e; pending = refl; call = refl }
 not_given_up : (m : MemberState) (e : PendingPacket) (a : Ack) → SendsSuccess (give_up_turn m e) a → ⊥
 not_given_up m e a h =
     let same : ack_of e.seqno (status.Success ∷ status.Error ∷ []) ≡ a = some_ack _ a h.sends in
-    let none : 1 ≡ 0 = ap (λ (x : Ack). failures x.replies) same ∙ h.succeeds in
-    absurd (omega arith)
+    not_zero (failures (status.Success ∷ status.Error ∷ [])) refl (ap (λ (x : Ack). failures x.replies) same ∙ h.succeeds)
 
 not_bad : (m : MemberState) (seqno : ℤ) (a : Ack) → SendsSuccess (bad_turn m seqno) a → ⊥
 not_bad m seqno a h =
     let same : ack_of seqno (status.ErrorChecksum ∷ []) ≡ a = some_ack _ a h.sends in
-    let none : 1 ≡ 0 = ap (λ (x : Ack). failures x.replies) same ∙ h.succeeds in
-    absurd (omega arith)
+    not_zero (failures (status.ErrorChecksum ∷ [])) refl (ap (λ (x : Ack). failures x.replies) same ∙ h.succeeds)
 
 not_failed : (m : MemberState) (e : PendingPacket) (replies : List Status) (a : Ack) (b : Bool) → (failures replies == 0) ≡ false
     → SendsSuccess (if b then spoiled_turn m else partial_turn m e (with_own replies)) a → ⊥

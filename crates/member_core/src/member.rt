@@ -1,6 +1,6 @@
 //! A member of a pipeline.
 
-ghost use Rattle.std.specs.Prelude.{◌≡◌, ◌≤◌, ◌<◌, length, slice_get, Some, IfSome};
+ghost use Rattle.std.specs.Prelude.{◌≡◌, ◌≤◌, [], ◌∷◌, length, slice_get, Some};
 ghost use Rattle.replica_core.specs.Transitions.{is_written_by};
 ghost use Rattle.member_core.specs.Members.{
   MemberState,
@@ -16,6 +16,7 @@ ghost use Rattle.member_core.specs.Members.{
   good_turn,
   give_up_turn,
   pass_turn,
+  ack_turn,
   stream_turn,
   up_turn,
   bad_turn,
@@ -263,12 +264,13 @@ impl Member {
         ensures member { self.new ≡ (bad_sum self.old turn.call turn).0 }
         ensures effect { result ≡ (bad_sum self.old turn.call turn).1 }
     {
-        match turn.call {
+        let Turn { side, call, .. } = turn;
+        match call {
             Some(ReplicaEvent::Packet { packet, .. }) => {
                 self.bad = self.bad.or(Some(packet.seqno));
                 Effect::nothing()
             }
-            _ => self.cut_off(turn.side),
+            _ => self.cut_off(side),
         }
     }
 
@@ -349,10 +351,21 @@ impl Member {
             return self.turn(None, Mirror::Ended, Effect::nothing());
         };
         match taken {
-            FromBelow::Ack(ack) if is_read(self.below, packet.seqno, &ack) => {
-                self.pass_turn(packet, &ack.replies)
+            FromBelow::Ack(ack) => self.ack_turn(packet, &ack),
+            FromBelow::Response(_) | FromBelow::Unreadable | FromBelow::End => {
+                self.give_up_turn(packet)
             }
-            _ => self.give_up_turn(packet),
+        }
+    }
+
+    /// An ack from the mirror.
+    fn ack_turn(&self, packet: PendingPacket, ack: &Ack) -> Turn
+        ensures { result ≡ ack_turn self.now packet (FromBelow.Ack ack.now) }
+    {
+        if is_read(self.below, packet.seqno, ack) {
+            self.pass_turn(packet, &ack.replies)
+        } else {
+            self.give_up_turn(packet)
         }
     }
 
