@@ -203,7 +203,7 @@ impl Member {
     {
         match self.mirror {
             Mirror::Asked => self.setup_turn(taken),
-            Mirror::Open => self.stream_turn(oldest, taken),
+            Mirror::Open => self.stream_turn(oldest, &taken),
             Mirror::Nobody | Mirror::Unreachable | Mirror::Ended => {
                 self.turn(None, self.mirror, Effect::nothing())
             }
@@ -344,14 +344,14 @@ impl Member {
     }
 
     /// What comes from the mirror in the stream.
-    fn stream_turn(&self, oldest: Option<PendingPacket>, taken: FromBelow) -> Turn
-        ensures { result ≡ stream_turn self.now oldest taken }
+    fn stream_turn(&self, oldest: Option<PendingPacket>, taken: &FromBelow) -> Turn
+        ensures { result ≡ stream_turn self.now oldest taken.now }
     {
         let Some(packet) = oldest else {
             return self.turn(None, Mirror::Ended, Effect::nothing());
         };
         match taken {
-            FromBelow::Ack(ack) => self.ack_turn(packet, &ack),
+            FromBelow::Ack(ack) => self.ack_turn(packet, ack),
             FromBelow::Response(_) | FromBelow::Unreadable | FromBelow::End => {
                 self.give_up_turn(packet)
             }

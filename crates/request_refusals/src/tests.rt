@@ -16,7 +16,10 @@ fn a_message_has_the_number_and_the_values(rt: HostRuntime) -> Result<(), Fail> 
         low: Stamp(1002),
         high: Stamp(1003),
     });
-    assert_eq!(rt; stale.text(alloc)?.as_slice(), b"4 1001 1002 1003".as_slice());
+    assert_eq!(rt;
+        stale.text(alloc)?.as_slice(),
+        b"4 1001 1002 1003".as_slice()
+    );
     let first = RequestRefusal::Core(Refusal::Seqno {
         want: None,
         got: -2,
@@ -27,6 +30,9 @@ fn a_message_has_the_number_and_the_values(rt: HostRuntime) -> Result<(), Fail> 
     assert_eq!(rt; long.text(alloc)?.as_slice(), b"9 6".as_slice());
     let sums = RequestRefusal::Checksum { kind: 2, chunk: 8 };
     assert_eq!(rt; sums.text(alloc)?.as_slice(), b"16 2 8".as_slice());
-    assert_eq!(rt; RequestRefusal::Pool.text(alloc)?.as_slice(), b"15".as_slice());
+    assert_eq!(rt;
+        RequestRefusal::Pool.text(alloc)?.as_slice(),
+        b"15".as_slice()
+    );
     Ok(())
 }
