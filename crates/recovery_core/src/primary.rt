@@ -1,6 +1,7 @@
 //! The primary of a block recovery.
 
 ghost use Rattle.std.specs.Prelude.{◌≡◌, ◌==◌, ◌<◌, ◌↔◌, length, slice_get, slice_set, Some, IfOk, OnErr, IsTrue};
+ghost use Rattle.recovery_core.specs.declared.standings.Standing.{Standing};
 ghost use Rattle.recovery_core.specs.Primaries.{
   PrimaryState,
   after_heard,
