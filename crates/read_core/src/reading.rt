@@ -1,6 +1,6 @@
 //! The reading client.
 
-ghost use Rattle.std.specs.Prelude.{◌≡◌, ◌++◌, nat_abs, IfOk, OnErr};
+ghost use Rattle.std.specs.Prelude.{◌≡◌, ◌++◌, ◌<◌, ◌^◌, nat_abs, length, IfOk, OnErr};
 ghost use Rattle.read_core.specs.Readings.{
   ReadingState,
   asked,
@@ -21,6 +21,8 @@ ghost use Rattle.read_core.specs.Readings.{
   verified,
   packet_check,
   received,
+  while_asked,
+  while_receiving,
   take_from,
 };
 
@@ -138,16 +140,44 @@ impl Reading {
         ensures does { IfOk result (λ does. does ≡ (take_from self.old taken).does) }
         ensures err { OnErr result (self.new ≡ self.old) }
     {
-        match (self.phase, taken) {
-            (ReadPhase::Asked, FromNode::Response(response)) => {
-                Ok(self.answered(accepted(response)))
+        match &self.phase {
+            ReadPhase::Asked => Ok(self.while_asked(taken)),
+            ReadPhase::Receiving { rule, at, seqno } => {
+                let (rule, at, seqno) = (*rule, *at, *seqno);
+                self.while_receiving(rule, at, seqno, &taken)
             }
-            (ReadPhase::Receiving { rule, at, seqno }, FromNode::Packet(packet)) => {
-                self.received(rule, at, seqno, &packet)
-            }
-            (ReadPhase::Over, _) => Ok(ReadTurn::Goes),
-            (_, FromNode::End) => Ok(self.fail(ReadFault::Ended)),
-            _ => Ok(self.fail(ReadFault::Unreadable)),
+            ReadPhase::Over => Ok(ReadTurn::Goes),
+        }
+    }
+
+    /// Takes this while the answer is awaited.
+    fn while_asked(&mut self, taken: FromNode) -> ReadTurn
+        ensures reading { self.new ≡ (while_asked self.old taken).reading }
+        ensures does { result ≡ (while_asked self.old taken).does }
+    {
+        match taken {
+            FromNode::Response(response) => self.answered(accepted(response)),
+            FromNode::End => self.fail(ReadFault::Ended),
+            FromNode::Packet(_) | FromNode::Unreadable => self.fail(ReadFault::Unreadable),
+        }
+    }
+
+    /// Takes this where a packet with this number is next, with the bytes from here on.
+    fn while_receiving(
+        &mut self,
+        rule: SumRule,
+        at: u64,
+        seqno: u64,
+        taken: &FromNode,
+    ) -> Result<ReadTurn, AllocError>
+        ensures reading { IfOk result (λ _. self.new ≡ (while_receiving self.old rule at seqno taken.now).reading) }
+        ensures does { IfOk result (λ does. does ≡ (while_receiving self.old rule at seqno taken.now).does) }
+        ensures err { OnErr result (self.new ≡ self.old) }
+    {
+        match taken {
+            FromNode::Packet(packet) => self.received(rule, at, seqno, packet),
+            FromNode::End => Ok(self.fail(ReadFault::Ended)),
+            FromNode::Response(_) | FromNode::Unreadable => Ok(self.fail(ReadFault::Unreadable)),
         }
     }
 
@@ -317,7 +347,8 @@ fn is_success(status: Status) -> bool
 /// Tries whether a packet that begins here has all its sums, and none differs.
 #[tactic(auto, unfolding(crate::specs::Readings::sums_check))]
 fn check_sums(rule: SumRule, at: u64, packet: &Packet) -> Result<(), ReadFault>
-    requires { nat_abs packet.now.offset ≡ at }
+    requires begins { nat_abs packet.now.offset ≡ at }
+    requires short { at < 2 ^ 63 }
     ensures { result ≡ sums_check rule at packet.now }
 {
     if !has_all_sums(rule, at, packet) {
@@ -333,7 +364,8 @@ fn check_sums(rule: SumRule, at: u64, packet: &Packet) -> Result<(), ReadFault>
 
 /// Whether a packet that begins here has as many sums, of four bytes each, as its body has chunks under the rule.
 fn has_all_sums(rule: SumRule, at: u64, packet: &Packet) -> bool
-    ensures { result ≡ has_all_sums rule at packet.now }
+    ensures value { result ≡ has_all_sums rule at packet.now }
+    ensures short { length packet.now.sums < 2 ^ 64 }
 {
     let chunk = u64::from(rule.chunk());
     let count = piece_count(

@@ -1,6 +1,6 @@
 //! The serving of a read.
 
-ghost use Rattle.std.specs.Prelude.{◌≡◌, ◌≤◌, length, IfOk};
+ghost use Rattle.std.specs.Prelude.{◌≡◌, ◌+◌, ◌^◌, ◌<◌, ◌≤◌, length, IfOk};
 ghost use Rattle.chunk_sums.specs.Chunks.{sums};
 ghost use Rattle.read_core.specs.Servings.{
   ServingState,
@@ -132,6 +132,7 @@ impl Serving {
     pub fn piece_len(&self) -> u64
         ensures value { result ≡ piece_len self.now }
         ensures few { result ≤ 65536 }
+        ensures fits { self.now.at + result < 2 ^ 64 }
     {
         let rest = self.end.saturating_sub(self.at);
         rest.min(most_bytes(u64::from(self.rule.chunk())))
