@@ -1,9 +1,9 @@
 //! The primary of a block recovery.
 
-ghost use Rattle.std.specs.Prelude.{◌≡◌, ◌==◌, ◌<◌, ◌↔◌, length, slice_get, slice_set, Some, IfOk, OnErr, IsTrue};
+ghost use Rattle.std.specs.Prelude.{◌≡◌, ◌<◌, length, map, slice_get, slice_set, Some, IfOk, OnErr};
 ghost use Rattle.recovery_core.specs.declared.standings.Standing.{Standing};
 ghost use Rattle.recovery_core.specs.Primaries.{
-  PrimaryState,
+  asked,
   after_heard,
   shuts_after,
   waits,
@@ -116,10 +116,7 @@ impl Primary {
     ) -> Result<Primary, AllocError>
         ensures { IfOk result (λ primary. primary ≡ begun_with block begun members.now answered.now) }
     {
-        let standings = answered
-            .iter()
-            .map(|answered| Standing::asked(*answered))
-            .collect(alloc)?;
+        let standings = asked_standings(alloc, answered)?;
         Ok(Primary {
             block,
             begun,
@@ -298,6 +295,16 @@ pub fn office_refused(fault: OfficeFault) -> Recovered
         OfficeFault::Memory => Recovered::Memory,
         fault => Recovered::OfficeRefused(fault),
     }
+}
+
+/// How it stands with the members to which the INIT is sent, by which of the dials were answered.
+fn asked_standings(alloc: Global, answered: &[bool]) -> Result<Vec<Standing>, AllocError>
+    ensures { IfOk result (λ standings. standings.items ≡ map asked answered.now) }
+{
+    answered
+        .iter()
+        .map(|answered| Standing::asked(*answered))
+        .collect(alloc)
 }
 
 /// What the members told, in their order.
