@@ -1,5 +1,5 @@
 -- The serving of a read: the answer, and one packet an event up to what was visible at its start.
-use Rattle.std.specs.Prelude.{ℕ, ℤ, ◌==◌, ◌+◌, ◌-◌, ◌*◌, ◌/◌, ◌%◌, min, max, if◌then◌else◌, Bool, true, false, List, [], ◌∷◌, length, take, drop, Option, Some, None, Result, Ok, Err}
+use Rattle.std.specs.Prelude.{ℕ, ◌==◌, ◌+◌, ◌-◌, ◌*◌, ◌/◌, ◌%◌, min, max, if◌then◌else◌, false, List, [], take, drop, Option, Some, None, Result, Ok, Err}
 use Rattle.std.specs.Int.{w64, div_ceil, cast_signed}
 use Rattle.hd_base.specs.declared.numbers.Stamp.{Stamp}
 use Rattle.hd_base.specs.declared.states.Status.TheVariants as status

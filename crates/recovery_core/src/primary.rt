@@ -138,6 +138,7 @@ impl Primary {
         requires { at < length self.old.standings }
         ensures primary { (s : Standing) → slice_get self.old.standings at ≡ Some s →
             self.new ≡ record self.old { standings = slice_set self.old.standings at (after_heard s heard.now) } }
+        ensures count { length self.new.standings ≡ length self.old.standings }
         ensures shuts { (s : Standing) → slice_get self.old.standings at ≡ Some s → result ≡ shuts_after s }
     {
         let standing = self.standings[at];

@@ -1,5 +1,5 @@
 -- The chunk's number fits: it is one of the packet's sums.
-use Rattle.std.proofs.Common.{Some, length, arith}
+use Rattle.std.proofs.Common.{Some, arith}
 use Rattle.std.proofs.Math.Nat.{div-le_self}
 use Rattle.replica_model.proofs.BadLemmas.{packet_lawful}
 use Rattle.read_core.proofs.reading.check_sums.Goals as goal
