@@ -1,5 +1,5 @@
 -- What is told by different members, and who is updated.
-use Rattle.std.proofs.Common.{◌≡◌, ◌≢◌, ◌==◌, ℕ, zero, suc, ◌<◌, ◌≤◌, Bool, true, false, if◌then◌else◌, List, [], ◌∷◌, length, Option, Some, None, refl, sym, subst, arith}
+use Rattle.std.proofs.Common.{◌≡◌, ◌≢◌, ℕ, zero, suc, ◌≤◌, Bool, true, false, if◌then◌else◌, List, [], ◌∷◌, length, Option, Some, None, refl, sym, subst, arith}
 use Rattle.std.specs.Prelude.{zip, filter_map, All, AllPairs}
 use Rattle.std.specs.List.{cons_option}
 use Rattle.std.proofs.lemmas.List.Elements.{All-cons, All-head, All-tail}
@@ -10,7 +10,7 @@ use Rattle.name_core.specs.declared.infos.Info.{Info}
 use Rattle.name_core.specs.Infos.{NodesDiffer}
 use Rattle.recovery_core.specs.declared.standings.Standing.{Standing}
 use Rattle.recovery_core.specs.declared.standings.Standing.TheVariants as standing
-use Rattle.recovery_core.specs.Primaries.{info_of, infos, updated_node, updated_members, is_among, when_chosen, after_choice}
+use Rattle.recovery_core.specs.Primaries.{info_of, infos, updated_node, updated_members, is_among, when_chosen}
 use Rattle.recovery_core.specs.Laws.{OnlyChosenAreUpdated}
 
 -- what is kept of a member names it

@@ -1,5 +1,5 @@
 -- The law of the primary.
-use Rattle.std.specs.Prelude.{◌≡◌, ℕ, true, List, slice_get, Some}
+use Rattle.std.specs.Prelude.{◌≡◌, true, List}
 use Rattle.hd_base.specs.declared.numbers.NodeId.{NodeId}
 use Rattle.recovery_core.specs.declared.standings.Standing.{Standing}
 use Rattle.recovery_core.specs.declared.standings.Standing.TheVariants as standing

@@ -14,7 +14,6 @@ use Rattle.replica_core.specs.declared.events.Event.TheVariants as event
 use Rattle.replica_core.specs.declared.refusals.Refusal.TheVariants as replica_refusal
 use Rattle.replica_model.specs.declared.events.ReplicaEvent.TheVariants as replica_event
 use Rattle.replica_model.specs.Rows.{FullReplica, row, row_answer, broken}
-use Rattle.request_refusals.specs.declared.refusals.RequestRefusal.{RequestRefusal}
 use Rattle.request_refusals.specs.declared.refusals.RequestRefusal.TheVariants as refusal
 use Rattle.request_refusals.specs.Pools.{is_in_pool}
 use Rattle.request_refusals.specs.Texts.{refusal_text}

@@ -1,6 +1,6 @@
 -- The primary of a block recovery: what it sends in each step of its own, and what it makes of each answer.
-use Rattle.std.specs.Prelude.{ℕ, ◌==◌, if◌then◌else◌, not, Bool, true, false, List, [], ◌∷◌, map, zip, filter_map, count_by, Option, Some, None, Result, Ok, Err}
-use Rattle.std.specs.List.{list_any, slice_set}
+use Rattle.std.specs.Prelude.{ℕ, ◌==◌, if◌then◌else◌, Bool, true, false, List, [], ◌∷◌, map, zip, filter_map, Option, Some, None, Result, Ok, Err}
+use Rattle.std.specs.List.{list_any}
 use Rattle.hd_base.specs.declared.numbers.BlockId.{BlockId}
 use Rattle.hd_base.specs.declared.numbers.NodeId.{NodeId}
 use Rattle.hd_base.specs.declared.numbers.Stamp.{Stamp}
@@ -8,10 +8,8 @@ use Rattle.hd_base.specs.declared.states.ReplicaState.{ReplicaState}
 use Rattle.hd_base.specs.declared.states.Status.{Status}
 use Rattle.hd_base.specs.declared.states.Status.TheVariants as status
 use Rattle.hd_base.specs.Blocks.{block_pool}
-use Rattle.op_headers.specs.declared.answers.RecoveryAnswer.{RecoveryAnswer}
 use Rattle.op_headers.specs.declared.ops.RecoveryOp.{RecoveryOp}
 use Rattle.op_headers.specs.declared.ops.RecoveryKind.{RecoveryKind}
-use Rattle.op_headers.specs.declared.ops.RecoveryKind.TheVariants as kind
 use Rattle.name_core.specs.declared.calls.Begun.{Begun}
 use Rattle.name_core.specs.declared.calls.OfficeAnswer.{OfficeAnswer}
 use Rattle.name_core.specs.declared.calls.OfficeCall.{OfficeCall}
