@@ -1,0 +1,5 @@
+pub mod Requests
+pub mod Acks
+pub mod Members
+pub mod Steps
+pub mod Laws
