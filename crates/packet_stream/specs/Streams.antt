@@ -1,5 +1,5 @@
 -- The stream of packets of a block's bytes: its state, and what each call makes of it.
-use Rattle.std.specs.Prelude.{ℕ, zero, suc, pos, nat_abs, ◌≡◌, ◌≤◌, ◌<◌, ◌+◌, ◌-◌, ◌/◌, ◌%◌, ◌^◌, max, Bool, true, false, List, [], ◌∷◌, ◌++◌, length, take, drop}
+use Rattle.std.specs.Prelude.{ℕ, zero, suc, pos, nat_abs, ◌≡◌, ◌≤◌, ◌<◌, ◌+◌, ◌-◌, ◌/◌, ◌%◌, ◌^◌, max, Bool, true, false, List, [], ◌∷◌, ◌++◌, length, take, drop, slice_get, Option, Some, None}
 use Rattle.hd_base.specs.declared.numbers.BlockId.{BlockId}
 use Rattle.hd_base.specs.SumRules.{Rule, IsChunkSize}
 use Rattle.chunk_sums.specs.Chunks.{summed_chunks, sums_of}
@@ -99,6 +99,18 @@ last_packet s sync = empty_packet (written_in s) s.seqno true sync
 abbrev pub last_formed : StreamState → Bool → StreamState
 last_formed s sync = record s { unacked = s.unacked ++ last_packet s sync ∷ [] }
 
--- the oldest packet, which is this one, is acked
-abbrev pub oldest_acked : StreamState → Packet → StreamState
-oldest_acked s p = record s { acked = max s.acked (packet_end p); unacked = drop 1 s.unacked }
+-- a stream whose oldest packet is this one, once it is acked: its bytes are given up
+abbrev pub acked_packet : StreamState → Option Packet → StreamState
+acked_packet s None = s
+acked_packet s (Some p) = record s { acked = max s.acked (packet_end p); unacked = drop 1 s.unacked }
+
+abbrev pub oldest_acked : StreamState → StreamState
+oldest_acked s = acked_packet s (slice_get s.unacked 0)
+
+-- there is such a packet, and it is the last one
+abbrev pub is_last : Option Packet → Bool
+is_last None = false
+is_last (Some p) = p.last
+
+abbrev pub oldest_is_last : StreamState → Bool
+oldest_is_last s = is_last (slice_get s.unacked 0)
