@@ -2,7 +2,7 @@
 
 ghost use Rattle.std.specs.Prelude.{◌≡◌, ◌≤◌, ◌<◌, ◌+◌, ◌^◌, ◌==◌, ◌↔◌, IsTrue, IfOk, IfSome, OnOk, OnErr, Option, Some, None, length, slice_get, option_copied};
 ghost use Rattle.hd_base.specs.SumRules.{Rule, IsChunkSize};
-ghost use Rattle.packet_stream.specs.Extents.{greatest_end};
+ghost use Rattle.packet_stream.specs.Extents.{greatest_end, next_start};
 ghost use Rattle.packet_stream.specs.Streams.{start_in, written_in, begun, with_bytes, fill_bytes, next_packet, formed};
 ghost use Rattle.packet_stream.specs.Streams.{sync_packet, sync_formed, last_packet, last_formed, oldest_acked, oldest_is_last};
 
@@ -135,6 +135,16 @@ impl PacketStream {
         start_behind(u64::from(self.rule.chunk()), self.base, self.sent)
     }
 
+    /// Where the packet behind the next one begins, if the next one ends here.
+    fn start_behind(&self, end: u64) -> u64
+        requires { self.now.sent ≤ end }
+        ensures value { result ≡ next_start self.now.rule.chunk self.now.base end }
+        ensures later { start_in self.now ≤ result }
+        ensures near { result ≤ end }
+    {
+        start_behind(u64::from(self.rule.chunk()), self.base, end)
+    }
+
     /// The greatest end that the next packet may have.
     pub fn greatest_end(&self) -> u64
         ensures value { result ≡ greatest_end self.now.rule.chunk (start_in self.now) }
@@ -181,7 +191,7 @@ impl PacketStream {
         let body = &self.tail.as_slice()[..(end - start) as usize];
         let packet = data_packet(alloc, self.rule, start, self.seqno, sync, body)?;
         let copy = share(&packet)?;
-        let next = start_behind(u64::from(self.rule.chunk()), self.base, end);
+        let next = self.start_behind(end);
         self.sent = end;
         self.seqno += 1;
         self.tail.advance((next - start) as usize);
