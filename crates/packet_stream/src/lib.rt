@@ -3,6 +3,7 @@
 #![tactic(auto)]
 
 mod extents;
+mod fills;
 mod packets;
 mod stream;
 #[cfg(test)]

@@ -7,6 +7,7 @@ ghost use Rattle.packet_stream.specs.Streams.{start_in, written_in, begun, with_
 ghost use Rattle.packet_stream.specs.Streams.{sync_packet, sync_formed, last_packet, last_formed, oldest_acked, oldest_is_last};
 
 use crate::extents::{BLOCK_LIMIT, greatest_end_from, start_behind};
+use crate::fills::fill_bytes;
 use crate::packets::{data_packet, empty_packet, share};
 use bytes::BytesMut;
 use circular_buffer::HeapCircularBuffer;
@@ -174,6 +175,18 @@ impl PacketStream {
         ensures err { OnErr result (self.new ≡ self.old) }
     {
         self.tail.extend_from_slice(bytes)
+    }
+
+    /// Writes so many bytes behind the others, each told by where in the block it lies. Want of memory
+    /// changes nothing.
+    pub fn fill(&mut self, block: BlockId, count: u64) -> Result<(), AllocError>
+        requires { written_in self.old + count ≤ BLOCK_LIMIT }
+        ensures ok { OnOk result (self.new ≡ with_bytes self.old (fill_bytes block (written_in self.old) count)) }
+        ensures err { OnErr result (self.new ≡ self.old) }
+    {
+        let alloc = *self.tail.allocator();
+        let bytes = fill_bytes(alloc, block, self.written(), count)?;
+        self.write(bytes.as_slice())
     }
 
     /// Forms the next packet, which ends here. Want of memory changes nothing.
