@@ -8,3 +8,4 @@ pub mod Requests
 pub mod Answers
 pub mod Room
 pub mod Stages
+pub mod NodeRefs
