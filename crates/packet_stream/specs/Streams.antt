@@ -1,5 +1,5 @@
 -- The stream of packets of a block's bytes: its state, and what each call makes of it.
-use Rattle.std.specs.Prelude.{ℕ, zero, suc, pos, nat_abs, ◌≡◌, ◌≤◌, ◌<◌, ◌+◌, ◌-◌, ◌/◌, ◌%◌, ◌^◌, max, Bool, true, false, List, [], ◌∷◌, ◌++◌, length, take, drop, slice_get, Option, Some, None}
+use Rattle.std.specs.Prelude.{ℕ, ℤ, zero, suc, pos, nat_abs, ◌≡◌, ◌≤◌, ◌<◌, ◌+◌, ◌-◌, ◌/◌, ◌%◌, ◌^◌, max, Bool, true, false, List, [], ◌∷◌, ◌++◌, length, take, drop, slice_get, Option, Some, None, option_map}
 use Rattle.hd_base.specs.declared.numbers.BlockId.{BlockId}
 use Rattle.hd_base.specs.SumRules.{Rule, IsChunkSize}
 use Rattle.chunk_sums.specs.Chunks.{summed_chunks, sums_of}
@@ -114,3 +114,7 @@ is_last (Some p) = p.last
 
 abbrev pub oldest_is_last : StreamState → Bool
 oldest_is_last s = is_last (slice_get s.unacked 0)
+
+-- the number of the oldest packet that isn't acked
+abbrev pub oldest_seqno : StreamState → Option ℤ
+oldest_seqno s = option_map (λ p. p.seqno) (slice_get s.unacked 0)

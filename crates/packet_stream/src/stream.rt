@@ -1,10 +1,10 @@
 //! The stream of packets.
 
-ghost use Rattle.std.specs.Prelude.{◌≡◌, ◌≤◌, ◌<◌, ◌+◌, ◌^◌, ◌==◌, ◌↔◌, IsTrue, IfOk, IfSome, OnOk, OnErr, Option, Some, None, length, slice_get, option_copied};
+ghost use Rattle.std.specs.Prelude.{◌≡◌, ◌≤◌, ◌<◌, ◌+◌, ◌^◌, ◌==◌, ◌↔◌, IsTrue, IfOk, IfSome, OnOk, OnErr, OnSome, Option, Some, None, length, slice_get, option_copied};
 ghost use Rattle.hd_base.specs.SumRules.{Rule, IsChunkSize};
 ghost use Rattle.packet_stream.specs.Extents.{greatest_end, next_start};
 ghost use Rattle.packet_stream.specs.Streams.{start_in, written_in, begun, with_bytes, fill_bytes, next_packet, formed};
-ghost use Rattle.packet_stream.specs.Streams.{sync_packet, sync_formed, last_packet, last_formed, oldest_acked, oldest_is_last};
+ghost use Rattle.packet_stream.specs.Streams.{sync_packet, sync_formed, last_packet, last_formed, oldest_acked, oldest_is_last, oldest_seqno};
 
 use crate::extents::{BLOCK_LIMIT, greatest_end_from, start_behind};
 use crate::fills::fill_bytes;
@@ -91,6 +91,11 @@ impl PacketStream {
         self.unacked.clear();
     }
 
+    /// The allocator that the stream takes memory from.
+    pub fn allocator(&self) -> Global {
+        *self.tail.allocator()
+    }
+
     /// The rule of the block's sums.
     pub fn rule(&self) -> SumRule
         ensures { result ≡ self.now.rule }
@@ -161,11 +166,26 @@ impl PacketStream {
         self.unacked.front()
     }
 
+    /// The number of the oldest packet that isn't acked.
+    pub fn oldest_seqno(&self) -> Option<i64>
+        ensures { result ≡ oldest_seqno self.now }
+    {
+        self.unacked.front().map(|packet| packet.seqno)
+    }
+
     /// Whether one packet more may be unacked.
     pub fn has_room(&self) -> bool
         ensures { IsTrue result ↔ (length self.now.unacked < MAX_UNACKED) }
     {
         self.unacked.len() < MAX_UNACKED
+    }
+
+    /// How many packets aren't acked.
+    pub fn unacked(&self) -> usize
+        ensures value { result ≡ length self.now.unacked }
+        ensures few { result ≤ MAX_UNACKED }
+    {
+        self.unacked.len()
     }
 
     /// Writes these bytes behind the others. Want of memory changes nothing.
@@ -244,7 +264,8 @@ impl PacketStream {
     /// The packet at this place among those that aren't acked, unchanged, to be sent again; `None`
     /// where there are no more.
     pub fn again(&self, index: usize) -> Result<Option<Packet>, AllocError>
-        ensures { IfOk result (λ packet. packet ≡ slice_get self.now.unacked index) }
+        ensures packet { IfOk result (λ packet. packet ≡ slice_get self.now.unacked index) }
+        ensures within { IfOk result (λ packet. OnSome packet (index < MAX_UNACKED)) }
     {
         match self.unacked.get(index) {
             Some(packet) => Ok(Some(share(packet)?)),
