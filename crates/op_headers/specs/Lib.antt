@@ -8,4 +8,3 @@ pub mod Requests
 pub mod Answers
 pub mod Room
 pub mod Stages
-pub mod NodeRefs

@@ -4,10 +4,12 @@
 
 mod extents;
 mod fills;
+mod laws;
 mod packets;
 mod stream;
 #[cfg(test)]
 mod tests;
 
 pub use extents::{BLOCK_LIMIT, PACKET_SIZE};
+pub use laws::forming_keeps_the_written;
 pub use stream::{MAX_UNACKED, PacketStream};

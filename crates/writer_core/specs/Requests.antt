@@ -9,7 +9,7 @@ use Rattle.op_headers.specs.declared.ops.Op.TheVariants as op
 use Rattle.op_headers.specs.declared.stages.Stage.{Stage}
 use Rattle.op_headers.specs.declared.stages.Stage.TheVariants as stage
 use Rattle.op_headers.specs.Stages.{stage_number}
-use Rattle.op_headers.specs.NodeRefs.{ref_of}
+use Rattle.node_refs.specs.NodeRefs.{ref_of}
 use Rattle.packet_stream.specs.Streams.{StreamState, written_in}
 use Rattle.writer_core.specs.declared.phases.Setup.{Setup}
 use Rattle.writer_core.specs.declared.phases.Setup.TheVariants as setup

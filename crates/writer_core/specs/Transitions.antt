@@ -1,7 +1,7 @@
 -- What each call makes of a writer, and what its own step asks for. The writer's record holds: the block; what was given to it; the commands
 -- given and not taken; how many were taken; the command that waits; the phase; the members of the pipeline that stands or is wanted; the
 -- committed stamp; the stream of packets; and whether this create or append had an hsync.
-use Rattle.std.specs.Prelude.{ℕ, ℤ, pos, ◌==◌, ◌+◌, ◌-◌, ◌&&◌, ◌||◌, not, nat_lt, nat_le, int_lt, if◌then◌else◌, Bool, true, false, List, [], ◌∷◌, ◌++◌, length, drop, slice_get, is_some, Option, Some, None, Result, Ok, Err}
+use Rattle.std.specs.Prelude.{ℕ, ℤ, pos, ◌≡◌, ◌⊎◌, ◌==◌, ◌+◌, ◌-◌, ◌&&◌, ◌||◌, not, nat_lt, nat_le, int_lt, if◌then◌else◌, Bool, true, false, List, [], ◌∷◌, ◌++◌, length, drop, slice_get, is_some, Option, Some, None, Result, Ok, Err}
 use Rattle.hd_base.specs.declared.numbers.BlockId.{BlockId}
 use Rattle.hd_base.specs.declared.numbers.NodeId.{NodeId}
 use Rattle.hd_base.specs.declared.numbers.Stamp.{Stamp}
@@ -289,6 +289,10 @@ step_in w (phase.Failed f) = failed_step w f
 
 unfoldable pub own_step : WriterRecord → Step
 own_step w = step_in w w.phase
+
+-- The action and the writer after it are those of the own step, or memory was wanting, and the writer is as before.
+abbrev pub NextGives : Step → WriterRecord → Action → WriterRecord → Type 0
+NextGives s before a after = ((a ≡ action.Memory) × (after ≡ before)) ⊎ ((a ≡ s.action) × (after ≡ s.writer))
 
 -- ---- what comes on the connection
 

@@ -1,6 +1,6 @@
 //! What acks and answers say of the members.
 
-ghost use Rattle.std.specs.Prelude.{◌≡◌, ◌==◌, ◌≤◌, ◌<◌, not, filter, length, option_copied, slice_get};
+ghost use Rattle.std.specs.Prelude.{◌≡◌, ◌==◌, ◌≤◌, ◌<◌, [], not, filter, length, option_copied, slice_get};
 ghost use Rattle.packet_codec.specs.declared.packets.Packet.{Packet};
 ghost use Rattle.writer_core.specs.Phases.{remedy_after, remedy_in, remedy_at_ack, is_success, last_bad};
 ghost use Rattle.writer_core.specs.Phases.{replies_verdict, ack_verdict, bad_place, without};
@@ -130,4 +130,14 @@ pub(crate) fn without(members: &Members, bad: NodeId) -> Members
         unreachable!()
     };
     left
+}
+
+/// No member.
+pub(crate) fn no_members() -> Members
+    ensures { result ≡ [] }
+{
+    let Some(none) = Members::new(&[]) else {
+        unreachable!()
+    };
+    none
 }

@@ -2,7 +2,7 @@
 
 ghost use Rattle.std.specs.Prelude.{◌≡◌, ◌==◌, ◌≤◌, ◌<◌, ◌^◌, pos, Some, length, slice_get, IfOk, OnOk, OnErr, Ok, Err};
 ghost use Rattle.ack_codec.specs.declared.acks.Ack.{Ack};
-ghost use Rattle.packet_stream.specs.Streams.{written_in};
+ghost use Rattle.hd_base.specs.Results.{Gives, with_value};
 ghost use Rattle.writer_core.specs.Commands.{admitted};
 ghost use Rattle.writer_core.specs.Phases.{without};
 ghost use Rattle.writer_core.specs.Transitions.{given, ordinal, took, waits_as, opening, wrote, taken_as};
@@ -55,6 +55,7 @@ pub struct WriterRecord {
 impl WriterRecord {
     /// Puts a command behind the others, where it may be given.
     pub fn give(&mut self, command: Command) -> Result<(), CommandFault>
+        ensures answer { Gives CommandFault.Memory result (with_value (λ _. tt) (admitted self.old.intake command)) }
         ensures ok { OnOk result (self.new ≡ given self.old command) }
         ensures err { OnErr result (self.new ≡ self.old) }
     {

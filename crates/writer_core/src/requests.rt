@@ -1,13 +1,14 @@
 //! The request by which a pipeline is set up.
 
 ghost use Rattle.std.specs.Prelude.{◌≡◌, ◌≤◌, ◌++◌, length, map, codes, decimal, IfOk};
-ghost use Rattle.op_headers.specs.NodeRefs.{ref_of};
+ghost use Rattle.node_refs.specs.NodeRefs.{ref_of};
 ghost use Rattle.writer_core.specs.Requests.{pool_name, client_name, stage_of, min_length, max_length, latest_stamp, request_for};
 
 use crate::phases::Setup;
 use hd_base::{BlockId, ByteList, MAX_MEMBERS, NodeId, Stamp};
 use itoa::Buffer;
-use op_headers::{BlockRef, Op, Stage, Targets, WriteOp, node_ref};
+use node_refs::node_ref;
+use op_headers::{BlockRef, Op, Stage, Targets, WriteOp};
 use packet_stream::PacketStream;
 use std::alloc::{AllocError, Global};
 

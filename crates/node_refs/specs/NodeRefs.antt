@@ -5,7 +5,7 @@ use Rattle.uuid.specs.Text.{hyphenated_text, lower}
 use Rattle.hd_base.specs.declared.numbers.NodeId.{NodeId}
 use Rattle.hd_base.specs.declared.roads.TheConstants.{FIRST_PORT}
 use Rattle.op_headers.specs.declared.nodes.NodeRef.{NodeRef}
-use Rattle.op_headers.specs.declared.node_refs.TheConstants.{FIRST_UUID}
+use Rattle.node_refs.specs.declared.TheConstants.{FIRST_UUID}
 
 -- a node's unique name, as text
 abbrev pub uuid_of : NodeId → List ℕ

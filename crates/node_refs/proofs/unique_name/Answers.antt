@@ -2,9 +2,9 @@
 use Rattle.std.proofs.Common.{◌≡◌, ◌+◌, ◌∙◌, ap, subst, IfOk}
 use Rattle.std.specs.Int.{w128, to_be_bytes}
 use Rattle.uuid.specs.Text.{hyphenated_text, lower}
-use Rattle.op_headers.specs.declared.node_refs.TheConstants.{FIRST_UUID}
-use Rattle.op_headers.specs.NodeRefs.{uuid_of}
-use Rattle.op_headers.proofs.node_refs.unique_name.Goals as goal
+use Rattle.node_refs.specs.declared.TheConstants.{FIRST_UUID}
+use Rattle.node_refs.specs.NodeRefs.{uuid_of}
+use Rattle.node_refs.proofs.unique_name.Goals as goal
 
 pub returns : goal.returns
 returns c =

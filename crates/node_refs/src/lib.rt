@@ -1,10 +1,11 @@
 //! What requests say of the product's own nodes.
+#![tactic(auto)]
 
 ghost use Rattle.std.specs.Prelude.{◌≡◌, IfOk};
-ghost use Rattle.op_headers.specs.NodeRefs.{port_of, ref_of, uuid_of};
+ghost use Rattle.node_refs.specs.NodeRefs.{port_of, ref_of, uuid_of};
 
-use crate::nodes::NodeRef;
 use hd_base::{ByteList, FIRST_PORT, NodeId};
+use op_headers::NodeRef;
 use std::alloc::{AllocError, Global};
 use uuid::Uuid;
 
