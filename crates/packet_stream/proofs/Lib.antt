@@ -1,2 +1,3 @@
 pub mod ExtentLemmas
 pub mod StreamLemmas
+pub mod CarryLemmas

@@ -11,5 +11,5 @@ mod stream;
 mod tests;
 
 pub use extents::{BLOCK_LIMIT, PACKET_SIZE};
-pub use laws::forming_keeps_the_written;
+pub use laws::{forming_keeps_the_written, packets_are_short, packets_carry_the_written};
 pub use stream::{MAX_UNACKED, PacketStream};

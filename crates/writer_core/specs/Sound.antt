@@ -23,4 +23,5 @@ pub record Sound (w : WriterRecord) : Type 0 where
   pub queued : queued_bytes w.queue ≤ w.intake.bytes
   pub bytes : w.intake.bytes ≤ MAX_GIVEN
   pub written : written_in w.stream + queued_bytes w.queue ≤ MAX_APPEND_LENGTH + w.intake.bytes
+  pub counted : syncs_due w.waiting ≤ w.taken
   pub numbers : w.stream.seqno + syncs_due w.waiting + w.stream.base ≤ w.stream.sent + w.taken

@@ -266,7 +266,8 @@ impl WriterRecord {
         ensures action { result ≡ (completed_step self.old).action }
         ensures writer { self.new ≡ (completed_step self.old).writer }
     {
-        let answered = self.answer_reached(self.stream.written());
+        let length = self.stream.written();
+        let answered = self.answer_reached(length);
         self.phase = Phase::Closed;
         answered
     }
@@ -450,7 +451,8 @@ impl WriterRecord {
         if is_success(response.status) {
             self.phase = Phase::Accepted { setup, stamp };
         } else {
-            self.fail(setup.remedy(), bad_place(&self.members, bad));
+            let place = bad_place(&self.members, bad);
+            self.fail(setup.remedy(), place);
         }
     }
 
