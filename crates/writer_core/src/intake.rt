@@ -1,6 +1,6 @@
 //! What was given to the writer.
 
-ghost use Rattle.std.specs.Prelude.{◌≡◌, Ok, Err};
+ghost use Rattle.std.specs.Prelude.{◌≡◌, false, Ok, Err};
 ghost use Rattle.writer_core.specs.Commands.{fits, is_too_much, admitted, intake_after};
 
 use crate::commands::{Command, CommandFault};

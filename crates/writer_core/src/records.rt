@@ -540,12 +540,12 @@ impl WriterRecord {
     }
 
     /// The office reopened the block.
-    fn reopen(&mut self, setup: Setup, reopened: Reopened)
-        ensures { self.new ≡ reopened self.old setup reopened }
+    fn reopen(&mut self, setup: Setup, told: Reopened)
+        ensures { self.new ≡ reopened self.old setup told }
     {
-        if setup == Setup::Append && reopened.length <= MAX_APPEND_LENGTH {
-            self.begin_session(reopened.committed, reopened.length);
-            let stamp = reopened.new;
+        if setup == Setup::Append && told.length <= MAX_APPEND_LENGTH {
+            self.begin_session(told.committed, told.length);
+            let stamp = told.new;
             self.phase = Phase::Stamped { setup, stamp };
         }
     }
