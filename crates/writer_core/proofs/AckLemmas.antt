@@ -1,7 +1,10 @@
 -- The last reply that isn't SUCCESS.
-use Rattle.std.proofs.Common.{ℕ, suc, ◌≡◌, ◌+◌, Bool, true, false, List, [], ◌∷◌, ◌++◌, length, Option, Some, None, if◌then◌else◌, refl, ap, ◌∙◌, add-one}
+use Rattle.std.proofs.Common.{ℕ, suc, ◌≡◌, ◌<◌, ◌+◌, ◌==◌, not, take, get_or, filter, arith, Bool, true, false, List, [], ◌∷◌, ◌++◌, length, Option, Some, None, if◌then◌else◌, refl, ap, ◌∙◌, add-one}
+use Rattle.std.proofs.lemmas.List.{take_more, length-take-le, append-nil}
+use Rattle.std.proofs.lemmas.List.Elements.{filter-append}
+use Rattle.hd_base.specs.declared.numbers.NodeId.{NodeId}
 use Rattle.hd_base.specs.declared.states.Status.{Status}
-use Rattle.writer_core.specs.Phases.{last_bad, bad_behind, is_success}
+use Rattle.writer_core.specs.Phases.{last_bad, bad_behind, is_success, without}
 
 alone : (good : Bool) → bad_behind good None ≡ (if good then None else Some 0)
 alone true = refl
@@ -16,3 +19,26 @@ behind false false last n = refl
 pub last_bad_more : (rs : List Status) (r : Status) → last_bad (rs ++ r ∷ []) ≡ (if is_success r then last_bad rs else Some (length rs))
 last_bad_more [] r = alone (is_success r)
 last_bad_more (x ∷ rs) r = ap (bad_behind (is_success x)) (last_bad_more rs r) ∙ (behind (is_success x) (is_success r) (last_bad rs) (length rs) ∙ ap (λ n. if is_success r then bad_behind (is_success x) (last_bad rs) else Some n) (add-one (length rs)))
+
+-- the same along a list
+pub last_bad_along : (rs : List Status) (i : ℕ) (d : Status) → i < length rs → last_bad (take (i + 1) rs) ≡ (if is_success (get_or rs i d) then last_bad (take i rs) else Some i)
+last_bad_along rs i d h =
+    ap last_bad (take_more rs i d h)
+    ∙ (last_bad_more (take i rs) (get_or rs i d)
+    ∙ ap (λ n. if is_success (get_or rs i d) then last_bad (take i rs) else Some n) (length-take-le i rs (omega arith)))
+
+-- nodes but one, along a list
+kept_more : (p : NodeId → Bool) (x : NodeId) (b : Bool) → p x ≡ b → filter p (x ∷ []) ≡ (if b then x ∷ [] else [])
+kept_more p x b e = ap (λ v. if v then x ∷ [] else []) e
+
+pub without_kept : (xs : List NodeId) (i : ℕ) (d bad : NodeId) → i < length xs → not ((get_or xs i d).0 == bad.0) ≡ true → without (take (i + 1) xs) bad ≡ without (take i xs) bad ++ get_or xs i d ∷ []
+without_kept xs i d bad h e =
+    ap (λ l. without l bad) (take_more xs i d h)
+    ∙ (filter-append (λ n. not (n.0 == bad.0)) (take i xs) (get_or xs i d ∷ [])
+    ∙ ap (λ l. without (take i xs) bad ++ l) (kept_more (λ n. not (n.0 == bad.0)) (get_or xs i d) true e))
+
+pub without_left : (xs : List NodeId) (i : ℕ) (d bad : NodeId) → i < length xs → not ((get_or xs i d).0 == bad.0) ≡ false → without (take (i + 1) xs) bad ≡ without (take i xs) bad
+without_left xs i d bad h e =
+    ap (λ l. without l bad) (take_more xs i d h)
+    ∙ (filter-append (λ n. not (n.0 == bad.0)) (take i xs) (get_or xs i d ∷ [])
+    ∙ (ap (λ l. without (take i xs) bad ++ l) (kept_more (λ n. not (n.0 == bad.0)) (get_or xs i d) false e) ∙ append-nil (without (take i xs) bad)))

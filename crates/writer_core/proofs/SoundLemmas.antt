@@ -1,5 +1,7 @@
 -- A writer stays sound through each call.
-use Rattle.std.proofs.Common.{ℕ, ℤ, pos, ◌≡◌, ◌≤◌, ◌<◌, ◌+◌, ◌-◌, ◌^◌, nat_le, Bool, true, false, List, [], ◌∷◌, ◌++◌, length, drop, slice_get, Option, Some, None, Result, Ok, Err, if◌then◌else◌, refl, subst, sym, ap, arith, length-append}
+use Rattle.std.proofs.Common.{ℕ, ℤ, pos, ◌≡◌, ◌≤◌, ◌<◌, ◌+◌, ◌-◌, ◌^◌, nat_le, Bool, true, false, List, [], ◌∷◌, ◌++◌, length, drop, slice_get, Option, Some, None, Result, Ok, Err, if◌then◌else◌, refl, subst, sym, ap, ◌∙◌, arith, length-append}
+use Rattle.std.specs.Borrow.{Bor}
+use Rattle.std.specs.Option.{option_copied}
 use Rattle.std.proofs.lemmas.Bool.Decides.{nat_tests}
 use Rattle.hd_base.specs.declared.numbers.BlockId.{BlockId}
 use Rattle.hd_base.specs.declared.numbers.NodeId.{NodeId}
@@ -193,6 +195,10 @@ taken_few w c h e = omega (arith, one_less w.queue c e, h.commands, h.few)
 -- its bytes fit
 pub bytes_fit : (w : WriterRecord) (c : Command) → Sound w → slice_get w.queue 0 ≡ Some c → written_in w.stream + command_length c ≤ BLOCK_LIMIT
 bytes_fit w c h e = omega (arith, first_off w.queue c e, h.written, h.bytes)
+
+-- the same of a reference to the first command
+pub fits_as : (w : WriterRecord) (o : Option (Bor Command)) (b : Bor Command) (c : Command) → Sound w → option_copied o ≡ slice_get w.queue 0 → o ≡ Some b → b.now ≡ c → written_in w.stream + command_length c ≤ BLOCK_LIMIT
+fits_as w o b c h e s k = bytes_fit w c h (sym e ∙ (ap option_copied s ∙ ap Some k))
 
 -- The first command is taken, under another waiting one, in another phase.
 waits_sound : (w : WriterRecord) (c : Command) (x : Option Waiting) (members : List NodeId) (p : Phase) (b : Bool) → syncs_due x ≤ syncs_due w.waiting + 1 → Sound w → slice_get w.queue 0 ≡ Some c → Sound (record (took w) { waiting = x; members = members; phase = p; had_sync = b })

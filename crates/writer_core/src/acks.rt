@@ -1,6 +1,6 @@
 //! What acks and answers say of the members.
 
-ghost use Rattle.std.specs.Prelude.{◌≡◌, ◌==◌, ◌≤◌, ◌<◌, [], not, filter, length, option_copied, slice_get};
+ghost use Rattle.std.specs.Prelude.{if◌then◌else◌, Some, position, take, ◌≡◌, ◌==◌, ◌≤◌, ◌<◌, [], not, filter, length, option_copied, slice_get};
 ghost use Rattle.packet_codec.specs.declared.packets.Packet.{Packet};
 ghost use Rattle.writer_core.specs.Phases.{remedy_after, remedy_in, remedy_at_ack, is_success, last_bad};
 ghost use Rattle.writer_core.specs.Phases.{replies_verdict, ack_verdict, bad_place, without};
@@ -73,11 +73,16 @@ fn last_bad(replies: &[Status]) -> Option<usize>
 {
     let mut last = None;
     for (i, reply) in replies.iter().enumerate() {
-        if !is_success(*reply) {
-            last = Some(i);
-        }
+        last = last_bad_with(last, i, *reply);
     }
     last
+}
+
+/// The same with this reply behind those before.
+fn last_bad_with(last: Option<usize>, i: usize, reply: Status) -> Option<usize>
+    ensures { result ≡ (if is_success reply then last else Some i) }
+{
+    if is_success(reply) { last } else { Some(i) }
 }
 
 /// What the replies of so many members say.
@@ -109,27 +114,44 @@ pub(crate) fn bad_place(members: &Members, bad: Option<NodeId>) -> usize
     ensures { result ≡ bad_place members.now bad }
 {
     match bad {
-        Some(bad) => members.iter().position(|node| *node == bad).unwrap_or(0),
+        Some(bad) => place_in(members.as_slice(), bad).unwrap_or(0),
         None => 0,
     }
+}
+
+/// The place of a node among others.
+fn place_in(nodes: &[NodeId], node: NodeId) -> Option<usize>
+    ensures { result ≡ position (λ n. n.0 == node.0) nodes.now }
+{
+    nodes.iter().position(|other| other.0 == node.0)
 }
 
 /// The members without this one.
 pub(crate) fn without(members: &Members, bad: NodeId) -> Members
     ensures { result ≡ without members.now bad }
 {
-    let mut kept = [NodeId(0); MAX_MEMBERS];
-    let mut count = 0;
-    for node in members {
-        if *node != bad {
-            kept[count] = *node;
-            count += 1;
-        }
-    }
+    let (kept, count) = others(members.as_slice(), bad);
     let Some(left) = Members::new(&kept[..count]) else {
         unreachable!()
     };
     left
+}
+
+/// The nodes but this one, and how many they are.
+fn others(nodes: &[NodeId], bad: NodeId) -> ([NodeId; MAX_MEMBERS], usize)
+    requires { length nodes.now ≤ MAX_MEMBERS }
+    ensures others { take result.1 result.0 ≡ without nodes.now bad }
+    ensures few { result.1 ≤ MAX_MEMBERS }
+{
+    let mut kept = [NodeId(0); MAX_MEMBERS];
+    let mut count = 0;
+    for node in nodes {
+        if node.0 != bad.0 {
+            kept[count] = *node;
+            count += 1;
+        }
+    }
+    (kept, count)
 }
 
 /// No member.

@@ -1,6 +1,6 @@
 //! A writer, and what each call makes of it.
 
-ghost use Rattle.std.specs.Prelude.{◌≡◌, ◌==◌, ◌≤◌, ◌<◌, ◌^◌, pos, Some, length, slice_get, IfOk, OnOk, OnErr, Ok, Err};
+ghost use Rattle.std.specs.Prelude.{◌≡◌, ◌==◌, ◌≤◌, ◌<◌, ◌^◌, pos, Some, ◌+◌, length, slice_get, is_ok, if◌then◌else◌, IfOk, OnOk, OnErr, Ok, Err};
 ghost use Rattle.ack_codec.specs.declared.acks.Ack.{Ack};
 ghost use Rattle.hd_base.specs.Results.{Gives, with_value};
 ghost use Rattle.writer_core.specs.Commands.{admitted};
@@ -58,6 +58,7 @@ impl WriterRecord {
         ensures answer { Gives CommandFault.Memory result (with_value (λ _. tt) (admitted self.old.intake command)) }
         ensures ok { OnOk result (self.new ≡ given self.old command) }
         ensures err { OnErr result (self.new ≡ self.old) }
+        ensures writer { self.new ≡ (if is_ok result then given self.old command else self.old) }
     {
         let intake = self.intake.admit(&command)?;
         if self.queue.push(command).is_err() {
