@@ -1,6 +1,9 @@
 -- The last reply that isn't SUCCESS.
-use Rattle.std.proofs.Common.{ℕ, suc, ◌≡◌, ◌<◌, ◌+◌, ◌==◌, not, take, get_or, filter, arith, Bool, true, false, List, [], ◌∷◌, ◌++◌, length, Option, Some, None, if◌then◌else◌, refl, ap, ◌∙◌, add-one}
-use Rattle.std.proofs.lemmas.List.{take_more, length-take-le, append-nil}
+use Rattle.std.proofs.Common.{ℕ, suc, ◌≡◌, ◌<◌, ◌+◌, ◌≤◌, ◌==◌, not, take, get_or, filter, arith, Bool, true, false, List, [], ◌∷◌, ◌++◌, length, Option, Some, None, if◌then◌else◌, set, refl, ap, sym, ◌∙◌, add-one}
+use Rattle.std.proofs.lemmas.Bool.Decides.{nat_tests}
+use Rattle.std.specs.Option.{IsSome}
+use Rattle.std.proofs.Math.ListN.{length-set}
+use Rattle.std.proofs.lemmas.List.{take_more, take_more_set, length-take-le, length-take, append-nil}
 use Rattle.std.proofs.lemmas.List.Elements.{filter-append}
 use Rattle.hd_base.specs.declared.numbers.NodeId.{NodeId}
 use Rattle.hd_base.specs.declared.states.Status.{Status}
@@ -42,3 +45,33 @@ without_left xs i d bad h e =
     ap (λ l. without l bad) (take_more xs i d h)
     ∙ (filter-append (λ n. not (n.0 == bad.0)) (take i xs) (get_or xs i d ∷ [])
     ∙ (ap (λ l. without (take i xs) bad ++ l) (kept_more (λ n. not (n.0 == bad.0)) (get_or xs i d) false e) ∙ append-nil (without (take i xs) bad)))
+
+pub kept_test : (a b : ℕ) → (a ≡ b → ⊥) → not (a == b) ≡ true
+kept_test a b h = grind (arith, nat_tests)
+
+pub left_test : (a b : ℕ) → a ≡ b → not (a == b) ≡ false
+left_test a b h = grind (arith, nat_tests)
+
+pub few_taken : (n : ℕ) (xs : List NodeId) (most : ℕ) → n ≤ most → length (take n xs) ≤ most
+few_taken n xs most h = simp length-take (omega arith)
+
+pub kept_step : (nodes kept after : List NodeId) (i n m : ℕ) (d bad : NodeId) → i < length nodes → n < length kept → ((get_or nodes i d).0 ≡ bad.0 → ⊥) → after ≡ set kept n (get_or nodes i d) → m ≡ n + 1 → take n kept ≡ without (take i nodes) bad → take m after ≡ without (take (i + 1) nodes) bad
+kept_step nodes kept after i n m d bad h k ne e f v =
+    ap (λ j. take j after) f
+    ∙ (ap (λ l. take (n + 1) l) e
+    ∙ (take_more_set kept n (get_or nodes i d) k
+    ∙ (ap (λ l. l ++ get_or nodes i d ∷ []) v
+    ∙ sym (without_kept nodes i d bad h (kept_test (get_or nodes i d).0 bad.0 ne)))))
+
+pub left_step : (nodes kept after : List NodeId) (i n m : ℕ) (d bad : NodeId) → i < length nodes → (get_or nodes i d).0 ≡ bad.0 → after ≡ kept → m ≡ n → take n kept ≡ without (take i nodes) bad → take m after ≡ without (take (i + 1) nodes) bad
+left_step nodes kept after i n m d bad h same e f v =
+    ap (λ j. take j after) f
+    ∙ (ap (λ l. take n l) e
+    ∙ (v ∙ sym (without_left nodes i d bad h (left_test (get_or nodes i d).0 bad.0 same))))
+
+pub length_kept : (kept after : List NodeId) (n : ℕ) (x : NodeId) → after ≡ set kept n x → length after ≡ length kept
+length_kept kept after n x e = ap length e ∙ simp length-set
+
+pub some_not_none : {A : Type 0} (o : Option A) → IsSome o → o ≡ None → ⊥
+some_not_none None s e = cc
+some_not_none (Some x) s e = cc
