@@ -1,0 +1,3 @@
+pub mod ExtentLemmas
+pub mod StreamLemmas
+pub mod CarryLemmas

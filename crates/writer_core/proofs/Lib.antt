@@ -1,0 +1,4 @@
+pub mod QueueLemmas
+pub mod DueLemmas
+pub mod SoundLemmas
+pub mod AckLemmas

@@ -1,0 +1,5 @@
+pub mod Commands
+pub mod Phases
+pub mod Requests
+pub mod Transitions
+pub mod Sound

@@ -1,0 +1,21 @@
+//! The writing client of a block as a pure machine: which commands it takes, how it sets pipelines
+//! up, streams packets, drops members that fail and recovers, and what it answers. It never waits,
+//! and does nothing by itself: it says what is to be done, and is told what came of it.
+#![tactic(auto)]
+
+mod acks;
+mod actions;
+mod commands;
+mod intake;
+mod phases;
+mod records;
+mod requests;
+#[cfg(test)]
+mod tests;
+mod writer;
+
+pub use actions::{Action, ClientAnswer};
+pub use commands::{Command, CommandFault};
+pub use intake::{MAX_COMMANDS, MAX_GIVEN};
+pub use requests::POOL;
+pub use writer::Writer;
