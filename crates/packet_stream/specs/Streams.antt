@@ -81,7 +81,7 @@ formed s end sync = record s {
   sent = end;
   seqno = s.seqno + 1;
   tail = drop (next_start s.rule.chunk s.base end - start_in s) s.tail;
-  unacked = s.unacked ++ next_packet s end sync ∷ []
+  unacked = s.unacked ++ next_packet s end sync ∷ [];
 }
 
 -- the packet without bytes at the sent end that asks that what was sent be brought to the disk

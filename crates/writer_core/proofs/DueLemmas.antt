@@ -39,8 +39,8 @@ due_is x s h =
     choice (λ d. IfSome d (IsDue x s)) (nat_le (greatest_end s.rule.chunk (start_in s)) (written_in s)) _ _
     (λ e. (greatest_past s h, grind (arith, nat_tests)))
     (λ e. choice (λ d. IfSome d (IsDue x s)) (is_flushing x && nat_lt s.sent (written_in s)) _ _
-        (λ f. (grind (arith, nat_tests), omega arith))
-        (λ f. empty_is x s))
+    (λ f. (grind (arith, nat_tests), omega arith))
+    (λ f. empty_is x s))
 
 -- The packet that is due is so, and there is room for it.
 pub record IsDueNow (w : WriterRecord) (d : DuePacket) : Type 0 where
@@ -54,7 +54,7 @@ both w (Some d) room h = record { room = room; fits = h }
 pub due_now_is : (w : WriterRecord) (d : DuePacket) → IsStream w.stream → due_now w ≡ Some d → IsDueNow w d
 due_now_is w d h e =
     let all : IfSome (due_now w) (IsDueNow w) =
-        choice (λ o. IfSome o (IsDueNow w)) (nat_lt (length w.stream.unacked) MAX_UNACKED) (due_in w.waiting w.stream) None
-        (λ r. both w (due_in w.waiting w.stream) (grind (arith, nat_tests)) (due_is w.waiting w.stream h))
-        (λ r. tt) in
+    choice (λ o. IfSome o (IsDueNow w)) (nat_lt (length w.stream.unacked) MAX_UNACKED) (due_in w.waiting w.stream) None
+    (λ r. both w (due_in w.waiting w.stream) (grind (arith, nat_tests)) (due_is w.waiting w.stream h))
+    (λ r. tt) in
     subst (λ o. IfSome o (IsDueNow w)) e all

@@ -109,10 +109,13 @@ acked_oldest_sound w h =
     let e = same_bytes w.stream (slice_get w.stream.unacked 0) in
     record {
       stream = oldest_acked_is w.stream h.stream;
-      commands = h.commands; few = h.few; queued = h.queued; bytes = h.bytes;
+      commands = h.commands;
+      few = h.few;
+      queued = h.queued;
+      bytes = h.bytes;
       written = omega (arith, e.0, h.written);
       counted = h.counted;
-      numbers = omega (arith, e.1, e.2, e.3, h.numbers)
+      numbers = omega (arith, e.1, e.2, e.3, h.numbers);
     }
 
 acked_as_sound : (w : WriterRecord) (r : Remedy) (v : Verdict) → Sound w → Sound (acked_as w r v)
@@ -138,10 +141,13 @@ refused_sound w e h = moved w w.members w.committed _ h
 session_sound : (w : WriterRecord) (stamp : Stamp) (base : ℕ) (p : Phase) → base ≤ MAX_APPEND_LENGTH → Sound w → Sound (record (begin_session w stamp base) { phase = p })
 session_sound w stamp base p b h = record {
   stream = begun_is w.stream.rule base h.stream.chunk (omega (arith, b));
-  commands = h.commands; few = h.few; queued = h.queued; bytes = h.bytes;
+  commands = h.commands;
+  few = h.few;
+  queued = h.queued;
+  bytes = h.bytes;
   written = omega (arith, begun_written w.stream.rule base, b, h.queued);
   counted = h.counted;
-  numbers = omega (arith, h.counted)
+  numbers = omega (arith, h.counted);
 }
 
 stamped_sound : (w : WriterRecord) (s : Setup) (stamp : Stamp) → Sound w → Sound (stamped w s stamp)
@@ -210,7 +216,7 @@ waits_sound w c x members p b less h e = record {
   bytes = h.bytes;
   written = omega (arith, first_off w.queue c e, h.written);
   counted = omega (arith, less, h.counted);
-  numbers = omega (arith, less, h.numbers)
+  numbers = omega (arith, less, h.numbers);
 }
 
 wrote_sound : (w : WriterRecord) (c : Command) (bytes : List ℕ) → length bytes ≡ command_length c → Sound w → slice_get w.queue 0 ≡ Some c → Sound (wrote w bytes)
@@ -222,7 +228,7 @@ wrote_sound w c bytes n h e = record {
   bytes = h.bytes;
   written = omega (arith, first_off w.queue c e, h.written, wrote_written w.stream bytes, n);
   counted = omega (arith, h.counted);
-  numbers = omega (arith, h.numbers)
+  numbers = omega (arith, h.numbers);
 }
 
 taken_sound : (w : WriterRecord) (c : Command) → Sound w → slice_get w.queue 0 ≡ Some c → Sound (taken_as w c)
@@ -285,26 +291,35 @@ form_sound w (due.Data end is_sync) h d =
     let less = formed_as_less is_sync (pos w.stream.seqno) w.waiting in
     record {
       stream = formed_is w.stream end is_sync h.stream d.fits.0 d.fits.1 d.room (number_left w h);
-      commands = h.commands; few = h.few; queued = h.queued; bytes = h.bytes;
+      commands = h.commands;
+      few = h.few;
+      queued = h.queued;
+      bytes = h.bytes;
       written = omega (arith, e, h.written);
       counted = omega (arith, less, h.counted);
-      numbers = omega (arith, less, h.numbers, d.fits.0)
+      numbers = omega (arith, less, h.numbers, d.fits.0);
     }
 form_sound w due.Sync h d =
     let none = formed_as_none (pos w.stream.seqno) w.waiting in
     record {
       stream = sync_formed_is w.stream h.stream d.room (number_left w h);
-      commands = h.commands; few = h.few; queued = h.queued; bytes = h.bytes;
+      commands = h.commands;
+      few = h.few;
+      queued = h.queued;
+      bytes = h.bytes;
       written = h.written;
       counted = omega (arith, none);
-      numbers = omega (arith, none, d.fits, h.numbers)
+      numbers = omega (arith, none, d.fits, h.numbers);
     }
 form_sound w due.Last h d = record {
   stream = last_formed_is w.stream w.had_sync h.stream d.room;
-  commands = h.commands; few = h.few; queued = h.queued; bytes = h.bytes;
+  commands = h.commands;
+  few = h.few;
+  queued = h.queued;
+  bytes = h.bytes;
   written = h.written;
   counted = h.counted;
-  numbers = h.numbers
+  numbers = h.numbers;
 }
 
 reach_as_sound : (w : WriterRecord) (o : Option ℕ) → Sound w → Sound (reach_step_as w o).writer
@@ -351,10 +366,13 @@ own_step_sound w h = step_in_sound w w.phase h
 pub fresh_sound : (block : BlockId) (r : Rule) → IsChunkSize r.chunk → Sound (fresh block r)
 fresh_sound block r k = record {
   stream = begun_is r 0 k (omega arith);
-  commands = omega arith; few = omega arith; queued = omega arith; bytes = omega arith;
+  commands = omega arith;
+  few = omega arith;
+  queued = omega arith;
+  bytes = omega arith;
   written = omega (arith, begun_written r 0);
   counted = omega arith;
-  numbers = omega arith
+  numbers = omega arith;
 }
 
 admitted_by : (much good : Bool) (i j : Intake) → (if much then Err taking.TooMuch else if good then Ok i else Err taking.Unfit) ≡ Ok j → (i ≡ j) × (much ≡ false)
@@ -381,7 +399,7 @@ given_sound_at w c h e =
       bytes = n.0;
       written = omega (arith, queued_more w.queue c, h.written);
       counted = h.counted;
-      numbers = h.numbers
+      numbers = h.numbers;
     }
 
 given_as_sound : (w : WriterRecord) (c : Command) (r : Result Intake CommandFault) → Sound w → admitted w.intake c ≡ r → Sound (given_as w c r)

@@ -29,7 +29,9 @@ pub enum Action {
 #[derive(Debug, PartialEq, Eq, Drop)]
 pub enum ClientAnswer {
     /// A create or an append: the pipeline stands under this committed stamp.
-    Granted { stamp: Stamp },
+    Granted {
+        stamp: Stamp,
+    },
     /// A flush, a sync or a close: these members have so many bytes of the block under this stamp.
     Reached {
         length: u64,
@@ -37,11 +39,17 @@ pub enum ClientAnswer {
         members: Members,
     },
     /// The setup of the new block failed, for this member.
-    Abandoned { member: NodeId },
+    Abandoned {
+        member: NodeId,
+    },
     /// Every member was dropped, this one last.
-    AllBad { member: NodeId },
+    AllBad {
+        member: NodeId,
+    },
     /// A block recovery has taken the lease.
-    Lost { recovery: Stamp },
+    Lost {
+        recovery: Stamp,
+    },
     /// The office refused.
     Refused(OfficeFault),
 }

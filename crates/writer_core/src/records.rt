@@ -589,10 +589,12 @@ fn due(waiting: Option<Waiting>, stream: &PacketStream) -> Option<DuePacket>
         return Some(data_due(waiting, written));
     }
     match waiting {
-        Some(Waiting::Sync {
-            packet: SyncPacket::Due,
-            ..
-        }) => Some(DuePacket::Sync),
+        Some(
+            Waiting::Sync {
+                packet: SyncPacket::Due,
+                ..
+            },
+        ) => Some(DuePacket::Sync),
         Some(Waiting::Close) if stream.acked() == written => Some(DuePacket::Last),
         _ => None,
     }
@@ -603,10 +605,12 @@ fn data_due(waiting: Option<Waiting>, end: u64) -> DuePacket
     ensures { result ≡ data_due waiting end }
 {
     let sync = match waiting {
-        Some(Waiting::Sync {
-            length,
-            packet: SyncPacket::Due,
-        }) => length == end,
+        Some(
+            Waiting::Sync {
+                length,
+                packet: SyncPacket::Due,
+            },
+        ) => length == end,
         _ => false,
     };
     DuePacket::Data { end, sync }
@@ -641,10 +645,12 @@ fn reached_length(waiting: Option<Waiting>, stream: &PacketStream) -> Option<u64
 {
     match waiting {
         Some(Waiting::Flush { length }) if length <= stream.acked() => Some(length),
-        Some(Waiting::Sync {
-            length,
-            packet: SyncPacket::Formed { seqno },
-        }) if stream.oldest_seqno().is_none_or(|oldest| seqno < oldest) => Some(length),
+        Some(
+            Waiting::Sync {
+                length,
+                packet: SyncPacket::Formed { seqno },
+            },
+        ) if stream.oldest_seqno().is_none_or(|oldest| seqno < oldest) => Some(length),
         _ => None,
     }
 }

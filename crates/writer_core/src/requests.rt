@@ -107,7 +107,12 @@ pub(crate) fn request(
 }
 
 /// The block, as requests name it.
-fn block_ref(alloc: Global, block: BlockId, stamp: Stamp, bytes: u64) -> Result<BlockRef, AllocError>
+fn block_ref(
+    alloc: Global,
+    block: BlockId,
+    stamp: Stamp,
+    bytes: u64,
+) -> Result<BlockRef, AllocError>
     ensures { IfOk result (λ told. told ≡
         record { pool = pool_name; block = block; stamp = stamp; bytes = bytes }) }
 {

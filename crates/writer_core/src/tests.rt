@@ -106,24 +106,26 @@ fn create(count: usize) -> Result<Command, Fail> {
     })
 }
 
-/// Whether a packet is this one: its number, where it begins, and how many bytes and sums it has.
+/// Whether a packet is this one: its number, where it begins, and how many bytes it and its sums have.
 fn is(packet: Option<&Packet>, seqno: i64, offset: i64, bytes: usize, sums: usize) -> bool {
     packet.is_some_and(|packet| {
         packet.seqno == seqno
             && packet.offset == offset
             && packet.body.len() == bytes
-            && packet.sums.len() == 4 * sums
+            && packet.sums.len() == sums
     })
 }
 
 /// Whether an answer is that so many bytes are reached under this stamp by so many members.
 fn is_reached(answer: Option<&ClientAnswer>, bytes: u64, under: u64, count: usize) -> bool {
     match answer {
-        Some(ClientAnswer::Reached {
-            length,
-            stamp,
-            members,
-        }) => *length == bytes && *stamp == Stamp(under) && members.len() == count,
+        Some(
+            ClientAnswer::Reached {
+                length,
+                stamp,
+                members,
+            },
+        ) => *length == bytes && *stamp == Stamp(under) && members.len() == count,
         _ => false,
     }
 }
@@ -136,8 +138,8 @@ fn a_full_packet_and_a_byte(rt: HostRuntime) -> Result<(), Fail> {
     let mut run = Run::new(&rt, commands)?;
     run.settle(&rt, Status::Success)?;
     assert!(rt; run.sent.len() == 2);
-    assert!(rt; is(run.sent.get(0), 0, 0, 64_512, 126));
-    assert!(rt; is(run.sent.get(1), 1, 64_512, 1, 1));
+    assert!(rt; is(run.sent.get(0), 0, 0, 64_512, 4 * 126));
+    assert!(rt; is(run.sent.get(1), 1, 64_512, 1, 4 * 1));
     run.ack(0, &GOOD[..1])?;
     run.ack(1, &GOOD[..1])?;
     run.settle(&rt, Status::Success)?;
@@ -157,11 +159,11 @@ fn a_chunk_that_grew_is_sent_again(rt: HostRuntime) -> Result<(), Fail> {
     let commands = [create(2)?, first, Command::Hflush, second, Command::Hflush];
     let mut run = Run::new(&rt, commands)?;
     run.settle(&rt, Status::Success)?;
-    assert!(rt; run.sent.len() == 1 && is(run.sent.get(0), 0, 0, 600, 2));
+    assert!(rt; run.sent.len() == 1 && is(run.sent.get(0), 0, 0, 600, 4 * 2));
     run.ack(0, &GOOD[..2])?;
     run.settle(&rt, Status::Success)?;
     assert!(rt; is_reached(run.answers.get(1), 600, 1001, 2));
-    assert!(rt; run.sent.len() == 2 && is(run.sent.get(1), 1, 512, 188, 1));
+    assert!(rt; run.sent.len() == 2 && is(run.sent.get(1), 1, 512, 188, 4 * 1));
     Ok(())
 }
 
@@ -182,7 +184,9 @@ fn an_append_ends_the_chunk_first(rt: HostRuntime) -> Result<(), Fail> {
     assert!(rt; op.stage == 0 && op.min == 600 && op.max == 600 && op.latest == Stamp(1002));
     assert!(rt; op.block.stamp == Stamp(1001) && op.block.bytes == 600 && op.pipeline == 1);
     assert!(rt; run.sent.len() == 4);
-    assert!(rt; is(run.sent.get(2), 0, 600, 424, 1) && is(run.sent.get(3), 1, 1024, 576, 2));
+    assert!(rt;
+        is(run.sent.get(2), 0, 600, 424, 4 * 1) && is(run.sent.get(3), 1, 1024, 576, 4 * 2)
+    );
     Ok(())
 }
 
@@ -193,7 +197,7 @@ fn each_hsync_has_its_packet(rt: HostRuntime) -> Result<(), Fail> {
     run.writer.command(Command::Hsync)?;
     run.writer.command(Command::Close)?;
     run.settle(&rt, Status::Success)?;
-    assert!(rt; run.sent.len() == 1 && is(run.sent.get(0), 0, 0, 9, 1));
+    assert!(rt; run.sent.len() == 1 && is(run.sent.get(0), 0, 0, 9, 4 * 1));
     run.ack(0, &GOOD[..1])?;
     run.settle(&rt, Status::Success)?;
     assert!(rt; is_reached(run.answers.get(1), 9, 1001, 1) && run.answers.len() == 2);
@@ -214,14 +218,14 @@ fn a_failed_member_is_dropped(rt: HostRuntime) -> Result<(), Fail> {
     run.settle(&rt, Status::Success)?;
     run.ack(0, &GOOD)?;
     run.settle(&rt, Status::Success)?;
-    assert!(rt; run.sent.len() == 2 && is(run.sent.get(1), 1, 512, 488, 1));
+    assert!(rt; run.sent.len() == 2 && is(run.sent.get(1), 1, 512, 488, 4 * 1));
     run.ack(1, &[Status::Error, Status::Error, Status::Success])?;
     assert!(rt; !run.writer.connected() && run.writer.wants_pipeline());
     run.settle(&rt, Status::Success)?;
     let op = run.last_op()?;
     assert!(rt; op.stage == 3 && op.min == 512 && op.max == 1000 && op.latest == Stamp(1002));
     assert!(rt; op.block.stamp == Stamp(1001) && op.targets.len() == 1 && op.pipeline == 2);
-    assert!(rt; run.sent.len() == 3 && is(run.sent.get(2), 1, 512, 488, 1));
+    assert!(rt; run.sent.len() == 3 && is(run.sent.get(2), 1, 512, 488, 4 * 1));
     run.ack(1, &GOOD[..2])?;
     run.settle(&rt, Status::Success)?;
     assert!(rt; is_reached(run.answers.get(2), 1000, 1002, 2));
@@ -234,13 +238,19 @@ fn each_failure_is_answered(rt: HostRuntime) -> Result<(), Fail> {
     run.settle(&rt, Status::Error)?;
     let abandoned = ClientAnswer::Abandoned { member: NodeId(0) };
     assert!(rt; run.answers.iter().all(|answer| *answer == abandoned) && run.answers.len() == 2);
-    let mut run = Run::new(&rt, [create(2)?, Command::Fill { count: 1 }, Command::Close])?;
+    let mut run = Run::new(
+        &rt,
+        [create(2)?, Command::Fill { count: 1 }, Command::Close],
+    )?;
     run.settle(&rt, Status::Success)?;
     run.writer.ended();
     run.settle(&rt, Status::Error)?;
     let all_bad = ClientAnswer::AllBad { member: NodeId(1) };
     assert!(rt; run.answers.get(1).is_some_and(|answer| *answer == all_bad));
-    let mut run = Run::new(&rt, [create(2)?, Command::Fill { count: 1 }, Command::Close])?;
+    let mut run = Run::new(
+        &rt,
+        [create(2)?, Command::Fill { count: 1 }, Command::Close],
+    )?;
     run.settle(&rt, Status::Success)?;
     let _begun = run.office.take(OfficeCall::BeginRecovery { block: BLOCK });
     run.writer.ended();
