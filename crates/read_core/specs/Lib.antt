@@ -1,3 +1,0 @@
-pub mod Servings
-pub mod Readings
-pub mod Laws
