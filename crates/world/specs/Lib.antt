@@ -1,0 +1,9 @@
+pub mod Parts
+pub mod Worlds
+pub mod Connections
+pub mod Nodes
+pub mod Clients
+pub mod Primaries
+pub mod Restarts
+pub mod Events
+pub mod Safe
