@@ -7,3 +7,4 @@ pub mod Primaries
 pub mod Restarts
 pub mod Events
 pub mod Safe
+pub mod FirstWrites
