@@ -7,4 +7,3 @@ pub mod Primaries
 pub mod Restarts
 pub mod Events
 pub mod Safe
-pub mod FirstWrites
