@@ -1,28 +1,17 @@
 -- A first write at one node: its events, and what is there at the end.
-use Rattle.std.specs.Prelude.{ℕ, ◌≡◌, true, false, List, [], ◌∷◌, codes, Option, Some, None, Result, Ok, Err}
-use Rattle.hd_base.specs.declared.sum_rule.SumKind.TheVariants as kind
+use Rattle.std.specs.Prelude.{◌≡◌, true, false, List, [], ◌∷◌, Some, None}
 use Rattle.hd_base.specs.declared.states.ReplicaState.TheVariants as state
-use Rattle.hd_base.specs.Blocks.{block_pool}
-use Rattle.hd_base.specs.SumRules.{Rule, default_rule}
-use Rattle.chunk_sums.specs.Crc.{sum_of}
-use Rattle.op_headers.specs.declared.ops.ReadOp.{ReadOp}
-use Rattle.packet_stream.specs.Streams.{fill_bytes}
+use Rattle.hd_base.specs.SumRules.{default_rule}
 use Rattle.writer_core.specs.declared.commands.Command.TheVariants as command
 use Rattle.writer_core.specs.declared.actions.ClientAnswer.TheVariants as answer
-use Rattle.read_core.specs.declared.reading.ReadFault.{ReadFault}
-use Rattle.read_core.specs.declared.reading.ReadFault.TheVariants as fault
-use Rattle.recovery_core.specs.declared.primary.Recovered.TheVariants as recovered
-use Rattle.world.specs.declared.events.Direction.TheVariants as direction
 use Rattle.world.specs.declared.events.Event.{Event}
-use Rattle.world.specs.declared.events.FoundReplica.{FoundReplica}
-use Rattle.world.specs.Parts.{Reader, has_read, no_reader, reads, has_led}
 use Rattle.world.specs.Worlds.{World, start}
 use Rattle.world.specs.Events.{run}
-use Rattle.world_cases.specs.Shown.{node, block, stamp, takes, acts, asks, begins_read, asks_recovery, recovers, leads, down, ready, up, fails, loses, stops, starts, writing, reading, beginning, updating, piece, acking, answering, status, telling, line, says, Ends, ends_of}
+use Rattle.world_cases.specs.Shown.{node, stamp, takes, acts, asks, down, ready, up, writing, piece, acking, answering, line, says, Ends, ends_of}
 
 abbrev pub first_write_events : List Event
 first_write_events =
-   takes 1073741825 default_rule (command.Create (node 0 ∷ [])) ∷ asks 1073741825 ∷ acts 1073741825 ∷ down 0 ∷ up 0
+    takes 1073741825 default_rule (command.Create (node 0 ∷ [])) ∷ asks 1073741825 ∷ acts 1073741825 ∷ down 0 ∷ up 0
     ∷ acts 1073741825
     ∷ takes 1073741825 default_rule (command.Write (49 ∷ 50 ∷ 51 ∷ 52 ∷ 53 ∷ 54 ∷ 55 ∷ 56 ∷ 57 ∷ []))
     ∷ takes 1073741825 default_rule command.Close ∷ acts 1073741825 ∷ down 0 ∷ ready 0 ∷ up 0 ∷ acts 1073741825
@@ -38,10 +27,10 @@ first_write_ends = record {
   replicas = line state.Finalized 1001 9 9 (Some 0xe3069283) ∷ [];
   said = says 0 (answer.Granted (stamp 1001)) ∷ says 2 (answer.Reached 9 (stamp 1001) (node 0 ∷ [])) ∷ [];
   downs =
-    ( writing 1001 6 0 0 0 [] ∷ piece 0 9 0 false false ∷ piece 9 9 1 true false ∷ [])
+    (writing 1001 6 0 0 0 [] ∷ piece 0 9 0 false false ∷ piece 9 9 1 true false ∷ [])
     ∷ [];
   ups =
-    ( answering 0 [] None [] ∷ acking 0 (0 ∷ []) ∷ acking 1 (0 ∷ []) ∷ [])
+    (answering 0 [] None [] ∷ acking 0 (0 ∷ []) ∷ acking 1 (0 ∷ []) ∷ [])
     ∷ [];
 }
 

@@ -1,2 +1,12 @@
 pub mod Shown
 pub mod FirstWrite
+pub mod FlushMidChunk
+pub mod CutStream
+pub mod FileFault
+pub mod BlockRecovery
+pub mod Restart
+pub mod Hsync
+pub mod SumsSixteen
+pub mod SumsNull
+pub mod Appended
+pub mod VisibleRead

@@ -1,12 +1,11 @@
 -- How a case is told: its events in short, and what of the world at its end is compared.
-use Rattle.std.specs.Prelude.{ℕ, ℤ, zero, suc, ◌+◌, nat_abs, Bool, true, false, List, [], ◌∷◌, ◌++◌, length, map, if◌then◌else◌, Option, Some, None}
+use Rattle.std.specs.Prelude.{ℕ, zero, suc, ◌+◌, nat_abs, Bool, true, List, [], ◌∷◌, ◌++◌, length, map, if◌then◌else◌, Option, Some, None}
 use Rattle.hd_base.specs.declared.numbers.BlockId.{BlockId}
 use Rattle.hd_base.specs.declared.numbers.ConnId.{ConnId}
 use Rattle.hd_base.specs.declared.numbers.NodeId.{NodeId}
 use Rattle.hd_base.specs.declared.numbers.Stamp.{Stamp}
 use Rattle.hd_base.specs.declared.states.ReplicaState.{ReplicaState}
 use Rattle.hd_base.specs.declared.sum_rule.SumKind.TheVariants as kind
-use Rattle.hd_base.specs.Blocks.{block_pool}
 use Rattle.hd_base.specs.SumRules.{Rule}
 use Rattle.hd_base.specs.Wire.{status_number, state_number}
 use Rattle.chunk_sums.specs.Crc.{sum_of}
