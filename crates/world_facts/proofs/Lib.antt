@@ -1,1 +1,9 @@
 pub mod RunLaws
+pub mod Tables
+pub mod Fitting
+pub mod Leaves
+pub mod Setups
+pub mod LowerEnds
+pub mod ClientEnds
+pub mod PrimaryEnds
+pub mod PlacedLaws

@@ -1,6 +1,6 @@
 -- No index of the world is out of range, and nothing stands where no connection was dialled.
-use Rattle.std.specs.Prelude.{ℕ, ◌≡◌, ◌<◌, ◌≤◌, true, List, [], slice_get, Option, Some, None, IfSome}
-use Rattle.world.specs.Parts.{Upper, by_writer, by_member, by_reader, by_primary, Place, Dialled, new_marks, FullMember, Lower, idle, writes, serves, recovers, ended_below, Writing, Reader, no_reader, reads, has_read, Leading, Primary, no_primary, was_told, leads, has_led}
+use Rattle.std.specs.Prelude.{ℕ, ◌≡◌, ◌<◌, ◌≤◌, true, [], slice_get, Option, Some, IfSome}
+use Rattle.world.specs.Parts.{Upper, by_member, Place, Dialled, new_marks, Lower, idle, writes, Reader, reads, Leading, Primary, leads}
 use Rattle.world.specs.Worlds.{World}
 
 -- a connection, where there is one, was dialled
