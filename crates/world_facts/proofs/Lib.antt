@@ -7,3 +7,8 @@ pub mod LowerEnds
 pub mod ClientEnds
 pub mod PrimaryEnds
 pub mod PlacedLaws
+pub mod Asides
+pub mod WriterSteps
+pub mod OfficeSteps
+pub mod Agreements
+pub mod Sessions
