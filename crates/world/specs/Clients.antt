@@ -1,12 +1,10 @@
 -- Writers and readers: their own steps, and what they take from their connections.
-use Rattle.std.specs.Prelude.{ℕ, ◌==◌, ◌&&◌, ◌||◌, nat_le, not, is_none, is_some, if◌then◌else◌, Bool, true, false, List, [], ◌∷◌, length, find, Option, Some, None, Result, Ok, Err}
+use Rattle.std.specs.Prelude.{ℕ, ◌==◌, ◌&&◌, nat_le, not, is_none, if◌then◌else◌, Bool, true, false, List, [], ◌∷◌, length, find, Option, Some, None, Ok, Err}
 use Rattle.std.specs.List.{list_any}
 use Rattle.std.specs.Cmp.Lexicographic.{pointwise}
-use Rattle.hd_base.specs.declared.numbers.BlockId.{BlockId}
 use Rattle.hd_base.specs.declared.numbers.NodeId.{NodeId}
 use Rattle.hd_base.specs.declared.pipeline.TheConstants.{MAX_MEMBERS}
 use Rattle.hd_base.specs.declared.sum_rule.TheConstants.{MIN_CHUNK_SIZE, MAX_CHUNK_SIZE}
-use Rattle.hd_base.specs.declared.states.Status.{Status}
 use Rattle.hd_base.specs.declared.states.Status.TheVariants as status
 use Rattle.hd_base.specs.SumRules.{Rule}
 use Rattle.op_headers.specs.declared.ops.Op.{Op}
@@ -30,14 +28,13 @@ use Rattle.writer_core.specs.Transitions.{given, own_step, dial_step, open_step,
 use Rattle.writer_core.specs.Transitions as writer
 use Rattle.read_core.specs.declared.reading.FromNode.{FromNode}
 use Rattle.read_core.specs.declared.reading.FromNode.TheVariants as from_node
-use Rattle.read_core.specs.declared.reading.ReadFault.{ReadFault}
 use Rattle.read_core.specs.declared.reading.ReadFault.TheVariants as read_fault
 use Rattle.read_core.specs.declared.reading.ReadTurn.{ReadTurn}
 use Rattle.read_core.specs.declared.reading.ReadTurn.TheVariants as turn
-use Rattle.read_core.specs.Readings.{ReadingState, ReadTaken, asked, take_from}
+use Rattle.read_core.specs.Readings.{ReadTaken, asked, take_from}
 use Rattle.world.specs.declared.events.TakenCommand.{TakenCommand}
-use Rattle.world.specs.Parts.{Message, request, packet, ack, response, read_status, by_writer, by_reader, Told, Writing, Reader, no_reader, reads, has_read, Reaching, by_hflush, by_hsync, by_close, Answered, Said}
-use Rattle.world.specs.Worlds.{World, Dial, Change, still}
+use Rattle.world.specs.Parts.{request, packet, ack, response, read_status, by_writer, by_reader, Told, Writing, Reader, no_reader, reads, has_read, Reaching, by_hflush, by_hsync, by_close, Answered}
+use Rattle.world.specs.Worlds.{World, Change, still}
 use Rattle.world.specs.Connections.{Next, message, the_end, place_of, sent_on, is_conn}
 
 -- WRITERS

@@ -1,5 +1,5 @@
 -- What stands next on a connection, and what is sent and shut.
-use Rattle.std.specs.Prelude.{ℕ, ◌==◌, ◌+◌, ◌&&◌, ◌||◌, nat_le, nat_lt, min, if◌then◌else◌, Bool, true, false, List, [], ◌∷◌, length, slice_get, option_map, Option, Some, None}
+use Rattle.std.specs.Prelude.{ℕ, ◌==◌, ◌+◌, ◌&&◌, ◌||◌, nat_le, nat_lt, min, if◌then◌else◌, Bool, true, false, List, [], length, slice_get, option_map, Option, Some, None}
 use Rattle.world.specs.Parts.{Message, Place, Dialled, Marks}
 use Rattle.world.specs.Worlds.{World, put}
 

@@ -1,20 +1,17 @@
 -- The events of the world: which are enabled, and what each makes of it.
-use Rattle.std.specs.Prelude.{ℕ, ◌==◌, ◌&&◌, nat_lt, not, is_some, if◌then◌else◌, Bool, true, false, List, [], ◌∷◌, option_map, Option, Some, None}
-use Rattle.hd_base.specs.declared.numbers.ConnId.{ConnId}
-use Rattle.hd_base.specs.declared.numbers.NodeId.{NodeId}
+use Rattle.std.specs.Prelude.{ℕ, ◌&&◌, nat_lt, not, is_some, if◌then◌else◌, Bool, true, false, List, [], ◌∷◌, option_map, Option, Some, None}
 use Rattle.world.specs.declared.events.Delivery.{Delivery}
 use Rattle.world.specs.declared.events.Delivery.TheVariants as delivery
 use Rattle.world.specs.declared.events.Direction.{Direction}
 use Rattle.world.specs.declared.events.Direction.TheVariants as direction
 use Rattle.world.specs.declared.events.Event.{Event}
 use Rattle.world.specs.declared.events.Event.TheVariants as event
-use Rattle.world.specs.declared.events.FoundReplica.{FoundReplica}
 use Rattle.world.specs.declared.events.OwnStep.{OwnStep}
 use Rattle.world.specs.declared.events.OwnStep.TheVariants as own
 use Rattle.world.specs.Parts.{Upper, by_writer, by_member, by_reader, by_primary}
 use Rattle.world.specs.Worlds.{World, Change, apply, put}
 use Rattle.world.specs.Connections.{Next, next_down, next_up, down_taken, up_taken, is_served, lost_marks, stopped_where, is_of_node}
-use Rattle.world.specs.Nodes.{unless_failing, lower_down, lower_ready, mirror_up}
+use Rattle.world.specs.Nodes.{lower_down, lower_ready, mirror_up}
 use Rattle.world.specs.Clients.{own_writer, writer_up, own_reader, reader_up}
 use Rattle.world.specs.Primaries.{own_recover, own_primary, primary_up, office_event}
 use Rattle.world.specs.Restarts.{all_found, restart}

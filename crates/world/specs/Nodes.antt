@@ -1,7 +1,5 @@
 -- The lower ends of connections, at nodes: requests, members of pipelines, reads that are served, and a member's part of block recoveries.
-use Rattle.std.specs.Prelude.{ℕ, ◌==◌, ◌-◌, ◌&&◌, nat_le, not, is_some, if◌then◌else◌, Bool, true, false, List, [], ◌∷◌, length, option_map, Option, Some, None, Result, Ok, Err}
-use Rattle.std.specs.Option.{option_and_then}
-use Rattle.hd_base.specs.declared.numbers.ConnId.{ConnId}
+use Rattle.std.specs.Prelude.{ℕ, ◌-◌, ◌&&◌, nat_le, is_some, if◌then◌else◌, Bool, true, false, List, [], ◌∷◌, length, Option, Some, None, Result, Ok, Err}
 use Rattle.hd_base.specs.declared.numbers.Stamp.{Stamp}
 use Rattle.hd_base.specs.declared.roads.TheConstants.{FIRST_PORT}
 use Rattle.packet_codec.specs.declared.packets.Packet.{Packet}
@@ -18,7 +16,6 @@ use Rattle.replica_model.specs.declared.events.ReplicaEvent.TheVariants as repli
 use Rattle.replica_model.specs.Rows.{FullReplica, broken}
 use Rattle.request_refusals.specs.declared.refusals.RequestRefusal.{RequestRefusal}
 use Rattle.request_refusals.specs.declared.refusals.RequestRefusal.TheVariants as refusal
-use Rattle.member_core.specs.declared.effects.Effect.{Effect}
 use Rattle.member_core.specs.declared.effects.Shuts.{Shuts}
 use Rattle.member_core.specs.declared.effects.Shuts.TheVariants as shuts
 use Rattle.member_core.specs.declared.effects.Upward.{Upward}
@@ -33,11 +30,11 @@ use Rattle.member_core.specs.declared.turns.Turn.{Turn}
 use Rattle.member_core.specs.Members.{MemberState, down_turn, up_turn, takes_messages, hears}
 use Rattle.member_core.specs.Requests.{request_event, mirror_request, response_of}
 use Rattle.member_core.specs.Steps.{Step, Setup, step, faulted_step, request_step, faulted_request, oldest_at, ready_turn_at}
-use Rattle.read_core.specs.Servings.{ServingState, Piece, read_at, read_event, accepting, refusing, next_call, piece_at, over}
+use Rattle.read_core.specs.Servings.{ServingState, Piece, read_at, read_event, accepting, refusing, next_call, piece_at}
 use Rattle.recovery_core.specs.declared.members.RecoveryReply.{RecoveryReply}
 use Rattle.recovery_core.specs.declared.members.RecoveryReply.TheVariants as reply
 use Rattle.recovery_core.specs.Members.{Served, recovery_event, answer_of, serve, serve_faulted}
-use Rattle.world.specs.Parts.{Message, request, packet, ack, response, recovery_answer, Place, by_member, Dialled, FullMember, Lower, idle, writes, serves, recovers, ended_below, Break, Joined, Updated}
+use Rattle.world.specs.Parts.{Message, request, packet, ack, response, recovery_answer, Place, by_member, FullMember, Lower, idle, writes, serves, recovers, ended_below, Break, Joined, Updated}
 use Rattle.world.specs.Worlds.{World, Dial, Change, still}
 use Rattle.world.specs.Connections.{Next, message, the_end, is_alive, place_of, sent_on, is_conn, is_either}
 

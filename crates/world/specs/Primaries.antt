@@ -1,13 +1,11 @@
 -- Primaries, and what the office answers writers and primaries.
-use Rattle.std.specs.Prelude.{ℕ, ◌==◌, ◌+◌, ◌&&◌, ◌||◌, not, is_some, is_none, if◌then◌else◌, Bool, true, false, List, [], ◌∷◌, ◌++◌, length, take, map, zip, slice_get, slice_set, unwrap_or, option_map, Option, Some, None, Result, Ok, Err}
-use Rattle.std.specs.Option.{option_and_then}
-use Rattle.std.specs.List.{list_any, enumerate_from, filter_map}
+use Rattle.std.specs.Prelude.{ℕ, ◌==◌, ◌+◌, ◌&&◌, not, is_none, if◌then◌else◌, Bool, true, false, List, [], ◌∷◌, take, zip, slice_get, slice_set, Option, Some, None, Ok, Err}
+use Rattle.std.specs.List.{list_any}
 use Rattle.hd_base.specs.declared.numbers.BlockId.{BlockId}
 use Rattle.hd_base.specs.declared.numbers.NodeId.{NodeId}
 use Rattle.op_headers.specs.declared.ops.Op.TheVariants as op
 use Rattle.op_headers.specs.declared.ops.RecoveryKind.TheVariants as kind
 use Rattle.name_core.specs.declared.calls.Begun.{Begun}
-use Rattle.name_core.specs.declared.calls.OfficeAnswer.{OfficeAnswer}
 use Rattle.name_core.specs.declared.calls.OfficeAnswer.TheVariants as office
 use Rattle.name_core.specs.declared.calls.OfficeCall.{OfficeCall}
 use Rattle.name_core.specs.declared.calls.OfficeCall.TheVariants as call
@@ -24,13 +22,12 @@ use Rattle.recovery_core.specs.declared.primary.Recovered.{Recovered}
 use Rattle.recovery_core.specs.declared.standings.Heard.{Heard}
 use Rattle.recovery_core.specs.declared.standings.Heard.TheVariants as heard
 use Rattle.recovery_core.specs.declared.standings.Standing.{Standing}
-use Rattle.recovery_core.specs.declared.standings.Standing.TheVariants as standing
 use Rattle.recovery_core.specs.Primaries.{PrimaryState, begun_with, own_step, after_heard, shuts_after, request_of, sync_call, end_with, office_refused, is_among, is_awaited}
 use Rattle.world.specs.declared.events.Caller.{Caller}
 use Rattle.world.specs.declared.events.Caller.TheVariants as caller
-use Rattle.world.specs.Parts.{Message, request, recovery_answer, Place, by_primary, Told, Writing, Leading, Primary, no_primary, was_told, leads, has_led}
+use Rattle.world.specs.Parts.{Message, request, recovery_answer, Place, by_primary, Told, Leading, Primary, no_primary, was_told, leads, has_led}
 use Rattle.world.specs.Worlds.{World, Dial, Stamped, Change, still}
-use Rattle.world.specs.Connections.{Next, message, the_end, is_alive, place_of, sent_on, is_conn}
+use Rattle.world.specs.Connections.{Next, message, the_end, is_alive, place_of, is_conn}
 use Rattle.world.specs.Clients.{are_members}
 
 abbrev pub primary_change : World → ℕ → Primary → Change

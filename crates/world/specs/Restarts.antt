@@ -1,8 +1,7 @@
 -- What a restart makes of a node's replicas.
-use Rattle.std.specs.Prelude.{ℕ, ◌==◌, ◌+◌, ◌&&◌, ◌||◌, nat_lt, not, is_none, find, if◌then◌else◌, Bool, true, false, List, [], length, option_map, Option, Some, None}
+use Rattle.std.specs.Prelude.{ℕ, ◌==◌, ◌+◌, ◌&&◌, ◌||◌, not, is_none, find, if◌then◌else◌, Bool, true, false, List, [], length, option_map, Option, Some, None}
 use Rattle.std.specs.List.{starts_with, list_all}
 use Rattle.std.specs.Cmp.Lexicographic.{pointwise}
-use Rattle.hd_base.specs.declared.numbers.BlockId.{BlockId}
 use Rattle.hd_base.specs.declared.numbers.Stamp.{Stamp}
 use Rattle.hd_base.specs.declared.states.ReplicaState.{ReplicaState}
 use Rattle.hd_base.specs.declared.states.ReplicaState.TheVariants as state
@@ -11,10 +10,9 @@ use Rattle.hd_base.specs.Wire.{state_number}
 use Rattle.replica_core.specs.declared.info.ReplicaInfo.{ReplicaInfo}
 use Rattle.replica_core.specs.Info.{is_finalized, is_temporary, settled_at}
 use Rattle.replica_core.specs.Transitions.{found}
-use Rattle.replica_model.specs.declared.events.ReplicaEvent.{ReplicaEvent}
 use Rattle.replica_model.specs.Rows.{FullReplica, row, nothing}
 use Rattle.replica_model.specs.Plans.{plan, has_changing}
-use Rattle.replica_model.specs.Found.{Found, found_as, found_whole}
+use Rattle.replica_model.specs.Found.{Found, found_whole}
 use Rattle.world.specs.declared.events.FoundReplica.{FoundReplica}
 use Rattle.world.specs.Parts.{Break}
 use Rattle.world.specs.Worlds.{World, put}

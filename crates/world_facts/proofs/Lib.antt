@@ -12,3 +12,4 @@ pub mod WriterSteps
 pub mod OfficeSteps
 pub mod Agreements
 pub mod Sessions
+pub mod FoundLaws

@@ -3,6 +3,7 @@
 
 ghost use Rattle.world_facts.specs.Facts.{IdleChangesNothing, RunsJoin, RunsEnd, OnlyDialledCarry, AllPlaced};
 ghost use Rattle.world_facts.specs.Facts.{OfficeAndWriterAgree, StampsKeepSessions};
+ghost use Rattle.world_facts.specs.Finding.{FindsExactly, FindsWhatMayBe};
 
 /// An event that isn't enabled changes nothing.
 pub fn idle_events_change_nothing()
@@ -36,4 +37,10 @@ pub fn office_and_writer_agree()
 /// A stamp that was given has one session: it stays in the one in which it was given.
 pub fn stamps_keep_their_sessions()
     ensures { StampsKeepSessions }
+{}
+
+/// A restart makes of each replica one that it may find, and the test of that is exact.
+pub fn restarts_find_what_they_may()
+    ensures tested { FindsExactly }
+    ensures found { FindsWhatMayBe }
 {}
