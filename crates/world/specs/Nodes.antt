@@ -234,8 +234,8 @@ write_request w c fields answered true =
     failing_write w c fields (request_event (record { 0 = c }) fields (rule_in (replica_at w c (block_of fields)).known))
 write_request w c fields answered false =
     Some (setup_change w c fields
-        (request_step (record { 0 = c }) fields (is_asked w c fields answered) (replica_at w c (block_of fields)))
-        (w.breaks (node_of w c) (block_of fields)))
+    (request_step (record { 0 = c }) fields (is_asked w c fields answered) (replica_at w c (block_of fields)))
+    (w.breaks (node_of w c) (block_of fields)))
 
 -- READS
 

@@ -156,8 +156,8 @@ hears_change w i l place c x None = None
 hears_change w i l place c x (Some s) =
     if listens l.state.phase s
     then Some (record (primary_change w i
-        (leads (record l { state = record l.state { standings = slice_set l.state.standings place (after_heard s (heard_of x)) } })))
-        { shuts = if shuts_after s then is_conn (Some c) else (λ _. false) })
+    (leads (record l { state = record l.state { standings = slice_set l.state.standings place (after_heard s (heard_of x)) } })))
+    { shuts = if shuts_after s then is_conn (Some c) else (λ _. false) })
     else None
 
 abbrev pub primary_up_as : Primary → World → ℕ → ℕ → ℕ → Next → Option Change

@@ -8,9 +8,10 @@ use std::test::Fail;
 fn stop_and_start(rt: &impl AllocGlobal) -> Result<EventList, Fail> {
     let node = NodeId(3);
     let found = FoundList::from_vec(Vec::new(rt.alloc()));
-    Ok(EventList::from_vec(
-        vec![in rt.alloc(); Event::Stop { node }, Event::Restart { node, found }]?,
-    ))
+    Ok(EventList::from_vec(vec![in rt.alloc();
+        Event::Stop { node },
+        Event::Restart { node, found },
+    ]?))
 }
 
 #[test]
@@ -22,7 +23,9 @@ fn events_stand_in_order(rt: HostRuntime) -> Result<(), Fail> {
     let events = schedule.events.as_slice();
     assert!(rt; events.len() == 2);
     assert!(rt; matches!(events.first(), Some(Event::Stop { node: NodeId(3) })));
-    assert!(rt; matches!(events.last(), Some(Event::Restart { found, .. }) if found.as_slice().is_empty()));
+    assert!(rt;
+        matches!(events.last(), Some(Event::Restart { found, .. }) if found.as_slice().is_empty())
+    );
     Ok(())
 }
 

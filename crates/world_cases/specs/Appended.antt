@@ -27,16 +27,16 @@ abbrev pub appended_ends : Ends
 appended_ends = record {
   replicas = line state.Finalized 1002 1600 1600 (Some 0x6698c984) ∷ [];
   said = says 0 (answer.Granted (stamp 1001)) ∷ says 2 (answer.Reached 600 (stamp 1001) (node 0 ∷ []))
-    ∷ says 3 (answer.Granted (stamp 1002)) ∷ says 5 (answer.Reached 1600 (stamp 1002) (node 0 ∷ [])) ∷ [];
+      ∷ says 3 (answer.Granted (stamp 1002)) ∷ says 5 (answer.Reached 1600 (stamp 1002) (node 0 ∷ [])) ∷ [];
   downs =
-    (writing 1001 6 0 0 0 [] ∷ piece 0 600 0 false false ∷ piece 600 600 1 true false ∷ [])
-    ∷ (writing 1001 0 1002 600 600 [] ∷ piece 600 1024 0 false false ∷ piece 1024 1600 1 false false
+      (writing 1001 6 0 0 0 [] ∷ piece 0 600 0 false false ∷ piece 600 600 1 true false ∷ [])
+      ∷ (writing 1001 0 1002 600 600 [] ∷ piece 600 1024 0 false false ∷ piece 1024 1600 1 false false
       ∷ piece 1600 1600 2 true false ∷ [])
-    ∷ [];
+      ∷ [];
   ups =
-    (answering 0 [] None [] ∷ acking 0 (0 ∷ []) ∷ acking 1 (0 ∷ []) ∷ [])
-    ∷ (answering 0 [] None [] ∷ acking 0 (0 ∷ []) ∷ acking 1 (0 ∷ []) ∷ acking 2 (0 ∷ []) ∷ [])
-    ∷ [];
+      (answering 0 [] None [] ∷ acking 0 (0 ∷ []) ∷ acking 1 (0 ∷ []) ∷ [])
+      ∷ (answering 0 [] None [] ∷ acking 0 (0 ∷ []) ∷ acking 1 (0 ∷ []) ∷ acking 2 (0 ∷ []) ∷ [])
+      ∷ [];
 }
 
 -- The world ends so.

@@ -29,19 +29,19 @@ abbrev pub block_recovery_ends : Ends
 block_recovery_ends = record {
   replicas = line state.Finalized 1002 9 9 (Some 0xe3069283) ∷ line state.Finalized 1002 9 9 (Some 0xe3069283) ∷ [];
   said = says 0 (answer.Granted (stamp 1001)) ∷ says 2 (answer.Reached 9 (stamp 1001) (node 0 ∷ node 1 ∷ []))
-    ∷ says 3 (answer.Lost (stamp 1002)) ∷ says 4 (answer.Lost (stamp 1002)) ∷ [];
+      ∷ says 3 (answer.Lost (stamp 1002)) ∷ says 4 (answer.Lost (stamp 1002)) ∷ [];
   downs =
-    (writing 1001 6 0 0 0 (9867 ∷ []) ∷ piece 0 9 0 false false ∷ [])
-    ∷ (writing 1001 6 0 0 0 [] ∷ piece 0 9 0 false false ∷ [])
-    ∷ (beginning 1001 1002 ∷ updating 1001 1002 9 ∷ [])
-    ∷ (beginning 1001 1002 ∷ updating 1001 1002 9 ∷ [])
-    ∷ [];
+      (writing 1001 6 0 0 0 (9867 ∷ []) ∷ piece 0 9 0 false false ∷ [])
+      ∷ (writing 1001 6 0 0 0 [] ∷ piece 0 9 0 false false ∷ [])
+      ∷ (beginning 1001 1002 ∷ updating 1001 1002 9 ∷ [])
+      ∷ (beginning 1001 1002 ∷ updating 1001 1002 9 ∷ [])
+      ∷ [];
   ups =
-    (answering 0 [] None [] ∷ acking 0 (0 ∷ 0 ∷ []) ∷ [])
-    ∷ (answering 0 [] None [] ∷ acking 0 (0 ∷ []) ∷ [])
-    ∷ (telling 0 [] (Some (1, 1001, 9)) ∷ telling 0 [] None ∷ [])
-    ∷ (telling 0 [] (Some (1, 1001, 9)) ∷ telling 0 [] None ∷ [])
-    ∷ [];
+      (answering 0 [] None [] ∷ acking 0 (0 ∷ 0 ∷ []) ∷ [])
+      ∷ (answering 0 [] None [] ∷ acking 0 (0 ∷ []) ∷ [])
+      ∷ (telling 0 [] (Some (1, 1001, 9)) ∷ telling 0 [] None ∷ [])
+      ∷ (telling 0 [] (Some (1, 1001, 9)) ∷ telling 0 [] None ∷ [])
+      ∷ [];
 }
 
 -- The world ends so.

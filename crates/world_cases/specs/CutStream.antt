@@ -28,24 +28,24 @@ cut_stream_world = run (start 3) cut_stream_events
 abbrev pub cut_stream_ends : Ends
 cut_stream_ends = record {
   replicas = line state.Rbw 1002 1000 1000 (Some 0x78ba7f28) ∷ line state.Rbw 1001 1000 1000 (Some 0x78ba7f28)
-    ∷ line state.Rbw 1002 1000 1000 (Some 0x78ba7f28) ∷ [];
+      ∷ line state.Rbw 1002 1000 1000 (Some 0x78ba7f28) ∷ [];
   said = says 0 (answer.Granted (stamp 1001))
-    ∷ says 2 (answer.Reached 512 (stamp 1001) (node 0 ∷ node 1 ∷ node 2 ∷ []))
-    ∷ says 4 (answer.Reached 1000 (stamp 1002) (node 0 ∷ node 2 ∷ [])) ∷ [];
+      ∷ says 2 (answer.Reached 512 (stamp 1001) (node 0 ∷ node 1 ∷ node 2 ∷ []))
+      ∷ says 4 (answer.Reached 1000 (stamp 1002) (node 0 ∷ node 2 ∷ [])) ∷ [];
   downs =
-    (writing 1001 6 0 0 0 (9867 ∷ 9868 ∷ []) ∷ piece 0 512 0 false false ∷ piece 512 1000 1 false false ∷ [])
-    ∷ (writing 1001 6 0 0 0 (9868 ∷ []) ∷ piece 0 512 0 false false ∷ piece 512 1000 1 false false ∷ [])
-    ∷ (writing 1001 6 0 0 0 [] ∷ piece 0 512 0 false false ∷ piece 512 1000 1 false false ∷ [])
-    ∷ (writing 1001 3 1002 512 1000 (9868 ∷ []) ∷ piece 512 1000 1 false false ∷ [])
-    ∷ (writing 1001 3 1002 512 1000 [] ∷ piece 512 1000 1 false false ∷ [])
-    ∷ [];
+      (writing 1001 6 0 0 0 (9867 ∷ 9868 ∷ []) ∷ piece 0 512 0 false false ∷ piece 512 1000 1 false false ∷ [])
+      ∷ (writing 1001 6 0 0 0 (9868 ∷ []) ∷ piece 0 512 0 false false ∷ piece 512 1000 1 false false ∷ [])
+      ∷ (writing 1001 6 0 0 0 [] ∷ piece 0 512 0 false false ∷ piece 512 1000 1 false false ∷ [])
+      ∷ (writing 1001 3 1002 512 1000 (9868 ∷ []) ∷ piece 512 1000 1 false false ∷ [])
+      ∷ (writing 1001 3 1002 512 1000 [] ∷ piece 512 1000 1 false false ∷ [])
+      ∷ [];
   ups =
-    (answering 0 [] None [] ∷ acking 0 (0 ∷ 0 ∷ 0 ∷ []) ∷ acking 1 (0 ∷ 1 ∷ []) ∷ [])
-    ∷ (answering 0 [] None [] ∷ acking 0 (0 ∷ 0 ∷ []) ∷ acking 1 (0 ∷ 0 ∷ []) ∷ [])
-    ∷ (answering 0 [] None [] ∷ acking 0 (0 ∷ []) ∷ acking 1 (0 ∷ []) ∷ [])
-    ∷ (answering 0 [] None [] ∷ acking 1 (0 ∷ 0 ∷ []) ∷ [])
-    ∷ (answering 0 [] None [] ∷ acking 1 (0 ∷ []) ∷ [])
-    ∷ [];
+      (answering 0 [] None [] ∷ acking 0 (0 ∷ 0 ∷ 0 ∷ []) ∷ acking 1 (0 ∷ 1 ∷ []) ∷ [])
+      ∷ (answering 0 [] None [] ∷ acking 0 (0 ∷ 0 ∷ []) ∷ acking 1 (0 ∷ 0 ∷ []) ∷ [])
+      ∷ (answering 0 [] None [] ∷ acking 0 (0 ∷ []) ∷ acking 1 (0 ∷ []) ∷ [])
+      ∷ (answering 0 [] None [] ∷ acking 1 (0 ∷ 0 ∷ []) ∷ [])
+      ∷ (answering 0 [] None [] ∷ acking 1 (0 ∷ []) ∷ [])
+      ∷ [];
 }
 
 -- The world ends so.

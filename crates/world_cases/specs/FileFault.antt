@@ -27,17 +27,17 @@ abbrev pub file_fault_ends : Ends
 file_fault_ends = record {
   replicas = line state.Finalized 1002 32 32 (Some 0x8a9136aa) ∷ line state.Rbw 1001 0 0 None ∷ [];
   said = says 0 (answer.Granted (stamp 1001)) ∷ says 2 (answer.Reached 32 (stamp 1002) (node 0 ∷ []))
-    ∷ says 3 (answer.Reached 32 (stamp 1002) (node 0 ∷ [])) ∷ [];
+      ∷ says 3 (answer.Reached 32 (stamp 1002) (node 0 ∷ [])) ∷ [];
   downs =
-    (writing 1001 6 0 0 0 (9867 ∷ []) ∷ piece 0 32 0 false false ∷ [])
-    ∷ (writing 1001 6 0 0 0 [] ∷ piece 0 32 0 false false ∷ [])
-    ∷ (writing 1001 3 1002 0 32 [] ∷ piece 0 32 0 false false ∷ piece 32 32 1 true false ∷ [])
-    ∷ [];
+      (writing 1001 6 0 0 0 (9867 ∷ []) ∷ piece 0 32 0 false false ∷ [])
+      ∷ (writing 1001 6 0 0 0 [] ∷ piece 0 32 0 false false ∷ [])
+      ∷ (writing 1001 3 1002 0 32 [] ∷ piece 0 32 0 false false ∷ piece 32 32 1 true false ∷ [])
+      ∷ [];
   ups =
-    (answering 0 [] None [] ∷ acking 0 (0 ∷ 1 ∷ []) ∷ [])
-    ∷ (answering 0 [] None [] ∷ [])
-    ∷ (answering 0 [] None [] ∷ acking 0 (0 ∷ []) ∷ acking 1 (0 ∷ []) ∷ [])
-    ∷ [];
+      (answering 0 [] None [] ∷ acking 0 (0 ∷ 1 ∷ []) ∷ [])
+      ∷ (answering 0 [] None [] ∷ [])
+      ∷ (answering 0 [] None [] ∷ acking 0 (0 ∷ []) ∷ acking 1 (0 ∷ []) ∷ [])
+      ∷ [];
 }
 
 -- The world ends so.

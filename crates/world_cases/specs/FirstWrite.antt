@@ -27,11 +27,11 @@ first_write_ends = record {
   replicas = line state.Finalized 1001 9 9 (Some 0xe3069283) ∷ [];
   said = says 0 (answer.Granted (stamp 1001)) ∷ says 2 (answer.Reached 9 (stamp 1001) (node 0 ∷ [])) ∷ [];
   downs =
-    (writing 1001 6 0 0 0 [] ∷ piece 0 9 0 false false ∷ piece 9 9 1 true false ∷ [])
-    ∷ [];
+      (writing 1001 6 0 0 0 [] ∷ piece 0 9 0 false false ∷ piece 9 9 1 true false ∷ [])
+      ∷ [];
   ups =
-    (answering 0 [] None [] ∷ acking 0 (0 ∷ []) ∷ acking 1 (0 ∷ []) ∷ [])
-    ∷ [];
+      (answering 0 [] None [] ∷ acking 0 (0 ∷ []) ∷ acking 1 (0 ∷ []) ∷ [])
+      ∷ [];
 }
 
 -- The world ends so.

@@ -25,20 +25,20 @@ flush_mid_chunk_world = run (start 3) flush_mid_chunk_events
 abbrev pub flush_mid_chunk_ends : Ends
 flush_mid_chunk_ends = record {
   replicas = line state.Rbw 1001 700 700 (Some 0x3d0abcfd) ∷ line state.Rbw 1001 700 700 (Some 0x3d0abcfd)
-    ∷ line state.Rbw 1001 700 700 (Some 0x3d0abcfd) ∷ [];
+      ∷ line state.Rbw 1001 700 700 (Some 0x3d0abcfd) ∷ [];
   said = says 0 (answer.Granted (stamp 1001))
-    ∷ says 2 (answer.Reached 600 (stamp 1001) (node 0 ∷ node 1 ∷ node 2 ∷ []))
-    ∷ says 4 (answer.Reached 700 (stamp 1001) (node 0 ∷ node 1 ∷ node 2 ∷ [])) ∷ [];
+      ∷ says 2 (answer.Reached 600 (stamp 1001) (node 0 ∷ node 1 ∷ node 2 ∷ []))
+      ∷ says 4 (answer.Reached 700 (stamp 1001) (node 0 ∷ node 1 ∷ node 2 ∷ [])) ∷ [];
   downs =
-    (writing 1001 6 0 0 0 (9867 ∷ 9868 ∷ []) ∷ piece 0 600 0 false false ∷ piece 512 700 1 false false ∷ [])
-    ∷ (writing 1001 6 0 0 0 (9868 ∷ []) ∷ piece 0 600 0 false false ∷ piece 512 700 1 false false ∷ [])
-    ∷ (writing 1001 6 0 0 0 [] ∷ piece 0 600 0 false false ∷ piece 512 700 1 false false ∷ [])
-    ∷ [];
+      (writing 1001 6 0 0 0 (9867 ∷ 9868 ∷ []) ∷ piece 0 600 0 false false ∷ piece 512 700 1 false false ∷ [])
+      ∷ (writing 1001 6 0 0 0 (9868 ∷ []) ∷ piece 0 600 0 false false ∷ piece 512 700 1 false false ∷ [])
+      ∷ (writing 1001 6 0 0 0 [] ∷ piece 0 600 0 false false ∷ piece 512 700 1 false false ∷ [])
+      ∷ [];
   ups =
-    (answering 0 [] None [] ∷ acking 0 (0 ∷ 0 ∷ 0 ∷ []) ∷ acking 1 (0 ∷ 0 ∷ 0 ∷ []) ∷ [])
-    ∷ (answering 0 [] None [] ∷ acking 0 (0 ∷ 0 ∷ []) ∷ acking 1 (0 ∷ 0 ∷ []) ∷ [])
-    ∷ (answering 0 [] None [] ∷ acking 0 (0 ∷ []) ∷ acking 1 (0 ∷ []) ∷ [])
-    ∷ [];
+      (answering 0 [] None [] ∷ acking 0 (0 ∷ 0 ∷ 0 ∷ []) ∷ acking 1 (0 ∷ 0 ∷ 0 ∷ []) ∷ [])
+      ∷ (answering 0 [] None [] ∷ acking 0 (0 ∷ 0 ∷ []) ∷ acking 1 (0 ∷ 0 ∷ []) ∷ [])
+      ∷ (answering 0 [] None [] ∷ acking 0 (0 ∷ []) ∷ acking 1 (0 ∷ []) ∷ [])
+      ∷ [];
 }
 
 -- The world ends so.

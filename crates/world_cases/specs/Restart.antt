@@ -35,23 +35,23 @@ restart_world = run (start 2) restart_events
 abbrev pub restart_ends : Ends
 restart_ends = record {
   replicas = line state.Finalized 1003 2000 2000 (Some 0xe9db1518) ∷ line state.Rwr 1001 1300 1300 (Some 0xdf1115a6)
-    ∷ [];
+      ∷ [];
   said = says 0 (answer.Granted (stamp 1001)) ∷ says 2 (answer.Reached 1300 (stamp 1001) (node 0 ∷ node 1 ∷ []))
-    ∷ says 4 (answer.Reached 2000 (stamp 1002) (node 0 ∷ [])) ∷ [];
+      ∷ says 4 (answer.Reached 2000 (stamp 1002) (node 0 ∷ [])) ∷ [];
   downs =
-    (writing 1001 6 0 0 0 (9867 ∷ []) ∷ piece 0 1300 0 false false ∷ piece 1024 2000 1 false false ∷ [])
-    ∷ (writing 1001 6 0 0 0 [] ∷ piece 0 1300 0 false false ∷ piece 1024 2000 1 false false ∷ [])
-    ∷ (writing 1001 3 1002 1300 2000 [] ∷ piece 1024 2000 1 false false ∷ [])
-    ∷ (beginning 1002 1003 ∷ updating 1002 1003 2000 ∷ [])
-    ∷ (beginning 1002 1003 ∷ [])
-    ∷ [];
+      (writing 1001 6 0 0 0 (9867 ∷ []) ∷ piece 0 1300 0 false false ∷ piece 1024 2000 1 false false ∷ [])
+      ∷ (writing 1001 6 0 0 0 [] ∷ piece 0 1300 0 false false ∷ piece 1024 2000 1 false false ∷ [])
+      ∷ (writing 1001 3 1002 1300 2000 [] ∷ piece 1024 2000 1 false false ∷ [])
+      ∷ (beginning 1002 1003 ∷ updating 1002 1003 2000 ∷ [])
+      ∷ (beginning 1002 1003 ∷ [])
+      ∷ [];
   ups =
-    (answering 0 [] None [] ∷ acking 0 (0 ∷ 0 ∷ []) ∷ acking 1 (0 ∷ 1 ∷ []) ∷ [])
-    ∷ (answering 0 [] None [] ∷ acking 0 (0 ∷ []) ∷ [])
-    ∷ (answering 0 [] None [] ∷ acking 1 (0 ∷ []) ∷ [])
-    ∷ (telling 0 [] (Some (1, 1002, 2000)) ∷ telling 0 [] None ∷ [])
-    ∷ (telling 1 (codes "4 1001 1002 1002") None ∷ [])
-    ∷ [];
+      (answering 0 [] None [] ∷ acking 0 (0 ∷ 0 ∷ []) ∷ acking 1 (0 ∷ 1 ∷ []) ∷ [])
+      ∷ (answering 0 [] None [] ∷ acking 0 (0 ∷ []) ∷ [])
+      ∷ (answering 0 [] None [] ∷ acking 1 (0 ∷ []) ∷ [])
+      ∷ (telling 0 [] (Some (1, 1002, 2000)) ∷ telling 0 [] None ∷ [])
+      ∷ (telling 1 (codes "4 1001 1002 1002") None ∷ [])
+      ∷ [];
 }
 
 -- The world ends so.

@@ -30,13 +30,13 @@ abbrev pub sums_sixteen_ends : Ends
 sums_sixteen_ends = record {
   replicas = line state.Finalized 1001 47 47 (Some 0x5cc3c078) ∷ [];
   said = says 0 (answer.Granted (stamp 1001)) ∷ says 2 (answer.Reached 40 (stamp 1001) (node 0 ∷ []))
-    ∷ says 4 (answer.Reached 47 (stamp 1001) (node 0 ∷ [])) ∷ [];
+      ∷ says 4 (answer.Reached 47 (stamp 1001) (node 0 ∷ [])) ∷ [];
   downs =
-    (writing 1001 6 0 0 0 [] ∷ piece 0 40 0 false false ∷ piece 32 47 1 false false ∷ piece 47 47 2 true false ∷ [])
-    ∷ [];
+      (writing 1001 6 0 0 0 [] ∷ piece 0 40 0 false false ∷ piece 32 47 1 false false ∷ piece 47 47 2 true false ∷ [])
+      ∷ [];
   ups =
-    (answering 0 [] None [] ∷ acking 0 (0 ∷ []) ∷ acking 1 (0 ∷ []) ∷ acking 2 (0 ∷ []) ∷ [])
-    ∷ [];
+      (answering 0 [] None [] ∷ acking 0 (0 ∷ []) ∷ acking 1 (0 ∷ []) ∷ acking 2 (0 ∷ []) ∷ [])
+      ∷ [];
 }
 
 -- The world ends so.

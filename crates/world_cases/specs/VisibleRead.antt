@@ -49,32 +49,32 @@ visible_read_world = run (start 3) visible_read_events
 abbrev pub visible_read_ends : Ends
 visible_read_ends = record {
   replicas = line state.Finalized 1001 3500 3500 (Some 0xd220d4ad)
-    ∷ line state.Finalized 1001 3500 3500 (Some 0xd220d4ad) ∷ line state.Finalized 1001 3500 3500 (Some 0xd220d4ad)
-    ∷ [];
+      ∷ line state.Finalized 1001 3500 3500 (Some 0xd220d4ad) ∷ line state.Finalized 1001 3500 3500 (Some 0xd220d4ad)
+      ∷ [];
   said = says 0 (answer.Granted (stamp 1001))
-    ∷ says 2 (answer.Reached 3000 (stamp 1001) (node 0 ∷ node 1 ∷ node 2 ∷ []))
-    ∷ says 4 (answer.Reached 3500 (stamp 1001) (node 0 ∷ node 1 ∷ node 2 ∷ [])) ∷ [];
+      ∷ says 2 (answer.Reached 3000 (stamp 1001) (node 0 ∷ node 1 ∷ node 2 ∷ []))
+      ∷ says 4 (answer.Reached 3500 (stamp 1001) (node 0 ∷ node 1 ∷ node 2 ∷ [])) ∷ [];
   downs =
-    (writing 1001 6 0 0 0 (9867 ∷ 9868 ∷ []) ∷ piece 0 3000 0 false false ∷ piece 2560 3500 1 false false
+      (writing 1001 6 0 0 0 (9867 ∷ 9868 ∷ []) ∷ piece 0 3000 0 false false ∷ piece 2560 3500 1 false false
       ∷ piece 3500 3500 2 true false ∷ [])
-    ∷ (writing 1001 6 0 0 0 (9868 ∷ []) ∷ piece 0 3000 0 false false ∷ piece 2560 3500 1 false false
+      ∷ (writing 1001 6 0 0 0 (9868 ∷ []) ∷ piece 0 3000 0 false false ∷ piece 2560 3500 1 false false
       ∷ piece 3500 3500 2 true false ∷ [])
-    ∷ (writing 1001 6 0 0 0 [] ∷ piece 0 3000 0 false false ∷ piece 2560 3500 1 false false
+      ∷ (writing 1001 6 0 0 0 [] ∷ piece 0 3000 0 false false ∷ piece 2560 3500 1 false false
       ∷ piece 3500 3500 2 true false ∷ [])
-    ∷ (reading 1001 100 2000 ∷ status 6 ∷ [])
-    ∷ (reading 1001 2990 20 ∷ [])
-    ∷ (reading 1001 0 3000 ∷ status 6 ∷ [])
-    ∷ (reading 1001 0 3500 ∷ [])
-    ∷ [];
+      ∷ (reading 1001 100 2000 ∷ status 6 ∷ [])
+      ∷ (reading 1001 2990 20 ∷ [])
+      ∷ (reading 1001 0 3000 ∷ status 6 ∷ [])
+      ∷ (reading 1001 0 3500 ∷ [])
+      ∷ [];
   ups =
-    (answering 0 [] None [] ∷ acking 0 (0 ∷ 0 ∷ 0 ∷ []) ∷ acking 1 (0 ∷ 0 ∷ 0 ∷ []) ∷ acking 2 (0 ∷ 0 ∷ 0 ∷ []) ∷ [])
-    ∷ (answering 0 [] None [] ∷ acking 0 (0 ∷ 0 ∷ []) ∷ acking 1 (0 ∷ 0 ∷ []) ∷ acking 2 (0 ∷ 0 ∷ []) ∷ [])
-    ∷ (answering 0 [] None [] ∷ acking 0 (0 ∷ []) ∷ acking 1 (0 ∷ []) ∷ acking 2 (0 ∷ []) ∷ [])
-    ∷ (answering 0 [] (Some (2, 512, 0)) [] ∷ piece 0 2560 0 false false ∷ piece 2560 2560 1 true false ∷ [])
-    ∷ (answering 1 [] None (codes "13 3000") ∷ [])
-    ∷ (answering 0 [] (Some (2, 512, 0)) [] ∷ piece 0 3000 0 false false ∷ piece 3000 3000 1 true false ∷ [])
-    ∷ (answering 1 [] None (codes "13 3000") ∷ [])
-    ∷ [];
+      (answering 0 [] None [] ∷ acking 0 (0 ∷ 0 ∷ 0 ∷ []) ∷ acking 1 (0 ∷ 0 ∷ 0 ∷ []) ∷ acking 2 (0 ∷ 0 ∷ 0 ∷ []) ∷ [])
+      ∷ (answering 0 [] None [] ∷ acking 0 (0 ∷ 0 ∷ []) ∷ acking 1 (0 ∷ 0 ∷ []) ∷ acking 2 (0 ∷ 0 ∷ []) ∷ [])
+      ∷ (answering 0 [] None [] ∷ acking 0 (0 ∷ []) ∷ acking 1 (0 ∷ []) ∷ acking 2 (0 ∷ []) ∷ [])
+      ∷ (answering 0 [] (Some (2, 512, 0)) [] ∷ piece 0 2560 0 false false ∷ piece 2560 2560 1 true false ∷ [])
+      ∷ (answering 1 [] None (codes "13 3000") ∷ [])
+      ∷ (answering 0 [] (Some (2, 512, 0)) [] ∷ piece 0 3000 0 false false ∷ piece 3000 3000 1 true false ∷ [])
+      ∷ (answering 1 [] None (codes "13 3000") ∷ [])
+      ∷ [];
 }
 
 -- The world ends so.

@@ -130,7 +130,7 @@ command-quiet w b x t s =
     let u = steady-then w b x y s (ruled-same x t.command t.rule) in
     let v = steady-then w b y z u (given-same y t.command) in
     when-each (Quiet w) (is_formed t.command t.rule && not (is_empty (given x t.command).queue)) _
-        (λ _. takes-quiet w b y.waiting (own_step z) (command_bytes y t.command) (steady-then w b z (own_step z).writer v (own-step-same z)))
+    (λ _. takes-quiet w b y.waiting (own_step z) (command_bytes y t.command) (steady-then w b z (own_step z).writer v (own-step-same z)))
 
 -- a writer for which no answer waits, or that has just taken it
 told-steady : (w : World) (b : ℕ) (told : Option Told) → (w.writers b).told ≡ told → told_stamp (w.writers b).known told ≡ stamp_heard (w.writers b)
@@ -140,12 +140,12 @@ step-quiet : (w : World) (b : ℕ) (told : Option Told) (takes : Option TakenCom
     → IfSome (writer_step w b (w.writers b).known told takes answered) (Quiet w)
 step-quiet w b (Some told) None answered e =
     rest-quiet (granted (w.writers b).known told).phase w b (granted (w.writers b).known told) answered
-        (record { block = granted-block (w.writers b).known told; heard = told-steady w b (Some told) e })
+    (record { block = granted-block (w.writers b).known told; heard = told-steady w b (Some told) e })
 step-quiet w b (Some told) (Some t) answered e = tt
 step-quiet w b None None answered e =
     let x = (w.writers b).known in
     did-quiet w b x.waiting (own_step x).action (own_step x).writer []
-        (steady-then w b x (own_step x).writer (record { block = refl; heard = told-steady w b None e }) (own-step-same x))
+    (steady-then w b x (own_step x).writer (record { block = refl; heard = told-steady w b None e }) (own-step-same x))
 step-quiet w b None (Some t) answered e = command-quiet w b (w.writers b).known t (record { block = refl; heard = told-steady w b None e })
 
 pub own-writer-quiet : (w : World) (b : ℕ) (takes : Option TakenCommand) (answered : Bool) → IfSome (own_writer w b takes answered) (Quiet w)
@@ -159,10 +159,10 @@ pub writer-up-quiet : (w : World) (b c : ℕ) (x : Next) → IfSome (writer_up w
 writer-up-quiet w b c x =
     let y = (w.writers b).known in
     when-each (Quiet w) (is_conn (w.writers b).conn c && is_none (w.writers b).told) _
-        (λ e. writer-quiet w b (writer_hears y x)
-            (steady-then w b y (writer_hears y x)
-                (record { block = refl; heard = told-steady w b None (none-is (w.writers b).told (and-right (is_conn (w.writers b).conn c) (is_none (w.writers b).told) e)) })
-                (hears-same y x)))
+    (λ e. writer-quiet w b (writer_hears y x)
+    (steady-then w b y (writer_hears y x)
+    (record { block = refl; heard = told-steady w b None (none-is (w.writers b).told (and-right (is_conn (w.writers b).conn c) (is_none (w.writers b).told) e)) })
+    (hears-same y x)))
 
 -- AGREEMENT
 
@@ -182,7 +182,7 @@ quiet-agree w k h q = record {
     moved : (b : ℕ) (s : Stamp) → stamp_heard (w.writers b) ≡ s → IsCommitted k.office (record { 0 = b }) s
     moved b s e =
         subst (λ (o : OfficeState). IsCommitted o (record { 0 = b }) s) (sym q.office)
-            (subst (λ (t : Stamp). IsCommitted w.office (record { 0 = b }) t) e (h.agree b))
+        (subst (λ (t : Stamp). IsCommitted w.office (record { 0 = b }) t) e (h.agree b))
 
 -- two blocks of different numbers
 other-block : (p q : BlockId) → (q.0 ≡ p.0 → ⊥) → is_at (block_order q) p ≡ false
@@ -212,12 +212,12 @@ asked-agree w b c h none a = record {
     before : IsCommitted w.office (w.writers b).known.block (w.writers b).known.committed
     before =
         subst (λ (q : BlockId). IsCommitted w.office q (w.writers b).known.committed) (sym (h.blocks b))
-            (subst (λ (s : Stamp). IsCommitted w.office (record { 0 = b }) s) (sym known-heard) (h.agree b))
+        (subst (λ (s : Stamp). IsCommitted w.office (record { 0 = b }) s) (sym known-heard) (h.agree b))
 
     now : IsCommitted after (record { 0 = b }) (stamp_heard answered)
     now =
         subst (λ (q : BlockId). IsCommitted after q (stamp_heard answered)) (h.blocks b)
-            (answering w.office c (w.writers b).known a before)
+        (answering w.office c (w.writers b).known a before)
 
     here : (d : ℕ) → d ≡ b → IsCommitted after (record { 0 = d }) (stamp_heard answered)
     here d e = subst (λ (n : ℕ). IsCommitted after (record { 0 = n }) (stamp_heard answered)) (sym e) now
@@ -271,7 +271,7 @@ primary-asks-agree (has_led r) w i b h = tt
 office-agree : (w : World) (c : Caller) → Agreement w → IfSome (office_event w c) (Agrees w)
 office-agree w (caller.Writer b) h =
     when-each (Agrees w) (is_none (w.writers b.0).told) _
-        (λ e. writer-asks-agree w b.0 (own_step (w.writers b.0).known).action h (none-is (w.writers b.0).told e) (own-step-asking (w.writers b.0).known))
+    (λ e. writer-asks-agree w b.0 (own_step (w.writers b.0).known).action h (none-is (w.writers b.0).told e) (own-step-asking (w.writers b.0).known))
 office-agree w (caller.Primary i b) h = primary-asks-agree (w.primaries i) w i b h
 
 -- ALL EVENTS

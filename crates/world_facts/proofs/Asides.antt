@@ -104,7 +104,7 @@ up-aside : (w : World) (c : ℕ) (m : FullMember) (x : Next) (fails : Bool)
     → IfSome (member_up w c m x fails) (Aside w)
 up-aside w c m x fails =
     when-each (Aside w) (hears m.state) _
-        (λ _. turn-aside w c m x (up_turn m.state (oldest_at (replica_at w c (block_of m.fields))) (below_of x)) fails)
+    (λ _. turn-aside w c m x (up_turn m.state (oldest_at (replica_at w c (block_of m.fields))) (below_of x)) fails)
 
 ready-aside : (w : World) (c : ℕ) (m : FullMember) (o : Option Turn) (fails : Bool)
     → IfSome (ready_change w c m o fails) (Aside w)
@@ -254,7 +254,7 @@ begins-at : (p : Primary) (w : World) (i n : ℕ) (b : BlockId) (members : List 
 begins-at no_primary w i n b members answers = tt
 begins-at (was_told asked told) w i n b members answers =
     when-each (Aside w) (asked.0 == b.0 && w.running n && are_members members) (begins_as told w i (place_of w n) b members answers)
-        (λ e. begins-as told w i (place_of w n) b members answers)
+    (λ e. begins-as told w i (place_of w n) b members answers)
 begins-at (leads l) w i n b members answers = tt
 begins-at (has_led r) w i n b members answers = tt
 
@@ -295,7 +295,7 @@ primary-up-as no_primary w i place c x = tt
 primary-up-as (was_told b t) w i place c x = tt
 primary-up-as (leads l) w i place c x =
     when-each (Aside w) (is_alive w l.at && is_none l.told) (hears_change w i l place c x (slice_get l.state.standings place))
-        (λ _. hears-aside w i l place c x (slice_get l.state.standings place))
+    (λ _. hears-aside w i l place c x (slice_get l.state.standings place))
 primary-up-as (has_led r) w i place c x = tt
 
 pub primary-up-aside : (w : World) (i place c : ℕ) (x : Next) → IfSome (primary_up w i place c x) (Aside w)

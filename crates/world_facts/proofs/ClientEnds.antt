@@ -123,7 +123,7 @@ command-fits : (w : World) (b : ℕ) (x : WriterRecord) (t : TakenCommand) → P
 command-fits w b x t h =
     let y = ruled x t.command t.rule in
     when-each (Fits w) (is_formed t.command t.rule && not (is_empty (given x t.command).queue)) _
-        (λ _. takes-fits w b y.waiting (own_step (given y t.command)) (command_bytes y t.command) h)
+    (λ _. takes-fits w b y.waiting (own_step (given y t.command)) (command_bytes y t.command) h)
 
 step-fits : (w : World) (b : ℕ) (x : WriterRecord) (told : Option Told) (takes : Option TakenCommand) (answered : Bool) → Placed w
     → IfSome (writer_step w b x told takes answered) (Fits w)

@@ -62,9 +62,10 @@ state_with-number state.Rur = refl
 state_with-number state.Temporary = refl
 
 same-state : (a b : ReplicaState) → Decides (state_number a == state_number b) (a ≡ b)
-same-state a b =
-    (λ e. sym (state_with-number a) ∙ (ap state_with (eqb-true (state_number a) (state_number b) e) ∙ state_with-number b),
-     λ e. eq-eqb (state_number a) (state_number b) (ap state_number e))
+same-state a b = (
+  λ e. sym (state_with-number a) ∙ (ap state_with (eqb-true (state_number a) (state_number b) e) ∙ state_with-number b),
+  λ e. eq-eqb (state_number a) (state_number b) (ap state_number e),
+)
 
 same-stamp : (a b : Stamp) → Decides (a.0 == b.0) (a ≡ b)
 same-stamp a b =
@@ -77,9 +78,10 @@ kind_with-number kind.Crc32 = refl
 kind_with-number kind.Crc32c = refl
 
 same-kind : (a b : SumKind) → Decides (kind_number a == kind_number b) (a ≡ b)
-same-kind a b =
-    (λ e. same_Some a b (sym (kind_with-number a) ∙ (ap kind_with (eqb-true (kind_number a) (kind_number b) e) ∙ kind_with-number b)),
-     λ e. eq-eqb (kind_number a) (kind_number b) (ap kind_number e))
+same-kind a b = (
+  λ e. same_Some a b (sym (kind_with-number a) ∙ (ap kind_with (eqb-true (kind_number a) (kind_number b) e) ∙ kind_with-number b)),
+  λ e. eq-eqb (kind_number a) (kind_number b) (ap kind_number e),
+)
 
 made-rule : (k l : SumKind) (c d : ℕ) → k ≡ l → c ≡ d → ◌≡◌ {A = Rule} (record { kind = k; chunk = c }) (record { kind = l; chunk = d })
 made-rule k l c d e f = cc
@@ -87,9 +89,9 @@ made-rule k l c d e f = cc
 same-sums : (a b : Rule) → Decides (same_rule a b) (a ≡ b)
 same-sums a b =
     same-as (same_rule a b) ((a.kind ≡ b.kind) × (a.chunk ≡ b.chunk)) (a ≡ b)
-        (λ x. made-rule a.kind b.kind a.chunk b.chunk x.0 x.1)
-        (λ e. (ap (λ (r : Rule). r.kind) e, ap (λ (r : Rule). r.chunk) e))
-        (both (kind_number a.kind == kind_number b.kind) (a.chunk == b.chunk) (a.kind ≡ b.kind) (a.chunk ≡ b.chunk) (same-kind a.kind b.kind) (Decides-eqb a.chunk b.chunk))
+    (λ x. made-rule a.kind b.kind a.chunk b.chunk x.0 x.1)
+    (λ e. (ap (λ (r : Rule). r.kind) e, ap (λ (r : Rule). r.chunk) e))
+    (both (kind_number a.kind == kind_number b.kind) (a.chunk == b.chunk) (a.kind ≡ b.kind) (a.chunk ≡ b.chunk) (same-kind a.kind b.kind) (Decides-eqb a.chunk b.chunk))
 
 made-found : (x : Found) (at : ReplicaState) (stamp : Stamp) (sums : Rule) (bytes : List ℕ) → x.state ≡ at → x.stamp ≡ stamp → x.sums ≡ sums → x.bytes ≡ bytes
     → Some x ≡ found_as at stamp sums bytes
@@ -120,22 +122,22 @@ parts-of x at stamp sums bytes e =
 -- a test of state, stamp and rule, and of the bytes
 frame : (x : Found) (at : ReplicaState) (stamp : Stamp) (sums : Rule) (b : Bool) (Q : Type 0) → Decides b Q
     → Decides (state_number x.state == state_number at && x.stamp.0 == stamp.0 && same_rule x.sums sums && b)
-        ((((x.state ≡ at) × (x.stamp ≡ stamp)) × (x.sums ≡ sums)) × Q)
+    ((((x.state ≡ at) × (x.stamp ≡ stamp)) × (x.sums ≡ sums)) × Q)
 frame x at stamp sums b Q q =
     both _ b _ Q
-        (both _ (same_rule x.sums sums) _ (x.sums ≡ sums)
-            (both (state_number x.state == state_number at) (x.stamp.0 == stamp.0) (x.state ≡ at) (x.stamp ≡ stamp) (same-state x.state at) (same-stamp x.stamp stamp))
-            (same-sums x.sums sums))
-        q
+    (both _ (same_rule x.sums sums) _ (x.sums ≡ sums)
+    (both (state_number x.state == state_number at) (x.stamp.0 == stamp.0) (x.state ≡ at) (x.stamp ≡ stamp) (same-state x.state at) (same-stamp x.stamp stamp))
+    (same-sums x.sums sums))
+    q
 
 pub found-exact : (f : Option Found) (at : ReplicaState) (stamp : Stamp) (sums : Rule) (bytes : List ℕ)
     → Decides (is_found f at stamp sums bytes) (f ≡ found_as at stamp sums bytes)
 found-exact None at stamp sums bytes = (λ e. absurd (false≢true e), λ e. absurd (none-some _ e))
 found-exact (Some x) at stamp sums bytes =
     same-as _ ((((x.state ≡ at) × (x.stamp ≡ stamp)) × (x.sums ≡ sums)) × (x.bytes ≡ bytes)) (Some x ≡ found_as at stamp sums bytes)
-        (λ p. made-found x at stamp sums bytes p.0.0.0 p.0.0.1 p.0.1 p.1)
-        (λ e. let p = parts-of x at stamp sums bytes e in (((p.state_is, p.stamp_is), p.sums_is), p.bytes_is))
-        (frame x at stamp sums (pointwise ◌==◌ x.bytes bytes) (x.bytes ≡ bytes) (bytes_eq-Decides x.bytes bytes))
+    (λ p. made-found x at stamp sums bytes p.0.0.0 p.0.0.1 p.0.1 p.1)
+    (λ e. let p = parts-of x at stamp sums bytes e in (((p.state_is, p.stamp_is), p.sums_is), p.bytes_is))
+    (frame x at stamp sums (pointwise ◌==◌ x.bytes bytes) (x.bytes ≡ bytes) (bytes_eq-Decides x.bytes bytes))
 
 front-of : (front bytes : List ℕ) → front ≡ take (length front) bytes → IsFront front bytes
 front-of front bytes e = (drop (length front) bytes, subst (λ (v : List ℕ). v ++ drop (length front) bytes ≡ bytes) (sym e) (take-append-drop (length front) bytes))
@@ -146,16 +148,16 @@ front-is front bytes (rest, e) = subst (λ (v : List ℕ). front ≡ take (lengt
 front-exact : (front bytes : List ℕ) → Decides (starts_with ◌==◌ bytes front) (IsFront front bytes)
 front-exact front bytes =
     same-as (starts_with ◌==◌ bytes front) (front ≡ take (length front) bytes) (IsFront front bytes) (front-of front bytes) (front-is front bytes)
-        (bytes_eq-Decides front (take (length front) bytes))
+    (bytes_eq-Decides front (take (length front) bytes))
 
 pub waiting-exact : (f : Option Found) (stamp : Stamp) (sums : Rule) (bytes : List ℕ) → Decides (is_waiting f stamp sums bytes) (IsWaiting f stamp sums bytes)
 waiting-exact None stamp sums bytes = (λ e. absurd (false≢true e), λ w. absurd (none-some _ w.1))
 waiting-exact (Some x) stamp sums bytes =
     same-as _ ((((x.state ≡ state.Rwr) × (x.stamp ≡ stamp)) × (x.sums ≡ sums)) × IsFront x.bytes bytes) (IsWaiting (Some x) stamp sums bytes)
-        (λ p. (x.bytes, made-found x state.Rwr stamp sums x.bytes p.0.0.0 p.0.0.1 p.0.1 refl, p.1))
-        (λ w. let p = parts-of x state.Rwr stamp sums w.0 w.1 in
-            (((p.state_is, p.stamp_is), p.sums_is), subst (λ (v : List ℕ). IsFront v bytes) (sym p.bytes_is) w.2))
-        (frame x state.Rwr stamp sums (starts_with ◌==◌ bytes x.bytes) (IsFront x.bytes bytes) (front-exact x.bytes bytes))
+    (λ p. (x.bytes, made-found x state.Rwr stamp sums x.bytes p.0.0.0 p.0.0.1 p.0.1 refl, p.1))
+    (λ w. let p = parts-of x state.Rwr stamp sums w.0 w.1 in
+    (((p.state_is, p.stamp_is), p.sums_is), subst (λ (v : List ℕ). IsFront v bytes) (sym p.bytes_is) w.2))
+    (frame x state.Rwr stamp sums (starts_with ◌==◌ bytes x.bytes) (IsFront x.bytes bytes) (front-exact x.bytes bytes))
 
 whole-as-exact : (g f : Option Found) → Decides (is_whole_as g f) (f ≡ g)
 whole-as-exact None f = nothing-there f
@@ -173,7 +175,7 @@ WaitsBetween h before k after f =
 waits-exact : (h : ReplicaInfo) (before : List ℕ) (k : ReplicaInfo) (after : List ℕ) (f : Option Found) → Decides (waits_between h before k after f) (WaitsBetween h before k after f)
 waits-exact h before k after f =
     either _ _ _ _ (either _ _ _ _ (either _ _ _ _ (waiting-exact f h.stamp h.sums before) (waiting-exact f h.stamp h.sums after))
-        (waiting-exact f k.stamp h.sums before)) (waiting-exact f k.stamp h.sums after)
+    (waiting-exact f k.stamp h.sums before)) (waiting-exact f k.stamp h.sums after)
 
 abbrev FinalBetween : ReplicaInfo → List ℕ → ReplicaInfo → List ℕ → Option Found → Type 0
 FinalBetween h before k after f =
@@ -184,10 +186,10 @@ FinalBetween h before k after f =
 final-exact : (h : ReplicaInfo) (before : List ℕ) (k : ReplicaInfo) (after : List ℕ) (f : Option Found) → Decides (final_between h before k after f) (FinalBetween h before k after f)
 final-exact h before k after f =
     either _ _ _ _
-        (either _ _ _ _
-            (both _ _ _ _ (holds (is_finalized h.original)) (found-exact f state.Finalized h.stamp h.sums before))
-            (both _ _ _ _ (holds (is_finalized k.original)) (found-exact f state.Finalized k.stamp h.sums after)))
-        (both _ _ _ _ (both _ _ _ _ (holds (is_finalized h.original)) (holds (is_finalized k.original))) (found-exact f state.Finalized h.stamp h.sums after))
+    (either _ _ _ _
+    (both _ _ _ _ (holds (is_finalized h.original)) (found-exact f state.Finalized h.stamp h.sums before))
+    (both _ _ _ _ (holds (is_finalized k.original)) (found-exact f state.Finalized k.stamp h.sums after)))
+    (both _ _ _ _ (both _ _ _ _ (holds (is_finalized h.original)) (holds (is_finalized k.original))) (found-exact f state.Finalized h.stamp h.sums after))
 
 between-from : (h : ReplicaInfo) (before : List ℕ) (k : ReplicaInfo) (after : List ℕ) (f : Option Found)
     → (WaitsBetween h before k after f ⊎ FinalBetween h before k after f) → MayFindBetween h before k after f
@@ -213,7 +215,7 @@ between-exact : (h : ReplicaInfo) (before : List ℕ) (k : ReplicaInfo) (after :
     → Decides (waits_between h before k after f || final_between h before k after f) (MayFindBetween h before k after f)
 between-exact h before k after f =
     same-as _ (WaitsBetween h before k after f ⊎ FinalBetween h before k after f) (MayFindBetween h before k after f) (between-from h before k after f) (between-to h before k after f)
-        (either _ _ _ _ (waits-exact h before k after f) (final-exact h before k after f))
+    (either _ _ _ _ (waits-exact h before k after f) (final-exact h before k after f))
 
 new-exact : (k : ReplicaInfo) (f : Option Found) → Decides (is_found_new k f) (MayFindNew k f)
 new-exact k f = either _ _ _ _ (nothing-there f) (both _ _ _ _ (fails (is_temporary k.original)) (found-exact f state.Rwr k.stamp k.sums []))

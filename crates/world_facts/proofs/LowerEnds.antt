@@ -46,7 +46,7 @@ up-fits : (w : World) (c : ℕ) (m : FullMember) (x : Next) (fails : Bool) → P
     → IfSome (member_up w c m x fails) (Fits w)
 up-fits w c m x fails h lt k =
     when-each (Fits w) (hears m.state) _
-        (λ _. turn-fits w c m x (up_turn m.state (oldest_at (replica_at w c (block_of m.fields))) (below_of x)) fails h lt k)
+    (λ _. turn-fits w c m x (up_turn m.state (oldest_at (replica_at w c (block_of m.fields))) (below_of x)) fails h lt k)
 
 ready-as : (w : World) (c : ℕ) (m : FullMember) (o : Option Turn) (fails : Bool) → Placed w → c < w.next_conn → IsConn w.next_conn m.mirror
     → IfSome (ready_change w c m o fails) (Fits w)

@@ -292,13 +292,13 @@ new-committed : (from : OfficeState) (block q : BlockId) (k : BlockRecord) (s : 
     → IsCommitted (with_new_record from block k) q s
 new-committed from block q k s e h =
     committed-by (with_new_record from block k) q k s
-        (subst (λ (b : BlockId). record_of (with_new_record from block k) b ≡ Some k) e (record_of-with_new_record_same from block k)) h
+    (subst (λ (b : BlockId). record_of (with_new_record from block k) b ≡ Some k) e (record_of-with_new_record_same from block k)) h
 
 known-committed : (from : OfficeState) (block q : BlockId) (r k : BlockRecord) (s : Stamp) → record_of from block ≡ Some r → block ≡ q
     → (k.recovery ≡ None → s ≡ k.committed) → IsCommitted (with_record from block k) q s
 known-committed from block q r k s is e h =
     committed-by (with_record from block k) q k s
-        (subst (λ (b : BlockId). record_of (with_record from block k) b ≡ Some k) e (record_of-with_record_same from block r k is)) h
+    (subst (λ (b : BlockId). record_of (with_record from block k) b ≡ Some k) e (record_of-with_record_same from block r k is)) h
 
 -- what was committed before, for the block of a call
 held-before : (o : OfficeState) (block q : BlockId) (r : BlockRecord) (s : Stamp) → IsCommitted o q s → record_of o block ≡ Some r → block ≡ q → r.recovery ≡ None → s ≡ r.committed
@@ -310,20 +310,20 @@ answering o c = each_case o (Answering o) (record {
   refused = λ d e. λ x a h. subst (λ (s : Stamp). IsCommitted o x.block s) (sym (refusal-committed x e)) h;
   created = λ block members none. λ x a h.
       new-committed (stamp_given o) block x.block (opened members o.next) (granted x (Ok (office.Stamp o.next))).committed a.block
-          (λ _. created-committed x x.phase o.next a.at);
+      (λ _. created-committed x x.phase o.next a.at);
   appended = λ block r is shut short. λ x a h.
       let back : Reopened = record { committed = r.committed; length = r.length; new = o.next } in
       known-committed (stamp_given o) block x.block r (record r { is_open = true; recovery = None }) (granted x (Ok (office.Reopened back))).committed is a.block
-          (λ _. reopened-committed x x.phase back a.at short);
+      (λ _. reopened-committed x x.phase back a.at short);
   stamped = λ block r is writers. λ x a h.
       known-committed (stamp_given o) block x.block r r (granted x (Ok (office.Stamp o.next))).committed is a.block
-          (λ lease. again-committed x x.phase o.next a.way a.at a.again ∙ held-before o block x.block r x.committed h is a.block lease);
+      (λ lease. again-committed x x.phase o.next a.way a.at a.again ∙ held-before o block x.block r x.committed h is a.block lease);
   committed = λ block stamp members r is writers new. λ x a h.
       known-committed o block x.block r (record r { committed = stamp; members = members }) (granted x (Ok office.Nothing)).committed is a.block
-          (λ _. commit-committed x x.phase stamp a.way a.at a.later);
+      (λ _. commit-committed x x.phase stamp a.way a.at a.later);
   completed = λ block stamp bytes r is writers new. λ x a h.
       known-committed o block x.block r (record r { is_open = false; length = bytes }) (granted x (Ok office.Nothing)).committed is a.block
-          (λ lease. complete-committed x x.phase a.at ∙ held-before o block x.block r x.committed h is a.block lease);
+      (λ lease. complete-committed x x.phase a.at ∙ held-before o block x.block r x.committed h is a.block lease);
   begun = λ block r is is_open. λ x a h. absurd a;
   synced = λ block id bytes members r is is_open latest. λ x a h. absurd a;
 }) c
@@ -402,6 +402,6 @@ leaving o c = each_case o (Leaving o) (record {
   committed = λ block stamp members r is writers new. λ p q s h. absurd p;
   completed = λ block stamp bytes r is writers new. λ p q s h. absurd p;
   begun = λ block r is is_open. λ p q s h. under-recovery o (stamp_given o) block q r (record r { recovery = Some o.next }) s is (λ e. none-some o.next (sym e)) (λ _. refl) h;
-  synced = λ block id bytes members r is is_open latest. λ p q s h. 
+  synced = λ block id bytes members r is is_open latest. λ p q s h.
       under-recovery o o block q r (record r { is_open = false; committed = id; members = members; length = bytes }) s is (held r.recovery id latest) (λ _. refl) h;
 }) c

@@ -93,7 +93,7 @@ down-placed w c answered fails h =
 ready-placed : (w : World) (c : ℕ) (fails : Bool) → Placed w → IfSome (ready_event w c fails) Placed
 ready-placed w c fails h =
     when-each Placed (is_served w c) _
-        (λ e. changed-placed w (lower_ready (w.lowers c) w c fails) h (lower-ready-fits (w.lowers c) w c fails h (served-below w c e) (h.lowers c)))
+    (λ e. changed-placed w (lower_ready (w.lowers c) w c fails) h (lower-ready-fits (w.lowers c) w c fails h (served-below w c e) (h.lowers c)))
 
 unless-fits : (w : World) (fails : Bool) (k : Option Change) → IfSome k (Fits w) → IfSome (unless_fails fails k) (Fits w)
 unless-fits w true k f = tt
@@ -145,8 +145,8 @@ stopped-out : (w : World) (n : ℕ) (marks : ℕ → Marks) → ((d : ℕ) → w
     → (d : ℕ) → w.next_conn ≤ d → stopped_where (is_of_node w n) marks d ≡ new_marks
 stopped-out w n marks h d le =
     if-each (λ (m : Marks). m ≡ new_marks) (is_of_node w n d) (stopped_marks (marks d)) (marks d)
-        (λ e. absurd (omega (arith, lt-true d w.next_conn (and-left (nat_lt d w.next_conn) (touches n (w.dialled d)) e), le)))
-        (λ e. h d le)
+    (λ e. absurd (omega (arith, lt-true d w.next_conn (and-left (nat_lt d w.next_conn) (touches n (w.dialled d)) e), le)))
+    (λ e. h d le)
 
 stop-placed : (w : World) (n : ℕ) → Placed w → Placed (stop w n)
 stop-placed w n h = record {
@@ -210,8 +210,8 @@ outcome-placed w (event.Fault d) h = fault-placed w d h
 outcome-placed w (event.Stop n) h = where-placed (w.running n.0) _ (λ _. stop-placed w n.0 h)
 outcome-placed w (event.Restart n list) h =
     where-placed (nat_lt n.0 w.nodes && not (w.running n.0) && all_found w n.0 list) _
-        (λ e. restart-placed w n.0 list
-            (lt-true n.0 w.nodes (and-left (nat_lt n.0 w.nodes) (not (w.running n.0)) (and-left (nat_lt n.0 w.nodes && not (w.running n.0)) (all_found w n.0 list) e))) h)
+    (λ e. restart-placed w n.0 list
+    (lt-true n.0 w.nodes (and-left (nat_lt n.0 w.nodes) (not (w.running n.0)) (and-left (nat_lt n.0 w.nodes && not (w.running n.0)) (all_found w n.0 list) e))) h)
 
 named : (v : World) (e : Event) → Placed v → Placed (record v { last = Some e })
 named v e h = record {

@@ -77,8 +77,8 @@ updates-out n d m chosen [] cs h le = refl
 updates-out n d m chosen (x ∷ xs) [] h le = refl
 updates-out n d m chosen (x ∷ xs) (o ∷ cs) h le =
     if-each (λ (ms : List Message). ms ≡ []) (is_among chosen x && is_conn o d) (m ∷ []) (updates_on m chosen (zip xs cs) d)
-        (λ e. absurd (never (is_among chosen x) (is_conn o d) (conn-out n d o (are-head n o cs h) le) e))
-        (λ e. updates-out n d m chosen xs cs (are-tail n o cs h) le)
+    (λ e. absurd (never (is_among chosen x) (is_conn o d) (conn-out n d o (are-head n o cs h) le) e))
+    (λ e. updates-out n d m chosen xs cs (are-tail n o cs h) le)
   where
     never : (a b : Bool) → b ≡ false → (a && b) ≡ true → ⊥
     never true b f e = cc
@@ -162,8 +162,8 @@ begins-at : (p : Primary) (w : World) (i n : ℕ) (b : BlockId) (members : List 
 begins-at no_primary w i n b members answers h = tt
 begins-at (was_told asked told) w i n b members answers h =
     when-each (Fits w) (asked.0 == b.0 && w.running n && are_members members) _
-        (λ e. begins-as told w i (place_of w n) b members answers
-            (h.runs n (and-right (asked.0 == b.0) (w.running n) (and-left (asked.0 == b.0 && w.running n) (are_members members) e))) h)
+    (λ e. begins-as told w i (place_of w n) b members answers
+    (h.runs n (and-right (asked.0 == b.0) (w.running n) (and-left (asked.0 == b.0 && w.running n) (are_members members) e))) h)
 begins-at (leads l) w i n b members answers h = tt
 begins-at (has_led r) w i n b members answers h = tt
 
@@ -315,7 +315,7 @@ commits-asked own.Waits w i l q h = tt
 commits-asked (own.Updates c) w i l q h = tt
 commits-asked (own.Commits c) w i l q h =
     asks-primary-fits w i (sync_call l.state c) (λ told. leads (record l { told = Some told }))
-        (λ t. record { at = q.at; conns_of = λ j d e. omega (arith, q.conns_of j d e) }) h
+    (λ t. record { at = q.at; conns_of = λ j d e. omega (arith, q.conns_of j d e) }) h
 commits-asked (own.Ends r) w i l q h = tt
 
 primary-asks-fits : (p : Primary) (w : World) (i : ℕ) (b : BlockId) → IsPrimary w.nodes w.next_conn p → Placed w → IfSome (primary_asks p w i b) (Fits w)

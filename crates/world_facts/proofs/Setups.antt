@@ -81,8 +81,8 @@ sendable : (w : World) (c : ℕ) (fields : WriteFields) (answered : Bool) → is
     → Sendable w (goes_on w c fields) (mirror_node fields.targets)
 sendable w c fields answered e =
     sendable-as w (goes_on w c fields) (mirror_node fields.targets)
-        (and-right answered (is_some (goes_on w c fields)) (and-left (answered && is_some (goes_on w c fields)) (runs_there w (mirror_node fields.targets)) e))
-        (and-right (answered && is_some (goes_on w c fields)) (runs_there w (mirror_node fields.targets)) e)
+    (and-right answered (is_some (goes_on w c fields)) (and-left (answered && is_some (goes_on w c fields)) (runs_there w (mirror_node fields.targets)) e))
+    (and-right (answered && is_some (goes_on w c fields)) (runs_there w (mirror_node fields.targets)) e)
 
 pub one-dial : (P : Dial → Type 0) (x : Dial) (i : ℕ) (d : Dial) → P x → slice_get (x ∷ []) i ≡ Some d → P d
 one-dial P x zero d h e = subst P (same_Some x d e) h
@@ -92,7 +92,7 @@ dial-in : (w : World) (c n : ℕ) (o : Option WriteFields) (p : Option ℕ) → 
     → (i : ℕ) (d : Dial) → slice_get (mirror_dial w c o p) i ≡ Some d → IsDialled w.nodes n d.dialled
 dial-in w c n (Some f) (Some m) h lt le s i d e =
     one-dial (λ x. IsDialled w.nodes n x.dialled) _ i d
-        (record { to = h.runs m (subst (λ k. w.running k ≡ true) (sym (same_Some m s.node s.at)) s.runs); from = (h.dialled c lt).to; upper = omega (arith, lt, le) }) e
+    (record { to = h.runs m (subst (λ k. w.running k ≡ true) (sym (same_Some m s.node s.at)) s.runs); from = (h.dialled c lt).to; upper = omega (arith, lt, le) }) e
 dial-in w c n (Some f) None h lt le s i d e = absurd (none-some d e)
 dial-in w c n None p h lt le s i d e = absurd (none-some d e)
 
@@ -163,6 +163,6 @@ write-fits w c fields answered true h lt =
     failing-write-fits w c fields (request_event (record { 0 = c }) fields (rule_in (replica_at w c (block_of fields)).known)) h lt
 write-fits w c fields answered false h lt =
     setup-fits w c fields answered
-        (request_step (record { 0 = c }) fields (is_asked w c fields answered) (replica_at w c (block_of fields))) _ h lt
-        (request-asked (record { 0 = c }) fields (is_asked w c fields answered) (replica_at w c (block_of fields))
-            (request_event (record { 0 = c }) fields (rule_in (replica_at w c (block_of fields)).known)))
+    (request_step (record { 0 = c }) fields (is_asked w c fields answered) (replica_at w c (block_of fields))) _ h lt
+    (request-asked (record { 0 = c }) fields (is_asked w c fields answered) (replica_at w c (block_of fields))
+    (request_event (record { 0 = c }) fields (rule_in (replica_at w c (block_of fields)).known)))
