@@ -13,3 +13,7 @@ pub mod OfficeSteps
 pub mod Agreements
 pub mod Sessions
 pub mod FoundLaws
+pub mod Lawful
+pub mod Storing
+pub mod Untouching
+pub mod FilledLaws

@@ -3,6 +3,7 @@
 
 ghost use Rattle.world_facts.specs.Facts.{IdleChangesNothing, RunsJoin, RunsEnd, OnlyDialledCarry, AllPlaced};
 ghost use Rattle.world_facts.specs.Facts.{OfficeAndWriterAgree, StampsKeepSessions};
+ghost use Rattle.world_facts.specs.Filling.{AllFilled};
 ghost use Rattle.world_facts.specs.Finding.{FindsExactly, FindsWhatMayBe};
 
 /// An event that isn't enabled changes nothing.
@@ -43,4 +44,9 @@ pub fn stamps_keep_their_sessions()
 pub fn restarts_find_what_they_may()
     ensures tested { FindsExactly }
     ensures found { FindsWhatMayBe }
+{}
+
+/// Every replica is sound, is one of its block, and has just the bytes that it has written; so it was before it broke.
+pub fn replicas_have_their_bytes()
+    ensures { AllFilled }
 {}
