@@ -7,13 +7,3 @@ pub mod LowerEnds
 pub mod ClientEnds
 pub mod PrimaryEnds
 pub mod PlacedLaws
-pub mod Asides
-pub mod WriterSteps
-pub mod OfficeSteps
-pub mod Agreements
-pub mod Sessions
-pub mod FoundLaws
-pub mod Lawful
-pub mod Storing
-pub mod Untouching
-pub mod FilledLaws

@@ -1,13 +1,6 @@
 -- Plain facts of the world.
-use Rattle.std.specs.Prelude.{ℕ, ◌≡◌, ◌<◌, ◌≤◌, false, List, [], ◌∷◌, ◌++◌, Option, Some, None}
-use Rattle.hd_base.specs.declared.numbers.BlockId.{BlockId}
-use Rattle.hd_base.specs.declared.numbers.Stamp.{Stamp}
-use Rattle.name_core.specs.declared.records.BlockRecord.{BlockRecord}
-use Rattle.name_core.specs.Offices.{OfficeState, record_of}
-use Rattle.writer_core.specs.declared.records.WriterRecord.{WriterRecord}
-use Rattle.writer_core.specs.Transitions.{granted}
+use Rattle.std.specs.Prelude.{ℕ, ◌≡◌, ◌≤◌, false, List, [], ◌∷◌, ◌++◌}
 use Rattle.world.specs.declared.events.Event.{Event}
-use Rattle.world.specs.Parts.{Told, Writing}
 use Rattle.world.specs.Worlds.{World, start}
 use Rattle.world.specs.Events.{is_enabled, happens, run}
 use Rattle.world_facts.specs.Placing.{IsUndialled, Placed}
@@ -32,28 +25,3 @@ OnlyDialledCarry = (nodes : ℕ) (events : List Event) (c : ℕ) → (run (start
 -- Every index is in range after every list of events.
 abbrev pub AllPlaced : Type 0
 AllPlaced = (nodes : ℕ) (events : List Event) → Placed (run (start nodes) events)
-
--- THE OFFICE AND WRITERS
-
--- the committed stamp that a writer has, once it has taken the answer of the office that waits for it
-abbrev pub told_stamp : WriterRecord → Option Told → Stamp
-told_stamp x None = x.committed
-told_stamp x (Some told) = (granted x told).committed
-
-abbrev pub stamp_heard : Writing → Stamp
-stamp_heard x = told_stamp x.known x.told
-
--- where no recovery of the block has begun, this is its committed stamp
-abbrev pub IsCommitted : OfficeState → BlockId → Stamp → Type 0
-IsCommitted o block stamp = (r : BlockRecord) → record_of o block ≡ Some r → r.recovery ≡ None → stamp ≡ r.committed
-
--- Office and writer agree on what was answered: where no recovery of a block has begun, the stamp that the office has committed is the one that
--- the block's writer knows.
-abbrev pub OfficeAndWriterAgree : Type 0
-OfficeAndWriterAgree = (nodes : ℕ) (events : List Event) (b : ℕ) →
-    IsCommitted (run (start nodes) events).office (record { 0 = b }) (stamp_heard ((run (start nodes) events).writers b))
-
--- A stamp that was given has one session: whatever happens later, it stays in the session in which it was given.
-abbrev pub StampsKeepSessions : Type 0
-StampsKeepSessions = (nodes : ℕ) (events others : List Event) (stamp : ℕ) → stamp < (run (start nodes) events).office.next.0 →
-    (run (start nodes) (events ++ others)).session_of stamp ≡ (run (start nodes) events).session_of stamp

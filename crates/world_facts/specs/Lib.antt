@@ -1,4 +1,2 @@
 pub mod Placing
 pub mod Facts
-pub mod Finding
-pub mod Filling

@@ -2,9 +2,6 @@
 #![tactic(auto)]
 
 ghost use Rattle.world_facts.specs.Facts.{IdleChangesNothing, RunsJoin, RunsEnd, OnlyDialledCarry, AllPlaced};
-ghost use Rattle.world_facts.specs.Facts.{OfficeAndWriterAgree, StampsKeepSessions};
-ghost use Rattle.world_facts.specs.Filling.{AllFilled};
-ghost use Rattle.world_facts.specs.Finding.{FindsExactly, FindsWhatMayBe};
 
 /// An event that isn't enabled changes nothing.
 pub fn idle_events_change_nothing()
@@ -27,26 +24,4 @@ pub fn only_dialled_connections_carry()
 /// of writers, readers and primaries.
 pub fn indices_are_in_range()
     ensures { AllPlaced }
-{}
-
-/// Office and writer agree on what was answered: where no recovery of a block has begun, the stamp that the office has
-/// committed is the one that the block's writer knows, once it has taken the answer that waits for it.
-pub fn office_and_writer_agree()
-    ensures { OfficeAndWriterAgree }
-{}
-
-/// A stamp that was given has one session: it stays in the one in which it was given.
-pub fn stamps_keep_their_sessions()
-    ensures { StampsKeepSessions }
-{}
-
-/// A restart makes of each replica one that it may find, and the test of that is exact.
-pub fn restarts_find_what_they_may()
-    ensures tested { FindsExactly }
-    ensures found { FindsWhatMayBe }
-{}
-
-/// Every replica is sound, is one of its block, and has just the bytes that it has written; so it was before it broke.
-pub fn replicas_have_their_bytes()
-    ensures { AllFilled }
 {}

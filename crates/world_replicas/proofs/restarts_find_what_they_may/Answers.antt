@@ -1,5 +1,5 @@
-use Rattle.world_facts.proofs.FoundLaws.{may-find-exact, restarts-find}
-use Rattle.world_facts.proofs.restarts_find_what_they_may.Goals as goal
+use Rattle.world_replicas.proofs.FoundLaws.{may-find-exact, restarts-find}
+use Rattle.world_replicas.proofs.restarts_find_what_they_may.Goals as goal
 
 pub returns-clause-tested : goal.returns-clause-tested
 returns-clause-tested c = may-find-exact

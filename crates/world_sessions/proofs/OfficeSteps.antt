@@ -36,8 +36,8 @@ use Rattle.writer_core.specs.declared.phases.Waiting.{Waiting}
 use Rattle.writer_core.specs.declared.records.WriterRecord.{WriterRecord}
 use Rattle.writer_core.specs.Transitions.{take_first, free_step_as, failed_first, failed_command, failed_step_as, stamp_call, dial_step_as, accepted_step, form_step, reach_step_as, reached_length, due_step, due_now, stream_step_as, step_in, own_step, stamped, reopened, begin_session, committed_as, commit_given, complete_given, granted, granted_in, granted_as, refused, asks}
 use Rattle.writer_core.specs.Transitions as writer
-use Rattle.world_facts.specs.Facts.{IsCommitted}
-use Rattle.world_facts.proofs.WriterSteps.{Same, same}
+use Rattle.world_sessions.specs.Sessions.{IsCommitted}
+use Rattle.world_sessions.proofs.WriterSteps.{Same, same}
 
 -- WHAT A WRITER ASKS
 

@@ -34,9 +34,9 @@ use Rattle.world.specs.Primaries.{stamped_by, asks_writer, asks_primary, writer_
 use Rattle.world.specs.Restarts.{all_found, restart}
 use Rattle.world.specs.Events.{changed, own_change, down_as, down_event, ready_event, upper_up, up_as, up_event, fault_event, lost, stop, where_so, outcome, after_event, happens, run}
 use Rattle.world_facts.proofs.Tables.{if-each, when-each}
-use Rattle.world_facts.proofs.Asides.{lower-down-aside, lower-ready-aside, own-reader-aside, own-recover-aside, own-primary-aside}
+use Rattle.world_sessions.proofs.Asides.{lower-down-aside, lower-ready-aside, own-reader-aside, own-recover-aside, own-primary-aside}
 use Rattle.world_facts.proofs.RunLaws.{runs-join}
-use Rattle.world_facts.proofs.Agreements.{Quiet, asides-quiet, own-writer-quiet, upper-quiet}
+use Rattle.world_sessions.proofs.Agreements.{Quiet, asides-quiet, own-writer-quiet, upper-quiet}
 
 -- STAMPS THAT THE OFFICE GIVES
 

@@ -29,12 +29,12 @@ use Rattle.world.specs.Clients.{writer_up, reader_up}
 use Rattle.world.specs.Primaries.{primary_up, office_event}
 use Rattle.world.specs.Restarts.{found_in, all_found, replica_found, restarted, restart}
 use Rattle.world.specs.Events.{changed, own_change, down_as, down_event, ready_event, unless_fails, upper_up, up_as, up_event, fault_event, lost, stop, where_so, outcome, after_event, happens, run}
-use Rattle.world_facts.specs.Finding.{MayFindAt}
-use Rattle.world_facts.specs.Filling.{IsStored, IsBreak, Filled}
+use Rattle.world_replicas.specs.Finding.{MayFindAt}
+use Rattle.world_replicas.specs.Filling.{IsStored, IsBreak, Filled}
 use Rattle.world_facts.proofs.Tables.{if-each, when-each, and-left, and-right}
-use Rattle.world_facts.proofs.FoundLaws.{restarts-find}
-use Rattle.world_facts.proofs.Storing.{Stores, lower-down-stores, lower-ready-stores, mirror-up-stores}
-use Rattle.world_facts.proofs.Untouching.{Untouched, own-writer-untouched, writer-up-untouched, own-reader-untouched, reader-up-untouched, own-recover-untouched, own-primary-untouched, primary-up-untouched, office-untouched}
+use Rattle.world_replicas.proofs.FoundLaws.{restarts-find}
+use Rattle.world_replicas.proofs.Storing.{Stores, lower-down-stores, lower-ready-stores, mirror-up-stores}
+use Rattle.world_replicas.proofs.Untouching.{Untouched, own-writer-untouched, writer-up-untouched, own-reader-untouched, reader-up-untouched, own-recover-untouched, own-primary-untouched, primary-up-untouched, office-untouched}
 
 -- CHANGES
 

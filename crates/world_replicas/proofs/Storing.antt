@@ -32,9 +32,9 @@ use Rattle.world.specs.Parts.{Message, request, packet, ack, response, read_stat
 use Rattle.world.specs.Worlds.{World, Change}
 use Rattle.world.specs.Connections.{Next, message, the_end, is_alive}
 use Rattle.world.specs.Nodes.{node_of, replica_at, block_of, first_break, broke_at, closing, unless_failing, above_of, below_of, failing_turn, turn_change, takes_next, pending_at, member_down, member_up, ready_change, member_ready, failing_write, write_request, is_asked, breaking, read_change, failing_read, read_request, piece_as, serve_change, failing_recovery, recovery_request, first_message, next_recovery, lower_down, lower_ready, mirror_up}
-use Rattle.world_facts.specs.Filling.{IsStored, IsBreak, Filled}
+use Rattle.world_replicas.specs.Filling.{IsStored, IsBreak, Filled}
 use Rattle.world_facts.proofs.Tables.{if-each, when-each}
-use Rattle.world_facts.proofs.Lawful.{Calls, down-calls, up-calls, ready-calls, Others, request-other, recovery-other}
+use Rattle.world_replicas.proofs.Lawful.{Calls, down-calls, up-calls, ready-calls, Others, request-other, recovery-other}
 
 -- ROWS
 

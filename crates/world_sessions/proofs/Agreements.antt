@@ -43,11 +43,11 @@ use Rattle.world.specs.Clients.{writer_change, did, dialled_change, dialling, re
 use Rattle.world.specs.Primaries.{asks_writer, asks_primary, writer_asks, primary_commits, primary_asks, office_event, primary_up}
 use Rattle.world.specs.Restarts.{all_found, restart}
 use Rattle.world.specs.Events.{changed, own_change, down_as, down_event, ready_event, unless_fails, upper_up, up_as, up_event, fault_event, lost, stop, where_so, outcome, after_event, happens, run}
-use Rattle.world_facts.specs.Facts.{told_stamp, stamp_heard, IsCommitted}
+use Rattle.world_sessions.specs.Sessions.{told_stamp, stamp_heard, IsCommitted}
 use Rattle.world_facts.proofs.Tables.{if-each, put-each, when-each, and-right}
-use Rattle.world_facts.proofs.WriterSteps.{Same, own-step-same, open-same, completed-same, hears-same, dialled-same, given-same, ruled-same}
-use Rattle.world_facts.proofs.OfficeSteps.{granted-block, AsksAs, Asking, own-step-asking, answering, block_in, keeps-other, asks-block, IsPrimarys, leaving}
-use Rattle.world_facts.proofs.Asides.{Aside, lower-down-aside, lower-ready-aside, mirror-up-aside, own-reader-aside, reader-up-aside, own-recover-aside, own-primary-aside, primary-up-aside}
+use Rattle.world_sessions.proofs.WriterSteps.{Same, own-step-same, open-same, completed-same, hears-same, dialled-same, given-same, ruled-same}
+use Rattle.world_sessions.proofs.OfficeSteps.{granted-block, AsksAs, Asking, own-step-asking, answering, block_in, keeps-other, asks-block, IsPrimarys, leaving}
+use Rattle.world_sessions.proofs.Asides.{Aside, lower-down-aside, lower-ready-aside, mirror-up-aside, own-reader-aside, reader-up-aside, own-recover-aside, own-primary-aside, primary-up-aside}
 
 -- CHANGES THAT LEAVE THE OFFICE
 

@@ -26,7 +26,7 @@ use Rattle.replica_model.specs.Plans.{plan, has_changing}
 use Rattle.replica_model.specs.Found.{Found, found_as, IsFront, IsWaiting, found_whole, settled_state, MayFindBetween, waits_old_before, waits_old_after, waits_new_before, waits_new_after, stays_final, becomes_final, cut_final, MayFindNew, MayFindChanged, MayFindAmid, MayFindWithin}
 use Rattle.world.specs.Parts.{Break}
 use Rattle.world.specs.Restarts.{same_rule, is_found, is_waiting, is_whole_as, is_whole, waits_between, final_between, is_found_new, is_found_changed, is_found_amid, is_found_within, may_find, replica_found, whole_found, restarted}
-use Rattle.world_facts.specs.Finding.{MayFindAt, IsFoundAt}
+use Rattle.world_replicas.specs.Finding.{MayFindAt, IsFoundAt}
 
 -- TESTS
 

@@ -1,0 +1,5 @@
+pub mod WriterSteps
+pub mod OfficeSteps
+pub mod Asides
+pub mod Agreements
+pub mod Sessions
