@@ -41,9 +41,9 @@ use Rattle.world_replicas.proofs.Untouching.{Untouched, own-writer-untouched, wr
 put-at-each : {A : Type 0} (P : ℕ → ℕ → A → Type 0) (f : ℕ → ℕ → A) (i k : ℕ) (x : A) → P i k x → ((j l : ℕ) → P j l (f j l)) → (j l : ℕ) → P j l (put_at f i k x j l)
 put-at-each {A} P f i k x h q j l =
     if-each (λ (y : A). P j l y) (j == i && l == k) x (f j l)
-        (λ e. subst (λ (n : ℕ). P n l x) (sym (eqb-true j i (and-left (j == i) (l == k) e)))
-            (subst (λ (n : ℕ). P i n x) (sym (eqb-true l k (and-right (j == i) (l == k) e))) h))
-        (λ e. q j l)
+    (λ e. subst (λ (n : ℕ). P n l x) (sym (eqb-true j i (and-left (j == i) (l == k) e)))
+    (subst (λ (n : ℕ). P i n x) (sym (eqb-true l k (and-right (j == i) (l == k) e))) h))
+    (λ e. q j l)
 
 stores-filled : (w : World) (k : Change) → Filled w → Stores w k → Filled (apply w k)
 unfolding apply

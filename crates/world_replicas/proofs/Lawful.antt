@@ -166,7 +166,7 @@ few-other conn f s (Some r) h = checked (nat_le (length f.targets) MAX_BELOW) _ 
 
 named-other : (conn : ConnId) (f : WriteFields) (held : Option Rule) (s : Option SetupKind)
     → Others (named_setup f.stage s >>= (λ kind. named_rule f (rule_for f held) >>= (λ sums.
-        if nat_le (length f.targets) MAX_BELOW then Ok (setup_event conn f sums kind) else Err (refusal.TooMany (length f.targets)))))
+    if nat_le (length f.targets) MAX_BELOW then Ok (setup_event conn f sums kind) else Err (refusal.TooMany (length f.targets)))))
 named-other conn f held None = tt
 named-other conn f held (Some s) = few-other conn f s (rule_for f held) (rule-lawful f held)
 

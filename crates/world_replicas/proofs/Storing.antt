@@ -89,13 +89,13 @@ turn-stores w c m x t false h k = record {
 down-stores : (w : World) (c : ℕ) (m : FullMember) (x : Next) (fails : Bool) → Filled w → IfSome (member_down w c m x fails) (Stores w)
 down-stores w c m x fails h =
     when-each (Stores w) (takes_next m.state (pending_at w c m) x) _
-        (λ _. turn-stores w c m x (down_turn m.state (above_of x)) fails h (down-calls m.state (above_of x)))
+    (λ _. turn-stores w c m x (down_turn m.state (above_of x)) fails h (down-calls m.state (above_of x)))
 
 up-stores : (w : World) (c : ℕ) (m : FullMember) (x : Next) (fails : Bool) → Filled w → IfSome (member_up w c m x fails) (Stores w)
 up-stores w c m x fails h =
     let oldest = oldest_at (replica_at w c (block_of m.fields)) in
     when-each (Stores w) (hears m.state) _
-        (λ _. turn-stores w c m x (up_turn m.state oldest (below_of x)) fails h (up-calls m.state oldest (below_of x)))
+    (λ _. turn-stores w c m x (up_turn m.state oldest (below_of x)) fails h (up-calls m.state oldest (below_of x)))
 
 ready-as : (w : World) (c : ℕ) (m : FullMember) (o : Option Turn) (fails : Bool) → Filled w → IfSome o Calls → IfSome (ready_change w c m o fails) (Stores w)
 ready-as w c m None fails h k = tt

@@ -16,7 +16,6 @@ use Rattle.world.specs.Parts.{Leading, Place, Primary, Reader, Told, has_led, ha
 use Rattle.world.specs.Primaries.{begins_as, begins_at, commits_step, hears_change, leads_step, leads_told, listens, office_event, own_primary, own_primary_as, own_recover, primary_asks, primary_commits, primary_up, primary_up_as, writer_asks}
 use Rattle.world.specs.Worlds.{Change, World}
 use Rattle.world.specs.declared.events.Caller.{Caller}
-
 use Rattle.world.specs.declared.events.TakenCommand.{TakenCommand}
 use Rattle.writer_core.specs.Transitions.{completed_step, dial_step, dialled, given, granted, is_connected, open_step, own_step}
 use Rattle.writer_core.specs.declared.actions.Action.{Action}
@@ -85,7 +84,7 @@ command-untouched : (w : World) (b : ℕ) (x : WriterRecord) (t : TakenCommand) 
 command-untouched w b x t =
     let y = ruled x t.command t.rule in
     when-each (Untouched w) (is_formed t.command t.rule && not (is_empty (given x t.command).queue)) _
-        (λ _. takes-untouched w b y.waiting (own_step (given y t.command)) (command_bytes y t.command))
+    (λ _. takes-untouched w b y.waiting (own_step (given y t.command)) (command_bytes y t.command))
 
 step-untouched : (w : World) (b : ℕ) (x : WriterRecord) (told : Option Told) (takes : Option TakenCommand) (answered : Bool)
     → IfSome (writer_step w b x told takes answered) (Untouched w)
