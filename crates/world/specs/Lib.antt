@@ -6,4 +6,5 @@ pub mod Clients
 pub mod Primaries
 pub mod Restarts
 pub mod Events
+pub mod Enabled
 pub mod Safe

@@ -7,3 +7,4 @@ pub mod LowerEnds
 pub mod ClientEnds
 pub mod PrimaryEnds
 pub mod PlacedLaws
+pub mod TestLaws

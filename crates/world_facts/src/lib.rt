@@ -2,10 +2,17 @@
 #![tactic(auto)]
 
 ghost use Rattle.world_facts.specs.Facts.{IdleChangesNothing, RunsJoin, RunsEnd, OnlyDialledCarry, AllPlaced};
+ghost use Rattle.world_facts.specs.Testing.{AllTested};
 
 /// An event that isn't enabled changes nothing.
 pub fn idle_events_change_nothing()
     ensures { IdleChangesNothing }
+{}
+
+/// Deliveries, own steps of writers and primaries, and questions to the office are enabled just where the tests of what
+/// takes part in them say so.
+pub fn enabled_events_are_tested()
+    ensures { AllTested }
 {}
 
 /// Lists of events join: the events of the first happen, and then those of the second; an event at the end happens
