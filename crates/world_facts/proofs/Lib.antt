@@ -8,3 +8,4 @@ pub mod ClientEnds
 pub mod PrimaryEnds
 pub mod PlacedLaws
 pub mod TestLaws
+pub mod GrowthLaws

@@ -1,3 +1,4 @@
 pub mod Placing
 pub mod Facts
 pub mod Testing
+pub mod Growing

@@ -2,6 +2,7 @@
 #![tactic(auto)]
 
 ghost use Rattle.world_facts.specs.Facts.{IdleChangesNothing, RunsJoin, RunsEnd, OnlyDialledCarry, AllPlaced};
+ghost use Rattle.world_facts.specs.Growing.{PastGrows};
 ghost use Rattle.world_facts.specs.Testing.{AllTested};
 
 /// An event that isn't enabled changes nothing.
@@ -31,4 +32,10 @@ pub fn only_dialled_connections_carry()
 /// of writers, readers and primaries.
 pub fn indices_are_in_range()
     ensures { AllPlaced }
+{}
+
+/// Whatever happens, the past only grows: what was written, sent, recorded or answered stays, with more behind it, and
+/// connections stay what they were.
+pub fn the_past_only_grows()
+    ensures { PastGrows }
 {}
