@@ -1,11 +1,4 @@
 pub mod RunLaws
 pub mod Tables
-pub mod Fitting
-pub mod Leaves
-pub mod Setups
-pub mod LowerEnds
-pub mod ClientEnds
-pub mod PrimaryEnds
-pub mod PlacedLaws
 pub mod TestLaws
 pub mod GrowthLaws

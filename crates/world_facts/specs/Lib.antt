@@ -1,4 +1,3 @@
-pub mod Placing
 pub mod Facts
 pub mod Testing
 pub mod Growing

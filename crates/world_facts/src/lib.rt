@@ -1,7 +1,7 @@
 //! Plain facts of the world. Each function has an empty body; its clauses say what holds after every list of events.
 #![tactic(auto)]
 
-ghost use Rattle.world_facts.specs.Facts.{IdleChangesNothing, RunsJoin, RunsEnd, OnlyDialledCarry, AllPlaced};
+ghost use Rattle.world_facts.specs.Facts.{IdleChangesNothing, RunsJoin, RunsEnd};
 ghost use Rattle.world_facts.specs.Growing.{PastGrows};
 ghost use Rattle.world_facts.specs.Testing.{AllTested};
 
@@ -21,17 +21,6 @@ pub fn enabled_events_are_tested()
 pub fn runs_join()
     ensures joined { RunsJoin }
     ensures ended { RunsEnd }
-{}
-
-/// Nothing is sent on a connection that wasn't dialled, nothing is taken from it, and its lower end does nothing.
-pub fn only_dialled_connections_carry()
-    ensures { OnlyDialledCarry }
-{}
-
-/// Every index is in range: nodes that run, both ends of each connection, the mirrors of members, and the connections
-/// of writers, readers and primaries.
-pub fn indices_are_in_range()
-    ensures { AllPlaced }
 {}
 
 /// Whatever happens, the past only grows: what was written, sent, recorded or answered stays, with more behind it, and

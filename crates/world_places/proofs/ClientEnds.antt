@@ -20,11 +20,12 @@ use Rattle.world.specs.Parts.{Told, Reader, no_reader, reads, has_read}
 use Rattle.world.specs.Worlds.{World, Dial}
 use Rattle.world.specs.Connections.{Next, is_conn}
 use Rattle.world.specs.Clients.{writer_change, did, dialled_change, dialling, rest_in, is_empty, is_formed, ruled, command_bytes, takes_step, takes_command, writer_step, own_writer, writer_hears, writer_up, reader_change, reader_dials, own_reader_as, own_reader, from_node_of, reader_turn, reader_up_as, reader_up}
-use Rattle.world_facts.specs.Placing.{IsConn, IsDialled, IsReader, Placed}
-use Rattle.world_facts.proofs.Tables.{when-each, and-right, conn-out, sent-out, no-conn, one-conn}
-use Rattle.world_facts.proofs.Fitting.{conn-later, Fits}
-use Rattle.world_facts.proofs.Leaves.{rest, no-dial, first-idle}
-use Rattle.world_facts.proofs.Setups.{one-dial}
+use Rattle.world_places.specs.Placing.{IsConn, IsDialled, IsReader, Placed}
+use Rattle.world_facts.proofs.Tables.{when-each, and-right}
+use Rattle.world_places.proofs.Conns.{conn-out, sent-out, no-conn, one-conn}
+use Rattle.world_places.proofs.Fitting.{conn-later, Fits}
+use Rattle.world_places.proofs.Leaves.{rest, no-dial, first-idle}
+use Rattle.world_places.proofs.Setups.{one-dial}
 
 -- WRITERS
 

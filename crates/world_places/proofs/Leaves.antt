@@ -8,9 +8,9 @@ use Rattle.world.specs.Parts.{FullMember, idle, Break}
 use Rattle.world.specs.Worlds.{World, Dial, still}
 use Rattle.world.specs.Connections.{Next}
 use Rattle.world.specs.Nodes.{closing, shut_by, member_change}
-use Rattle.world_facts.specs.Placing.{IsConn, IsDialled, IsLower, IsReader, IsPrimary, Placed}
-use Rattle.world_facts.proofs.Tables.{conn-out, either-out, sent-out, one-conn}
-use Rattle.world_facts.proofs.Fitting.{conn-later, lower-later, reader-later, primary-later, Fits}
+use Rattle.world_places.specs.Placing.{IsConn, IsDialled, IsLower, IsReader, IsPrimary, Placed}
+use Rattle.world_places.proofs.Conns.{conn-out, either-out, sent-out, one-conn}
+use Rattle.world_places.proofs.Fitting.{conn-later, lower-later, reader-later, primary-later, Fits}
 
 -- what a change that doesn't touch it owes of the first lower end, writer, reader and primary
 pub record Rest (w : World) (n : ℕ) : Type 0 where

@@ -5,7 +5,7 @@ use Rattle.std.proofs.lemmas.Bool.Decides.{nat_tests}
 use Rattle.std.proofs.lemmas.Option.{none-some, slice_get_past}
 use Rattle.world.specs.Parts.{Upper, by_writer, by_member, by_reader, by_primary, Dialled, Lower, idle, writes, serves, recovers, ended_below, Writing, Reader, no_reader, reads, has_read, Leading, Primary, no_primary, was_told, leads, has_led}
 use Rattle.world.specs.Worlds.{World, Dial, Change, dial_at, dialled_with, downs_with, ups_with, apply}
-use Rattle.world_facts.specs.Placing.{IsConn, IsUpper, IsDialled, IsLower, IsReader, IsLeading, IsPrimary, IsUndialled, Placed}
+use Rattle.world_places.specs.Placing.{IsConn, IsUpper, IsDialled, IsLower, IsReader, IsLeading, IsPrimary, IsUndialled, Placed}
 use Rattle.world_facts.proofs.Tables.{if-each, put-each}
 
 -- WHAT STAYS IN RANGE AS CONNECTIONS ARE DIALLED

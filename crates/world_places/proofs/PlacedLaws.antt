@@ -20,12 +20,12 @@ use Rattle.world.specs.Clients.{writer_up, reader_up}
 use Rattle.world.specs.Primaries.{primary_up, office_event}
 use Rattle.world.specs.Restarts.{all_found, restart}
 use Rattle.world.specs.Events.{changed, own_change, down_as, down_event, ready_event, unless_fails, upper_up, up_as, up_event, fault_event, lost, stop, where_so, outcome, after_event, happens, run}
-use Rattle.world_facts.specs.Placing.{IsUpper, IsUndialled, Placed}
+use Rattle.world_places.specs.Placing.{IsUpper, IsUndialled, Placed}
 use Rattle.world_facts.proofs.Tables.{if-each, when-each, and-left}
-use Rattle.world_facts.proofs.Fitting.{Fits, placed-after}
-use Rattle.world_facts.proofs.LowerEnds.{lower-down-fits, lower-ready-fits, mirror-up-fits}
-use Rattle.world_facts.proofs.ClientEnds.{own-writer-fits, writer-up-fits, own-reader-fits, reader-up-fits}
-use Rattle.world_facts.proofs.PrimaryEnds.{own-recover-fits, own-primary-fits, primary-up-fits, office-fits}
+use Rattle.world_places.proofs.Fitting.{Fits, placed-after}
+use Rattle.world_places.proofs.LowerEnds.{lower-down-fits, lower-ready-fits, mirror-up-fits}
+use Rattle.world_places.proofs.ClientEnds.{own-writer-fits, writer-up-fits, own-reader-fits, reader-up-fits}
+use Rattle.world_places.proofs.PrimaryEnds.{own-recover-fits, own-primary-fits, primary-up-fits, office-fits}
 
 -- a change that fits
 changed-placed : (w : World) (k : Option Change) → Placed w → IfSome k (Fits w) → IfSome (changed w k) Placed

@@ -19,11 +19,12 @@ use Rattle.world.specs.Parts.{Message, request, packet, ack, response, read_stat
 use Rattle.world.specs.Worlds.{World, still}
 use Rattle.world.specs.Connections.{Next, message, the_end, sent_on, is_alive}
 use Rattle.world.specs.Nodes.{replica_at, block_of, closing, unless_failing, above_of, below_of, failing_turn, turn_change, takes_next, pending_at, member_down, member_up, ready_change, breaking, read_change, failing_read, read_request, piece_as, serve_change, recovery_change, failing_recovery, recovery_request, first_message, next_recovery, lower_down, lower_ready, mirror_up}
-use Rattle.world_facts.specs.Placing.{IsConn, IsDialled, IsLower, Placed}
-use Rattle.world_facts.proofs.Tables.{when-each, sent-out, one-conn}
-use Rattle.world_facts.proofs.Fitting.{Fits}
-use Rattle.world_facts.proofs.Leaves.{rest, no-dial, closing-fits, member-fits}
-use Rattle.world_facts.proofs.Setups.{write-fits}
+use Rattle.world_places.specs.Placing.{IsConn, IsDialled, IsLower, Placed}
+use Rattle.world_facts.proofs.Tables.{when-each}
+use Rattle.world_places.proofs.Conns.{sent-out, one-conn}
+use Rattle.world_places.proofs.Fitting.{Fits}
+use Rattle.world_places.proofs.Leaves.{rest, no-dial, closing-fits, member-fits}
+use Rattle.world_places.proofs.Setups.{write-fits}
 
 -- MEMBERS
 

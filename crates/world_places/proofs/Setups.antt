@@ -19,10 +19,11 @@ use Rattle.member_core.specs.Steps.{Setup, request_step, request_at, booked_requ
 use Rattle.world.specs.Parts.{Break}
 use Rattle.world.specs.Worlds.{World, Dial}
 use Rattle.world.specs.Nodes.{node_of, replica_at, block_of, runs_there, mirror_node, is_asked, mirror_dial, dials_of, member_dials, mirror_conn, lower_of, setup_change, write_request, failing_write}
-use Rattle.world_facts.specs.Placing.{IsConn, IsDialled, IsLower, Placed}
-use Rattle.world_facts.proofs.Tables.{sent-out, no-conn, one-conn, and-left, and-right}
-use Rattle.world_facts.proofs.Fitting.{Fits}
-use Rattle.world_facts.proofs.Leaves.{rest, shuts-out}
+use Rattle.world_places.specs.Placing.{IsConn, IsDialled, IsLower, Placed}
+use Rattle.world_facts.proofs.Tables.{and-left, and-right}
+use Rattle.world_places.proofs.Conns.{sent-out, no-conn, one-conn}
+use Rattle.world_places.proofs.Fitting.{Fits}
+use Rattle.world_places.proofs.Leaves.{rest, shuts-out}
 
 -- A NEW MEMBER HAS ASKED ITS MIRROR ONLY WHERE IT COULD
 

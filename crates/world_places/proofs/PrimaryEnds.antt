@@ -25,10 +25,11 @@ use Rattle.world.specs.Worlds.{World, Dial}
 use Rattle.world.specs.Connections.{Next, is_conn, is_alive, place_of}
 use Rattle.world.specs.Clients.{are_members}
 use Rattle.world.specs.Primaries.{primary_change, is_among_conns, dials_answered, numbered, primary_dials, recovery_message, begins_with, begins_as, begins_at, own_recover, updates_on, is_done_with, updates_change, ends_change, leads_step, commits_step, leads_told, own_primary_as, own_primary, heard_of, listens, hears_change, primary_up_as, primary_up, asks_writer, asks_primary, writer_asks, primary_commits, primary_asks, office_event}
-use Rattle.world_facts.specs.Placing.{IsConn, IsDialled, IsLeading, IsPrimary, Placed}
-use Rattle.world_facts.proofs.Tables.{if-each, when-each, and-left, and-right, conn-out, no-conn, one-conn}
-use Rattle.world_facts.proofs.Fitting.{conn-later, Fits}
-use Rattle.world_facts.proofs.Leaves.{rest, no-dial, first-idle}
+use Rattle.world_places.specs.Placing.{IsConn, IsDialled, IsLeading, IsPrimary, Placed}
+use Rattle.world_facts.proofs.Tables.{if-each, when-each, and-left, and-right}
+use Rattle.world_places.proofs.Conns.{conn-out, no-conn, one-conn}
+use Rattle.world_places.proofs.Fitting.{conn-later, Fits}
+use Rattle.world_places.proofs.Leaves.{rest, no-dial, first-idle}
 
 primary-fits : (w : World) (i : ℕ) (p : Primary) → IsPrimary w.nodes (w.next_conn + 0) p → Placed w → Fits w (primary_change w i p)
 primary-fits w i p q h =

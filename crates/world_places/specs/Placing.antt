@@ -1,7 +1,9 @@
 -- No index of the world is out of range, and nothing stands where no connection was dialled.
-use Rattle.std.specs.Prelude.{ℕ, ◌≡◌, ◌<◌, ◌≤◌, true, [], slice_get, Option, Some, IfSome}
+use Rattle.world.specs.declared.events.Event.{Event}
+use Rattle.world.specs.Events.{run}
+use Rattle.std.specs.Prelude.{ℕ, ◌≡◌, ◌<◌, ◌≤◌, true, List, [], slice_get, Option, Some, IfSome}
 use Rattle.world.specs.Parts.{Upper, by_member, Place, Dialled, new_marks, Lower, idle, writes, Reader, reads, Leading, Primary, leads}
-use Rattle.world.specs.Worlds.{World}
+use Rattle.world.specs.Worlds.{World, start}
 
 -- a connection, where there is one, was dialled
 pub record IsConn (conns : ℕ) (c : Option ℕ) : Type 0 where
@@ -52,3 +54,14 @@ pub record Placed (w : World) : Type 0 where
   pub readers : (i : ℕ) → IsReader w.next_conn (w.readers i)
   pub primaries : (i : ℕ) → IsPrimary w.nodes w.next_conn (w.primaries i)
   pub undialled : (c : ℕ) → w.next_conn ≤ c → IsUndialled w c
+
+-- AFTER EVERY LIST OF EVENTS
+
+-- Nothing is sent, or taken, on a connection that wasn't dialled.
+abbrev pub OnlyDialledCarry : Type 0
+OnlyDialledCarry = (nodes : ℕ) (events : List Event) (c : ℕ) → (run (start nodes) events).next_conn ≤ c →
+    IsUndialled (run (start nodes) events) c
+
+-- Every index is in range after every list of events.
+abbrev pub AllPlaced : Type 0
+AllPlaced = (nodes : ℕ) (events : List Event) → Placed (run (start nodes) events)
