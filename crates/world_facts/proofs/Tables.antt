@@ -31,4 +31,3 @@ some-weaker P Q (Some x) f h = f x h
 pub when-each : {A : Type 0} (P : A → Type 0) (b : Bool) (o : Option A) → (b ≡ true → IfSome o P) → IfSome (if b then o else None) P
 when-each P true o h = h refl
 when-each P false o h = tt
-

@@ -1,9 +1,7 @@
 -- Connections that were dialled, and those past them.
-use Rattle.std.proofs.Common.{◌≡◌, ℕ, ◌<◌, ◌≤◌, Bool, true, false, List, [], Option, Some, None, IfSome, refl, sym, subst, arith, eqb-true}
-use Rattle.std.specs.Prelude.{◌==◌, ◌&&◌, if◌then◌else◌}
+use Rattle.std.proofs.Common.{◌≡◌, ℕ, ◌<◌, ◌≤◌, false, List, [], Option, Some, None, refl, arith}
 use Rattle.std.proofs.lemmas.Bool.{ne_eqb}
 use Rattle.world.specs.Parts.{Message}
-use Rattle.world.specs.Worlds.{put}
 use Rattle.world.specs.Connections.{sent_on, is_conn, is_either}
 use Rattle.world_places.specs.Placing.{IsConn}
 
