@@ -10,6 +10,8 @@ mod intake;
 mod phases;
 mod records;
 mod requests;
+#[cfg(test)]
+mod tests;
 mod writer;
 
 pub use actions::{Action, ClientAnswer};
