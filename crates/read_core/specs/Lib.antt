@@ -1,0 +1,3 @@
+pub mod Servings
+pub mod Readings
+pub mod Laws
