@@ -1,5 +1,5 @@
 -- Acks from below: which are read, and what is passed up.
-use Rattle.std.specs.Prelude.{ℕ, ℤ, ◌==◌, ◌&&◌, ◌||◌, not, nat_lt, Bool, true, false, List, [], ◌∷◌, length, count_by}
+use Rattle.std.specs.Prelude.{ℕ, ℤ, ◌==◌, ◌&&◌, ◌||◌, not, nat_lt, Bool, true, false, List, ◌∷◌, length, count_by}
 use Rattle.std.specs.Ordering.{int_eq}
 use Rattle.hd_base.specs.declared.states.Status.{Status}
 use Rattle.hd_base.specs.declared.states.Status.TheVariants as status

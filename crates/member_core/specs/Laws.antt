@@ -1,15 +1,12 @@
 -- Laws of members.
-use Rattle.std.specs.Prelude.{ℕ, ◌≡◌, Bool, true, false, Option, Some, None, IfSome}
+use Rattle.std.specs.Prelude.{◌≡◌, Bool, true, false, Option, Some, None, IfSome}
 use Rattle.ack_codec.specs.declared.acks.Ack.{Ack}
 use Rattle.replica_core.specs.declared.ack_queue.PendingPacket.{PendingPacket}
 use Rattle.replica_core.specs.declared.refusals.Refusal.{Refusal}
 use Rattle.member_core.specs.declared.effects.Effect.{Effect}
-use Rattle.member_core.specs.declared.effects.Upward.{Upward}
 use Rattle.member_core.specs.declared.effects.Upward.TheVariants as upward
 use Rattle.member_core.specs.declared.inputs.FromBelow.{FromBelow}
-use Rattle.member_core.specs.declared.member.Mirror.{Mirror}
 use Rattle.member_core.specs.declared.member.Mirror.TheVariants as mirror
-use Rattle.member_core.specs.declared.turns.Booked.{Booked}
 use Rattle.member_core.specs.declared.turns.Booked.TheVariants as booked
 use Rattle.member_core.specs.declared.turns.Turn.{Turn}
 use Rattle.member_core.specs.Acks.{failures}

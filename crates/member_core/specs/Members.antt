@@ -1,11 +1,9 @@
 -- The states of a member of a pipeline, and its turns: what it books and what it sends for each thing that it takes.
-use Rattle.std.specs.Prelude.{ℕ, ℤ, ◌==◌, ◌&&◌, not, nat_lt, is_some, if◌then◌else◌, Bool, true, false, List, [], ◌∷◌, length, slice_get, Option, Some, None, Result, Ok, Err}
+use Rattle.std.specs.Prelude.{ℕ, ℤ, ◌==◌, ◌&&◌, not, nat_lt, if◌then◌else◌, Bool, true, false, List, [], ◌∷◌, length, slice_get, Option, Some, None}
 use Rattle.hd_base.specs.declared.numbers.ConnId.{ConnId}
 use Rattle.hd_base.specs.declared.states.Status.{Status}
 use Rattle.hd_base.specs.declared.states.Status.TheVariants as status
-use Rattle.ack_codec.specs.declared.acks.Ack.{Ack}
 use Rattle.ack_codec.specs.declared.responses.Response.{Response}
-use Rattle.packet_codec.specs.declared.packets.Packet.{Packet}
 use Rattle.replica_core.specs.declared.records.ReplicaRecord.{ReplicaRecord}
 use Rattle.replica_core.specs.declared.ack_queue.PendingPacket.{PendingPacket}
 use Rattle.replica_core.specs.declared.ack_queue.TheConstants.{MAX_PENDING}
@@ -216,6 +214,10 @@ ready_at mirror.Ended m None writes = quiet_turn m m.bad writes
 
 abbrev pub ready_turn : MemberState → Option PendingPacket → Bool → Option Turn
 ready_turn m oldest writes = if m.responds then ready_at m.mirror m oldest writes else None
+
+-- the same at a replica
+abbrev pub ready_turn_by : MemberState → ReplicaRecord → Option Turn
+ready_turn_by m r = ready_turn m (slice_get r.pending 0) (is_written_by r.stream m.conn)
 
 -- WHICH TURNS ARE OPEN
 

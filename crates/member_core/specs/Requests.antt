@@ -5,8 +5,9 @@ use Rattle.hd_base.specs.declared.states.Status.TheVariants as status
 use Rattle.hd_base.specs.SumRules.{Rule, kind_number}
 use Rattle.hd_base.specs.Results.{◌>>=◌}
 use Rattle.ack_codec.specs.declared.responses.Response.{Response}
-use Rattle.op_headers.specs.declared.blocks.BlockRef.{BlockRef}
 use Rattle.op_headers.specs.declared.nodes.NodeRef.{NodeRef}
+use Rattle.op_headers.specs.declared.stages.Stage.TheVariants as stage
+use Rattle.op_headers.specs.Stages.{stage_number}
 use Rattle.op_headers.specs.Values.{WriteFields}
 use Rattle.replica_core.specs.declared.events.Event.{Event}
 use Rattle.replica_core.specs.declared.events.Event.TheVariants as event
@@ -27,12 +28,12 @@ check holds refused next = if holds then next else Err refused
 
 -- the setup of a request with this stage, if it is one
 abbrev pub setup_with : ℕ → Option SetupKind
-setup_with stage =
-    if stage == 0 then Some setup.Append
-    else if stage == 1 then Some setup.AppendRecovery
-    else if stage == 3 then Some setup.StreamRecovery
-    else if stage == 5 then Some setup.CloseRecovery
-    else if stage == 6 then Some setup.Create
+setup_with number =
+    if number == stage_number stage.PipelineSetupAppend then Some setup.Append
+    else if number == stage_number stage.PipelineSetupAppendRecovery then Some setup.AppendRecovery
+    else if number == stage_number stage.PipelineSetupStreamingRecovery then Some setup.StreamRecovery
+    else if number == stage_number stage.PipelineCloseRecovery then Some setup.CloseRecovery
+    else if number == stage_number stage.PipelineSetupCreate then Some setup.Create
     else None
 
 -- this rule, where the replica has none or the same

@@ -1,11 +1,10 @@
 -- A member over its replica: one turn, with its book call and what follows.
-use Rattle.std.specs.Prelude.{ℕ, Bool, true, false, List, length, slice_get, Option, Some, None, Result, Ok, Err}
+use Rattle.std.specs.Prelude.{Bool, slice_get, Option, Some, None, Result, Ok, Err}
 use Rattle.hd_base.specs.declared.numbers.ConnId.{ConnId}
 use Rattle.replica_core.specs.declared.ack_queue.PendingPacket.{PendingPacket}
 use Rattle.replica_core.specs.declared.events.Answer.{Answer}
 use Rattle.replica_core.specs.declared.events.Answer.TheVariants as answer
 use Rattle.replica_core.specs.declared.events.Event.{Event}
-use Rattle.replica_core.specs.Transitions.{is_written_by}
 use Rattle.replica_core.specs.Views.{rule_in}
 use Rattle.replica_model.specs.declared.events.ReplicaEvent.{ReplicaEvent}
 use Rattle.replica_model.specs.declared.events.ReplicaEvent.TheVariants as replica_event
@@ -19,7 +18,7 @@ use Rattle.member_core.specs.declared.effects.Effect.{Effect}
 use Rattle.member_core.specs.declared.turns.Booked.{Booked}
 use Rattle.member_core.specs.declared.turns.Booked.TheVariants as booked
 use Rattle.member_core.specs.declared.turns.Turn.{Turn}
-use Rattle.member_core.specs.Members.{MemberState, set_up, refused_setup, down_turn, up_turn, ready_turn, settled}
+use Rattle.member_core.specs.Members.{MemberState, set_up, refused_setup, down_turn, up_turn, ready_turn_by, settled}
 use Rattle.member_core.specs.Requests.{request_event}
 
 -- a member and its replica after an event, and what the member sends and shuts
@@ -68,7 +67,7 @@ up_step m r taken = step m r (up_turn m (oldest_at r) taken)
 
 -- a member acts without a message from below, where it can
 abbrev pub ready_turn_at : MemberState → FullReplica → Option Turn
-ready_turn_at m r = ready_turn m (oldest_at r) (is_written_by r.known.stream m.conn)
+ready_turn_at m r = ready_turn_by m r.known
 
 -- why a request is refused that the replica answered so, if it is
 abbrev pub refused_by : Answer → Option RequestRefusal

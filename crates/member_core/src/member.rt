@@ -1,7 +1,6 @@
 //! A member of a pipeline.
 
-ghost use Rattle.std.specs.Prelude.{◌≡◌, ◌≤◌, [], ◌∷◌, length, slice_get, Some};
-ghost use Rattle.replica_core.specs.Transitions.{is_written_by};
+ghost use Rattle.std.specs.Prelude.{◌≡◌, ◌≤◌, [], ◌∷◌, length, Some};
 ghost use Rattle.member_core.specs.Members.{
   MemberState,
   mirror_for,
@@ -24,7 +23,7 @@ ghost use Rattle.member_core.specs.Members.{
   idle_turn,
   quiet_turn,
   ready_at,
-  ready_turn,
+  ready_turn_by,
   is_waiting,
   is_heard,
   takes_messages,
@@ -79,6 +78,7 @@ pub struct Member {
 
 impl Model for Member {
     ghost use Rattle.std.specs.Prelude.{◌≤◌};
+    ghost use Rattle.member_core.specs.declared.requests.TheConstants.{MAX_BELOW};
     ghost use Rattle.member_core.specs.Members.{MemberState};
 
     ghost Value = { MemberState };
@@ -103,7 +103,7 @@ impl Model for Member {
       responds = m.responds;
     } };
 
-    ghost invariant = { λ m. m.below ≤ 15 };
+    ghost invariant = { λ m. m.below ≤ MAX_BELOW };
 }
 
 impl Member {
@@ -212,7 +212,7 @@ impl Member {
 
     /// What the member does without a message from below, `None` where there is nothing.
     pub fn ready(&self, replica: &Replica) -> Option<Turn>
-        ensures { result ≡ ready_turn self.now (slice_get replica.now.pending 0) (is_written_by replica.now.stream self.now.conn) }
+        ensures { result ≡ ready_turn_by self.now replica.now }
     {
         if !self.responds {
             return None;

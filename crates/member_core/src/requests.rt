@@ -20,7 +20,7 @@ use crate::effects::SetupAnswer;
 use ack_codec::Response;
 use hd_base::{ByteList, ConnId, Status, SumRule};
 use itoa::Buffer;
-use op_headers::{NodeRef, Targets, WriteOp};
+use op_headers::{NodeRef, Stage, Targets, WriteOp};
 use replica_core::Event;
 use request_refusals::{RequestRefusal, is_in_pool, rule_with};
 use std::alloc::{AllocError, Global};
@@ -74,12 +74,12 @@ pub fn request_event(
 fn setup_with(stage: u32) -> Option<SetupKind>
     ensures { result ≡ setup_with stage }
 {
-    match stage {
-        0 => Some(SetupKind::Append),
-        1 => Some(SetupKind::AppendRecovery),
-        3 => Some(SetupKind::StreamRecovery),
-        5 => Some(SetupKind::CloseRecovery),
-        6 => Some(SetupKind::Create),
+    match Stage::from_number(stage)? {
+        Stage::PipelineSetupAppend => Some(SetupKind::Append),
+        Stage::PipelineSetupAppendRecovery => Some(SetupKind::AppendRecovery),
+        Stage::PipelineSetupStreamingRecovery => Some(SetupKind::StreamRecovery),
+        Stage::PipelineCloseRecovery => Some(SetupKind::CloseRecovery),
+        Stage::PipelineSetupCreate => Some(SetupKind::Create),
         _ => None,
     }
 }

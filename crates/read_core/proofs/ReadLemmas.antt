@@ -8,7 +8,9 @@ use Rattle.hd_base.specs.declared.sum_rule.SumKind.TheVariants as kind
 use Rattle.hd_base.specs.SumRules.{Rule}
 use Rattle.chunk_sums.specs.Chunks.{count_of, sum_count}
 use Rattle.op_headers.specs.declared.ops.ReadOp.{ReadOp}
-use Rattle.read_core.specs.Servings.{ServingState, chunk_start, chunk_end, read_end, begun, sent, piece_len}
+use Rattle.read_core.specs.declared.serving.ServePhase.{ServePhase}
+use Rattle.read_core.specs.declared.serving.ServePhase.TheVariants as phase
+use Rattle.read_core.specs.Servings.{ServingState, chunk_start, chunk_end, read_end, begun, gone_on, sent_in, sent, piece_len}
 use Rattle.read_core.specs.Laws.{after, StaysVisible}
 
 -- the next packet begins no later than the read ends, and that is visible
@@ -31,9 +33,17 @@ begun_within op rule visible h =
     let e = end_within (op.len == 0) rule.chunk op.offset op.len visible h in
     record { before = e.before; seen = e.seen }
 
+gone_within : (visible : ℕ) (s : ServingState) → Within visible s → Within visible (gone_on s)
+unfolding gone_on piece_len
+gone_within visible s h = let b = h.before in record { before = omega arith; seen = h.seen }
+
+sent_in_within : (visible : ℕ) (at : ServePhase) (s : ServingState) → Within visible s → Within visible (sent_in at s)
+sent_in_within visible phase.Sending s h = gone_within visible s h
+sent_in_within visible phase.Awaiting s h = h
+sent_in_within visible phase.Over s h = h
+
 sent_within : (visible : ℕ) (s : ServingState) → Within visible s → Within visible (sent s)
-unfolding sent piece_len
-sent_within visible s h = let b = h.before in record { before = omega arith; seen = h.seen }
+sent_within visible s h = sent_in_within visible s.phase s h
 
 all_within : (visible n : ℕ) (s : ServingState) → Within visible s → Within visible (after s n)
 all_within visible zero s h = h

@@ -1,5 +1,5 @@
 -- The reading client: what it makes of the answer and of each packet.
-use Rattle.std.specs.Prelude.{ℕ, pos, ◌==◌, ◌+◌, ◌-◌, ◌*◌, ◌/◌, ◌^◌, ◌<◌, ◌≡◌, ◌&&◌, not, nat_lt, int_lt, nat_abs, min, if◌then◌else◌, Bool, true, false, List, [], ◌++◌, length, take, drop, Option, Some, None, Result, Ok, Err}
+use Rattle.std.specs.Prelude.{ℕ, pos, ◌==◌, ◌+◌, ◌-◌, ◌*◌, ◌/◌, ◌^◌, ◌<◌, ◌≡◌, ◌&&◌, not, nat_lt, int_lt, nat_abs, min, if◌then◌else◌, Bool, true, false, List, [], ◌∷◌, ◌++◌, length, take, drop, Option, Some, None, Result, Ok, Err}
 use Rattle.std.specs.Ordering.{int_eq}
 use Rattle.hd_base.specs.declared.states.Status.{Status}
 use Rattle.hd_base.specs.declared.states.Status.TheVariants as status
@@ -124,15 +124,14 @@ abbrev pub turn_behind : Bool → ReadTurn
 turn_behind true = turn.Verified
 turn_behind false = turn.Goes
 
+-- the bytes of a packet that are asked for join those that are there
+abbrev pub kept : ReadingState → ℕ → Packet → ReadingState
+kept s at p = record s { bytes = s.bytes ++ wanted s at p }
+
 -- a packet that was verified
 abbrev pub verified : ReadingState → Rule → ℕ → ℕ → Packet → ReadTaken
-verified s rule at seqno p = record {
-  reading = record s {
-    phase = phase_behind p.last (phase.Receiving rule (at + length p.body) (seqno + 1));
-    bytes = s.bytes ++ wanted s at p;
-  };
-  does = turn_behind p.last;
-}
+verified s rule at seqno p =
+    with_phase (kept s at p) (phase_behind p.last (phase.Receiving rule (at + length p.body) (seqno + 1))) (turn_behind p.last)
 
 abbrev pub received_as : ReadingState → Rule → ℕ → ℕ → Packet → Result (Unit {0}) ReadFault → ReadTaken
 received_as s rule at seqno p (Ok u) = verified s rule at seqno p
@@ -165,3 +164,8 @@ taken_at phase.Over s t = with_phase s phase.Over turn.Goes
 -- a read after this was taken from the node, and what the reader does
 abbrev pub take_from : ReadingState → FromNode → ReadTaken
 take_from s t = taken_at s.phase s t
+
+-- a read after these were taken, one after another
+abbrev pub after_all : ReadingState → List FromNode → ReadingState
+after_all s [] = s
+after_all s (t ∷ ts) = after_all (take_from s t).reading ts

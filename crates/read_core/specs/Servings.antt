@@ -14,7 +14,7 @@ use Rattle.replica_core.specs.declared.events.Event.{Event}
 use Rattle.replica_core.specs.declared.events.Event.TheVariants as event
 use Rattle.replica_core.specs.Views.{rule_in}
 use Rattle.replica_model.specs.declared.events.ReplicaEvent.TheVariants as replica_event
-use Rattle.replica_model.specs.Rows.{FullReplica, row_answer}
+use Rattle.replica_model.specs.Rows.{FullReplica, row_answer, broken}
 use Rattle.request_refusals.specs.declared.refusals.RequestRefusal.{RequestRefusal}
 use Rattle.request_refusals.specs.declared.refusals.RequestRefusal.TheVariants as refusal
 use Rattle.request_refusals.specs.Pools.{is_in_pool}
@@ -102,9 +102,17 @@ piece_of r s = take (piece_len s) (drop s.at r.bytes)
 abbrev pub phase_behind : ℕ → ServePhase
 phase_behind bytes = if bytes == 0 then phase.Awaiting else phase.Sending
 
--- a read once its next packet was sent
-unfoldable pub sent : ServingState → ServingState
-sent s = record s { at = s.at + piece_len s; phase = phase_behind (piece_len s) }
+-- a read that goes on behind its next packet
+unfoldable pub gone_on : ServingState → ServingState
+gone_on s = record s { at = s.at + piece_len s; phase = phase_behind (piece_len s) }
+
+-- a read once its next packet was sent; where none is to be sent, it stays as it is
+abbrev pub sent_in : ServePhase → ServingState → ServingState
+sent_in phase.Sending s = gone_on s
+sent_in _ s = s
+
+abbrev pub sent : ServingState → ServingState
+sent s = sent_in s.phase s
 
 -- a read that is over: its next call was refused or failed, or the reader's answer or end was taken; its connection is shut
 abbrev pub over : ServingState → ServingState
@@ -139,15 +147,27 @@ begun_at op r (Ok e) = begun_as op (rule_in r.known) (row_answer r (replica_even
 abbrev pub read_at : ReadOp → FullReplica → Result ServingState RequestRefusal
 read_at op r = begun_at op r (read_event op)
 
+-- a read whose book call ends by a failed call on files: the replica is broken, and the read refused so
+abbrev pub faulted_read : FullReplica → FullReplica × RequestRefusal
+faulted_read r = (broken r, refusal.File)
+
 -- a packet of a read, and the read behind it
 pub record Piece : Type 0 where
   pub serving : ServingState
   pub packet : Option Packet
 
+-- a read that ends before its last packet
+abbrev pub early_end : ServingState → Piece
+early_end s = record { serving = over s; packet = None }
+
 abbrev pub piece_as : ServingState → FullReplica → Answer → Piece
 piece_as s r (answer.Visible visible) = record { serving = sent s; packet = Some (packet_of s (piece_of r s)) }
-piece_as s r _ = record { serving = over s; packet = None }
+piece_as s r _ = early_end s
 
 -- the next packet of a read at a replica, or its early end
 abbrev pub piece_at : ServingState → FullReplica → Piece
 piece_at s r = piece_as s r (row_answer r (replica_event.Other (piece_event s)))
+
+-- the same where the book call ends by a failed call on files: the replica is broken, and the read ends early
+abbrev pub faulted_piece : ServingState → FullReplica → FullReplica × Piece
+faulted_piece s r = (broken r, early_end s)

@@ -8,6 +8,6 @@ mod serving;
 #[cfg(test)]
 mod tests;
 
-pub use laws::reads_stay_visible;
+pub use laws::{reads_stay_visible, verified_reads_are_whole};
 pub use reading::{FromNode, ReadFault, ReadPhase, ReadTurn, Reading};
 pub use serving::{MOST_BYTES, ServePhase, Serving, read_event, refusal_response};

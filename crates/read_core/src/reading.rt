@@ -1,6 +1,6 @@
 //! The reading client.
 
-ghost use Rattle.std.specs.Prelude.{◌≡◌, ◌++◌, ◌<◌, ◌^◌, nat_abs, length, IfOk, OnErr};
+ghost use Rattle.std.specs.Prelude.{◌≡◌, ◌<◌, ◌^◌, nat_abs, length, IfOk, OnErr};
 ghost use Rattle.read_core.specs.Readings.{
   ReadingState,
   asked,
@@ -18,6 +18,7 @@ ghost use Rattle.read_core.specs.Readings.{
   unless_bad,
   sums_check,
   wanted,
+  kept,
   verified,
   packet_check,
   received,
@@ -310,7 +311,7 @@ impl Reading {
     /// The bytes of a packet that are asked for join those that are there.
     #[tactic(auto, unfolding(crate::specs::Readings::wanted))]
     fn keep(&mut self, at: u64, packet: &Packet) -> Result<(), AllocError>
-        ensures ok { IfOk result (λ _. self.new ≡ record self.old { bytes = self.old.bytes ++ wanted self.old at packet.now }) }
+        ensures ok { IfOk result (λ _. self.new ≡ kept self.old at packet.now) }
         ensures err { OnErr result (self.new ≡ self.old) }
     {
         let body: &[u8] = &packet.body;

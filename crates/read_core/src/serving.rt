@@ -14,6 +14,7 @@ ghost use Rattle.read_core.specs.Servings.{
   sent_before,
   next_call,
   packet_of,
+  gone_on,
   sent,
   over,
   accepting,
@@ -163,10 +164,20 @@ impl Serving {
         bytes.div_ceil(most_bytes(u64::from(self.rule.chunk())))
     }
 
-    /// The next packet was sent.
-    #[tactic(auto, unfolding(crate::specs::Servings::sent, crate::specs::Servings::piece_len))]
+    /// The next packet was sent. Where none is to be sent, nothing changes.
     pub fn sent(&mut self)
         ensures { self.new ≡ sent self.old }
+    {
+        match self.phase {
+            ServePhase::Sending => self.go_on(),
+            ServePhase::Awaiting | ServePhase::Over => {}
+        }
+    }
+
+    /// The read goes on behind its next packet.
+    #[tactic(auto, unfolding(crate::specs::Servings::gone_on, crate::specs::Servings::piece_len))]
+    fn go_on(&mut self)
+        ensures { self.new ≡ gone_on self.old }
     {
         let bytes = self.piece_len();
         self.at += bytes;

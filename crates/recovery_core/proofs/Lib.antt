@@ -1,1 +1,2 @@
 pub mod PrimaryLemmas
+pub mod ChosenLemmas

@@ -1,5 +1,5 @@
 -- The primary of a block recovery: what it sends in each step of its own, and what it makes of each answer.
-use Rattle.std.specs.Prelude.{ℕ, ◌==◌, if◌then◌else◌, Bool, true, false, List, [], ◌∷◌, map, zip, filter_map, Option, Some, None, Result, Ok, Err}
+use Rattle.std.specs.Prelude.{ℕ, ◌==◌, if◌then◌else◌, Bool, true, false, List, [], ◌∷◌, map, zip, filter_map, slice_get, slice_set, Option, Some, None, Result, Ok, Err}
 use Rattle.std.specs.List.{list_any}
 use Rattle.hd_base.specs.declared.numbers.BlockId.{BlockId}
 use Rattle.hd_base.specs.declared.numbers.NodeId.{NodeId}
@@ -86,6 +86,22 @@ is_awaited _ = false
 
 abbrev pub waits : List Standing → Bool
 waits standings = list_any is_awaited standings
+
+-- a primary that has heard this from the member at this place, how it stood with which is given
+abbrev pub heard_as : PrimaryState → ℕ → Heard → Option Standing → PrimaryState
+heard_as p at h None = p
+heard_as p at h (Some s) = record p { standings = slice_set p.standings at (after_heard s h) }
+
+abbrev pub heard_at : PrimaryState → ℕ → Heard → PrimaryState
+heard_at p at h = heard_as p at h (slice_get p.standings at)
+
+abbrev pub shuts_as : Option Standing → Bool
+shuts_as None = false
+shuts_as (Some s) = shuts_after s
+
+-- the connection of the member at this place is shut once something was heard from it
+abbrev pub shuts_at : PrimaryState → ℕ → Bool
+shuts_at p at = shuts_as (slice_get p.standings at)
 
 -- THE STEPS OF ITS OWN
 

@@ -9,7 +9,7 @@ mod standings;
 #[cfg(test)]
 mod tests;
 
-pub use laws::only_chosen_are_updated;
+pub use laws::{only_chosen_are_updated, the_chosen_are_committed};
 pub use members::{RecoveryReply, recovery_answer, recovery_event, reply_to};
 pub use primary::{OwnStep, Phase, Primary, Recovered, is_among, office_refused};
 pub use standings::{Heard, Standing};

@@ -1,11 +1,10 @@
 //! The primary of a block recovery.
 
-ghost use Rattle.std.specs.Prelude.{◌≡◌, ◌<◌, length, map, slice_get, slice_set, Some, IfOk, OnErr};
-ghost use Rattle.recovery_core.specs.declared.standings.Standing.{Standing};
+ghost use Rattle.std.specs.Prelude.{◌≡◌, ◌<◌, length, map, IfOk, OnErr};
 ghost use Rattle.recovery_core.specs.Primaries.{
   asked,
-  after_heard,
-  shuts_after,
+  heard_at,
+  shuts_at,
   waits,
   begun_with,
   infos,
@@ -114,6 +113,7 @@ impl Primary {
         members: &Members,
         answered: &[bool],
     ) -> Result<Primary, AllocError>
+        requires { length answered.now ≡ length members.now }
         ensures { IfOk result (λ primary. primary ≡ begun_with block begun members.now answered.now) }
     {
         let standings = asked_standings(alloc, answered)?;
@@ -136,10 +136,9 @@ impl Primary {
     /// Takes this from the member at this place of the members. Whether its connection is shut then.
     pub fn hear(&mut self, at: usize, heard: &Heard) -> bool
         requires { at < length self.old.standings }
-        ensures primary { (s : Standing) → slice_get self.old.standings at ≡ Some s →
-            self.new ≡ record self.old { standings = slice_set self.old.standings at (after_heard s heard.now) } }
+        ensures primary { self.new ≡ heard_at self.old at heard.now }
+        ensures shuts { result ≡ shuts_at self.old at }
         ensures count { length self.new.standings ≡ length self.old.standings }
-        ensures shuts { (s : Standing) → slice_get self.old.standings at ≡ Some s → result ≡ shuts_after s }
     {
         let standing = self.standings[at];
         self.standings[at] = standing.after(heard);

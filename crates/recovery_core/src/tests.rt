@@ -25,6 +25,7 @@ fn the_least_length_is_committed_at_those_that_update(rt: HostRuntime) -> Result
     let alloc = rt.alloc();
     let nodes = [NodeId(2), NodeId(0), NodeId(1)];
     let members = Members::new(&nodes).ok_or("members")?;
+    assert_eq!(rt; members.len(), 3);
     let begun = Begun {
         id: Stamp(1002),
         committed: Stamp(1001),

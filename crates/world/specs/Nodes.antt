@@ -30,7 +30,7 @@ use Rattle.member_core.specs.declared.turns.Turn.{Turn}
 use Rattle.member_core.specs.Members.{MemberState, down_turn, up_turn, takes_messages, hears}
 use Rattle.member_core.specs.Requests.{request_event, mirror_request, response_of}
 use Rattle.member_core.specs.Steps.{Step, Setup, step, faulted_step, request_step, faulted_request, oldest_at, ready_turn_at}
-use Rattle.read_core.specs.Servings.{ServingState, Piece, read_at, read_event, accepting, refusing, next_call, piece_at}
+use Rattle.read_core.specs.Servings.{ServingState, Piece, read_at, read_event, accepting, refusing, next_call, piece_at, faulted_read, faulted_piece}
 use Rattle.recovery_core.specs.declared.members.RecoveryReply.{RecoveryReply}
 use Rattle.recovery_core.specs.declared.members.RecoveryReply.TheVariants as reply
 use Rattle.recovery_core.specs.Members.{Served, recovery_event, answer_of, serve, serve_faulted}
@@ -239,12 +239,12 @@ write_request w c fields answered false =
 
 -- READS
 
--- the replica is broken, this is answered, and the connection is shut
-abbrev pub breaking : World → ℕ → ℕ → ReplicaEvent → List Message → Change
-breaking w c b e answers = record (closing w c) {
+-- the replica broke in an event, this is answered, and the connection is shut
+abbrev pub breaking : World → ℕ → ℕ → FullReplica → ReplicaEvent → List Message → Change
+breaking w c b r e answers = record (closing w c) {
   node = node_of w c;
   block = b;
-  replica = broken (replica_at w c b);
+  replica = r;
   broke = broke_at w c b e;
   ups = sent_on (Some c) answers;
 }
@@ -256,7 +256,8 @@ read_change w c b (Err r) = record (closing w c) { ups = sent_on (Some c) (respo
 
 abbrev pub failing_read : World → ℕ → ℕ → Result Event RequestRefusal → Option Change
 failing_read w c b (Err refused) = None
-failing_read w c b (Ok e) = Some (breaking w c b (replica_event.Other e) (response (refusing refusal.File) ∷ []))
+failing_read w c b (Ok e) =
+    let x = faulted_read (replica_at w c b) in Some (breaking w c b x.0 (replica_event.Other e) (response (refusing x.1) ∷ []))
 
 abbrev pub read_request : World → ℕ → ReadOp → Bool → Option Change
 read_request w c r true = failing_read w c r.block.block.0 (read_event r)
@@ -272,7 +273,7 @@ piece_change w c b p = piece_as w c b p.serving p.packet
 
 abbrev pub serve_change : World → ℕ → ℕ → ServingState → Option Event → Bool → Option Change
 serve_change w c b s None fails = None
-serve_change w c b s (Some e) true = Some (breaking w c b (replica_event.Other e) [])
+serve_change w c b s (Some e) true = Some (breaking w c b (faulted_piece s (replica_at w c b)).0 (replica_event.Other e) [])
 serve_change w c b s (Some e) false = Some (piece_change w c b (piece_at s (replica_at w c b)))
 
 -- BLOCK RECOVERIES

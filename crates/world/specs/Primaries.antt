@@ -22,7 +22,7 @@ use Rattle.recovery_core.specs.declared.primary.Recovered.{Recovered}
 use Rattle.recovery_core.specs.declared.standings.Heard.{Heard}
 use Rattle.recovery_core.specs.declared.standings.Heard.TheVariants as heard
 use Rattle.recovery_core.specs.declared.standings.Standing.{Standing}
-use Rattle.recovery_core.specs.Primaries.{PrimaryState, begun_with, own_step, after_heard, shuts_after, request_of, sync_call, end_with, office_refused, is_among, is_awaited}
+use Rattle.recovery_core.specs.Primaries.{PrimaryState, begun_with, end_with, heard_at, is_among, is_awaited, office_refused, own_step, request_of, shuts_at, sync_call}
 use Rattle.world.specs.declared.events.Caller.{Caller}
 use Rattle.world.specs.declared.events.Caller.TheVariants as caller
 use Rattle.world.specs.Parts.{Message, request, recovery_answer, Place, by_primary, Told, Leading, Primary, no_primary, was_told, leads, has_led}
@@ -155,9 +155,8 @@ abbrev pub hears_change : World → ℕ → Leading → ℕ → ℕ → Next →
 hears_change w i l place c x None = None
 hears_change w i l place c x (Some s) =
     if listens l.state.phase s
-    then Some (record (primary_change w i
-    (leads (record l { state = record l.state { standings = slice_set l.state.standings place (after_heard s (heard_of x)) } })))
-    { shuts = if shuts_after s then is_conn (Some c) else (λ _. false) })
+    then Some (record (primary_change w i (leads (record l { state = heard_at l.state place (heard_of x) })))
+        { shuts = if shuts_at l.state place then is_conn (Some c) else (λ _. false) })
     else None
 
 abbrev pub primary_up_as : Primary → World → ℕ → ℕ → ℕ → Next → Option Change

@@ -12,7 +12,8 @@ use Rattle.request_refusals.specs.declared.refusals.RequestRefusal.{RequestRefus
 use Rattle.member_core.specs.declared.turns.Turn.{Turn}
 use Rattle.member_core.specs.Members.{down_turn, up_turn, hears}
 use Rattle.member_core.specs.Steps.{step, faulted_step, oldest_at, ready_turn_at}
-use Rattle.read_core.specs.Servings.{ServingState, read_at, read_event, next_call, piece_at}
+use Rattle.replica_model.specs.Rows.{FullReplica}
+use Rattle.read_core.specs.Servings.{faulted_read, faulted_piece, ServingState, read_at, read_event, next_call, piece_at}
 use Rattle.recovery_core.specs.declared.members.RecoveryReply.{RecoveryReply}
 use Rattle.recovery_core.specs.Members.{Served, recovery_event, serve, serve_faulted}
 use Rattle.world.specs.Parts.{Message, request, packet, ack, response, read_status, recovery_answer, FullMember, Lower, idle, writes, serves, recovers, ended_below, Break}
@@ -56,8 +57,8 @@ ready-as w c m (Some t) fails h lt k = turn-fits w c m the_end t fails h lt k
 
 -- READS
 
-breaking-fits : (w : World) (c b : ℕ) (e : ReplicaEvent) (answers : List Message) → Placed w → c < w.next_conn → Fits w (breaking w c b e answers)
-breaking-fits w c b e answers h lt =
+breaking-fits : (w : World) (c b : ℕ) (r : FullReplica) (e : ReplicaEvent) (answers : List Message) → Placed w → c < w.next_conn → Fits w (breaking w c b r e answers)
+breaking-fits w c b r e answers h lt =
     let k = closing-fits w c h lt in
     record {
       dials = k.dials;
@@ -110,7 +111,7 @@ read-fits w c b (Err r) h lt = answering-fits w c _ h lt
 
 failing-read-fits : (w : World) (c b : ℕ) (e : Result Event RequestRefusal) → Placed w → c < w.next_conn → IfSome (failing_read w c b e) (Fits w)
 failing-read-fits w c b (Err r) h lt = tt
-failing-read-fits w c b (Ok e) h lt = breaking-fits w c b (replica_event.Other e) _ h lt
+failing-read-fits w c b (Ok e) h lt = breaking-fits w c b (faulted_read (replica_at w c b)).0 (replica_event.Other e) _ h lt
 
 read-request-fits : (w : World) (c : ℕ) (r : ReadOp) (fails : Bool) → Placed w → c < w.next_conn → IfSome (read_request w c r fails) (Fits w)
 read-request-fits w c r true h lt = failing-read-fits w c r.block.block.0 (read_event r) h lt
@@ -122,7 +123,7 @@ piece-fits w c b s (Some p) h lt = serving-fits w c b s _ h lt
 
 serve-fits : (w : World) (c b : ℕ) (s : ServingState) (o : Option Event) (fails : Bool) → Placed w → c < w.next_conn → IfSome (serve_change w c b s o fails) (Fits w)
 serve-fits w c b s None fails h lt = tt
-serve-fits w c b s (Some e) true h lt = breaking-fits w c b (replica_event.Other e) [] h lt
+serve-fits w c b s (Some e) true h lt = breaking-fits w c b (faulted_piece s (replica_at w c b)).0 (replica_event.Other e) [] h lt
 serve-fits w c b s (Some e) false h lt =
     piece-fits w c b (piece_at s (replica_at w c b)).serving (piece_at s (replica_at w c b)).packet h lt
 

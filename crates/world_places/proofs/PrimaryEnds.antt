@@ -1,6 +1,6 @@
 -- What primaries and the office leave in range.
 use Rattle.std.proofs.Common.{◌≡◌, ℕ, zero, suc, ◌<◌, ◌≤◌, ◌+◌, Bool, true, false, ◌||◌, List, [], ◌∷◌, length, slice_get, Option, Some, None, IfSome, Ok, Err, refl, subst, arith}
-use Rattle.std.specs.Prelude.{◌==◌, ◌&&◌, not, is_none, zip, slice_set, if◌then◌else◌}
+use Rattle.std.specs.Prelude.{◌==◌, ◌&&◌, not, is_none, zip, if◌then◌else◌}
 use Rattle.std.proofs.lemmas.Option.{none-some, same_Some}
 use Rattle.hd_base.specs.declared.numbers.BlockId.{BlockId}
 use Rattle.hd_base.specs.declared.numbers.NodeId.{NodeId}
@@ -17,7 +17,7 @@ use Rattle.recovery_core.specs.declared.primary.OwnStep.{OwnStep}
 use Rattle.recovery_core.specs.declared.primary.OwnStep.TheVariants as own
 use Rattle.recovery_core.specs.declared.primary.Recovered.{Recovered}
 use Rattle.recovery_core.specs.declared.standings.Standing.{Standing}
-use Rattle.recovery_core.specs.Primaries.{PrimaryState, begun_with, own_step, sync_call, is_among, is_awaited, after_heard, shuts_after, office_refused}
+use Rattle.recovery_core.specs.Primaries.{PrimaryState, begun_with, own_step, sync_call, is_among, is_awaited, office_refused, heard_at, shuts_at}
 use Rattle.world.specs.declared.events.Caller.{Caller}
 use Rattle.world.specs.declared.events.Caller.TheVariants as caller
 use Rattle.world.specs.Parts.{Message, Place, Told, Leading, Primary, no_primary, was_told, leads, has_led}
@@ -240,13 +240,13 @@ hears-fits : (w : World) (i : ℕ) (l : Leading) (place c : ℕ) (x : Next) (o :
 hears-fits w i l place c x None q lt h = tt
 hears-fits w i l place c x (Some s) q lt h =
     when-each (Fits w) (listens l.state.phase s) _ (λ _.
-    let p : PrimaryState = record l.state { standings = slice_set l.state.standings place (after_heard s (heard_of x)) } in
+    let p : PrimaryState = heard_at l.state place (heard_of x) in
     let k = primary-fits w i (leads (record l { state = p })) (led-in w l p q) h in
     record {
       dials = k.dials;
       downs = k.downs;
       ups = k.ups;
-      shuts = λ d e. shut-out (shuts_after s) d e;
+      shuts = λ d e. shut-out (shuts_at l.state place) d e;
       lower_at = k.lower_at;
       lower = k.lower;
       writer = k.writer;

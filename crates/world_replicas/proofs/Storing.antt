@@ -141,7 +141,7 @@ write-stores w c fields answered false h =
 
 -- READS
 
-breaking-stores : (w : World) (c b : ℕ) (e : ReplicaEvent) (answers : List Message) → Filled w → IsWithBytes e → Stores w (breaking w c b e answers)
+breaking-stores : (w : World) (c b : ℕ) (e : ReplicaEvent) (answers : List Message) → Filled w → IsWithBytes e → Stores w (breaking w c b (broken (replica_at w c b)) e answers)
 breaking-stores w c b e answers h k = record {
   replica = broken-stored b (replica_at w c b) (h.replicas (node_of w c) b);
   broke = broke-stored w c b e h k;

@@ -14,7 +14,8 @@ use Rattle.request_refusals.specs.declared.refusals.RequestRefusal.{RequestRefus
 use Rattle.member_core.specs.declared.turns.Turn.{Turn}
 use Rattle.member_core.specs.Members.{down_turn, up_turn, hears}
 use Rattle.member_core.specs.Steps.{step, faulted_step, oldest_at, ready_turn_at}
-use Rattle.read_core.specs.Servings.{ServingState, read_at, read_event, next_call, piece_at}
+use Rattle.replica_model.specs.Rows.{FullReplica}
+use Rattle.read_core.specs.Servings.{faulted_read, faulted_piece, ServingState, read_at, read_event, next_call, piece_at}
 use Rattle.recovery_core.specs.declared.members.RecoveryReply.{RecoveryReply}
 use Rattle.recovery_core.specs.Members.{Served, recovery_event, serve, serve_faulted}
 use Rattle.world.specs.Parts.{Message, request, packet, ack, response, read_status, recovery_answer, FullMember, Lower, idle, writes, serves, recovers, ended_below, Break}
@@ -59,8 +60,8 @@ member-aside w c m x s b = record { office = refl; stamped = refl; writer = refl
 setup-aside : (w : World) (c : ℕ) (fields : WriteFields) (s : Setup) (b : Option Break) → Aside w (setup_change w c fields s b)
 setup-aside w c fields s b = record { office = refl; stamped = refl; writer = refl }
 
-breaks-aside : (w : World) (c b : ℕ) (e : ReplicaEvent) (answers : List Message) → Aside w (breaking w c b e answers)
-breaks-aside w c b e answers = record { office = refl; stamped = refl; writer = refl }
+breaks-aside : (w : World) (c b : ℕ) (r : FullReplica) (e : ReplicaEvent) (answers : List Message) → Aside w (breaking w c b r e answers)
+breaks-aside w c b r e answers = record { office = refl; stamped = refl; writer = refl }
 
 answers-aside : (w : World) (c : ℕ) (answers : List Message) → Aside w (record (closing w c) { ups = sent_on (Some c) answers })
 answers-aside w c answers = record { office = refl; stamped = refl; writer = refl }
@@ -119,7 +120,7 @@ read-aside w c b (Err r) = answers-aside w c _
 
 failing-read-aside : (w : World) (c b : ℕ) (e : Result Event RequestRefusal) → IfSome (failing_read w c b e) (Aside w)
 failing-read-aside w c b (Err r) = tt
-failing-read-aside w c b (Ok e) = breaks-aside w c b (replica_event.Other e) _
+failing-read-aside w c b (Ok e) = breaks-aside w c b (faulted_read (replica_at w c b)).0 (replica_event.Other e) _
 
 read-request-aside : (w : World) (c : ℕ) (r : ReadOp) (fails : Bool) → IfSome (read_request w c r fails) (Aside w)
 read-request-aside w c r true = failing-read-aside w c r.block.block.0 (read_event r)
@@ -131,7 +132,7 @@ piece-aside w c b s (Some p) = serving-aside w c b s _
 
 serve-aside : (w : World) (c b : ℕ) (s : ServingState) (o : Option Event) (fails : Bool) → IfSome (serve_change w c b s o fails) (Aside w)
 serve-aside w c b s None fails = tt
-serve-aside w c b s (Some e) true = breaks-aside w c b (replica_event.Other e) []
+serve-aside w c b s (Some e) true = breaks-aside w c b (faulted_piece s (replica_at w c b)).0 (replica_event.Other e) []
 serve-aside w c b s (Some e) false =
     piece-aside w c b (piece_at s (replica_at w c b)).serving (piece_at s (replica_at w c b)).packet
 

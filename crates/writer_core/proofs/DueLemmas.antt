@@ -1,5 +1,5 @@
 -- What is true of the packet that is due.
-use Rattle.std.proofs.Common.{ℕ, ◌≡◌, ◌≤◌, ◌<◌, ◌==◌, nat_le, nat_lt, ◌&&◌, Bool, true, false, List, length, Option, Some, None, if◌then◌else◌, refl, subst, arith}
+use Rattle.std.proofs.Common.{◌≡◌, ◌≤◌, ◌<◌, ◌==◌, nat_le, nat_lt, ◌&&◌, Bool, true, false, length, Option, Some, None, if◌then◌else◌, refl, subst, arith}
 use Rattle.std.specs.Option.{IfSome}
 use Rattle.std.proofs.lemmas.Bool.Decides.{nat_tests}
 use Rattle.packet_stream.specs.declared.stream.TheConstants.{MAX_UNACKED}
@@ -12,7 +12,7 @@ use Rattle.writer_core.specs.declared.phases.SyncPacket.TheVariants as sync
 use Rattle.writer_core.specs.declared.phases.Waiting.{Waiting}
 use Rattle.writer_core.specs.declared.phases.Waiting.TheVariants as waiting
 use Rattle.writer_core.specs.declared.records.WriterRecord.{WriterRecord}
-use Rattle.writer_core.specs.Transitions.{due_in, due_now, data_due, ends_sync, empty_due, is_flushing}
+use Rattle.writer_core.specs.Transitions.{due_in, due_now, empty_due, is_flushing}
 use Rattle.writer_core.specs.Sound.{syncs_due}
 
 -- one thing or another

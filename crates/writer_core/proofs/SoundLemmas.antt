@@ -1,5 +1,5 @@
 -- A writer stays sound through each call.
-use Rattle.std.proofs.Common.{ℕ, ℤ, pos, ◌≡◌, ◌≤◌, ◌<◌, ◌+◌, ◌-◌, ◌^◌, nat_le, Bool, true, false, List, [], ◌∷◌, ◌++◌, length, drop, slice_get, Option, Some, None, Result, Ok, Err, if◌then◌else◌, refl, subst, sym, ap, ◌∙◌, arith, length-append}
+use Rattle.std.proofs.Common.{ℕ, ℤ, pos, ◌≡◌, ◌≤◌, ◌<◌, ◌+◌, ◌^◌, nat_le, Bool, true, false, List, [], ◌∷◌, ◌++◌, length, slice_get, Option, Some, None, Result, Ok, Err, if◌then◌else◌, refl, subst, sym, ap, ◌∙◌, arith, length-append}
 use Rattle.std.specs.Borrow.{Bor}
 use Rattle.std.specs.Option.{option_copied}
 use Rattle.std.proofs.lemmas.Bool.Decides.{nat_tests}
@@ -17,8 +17,7 @@ use Rattle.name_core.specs.declared.faults.OfficeFault.TheVariants as fault
 use Rattle.name_core.specs.declared.records.TheConstants.{MAX_APPEND_LENGTH}
 use Rattle.packet_codec.specs.declared.packets.Packet.{Packet}
 use Rattle.packet_stream.specs.declared.extents.TheConstants.{BLOCK_LIMIT}
-use Rattle.packet_stream.specs.declared.stream.TheConstants.{MAX_UNACKED}
-use Rattle.packet_stream.specs.Streams.{StreamState, IsStream, start_in, written_in, begun, with_bytes, fill_bytes, formed, sync_formed, last_formed, acked_packet, oldest_acked, oldest_is_last}
+use Rattle.packet_stream.specs.Streams.{StreamState, written_in, acked_packet}
 use Rattle.packet_stream.proofs.StreamLemmas.{begun_written, begun_is, wrote_written, wrote_is, fill_length, formed_written, formed_is, sync_formed_is, last_formed_is, oldest_acked_is}
 use Rattle.writer_core.specs.declared.commands.Command.{Command}
 use Rattle.writer_core.specs.declared.commands.Command.TheVariants as command
@@ -42,12 +41,12 @@ use Rattle.writer_core.specs.declared.phases.Verdict.TheVariants as verdict
 use Rattle.writer_core.specs.declared.phases.Waiting.{Waiting}
 use Rattle.writer_core.specs.declared.phases.Waiting.TheVariants as waiting
 use Rattle.writer_core.specs.declared.records.WriterRecord.{WriterRecord}
-use Rattle.writer_core.specs.Commands.{command_length, queued_bytes, admitted, is_too_much, fits, intake_after}
-use Rattle.writer_core.specs.Phases.{remedy_after, remedy_in, remedy_at_ack, is_success, ack_verdict, bad_place, without}
-use Rattle.writer_core.specs.Transitions.{ordinal, took, waits_as, opening, wrote, taken_as, take_first, free_step_as, free_step, failed_command, failed_first, failed_step_as, failed_step, dial_step_as, dial_step, open_step, accepted_step, reached, completed_step, due_in, due_now, sync_formed_as, all_sent, form_step, reached_length, reach_step_as, reach_step, due_step, stream_step_as, stream_step, step_in, own_step, dropped, fail_for, fail_named, fail_at, ended_as, ended, phase_acked, acked_oldest, acked_as, acked_in, acked, setup_answered_in, setup_answered, dialled_in, dialled, refused, begin_session, stamped, reopened, stamp_given, phase_committed, committed_as, commit_given, complete_given, granted_in, asks, granted_as, granted, fresh, given_as, given, Step, step}
+use Rattle.writer_core.specs.Commands.{command_length, admitted, is_too_much, fits, intake_after}
+use Rattle.writer_core.specs.Phases.{remedy_after, remedy_in, remedy_at_ack, is_success, bad_place, without}
+use Rattle.writer_core.specs.Transitions.{took, wrote, taken_as, take_first, free_step_as, free_step, failed_command, failed_first, failed_step_as, dial_step_as, accepted_step, due_now, sync_formed_as, form_step, reached_length, reach_step_as, due_step, stream_step_as, step_in, own_step, dropped, fail_named, fail_at, ended_as, ended, acked_oldest, acked_as, acked_in, acked, setup_answered_in, setup_answered, dialled_in, dialled, refused, begin_session, stamped, reopened, stamp_given, committed_as, commit_given, complete_given, granted_in, asks, granted_as, granted, fresh, given_as, given}
 use Rattle.writer_core.specs.Sound.{Sound, syncs_due}
 use Rattle.writer_core.proofs.QueueLemmas.{first_off, one_less, queued_more}
-use Rattle.writer_core.proofs.DueLemmas.{choice, IsDue, IsDueNow, due_now_is}
+use Rattle.writer_core.proofs.DueLemmas.{choice, IsDueNow, due_now_is}
 
 -- ---- what changes neither bytes nor commands
 

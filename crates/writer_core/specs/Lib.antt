@@ -3,3 +3,4 @@ pub mod Phases
 pub mod Requests
 pub mod Transitions
 pub mod Sound
+pub mod Laws

@@ -1,5 +1,5 @@
 -- What a failure leads to, and what an ack says.
-use Rattle.std.specs.Prelude.{ℕ, ℤ, suc, ◌==◌, ◌+◌, ◌-◌, ◌||◌, not, nat_lt, if◌then◌else◌, Bool, true, false, List, [], ◌∷◌, length, filter, position, Option, Some, None}
+use Rattle.std.specs.Prelude.{ℕ, ℤ, ◌==◌, ◌+◌, ◌||◌, not, nat_lt, if◌then◌else◌, Bool, true, false, List, [], ◌∷◌, length, filter, position, Option, Some, None}
 use Rattle.std.specs.Ordering.{int_eq}
 use Rattle.hd_base.specs.declared.numbers.NodeId.{NodeId}
 use Rattle.hd_base.specs.declared.states.Status.{Status}

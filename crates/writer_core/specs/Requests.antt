@@ -1,9 +1,9 @@
 -- The request by which a pipeline is set up.
-use Rattle.std.specs.Prelude.{ℕ, List, ◌++◌, length, map, codes, decimal, Option, Some, None}
+use Rattle.std.specs.Prelude.{ℕ, List, ◌++◌, map, codes, decimal, None}
 use Rattle.hd_base.specs.declared.numbers.BlockId.{BlockId}
 use Rattle.hd_base.specs.declared.numbers.NodeId.{NodeId}
 use Rattle.hd_base.specs.declared.numbers.Stamp.{Stamp}
-use Rattle.hd_base.specs.SumRules.{Rule, kind_number}
+use Rattle.hd_base.specs.SumRules.{kind_number}
 use Rattle.op_headers.specs.declared.ops.Op.{Op}
 use Rattle.op_headers.specs.declared.ops.Op.TheVariants as op
 use Rattle.op_headers.specs.declared.stages.Stage.{Stage}

@@ -1,5 +1,5 @@
 -- What is true of every writer that calls make.
-use Rattle.std.specs.Prelude.{ℕ, ◌≤◌, ◌+◌, length, Option, Some, None}
+use Rattle.std.specs.Prelude.{ℕ, ◌≤◌, ◌+◌, length, Option, Some}
 use Rattle.name_core.specs.declared.records.TheConstants.{MAX_APPEND_LENGTH}
 use Rattle.packet_stream.specs.Streams.{IsStream, written_in}
 use Rattle.writer_core.specs.declared.intake.TheConstants.{MAX_GIVEN, MAX_COMMANDS}

@@ -1,7 +1,7 @@
 -- What each call makes of a writer, and what its own step asks for. The writer's record holds: the block; what was given to it; the commands
 -- given and not taken; how many were taken; the command that waits; the phase; the members of the pipeline that stands or is wanted; the
 -- committed stamp; the stream of packets; and whether this create or append had an hsync.
-use Rattle.std.specs.Prelude.{ℕ, ℤ, pos, ◌≡◌, ◌⊎◌, ◌==◌, ◌+◌, ◌-◌, ◌&&◌, ◌||◌, not, nat_lt, nat_le, int_lt, if◌then◌else◌, Bool, true, false, List, [], ◌∷◌, ◌++◌, length, drop, slice_get, is_some, Option, Some, None, Result, Ok, Err}
+use Rattle.std.specs.Prelude.{ℕ, ℤ, pos, ◌≡◌, ◌⊎◌, ◌==◌, ◌+◌, ◌-◌, ◌&&◌, nat_lt, nat_le, int_lt, if◌then◌else◌, Bool, true, false, List, [], ◌∷◌, ◌++◌, length, drop, slice_get, is_some, Option, Some, None, Result, Ok, Err}
 use Rattle.hd_base.specs.declared.numbers.BlockId.{BlockId}
 use Rattle.hd_base.specs.declared.numbers.NodeId.{NodeId}
 use Rattle.hd_base.specs.declared.numbers.Stamp.{Stamp}
@@ -39,7 +39,6 @@ use Rattle.writer_core.specs.declared.phases.Remedy.{Remedy}
 use Rattle.writer_core.specs.declared.phases.Remedy.TheVariants as remedy
 use Rattle.writer_core.specs.declared.phases.Setup.{Setup}
 use Rattle.writer_core.specs.declared.phases.Setup.TheVariants as setup
-use Rattle.writer_core.specs.declared.phases.SyncPacket.{SyncPacket}
 use Rattle.writer_core.specs.declared.phases.SyncPacket.TheVariants as sync
 use Rattle.writer_core.specs.declared.phases.Verdict.{Verdict}
 use Rattle.writer_core.specs.declared.phases.Verdict.TheVariants as verdict

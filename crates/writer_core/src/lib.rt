@@ -7,13 +7,17 @@ mod acks;
 mod actions;
 mod commands;
 mod intake;
+mod laws;
 mod phases;
 mod records;
 mod requests;
+#[cfg(test)]
+mod tests;
 mod writer;
 
 pub use actions::{Action, ClientAnswer};
 pub use commands::{Command, CommandFault};
 pub use intake::{MAX_COMMANDS, MAX_GIVEN};
+pub use laws::{answered_bytes_are_acked, only_the_office_commits, stamps_are_committed};
 pub use requests::POOL;
 pub use writer::Writer;

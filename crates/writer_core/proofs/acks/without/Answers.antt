@@ -1,6 +1,5 @@
 -- Some of the members are members.
-use Rattle.std.proofs.Common.{◌≡◌, ◌≢◌, ◌≤◌, ◌==◌, not, take, length, None, subst, sym, arith}
-use Rattle.std.specs.Option.{IsSome}
+use Rattle.std.proofs.Common.{◌≢◌, ◌==◌, not, subst, sym}
 use Rattle.std.proofs.lemmas.List.Kept.{AllPairs-filter}
 use Rattle.hd_base.specs.Lists.{AllDistinct}
 use Rattle.writer_core.specs.Phases.{without}

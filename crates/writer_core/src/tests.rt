@@ -1,0 +1,173 @@
+//! Worked runs, beside an office that grants all that is asked.
+
+use crate::{Action, ClientAnswer, Command, Writer};
+use ack_codec::{Ack, Replies, Response};
+use hd_base::{BlockId, ByteList, ConnId, Members, NodeId, Stamp, Status, SumRule};
+use name_core::OfficeAnswer;
+use op_headers::{Op, Stage, WriteOp};
+use packet_codec::Packet;
+use std::alloc::{AllocError, Global};
+use std::process::Abort;
+use std::test::Fail;
+
+/// Which action an own step of a writer is.
+#[derive(Clone, Copy, Debug, PartialEq, Eq)]
+enum Kind {
+    Wait,
+    Took,
+    Ask,
+    Answered,
+    Other,
+}
+
+/// Does the own step of a writer, which neither dials nor sends.
+fn step(writer: &mut Writer) -> Kind {
+    match writer.next() {
+        Action::Wait => Kind::Wait,
+        Action::Took => Kind::Took,
+        Action::Ask(_) => Kind::Ask,
+        Action::Answered { .. } => Kind::Answered,
+        Action::Dial { .. } | Action::Send(_) | Action::Memory => Kind::Other,
+    }
+}
+
+/// Does the own step of a writer, which dials.
+fn dialled(writer: &mut Writer) -> Option<WriteOp> {
+    match writer.next() {
+        Action::Dial {
+            op: Op::Write(request),
+            ..
+        } => Some(request),
+        _ => None,
+    }
+}
+
+/// Does the own step of a writer, which sends a packet: what `measured` says of it.
+fn sent(writer: &mut Writer) -> Option<(i64, i64, usize, usize)> {
+    match writer.next() {
+        Action::Send(packet) => Some(measured(&packet)),
+        _ => None,
+    }
+}
+
+/// A packet's number, its offset, and how many bytes it and its sums have.
+fn measured(packet: &Packet) -> (i64, i64, usize, usize) {
+    (
+        packet.seqno,
+        packet.offset,
+        packet.body.len(),
+        packet.sums.len(),
+    )
+}
+
+/// Does the own step of a writer, which answers a flush: what `flushed` says of it.
+fn reached(writer: &mut Writer) -> Option<(u64, Stamp, usize)> {
+    flushed(&writer.next())
+}
+
+/// How many bytes are reached by an answer to a flush, under which stamp, and by how many members.
+fn flushed(action: &Action) -> Option<(u64, Stamp, usize)> {
+    match action {
+        Action::Answered {
+            answer: ClientAnswer::Reached {
+                length,
+                stamp,
+                members,
+            },
+            ..
+        } => Some((*length, *stamp, members.len())),
+        _ => None,
+    }
+}
+
+/// The first member takes the request.
+fn accept(alloc: Global, writer: &mut Writer) -> Result<(), AllocError> {
+    let response = Response {
+        status: Status::Success,
+        first_bad: ByteList::from_slice(alloc, b"")?,
+        sums_from: None,
+        message: ByteList::from_slice(alloc, b"")?,
+    };
+    writer.dialled(Some(ConnId(0)));
+    writer.setup_answer(&response, None);
+    Ok(())
+}
+
+/// The members answer the packet of this number so.
+fn ack(writer: &mut Writer, seqno: i64, statuses: &[Status]) -> Result<(), Fail> {
+    let replies = Replies::new(statuses).ok_or("too many replies")?;
+    writer.acked(&Ack { seqno, replies });
+    Ok(())
+}
+
+/// A writer whose pipeline of these members stands for a new block.
+fn created(rt: &impl Abort, alloc: Global, nodes: &[NodeId]) -> Result<Writer, Fail> {
+    let mut writer = Writer::new(alloc, BlockId(1), SumRule::default())?;
+    let members = Members::new(nodes).ok_or("members")?;
+    writer.command(Command::Create { members })?;
+    assert_eq!(rt; step(&mut writer), Kind::Took);
+    assert_eq!(rt; step(&mut writer), Kind::Ask);
+    writer.granted(&Ok(OfficeAnswer::Stamp(Stamp(1001))));
+    dialled(&mut writer).ok_or("a request")?;
+    accept(alloc, &mut writer)?;
+    assert_eq!(rt; step(&mut writer), Kind::Answered);
+    Ok(writer)
+}
+
+/// The writer is given so many bytes and a flush of them, and takes both.
+fn fill(rt: &impl Abort, writer: &mut Writer, count: u64) -> Result<(), Fail> {
+    writer.command(Command::Fill { count })?;
+    writer.command(Command::Hflush)?;
+    assert_eq!(rt; step(writer), Kind::Took);
+    assert_eq!(rt; step(writer), Kind::Took);
+    Ok(())
+}
+
+/// The pipeline is set up again under a new stamp: what is asked for.
+fn recovered(rt: &impl Abort, alloc: Global, writer: &mut Writer) -> Result<WriteOp, Fail> {
+    assert_eq!(rt; step(writer), Kind::Ask);
+    writer.granted(&Ok(OfficeAnswer::Stamp(Stamp(1002))));
+    let request = dialled(writer).ok_or("a request")?;
+    accept(alloc, writer)?;
+    assert_eq!(rt; step(writer), Kind::Ask);
+    writer.granted(&Ok(OfficeAnswer::Nothing));
+    Ok(request)
+}
+
+#[test]
+fn a_filled_byte_goes_out(rt: HostRuntime) -> Result<(), Fail> {
+    let mut writer = created(&rt, rt.alloc(), &[NodeId(0)])?;
+    fill(&rt, &mut writer, 1)?;
+    assert!(rt; sent(&mut writer) == Some((0, 0, 1, 4)));
+    assert_eq!(rt; step(&mut writer), Kind::Wait);
+    ack(&mut writer, 0, &[Status::Success])?;
+    assert!(rt; reached(&mut writer) == Some((1, Stamp(1001), 1)));
+    Ok(())
+}
+
+#[test]
+fn a_failed_member_is_dropped(rt: HostRuntime) -> Result<(), Fail> {
+    let mut writer = created(&rt, rt.alloc(), &[NodeId(0), NodeId(1)])?;
+    fill(&rt, &mut writer, 600)?;
+    assert!(rt; sent(&mut writer) == Some((0, 0, 600, 8)));
+    ack(&mut writer, 0, &[Status::Success, Status::Success])?;
+    assert!(rt; reached(&mut writer) == Some((600, Stamp(1001), 2)));
+    fill(&rt, &mut writer, 100)?;
+    assert!(rt; sent(&mut writer) == Some((1, 512, 188, 4)));
+    ack(&mut writer, 1, &[Status::Success, Status::Error])?;
+    assert!(rt; !writer.connected());
+    let request = recovered(&rt, rt.alloc(), &mut writer)?;
+    assert_eq!(rt;
+        request.stage,
+        Stage::PipelineSetupStreamingRecovery.number()
+    );
+    assert_eq!(rt;
+        (request.min, request.max, request.targets.len()),
+        (600, 700, 0)
+    );
+    assert!(rt; request.block.stamp == Stamp(1001) && request.latest == Stamp(1002));
+    assert!(rt; sent(&mut writer) == Some((1, 512, 188, 4)));
+    ack(&mut writer, 1, &[Status::Success])?;
+    assert!(rt; reached(&mut writer) == Some((700, Stamp(1002), 1)));
+    Ok(())
+}
