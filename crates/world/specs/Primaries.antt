@@ -1,5 +1,5 @@
 -- Primaries, and what the office answers writers and primaries.
-use Rattle.std.specs.Prelude.{ℕ, ◌==◌, ◌+◌, ◌&&◌, not, is_none, if◌then◌else◌, Bool, true, false, List, [], ◌∷◌, take, zip, slice_get, slice_set, Option, Some, None, Ok, Err}
+use Rattle.std.specs.Prelude.{ℕ, ◌==◌, ◌+◌, ◌&&◌, not, is_none, if◌then◌else◌, Bool, true, false, List, [], ◌∷◌, take, zip, slice_get, Option, Some, None, Ok, Err}
 use Rattle.std.specs.List.{list_any}
 use Rattle.hd_base.specs.declared.numbers.BlockId.{BlockId}
 use Rattle.hd_base.specs.declared.numbers.NodeId.{NodeId}
@@ -156,7 +156,7 @@ hears_change w i l place c x None = None
 hears_change w i l place c x (Some s) =
     if listens l.state.phase s
     then Some (record (primary_change w i (leads (record l { state = heard_at l.state place (heard_of x) })))
-        { shuts = if shuts_at l.state place then is_conn (Some c) else (λ _. false) })
+    { shuts = if shuts_at l.state place then is_conn (Some c) else (λ _. false) })
     else None
 
 abbrev pub primary_up_as : Primary → World → ℕ → ℕ → ℕ → Next → Option Change
