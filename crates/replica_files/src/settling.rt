@@ -1,0 +1,1 @@
+//! Events that aren't packets and make no new replica.
