@@ -1,9 +1,9 @@
 //! What a book keeps, and how an event ends in it.
 
-ghost use Rattle.std.specs.Prelude.{◌≡◌, ◌∷◌, [], ◌++◌, ◌<◌, length, false, true, IfOk, OnOk, IsErr};
-ghost use Rattle.replica_files.specs.Books.{Notes, HasSpare, KeepsBut};
+ghost use Rattle.std.specs.Prelude.{◌≡◌, OnOk};
+ghost use Rattle.replica_files.specs.Entries.{HasSpare, IsSame, HasEntry};
 
-use hd_base::{Files, Receipt};
+use hd_base::Files;
 use replica_core::Replica;
 use replica_model::{Entry, History, ReplicaEvent};
 use std::alloc::AllocError;
@@ -17,27 +17,22 @@ pub(crate) struct BookState<F: Files> {
     pub history: History,
 }
 
-impl<F: Files> BookState<F> {
-    /// Room for one more entry.
-    pub fn reserve_entry(&mut self) -> Result<(), AllocError>
-        ensures spare { OnOk result (HasSpare self.new) }
-        ensures same { KeepsBut self.old self.new }
-    {
-        self.history.entries.reserve(1)
-    }
+/// Makes room for one more entry.
+pub(crate) fn reserve_entry(history: &mut History) -> Result<(), AllocError>
+    ensures spare { OnOk result (HasSpare history.new) }
+    ensures same { IsSame history.old history.new }
+{
+    history.entries.reserve(1)
+}
 
-    /// Adds the entry of an event.
-    pub fn note(&mut self, event: ReplicaEvent, failed: bool) -> Receipt
-        requires { HasSpare self.old }
-        ensures { Notes self.old self.new event failed result }
-    {
-        let receipt = Receipt {
-            block: self.replica.block(),
-            index: self.history.entries.len() as u64,
-        };
-        match self.history.entries.push(Entry { event, failed }) {
-            Ok(()) => receipt,
-            Err(_) => unreachable!(),
-        }
+/// Adds the entry of an event, and answers its place.
+pub(crate) fn note(history: &mut History, event: ReplicaEvent, failed: bool) -> u64
+    requires { HasSpare history.old }
+    ensures { HasEntry history.old history.new event failed result }
+{
+    let index = history.entries.len() as u64;
+    match history.entries.push(Entry { event, failed }) {
+        Ok(()) => index,
+        Err(_) => unreachable!(),
     }
 }

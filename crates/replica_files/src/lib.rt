@@ -3,6 +3,5 @@
 
 mod book_state;
 mod faults;
-mod settling;
 
 pub use faults::BookFault;
