@@ -1,0 +1,7 @@
+//! One replica's core, its two files and its history, as one value: the replica's book.
+#![tactic(auto)]
+
+mod book_state;
+mod faults;
+
+pub use faults::BookFault;
