@@ -1,83 +1,67 @@
--- A replica's book: what it keeps, and how each event ends.
-use Rattle.std.specs.Prelude.{ℕ, ◌≡◌, ◌+◌, ◌<◌, ◌≤◌, ◌^◌, Bool, true, false, List, [], ◌∷◌, ◌++◌, length, Option, Some, None, IfSome, Result, Ok, Err, IsOk}
+-- A replica's book: the replica that its history leads to, and the files that hold it.
+use Rattle.std.specs.Prelude.{ℕ, ◌≡◌, ◌<◌, ◌^◌, Bool, false, List, [], ◌++◌, Option, Some, None, IfSome, IfOk, OnErr, IsOk, Result}
 use Rattle.hd_base.specs.Bytes.{IsBytes}
-use Rattle.hd_base.specs.Faults.{FaultsIncreased}
-use Rattle.hd_base.specs.FileMaps.{OnlyOf}
+use Rattle.hd_base.specs.FileMaps.{FileMap, OnlyOf, AreNamesOf}
 use Rattle.hd_base.specs.Calls.{Call, MakesCalls, StopsWithin, IsUnchanged}
-use Rattle.hd_base.specs.declared.numbers.Receipt.{Receipt}
+use Rattle.hd_base.specs.declared.numbers.BlockId.{BlockId}
 use Rattle.hd_base.specs.declared.files.Files as files
+use Rattle.hd_base.specs.declared.files.FileError.{FileError}
 use Rattle.block_files.specs.BlockCalls.{calls_of}
-use Rattle.replica_core.specs.declared.records.ReplicaRecord.{ReplicaRecord}
-use Rattle.replica_core.specs.declared.refusals.Refusal.{Refusal}
+use Rattle.replica_core.specs.declared.info.ReplicaInfo.{ReplicaInfo}
+use Rattle.replica_core.specs.declared.events.Answer.{Answer}
 use Rattle.replica_core.specs.Transitions.{transition}
 use Rattle.replica_model.specs.declared.events.ReplicaEvent.{ReplicaEvent}
-use Rattle.replica_model.specs.Rows.{FullReplica, IsFull, event_at, row}
+use Rattle.replica_model.specs.Rows.{FullReplica, IsFull, event_at, row, broken}
 use Rattle.replica_model.specs.Histories.{replayed}
 use Rattle.replica_model.specs.Plans.{Holds, plan, placement_of}
+use Rattle.replica_calls.specs.CallLists.{remove_list}
 use Rattle.replica_calls.specs.LastSums.{IsLastSum}
-use Rattle.replica_files.specs.Entries.{IsSame, HasEntry}
 use Rattle.replica_files.specs.declared.book_state.BookState.{BookState}
-use Rattle.replica_files.specs.declared.faults.BookFault.{BookFault}
-use Rattle.replica_files.specs.declared.faults.BookFault.TheVariants as fault
 
 -- the replica that a book's history leads to
 abbrev pub replica_of : {F : Type 0} → BookState F → FullReplica
-replica_of s = replayed s.replica.block s.history
+replica_of s = replayed s.block s.history
 
--- The files hold the replica, and the kept sum is that of the bytes in its last chunk, where files are observable; all files are of its block.
-pub record IsHeld {F : Type 0} (f : files.Ghosts F) (s : BookState F) (r : FullReplica) : Type 0 where
-  pub fits : r.known.block.0 < 2 ^ 64
+-- This is the sum of the bytes in the last chunk of a replica that isn't broken.
+abbrev pub HasLastSum : ℕ → FullReplica → Type 0
+HasLastSum sum r = r.known.is_broken ≡ false → IfSome r.known.info (λ h. IsLastSum h.sums sum r.bytes)
+
+-- The replica is of this block, and the files hold it; where they are observable, all are of its block, and the kept sum is that of its last chunk.
+pub record IsHeld {F : Type 0} (f : files.Ghosts F) (drawer : F) (block : BlockId) (sum : ℕ) (r : FullReplica) : Type 0 where
+  pub of_block : r.known.block ≡ block
   pub full : IsFull r
   pub are_bytes : IsBytes r.bytes
-  pub holds : Holds (f.files s.drawer) r
-  pub only : OnlyOf r.known.block.0 (f.files s.drawer)
-  pub last : r.known.is_broken ≡ false → IfSome (f.files s.drawer) (λ _. IfSome r.known.info (λ h. IsLastSum h.sums s.last_sum r.bytes))
+  pub holds : Holds (f.files drawer) r
+  pub only : OnlyOf block.0 (f.files drawer)
+  pub last : IfSome (f.files drawer) (λ _. HasLastSum sum r)
 
--- The replica is the one that the history leads to.
+-- The replica is the one that the history leads to, and the files hold it.
 pub record IsBookOf {F : Type 0} (f : files.Ghosts F) (s : BookState F) : Type 0 where
   pub known : s.replica ≡ (replica_of s).known
-  pub held : IsHeld f s (replica_of s)
+  pub held : IsHeld f s.drawer s.block s.last_sum (replica_of s)
 
--- The same amid an event that the replica has taken: the files are those before it, and the history doesn't have it yet.
-pub record IsAmid {F : Type 0} (f : files.Ghosts F) (s : BookState F) (e : ReplicaEvent) : Type 0 where
-  pub known : s.replica ≡ (row (replica_of s) e).known
-  pub taken : IsOk (transition (replica_of s).known (event_at (replica_of s) e))
-  pub held : IsHeld f s (replica_of s)
+-- The replica takes the event.
+abbrev pub Takes : FullReplica → ReplicaEvent → Type 0
+Takes r e = IsOk (transition r.known (event_at r e))
 
--- the calls of an event by the files' names
-abbrev pub plan_calls : FullReplica → ReplicaEvent → List Call
-plan_calls r e = calls_of r.known.block.0 (plan r e) (placement_of r)
+-- The calls of an event at a replica, where these other files of the block are removed before a new replica's are made.
+abbrev pub event_calls : FullReplica → ReplicaEvent → List (List ℕ) → List Call
+event_calls r e strays = remove_list strays ++ calls_of r.known.block.0 (plan r e) (placement_of r)
 
--- The event was taken, and its calls were made.
-pub record EndsDone {F : Type 0} (f : files.Ghosts F) (old new : BookState F) (e : ReplicaEvent) (calls : List Call) (receipt : Receipt) : Type 0 where
-  pub taken : IsOk (transition (replica_of old).known (event_at (replica_of old) e))
-  pub entry : HasEntry old.history new.history e false receipt.index
-  pub block : receipt.block ≡ old.replica.block
-  pub made : MakesCalls (f.files old.drawer) (f.files new.drawer) (f.log old.drawer) (f.log new.drawer) calls
+-- The files that are removed: all that are there, where a new replica is made, and else none.
+abbrev pub AreStrays : Option FileMap → Option ReplicaInfo → Option ReplicaInfo → List (List ℕ) → Type 0
+AreStrays files None (Some k) strays = IfSome files (λ m. AreNamesOf m strays)
+AreStrays files None None strays = strays ≡ []
+AreStrays files (Some h) next strays = strays ≡ []
 
--- The event was refused, and no file has changed.
-pub record EndsRefused {F : Type 0} (f : files.Ghosts F) (old new : BookState F) (e : ReplicaEvent) (refusal : Refusal) (receipt : Receipt) : Type 0 where
-  pub refused : transition (replica_of old).known (event_at (replica_of old) e) ≡ Err refusal
-  pub entry : HasEntry old.history new.history e false receipt.index
-  pub block : receipt.block ≡ old.replica.block
-  pub same : IsUnchanged (f.files old.drawer) (f.files new.drawer) (f.log old.drawer) (f.log new.drawer)
+-- The calls of an event were made.
+pub record MakesEvent {F : Type 0} (f : files.Ghosts F) (old new : F) (r : FullReplica) (e : ReplicaEvent) : Type 0 where
+  pub strays : List (List ℕ)
+  pub are : AreStrays (f.files old) r.known.info (row r e).known.info strays
+  pub made : MakesCalls (f.files old) (f.files new) (f.log old) (f.log new) (event_calls r e strays)
 
--- A call on the files failed: the replica is broken, and what was done is a part of the event's calls.
-pub record EndsFailed {F : Type 0} (f : files.Ghosts F) (old new : BookState F) (e : ReplicaEvent) (calls : List Call) (receipt : Receipt) : Type 0 where
-  pub entry : HasEntry old.history new.history e true receipt.index
-  pub block : receipt.block ≡ old.replica.block
-  pub stopped : StopsWithin (f.files old.drawer) (f.files new.drawer) (f.log old.drawer) (f.log new.drawer) calls
-  pub rose : FaultsIncreased (f.faults old.drawer) (f.faults new.drawer)
-
--- Memory ran out: the history is the same, and no file has changed.
-pub record EndsUnmade {F : Type 0} (f : files.Ghosts F) (old new : BookState F) : Type 0 where
-  pub history : IsSame old.history new.history
-  pub replica : new.replica ≡ old.replica
-  pub same : IsUnchanged (f.files old.drawer) (f.files new.drawer) (f.log old.drawer) (f.log new.drawer)
-
--- How a call of a book ends.
-abbrev pub CallEnds : {F : Type 0} → files.Ghosts F → BookState F → BookState F → ReplicaEvent → List Call → Result Receipt BookFault → Type 0
-CallEnds f old new e calls (Ok receipt) = EndsDone f old new e calls receipt
-CallEnds f old new e calls (Err (fault.Refused refusal receipt)) = EndsRefused f old new e refusal receipt
-CallEnds f old new e calls (Err (fault.File receipt)) = EndsFailed f old new e calls receipt
-CallEnds f old new e calls (Err fault.Memory) = EndsUnmade f old new
+-- One of the calls of an event failed.
+pub record StopsEvent {F : Type 0} (f : files.Ghosts F) (old new : F) (r : FullReplica) (e : ReplicaEvent) : Type 0 where
+  pub strays : List (List ℕ)
+  pub are : AreStrays (f.files old) r.known.info (row r e).known.info strays
+  pub stopped : StopsWithin (f.files old) (f.files new) (f.log old) (f.log new) (event_calls r e strays)

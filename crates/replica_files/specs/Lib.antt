@@ -1,2 +1,6 @@
 pub mod Entries
+pub mod Events
 pub mod Books
+pub mod Carried
+pub mod Steps
+pub mod Endings

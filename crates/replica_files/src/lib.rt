@@ -3,5 +3,6 @@
 
 mod book_state;
 mod faults;
+mod settling;
 
 pub use faults::BookFault;

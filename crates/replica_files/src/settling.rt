@@ -1,38 +1,78 @@
-//! Events that aren't packets and make no new replica.
+//! Events that are no packets and make no new replica.
 
-ghost use Rattle.std.specs.Prelude.{◌≡◌, ◌≤◌, length, OnOk, OnErr};
+ghost use Rattle.std.specs.Prelude.{◌≡◌, ℕ, ◌≤◌, List, length, take, IfOk, IfSome, Err};
 ghost use Rattle.hd_base.specs.Faults.{HasCause};
-ghost use Rattle.replica_core.specs.Transitions.{IsLawful};
-ghost use Rattle.replica_files.specs.Books.{IsBookOf, IsAmid, CallEnds, plan_calls, replica_of};
-ghost use Rattle.replica_files.specs.Settling.{IsSettling, HasRoomToSettle, SettlesFiles};
+ghost use Rattle.replica_calls.specs.LastSums.{IsLastSum};
+ghost use Rattle.replica_calls.specs.Performed.{KeepsAll};
+ghost use Rattle.replica_model.specs.declared.events.ReplicaEvent.TheVariants as ReplicaEvent;
+ghost use Rattle.replica_files.specs.Carried.{Holding, IsToSettle, Settles, IsAmidSettling, CarriesOut};
 
-use crate::book_state::{BookState, note, reserve_entry};
-use crate::faults::BookFault;
-use hd_base::{BlockId, FileError, Files, Receipt};
+use hd_base::{BlockId, FileError, FileName, Files};
 use replica_calls::{FileNames, settle, sum_to};
-use replica_core::{Answer, Event, ReplicaInfo};
-use replica_model::{ReplicaEvent, sum_place};
-use std::alloc::{AllocError, Global};
+use replica_core::ReplicaInfo;
 
-/// How many bytes a sum has.
-const SUM_LEN: u64 = 4;
-
-impl<F: Files> BookState<F> {
-    /// Makes the calls that an event takes that the replica has taken, where it held `before`.
-    fn settle_files(&mut self, before: Option<ReplicaInfo>, buffer: &mut [u8]) -> Result<(), FileError>
-        requires amid { IsSettlingAmid F.Files self.old before }
-        requires room { HasRoomToSettle (F.room self.old.drawer) self.old before (length buffer.old) }
-        ensures { SettlesFiles F.Files self.old self.new before result }
-    {
-        let (Some(held), Some(next)) = (before, self.replica.info()) else {
-            return Ok(());
-        };
-        let block = self.replica.block();
-        let names = FileNames::of(block, &held);
-        let after = FileNames::of(block, &next);
-        let sum = self.sum_after(&names, &held, &next, buffer)?;
-        settle(&mut self.drawer, &names, &after, &held, &next, sum)?;
-        self.last_sum = sum;
-        Ok(())
+/// The sum of the last chunk of what is held next, whose bytes are read where they are cut.
+fn sum_after<F: Files>(
+    drawer: &mut F,
+    block: BlockId,
+    held: &ReplicaInfo,
+    next: &ReplicaInfo,
+    last_sum: u32,
+    buffer: &mut [u8],
+) -> Result<u32, FileError>
+    requires { IsToSettle F.Files drawer.old block held.now next.now last_sum (length buffer.old) }
+    ensures value { IfOk result (λ sum. (bytes : List ℕ)
+        → Holding (F.files drawer.old) block held.now last_sum bytes
+        → IfSome (F.files drawer.old) (λ _. IsLastSum held.now.sums sum (take next.now.written bytes))) }
+    ensures kept { KeepsAll F.Files drawer.old drawer.new }
+    ensures cause { HasCause (F.faults drawer.old) (F.faults drawer.new) result }
+{
+    if next.written == held.written {
+        return Ok(last_sum);
     }
+    let names = FileNames::of(block, held);
+    sum_to(drawer, &names.data, held.sums, next.written, buffer)
+}
+
+/// Makes of the files of what is held those of what is held next, and answers the sum of the last chunk
+/// then.
+fn settle_files<F: Files>(
+    drawer: &mut F,
+    block: BlockId,
+    held: &ReplicaInfo,
+    next: &ReplicaInfo,
+    last_sum: u32,
+    buffer: &mut [u8],
+) -> Result<u32, FileError>
+    requires { IsToSettle F.Files drawer.old block held.now next.now last_sum (length buffer.old) }
+    ensures { (bytes : List ℕ) → Holding (F.files drawer.old) block held.now last_sum bytes
+        → Settles F.Files drawer.old drawer.new block held.now next.now bytes result }
+{
+    let before = FileNames::of(block, held);
+    let after = FileNames::of(block, next);
+    let sum = sum_after(drawer, block, held, next, last_sum, buffer)?;
+    settle(drawer, &before, &after, held, next, sum)?;
+    Ok(sum)
+}
+
+/// Makes the calls of an event that was taken, by what was held before and what is held next.
+pub(crate) fn settle_info<F: Files>(
+    drawer: &mut F,
+    block: BlockId,
+    before: Option<ReplicaInfo>,
+    next: Option<ReplicaInfo>,
+    last_sum: u32,
+    buffer: &mut [u8],
+) -> Result<u32, FileError>
+    requires { IsAmidSettling F.Files drawer.old block before next last_sum (length buffer.old) }
+    ensures { (a : IsAmidSettling F.Files drawer.old block before next last_sum (length buffer.old))
+        → CarriesOut F.Files drawer.old drawer.new block a.r (ReplicaEvent.Other a.e) result }
+{
+    if before == next {
+        return Ok(last_sum);
+    }
+    let (Some(held), Some(next)) = (before, next) else {
+        return Ok(last_sum);
+    };
+    settle_files(drawer, block, &held, &next, last_sum, buffer)
 }

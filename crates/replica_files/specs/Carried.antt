@@ -1,0 +1,73 @@
+-- The calls on the files that an event takes, while its replica has met it and its entry isn't there yet.
+use Rattle.std.specs.Prelude.{ℕ, ◌≡◌, ◌+◌, ◌<◌, ◌≤◌, List, ◌++◌, length, take, Option, IfSome, IfOk, OnOk, OnErr, Result}
+use Rattle.hd_base.specs.Faults.{HasCause}
+use Rattle.hd_base.specs.FileMaps.{FileMap, OnlyOf}
+use Rattle.hd_base.specs.Calls.{Call, MakesCalls, StopsWithin}
+use Rattle.hd_base.specs.declared.numbers.BlockId.{BlockId}
+use Rattle.hd_base.specs.declared.files.Files as files
+use Rattle.hd_base.specs.declared.files.FileError.{FileError}
+use Rattle.hd_base.specs.SumRules.{IsChunkSize}
+use Rattle.block_files.specs.Placements.{files_of}
+use Rattle.block_files.specs.BlockCalls.{calls_of}
+use Rattle.replica_core.specs.declared.info.ReplicaInfo.{ReplicaInfo}
+use Rattle.replica_core.specs.declared.events.Event.{Event}
+use Rattle.replica_model.specs.declared.events.ReplicaEvent.{ReplicaEvent}
+use Rattle.replica_model.specs.declared.events.ReplicaEvent.TheVariants as replica_event
+use Rattle.replica_model.specs.Sums.{sum_place}
+use Rattle.replica_model.specs.Rows.{FullReplica, row}
+use Rattle.replica_model.specs.Plans.{placed_info, when, sync_calls, settle_calls, leaves_temporary}
+use Rattle.replica_calls.specs.CallLists.{names_of}
+use Rattle.replica_calls.specs.LastSums.{IsLastSum}
+use Rattle.replica_files.specs.Events.{IsSettling, IsCutting}
+use Rattle.replica_files.specs.Books.{HasLastSum, IsHeld, Takes, MakesEvent, StopsEvent}
+
+-- The calls of an event were made, and this is the sum of the last chunk then, or one of the calls failed; all files are still of the block.
+pub record CarriesOut {F : Type 0} (f : files.Ghosts F) (old new : F) (block : BlockId) (r : FullReplica) (e : ReplicaEvent) (result : Result ℕ FileError) : Type 0 where
+  pub made : OnOk result (MakesEvent f old new r e)
+  pub stopped : OnErr result (StopsEvent f old new r e)
+  pub cause : HasCause (f.faults old) (f.faults new) result
+  pub only : OnlyOf block.0 (f.files new)
+  pub last : IfOk result (λ sum. IfSome (f.files new) (λ _. HasLastSum sum (row r e)))
+
+-- The files hold this of the block, with these bytes, where they are observable, and the sum is that of the last chunk.
+pub record Holding (files : Option FileMap) (block : BlockId) (h : ReplicaInfo) (sum : ℕ) (bytes : List ℕ) : Type 0 where
+  pub all : length bytes ≡ h.written
+  pub placed : IfSome files (λ m. m ≡ files_of block.0 (placed_info h bytes))
+  pub last : IfSome files (λ _. IsLastSum h.sums sum bytes)
+
+-- There is room for the sum of a last chunk that a cut makes short, and for its bytes in a buffer of this length.
+pub record HasRoomToCut (room : List ℕ → ℕ) (block : BlockId) (h : ReplicaInfo) (buffer : ℕ) : Type 0 where
+  pub sums : sum_place h.sums h.written + 4 < room (names_of block.0 h).meta
+  pub bytes : h.sums.chunk ≤ buffer
+
+-- What is held is to become what is held next: no longer, and with room where it is shorter.
+pub record IsToSettle {F : Type 0} (f : files.Ghosts F) (drawer : F) (block : BlockId) (h k : ReplicaInfo) (sum buffer : ℕ) : Type 0 where
+  pub bytes : List ℕ
+  pub holding : Holding (f.files drawer) block h sum bytes
+  pub size : IsChunkSize h.sums.chunk
+  pub within : k.written ≤ h.written
+  pub room : k.written < h.written → HasRoomToCut (f.room drawer) block h buffer
+
+-- the calls that settle it
+abbrev pub settled_calls : BlockId → ReplicaInfo → ReplicaInfo → List ℕ → List Call
+settled_calls block h k bytes =
+    calls_of block.0 (when (leaves_temporary h k) sync_calls ++ settle_calls h k bytes) (placed_info h bytes)
+
+-- The calls were made, and this is the sum of the last chunk then, or one of them failed.
+pub record Settles {F : Type 0} (f : files.Ghosts F) (old new : F) (block : BlockId) (h k : ReplicaInfo) (bytes : List ℕ) (result : Result ℕ FileError) : Type 0 where
+  pub made : OnOk result (MakesCalls (f.files old) (f.files new) (f.log old) (f.log new) (settled_calls block h k bytes))
+  pub stopped : OnErr result (StopsWithin (f.files old) (f.files new) (f.log old) (f.log new) (settled_calls block h k bytes))
+  pub cause : HasCause (f.faults old) (f.faults new) result
+  pub only : OnlyOf block.0 (f.files old) → OnlyOf block.0 (f.files new)
+  pub last : IfOk result (λ sum. IfSome (f.files old) (λ _. IsLastSum h.sums sum (take k.written bytes)))
+
+-- A replica has taken an event that settles what it held.
+pub record IsAmidSettling {F : Type 0} (f : files.Ghosts F) (drawer : F) (block : BlockId) (before next : Option ReplicaInfo) (sum buffer : ℕ) : Type 0 where
+  pub r : FullReplica
+  pub e : Event
+  pub held : IsHeld f drawer block sum r
+  pub settling : IsSettling e
+  pub takes : Takes r (replica_event.Other e)
+  pub before_is : before ≡ r.known.info
+  pub next_is : next ≡ (row r (replica_event.Other e)).known.info
+  pub room : IsCutting e → IfSome before (λ h. HasRoomToCut (f.room drawer) block h buffer)

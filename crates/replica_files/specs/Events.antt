@@ -1,0 +1,23 @@
+-- Events by what they do to the files.
+use Rattle.replica_core.specs.declared.events.Event.{Event}
+use Rattle.replica_core.specs.declared.events.Event.TheVariants as event
+
+-- an event that is no packet, makes no new replica, and befalls no file
+abbrev pub IsSettling : Event → Type 0
+IsSettling (event.Create conn stamp sums) = ⊥
+IsSettling (event.Temporary conn stamp sums) = ⊥
+IsSettling (event.Packet conn seqno offset bytes sums last sync bad) = ⊥
+IsSettling event.FileFault = ⊥
+IsSettling _ = Unit {0}
+
+-- an event that may cut bytes off
+abbrev pub IsCutting : Event → Type 0
+IsCutting (event.StreamRecovery conn named new low high) = Unit {0}
+IsCutting (event.Update recovery bytes) = Unit {0}
+IsCutting _ = ⊥
+
+-- an event that makes a new replica
+abbrev pub IsMaking : Event → Type 0
+IsMaking (event.Create conn stamp sums) = Unit {0}
+IsMaking (event.Temporary conn stamp sums) = Unit {0}
+IsMaking _ = ⊥
