@@ -171,18 +171,18 @@ settled_from c event.FileFault s is = absurd is
 settled_from c (event.Append conn named new n) s is =
     with_settles _ c (Some conn) (λ h. reopen h named new n) (λ h k _ e.
     let made = reopen_is h k named new n e in
-    makes_settled _ h k state.Rbw new n made.0 (omega (arith, made.1)) (no_less n h.written made.1))
+    makes_settled (event.Append conn named new n) h k state.Rbw new n made.0 (omega (arith, made.1)) (no_less n h.written made.1))
 settled_from c (event.AppendRecovery conn named new n) s is =
     with_settles _ c (Some conn) (λ h. recover_setup h named new n state.Rbw) (λ h k _ e.
     let made = recover_setup_is h k named new n state.Rbw e in
-    makes_settled _ h k state.Rbw new n made.0 (omega (arith, made.1)) (no_less n h.written made.1))
+    makes_settled (event.AppendRecovery conn named new n) h k state.Rbw new n made.0 (omega (arith, made.1)) (no_less n h.written made.1))
 settled_from c (event.StreamRecovery conn named new low high) s is =
     with_settles _ c (Some conn) (λ h. recover_stream h named new low high) (λ h k there e.
-    makes_settled _ h k state.Rbw new h.acked (recover_stream_is h k named new low high e) (info_in c h there s).acked (λ _. tt))
+    makes_settled (event.StreamRecovery conn named new low high) h k state.Rbw new h.acked (recover_stream_is h k named new low high e) (info_in c h there s).acked (λ _. tt))
 settled_from c (event.CloseRecovery named new n) s is =
     with_settles _ c None (λ h. recover_setup h named new n state.Finalized) (λ h k _ e.
     let made = recover_setup_is h k named new n state.Finalized e in
-    makes_settled _ h k state.Finalized new n made.0 (omega (arith, made.1)) (no_less n h.written made.1))
+    makes_settled (event.CloseRecovery named new n) h k state.Finalized new n made.0 (omega (arith, made.1)) (no_less n h.written made.1))
 settled_from c (event.Ack conn seqno good) s is =
     there_settles _ c _ (λ h known.
     if_step (SettlesTo _ c) (stream_by c.stream conn) _ (λ t _.
@@ -197,7 +197,7 @@ settled_from c (event.Init named recovery) s is =
 settled_from c (event.Update recovery n) s is =
     with_settles _ c None (λ h. end_recovery h h.recovery recovery n) (λ h k _ e.
     let made = end_recovery_is h k h.recovery recovery n e in
-    makes_settled _ h k state.Finalized recovery n made.0 made.1 (λ _. tt))
+    makes_settled (event.Update recovery n) h k state.Finalized recovery n made.0 made.1 (λ _. tt))
 settled_from c (event.Read named offset n) s is =
     there_settles _ c _ (λ h known. if_step (SettlesTo _ c) (readable h (visible_of h) named offset n) _ (λ v _. settled_same _ c.is_broken c.info))
 settled_from c (event.Give named offset n) s is =

@@ -1,5 +1,5 @@
 -- The calls on the files that an event takes, while its replica has met it and its entry isn't there yet.
-use Rattle.std.specs.Prelude.{ℕ, ◌≡◌, ◌+◌, ◌<◌, ◌≤◌, List, ◌++◌, length, take, Option, IfSome, IfOk, OnOk, OnErr, Result}
+use Rattle.std.specs.Prelude.{ℕ, ◌≡◌, ◌+◌, ◌<◌, ◌≤◌, Bool, List, ◌++◌, length, take, Option, IfSome, IfOk, OnOk, OnErr, Result}
 use Rattle.hd_base.specs.Faults.{HasCause}
 use Rattle.hd_base.specs.FileMaps.{FileMap, OnlyOf}
 use Rattle.hd_base.specs.Calls.{Call, MakesCalls, StopsWithin}
@@ -62,12 +62,13 @@ pub record Settles {F : Type 0} (f : files.Ghosts F) (old new : F) (block : Bloc
   pub last : IfOk result (λ sum. IfSome (f.files old) (λ _. IsLastSum h.sums sum (take k.written bytes)))
 
 -- A replica has taken an event that settles what it held.
-pub record IsAmidSettling {F : Type 0} (f : files.Ghosts F) (drawer : F) (block : BlockId) (before next : Option ReplicaInfo) (sum buffer : ℕ) : Type 0 where
+pub record IsAmidSettling {F : Type 0} (f : files.Ghosts F) (drawer : F) (block : BlockId) (is_broken : Bool) (before next : Option ReplicaInfo) (sum buffer : ℕ) : Type 0 where
   pub r : FullReplica
   pub e : Event
   pub held : IsHeld f drawer block sum r
   pub settling : IsSettling e
   pub takes : Takes r (replica_event.Other e)
+  pub broken_is : is_broken ≡ r.known.is_broken
   pub before_is : before ≡ r.known.info
   pub next_is : next ≡ (row r (replica_event.Other e)).known.info
   pub room : IsCutting e → IfSome before (λ h. HasRoomToCut (f.room drawer) block h buffer)

@@ -39,40 +39,42 @@ fn sum_after<F: Files>(
 fn settle_files<F: Files>(
     drawer: &mut F,
     block: BlockId,
-    held: &ReplicaInfo,
-    next: &ReplicaInfo,
+    held: ReplicaInfo,
+    next: ReplicaInfo,
     last_sum: u32,
     buffer: &mut [u8],
 ) -> Result<u32, FileError>
-    requires { IsToSettle F.Files drawer.old block held.now next.now last_sum (length buffer.old) }
-    ensures { (bytes : List ℕ) → Holding (F.files drawer.old) block held.now last_sum bytes
-        → Settles F.Files drawer.old drawer.new block held.now next.now bytes result }
+    requires { IsToSettle F.Files drawer.old block held next last_sum (length buffer.old) }
+    ensures { (bytes : List ℕ) → Holding (F.files drawer.old) block held last_sum bytes
+        → Settles F.Files drawer.old drawer.new block held next bytes result }
 {
-    let before = FileNames::of(block, held);
-    let after = FileNames::of(block, next);
-    let sum = sum_after(drawer, block, held, next, last_sum, buffer)?;
-    settle(drawer, &before, &after, held, next, sum)?;
+    let before = FileNames::of(block, &held);
+    let after = FileNames::of(block, &next);
+    let sum = sum_after(drawer, block, &held, &next, last_sum, buffer)?;
+    settle(drawer, &before, &after, &held, &next, sum)?;
     Ok(sum)
 }
 
-/// Makes the calls of an event that was taken, by what was held before and what is held next.
+/// Makes the calls of an event that was taken, by what was held before and what is held next. The files of
+/// a broken replica are left alone.
 pub(crate) fn settle_info<F: Files>(
     drawer: &mut F,
     block: BlockId,
+    is_broken: bool,
     before: Option<ReplicaInfo>,
     next: Option<ReplicaInfo>,
     last_sum: u32,
     buffer: &mut [u8],
 ) -> Result<u32, FileError>
-    requires { IsAmidSettling F.Files drawer.old block before next last_sum (length buffer.old) }
-    ensures { (a : IsAmidSettling F.Files drawer.old block before next last_sum (length buffer.old))
+    requires { IsAmidSettling F.Files drawer.old block is_broken before next last_sum (length buffer.old) }
+    ensures { (a : IsAmidSettling F.Files drawer.old block is_broken before next last_sum (length buffer.old))
         → CarriesOut F.Files drawer.old drawer.new block a.r (ReplicaEvent.Other a.e) result }
 {
-    if before == next {
+    if is_broken {
         return Ok(last_sum);
     }
     let (Some(held), Some(next)) = (before, next) else {
         return Ok(last_sum);
     };
-    settle_files(drawer, block, &held, &next, last_sum, buffer)
+    settle_files(drawer, block, held, next, last_sum, buffer)
 }
