@@ -26,6 +26,7 @@ use Rattle.replica_model.specs.declared.events.ReplicaEvent.TheVariants as repli
 use Rattle.replica_model.specs.Rows.{FullReplica, event_at, row}
 use Rattle.replica_model.specs.Plans.{folder_of, placed_info, placed_under, placement_of, HoldsInfo, Holds, when, sync_calls, cut_calls, move_calls, settle_calls, same_folder, leaves_temporary, taken_calls, outcome_calls, plan}
 use Rattle.replica_calls.specs.LastSums.{IsLastSum}
+use Rattle.replica_files.specs.declared.book_state.Prior.{Prior}
 use Rattle.replica_files.specs.Books.{HasLastSum, AreStrays, event_calls, Takes}
 use Rattle.replica_files.specs.Carried.{Holding, HasRoomToCut, IsToSettle, Settles, IsAmidSettling, CarriesOut, settled_calls}
 use Rattle.replica_files.proofs.ShapeLemmas.{Settled, SettledFrom, settled_from, stays_of}
@@ -44,11 +45,11 @@ taken_plan e c info bytes (Err x) is = absurd (cc)
 pub plan_is : (r : FullReplica) (e : ReplicaEvent) → Takes r e → plan r e ≡ taken_calls e r.known.info (row r e).known.info r.bytes
 plan_is r e takes = taken_plan e r.known r.known.info r.bytes (transition r.known (event_at r e)) takes
 
-pub amid_settled : {F : Type 0} (f : files.Ghosts F) (d : F) (block : BlockId) (b : Bool) (before next : Option ReplicaInfo) (sum buffer : ℕ) (a : IsAmidSettling f d block b before next sum buffer)
-    → SettledFrom a.e b before next
-amid_settled f d block b before next sum buffer a =
+pub amid_settled : {F : Type 0} (f : files.Ghosts F) (d : F) (block : BlockId) (prior : Prior) (next : Option ReplicaInfo) (sum buffer : ℕ) (a : IsAmidSettling f d block prior next sum buffer)
+    → SettledFrom a.e prior.is_broken prior.info next
+amid_settled f d block prior next sum buffer a =
     let c = a.r.known.is_broken in
-    subst (λ t. SettledFrom a.e t before next) (sym a.broken_is)
+    subst (λ t. SettledFrom a.e t prior.info next) (sym a.broken_is)
     (subst (λ o. SettledFrom a.e c o next) (sym a.before_is)
     (subst (λ o. SettledFrom a.e c a.r.known.info o) (sym a.next_is)
     (taken_info (λ o. SettledFrom a.e c a.r.known.info o) a.r.known (transition a.r.known a.e) a.takes (settled_from a.r.known a.e a.held.full.sound a.settling))))
@@ -80,12 +81,12 @@ no_strays files e b None None s = refl
 no_strays files e b None (Some k) s = absurd s
 no_strays files e b (Some h) q s = refl
 
-amid_strays : {F : Type 0} (f : files.Ghosts F) (d : F) (block : BlockId) (b : Bool) (before next : Option ReplicaInfo) (sum buffer : ℕ) (a : IsAmidSettling f d block b before next sum buffer)
+amid_strays : {F : Type 0} (f : files.Ghosts F) (d : F) (block : BlockId) (prior : Prior) (next : Option ReplicaInfo) (sum buffer : ℕ) (a : IsAmidSettling f d block prior next sum buffer)
     → AreStrays (f.files d) a.r.known.info (row a.r (replica_event.Other a.e)).known.info []
-amid_strays f d block b before next sum buffer a =
+amid_strays f d block prior next sum buffer a =
     subst (λ o. AreStrays (f.files d) o (row a.r (replica_event.Other a.e)).known.info []) a.before_is
-    (subst (λ o. AreStrays (f.files d) before o []) a.next_is
-    (no_strays (f.files d) a.e b before next (amid_settled f d block b before next sum buffer a)))
+    (subst (λ o. AreStrays (f.files d) prior.info o []) a.next_is
+    (no_strays (f.files d) a.e prior.is_broken prior.info next (amid_settled f d block prior next sum buffer a)))
 
 -- ---- where it holds what it held
 
@@ -140,9 +141,9 @@ if_some : {P Q : Type 0} (o : Option FileMap) → (P → Q) → IfSome o (λ _. 
 if_some None onward p = tt
 if_some (Some m) onward p = onward p
 
-pub still_carries : {F : Type 0} (f : files.Ghosts F) (d : F) (block : BlockId) (b : Bool) (before next : Option ReplicaInfo) (sum buffer : ℕ) (a : IsAmidSettling f d block b before next sum buffer) → before ≡ next
+pub still_carries : {F : Type 0} (f : files.Ghosts F) (d : F) (block : BlockId) (prior : Prior) (next : Option ReplicaInfo) (sum buffer : ℕ) (a : IsAmidSettling f d block prior next sum buffer) → prior.info ≡ next
     → CarriesOut f d d block a.r (replica_event.Other a.e) (Ok sum)
-still_carries f d block b before next sum buffer a same =
+still_carries f d block prior next sum buffer a same =
     let r = a.r in
     let e = replica_event.Other a.e in
     let still : r.known.info ≡ (row r e).known.info = sym a.before_is ∙ (same ∙ a.next_is) in
@@ -151,7 +152,7 @@ still_carries f d block b before next sum buffer a same =
     record {
       made = record {
         strays = [];
-        are = amid_strays f d block b before next sum buffer a;
+        are = amid_strays f d block prior next sum buffer a;
         made = subst (MakesCalls (f.files d) (f.files d) (f.log d) (f.log d)) (sym (ap (λ p. calls_of r.known.block.0 p (placement_of r)) none)) (MakesCalls-none (f.files d) (f.log d));
       };
       stopped = tt;
@@ -163,9 +164,9 @@ still_carries f d block b before next sum buffer a same =
 -- ---- where what it held becomes another
 
 -- the files hold what it held
-pub amid_holding : {F : Type 0} (f : files.Ghosts F) (d : F) (block : BlockId) (b : Bool) (before next : Option ReplicaInfo) (sum buffer : ℕ) (a : IsAmidSettling f d block b before next sum buffer) (h : ReplicaInfo)
-    → before ≡ Some h → b ≡ false → Holding (f.files d) block h sum a.r.bytes
-amid_holding f d block b before next sum buffer a h is whole =
+pub amid_holding : {F : Type 0} (f : files.Ghosts F) (d : F) (block : BlockId) (prior : Prior) (next : Option ReplicaInfo) (sum buffer : ℕ) (a : IsAmidSettling f d block prior next sum buffer) (h : ReplicaInfo)
+    → prior.info ≡ Some h → prior.is_broken ≡ false → Holding (f.files d) block h sum a.r.bytes
+amid_holding f d block prior next sum buffer a h is whole =
     let r = a.r in
     let info : r.known.info ≡ Some h = sym a.before_is ∙ is in
     record {
@@ -176,13 +177,13 @@ amid_holding f d block b before next sum buffer a h is whole =
       last = if_some (f.files d) (λ has. subst (λ (o : Option ReplicaInfo). IfSome o (λ h. IsLastSum h.sums sum r.bytes)) info (has (sym a.broken_is ∙ whole))) a.held.last;
     }
 
-pub amid_to_settle : {F : Type 0} (f : files.Ghosts F) (d : F) (block : BlockId) (b : Bool) (before next : Option ReplicaInfo) (sum buffer : ℕ) (a : IsAmidSettling f d block b before next sum buffer) (h k : ReplicaInfo)
-    → before ≡ Some h → next ≡ Some k → b ≡ false → IsToSettle f d block h k sum buffer
-amid_to_settle f d block b before next sum buffer a h k is_before is_next whole =
-    let settled = settled_some a.e b before next h k is_before is_next (amid_settled f d block b before next sum buffer a) in
+pub amid_to_settle : {F : Type 0} (f : files.Ghosts F) (d : F) (block : BlockId) (prior : Prior) (next : Option ReplicaInfo) (sum buffer : ℕ) (a : IsAmidSettling f d block prior next sum buffer) (h k : ReplicaInfo)
+    → prior.info ≡ Some h → next ≡ Some k → prior.is_broken ≡ false → IsToSettle f d block h k sum buffer
+amid_to_settle f d block prior next sum buffer a h k is_before is_next whole =
+    let settled = settled_some a.e prior.is_broken prior.info next h k is_before is_next (amid_settled f d block prior next sum buffer a) in
     record {
       bytes = a.r.bytes;
-      holding = amid_holding f d block b before next sum buffer a h is_before whole;
+      holding = amid_holding f d block prior next sum buffer a h is_before whole;
       size = subst (λ (o : Option ReplicaInfo). IfSome o (λ h. IsChunkSize h.sums.chunk)) (sym a.before_is ∙ is_before) a.held.full.rule;
       within = settled.within;
       room = λ less. subst (λ (o : Option ReplicaInfo). IfSome o (λ h. HasRoomToCut (f.room d) block h buffer)) is_before (a.room (settled.cut less));
@@ -193,9 +194,9 @@ if_mapped P None b g e p = subst (λ (o : Option FileMap). IfSome o (λ _. P)) (
 if_mapped P (Some m) b g e p = subst (λ (o : Option FileMap). IfSome o (λ _. P)) (sym e) p
 
 -- the calls of the event
-amid_calls : {F : Type 0} (f : files.Ghosts F) (d : F) (block : BlockId) (b : Bool) (before next : Option ReplicaInfo) (sum buffer : ℕ) (a : IsAmidSettling f d block b before next sum buffer) (h k : ReplicaInfo)
-    → before ≡ Some h → next ≡ Some k → event_calls a.r (replica_event.Other a.e) [] ≡ settled_calls block h k a.r.bytes
-amid_calls f d block b before next sum buffer a h k is_before is_next =
+amid_calls : {F : Type 0} (f : files.Ghosts F) (d : F) (block : BlockId) (prior : Prior) (next : Option ReplicaInfo) (sum buffer : ℕ) (a : IsAmidSettling f d block prior next sum buffer) (h k : ReplicaInfo)
+    → prior.info ≡ Some h → next ≡ Some k → event_calls a.r (replica_event.Other a.e) [] ≡ settled_calls block h k a.r.bytes
+amid_calls f d block prior next sum buffer a h k is_before is_next =
     let r = a.r in
     let e = replica_event.Other a.e in
     let info : r.known.info ≡ Some h = sym a.before_is ∙ is_before in
@@ -209,15 +210,15 @@ last_after r e h k sum after rule last = λ whole.
     subst (λ (o : Option ReplicaInfo). IfSome o (λ x. IsLastSum x.sums sum (row r (replica_event.Other e)).bytes)) (sym after)
     (subst (λ (x : List ℕ). IsLastSum k.sums sum x) (sym (bytes_after r e (Some k) after)) (subst (λ x. IsLastSum x sum (take k.written r.bytes)) (sym rule) last))
 
-pub amid_carries : {F : Type 0} (f : files.Ghosts F) (d new : F) (block : BlockId) (b : Bool) (before next : Option ReplicaInfo) (sum buffer : ℕ) (a : IsAmidSettling f d block b before next sum buffer) (h k : ReplicaInfo) (result : Result ℕ FileError)
-    → before ≡ Some h → next ≡ Some k → Settles f d new block h k a.r.bytes result → CarriesOut f d new block a.r (replica_event.Other a.e) result
-amid_carries f d new block b before next sum buffer a h k (Ok s) is_before is_next settles =
-    let calls = sym (amid_calls f d block b before next sum buffer a h k is_before is_next) in
-    let settled = settled_some a.e b before next h k is_before is_next (amid_settled f d block b before next sum buffer a) in
+pub amid_carries : {F : Type 0} (f : files.Ghosts F) (d new : F) (block : BlockId) (prior : Prior) (next : Option ReplicaInfo) (sum buffer : ℕ) (a : IsAmidSettling f d block prior next sum buffer) (h k : ReplicaInfo) (result : Result ℕ FileError)
+    → prior.info ≡ Some h → next ≡ Some k → Settles f d new block h k a.r.bytes result → CarriesOut f d new block a.r (replica_event.Other a.e) result
+amid_carries f d new block prior next sum buffer a h k (Ok s) is_before is_next settles =
+    let calls = sym (amid_calls f d block prior next sum buffer a h k is_before is_next) in
+    let settled = settled_some a.e prior.is_broken prior.info next h k is_before is_next (amid_settled f d block prior next sum buffer a) in
     record {
       made = record {
         strays = [];
-        are = amid_strays f d block b before next sum buffer a;
+        are = amid_strays f d block prior next sum buffer a;
         made = subst (MakesCalls (f.files d) (f.files new) (f.log d) (f.log new)) calls settles.made;
       };
       stopped = tt;
@@ -226,13 +227,13 @@ amid_carries f d new block b before next sum buffer a h k (Ok s) is_before is_ne
       last = if_mapped (HasLastSum s (row a.r (replica_event.Other a.e))) (f.files d) (f.files new) (run (settled_calls block h k a.r.bytes)) settles.made.files
           (if_some (f.files d) (last_after a.r a.e h k s (sym a.next_is ∙ is_next) settled.same_rule) settles.last);
     }
-amid_carries f d new block b before next sum buffer a h k (Err x) is_before is_next settles =
+amid_carries f d new block prior next sum buffer a h k (Err x) is_before is_next settles =
     record {
       made = tt;
       stopped = record {
         strays = [];
-        are = amid_strays f d block b before next sum buffer a;
-        stopped = subst (StopsWithin (f.files d) (f.files new) (f.log d) (f.log new)) (sym (amid_calls f d block b before next sum buffer a h k is_before is_next)) settles.stopped;
+        are = amid_strays f d block prior next sum buffer a;
+        stopped = subst (StopsWithin (f.files d) (f.files new) (f.log d) (f.log new)) (sym (amid_calls f d block prior next sum buffer a h k is_before is_next)) settles.stopped;
       };
       cause = settles.cause;
       only = settles.only a.held.only;

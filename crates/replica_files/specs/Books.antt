@@ -28,6 +28,7 @@ HasLastSum sum r = r.known.is_broken ≡ false → IfSome r.known.info (λ h. Is
 
 -- The replica is of this block, and the files hold it; where they are observable, all are of its block, and the kept sum is that of its last chunk.
 pub record IsHeld {F : Type 0} (f : files.Ghosts F) (drawer : F) (block : BlockId) (sum : ℕ) (r : FullReplica) : Type 0 where
+  pub fits : block.0 < 2 ^ 64
   pub of_block : r.known.block ≡ block
   pub full : IsFull r
   pub are_bytes : IsBytes r.bytes

@@ -18,6 +18,7 @@ use Rattle.replica_model.specs.Rows.{FullReplica, row}
 use Rattle.replica_model.specs.Plans.{placed_info, when, sync_calls, settle_calls, leaves_temporary}
 use Rattle.replica_calls.specs.CallLists.{names_of}
 use Rattle.replica_calls.specs.LastSums.{IsLastSum}
+use Rattle.replica_files.specs.declared.book_state.Prior.{Prior}
 use Rattle.replica_files.specs.Events.{IsSettling, IsCutting}
 use Rattle.replica_files.specs.Books.{HasLastSum, IsHeld, Takes, MakesEvent, StopsEvent}
 
@@ -39,6 +40,10 @@ pub record Holding (files : Option FileMap) (block : BlockId) (h : ReplicaInfo) 
 pub record HasRoomToCut (room : List ℕ → ℕ) (block : BlockId) (h : ReplicaInfo) (buffer : ℕ) : Type 0 where
   pub sums : sum_place h.sums h.written + 4 < room (names_of block.0 h).meta
   pub bytes : h.sums.chunk ≤ buffer
+
+-- Where an event may cut bytes off, there is room for that.
+abbrev pub HasRoomFor : (List ℕ → ℕ) → BlockId → Event → Option ReplicaInfo → ℕ → Type 0
+HasRoomFor room block e info buffer = IsCutting e → IfSome info (λ h. HasRoomToCut room block h buffer)
 
 -- What is held is to become what is held next: no longer, and with room where it is shorter.
 pub record IsToSettle {F : Type 0} (f : files.Ghosts F) (drawer : F) (block : BlockId) (h k : ReplicaInfo) (sum buffer : ℕ) : Type 0 where
@@ -62,13 +67,13 @@ pub record Settles {F : Type 0} (f : files.Ghosts F) (old new : F) (block : Bloc
   pub last : IfOk result (λ sum. IfSome (f.files old) (λ _. IsLastSum h.sums sum (take k.written bytes)))
 
 -- A replica has taken an event that settles what it held.
-pub record IsAmidSettling {F : Type 0} (f : files.Ghosts F) (drawer : F) (block : BlockId) (is_broken : Bool) (before next : Option ReplicaInfo) (sum buffer : ℕ) : Type 0 where
+pub record IsAmidSettling {F : Type 0} (f : files.Ghosts F) (drawer : F) (block : BlockId) (prior : Prior) (next : Option ReplicaInfo) (sum buffer : ℕ) : Type 0 where
   pub r : FullReplica
   pub e : Event
   pub held : IsHeld f drawer block sum r
   pub settling : IsSettling e
   pub takes : Takes r (replica_event.Other e)
-  pub broken_is : is_broken ≡ r.known.is_broken
-  pub before_is : before ≡ r.known.info
+  pub broken_is : prior.is_broken ≡ r.known.is_broken
+  pub before_is : prior.info ≡ r.known.info
   pub next_is : next ≡ (row r (replica_event.Other e)).known.info
-  pub room : IsCutting e → IfSome before (λ h. HasRoomToCut (f.room drawer) block h buffer)
+  pub room : HasRoomFor (f.room drawer) block e prior.info buffer

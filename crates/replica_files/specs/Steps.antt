@@ -1,19 +1,23 @@
 -- What stands between the parts of a book's calls.
-use Rattle.std.specs.Prelude.{ℕ, ◌≡◌, ◌<◌, length, true, false, Option, Some, None, Result, Ok, Err, IfOk, OnErr, IsErr}
+use Rattle.std.specs.Prelude.{ℕ, ◌≡◌, ◌<◌, length, Bool, true, false, Option, Some, None, Result, Ok, Err, IfOk, OnErr, IsErr}
 use Rattle.hd_base.specs.declared.numbers.Receipt.{Receipt}
 use Rattle.hd_base.specs.declared.files.Files as files
 use Rattle.hd_base.specs.declared.files.FileError.{FileError}
 use Rattle.replica_core.specs.declared.info.ReplicaInfo.{ReplicaInfo}
 use Rattle.replica_core.specs.declared.events.Answer.{Answer}
 use Rattle.replica_core.specs.declared.records.ReplicaRecord.{ReplicaRecord}
-use Rattle.replica_core.specs.Transitions.{IsLawful}
+use Rattle.replica_core.specs.declared.refusals.Refusal.{Refusal}
+use Rattle.replica_core.specs.Transitions.{reply, transition, IsLawful}
 use Rattle.replica_core.specs.declared.ack_queue.TheConstants.{MAX_PENDING}
 use Rattle.replica_model.specs.declared.events.ReplicaEvent.{ReplicaEvent}
 use Rattle.replica_model.specs.declared.events.ReplicaEvent.TheVariants as replica_event
 use Rattle.replica_model.specs.Rows.{FullReplica, IsWithBytes, event_at, row, row_answer, broken}
-use Rattle.replica_files.specs.Entries.{IsSame}
+use Rattle.replica_core.specs.declared.events.Event.{Event}
+use Rattle.replica_files.specs.Events.{IsSettling}
+use Rattle.replica_files.specs.Carried.{HasRoomFor}
 use Rattle.replica_files.specs.Books.{replica_of, IsHeld, Takes}
 use Rattle.replica_files.specs.declared.book_state.BookState.{BookState}
+use Rattle.replica_files.specs.declared.book_state.Prior.{Prior}
 
 -- The numbers of an event that isn't a packet fit.
 abbrev pub IsLawfulEvent : ReplicaEvent → Type 0
@@ -44,11 +48,11 @@ pub record KeepsBook {F : Type 0} (old new : BookState F) : Type 0 where
   pub last_sum : new.last_sum ≡ old.last_sum
   pub history : new.history ≡ old.history
 
--- The replica has met an event that has no entry yet.
-pub record IsStepped {F : Type 0} (old new : BookState F) (e : ReplicaEvent) (answer : Answer) : Type 0 where
+-- The replica has met an event that has no entry yet, and this is its answer.
+pub record IsStepped {F : Type 0} (old new : BookState F) (e : ReplicaEvent) (result : Result Answer Refusal) : Type 0 where
   pub kept : KeepsBook old new
   pub known : new.replica ≡ (row (replica_of old) e).known
-  pub answered : answer ≡ row_answer (replica_of old) e
+  pub answered : result ≡ reply (transition (replica_of old).known (event_at (replica_of old) e))
 
 -- An event that was taken has no entry yet; its calls on the files were made, with the sum of the last chunk then, or one of them failed. `before` is what was held before the event.
 pub record IsToNote {F : Type 0} (f : files.Ghosts F) (s : BookState F) (e : ReplicaEvent) (before : Option ReplicaInfo) (made : Result ℕ FileError) : Type 0 where
@@ -57,3 +61,16 @@ pub record IsToNote {F : Type 0} (f : files.Ghosts F) (s : BookState F) (e : Rep
   pub before_is : before ≡ (replica_of s).known.info
   pub done : IfOk made (λ sum. IsHeld f s.drawer s.block sum (row (replica_of s) e))
   pub failed : IsErr made → IsHeld f s.drawer s.block s.last_sum (broken (replica_of s))
+
+-- The replica has taken an event that settles what it held, and no call on the files is made yet.
+pub record IsAmid {F : Type 0} (f : files.Ghosts F) (s : BookState F) (e : ReplicaEvent) (prior : Prior) (answer : Answer) (buffer : ℕ) : Type 0 where
+  pub settled : Event
+  pub is : e ≡ replica_event.Other settled
+  pub settling : IsSettling settled
+  pub takes : Takes (replica_of s) e
+  pub answered : answer ≡ row_answer (replica_of s) e
+  pub known : s.replica ≡ (row (replica_of s) e).known
+  pub broken_is : prior.is_broken ≡ (replica_of s).known.is_broken
+  pub before_is : prior.info ≡ (replica_of s).known.info
+  pub held : IsHeld f s.drawer s.block s.last_sum (replica_of s)
+  pub room : HasRoomFor (f.room s.drawer) s.block settled prior.info buffer

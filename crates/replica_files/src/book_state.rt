@@ -33,6 +33,15 @@ pub struct Taken {
     pub receipt: Receipt,
 }
 
+/// What a replica was before an event.
+#[derive(Clone, Copy)]
+pub(crate) struct Prior {
+    /// Whether it was broken.
+    pub is_broken: bool,
+    /// What it held.
+    pub info: Option<ReplicaInfo>,
+}
+
 /// Makes room for one more entry.
 pub(crate) fn reserve_entry(history: &mut History) -> Result<(), AllocError>
     ensures spare { OnOk result (HasSpare history.new) }
@@ -79,13 +88,16 @@ impl<F: Files> BookState<F> {
     }
 
     /// Gives the replica an event, which has no entry yet.
-    pub(crate) fn step(&mut self, event: &ReplicaEvent) -> Answer
+    pub(crate) fn step(&mut self, event: &ReplicaEvent) -> Result<Answer, Refusal>
         requires book { IsBookOf F.Files self.old }
         requires fit { IsFit self.old.replica event.now }
         ensures { IsStepped self.old self.new event.now result }
     {
         let event = core_event(self.replica.rule(), event);
-        self.replica.step(&event)
+        match self.replica.step(&event) {
+            Answer::Refused(refusal) => Err(refusal),
+            answer => Ok(answer),
+        }
     }
 
     /// Adds the entry of an event that was refused.
@@ -100,18 +112,18 @@ impl<F: Files> BookState<F> {
     }
 
     /// Adds the entry of an event that was taken and whose calls on the files were made, or one of them failed,
-    /// which breaks the replica. `before` is what was held before the event.
+    /// which breaks the replica.
     pub(crate) fn finish(
         &mut self,
         event: ReplicaEvent,
-        before: Option<ReplicaInfo>,
+        prior: &Prior,
         answer: Answer,
         made: Result<u32, FileError>,
     ) -> Result<Taken, BookFault>
         requires spare { HasSpare self.old.history }
-        requires consistent { IfSome before IsConsistent }
+        requires consistent { IfSome prior.now.info IsConsistent }
         requires fit { IsWithBytes event }
-        requires to_note { IsToNote F.Files self.old event before made }
+        requires to_note { IsToNote F.Files self.old event prior.now.info made }
         ensures book { IsBookOf F.Files self.new }
         ensures drawer { self.new.drawer ≡ self.old.drawer }
         ensures finishes { Finishes self.old self.new event answer made result }
@@ -123,9 +135,21 @@ impl<F: Files> BookState<F> {
                 Ok(Taken { answer, receipt })
             }
             Err(_) => {
-                self.replica.break_from(before);
+                self.replica.break_from(prior.info);
                 Err(BookFault::File(self.note(event, true)))
             }
+        }
+    }
+
+    /// What the replica is before an event.
+    pub(crate) fn prior(&self) -> Prior
+        ensures broken { result.is_broken ≡ self.now.replica.is_broken }
+        ensures info { result.info ≡ self.now.replica.info }
+        ensures consistent { IfSome result.info IsConsistent }
+    {
+        Prior {
+            is_broken: self.replica.is_broken(),
+            info: self.replica.info(),
         }
     }
 }

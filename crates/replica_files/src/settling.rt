@@ -4,12 +4,21 @@ ghost use Rattle.std.specs.Prelude.{◌≡◌, ℕ, ◌≤◌, List, length, tak
 ghost use Rattle.hd_base.specs.Faults.{HasCause};
 ghost use Rattle.replica_calls.specs.LastSums.{IsLastSum};
 ghost use Rattle.replica_calls.specs.Performed.{KeepsAll};
-ghost use Rattle.replica_model.specs.declared.events.ReplicaEvent.TheVariants as ReplicaEvent;
-ghost use Rattle.replica_files.specs.Carried.{Holding, IsToSettle, Settles, IsAmidSettling, CarriesOut};
+ghost use Rattle.replica_core.specs.Transitions.{IsLawful};
+ghost use Rattle.replica_core.specs.Sound.{IsConsistent};
+ghost use Rattle.replica_files.specs.Entries.{HasSpare};
+ghost use Rattle.replica_files.specs.Events.{IsSettling};
+ghost use Rattle.replica_files.specs.Books.{IsBookOf};
+ghost use Rattle.replica_files.specs.Steps.{IsAmid};
+ghost use Rattle.replica_files.specs.Endings.{CallEnds};
+ghost use Rattle.replica_files.specs.Carried.{HasRoomFor, Holding, IsToSettle, Settles, IsAmidSettling, CarriesOut};
 
+use crate::book_state::{BookState, Prior, Taken};
+use crate::faults::BookFault;
 use hd_base::{BlockId, FileError, FileName, Files};
 use replica_calls::{FileNames, settle, sum_to};
-use replica_core::ReplicaInfo;
+use replica_core::{Answer, Event, ReplicaInfo};
+use replica_model::ReplicaEvent;
 
 /// The sum of the last chunk of what is held next, whose bytes are read where they are cut.
 fn sum_after<F: Files>(
@@ -60,21 +69,68 @@ fn settle_files<F: Files>(
 pub(crate) fn settle_info<F: Files>(
     drawer: &mut F,
     block: BlockId,
-    is_broken: bool,
-    before: Option<ReplicaInfo>,
+    prior: &Prior,
     next: Option<ReplicaInfo>,
     last_sum: u32,
     buffer: &mut [u8],
 ) -> Result<u32, FileError>
-    requires { IsAmidSettling F.Files drawer.old block is_broken before next last_sum (length buffer.old) }
-    ensures { (a : IsAmidSettling F.Files drawer.old block is_broken before next last_sum (length buffer.old))
+    requires { IsAmidSettling F.Files drawer.old block prior.now next last_sum (length buffer.old) }
+    ensures { (a : IsAmidSettling F.Files drawer.old block prior.now next last_sum (length buffer.old))
         → CarriesOut F.Files drawer.old drawer.new block a.r (ReplicaEvent.Other a.e) result }
 {
-    if is_broken {
+    if prior.is_broken {
         return Ok(last_sum);
     }
-    let (Some(held), Some(next)) = (before, next) else {
+    let (Some(held), Some(next)) = (prior.info, next) else {
         return Ok(last_sum);
     };
     settle_files(drawer, block, held, next, last_sum, buffer)
+}
+
+impl<F: Files> BookState<F> {
+    /// Takes an event that is no packet and makes no new replica. `buffer` is for the bytes of a last chunk
+    /// that is cut.
+    pub(crate) fn settle(&mut self, event: Event, buffer: &mut [u8]) -> Result<Taken, BookFault>
+        requires book { IsBookOf F.Files self.old }
+        requires spare { HasSpare self.old.history }
+        requires settling { IsSettling event }
+        requires lawful { IsLawful event }
+        requires room { HasRoomFor (F.room self.old.drawer) self.old.block event self.old.replica.info (length buffer.old) }
+        ensures book { IsBookOf F.Files self.new }
+        ensures ends { CallEnds F.Files self.old self.new (ReplicaEvent.Other event) result }
+    {
+        let prior = self.prior();
+        let event = ReplicaEvent::Other(event);
+        match self.step(&event) {
+            Err(refusal) => Err(self.refuse(event, refusal)),
+            Ok(answer) => self.settle_taken(event, &prior, answer, buffer),
+        }
+    }
+
+    /// Makes the calls of an event that was taken, and adds its entry.
+    fn settle_taken(
+        &mut self,
+        event: ReplicaEvent,
+        prior: &Prior,
+        answer: Answer,
+        buffer: &mut [u8],
+    ) -> Result<Taken, BookFault>
+        requires spare { HasSpare self.old.history }
+        requires consistent { IfSome prior.now.info IsConsistent }
+        requires amid { IsAmid F.Files self.old event prior.now answer (length buffer.old) }
+        ensures book { IsBookOf F.Files self.new }
+        ensures ends { CallEnds F.Files self.old self.new event result }
+    {
+        let block = self.block;
+        let next = self.replica.info();
+        let made = settle_info(
+            &mut self.drawer,
+            block,
+            prior,
+            next,
+            self.last_sum,
+            buffer,
+        );
+        self.finish(event, prior, answer, made)
+    }
 }

@@ -25,5 +25,5 @@ returns-in-Err-clause-book g c =
     let held = c.requires.to_note.failed (rw c.in-Err.is refl) in
     book_as g.F.Files new s.drawer s.block s.last_sum (broken r) kept.drawer n.block kept.last_sum
     (noted _ new c.args.event true c.note.result n)
-    (kept.replica ∙ c.break_from.ensures ∙ breaks_so s.replica r.known c.args.before (c.requires.to_note.of_block ∙ sym held.of_block ∙ broken_block r) c.requires.to_note.before_is)
+    (kept.replica ∙ c.break_from.ensures ∙ breaks_so s.replica r.known c.args.prior.now.info (c.requires.to_note.of_block ∙ sym held.of_block ∙ broken_block r) c.requires.to_note.before_is)
     held
