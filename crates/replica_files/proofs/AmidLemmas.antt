@@ -27,7 +27,7 @@ use Rattle.replica_model.specs.Rows.{FullReplica, event_at, row}
 use Rattle.replica_model.specs.Plans.{folder_of, placed_info, placed_under, placement_of, HoldsInfo, Holds, when, sync_calls, cut_calls, move_calls, settle_calls, same_folder, leaves_temporary, taken_calls, outcome_calls, plan}
 use Rattle.replica_calls.specs.LastSums.{IsLastSum}
 use Rattle.replica_files.specs.declared.book_state.Prior.{Prior}
-use Rattle.replica_files.specs.Books.{HasLastSum, AreStrays, event_calls, Takes}
+use Rattle.replica_files.specs.Books.{HasLastSum, AreStrays, event_calls, Takes, amid}
 use Rattle.replica_files.specs.Carried.{Holding, HasRoomToCut, IsToSettle, Settles, IsAmidSettling, CarriesOut, settled_calls}
 use Rattle.replica_files.proofs.ShapeLemmas.{Settled, SettledFrom, settled_from, stays_of}
 
@@ -230,11 +230,8 @@ amid_carries f d new block prior next sum buffer a h k (Ok s) is_before is_next 
 amid_carries f d new block prior next sum buffer a h k (Err x) is_before is_next settles =
     record {
       made = tt;
-      stopped = record {
-        strays = [];
-        are = amid_strays f d block prior next sum buffer a;
-        stopped = subst (StopsWithin (f.files d) (f.files new) (f.log d) (f.log new)) (sym (amid_calls f d block prior next sum buffer a h k is_before is_next)) settles.stopped;
-      };
+      stopped = amid [] (amid_strays f d block prior next sum buffer a)
+          (subst (StopsWithin (f.files d) (f.files new) (f.log d) (f.log new)) (sym (amid_calls f d block prior next sum buffer a h k is_before is_next)) settles.stopped);
       cause = settles.cause;
       only = settles.only a.held.only;
       last = tt;

@@ -4,7 +4,7 @@ use Rattle.std.specs.Result.{IfOk}
 use Rattle.hd_base.specs.Bytes.{IsBytes}
 use Rattle.hd_base.proofs.ByteLaws.{IsBytes-behind, IsBytes-cons, IsBytes-take}
 use Rattle.hd_base.specs.FileMaps.{FileMap, OnlyOf, no_files, AreNamesOf}
-use Rattle.hd_base.specs.Calls.{Call, run, effect_of, MakesCalls}
+use Rattle.hd_base.specs.Calls.{Call, run, logged, stopped, effect_of, MakesCalls, IsUnchanged}
 use Rattle.hd_base.specs.declared.numbers.BlockId.{BlockId}
 use Rattle.hd_base.specs.declared.numbers.Receipt.{Receipt}
 use Rattle.hd_base.specs.declared.files.Files as files
@@ -24,7 +24,10 @@ use Rattle.replica_model.specs.declared.events.ReplicaEvent.TheVariants as repli
 use Rattle.replica_model.specs.Rows.{FullReplica, IsFull, IsOther, IsWithBytes, event_at, brought, row, row_answer, broken}
 use Rattle.replica_model.specs.Plans.{placed_info, placed_under, placement_of, HoldsInfo, Holds, plan}
 use Rattle.replica_model.proofs.RowLemmas.{rows_keep_bytes, plans_find_files, plans_follow_rows}
+use Rattle.replica_model.specs.declared.histories.History.{History}
+use Rattle.replica_model.specs.Histories.{begun, replay, replayed}
 use Rattle.replica_calls.specs.CallLists.{remove_list}
+use Rattle.replica_calls.specs.Performed.{KeepsAll}
 use Rattle.replica_calls.proofs.RemovalLemmas.{strays_are_removed}
 use Rattle.replica_files.specs.declared.book_state.BookState.{BookState}
 use Rattle.replica_files.specs.declared.book_state.Taken.{Taken}
@@ -32,13 +35,13 @@ use Rattle.replica_files.specs.declared.book_state.Prior.{Prior}
 use Rattle.replica_files.specs.declared.faults.BookFault.{BookFault}
 use Rattle.replica_files.specs.declared.faults.BookFault.TheVariants as fault
 use Rattle.hd_base.specs.Faults.{FaultsIncreased}
-use Rattle.replica_files.specs.Entries.{HasEntry}
+use Rattle.replica_files.specs.Entries.{IsSame, HasEntry}
 use Rattle.replica_files.specs.Events.{IsSettling}
-use Rattle.replica_files.specs.Books.{replica_of, HasLastSum, IsHeld, Takes, AreStrays, event_calls, MakesEvent, StopsEvent}
+use Rattle.replica_files.specs.Books.{replica_of, HasLastSum, IsHeld, Takes, AreStrays, event_calls, IsBookOf, MakesEvent, StopsEvent, before_all, amid}
 use Rattle.replica_files.specs.Carried.{CarriesOut, IsAmidSettling}
-use Rattle.replica_files.specs.Steps.{IsToNote, IsAmid}
-use Rattle.replica_files.specs.Endings.{Notes, EndsTaken, EndsFailed, CallEnds, Finishes}
-use Rattle.replica_files.proofs.BookLemmas.{broken_block}
+use Rattle.replica_files.specs.Steps.{IsToNote, IsAmid, IsPrepared, KeepsBook}
+use Rattle.replica_files.specs.Endings.{Notes, EndsTaken, EndsFailed, CallEnds, TakenEnds, Finishes, Fails}
+use Rattle.replica_files.proofs.BookLemmas.{broken_block, book_as}
 use Rattle.replica_files.proofs.ShapeLemmas.{stays_of}
 
 -- ---- the files after an event
@@ -171,7 +174,7 @@ notes_from old mid new e failed receipt block history n =
 
 pub call_ends : {F : Type 0} (f : files.Ghosts F) (old mid new : BookState F) (e : ReplicaEvent) (answer : Answer) (made : Result ℕ FileError) (result : Result Taken BookFault)
     → Takes (replica_of old) e → answer ≡ row_answer (replica_of old) e → mid.block ≡ old.block → mid.history ≡ old.history → new.drawer ≡ mid.drawer
-    → CarriesOut f old.drawer mid.drawer old.block (replica_of old) e made → Finishes mid new e answer made result → CallEnds f old new e result
+    → CarriesOut f old.drawer mid.drawer old.block (replica_of old) e made → Finishes mid new e answer made result → TakenEnds f old new e result
 call_ends f old mid new e answer (Ok sum) (Ok taken) takes answered block history drawer carried fin =
     record {
       takes = takes;
@@ -236,3 +239,150 @@ amid_with_bytes f s e prior answer buffer a = subst IsWithBytes (sym a.is) (sett
 
 pub amid_brings : {F : Type 0} (f : files.Ghosts F) (s : BookState F) (e : ReplicaEvent) (prior : Prior) (answer : Answer) (buffer n : ℕ) → IsAmid f s e prior answer buffer → IsBytes (brought n e)
 amid_brings f s e prior answer buffer n a = subst (λ x. IsBytes (brought n x)) (sym a.is) (λ i. omega arith)
+
+-- ---- a book for which memory was taken
+
+replica_same : {F : Type 0} (f : files.Ghosts F) (old mid : BookState F) → IsPrepared f old mid → replica_of mid ≡ replica_of old
+replica_same f old mid p =
+    ap (λ b. replay (begun b mid.history.start) mid.history.entries.items) p.block
+    ∙ (ap (λ s. replay (begun old.block s) mid.history.entries.items) p.history.start
+    ∙ ap (replay (begun old.block old.history.start)) p.history.entries)
+
+held_kept : {F : Type 0} (f : files.Ghosts F) (old mid : F) (block : BlockId) (sum : ℕ) (r : FullReplica) → KeepsAll f old mid → IsHeld f old block sum r → IsHeld f mid block sum r
+held_kept f old mid block sum r kept held =
+    record {
+      fits = held.fits;
+      of_block = held.of_block;
+      full = held.full;
+      are_bytes = held.are_bytes;
+      holds = subst (λ o. Holds o r) (sym kept.same) held.holds;
+      only = subst (OnlyOf block.0) (sym kept.same) held.only;
+      last = subst (λ (o : Option FileMap). IfSome o (λ _. HasLastSum sum r)) (sym kept.same) held.last;
+    }
+
+pub book_prepared : {F : Type 0} (f : files.Ghosts F) (old mid : BookState F) → IsPrepared f old mid → IsBookOf f old → IsBookOf f mid
+book_prepared f old mid p book =
+    book_as f mid mid.drawer old.block old.last_sum (replica_of old) refl p.block p.last_sum (replica_same f old mid p) (p.replica ∙ book.known)
+    (held_kept f old.drawer mid.drawer old.block old.last_sum (replica_of old) p.drawer book.held)
+
+notes_prepared : {F : Type 0} (f : files.Ghosts F) (old mid new : BookState F) (e : ReplicaEvent) (failed : Bool) (receipt : Receipt) → IsPrepared f old mid → Notes mid new e failed receipt → Notes old new e failed receipt
+notes_prepared f old mid new e failed receipt p n =
+    record {
+      block = n.block ∙ p.block;
+      entry = record {
+        start = n.entry.start ∙ p.history.start;
+        entries = n.entry.entries ∙ ap (λ es. es ++ record { event = e; failed = failed } ∷ []) p.history.entries;
+        place = n.entry.place ∙ ap length p.history.entries;
+      };
+      named = n.named ∙ p.block;
+    }
+
+-- calls from files that were kept
+made_kept : {F : Type 0} (f : files.Ghosts F) (old mid new : F) (calls : List Call) → KeepsAll f old mid → MakesCalls (f.files mid) (f.files new) (f.log mid) (f.log new) calls → MakesCalls (f.files old) (f.files new) (f.log old) (f.log new) calls
+made_kept f old mid new calls kept made = record { files = made.files ∙ ap (option_map (run calls)) kept.same; log = made.log ∙ ap (option_map (logged calls)) kept.log }
+
+unchanged_kept : {F : Type 0} (f : files.Ghosts F) (old mid new : F) → KeepsAll f old mid → IsUnchanged (f.files mid) (f.files new) (f.log mid) (f.log new) → IsUnchanged (f.files old) (f.files new) (f.log old) (f.log new)
+unchanged_kept f old mid new kept same = record { files = same.files ∙ kept.same; log = same.log ∙ kept.log }
+
+event_kept : {F : Type 0} (f : files.Ghosts F) (old mid new : F) (r s : FullReplica) (e : ReplicaEvent) → r ≡ s → KeepsAll f old mid → MakesEvent f mid new r e → MakesEvent f old new s e
+event_kept f old mid new r s e is kept made =
+    subst (λ x. MakesEvent f old new x e) is (record {
+      strays = made.strays;
+      are = subst (λ o. AreStrays o r.known.info (row r e).known.info made.strays) kept.same made.are;
+      made = made_kept f old mid new (event_calls r e made.strays) kept made.made;
+    })
+
+stops_kept : {F : Type 0} (f : files.Ghosts F) (old mid new : F) (r s : FullReplica) (e : ReplicaEvent) → r ≡ s → KeepsAll f old mid → StopsEvent f mid new r e → StopsEvent f old new s e
+stops_kept f old mid new r s e is kept (before_all same) = before_all (unchanged_kept f old mid new kept same)
+stops_kept f old mid new r s e is kept (amid strays are stop) =
+    subst (λ x. StopsEvent f old new x e) is
+    (amid strays (subst (λ o. AreStrays o r.known.info (row r e).known.info strays) kept.same are)
+    (stop.0, stop.1, made_kept f old mid new (stopped stop.0 stop.1 (event_calls r e strays)) kept stop.2))
+
+-- A call that goes on from a book for which memory was taken ends as one from the book before.
+pub ends_prepared : {F : Type 0} (f : files.Ghosts F) (old mid new : BookState F) (e : ReplicaEvent) (result : Result Taken BookFault) → IsPrepared f old mid → CallEnds f mid new e result → CallEnds f old new e result
+ends_prepared f old mid new e (Ok taken) p ends =
+    let same = replica_same f old mid p in
+    record {
+      takes = subst (λ r. Takes r e) same ends.takes;
+      answer = ends.answer ∙ ap (λ r. row_answer r e) same;
+      noted = notes_prepared f old mid new e false taken.receipt p ends.noted;
+      made = event_kept f old.drawer mid.drawer new.drawer (replica_of mid) (replica_of old) e same p.drawer ends.made;
+    }
+ends_prepared f old mid new e (Err (fault.Refused x receipt)) p ends =
+    let same = replica_same f old mid p in
+    record {
+      refused = ap (λ r. transition r.known (event_at r e)) (sym same) ∙ ends.refused;
+      noted = notes_prepared f old mid new e false receipt p ends.noted;
+      same = unchanged_kept f old.drawer mid.drawer new.drawer p.drawer ends.same;
+    }
+ends_prepared f old mid new e (Err (fault.File receipt)) p ends =
+    let same = replica_same f old mid p in
+    record {
+      noted = notes_prepared f old mid new e true receipt p ends.noted;
+      stopped = stops_kept f old.drawer mid.drawer new.drawer (replica_of mid) (replica_of old) e same p.drawer ends.stopped;
+      rose = omega (arith, ends.rose, p.below);
+    }
+ends_prepared f old mid new e (Err fault.Memory) p ends =
+    record {
+      block = ends.block ∙ p.block;
+      replica = ends.replica ∙ p.replica;
+      history = record { start = ends.history.start ∙ p.history.start; entries = ends.history.entries ∙ p.history.entries };
+      same = unchanged_kept f old.drawer mid.drawer new.drawer p.drawer ends.same;
+    }
+
+-- want of memory
+pub ends_unmade : {F : Type 0} (f : files.Ghosts F) (old mid : BookState F) (e : ReplicaEvent) → IsPrepared f old mid → CallEnds f old mid e (Err fault.Memory)
+ends_unmade f old mid e p =
+    record { block = p.block; replica = p.replica; history = p.history; same = record { files = p.drawer.same; log = p.drawer.log } }
+
+-- something failed before the first call
+pub ends_failed : {F : Type 0} (f : files.Ghosts F) (old mid new : BookState F) (e : ReplicaEvent) (why : BookFault) → IsPrepared f old mid → FaultsIncreased (f.faults old.drawer) (f.faults mid.drawer) → Fails f mid new e why → CallEnds f old new e (Err why)
+ends_failed f old mid new e (fault.File receipt) p rose fails =
+    record {
+      noted = notes_prepared f old mid new e true receipt p fails.0;
+      stopped = before_all (subst (λ d. IsUnchanged (f.files old.drawer) (f.files d) (f.log old.drawer) (f.log d)) (sym fails.1) (record { files = p.drawer.same; log = p.drawer.log }));
+      rose = subst (λ d. FaultsIncreased (f.faults old.drawer) (f.faults d)) (sym fails.1) rose;
+    }
+ends_failed f old mid new e (fault.Refused x receipt) p rose fails = absurd fails
+ends_failed f old mid new e fault.Memory p rose fails = absurd fails
+
+-- ---- a book whose replica was stepped
+
+stepped_same : {F : Type 0} (old mid : BookState F) → KeepsBook old mid → replica_of mid ≡ replica_of old
+stepped_same old mid k = ap (λ b. replayed b mid.history) k.block ∙ ap (replayed old.block) k.history
+
+pub ends_stepped : {F : Type 0} (f : files.Ghosts F) (old mid new : BookState F) (e : ReplicaEvent) (result : Result Taken BookFault) → KeepsBook old mid → TakenEnds f mid new e result → CallEnds f old new e result
+ends_stepped f old mid new e (Ok taken) k ends =
+    let same = stepped_same old mid k in
+    record {
+      takes = subst (λ r. Takes r e) same ends.takes;
+      answer = ends.answer ∙ ap (λ r. row_answer r e) same;
+      noted = notes_from old mid new e false taken.receipt k.block k.history ends.noted;
+      made = subst (λ d. MakesEvent f d new.drawer (replica_of old) e) k.drawer (subst (λ r. MakesEvent f mid.drawer new.drawer r e) same ends.made);
+    }
+ends_stepped f old mid new e (Err (fault.File receipt)) k ends =
+    record {
+      noted = notes_from old mid new e true receipt k.block k.history ends.noted;
+      stopped = subst (λ d. StopsEvent f d new.drawer (replica_of old) e) k.drawer (subst (λ r. StopsEvent f mid.drawer new.drawer r e) (stepped_same old mid k) ends.stopped);
+      rose = subst (λ d. FaultsIncreased (f.faults d) (f.faults new.drawer)) k.drawer ends.rose;
+    }
+ends_stepped f old mid new e (Err (fault.Refused x receipt)) k ends = absurd ends
+ends_stepped f old mid new e (Err fault.Memory) k ends = absurd ends
+
+-- ---- memory that was taken in steps
+
+pub reserved : {F : Type 0} (f : files.Ghosts F) (s : BookState F) (history : History) → IsSame s.history history → IsPrepared f s (record s { history = history })
+reserved f s history same =
+    record { block = refl; replica = refl; last_sum = refl; history = same; drawer = record { same = refl; log = refl; room = λ name. omega arith }; below = omega arith }
+
+pub prepared_then : {F : Type 0} (f : files.Ghosts F) (a b c : BookState F) → IsPrepared f a b → IsPrepared f b c → IsPrepared f a c
+prepared_then f a b c p q =
+    record {
+      block = q.block ∙ p.block;
+      replica = q.replica ∙ p.replica;
+      last_sum = q.last_sum ∙ p.last_sum;
+      history = record { start = q.history.start ∙ p.history.start; entries = q.history.entries ∙ p.history.entries };
+      drawer = record { same = q.drawer.same ∙ p.drawer.same; log = q.drawer.log ∙ p.drawer.log; room = λ name. omega (arith, p.drawer.room name, q.drawer.room name) };
+      below = omega (arith, p.below, q.below);
+    }

@@ -61,8 +61,8 @@ pub record MakesEvent {F : Type 0} (f : files.Ghosts F) (old new : F) (r : FullR
   pub are : AreStrays (f.files old) r.known.info (row r e).known.info strays
   pub made : MakesCalls (f.files old) (f.files new) (f.log old) (f.log new) (event_calls r e strays)
 
--- One of the calls of an event failed.
-pub record StopsEvent {F : Type 0} (f : files.Ghosts F) (old new : F) (r : FullReplica) (e : ReplicaEvent) : Type 0 where
-  pub strays : List (List ℕ)
-  pub are : AreStrays (f.files old) r.known.info (row r e).known.info strays
-  pub stopped : StopsWithin (f.files old) (f.files new) (f.log old) (f.log new) (event_calls r e strays)
+-- One of the calls of an event failed, or something before the first of them.
+pub data StopsEvent {F : Type 0} (f : files.Ghosts F) (old new : F) (r : FullReplica) (e : ReplicaEvent) : Type 0 where
+  before_all : IsUnchanged (f.files old) (f.files new) (f.log old) (f.log new) → StopsEvent f old new r e
+  amid : (strays : List (List ℕ)) → AreStrays (f.files old) r.known.info (row r e).known.info strays
+      → StopsWithin (f.files old) (f.files new) (f.log old) (f.log new) (event_calls r e strays) → StopsEvent f old new r e

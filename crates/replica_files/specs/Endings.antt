@@ -61,3 +61,14 @@ abbrev pub Finishes : {F : Type 0} → BookState F → BookState F → ReplicaEv
 Finishes old new e answer (Ok sum) (Ok taken) = Notes old new e false taken.receipt × (taken.answer ≡ answer)
 Finishes old new e answer (Err cause) (Err (fault.File receipt)) = Notes old new e true receipt
 Finishes old new e answer made result = ⊥
+
+-- How an event ends for which something failed before any of its calls.
+abbrev pub Fails : {F : Type 0} → files.Ghosts F → BookState F → BookState F → ReplicaEvent → BookFault → Type 0
+Fails f old new e (fault.File receipt) = Notes old new e true receipt × (new.drawer ≡ old.drawer)
+Fails f old new e other = ⊥
+
+-- How an event that was taken ends.
+abbrev pub TakenEnds : {F : Type 0} → files.Ghosts F → BookState F → BookState F → ReplicaEvent → Result Taken BookFault → Type 0
+TakenEnds f old new e (Ok taken) = EndsTaken f old new e taken
+TakenEnds f old new e (Err (fault.File receipt)) = EndsFailed f old new e receipt
+TakenEnds f old new e (Err other) = ⊥

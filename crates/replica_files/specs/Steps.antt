@@ -1,5 +1,5 @@
 -- What stands between the parts of a book's calls.
-use Rattle.std.specs.Prelude.{ℕ, ◌≡◌, ◌<◌, length, Bool, true, false, Option, Some, None, Result, Ok, Err, IfOk, OnErr, IsErr}
+use Rattle.std.specs.Prelude.{ℕ, ◌≡◌, ◌<◌, ◌≤◌, length, Bool, true, false, Option, Some, None, Result, Ok, Err, IfOk, OnErr, IsErr}
 use Rattle.hd_base.specs.declared.numbers.Receipt.{Receipt}
 use Rattle.hd_base.specs.declared.files.Files as files
 use Rattle.hd_base.specs.declared.files.FileError.{FileError}
@@ -13,6 +13,8 @@ use Rattle.replica_model.specs.declared.events.ReplicaEvent.{ReplicaEvent}
 use Rattle.replica_model.specs.declared.events.ReplicaEvent.TheVariants as replica_event
 use Rattle.replica_model.specs.Rows.{FullReplica, IsWithBytes, event_at, row, row_answer, broken}
 use Rattle.replica_core.specs.declared.events.Event.{Event}
+use Rattle.replica_calls.specs.Performed.{KeepsAll}
+use Rattle.replica_files.specs.Entries.{IsSame}
 use Rattle.replica_files.specs.Events.{IsSettling}
 use Rattle.replica_files.specs.Carried.{HasRoomFor}
 use Rattle.replica_files.specs.Books.{replica_of, IsHeld, Takes}
@@ -40,6 +42,15 @@ pub record KeepsFiles {F : Type 0} (old new : BookState F) : Type 0 where
   pub drawer : new.drawer ≡ old.drawer
   pub replica : new.replica ≡ old.replica
   pub last_sum : new.last_sum ≡ old.last_sum
+
+-- Memory was taken: the book is the same, with at least the room that its files had.
+pub record IsPrepared {F : Type 0} (f : files.Ghosts F) (old new : BookState F) : Type 0 where
+  pub block : new.block ≡ old.block
+  pub replica : new.replica ≡ old.replica
+  pub last_sum : new.last_sum ≡ old.last_sum
+  pub history : IsSame old.history new.history
+  pub drawer : KeepsAll f old.drawer new.drawer
+  pub below : f.faults old.drawer ≤ f.faults new.drawer
 
 -- All but the replica is as it was.
 pub record KeepsBook {F : Type 0} (old new : BookState F) : Type 0 where

@@ -7,7 +7,7 @@ ghost use Rattle.replica_model.specs.Rows.{event_at, record_event, IsWithBytes};
 ghost use Rattle.replica_files.specs.Entries.{HasSpare, IsSame, HasEntry};
 ghost use Rattle.replica_files.specs.Books.{IsBookOf, replica_of};
 ghost use Rattle.replica_files.specs.Steps.{IsLawfulEvent, IsFit, KeepsFiles, IsStepped, IsToNote};
-ghost use Rattle.replica_files.specs.Endings.{Notes, CallEnds, Finishes};
+ghost use Rattle.replica_files.specs.Endings.{Notes, CallEnds, Finishes, Fails};
 
 use crate::faults::BookFault;
 use hd_base::{BlockId, FileError, Files, Receipt, SumRule};
@@ -151,5 +151,18 @@ impl<F: Files> BookState<F> {
             is_broken: self.replica.is_broken(),
             info: self.replica.info(),
         }
+    }
+
+    /// Adds the entry of an event for which something failed before any of its calls, which breaks the
+    /// replica.
+    pub(crate) fn fail(&mut self, event: ReplicaEvent) -> BookFault
+        requires book { IsBookOf F.Files self.old }
+        requires spare { HasSpare self.old.history }
+        ensures book { IsBookOf F.Files self.new }
+        ensures fails { Fails F.Files self.old self.new event result }
+    {
+        let held = self.replica.info();
+        self.replica.break_from(held);
+        BookFault::File(self.note(event, true))
     }
 }

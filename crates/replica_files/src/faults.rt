@@ -1,7 +1,10 @@
 //! Why a call on a book doesn't succeed.
 
+ghost use Rattle.std.specs.Prelude.{◌≡◌};
+
 use hd_base::Receipt;
 use replica_core::Refusal;
+use std::alloc::AllocError;
 use thiserror::Error;
 
 /// Why a call on a book doesn't succeed.
@@ -16,4 +19,14 @@ pub enum BookFault {
     /// Memory ran out; nothing changed.
     #[error("out of memory")]
     Memory,
+}
+
+impl From<AllocError> for BookFault {
+    ghost use Rattle.replica_files.specs.declared.faults.BookFault.TheVariants as book_fault;
+
+    ghost from_gives = { λ _ e. e ≡ book_fault.Memory };
+
+    fn from(_: AllocError) -> BookFault {
+        BookFault::Memory
+    }
 }

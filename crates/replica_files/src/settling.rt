@@ -10,7 +10,7 @@ ghost use Rattle.replica_files.specs.Entries.{HasSpare};
 ghost use Rattle.replica_files.specs.Events.{IsSettling};
 ghost use Rattle.replica_files.specs.Books.{IsBookOf};
 ghost use Rattle.replica_files.specs.Steps.{IsAmid};
-ghost use Rattle.replica_files.specs.Endings.{CallEnds};
+ghost use Rattle.replica_files.specs.Endings.{CallEnds, TakenEnds};
 ghost use Rattle.replica_files.specs.Carried.{HasRoomFor, Holding, IsToSettle, Settles, IsAmidSettling, CarriesOut};
 
 use crate::book_state::{BookState, Prior, Taken};
@@ -119,7 +119,7 @@ impl<F: Files> BookState<F> {
         requires consistent { IfSome prior.now.info IsConsistent }
         requires amid { IsAmid F.Files self.old event prior.now answer (length buffer.old) }
         ensures book { IsBookOf F.Files self.new }
-        ensures ends { CallEnds F.Files self.old self.new event result }
+        ensures ends { TakenEnds F.Files self.old self.new event result }
     {
         let block = self.block;
         let next = self.replica.info();
