@@ -1,6 +1,10 @@
 -- Events by what they do to the files.
+use Rattle.std.specs.Prelude.{◌≡◌}
+use Rattle.hd_base.specs.declared.states.ReplicaState.TheVariants as state
 use Rattle.replica_core.specs.declared.events.Event.{Event}
 use Rattle.replica_core.specs.declared.events.Event.TheVariants as event
+use Rattle.replica_core.specs.declared.info.ReplicaInfo.{ReplicaInfo}
+use Rattle.replica_core.specs.Info.{settled_at}
 
 -- an event that is no packet, makes no new replica, and befalls no file
 abbrev pub IsSettling : Event → Type 0
@@ -21,3 +25,9 @@ abbrev pub IsMaking : Event → Type 0
 IsMaking (event.Create conn stamp sums) = Unit {0}
 IsMaking (event.Temporary conn stamp sums) = Unit {0}
 IsMaking _ = ⊥
+
+-- what a replica holds that the event makes
+abbrev pub IsMadeBy : Event → ReplicaInfo → Type 0
+IsMadeBy (event.Create conn stamp sums) k = k ≡ settled_at state.Rbw stamp sums 0
+IsMadeBy (event.Temporary conn stamp sums) k = k ≡ settled_at state.Temporary stamp sums 0
+IsMadeBy _ k = ⊥

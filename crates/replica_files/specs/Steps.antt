@@ -1,5 +1,5 @@
 -- What stands between the parts of a book's calls.
-use Rattle.std.specs.Prelude.{ℕ, ◌≡◌, ◌<◌, ◌≤◌, length, Bool, true, false, Option, Some, None, Result, Ok, Err, IfOk, OnErr, IsErr}
+use Rattle.std.specs.Prelude.{ℕ, ◌≡◌, ◌<◌, ◌≤◌, length, List, Bool, true, false, Option, Some, None, Result, Ok, Err, IfOk, OnErr, IsErr}
 use Rattle.hd_base.specs.declared.numbers.Receipt.{Receipt}
 use Rattle.hd_base.specs.declared.files.Files as files
 use Rattle.hd_base.specs.declared.files.FileError.{FileError}
@@ -15,8 +15,8 @@ use Rattle.replica_model.specs.Rows.{FullReplica, IsWithBytes, event_at, row, ro
 use Rattle.replica_core.specs.declared.events.Event.{Event}
 use Rattle.replica_calls.specs.Performed.{KeepsAll}
 use Rattle.replica_files.specs.Entries.{IsSame}
-use Rattle.replica_files.specs.Events.{IsSettling}
-use Rattle.replica_files.specs.Carried.{HasRoomFor}
+use Rattle.replica_files.specs.Events.{IsSettling, IsMadeBy}
+use Rattle.replica_files.specs.Carried.{HasRoomFor, IsToMake}
 use Rattle.replica_files.specs.Books.{replica_of, IsHeld, Takes}
 use Rattle.replica_files.specs.declared.book_state.BookState.{BookState}
 use Rattle.replica_files.specs.declared.book_state.Prior.{Prior}
@@ -85,3 +85,15 @@ pub record IsAmid {F : Type 0} (f : files.Ghosts F) (s : BookState F) (e : Repli
   pub before_is : prior.info ≡ (replica_of s).known.info
   pub held : IsHeld f s.drawer s.block s.last_sum (replica_of s)
   pub room : HasRoomFor (f.room s.drawer) s.block settled prior.info buffer
+
+-- The replica has taken an event that makes it, and no call on the files is made yet.
+pub record IsAmidMaking {F : Type 0} (f : files.Ghosts F) (s : BookState F) (e : ReplicaEvent) (prior : Prior) (answer : Answer) (k : ReplicaInfo) (strays : List (List ℕ)) : Type 0 where
+  pub making : Event
+  pub is : e ≡ replica_event.Other making
+  pub made_by : IsMadeBy making k
+  pub takes : Takes (replica_of s) e
+  pub answered : answer ≡ row_answer (replica_of s) e
+  pub known : s.replica ≡ (row (replica_of s) e).known
+  pub before_is : prior.info ≡ (replica_of s).known.info
+  pub held : IsHeld f s.drawer s.block s.last_sum (replica_of s)
+  pub to_make : (replica_of s).known.info ≡ None → IsToMake f s.drawer s.block k strays

@@ -2,6 +2,7 @@
 #![tactic(auto)]
 
 mod book_state;
+mod creating;
 mod cutting;
 mod faults;
 mod settling;
