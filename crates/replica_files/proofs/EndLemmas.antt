@@ -40,7 +40,7 @@ use Rattle.replica_files.specs.Events.{IsSettling}
 use Rattle.replica_files.specs.Books.{replica_of, HasLastSum, IsHeld, Takes, AreStrays, event_calls, IsBookOf, MakesEvent, StopsEvent, before_all, amid}
 use Rattle.replica_files.specs.Carried.{CarriesOut, IsAmidSettling}
 use Rattle.replica_files.specs.Steps.{IsToNote, IsAmid, IsPrepared, KeepsBook}
-use Rattle.replica_files.specs.Endings.{Notes, EndsTaken, EndsFailed, CallEnds, TakenEnds, Finishes, Fails}
+use Rattle.replica_files.specs.Endings.{Notes, EndsTaken, EndsFailed, CallEnds, TakenEnds, Finishes, Fails, IsRefusal}
 use Rattle.replica_files.proofs.BookLemmas.{broken_block, book_as}
 use Rattle.replica_files.proofs.ShapeLemmas.{stays_of}
 
@@ -386,3 +386,15 @@ prepared_then f a b c p q =
       drawer = record { same = q.drawer.same ∙ p.drawer.same; log = q.drawer.log ∙ p.drawer.log; room = λ name. omega (arith, p.drawer.room name, q.drawer.room name) };
       below = omega (arith, p.below, q.below);
     }
+
+-- A refusal from a book whose replica was stepped.
+pub ends_refused : {F : Type 0} (f : files.Ghosts F) (old mid new : BookState F) (e : ReplicaEvent) (why : BookFault) → KeepsBook old mid → IsRefusal f mid new e why → CallEnds f old new e (Err why)
+ends_refused f old mid new e (fault.Refused x receipt) k ends =
+    let same = stepped_same old mid k in
+    record {
+      refused = ap (λ r. transition r.known (event_at r e)) (sym same) ∙ ends.refused;
+      noted = notes_from old mid new e false receipt k.block k.history ends.noted;
+      same = record { files = ends.same.files ∙ ap (λ d. f.files d) k.drawer; log = ends.same.log ∙ ap (λ d. f.log d) k.drawer };
+    }
+ends_refused f old mid new e (fault.File receipt) k ends = absurd ends
+ends_refused f old mid new e fault.Memory k ends = absurd ends

@@ -21,10 +21,10 @@ use Rattle.replica_core.specs.declared.refusals.Refusal.TheVariants as refusal
 use Rattle.replica_core.specs.declared.streams.Stream.{Stream}
 use Rattle.replica_core.specs.Refusals.{check}
 use Rattle.replica_core.specs.Info.{state_of, is_writable, settled_at, reopen, recover_setup, recover_stream, begin_recovery, end_recovery, readable, given, visible_of, advance_acked, close_stream, extend_written}
-use Rattle.replica_core.specs.Extents.{stream_after, heartbeat_of, pending_of}
+use Rattle.replica_core.specs.Extents.{stream_after, heartbeat_of, pending_of, start_of, place_check, packet_at}
 use Rattle.replica_core.specs.Transitions.{Taken, Outcome, done, record_after, present, set_writer, with_writer, new_transition, enqueue, extend, extent_transition, packet_transition, stream_by, oldest_of, acknowledge, is_written_by, end_connection, mark_broken, transition, state_after}
 use Rattle.replica_core.specs.Sound.{Sound}
-use Rattle.replica_core.proofs.StepLemmas.{after_check, after_step, choice, if_check, if_step}
+use Rattle.replica_core.proofs.StepLemmas.{after_check, after_step, choice, if_check, if_step, step_ok}
 use Rattle.replica_core.proofs.InfoLemmas.{present_is, reopen_is, recover_setup_is, recover_stream_is, begin_recovery_is, end_recovery_is, pending_of_is}
 use Rattle.replica_core.proofs.SoundLemmas.{info_in}
 use Rattle.replica_files.specs.Events.{IsSettling, IsCutting}
@@ -229,6 +229,10 @@ made_from c original conn stamp r =
 
 -- ---- packets
 
+-- no block has more bytes
+abbrev pub most_bytes : ℕ
+most_bytes = 134217728
+
 -- Of a replica that is there and isn't broken; what is held stays, but for the bytes that are brought.
 pub record Grows (c : ReplicaRecord) (offset : ℤ) (n : ℕ) (t : Taken) : Type 0 where
   pub h : ReplicaInfo
@@ -240,6 +244,7 @@ pub record Grows (c : ReplicaRecord) (offset : ℤ) (n : ℕ) (t : Taken) : Type
   pub original : k.original ≡ h.original
   pub stamp : k.stamp ≡ h.stamp
   pub written : k.written ≡ h.written + (n - (h.written - nat_abs offset))
+  pub within : k.written ≤ max h.written most_bytes
 
 heartbeat_empty : (p : PacketExtent) (e : PendingPacket) → heartbeat_of p ≡ Ok e → p.length ≡ 0
 unfolding heartbeat_of
@@ -253,6 +258,18 @@ longer w o l near = omega arith
 
 nothing_more : (w n o : ℕ) → n ≡ 0 → w ≡ w + (n - (w - o))
 nothing_more w n o none = omega (arith, none)
+
+start_within : (p : PacketExtent) (offset : ℕ) → start_of p ≡ Ok offset → nat_abs p.offset + p.length ≤ most_bytes
+unfolding start_of
+start_within p offset e = grind (arith, nat_tests)
+
+pending_within : (r : Rule) (p : PacketExtent) (written : ℕ) (e : PendingPacket) → pending_of r p written ≡ Ok e → nat_abs p.offset + p.length ≤ most_bytes
+pending_within r p written e is =
+    let first = step_ok (start_of p) (λ offset. place_check p written offset >>= (λ _. packet_at r p offset)) e is in
+    start_within p first.0 first.1
+
+reaches_within : (w end start l : ℕ) → max w end ≡ max w (start + l) → start + l ≤ most_bytes → max w end ≤ max w most_bytes
+reaches_within w end start l e within = omega (arith, e, within)
 
 pub grows : (c : ReplicaRecord) (conn : ConnId) (p : PacketExtent) → IfOk (packet_transition c conn p) (Grows c p.offset p.length)
 unfolding extent_transition
@@ -273,6 +290,7 @@ grows c conn p =
       original = refl;
       stamp = refl;
       written = nothing_more h.written p.length (nat_abs p.offset) (heartbeat_empty p e beat);
+      within = omega arith;
     }))
     (λ _. if_step P (stream_after s p) _ (λ t _.
     if_step P (pending_of h.sums p h.written) _ (λ e pending.
@@ -287,4 +305,5 @@ grows c conn p =
       original = refl;
       stamp = refl;
       written = here.reach ∙ longer h.written here.start p.length here.near ∙ ap (λ x. h.written + (p.length - (h.written - x))) (sym (start_abs p.offset here.start here.is));
+      within = reaches_within h.written e.end here.start p.length here.reach (omega (arith, pending_within h.sums p h.written e pending, start_abs p.offset here.start here.is));
     }))))))

@@ -1,5 +1,5 @@
 -- The calls on the files that an event takes, while its replica has met it and its entry isn't there yet.
-use Rattle.std.specs.Prelude.{ℕ, ◌≡◌, ◌+◌, ◌<◌, ◌≤◌, Bool, List, [], ◌++◌, length, take, Option, IfSome, IfOk, OnOk, OnErr, Result}
+use Rattle.std.specs.Prelude.{ℕ, ◌≡◌, ◌+◌, ◌<◌, ◌≤◌, ◌^◌, Bool, List, [], ◌++◌, length, take, Option, IfSome, IfOk, OnOk, OnErr, Result}
 use Rattle.hd_base.specs.Faults.{HasCause}
 use Rattle.hd_base.specs.Bytes.{IsBytes}
 use Rattle.hd_base.specs.FileMaps.{FileMap, OnlyOf, AreNamesOf}
@@ -109,13 +109,18 @@ pub record AreSumsOf (r : Rule) (bytes more : List ℕ) (grown : GrownSums) : Ty
   pub from_last : 0 < length more → grown.sums.items ≡ sums r (tail r bytes ++ more)
   pub last_now : IsLastSum r grown.last (bytes ++ more)
 
+-- The files hold this of the block, with these bytes, where they are observable, and these are the sums where more come behind them.
+pub record HoldsGrowing (files : Option FileMap) (block : BlockId) (h : ReplicaInfo) (bytes more : List ℕ) (grown : GrownSums) : Type 0 where
+  pub all : length bytes ≡ h.written
+  pub placed : IfSome files (λ m. m ≡ files_of block.0 (placed_info h bytes))
+  pub sums_are : IfSome files (λ _. AreSumsOf h.sums bytes more grown)
+
 -- What is held can grow by these bytes: there is room for them and for their sums.
-pub record IsToGrow {F : Type 0} (f : files.Ghosts F) (drawer : F) (block : BlockId) (h : ReplicaInfo) (sum : ℕ) (more : List ℕ) (grown : GrownSums) : Type 0 where
+pub record IsToGrow {F : Type 0} (f : files.Ghosts F) (drawer : F) (block : BlockId) (h : ReplicaInfo) (more : List ℕ) (grown : GrownSums) : Type 0 where
   pub bytes : List ℕ
-  pub holding : Holding (f.files drawer) block h sum bytes
+  pub holds : HoldsGrowing (f.files drawer) block h bytes more grown
   pub size : IsChunkSize h.sums.chunk
-  pub room : Covers (f.room drawer) (names_of block.0 h) (h.written + length more) (sum_place h.sums h.written + length grown.sums.items)
-  pub grown_are : (b : List ℕ) → Holding (f.files drawer) block h sum b → IsBytes b → IfSome (f.files drawer) (λ _. AreSumsOf h.sums b more grown)
+  pub room : h.written < 2 ^ 64 → Covers (f.room drawer) (names_of block.0 h) (h.written + length more) (sum_place h.sums h.written + length grown.sums.items)
 
 -- the calls by which it grows
 abbrev pub grown_calls : BlockId → ReplicaInfo → List ℕ → List ℕ → Bool → List Call

@@ -72,3 +72,8 @@ abbrev pub TakenEnds : {F : Type 0} → files.Ghosts F → BookState F → BookS
 TakenEnds f old new e (Ok taken) = EndsTaken f old new e taken
 TakenEnds f old new e (Err (fault.File receipt)) = EndsFailed f old new e receipt
 TakenEnds f old new e (Err other) = ⊥
+
+-- How a refused event ends.
+abbrev pub IsRefusal : {F : Type 0} → files.Ghosts F → BookState F → BookState F → ReplicaEvent → BookFault → Type 0
+IsRefusal f old new e (fault.Refused refusal receipt) = EndsRefused f old new e refusal receipt
+IsRefusal f old new e other = ⊥

@@ -3,4 +3,5 @@ pub mod Events
 pub mod Books
 pub mod Carried
 pub mod Steps
+pub mod Packets
 pub mod Endings

@@ -7,7 +7,7 @@ ghost use Rattle.replica_model.specs.Rows.{event_at, record_event, IsWithBytes};
 ghost use Rattle.replica_files.specs.Entries.{HasSpare, IsSame, HasEntry};
 ghost use Rattle.replica_files.specs.Books.{IsBookOf, replica_of};
 ghost use Rattle.replica_files.specs.Steps.{IsLawfulEvent, IsFit, KeepsFiles, IsStepped, IsToNote};
-ghost use Rattle.replica_files.specs.Endings.{Notes, CallEnds, Finishes, Fails};
+ghost use Rattle.replica_files.specs.Endings.{Notes, Finishes, Fails, IsRefusal};
 
 use crate::faults::BookFault;
 use hd_base::{BlockId, FileError, Files, Receipt, SumRule};
@@ -106,7 +106,7 @@ impl<F: Files> BookState<F> {
         requires spare { HasSpare self.old.history }
         requires refused { transition (replica_of self.old).known (event_at (replica_of self.old) event) ≡ Err refusal }
         ensures book { IsBookOf F.Files self.new }
-        ensures ends { CallEnds F.Files self.old self.new event (Err result) }
+        ensures ends { IsRefusal F.Files self.old self.new event result }
     {
         BookFault::Refused(refusal, self.note(event, false))
     }

@@ -5,6 +5,7 @@ mod book_state;
 mod creating;
 mod cutting;
 mod faults;
+mod growing;
 mod settling;
 
 pub use faults::BookFault;
