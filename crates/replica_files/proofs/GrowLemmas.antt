@@ -344,5 +344,12 @@ packet_carried f s new e prior answer p growth made a carries =
 pub packet_with_bytes : {F : Type 0} (f : files.Ghosts F) (s : BookState F) (e : ReplicaEvent) (prior : Prior) (answer : Answer) (p : Packet) (growth : Option Growth) → IsAmidPacket f s e prior answer p growth → IsWithBytes e
 packet_with_bytes f s e prior answer p growth a = subst IsWithBytes (sym a.is) tt
 
-pub packet_brings : {F : Type 0} (f : files.Ghosts F) (s : BookState F) (e : ReplicaEvent) (prior : Prior) (answer : Answer) (p : Packet) (growth : Option Growth) (n : ℕ) → IsBytes p.body → IsAmidPacket f s e prior answer p growth → IsBytes (brought n e)
-packet_brings f s e prior answer p growth n body a = subst (λ x. IsBytes (brought n x)) (sym a.is) (IsBytes-drop (n - nat_abs p.offset) p.body body)
+ready_bytes : {F : Type 0} (f : files.Ghosts F) (d : F) (block : BlockId) (sum : ℕ) (h : ReplicaInfo) (p : Packet) (growth : Option Growth) → IsReadyWith f d block sum h p growth → IsBytes p.body
+ready_bytes f d block sum h p None ready = absurd ready
+ready_bytes f d block sum h p (Some g) ready = ready.are_bytes
+
+pub packet_brings : {F : Type 0} (f : files.Ghosts F) (s : BookState F) (e : ReplicaEvent) (prior : Prior) (answer : Answer) (p : Packet) (growth : Option Growth) (n : ℕ) → IsAmidPacket f s e prior answer p growth → IsBytes (brought n e)
+packet_brings f s e prior answer p growth n a =
+    let x = has_grown (replica_of s) a.conn p (subst (Takes (replica_of s)) a.is a.takes) in
+    let body = ready_bytes f s.drawer s.block s.last_sum x.h p growth (a.ready x.h (a.before_is ∙ x.before)) in
+    subst (λ y. IsBytes (brought n y)) (sym a.is) (IsBytes-drop (n - nat_abs p.offset) p.body body)

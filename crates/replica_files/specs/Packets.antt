@@ -1,5 +1,6 @@
 -- Packets amid their calls on the files.
 use Rattle.std.specs.Prelude.{ℕ, ◌≡◌, ◌+◌, ◌-◌, ◌<◌, ◌≤◌, ◌^◌, nat_abs, List, length, drop, Option, Some, None}
+use Rattle.hd_base.specs.Bytes.{IsBytes}
 use Rattle.hd_base.specs.declared.numbers.BlockId.{BlockId}
 use Rattle.hd_base.specs.declared.numbers.ConnId.{ConnId}
 use Rattle.hd_base.specs.declared.files.Files as files
@@ -25,6 +26,7 @@ brought_by written p = drop (written - nat_abs p.offset) p.body
 
 -- What was prepared of a packet: its bytes, their sums, and room for both, unless they pass every length.
 pub record FitsGrowth {F : Type 0} (f : files.Ghosts F) (drawer : F) (block : BlockId) (sum : ℕ) (h : ReplicaInfo) (p : Packet) (g : Growth) : Type 0 where
+  pub are_bytes : IsBytes p.body
   pub bytes : drop g.from p.body ≡ brought_by h.written p
   pub within : g.from ≤ length p.body
   pub room : h.written + length (brought_by h.written p) < 2 ^ 64

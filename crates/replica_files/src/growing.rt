@@ -31,13 +31,22 @@ pub(crate) struct Growth {
     sums: GrownSums,
 }
 
+/// How many bytes there are.
+fn len_of(bytes: &[u8]) -> usize
+    ensures len { result ≡ length bytes.now }
+    ensures bytes { IsBytes bytes.now }
+{
+    bytes.len()
+}
+
 /// How many of a packet's first bytes are written already, where so many of the block are.
 fn overlap(written: u64, packet: &Packet) -> usize
     ensures brought { drop result packet.now.body ≡ brought_by written packet.now }
     ensures within { result ≤ length packet.now.body }
+    ensures bytes { IsBytes packet.now.body }
 {
     let behind = written.saturating_sub(packet.offset.unsigned_abs());
-    let len = packet.body.len();
+    let len = len_of(&packet.body);
     if behind < len as u64 { behind as usize } else { len }
 }
 
@@ -163,7 +172,6 @@ impl<F: Files> BookState<F> {
         requires place { length self.old.replica.pending < MAX_PENDING }
         requires same { kept ≡ packet.now }
         requires ready { IsReadyToGrow F.Files self.old self.old.replica.info packet.now growth }
-        requires bytes { IsBytes packet.now.body }
         ensures book { IsBookOf F.Files self.new }
         ensures ends { CallEnds F.Files self.old self.new (ReplicaEvent.Packet conn packet.now) result }
     {
@@ -186,7 +194,6 @@ impl<F: Files> BookState<F> {
     ) -> Result<Taken, BookFault>
         requires spare { HasSpare self.old.history }
         requires consistent { IfSome prior.now.info IsConsistent }
-        requires bytes { IsBytes packet.now.body }
         requires amid { IsAmidPacket F.Files self.old event prior.now answer packet.now growth }
         ensures book { IsBookOf F.Files self.new }
         ensures ends { TakenEnds F.Files self.old self.new event result }

@@ -10,7 +10,7 @@ finish-requires-clause-to_note g c =
     let a = c.requires.amid in
     to_note g.F.Files s.drawer _ c.args.event c.args.prior.now.info c.grow_info-made.result a.known a.before_is a.held
     (packet_with_bytes g.F.Files s c.args.event c.args.prior.now c.args.answer c.args.packet.now c.args.growth a)
-    (packet_brings g.F.Files s c.args.event c.args.prior.now c.args.answer c.args.packet.now c.args.growth _ c.requires.bytes a)
+    (packet_brings g.F.Files s c.args.event c.args.prior.now c.args.answer c.args.packet.now c.args.growth _ a)
     (packet_carried g.F.Files s c.grow_info-made.new.drawer c.args.event c.args.prior.now c.args.answer c.args.packet.now c.args.growth c.grow_info-made.result a c.grow_info-made.ensures)
 
 pub returns-clause-ends : goal.returns-clause-ends
