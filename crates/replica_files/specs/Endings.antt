@@ -1,14 +1,19 @@
 -- How a call of a book ends.
-use Rattle.std.specs.Prelude.{ℕ, ◌≡◌, Bool, true, false, Result, Ok, Err}
+use Rattle.std.specs.Prelude.{ℕ, ◌≡◌, [], Bool, true, false, Result, Ok, Err}
 use Rattle.hd_base.specs.Faults.{FaultsIncreased}
 use Rattle.hd_base.specs.Calls.{IsUnchanged}
+use Rattle.hd_base.specs.declared.numbers.BlockId.{BlockId}
 use Rattle.hd_base.specs.declared.numbers.Receipt.{Receipt}
 use Rattle.hd_base.specs.declared.files.Files as files
 use Rattle.hd_base.specs.declared.files.FileError.{FileError}
 use Rattle.replica_core.specs.declared.refusals.Refusal.{Refusal}
+use Rattle.hd_base.specs.declared.numbers.Stamp.{Stamp}
+use Rattle.hd_base.specs.declared.states.ReplicaState.{ReplicaState}
 use Rattle.replica_core.specs.declared.events.Answer.{Answer}
+use Rattle.replica_core.specs.declared.events.Answer.TheVariants as answer
 use Rattle.replica_core.specs.Transitions.{transition}
 use Rattle.replica_model.specs.declared.events.ReplicaEvent.{ReplicaEvent}
+use Rattle.replica_model.specs.declared.histories.Start.TheVariants as start
 use Rattle.replica_model.specs.Rows.{event_at, row_answer}
 use Rattle.replica_files.specs.Entries.{IsSame, HasEntry}
 use Rattle.replica_files.specs.Books.{replica_of, Takes, MakesEvent, StopsEvent}
@@ -77,3 +82,25 @@ TakenEnds f old new e (Err other) = ⊥
 abbrev pub IsRefusal : {F : Type 0} → files.Ghosts F → BookState F → BookState F → ReplicaEvent → BookFault → Type 0
 IsRefusal f old new e (fault.Refused refusal receipt) = EndsRefused f old new e refusal receipt
 IsRefusal f old new e other = ⊥
+
+-- How a public call of a book ends.
+abbrev pub BookEnds : {F : Type 0} → files.Ghosts F → BookState F → BookState F → ReplicaEvent → Result Receipt BookFault → Type 0
+BookEnds f old new e (Ok receipt) = EndsTaken f old new e (record { answer = row_answer (replica_of old) e; receipt = receipt })
+BookEnds f old new e (Err why) = CallEnds f old new e (Err why)
+
+-- the receipt of what was taken
+abbrev pub IsReceiptOf : Result Taken BookFault → Result Receipt BookFault → Type 0
+IsReceiptOf (Ok taken) result = result ≡ Ok taken.receipt
+IsReceiptOf (Err why) result = result ≡ Err why
+
+-- a book of an absent replica without entries
+pub record IsNew {F : Type 0} (s : BookState F) (block : BlockId) (drawer : F) : Type 0 where
+  pub of_block : s.block ≡ block
+  pub with_drawer : s.drawer ≡ drawer
+  pub start : s.history.start ≡ start.Absent
+  pub entries : s.history.entries.items ≡ []
+
+-- How the beginning of a recovery ends, which answers state, stamp and length.
+abbrev pub InitEnds : {F : Type 0} → files.Ghosts F → BookState F → BookState F → ReplicaEvent → Result ((ReplicaState × Stamp × ℕ) × Receipt) BookFault → Type 0
+InitEnds f old new e (Ok x) = EndsTaken f old new e (record { answer = answer.Info x.0.0 x.0.1 x.0.2; receipt = x.1 })
+InitEnds f old new e (Err why) = CallEnds f old new e (Err why)

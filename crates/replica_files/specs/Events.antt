@@ -31,3 +31,13 @@ abbrev pub IsMadeBy : Event → ReplicaInfo → Type 0
 IsMadeBy (event.Create conn stamp sums) k = k ≡ settled_at state.Rbw stamp sums 0
 IsMadeBy (event.Temporary conn stamp sums) k = k ≡ settled_at state.Temporary stamp sums 0
 IsMadeBy _ k = ⊥
+
+-- a write request: what sets a replica up
+abbrev pub IsSetup : Event → Type 0
+IsSetup (event.Create conn stamp sums) = Unit {0}
+IsSetup (event.Temporary conn stamp sums) = Unit {0}
+IsSetup (event.Append conn named new bytes) = Unit {0}
+IsSetup (event.AppendRecovery conn named new bytes) = Unit {0}
+IsSetup (event.StreamRecovery conn named new low high) = Unit {0}
+IsSetup (event.CloseRecovery named new bytes) = Unit {0}
+IsSetup _ = ⊥

@@ -1,6 +1,7 @@
 //! One replica's core, its two files and its history, as one value: the replica's book.
 #![tactic(auto)]
 
+mod book;
 mod book_state;
 mod creating;
 mod cutting;
@@ -8,4 +9,5 @@ mod faults;
 mod growing;
 mod settling;
 
+pub use book::ReplicaBook;
 pub use faults::BookFault;
