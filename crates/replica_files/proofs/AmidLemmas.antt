@@ -1,5 +1,5 @@
 -- A replica amid an event that settles what it held.
-use Rattle.std.proofs.Common.{◌≡◌, ℕ, ◌<◌, ◌≤◌, ◌==◌, ◌&&◌, not, nat_lt, Bool, true, false, List, [], ◌∷◌, ◌++◌, length, take, append-nil, Option, Some, None, option_map, IfSome, Result, Ok, Err, IsOk, refl, sym, ap, subst, ◌∙◌, arith}
+use Rattle.std.proofs.Common.{◌≡◌, ℕ, ◌==◌, ◌&&◌, not, nat_lt, Bool, true, false, List, [], ◌∷◌, ◌++◌, length, take, append-nil, Option, Some, None, option_map, IfSome, Result, Ok, Err, IsOk, refl, sym, ap, subst, ◌∙◌, arith}
 use Rattle.std.specs.Result.{IfOk}
 use Rattle.std.proofs.lemmas.Grind.{common_steps}
 use Rattle.std.proofs.lemmas.Bool.Decides.{nat_tests}
@@ -24,7 +24,7 @@ use Rattle.replica_core.specs.Views.{written_at}
 use Rattle.replica_model.specs.declared.events.ReplicaEvent.{ReplicaEvent}
 use Rattle.replica_model.specs.declared.events.ReplicaEvent.TheVariants as replica_event
 use Rattle.replica_model.specs.Rows.{FullReplica, event_at, row}
-use Rattle.replica_model.specs.Plans.{folder_of, placed_info, placed_under, placement_of, HoldsInfo, Holds, when, sync_calls, cut_calls, move_calls, settle_calls, same_folder, leaves_temporary, taken_calls, outcome_calls, plan}
+use Rattle.replica_model.specs.Plans.{folder_of, placed_info, placed_under, placement_of, HoldsInfo, when, sync_calls, same_folder, leaves_temporary, taken_calls, outcome_calls, plan}
 use Rattle.replica_calls.specs.LastSums.{IsLastSum}
 use Rattle.replica_files.specs.declared.book_state.Prior.{Prior}
 use Rattle.replica_files.specs.Books.{HasLastSum, AreStrays, event_calls, Takes, amid}

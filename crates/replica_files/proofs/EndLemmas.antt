@@ -1,18 +1,16 @@
 -- How a call of a book ends, once the calls on the files were made or one failed.
-use Rattle.std.proofs.Common.{◌≡◌, ℕ, ◌<◌, ◌^◌, Bool, true, false, List, [], ◌∷◌, ◌++◌, length, take, Option, Some, None, option_map, IfSome, Result, Ok, Err, IsOk, IsErr, refl, sym, ap, subst, ◌∙◌, arith}
-use Rattle.std.specs.Result.{IfOk}
+use Rattle.std.proofs.Common.{◌≡◌, ℕ, ◌<◌, ◌^◌, Bool, true, false, List, [], ◌∷◌, ◌++◌, length, Option, Some, None, option_map, IfSome, Result, Ok, Err, refl, sym, ap, subst, ◌∙◌, arith}
 use Rattle.hd_base.specs.Bytes.{IsBytes}
 use Rattle.hd_base.proofs.ByteLaws.{IsBytes-behind, IsBytes-cons, IsBytes-take}
-use Rattle.hd_base.specs.FileMaps.{FileMap, OnlyOf, no_files, AreNamesOf}
+use Rattle.hd_base.specs.FileMaps.{FileMap, OnlyOf}
 use Rattle.hd_base.specs.Calls.{Call, run, logged, stopped, effect_of, MakesCalls, IsUnchanged}
 use Rattle.hd_base.specs.declared.numbers.BlockId.{BlockId}
 use Rattle.hd_base.specs.declared.numbers.Receipt.{Receipt}
 use Rattle.hd_base.specs.declared.files.Files as files
 use Rattle.hd_base.specs.declared.files.FileError.{FileError}
-use Rattle.block_files.specs.Placements.{Nowhere, files_of}
-use Rattle.block_files.specs.BlockCalls.{calls_of, all_placed}
+use Rattle.block_files.specs.Placements.{files_of}
+use Rattle.block_files.specs.BlockCalls.{calls_of}
 use Rattle.block_files.proofs.PlacementLaws.{calls_place_files}
-use Rattle.replica_core.specs.declared.records.ReplicaRecord.{ReplicaRecord}
 use Rattle.replica_core.specs.declared.events.Answer.{Answer}
 use Rattle.replica_core.specs.declared.events.Event.{Event}
 use Rattle.replica_core.specs.declared.events.Event.TheVariants as event
@@ -22,7 +20,7 @@ use Rattle.replica_core.specs.Views.{written_in}
 use Rattle.replica_model.specs.declared.events.ReplicaEvent.{ReplicaEvent}
 use Rattle.replica_model.specs.declared.events.ReplicaEvent.TheVariants as replica_event
 use Rattle.replica_model.specs.Rows.{FullReplica, IsFull, IsOther, IsWithBytes, event_at, brought, row, row_answer, broken}
-use Rattle.replica_model.specs.Plans.{placed_info, placed_under, placement_of, HoldsInfo, Holds, plan}
+use Rattle.replica_model.specs.Plans.{placed_under, placement_of, HoldsInfo, Holds, plan}
 use Rattle.replica_model.proofs.RowLemmas.{rows_keep_bytes, plans_find_files, plans_follow_rows}
 use Rattle.replica_model.specs.declared.histories.History.{History}
 use Rattle.replica_model.specs.Histories.{begun, replay, replayed}
@@ -40,7 +38,7 @@ use Rattle.replica_files.specs.Events.{IsSettling}
 use Rattle.replica_files.specs.Books.{replica_of, HasLastSum, IsHeld, Takes, AreStrays, event_calls, IsBookOf, MakesEvent, StopsEvent, before_all, amid}
 use Rattle.replica_files.specs.Carried.{CarriesOut, IsAmidSettling}
 use Rattle.replica_files.specs.Steps.{IsToNote, IsAmid, IsPrepared, KeepsBook}
-use Rattle.replica_files.specs.Endings.{Notes, EndsTaken, EndsFailed, CallEnds, TakenEnds, Finishes, Fails, IsRefusal}
+use Rattle.replica_files.specs.Endings.{Notes, CallEnds, TakenEnds, Finishes, Fails, IsRefusal}
 use Rattle.replica_files.proofs.BookLemmas.{broken_block, book_as}
 use Rattle.replica_files.proofs.ShapeLemmas.{stays_of}
 
@@ -141,7 +139,6 @@ broken_after f old new block sum r held only =
     }
 
 -- ---- a book that is to get its entry
-
 
 pub to_note : {F : Type 0} (f : files.Ghosts F) (old : F) (s : BookState F) (e : ReplicaEvent) (before : Option ReplicaInfo) (made : Result ℕ FileError) → s.replica ≡ (row (replica_of s) e).known → before ≡ (replica_of s).known.info
     → IsHeld f old s.block s.last_sum (replica_of s) → IsWithBytes e → IsBytes (brought (length (replica_of s).bytes) e) → CarriesOut f old s.drawer s.block (replica_of s) e made → IsToNote f s e before made

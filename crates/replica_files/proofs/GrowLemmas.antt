@@ -8,8 +8,8 @@ use Rattle.hd_base.proofs.ByteLaws.{IsBytes-drop}
 use Rattle.meta_file.specs.declared.names.Folder.{Folder}
 use Rattle.replica_calls.specs.declared.names.FileNames.{FileNames}
 use Rattle.hd_base.specs.Bytes.{IsBytes}
-use Rattle.hd_base.specs.FileMaps.{FileMap, OnlyOf}
-use Rattle.hd_base.specs.Calls.{Call, Write, run, Log, LogMakesFiles, MakesCalls, StopsWithin}
+use Rattle.hd_base.specs.FileMaps.{FileMap}
+use Rattle.hd_base.specs.Calls.{Write, run, LogMakesFiles, MakesCalls, StopsWithin}
 use Rattle.hd_base.specs.declared.numbers.BlockId.{BlockId}
 use Rattle.hd_base.specs.declared.numbers.ConnId.{ConnId}
 use Rattle.hd_base.specs.declared.files.Files as files
@@ -34,16 +34,16 @@ use Rattle.replica_model.proofs.PlacementLemmas.{leads_packet}
 use Rattle.replica_calls.specs.declared.growth.GrownSums.{GrownSums}
 use Rattle.replica_calls.specs.CallLists.{only, all_if, sync_list, names_in, names_of, packet_list}
 use Rattle.replica_calls.specs.LastSums.{IsLastSum, IsGrowing, AreGrownSums}
-use Rattle.replica_calls.specs.Performed.{IsReady, Performs, Covers}
+use Rattle.replica_calls.specs.Performed.{IsReady, Performs}
 use Rattle.replica_files.specs.declared.book_state.BookState.{BookState}
 use Rattle.replica_files.specs.declared.book_state.Prior.{Prior}
 use Rattle.replica_files.specs.declared.growing.Growth.{Growth}
-use Rattle.replica_files.specs.Books.{replica_of, HasLastSum, IsHeld, Takes, AreStrays, event_calls, amid}
+use Rattle.replica_files.specs.Books.{replica_of, HasLastSum, Takes, AreStrays, event_calls, amid}
 use Rattle.replica_files.specs.Carried.{AreSumsOf, HoldsGrowing, IsToGrow, GrowsFiles, grown_calls, CarriesOut}
 use Rattle.replica_files.specs.Packets.{brought_by, FitsGrowth, IsReadyWith, IsAmidGrowing, IsAmidPacket}
 use Rattle.replica_files.proofs.ShapeLemmas.{most_bytes, Grows, grows}
 use Rattle.replica_files.proofs.OnlyLemmas.{only_made, only_stopped, packet_stays}
-use Rattle.replica_files.proofs.SettleLemmas.{Carries, carries_as}
+use Rattle.replica_files.proofs.SettleLemmas.{carries_as}
 use Rattle.replica_files.proofs.AmidLemmas.{plan_is}
 
 -- ---- sums

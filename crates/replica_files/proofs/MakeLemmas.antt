@@ -1,9 +1,9 @@
 -- The calls that make a new replica.
-use Rattle.std.proofs.Common.{◌≡◌, ℕ, ◌<◌, ◌^◌, List, [], ◌∷◌, ◌++◌, length, take, Option, Some, None, option_map, IfSome, Result, Ok, Err, IsOk, refl, sym, ap, subst, ◌∙◌, arith}
+use Rattle.std.proofs.Common.{◌≡◌, ℕ, ◌<◌, ◌^◌, List, [], ◌∷◌, ◌++◌, length, take, Option, Some, None, IfSome, Result, Ok, Err, IsOk, refl, sym, ap, subst, ◌∙◌, arith}
 use Rattle.std.specs.Result.{IfOk}
 use Rattle.std.proofs.Math.Nat.{zero-mod}
 use Rattle.replica_core.specs.Views.{written_at}
-use Rattle.hd_base.specs.FileMaps.{FileMap, OnlyOf, no_files, AreNamesOf}
+use Rattle.hd_base.specs.FileMaps.{FileMap, no_files, AreNamesOf}
 use Rattle.hd_base.specs.Calls.{Call, run, effect_of, MakesCalls, StopsWithin}
 use Rattle.hd_base.specs.declared.numbers.BlockId.{BlockId}
 use Rattle.hd_base.specs.declared.states.ReplicaState.TheVariants as state
@@ -12,22 +12,21 @@ use Rattle.hd_base.specs.declared.files.FileError.{FileError}
 use Rattle.hd_base.specs.SumRules.{Rule, IsChunkSize}
 use Rattle.file_calls.specs.Plans.{FindFiles}
 use Rattle.meta_file.specs.Headers.{header_of}
-use Rattle.block_files.specs.Placements.{Nowhere, files_of}
+use Rattle.block_files.specs.Placements.{Nowhere}
 use Rattle.block_files.specs.BlockCalls.{calls_of}
 use Rattle.block_files.proofs.PlacementLaws.{calls_find_files}
-use Rattle.replica_core.specs.declared.records.ReplicaRecord.{ReplicaRecord}
 use Rattle.replica_core.specs.declared.events.Event.{Event}
 use Rattle.replica_core.specs.declared.events.Event.TheVariants as event
 use Rattle.replica_core.specs.declared.info.ReplicaInfo.{ReplicaInfo}
 use Rattle.replica_core.specs.Transitions.{Taken, Outcome, record_after, transition}
 use Rattle.replica_model.specs.declared.events.ReplicaEvent.TheVariants as replica_event
-use Rattle.replica_model.specs.Sums.{header_len, tail}
+use Rattle.replica_model.specs.Sums.{header_len}
 use Rattle.replica_model.specs.Rows.{FullReplica, IsOther, IsWithBytes, brought, row}
-use Rattle.replica_model.specs.Plans.{folder_of, has_sums, placed_under, placement_of, create_calls, taken_calls, plan}
+use Rattle.replica_model.specs.Plans.{folder_of, placed_under, placement_of, create_calls, taken_calls, plan}
 use Rattle.replica_model.proofs.PlacementLemmas.{leads_new}
 use Rattle.replica_calls.specs.CallLists.{names_of, remove_list, new_list, create_list}
 use Rattle.replica_calls.specs.LastSums.{IsLastSum}
-use Rattle.replica_calls.specs.Performed.{IsReady, Performs, Covers}
+use Rattle.replica_calls.specs.Performed.{IsReady, Performs}
 use Rattle.replica_calls.proofs.ListLemmas.{creates_have_room}
 use Rattle.replica_calls.proofs.RemovalLemmas.{strays_are_removed}
 use Rattle.replica_calls.proofs.GrowthLemmas.{whole_sum}

@@ -1,11 +1,11 @@
 -- Calls that leave all files a block's.
-use Rattle.std.proofs.Common.{◌≡◌, ◌≢◌, ℕ, zero, suc, ◌<◌, ◌^◌, ◌%◌, ◌==◌, ◌&&◌, not, nat_lt, Bool, true, false, cond, List, [], ◌∷◌, ◌++◌, length, Option, Some, None, option_map, IfSome, refl, sym, ap, subst, ◌∙◌, arith}
+use Rattle.std.proofs.Common.{◌≡◌, ℕ, zero, suc, ◌<◌, ◌^◌, ◌%◌, ◌==◌, ◌&&◌, not, nat_lt, Bool, true, false, List, [], ◌∷◌, ◌++◌, length, Option, Some, None, option_map, refl, sym, ap, subst, ◌∙◌, arith}
 use Rattle.std.specs.Str.{bytes_eq}
 use Rattle.std.specs.Map.{update}
 use Rattle.std.proofs.lemmas.Slice.Eq.{bytes_eq-Decides}
 use Rattle.std.proofs.lemmas.Grind.{common_steps}
 use Rattle.hd_base.specs.Blocks.{is_of_block}
-use Rattle.hd_base.specs.FileMaps.{FileMap, OnlyOf, put, changed, without, moved}
+use Rattle.hd_base.specs.FileMaps.{FileMap, OnlyOf, without}
 use Rattle.hd_base.specs.Calls.{Call, Make, Write, Cut, Sync, Rename, Remove, Log, effect_of, run, cut_short, stopped, MakesCalls, StopsWithin}
 use Rattle.hd_base.specs.SumRules.{Rule}
 use Rattle.meta_file.specs.declared.names.Folder.{Folder}
@@ -16,7 +16,7 @@ use Rattle.std.specs.Int.{w32, to_be_bytes}
 use Rattle.replica_model.specs.Sums.{sum_place, meta_len}
 use Rattle.replica_model.specs.Plans.{folder_of, has_sums, same_folder, leaves_temporary}
 use Rattle.replica_calls.specs.declared.names.FileNames.{FileNames}
-use Rattle.replica_calls.specs.CallLists.{only, all_if, names_of, remove_list, sync_list, move_list, shorter_list, cut_list, settle_list, grow_list, packet_list, new_list, create_list}
+use Rattle.replica_calls.specs.CallLists.{only, all_if, names_of, remove_list, sync_list, move_list, cut_list, settle_list, grow_list, packet_list, new_list, create_list}
 
 -- a call that makes no file of another block
 abbrev pub StaysOf : ℕ → Call → Type 0
@@ -52,6 +52,7 @@ only_same : (block : ℕ) (m : FileMap) (name : List ℕ) (v : Option (List ℕ)
 only_same block m name v none kept q other = by (bytes_eq name q) refl where
   same : bytes_eq name q ≡ true → name ≡ q
   same e = grind (arith, common_steps, bytes_eq-Decides name q)
+
   by : (b : Bool) → bytes_eq name q ≡ b → update bytes_eq m name v q ≡ None
   by true e = rw e (none (ap m (same e) ∙ kept q other))
   by false e = rw e (kept q other)

@@ -1,8 +1,6 @@
 -- The calls that settle what a replica holds: that they may be made, and that they are those of its event.
-use Rattle.std.proofs.Common.{◌≡◌, ℕ, ◌+◌, ◌*◌, ◌/◌, ◌<◌, ◌≤◌, ◌^◌, ◌&&◌, not, nat_lt, Bool, true, false, List, [], ◌∷◌, ◌++◌, length, take, append-nil, Option, Some, None, option_map, IfSome, Result, Ok, Err, OnOk, OnErr, refl, sym, ap, subst, ◌∙◌, arith}
+use Rattle.std.proofs.Common.{◌≡◌, ℕ, ◌+◌, ◌*◌, ◌/◌, ◌<◌, ◌≤◌, ◌^◌, List, [], ◌∷◌, ◌++◌, length, take, append-nil, Option, Some, None, option_map, IfSome, Result, Ok, Err, OnOk, OnErr, refl, sym, ap, subst, ◌∙◌, arith}
 use Rattle.std.specs.Result.{IfOk}
-use Rattle.std.proofs.lemmas.Grind.{common_steps}
-use Rattle.std.proofs.lemmas.Bool.Decides.{nat_tests}
 use Rattle.std.proofs.lemmas.Nat.{le-div}
 use Rattle.std.proofs.Math.Nat.{div-mul-le_self}
 use Rattle.hd_base.specs.Faults.{HasCause}
@@ -13,7 +11,7 @@ use Rattle.hd_base.specs.declared.numbers.BlockId.{BlockId}
 use Rattle.hd_base.proofs.FileLaws.{bytes_eq-same}
 use Rattle.hd_base.specs.declared.files.Files as files
 use Rattle.hd_base.specs.declared.files.FileError.{FileError}
-use Rattle.file_calls.specs.Plans.{FindFiles, HasRoom}
+use Rattle.file_calls.specs.Plans.{FindFiles}
 use Rattle.block_files.specs.Placements.{Both, files_of, data_name}
 use Rattle.block_files.specs.BlockCalls.{AreAble, calls_of}
 use Rattle.block_files.proofs.PlacementLaws.{calls_find_files}
@@ -21,12 +19,12 @@ use Rattle.replica_core.specs.declared.info.ReplicaInfo.{ReplicaInfo}
 use Rattle.replica_core.specs.declared.events.Event.TheVariants as event
 use Rattle.replica_model.specs.Sums.{meta_of, sum_place}
 use Rattle.replica_model.specs.Plans.{folder_of, placed_info, when, sync_calls, settle_calls, leaves_temporary}
-use Rattle.replica_model.proofs.PlacementLemmas.{Leads, leads_append, leads_when, leads_sync, leads_move, leads_cut}
+use Rattle.replica_model.proofs.PlacementLemmas.{leads_append, leads_when, leads_sync, leads_move, leads_cut}
 use Rattle.replica_calls.specs.CallLists.{names_of, settle_list}
 use Rattle.replica_calls.specs.LastSums.{IsLastSum}
 use Rattle.replica_calls.specs.Performed.{IsReady, Performs, KeepsAll}
 use Rattle.replica_calls.proofs.ListLemmas.{settling_follows_plans, settling_has_room}
-use Rattle.replica_files.specs.Carried.{Holding, HasRoomToCut, IsToSettle, Settles, settled_calls}
+use Rattle.replica_files.specs.Carried.{Holding, IsToSettle, Settles, settled_calls}
 use Rattle.replica_files.proofs.OnlyLemmas.{only_made, only_stopped, names_are, settle_stays}
 
 -- ---- calls by another list, which is the same where files are observable
@@ -142,6 +140,7 @@ nothing_made f old new kept = record { files = kept.same ∙ map_none (f.files o
   map_none : (o : Option FileMap) → o ≡ option_map (run []) o
   map_none None = refl
   map_none (Some m) = refl
+
   map_log : (o : Option Log) → o ≡ option_map (logged []) o
   map_log None = refl
   map_log (Some l) = ap Some (ap (λ (x : List Call). record { start = l.start; calls = x }) (sym (append-nil l.calls)))
@@ -167,6 +166,7 @@ sum_is None block h n sum name (Ok s) is within value = λ bytes holding. tt
 sum_is (Some m) block h n sum name (Ok s) is within value = λ bytes holding. value m bytes refl (there bytes holding) (omega (arith, holding.all, within)) where
   itself : (bytes : List ℕ) → files_of block.0 (placed_info h bytes) (data_name (folder_of h.original) block.0) ≡ Some bytes
   itself bytes = rw (bytes_eq-same (data_name (folder_of h.original) block.0)) refl
+
   there : (bytes : List ℕ) → Holding (Some m) block h sum bytes → m name ≡ Some bytes
   there bytes holding = ap m is ∙ ap (λ (x : FileMap). x (data_name (folder_of h.original) block.0)) holding.placed ∙ itself bytes
 

@@ -1,5 +1,5 @@
 -- What an event that is taken makes of block and state, and of what is held.
-use Rattle.std.proofs.Common.{◌≡◌, ℕ, ℤ, pos, negsuc, nat_abs, ◌+◌, ◌-◌, ◌<◌, ◌≤◌, max, not, is_none, Bool, true, false, List, [], length, slice_get, Option, Some, None, IfSome, Result, Ok, Err, refl, sym, ap, subst, ◌∙◌, arith}
+use Rattle.std.proofs.Common.{◌≡◌, ℕ, ℤ, pos, negsuc, nat_abs, ◌+◌, ◌-◌, ◌<◌, ◌≤◌, max, not, is_none, Bool, true, false, [], slice_get, Option, Some, None, Result, Ok, Err, refl, sym, ap, subst, ◌∙◌, arith}
 use Rattle.std.specs.Result.{IfOk}
 use Rattle.std.specs.Ordering.{int_eq}
 use Rattle.std.proofs.lemmas.Bool.Decides.{nat_tests}
@@ -22,7 +22,7 @@ use Rattle.replica_core.specs.declared.streams.Stream.{Stream}
 use Rattle.replica_core.specs.Refusals.{check}
 use Rattle.replica_core.specs.Info.{state_of, is_writable, settled_at, reopen, recover_setup, recover_stream, begin_recovery, end_recovery, readable, given, visible_of, advance_acked, close_stream, extend_written}
 use Rattle.replica_core.specs.Extents.{stream_after, heartbeat_of, pending_of, start_of, place_check, packet_at}
-use Rattle.replica_core.specs.Transitions.{Taken, Outcome, done, record_after, present, set_writer, with_writer, new_transition, enqueue, extend, extent_transition, packet_transition, stream_by, oldest_of, acknowledge, is_written_by, end_connection, mark_broken, transition, state_after}
+use Rattle.replica_core.specs.Transitions.{Taken, Outcome, done, record_after, present, set_writer, with_writer, new_transition, enqueue, extend, extent_transition, packet_transition, stream_by, oldest_of, acknowledge, is_written_by, transition, state_after}
 use Rattle.replica_core.specs.Sound.{Sound}
 use Rattle.replica_core.proofs.StepLemmas.{after_check, after_step, choice, if_check, if_step, step_ok}
 use Rattle.replica_core.proofs.InfoLemmas.{present_is, reopen_is, recover_setup_is, recover_stream_is, begin_recovery_is, end_recovery_is, pending_of_is}

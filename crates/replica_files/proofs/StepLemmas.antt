@@ -1,22 +1,13 @@
 -- The replica's answers, and what stands before and after the calls on the files.
-use Rattle.std.proofs.Common.{◌≡◌, ℕ, ℤ, negsuc, ◌<◌, ◌^◌, not, is_none, Bool, true, false, List, [], ◌++◌, length, take, slice_get, Option, Some, None, option_map, IfSome, Result, Ok, Err, IsOk, IsErr, refl, sym, ap, subst, ◌∙◌, arith}
+use Rattle.std.proofs.Common.{◌≡◌, ℕ, negsuc, not, is_none, slice_get, Option, Some, None, Result, Ok, Err, IsOk, refl, sym, ap, subst, ◌∙◌}
 use Rattle.std.specs.Result.{IfOk}
 use Rattle.std.specs.Ordering.{int_eq}
-use Rattle.hd_base.specs.Bytes.{IsBytes}
-use Rattle.hd_base.specs.FileMaps.{FileMap, OnlyOf, no_files, AreNamesOf}
-use Rattle.hd_base.specs.Calls.{run, MakesCalls, StopsWithin}
-use Rattle.hd_base.specs.declared.numbers.BlockId.{BlockId}
 use Rattle.hd_base.specs.declared.states.ReplicaState.{ReplicaState}
 use Rattle.hd_base.specs.declared.states.ReplicaState.TheVariants as state
 use Rattle.hd_base.specs.declared.numbers.ConnId.{ConnId}
 use Rattle.hd_base.specs.declared.numbers.Stamp.{Stamp}
-use Rattle.hd_base.specs.declared.files.Files as files
-use Rattle.hd_base.specs.declared.files.FileError.{FileError}
 use Rattle.hd_base.specs.SumRules.{Rule}
 use Rattle.hd_base.specs.Results.{◌>>=◌}
-use Rattle.block_files.specs.Placements.{files_of, Nowhere}
-use Rattle.block_files.specs.BlockCalls.{calls_of, all_placed}
-use Rattle.block_files.proofs.PlacementLaws.{calls_place_files}
 use Rattle.replica_core.specs.declared.records.ReplicaRecord.{ReplicaRecord}
 use Rattle.replica_core.specs.declared.events.Answer.{Answer}
 use Rattle.replica_core.specs.declared.events.Answer.TheVariants as answer
@@ -26,7 +17,6 @@ use Rattle.replica_core.specs.declared.info.ReplicaInfo.{ReplicaInfo}
 use Rattle.replica_core.specs.declared.extents.PacketExtent.{PacketExtent}
 use Rattle.replica_core.specs.declared.refusals.Refusal.{Refusal}
 use Rattle.replica_core.specs.declared.refusals.Refusal.TheVariants as refusal
-use Rattle.replica_core.specs.declared.streams.Stream.{Stream}
 use Rattle.replica_core.specs.Refusals.{check}
 use Rattle.replica_core.specs.Info.{state_of, is_writable, settled_at, reopen, recover_setup, recover_stream, begin_recovery, end_recovery, readable, given, visible_of}
 use Rattle.replica_core.specs.Extents.{stream_after, heartbeat_of, pending_of}
@@ -119,3 +109,29 @@ refused_err (Ok t) x is = absurd (cc)
 refused_err (Err y) x is = ap Err (same is) where
   same : ◌≡◌ {A = Result Answer Refusal} (Err x) (Err y) → y ≡ x
   same e = cc
+
+-- ---- the beginning of a recovery
+
+abbrev pub IsInfo : Answer → Type 0
+IsInfo (answer.Info s stamp n) = Unit {0}
+IsInfo _ = ⊥
+
+init_answers : (c : ReplicaRecord) (named recovery : Stamp) → IfOk (transition c (event.Init named recovery)) (λ t. IsInfo t.answer)
+unfolding transition
+init_answers c named recovery =
+    if_step (λ t. IsInfo t.answer) (present c) _ (λ h _.
+    if_step (λ t. IsInfo t.answer) (begin_recovery h named recovery) (λ k. Ok (record { replica = set_writer c k None; answer = answer.Info h.original h.stamp h.written })) (λ k _. tt))
+
+answer_is : (P : Answer → Type 0) (out : Outcome) (a : Answer) → IsOk out → a ≡ answer_of (reply out) → IfOk out (λ t. P t.answer) → P a
+answer_is P (Ok t) a is same p = subst P (sym same) p
+answer_is P (Err x) a is same p = absurd (cc)
+
+-- it answers an info
+pub is_info : (c : ReplicaRecord) (named recovery : Stamp) (a : Answer) → IsOk (transition c (event.Init named recovery)) → a ≡ answer_of (reply (transition c (event.Init named recovery))) → IsInfo a
+is_info c named recovery a is same = answer_is IsInfo (transition c (event.Init named recovery)) a is same (init_answers c named recovery)
+
+pub no_info : (a : Answer) → IsInfo a → ((s : ReplicaState) (stamp : Stamp) (n : ℕ) → a ≡ answer.Info s stamp n → ⊥) → ⊥
+no_info (answer.Info s stamp n) is other = other s stamp n refl
+no_info answer.Done is other = is
+no_info (answer.Visible n) is other = is
+no_info (answer.Refused x) is other = is

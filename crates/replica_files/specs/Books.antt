@@ -1,17 +1,15 @@
 -- A replica's book: the replica that its history leads to, and the files that hold it.
-use Rattle.std.specs.Prelude.{ℕ, ◌≡◌, ◌<◌, ◌^◌, Bool, false, List, [], ◌++◌, Option, Some, None, IfSome, IfOk, OnErr, IsOk, Result}
+use Rattle.std.specs.Prelude.{ℕ, ◌≡◌, ◌<◌, ◌^◌, false, List, [], ◌++◌, Option, Some, None, IfSome, IsOk}
 use Rattle.hd_base.specs.Bytes.{IsBytes}
 use Rattle.hd_base.specs.FileMaps.{FileMap, OnlyOf, AreNamesOf}
 use Rattle.hd_base.specs.Calls.{Call, MakesCalls, StopsWithin, IsUnchanged}
 use Rattle.hd_base.specs.declared.numbers.BlockId.{BlockId}
 use Rattle.hd_base.specs.declared.files.Files as files
-use Rattle.hd_base.specs.declared.files.FileError.{FileError}
 use Rattle.block_files.specs.BlockCalls.{calls_of}
 use Rattle.replica_core.specs.declared.info.ReplicaInfo.{ReplicaInfo}
-use Rattle.replica_core.specs.declared.events.Answer.{Answer}
 use Rattle.replica_core.specs.Transitions.{transition}
 use Rattle.replica_model.specs.declared.events.ReplicaEvent.{ReplicaEvent}
-use Rattle.replica_model.specs.Rows.{FullReplica, IsFull, event_at, row, broken}
+use Rattle.replica_model.specs.Rows.{FullReplica, IsFull, event_at, row}
 use Rattle.replica_model.specs.Histories.{replayed}
 use Rattle.replica_model.specs.Plans.{Holds, plan, placement_of}
 use Rattle.replica_calls.specs.CallLists.{remove_list}

@@ -1,7 +1,6 @@
 -- The calls on the files that an event takes, while its replica has met it and its entry isn't there yet.
 use Rattle.std.specs.Prelude.{ℕ, ◌≡◌, ◌+◌, ◌<◌, ◌≤◌, ◌^◌, Bool, List, [], ◌++◌, length, take, Option, IfSome, IfOk, OnOk, OnErr, Result}
 use Rattle.hd_base.specs.Faults.{HasCause}
-use Rattle.hd_base.specs.Bytes.{IsBytes}
 use Rattle.hd_base.specs.FileMaps.{FileMap, OnlyOf, AreNamesOf}
 use Rattle.hd_base.specs.Calls.{Call, MakesCalls, StopsWithin}
 use Rattle.hd_base.specs.declared.numbers.BlockId.{BlockId}

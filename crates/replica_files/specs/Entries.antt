@@ -1,8 +1,7 @@
 -- The history of a book, which gets one entry after the other.
-use Rattle.std.specs.Prelude.{ℕ, ◌≡◌, ◌<◌, Bool, List, [], ◌∷◌, ◌++◌, length}
+use Rattle.std.specs.Prelude.{ℕ, ◌≡◌, ◌<◌, Bool, [], ◌∷◌, ◌++◌, length}
 use Rattle.std.specs.Vec.{vec_len, vec_capacity}
 use Rattle.replica_model.specs.declared.events.ReplicaEvent.{ReplicaEvent}
-use Rattle.replica_model.specs.declared.histories.Entry.{Entry}
 use Rattle.replica_model.specs.declared.histories.History.{History}
 
 -- There is room for one more entry.

@@ -1,6 +1,5 @@
 -- What stands between the parts of a book's calls.
-use Rattle.std.specs.Prelude.{ℕ, ◌≡◌, ◌<◌, ◌≤◌, length, List, Bool, true, false, Option, Some, None, Result, Ok, Err, IfOk, OnErr, IsErr}
-use Rattle.hd_base.specs.declared.numbers.Receipt.{Receipt}
+use Rattle.std.specs.Prelude.{ℕ, ◌≡◌, ◌<◌, ◌≤◌, length, List, Option, None, Result, IfOk, IsErr}
 use Rattle.hd_base.specs.declared.files.Files as files
 use Rattle.hd_base.specs.declared.files.FileError.{FileError}
 use Rattle.replica_core.specs.declared.info.ReplicaInfo.{ReplicaInfo}
@@ -11,7 +10,7 @@ use Rattle.replica_core.specs.Transitions.{reply, transition, IsLawful}
 use Rattle.replica_core.specs.declared.ack_queue.TheConstants.{MAX_PENDING}
 use Rattle.replica_model.specs.declared.events.ReplicaEvent.{ReplicaEvent}
 use Rattle.replica_model.specs.declared.events.ReplicaEvent.TheVariants as replica_event
-use Rattle.replica_model.specs.Rows.{FullReplica, IsWithBytes, event_at, row, row_answer, broken}
+use Rattle.replica_model.specs.Rows.{IsWithBytes, event_at, row, row_answer, broken}
 use Rattle.replica_core.specs.declared.events.Event.{Event}
 use Rattle.replica_calls.specs.Performed.{KeepsAll}
 use Rattle.replica_files.specs.Entries.{IsSame}

@@ -47,11 +47,7 @@ fn receipt_of(taken: Result<Taken, BookFault>) -> Result<Receipt, BookFault>
 
 impl<F: Files> ReplicaBook<F> {
     /// The book of an absent replica. Want of memory gives the drawer back.
-    pub fn new(
-        alloc: Global,
-        block: BlockId,
-        drawer: F,
-    ) -> Result<ReplicaBook<F>, (AllocError, F)>
+    pub fn new(alloc: Global, block: BlockId, drawer: F) -> Result<ReplicaBook<F>, (AllocError, F)>
         requires { OnlyOf block.0 (F.files drawer) }
         ensures made { IfOk result (λ book. IsNew book block drawer) }
         ensures given_back { IfErr result (λ e. e.1 ≡ drawer) }

@@ -47,7 +47,11 @@ fn overlap(written: u64, packet: &Packet) -> usize
 {
     let behind = written.saturating_sub(packet.offset.unsigned_abs());
     let len = len_of(&packet.body);
-    if behind < len as u64 { behind as usize } else { len }
+    if behind < len as u64 {
+        behind as usize
+    } else {
+        len
+    }
 }
 
 /// The sums where `more` is written behind `written` bytes, also where that is nothing.

@@ -8,6 +8,8 @@ mod cutting;
 mod faults;
 mod growing;
 mod settling;
+#[cfg(test)]
+mod tests;
 
 pub use book::ReplicaBook;
 pub use faults::BookFault;

@@ -123,14 +123,7 @@ impl<F: Files> BookState<F> {
     {
         let block = self.block;
         let next = self.replica.info();
-        let made = settle_info(
-            &mut self.drawer,
-            block,
-            prior,
-            next,
-            self.last_sum,
-            buffer,
-        );
+        let made = settle_info(&mut self.drawer, block, prior, next, self.last_sum, buffer);
         self.finish(event, prior, answer, made)
     }
 }

@@ -1,6 +1,5 @@
 -- The replica is there, and the packet was prepared.
-use Rattle.std.proofs.Common.{◌≡◌, ℕ, List, drop, take, length, Some, refl, sym, ap, subst, ◌∙◌, arith}
-use Rattle.std.proofs.lemmas.List.{take_all, length-drop}
+use Rattle.std.proofs.Common.{ℕ, List, sym, subst}
 use Rattle.replica_files.specs.Carried.{HoldsGrowing, IsToGrow, GrowsFiles}
 use Rattle.replica_files.specs.Packets.{brought_by}
 use Rattle.replica_files.proofs.GrowLemmas.{growing_there, growing_ready, growing_fits, growing_holds, growing_to_grow, growing_carries, rest_of}

@@ -1,5 +1,5 @@
 -- The sum is read first, and then the files are settled.
-use Rattle.std.proofs.Common.{Ok, Err, arith}
+use Rattle.std.proofs.Common.{arith}
 use Rattle.std.proofs.lemmas.Result.{err_from_is_err_and}
 use Rattle.replica_files.proofs.SettleLemmas.{to_settle_ready, settles_unread, settles_failed, settles_made}
 use Rattle.replica_files.proofs.settling.settle_files.Goals as goal

@@ -1,5 +1,4 @@
 -- What is held stays, or becomes another.
-use Rattle.std.proofs.Common.{◌≡◌, refl, ◌∙◌}
 use Rattle.replica_files.proofs.AmidLemmas.{amid_settled, settled_still, settled_none, settled_gone, still_carries, amid_holding, amid_to_settle, amid_carries}
 use Rattle.replica_files.proofs.settling.settle_info.Goals as goal
 

@@ -1,5 +1,5 @@
 -- The replica breaks, as the history says.
-use Rattle.std.proofs.Common.{◌≡◌, true, refl, sym, ap, ◌∙◌}
+use Rattle.std.proofs.Common.{true, ap, ◌∙◌}
 use Rattle.replica_model.specs.Rows.{broken}
 use Rattle.replica_files.specs.Books.{replica_of}
 use Rattle.replica_files.proofs.BookLemmas.{noted, book_as, breaks_so}

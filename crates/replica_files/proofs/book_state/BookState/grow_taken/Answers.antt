@@ -1,5 +1,5 @@
 -- The files grow, and the entry is added.
-use Rattle.std.proofs.Common.{refl, arith}
+use Rattle.std.proofs.Common.{refl}
 use Rattle.replica_files.proofs.EndLemmas.{to_note, call_ends}
 use Rattle.replica_files.proofs.GrowLemmas.{packet_carried, packet_with_bytes, packet_brings}
 use Rattle.replica_files.proofs.book_state.BookState.grow_taken.Goals as goal

@@ -1,5 +1,4 @@
 -- The history has room first.
-use Rattle.std.proofs.Common.{refl, arith}
 use Rattle.replica_model.specs.declared.events.ReplicaEvent.TheVariants as replica_event
 use Rattle.replica_files.proofs.EndLemmas.{ends_prepared, reserved}
 use Rattle.replica_files.proofs.book_state.BookState.keep.Goals as goal

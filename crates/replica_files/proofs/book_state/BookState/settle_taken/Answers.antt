@@ -1,6 +1,5 @@
 -- The files are settled, and the entry is added.
 use Rattle.std.proofs.Common.{refl, length}
-use Rattle.replica_files.specs.Books.{replica_of}
 use Rattle.replica_files.proofs.EndLemmas.{to_note, call_ends, amid_carried, amid_with_bytes, amid_brings}
 use Rattle.replica_files.proofs.book_state.BookState.settle_taken.Goals as goal
 

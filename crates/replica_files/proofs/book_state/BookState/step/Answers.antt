@@ -1,7 +1,7 @@
 -- A refusal is the transition's.
-use Rattle.std.proofs.Common.{◌≡◌, refl, sym, ap, ◌∙◌}
-use Rattle.replica_model.specs.Rows.{row, event_at, record_event}
-use Rattle.replica_core.specs.Transitions.{answer_to, state_after, transition, reply}
+use Rattle.std.proofs.Common.{◌≡◌, refl, ap, ◌∙◌}
+use Rattle.replica_model.specs.Rows.{event_at, record_event}
+use Rattle.replica_core.specs.Transitions.{state_after, transition, reply}
 use Rattle.replica_core.specs.Views.{rule_in}
 use Rattle.replica_files.specs.Books.{replica_of}
 use Rattle.replica_files.proofs.StepLemmas.{is_refused}
