@@ -1,4 +1,4 @@
 mod PerformLemmas
-mod GrowthLemmas
-mod ListLemmas
-mod RemovalLemmas
+pub mod GrowthLemmas
+pub mod ListLemmas
+pub mod RemovalLemmas

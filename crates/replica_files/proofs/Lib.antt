@@ -1,0 +1,9 @@
+pub mod AmidLemmas
+pub mod BookLemmas
+pub mod EndLemmas
+pub mod GrowLemmas
+pub mod MakeLemmas
+pub mod OnlyLemmas
+pub mod SettleLemmas
+pub mod ShapeLemmas
+pub mod StepLemmas

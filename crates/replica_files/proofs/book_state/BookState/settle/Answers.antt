@@ -1,0 +1,8 @@
+-- An event that was taken ends from the book before the step.
+use Rattle.replica_model.specs.declared.events.ReplicaEvent.TheVariants as replica_event
+use Rattle.replica_files.proofs.EndLemmas.{ends_stepped}
+use Rattle.replica_files.proofs.book_state.BookState.settle.Goals as goal
+
+pub returns-in-Ok-clause-ends : goal.returns-in-Ok-clause-ends
+returns-in-Ok-clause-ends g c =
+    ends_stepped g.F.Files c.args.self.now c.step.new.self c.settle_taken.new.self (replica_event.Other c.args.event) c.settle_taken.result c.step.ensures.kept c.settle_taken.ensures.ends

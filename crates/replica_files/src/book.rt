@@ -1,0 +1,157 @@
+//! A replica's book.
+
+ghost use Rattle.std.specs.Prelude.{◌≡◌, ◌<◌, ◌≤◌, length, IfOk, IfErr};
+ghost use Rattle.hd_base.specs.FileMaps.{OnlyOf};
+ghost use Rattle.replica_core.specs.declared.ack_queue.TheConstants.{MAX_PENDING};
+ghost use Rattle.replica_model.specs.declared.events.ReplicaEvent.TheVariants as ReplicaEvent;
+ghost use Rattle.replica_files.specs.Events.{IsSetup};
+ghost use Rattle.replica_files.specs.Endings.{BookEnds, InitEnds, IsReceiptOf, IsNew};
+
+use crate::book_state::{BookState, Taken};
+use crate::faults::BookFault;
+use hd_base::{BlockId, ConnId, Files, Receipt, ReplicaState, Stamp};
+use packet_codec::Packet;
+use replica_core::{Answer, Event, Replica};
+use replica_model::{History, Start};
+use std::alloc::{AllocError, Global};
+use std::marker::Model;
+
+/// One replica of a block with its two files and its history, as one value. The replica is always the one
+/// that the history leads to, and the files hold it unless it is absent or broken. Each call takes its
+/// memory first; one that doesn't end in `Memory` adds an entry, which its receipt names.
+#[derive(Drop)]
+pub struct ReplicaBook<F: Files> {
+    state: BookState<F>,
+}
+
+impl<F: Files> Model for ReplicaBook<F> {
+    ghost use Rattle.replica_files.specs.declared.book_state.BookState.{BookState};
+    ghost use Rattle.replica_files.specs.Books.{IsBookOf};
+
+    ghost Value = { BookState F };
+
+    ghost view = { λ b. b.state };
+
+    ghost invariant = { λ b. IsBookOf F.Files b.state };
+}
+
+/// The receipt of an event that was taken.
+fn receipt_of(taken: Result<Taken, BookFault>) -> Result<Receipt, BookFault>
+    ensures { IsReceiptOf taken result }
+{
+    match taken {
+        Ok(taken) => Ok(taken.receipt),
+        Err(fault) => Err(fault),
+    }
+}
+
+impl<F: Files> ReplicaBook<F> {
+    /// The book of an absent replica. Want of memory gives the drawer back.
+    pub fn new(alloc: Global, block: BlockId, drawer: F) -> Result<ReplicaBook<F>, (AllocError, F)>
+        requires { OnlyOf block.0 (F.files drawer) }
+        ensures made { IfOk result (λ book. IsNew book block drawer) }
+        ensures given_back { IfErr result (λ e. e.1 ≡ drawer) }
+    {
+        let replica = match Replica::new(alloc, block) {
+            Ok(replica) => replica,
+            Err(error) => return Err((error, drawer)),
+        };
+        let history = History {
+            start: Start::Absent,
+            entries: Vec::new(alloc),
+        };
+        let state = BookState {
+            block,
+            drawer,
+            replica,
+            last_sum: 0,
+            history,
+        };
+        Ok(ReplicaBook { state })
+    }
+
+    /// The write request of a connection, which sets the replica up: a create, a transfer's temporary
+    /// replica, an append or a recovery.
+    pub fn setup(&mut self, event: &Event) -> Result<Receipt, BookFault>
+        requires { IsSetup event.now }
+        ensures { BookEnds F.Files self.old self.new (ReplicaEvent.Other event.now) result }
+    {
+        let taken = match event {
+            Event::Create { .. } | Event::Temporary { .. } => self.state.make(*event),
+            Event::StreamRecovery { .. } => self.state.cut(*event),
+            _ => self.state.keep(*event),
+        };
+        receipt_of(taken)
+    }
+
+    /// A packet of a connection.
+    pub fn packet(&mut self, conn: ConnId, packet: &Packet) -> Result<Receipt, BookFault>
+        requires { length self.old.replica.pending < MAX_PENDING }
+        ensures { BookEnds F.Files self.old self.new (ReplicaEvent.Packet conn packet.now) result }
+    {
+        receipt_of(self.state.packet(conn, packet))
+    }
+
+    /// The ack of the oldest pending packet, good where all below acked it.
+    pub fn ack(&mut self, conn: ConnId, seqno: i64, good: bool) -> Result<Receipt, BookFault>
+        ensures { BookEnds F.Files self.old self.new (ReplicaEvent.Other (Event.Ack conn seqno good)) result }
+    {
+        receipt_of(self.state.keep(Event::Ack { conn, seqno, good }))
+    }
+
+    /// The end of a connection, which is never refused.
+    pub fn ended(&mut self, conn: ConnId) -> Result<Receipt, BookFault>
+        ensures { BookEnds F.Files self.old self.new (ReplicaEvent.Other (Event.Ended conn)) result }
+    {
+        receipt_of(self.state.keep(Event::Ended { conn }))
+    }
+
+    /// The beginning of a block recovery, which learns the original state, the stamp and the length.
+    pub fn init(
+        &mut self,
+        named: Stamp,
+        recovery: Stamp,
+    ) -> Result<((ReplicaState, Stamp, u64), Receipt), BookFault>
+        requires { 1 ≤ recovery.0 }
+        ensures { InitEnds F.Files self.old self.new (ReplicaEvent.Other (Event.Init named recovery)) result }
+    {
+        let taken = self.state.keep(Event::Init { named, recovery })?;
+        match taken.answer {
+            Answer::Info {
+                state,
+                stamp,
+                length,
+            } => Ok(((state, stamp, length), taken.receipt)),
+            _ => unreachable!(),
+        }
+    }
+
+    /// The end of a block recovery, which settles the length.
+    pub fn update(&mut self, recovery: Stamp, length: u64) -> Result<Receipt, BookFault>
+        ensures { BookEnds F.Files self.old self.new (ReplicaEvent.Other (Event.Update recovery length)) result }
+    {
+        receipt_of(self.state.cut(Event::Update { recovery, length }))
+    }
+
+    /// The replica.
+    pub fn replica(&self) -> &Replica
+        ensures { result.now ≡ self.now.replica }
+    {
+        &self.state.replica
+    }
+
+    /// How many entries the history has.
+    pub fn entries(&self) -> u64
+        ensures { result ≡ length self.now.history.entries.items }
+    {
+        self.state.history.entries.len() as u64
+    }
+
+    /// The drawer and the history. Takes no memory.
+    pub fn close_book(self) -> (F, History)
+        ensures drawer { result.0 ≡ self.drawer }
+        ensures history { result.1 ≡ self.history }
+    {
+        (self.state.drawer, self.state.history)
+    }
+}

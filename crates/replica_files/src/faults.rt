@@ -1,0 +1,32 @@
+//! Why a call on a book doesn't succeed.
+
+ghost use Rattle.std.specs.Prelude.{◌≡◌};
+
+use hd_base::Receipt;
+use replica_core::Refusal;
+use std::alloc::AllocError;
+use thiserror::Error;
+
+/// Why a call on a book doesn't succeed.
+#[derive(Clone, Copy, Debug, PartialEq, Eq, PartialOrd, Ord, Hash, Error)]
+pub enum BookFault {
+    /// The replica refuses the event; the receipt is that of its entry.
+    #[error("{0}")]
+    Refused(Refusal, Receipt),
+    /// A call on the files failed, and the replica is broken; the receipt is that of the event's entry.
+    #[error("a call on the replica's files failed")]
+    File(Receipt),
+    /// Memory ran out; nothing changed.
+    #[error("out of memory")]
+    Memory,
+}
+
+impl From<AllocError> for BookFault {
+    ghost use Rattle.replica_files.specs.declared.faults.BookFault.TheVariants as book_fault;
+
+    ghost from_gives = { λ _ e. e ≡ book_fault.Memory };
+
+    fn from(_: AllocError) -> BookFault {
+        BookFault::Memory
+    }
+}

@@ -1,0 +1,15 @@
+//! One replica's core, its two files and its history, as one value: the replica's book.
+#![tactic(auto)]
+
+mod book;
+mod book_state;
+mod creating;
+mod cutting;
+mod faults;
+mod growing;
+mod settling;
+#[cfg(test)]
+mod tests;
+
+pub use book::ReplicaBook;
+pub use faults::BookFault;
