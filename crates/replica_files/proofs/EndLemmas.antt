@@ -1,5 +1,6 @@
 -- How a call of a book ends, once the calls on the files were made or one failed.
 use Rattle.std.proofs.Common.{◌≡◌, ℕ, ◌<◌, ◌^◌, Bool, true, false, List, [], ◌∷◌, ◌++◌, length, Option, Some, None, option_map, IfSome, Result, Ok, Err, refl, sym, ap, subst, ◌∙◌, arith}
+use Rattle.std.specs.Result.{IfOk}
 use Rattle.hd_base.specs.Bytes.{IsBytes}
 use Rattle.hd_base.proofs.ByteLaws.{IsBytes-behind, IsBytes-cons, IsBytes-take}
 use Rattle.hd_base.specs.FileMaps.{FileMap, OnlyOf}
@@ -239,7 +240,7 @@ amid_brings f s e prior answer buffer n a = subst (λ x. IsBytes (brought n x)) 
 
 -- ---- a book for which memory was taken
 
-replica_same : {F : Type 0} (f : files.Ghosts F) (old mid : BookState F) → IsPrepared f old mid → replica_of mid ≡ replica_of old
+pub replica_same : {F : Type 0} (f : files.Ghosts F) (old mid : BookState F) → IsPrepared f old mid → replica_of mid ≡ replica_of old
 replica_same f old mid p =
     ap (λ b. replay (begun b mid.history.start) mid.history.entries.items) p.block
     ∙ (ap (λ s. replay (begun old.block s) mid.history.entries.items) p.history.start
@@ -346,7 +347,7 @@ ends_failed f old mid new e fault.Memory p rose fails = absurd fails
 
 -- ---- a book whose replica was stepped
 
-stepped_same : {F : Type 0} (old mid : BookState F) → KeepsBook old mid → replica_of mid ≡ replica_of old
+pub stepped_same : {F : Type 0} (old mid : BookState F) → KeepsBook old mid → replica_of mid ≡ replica_of old
 stepped_same old mid k = ap (λ b. replayed b mid.history) k.block ∙ ap (replayed old.block) k.history
 
 pub ends_stepped : {F : Type 0} (f : files.Ghosts F) (old mid new : BookState F) (e : ReplicaEvent) (result : Result Taken BookFault) → KeepsBook old mid → TakenEnds f mid new e result → CallEnds f old new e result
@@ -395,3 +396,9 @@ ends_refused f old mid new e (fault.Refused x receipt) k ends =
     }
 ends_refused f old mid new e (fault.File receipt) k ends = absurd ends
 ends_refused f old mid new e fault.Memory k ends = absurd ends
+
+-- what comes with an event that was taken comes where its calls were made
+pub finished_ok : {F : Type 0} (P : Type 0) (old new : BookState F) (e : ReplicaEvent) (answer : Answer) (made : Result ℕ FileError) (result : Result Taken BookFault) → Finishes old new e answer made result → IfOk made (λ _. P) → IfOk result (λ _. P)
+finished_ok P old new e answer (Ok sum) (Ok taken) fin p = p
+finished_ok P old new e answer (Err x) (Ok taken) fin p = absurd fin
+finished_ok P old new e answer made (Err why) fin p = tt

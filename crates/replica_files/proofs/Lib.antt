@@ -4,6 +4,7 @@ pub mod EndLemmas
 pub mod GrowLemmas
 pub mod MakeLemmas
 pub mod OnlyLemmas
+pub mod ReadLemmas
 pub mod SettleLemmas
 pub mod ShapeLemmas
 pub mod StepLemmas

@@ -5,3 +5,4 @@ pub mod Carried
 pub mod Steps
 pub mod Packets
 pub mod Endings
+pub mod Reads

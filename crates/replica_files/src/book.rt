@@ -1,10 +1,12 @@
 //! A replica's book.
 
-ghost use Rattle.std.specs.Prelude.{◌≡◌, ◌<◌, ◌≤◌, length, IfOk, IfErr};
+ghost use Rattle.std.specs.Prelude.{◌≡◌, ◌<◌, ◌≤◌, length, IfOk, IfErr, OnErr};
 ghost use Rattle.hd_base.specs.FileMaps.{OnlyOf};
 ghost use Rattle.replica_core.specs.declared.ack_queue.TheConstants.{MAX_PENDING};
 ghost use Rattle.replica_model.specs.declared.events.ReplicaEvent.TheVariants as ReplicaEvent;
 ghost use Rattle.replica_files.specs.Events.{IsSetup};
+ghost use Rattle.replica_files.specs.Books.{replica_of};
+ghost use Rattle.replica_files.specs.Reads.{ReadsBytes};
 ghost use Rattle.replica_files.specs.Endings.{BookEnds, InitEnds, IsReceiptOf, IsNew};
 
 use crate::book_state::{BookState, Taken};
@@ -131,6 +133,51 @@ impl<F: Files> ReplicaBook<F> {
         ensures { BookEnds F.Files self.old self.new (ReplicaEvent.Other (Event.Update recovery length)) result }
     {
         receipt_of(self.state.cut(Event::Update { recovery, length }))
+    }
+
+    /// A read: gives `into` the bytes that it asks for, in place of what that held. `into` stays as it was
+    /// where the read isn't answered.
+    pub fn read(
+        &mut self,
+        named: Stamp,
+        offset: u64,
+        length: u64,
+        into: &mut Vec<u8>,
+    ) -> Result<Receipt, BookFault>
+        ensures ends { BookEnds F.Files self.old self.new
+            (ReplicaEvent.Other (Event.Read named offset length)) result }
+        ensures bytes { IfOk result (λ _.
+            ReadsBytes (F.files self.old.drawer) (replica_of self.old) offset length into.new.items) }
+        ensures kept { OnErr result (into.new.items ≡ into.old.items) }
+    {
+        let event = Event::Read {
+            named,
+            offset,
+            length,
+        };
+        receipt_of(self.state.read(event, offset, length, into))
+    }
+
+    /// What a transfer is given of a replica being written under just this stamp, as `read`.
+    pub fn give(
+        &mut self,
+        named: Stamp,
+        offset: u64,
+        length: u64,
+        into: &mut Vec<u8>,
+    ) -> Result<Receipt, BookFault>
+        ensures ends { BookEnds F.Files self.old self.new
+            (ReplicaEvent.Other (Event.Give named offset length)) result }
+        ensures bytes { IfOk result (λ _.
+            ReadsBytes (F.files self.old.drawer) (replica_of self.old) offset length into.new.items) }
+        ensures kept { OnErr result (into.new.items ≡ into.old.items) }
+    {
+        let event = Event::Give {
+            named,
+            offset,
+            length,
+        };
+        receipt_of(self.state.read(event, offset, length, into))
     }
 
     /// The replica.

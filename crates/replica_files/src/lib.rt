@@ -7,6 +7,7 @@ mod creating;
 mod cutting;
 mod faults;
 mod growing;
+mod reading;
 mod settling;
 #[cfg(test)]
 mod tests;

@@ -25,15 +25,6 @@ fn packet(alloc: Global) -> Result<Packet, AllocError> {
     })
 }
 
-/// The write request of a block with chunks of 16 bytes.
-fn create() -> Result<Event, Fail> {
-    Ok(Event::Create {
-        conn: ConnId(0),
-        stamp: Stamp(1001),
-        sums: SumRule::new(SumKind::Crc32c, 16).ok_or("a rule")?,
-    })
-}
-
 /// The block's receipt with this number.
 fn receipt(index: u64) -> Receipt {
     Receipt {
@@ -43,20 +34,30 @@ fn receipt(index: u64) -> Receipt {
 }
 
 #[test]
-fn a_block_is_written_and_recovered(rt: HostRuntime) -> Result<(), Fail> {
+fn a_block_is_written_read_and_recovered(rt: HostRuntime) -> Result<(), Fail> {
     let alloc = rt.alloc();
     let mut shelf = MemShelf::new(alloc, &[])?;
-    let drawer = shelf.lend(alloc, BLOCK).ok().ok_or("a drawer")?;
+    let drawer = shelf.lend(alloc, BLOCK)?;
     let mut book = ReplicaBook::new(alloc, BLOCK, drawer).ok().ok_or("a book")?;
-    assert_eq!(rt; book.setup(&create()?), Ok(receipt(0)));
+    let create = Event::Create {
+        conn: ConnId(0),
+        stamp: Stamp(1001),
+        sums: SumRule::new(SumKind::Crc32c, 16).ok_or("a rule")?,
+    };
+    assert_eq!(rt; book.setup(&create), Ok(receipt(0)));
     assert!(rt; !book.replica().is_full());
     assert_eq!(rt; book.packet(ConnId(0), &packet(alloc)?), Ok(receipt(1)));
     assert_eq!(rt; book.ack(ConnId(0), 0, true), Ok(receipt(2)));
-    assert_eq!(rt; book.ended(ConnId(0)), Ok(receipt(3)));
+    let mut bytes = Vec::new(alloc);
+    assert_eq!(rt; book.read(Stamp(1001), 3, 4, &mut bytes), Ok(receipt(3)));
+    assert_eq!(rt; bytes.as_slice(), b"4567".as_slice());
+    assert_eq!(rt; book.give(Stamp(1001), 8, 1, &mut bytes), Ok(receipt(4)));
+    assert_eq!(rt; bytes.as_slice(), b"9".as_slice());
+    assert_eq!(rt; book.ended(ConnId(0)), Ok(receipt(5)));
     let info = (ReplicaState::Rbw, Stamp(1001), 9);
-    assert_eq!(rt; book.init(Stamp(1001), Stamp(1002)), Ok((info, receipt(4))));
-    assert_eq!(rt; book.update(Stamp(1002), 4), Ok(receipt(5)));
-    assert_eq!(rt; book.entries(), 6);
+    assert_eq!(rt; book.init(Stamp(1001), Stamp(1002)), Ok((info, receipt(6))));
+    assert_eq!(rt; book.update(Stamp(1002), 4), Ok(receipt(7)));
+    assert_eq!(rt; book.entries(), 8);
     let (mut drawer, _) = book.close_book();
     let mut data = [0; 5];
     let name = data_name(BLOCK, Folder::Finalized);
