@@ -51,12 +51,17 @@ use Rattle.world_sessions.proofs.Asides.{Aside, lower-down-aside, lower-ready-as
 
 -- CHANGES THAT LEAVE THE OFFICE
 
--- the office stays, no stamp is given, and no writer has another block or another committed stamp
+-- a session gets no bytes, or is the latest one of a block
+abbrev pub Spent : World → Change → Type 0
+Spent w k = (k.bytes ≡ []) ⊎ ((b : ℕ) × (k.session ≡ w.latest b))
+
+-- the office stays, no stamp is given, no writer has another block or another committed stamp, and only the latest session of a block gets bytes
 pub record Quiet (w : World) (k : Change) : Type 0 where
   pub office : k.office ≡ w.office
   pub stamped : k.stamped ≡ None
   pub block : k.writer.known.block ≡ (w.writers k.writer_at).known.block
   pub heard : stamp_heard k.writer ≡ stamp_heard (w.writers k.writer_at)
+  pub spent : Spent w k
 
 aside-quiet : (w : World) (k : Change) → Aside w k → Quiet w k
 aside-quiet w k a = record {
@@ -64,6 +69,7 @@ aside-quiet w k a = record {
   stamped = a.stamped;
   block = ap (λ (x : Writing). x.known.block) a.writer;
   heard = ap stamp_heard a.writer;
+  spent = inl a.bytes;
 }
 
 pub asides-quiet : (w : World) (k : Option Change) → IfSome k (Aside w) → IfSome k (Quiet w)
@@ -79,21 +85,21 @@ steady-then : (w : World) (b : ℕ) (x y : WriterRecord) → Steady w b x → Sa
 steady-then w b x y s e = record { block = e.block ∙ s.block; heard = e.committed ∙ s.heard }
 
 writer-quiet : (w : World) (b : ℕ) (x : WriterRecord) → Steady w b x → Quiet w (writer_change w b x)
-writer-quiet w b x s = record { office = refl; stamped = refl; block = s.block; heard = s.heard }
+writer-quiet w b x s = record { office = refl; stamped = refl; block = s.block; heard = s.heard; spent = inl refl }
 
 did-quiet : (w : World) (b : ℕ) (waits : Option Waiting) (a : Action) (x : WriterRecord) (bytes : List ℕ) → Steady w b x → IfSome (did w b waits a x bytes) (Quiet w)
 did-quiet w b waits action.Wait x bytes s = tt
-did-quiet w b waits action.Took x bytes s = record { office = refl; stamped = refl; block = s.block; heard = s.heard }
+did-quiet w b waits action.Took x bytes s = record { office = refl; stamped = refl; block = s.block; heard = s.heard; spent = inr (b, refl) }
 did-quiet w b waits (action.Ask c) x bytes s = tt
 did-quiet w b waits (action.Dial to r) x bytes s = tt
-did-quiet w b waits (action.Send p) x bytes s = record { office = refl; stamped = refl; block = s.block; heard = s.heard }
-did-quiet w b waits (action.Answered n a) x bytes s = record { office = refl; stamped = refl; block = s.block; heard = s.heard }
+did-quiet w b waits (action.Send p) x bytes s = record { office = refl; stamped = refl; block = s.block; heard = s.heard; spent = inl refl }
+did-quiet w b waits (action.Answered n a) x bytes s = record { office = refl; stamped = refl; block = s.block; heard = s.heard; spent = inl refl }
 did-quiet w b waits action.Memory x bytes s = tt
 
 dialled-quiet : (w : World) (b : ℕ) (x : WriterRecord) (to : NodeId) (r : Op) (answered : Bool) → Steady w b x → Quiet w (dialled_change w b x to r answered)
 dialled-quiet w b x to r true s =
     let t = steady-then w b x (dialled x true) s (dialled-same x true) in
-    record { office = refl; stamped = refl; block = t.block; heard = t.heard }
+    record { office = refl; stamped = refl; block = t.block; heard = t.heard; spent = inl refl }
 dialled-quiet w b x to r false s = writer-quiet w b (dialled x false) (steady-then w b x (dialled x false) s (dialled-same x false))
 
 dialling-quiet : (w : World) (b : ℕ) (x : WriterRecord) (a : Action) (answered : Bool) → Steady w b x → Quiet w (dialling w b x a answered)

@@ -3,3 +3,4 @@ pub mod OfficeSteps
 pub mod Asides
 pub mod Agreements
 pub mod Sessions
+pub mod Unused

@@ -45,7 +45,7 @@ record Stamping (before after : OfficeState) (s : Option Stamped) : Type 0 where
   pub rises : before.next.0 ≤ after.next.0
   pub fresh : IfSome s (λ x. x.stamp ≡ before.next.0)
 
-refused-stamp : (w : World) (c : OfficeCall) (e : OfficeFault) → stamped_by w c (Err e) ≡ None
+pub refused-stamp : (w : World) (c : OfficeCall) (e : OfficeFault) → stamped_by w c (Err e) ≡ None
 refused-stamp w (call.Create b members) e = refl
 refused-stamp w (call.Append b) e = refl
 refused-stamp w (call.NewStamp b) e = refl

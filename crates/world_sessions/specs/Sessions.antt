@@ -1,5 +1,5 @@
 -- What office and writers agree on, and the sessions of stamps.
-use Rattle.std.specs.Prelude.{ℕ, ◌≡◌, ◌<◌, List, ◌++◌, Option, Some, None}
+use Rattle.std.specs.Prelude.{ℕ, ◌≡◌, ◌<◌, ◌≤◌, List, [], ◌++◌, Option, Some, None}
 use Rattle.hd_base.specs.declared.numbers.BlockId.{BlockId}
 use Rattle.hd_base.specs.declared.numbers.Stamp.{Stamp}
 use Rattle.name_core.specs.declared.records.BlockRecord.{BlockRecord}
@@ -33,3 +33,8 @@ OfficeAndWriterAgree = (nodes : ℕ) (events : List Event) (b : ℕ) →
 abbrev pub StampsKeepSessions : Type 0
 StampsKeepSessions = (nodes : ℕ) (events others : List Event) (stamp : ℕ) → stamp < (run (start nodes) events).office.next.0 →
     (run (start nodes) (events ++ others)).session_of stamp ≡ (run (start nodes) events).session_of stamp
+
+-- A session that hasn't begun has no bytes: sessions are named by stamps, and none of that number was given.
+abbrev pub UnusedAreEmpty : Type 0
+UnusedAreEmpty = (nodes : ℕ) (events : List Event) (session : ℕ) → (run (start nodes) events).office.next.0 ≤ session →
+    (run (start nodes) events).written session ≡ []
