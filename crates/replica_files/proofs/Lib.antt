@@ -1,6 +1,7 @@
 pub mod AmidLemmas
 pub mod BookLemmas
 pub mod EndLemmas
+pub mod FindLemmas
 pub mod GrowLemmas
 pub mod MakeLemmas
 pub mod OnlyLemmas

@@ -41,7 +41,7 @@ stay_append block (x ∷ xs) ys a b = (a.0, stay_append block xs ys a.1 b)
 abbrev IsOnly : ℕ → FileMap → Type 0
 IsOnly block m = (name : List ℕ) → is_of_block block name ≡ false → m name ≡ None
 
-apart : (block : ℕ) (name q : List ℕ) → is_of_block block name ≡ true → is_of_block block q ≡ false → bytes_eq name q ≡ false
+pub apart : (block : ℕ) (name q : List ℕ) → is_of_block block name ≡ true → is_of_block block q ≡ false → bytes_eq name q ≡ false
 apart block name q mine other = grind (arith, common_steps, bytes_eq-Decides name q)
 
 only_put : (block : ℕ) (m : FileMap) (name : List ℕ) (v : Option (List ℕ)) → is_of_block block name ≡ true → IsOnly block m → IsOnly block (update bytes_eq m name v)

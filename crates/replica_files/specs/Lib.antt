@@ -6,3 +6,4 @@ pub mod Steps
 pub mod Packets
 pub mod Endings
 pub mod Reads
+pub mod Finding

@@ -1,20 +1,23 @@
 //! A replica's book.
 
-ghost use Rattle.std.specs.Prelude.{◌≡◌, ◌<◌, ◌≤◌, length, IfOk, IfErr, OnErr};
+ghost use Rattle.std.specs.Prelude.{◌≡◌, ◌⊎◌, ◌<◌, ◌≤◌, length, IfOk, IfErr, OnErr};
 ghost use Rattle.hd_base.specs.FileMaps.{OnlyOf};
 ghost use Rattle.replica_core.specs.declared.ack_queue.TheConstants.{MAX_PENDING};
 ghost use Rattle.replica_model.specs.declared.events.ReplicaEvent.TheVariants as ReplicaEvent;
 ghost use Rattle.replica_files.specs.Events.{IsSetup};
 ghost use Rattle.replica_files.specs.Books.{replica_of};
+ghost use Rattle.replica_files.specs.Finding.{HoldsFound, IsFound, GivesBack};
 ghost use Rattle.replica_files.specs.Reads.{ReadsBytes};
 ghost use Rattle.replica_files.specs.Endings.{BookEnds, InitEnds, IsReceiptOf, IsNew};
 
 use crate::book_state::{BookState, Taken};
-use crate::faults::BookFault;
-use hd_base::{BlockId, ConnId, Files, Receipt, ReplicaState, Stamp};
+use crate::faults::{BookFault, FoundFault};
+use crate::finding::read_found;
+use hd_base::{BlockId, ConnId, Files, Receipt, ReplicaState, Stamp, SumRule};
 use packet_codec::Packet;
+use replica_calls::FileNames;
 use replica_core::{Answer, Event, Replica};
-use replica_model::{History, Start};
+use replica_model::{History, Start, folder_of};
 use std::alloc::{AllocError, Global};
 use std::marker::Model;
 
@@ -67,6 +70,51 @@ impl<F: Files> ReplicaBook<F> {
             drawer,
             replica,
             last_sum: 0,
+            history,
+        };
+        Ok(ReplicaBook { state })
+    }
+
+    /// The book of a replica that a restart found, FINALIZED or RWR under this stamp and rule: its data file
+    /// is read to its end. A failure gives the drawer back, whose files are as they were.
+    pub fn found(
+        alloc: Global,
+        block: BlockId,
+        state: ReplicaState,
+        stamp: Stamp,
+        sums: SumRule,
+        mut drawer: F,
+    ) -> Result<ReplicaBook<F>, (FoundFault, F)>
+        requires settled { (state ≡ ReplicaState.Finalized) ⊎ (state ≡ ReplicaState.Rwr) }
+        requires held { HoldsFound (F.files drawer) block state stamp sums }
+        ensures made { IfOk result (λ book. IsFound F.Files book block state stamp sums drawer) }
+        ensures given_back { IfErr result (λ e. GivesBack F.Files drawer e.1 e.0) }
+    {
+        let names = FileNames::new(block, folder_of(state), stamp);
+        let (bytes, last_sum) = match read_found(alloc, &mut drawer, &names, sums) {
+            Ok(found) => found,
+            Err(fault) => return Err((fault, drawer)),
+        };
+        let len = bytes.len() as u64;
+        let replica = match Replica::found(alloc, block, state, stamp, sums, len) {
+            Ok(replica) => replica,
+            Err(_) => return Err((FoundFault::Memory, drawer)),
+        };
+        let start = Start::Found {
+            state,
+            stamp,
+            sums,
+            bytes,
+        };
+        let history = History {
+            start,
+            entries: Vec::new(alloc),
+        };
+        let state = BookState {
+            block,
+            drawer,
+            replica,
+            last_sum,
             history,
         };
         Ok(ReplicaBook { state })

@@ -2,7 +2,7 @@
 
 ghost use Rattle.std.specs.Prelude.{◌≡◌};
 
-use hd_base::Receipt;
+use hd_base::{FileError, Receipt};
 use replica_core::Refusal;
 use std::alloc::AllocError;
 use thiserror::Error;
@@ -19,6 +19,30 @@ pub enum BookFault {
     /// Memory ran out; nothing changed.
     #[error("out of memory")]
     Memory,
+}
+
+/// Why the book of what a restart found isn't made.
+#[derive(Clone, Copy, Debug, PartialEq, Eq, PartialOrd, Ord, Hash, Error)]
+pub enum FoundFault {
+    /// A call on the replica's files failed.
+    #[error("a call on the replica's files failed")]
+    File,
+    /// Memory ran out.
+    #[error("out of memory")]
+    Memory,
+}
+
+impl From<FileError> for FoundFault {
+    ghost use Rattle.replica_files.specs.Finding.{found_fault};
+
+    ghost from_gives = { λ error fault. fault ≡ found_fault error };
+
+    fn from(error: FileError) -> FoundFault {
+        match error {
+            FileError::Memory => FoundFault::Memory,
+            FileError::Absent | FileError::Failed => FoundFault::File,
+        }
+    }
 }
 
 impl From<AllocError> for BookFault {

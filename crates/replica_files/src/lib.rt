@@ -6,6 +6,7 @@ mod book_state;
 mod creating;
 mod cutting;
 mod faults;
+mod finding;
 mod growing;
 mod reading;
 mod settling;
@@ -13,4 +14,4 @@ mod settling;
 mod tests;
 
 pub use book::ReplicaBook;
-pub use faults::BookFault;
+pub use faults::{BookFault, FoundFault};
