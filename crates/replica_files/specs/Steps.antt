@@ -96,3 +96,10 @@ pub record IsAmidMaking {F : Type 0} (f : files.Ghosts F) (s : BookState F) (e :
   pub before_is : prior.info ≡ (replica_of s).known.info
   pub held : IsHeld f s.drawer s.block s.last_sum (replica_of s)
   pub to_make : (replica_of s).known.info ≡ None → IsToMake f s.drawer s.block k strays
+
+-- All but the drawer is as it was.
+pub record KeepsRest {F : Type 0} (old new : BookState F) : Type 0 where
+  pub block : new.block ≡ old.block
+  pub replica : new.replica ≡ old.replica
+  pub last_sum : new.last_sum ≡ old.last_sum
+  pub history : new.history ≡ old.history

@@ -8,12 +8,13 @@ ghost use Rattle.replica_files.specs.Events.{IsSetup};
 ghost use Rattle.replica_files.specs.Books.{replica_of};
 ghost use Rattle.replica_files.specs.Finding.{HoldsFound, IsFound, GivesBack};
 ghost use Rattle.replica_files.specs.Reads.{ReadsBytes};
+ghost use Rattle.replica_files.specs.Steps.{KeepsRest};
 ghost use Rattle.replica_files.specs.Endings.{BookEnds, InitEnds, IsReceiptOf, IsNew};
 
 use crate::book_state::{BookState, Taken};
 use crate::faults::{BookFault, FoundFault};
 use crate::finding::read_found;
-use hd_base::{BlockId, ConnId, Files, Receipt, ReplicaState, Stamp, SumRule};
+use hd_base::{Armed, BlockId, ConnId, Files, Receipt, ReplicaState, Stamp, SumRule};
 use packet_codec::Packet;
 use replica_calls::FileNames;
 use replica_core::{Answer, Event, Replica};
@@ -248,5 +249,24 @@ impl<F: Files> ReplicaBook<F> {
         ensures history { result.1 ≡ self.history }
     {
         (self.state.drawer, self.state.history)
+    }
+}
+
+impl<F: Armed> ReplicaBook<F> {
+    /// The `nth` coming write on the data file is to fail; with 0 none is.
+    pub fn arm(&mut self, nth: u64)
+        ensures left { F.writes_left self.new.drawer ≡ nth }
+        ensures files { F.files self.new.drawer ≡ F.files self.old.drawer }
+        ensures log { F.log self.new.drawer ≡ F.log self.old.drawer }
+        ensures kept { KeepsRest self.old self.new }
+    {
+        self.state.drawer.arm(nth);
+    }
+
+    /// The number of writes that is still to run down, 0 where none is to fail.
+    pub fn left(&self) -> u64
+        ensures { result ≡ F.writes_left self.now.drawer }
+    {
+        self.state.drawer.left()
     }
 }
