@@ -1,5 +1,5 @@
 -- The book of what a restart found.
-use Rattle.std.proofs.Common.{◌≡◌, ℕ, ◌<◌, ◌^◌, false, List, length, Option, Some, None, IfSome, IsSome, refl, sym, ap, subst, ◌∙◌}
+use Rattle.std.proofs.Common.{◌≡◌, ℕ, ◌<◌, ◌^◌, Bool, false, List, length, Option, Some, None, IfSome, IsSome, refl, sym, ap, subst, ◌∙◌}
 use Rattle.hd_base.proofs.FileLaws.{bytes_eq-same}
 use Rattle.hd_base.specs.Bytes.{IsBytes}
 use Rattle.hd_base.specs.Blocks.{is_of_block}
@@ -10,17 +10,20 @@ use Rattle.hd_base.specs.declared.numbers.Stamp.{Stamp}
 use Rattle.hd_base.specs.declared.states.ReplicaState.{ReplicaState}
 use Rattle.hd_base.specs.declared.files.Files as files
 use Rattle.block_files.specs.Placements.{files_of, data_name, meta_name}
+use Rattle.replica_core.specs.declared.info.ReplicaInfo.{ReplicaInfo}
+use Rattle.replica_core.specs.declared.records.ReplicaRecord.{ReplicaRecord}
 use Rattle.replica_core.specs.Info.{settled_at}
 use Rattle.replica_core.specs.Transitions.{found}
 use Rattle.replica_core.proofs.SoundLemmas.{found_sound}
 use Rattle.replica_model.specs.Rows.{FullReplica}
-use Rattle.replica_model.specs.Plans.{folder_of, placed_info}
+use Rattle.replica_model.specs.Plans.{folder_of, placed_info, HoldsInfo}
 use Rattle.replica_calls.specs.CallLists.{names_in}
 use Rattle.replica_calls.specs.LastSums.{IsLastSum}
 use Rattle.replica_calls.specs.Performed.{KeepsAll}
 use Rattle.replica_files.proofs.OnlyLemmas.{apart, data_of, meta_of_block}
-use Rattle.replica_files.specs.Books.{IsHeld}
+use Rattle.replica_files.specs.Books.{IsHeld, IsBookOf, replica_of}
 use Rattle.replica_files.specs.Finding.{HoldsBytes, HoldsFound}
+use Rattle.replica_files.specs.declared.book_state.BookState.{BookState}
 
 -- the replica at the start
 abbrev pub begun_with : BlockId → ReplicaState → Stamp → Rule → List ℕ → FullReplica
@@ -71,3 +74,17 @@ found_held f old new block state stamp rule bytes sum fits stamp_fits size are k
         none_other : (name : List ℕ) → is_of_block block.0 name ≡ false → files_of block.0 (placed_info (settled_at state stamp rule (length bytes)) bytes) name ≡ None
         none_other name other =
             rw (apart block.0 (data_name (folder_of state) block.0) name (data_of (folder_of state) block.0 fits) other, apart block.0 (meta_name (folder_of state) stamp.0 block.0) name (meta_of_block (folder_of state) block.0 stamp.0 fits stamp_fits) other) refl
+
+-- what holds a replica that isn't broken holds one that may be found
+found_info : (files : Option FileMap) (block : BlockId) (h : ReplicaInfo) (bytes : List ℕ) → HoldsInfo files block.0 (Some h) false bytes → HoldsFound files block h.original h.stamp h.sums
+found_info None block h bytes holds = tt
+found_info (Some m) block h bytes holds = (bytes, holds)
+
+-- The files of a closed book can be found again.
+pub book_found : {F : Type 0} (f : files.Ghosts F) (s : BookState F) (h : ReplicaInfo) → IsBookOf f s → s.replica.info ≡ Some h → s.replica.is_broken ≡ false → HoldsFound (f.files s.drawer) s.block h.original h.stamp h.sums
+book_found f s h book info whole =
+    let r = replica_of s in
+    found_info (f.files s.drawer) s.block h r.bytes
+        (subst (λ (b : BlockId). HoldsInfo (f.files s.drawer) b.0 (Some h) false r.bytes) book.held.of_block
+        (subst (λ (o : Option ReplicaInfo). HoldsInfo (f.files s.drawer) r.known.block.0 o false r.bytes) (sym (ap (λ (c : ReplicaRecord). c.info) book.known) ∙ info)
+        (subst (λ (b : Bool). HoldsInfo (f.files s.drawer) r.known.block.0 r.known.info b r.bytes) (sym (ap (λ (c : ReplicaRecord). c.is_broken) book.known) ∙ whole) book.held.holds)))

@@ -1,8 +1,10 @@
+pub mod AckedLemmas
 pub mod AmidLemmas
 pub mod BookLemmas
 pub mod EndLemmas
 pub mod FindLemmas
 pub mod GrowLemmas
+pub mod LawLemmas
 pub mod MakeLemmas
 pub mod OnlyLemmas
 pub mod ReadLemmas

@@ -7,3 +7,4 @@ pub mod Packets
 pub mod Endings
 pub mod Reads
 pub mod Finding
+pub mod Laws

@@ -5,7 +5,7 @@ ghost use Rattle.hd_base.specs.FileMaps.{OnlyOf};
 ghost use Rattle.replica_core.specs.declared.ack_queue.TheConstants.{MAX_PENDING};
 ghost use Rattle.replica_model.specs.declared.events.ReplicaEvent.TheVariants as ReplicaEvent;
 ghost use Rattle.replica_files.specs.Events.{IsSetup};
-ghost use Rattle.replica_files.specs.Books.{replica_of};
+ghost use Rattle.replica_files.specs.Books.{IsBookOf, replica_of};
 ghost use Rattle.replica_files.specs.Finding.{HoldsFound, IsFound, GivesBack};
 ghost use Rattle.replica_files.specs.Reads.{ReadsBytes};
 ghost use Rattle.replica_files.specs.Steps.{KeepsRest};
@@ -231,7 +231,8 @@ impl<F: Files> ReplicaBook<F> {
 
     /// The replica.
     pub fn replica(&self) -> &Replica
-        ensures { result.now ≡ self.now.replica }
+        ensures replica { result.now ≡ self.now.replica }
+        ensures kept { IsBookOf F.Files self.now }
     {
         &self.state.replica
     }
@@ -247,6 +248,7 @@ impl<F: Files> ReplicaBook<F> {
     pub fn close_book(self) -> (F, History)
         ensures drawer { result.0 ≡ self.drawer }
         ensures history { result.1 ≡ self.history }
+        ensures kept { IsBookOf F.Files self }
     {
         (self.state.drawer, self.state.history)
     }

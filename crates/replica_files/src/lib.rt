@@ -8,6 +8,8 @@ mod cutting;
 mod faults;
 mod finding;
 mod growing;
+mod held;
+mod laws;
 mod reading;
 mod settling;
 #[cfg(test)]
@@ -15,3 +17,5 @@ mod tests;
 
 pub use book::ReplicaBook;
 pub use faults::{BookFault, FoundFault};
+pub use held::Held;
+pub use laws::{acked_bytes_stay, histories_determine_files};
