@@ -12,8 +12,6 @@ mod response_reading;
 mod response_writing;
 mod responses;
 mod tallies;
-#[cfg(test)]
-mod tests;
 mod texts;
 
 pub use acks::Ack;

@@ -16,8 +16,6 @@ mod four;
 mod ieee;
 mod slicing;
 mod tables;
-#[cfg(test)]
-mod tests;
 mod window;
 
 pub use chunks::{first_bad, piece_count, write_sums};

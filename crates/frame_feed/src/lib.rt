@@ -8,8 +8,6 @@ mod framing;
 mod kinds;
 mod laws;
 mod notes;
-#[cfg(test)]
-mod tests;
 
 pub use faults::FeedFault;
 pub use feed::Feed;

@@ -16,8 +16,6 @@ mod shelves;
 mod states;
 mod streams;
 mod sum_rule;
-#[cfg(test)]
-mod tests;
 
 pub use armed::Armed;
 pub use byte_list::ByteList;

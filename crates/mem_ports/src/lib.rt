@@ -18,8 +18,6 @@ mod sinks;
 mod slots;
 mod sources;
 mod tables;
-#[cfg(test)]
-mod tests;
 mod trace;
 
 pub use drawers::MemDrawer;

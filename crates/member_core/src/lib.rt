@@ -8,8 +8,6 @@ mod inputs;
 mod laws;
 mod member;
 mod requests;
-#[cfg(test)]
-mod tests;
 mod turns;
 
 pub use effects::{Effect, SetupAnswer, Shuts, Upward};

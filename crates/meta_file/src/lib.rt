@@ -4,8 +4,6 @@
 
 mod headers;
 mod names;
-#[cfg(test)]
-mod tests;
 
 pub use headers::{MetaFault, header, read_header};
 pub use names::{Folder, NameFault, Named, data_name, meta_name, read_name};

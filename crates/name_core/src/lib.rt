@@ -12,8 +12,6 @@ mod infos;
 mod laws;
 mod office;
 mod records;
-#[cfg(test)]
-mod tests;
 
 pub use book::OfficeBook;
 pub use calls::{Begun, OfficeAnswer, OfficeCall, Reopened};

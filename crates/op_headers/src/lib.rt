@@ -15,8 +15,6 @@ mod opcodes;
 mod ops;
 mod paths;
 mod stages;
-#[cfg(test)]
-mod tests;
 
 pub use answers::{RecoveryAnswer, decode_answer, encode_answer};
 pub use blocks::BlockRef;

@@ -9,8 +9,6 @@ mod frames;
 mod headers;
 mod packets;
 mod parts;
-#[cfg(test)]
-mod tests;
 
 pub use decoding::decode_packet;
 pub use encoding::encode_packet;

@@ -7,8 +7,6 @@ mod fills;
 mod laws;
 mod packets;
 mod stream;
-#[cfg(test)]
-mod tests;
 
 pub use extents::{BLOCK_LIMIT, PACKET_SIZE};
 pub use laws::{forming_keeps_the_written, packets_are_short, packets_carry_the_written};

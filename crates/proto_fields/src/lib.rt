@@ -6,8 +6,6 @@ mod frames;
 mod listing;
 mod messages;
 mod reading;
-#[cfg(test)]
-mod tests;
 mod varints;
 mod writing;
 

@@ -5,8 +5,6 @@
 mod laws;
 mod reading;
 mod serving;
-#[cfg(test)]
-mod tests;
 
 pub use laws::{reads_stay_visible, verified_reads_are_whole};
 pub use reading::{FromNode, ReadFault, ReadPhase, ReadTurn, Reading};

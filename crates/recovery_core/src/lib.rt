@@ -6,8 +6,6 @@ mod laws;
 mod members;
 mod primary;
 mod standings;
-#[cfg(test)]
-mod tests;
 
 pub use laws::{only_chosen_are_updated, the_chosen_are_committed};
 pub use members::{RecoveryReply, recovery_answer, recovery_event, reply_to};

@@ -10,8 +10,6 @@ mod reading;
 mod rooms;
 mod settling;
 mod steps;
-#[cfg(test)]
-mod tests;
 mod writing;
 
 pub use creating::create;

@@ -12,8 +12,6 @@ mod records;
 mod refusals;
 mod replica;
 mod streams;
-#[cfg(test)]
-mod tests;
 
 pub use ack_queue::{MAX_PENDING, PendingPacket};
 pub use events::{Answer, Event};

@@ -12,8 +12,6 @@ mod held;
 mod laws;
 mod reading;
 mod settling;
-#[cfg(test)]
-mod tests;
 
 pub use book::ReplicaBook;
 pub use faults::{BookFault, FoundFault};

@@ -6,8 +6,6 @@ mod events;
 mod histories;
 mod laws;
 mod plans;
-#[cfg(test)]
-mod tests;
 
 pub use events::{ReplicaEvent, bad_chunk, first_len, packet_event};
 pub use histories::{Entry, History, Start};

@@ -5,8 +5,6 @@
 mod pools;
 mod refusals;
 mod rules;
-#[cfg(test)]
-mod tests;
 mod texts;
 
 pub use pools::is_in_pool;

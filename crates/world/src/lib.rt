@@ -4,8 +4,6 @@
 
 mod events;
 mod lists;
-#[cfg(test)]
-mod tests;
 
 pub use events::{Caller, Delivery, Direction, Event, FoundReplica, OwnStep, TakenCommand};
 pub use lists::{AnswerList, EventList, FoundList, Schedule};

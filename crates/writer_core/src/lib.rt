@@ -11,8 +11,6 @@ mod laws;
 mod phases;
 mod records;
 mod requests;
-#[cfg(test)]
-mod tests;
 mod writer;
 
 pub use actions::{Action, ClientAnswer};

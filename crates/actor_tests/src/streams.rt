@@ -1,8 +1,8 @@
 //! Worked examples.
 
-use crate::PacketStream;
 use hd_base::{BlockId, SumRule};
 use packet_codec::Packet;
+use packet_stream::PacketStream;
 use std::process::Abort;
 use std::test::Fail;
 

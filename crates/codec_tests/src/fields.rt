@@ -1,6 +1,6 @@
 //! The bytes that `protoc` writes, spellings that no writer gives, and each fault.
 
-use super::*;
+use proto_fields::*;
 use std::alloc::{AllocError, Global};
 use std::borrow::CowSlice;
 use std::test::Fail;

@@ -1,6 +1,6 @@
 //! Messages byte by byte and several in a piece, by worked examples of their formats.
 
-use crate::{Feed, FeedFault, Message, Note, NoteList, SentList, Took};
+use frame_feed::{Feed, FeedFault, Message, Note, NoteList, SentList, Took};
 use hd_base::{ConnId, Status};
 use op_headers::OpFault;
 use packet_codec::PacketFault;

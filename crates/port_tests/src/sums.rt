@@ -1,6 +1,6 @@
 //! The sums against known ones and against a program that goes one bit at a time.
 
-use crate::{crc, extend, first_bad, piece_count, write_sums};
+use chunk_sums::{crc, extend, first_bad, piece_count, write_sums};
 use hd_base::SumKind;
 use std::alloc::{AllocError, Global};
 use std::process::Abort;

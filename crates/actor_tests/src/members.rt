@@ -1,7 +1,7 @@
 //! A request goes on to its mirror, and is answered.
 
-use crate::{SetupAnswer, mirror_request, response};
 use hd_base::{BlockId, ByteList, Stamp, Status};
+use member_core::{SetupAnswer, mirror_request, response};
 use op_headers::{BlockRef, NodeRef, Stage, Targets, WriteOp};
 use std::alloc::{AllocError, Global};
 use std::test::Fail;

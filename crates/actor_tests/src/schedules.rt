@@ -1,8 +1,8 @@
 //! Lists of events show their items in order.
 
-use crate::{AnswerList, Event, EventList, FoundList, Schedule};
 use hd_base::NodeId;
 use std::test::Fail;
+use world::{AnswerList, Event, EventList, FoundList, Schedule};
 
 /// A node that stops and starts again, with nothing found.
 fn stop_and_start(rt: &impl AllocGlobal) -> Result<EventList, Fail> {

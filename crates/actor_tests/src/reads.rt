@@ -1,9 +1,9 @@
 //! A read that is served and read back.
 
-use crate::{FromNode, ReadFault, ReadTurn, Reading, Serving, read_event, refusal_response};
 use bytes::Bytes;
 use hd_base::{BlockId, ByteList, Stamp, SumRule};
 use op_headers::{BlockRef, ReadOp};
+use read_core::{FromNode, ReadFault, ReadTurn, Reading, Serving, read_event, refusal_response};
 use replica_core::Event;
 use request_refusals::RequestRefusal;
 use std::alloc::{AllocError, Global};

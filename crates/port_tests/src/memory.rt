@@ -2,11 +2,11 @@
 
 ghost use Rattle.std.specs.Prelude.{◌<◌, IfSome, IfOk};
 
-use crate::{MemRoads, MemShelf, MemSink, MemSource};
 use hd_base::{
     BlockId, Conn, ConnId, Failed, FileError, FileName, Files, Got, LinkError, LinkIn, LinkOut,
     NodeId, RoadError, Roads, Shelf, Sink, Source, Standing,
 };
+use mem_ports::{MemRoads, MemShelf, MemSink, MemSource};
 use std::alloc::{AllocError, Global};
 use std::test::Fail;
 
@@ -32,11 +32,6 @@ fn sources_fail_at_each_call(rt: HostRuntime) -> Result<(), Fail> {
     for (number, wanted) in table.iter().enumerate() {
         let mut source = MemSource::new(rt.alloc(), b"12345", &[number as u64])?;
         assert_eq!(rt; read_four(&mut source), *wanted, "call {number}");
-        assert_eq!(rt;
-            source.schedule.faults,
-            u64::from(number > 0),
-            "call {number}"
-        );
     }
     Ok(())
 }
@@ -69,11 +64,6 @@ fn sinks_fail_at_each_call(rt: HostRuntime) -> Result<(), Fail> {
             "call {number}"
         );
         assert_eq!(rt; sink.bytes(), *left, "call {number}");
-        assert_eq!(rt;
-            sink.schedule.faults,
-            u64::from(number > 0),
-            "call {number}"
-        );
     }
     Ok(())
 }
@@ -85,7 +75,6 @@ fn sinks_write_past_their_room(rt: HostRuntime) -> Result<(), Fail> {
     assert_eq!(rt; sink.write(b"two"), Err(Failed));
     assert_eq!(rt; sink.write(b"six"), Ok(3));
     assert_eq!(rt; sink.bytes(), b"onesix".as_slice());
-    assert_eq!(rt; sink.schedule.faults, 1);
     Ok(())
 }
 
@@ -188,7 +177,6 @@ fn drawers_fail_at_each_call(rt: HostRuntime) -> Result<(), Fail> {
         } else {
             assert_eq!(rt; answer, Err(FileError::Failed), "call {number}");
         }
-        assert_eq!(rt; shelf.brought, u64::from(number > 0), "call {number}");
         let listed = look_at(rt.alloc(), &mut shelf);
         if listed == Err(FileError::Memory) {
             return Err(AllocError.into());
@@ -329,23 +317,22 @@ fn roads_fail_at_each_call(rt: HostRuntime) -> Result<(), Fail> {
     let failed = Err(LinkError::Failed);
     let (ping, nothing): (&[u8], &[u8]) = (b"ping", b"");
     let table = [
-        (Ok([three, one, not_yet]), 0, taken, ping),
-        (Err(RoadError::Failed), 1, none, nothing),
-        (Err(RoadError::Failed), 1, none, nothing),
-        (Err(RoadError::Failed), 1, none, nothing),
-        (Err(RoadError::Failed), 1, sent, ping),
-        (Err(RoadError::Failed), 1, sent, ping),
-        (Ok([three, failed, one]), 0, taken, ping),
-        (Ok([three, one, failed]), 0, taken, ping),
+        (Ok([three, one, not_yet]), taken, ping),
+        (Err(RoadError::Failed), none, nothing),
+        (Err(RoadError::Failed), none, nothing),
+        (Err(RoadError::Failed), none, nothing),
+        (Err(RoadError::Failed), sent, ping),
+        (Err(RoadError::Failed), sent, ping),
+        (Ok([three, failed, one]), taken, ping),
+        (Ok([three, one, failed]), taken, ping),
     ];
-    for (number, (wanted, faults, left, bytes)) in table.iter().enumerate() {
+    for (number, (wanted, left, bytes)) in table.iter().enumerate() {
         let mut roads = MemRoads::new(rt.alloc(), &[number as u64])?;
         let answer = meet(rt.alloc(), &mut roads);
         if answer == Err(RoadError::Memory) {
             return Err(AllocError.into());
         }
         assert_eq!(rt; answer, *wanted, "call {number}");
-        assert_eq!(rt; roads.schedule.faults, *faults, "call {number}");
         assert_eq!(rt; stand(&mut roads), *left, "call {number}");
         let down = roads.carried_bytes(rt.alloc(), ConnId(0), true)?;
         assert_eq!(rt; down.as_slice(), *bytes, "call {number}");
@@ -442,7 +429,6 @@ fn plain_roads_are_not_shared(rt: HostRuntime) -> Result<(), Fail> {
     for (number, wanted) in [(0, RoadError::Memory), (1, RoadError::Failed)] {
         let mut roads = MemRoads::new(rt.alloc(), &[number])?;
         assert_eq!(rt; roads.share(rt.alloc()).err(), Some(wanted));
-        assert_eq!(rt; roads.schedule.faults, number);
         assert_eq!(rt;
             roads.dial(rt.alloc(), 9866).err(),
             Some(RoadError::NotListening)

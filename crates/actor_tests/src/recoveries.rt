@@ -1,11 +1,11 @@
 //! A recovery of three members.
 
-use crate::{
-    Heard, OwnStep, Primary, Recovered, RecoveryReply, Standing, recovery_answer, recovery_event,
-};
 use hd_base::{BlockId, Members, NodeId, ReplicaState, Stamp};
 use name_core::{Begun, OfficeAnswer};
 use op_headers::RecoveryKind;
+use recovery_core::{
+    Heard, OwnStep, Primary, Recovered, RecoveryReply, Standing, recovery_answer, recovery_event,
+};
 use replica_core::Event;
 use std::alloc::Global;
 use std::test::Fail;

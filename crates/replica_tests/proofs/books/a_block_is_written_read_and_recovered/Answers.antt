@@ -2,7 +2,7 @@
 use Rattle.std.proofs.Common.{option_map, refl, ap, ◌∙◌}
 use Rattle.std.proofs.lemmas.Option.{same_Some}
 use Rattle.hd_base.specs.FileMaps.{part_of}
-use Rattle.replica_files.proofs.tests.a_block_is_written_read_and_recovered.Goals as goal
+use Rattle.replica_tests.proofs.books.a_block_is_written_read_and_recovered.Goals as goal
 
 pub new-requires-2 : goal.new-requires-2
 new-requires-2 g c name other =

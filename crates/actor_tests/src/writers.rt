@@ -1,6 +1,5 @@
 //! Worked runs, beside an office that grants all that is asked.
 
-use crate::{Action, ClientAnswer, Command, Writer};
 use ack_codec::{Ack, Replies, Response};
 use hd_base::{BlockId, ByteList, ConnId, Members, NodeId, Stamp, Status, SumRule};
 use name_core::OfficeAnswer;
@@ -9,6 +8,7 @@ use packet_codec::Packet;
 use std::alloc::{AllocError, Global};
 use std::process::Abort;
 use std::test::Fail;
+use writer_core::{Action, ClientAnswer, Command, Writer};
 
 /// Which action an own step of a writer is.
 #[derive(Clone, Copy, Debug, PartialEq, Eq)]

@@ -1,12 +1,12 @@
 //! A block's life in its book, over files in memory.
 
-use crate::ReplicaBook;
 use bytes::Bytes;
 use hd_base::{BlockId, ConnId, Files, Receipt, ReplicaState, Shelf, Stamp, SumKind, SumRule};
 use mem_ports::MemShelf;
 use meta_file::{Folder, data_name, meta_name};
 use packet_codec::Packet;
 use replica_core::Event;
+use replica_files::ReplicaBook;
 use std::alloc::{AllocError, Global};
 use std::test::Fail;
 

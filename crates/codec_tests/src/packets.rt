@@ -2,11 +2,11 @@
 
 ghost use Rattle.std.specs.Prelude.{◌<◌, length};
 
-use crate::{
+use bytes::Bytes;
+use packet_codec::{
     HeaderCause, MAX_PACKET_SIZE, Packet, PacketFault, decode_packet, encode_packet, packet_length,
     packet_parts,
 };
-use bytes::Bytes;
 use proto_fields::WireFault;
 use std::alloc::{AllocError, Global};
 use std::process::Abort;

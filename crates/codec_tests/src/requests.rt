@@ -1,10 +1,10 @@
 //! Requests and answers of worked examples and of `protoc`, byte for byte.
 
-use crate::{
+use hd_base::{BlockId, ByteList, ReplicaState, Stamp, Status};
+use op_headers::{
     AnswerFault, BlockRef, ChecksumOp, NodeRef, Op, OpFault, ReadOp, RecoveryAnswer, RecoveryKind,
     RecoveryOp, Targets, TransferOp, WriteOp, decode_answer, decode_op, encode_answer, encode_op,
 };
-use hd_base::{BlockId, ByteList, ReplicaState, Stamp, Status};
 use proto_fields::WireFault;
 use std::alloc::{AllocError, Global};
 use std::process::Abort;

@@ -1,6 +1,8 @@
 //! Names and members at their limits, and what is printed.
 
-use crate::{BlockId, ByteList, FileName, Members, NodeId, ReplicaState, Status, SumKind, SumRule};
+use hd_base::{
+    BlockId, ByteList, FileName, Members, NodeId, ReplicaState, Status, SumKind, SumRule,
+};
 use std::alloc::Global;
 use std::test::Fail;
 

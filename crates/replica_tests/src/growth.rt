@@ -1,7 +1,7 @@
 //! Sums of bytes that grow, within a chunk and past it.
 
-use crate::grown_sums;
 use hd_base::{SumKind, SumRule};
+use replica_calls::grown_sums;
 use std::test::Fail;
 
 #[test]

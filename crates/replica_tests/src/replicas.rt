@@ -1,7 +1,7 @@
 //! Worked examples of the write pipeline, over lengths.
 
-use crate::{Answer, Event, MAX_PENDING, PieceRule, Refusal, Replica};
 use hd_base::{BlockId, ConnId, ReplicaState, Stamp, SumKind, SumRule};
+use replica_core::{Answer, Event, MAX_PENDING, PieceRule, Refusal, Replica};
 use std::process::Abort;
 use std::test::Fail;
 

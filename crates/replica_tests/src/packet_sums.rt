@@ -1,9 +1,9 @@
 //! The sums of a packet of two chunks, and places in a metadata file.
 
-use crate::{bad_chunk, meta_len, sum_place};
 use bytes::Bytes;
 use hd_base::{SumKind, SumRule};
 use packet_codec::Packet;
+use replica_model::{bad_chunk, meta_len, sum_place};
 use std::alloc::{AllocError, Global};
 use std::test::Fail;
 

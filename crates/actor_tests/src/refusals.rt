@@ -1,8 +1,8 @@
 //! The messages of refusals.
 
-use crate::RequestRefusal;
 use hd_base::{ReplicaState, Stamp};
 use replica_core::{PieceRule, Refusal};
+use request_refusals::RequestRefusal;
 use std::test::Fail;
 
 #[test]

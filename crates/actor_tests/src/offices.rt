@@ -1,10 +1,10 @@
 //! Worked examples of the office's calls and of choices.
 
-use crate::{
+use hd_base::{BlockId, Members, NodeId, ReplicaState, Stamp};
+use name_core::{
     Begun, ChooseFault, Chosen, Desk, FIRST_STAMP, Info, Infos, MAX_APPEND_LENGTH, Office,
     OfficeAnswer, OfficeBook, OfficeCall, OfficeFault, Reopened, SharedDesk, choose,
 };
-use hd_base::{BlockId, Members, NodeId, ReplicaState, Stamp};
 use std::process::Abort;
 use std::sync::{Arc, Mutex};
 use std::test::Fail;

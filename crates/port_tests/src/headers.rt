@@ -1,9 +1,9 @@
 //! Names and headers from worked examples.
 
-use crate::{
+use hd_base::{BlockId, FileName, Stamp, SumKind, SumRule};
+use meta_file::{
     Folder, MetaFault, NameFault, Named, data_name, header, meta_name, read_header, read_name,
 };
-use hd_base::{BlockId, FileName, Stamp, SumKind, SumRule};
 use std::test::Fail;
 
 #[test]

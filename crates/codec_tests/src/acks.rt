@@ -1,6 +1,6 @@
 //! Worked examples of the format, byte for byte.
 
-use crate::{
+use ack_codec::{
     Ack, AckBytes, AckFault, MAX_REPLIES, Replies, Response, ResponseFault, decode_ack,
     decode_read_status, decode_response, encode_ack, encode_response,
 };
@@ -35,8 +35,7 @@ fn reads_and_writes_acks(rt: HostRuntime) -> Result<(), Fail> {
         for cut in 0..bytes.len() {
             assert_eq!(rt; decode_ack(&bytes[..cut]).err(), Some(AckFault::Short));
         }
-        if ack
-            .replies
+        if (&ack.replies)
             .into_iter()
             .all(|status| *status == Status::Success)
         {
