@@ -1,6 +1,6 @@
 -- How a call of a book ends, once the calls on the files were made or one failed.
 use Rattle.std.proofs.Common.{◌≡◌, ℕ, ◌<◌, ◌^◌, Bool, true, false, List, [], ◌∷◌, ◌++◌, length, Option, Some, None, option_map, IfSome, Result, Ok, Err, refl, sym, ap, subst, ◌∙◌, arith}
-use Rattle.std.specs.Result.{IfOk}
+use Rattle.std.specs.Result.{IfOk, IsErr}
 use Rattle.hd_base.specs.Bytes.{IsBytes}
 use Rattle.hd_base.proofs.ByteLaws.{IsBytes-behind, IsBytes-cons, IsBytes-take}
 use Rattle.hd_base.specs.FileMaps.{FileMap, OnlyOf}
@@ -172,22 +172,23 @@ notes_from old mid new e failed receipt block history n =
 
 pub call_ends : {F : Type 0} (f : files.Ghosts F) (old mid new : BookState F) (e : ReplicaEvent) (answer : Answer) (made : Result ℕ FileError) (result : Result Taken BookFault)
     → Takes (replica_of old) e → answer ≡ row_answer (replica_of old) e → mid.block ≡ old.block → mid.history ≡ old.history → new.drawer ≡ mid.drawer
-    → CarriesOut f old.drawer mid.drawer old.block (replica_of old) e made → Finishes mid new e answer made result → TakenEnds f old new e result
-call_ends f old mid new e answer (Ok sum) (Ok taken) takes answered block history drawer carried fin =
+    → CarriesOut f old.drawer mid.drawer old.block (replica_of old) e made → (IsErr made → (replica_of old).known.is_broken ≡ false) → Finishes mid new e answer made result → TakenEnds f old new e result
+call_ends f old mid new e answer (Ok sum) (Ok taken) takes answered block history drawer carried whole fin =
     record {
       takes = takes;
       answer = fin.1 ∙ answered;
       noted = notes_from old mid new e false taken.receipt block history fin.0;
       made = subst (λ d. MakesEvent f old.drawer d (replica_of old) e) (sym drawer) carried.made;
     }
-call_ends f old mid new e answer (Ok sum) (Err (fault.Refused x receipt)) takes answered block history drawer carried fin = absurd fin
-call_ends f old mid new e answer (Ok sum) (Err (fault.File receipt)) takes answered block history drawer carried fin = absurd fin
-call_ends f old mid new e answer (Ok sum) (Err fault.Memory) takes answered block history drawer carried fin = absurd fin
-call_ends f old mid new e answer (Err x) (Ok taken) takes answered block history drawer carried fin = absurd fin
-call_ends f old mid new e answer (Err x) (Err (fault.Refused y receipt)) takes answered block history drawer carried fin = absurd fin
-call_ends f old mid new e answer (Err x) (Err fault.Memory) takes answered block history drawer carried fin = absurd fin
-call_ends f old mid new e answer (Err x) (Err (fault.File receipt)) takes answered block history drawer carried fin =
+call_ends f old mid new e answer (Ok sum) (Err (fault.Refused x receipt)) takes answered block history drawer carried whole fin = absurd fin
+call_ends f old mid new e answer (Ok sum) (Err (fault.File receipt)) takes answered block history drawer carried whole fin = absurd fin
+call_ends f old mid new e answer (Ok sum) (Err fault.Memory) takes answered block history drawer carried whole fin = absurd fin
+call_ends f old mid new e answer (Err x) (Ok taken) takes answered block history drawer carried whole fin = absurd fin
+call_ends f old mid new e answer (Err x) (Err (fault.Refused y receipt)) takes answered block history drawer carried whole fin = absurd fin
+call_ends f old mid new e answer (Err x) (Err fault.Memory) takes answered block history drawer carried whole fin = absurd fin
+call_ends f old mid new e answer (Err x) (Err (fault.File receipt)) takes answered block history drawer carried whole fin =
     record {
+      whole = whole refl;
       noted = notes_from old mid new e true receipt block history fin;
       stopped = subst (λ d. StopsEvent f old.drawer d (replica_of old) e) (sym drawer) carried.stopped;
       rose = subst (λ d. FaultsIncreased (f.faults old.drawer) (f.faults d)) (sym drawer) carried.cause.failed;
@@ -317,6 +318,7 @@ ends_prepared f old mid new e (Err (fault.Refused x receipt)) p ends =
 ends_prepared f old mid new e (Err (fault.File receipt)) p ends =
     let same = replica_same f old mid p in
     record {
+      whole = subst (λ (r : FullReplica). r.known.is_broken ≡ false) same ends.whole;
       noted = notes_prepared f old mid new e true receipt p ends.noted;
       stopped = stops_kept f old.drawer mid.drawer new.drawer (replica_of mid) (replica_of old) e same p.drawer ends.stopped;
       rose = omega (arith, ends.rose, p.below);
@@ -335,15 +337,16 @@ ends_unmade f old mid e p =
     record { block = p.block; replica = p.replica; history = p.history; same = record { files = p.drawer.same; log = p.drawer.log } }
 
 -- something failed before the first call
-pub ends_failed : {F : Type 0} (f : files.Ghosts F) (old mid new : BookState F) (e : ReplicaEvent) (why : BookFault) → IsPrepared f old mid → FaultsIncreased (f.faults old.drawer) (f.faults mid.drawer) → Fails f mid new e why → CallEnds f old new e (Err why)
-ends_failed f old mid new e (fault.File receipt) p rose fails =
+pub ends_failed : {F : Type 0} (f : files.Ghosts F) (old mid new : BookState F) (e : ReplicaEvent) (why : BookFault) → (replica_of old).known.is_broken ≡ false → IsPrepared f old mid → FaultsIncreased (f.faults old.drawer) (f.faults mid.drawer) → Fails f mid new e why → CallEnds f old new e (Err why)
+ends_failed f old mid new e (fault.File receipt) whole p rose fails =
     record {
+      whole = whole;
       noted = notes_prepared f old mid new e true receipt p fails.0;
       stopped = before_all (subst (λ d. IsUnchanged (f.files old.drawer) (f.files d) (f.log old.drawer) (f.log d)) (sym fails.1) (record { files = p.drawer.same; log = p.drawer.log }));
       rose = subst (λ d. FaultsIncreased (f.faults old.drawer) (f.faults d)) (sym fails.1) rose;
     }
-ends_failed f old mid new e (fault.Refused x receipt) p rose fails = absurd fails
-ends_failed f old mid new e fault.Memory p rose fails = absurd fails
+ends_failed f old mid new e (fault.Refused x receipt) whole p rose fails = absurd fails
+ends_failed f old mid new e fault.Memory whole p rose fails = absurd fails
 
 -- ---- a book whose replica was stepped
 
@@ -361,6 +364,7 @@ ends_stepped f old mid new e (Ok taken) k ends =
     }
 ends_stepped f old mid new e (Err (fault.File receipt)) k ends =
     record {
+      whole = subst (λ (r : FullReplica). r.known.is_broken ≡ false) (stepped_same old mid k) ends.whole;
       noted = notes_from old mid new e true receipt k.block k.history ends.noted;
       stopped = subst (λ d. StopsEvent f d new.drawer (replica_of old) e) k.drawer (subst (λ r. StopsEvent f mid.drawer new.drawer r e) (stepped_same old mid k) ends.stopped);
       rose = subst (λ d. FaultsIncreased (f.faults d) (f.faults new.drawer)) k.drawer ends.rose;
@@ -402,3 +406,8 @@ pub finished_ok : {F : Type 0} (P : Type 0) (old new : BookState F) (e : Replica
 finished_ok P old new e answer (Ok sum) (Ok taken) fin p = p
 finished_ok P old new e answer (Err x) (Ok taken) fin p = absurd fin
 finished_ok P old new e answer made (Err why) fin p = tt
+
+-- A refusal from a book whose history has room.
+pub ends_barred : {F : Type 0} (f : files.Ghosts F) (old mid new : BookState F) (e : ReplicaEvent) (why : BookFault) → IsPrepared f old mid → IsRefusal f mid new e why → CallEnds f old new e (Err why)
+ends_barred f old mid new e why p ends =
+    ends_prepared f old mid new e (Err why) p (ends_refused f mid mid new e why (record { block = refl; drawer = refl; last_sum = refl; history = refl }) ends)

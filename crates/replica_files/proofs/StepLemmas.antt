@@ -1,5 +1,5 @@
 -- The replica's answers, and what stands before and after the calls on the files.
-use Rattle.std.proofs.Common.{◌≡◌, ℕ, negsuc, not, is_none, slice_get, Option, Some, None, Result, Ok, Err, IsOk, refl, sym, ap, subst, ◌∙◌}
+use Rattle.std.proofs.Common.{◌≡◌, ℕ, negsuc, not, is_none, slice_get, Bool, true, false, Option, Some, None, Result, Ok, Err, IsOk, refl, sym, ap, subst, ◌∙◌}
 use Rattle.std.specs.Result.{IfOk}
 use Rattle.std.specs.Ordering.{int_eq}
 use Rattle.hd_base.specs.declared.states.ReplicaState.{ReplicaState}
@@ -20,8 +20,14 @@ use Rattle.replica_core.specs.declared.refusals.Refusal.TheVariants as refusal
 use Rattle.replica_core.specs.Refusals.{check}
 use Rattle.replica_core.specs.Info.{state_of, is_writable, settled_at, reopen, recover_setup, recover_stream, begin_recovery, end_recovery, readable, given, visible_of}
 use Rattle.replica_core.specs.Extents.{stream_after, heartbeat_of, pending_of}
-use Rattle.replica_core.specs.Transitions.{Taken, Outcome, reply, answer_of, done, present, set_writer, with_writer, new_transition, enqueue, extend, extent_transition, packet_transition, stream_by, oldest_of, acknowledge, transition}
+use Rattle.replica_core.specs.Transitions.{Taken, Outcome, reply, answer_of, done, there, present, set_writer, with_writer, new_transition, enqueue, extend, extent_transition, packet_transition, stream_by, oldest_of, acknowledge, transition}
 use Rattle.replica_core.proofs.StepLemmas.{choice, if_check, if_step}
+use Rattle.replica_model.specs.declared.events.ReplicaEvent.{ReplicaEvent}
+use Rattle.replica_model.specs.declared.events.ReplicaEvent.TheVariants as replica_event
+use Rattle.replica_model.specs.Rows.{FullReplica, event_at}
+use Rattle.replica_files.specs.Events.{IsForWhole, NeedsWhole, IsMadeBy, IsMaking, IsCutting}
+use Rattle.replica_files.specs.Reads.{IsReading}
+use Rattle.replica_files.specs.Books.{Takes}
 
 -- ---- an event that is taken isn't answered by a refusal
 
@@ -135,3 +141,83 @@ no_info (answer.Info s stamp n) is other = other s stamp n refl
 no_info answer.Done is other = is
 no_info (answer.Visible n) is other = is
 no_info (answer.Refused x) is other = is
+
+-- ---- a broken replica
+
+present_broken : (c : ReplicaRecord) → c.is_broken ≡ true → present c ≡ Err refusal.Broken
+present_broken c is = ap (λ b. check (not b) refusal.Broken (there c.info)) is
+
+then_broken : {A : Type 0} (c : ReplicaRecord) (next : ReplicaInfo → Result A Refusal) → c.is_broken ≡ true → (present c >>= next) ≡ Err refusal.Broken
+then_broken c next is = ap (λ r. r >>= next) (present_broken c is)
+
+new_broken : (c : ReplicaRecord) (original : ReplicaState) (conn : ConnId) (stamp : Stamp) (r : Rule) → c.is_broken ≡ true → new_transition c original conn stamp r ≡ Err refusal.Broken
+new_broken c original conn stamp r is =
+    ap (λ b. check (not b) refusal.Broken (check (is_none c.info) refusal.Exists (done (set_writer c (settled_at original stamp r 0) (Some conn))))) is
+
+-- It refuses every event but two.
+pub broken_refuses : (c : ReplicaRecord) (e : Event) → c.is_broken ≡ true → IsForWhole e → transition c e ≡ Err refusal.Broken
+unfolding transition
+broken_refuses c (event.Create conn stamp sums) is for_whole = new_broken c state.Rbw conn stamp sums is
+broken_refuses c (event.Temporary conn stamp sums) is for_whole = new_broken c state.Temporary conn stamp sums is
+broken_refuses c (event.Append conn named new n) is for_whole = then_broken c _ is
+broken_refuses c (event.AppendRecovery conn named new n) is for_whole = then_broken c _ is
+broken_refuses c (event.StreamRecovery conn named new low high) is for_whole = then_broken c _ is
+broken_refuses c (event.CloseRecovery named new n) is for_whole = then_broken c _ is
+broken_refuses c (event.Packet conn seqno offset n sums last sync bad) is for_whole = then_broken c _ is
+broken_refuses c (event.Ack conn seqno good) is for_whole = then_broken c _ is
+broken_refuses c (event.Ended conn) is for_whole = absurd for_whole
+broken_refuses c (event.Init named recovery) is for_whole = then_broken c _ is
+broken_refuses c (event.Update recovery n) is for_whole = then_broken c _ is
+broken_refuses c (event.Read named offset n) is for_whole = then_broken c _ is
+broken_refuses c (event.Give named offset n) is for_whole = then_broken c _ is
+broken_refuses c event.FileFault is for_whole = absurd for_whole
+
+event_for_whole : (r : FullReplica) (e : ReplicaEvent) → NeedsWhole e → IsForWhole (event_at r e)
+event_for_whole r (replica_event.Packet conn p) needs = tt
+event_for_whole r (replica_event.Other e) needs = needs
+
+pub row_broken : (r : FullReplica) (e : ReplicaEvent) → r.known.is_broken ≡ true → NeedsWhole e → transition r.known (event_at r e) ≡ Err refusal.Broken
+row_broken r e is needs = broken_refuses r.known (event_at r e) is (event_for_whole r e needs)
+
+no_ok : (x : Refusal) → IsOk {T = Taken} {E = Refusal} (Err x) → ⊥
+no_ok x ok = cc
+
+taken_by_whole : (b : Bool) (o : Outcome) → (b ≡ true → o ≡ Err refusal.Broken) → IsOk o → b ≡ false
+taken_by_whole false o refuses ok = refl
+taken_by_whole true o refuses ok = absurd (no_ok refusal.Broken (subst IsOk (refuses refl) ok))
+
+-- So one that takes such an event isn't broken.
+pub taken_whole : (r : FullReplica) (e : ReplicaEvent) → NeedsWhole e → Takes r e → r.known.is_broken ≡ false
+taken_whole r e needs takes = taken_by_whole r.known.is_broken (transition r.known (event_at r e)) (λ is. row_broken r e is needs) takes
+
+for_whole : (e : Event) → ((conn : ConnId) → e ≡ event.Ended conn → ⊥) → (e ≡ event.FileFault → ⊥) → IsForWhole e
+for_whole (event.Create conn stamp sums) no_end no_fault = tt
+for_whole (event.Temporary conn stamp sums) no_end no_fault = tt
+for_whole (event.Append conn named new n) no_end no_fault = tt
+for_whole (event.AppendRecovery conn named new n) no_end no_fault = tt
+for_whole (event.StreamRecovery conn named new low high) no_end no_fault = tt
+for_whole (event.CloseRecovery named new n) no_end no_fault = tt
+for_whole (event.Packet conn seqno offset n sums last sync bad) no_end no_fault = tt
+for_whole (event.Ack conn seqno good) no_end no_fault = tt
+for_whole (event.Ended conn) no_end no_fault = no_end conn refl
+for_whole (event.Init named recovery) no_end no_fault = tt
+for_whole (event.Update recovery n) no_end no_fault = tt
+for_whole (event.Read named offset n) no_end no_fault = tt
+for_whole (event.Give named offset n) no_end no_fault = tt
+for_whole event.FileFault no_end no_fault = no_fault refl
+
+-- what neither the end of a connection nor a fault of files can be
+for_whole_by : (P : Event → Type 0) (e : Event) → ((conn : ConnId) → P (event.Ended conn) → ⊥) → (P event.FileFault → ⊥) → P e → IsForWhole e
+for_whole_by P e no_end no_fault p = for_whole e (λ conn is. no_end conn (subst P is p)) (λ is. no_fault (subst P is p))
+
+pub making_for_whole : (e : Event) (k : ReplicaInfo) → IsMadeBy e k → IsForWhole e
+making_for_whole e k by = for_whole_by (λ x. IsMadeBy x k) e (λ _ p. p) (λ p. p) by
+
+pub new_for_whole : (e : Event) → IsMaking e → IsForWhole e
+new_for_whole e making = for_whole_by IsMaking e (λ _ p. p) (λ p. p) making
+
+pub cutting_for_whole : (e : Event) → IsCutting e → IsForWhole e
+cutting_for_whole e cutting = for_whole_by IsCutting e (λ _ p. p) (λ p. p) cutting
+
+pub reading_for_whole : (e : Event) (offset count : ℕ) → IsReading e offset count → IsForWhole e
+reading_for_whole e offset count reading = for_whole_by (λ x. IsReading x offset count) e (λ _ p. p) (λ p. p) reading

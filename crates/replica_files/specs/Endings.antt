@@ -41,8 +41,9 @@ pub record EndsRefused {F : Type 0} (f : files.Ghosts F) (old new : BookState F)
   pub noted : Notes old new e false receipt
   pub same : IsUnchanged (f.files old.drawer) (f.files new.drawer) (f.log old.drawer) (f.log new.drawer)
 
--- A call on the files failed: the replica is broken, and what was done is a part of the event's calls.
+-- A call on the files of a replica that wasn't broken failed: it is broken, and what was done is a part of the event's calls.
 pub record EndsFailed {F : Type 0} (f : files.Ghosts F) (old new : BookState F) (e : ReplicaEvent) (receipt : Receipt) : Type 0 where
+  pub whole : (replica_of old).known.is_broken ≡ false
   pub noted : Notes old new e true receipt
   pub stopped : StopsEvent f old.drawer new.drawer (replica_of old) e
   pub rose : FaultsIncreased (f.faults old.drawer) (f.faults new.drawer)

@@ -5,6 +5,8 @@ use Rattle.replica_core.specs.declared.events.Event.{Event}
 use Rattle.replica_core.specs.declared.events.Event.TheVariants as event
 use Rattle.replica_core.specs.declared.info.ReplicaInfo.{ReplicaInfo}
 use Rattle.replica_core.specs.Info.{settled_at}
+use Rattle.replica_model.specs.declared.events.ReplicaEvent.{ReplicaEvent}
+use Rattle.replica_model.specs.declared.events.ReplicaEvent.TheVariants as replica_event
 
 -- an event that is no packet, makes no new replica, and befalls no file
 abbrev pub IsSettling : Event → Type 0
@@ -31,6 +33,17 @@ abbrev pub IsMadeBy : Event → ReplicaInfo → Type 0
 IsMadeBy (event.Create conn stamp sums) k = k ≡ settled_at state.Rbw stamp sums 0
 IsMadeBy (event.Temporary conn stamp sums) k = k ≡ settled_at state.Temporary stamp sums 0
 IsMadeBy _ k = ⊥
+
+-- an event that a broken replica refuses: any but the end of a connection and a failed call on files
+abbrev pub IsForWhole : Event → Type 0
+IsForWhole (event.Ended conn) = ⊥
+IsForWhole event.FileFault = ⊥
+IsForWhole _ = Unit {0}
+
+-- the same of an event with bytes
+abbrev pub NeedsWhole : ReplicaEvent → Type 0
+NeedsWhole (replica_event.Packet conn p) = Unit {0}
+NeedsWhole (replica_event.Other e) = IsForWhole e
 
 -- a write request: what sets a replica up
 abbrev pub IsSetup : Event → Type 0

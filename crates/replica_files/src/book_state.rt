@@ -1,10 +1,11 @@
 //! What a book keeps, and how it takes an event.
 
-ghost use Rattle.std.specs.Prelude.{◌≡◌, OnOk, IfSome, Err};
+ghost use Rattle.std.specs.Prelude.{◌≡◌, true, OnOk, IfSome, Err};
 ghost use Rattle.replica_core.specs.Transitions.{transition, IsLawful};
 ghost use Rattle.replica_core.specs.Sound.{IsConsistent};
 ghost use Rattle.replica_model.specs.Rows.{event_at, record_event, IsWithBytes};
 ghost use Rattle.replica_files.specs.Entries.{HasSpare, IsSame, HasEntry};
+ghost use Rattle.replica_files.specs.Events.{NeedsWhole};
 ghost use Rattle.replica_files.specs.Books.{IsBookOf, replica_of};
 ghost use Rattle.replica_files.specs.Steps.{IsLawfulEvent, IsFit, KeepsFiles, IsStepped, IsToNote};
 ghost use Rattle.replica_files.specs.Endings.{Notes, Finishes, Fails, IsRefusal};
@@ -109,6 +110,18 @@ impl<F: Files> BookState<F> {
         ensures ends { IsRefusal F.Files self.old self.new event result }
     {
         BookFault::Refused(refusal, self.note(event, false))
+    }
+
+    /// Adds the entry of an event that is refused since the replica is broken.
+    pub(crate) fn refuse_broken(&mut self, event: ReplicaEvent) -> BookFault
+        requires book { IsBookOf F.Files self.old }
+        requires spare { HasSpare self.old.history }
+        requires broken { self.old.replica.is_broken ≡ true }
+        requires barred { NeedsWhole event }
+        ensures book { IsBookOf F.Files self.new }
+        ensures ends { IsRefusal F.Files self.old self.new event result }
+    {
+        self.refuse(event, Refusal::Broken)
     }
 
     /// Adds the entry of an event that was taken and whose calls on the files were made, or one of them failed,

@@ -62,6 +62,9 @@ impl<F: Files> BookState<F> {
         ensures ends { CallEnds F.Files self.old self.new (ReplicaEvent.Other event) result }
     {
         reserve_entry(&mut self.history)?;
+        if self.replica.is_broken() {
+            return Err(self.refuse_broken(ReplicaEvent::Other(event)));
+        }
         let next = made_info(&event);
         match self.prepare_new(&next) {
             Ok(strays) => self.make_prepared(event, next, &strays),

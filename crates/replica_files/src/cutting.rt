@@ -41,6 +41,9 @@ impl<F: Files> BookState<F> {
         ensures ends { CallEnds F.Files self.old self.new (ReplicaEvent.Other event) result }
     {
         reserve_entry(&mut self.history)?;
+        if self.replica.is_broken() {
+            return Err(self.refuse_broken(ReplicaEvent::Other(event)));
+        }
         match self.prepare_cut() {
             Ok(mut buffer) => self.settle(event, &mut buffer),
             Err(FileError::Memory) => Err(BookFault::Memory),

@@ -133,6 +133,9 @@ impl<F: Files> BookState<F> {
     {
         reserve_entry(&mut self.history)?;
         let kept = packet.clone()?;
+        if self.replica.is_broken() {
+            return Err(self.refuse_broken(ReplicaEvent::Packet { conn, packet: kept }));
+        }
         match self.prepare_growth(packet) {
             Ok(growth) => self.grow_prepared(conn, kept, packet, growth),
             Err(FileError::Memory) => Err(BookFault::Memory),

@@ -1,5 +1,8 @@
 -- The files are made, and the entry is added.
-use Rattle.std.proofs.Common.{refl}
+use Rattle.std.proofs.Common.{refl, sym, subst}
+use Rattle.replica_files.specs.Books.{replica_of}
+use Rattle.replica_files.specs.Events.{NeedsWhole}
+use Rattle.replica_files.proofs.StepLemmas.{taken_whole, making_for_whole}
 use Rattle.replica_files.proofs.EndLemmas.{to_note, call_ends}
 use Rattle.replica_files.proofs.MakeLemmas.{making_ready, making_with_bytes, making_brings, making_carried}
 use Rattle.replica_files.proofs.book_state.BookState.make_taken.Goals as goal
@@ -22,4 +25,5 @@ returns-clause-ends g c =
     let a = c.requires.amid in
     call_ends g.F.Files s _ c.finish.new.self c.args.event c.args.answer c.make_files-made.result c.finish.result a.takes a.answered refl refl c.finish.ensures.drawer
     (making_carried g.F.Files s c.make_files-made.new.drawer c.args.event c.args.prior.now c.args.answer c.args.next c.args.strays.now c.make_files-made.result a c.make_files-made.ensures)
+    (λ _. taken_whole (replica_of s) c.args.event (subst NeedsWhole (sym a.is) (making_for_whole a.making c.args.next a.made_by)) a.takes)
     c.finish.ensures.finishes

@@ -1,7 +1,9 @@
 -- The bytes are read, and the entry is added.
-use Rattle.std.proofs.Common.{refl}
+use Rattle.std.proofs.Common.{refl, sym, subst}
 use Rattle.replica_files.specs.Books.{replica_of}
 use Rattle.replica_files.specs.Reads.{ReadsBytes}
+use Rattle.replica_files.specs.Events.{NeedsWhole}
+use Rattle.replica_files.proofs.StepLemmas.{taken_whole, reading_for_whole}
 use Rattle.replica_files.proofs.EndLemmas.{to_note, call_ends, finished_ok}
 use Rattle.replica_files.proofs.ReadLemmas.{read_carried, read_bytes_are, read_with_bytes, read_brings}
 use Rattle.replica_files.proofs.book_state.BookState.read_taken.Goals as goal
@@ -20,6 +22,7 @@ returns-clause-ends g c =
     let a = c.requires.amid in
     call_ends g.F.Files s _ c.finish.new.self c.args.event c.args.answer c.read_info-made.result c.finish.result a.takes a.answered refl refl c.finish.ensures.drawer
     (read_carried g.F.Files s c.read_info-made.new.drawer c.args.event c.args.prior.now c.args.answer c.args.offset _ c.read_info-made.new.buffer.items c.read_info-made.result a c.read_info-made.ensures)
+    (λ _. taken_whole (replica_of s) c.args.event (subst NeedsWhole (sym a.is) (reading_for_whole a.asked c.args.offset a.count a.reading)) a.takes)
     c.finish.ensures.finishes
 
 pub returns-clause-bytes : goal.returns-clause-bytes
