@@ -80,11 +80,18 @@ found_info : (files : Option FileMap) (block : BlockId) (h : ReplicaInfo) (bytes
 found_info None block h bytes holds = tt
 found_info (Some m) block h bytes holds = (bytes, holds)
 
--- The files of a closed book can be found again.
-pub book_found : {F : Type 0} (f : files.Ghosts F) (s : BookState F) (h : ReplicaInfo) → IsBookOf f s → s.replica.info ≡ Some h → s.replica.is_broken ≡ false → HoldsFound (f.files s.drawer) s.block h.original h.stamp h.sums
+-- What the files of a book hold can be found again.
+pub book_found : {F : Type 0} (f : files.Ghosts F) (s : BookState F) (h : ReplicaInfo) → IsBookOf f s → s.replica.info ≡ Some h → s.replica.is_broken ≡ false → HoldsFound (f.files s.drawer) s.replica.block h.original h.stamp h.sums
 book_found f s h book info whole =
     let r = replica_of s in
-    found_info (f.files s.drawer) s.block h r.bytes
-        (subst (λ (b : BlockId). HoldsInfo (f.files s.drawer) b.0 (Some h) false r.bytes) book.held.of_block
-        (subst (λ (o : Option ReplicaInfo). HoldsInfo (f.files s.drawer) r.known.block.0 o false r.bytes) (sym (ap (λ (c : ReplicaRecord). c.info) book.known) ∙ info)
-        (subst (λ (b : Bool). HoldsInfo (f.files s.drawer) r.known.block.0 r.known.info b r.bytes) (sym (ap (λ (c : ReplicaRecord). c.is_broken) book.known) ∙ whole) book.held.holds)))
+    let same : r.known ≡ s.replica = sym book.known in
+    found_info (f.files s.drawer) s.replica.block h r.bytes
+        (subst (λ (b : Bool). HoldsInfo (f.files s.drawer) s.replica.block.0 (Some h) b r.bytes) whole
+        (subst (λ (o : Option ReplicaInfo). HoldsInfo (f.files s.drawer) s.replica.block.0 o s.replica.is_broken r.bytes) info
+        (subst (λ (c : ReplicaRecord). HoldsInfo (f.files s.drawer) c.block.0 c.info c.is_broken r.bytes) same book.held.holds)))
+
+-- So can what the files hold once the book was closed.
+pub closed_found : {F : Type 0} (f : files.Ghosts F) (s : BookState F) (drawer : F) (block : BlockId) (h : ReplicaInfo) → IsBookOf f s → drawer ≡ s.drawer → block ≡ s.replica.block → s.replica.info ≡ Some h → s.replica.is_broken ≡ false
+    → HoldsFound (f.files drawer) block h.original h.stamp h.sums
+closed_found f s drawer block h book at of_block info whole =
+    subst (λ d. HoldsFound (f.files d) block h.original h.stamp h.sums) (sym at) (subst (λ b. HoldsFound (f.files s.drawer) b h.original h.stamp h.sums) (sym of_block) (book_found f s h book info whole))

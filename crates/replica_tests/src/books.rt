@@ -39,8 +39,9 @@ fn found_again(alloc: Global, book: Book) -> Result<Book, Fail> {
     if book.replica().is_broken() {
         return Err(Fail::new("a broken replica"));
     }
+    let block = book.replica().block();
     let (drawer, _) = book.close_book();
-    match ReplicaBook::found(alloc, BLOCK, info.original, info.stamp, info.sums, drawer) {
+    match ReplicaBook::found(alloc, block, info.original, info.stamp, info.sums, drawer) {
         Ok(book) => Ok(book),
         Err(_) => Err(Fail::new("no book")),
     }
