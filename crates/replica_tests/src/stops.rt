@@ -43,14 +43,10 @@ const LIFE: [Step; 12] = [
     Step::Update,
 ];
 
-/// A rule of sums, the sums of the three packets under it, and how many calls that aren't mere reads each event
-/// makes on the files.
-#[derive(Drop)]
+/// A rule of sums, and how many calls that aren't mere reads each event makes on the files under it.
+#[derive(Clone, Copy)]
 struct Case {
     rule: SumRule,
-    first: &'static [u8],
-    second: &'static [u8],
-    third: &'static [u8],
     calls: [u64; 12],
 }
 
@@ -59,37 +55,57 @@ fn case_of(kind: SumKind) -> Option<Case> {
     match kind {
         SumKind::Null => Some(Case {
             rule: SumRule::new(kind, 512)?,
-            first: b"",
-            second: b"",
-            third: b"",
             calls: [3, 1, 3, 1, 0, 2, 0, 2, 2, 0, 0, 3],
         }),
         SumKind::Crc32 => Some(Case {
             rule: SumRule::new(kind, 512)?,
-            first: b"\x92\x4c\x25\xe9",
-            second: b"\xae\x1f\x33\xfb",
-            third: b"\x2a\x45\x91\xa2",
             calls: [3, 2, 4, 2, 0, 3, 0, 2, 2, 0, 0, 4],
         }),
         SumKind::Crc32c => Some(Case {
             rule: SumRule::new(kind, 16)?,
-            first: b"\x17\xb5\xc8\x60\x98\xd1\xaa\x59",
-            second: b"\x65\xbf\x0d\x3f",
-            third: b"\x4a\xbf\x05\x98",
             calls: [3, 2, 4, 2, 0, 3, 0, 2, 2, 0, 0, 5],
         }),
+    }
+}
+
+/// The sums of the packets that have bytes, under this rule.
+fn sums_of(kind: SumKind, step: Step) -> &'static [u8] {
+    match (kind, step) {
+        (SumKind::Crc32, Step::First) => b"\x92\x4c\x25\xe9",
+        (SumKind::Crc32, Step::Second) => b"\xae\x1f\x33\xfb",
+        (SumKind::Crc32, Step::Third) => b"\x2a\x45\x91\xa2",
+        (SumKind::Crc32c, Step::First) => b"\x17\xb5\xc8\x60\x98\xd1\xaa\x59",
+        (SumKind::Crc32c, Step::Second) => b"\x65\xbf\x0d\x3f",
+        (SumKind::Crc32c, Step::Third) => b"\x4a\xbf\x05\x98",
+        _ => b"",
+    }
+}
+
+/// A packet's offset and its bytes.
+fn bytes_of(step: Step) -> (i64, &'static [u8]) {
+    match step {
+        Step::First => (0, b"the quick brown fox "),
+        Step::Second => (16, b"fox jump"),
+        Step::Third => (16, b"fox jumps over"),
+        _ => (20, b""),
+    }
+}
+
+/// A packet's number in its stream.
+fn seqno_of(step: Step) -> i64 {
+    match step {
+        Step::Second => 1,
+        Step::Third => 2,
+        _ => 0,
     }
 }
 
 /// The packets of the life: 20 bytes; the last four again with four more, to be synced; these with six more; and,
 /// on the connection of the stream's recovery, the last one.
 fn packet_of(alloc: Global, case: &Case, step: Step) -> Result<Packet, AllocError> {
-    let mut made = match step {
-        Step::First => packet(alloc, 0, 0, case.first, b"the quick brown fox ")?,
-        Step::Second => packet(alloc, 1, 16, case.second, b"fox jump")?,
-        Step::Third => packet(alloc, 2, 16, case.third, b"fox jumps over")?,
-        _ => packet(alloc, 0, 20, b"", b"")?,
-    };
+    let sums = sums_of(case.rule.kind(), step);
+    let (offset, bytes) = bytes_of(step);
+    let mut made = packet(alloc, seqno_of(step), offset, sums, bytes)?;
     made.sync = step == Step::Second;
     made.last = step == Step::Last;
     Ok(made)
