@@ -2,7 +2,7 @@
 
 use ack_codec::{Ack, Replies, Response};
 use hd_base::{BlockId, ByteList, ConnId, Members, NodeId, Stamp, Status, SumRule};
-use name_core::OfficeAnswer;
+use name_core::{OfficeAnswer, OfficeFault, Reopened};
 use op_headers::{Op, Stage, WriteOp};
 use packet_codec::Packet;
 use std::alloc::{AllocError, Global};
@@ -169,5 +169,127 @@ fn a_failed_member_is_dropped(rt: HostRuntime) -> Result<(), Fail> {
     assert!(rt; sent(&mut writer) == Some((1, 512, 188, 4)));
     ack(&mut writer, 1, &[Status::Success])?;
     assert!(rt; reached(&mut writer) == Some((700, Stamp(1002), 1)));
+    Ok(())
+}
+
+/// The writer is given a command, and takes it.
+fn take(rt: &impl Abort, writer: &mut Writer, command: Command) -> Result<(), Fail> {
+    writer.command(command)?;
+    assert_eq!(rt; step(writer), Kind::Took);
+    Ok(())
+}
+
+/// Does the own step of a writer, which sends a packet: its seqno, whether it is the last one, and whether it is to
+/// be synced.
+fn marked(writer: &mut Writer) -> Option<(i64, bool, bool)> {
+    match writer.next() {
+        Action::Send(packet) => Some((packet.seqno, packet.last, packet.sync)),
+        _ => None,
+    }
+}
+
+/// Does the own step of a writer, which answers that it failed: what the command is answered.
+fn failed(writer: &mut Writer) -> Option<ClientAnswer> {
+    match writer.next() {
+        Action::Answered { answer, .. } => Some(answer),
+        _ => None,
+    }
+}
+
+#[test]
+fn a_full_packet_and_a_byte_are_closed(rt: HostRuntime) -> Result<(), Fail> {
+    let mut writer = created(&rt, rt.alloc(), &[NodeId(0)])?;
+    take(&rt, &mut writer, Command::Fill { count: 64_513 })?;
+    assert!(rt; sent(&mut writer) == Some((0, 0, 64_512, 504)));
+    take(&rt, &mut writer, Command::Close)?;
+    assert!(rt; sent(&mut writer) == Some((1, 64_512, 1, 4)));
+    assert_eq!(rt; step(&mut writer), Kind::Wait);
+    ack(&mut writer, 0, &[Status::Success])?;
+    ack(&mut writer, 1, &[Status::Success])?;
+    assert!(rt; sent(&mut writer) == Some((2, 64_513, 0, 0)));
+    assert_eq!(rt; step(&mut writer), Kind::Wait);
+    ack(&mut writer, 2, &[Status::Success])?;
+    assert_eq!(rt; step(&mut writer), Kind::Ask);
+    writer.granted(&Ok(OfficeAnswer::Nothing));
+    assert!(rt; reached(&mut writer) == Some((64_513, Stamp(1001), 1)));
+    Ok(())
+}
+
+#[test]
+fn each_hsync_has_a_packet(rt: HostRuntime) -> Result<(), Fail> {
+    let mut writer = created(&rt, rt.alloc(), &[NodeId(0)])?;
+    take(&rt, &mut writer, Command::Fill { count: 9 })?;
+    for seqno in 0..2 {
+        take(&rt, &mut writer, Command::Hsync)?;
+        assert!(rt; marked(&mut writer) == Some((seqno, false, true)));
+        ack(&mut writer, seqno, &[Status::Success])?;
+        assert!(rt; reached(&mut writer) == Some((9, Stamp(1001), 1)));
+    }
+    take(&rt, &mut writer, Command::Close)?;
+    assert!(rt; marked(&mut writer) == Some((2, true, true)));
+    Ok(())
+}
+
+/// A writer that has closed a block of 600 bytes.
+fn closed(rt: &impl Abort, alloc: Global) -> Result<Writer, Fail> {
+    let mut writer = created(rt, alloc, &[NodeId(0)])?;
+    take(rt, &mut writer, Command::Fill { count: 600 })?;
+    take(rt, &mut writer, Command::Close)?;
+    assert!(rt; sent(&mut writer) == Some((0, 0, 600, 8)));
+    ack(&mut writer, 0, &[Status::Success])?;
+    assert!(rt; sent(&mut writer) == Some((1, 600, 0, 0)));
+    ack(&mut writer, 1, &[Status::Success])?;
+    assert_eq!(rt; step(&mut writer), Kind::Ask);
+    writer.granted(&Ok(OfficeAnswer::Nothing));
+    assert!(rt; reached(&mut writer) == Some((600, Stamp(1001), 1)));
+    Ok(writer)
+}
+
+/// A writer whose pipeline stands for an append to a block of 600 bytes.
+fn appending(rt: &impl Abort, alloc: Global) -> Result<Writer, Fail> {
+    let mut writer = closed(rt, alloc)?;
+    let members = Members::new(&[NodeId(0)]).ok_or("members")?;
+    take(rt, &mut writer, Command::Append { members })?;
+    assert_eq!(rt; step(&mut writer), Kind::Ask);
+    writer.granted(&Ok(OfficeAnswer::Reopened(Reopened {
+        committed: Stamp(1001),
+        length: 600,
+        new: Stamp(1002),
+    })));
+    let request = dialled(&mut writer).ok_or("a request")?;
+    assert_eq!(rt; request.stage, Stage::PipelineSetupAppend.number());
+    accept(alloc, &mut writer)?;
+    assert_eq!(rt; step(&mut writer), Kind::Ask);
+    writer.granted(&Ok(OfficeAnswer::Nothing));
+    assert_eq!(rt; step(&mut writer), Kind::Answered);
+    Ok(writer)
+}
+
+#[test]
+fn an_append_ends_the_last_chunk_first(rt: HostRuntime) -> Result<(), Fail> {
+    let mut writer = appending(&rt, rt.alloc())?;
+    take(&rt, &mut writer, Command::Fill { count: 1000 })?;
+    assert!(rt; sent(&mut writer) == Some((0, 600, 424, 4)));
+    take(&rt, &mut writer, Command::Hflush)?;
+    assert!(rt; sent(&mut writer) == Some((1, 1024, 576, 8)));
+    Ok(())
+}
+
+#[test]
+fn a_writer_gives_up(rt: HostRuntime) -> Result<(), Fail> {
+    let mut writer = created(&rt, rt.alloc(), &[NodeId(3)])?;
+    fill(&rt, &mut writer, 1)?;
+    assert!(rt; sent(&mut writer) == Some((0, 0, 1, 4)));
+    writer.ended();
+    let member = NodeId(3);
+    assert!(rt; failed(&mut writer) == Some(ClientAnswer::AllBad { member }));
+    let mut writer = created(&rt, rt.alloc(), &[NodeId(3), NodeId(4)])?;
+    fill(&rt, &mut writer, 1)?;
+    assert!(rt; sent(&mut writer) == Some((0, 0, 1, 4)));
+    writer.ended();
+    assert_eq!(rt; step(&mut writer), Kind::Ask);
+    let recovery = Stamp(1005);
+    writer.granted(&Err(OfficeFault::LeaseLost { recovery }));
+    assert!(rt; failed(&mut writer) == Some(ClientAnswer::Lost { recovery }));
     Ok(())
 }
