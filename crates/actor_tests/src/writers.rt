@@ -100,8 +100,8 @@ fn ack(writer: &mut Writer, seqno: i64, statuses: &[Status]) -> Result<(), Fail>
     Ok(())
 }
 
-/// A writer whose pipeline of these members stands for a new block.
-fn created(rt: &impl Abort, alloc: Global, nodes: &[NodeId]) -> Result<Writer, Fail> {
+/// A writer that has asked for a pipeline of these members for a new block.
+fn requested(rt: &impl Abort, alloc: Global, nodes: &[NodeId]) -> Result<Writer, Fail> {
     let mut writer = Writer::new(alloc, BlockId(1), SumRule::default())?;
     let members = Members::new(nodes).ok_or("members")?;
     writer.command(Command::Create { members })?;
@@ -109,6 +109,12 @@ fn created(rt: &impl Abort, alloc: Global, nodes: &[NodeId]) -> Result<Writer, F
     assert_eq!(rt; step(&mut writer), Kind::Ask);
     writer.granted(&Ok(OfficeAnswer::Stamp(Stamp(1001))));
     dialled(&mut writer).ok_or("a request")?;
+    Ok(writer)
+}
+
+/// A writer whose pipeline of these members stands for a new block.
+fn created(rt: &impl Abort, alloc: Global, nodes: &[NodeId]) -> Result<Writer, Fail> {
+    let mut writer = requested(rt, alloc, nodes)?;
     accept(alloc, &mut writer)?;
     assert_eq!(rt; step(&mut writer), Kind::Answered);
     Ok(writer)
@@ -288,6 +294,9 @@ fn a_writer_gives_up(rt: HostRuntime) -> Result<(), Fail> {
     assert!(rt; sent(&mut writer) == Some((0, 0, 1, 4)));
     writer.ended();
     assert_eq!(rt; step(&mut writer), Kind::Ask);
+    let mut unanswered = requested(&rt, rt.alloc(), &[NodeId(3)])?;
+    unanswered.dialled(None);
+    assert!(rt; failed(&mut unanswered) == Some(ClientAnswer::Abandoned { member }));
     let recovery = Stamp(1005);
     writer.granted(&Err(OfficeFault::LeaseLost { recovery }));
     assert!(rt; failed(&mut writer) == Some(ClientAnswer::Lost { recovery }));
