@@ -86,9 +86,9 @@ book_found f s h book info whole =
     let r = replica_of s in
     let same : r.known ≡ s.replica = sym book.known in
     found_info (f.files s.drawer) s.replica.block h r.bytes
-        (subst (λ (b : Bool). HoldsInfo (f.files s.drawer) s.replica.block.0 (Some h) b r.bytes) whole
-        (subst (λ (o : Option ReplicaInfo). HoldsInfo (f.files s.drawer) s.replica.block.0 o s.replica.is_broken r.bytes) info
-        (subst (λ (c : ReplicaRecord). HoldsInfo (f.files s.drawer) c.block.0 c.info c.is_broken r.bytes) same book.held.holds)))
+    (subst (λ (b : Bool). HoldsInfo (f.files s.drawer) s.replica.block.0 (Some h) b r.bytes) whole
+    (subst (λ (o : Option ReplicaInfo). HoldsInfo (f.files s.drawer) s.replica.block.0 o s.replica.is_broken r.bytes) info
+    (subst (λ (c : ReplicaRecord). HoldsInfo (f.files s.drawer) c.block.0 c.info c.is_broken r.bytes) same book.held.holds)))
 
 -- So can what the files hold once the book was closed.
 pub closed_found : {F : Type 0} (f : files.Ghosts F) (s : BookState F) (drawer : F) (block : BlockId) (h : ReplicaInfo) → IsBookOf f s → drawer ≡ s.drawer → block ≡ s.replica.block → s.replica.info ≡ Some h → s.replica.is_broken ≡ false

@@ -88,7 +88,7 @@ pub histories_keep_acked : HistoriesKeepAcked
 histories_keep_acked r [] full all = self_keeps r
 histories_keep_acked r (entry ∷ entries) full all =
     then_keeps r (after_entry r entry) (replay (after_entry r entry) entries) (entry_keeps r entry full all.0.no_update)
-        (histories_keep_acked (after_entry r entry) entries (entry_full r entry full all.0) all.1)
+    (histories_keep_acked (after_entry r entry) entries (entry_full r entry full all.0) all.1)
 
 -- ---- calls
 
@@ -130,4 +130,4 @@ pub histories_determine_files : {F G : Type 0} (f : files.Ghosts F) (g : files.G
 histories_determine_files f g s t one other block same is =
     let r = replica_of s in
     same_files (f.files s.drawer) (g.files t.drawer) r.known.block.0 r.known.info r.known.is_broken r.bytes is.there is.whole one.held.holds
-        (subst (Holds (g.files t.drawer)) (same_replica s t block same) other.held.holds)
+    (subst (Holds (g.files t.drawer)) (same_replica s t block same) other.held.holds)
