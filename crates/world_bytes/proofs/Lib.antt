@@ -4,3 +4,6 @@ pub mod Rows
 pub mod Frame
 pub mod Leaves
 pub mod Asking
+pub mod Turns
+pub mod Ends
+pub mod Streaming

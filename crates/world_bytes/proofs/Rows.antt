@@ -85,7 +85,7 @@ stream-stamp : (i k : ReplicaInfo) (named new : Stamp) (low high : ℕ) → reco
 unfolding recover_stream
 stream-stamp i k named new low high e = (grind (arith, nat_tests), grind (arith, nat_tests))
 
-begin-stamp : (i k : ReplicaInfo) (named id : Stamp) → begin_recovery i named id ≡ Ok k → (named.0 ≤ i.stamp.0) × (i.stamp.0 < id.0)
+pub begin-stamp : (i k : ReplicaInfo) (named id : Stamp) → begin_recovery i named id ≡ Ok k → (named.0 ≤ i.stamp.0) × (i.stamp.0 < id.0)
 unfolding begin_recovery
 begin-stamp i k named id e = (grind (arith, nat_tests), grind (arith, nat_tests))
 
