@@ -205,7 +205,7 @@ pub record Dialling (g : Givens) (w : World) (p : Past) (c : ℕ) (f : WriteFiel
 no-dialling : (g : Givens) (w : World) (p : Past) (c : ℕ) (f : WriteFields) → Dialling g w p c f [] None
 no-dialling g w p c f = record { mirror = tt; says = λ i d e. absurd (none-some d e); unled = λ i d e. absurd (none-some d e) }
 
-only-one : (P : ℕ → Dial → Type 0) (x : Dial) (ds : List Dial) → ds ≡ x ∷ [] → P 0 x → (i : ℕ) (d : Dial) → slice_get ds i ≡ Some d → P i d
+pub only-one : (P : ℕ → Dial → Type 0) (x : Dial) (ds : List Dial) → ds ≡ x ∷ [] → P 0 x → (i : ℕ) (d : Dial) → slice_get ds i ≡ Some d → P i d
 only-one P x ds e h i d q = go i d (subst (λ (xs : List Dial). slice_get xs i ≡ Some d) e q)
   where
     go : (i : ℕ) (d : Dial) → slice_get (x ∷ []) i ≡ Some d → P i d

@@ -22,7 +22,7 @@ use Rattle.world_facts.proofs.GrowthLaws.{apply-grows}
 use Rattle.world_facts.proofs.Tables.{if-each, put-each, and-left, and-right, some-weaker}
 use Rattle.world_places.specs.Placing.{Placed}
 use Rattle.world_stamps.specs.Stamping.{Givens, heard, Recorded}
-use Rattle.world_bytes.specs.Carrying.{kind_of, DownSays, UpSays, ReplicaSays, BreakSays, LowerSays, ConnSays, AsksFor, Asks, Streams, KnownSays, WriterSays, EntrySays, PrimarySays, LedBy, Carried}
+use Rattle.world_bytes.specs.Carrying.{kind_of, DownSays, UpSays, ReplicaSays, BreakSays, LowerSays, ConnSays, AsksFor, Asks, WriterSays, EntrySays, PrimarySays, LedBy, Carried}
 use Rattle.world_bytes.proofs.Fronts.{front-trans, front-length}
 use Rattle.world_bytes.proofs.Later.{Later, sets-later, passing-later, down-later, up-later, replica-later, break-later, lower-later, primary-later, led-later}
 
@@ -102,12 +102,10 @@ change-later g k w c x h = grown-later g k w.past (past_after w c) x (past-grows
 
 -- WRITERS THAT STAY
 
-streams-stay : (v : List ℕ) (w : List ℕ) (h : w ≡ v) (s : StreamState) (p : Phase) → Streams v s p → Streams w s p
-streams-stay v w h s p k = subst (λ (x : List ℕ). Streams x s p) (sym h) k
-
-asks-later : (g k : Givens) (h p : Past) (b l : ℕ) (c : Stamp) (s : StreamState) (x : Phase) → Later g k h p → Asks (g b) h l c s x → Asks (k b) p l c s x
+pub asks-later : (g k : Givens) (h p : Past) (b l : ℕ) (c : Stamp) (s : StreamState) (x : Phase) → Later g k h p → Asks (g b) h l c s x → Asks (k b) p l c s x
 asks-later g k h p b l c s (phase.Stamped way t) y a = record {
   given = y.given b t.0 l a.given;
+  created = a.created;
   passes = λ u e q low high. passing-later g k h p (Some (kind_of way)) e l (min_length way s) y (a.passes u e (y.old b b u t.0 e l q a.given high) low high);
 }
 asks-later g k h p b l c s phase.Closed y a = tt
@@ -124,12 +122,6 @@ asks-later g k h p b l c s (phase.Failed e) y a = tt
 pub conn-later : (g k : Givens) (h p : Past) (b l c : ℕ) → Later g k h p → ConnSays g h b l c → ConnSays k p b l c
 conn-later g k h p b l c y x = record { stamp = x.stamp; sets = sets-later g k h p c x.stamp y x.sets; given = y.given b x.stamp.0 l x.given }
 
-pub known-later : (g k : Givens) (h p : Past) (b l : ℕ) (x : WriterRecord) → Later g k h p → p.written l ≡ h.written l → KnownSays (g b) h l x → KnownSays (k b) p l x
-known-later g k h p b l x y same n = record {
-  streams = streams-stay (h.written l) (p.written l) same x.stream x.phase n.streams;
-  asks = asks-later g k h p b l x.committed x.stream x.phase y n.asks;
-}
-
 pub writer-later : (g k : Givens) (h p : Past) (b l : ℕ) (x : Writing) → Later g k h p → (k b l ≡ Some l → g b l ≡ Some l) → (g b l ≡ Some l → p.written l ≡ h.written l)
     → WriterSays g h b l x → WriterSays k p b l x
 writer-later g k h p b l x y back same n = record {
@@ -137,7 +129,10 @@ writer-later g k h p b l x y back same n = record {
   linked = n.linked;
   sound = n.sound;
   queue = n.queue;
-  known = λ q. known-later g k h p b l (heard x) y (same (back q)) (n.known (back q));
+  own = n.own;
+  are = λ q. n.are (back q) ∙ sym (same (back q));
+  streams = n.streams;
+  asks = asks-later g k h p b l (heard x).committed (heard x).stream (heard x).phase y n.asks;
 }
 
 -- ENTRIES THAT STAY

@@ -7,3 +7,5 @@ pub mod Asking
 pub mod Turns
 pub mod Ends
 pub mod Streaming
+pub mod Queues
+pub mod Writing

@@ -251,3 +251,143 @@ step-makes f h l v bytes x (phase.Failed d) e n y k b = failed-makes f h l v byt
 pub own-step-makes : (f : ℕ → Option ℕ) (h : Past) (l : ℕ) (v bytes : List ℕ) (x : WriterRecord) → Sound x → Good f h l v x → Heads x bytes → MakesStep f h l v bytes (own_step x)
 unfolding own_step
 own-step-makes f h l v bytes x n y b = step-makes f h l v bytes x x.phase refl n y y.streams b
+
+-- WHAT IT TAKES
+
+-- a writer after it took something: it streams as it may, and its queue stays
+pub record Hears (f : ℕ → Option ℕ) (h : Past) (l : ℕ) (v : List ℕ) (x y : WriterRecord) : Type 0 where
+  pub good : Good f h l v y
+  pub queue : y.queue ≡ x.queue
+
+same-hears : (f : ℕ → Option ℕ) (h : Past) (l : ℕ) (v : List ℕ) (x : WriterRecord) → Good f h l v x → Hears f h l v x x
+same-hears f h l v x k = record { good = k; queue = refl }
+
+wanted-streams : (v : List ℕ) (s : StreamState) (way : Setup) → StreamOf v s → Streams v s (phase.Wanted way)
+wanted-streams v s setup.Create k = tt
+wanted-streams v s setup.Append k = tt
+wanted-streams v s setup.AppendRecovery k = k
+wanted-streams v s setup.StreamRecovery k = k
+wanted-streams v s setup.CloseRecovery k = k
+
+dropped-hears : (f : ℕ → Option ℕ) (h : Past) (l : ℕ) (v : List ℕ) (x : WriterRecord) (s : Setup) (bad : NodeId) (ms : List NodeId) → StreamOf v x.stream → Hears f h l v x (dropped x s bad ms)
+dropped-hears f h l v x s bad [] k = record { good = record { streams = tt; asks = tt }; queue = refl }
+dropped-hears f h l v x s bad (m ∷ ms) k = record { good = record { streams = wanted-streams v x.stream s k; asks = tt }; queue = refl }
+
+for-hears : (f : ℕ → Option ℕ) (h : Past) (l : ℕ) (v : List ℕ) (x : WriterRecord) (d : Remedy) (bad : NodeId) → StreamOf v x.stream → Hears f h l v x (fail_for x d bad)
+for-hears f h l v x remedy.Abandon bad k = record { good = record { streams = tt; asks = tt }; queue = refl }
+for-hears f h l v x (remedy.Recover s) bad k = dropped-hears f h l v x s bad (without x.members bad) k
+
+named-hears : (f : ℕ → Option ℕ) (h : Past) (l : ℕ) (v : List ℕ) (x : WriterRecord) (d : Remedy) (o : Option NodeId) → Good f h l v x → StreamOf v x.stream → Hears f h l v x (fail_named x d o)
+named-hears f h l v x d None y k = same-hears f h l v x y
+named-hears f h l v x d (Some bad) y k = for-hears f h l v x d bad k
+
+fail-hears : (f : ℕ → Option ℕ) (h : Past) (l : ℕ) (v : List ℕ) (x : WriterRecord) (d : Remedy) (place : ℕ) → Good f h l v x → StreamOf v x.stream → Hears f h l v x (fail_at x d place)
+fail-hears f h l v x d place y k = named-hears f h l v x d (slice_get x.members place) y k
+
+-- a writer with a connection streams
+remedied : (v : List ℕ) (s : StreamState) (p : Phase) (d : Remedy) → remedy_in p ≡ Some d → Streams v s p → StreamOf v s
+remedied v s phase.Closed d e k = absurd (none-some d e)
+remedied v s (phase.Wanted way) d e k = absurd (none-some d e)
+remedied v s (phase.Stamped way t) d e k = absurd (none-some d e)
+remedied v s (phase.Requested way t) d e k = k
+remedied v s (phase.Accepted way t) d e k = k
+remedied v s phase.Opened d e k = k
+remedied v s (phase.Streaming sent) d e k = k
+remedied v s phase.Closing d e k = k
+remedied v s phase.Finished d e k = absurd (none-some d e)
+remedied v s phase.Completed d e k = absurd (none-some d e)
+remedied v s (phase.Failed c) d e k = absurd (none-some d e)
+
+ended-hears : (f : ℕ → Option ℕ) (h : Past) (l : ℕ) (v : List ℕ) (x : WriterRecord) (o : Option Remedy) → Good f h l v x → remedy_in x.phase ≡ o → Hears f h l v x (ended_as x o)
+ended-hears f h l v x None y e = same-hears f h l v x y
+ended-hears f h l v x (Some d) y e = fail-hears f h l v x d 0 y (remedied v x.stream x.phase d e y.streams)
+
+end-hears : (f : ℕ → Option ℕ) (h : Past) (l : ℕ) (v : List ℕ) (x : WriterRecord) → Good f h l v x → Hears f h l v x (ended x)
+unfolding ended
+end-hears f h l v x y = ended-hears f h l v x (remedy_in x.phase) y refl
+
+-- the same in the phases in which an ack is heard
+at-ack : (p : Phase) (d : Remedy) → remedy_at_ack p ≡ Some d → remedy_in p ≡ Some d
+at-ack (phase.Requested way t) d e = absurd (none-some d e)
+at-ack phase.Closed d e = e
+at-ack (phase.Wanted way) d e = e
+at-ack (phase.Stamped way t) d e = e
+at-ack (phase.Accepted way t) d e = e
+at-ack phase.Opened d e = e
+at-ack (phase.Streaming sent) d e = e
+at-ack phase.Closing d e = e
+at-ack phase.Finished d e = e
+at-ack phase.Completed d e = e
+at-ack (phase.Failed c) d e = e
+
+acked-good : (f : ℕ → Option ℕ) (h : Past) (l : ℕ) (v : List ℕ) (x : WriterRecord) (b : Bool) (p : Phase) (d : Remedy) → remedy_in p ≡ Some d → StreamOf v x.stream
+    → Good f h l v (record x { stream = oldest_acked x.stream; phase = phase_acked b p })
+acked-good f h l v x true p d e k = record { streams = acked-stream v x.stream k; asks = tt }
+acked-good f h l v x false phase.Closed d e k = absurd (none-some d e)
+acked-good f h l v x false (phase.Wanted way) d e k = absurd (none-some d e)
+acked-good f h l v x false (phase.Stamped way t) d e k = absurd (none-some d e)
+acked-good f h l v x false (phase.Requested way t) d e k = record { streams = acked-stream v x.stream k; asks = tt }
+acked-good f h l v x false (phase.Accepted way t) d e k = record { streams = acked-stream v x.stream k; asks = tt }
+acked-good f h l v x false phase.Opened d e k = record { streams = acked-stream v x.stream k; asks = tt }
+acked-good f h l v x false (phase.Streaming sent) d e k = record { streams = acked-stream v x.stream k; asks = tt }
+acked-good f h l v x false phase.Closing d e k = record { streams = acked-stream v x.stream k; asks = tt }
+acked-good f h l v x false phase.Finished d e k = absurd (none-some d e)
+acked-good f h l v x false phase.Completed d e k = absurd (none-some d e)
+acked-good f h l v x false (phase.Failed c) d e k = absurd (none-some d e)
+
+verdict-hears : (f : ℕ → Option ℕ) (h : Past) (l : ℕ) (v : List ℕ) (x : WriterRecord) (d : Remedy) (t : Verdict) → Good f h l v x → remedy_in x.phase ≡ Some d → Hears f h l v x (acked_as x d t)
+verdict-hears f h l v x d verdict.Good y e = record { good = acked-good f h l v x (oldest_is_last x.stream) x.phase d e (remedied v x.stream x.phase d e y.streams); queue = refl }
+verdict-hears f h l v x d (verdict.Bad place) y e = fail-hears f h l v x d place y (remedied v x.stream x.phase d e y.streams)
+
+acked-in-hears : (f : ℕ → Option ℕ) (h : Past) (l : ℕ) (v : List ℕ) (x : WriterRecord) (a : Ack) (o : Option Remedy) → Good f h l v x → remedy_at_ack x.phase ≡ o → Hears f h l v x (acked_in x a o)
+acked-in-hears f h l v x a None y e = same-hears f h l v x y
+acked-in-hears f h l v x a (Some d) y e = verdict-hears f h l v x d (ack_verdict (oldest_seqno x.stream) (length x.members) a) y (at-ack x.phase d e)
+
+acked-hears : (f : ℕ → Option ℕ) (h : Past) (l : ℕ) (v : List ℕ) (x : WriterRecord) (a : Ack) → Good f h l v x → Hears f h l v x (acked x a)
+unfolding acked
+acked-hears f h l v x a y = acked-in-hears f h l v x a (remedy_at_ack x.phase) y refl
+
+setup-in-hears : (f : ℕ → Option ℕ) (h : Past) (l : ℕ) (v : List ℕ) (x : WriterRecord) (p : Phase) (good : Bool) (bad : Option NodeId) → Good f h l v x → Streams v x.stream p → Hears f h l v x (setup_answered_in x p good bad)
+setup-in-hears f h l v x (phase.Requested way t) true bad y k = record { good = record { streams = k; asks = tt }; queue = refl }
+setup-in-hears f h l v x (phase.Requested way t) false bad y k = fail-hears f h l v x (remedy_after way) (bad_place x.members bad) y k
+setup-in-hears f h l v x phase.Closed good bad y k = same-hears f h l v x y
+setup-in-hears f h l v x (phase.Wanted way) good bad y k = same-hears f h l v x y
+setup-in-hears f h l v x (phase.Stamped way t) good bad y k = same-hears f h l v x y
+setup-in-hears f h l v x (phase.Accepted way t) good bad y k = same-hears f h l v x y
+setup-in-hears f h l v x phase.Opened good bad y k = same-hears f h l v x y
+setup-in-hears f h l v x (phase.Streaming sent) good bad y k = same-hears f h l v x y
+setup-in-hears f h l v x phase.Closing good bad y k = same-hears f h l v x y
+setup-in-hears f h l v x phase.Finished good bad y k = same-hears f h l v x y
+setup-in-hears f h l v x phase.Completed good bad y k = same-hears f h l v x y
+setup-in-hears f h l v x (phase.Failed c) good bad y k = same-hears f h l v x y
+
+setup-hears : (f : ℕ → Option ℕ) (h : Past) (l : ℕ) (v : List ℕ) (x : WriterRecord) (a : Response) (bad : Option NodeId) → Good f h l v x → Hears f h l v x (setup_answered x a bad)
+unfolding setup_answered
+setup-hears f h l v x a bad y = setup-in-hears f h l v x x.phase (is_success a.status) bad y y.streams
+
+pub writer-hears : (f : ℕ → Option ℕ) (h : Past) (l : ℕ) (v : List ℕ) (x : WriterRecord) (n : Next) → Good f h l v x → Hears f h l v x (writer_hears x n)
+writer-hears f h l v x (message (request q)) y = end-hears f h l v x y
+writer-hears f h l v x (message (packet p)) y = end-hears f h l v x y
+writer-hears f h l v x (message (ack a)) y = acked-hears f h l v x a y
+writer-hears f h l v x (message (response a)) y = setup-hears f h l v x a (named_member x.members a.first_bad) y
+writer-hears f h l v x (message (read_status s)) y = end-hears f h l v x y
+writer-hears f h l v x (message (recovery_answer a)) y = end-hears f h l v x y
+writer-hears f h l v x the_end y = end-hears f h l v x y
+
+dialled-in-hears : (f : ℕ → Option ℕ) (h : Past) (l : ℕ) (v : List ℕ) (x : WriterRecord) (p : Phase) (answered : Bool) → Good f h l v x → Streams v x.stream p → Hears f h l v x (dialled_in x p answered)
+dialled-in-hears f h l v x (phase.Stamped way t) true y k = record { good = record { streams = k; asks = tt }; queue = refl }
+dialled-in-hears f h l v x (phase.Stamped way t) false y k = fail-hears f h l v x (remedy_after way) 0 y k
+dialled-in-hears f h l v x phase.Closed answered y k = same-hears f h l v x y
+dialled-in-hears f h l v x (phase.Wanted way) answered y k = same-hears f h l v x y
+dialled-in-hears f h l v x (phase.Requested way t) answered y k = same-hears f h l v x y
+dialled-in-hears f h l v x (phase.Accepted way t) answered y k = same-hears f h l v x y
+dialled-in-hears f h l v x phase.Opened answered y k = same-hears f h l v x y
+dialled-in-hears f h l v x (phase.Streaming sent) answered y k = same-hears f h l v x y
+dialled-in-hears f h l v x phase.Closing answered y k = same-hears f h l v x y
+dialled-in-hears f h l v x phase.Finished answered y k = same-hears f h l v x y
+dialled-in-hears f h l v x phase.Completed answered y k = same-hears f h l v x y
+dialled-in-hears f h l v x (phase.Failed c) answered y k = same-hears f h l v x y
+
+pub dialled-hears : (f : ℕ → Option ℕ) (h : Past) (l : ℕ) (v : List ℕ) (x : WriterRecord) (answered : Bool) → Good f h l v x → Hears f h l v x (dialled x answered)
+unfolding dialled
+dialled-hears f h l v x answered y = dialled-in-hears f h l v x x.phase answered y y.streams

@@ -203,26 +203,27 @@ kind_of setup.AppendRecovery = kind.AppendRecovery
 kind_of setup.StreamRecovery = kind.StreamRecovery
 kind_of setup.CloseRecovery = kind.CloseRecovery
 
--- what stands under a stamp from the committed one to that of the setup may pass to the latest session
+-- what stands under a stamp from the committed one to that of the setup may pass to the latest session; a create commits its stamp at once
 pub record AsksFor (f : ℕ → Option ℕ) (h : Past) (latest : ℕ) (committed : Stamp) (s : StreamState) (way : Setup) (stamp : Stamp) : Type 0 where
   pub given : f stamp.0 ≡ Some latest
+  pub created : way ≡ setup.Create → committed ≡ stamp
   pub passes : (t e : ℕ) → f t ≡ Some e → committed.0 ≤ t → t ≤ stamp.0 → Passing (Some (kind_of way)) h e latest (min_length way s)
 
 abbrev pub Asks : (ℕ → Option ℕ) → Past → ℕ → Stamp → StreamState → Phase → Type 0
 Asks f h latest committed s (phase.Stamped way stamp) = AsksFor f h latest committed s way stamp
 Asks f h latest committed s _ = Unit {0}
 
--- of a writer whose block has a session
-pub record KnownSays (f : ℕ → Option ℕ) (h : Past) (latest : ℕ) (x : WriterRecord) : Type 0 where
-  pub streams : Streams (h.written latest) x.stream x.phase
-  pub asks : Asks f h latest x.committed x.stream x.phase
-
+-- A writer has a connection only where its phase has one; its own bytes are those of the latest session, once its block has one; and no command is
+-- left in its queue.
 pub record WriterSays (g : Givens) (h : Past) (b latest : ℕ) (x : Writing) : Type 0 where
   pub conn : IfSome x.conn (ConnSays g h b latest)
   pub linked : (c : ℕ) → x.conn ≡ Some c → is_connected x.known.phase ≡ true
   pub sound : Sound (heard x)
   pub queue : (heard x).queue ≡ []
-  pub known : g b latest ≡ Some latest → KnownSays (g b) h latest (heard x)
+  pub own : List ℕ
+  pub are : g b latest ≡ Some latest → own ≡ h.written latest
+  pub streams : Streams own (heard x).stream (heard x).phase
+  pub asks : Asks (g b) h latest (heard x).committed (heard x).stream (heard x).phase
 
 -- THE OFFICE
 
