@@ -19,6 +19,7 @@ use Rattle.world_sessions.proofs.Asides.{Aside}
 use Rattle.writer_core.specs.declared.records.WriterRecord.{WriterRecord}
 use Rattle.world_stamps.specs.Stamping.{Givens, Entries, HeldOf, heard, Recorded}
 use Rattle.world_bytes.specs.Carrying.{DownSays, UpSays, ReplicaSays, BreakSays, LowerSays, WriterSays, EntrySays, PrimarySays, LedBy, Carried}
+use Rattle.world_bytes.proofs.Fronts.{front-refl}
 use Rattle.world_bytes.proofs.Later.{Later, replica-later, break-later, lower-later, primary-later, led-later}
 use Rattle.world_bytes.proofs.Rows.{Ready, Allows, row-says, broken-says, break-says}
 use Rattle.world_bytes.proofs.Frame.{Each, each-nil, Extends, change-later, unwritten, writer-later, entry-later, News, keeps}
@@ -43,6 +44,17 @@ before-of g w r b t e q = held-before (g b) (w.latest b) (record_of w.office (re
 
 pub same-extends : (g : Givens) (w : World) → Recorded g w → Extends g g
 same-extends g w r = record { before = before-of g w r; given = λ b t e q. q; old = λ b c t u s e q _ _. q }
+
+-- a past is a later one than itself
+pub self-later : (g : Givens) (w : World) → Recorded g w → Later g g w.past w.past
+self-later g w r = record {
+  before = before-of g w r;
+  given = λ b t e q. q;
+  old = λ b c t u s e q _ _. q;
+  first = λ c m e. e;
+  written = λ e. front-refl (w.written e);
+  whole = λ b t s q. inl refl;
+}
 
 -- one stamp is of one session
 pub one-session : (g : Givens) (w : World) → Recorded g w → (b d t s e : ℕ) → g b t ≡ Some s → g d t ≡ Some e → s ≡ e

@@ -9,3 +9,4 @@ pub mod Ends
 pub mod Streaming
 pub mod Queues
 pub mod Writing
+pub mod Clients

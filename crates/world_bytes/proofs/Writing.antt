@@ -214,7 +214,7 @@ after-says g w p b v x h y a e =
     }
 
 -- its own bytes, where none are added
-own-stays : (g : Givens) (w : World) (k : Change) (b : ℕ) (h : Facts g w) → k.bytes ≡ [] → g b (w.latest b) ≡ Some (w.latest b) → own_of g w h b ≡ (past_after w k).written (w.latest b)
+pub own-stays : (g : Givens) (w : World) (k : Change) (b : ℕ) (h : Facts g w) → k.bytes ≡ [] → g b (w.latest b) ≡ Some (w.latest b) → own_of g w h b ≡ (past_after w k).written (w.latest b)
 own-stays g w k b h e q = (h.carried.writers b).are q ∙ sym (unwritten w k (w.latest b) (λ _. e))
 
 -- its own bytes with those that are added
@@ -223,7 +223,7 @@ own-grows g w k b h e q =
     ap (λ (v : List ℕ). v ++ k.bytes) ((h.carried.writers b).are q)
     ∙ sym (if-each (λ (v : List ℕ). v ≡ w.written (w.latest b) ++ k.bytes) (w.latest b == k.session) (w.written (w.latest b) ++ k.bytes) (w.written (w.latest b)) (λ _. refl) (λ n. absurd (eqb-false (w.latest b) k.session n (sym e))))
 
-writer-change-keeps : (g : Givens) (w : World) (b : ℕ) (x : WriterRecord) (h : Facts g w) → WriterAfter g w b (own_of g w h b) x → Keeps g w (writer_change w b x)
+pub writer-change-keeps : (g : Givens) (w : World) (b : ℕ) (x : WriterRecord) (h : Facts g w) → WriterAfter g w b (own_of g w h b) x → Keeps g w (writer_change w b x)
 writer-change-keeps g w b x h a =
     let k = writer_change w b x in
     let p = past_after w k in
@@ -261,7 +261,7 @@ spends-of : (g : Givens) (w : World) (k : Change) → k.session ≡ w.latest k.w
 spends-of g w k e (inl n) = nothing n
 spends-of g w k e (inr h) = to_latest e h
 
-did-keeps : (g : Givens) (w : World) (b : ℕ) (waits : Option Waiting) (a : Action) (x : WriterRecord) (bytes : List ℕ) (h : Facts g w) → StepMakes g w b (own_of g w h b) bytes a x → IfSome (did w b waits a x bytes) (Keeps g w)
+pub did-keeps : (g : Givens) (w : World) (b : ℕ) (waits : Option Waiting) (a : Action) (x : WriterRecord) (bytes : List ℕ) (h : Facts g w) → StepMakes g w b (own_of g w h b) bytes a x → IfSome (did w b waits a x bytes) (Keeps g w)
 did-keeps g w b waits action.Wait x bytes h m = tt
 did-keeps g w b waits action.Took x bytes h m =
     let k : Change = record (writer_change w b x) { session = w.latest b; bytes = bytes } in
@@ -299,7 +299,7 @@ did-keeps g w b waits action.Memory x bytes h m = tt
 -- THE REQUEST
 
 -- the request of a setup, as members read it
-record Requested (b : BlockId) (committed : Stamp) (s : StreamState) (way : Setup) (stamp : Stamp) (o : Op) : Type 0 where
+pub record Requested (b : BlockId) (committed : Stamp) (s : StreamState) (way : Setup) (stamp : Stamp) (o : Op) : Type 0 where
   pub fields : WriteFields
   pub is : o ≡ op.Write fields
   pub block : fields.block.block ≡ b
@@ -308,7 +308,7 @@ record Requested (b : BlockId) (committed : Stamp) (s : StreamState) (way : Setu
   pub least : fields.min ≡ min_length way s
   pub new : (way ≡ setup.Create → committed ≡ stamp) → new_stamp fields ≡ stamp
 
-requested : (b : BlockId) (committed : Stamp) (s : StreamState) (way : Setup) (stamp : Stamp) (n : ℕ) (ts : List NodeId) → Requested b committed s way stamp (request_for b committed s way stamp n ts)
+pub requested : (b : BlockId) (committed : Stamp) (s : StreamState) (way : Setup) (stamp : Stamp) (n : ℕ) (ts : List NodeId) → Requested b committed s way stamp (request_for b committed s way stamp n ts)
 unfolding request_for
 requested b committed s setup.Create stamp n ts = record { fields = _; is = refl; block = refl; named = refl; kind_is = refl; least = refl; new = λ e. e refl }
 requested b committed s setup.Append stamp n ts = record { fields = _; is = refl; block = refl; named = refl; kind_is = refl; least = refl; new = λ e. refl }
@@ -316,7 +316,7 @@ requested b committed s setup.AppendRecovery stamp n ts = record { fields = _; i
 requested b committed s setup.StreamRecovery stamp n ts = record { fields = _; is = refl; block = refl; named = refl; kind_is = refl; least = refl; new = λ e. refl }
 requested b committed s setup.CloseRecovery stamp n ts = record { fields = _; is = refl; block = refl; named = refl; kind_is = refl; least = refl; new = λ e. refl }
 
-request-says : (g : Givens) (p : Past) (b l c : ℕ) (x : WriterRecord) (way : Setup) (stamp : Stamp) (f : WriteFields) (o : Op) → (r : Requested x.block x.committed x.stream way stamp o) → r.fields ≡ f → x.block ≡ record { 0 = b }
+pub request-says : (g : Givens) (p : Past) (b l c : ℕ) (x : WriterRecord) (way : Setup) (stamp : Stamp) (f : WriteFields) (o : Op) → (r : Requested x.block x.committed x.stream way stamp o) → r.fields ≡ f → x.block ≡ record { 0 = b }
     → AsksFor (g b) p l x.committed x.stream way stamp → slice_get (p.downs c) 0 ≡ Some (request (op.Write f)) → WriteSays g p c f
 request-says g p b l c x way stamp f o r e block a first =
     subst (λ (d : WriteFields). slice_get (p.downs c) 0 ≡ Some (request (op.Write d)) → WriteSays g p c d) e (λ q. record {
