@@ -10,3 +10,4 @@ pub mod Streaming
 pub mod Queues
 pub mod Writing
 pub mod Clients
+pub mod Leading
