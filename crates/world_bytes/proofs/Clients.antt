@@ -5,7 +5,7 @@ use Rattle.packet_codec.specs.declared.packets.Packet.{Packet}
 use Rattle.writer_core.specs.declared.phases.DuePacket.{DuePacket}
 use Rattle.writer_core.specs.declared.phases.DuePacket.TheVariants as due
 use Rattle.replica_model.specs.Rows.{FullReplica}
-use Rattle.world.specs.Parts.{Break}
+use Rattle.world.specs.Parts.{Break, Lower}
 use Rattle.std.proofs.lemmas.Bool.{false≢true}
 use Rattle.std.proofs.lemmas.Bool.Decides.{nat_tests}
 use Rattle.std.proofs.lemmas.Option.{none-some, same_Some}
@@ -53,7 +53,7 @@ use Rattle.world_sessions.proofs.WriterSteps.{own-step-same, open-same, complete
 use Rattle.world_stamps.specs.Stamping.{Givens, known_heard, heard, IsOfLatest, Waits, InPhase, Fits, Entries, HeldOf, Recorded}
 use Rattle.world_stamps.proofs.Moves.{given-fits, ruled-fits}
 use Rattle.world_bytes.specs.Carrying.{Sets, DownSays, UpSays, ReplicaSays, BreakSays, LowerSays, ConnSays, AsksFor, Asks, Streams, WriterSays, Carried}
-use Rattle.world_bytes.proofs.Later.{Later}
+use Rattle.world_bytes.proofs.Later.{Later, lower-later}
 use Rattle.world_bytes.proofs.Frame.{Each, each-nil, each-one, asks-later}
 use Rattle.world_bytes.proofs.Leaves.{Facts, self-later, NodeNews, Beside, node-keeps, ready-at, break-at, sent-each}
 use Rattle.world_bytes.proofs.Asking.{Keeps, only-one, first-dial}
@@ -485,7 +485,7 @@ writer-up-keeps g w b c n h =
 -- READERS
 
 -- a change of a reader: what it sends and asks needs nothing
-reader-keeps : (g : Givens) (w : World) (k : Change) → Facts g w → Beside w k → k.replica ≡ w.replicas k.node k.block → k.broke ≡ w.breaks k.node k.block → ((p : Past) → LowerSays p k.lower_at k.lower)
+reader-keeps : (g : Givens) (w : World) (k : Change) → Facts g w → Beside w k → k.replica ≡ w.replicas k.node k.block → k.broke ≡ w.breaks k.node k.block → k.lower ≡ w.lowers k.lower_at
     → ((p : Past) (c : ℕ) → Each (DownSays g p c) (k.downs c)) → ((c : ℕ) → k.ups c ≡ []) → ((p : Past) (i : ℕ) (d : Dial) → slice_get k.dials i ≡ Some d → DownSays g p (w.next_conn + i) d.request)
     → ((i : ℕ) (d : Dial) → slice_get k.dials i ≡ Some d → (j place : ℕ) → d.dialled.upper ≡ by_primary j place → ⊥) → Keeps g w k
 reader-keeps g w k h a r b l d u s t =
@@ -493,9 +493,49 @@ reader-keeps g w k h a r b l d u s t =
     node-keeps g w k h a (λ y. record {
       replica = subst (λ (x : FullReplica). ReplicaSays g p k.block x) (sym r) (ready-at g w p k.node k.block h y).says;
       broke = subst (λ (o : Option Break). IfSome o (BreakSays g p k.block)) (sym b) (break-at g w p k.node k.block h y);
-      lower = l p;
+      lower = subst (λ (x : Lower). LowerSays p k.lower_at x) (sym l) (lower-later g g w.past p k.lower_at (w.lowers k.lower_at) y (h.carried.lowers k.lower_at));
       downs = d p;
       ups = λ c. subst (λ (ms : List Message). Each (UpSays g p c) ms) (sym (u c)) (each-nil (UpSays g p c));
       dials = s p;
       unled = t;
     })
+
+no-downs : (g : Givens) (p : Past) (c : ℕ) → Each (DownSays g p c) []
+no-downs g p c = each-nil (DownSays g p c)
+
+dials-keeps : (g : Givens) (w : World) (i n : ℕ) (r : ReadOp) (answered : Bool) → Facts g w → Keeps g w (reader_dials w i n r answered)
+dials-keeps g w i n r true h =
+    let k = reader_dials w i n r true in
+    reader-keeps g w k h (record { office = refl; stamped = refl; writer = refl; bytes = refl; primary = refl }) refl refl refl (λ p c. no-downs g p c) (λ _. refl)
+    (λ p. only-one (λ j d. DownSays g p (w.next_conn + j) d.request) _ k.dials refl tt) (only-one (λ j d. (m place : ℕ) → d.dialled.upper ≡ by_primary m place → ⊥) _ k.dials refl (λ m place q. apart m place q))
+  where
+    apart : (m place : ℕ) → by_reader i ≡ by_primary m place → ⊥
+    apart m place q = cc
+dials-keeps g w i n r false h =
+    reader-keeps g w (reader_dials w i n r false) h (record { office = refl; stamped = refl; writer = refl; bytes = refl; primary = refl }) refl refl refl (λ p c. no-downs g p c) (λ _. refl)
+    (λ p j d e. absurd (none-some d e)) (λ j d e. absurd (none-some d e))
+
+own-reader-as-keeps : (x : Reader) (g : Givens) (w : World) (i n : ℕ) (r : ReadOp) (answered : Bool) → Facts g w → IfSome (own_reader_as x w i n r answered) (Keeps g w)
+own-reader-as-keeps no_reader g w i n r answered h = dials-keeps g w i n r (answered && w.running n) h
+own-reader-as-keeps (reads c s) g w i n r answered h = tt
+own-reader-as-keeps (has_read b) g w i n r answered h = tt
+
+pub own-reader-keeps : (g : Givens) (w : World) (i n : ℕ) (r : ReadOp) (answered : Bool) → Facts g w → IfSome (own_reader w i n r answered) (Keeps g w)
+own-reader-keeps g w i n r answered h = own-reader-as-keeps (w.readers i) g w i n r answered h
+
+turn-keeps : (g : Givens) (w : World) (i c : ℕ) (t : ReadTaken) (d : ReadTurn) → Facts g w → Keeps g w (reader_turn w i c t d)
+turn-keeps g w i c t turn.Goes h =
+    reader-keeps g w (reader_turn w i c t turn.Goes) h (record { office = refl; stamped = refl; writer = refl; bytes = refl; primary = refl }) refl refl refl (λ p c. no-downs g p c) (λ _. refl) (λ p j d e. absurd (none-some d e)) (λ j d e. absurd (none-some d e))
+turn-keeps g w i c t turn.Verified h =
+    reader-keeps g w (reader_turn w i c t turn.Verified) h (record { office = refl; stamped = refl; writer = refl; bytes = refl; primary = refl }) refl refl refl
+    (λ p. sent-each (DownSays g p) c _ (each-one (DownSays g p c) _ tt)) (λ _. refl) (λ p j d e. absurd (none-some d e)) (λ j d e. absurd (none-some d e))
+turn-keeps g w i c t (turn.Fails f) h =
+    reader-keeps g w (reader_turn w i c t (turn.Fails f)) h (record { office = refl; stamped = refl; writer = refl; bytes = refl; primary = refl }) refl refl refl (λ p c. no-downs g p c) (λ _. refl) (λ p j d e. absurd (none-some d e)) (λ j d e. absurd (none-some d e))
+
+reader-up-as-keeps : (x : Reader) (g : Givens) (w : World) (i c : ℕ) (n : Next) → Facts g w → IfSome (reader_up_as x w i c n) (Keeps g w)
+reader-up-as-keeps no_reader g w i c n h = tt
+reader-up-as-keeps (reads d s) g w i c n h = when-each (Keeps g w) (d == c) _ (λ _. turn-keeps g w i c (take_from s (from_node_of n)) (take_from s (from_node_of n)).does h)
+reader-up-as-keeps (has_read b) g w i c n h = tt
+
+pub reader-up-keeps : (g : Givens) (w : World) (i c : ℕ) (n : Next) → Facts g w → IfSome (reader_up w i c n) (Keeps g w)
+reader-up-keeps g w i c n h = reader-up-as-keeps (w.readers i) g w i c n h

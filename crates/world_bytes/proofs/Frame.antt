@@ -86,7 +86,7 @@ grown-later g k h p x d w = record {
 }
 
 -- a session that gets no bytes
-added-other : (f : ℕ → List ℕ) (i : ℕ) (xs : List ℕ) (s : ℕ) → (s ≡ i → xs ≡ []) → add f i xs s ≡ f s
+pub added-other : (f : ℕ → List ℕ) (i : ℕ) (xs : List ℕ) (s : ℕ) → (s ≡ i → xs ≡ []) → add f i xs s ≡ f s
 added-other f i xs s h = if-each (λ (v : List ℕ). v ≡ f s) (s == i) (f s ++ xs) (f s) (λ e. ap (λ (ys : List ℕ). f s ++ ys) (h (eqb-true s i e)) ∙ append-nil (f s)) (λ _. refl)
 
 pub unwritten : (w : World) (k : Change) (s : ℕ) → (s ≡ k.session → k.bytes ≡ []) → (past_after w k).written s ≡ w.written s

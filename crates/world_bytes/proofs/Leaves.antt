@@ -26,13 +26,14 @@ use Rattle.world_bytes.proofs.Frame.{Each, each-nil, Extends, change-later, unwr
 
 -- WHAT IS KNOWN OF A WORLD
 
--- What is carried; nothing was sent on a connection that wasn't dialled; each replica has just the bytes that it has written; and the stamps that
--- were given are recorded.
+-- What is carried; nothing was sent on a connection that wasn't dialled; each replica has just the bytes that it has written; a session that hasn't
+-- begun has none; and the stamps that were given are recorded.
 pub record Facts (g : Givens) (w : World) : Type 0 where
   pub carried : Carried g w
   pub fresh : (c : ℕ) → w.next_conn ≤ c → w.downs c ≡ []
   pub conns : (b c : ℕ) → (w.writers b).conn ≡ Some c → c < w.next_conn
   pub full : (n b : ℕ) → IsFull (w.replicas n b)
+  pub unused : (s : ℕ) → w.office.next.0 ≤ s → w.written s ≡ []
   pub recorded : Recorded g w
 
 held-before : (f : ℕ → Option ℕ) (l : ℕ) (o : Option BlockRecord) (x : WriterRecord) → HeldOf f l o x → (t e : ℕ) → f t ≡ Some e → e ≤ t

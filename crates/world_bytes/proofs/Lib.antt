@@ -11,3 +11,5 @@ pub mod Queues
 pub mod Writing
 pub mod Clients
 pub mod Leading
+pub mod Pinned
+pub mod Answers
