@@ -188,7 +188,7 @@ new-passes p l n setup.StreamRecovery a = refl
 new-passes p l n setup.CloseRecovery a = inl refl
 
 -- an entry that stays
-entry-stays : (f g : ℕ → Option ℕ) (h p : Past) (l base : ℕ) (r k : BlockRecord) → k.committed ≡ r.committed → k.is_open ≡ r.is_open → k.length ≡ r.length → ((e : ℕ) → g r.committed.0 ≡ Some e → f r.committed.0 ≡ Some e)
+pub entry-stays : (f g : ℕ → Option ℕ) (h p : Past) (l base : ℕ) (r k : BlockRecord) → k.committed ≡ r.committed → k.is_open ≡ r.is_open → k.length ≡ r.length → ((e : ℕ) → g r.committed.0 ≡ Some e → f r.committed.0 ≡ Some e)
     → f r.committed.0 ≡ Some base → p.written l ≡ h.written l → p.written base ≡ h.written base → EntrySays f h l r → EntrySays g p l k
 entry-stays f g h p l base r k c o n back at same old e = record {
   front = λ d q. go d (at-base d q);

@@ -13,3 +13,4 @@ pub mod Clients
 pub mod Leading
 pub mod Pinned
 pub mod Answers
+pub mod Offices

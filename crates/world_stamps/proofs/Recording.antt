@@ -79,13 +79,13 @@ quiet-recorded f w k q h = record {
 place : (f g : ℕ → Option ℕ) (l m : ℕ) (o p : Option BlockRecord) (x : WriterRecord) → g ≡ f → m ≡ l → p ≡ o → HeldOf f l o x → HeldOf g m p x
 place f g l m o p x e i j h = rw e (rw i (rw j h))
 
-known-of : (f : ℕ → Option ℕ) (l : ℕ) (o : Option BlockRecord) (r : BlockRecord) (x : WriterRecord) → o ≡ Some r → HeldOf f l o x → Entries f l r x
+pub known-of : (f : ℕ → Option ℕ) (l : ℕ) (o : Option BlockRecord) (r : BlockRecord) (x : WriterRecord) → o ≡ Some r → HeldOf f l o x → Entries f l r x
 known-of f l o r x e h = subst (λ (p : Option BlockRecord). HeldOf f l p x) e h
 
-unknown-of : (f : ℕ → Option ℕ) (l : ℕ) (o : Option BlockRecord) (x : WriterRecord) → o ≡ None → HeldOf f l o x → (t : ℕ) → f t ≡ None
+pub unknown-of : (f : ℕ → Option ℕ) (l : ℕ) (o : Option BlockRecord) (x : WriterRecord) → o ≡ None → HeldOf f l o x → (t : ℕ) → f t ≡ None
 unknown-of f l o x e h = (subst (λ (p : Option BlockRecord). HeldOf f l p x) e h).1
 
-below-of : (f : Givens) (w : World) (b : ℕ) → Recorded f w → Below (f b) w.office.next.0
+pub below-of : (f : Givens) (w : World) (b : ℕ) → Recorded f w → Below (f b) w.office.next.0
 below-of f w b h = record { below = h.below b }
 
 -- what is held of the block of a call, once it was taken, of the writer that is then
@@ -93,7 +93,7 @@ abbrev HeldAfter : Givens → World → OfficeCall → Step OfficeState OfficeAn
 HeldAfter f w c s x =
     HeldOf (given_with f (stamped_by w c (reply s)) (block_in c).0) (latest_with w.latest (stamped_by w c (reply s)) (block_in c).0) (record_of (state_after w.office s) (block_in c)) x
 
-abbrev HeldBefore : Givens → World → OfficeCall → WriterRecord → Type 0
+abbrev pub HeldBefore : Givens → World → OfficeCall → WriterRecord → Type 0
 HeldBefore f w c x = HeldOf (f (block_in c).0) (w.latest (block_in c).0) (record_of w.office (block_in c)) x
 
 unstamped : (f : Givens) (w : World) (c : OfficeCall) (s : Option Stamped) (o : Option BlockRecord) (x : WriterRecord) → s ≡ None → HeldOf (f (block_in c).0) (w.latest (block_in c).0) o x
@@ -136,7 +136,7 @@ writer-own f w x i c = each_case w.office (WriterOwn f w x) (record {
     lt-true a b e = grind (arith, nat_tests, e)
 
 -- the id is the one of the recovery that has begun
-held-id : (o : Option Stamp) (id : Stamp) → is_stamp o id ≡ true → o ≡ Some id
+pub held-id : (o : Option Stamp) (id : Stamp) → is_stamp o id ≡ true → o ≡ Some id
 held-id None id e = cc
 held-id (Some s) id e = ap (λ (n : ℕ). Some (record { 0 = n })) (eqb-true s.0 id.0 e)
 
@@ -170,7 +170,7 @@ primary-own f w x i c = each_case w.office (PrimaryOwn f w x) (record {
 
 -- OTHER BLOCKS
 
-other-block : (p q : BlockId) → (q.0 ≡ p.0 → ⊥) → is_at (block_order q) p ≡ false
+pub other-block : (p q : BlockId) → (q.0 ≡ p.0 → ⊥) → is_at (block_order q) p ≡ false
 other-block p q apart = go (same_or_other p q)
   where
     go : ((p ≡ q) ⊎ (is_at (block_order q) p ≡ false)) → is_at (block_order q) p ≡ false
@@ -200,11 +200,11 @@ gives w c = each_case w.office (GivesBy w) (record {
   synced = λ block id bytes members r is is_open latest. record { rises = omega arith; fresh = tt };
 }) c
 
-others-given : (f : Givens) (s : Option Stamped) (b q : ℕ) (n m : ℕ) → IfSome s (λ x. (x.stamp ≡ n) × (x.block ≡ b) × (x.stamp < m)) → (q ≡ b → ⊥) → given_with f s q ≡ f q
+pub others-given : (f : Givens) (s : Option Stamped) (b q : ℕ) (n m : ℕ) → IfSome s (λ x. (x.stamp ≡ n) × (x.block ≡ b) × (x.stamp < m)) → (q ≡ b → ⊥) → given_with f s q ≡ f q
 others-given f None b q n m g apart = refl
 others-given f (Some s) b q n m g apart = put-there f s.block _ q (λ e. apart (e ∙ g.1))
 
-others-latest : (f : ℕ → ℕ) (s : Option Stamped) (b q : ℕ) (n m : ℕ) → IfSome s (λ x. (x.stamp ≡ n) × (x.block ≡ b) × (x.stamp < m)) → (q ≡ b → ⊥) → latest_with f s q ≡ f q
+pub others-latest : (f : ℕ → ℕ) (s : Option Stamped) (b q : ℕ) (n m : ℕ) → IfSome s (λ x. (x.stamp ≡ n) × (x.block ≡ b) × (x.stamp < m)) → (q ≡ b → ⊥) → latest_with f s q ≡ f q
 others-latest f None b q n m g apart = refl
 others-latest f (Some s) b q n m g apart = put-there f s.block s.latest q (λ e. apart (e ∙ g.1))
 
@@ -276,10 +276,10 @@ other-held f w c d x apart h =
 abbrev pub Agreed : World → Type 0
 Agreed w = (b : ℕ) → IsCommitted w.office (record { 0 = b }) (stamp_heard (w.writers b))
 
-none-heard : (x : Writing) → x.told ≡ None → heard x ≡ x.known
+pub none-heard : (x : Writing) → x.told ≡ None → heard x ≡ x.known
 none-heard x e = ap (known_heard x.known) e
 
-none-stamp : (x : Writing) → x.told ≡ None → stamp_heard x ≡ x.known.committed
+pub none-stamp : (x : Writing) → x.told ≡ None → stamp_heard x ≡ x.known.committed
 none-stamp x e = ap (λ (o : Option Told). told_stamp x.known o) e
 
 asks-writer-recorded : (f : Givens) (w : World) (b : ℕ) (c : OfficeCall) → Recorded f w → Agreed w → (w.writers b).told ≡ None → AsksAs (w.writers b).known c
