@@ -31,7 +31,6 @@ use Rattle.world_bytes.proofs.Frame.{Each, each-nil, Extends, change-later, unwr
 pub record Facts (g : Givens) (w : World) : Type 0 where
   pub carried : Carried g w
   pub fresh : (c : ℕ) → w.next_conn ≤ c → w.downs c ≡ []
-  pub conns : (b c : ℕ) → (w.writers b).conn ≡ Some c → c < w.next_conn
   pub full : (n b : ℕ) → IsFull (w.replicas n b)
   pub unused : (s : ℕ) → w.office.next.0 ≤ s → w.written s ≡ []
   pub recorded : Recorded g w

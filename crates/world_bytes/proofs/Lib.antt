@@ -14,3 +14,5 @@ pub mod Leading
 pub mod Pinned
 pub mod Answers
 pub mod Offices
+pub mod Restarting
+pub mod AllCarried
