@@ -16,3 +16,4 @@ pub mod Answers
 pub mod Offices
 pub mod Restarting
 pub mod AllCarried
+pub mod Laws
