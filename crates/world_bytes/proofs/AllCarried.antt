@@ -1,15 +1,10 @@
 -- Bytes stand where they may, after every list of events.
-use Rattle.std.proofs.Common.{◌≡◌, ℕ, ◌<◌, ◌≤◌, Bool, true, false, List, [], ◌∷◌, ◌++◌, slice_get, Option, Some, None, IfSome, refl, sym, ◌∙◌, ap, subst, arith}
-use Rattle.std.specs.Prelude.{◌==◌, ◌&&◌, not, nat_lt, option_map, if◌then◌else◌}
+use Rattle.std.proofs.Common.{◌≡◌, ℕ, ◌<◌, ◌≤◌, Bool, true, false, List, [], ◌∷◌, slice_get, Option, Some, None, IfSome, refl, sym, ap, subst, arith}
+use Rattle.std.specs.Prelude.{◌&&◌, not, nat_lt, option_map, if◌then◌else◌}
 use Rattle.std.proofs.lemmas.Bool.Decides.{nat_tests}
 use Rattle.std.proofs.lemmas.Option.{none-some, same_Some}
-use Rattle.hd_base.specs.declared.numbers.BlockId.{BlockId}
-use Rattle.hd_base.specs.declared.sum_rule.TheConstants.{MIN_CHUNK_SIZE}
-use Rattle.hd_base.specs.SumRules.{default_rule, IsChunkSize}
-use Rattle.name_core.specs.Offices.{record_of}
-use Rattle.replica_core.specs.declared.info.ReplicaInfo.{ReplicaInfo}
-use Rattle.replica_model.specs.Rows.{FullReplica, IsFull}
-use Rattle.replica_model.specs.Found.{IsFront}
+use Rattle.hd_base.specs.SumRules.{default_rule}
+use Rattle.replica_model.specs.Rows.{IsFull}
 use Rattle.writer_core.proofs.SoundLemmas.{fresh_sound}
 use Rattle.world.specs.declared.events.Delivery.{Delivery}
 use Rattle.world.specs.declared.events.Delivery.TheVariants as delivery
@@ -21,21 +16,20 @@ use Rattle.world.specs.declared.events.OwnStep.{OwnStep}
 use Rattle.world.specs.declared.events.OwnStep.TheVariants as own
 use Rattle.world.specs.Parts.{Message, Marks, Upper, by_writer, by_member, by_reader, by_primary}
 use Rattle.world.specs.Worlds.{World, Change, apply, start}
-use Rattle.world.specs.Connections.{Next, message, the_end, ends_at, next_on, next_down, next_up, down_taken, up_taken, is_alive, is_served}
+use Rattle.world.specs.Connections.{Next, message, the_end, ends_at, next_on, next_down, next_up, down_taken, up_taken, is_served}
 use Rattle.world.specs.Nodes.{lower_down, lower_ready}
 use Rattle.world.specs.Clients.{writer_up, reader_up}
 use Rattle.world.specs.Primaries.{primary_up, office_event}
 use Rattle.world.specs.Restarts.{all_found, restart}
-use Rattle.world.specs.Safe.{Prefix}
 use Rattle.world.specs.Events.{changed, own_change, down_as, down_event, ready_event, unless_fails, upper_up, up_as, up_event, fault_event, lost, stop, where_so, outcome, after_event, happens, run}
-use Rattle.world_facts.proofs.Tables.{if-each, when-each, and-left}
+use Rattle.world_facts.proofs.Tables.{when-each}
 use Rattle.world_places.proofs.PlacedLaws.{only-dialled-carry}
 use Rattle.world_replicas.proofs.FilledLaws.{all-filled}
 use Rattle.world_sessions.proofs.Unused.{unused-are-empty}
 use Rattle.world_stamps.specs.Stamping.{Givens, none_given, given_with, stamped_in, given_by, given_in, Recorded}
 use Rattle.world_stamps.proofs.Recording.{Agreed}
 use Rattle.world_stamps.proofs.AllRecorded.{same-recorded, happens-recorded, Reached, reached-next, reached-agreed, start-recorded}
-use Rattle.world_bytes.specs.Carrying.{Holds, ReplicaSays, Carried}
+use Rattle.world_bytes.specs.Carrying.{Carried}
 use Rattle.world_bytes.proofs.Leaves.{Facts}
 use Rattle.world_bytes.proofs.Asking.{Keeps}
 use Rattle.world_bytes.proofs.Ends.{NextSays, lower-down-keeps, lower-ready-keeps, mirror-up-keeps}

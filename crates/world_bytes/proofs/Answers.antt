@@ -1,13 +1,12 @@
 -- What an answer of the office makes of what is held of its block.
-use Rattle.std.proofs.Common.{◌≡◌, ℕ, ◌<◌, ◌≤◌, ◌⊎◌, inl, inr, Bool, true, false, List, [], ◌∷◌, ◌++◌, length, take, slice_get, Option, Some, None, IfSome, Result, Ok, Err, refl, sym, ◌∙◌, ap, subst, arith}
-use Rattle.std.specs.Prelude.{nat_le, if◌then◌else◌}
+use Rattle.std.proofs.Common.{◌≡◌, ℕ, ◌≤◌, ◌⊎◌, inl, inr, true, false, List, [], length, take, Option, Some, None, IfSome, Ok, Err, refl, sym, ◌∙◌, ap, subst, arith}
+use Rattle.std.specs.Prelude.{nat_le}
 use Rattle.std.proofs.lemmas.Bool.{false≢true}
 use Rattle.std.proofs.lemmas.Option.{none-some, same_Some}
 use Rattle.std.proofs.lemmas.List.{length-take-le, take-take}
 use Rattle.hd_base.specs.declared.numbers.NodeId.{NodeId}
 use Rattle.hd_base.specs.declared.numbers.Stamp.{Stamp}
 use Rattle.name_core.specs.declared.calls.OfficeAnswer.TheVariants as office
-use Rattle.name_core.specs.declared.calls.Reopened.{Reopened}
 use Rattle.name_core.specs.declared.faults.OfficeFault.{OfficeFault}
 use Rattle.name_core.specs.declared.faults.OfficeFault.TheVariants as fault
 use Rattle.name_core.specs.declared.records.BlockRecord.{BlockRecord}
@@ -29,11 +28,11 @@ use Rattle.writer_core.specs.Transitions.{granted, refused, asks, phase_committe
 use Rattle.world.specs.Worlds.{Past, put}
 use Rattle.world_facts.proofs.Tables.{if-each}
 use Rattle.world_sessions.proofs.OfficeSteps.{IsAgain, IsLater}
-use Rattle.world_stamps.specs.Stamping.{IsOfLatest, IsNewest, IsSetup, Waits, Wanting, InPhase, Fits, IsHeld, OfficeEntry, WriterEntry, Entries}
+use Rattle.world_stamps.specs.Stamping.{Wanting, InPhase, OfficeEntry, WriterEntry, Entries}
 use Rattle.world_stamps.proofs.Givens.{put-here, put-old, put-new, Below, low-high}
 use Rattle.world_stamps.proofs.Granting.{back, granted-create, granted-append, granted-again, granted-commit, granted-complete}
-use Rattle.world_bytes.specs.Carrying.{Shares, Passing, StreamOf, Streams, kind_of, AsksFor, Asks, EntrySays}
-use Rattle.world_bytes.proofs.Fronts.{front-refl, front-take, front-trans, front-length, front-takes}
+use Rattle.world_bytes.specs.Carrying.{Shares, Passing, StreamOf, Streams, kind_of, Asks, EntrySays}
+use Rattle.world_bytes.proofs.Fronts.{front-refl, front-take, front-length, front-takes}
 
 -- WHAT IS HELD
 

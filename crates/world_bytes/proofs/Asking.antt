@@ -1,5 +1,5 @@
 -- What a write request makes of a node.
-use Rattle.std.proofs.Common.{◌≡◌, ℕ, zero, suc, ◌<◌, ◌≤◌, ◌+◌, ◌-◌, Bool, true, false, List, [], ◌∷◌, ◌++◌, length, slice_get, Option, Some, None, IfSome, Result, Ok, Err, IfOk, refl, sym, ◌∙◌, ap, subst, arith}
+use Rattle.std.proofs.Common.{◌≡◌, ℕ, zero, suc, ◌+◌, ◌-◌, Bool, true, false, List, [], ◌∷◌, ◌++◌, length, slice_get, Option, Some, None, IfSome, Result, Ok, Err, IfOk, refl, sym, ◌∙◌, ap, subst, arith}
 use Rattle.std.specs.Prelude.{◌==◌, ◌&&◌, nat_le, is_some, if◌then◌else◌, option_map}
 use Rattle.std.proofs.lemmas.Bool.{false≢true}
 use Rattle.std.proofs.lemmas.Bool.Decides.{nat_tests}
@@ -7,7 +7,6 @@ use Rattle.std.proofs.lemmas.Option.{none-some, same_Some}
 use Rattle.hd_base.specs.Results.{◌>>=◌}
 use Rattle.hd_base.specs.SumRules.{Rule}
 use Rattle.hd_base.specs.declared.numbers.ConnId.{ConnId}
-use Rattle.hd_base.specs.declared.numbers.Stamp.{Stamp}
 use Rattle.op_headers.specs.declared.nodes.NodeRef.{NodeRef}
 use Rattle.op_headers.specs.declared.ops.Op.TheVariants as op
 use Rattle.op_headers.specs.Values.{WriteFields}
@@ -15,7 +14,7 @@ use Rattle.node_refs.specs.NodeRefs.{ref_of}
 use Rattle.replica_core.specs.declared.events.Event.{Event}
 use Rattle.replica_core.specs.Views.{rule_in}
 use Rattle.replica_model.specs.declared.events.ReplicaEvent.TheVariants as replica_event
-use Rattle.replica_model.specs.Rows.{FullReplica, row, row_answer, broken}
+use Rattle.replica_model.specs.Rows.{FullReplica, row, row_answer}
 use Rattle.request_refusals.specs.declared.refusals.RequestRefusal.{RequestRefusal}
 use Rattle.request_refusals.specs.declared.refusals.RequestRefusal.TheVariants as refusal
 use Rattle.request_refusals.specs.Pools.{is_in_pool}
@@ -29,17 +28,16 @@ use Rattle.member_core.specs.declared.requests.TheConstants.{MAX_BELOW, MAX_PORT
 use Rattle.member_core.specs.Members.{MemberState, mirror_for, set_up, set_up_at}
 use Rattle.member_core.specs.Requests.{setup_with, rule_for, named_setup, named_rule, setup_event, request_event, request_from, request_to, mirror_request}
 use Rattle.member_core.specs.Steps.{Setup, request_at, booked_request, refused_by, request_step, faulted_request}
-use Rattle.world.specs.Parts.{Message, request, packet, ack, response, by_primary, by_member, Break}
+use Rattle.world.specs.Parts.{Message, request, by_primary, by_member, Break}
 use Rattle.world.specs.Worlds.{Past, World, Dial, Change, dial_at, listed, past_after, apply}
-use Rattle.world.specs.Connections.{sent_on, place_of}
 use Rattle.world.specs.Nodes.{node_of, replica_at, block_of, broke_at, upward_message, sent_up, mirror_node, runs_there, is_asked, mirror_dial, dials_of, member_dials, mirror_conn, lower_of, setup_change, failing_write, write_request}
-use Rattle.world_facts.proofs.Tables.{if-each, and-left, and-right, some-weaker}
+use Rattle.world_facts.proofs.Tables.{if-each, and-left, and-right}
 use Rattle.world_stamps.specs.Stamping.{Givens}
-use Rattle.world_bytes.specs.Carrying.{stamp_set, new_stamp, Sets, WriteSays, DownSays, UpSays, ReplicaSays, BreakSays, MemberSays, LowerSays, Carried}
+use Rattle.world_bytes.specs.Carrying.{stamp_set, new_stamp, Sets, WriteSays, DownSays, UpSays, ReplicaSays, BreakSays, LowerSays, Carried}
 use Rattle.world_bytes.proofs.Later.{Later, down-later}
 use Rattle.world_bytes.proofs.Rows.{SetUp, Ready, Allows, row-says, broken-says}
 use Rattle.world_bytes.proofs.Frame.{Each, each-nil, each-one}
-use Rattle.world_bytes.proofs.Leaves.{Facts, NodeNews, Beside, node-keeps, sent-each, ready-at, break-at, broke-says}
+use Rattle.world_bytes.proofs.Leaves.{Facts, node-keeps, sent-each, ready-at, break-at, broke-says}
 
 -- THE EVENT
 
@@ -299,6 +297,6 @@ write-keeps g w c f answered false h says =
     let e = request_event conn f (rule_in r.known) in
     setup-keeps g w c f answered (request_step conn f (is_asked w c f answered) r) (w.breaks (node_of w c) (block_of f)) h says
     (λ p y. requested-says g p (block_of f) conn f (is_asked w c f answered) r e (ready-at g w p (node_of w c) (block_of f) h y)
-        (request-allowed g p c f (rule_in r.known) (down-later g g w.past p c (request (op.Write f)) y says)))
+    (request-allowed g p c f (rule_in r.known) (down-later g g w.past p c (request (op.Write f)) y says)))
     (λ p y. break-at g w p (node_of w c) (block_of f) h y)
     (requested-new conn f (is_asked w c f answered) r e)

@@ -1,6 +1,6 @@
 -- Own steps of writers and readers, and what they take.
-use Rattle.std.proofs.Common.{◌≡◌, ℕ, zero, suc, ◌<◌, ◌≤◌, ◌+◌, ◌⊎◌, inl, inr, Bool, true, false, List, [], ◌∷◌, ◌++◌, length, drop, slice_get, Option, Some, None, IfSome, Result, Ok, Err, refl, sym, ◌∙◌, ap, subst, arith, append-nil}
-use Rattle.std.specs.Prelude.{◌==◌, ◌&&◌, not, nat_le, is_none, if◌then◌else◌}
+use Rattle.std.proofs.Common.{◌≡◌, ℕ, ◌+◌, ◌⊎◌, inl, inr, Bool, true, false, List, [], ◌∷◌, ◌++◌, length, slice_get, Option, Some, None, IfSome, Result, Ok, Err, refl, sym, ◌∙◌, ap, subst, arith}
+use Rattle.std.specs.Prelude.{◌==◌, ◌&&◌, not, nat_le, is_none}
 use Rattle.packet_codec.specs.declared.packets.Packet.{Packet}
 use Rattle.writer_core.specs.declared.phases.DuePacket.{DuePacket}
 use Rattle.writer_core.specs.declared.phases.DuePacket.TheVariants as due
@@ -11,7 +11,6 @@ use Rattle.std.proofs.lemmas.Bool.Decides.{nat_tests}
 use Rattle.std.proofs.lemmas.Option.{none-some, same_Some}
 use Rattle.hd_base.specs.SumRules.{Rule, IsChunkSize}
 use Rattle.hd_base.specs.declared.sum_rule.TheConstants.{MIN_CHUNK_SIZE, MAX_CHUNK_SIZE}
-use Rattle.hd_base.specs.declared.numbers.BlockId.{BlockId}
 use Rattle.hd_base.specs.declared.numbers.NodeId.{NodeId}
 use Rattle.hd_base.specs.declared.numbers.Stamp.{Stamp}
 use Rattle.name_core.specs.declared.records.BlockRecord.{BlockRecord}
@@ -24,7 +23,6 @@ use Rattle.packet_stream.proofs.StreamLemmas.{begun_is, begun_written}
 use Rattle.read_core.specs.declared.reading.ReadTurn.{ReadTurn}
 use Rattle.read_core.specs.declared.reading.ReadTurn.TheVariants as turn
 use Rattle.read_core.specs.Readings.{ReadTaken, take_from}
-use Rattle.writer_core.specs.declared.actions.Action.{Action}
 use Rattle.writer_core.specs.declared.actions.Action.TheVariants as action
 use Rattle.writer_core.specs.declared.commands.Command.{Command}
 use Rattle.writer_core.specs.declared.commands.Command.TheVariants as command
@@ -44,22 +42,22 @@ use Rattle.writer_core.specs.Transitions.{given_as, given, own_step, dial_step, 
 use Rattle.writer_core.specs.Transitions as writer
 use Rattle.writer_core.proofs.SoundLemmas.{answered as answered_sound, own_step_sound, dialled_sound, setup_sound, acked_sound, ended_sound, given_sound}
 use Rattle.world.specs.declared.events.TakenCommand.{TakenCommand}
-use Rattle.world.specs.Parts.{Message, request, packet, ack, response, read_status, recovery_answer, by_writer, by_reader, by_primary, Told, Writing, Reader, no_reader, reads, has_read}
-use Rattle.world.specs.Worlds.{Past, World, Dial, Change, past_after, apply}
-use Rattle.world.specs.Connections.{Next, message, the_end, sent_on, is_conn}
-use Rattle.world.specs.Clients.{writer_change, did, dialled_change, dialling, rest_in, is_empty, is_formed, ruled, command_bytes, takes_step, takes_command, writer_step, own_writer, named_member, writer_hears, writer_up, reader_dials, own_reader_as, own_reader, from_node_of, reader_turn, reader_up_as, reader_up}
-use Rattle.world_facts.proofs.Tables.{if-each, when-each, and-left, and-right, some-weaker}
-use Rattle.world_sessions.proofs.WriterSteps.{own-step-same, open-same, completed-same, hears-same, given-same, ruled-same}
-use Rattle.world_stamps.specs.Stamping.{Givens, known_heard, heard, IsOfLatest, Waits, InPhase, Fits, Entries, HeldOf, Recorded}
-use Rattle.world_stamps.proofs.Moves.{given-fits, ruled-fits}
-use Rattle.world_bytes.specs.Carrying.{Sets, DownSays, UpSays, ReplicaSays, BreakSays, LowerSays, ConnSays, AsksFor, Asks, Streams, WriterSays, Carried}
+use Rattle.world.specs.Parts.{Message, request, packet, ack, response, read_status, recovery_answer, by_writer, by_reader, by_primary, Told, Reader, no_reader, reads, has_read}
+use Rattle.world.specs.Worlds.{Past, World, Dial, Change, past_after}
+use Rattle.world.specs.Connections.{Next, message, the_end, is_conn}
+use Rattle.world.specs.Clients.{did, dialled_change, dialling, rest_in, is_empty, is_formed, ruled, command_bytes, takes_command, writer_step, own_writer, named_member, writer_hears, writer_up, reader_dials, own_reader_as, own_reader, from_node_of, reader_turn, reader_up_as, reader_up}
+use Rattle.world_facts.proofs.Tables.{when-each, and-left, and-right}
+use Rattle.world_sessions.proofs.WriterSteps.{given-same}
+use Rattle.world_stamps.specs.Stamping.{Givens, known_heard, heard, IsOfLatest, Waits, InPhase, Fits, HeldOf}
+use Rattle.world_stamps.proofs.Moves.{given-fits}
+use Rattle.world_bytes.specs.Carrying.{Sets, DownSays, UpSays, ReplicaSays, BreakSays, LowerSays, AsksFor, Asks, Streams}
 use Rattle.world_bytes.proofs.Later.{Later, lower-later}
 use Rattle.world_bytes.proofs.Frame.{Each, each-nil, each-one, asks-later}
-use Rattle.world_bytes.proofs.Leaves.{Facts, self-later, NodeNews, Beside, node-keeps, ready-at, break-at, sent-each}
+use Rattle.world_bytes.proofs.Leaves.{Facts, self-later, Beside, node-keeps, ready-at, break-at, sent-each}
 use Rattle.world_bytes.proofs.Asking.{Keeps, only-one, first-dial}
-use Rattle.world_bytes.proofs.Streaming.{Good, MakesStep, Makes, Heads, Hears, streams-map, own-step-makes, open-good, completed-good, writer-hears, dialled-hears}
+use Rattle.world_bytes.proofs.Streaming.{Good, Makes, Heads, own-step-makes, open-good, completed-good, writer-hears, dialled-hears}
 use Rattle.world_bytes.proofs.Queues.{own-step-empty}
-use Rattle.world_bytes.proofs.Writing.{IsWhole, nothing, own_of, ClientBeside, client-keeps, WriterAfter, StepMakes, own-stays, writer-change-keeps, did-keeps, Requested, requested, request-says}
+use Rattle.world_bytes.proofs.Writing.{IsWhole, nothing, own_of, client-keeps, WriterAfter, own-stays, writer-change-keeps, did-keeps, requested, request-says}
 
 -- THE WRITER AS IT STANDS
 

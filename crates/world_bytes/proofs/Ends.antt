@@ -1,19 +1,17 @@
 -- What lower ends take and do: members, reads, and a member's part of a block recovery.
-use Rattle.std.proofs.Common.{◌≡◌, ℕ, ◌<◌, ◌≤◌, Bool, true, false, List, [], ◌∷◌, length, slice_get, Option, Some, None, IfSome, Result, Ok, Err, IfOk, IfErr, refl, sym, ◌∙◌, ap, subst, arith}
-use Rattle.std.specs.Prelude.{◌==◌, ◌&&◌, if◌then◌else◌}
+use Rattle.std.proofs.Common.{◌≡◌, ℕ, Bool, true, false, List, [], slice_get, Option, Some, None, IfSome, Result, Ok, Err, IfOk, IfErr, refl, sym, ◌∙◌, ap, subst, arith}
+use Rattle.std.specs.Prelude.{◌==◌, if◌then◌else◌}
 use Rattle.std.proofs.lemmas.Bool.{false≢true}
-use Rattle.std.proofs.lemmas.Option.{none-some, same_Some}
+use Rattle.std.proofs.lemmas.Option.{none-some}
 use Rattle.hd_base.specs.Results.{◌>>=◌}
 use Rattle.hd_base.specs.declared.numbers.ConnId.{ConnId}
 use Rattle.hd_base.specs.declared.numbers.Stamp.{Stamp}
-use Rattle.hd_base.specs.declared.states.ReplicaState.{ReplicaState}
 use Rattle.op_headers.specs.declared.ops.Op.{Op}
 use Rattle.op_headers.specs.declared.ops.Op.TheVariants as op
 use Rattle.op_headers.specs.declared.ops.ReadOp.{ReadOp}
 use Rattle.op_headers.specs.declared.ops.RecoveryKind.{RecoveryKind}
 use Rattle.op_headers.specs.declared.ops.RecoveryKind.TheVariants as recovery_kind
 use Rattle.op_headers.specs.declared.ops.RecoveryOp.{RecoveryOp}
-use Rattle.op_headers.specs.Values.{WriteFields}
 use Rattle.packet_codec.specs.declared.packets.Packet.{Packet}
 use Rattle.packet_stream.specs.Carried.{IsPiece}
 use Rattle.replica_core.specs.declared.events.Answer.{Answer}
@@ -25,40 +23,39 @@ use Rattle.replica_core.specs.declared.refusals.Refusal.{Refusal}
 use Rattle.replica_core.specs.Info.{begin_recovery, end_recovery}
 use Rattle.replica_core.specs.Transitions.{Outcome, transition, present, set_writer, is_written_by, answer_to}
 use Rattle.replica_core.specs.Transitions as core
-use Rattle.replica_core.specs.Views.{rule_in, written_in, written_at}
+use Rattle.replica_core.specs.Views.{written_at}
 use Rattle.replica_core.proofs.InfoLemmas.{present_is}
 use Rattle.replica_model.specs.declared.events.ReplicaEvent.{ReplicaEvent}
 use Rattle.replica_model.specs.declared.events.ReplicaEvent.TheVariants as replica_event
-use Rattle.replica_model.specs.Rows.{FullReplica, row, row_answer, broken}
+use Rattle.replica_model.specs.Rows.{FullReplica, row_answer, broken}
 use Rattle.request_refusals.specs.declared.refusals.RequestRefusal.{RequestRefusal}
 use Rattle.request_refusals.specs.declared.refusals.RequestRefusal.TheVariants as refusal
 use Rattle.request_refusals.specs.Pools.{is_in_pool}
 use Rattle.member_core.specs.declared.inputs.FromAbove.TheVariants as above
-use Rattle.member_core.specs.declared.turns.Booked.{Booked}
 use Rattle.member_core.specs.declared.turns.Turn.{Turn}
 use Rattle.member_core.specs.declared.turns.Booked.TheVariants as booked
-use Rattle.member_core.specs.Members.{MemberState, down_turn, up_turn, hears, settled}
+use Rattle.member_core.specs.Members.{down_turn, up_turn, hears}
 use Rattle.member_core.specs.Steps.{Step, step, faulted_step, replica_after, outcome_of, oldest_at, ready_turn_at}
 use Rattle.read_core.specs.declared.serving.ServePhase.{ServePhase}
 use Rattle.read_core.specs.declared.serving.ServePhase.TheVariants as serve_phase
-use Rattle.read_core.specs.Servings.{ServingState, read_at, read_event, next_call, call_at, piece_at, faulted_read, faulted_piece}
+use Rattle.read_core.specs.Servings.{ServingState, read_at, read_event, next_call, call_at, piece_at}
 use Rattle.recovery_core.specs.declared.members.RecoveryReply.{RecoveryReply}
 use Rattle.recovery_core.specs.declared.members.RecoveryReply.TheVariants as reply
-use Rattle.recovery_core.specs.Members.{Served, no_recovery, init_event, step_event, recovery_event, reply_to, answer_of, served_as, serve, serve_faulted}
+use Rattle.recovery_core.specs.Members.{Served, no_recovery, step_event, recovery_event, reply_to, answer_of, served_as, serve, serve_faulted}
 use Rattle.world.specs.Parts.{Message, request, packet, ack, response, read_status, recovery_answer, FullMember, Lower, idle, writes, serves, recovers, ended_below, Break}
 use Rattle.world.specs.Worlds.{Past, World, Change, past_after, apply}
-use Rattle.world.specs.Connections.{Next, message, the_end, sent_on, is_alive}
+use Rattle.world.specs.Connections.{Next, message, the_end, is_alive}
 use Rattle.world.specs.Nodes.{node_of, replica_at, block_of, broke_at, closing, unless_failing, above_of, below_of, sent_up, passed, member_change, failing_turn, turn_change, pending_at, takes_next, member_down, member_up, ready_change, member_ready, breaking, read_change, failing_read, read_request, piece_as, serve_change, recovery_change, failing_recovery, recovery_request, first_message, next_recovery, lower_down, lower_ready, mirror_up}
 use Rattle.world_facts.proofs.Tables.{if-each, when-each, some-weaker}
 use Rattle.world_stamps.specs.Stamping.{Givens}
-use Rattle.world_bytes.specs.Carrying.{new_stamp, Sets, WriteSays, Recovers, IsRecovery, RecoverySays, LiesIn, PacketSays, DownSays, InfoSays, UpSays, Holds, ReplicaSays, BreakSays, MemberSays, LowerSays, Carried}
+use Rattle.world_bytes.specs.Carrying.{new_stamp, Sets, Recovers, IsRecovery, RecoverySays, LiesIn, PacketSays, DownSays, UpSays, Holds, ReplicaSays, BreakSays, MemberSays, LowerSays, Carried}
 use Rattle.world_bytes.proofs.Fronts.{front-length}
 use Rattle.world_bytes.proofs.Later.{Later, sets-later, down-later, lower-later}
 use Rattle.world_bytes.proofs.Rows.{Brings, Ready, Allows, begin-stamp, sets-once, row-says, broken-says}
 use Rattle.world_bytes.proofs.Frame.{Each, each-nil, each-one}
-use Rattle.world_bytes.proofs.Leaves.{Facts, one-session, NodeNews, Beside, node-keeps, sent-each, sent-if, ready-at, break-at, broke-says}
+use Rattle.world_bytes.proofs.Leaves.{Facts, one-session, Beside, node-keeps, sent-each, sent-if, ready-at, break-at, broke-says}
 use Rattle.world_bytes.proofs.Asking.{Keeps, Allowed, sent-up, write-keeps}
-use Rattle.world_bytes.proofs.Turns.{Idles, unreadable-idles, end-idles, up-idles, ready-idles, Follows, follows}
+use Rattle.world_bytes.proofs.Turns.{Idles, unreadable-idles, end-idles, up-idles, ready-idles, follows}
 
 -- ENDS THAT CLOSE, AND READS
 

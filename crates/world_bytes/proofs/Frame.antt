@@ -1,28 +1,24 @@
 -- What a change leaves alone, and what is needed of what is new in it.
-use Rattle.std.proofs.Common.{◌≡◌, ℕ, zero, suc, ◌<◌, ◌≤◌, ◌+◌, ◌-◌, ◌⊎◌, inl, inr, Bool, true, false, List, [], ◌∷◌, ◌++◌, length, slice_get, Option, Some, None, IfSome, refl, sym, ◌∙◌, ap, subst, arith, append-nil, append_assoc, eqb-true}
-use Rattle.std.specs.Prelude.{◌==◌, ◌&&◌, nat_le, nat_lt, if◌then◌else◌, option_map, unwrap_or}
+use Rattle.std.proofs.Common.{◌≡◌, ℕ, zero, suc, ◌<◌, ◌≤◌, ◌+◌, ◌-◌, ◌⊎◌, inl, inr, Bool, true, false, List, [], ◌∷◌, ◌++◌, length, slice_get, Option, Some, None, IfSome, refl, sym, ◌∙◌, ap, subst, arith, append-nil, eqb-true}
+use Rattle.std.specs.Prelude.{◌==◌, ◌&&◌, nat_le, if◌then◌else◌, option_map, unwrap_or}
 use Rattle.std.proofs.lemmas.Bool.Decides.{nat_tests}
 use Rattle.std.proofs.lemmas.Option.{none-some, same_Some}
 use Rattle.hd_base.specs.declared.numbers.Stamp.{Stamp}
 use Rattle.name_core.specs.declared.records.BlockRecord.{BlockRecord}
-use Rattle.name_core.specs.Offices.{OfficeState, record_of}
+use Rattle.name_core.specs.Offices.{record_of}
 use Rattle.packet_stream.specs.Streams.{StreamState}
 use Rattle.replica_model.specs.Rows.{FullReplica}
 use Rattle.replica_model.specs.Found.{IsFront}
 use Rattle.writer_core.specs.declared.phases.Phase.{Phase}
 use Rattle.writer_core.specs.declared.phases.Phase.TheVariants as phase
-use Rattle.writer_core.specs.declared.phases.Setup.{Setup}
-use Rattle.writer_core.specs.declared.phases.Setup.TheVariants as setup
-use Rattle.writer_core.specs.declared.records.WriterRecord.{WriterRecord}
 use Rattle.writer_core.specs.Requests.{min_length}
-use Rattle.world.specs.Parts.{Message, by_primary, Upper, Dialled, Lower, Writing, Primary, Break}
-use Rattle.world.specs.Worlds.{Past, World, Dial, Stamped, Change, put, put_at, add, listed, dial_at, dialled_with, downs_with, ups_with, latest_with, past_after, apply}
+use Rattle.world.specs.Parts.{Message, by_primary, Lower, Writing, Primary, Break}
+use Rattle.world.specs.Worlds.{Past, World, Dial, Change, put, put_at, add, listed, dial_at, latest_with, past_after, apply}
 use Rattle.world_facts.specs.Growing.{Begins, Grows}
 use Rattle.world_facts.proofs.GrowthLaws.{apply-grows}
 use Rattle.world_facts.proofs.Tables.{if-each, put-each, and-left, and-right, some-weaker}
-use Rattle.world_places.specs.Placing.{Placed}
-use Rattle.world_stamps.specs.Stamping.{Givens, heard, Recorded}
-use Rattle.world_bytes.specs.Carrying.{kind_of, DownSays, UpSays, ReplicaSays, BreakSays, LowerSays, ConnSays, AsksFor, Asks, WriterSays, EntrySays, PrimarySays, LedBy, Carried}
+use Rattle.world_stamps.specs.Stamping.{Givens, heard}
+use Rattle.world_bytes.specs.Carrying.{kind_of, DownSays, UpSays, ReplicaSays, BreakSays, LowerSays, ConnSays, Asks, WriterSays, EntrySays, PrimarySays, LedBy, Carried}
 use Rattle.world_bytes.proofs.Fronts.{front-trans, front-length}
 use Rattle.world_bytes.proofs.Later.{Later, sets-later, passing-later, down-later, up-later, replica-later, break-later, lower-later, primary-later, led-later}
 

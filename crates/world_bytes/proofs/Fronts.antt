@@ -1,10 +1,9 @@
 -- Fronts of bytes, and pieces of them.
-use Rattle.std.proofs.Common.{◌≡◌, ℕ, ◌<◌, ◌≤◌, ◌+◌, ◌-◌, List, [], ◌∷◌, ◌++◌, length, take, drop, nat_abs, refl, sym, ◌∙◌, ap, subst, arith, append_assoc, append-nil, length-append, length-drop}
+use Rattle.std.proofs.Common.{◌≡◌, ℕ, ◌<◌, ◌≤◌, ◌+◌, ◌-◌, List, [], ◌++◌, length, take, drop, nat_abs, refl, sym, ◌∙◌, ap, subst, arith, append_assoc, append-nil, length-append, length-drop}
 use Rattle.std.proofs.Math.Seq.{take-append_seam, take-add}
 use Rattle.std.proofs.lemmas.List.{take-append-drop, take-append-le, drop-append-le, drop-take, drop-drop, drop_all, length-take}
 use Rattle.packet_codec.specs.declared.packets.Packet.{Packet}
 use Rattle.packet_stream.specs.Carried.{IsPiece}
-use Rattle.packet_stream.specs.Streams.{packet_end}
 use Rattle.replica_model.specs.Found.{IsFront}
 use Rattle.world_stamps.proofs.Givens.{low-high}
 
@@ -76,5 +75,5 @@ front-joins v w body off f piece le =
     let m = length body in
     let j = m - (n - off) in
     let whole : v ++ drop (n - off) body ≡ take (n + j) w =
-        ap (λ (xs : List ℕ). v ++ drop (n - off) xs) piece ∙ ap (λ (xs : List ℕ). v ++ xs) (brings w [] n off m le) ∙ ap (λ (xs : List ℕ). xs ++ take j (drop n w)) (front-is v w f) ∙ sym (take-add n j w) in
+    ap (λ (xs : List ℕ). v ++ drop (n - off) xs) piece ∙ ap (λ (xs : List ℕ). v ++ xs) (brings w [] n off m le) ∙ ap (λ (xs : List ℕ). xs ++ take j (drop n w)) (front-is v w f) ∙ sym (take-add n j w) in
     subst (λ (xs : List ℕ). IsFront xs w) (sym whole) (front-take (n + j) w)

@@ -1,19 +1,11 @@
 -- What was said of a past is said of a later one.
-use Rattle.std.proofs.Common.{◌≡◌, ℕ, ◌<◌, ◌≤◌, ◌⊎◌, inl, inr, List, [], length, take, slice_get, Option, Some, None, IfSome, Ok, Err, Result, refl, sym, ◌∙◌, ap, subst, arith}
-use Rattle.std.proofs.lemmas.Option.{none-some, same_Some}
+use Rattle.std.proofs.Common.{◌≡◌, ℕ, ◌<◌, ◌≤◌, ◌⊎◌, inl, inr, List, slice_get, Option, Some, None, Ok, Err, sym, ◌∙◌, subst, arith}
 use Rattle.hd_base.specs.declared.numbers.Stamp.{Stamp}
-use Rattle.name_core.specs.declared.calls.OfficeAnswer.{OfficeAnswer}
 use Rattle.name_core.specs.declared.calls.OfficeAnswer.TheVariants as office
-use Rattle.name_core.specs.declared.faults.OfficeFault.{OfficeFault}
-use Rattle.op_headers.specs.declared.answers.RecoveryAnswer.{RecoveryAnswer}
-use Rattle.op_headers.specs.declared.ops.Op.{Op}
 use Rattle.op_headers.specs.declared.ops.Op.TheVariants as op
-use Rattle.op_headers.specs.declared.ops.RecoveryOp.{RecoveryOp}
 use Rattle.op_headers.specs.Values.{WriteFields}
 use Rattle.packet_codec.specs.declared.packets.Packet.{Packet}
-use Rattle.packet_stream.specs.Carried.{IsPiece}
 use Rattle.replica_core.specs.declared.info.ReplicaInfo.{ReplicaInfo}
-use Rattle.replica_core.specs.declared.streams.Stream.{Stream}
 use Rattle.replica_model.specs.Rows.{FullReplica, row}
 use Rattle.replica_model.specs.Found.{IsFront}
 use Rattle.member_core.specs.declared.requests.SetupKind.{SetupKind}
@@ -23,11 +15,11 @@ use Rattle.recovery_core.specs.declared.primary.Phase.{Phase as LeadPhase}
 use Rattle.recovery_core.specs.declared.primary.Phase.TheVariants as lead_phase
 use Rattle.recovery_core.specs.declared.standings.Standing.{Standing}
 use Rattle.recovery_core.specs.declared.standings.Standing.TheVariants as standing
-use Rattle.world.specs.Parts.{Message, request, packet, ack, response, read_status, recovery_answer, FullMember, Lower, idle, writes, serves, recovers, ended_below, Told, Leading, Primary, no_primary, was_told, leads, has_led, Break}
+use Rattle.world.specs.Parts.{Message, request, packet, ack, response, read_status, recovery_answer, Lower, idle, writes, serves, recovers, ended_below, Told, Primary, no_primary, was_told, leads, has_led, Break}
 use Rattle.world.specs.Worlds.{Past}
 use Rattle.world_facts.proofs.Tables.{some-weaker}
 use Rattle.world_stamps.specs.Stamping.{Givens}
-use Rattle.world_bytes.specs.Carrying.{new_stamp, Sets, Shares, Passing, WriteSays, Recovers, IsRecovery, RecoverySays, LiesIn, PacketSays, DownSays, InfoSays, UpSays, Under, Holds, SetFor, ReplicaSays, Both, BreakSays, MemberSays, LowerSays, ConnSays, StandingSays, PhaseSays, LeadingSays, ToldSays, PrimarySays, LedBy}
+use Rattle.world_bytes.specs.Carrying.{new_stamp, Sets, Shares, Passing, WriteSays, Recovers, IsRecovery, LiesIn, PacketSays, DownSays, InfoSays, UpSays, Under, Holds, SetFor, ReplicaSays, Both, BreakSays, LowerSays, StandingSays, PhaseSays, ToldSays, PrimarySays, LedBy}
 use Rattle.world_bytes.proofs.Fronts.{front-refl, front-trans, front-length, front-takes, piece-front}
 
 -- A later past: stamps that were given stay, and later ones are above them; what was sent and written stays; and a session that gets bytes has all

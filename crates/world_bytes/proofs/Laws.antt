@@ -1,24 +1,20 @@
 -- What follows for replicas, packets and lengths.
-use Rattle.std.proofs.Common.{◌≡◌, ℕ, ◌≤◌, Bool, true, false, List, length, slice_get, Option, Some, None, IfSome, refl, sym, ◌∙◌, ap, subst}
-use Rattle.std.proofs.lemmas.Option.{same_Some}
+use Rattle.std.proofs.Common.{ℕ, ◌≤◌, List, length, Option, IfSome, refl, sym, subst}
 use Rattle.hd_base.specs.declared.numbers.Stamp.{Stamp}
 use Rattle.name_core.specs.declared.records.BlockRecord.{BlockRecord}
 use Rattle.name_core.specs.Offices.{record_of}
-use Rattle.op_headers.specs.declared.ops.Op.TheVariants as op
-use Rattle.op_headers.specs.Values.{WriteFields}
-use Rattle.packet_codec.specs.declared.packets.Packet.{Packet}
 use Rattle.packet_stream.specs.Carried.{IsPiece}
 use Rattle.replica_model.specs.Found.{IsFront}
 use Rattle.world.specs.declared.events.Event.{Event}
-use Rattle.world.specs.Parts.{request, packet}
+use Rattle.world.specs.Parts.{packet}
 use Rattle.world.specs.Worlds.{World, start}
 use Rattle.world.specs.Safe.{written_under, Prefix}
 use Rattle.world.specs.Events.{run}
 use Rattle.world_facts.proofs.Tables.{some-weaker}
-use Rattle.world_stamps.specs.Stamping.{Givens, none_given, given_in, heard, Entries, HeldOf, Recorded}
+use Rattle.world_stamps.specs.Stamping.{Givens, none_given, given_in, heard, Entries, Recorded}
 use Rattle.world_stamps.proofs.Recording.{known-of}
 use Rattle.world_stamps.proofs.AllRecorded.{all-recorded}
-use Rattle.world_bytes.specs.Carrying.{new_stamp, Under, Holds, PacketSays, EntrySays, Carried}
+use Rattle.world_bytes.specs.Carrying.{new_stamp, Under, Holds, PacketSays, EntrySays}
 use Rattle.world_bytes.specs.Fronts.{AllHoldFronts, PacketsArePieces, LengthsAreWritten}
 use Rattle.world_bytes.proofs.Rows.{sets-once}
 use Rattle.world_bytes.proofs.AllCarried.{all-carried}

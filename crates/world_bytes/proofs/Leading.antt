@@ -1,7 +1,7 @@
 -- What primaries do and take, in the world.
-use Rattle.std.proofs.Common.{◌≡◌, ℕ, zero, suc, ◌<◌, ◌≤◌, ◌+◌, min, Bool, true, false, cond, List, [], ◌∷◌, ◌++◌, length, map, slice_get, Option, Some, None, IfSome, Result, Ok, Err, IfOk, refl, sym, ◌∙◌, ap, subst, arith, eqb-true}
-use Rattle.std.specs.Prelude.{◌==◌, ◌&&◌, ◌||◌, not, is_none, zip, filter, filter_map, find, slice_set, option_map, if◌then◌else◌}
-use Rattle.std.specs.List.{cons_option, list_any}
+use Rattle.std.proofs.Common.{◌≡◌, ℕ, zero, suc, ◌<◌, ◌≤◌, ◌+◌, min, Bool, true, false, cond, List, [], ◌∷◌, map, slice_get, Option, Some, None, IfSome, Result, Ok, Err, IfOk, refl, sym, ◌∙◌, ap, subst, arith, eqb-true}
+use Rattle.std.specs.Prelude.{◌==◌, ◌&&◌, is_none, zip, filter, find, slice_set, option_map}
+use Rattle.std.specs.List.{cons_option}
 use Rattle.std.proofs.lemmas.Bool.{false≢true}
 use Rattle.std.proofs.lemmas.Option.{none-some, same_Some}
 use Rattle.hd_base.specs.Results.{◌>>=◌}
@@ -17,8 +17,6 @@ use Rattle.name_core.specs.declared.choice.Kept.{Kept}
 use Rattle.name_core.specs.declared.choice.Kept.TheVariants as kept
 use Rattle.name_core.specs.declared.infos.Info.{Info}
 use Rattle.name_core.specs.Choice.{is_finalized_candidate, is_chosen, kept_infos, lesser, least, kept_lengths, chosen, shortest, unless_other, other_length, finalized_by, first_of, choice}
-use Rattle.op_headers.specs.declared.answers.RecoveryAnswer.{RecoveryAnswer}
-use Rattle.op_headers.specs.declared.ops.Op.{Op}
 use Rattle.op_headers.specs.declared.ops.Op.TheVariants as op
 use Rattle.op_headers.specs.declared.ops.RecoveryOp.{RecoveryOp}
 use Rattle.op_headers.specs.declared.ops.RecoveryKind.TheVariants as recovery_kind
@@ -31,23 +29,22 @@ use Rattle.recovery_core.specs.declared.standings.Heard.{Heard}
 use Rattle.recovery_core.specs.declared.standings.Heard.TheVariants as heard
 use Rattle.recovery_core.specs.declared.standings.Standing.{Standing}
 use Rattle.recovery_core.specs.declared.standings.Standing.TheVariants as standing
-use Rattle.recovery_core.specs.Primaries.{PrimaryState, told, is_success, informed, remembers_end, updated, after_heard, waits, heard_as, heard_at, asked, begun_with, info_of, infos, updated_node, updated_members, is_among, when_chosen, after_choice, all_after_choice, OwnTaken, taken, over, choosing, committing, own_at, own_step, request_of, office_refused, end_with}
+use Rattle.recovery_core.specs.Primaries.{PrimaryState, told, is_success, informed, updated, after_heard, waits, heard_as, heard_at, asked, begun_with, info_of, infos, updated_members, is_among, when_chosen, after_choice, all_after_choice, OwnTaken, taken, over, choosing, committing, own_at, own_step, request_of, office_refused, end_with}
 use Rattle.replica_model.specs.Rows.{FullReplica}
 use Rattle.world.specs.Parts.{Message, request, packet, ack, response, read_status, recovery_answer, Place, by_primary, Lower, Break, Told, Leading, Primary, no_primary, was_told, leads, has_led}
 use Rattle.world.specs.Worlds.{Past, World, Dial, Change, put, past_after, apply}
 use Rattle.world.specs.Connections.{Next, message, the_end, is_alive, place_of, is_conn}
 use Rattle.world.specs.Clients.{are_members}
 use Rattle.world.specs.Primaries.{primary_change, dials_answered, numbered, primary_dials, recovery_message, begins_with, begins_as, begins_at, own_recover, updates_on, updates_change, ends_change, leads_step, commits_step, leads_told, own_primary_as, own_primary, heard_of, listens, hears_change, primary_up_as, primary_up}
-use Rattle.world_facts.proofs.Tables.{if-each, when-each, and-left, and-right, some-weaker}
-use Rattle.world_stamps.specs.Stamping.{Givens, Recorded}
+use Rattle.world_facts.proofs.Tables.{if-each, when-each, and-left, and-right}
+use Rattle.world_stamps.specs.Stamping.{Givens}
 use Rattle.world_stamps.proofs.Givens.{low-high, put-here}
-use Rattle.world_bytes.specs.Carrying.{Recovers, IsRecovery, RecoverySays, LiesIn, DownSays, InfoSays, UpSays, StandingSays, PhaseSays, LeadingSays, ToldSays, PrimarySays, LedBy, LowerSays, ReplicaSays, BreakSays, Carried}
-use Rattle.world_bytes.proofs.Later.{Later, recovers-later, recovery-later, lies-later, up-later, primary-later, led-later}
-use Rattle.world_bytes.proofs.Frame.{Each, each-nil, each-cons, each-one, each-tail, each-weaker, News, keeps}
+use Rattle.world_bytes.specs.Carrying.{Recovers, IsRecovery, LiesIn, DownSays, InfoSays, UpSays, StandingSays, PhaseSays, LeadingSays, PrimarySays, LedBy, LowerSays, ReplicaSays, BreakSays, Carried}
+use Rattle.world_bytes.proofs.Later.{Later, recovers-later, recovery-later, up-later, primary-later}
+use Rattle.world_bytes.proofs.Frame.{Each, each-nil, each-cons, each-one, each-tail, keeps}
 use Rattle.world_bytes.proofs.Leaves.{Facts, beside-later, still-writers, still-entries, ready-at, break-at}
 use Rattle.world_bytes.proofs.Later.{lower-later}
 use Rattle.world_bytes.proofs.Asking.{Keeps, first-dial}
-use Rattle.world_bytes.proofs.Ends.{NextSays}
 
 -- THE CHOICE
 

@@ -1,28 +1,23 @@
 -- Changes of lower ends, which leave the office and the writers as they are.
-use Rattle.std.proofs.Common.{◌≡◌, ℕ, zero, suc, ◌<◌, ◌≤◌, ◌+◌, ◌⊎◌, inl, inr, Bool, true, false, List, [], ◌∷◌, ◌++◌, length, slice_get, Option, Some, None, IfSome, Result, Ok, Err, refl, sym, ◌∙◌, ap, subst, arith, eqb-true}
-use Rattle.std.specs.Prelude.{◌==◌, if◌then◌else◌}
-use Rattle.std.proofs.lemmas.Option.{none-some, same_Some}
-use Rattle.hd_base.specs.declared.numbers.ConnId.{ConnId}
-use Rattle.hd_base.specs.declared.numbers.Stamp.{Stamp}
+use Rattle.std.proofs.Common.{◌≡◌, ℕ, ◌≤◌, ◌+◌, inl, inr, List, [], slice_get, Option, Some, None, IfSome, refl, sym, ◌∙◌, subst, eqb-true}
+use Rattle.std.specs.Prelude.{◌==◌}
+use Rattle.std.proofs.lemmas.Option.{none-some}
 use Rattle.name_core.specs.declared.records.BlockRecord.{BlockRecord}
 use Rattle.name_core.specs.Offices.{OfficeState, record_of}
 use Rattle.replica_model.specs.declared.events.ReplicaEvent.{ReplicaEvent}
-use Rattle.replica_model.specs.declared.events.ReplicaEvent.TheVariants as replica_event
-use Rattle.replica_core.specs.declared.events.Event.TheVariants as event
-use Rattle.replica_model.specs.Rows.{FullReplica, IsFull, row, broken}
-use Rattle.world.specs.Parts.{Message, by_primary, Upper, Lower, writes, Writing, Primary, Break, FullMember}
+use Rattle.replica_model.specs.Rows.{FullReplica, IsFull}
+use Rattle.world.specs.Parts.{Message, by_primary, Writing, Primary, Break}
 use Rattle.world.specs.Worlds.{Past, World, Dial, Stamped, Change, put, latest_with, past_after, apply}
 use Rattle.world.specs.Connections.{sent_on}
 use Rattle.world.specs.Nodes.{node_of, replica_at, first_break, broke_at}
 use Rattle.world_facts.proofs.Tables.{if-each, put-each, some-weaker}
-use Rattle.world_sessions.proofs.Asides.{Aside}
 use Rattle.writer_core.specs.declared.records.WriterRecord.{WriterRecord}
-use Rattle.world_stamps.specs.Stamping.{Givens, Entries, HeldOf, heard, Recorded}
+use Rattle.world_stamps.specs.Stamping.{Givens, HeldOf, heard, Recorded}
 use Rattle.world_bytes.specs.Carrying.{DownSays, UpSays, ReplicaSays, BreakSays, LowerSays, WriterSays, EntrySays, PrimarySays, LedBy, Carried}
 use Rattle.world_bytes.proofs.Fronts.{front-refl}
-use Rattle.world_bytes.proofs.Later.{Later, replica-later, break-later, lower-later, primary-later, led-later}
-use Rattle.world_bytes.proofs.Rows.{Ready, Allows, row-says, broken-says, break-says}
-use Rattle.world_bytes.proofs.Frame.{Each, each-nil, Extends, change-later, unwritten, writer-later, entry-later, News, keeps}
+use Rattle.world_bytes.proofs.Later.{Later, replica-later, break-later, primary-later, led-later}
+use Rattle.world_bytes.proofs.Rows.{Ready, Allows, break-says}
+use Rattle.world_bytes.proofs.Frame.{Each, each-nil, Extends, change-later, unwritten, writer-later, entry-later, keeps}
 
 -- WHAT IS KNOWN OF A WORLD
 

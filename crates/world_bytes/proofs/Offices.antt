@@ -1,6 +1,6 @@
 -- What the office answers, in the world.
-use Rattle.std.proofs.Common.{◌≡◌, ℕ, ◌<◌, ◌≤◌, ◌⊎◌, inl, inr, Bool, true, false, List, [], ◌∷◌, ◌++◌, length, take, slice_get, Option, Some, None, IfSome, Result, Ok, Err, refl, sym, ◌∙◌, ap, subst, arith, eqb-true}
-use Rattle.std.specs.Prelude.{◌==◌, ◌&&◌, is_none, nat_lt, if◌then◌else◌}
+use Rattle.std.proofs.Common.{◌≡◌, ℕ, ◌<◌, ◌≤◌, ◌⊎◌, inl, inr, Bool, true, false, List, [], ◌++◌, length, take, slice_get, Option, Some, None, IfSome, Ok, Err, refl, sym, ◌∙◌, ap, subst, arith, eqb-true}
+use Rattle.std.specs.Prelude.{◌==◌, ◌&&◌, is_none, nat_lt}
 use Rattle.std.proofs.lemmas.Bool.{eqb-false}
 use Rattle.std.proofs.lemmas.Bool.Decides.{nat_tests}
 use Rattle.std.proofs.lemmas.Option.{none-some, same_Some}
@@ -11,8 +11,6 @@ use Rattle.name_core.specs.declared.calls.OfficeAnswer.{OfficeAnswer}
 use Rattle.name_core.specs.declared.calls.OfficeAnswer.TheVariants as office
 use Rattle.name_core.specs.declared.calls.OfficeCall.{OfficeCall}
 use Rattle.name_core.specs.declared.calls.OfficeCall.TheVariants as call
-use Rattle.name_core.specs.declared.choice.Chosen.{Chosen}
-use Rattle.name_core.specs.declared.faults.OfficeFault.{OfficeFault}
 use Rattle.name_core.specs.declared.records.BlockRecord.{BlockRecord}
 use Rattle.name_core.specs.Steps.{Step, state_after, reply}
 use Rattle.name_core.specs.Records.{opened}
@@ -37,23 +35,22 @@ use Rattle.writer_core.proofs.SoundLemmas.{granted_sound}
 use Rattle.world.specs.declared.events.Caller.{Caller}
 use Rattle.world.specs.declared.events.Caller.TheVariants as caller
 use Rattle.world.specs.Parts.{Message, by_primary, Lower, Break, Told, Writing, Leading, Primary, no_primary, was_told, leads, has_led}
-use Rattle.world.specs.Worlds.{Past, World, Dial, Stamped, Change, put, add, latest_with, past_after, apply}
+use Rattle.world.specs.Worlds.{Past, World, Stamped, Change, put, add, latest_with, past_after, apply}
 use Rattle.world.specs.Connections.{is_alive}
-use Rattle.world.specs.Primaries.{stamped_by, base_of, session_begun, office_change, asks_writer, asks_primary, writer_asks, primary_commits, primary_asks, office_event}
+use Rattle.world.specs.Primaries.{stamped_by, base_of, session_begun, asks_writer, asks_primary, writer_asks, primary_commits, primary_asks, office_event}
 use Rattle.world_facts.proofs.Tables.{if-each, when-each, some-weaker}
-use Rattle.world_sessions.specs.Sessions.{IsCommitted, stamp_heard}
+use Rattle.world_sessions.specs.Sessions.{IsCommitted}
 use Rattle.world_sessions.proofs.Sessions.{refused-stamp}
 use Rattle.world_sessions.proofs.OfficeSteps.{AsksAs, Asking, own-step-asking, block_in, keeps-other, asks-block, IsPrimarys}
-use Rattle.world_stamps.specs.Stamping.{Givens, given_with, heard, OfficeEntry, Entries, HeldOf, Recorded}
-use Rattle.world_stamps.proofs.Givens.{put-here, put-new, Below, low-high}
+use Rattle.world_stamps.specs.Stamping.{Givens, given_with, heard, Entries, HeldOf, Recorded}
+use Rattle.world_stamps.proofs.Givens.{put-here, put-new}
 use Rattle.world_stamps.proofs.Walking.{none-is}
-use Rattle.world_stamps.proofs.Recording.{Gives, gives, given-each, others-given, others-latest, other-block, HeldBefore, below-of, known-of, unknown-of, held-id, Agreed, none-heard, none-stamp}
+use Rattle.world_stamps.proofs.Recording.{gives, given-each, others-latest, other-block, HeldBefore, below-of, known-of, held-id, Agreed, none-heard, none-stamp}
 use Rattle.world_bytes.specs.Carrying.{DownSays, UpSays, ReplicaSays, BreakSays, LowerSays, ConnSays, LiesIn, IsRecovery, WriterSays, EntrySays, ToldSays, LeadingSays, PrimarySays, LedBy, Carried}
-use Rattle.world_bytes.proofs.Fronts.{front-refl, front-length}
+use Rattle.world_bytes.proofs.Fronts.{front-refl}
 use Rattle.world_bytes.proofs.Later.{Later, replica-later, break-later, lower-later, primary-later, led-later}
-use Rattle.world_bytes.proofs.Frame.{Each, each-nil, Extends, change-later, added-other, unwritten, asks-later, conn-later, writer-later, entry-later, News, keeps}
+use Rattle.world_bytes.proofs.Frame.{Each, each-nil, Extends, change-later, added-other, unwritten, asks-later, conn-later, writer-later, entry-later, keeps}
 use Rattle.world_bytes.proofs.Leaves.{Facts, before-of, one-session}
-use Rattle.world_bytes.proofs.Writing.{of-latest}
 use Rattle.world_bytes.proofs.Pinned.{Pins, PinsIn, own-step-pins}
 use Rattle.world_bytes.proofs.Answers.{OwnSays, BlockSays, created-says, appended-says, entry-stays, stamped-says, committed-says, completed-says, refused-own}
 use Rattle.world_bytes.proofs.Leading.{CommitSays, commit-says}
@@ -380,7 +377,7 @@ primary-makes g w x h c = each_case w.office (PrimaryMakes g w x) (record {
         entry = place-entry _ _ p _ _ _ _ here (put-here w.latest block.0 (w.latest block.0)) (record_of-with_record_same (stamp_given w.office) block r (record r { recovery = Some w.office.next }) is)
             (entry-stays (g block.0) (put (g block.0) w.office.next.0 (Some (w.session_of r.committed.0))) w.past p (w.latest block.0) v.base r (record r { recovery = Some w.office.next }) refl refl refl
             (λ d q. put-new (λ (t d : ℕ). t < w.office.next.0 → g block.0 t ≡ Some d) (g block.0) w.office.next.0 (w.session_of r.committed.0) (λ less. absurd (omega (arith, less))) (λ t d m _. m) r.committed.0 d q
-                (h.recorded.below block.0 r.committed.0 v.base v.office.committed)) v.office.committed (same (w.latest block.0)) (same v.base) e);
+            (h.recorded.below block.0 r.committed.0 v.base v.office.committed)) v.office.committed (same (w.latest block.0)) (same v.base) e);
         latest = put-here w.latest block.0 (w.latest block.0);
         told = begun-recovery g w p block.0 r x v h.recorded e same;
       };
@@ -534,7 +531,7 @@ asks-writer-keeps g w b c h agreed none a pins =
 
 asks-primary-keeps : (g : Givens) (w : World) (i : ℕ) (c : OfficeCall) (q : Told → Primary) → Facts g w → IsPrimarys c → CallSays g w.past c
     → ((p : Past) → Later g (given_with g (stamped_by w c (answer_to w.office c))) w.past p → ToldSays (given_with g (stamped_by w c (answer_to w.office c))) p (block_in c).0 (answer_to w.office c)
-        → PrimarySays (given_with g (stamped_by w c (answer_to w.office c))) p (q (answer_to w.office c)))
+    → PrimarySays (given_with g (stamped_by w c (answer_to w.office c))) p (q (answer_to w.office c)))
     → ((p : Past) → Later g (given_with g (stamped_by w c (answer_to w.office c))) w.past p → (d : ℕ) → LedBy w.past d (w.primaries i) → LedBy p d (q (answer_to w.office c)))
     → Carried (given_with g (asks_primary w i c q).stamped) (apply w (asks_primary w i c q))
 asks-primary-keeps g w i c q h is lies says led =

@@ -1,6 +1,6 @@
 -- What a restart finds is a front of what was written in the session of its stamp.
-use Rattle.std.proofs.Common.{◌≡◌, ℕ, ◌⊎◌, inl, inr, Bool, true, false, List, [], ◌∷◌, ◌++◌, length, Option, Some, None, IfSome, refl, sym, ◌∙◌, ap, subst}
-use Rattle.std.specs.Prelude.{◌==◌, if◌then◌else◌}
+use Rattle.std.proofs.Common.{◌≡◌, ℕ, inl, inr, Bool, true, false, List, [], Option, Some, None, IfSome, sym, subst}
+use Rattle.std.specs.Prelude.{◌==◌}
 use Rattle.std.proofs.lemmas.Option.{none-some}
 use Rattle.hd_base.specs.declared.numbers.Stamp.{Stamp}
 use Rattle.hd_base.specs.declared.states.ReplicaState.{ReplicaState}

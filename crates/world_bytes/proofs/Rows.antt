@@ -1,6 +1,6 @@
 -- What each event makes of a replica's bytes: they stay a front of what was written in the session of its stamp.
-use Rattle.std.proofs.Common.{◌≡◌, ℕ, ℤ, pos, ◌<◌, ◌≤◌, ◌-◌, ◌⊎◌, inl, inr, Bool, true, false, List, [], ◌∷◌, ◌++◌, length, take, drop, nat_abs, nat_le, nat_lt, max, Option, Some, None, IfSome, Result, Ok, Err, refl, sym, ◌∙◌, ap, subst, arith, append-nil}
-use Rattle.std.specs.Prelude.{option_map, not, is_none, slice_get, ◌==◌, ◌/◌, ◌&&◌}
+use Rattle.std.proofs.Common.{◌≡◌, ℕ, ℤ, ◌<◌, ◌≤◌, ◌-◌, ◌⊎◌, inl, inr, Bool, true, false, List, [], ◌∷◌, ◌++◌, length, take, drop, nat_abs, max, Option, Some, None, IfSome, Result, Ok, refl, sym, ◌∙◌, ap, subst, arith, append-nil}
+use Rattle.std.specs.Prelude.{not, is_none, slice_get, ◌/◌}
 use Rattle.std.specs.Ordering.{int_eq}
 use Rattle.std.specs.Prelude.{negsuc}
 use Rattle.std.proofs.lemmas.Bool.Decides.{nat_tests}
@@ -16,7 +16,6 @@ use Rattle.op_headers.specs.Values.{WriteFields}
 use Rattle.packet_codec.specs.declared.packets.Packet.{Packet}
 use Rattle.packet_stream.specs.Carried.{IsPiece}
 use Rattle.replica_core.specs.declared.ack_queue.PendingPacket.{PendingPacket}
-use Rattle.replica_core.specs.declared.events.Event.{Event}
 use Rattle.replica_core.specs.declared.events.Event.TheVariants as event
 use Rattle.replica_core.specs.declared.extents.PacketExtent.{PacketExtent}
 use Rattle.replica_core.specs.declared.info.ReplicaInfo.{ReplicaInfo}
@@ -24,12 +23,12 @@ use Rattle.replica_core.specs.declared.records.ReplicaRecord.{ReplicaRecord}
 use Rattle.replica_core.specs.declared.refusals.Refusal.{Refusal}
 use Rattle.replica_core.specs.declared.refusals.Refusal.TheVariants as refusal
 use Rattle.replica_core.specs.declared.streams.Stream.{Stream}
-use Rattle.replica_core.specs.Extents.{fresh, stream_after, heartbeat_of, pending_of}
+use Rattle.replica_core.specs.Extents.{stream_after, heartbeat_of, pending_of}
 use Rattle.replica_core.specs.Info.{settled_at, reopen, recover_setup, recover_stream, begin_recovery, end_recovery, is_writable, state_of, state_under, extend_written, advance_acked, close_stream, readable, given, visible_of}
-use Rattle.replica_core.specs.Transitions.{Taken, Outcome, done, record_after, state_after, transition, present, with_writer, set_writer, new_transition, append_transition, append_recovery_transition, stream_recovery_transition, close_recovery_transition, init_transition, update_transition, read_transition, give_transition, ack_transition, packet_transition, extent_transition, enqueue, extend, acknowledge, oldest_of, stream_by, is_written_by, end_connection, mark_broken, there}
+use Rattle.replica_core.specs.Transitions.{Outcome, done, record_after, state_after, transition, present, with_writer, set_writer, new_transition, append_transition, append_recovery_transition, stream_recovery_transition, close_recovery_transition, init_transition, update_transition, read_transition, give_transition, ack_transition, packet_transition, extent_transition, extend, acknowledge, oldest_of, stream_by, is_written_by, end_connection, mark_broken}
 use Rattle.replica_core.specs.Views.{written_in, written_at, rule_in}
-use Rattle.replica_core.specs.Sound.{Sound, IsConsistent}
-use Rattle.replica_core.proofs.InfoLemmas.{present_is, reopen_is, recover_setup_is, recover_stream_is, begin_recovery_is, end_recovery_is, stream_after_is, stream_by_is, oldest_is, pending_of_is}
+use Rattle.replica_core.specs.Sound.{Sound}
+use Rattle.replica_core.proofs.InfoLemmas.{present_is, reopen_is, recover_setup_is, recover_stream_is, begin_recovery_is, end_recovery_is, stream_after_is, stream_by_is, pending_of_is}
 use Rattle.replica_core.proofs.StepLemmas.{after_check, after_step, choice}
 use Rattle.replica_core.proofs.SoundLemmas.{info_in}
 use Rattle.replica_model.specs.declared.events.ReplicaEvent.{ReplicaEvent}
@@ -38,14 +37,13 @@ use Rattle.replica_model.specs.Rows.{FullReplica, IsFull, row, event_at, brought
 use Rattle.replica_model.specs.Found.{IsFront}
 use Rattle.member_core.specs.declared.requests.SetupKind.{SetupKind}
 use Rattle.member_core.specs.declared.requests.SetupKind.TheVariants as kind
-use Rattle.member_core.specs.Requests.{setup_with, setup_event}
 use Rattle.op_headers.specs.declared.ops.Op.TheVariants as op
 use Rattle.world.specs.Parts.{request}
 use Rattle.world.specs.Worlds.{Past}
 use Rattle.world_facts.proofs.Tables.{some-weaker}
 use Rattle.world_stamps.specs.Stamping.{Givens}
-use Rattle.world_bytes.specs.Carrying.{stamp_set, new_stamp, Sets, Shares, Passing, WriteSays, IsRecovery, PacketSays, Under, Holds, SetFor, ReplicaSays, Both, BreakSays}
-use Rattle.world_bytes.proofs.Fronts.{front-refl, front-nil, front-take, front-trans, front-length, front-is, front-joins}
+use Rattle.world_bytes.specs.Carrying.{new_stamp, Sets, Shares, Passing, IsRecovery, Under, Holds, SetFor, ReplicaSays, Both, BreakSays}
+use Rattle.world_bytes.proofs.Fronts.{front-take, front-trans, front-is, front-joins}
 
 -- WHAT IS LEFT
 
@@ -266,8 +264,10 @@ acknowledge-leaves g h b v more c i p true f is =
     let size : i.written ≡ length v = omega (arith, f.size, there-written c i is) in
     choice (Leaves g h b v more) p.last _ _
     (λ _. record { info = left-as g h b v (take i.written (v ++ more)) i (close_stream (advance_acked i p.end)) (kept-bytes v more i.written size) refl (λ id q. absurd (none-some id q)) x; stream = tt })
-    (λ _. record { info = left-as g h b v (take i.written (v ++ more)) i (advance_acked i p.end) (kept-bytes v more i.written size) refl (λ id q. q) x;
-        stream = set-as h c.stream c i (advance_acked i p.end) is refl f.says.stream })
+    (λ _. record {
+      info = left-as g h b v (take i.written (v ++ more)) i (advance_acked i p.end) (kept-bytes v more i.written size) refl (λ id q. q) x;
+      stream = set-as h c.stream c i (advance_acked i p.end) is refl f.says.stream;
+    })
 
 ack-leaves : (g : Givens) (h : Past) (b : ℕ) (v more : List ℕ) (c : ReplicaRecord) (conn : ConnId) (seqno : ℤ) (good : Bool) → Finds g h b v c
     → Leaves g h b v more (record_after c (ack_transition c conn seqno good))
@@ -360,7 +360,7 @@ unfolding extent_transition
 extent-leaves g h b v c i s conn p sums bad f is writes by x open_yet =
     choice (λ (o : Outcome). Leaves g h b v (behind v p) (record_after c o)) (int_eq p.seqno (negsuc 0)) _ _
     (λ _. after_step (Leaves g h b v (behind v p)) c (heartbeat_of (extent_of p sums bad)) _ (same g h b v (behind v p) c f)
-        (λ e _. record { info = (same g h b v (behind v p) c f).info; stream = f.says.stream }))
+    (λ e _. record { info = (same g h b v (behind v p) c f).info; stream = f.says.stream }))
     (λ _. after_step (Leaves g h b v (behind v p)) c (stream_after s (extent_of p sums bad)) _ (same g h b v (behind v p) c f) (λ t q.
     after_step (Leaves g h b v (behind v p)) c (pending_of i.sums (extent_of p sums bad) i.written) _ (same g h b v (behind v p) c f) (λ e r.
     extend-leaves g h b v c i s t conn p sums bad e f is writes by (stream_after_is s t (extent_of p sums bad) q).1 r x open_yet)))

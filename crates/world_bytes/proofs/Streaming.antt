@@ -1,16 +1,15 @@
 -- What a writer does by itself, and what it takes, with the bytes that its session has.
-use Rattle.std.proofs.Common.{◌≡◌, ℕ, ℤ, pos, zero, suc, ◌<◌, ◌≤◌, ◌+◌, Bool, true, false, List, [], ◌∷◌, ◌++◌, length, take, drop, Option, Some, None, IfSome, Result, Ok, Err, refl, sym, ◌∙◌, ap, subst, arith, append-nil}
-use Rattle.std.specs.Prelude.{slice_get, if◌then◌else◌}
+use Rattle.std.proofs.Common.{◌≡◌, ℕ, zero, suc, ◌<◌, ◌≤◌, Bool, true, false, List, [], ◌∷◌, ◌++◌, length, drop, Option, Some, None, refl, sym, ◌∙◌, ap, subst, arith, append-nil}
+use Rattle.std.specs.Prelude.{slice_get}
 use Rattle.std.proofs.lemmas.Option.{none-some, same_Some}
 use Rattle.hd_base.specs.declared.numbers.NodeId.{NodeId}
 use Rattle.hd_base.specs.declared.numbers.Stamp.{Stamp}
-use Rattle.hd_base.specs.SumRules.{Rule}
 use Rattle.ack_codec.specs.declared.acks.Ack.{Ack}
 use Rattle.ack_codec.specs.declared.responses.Response.{Response}
 use Rattle.packet_codec.specs.declared.packets.Packet.{Packet}
-use Rattle.packet_stream.specs.Carried.{Carries, IsPiece}
-use Rattle.packet_stream.specs.Streams.{StreamState, IsStream, start_in, written_in, begun, with_bytes, next_packet, formed, sync_packet, sync_formed, last_packet, last_formed, acked_packet, oldest_acked, oldest_is_last, oldest_seqno}
-use Rattle.packet_stream.proofs.CarryLemmas.{begun_carries, wrote_carries, formed_carries, next_is_piece, acked_carries}
+use Rattle.packet_stream.specs.Carried.{IsPiece}
+use Rattle.packet_stream.specs.Streams.{StreamState, IsStream, written_in, with_bytes, next_packet, formed, sync_packet, sync_formed, last_packet, last_formed, acked_packet, oldest_acked, oldest_is_last, oldest_seqno}
+use Rattle.packet_stream.proofs.CarryLemmas.{wrote_carries, formed_carries, next_is_piece, acked_carries}
 use Rattle.writer_core.specs.declared.actions.Action.{Action}
 use Rattle.writer_core.specs.declared.actions.Action.TheVariants as action
 use Rattle.writer_core.specs.declared.commands.Command.{Command}
@@ -28,7 +27,7 @@ use Rattle.writer_core.specs.declared.phases.Verdict.{Verdict}
 use Rattle.writer_core.specs.declared.phases.Verdict.TheVariants as verdict
 use Rattle.writer_core.specs.declared.phases.Waiting.{Waiting}
 use Rattle.writer_core.specs.declared.records.WriterRecord.{WriterRecord}
-use Rattle.writer_core.specs.Phases.{remedy_after, remedy_in, remedy_at_ack, remedy_accepted, is_success, ack_verdict, bad_place, without}
+use Rattle.writer_core.specs.Phases.{remedy_after, remedy_in, remedy_at_ack, is_success, ack_verdict, bad_place, without}
 use Rattle.writer_core.specs.Sound.{Sound}
 use Rattle.writer_core.specs.Transitions.{taken_as, take_first, free_step_as, failed_command, failed_first, failed_step_as, dial_step_as, open_step, completed_step, accepted_step, due_now, form_step, reached_length, reach_step_as, due_step, stream_step_as, step_in, own_step, dropped, fail_for, fail_named, fail_at, ended_as, ended, phase_acked, acked_as, acked_in, acked, setup_answered_in, setup_answered, dialled_in, dialled}
 use Rattle.writer_core.specs.Transitions as writer
@@ -37,7 +36,7 @@ use Rattle.world.specs.Worlds.{Past}
 use Rattle.world.specs.Connections.{Next, message, the_end}
 use Rattle.world.specs.Parts.{request, packet, ack, response, read_status, recovery_answer}
 use Rattle.world.specs.Clients.{command_bytes, named_member, writer_hears}
-use Rattle.world_bytes.specs.Carrying.{StreamOf, Streams, Asks, AsksFor}
+use Rattle.world_bytes.specs.Carrying.{StreamOf, Streams, Asks}
 use Rattle.world_bytes.proofs.Fronts.{front-more, piece-front}
 
 -- A writer streams these bytes, as far as it streams, and asks for what may pass.

@@ -1,11 +1,8 @@
 -- What writers and readers do and take, in the world.
-use Rattle.std.proofs.Common.{◌≡◌, ℕ, zero, suc, ◌<◌, ◌≤◌, ◌+◌, ◌⊎◌, inl, inr, Bool, true, false, List, [], ◌∷◌, ◌++◌, length, drop, slice_get, Option, Some, None, IfSome, Result, Ok, Err, refl, sym, ◌∙◌, ap, subst, arith, append-nil, eqb-true}
-use Rattle.std.specs.Prelude.{◌==◌, ◌&&◌, not, nat_le, is_none, is_some, if◌then◌else◌}
-use Rattle.std.proofs.lemmas.Bool.{eqb-false, false≢true}
-use Rattle.std.proofs.lemmas.Bool.Decides.{nat_tests}
-use Rattle.std.proofs.lemmas.Option.{none-some, same_Some}
-use Rattle.hd_base.specs.SumRules.{Rule, IsChunkSize}
-use Rattle.hd_base.specs.declared.sum_rule.TheConstants.{MIN_CHUNK_SIZE, MAX_CHUNK_SIZE}
+use Rattle.std.proofs.Common.{◌≡◌, ℕ, ◌≤◌, ◌+◌, ◌⊎◌, inl, inr, Bool, true, false, List, [], ◌∷◌, ◌++◌, slice_get, Option, Some, None, IfSome, refl, sym, ◌∙◌, ap, subst, arith, eqb-true}
+use Rattle.std.specs.Prelude.{◌==◌, if◌then◌else◌}
+use Rattle.std.proofs.lemmas.Bool.{eqb-false}
+use Rattle.std.proofs.lemmas.Option.{none-some}
 use Rattle.hd_base.specs.declared.numbers.BlockId.{BlockId}
 use Rattle.hd_base.specs.declared.numbers.NodeId.{NodeId}
 use Rattle.hd_base.specs.declared.numbers.Stamp.{Stamp}
@@ -13,46 +10,34 @@ use Rattle.name_core.specs.declared.records.BlockRecord.{BlockRecord}
 use Rattle.name_core.specs.Offices.{OfficeState, record_of}
 use Rattle.op_headers.specs.declared.ops.Op.{Op}
 use Rattle.op_headers.specs.declared.ops.Op.TheVariants as op
-use Rattle.op_headers.specs.declared.ops.ReadOp.{ReadOp}
 use Rattle.op_headers.specs.Values.{WriteFields}
 use Rattle.packet_codec.specs.declared.packets.Packet.{Packet}
 use Rattle.packet_stream.specs.Carried.{IsPiece}
-use Rattle.packet_stream.specs.Streams.{StreamState, begun, written_in}
+use Rattle.packet_stream.specs.Streams.{StreamState}
 use Rattle.replica_model.specs.Rows.{FullReplica}
 use Rattle.writer_core.specs.declared.actions.Action.{Action}
 use Rattle.writer_core.specs.declared.actions.Action.TheVariants as action
-use Rattle.writer_core.specs.declared.commands.Command.{Command}
-use Rattle.writer_core.specs.declared.commands.Command.TheVariants as command
-use Rattle.writer_core.specs.declared.phases.Failure.{Failure}
-use Rattle.writer_core.specs.declared.phases.Phase.{Phase}
-use Rattle.writer_core.specs.declared.phases.Phase.TheVariants as phase
 use Rattle.writer_core.specs.declared.phases.Setup.{Setup}
 use Rattle.writer_core.specs.declared.phases.Setup.TheVariants as setup
 use Rattle.writer_core.specs.declared.phases.Waiting.{Waiting}
 use Rattle.writer_core.specs.declared.records.WriterRecord.{WriterRecord}
-use Rattle.writer_core.specs.Requests.{request_for, stage_of, min_length}
+use Rattle.writer_core.specs.Requests.{request_for, min_length}
 use Rattle.writer_core.specs.Sound.{Sound}
-use Rattle.writer_core.specs.Transitions.{given, own_step, dial_step, dial_step_as, open_step, completed_step, free_step_as, take_first, failed_first, failed_command, failed_step_as, accepted_step, step_in, granted, dialled, is_connected}
-use Rattle.writer_core.specs.Transitions as writer
-use Rattle.writer_core.proofs.SoundLemmas.{answered, own_step_sound, dialled_sound, setup_sound, acked_sound, ended_sound, given_sound}
+use Rattle.writer_core.specs.Transitions.{is_connected}
 use Rattle.member_core.specs.declared.requests.SetupKind.{SetupKind}
-use Rattle.member_core.specs.declared.requests.SetupKind.TheVariants as kind
 use Rattle.member_core.specs.Requests.{setup_with}
-use Rattle.world.specs.declared.events.TakenCommand.{TakenCommand}
-use Rattle.world.specs.Parts.{Message, request, packet, ack, response, read_status, recovery_answer, by_writer, by_primary, Upper, Told, Lower, Writing, Primary, Break}
-use Rattle.world.specs.Worlds.{Past, World, Dial, Stamped, Change, put, add, latest_with, past_after, apply}
-use Rattle.world.specs.Connections.{Next, message, the_end, sent_on, is_conn}
-use Rattle.world.specs.Clients.{writing_as, writer_change, reached_answer, did, dialled_change, dialling, rest_in, is_empty, is_formed, ruled, command_bytes, takes_step, takes_command, writer_step, own_writer, named_member, writer_hears, writer_up}
-use Rattle.world_facts.proofs.Tables.{if-each, when-each, and-left, and-right, some-weaker}
-use Rattle.world_stamps.specs.Stamping.{Givens, known_heard, heard, IsOfLatest, Waits, InPhase, Fits, Entries, HeldOf, Recorded}
-use Rattle.world_stamps.proofs.Moves.{given-fits, ruled-fits}
-use Rattle.world_bytes.specs.Carrying.{new_stamp, Sets, Passing, WriteSays, PacketSays, DownSays, UpSays, ReplicaSays, BreakSays, LowerSays, ConnSays, kind_of, AsksFor, Asks, Streams, WriterSays, EntrySays, PrimarySays, LedBy, Carried}
+use Rattle.world.specs.Parts.{Message, request, packet, by_primary, Lower, Writing, Primary, Break}
+use Rattle.world.specs.Worlds.{Past, World, Dial, Stamped, Change, put, latest_with, past_after, apply}
+use Rattle.world.specs.Connections.{sent_on}
+use Rattle.world.specs.Clients.{writing_as, writer_change, reached_answer, did}
+use Rattle.world_facts.proofs.Tables.{if-each, some-weaker}
+use Rattle.world_stamps.specs.Stamping.{Givens, heard, HeldOf, Recorded}
+use Rattle.world_bytes.specs.Carrying.{new_stamp, Passing, WriteSays, DownSays, UpSays, ReplicaSays, BreakSays, LowerSays, ConnSays, kind_of, AsksFor, WriterSays, EntrySays, PrimarySays, LedBy, Carried}
 use Rattle.world_bytes.proofs.Later.{Later, lower-later, primary-later, led-later}
-use Rattle.world_bytes.proofs.Frame.{Each, each-nil, each-one, Extends, change-later, unwritten, asks-later, conn-later, writer-later, entry-later, News, keeps}
-use Rattle.world_bytes.proofs.Leaves.{Facts, before-of, same-extends, ready-at, break-at, sent-if}
-use Rattle.world_bytes.proofs.Asking.{Keeps, only-one, first-dial}
-use Rattle.world_bytes.proofs.Streaming.{Good, MakesStep, Makes, Heads, Hears, own-step-makes, open-good, completed-good, writer-hears, dialled-hears}
-use Rattle.world_bytes.proofs.Queues.{own-step-empty}
+use Rattle.world_bytes.proofs.Frame.{Each, each-nil, each-one, change-later, unwritten, conn-later, writer-later, entry-later, keeps}
+use Rattle.world_bytes.proofs.Leaves.{Facts, same-extends, ready-at, break-at, sent-if}
+use Rattle.world_bytes.proofs.Asking.{Keeps}
+use Rattle.world_bytes.proofs.Streaming.{Good, Makes}
 
 -- BYTES THAT A WRITER ADDS
 

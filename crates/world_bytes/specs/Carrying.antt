@@ -1,13 +1,9 @@
 -- Which bytes stand where: in replicas, in packets on their way, in writers, and as lengths in recoveries and in the office.
-use Rattle.std.specs.Prelude.{ℕ, ◌≡◌, ◌<◌, ◌≤◌, ◌⊎◌, ◌+◌, Bool, true, false, List, [], length, take, slice_get, Option, Some, None, IfSome, Ok, Err}
+use Rattle.std.specs.Prelude.{ℕ, ◌≡◌, ◌<◌, ◌≤◌, ◌⊎◌, true, false, List, [], length, take, slice_get, Option, Some, None, IfSome, Ok}
 use Rattle.hd_base.specs.declared.numbers.Stamp.{Stamp}
-use Rattle.hd_base.specs.declared.states.ReplicaState.{ReplicaState}
-use Rattle.name_core.specs.declared.calls.Begun.{Begun}
 use Rattle.name_core.specs.declared.calls.OfficeAnswer.TheVariants as office
 use Rattle.name_core.specs.declared.records.BlockRecord.{BlockRecord}
 use Rattle.name_core.specs.Offices.{record_of}
-use Rattle.op_headers.specs.declared.answers.RecoveryAnswer.{RecoveryAnswer}
-use Rattle.op_headers.specs.declared.ops.Op.{Op}
 use Rattle.op_headers.specs.declared.ops.Op.TheVariants as op
 use Rattle.op_headers.specs.declared.ops.RecoveryOp.{RecoveryOp}
 use Rattle.op_headers.specs.Values.{WriteFields}
@@ -29,12 +25,11 @@ use Rattle.writer_core.specs.declared.phases.Phase.{Phase}
 use Rattle.writer_core.specs.declared.phases.Phase.TheVariants as phase
 use Rattle.writer_core.specs.declared.phases.Setup.{Setup}
 use Rattle.writer_core.specs.declared.phases.Setup.TheVariants as setup
-use Rattle.writer_core.specs.declared.records.WriterRecord.{WriterRecord}
 use Rattle.writer_core.specs.Requests.{min_length}
 use Rattle.writer_core.specs.Sound.{Sound}
 use Rattle.writer_core.specs.Transitions.{is_connected}
 use Rattle.world.specs.declared.events.Event.{Event}
-use Rattle.world.specs.Parts.{Message, request, packet, ack, response, read_status, recovery_answer, by_primary, FullMember, Lower, idle, writes, serves, recovers, ended_below, Told, Writing, Leading, Primary, no_primary, was_told, leads, has_led, Break}
+use Rattle.world.specs.Parts.{Message, request, packet, recovery_answer, by_primary, FullMember, Lower, writes, Told, Writing, Leading, Primary, no_primary, was_told, leads, has_led, Break}
 use Rattle.world.specs.Worlds.{Past, World, start}
 use Rattle.world.specs.Events.{run}
 use Rattle.world_stamps.specs.Stamping.{Givens, none_given, given_in, heard}

@@ -1,6 +1,5 @@
 -- What the bytes of the world are, in short.
-use Rattle.std.specs.Prelude.{ℕ, ◌≡◌, ◌≤◌, Bool, true, false, List, length, slice_get, Option, Some, None, IfSome}
-use Rattle.hd_base.specs.declared.numbers.BlockId.{BlockId}
+use Rattle.std.specs.Prelude.{ℕ, ◌≡◌, ◌≤◌, false, List, length, slice_get, Some, IfSome}
 use Rattle.name_core.specs.declared.records.BlockRecord.{BlockRecord}
 use Rattle.name_core.specs.Offices.{record_of}
 use Rattle.op_headers.specs.declared.ops.Op.TheVariants as op
@@ -10,7 +9,7 @@ use Rattle.packet_stream.specs.Carried.{IsPiece}
 use Rattle.replica_model.specs.Found.{IsFront}
 use Rattle.world.specs.declared.events.Event.{Event}
 use Rattle.world.specs.Parts.{request, packet}
-use Rattle.world.specs.Worlds.{World, start}
+use Rattle.world.specs.Worlds.{start}
 use Rattle.world.specs.Safe.{written_under}
 use Rattle.world.specs.Events.{run}
 use Rattle.world_bytes.specs.Carrying.{new_stamp}

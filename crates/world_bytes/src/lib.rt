@@ -35,5 +35,4 @@ pub fn replicas_hold_fronts()
 /// written.
 pub fn prefix_law(schedule: &Schedule)
     ensures { Prefix (run (start schedule.now.nodes) schedule.now.events) }
-{
-}
+{}
