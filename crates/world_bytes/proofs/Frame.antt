@@ -48,13 +48,6 @@ pub each-append : {A : Type 0} (P : A → Type 0) (xs ys : List A) → Each P xs
 each-append P [] ys h k = k
 each-append P (x ∷ xs) ys h k = each-cons P x (xs ++ ys) (h.at zero x refl) (each-append P xs ys (each-tail P x xs h) k)
 
-pub each-weaker : {A : Type 0} (P Q : A → Type 0) (xs : List A) → ((x : A) → P x → Q x) → Each P xs → Each Q xs
-each-weaker P Q xs f h = record { at = λ i x e. f x (h.at i x e) }
-
-each-listed : {A : Type 0} (P : A → Type 0) (o : Option A) → IfSome o P → Each P (listed o)
-each-listed P None h = each-nil P
-each-listed P (Some x) h = each-one P x h
-
 -- LATER PASTS
 
 first-more : (xs ys : List Message) (m : Message) → slice_get xs 0 ≡ Some m → slice_get (xs ++ ys) 0 ≡ Some m

@@ -69,10 +69,6 @@ wrote-stream v bytes s h = record { carries = wrote_carries s v bytes h.carries;
 more-stream : (v bytes : List ℕ) (s : StreamState) → bytes ≡ [] → StreamOf v s → StreamOf (v ++ bytes) s
 more-stream v bytes s e h = subst (λ (w : List ℕ). StreamOf w s) (sym (ap (λ (x : List ℕ). v ++ x) e ∙ append-nil v)) h
 
--- each packet is a piece
-Pieces : List ℕ → List Packet → Type 0
-Pieces v xs = (i : ℕ) (p : Packet) → slice_get xs i ≡ Some p → IsPiece v p
-
 pieces-push : (v : List ℕ) (xs : List Packet) (q : Packet) → ((i : ℕ) (p : Packet) → slice_get xs i ≡ Some p → IsPiece v p) → IsPiece v q
     → (i : ℕ) (p : Packet) → slice_get (xs ++ q ∷ []) i ≡ Some p → IsPiece v p
 pieces-push v [] q h k zero p e = subst (IsPiece v) (same_Some q p e) k
