@@ -22,7 +22,7 @@ mkdir -p "$work/crates/book_bench/src" "$work/crates/book_bench/proofs/new_book"
 cp "$here/program.rattle" "$work/crates/book_bench/src/main.rt"
 cp "$here/new_book.answers" "$work/crates/book_bench/proofs/new_book/Answers.antt"
 echo "proving and building; this takes some minutes" >&2
-(cd "$work/crates/book_bench" && rt run > "$work/build.txt" 2>&1) || { cp "$work/build.txt" /tmp/bench-build.txt; tail -n 20 "$work/build.txt" >&2; exit 1; }
+(cd "$work/crates/book_bench" && rt run > "$work/build.txt" 2>&1) || { tail -n 20 "$work/build.txt" >&2; exit 1; }
 
 for ((run = 0; run < runs; run++)); do
   "$work/crates/book_bench/out/book_bench"
