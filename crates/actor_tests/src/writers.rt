@@ -194,30 +194,50 @@ fn marked(writer: &mut Writer) -> Option<(i64, bool, bool)> {
     }
 }
 
-/// Does the own step of a writer, which answers that it failed: what the command is answered.
-fn failed(writer: &mut Writer) -> Option<ClientAnswer> {
-    match writer.next() {
-        Action::Answered { answer, .. } => Some(answer),
-        _ => None,
+/// Whether an action answers a command so.
+fn is_answer(action: &Action, wanted: &ClientAnswer) -> bool {
+    match action {
+        Action::Answered { answer, .. } => answer == wanted,
+        _ => false,
     }
+}
+
+/// The writer sends such a packet, as `measured` says of it, and its one member acks it.
+fn send(
+    rt: &impl Abort,
+    writer: &mut Writer,
+    packet: (i64, i64, usize, usize),
+) -> Result<(), Fail> {
+    assert!(rt; sent(writer) == Some(packet));
+    ack(writer, packet.0, &[Status::Success])
+}
+
+/// The writer sends the last packet, whose number this is, and answers the close of so many bytes.
+fn end(rt: &impl Abort, writer: &mut Writer, seqno: i64, length: u64) -> Result<(), Fail> {
+    assert!(rt; marked(writer) == Some((seqno, true, false)));
+    ack(writer, seqno, &[Status::Success])?;
+    assert_eq!(rt; step(writer), Kind::Ask);
+    writer.granted(&Ok(OfficeAnswer::Nothing));
+    assert!(rt; reached(writer) == Some((length, Stamp(1001), 1)));
+    Ok(())
 }
 
 #[test]
 fn a_full_packet_and_a_byte_are_closed(rt: HostRuntime) -> Result<(), Fail> {
     let mut writer = created(&rt, rt.alloc(), &[NodeId(0)])?;
     take(&rt, &mut writer, Command::Fill { count: 64_513 })?;
-    assert!(rt; sent(&mut writer) == Some((0, 0, 64_512, 504)));
+    send(&rt, &mut writer, (0, 0, 64_512, 504))?;
     take(&rt, &mut writer, Command::Close)?;
-    assert!(rt; sent(&mut writer) == Some((1, 64_512, 1, 4)));
-    assert_eq!(rt; step(&mut writer), Kind::Wait);
-    ack(&mut writer, 0, &[Status::Success])?;
-    ack(&mut writer, 1, &[Status::Success])?;
-    assert!(rt; sent(&mut writer) == Some((2, 64_513, 0, 0)));
-    assert_eq!(rt; step(&mut writer), Kind::Wait);
-    ack(&mut writer, 2, &[Status::Success])?;
-    assert_eq!(rt; step(&mut writer), Kind::Ask);
-    writer.granted(&Ok(OfficeAnswer::Nothing));
-    assert!(rt; reached(&mut writer) == Some((64_513, Stamp(1001), 1)));
+    send(&rt, &mut writer, (1, 64_512, 1, 4))?;
+    end(&rt, &mut writer, 2, 64_513)
+}
+
+/// The writer takes an hsync, sends a packet with this number for it, and answers nine bytes once that is acked.
+fn sync(rt: &impl Abort, writer: &mut Writer, seqno: i64) -> Result<(), Fail> {
+    take(rt, writer, Command::Hsync)?;
+    assert!(rt; marked(writer) == Some((seqno, false, true)));
+    ack(writer, seqno, &[Status::Success])?;
+    assert!(rt; reached(writer) == Some((9, Stamp(1001), 1)));
     Ok(())
 }
 
@@ -225,12 +245,8 @@ fn a_full_packet_and_a_byte_are_closed(rt: HostRuntime) -> Result<(), Fail> {
 fn each_hsync_has_a_packet(rt: HostRuntime) -> Result<(), Fail> {
     let mut writer = created(&rt, rt.alloc(), &[NodeId(0)])?;
     take(&rt, &mut writer, Command::Fill { count: 9 })?;
-    for seqno in 0..2 {
-        take(&rt, &mut writer, Command::Hsync)?;
-        assert!(rt; marked(&mut writer) == Some((seqno, false, true)));
-        ack(&mut writer, seqno, &[Status::Success])?;
-        assert!(rt; reached(&mut writer) == Some((9, Stamp(1001), 1)));
-    }
+    sync(&rt, &mut writer, 0)?;
+    sync(&rt, &mut writer, 1)?;
     take(&rt, &mut writer, Command::Close)?;
     assert!(rt; marked(&mut writer) == Some((2, true, true)));
     Ok(())
@@ -241,13 +257,8 @@ fn closed(rt: &impl Abort, alloc: Global) -> Result<Writer, Fail> {
     let mut writer = created(rt, alloc, &[NodeId(0)])?;
     take(rt, &mut writer, Command::Fill { count: 600 })?;
     take(rt, &mut writer, Command::Close)?;
-    assert!(rt; sent(&mut writer) == Some((0, 0, 600, 8)));
-    ack(&mut writer, 0, &[Status::Success])?;
-    assert!(rt; sent(&mut writer) == Some((1, 600, 0, 0)));
-    ack(&mut writer, 1, &[Status::Success])?;
-    assert_eq!(rt; step(&mut writer), Kind::Ask);
-    writer.granted(&Ok(OfficeAnswer::Nothing));
-    assert!(rt; reached(&mut writer) == Some((600, Stamp(1001), 1)));
+    send(rt, &mut writer, (0, 0, 600, 8))?;
+    end(rt, &mut writer, 1, 600)?;
     Ok(writer)
 }
 
@@ -281,24 +292,38 @@ fn an_append_ends_the_last_chunk_first(rt: HostRuntime) -> Result<(), Fail> {
     Ok(())
 }
 
+/// A writer that has sent a byte to a pipeline of these members, which ends.
+fn cut_off(rt: &impl Abort, alloc: Global, nodes: &[NodeId]) -> Result<Writer, Fail> {
+    let mut writer = created(rt, alloc, nodes)?;
+    fill(rt, &mut writer, 1)?;
+    assert!(rt; sent(&mut writer) == Some((0, 0, 1, 4)));
+    writer.ended();
+    Ok(writer)
+}
+
 #[test]
-fn a_writer_gives_up(rt: HostRuntime) -> Result<(), Fail> {
-    let mut writer = created(&rt, rt.alloc(), &[NodeId(3)])?;
-    fill(&rt, &mut writer, 1)?;
-    assert!(rt; sent(&mut writer) == Some((0, 0, 1, 4)));
-    writer.ended();
+fn a_writer_has_no_member_left(rt: HostRuntime) -> Result<(), Fail> {
+    let mut writer = cut_off(&rt, rt.alloc(), &[NodeId(3)])?;
     let member = NodeId(3);
-    assert!(rt; failed(&mut writer) == Some(ClientAnswer::AllBad { member }));
-    let mut writer = created(&rt, rt.alloc(), &[NodeId(3), NodeId(4)])?;
-    fill(&rt, &mut writer, 1)?;
-    assert!(rt; sent(&mut writer) == Some((0, 0, 1, 4)));
-    writer.ended();
+    assert!(rt; is_answer(&writer.next(), &ClientAnswer::AllBad { member }));
+    Ok(())
+}
+
+#[test]
+fn a_setup_is_abandoned(rt: HostRuntime) -> Result<(), Fail> {
+    let mut writer = requested(&rt, rt.alloc(), &[NodeId(3)])?;
+    writer.dialled(None);
+    let member = NodeId(3);
+    assert!(rt; is_answer(&writer.next(), &ClientAnswer::Abandoned { member }));
+    Ok(())
+}
+
+#[test]
+fn a_lease_is_lost(rt: HostRuntime) -> Result<(), Fail> {
+    let mut writer = cut_off(&rt, rt.alloc(), &[NodeId(3), NodeId(4)])?;
     assert_eq!(rt; step(&mut writer), Kind::Ask);
-    let mut unanswered = requested(&rt, rt.alloc(), &[NodeId(3)])?;
-    unanswered.dialled(None);
-    assert!(rt; failed(&mut unanswered) == Some(ClientAnswer::Abandoned { member }));
     let recovery = Stamp(1005);
     writer.granted(&Err(OfficeFault::LeaseLost { recovery }));
-    assert!(rt; failed(&mut writer) == Some(ClientAnswer::Lost { recovery }));
+    assert!(rt; is_answer(&writer.next(), &ClientAnswer::Lost { recovery }));
     Ok(())
 }
