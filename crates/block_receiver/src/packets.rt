@@ -1,0 +1,107 @@
+//! Taking a packet.
+
+ghost use Rattle.std.specs.Prelude.{◌≡◌, ◌<◌, length, IfOk};
+ghost use Rattle.packet_codec.specs.Packets.{IsEncodable, packet_text};
+ghost use Rattle.link_pieces.specs.Pieces.{SendsNothing};
+ghost use Rattle.replica_core.specs.declared.ack_queue.TheConstants.{MAX_PENDING};
+ghost use Rattle.replica_model.specs.declared.events.ReplicaEvent.TheVariants as ReplicaEvent;
+ghost use Rattle.replica_files.specs.Endings.{BookEnds};
+ghost use Rattle.block_receiver.specs.Packets.{booked_as, taken_as, PassesOn, PassesTo};
+
+use hd_base::{ConnId, Files, LinkOut, Receipt};
+use link_pieces::{send_piece, take_room};
+use packet_codec::{Packet, encode_packet};
+use replica_core::Refusal;
+use replica_files::{BookFault, ReplicaBook};
+use std::alloc::{AllocError, Global};
+
+/// How a packet was taken. But for `Memory` its receipt names the entry of the book.
+#[derive(Clone, Copy, Debug, PartialEq, Eq)]
+pub enum Taken {
+    /// It was booked, and sent to the mirror where there is one.
+    Booked(Receipt),
+    /// The replica refused it; nothing was sent.
+    Refused(Refusal, Receipt),
+    /// A call on the replica's files failed, and the drawer's count of faults rose; nothing was sent.
+    File(Receipt),
+    /// It was booked, and the mirror's link failed, whose count of faults rose.
+    MirrorFailed(Receipt),
+    /// Memory ran out; nothing was booked or sent.
+    Memory,
+}
+
+/// Books a packet of a connection, and sends it to the mirror where the book took it: unchanged, in its written spelling,
+/// as one piece. Memory for what is sent is taken before the book is touched. The replica has a place for one more pending
+/// packet (`Replica::is_full`), and the packet can be written (`Packet::is_encodable`).
+pub fn take_packet<F: Files, O: LinkOut>(
+    alloc: Global,
+    book: &mut ReplicaBook<F>,
+    conn: ConnId,
+    packet: &Packet,
+    mirror: Option<&mut O>,
+) -> Taken
+    requires place { length book.old.replica.pending < MAX_PENDING }
+    requires encodable { IsEncodable packet.now }
+    ensures booked { BookEnds F.Files book.old book.new (ReplicaEvent.Packet conn packet.now) (booked_as result) }
+    ensures sent { PassesOn O.LinkOut packet.now result mirror.entry mirror.exit }
+{
+    let Some(mirror) = mirror else {
+        return taken_as(book.packet(conn, packet));
+    };
+    pass_packet(alloc, book, conn, packet, mirror)
+}
+
+/// Books a packet, and sends it to this mirror where the book took it, as `take_packet` does where there is one.
+pub fn pass_packet<F: Files, O: LinkOut>(
+    alloc: Global,
+    book: &mut ReplicaBook<F>,
+    conn: ConnId,
+    packet: &Packet,
+    mirror: &mut O,
+) -> Taken
+    requires place { length book.old.replica.pending < MAX_PENDING }
+    requires encodable { IsEncodable packet.now }
+    ensures booked { BookEnds F.Files book.old book.new (ReplicaEvent.Packet conn packet.now) (booked_as result) }
+    ensures sent { PassesTo O.LinkOut packet.now result mirror.old mirror.new }
+{
+    let Ok(text) = prepare(alloc, packet, mirror) else {
+        return Taken::Memory;
+    };
+    let receipt = match book.packet(conn, packet) {
+        Ok(receipt) => receipt,
+        Err(fault) => return taken_as(Err(fault)),
+    };
+    match send_piece(mirror, &text) {
+        Ok(()) => Taken::Booked(receipt),
+        Err(_) => Taken::MirrorFailed(receipt),
+    }
+}
+
+/// The packet in its written spelling, for which the mirror has room then.
+fn prepare<O: LinkOut>(
+    alloc: Global,
+    packet: &Packet,
+    mirror: &mut O,
+) -> Result<Vec<u8>, AllocError>
+    requires encodable { IsEncodable packet.now }
+    ensures written { IfOk result (λ text. text.items ≡ packet_text packet.now) }
+    ensures covers { IfOk result (λ text. length text.items < O.room mirror.new) }
+    ensures quiet { SendsNothing O.LinkOut mirror.old mirror.new }
+{
+    let mut text = Vec::new(alloc);
+    encode_packet(packet, &mut text)?;
+    take_room(alloc, mirror, text.len())?;
+    Ok(text)
+}
+
+/// How a packet was taken that goes to no mirror, or no further, by what the book answered.
+pub fn taken_as(booked: Result<Receipt, BookFault>) -> Taken
+    ensures { result ≡ taken_as booked }
+{
+    match booked {
+        Ok(receipt) => Taken::Booked(receipt),
+        Err(BookFault::Refused(refusal, receipt)) => Taken::Refused(refusal, receipt),
+        Err(BookFault::File(receipt)) => Taken::File(receipt),
+        Err(BookFault::Memory) => Taken::Memory,
+    }
+}

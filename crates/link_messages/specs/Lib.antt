@@ -1,0 +1,2 @@
+pub mod Incomings
+pub mod Empties

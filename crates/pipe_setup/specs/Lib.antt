@@ -1,0 +1,5 @@
+pub mod Refusals
+pub mod Answers
+pub mod Requests
+pub mod Reaching
+pub mod Setups

@@ -1,0 +1,14 @@
+//! The setup of a member of a pipeline: its write request is booked, and goes on to its mirror.
+#![tactic(auto)]
+
+mod answers;
+mod laws;
+mod reaching;
+mod refusals;
+mod requests;
+mod setups;
+
+pub use answers::setup_above;
+pub use laws::answers_follow_the_member;
+pub use refusals::SetupRefusal;
+pub use setups::{Setup, setup_local};

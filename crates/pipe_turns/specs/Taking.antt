@@ -1,0 +1,10 @@
+-- What a member takes from below.
+use Rattle.std.specs.Prelude.{All}
+use Rattle.hd_base.specs.Wire.{IsStatus}
+use Rattle.member_core.specs.declared.inputs.FromBelow.{FromBelow}
+use Rattle.member_core.specs.declared.inputs.FromBelow.TheVariants as below
+
+-- An ack is of listed statuses.
+abbrev pub IsListedBelow : FromBelow → Type 0
+IsListedBelow (below.Ack a) = All IsStatus a.replies
+IsListedBelow other = Unit {0}

@@ -1,0 +1,9 @@
+//! The turns of a member of a pipeline over its book and its two connections: each is a call on the book, and then what
+//! the book took is sent.
+#![tactic(auto)]
+
+mod acting;
+mod turning;
+
+pub use acting::act;
+pub use turning::Done;
