@@ -3,7 +3,6 @@ pub mod ScriptLaws
 pub mod ReportLaws
 pub mod ReplicaLaws
 pub mod ReceiptLaws
-pub mod MessageLaws
 pub mod SendingLaws
 pub mod DeliveryLaws
 pub mod RunLaws

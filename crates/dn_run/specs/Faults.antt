@@ -5,12 +5,8 @@ use Rattle.hd_base.specs.declared.links.LinkError.{LinkError}
 use Rattle.hd_base.specs.declared.links.LinkError.TheVariants as link
 use Rattle.hd_base.specs.declared.ends.RoadError.{RoadError}
 use Rattle.hd_base.specs.declared.ends.RoadError.TheVariants as road
-use Rattle.ack_codec.specs.declared.faults.ResponseFault.{ResponseFault}
-use Rattle.ack_codec.specs.declared.faults.ResponseFault.TheVariants as response
-use Rattle.op_headers.specs.declared.faults.OpFault.{OpFault}
-use Rattle.op_headers.specs.declared.faults.OpFault.TheVariants as op
-use Rattle.packet_codec.specs.declared.faults.PacketFault.{PacketFault}
-use Rattle.packet_codec.specs.declared.faults.PacketFault.TheVariants as packet
+use Rattle.frame_feed.specs.declared.faults.FeedFault.{FeedFault}
+use Rattle.frame_feed.specs.declared.faults.FeedFault.TheVariants as feed
 use Rattle.dn_run.specs.declared.faults.StepFault.{StepFault}
 use Rattle.dn_run.specs.declared.faults.StepFault.TheVariants.{Shut, Run}
 use Rattle.dn_run.specs.declared.faults.RunFault.{RunFault}
@@ -31,14 +27,6 @@ road_fault road.NotListening = Road
 road_fault road.Failed = Road
 
 -- bytes that are no message of the kind that is to come make their taker shut
-abbrev pub packet_fault : PacketFault → StepFault
-packet_fault packet.Memory = Run Memory
-packet_fault _ = Shut
-
-abbrev pub op_fault : OpFault → StepFault
-op_fault op.Memory = Run Memory
-op_fault _ = Shut
-
-abbrev pub response_fault : ResponseFault → StepFault
-response_fault response.Memory = Run Memory
-response_fault _ = Shut
+abbrev pub feed_fault : FeedFault → StepFault
+feed_fault feed.Memory = Run Memory
+feed_fault _ = Shut

@@ -3,7 +3,6 @@ pub mod Scripts
 pub mod Reports
 pub mod Sums
 pub mod Faults
-pub mod Messages
 pub mod Replicas
 pub mod Sendings
 pub mod Members

@@ -150,7 +150,7 @@ fn pass_on<R: Roads, M: Message>(
     requires from { Knows (R.plain roads.old) from.old.id.0 }
     requires to { Knows (R.plain roads.old) to.old.id.0 }
     ensures arrived { (pieces answers : List (List ℕ)) → IsLinked R.plain R.carried R.Inward.held R.Inward.shut R.Outward.sent R.Outward.flushed R.Outward.lost R.Outward.shut roads.old from.old to.old pieces answers [] → OnOk result (IsLinked R.plain R.carried R.Inward.held R.Inward.shut R.Outward.sent R.Outward.flushed R.Outward.lost R.Outward.shut roads.new from.new to.new (pieces ++ M.text message.now ∷ []) answers (M.text message.now)) }
-    ensures spelled { OnOk result (M.spells message.now (M.text message.now)) }
+    ensures spelled { OnOk result (M.kind.spells message.now (M.text message.now)) }
     ensures from { StaysEnd (R.plain roads.new) from.old from.new }
     ensures to { StaysEnd (R.plain roads.new) to.old to.new }
     ensures failed { result ≡ Err fault.Road → FaultsIncreased (R.faults roads.old) (R.faults roads.new) ⊎ (0 < R.Outward.faults from.new.outward) }

@@ -2,10 +2,8 @@
 
 ghost use Rattle.std.specs.Prelude.{◌≡◌};
 
-use ack_codec::{AckFault, ResponseFault};
+use frame_feed::FeedFault;
 use hd_base::{FileError, LinkError, RoadError};
-use op_headers::OpFault;
-use packet_codec::PacketFault;
 use std::alloc::AllocError;
 use thiserror::Error;
 
@@ -99,55 +97,16 @@ impl From<RunFault> for StepFault {
     }
 }
 
-impl From<PacketFault> for StepFault {
+impl From<FeedFault> for StepFault {
     ghost use Rattle.std.specs.Prelude.{◌≡◌};
-    ghost use Rattle.dn_run.specs.Faults.{packet_fault};
+    ghost use Rattle.dn_run.specs.Faults.{feed_fault};
 
-    ghost from_gives = { λ fault step. step ≡ packet_fault fault };
+    ghost from_gives = { λ fault step. step ≡ feed_fault fault };
 
-    fn from(fault: PacketFault) -> StepFault {
+    fn from(fault: FeedFault) -> StepFault {
         match fault {
-            PacketFault::Memory => StepFault::Run(RunFault::Memory),
+            FeedFault::Memory => StepFault::Run(RunFault::Memory),
             _ => StepFault::Shut,
         }
-    }
-}
-
-impl From<OpFault> for StepFault {
-    ghost use Rattle.std.specs.Prelude.{◌≡◌};
-    ghost use Rattle.dn_run.specs.Faults.{op_fault};
-
-    ghost from_gives = { λ fault step. step ≡ op_fault fault };
-
-    fn from(fault: OpFault) -> StepFault {
-        match fault {
-            OpFault::Memory => StepFault::Run(RunFault::Memory),
-            _ => StepFault::Shut,
-        }
-    }
-}
-
-impl From<ResponseFault> for StepFault {
-    ghost use Rattle.std.specs.Prelude.{◌≡◌};
-    ghost use Rattle.dn_run.specs.Faults.{response_fault};
-
-    ghost from_gives = { λ fault step. step ≡ response_fault fault };
-
-    fn from(fault: ResponseFault) -> StepFault {
-        match fault {
-            ResponseFault::Memory => StepFault::Run(RunFault::Memory),
-            _ => StepFault::Shut,
-        }
-    }
-}
-
-impl From<AckFault> for StepFault {
-    ghost use Rattle.std.specs.Prelude.{◌≡◌};
-    ghost use Rattle.dn_run.specs.declared.faults.StepFault.TheVariants.{Shut};
-
-    ghost from_gives = { λ _ step. step ≡ Shut };
-
-    fn from(_fault: AckFault) -> StepFault {
-        StepFault::Shut
     }
 }

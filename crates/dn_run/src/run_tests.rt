@@ -183,7 +183,7 @@ fn each_call_fails_in_turn(rt: HostRuntime) -> Result<(), Fail> {
     let table = [
         (Port::Script, 2, Exit::ScriptFault),
         (Port::Report, 1, Exit::ReportFault),
-        (Port::Roads, 15, Exit::RoadFault),
+        (Port::Roads, 22, Exit::RoadFault),
         (Port::Shelf, 12, Exit::ShelfFault { node: NodeId(0) }),
     ];
     for (port, calls, fault) in table {
@@ -199,7 +199,7 @@ fn each_call_fails_in_turn(rt: HostRuntime) -> Result<(), Fail> {
 #[test]
 fn receipts_fail_in_turn(rt: HostRuntime) -> Result<(), Fail> {
     let long = long_script(rt.alloc())?;
-    for number in 16..=25 {
+    for number in 23..=37 {
         let failing = Failing {
             port: Port::Roads,
             number,

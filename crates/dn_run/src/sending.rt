@@ -18,7 +18,7 @@ pub(crate) fn send<M: Message, O: LinkOut>(
     requires { M.fits message.now }
     ensures whole { IfOk result (λ n. n ≡ length (M.text message.now)) }
     ensures sent { OnOk result (IfSome (O.sent outward.old) (λ pieces. O.sent outward.new ≡ Some (pieces ++ M.text message.now ∷ []))) }
-    ensures spelled { OnOk result (M.spells message.now (M.text message.now)) }
+    ensures spelled { OnOk result (M.kind.spells message.now (M.text message.now)) }
     ensures flushed { O.flushed outward.new ≡ O.flushed outward.old }
     ensures lost { O.shut outward.old ≡ false → OnOk result (IfSome (O.sent outward.old) (λ _. O.lost outward.new ≡ O.lost outward.old)) }
     ensures shut { O.shut outward.new ≡ O.shut outward.old }

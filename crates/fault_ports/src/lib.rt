@@ -4,8 +4,6 @@
 
 mod certain;
 mod copies;
-#[cfg(test)]
-mod cut_tests;
 mod cutting;
 mod entries;
 mod fused;
@@ -20,8 +18,6 @@ mod passes;
 mod piece_counts;
 mod stop_at;
 mod stored_files;
-#[cfg(test)]
-mod tests;
 
 pub use cutting::Cutting;
 pub use fused::FusedDrawer;

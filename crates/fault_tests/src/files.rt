@@ -1,6 +1,6 @@
 //! Files at one outcome after another, at a stop, and under a list of calls.
 
-use crate::{Fused, Keep, LossyFiles, StopAt};
+use fault_ports::{Fused, Keep, LossyFiles, StopAt};
 use file_calls::{FileCall, perform};
 use hd_base::{Armed, BlockId, FileError, FileName, Files, Shelf};
 use mem_ports::MemShelf;

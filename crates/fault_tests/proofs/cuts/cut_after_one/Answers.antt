@@ -1,6 +1,6 @@
 -- The connections are known after the cut.
 use Rattle.fault_ports.proofs.StandingLaws.{known_after}
-use Rattle.fault_ports.proofs.cut_tests.cut_after_one.Goals as goal
+use Rattle.fault_tests.proofs.cuts.cut_after_one.Goals as goal
 
 pub taken-requires-clause-from : goal.taken-requires-clause-from
 taken-requires-clause-from g c κs within =
