@@ -3,8 +3,6 @@
 
 mod laws;
 mod packets;
-#[cfg(test)]
-mod tests;
 
 pub use laws::packets_follow_the_member;
 pub use packets::{Taken, pass_packet, take_packet, taken_as};

@@ -7,8 +7,6 @@ mod answers;
 mod laws;
 mod replies;
 mod sendings;
-#[cfg(test)]
-mod tests;
 mod turns;
 
 pub use acks::{FromBelow, take_ack};

@@ -3,12 +3,12 @@
 ghost use Rattle.std.specs.Prelude.{All};
 ghost use Rattle.hd_base.specs.Wire.{IsStatus};
 
-use crate::{FromBelow, Passed, take_ack};
 use ack_codec::{Ack, Replies};
 use bytes::Bytes;
 use hd_base::{BlockId, ConnId, NodeId, Receipt, Roads, Shelf, Stamp, Status, SumKind, SumRule};
 use mem_ports::{MemDrawer, MemRoads, MemShelf};
 use packet_codec::Packet;
+use packet_responder::{FromBelow, Passed, take_ack};
 use replica_core::Event;
 use replica_files::ReplicaBook;
 use std::alloc::{AllocError, Global};

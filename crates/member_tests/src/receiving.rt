@@ -1,6 +1,6 @@
 //! A packet at a middle member, over files and roads in memory.
 
-use crate::{Taken, take_packet};
+use block_receiver::{Taken, take_packet};
 use bytes::Bytes;
 use hd_base::{BlockId, ConnId, NodeId, Receipt, Roads, Shelf, Stamp, SumKind, SumRule};
 use mem_ports::{MemRoads, MemShelf};

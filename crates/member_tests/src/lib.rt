@@ -1,0 +1,7 @@
+//! Tests of the running member of a pipeline.
+#![tactic(auto)]
+
+#[cfg(test)]
+mod receiving;
+#[cfg(test)]
+mod responding;
