@@ -10,13 +10,13 @@ use std::alloc::{AllocError, Global};
 use std::test::Fail;
 
 /// The block.
-pub const BLOCK: BlockId = BlockId(7);
+pub(crate) const BLOCK: BlockId = BlockId(7);
 
 /// A book over files that stop at some call.
-pub type Book = ReplicaBook<StopAt<MemDrawer>>;
+pub(crate) type Book = ReplicaBook<StopAt<MemDrawer>>;
 
 /// The book of an absent replica over no files, which pass so many calls and stop at the next.
-pub fn new_book(alloc: Global, calls: u64, keep: Keep) -> Result<Book, Fail> {
+pub(crate) fn new_book(alloc: Global, calls: u64, keep: Keep) -> Result<Book, Fail> {
     let mut shelf = MemShelf::new(alloc, &[])?;
     let drawer = shelf.lend(alloc, BLOCK)?;
     match ReplicaBook::new(alloc, BLOCK, StopAt::new(drawer, calls, keep)) {
@@ -26,7 +26,7 @@ pub fn new_book(alloc: Global, calls: u64, keep: Keep) -> Result<Book, Fail> {
 }
 
 /// The block's receipt with this number.
-pub fn receipt(index: u64) -> Receipt {
+pub(crate) fn receipt(index: u64) -> Receipt {
     Receipt {
         block: BLOCK,
         index,
@@ -34,7 +34,7 @@ pub fn receipt(index: u64) -> Receipt {
 }
 
 /// A packet that isn't the last one and asks for no sync.
-pub fn packet(
+pub(crate) fn packet(
     alloc: Global,
     seqno: i64,
     offset: i64,
@@ -52,7 +52,7 @@ pub fn packet(
 }
 
 /// Gives a book a packet, where there is room for one.
-pub fn take(book: &mut Book, conn: ConnId, packet: &Packet) -> Result<Receipt, BookFault> {
+pub(crate) fn take(book: &mut Book, conn: ConnId, packet: &Packet) -> Result<Receipt, BookFault> {
     if book.replica().is_full() {
         return Err(BookFault::Memory);
     }
