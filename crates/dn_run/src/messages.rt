@@ -1,5 +1,5 @@
-//! Messages that go over a connection, one behind the other: how each kind is written, and how it
-//! is taken from a stream of bytes.
+//! Messages that go over a connection, one behind the other: how each kind is written, and how a
+//! feed gives the next one.
 
 use ack_codec::{Ack, AckBytes, Response, encode_ack, encode_response};
 use frame_feed::{Feed, FeedFault};
@@ -8,7 +8,7 @@ use packet_codec::{Packet, encode_packet};
 use std::alloc::{AllocError, Global};
 
 /// A kind of message.
-pub(crate) trait Message: Sized + Drop {
+pub trait Message: Sized + Drop {
     ghost use Rattle.std.specs.Prelude.{◌≡◌, List, ℕ, IfOk, OnOk};
     ghost use Rattle.frame_feed.specs.Kinds.{Kind, IsSound};
     ghost use Rattle.frame_feed.specs.Feeds.{TakesNext};

@@ -10,7 +10,7 @@ use std::alloc::Global;
 
 /// Sends a message in its written spelling, as one piece where the link takes it whole, and answers
 /// how many bytes the link took in all.
-pub(crate) fn send<M: Message, O: LinkOut>(
+pub fn send<M: Message, O: LinkOut>(
     alloc: Global,
     message: &M,
     outward: &mut O,

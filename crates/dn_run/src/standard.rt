@@ -18,9 +18,11 @@ const SHELVES: usize = 16;
 
 /// A reader as a source, which tells nothing.
 #[derive(Drop)]
-pub(crate) struct Reading<R> {
-    pub(crate) inner: R,
-    pub(crate) faults: u64,
+pub struct Reading<R> {
+    /// The reader.
+    pub inner: R,
+    /// How many reads failed.
+    pub faults: u64,
 }
 
 impl<R: Read + Drop> Source for Reading<R> {
@@ -43,9 +45,11 @@ impl<R: Read + Drop> Source for Reading<R> {
 
 /// A writer as a sink, which tells nothing and takes no memory.
 #[derive(Drop)]
-pub(crate) struct Writing<W> {
-    pub(crate) inner: W,
-    pub(crate) faults: u64,
+pub struct Writing<W> {
+    /// The writer.
+    pub inner: W,
+    /// How many writes failed.
+    pub faults: u64,
 }
 
 impl<W: Write + Drop> Sink for Writing<W> {

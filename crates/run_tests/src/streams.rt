@@ -2,11 +2,11 @@
 
 ghost use Rattle.std.specs.Prelude.{None};
 
-use crate::faults::RunFault;
-use crate::sending::send;
-use crate::standard::{Reading, Writing};
-use crate::streams::{ReadFault, WriteFault, read_to_end, write_all};
 use ack_codec::{Ack, Replies};
+use dn_run::faults::RunFault;
+use dn_run::sending::send;
+use dn_run::standard::{Reading, Writing};
+use dn_run::streams::{ReadFault, WriteFault, read_to_end, write_all};
 use hd_base::{LinkError, LinkOut, Status};
 use std::alloc::Global;
 use std::io::{self, ErrorKind, Read, Write};

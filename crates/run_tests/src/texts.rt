@@ -1,7 +1,7 @@
 //! Scripts and reports from worked examples.
 
-use crate::report::{CloseAnswer, CreateAnswer, ReplicaEntry, WriteReport, report_text};
-use crate::script::read_script;
+use dn_run::report::{CloseAnswer, CreateAnswer, ReplicaEntry, WriteReport, report_text};
+use dn_run::script::read_script;
 use hd_base::{BlockId, NodeId, ReplicaState, Stamp};
 use std::test::Fail;
 
@@ -12,24 +12,23 @@ const WRITES: &[u8] =
 /// The same without the write.
 const EMPTY: &[u8] = b"nodes 1\nseed 0\ncreate 1073741825 0\nclose 1073741825\n";
 
-#[test]
-fn scripts_are_read(rt: HostRuntime) -> Result<(), Fail> {
-    let script = read_script(rt.alloc(), WRITES)?.ok_or("a script")?;
-    assert_eq!(rt; (script.seed, script.block), (0, BlockId(1073741825)));
-    let body = script.body.ok_or("a write")?;
-    assert_eq!(rt; body.as_slice(), b"123456789".as_slice());
-    let script = read_script(rt.alloc(), EMPTY)?.ok_or("a script")?;
-    assert!(rt; script.body.is_none());
-    Ok(())
-}
+/// The same with other spellings of numbers and digits.
+const SPELLED: &[u8] =
+    b"nodes 0001\nseed 018446744073709551615\ncreate 07 00\nwrite 7 aBfFF0\nclose 007\n";
 
 #[test]
-fn numbers_and_digits_have_many_spellings(rt: HostRuntime) -> Result<(), Fail> {
-    let text = b"nodes 0001\nseed 018446744073709551615\ncreate 07 00\nwrite 7 aBfFF0\nclose 007\n";
-    let script = read_script(rt.alloc(), text)?.ok_or("a script")?;
-    assert_eq!(rt; (script.seed, script.block), (u64::MAX, BlockId(7)));
-    let body = script.body.ok_or("a write")?;
-    assert_eq!(rt; body.as_slice(), b"\xab\xff\xf0".as_slice());
+fn scripts_are_read(rt: HostRuntime) -> Result<(), Fail> {
+    let table: [(&[u8], u64, BlockId, Option<&[u8]>); 3] = [
+        (WRITES, 0, BlockId(1073741825), Some(b"123456789")),
+        (EMPTY, 0, BlockId(1073741825), None),
+        (SPELLED, u64::MAX, BlockId(7), Some(b"\xab\xff\xf0")),
+    ];
+    for (text, seed, block, body) in table {
+        let script = read_script(rt.alloc(), text)?.ok_or("a script")?;
+        assert_eq!(rt; (script.seed, script.block), (seed, block));
+        let read = script.body.as_ref().map(|bytes| bytes.as_slice());
+        assert_eq!(rt; read, body);
+    }
     Ok(())
 }
 

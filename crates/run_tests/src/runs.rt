@@ -3,11 +3,12 @@
 
 ghost use Rattle.std.specs.Prelude.{◌<◌, length, IfOk};
 
-use crate::exits::{BadKind, Exit, UsageRule};
-use crate::run::run;
+use dn_run::exits::{BadKind, Exit, UsageRule};
+use dn_run::run::run;
 use hd_base::{BlockId, ConnId, FileName, Files, NodeId, Shelf};
 use mem_ports::{MemRoads, MemShelf, MemSink, MemSource};
 use std::alloc::Global;
+use std::process::Abort;
 use std::test::Fail;
 
 /// A script of one write of nine bytes.
@@ -115,27 +116,15 @@ fn long_script(alloc: Global) -> Result<Vec<u8>, Fail> {
 }
 
 #[test]
-fn examples_are_reported(rt: HostRuntime) -> Result<(), Fail> {
-    let long = long_script(rt.alloc())?;
-    let table: [(&[u8], &[u8]); 3] = [
-        (NINE, NINE_REPORT),
-        (EMPTY, EMPTY_REPORT),
-        (&long, LONG_REPORT),
+fn examples_are_run(rt: HostRuntime) -> Result<(), Fail> {
+    let table = [
+        (NINE, NINE_REPORT, NINE_DOWN, NINE_UP),
+        (EMPTY, EMPTY_REPORT, EMPTY_DOWN, EMPTY_UP),
     ];
-    for (script, report) in table {
+    for (script, report, down, up) in table {
         let left = run_one(rt.alloc(), "play", script, NONE)?;
         assert_eq!(rt; left.exit, Exit::Done);
         assert_eq!(rt; left.report.bytes(), report);
-    }
-    Ok(())
-}
-
-#[test]
-fn messages_are_carried(rt: HostRuntime) -> Result<(), Fail> {
-    let table = [(NINE, NINE_DOWN, NINE_UP), (EMPTY, EMPTY_DOWN, EMPTY_UP)];
-    for (script, down, up) in table {
-        let left = run_one(rt.alloc(), "play", script, NONE)?;
-        assert_eq!(rt; left.exit, Exit::Done);
         let carried = left.roads.carried_bytes(rt.alloc(), ConnId(0), true)?;
         assert_eq!(rt; carried.as_slice(), down);
         let carried = left.roads.carried_bytes(rt.alloc(), ConnId(0), false)?;
@@ -178,36 +167,42 @@ fn both_files_are_stored(rt: HostRuntime) -> Result<(), Fail> {
     Ok(())
 }
 
-#[test]
-fn each_call_fails_in_turn(rt: HostRuntime) -> Result<(), Fail> {
-    let table = [
-        (Port::Script, 2, Exit::ScriptFault),
-        (Port::Report, 1, Exit::ReportFault),
-        (Port::Roads, 22, Exit::RoadFault),
-        (Port::Shelf, 12, Exit::ShelfFault { node: NodeId(0) }),
-    ];
-    for (port, calls, fault) in table {
-        for number in 1..=calls + 1 {
-            let left = run_one(rt.alloc(), "play", NINE, Failing { port, number })?;
-            let wanted = if number <= calls { fault } else { Exit::Done };
-            assert_eq!(rt; left.exit, wanted, "call {number}");
-        }
+/// Runs a script with each call of a port failing in turn, and then with the call behind the last
+/// one failing, which is never made. Gives what that run leaves.
+fn fail_in_turn(
+    rt: &impl Abort,
+    alloc: Global,
+    script: &[u8],
+    port: Port,
+    end: u64,
+    fault: Exit,
+) -> Result<Left, Fail> {
+    for number in 1..end {
+        let left = run_one(alloc, "play", script, Failing { port, number })?;
+        assert_eq!(rt; left.exit, fault, "call {number}");
     }
-    Ok(())
+    let left = run_one(alloc, "play", script, Failing { port, number: end })?;
+    assert_eq!(rt; left.exit, Exit::Done);
+    Ok(left)
 }
 
 #[test]
-fn receipts_fail_in_turn(rt: HostRuntime) -> Result<(), Fail> {
+fn each_call_fails_in_turn(rt: HostRuntime) -> Result<(), Fail> {
+    let shelf = Exit::ShelfFault { node: NodeId(0) };
+    fail_in_turn(&rt, rt.alloc(), NINE, Port::Script, 3, Exit::ScriptFault)?;
+    fail_in_turn(&rt, rt.alloc(), NINE, Port::Report, 2, Exit::ReportFault)?;
+    fail_in_turn(&rt, rt.alloc(), NINE, Port::Shelf, 13, shelf)?;
+    Ok(())
+}
+
+/// Roads count their calls, and each half of an end its own, from the three on that make the
+/// connection. The member receives the long script's messages in 34 calls: byte by byte until a
+/// message's length shows, and then 4,096 bytes at most.
+#[test]
+fn each_call_on_the_roads_fails_in_turn(rt: HostRuntime) -> Result<(), Fail> {
     let long = long_script(rt.alloc())?;
-    for number in 23..=37 {
-        let failing = Failing {
-            port: Port::Roads,
-            number,
-        };
-        let left = run_one(rt.alloc(), "play", &long, failing)?;
-        assert_eq!(rt; left.exit, Exit::RoadFault, "call {number}");
-        assert!(rt; left.report.bytes().is_empty());
-    }
+    let left = fail_in_turn(&rt, rt.alloc(), &long, Port::Roads, 38, Exit::RoadFault)?;
+    assert_eq!(rt; left.report.bytes(), LONG_REPORT);
     Ok(())
 }
 
