@@ -13,6 +13,7 @@ use Rattle.hd_base.specs.declared.states.ReplicaState.{ReplicaState}
 use Rattle.hd_base.specs.declared.states.ReplicaState.TheVariants as state
 use Rattle.replica_core.specs.declared.ack_queue.PendingPacket.{PendingPacket}
 use Rattle.replica_core.specs.declared.events.Answer.{Answer}
+use Rattle.replica_core.specs.declared.events.Answer.TheVariants as answer
 use Rattle.replica_core.specs.declared.events.Event.{Event}
 use Rattle.replica_core.specs.declared.events.Event.TheVariants as event
 use Rattle.replica_core.specs.declared.extents.PacketExtent.{PacketExtent}
@@ -157,7 +158,7 @@ OpenFrom o None = Unit {0}
 OpenFrom None (Some k) = k.original ≡ state.Rbw → ⊥
 OpenFrom (Some i) (Some k) = k.original ≡ state.Rbw → (i.original ≡ state.Rbw) × (k.stamp ≡ i.stamp)
 
-open-same : (o : Option ReplicaInfo) → OpenFrom o o
+pub open-same : (o : Option ReplicaInfo) → OpenFrom o o
 open-same None = tt
 open-same (Some i) = λ e. (e, refl)
 
@@ -277,8 +278,8 @@ pub record IsTaken (c d : ReplicaRecord) : Type 0 where
   pub is : d.info ≡ Some info
 
 -- an outcome: refused, or taken so
-abbrev TakenOr : ReplicaRecord → Outcome → Type 0
-TakenOr c (Ok t) = IsTaken c t.replica
+abbrev pub TakenOr : ReplicaRecord → Outcome → Type 0
+TakenOr c (Ok t) = IsTaken c t.replica × (t.answer ≡ answer.Done)
 TakenOr c (Err e) = Unit {0}
 
 taken-there : (c : ReplicaRecord) (next : ReplicaInfo → Outcome) → ((i : ReplicaInfo) → c.is_broken ≡ false → TakenOr c (next i)) → TakenOr c (present c >>= next)
@@ -289,7 +290,7 @@ taken-there c next onward = go (present c) refl
     go (Err x) e = tt
 
 taken-writer : (c : ReplicaRecord) (writer : Option ConnId) (r : Result ReplicaInfo Refusal) → c.is_broken ≡ false → TakenOr c (with_writer c writer r)
-taken-writer c writer (Ok k) h = record { whole = h; info = k; is = refl }
+taken-writer c writer (Ok k) h = (record { whole = h; info = k; is = refl }, refl)
 taken-writer c writer (Err e) h = tt
 
 abbrev pub IsSetup : Event → Type 0
@@ -304,14 +305,14 @@ new-taken : (c : ReplicaRecord) (conn : ConnId) (t : Stamp) (r : Rule) → Taken
 new-taken c conn t r = first c.is_broken refl
   where
     second : (b : Bool) → c.is_broken ≡ false → TakenOr c (if b then done (set_writer c (settled_at state.Rbw t r 0) (Some conn)) else Err refusal.Exists)
-    second true h = record { whole = h; info = settled_at state.Rbw t r 0; is = refl }
+    second true h = (record { whole = h; info = settled_at state.Rbw t r 0; is = refl }, refl)
     second false h = tt
 
     first : (b : Bool) → c.is_broken ≡ b → TakenOr c (if not b then (if is_none c.info then done (set_writer c (settled_at state.Rbw t r 0) (Some conn)) else Err refusal.Exists) else Err refusal.Broken)
     first true h = tt
     first false h = second (is_none c.info) h
 
-event-taken : (c : ReplicaRecord) (e : Event) → IsSetup e → TakenOr c (transition c e)
+pub event-taken : (c : ReplicaRecord) (e : Event) → IsSetup e → TakenOr c (transition c e)
 unfolding transition
 event-taken c (event.Create conn t r) k = new-taken c conn t r
 event-taken c (event.Append conn named new n) k = taken-there c _ (λ i h. taken-writer c (Some conn) (reopen i named new n) h)
@@ -327,3 +328,35 @@ event-taken c (event.Update id n) k = absurd k
 event-taken c (event.Read named offset n) k = absurd k
 event-taken c (event.Give named offset n) k = absurd k
 event-taken c event.FileFault k = absurd k
+
+pub lasting-of : (e : Event) → IsNoSetup e → IsLasting e
+lasting-of (event.Create conn t r) k = tt
+lasting-of (event.Temporary conn t r) k = absurd k
+lasting-of (event.Append conn named new n) k = tt
+lasting-of (event.AppendRecovery conn named new n) k = tt
+lasting-of (event.StreamRecovery conn named new low high) k = tt
+lasting-of (event.CloseRecovery named new n) k = tt
+lasting-of (event.Packet conn seqno offset n sums last sync bad) k = tt
+lasting-of (event.Ack conn seqno good) k = tt
+lasting-of (event.Ended conn) k = tt
+lasting-of (event.Init named id) k = tt
+lasting-of (event.Update id n) k = tt
+lasting-of (event.Read named offset n) k = tt
+lasting-of (event.Give named offset n) k = tt
+lasting-of event.FileFault k = tt
+
+pub lasting-setup : (e : Event) → IsSetup e → IsLasting e
+lasting-setup (event.Create conn t r) k = tt
+lasting-setup (event.Temporary conn t r) k = absurd k
+lasting-setup (event.Append conn named new n) k = tt
+lasting-setup (event.AppendRecovery conn named new n) k = tt
+lasting-setup (event.StreamRecovery conn named new low high) k = tt
+lasting-setup (event.CloseRecovery named new n) k = tt
+lasting-setup (event.Packet conn seqno offset n sums last sync bad) k = tt
+lasting-setup (event.Ack conn seqno good) k = tt
+lasting-setup (event.Ended conn) k = tt
+lasting-setup (event.Init named id) k = tt
+lasting-setup (event.Update id n) k = tt
+lasting-setup (event.Read named offset n) k = tt
+lasting-setup (event.Give named offset n) k = tt
+lasting-setup event.FileFault k = tt
