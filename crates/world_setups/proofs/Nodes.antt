@@ -13,9 +13,9 @@ use Rattle.world.specs.Worlds.{World, Change, put_at, apply}
 use Rattle.world.specs.Nodes.{first_break}
 use Rattle.world.specs.Safe.{Has}
 use Rattle.world_facts.proofs.Tables.{if-each, and-left, and-right, some-weaker}
-use Rattle.world_stamps.specs.Stamping.{Givens, Recorded}
+use Rattle.world_stamps.specs.Stamping.{Givens}
 use Rattle.world_bytes.specs.Carrying.{Holds, ReplicaSays, Carried}
-use Rattle.world_setups.specs.Joining.{joined_as, AtLeast, IsPlain, Rises, HasReached, IsSetUp, BreakReached, SetUps}
+use Rattle.world_setups.specs.Joining.{joined_as, AtLeast, IsPlain, Rises, HasReached, IsSetUp, BreakReached, IsGiven, SetUps}
 use Rattle.world_setups.proofs.Rising.{Goes, goes-same, OpenFrom, open-same}
 use Rattle.world_setups.proofs.Untouching.{Untouched}
 
@@ -78,7 +78,7 @@ pub record NodeJoins (w : World) (k : Change) : Type 0 where
 
 -- THE FRAME
 
-rises-then : (o p : Option ReplicaInfo) (s : ℕ) → Rises o p → AtLeast o s → AtLeast p s
+pub rises-then : (o p : Option ReplicaInfo) (s : ℕ) → Rises o p → AtLeast o s → AtLeast p s
 rises-then None p s r a = absurd (none-some a.info a.is)
 rises-then (Some i) p s r a = record { info = r.info; is = r.is; least = omega (arith, a.least, r.least, ap (λ (x : ReplicaInfo). x.stamp.0) (same_Some i a.info a.is)) }
 
@@ -101,13 +101,33 @@ stamp-given g w k c =
     at : (f : ℕ → ℕ → FullReplica) (r : FullReplica) → put_at f k.node k.block r k.node k.block ≡ r
     at f r = ap (λ (b : Bool). if b && k.block == k.block then r else f k.node k.block) (eq k.node) ∙ ap (λ (b : Bool). if b then r else f k.node k.block) (eq k.block)
 
--- what the other replicas have reached stays so
-others-reached : (g : Givens) (w : World) (k : Change) → Recorded g w → Carried g (apply w k) → Joining w k → (n b : ℕ) → (n ≡ k.node → b ≡ k.block → ⊥) → (o : Option ReplicaInfo) → HasReached g w.joined n b o → HasReached g (w.joined ++ k.joined) n b o
-others-reached g w k i c (quiet e opens whole) n b apart o h = record { least = λ s l d q j. h.least s l d (back s l q) j }
+-- a stamp is given for one block
+abbrev pub IsOfOne : Givens → Type 0
+IsOfOne g = (b c t e f : ℕ) → g b t ≡ Some e → g c t ≡ Some f → b ≡ c
+
+-- where nothing is joined
+back-joined : (w : World) (k : Change) (x : Joined) → k.joined ≡ [] → Has (w.joined ++ k.joined) x → Has w.joined x
+back-joined w k x e q = subst (λ (xs : List Joined). Has xs x) (ap (λ (ys : List Joined). w.joined ++ ys) e ∙ append-nil w.joined) q
+
+-- what is joined in a setup
+split-joined : (w : World) (k : Change) (i : ReplicaInfo) (x : Joined) → k.joined ≡ joined_as i.stamp.0 k.node (w.lives k.node) ∷ [] → Has (w.joined ++ k.joined) x → Has w.joined x ⊎ (joined_as i.stamp.0 k.node (w.lives k.node) ≡ x)
+split-joined w k i x e q = has-split w.joined (joined_as i.stamp.0 k.node (w.lives k.node)) x (subst (λ (ys : List Joined). Has (w.joined ++ ys) x) e q)
+
+more-given : (g : Givens) (w : World) (k : Change) → Carried g (apply w k) → Joining w k → ((s n l : ℕ) → Has w.joined (joined_as s n l) → IsGiven g s) → (s n l : ℕ) → Has (w.joined ++ k.joined) (joined_as s n l) → IsGiven g s
+more-given g w k c (quiet e opens whole) h s n l q = h s n l (back-joined w k (joined_as s n l) e q)
+more-given g w k c (taken x is whole e broke) h s n l q = go (split-joined w k x (joined_as s n l) e q)
   where
-    back : (s l : ℕ) → Has (w.joined ++ k.joined) (joined_as s n l) → Has w.joined (joined_as s n l)
-    back s l q = subst (λ (xs : List Joined). Has xs (joined_as s n l)) (ap (λ (ys : List Joined). w.joined ++ ys) e ∙ append-nil w.joined) q
-others-reached g w k i c (taken x is whole e broke) n b apart o h = record { least = λ s l d q j. go s l d j (has-split w.joined (joined_as x.stamp.0 k.node (w.lives k.node)) (joined_as s n l) (subst (λ (ys : List Joined). Has (w.joined ++ ys) (joined_as s n l)) e q)) }
+    own : (s : ℕ) × (g k.block x.stamp.0 ≡ Some s)
+    own = subst (λ (o : Option ReplicaInfo). IfSome o (λ i. (s : ℕ) × (g k.block i.stamp.0 ≡ Some s))) is (stamp-given g w k c)
+
+    go : Has w.joined (joined_as s n l) ⊎ (joined_as x.stamp.0 k.node (w.lives k.node) ≡ joined_as s n l) → IsGiven g s
+    go (inl j) = h s n l j
+    go (inr j) = record { block = k.block; session = own.0; is = ap (λ (t : ℕ). g k.block t) (sym (ap (λ (z : Joined). z.stamp) j)) ∙ own.1 }
+
+-- what the other replicas have reached stays so
+others-reached : (g : Givens) (w : World) (k : Change) → IsOfOne g → Carried g (apply w k) → Joining w k → (n b : ℕ) → (n ≡ k.node → b ≡ k.block → ⊥) → (o : Option ReplicaInfo) → HasReached g w.joined n b o → HasReached g (w.joined ++ k.joined) n b o
+others-reached g w k i c (quiet e opens whole) n b apart o h = record { least = λ s l d q j. h.least s l d (back-joined w k (joined_as s n l) e q) j }
+others-reached g w k i c (taken x is whole e broke) n b apart o h = record { least = λ s l d q j. go s l d j (split-joined w k x (joined_as s n l) e q) }
   where
     own : (s : ℕ) × (g k.block x.stamp.0 ≡ Some s)
     own = subst (λ (o : Option ReplicaInfo). IfSome o (λ i. (s : ℕ) × (g k.block i.stamp.0 ≡ Some s))) is (stamp-given g w k c)
@@ -117,16 +137,16 @@ others-reached g w k i c (taken x is whole e broke) n b apart o h = record { lea
     go s l d j (inr q) =
         let stamp : x.stamp.0 ≡ s = ap (λ (z : Joined). z.stamp) q in
         let node : k.node ≡ n = ap (λ (z : Joined). z.node) q in
-        absurd (apart (sym node) (i.one b k.block s d own.0 j (ap (λ (t : ℕ). g k.block t) (sym stamp) ∙ own.1)))
+        absurd (apart (sym node) (i b k.block s d own.0 j (ap (λ (t : ℕ). g k.block t) (sym stamp) ∙ own.1)))
 
 own-reached : (g : Givens) (w : World) (k : Change) → HasReached g w.joined k.node k.block (w.replicas k.node k.block).known.info → Goes (w.replicas k.node k.block).known.info k.replica.known.info → Joining w k
     → HasReached g (w.joined ++ k.joined) k.node k.block k.replica.known.info
 own-reached g w k h r (quiet e opens whole) = record {
   least = λ s l d q j. rises-then (w.replicas k.node k.block).known.info k.replica.known.info s r.rises
-      (h.least s l d (subst (λ (xs : List Joined). Has xs (joined_as s k.node l)) (ap (λ (ys : List Joined). w.joined ++ ys) e ∙ append-nil w.joined) q) j);
+      (h.least s l d (back-joined w k (joined_as s k.node l) e q) j);
 }
 own-reached g w k h r (taken x is whole e broke) = record {
-  least = λ s l d q j. go s l d j (has-split w.joined (joined_as x.stamp.0 k.node (w.lives k.node)) (joined_as s k.node l) (subst (λ (ys : List Joined). Has (w.joined ++ ys) (joined_as s k.node l)) e q));
+  least = λ s l d q j. go s l d j (split-joined w k x (joined_as s k.node l) e q);
 }
   where
     go : (s l d : ℕ) → g k.block s ≡ Some d → Has w.joined (joined_as s k.node l) ⊎ (joined_as x.stamp.0 k.node (w.lives k.node) ≡ joined_as s k.node l) → AtLeast k.replica.known.info s
@@ -207,9 +227,10 @@ put-at-split {A} P f a c x h q n b =
     (λ e. subst (λ (m : ℕ). P m b x) (sym (eqb-true n a (and-left (n == a) (b == c) e))) (subst (λ (m : ℕ). P a m x) (sym (eqb-true b c (and-right (n == a) (b == c) e))) h))
     (λ e. q n b (both-false a c n b e))
 
-pub node-joins : (g : Givens) (w : World) (k : Change) → SetUps g w → Recorded g w → Carried g (apply w k) → NodeJoins w k → SetUps g (apply w k)
+pub node-joins : (g : Givens) (w : World) (k : Change) → SetUps g w → IsOfOne g → Carried g (apply w k) → NodeJoins w k → SetUps g (apply w k)
 unfolding apply
 node-joins g w k h i c n = record {
+  given = more-given g w k c n.joins h.given;
   reached = put-at-split (λ (m b : ℕ) (r : FullReplica). HasReached g (w.joined ++ k.joined) m b r.known.info) w.replicas k.node k.block k.replica
       (own-reached g w k (h.reached k.node k.block) n.goes n.joins) (λ m b apart. others-reached g w k i c n.joins m b apart (w.replicas m b).known.info (h.reached m b));
   plain = put-at-split (λ (m b : ℕ) (r : FullReplica). IfSome r.known.info IsPlain) w.replicas k.node k.block k.replica n.goes.plain (λ m b apart. h.plain m b);

@@ -46,7 +46,14 @@ pub record BreakReached (g : Givens) (joined : List Joined) (n b : ℕ) (r : Ful
   pub rises : Rises x.before.known.info (row x.before x.event).known.info
   pub broken : r.known.is_broken ≡ true
 
+-- the stamp was given for some block
+pub record IsGiven (g : Givens) (stamp : ℕ) : Type 0 where
+  pub block : ℕ
+  pub session : ℕ
+  pub is : g block stamp ≡ Some session
+
 pub record SetUps (g : Givens) (w : World) : Type 0 where
+  pub given : (s n l : ℕ) → Has w.joined (joined_as s n l) → IsGiven g s
   pub reached : (n b : ℕ) → HasReached g w.joined n b (w.replicas n b).known.info
   pub plain : (n b : ℕ) → IfSome (w.replicas n b).known.info IsPlain
   pub writes : (n b : ℕ) → IsSetUp w.joined (w.lives n) (w.running n) n (w.replicas n b)
