@@ -1,5 +1,5 @@
 -- Setups are kept, after every list of events.
-use Rattle.std.proofs.Common.{◌≡◌, ℕ, ◌<◌, Bool, true, false, List, [], ◌∷◌, slice_get, Option, Some, None, IfSome, refl, sym, ◌∙◌, ap, subst, arith, eqb-true}
+use Rattle.std.proofs.Common.{◌≡◌, ℕ, ◌<◌, Bool, true, false, List, [], ◌∷◌, Option, Some, None, IfSome, refl, sym, subst, arith, eqb-true}
 use Rattle.std.specs.Prelude.{◌==◌, ◌&&◌, not, nat_lt, if◌then◌else◌}
 use Rattle.std.proofs.lemmas.Bool.Decides.{nat_tests}
 use Rattle.std.proofs.lemmas.Bool.{false≢true}
@@ -13,16 +13,16 @@ use Rattle.world.specs.declared.events.Event.{Event}
 use Rattle.world.specs.declared.events.Event.TheVariants as event
 use Rattle.world.specs.declared.events.OwnStep.{OwnStep}
 use Rattle.world.specs.declared.events.OwnStep.TheVariants as own
-use Rattle.world.specs.Parts.{Upper, by_writer, by_member, by_reader, by_primary, Break, Joined}
+use Rattle.world.specs.Parts.{Upper, by_writer, by_member, by_reader, by_primary, Joined}
 use Rattle.world.specs.Worlds.{World, Change, Stamped, put, apply, start}
 use Rattle.world.specs.Connections.{Next, next_down, next_up, down_taken, up_taken, is_alive, is_served}
-use Rattle.world.specs.Nodes.{node_of, lower_down, lower_ready, mirror_up}
+use Rattle.world.specs.Nodes.{node_of, lower_down, lower_ready}
 use Rattle.world.specs.Clients.{writer_up, reader_up}
 use Rattle.world.specs.Primaries.{primary_up, office_event}
 use Rattle.world.specs.Restarts.{all_found, restart}
 use Rattle.world.specs.Events.{changed, own_change, down_as, down_event, ready_event, unless_fails, upper_up, up_as, up_event, fault_event, lost, stop, where_so, outcome, after_event, happens, run}
 use Rattle.world.specs.Safe.{Has}
-use Rattle.world_facts.proofs.Tables.{if-each, when-each, and-left, and-right, some-weaker}
+use Rattle.world_facts.proofs.Tables.{if-each, when-each, and-right, some-weaker}
 use Rattle.world_stamps.specs.Stamping.{Givens, none_given, given_with, stamped_in, given_by, given_in, Recorded}
 use Rattle.world_stamps.proofs.AllRecorded.{happens-recorded, Reached, reached-next, reached-agreed, start-recorded}
 use Rattle.world_stamps.proofs.Recording.{Agreed}
@@ -31,7 +31,7 @@ use Rattle.world_bytes.proofs.Leaves.{Facts}
 use Rattle.world_bytes.proofs.Ends.{lower-ready-keeps}
 use Rattle.world_bytes.proofs.Offices.{office-event-keeps}
 use Rattle.world_bytes.proofs.AllCarried.{changed-carried, down-as-carried, up-as-carried, own-keeps, office-carried, happens-carried, reached-facts, at-start, start-carried}
-use Rattle.world_setups.specs.Joining.{joined_as, AtLeast, HasReached, IsSetUp, BreakReached, IsGiven, SetUps}
+use Rattle.world_setups.specs.Joining.{joined_as, HasReached, BreakReached, IsGiven, SetUps}
 use Rattle.world_setups.proofs.Untouching.{Untouched, own-writer-untouched, writer-up-untouched, own-reader-untouched, reader-up-untouched, own-recover-untouched, own-primary-untouched, primary-up-untouched, office-untouched}
 use Rattle.world_setups.proofs.Nodes.{NodeJoins, IsOfOne, node-joins}
 use Rattle.world_setups.proofs.Lowers.{Plain, lower-down-joins, lower-ready-joins, mirror-up-joins, untouched-joins}

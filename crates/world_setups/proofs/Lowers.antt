@@ -1,6 +1,6 @@
 -- What lower ends make of the setups that their nodes accepted.
 use Rattle.std.proofs.Common.{◌≡◌, ℕ, Bool, true, false, List, [], ◌∷◌, ◌++◌, length, take, Option, Some, None, IfSome, Result, Ok, Err, IfOk, refl, sym, ◌∙◌, ap, subst}
-use Rattle.std.specs.Prelude.{◌==◌, ◌&&◌, nat_le, option_map, if◌then◌else◌}
+use Rattle.std.specs.Prelude.{◌==◌, nat_le, option_map, if◌then◌else◌}
 use Rattle.std.proofs.lemmas.Bool.{false≢true}
 use Rattle.std.proofs.lemmas.Option.{none-some}
 use Rattle.hd_base.specs.Results.{◌>>=◌}
@@ -15,7 +15,6 @@ use Rattle.op_headers.specs.declared.ops.RecoveryKind.TheVariants as recovery_ki
 use Rattle.op_headers.specs.declared.ops.RecoveryOp.{RecoveryOp}
 use Rattle.op_headers.specs.Values.{WriteFields}
 use Rattle.packet_codec.specs.declared.packets.Packet.{Packet}
-use Rattle.replica_core.specs.declared.events.Answer.{Answer}
 use Rattle.replica_core.specs.declared.events.Event.{Event}
 use Rattle.replica_core.specs.declared.events.Event.TheVariants as event
 use Rattle.replica_core.specs.declared.info.ReplicaInfo.{ReplicaInfo}
@@ -25,7 +24,7 @@ use Rattle.replica_core.specs.Transitions as core
 use Rattle.replica_core.specs.Views.{rule_in, written_in, stamp_in}
 use Rattle.replica_model.specs.declared.events.ReplicaEvent.{ReplicaEvent}
 use Rattle.replica_model.specs.declared.events.ReplicaEvent.TheVariants as replica_event
-use Rattle.replica_model.specs.Rows.{FullReplica, row, row_answer, broken, event_at}
+use Rattle.replica_model.specs.Rows.{FullReplica, row, broken, event_at}
 use Rattle.request_refusals.specs.declared.refusals.RequestRefusal.{RequestRefusal}
 use Rattle.request_refusals.specs.declared.refusals.RequestRefusal.TheVariants as refusal
 use Rattle.request_refusals.specs.Pools.{is_in_pool}
@@ -37,24 +36,24 @@ use Rattle.member_core.specs.declared.requests.TheConstants.{MAX_BELOW}
 use Rattle.member_core.specs.declared.turns.Turn.{Turn}
 use Rattle.member_core.specs.Members.{MemberState, down_turn, up_turn, hears}
 use Rattle.member_core.specs.Requests.{setup_with, rule_for, named_setup, named_rule, setup_event, request_event}
-use Rattle.member_core.specs.Steps.{Step, Setup, step, faulted_step, replica_after, request_at, booked_request, refused_by, request_step, faulted_request, oldest_at, ready_turn_at}
+use Rattle.member_core.specs.Steps.{Step, Setup, step, faulted_step, replica_after, request_at, booked_request, refused_by, faulted_request, oldest_at, ready_turn_at}
 use Rattle.read_core.specs.Servings.{ServingState, read_at, read_event, next_call, call_at, piece_at}
 use Rattle.read_core.specs.declared.serving.ServePhase.{ServePhase}
 use Rattle.read_core.specs.declared.serving.ServePhase.TheVariants as serve_phase
 use Rattle.world_setups.proofs.Untouching.{Untouched}
 use Rattle.recovery_core.specs.declared.members.RecoveryReply.{RecoveryReply}
-use Rattle.recovery_core.specs.Members.{Served, no_recovery, step_event, recovery_event, served_as, serve, serve_faulted}
-use Rattle.world.specs.Parts.{Message, request, packet, ack, response, read_status, recovery_answer, FullMember, Lower, idle, writes, serves, recovers, ended_below, Break, Joined}
+use Rattle.recovery_core.specs.Members.{no_recovery, step_event, recovery_event, served_as, serve_faulted}
+use Rattle.world.specs.Parts.{Message, request, packet, ack, response, read_status, recovery_answer, FullMember, Lower, idle, writes, serves, recovers, ended_below}
 use Rattle.world.specs.Worlds.{World, Change}
 use Rattle.world.specs.Connections.{Next, message, the_end, is_alive}
-use Rattle.world.specs.Nodes.{node_of, replica_at, block_of, first_break, joined_at, broke_at, closing, unless_failing, above_of, below_of, member_change, failing_turn, turn_change, pending_at, takes_next, member_down, member_up, ready_change, member_ready, joined_by, is_asked, setup_change, failing_write, write_request, breaking, read_change, failing_read, read_request, piece_as, serve_change, recovery_change, failing_recovery, recovery_request, first_message, next_recovery, lower_down, lower_ready, mirror_up}
+use Rattle.world.specs.Nodes.{node_of, replica_at, block_of, first_break, joined_at, broke_at, closing, unless_failing, above_of, below_of, member_change, failing_turn, turn_change, pending_at, takes_next, member_down, member_up, ready_change, member_ready, is_asked, setup_change, failing_write, write_request, breaking, read_change, failing_read, read_request, piece_as, serve_change, recovery_change, failing_recovery, recovery_request, first_message, next_recovery, lower_down, lower_ready, mirror_up}
 use Rattle.world_facts.proofs.Tables.{if-each, when-each}
-use Rattle.world_stamps.specs.Stamping.{Givens, none_given}
+use Rattle.world_stamps.specs.Stamping.{none_given}
 use Rattle.world_bytes.proofs.Rows.{Allows}
-use Rattle.world_bytes.proofs.Turns.{Idles, unreadable-idles, end-idles, up-idles, ready-idles}
-use Rattle.world_setups.specs.Joining.{joined_as, IsPlain, SetUps}
-use Rattle.world_setups.proofs.Rising.{Goes, goes-same, IsLasting, event-goes, OpenFrom, open-same, IsNoSetup, event-open, event-broken, IsTaken, TakenOr, IsSetup, event-taken, lasting-of, lasting-setup}
-use Rattle.world_setups.proofs.Nodes.{Joining, quiet, taken, Breaking, same_break, first_one, NodeJoins}
+use Rattle.world_bytes.proofs.Turns.{Idles, up-idles, ready-idles}
+use Rattle.world_setups.specs.Joining.{joined_as, IsPlain}
+use Rattle.world_setups.proofs.Rising.{Goes, goes-same, event-goes, OpenFrom, open-same, IsNoSetup, event-open, event-broken, TakenOr, IsSetup, event-taken, lasting-of, lasting-setup}
+use Rattle.world_setups.proofs.Nodes.{quiet, taken, same_break, first_one, NodeJoins}
 
 -- REPLICAS
 

@@ -1,5 +1,5 @@
 -- What a change of a node makes of the setups that it accepted.
-use Rattle.std.proofs.Common.{◌≡◌, ℕ, zero, suc, ◌<◌, ◌≤◌, ◌⊎◌, inl, inr, Bool, true, false, List, [], ◌∷◌, ◌++◌, slice_get, Option, Some, None, IfSome, refl, sym, ◌∙◌, ap, subst, arith, eqb-true, append-nil}
+use Rattle.std.proofs.Common.{◌≡◌, ℕ, zero, suc, ◌⊎◌, inl, inr, Bool, true, false, List, [], ◌∷◌, ◌++◌, slice_get, Option, Some, None, IfSome, refl, sym, ◌∙◌, ap, subst, arith, eqb-true, append-nil}
 use Rattle.std.specs.Prelude.{◌==◌, ◌&&◌, if◌then◌else◌}
 use Rattle.std.proofs.lemmas.Bool.{eqb-false, false≢true}
 use Rattle.std.proofs.lemmas.Option.{none-some, same_Some}
@@ -16,8 +16,7 @@ use Rattle.world_facts.proofs.Tables.{if-each, and-left, and-right, some-weaker}
 use Rattle.world_stamps.specs.Stamping.{Givens}
 use Rattle.world_bytes.specs.Carrying.{Holds, ReplicaSays, Carried}
 use Rattle.world_setups.specs.Joining.{joined_as, AtLeast, IsPlain, Rises, HasReached, IsSetUp, BreakReached, IsGiven, SetUps}
-use Rattle.world_setups.proofs.Rising.{Goes, goes-same, OpenFrom, open-same}
-use Rattle.world_setups.proofs.Untouching.{Untouched}
+use Rattle.world_setups.proofs.Rising.{Goes, OpenFrom}
 
 -- LISTS
 
@@ -195,7 +194,6 @@ own-break g w k h n (Some x) e (same_break s) = subst (λ (o : Option Break). If
   where
     old : w.breaks k.node k.block ≡ Some x → BreakReached g w.joined k.node k.block (w.replicas k.node k.block) x
     old q = subst (λ (o : Option Break). IfSome o (BreakReached g w.joined k.node k.block (w.replicas k.node k.block))) q (h.breaks k.node k.block)
-
 own-break g w k h n None e (first_one d s none now r) =
     subst (λ (o : Option Break). IfSome o (BreakReached g (w.joined ++ k.joined) k.node k.block k.replica)) (sym (s ∙ ap (λ (o : Option Break). first_break o (w.replicas k.node k.block) d) e)) (record {
       reached = same-joined g w k k.node k.block (w.replicas k.node k.block).known.info none (h.reached k.node k.block);

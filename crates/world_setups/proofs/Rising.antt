@@ -1,9 +1,8 @@
 -- No event lets a replica's stamp fall.
-use Rattle.std.proofs.Common.{◌≡◌, ℕ, ℤ, ◌<◌, ◌≤◌, Bool, true, false, List, [], ◌∷◌, slice_get, Option, Some, None, IfSome, Result, Ok, Err, refl, sym, ◌∙◌, ap, subst, arith}
+use Rattle.std.proofs.Common.{◌≡◌, ℕ, ◌<◌, ◌≤◌, Bool, true, false, slice_get, Option, Some, None, IfSome, Result, Ok, Err, refl, sym, ◌∙◌, subst, arith}
 use Rattle.std.specs.Prelude.{not, is_none, negsuc, if◌then◌else◌}
 use Rattle.std.specs.Ordering.{int_eq}
 use Rattle.std.proofs.lemmas.Bool.{false≢true}
-use Rattle.std.proofs.lemmas.Bool.Decides.{nat_tests}
 use Rattle.std.proofs.lemmas.Option.{none-some, same_Some}
 use Rattle.hd_base.specs.Results.{◌>>=◌}
 use Rattle.hd_base.specs.SumRules.{Rule}
@@ -12,7 +11,6 @@ use Rattle.hd_base.specs.declared.numbers.Stamp.{Stamp}
 use Rattle.hd_base.specs.declared.states.ReplicaState.{ReplicaState}
 use Rattle.hd_base.specs.declared.states.ReplicaState.TheVariants as state
 use Rattle.replica_core.specs.declared.ack_queue.PendingPacket.{PendingPacket}
-use Rattle.replica_core.specs.declared.events.Answer.{Answer}
 use Rattle.replica_core.specs.declared.events.Answer.TheVariants as answer
 use Rattle.replica_core.specs.declared.events.Event.{Event}
 use Rattle.replica_core.specs.declared.events.Event.TheVariants as event
@@ -21,14 +19,13 @@ use Rattle.replica_core.specs.declared.info.ReplicaInfo.{ReplicaInfo}
 use Rattle.replica_core.specs.declared.records.ReplicaRecord.{ReplicaRecord}
 use Rattle.replica_core.specs.declared.refusals.Refusal.{Refusal}
 use Rattle.replica_core.specs.declared.refusals.Refusal.TheVariants as refusal
-use Rattle.replica_core.specs.declared.streams.Stream.{Stream}
 use Rattle.replica_core.specs.Extents.{stream_after, heartbeat_of, pending_of}
 use Rattle.replica_core.specs.Info.{settled_at, reopen, recover_setup, recover_stream, begin_recovery, end_recovery, is_writable, state_of, extend_written, advance_acked, close_stream, state_after_last, readable, given, visible_of}
-use Rattle.replica_core.specs.Transitions.{Outcome, done, record_after, state_after, transition, present, there, with_writer, set_writer, new_transition, append_transition, append_recovery_transition, stream_recovery_transition, close_recovery_transition, init_transition, update_transition, read_transition, give_transition, ack_transition, packet_transition, extent_transition, acknowledge, oldest_of, stream_by, is_written_by, end_connection, mark_broken, answer_to}
+use Rattle.replica_core.specs.Transitions.{Outcome, done, record_after, state_after, transition, present, with_writer, set_writer, new_transition, packet_transition, extent_transition, acknowledge, oldest_of, stream_by, is_written_by}
 use Rattle.replica_core.proofs.InfoLemmas.{present_is, reopen_is, recover_setup_is, recover_stream_is, begin_recovery_is, end_recovery_is}
 use Rattle.replica_core.proofs.StepLemmas.{after_check, after_step, choice}
 use Rattle.world_bytes.proofs.Rows.{reopen-stamp, setup-stamp, stream-stamp, begin-stamp, update-held}
-use Rattle.world_setups.specs.Joining.{AtLeast, IsPlain, Rises}
+use Rattle.world_setups.specs.Joining.{IsPlain, Rises}
 
 -- what an event leaves: no lower stamp, and a plain replica
 pub record Goes (o p : Option ReplicaInfo) : Type 0 where
