@@ -109,11 +109,11 @@ up-says g w c the_end h e = tt
 
 -- DELIVERIES
 
-changed-carried : (g : Givens) (w : World) (o : Option Change) → IfSome o (Keeps g w) → IfSome (changed w o) (Carried g)
+pub changed-carried : (g : Givens) (w : World) (o : Option Change) → IfSome o (Keeps g w) → IfSome (changed w o) (Carried g)
 changed-carried g w None k = tt
 changed-carried g w (Some x) k = k
 
-down-as-carried : (g : Givens) (w : World) (c : ℕ) (answered fails : Bool) (o : Option Next) → Facts g w → next_down w c ≡ o → IfSome (down_as w c answered fails o) (Carried g)
+pub down-as-carried : (g : Givens) (w : World) (c : ℕ) (answered fails : Bool) (o : Option Next) → Facts g w → next_down w c ≡ o → IfSome (down_as w c answered fails o) (Carried g)
 unfolding down_taken
 down-as-carried g w c answered fails None h e = tt
 down-as-carried g w c answered fails (Some x) h e =
@@ -138,7 +138,7 @@ upper-keeps (by_member d) g w c x fails h lt e s = mirror-up-keeps (w.lowers d) 
 upper-keeps (by_reader i) g w c x fails h lt e s = unless-keeps g w fails (reader_up w i c x) (reader-up-keeps g w i c x h)
 upper-keeps (by_primary i p) g w c x fails h lt e s = unless-keeps g w fails (primary_up w i p c x) (primary-up-keeps g w i p c x h lt e s)
 
-up-as-carried : (g : Givens) (w : World) (c : ℕ) (fails : Bool) (o : Option Next) → Facts g w → c < w.next_conn → next_up w c ≡ o → IfSome (up_as w c fails o) (Carried g)
+pub up-as-carried : (g : Givens) (w : World) (c : ℕ) (fails : Bool) (o : Option Next) → Facts g w → c < w.next_conn → next_up w c ≡ o → IfSome (up_as w c fails o) (Carried g)
 unfolding up_taken
 up-as-carried g w c fails None h lt e = tt
 up-as-carried g w c fails (Some x) h lt e =
@@ -156,7 +156,7 @@ fault-carried g w (delivery.Down c) h = down-carried g w c.0 false true h
 fault-carried g w (delivery.Ready c) h = ready-carried g w c.0 true h
 fault-carried g w (delivery.Up c) h = up-carried g w c.0 true h
 
-own-keeps : (g : Givens) (w : World) (s : OwnStep) → Facts g w → IfSome (own_change w s) (Keeps g w)
+pub own-keeps : (g : Givens) (w : World) (s : OwnStep) → Facts g w → IfSome (own_change w s) (Keeps g w)
 own-keeps g w (own.Writer b takes answered) h = own-writer-keeps g w b.0 takes answered h
 own-keeps g w (own.Reader i n r answered) h = own-reader-keeps g w i n.0 r answered h
 own-keeps g w (own.Recover i n b members answers) h = own-recover-keeps g w i n.0 b members answers h
@@ -175,7 +175,7 @@ lost-carried : (g : Givens) (w : World) (c : ℕ) (way : Direction) (more : ℕ)
 lost-carried g w c direction.Down more h = record { downs = h.downs; ups = h.ups; replicas = h.replicas; breaks = h.breaks; lowers = h.lowers; writers = h.writers; entries = h.entries; primaries = h.primaries; led = h.led }
 lost-carried g w c direction.Up more h = record { downs = h.downs; ups = h.ups; replicas = h.replicas; breaks = h.breaks; lowers = h.lowers; writers = h.writers; entries = h.entries; primaries = h.primaries; led = h.led }
 
-office-carried : (g : Givens) (w : World) (o : Option Change) → IfSome o (Carries g w) → IfSome (changed w o) (Carried (given_with g (stamped_in o)))
+pub office-carried : (g : Givens) (w : World) (o : Option Change) → IfSome o (Carries g w) → IfSome (changed w o) (Carried (given_with g (stamped_in o)))
 office-carried g w None k = tt
 office-carried g w (Some x) k = k
 
@@ -213,12 +213,12 @@ after-carried : (g : Givens) (w : World) (e : Event) (o : Option World) → outc
 after-carried g w e None i h k = idle-carried g w e i h
 after-carried g w e (Some v) i h k = record { downs = k.downs; ups = k.ups; replicas = k.replicas; breaks = k.breaks; lowers = k.lowers; writers = k.writers; entries = k.entries; primaries = k.primaries; led = k.led }
 
-happens-carried : (g : Givens) (w : World) (e : Event) → Facts g w → Agreed w → Carried (given_by g w e) (happens w e)
+pub happens-carried : (g : Givens) (w : World) (e : Event) → Facts g w → Agreed w → Carried (given_by g w e) (happens w e)
 unfolding happens
 happens-carried g w e h a = after-carried g w e (outcome w e) refl h.carried (outcome-carried g w e h a)
 
 -- what is known of a world that events lead to
-reached-facts : (g : Givens) (w : World) → Reached w → Recorded g w → Carried g w → Facts g w
+pub reached-facts : (g : Givens) (w : World) → Reached w → Recorded g w → Carried g w → Facts g w
 reached-facts g w r i h = record {
   carried = h;
   fresh = subst (λ (v : World). (c : ℕ) → v.next_conn ≤ c → v.downs c ≡ []) r.is (λ c le. (only-dialled-carry r.nodes r.events c le).downs);
@@ -233,7 +233,7 @@ run-carried g w (e ∷ events) r i h =
     let a = reached-agreed w r in
     run-carried (given_by g w e) (happens w e) events (reached-next w e r) (happens-recorded g w e i a) (happens-carried g w e (reached-facts g w r i h) a)
 
-start-carried : (nodes : ℕ) → Carried none_given (start nodes)
+pub start-carried : (nodes : ℕ) → Carried none_given (start nodes)
 unfolding start
 start-carried nodes = record {
   downs = λ c i m e. absurd (none-some m e);
@@ -256,7 +256,7 @@ start-carried nodes = record {
   led = λ c i place lt u. absurd (omega (arith, lt));
 }
 
-at-start : (nodes : ℕ) → Reached (start nodes)
+pub at-start : (nodes : ℕ) → Reached (start nodes)
 at-start nodes = record { nodes = nodes; events = []; is = refl }
 
 pub all-carried : (nodes : ℕ) (events : List Event) → Carried (given_in none_given (start nodes) events) (run (start nodes) events)

@@ -71,15 +71,15 @@ leaves-same g h b v more c n s = record { info = stays g h b v (take (written_in
 
 -- SETUPS
 
-reopen-stamp : (i k : ReplicaInfo) (named new : Stamp) (n : ℕ) → reopen i named new n ≡ Ok k → (i.stamp.0 ≡ named.0) × (named.0 < new.0)
+pub reopen-stamp : (i k : ReplicaInfo) (named new : Stamp) (n : ℕ) → reopen i named new n ≡ Ok k → (i.stamp.0 ≡ named.0) × (named.0 < new.0)
 unfolding reopen
 reopen-stamp i k named new n e = (grind (arith, nat_tests), grind (arith, nat_tests))
 
-setup-stamp : (i k : ReplicaInfo) (named new : Stamp) (n : ℕ) (into : ReplicaState) → recover_setup i named new n into ≡ Ok k → (named.0 ≤ i.stamp.0) × (i.stamp.0 ≤ new.0)
+pub setup-stamp : (i k : ReplicaInfo) (named new : Stamp) (n : ℕ) (into : ReplicaState) → recover_setup i named new n into ≡ Ok k → (named.0 ≤ i.stamp.0) × (i.stamp.0 ≤ new.0)
 unfolding recover_setup
 setup-stamp i k named new n into e = (grind (arith, nat_tests), grind (arith, nat_tests))
 
-stream-stamp : (i k : ReplicaInfo) (named new : Stamp) (low high : ℕ) → recover_stream i named new low high ≡ Ok k → (named.0 ≤ i.stamp.0) × (i.stamp.0 ≤ new.0)
+pub stream-stamp : (i k : ReplicaInfo) (named new : Stamp) (low high : ℕ) → recover_stream i named new low high ≡ Ok k → (named.0 ≤ i.stamp.0) × (i.stamp.0 ≤ new.0)
 unfolding recover_stream
 stream-stamp i k named new low high e = (grind (arith, nat_tests), grind (arith, nat_tests))
 
@@ -91,7 +91,7 @@ held-by : (i k : ReplicaInfo) (s id : Stamp) (n : ℕ) → end_recovery i (Some 
 unfolding end_recovery
 held-by i k s id n e = grind (arith, nat_tests)
 
-update-held : (i k : ReplicaInfo) (o : Option Stamp) (id : Stamp) (n : ℕ) → end_recovery i o id n ≡ Ok k → o ≡ Some id
+pub update-held : (i k : ReplicaInfo) (o : Option Stamp) (id : Stamp) (n : ℕ) → end_recovery i o id n ≡ Ok k → o ≡ Some id
 unfolding end_recovery
 update-held i k None id n e = absurd (cc)
 update-held i k (Some s) id n e = ap (λ (m : ℕ). Some (record { 0 = m })) (held-by i k s id n e)
