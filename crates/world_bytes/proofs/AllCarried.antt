@@ -40,7 +40,7 @@ use Rattle.world_bytes.proofs.Restarting.{restart-carried}
 
 -- MARKS
 
-down-taken-facts : (g : Givens) (w : World) (c : ℕ) (x : Next) → Facts g w → Facts g (down_taken w c x)
+pub down-taken-facts : (g : Givens) (w : World) (c : ℕ) (x : Next) → Facts g w → Facts g (down_taken w c x)
 unfolding down_taken
 down-taken-facts g w c x h = record {
   carried = record {
@@ -60,7 +60,7 @@ down-taken-facts g w c x h = record {
   recorded = same-recorded g w (down_taken w c x) refl refl refl refl h.recorded;
 }
 
-up-taken-facts : (g : Givens) (w : World) (c : ℕ) (x : Next) → Facts g w → Facts g (up_taken w c x)
+pub up-taken-facts : (g : Givens) (w : World) (c : ℕ) (x : Next) → Facts g w → Facts g (up_taken w c x)
 unfolding up_taken
 up-taken-facts g w c x h = record {
   carried = record {

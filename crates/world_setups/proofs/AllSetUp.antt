@@ -1,5 +1,5 @@
 -- Setups are kept, after every list of events.
-use Rattle.std.proofs.Common.{◌≡◌, ℕ, ◌<◌, Bool, true, false, List, [], ◌∷◌, Option, Some, None, IfSome, refl, sym, subst, arith, eqb-true}
+use Rattle.std.proofs.Common.{◌≡◌, ℕ, ◌<◌, ◌⊎◌, inl, inr, Bool, true, false, List, [], ◌∷◌, Option, Some, None, IfSome, refl, sym, subst, arith, eqb-true}
 use Rattle.std.specs.Prelude.{◌==◌, ◌&&◌, not, nat_lt, if◌then◌else◌}
 use Rattle.std.proofs.lemmas.Bool.Decides.{nat_tests}
 use Rattle.std.proofs.lemmas.Bool.{false≢true}
@@ -13,7 +13,7 @@ use Rattle.world.specs.declared.events.Event.{Event}
 use Rattle.world.specs.declared.events.Event.TheVariants as event
 use Rattle.world.specs.declared.events.OwnStep.{OwnStep}
 use Rattle.world.specs.declared.events.OwnStep.TheVariants as own
-use Rattle.world.specs.Parts.{Upper, by_writer, by_member, by_reader, by_primary, Joined}
+use Rattle.world.specs.Parts.{Upper, by_writer, by_member, by_reader, by_primary, Joined, Answered}
 use Rattle.world.specs.Worlds.{World, Change, Stamped, put, apply, start}
 use Rattle.world.specs.Connections.{Next, next_down, next_up, down_taken, up_taken, is_alive, is_served}
 use Rattle.world.specs.Nodes.{node_of, lower_down, lower_ready}
@@ -30,8 +30,9 @@ use Rattle.world_bytes.specs.Carrying.{Carried}
 use Rattle.world_bytes.proofs.Leaves.{Facts}
 use Rattle.world_bytes.proofs.Ends.{lower-ready-keeps}
 use Rattle.world_bytes.proofs.Offices.{office-event-keeps}
-use Rattle.world_bytes.proofs.AllCarried.{changed-carried, down-as-carried, up-as-carried, own-keeps, office-carried, happens-carried, reached-facts, at-start, start-carried}
-use Rattle.world_setups.specs.Joining.{joined_as, HasReached, BreakReached, IsGiven, SetUps}
+use Rattle.world_bytes.proofs.AllCarried.{down-taken-facts, up-taken-facts, changed-carried, down-as-carried, up-as-carried, own-keeps, office-carried, happens-carried, reached-facts, at-start, start-carried}
+use Rattle.world_setups.specs.Joining.{joined_as, HasReached, BreakReached, IsGiven, IsOfBlock, SetUps}
+use Rattle.world_setups.proofs.Telling.{tells-in}
 use Rattle.world_setups.proofs.Untouching.{Untouched, own-writer-untouched, writer-up-untouched, own-reader-untouched, reader-up-untouched, own-recover-untouched, own-primary-untouched, primary-up-untouched, office-untouched}
 use Rattle.world_setups.proofs.Nodes.{NodeJoins, IsOfOne, node-joins}
 use Rattle.world_setups.proofs.Lowers.{Plain, lower-down-joins, lower-ready-joins, mirror-up-joins, untouched-joins}
@@ -39,9 +40,9 @@ use Rattle.world_setups.proofs.Restarting.{restart-set}
 
 -- CHANGES
 
-changed-set : (g : Givens) (w : World) (o : Option Change) → SetUps g w → IsOfOne g → IfSome (changed w o) (Carried g) → IfSome o (NodeJoins w) → IfSome (changed w o) (SetUps g)
+changed-set : (g : Givens) (w : World) (o : Option Change) → SetUps g w → Recorded g w → IfSome (changed w o) (Carried g) → IfSome o (NodeJoins w) → IfSome (changed w o) (SetUps g)
 changed-set g w None h i c n = tt
-changed-set g w (Some k) h i c n = node-joins g w k h i c n
+changed-set g w (Some k) h i c n = node-joins g w k h i.one c (tells-in g w k i n.tells) n
 
 untouched-set : (w : World) (o : Option Change) → Plain w → IfSome o (Untouched w) → IfSome o (NodeJoins w)
 untouched-set w o h u = some-weaker (Untouched w) (NodeJoins w) o (λ k x. untouched-joins w k h x) u
@@ -54,11 +55,11 @@ unless-joins w false o n = n
 
 down-taken-set : (g : Givens) (w : World) (c : ℕ) (x : Next) → SetUps g w → SetUps g (down_taken w c x)
 unfolding down_taken
-down-taken-set g w c x h = record { given = h.given; reached = h.reached; plain = h.plain; writes = h.writes; breaks = h.breaks }
+down-taken-set g w c x h = record { answers = h.answers; given = h.given; reached = h.reached; plain = h.plain; writes = h.writes; breaks = h.breaks }
 
 up-taken-set : (g : Givens) (w : World) (c : ℕ) (x : Next) → SetUps g w → SetUps g (up_taken w c x)
 unfolding up_taken
-up-taken-set g w c x h = record { given = h.given; reached = h.reached; plain = h.plain; writes = h.writes; breaks = h.breaks }
+up-taken-set g w c x h = record { answers = h.answers; given = h.given; reached = h.reached; plain = h.plain; writes = h.writes; breaks = h.breaks }
 
 -- DELIVERIES
 
@@ -73,7 +74,7 @@ unfolding down_taken
 down-as-set g w c answered fails None f h alive e = tt
 down-as-set g w c answered fails (Some x) f h alive e =
     let v = down_taken w c x in
-    changed-set g v (lower_down (w.lowers c) v c x answered fails) (down-taken-set g w c x h) f.recorded.one (down-as-carried g w c answered fails (Some x) f e)
+    changed-set g v (lower_down (w.lowers c) v c x answered fails) (down-taken-set g w c x h) (down-taken-facts g w c x f).recorded (down-as-carried g w c answered fails (Some x) f e)
     (lower-down-joins (w.lowers c) v c x answered fails h.plain alive)
 
 down-set : (g : Givens) (w : World) (c : ℕ) (answered fails : Bool) → Facts g w → SetUps g w → IfSome (down_event w c answered fails) (SetUps g)
@@ -83,7 +84,7 @@ ready-set : (g : Givens) (w : World) (c : ℕ) (fails : Bool) → Facts g w → 
 ready-set g w c fails f h =
     when-each (SetUps g) (is_served w c) _ (λ _.
     let k = lower_ready (w.lowers c) w c fails in
-    changed-set g w k h f.recorded.one (changed-carried g w k (lower-ready-keeps (w.lowers c) g w c fails f (f.carried.lowers c))) (lower-ready-joins (w.lowers c) w c fails h.plain))
+    changed-set g w k h f.recorded (changed-carried g w k (lower-ready-keeps (w.lowers c) g w c fails f (f.carried.lowers c))) (lower-ready-joins (w.lowers c) w c fails h.plain))
 
 upper-joins : (u : Upper) (w : World) (c : ℕ) (x : Next) (fails : Bool) → Plain w → IfSome (upper_up u w c x fails) (NodeJoins w)
 upper-joins (by_writer b) w c x fails h = unless-joins w fails (writer_up w b c x) (untouched-set w (writer_up w b c x) h (writer-up-untouched w b c x))
@@ -96,7 +97,7 @@ unfolding up_taken
 up-as-set g w c fails None f h lt e = tt
 up-as-set g w c fails (Some x) f h lt e =
     let v = up_taken w c x in
-    changed-set g v (upper_up (w.dialled c).upper v c x fails) (up-taken-set g w c x h) f.recorded.one (up-as-carried g w c fails (Some x) f lt e) (upper-joins (w.dialled c).upper v c x fails h.plain)
+    changed-set g v (upper_up (w.dialled c).upper v c x fails) (up-taken-set g w c x h) (up-taken-facts g w c x f).recorded (up-as-carried g w c fails (Some x) f lt e) (upper-joins (w.dialled c).upper v c x fails h.plain)
 
 up-set : (g : Givens) (w : World) (c : ℕ) (fails : Bool) → Facts g w → SetUps g w → IfSome (up_event w c fails) (SetUps g)
 up-set g w c fails f h = when-each (SetUps g) (nat_lt c w.next_conn) _ (λ e. up-as-set g w c fails (next_up w c) f h (lt-true c w.next_conn e) refl)
@@ -136,6 +137,10 @@ given-stays g (Some s) b t e q = at (b == s.block) refl
 later-given : (g : Givens) (o : Option Stamped) (s : ℕ) → IsGiven g s → IsGiven (given_with g o) s
 later-given g o s i = let x = given-stays g o i.block s i.session i.is in record { block = i.block; session = x.0; is = x.1 }
 
+later-answer : (g : Givens) (o : Option Stamped) (a : Answered) → IsOfBlock g a → IsOfBlock (given_with g o) a
+later-answer g o a (inl e) = inl e
+later-answer g o a (inr x) = inr (given-stays g o a.block a.stamp x.0 x.1)
+
 -- a replica has reached the setups of its block, whatever was given since
 later-reached : (g : Givens) (o : Option Stamped) (joined : List Joined) (n b : ℕ) (i : Option ReplicaInfo) → IsOfOne (given_with g o) → ((s n l : ℕ) → Has joined (joined_as s n l) → IsGiven g s)
     → HasReached g joined n b i → HasReached (given_with g o) joined n b i
@@ -148,6 +153,7 @@ later-reached g o joined n b i one given h = record {
 
 later-set : (g : Givens) (o : Option Stamped) (w : World) → IsOfOne (given_with g o) → SetUps g w → SetUps (given_with g o) w
 later-set g o w one h = record {
+  answers = λ a j. later-answer g o a (h.answers a j);
   given = λ s n l j. later-given g o s (h.given s n l j);
   reached = λ n b. later-reached g o w.joined n b (w.replicas n b).known.info one h.given (h.reached n b);
   plain = h.plain;
@@ -160,10 +166,12 @@ later-set g o w one h = record {
   }) (h.breaks n b);
 }
 
-office-set : (g : Givens) (w : World) (o : Option Change) → SetUps g w → IsOfOne (given_with g (stamped_in o)) → IfSome (changed w o) (Carried (given_with g (stamped_in o))) → IfSome o (Untouched w)
+office-set : (g : Givens) (w : World) (o : Option Change) → SetUps g w → Recorded g w → IsOfOne (given_with g (stamped_in o)) → IfSome (changed w o) (Carried (given_with g (stamped_in o))) → IfSome o (Untouched w)
     → IfSome (changed w o) (SetUps (given_with g (stamped_in o)))
-office-set g w None h one c u = tt
-office-set g w (Some k) h one c u = node-joins (given_with g k.stamped) w k (later-set g k.stamped w one h) one c (untouched-joins w k h.plain u)
+office-set g w None h i one c u = tt
+office-set g w (Some k) h i one c u =
+    node-joins (given_with g k.stamped) w k (later-set g k.stamped w one h) one c (some-weaker (IsOfBlock g) (IsOfBlock (given_with g k.stamped)) k.answered (λ a x. later-answer g k.stamped a x) (tells-in g w k i u.tells))
+    (untouched-joins w k h.plain u)
 
 -- ALL EVENTS
 
@@ -173,6 +181,7 @@ where-set g false v h = tt
 
 stop-set : (g : Givens) (w : World) (n : ℕ) → SetUps g w → SetUps g (stop w n)
 stop-set g w n h = record {
+  answers = h.answers;
   given = h.given;
   reached = h.reached;
   plain = h.plain;
@@ -181,13 +190,13 @@ stop-set g w n h = record {
 }
 
 lost-set : (g : Givens) (w : World) (c : ℕ) (way : Direction) (more : ℕ) → SetUps g w → SetUps g (lost w c way more)
-lost-set g w c direction.Down more h = record { given = h.given; reached = h.reached; plain = h.plain; writes = h.writes; breaks = h.breaks }
-lost-set g w c direction.Up more h = record { given = h.given; reached = h.reached; plain = h.plain; writes = h.writes; breaks = h.breaks }
+lost-set g w c direction.Down more h = record { answers = h.answers; given = h.given; reached = h.reached; plain = h.plain; writes = h.writes; breaks = h.breaks }
+lost-set g w c direction.Up more h = record { answers = h.answers; given = h.given; reached = h.reached; plain = h.plain; writes = h.writes; breaks = h.breaks }
 
 outcome-set : (g : Givens) (w : World) (e : Event) → Facts g w → Agreed w → IsOfOne (given_by g w e) → SetUps g w → IfSome (outcome w e) (SetUps (given_by g w e))
 unfolding outcome
-outcome-set g w (event.Own s) f a one h = changed-set g w (own_change w s) h one (changed-carried g w (own_change w s) (own-keeps g w s f)) (untouched-set w (own_change w s) h.plain (own-untouched w s))
-outcome-set g w (event.Office c) f a one h = office-set g w (office_event w c) h one (office-carried g w (office_event w c) (office-event-keeps g w c f a)) (office-untouched w c)
+outcome-set g w (event.Own s) f a one h = changed-set g w (own_change w s) h f.recorded (changed-carried g w (own_change w s) (own-keeps g w s f)) (untouched-set w (own_change w s) h.plain (own-untouched w s))
+outcome-set g w (event.Office c) f a one h = office-set g w (office_event w c) h f.recorded one (office-carried g w (office_event w c) (office-event-keeps g w c f a)) (office-untouched w c)
 outcome-set g w (event.Down c answered) f a one h = down-set g w c.0 answered false f h
 outcome-set g w (event.Ready c) f a one h = ready-set g w c.0 false f h
 outcome-set g w (event.Up c) f a one h = up-set g w c.0 false f h
@@ -216,7 +225,7 @@ idle-set g w (event.Restart n list) i h = h
 
 after-set : (g : Givens) (w : World) (e : Event) (o : Option World) → outcome w e ≡ o → SetUps g w → IfSome o (SetUps (given_by g w e)) → SetUps (given_by g w e) (after_event w e o)
 after-set g w e None i h k = idle-set g w e i h
-after-set g w e (Some v) i h k = record { given = k.given; reached = k.reached; plain = k.plain; writes = k.writes; breaks = k.breaks }
+after-set g w e (Some v) i h k = record { answers = k.answers; given = k.given; reached = k.reached; plain = k.plain; writes = k.writes; breaks = k.breaks }
 
 happens-set : (g : Givens) (w : World) (e : Event) → Facts g w → Agreed w → IsOfOne (given_by g w e) → SetUps g w → SetUps (given_by g w e) (happens w e)
 unfolding happens
@@ -233,6 +242,7 @@ run-set g w (e ∷ events) r i c h =
 start-set : (nodes : ℕ) → SetUps none_given (start nodes)
 unfolding start
 start-set nodes = record {
+  answers = λ a j. absurd (none-some a j.there);
   given = λ s n l j. absurd (none-some _ j.there);
   reached = λ n b. record { least = λ s l e j q. absurd (none-some _ j.there) };
   plain = λ n b. tt;

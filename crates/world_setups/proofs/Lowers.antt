@@ -40,6 +40,7 @@ use Rattle.member_core.specs.Steps.{Step, Setup, step, faulted_step, replica_aft
 use Rattle.read_core.specs.Servings.{ServingState, read_at, read_event, next_call, call_at, piece_at}
 use Rattle.read_core.specs.declared.serving.ServePhase.{ServePhase}
 use Rattle.read_core.specs.declared.serving.ServePhase.TheVariants as serve_phase
+use Rattle.world_setups.proofs.Telling.{Tells}
 use Rattle.world_setups.proofs.Untouching.{Untouched}
 use Rattle.recovery_core.specs.declared.members.RecoveryReply.{RecoveryReply}
 use Rattle.recovery_core.specs.Members.{no_recovery, step_event, recovery_event, served_as, serve_faulted}
@@ -78,13 +79,14 @@ row-goes : (r : FullReplica) (e : ReplicaEvent) → SetsNothing e → IfSome r.k
 row-goes r e h p = event-goes r.known (event_at r e) (lasting-of (event_at r e) (nothing-at r e h)) p
 
 -- a record that stays as it was
-same-node : (w : World) (k : Change) → Plain w → k.replica.known ≡ (before w k).known → k.joined ≡ [] → k.broke ≡ w.breaks k.node k.block → NodeJoins w k
-same-node w k h e j b =
+same-node : (w : World) (k : Change) → Plain w → k.replica.known ≡ (before w k).known → k.joined ≡ [] → k.broke ≡ w.breaks k.node k.block → Tells w k → NodeJoins w k
+same-node w k h e j b t =
     let o = (before w k).known.info in
     record {
+      tells = t;
       goes = subst (λ (c : ReplicaRecord). Goes o c.info) (sym e) (goes-same o (h k.node k.block));
-      broken = λ t. ap (λ (c : ReplicaRecord). c.is_broken) e ∙ t;
-      joins = quiet j (subst (λ (c : ReplicaRecord). OpenFrom o c.info) (sym e) (open-same o)) (λ t. sym (ap (λ (c : ReplicaRecord). c.is_broken) e) ∙ t);
+      broken = λ d. ap (λ (c : ReplicaRecord). c.is_broken) e ∙ d;
+      joins = quiet j (subst (λ (c : ReplicaRecord). OpenFrom o c.info) (sym e) (open-same o)) (λ d. sym (ap (λ (c : ReplicaRecord). c.is_broken) e) ∙ d);
       breaks = same_break b;
     }
 
@@ -93,11 +95,12 @@ whole-before : (c d : Bool) → (c ≡ true → d ≡ true) → d ≡ false → 
 whole-before false d h e = refl
 whole-before true d h e = absurd (false≢true (sym e ∙ h refl))
 
-row-node : (w : World) (k : Change) (e : ReplicaEvent) → Plain w → SetsNothing e → k.replica ≡ row (before w k) e → k.joined ≡ [] → k.broke ≡ w.breaks k.node k.block → NodeJoins w k
-row-node w k e h s q j b =
+row-node : (w : World) (k : Change) (e : ReplicaEvent) → Plain w → SetsNothing e → k.replica ≡ row (before w k) e → k.joined ≡ [] → k.broke ≡ w.breaks k.node k.block → Tells w k → NodeJoins w k
+row-node w k e h s q j b a =
     let r = before w k in
     let keep : r.known.is_broken ≡ true → k.replica.known.is_broken ≡ true = λ t. ap (λ (x : FullReplica). x.known.is_broken) q ∙ event-broken r.known (event_at r e) t in
     record {
+      tells = a;
       goes = subst (λ (x : FullReplica). Goes r.known.info x.known.info) (sym q) (row-goes r e s (h k.node k.block));
       broken = keep;
       joins = quiet j (subst (λ (x : FullReplica). OpenFrom r.known.info x.known.info) (sym q) (event-open r.known (event_at r e) (nothing-at r e s) (h k.node k.block))) (whole-before r.known.is_broken k.replica.known.is_broken keep);
@@ -105,14 +108,15 @@ row-node w k e h s q j b =
     }
 
 -- a replica that breaks in an event
-broken-node : (w : World) (c b : ℕ) (k : Change) (e : ReplicaEvent) → Plain w → k.node ≡ node_of w c → k.block ≡ b → k.replica ≡ broken (w.replicas (node_of w c) b) → k.joined ≡ [] → k.broke ≡ broke_at w c b e
+broken-node : (w : World) (c b : ℕ) (k : Change) (e : ReplicaEvent) → Plain w → k.node ≡ node_of w c → k.block ≡ b → k.replica ≡ broken (w.replicas (node_of w c) b) → k.joined ≡ [] → k.broke ≡ broke_at w c b e → Tells w k
     → Goes (w.replicas (node_of w c) b).known.info (row (w.replicas (node_of w c) b) e).known.info → NodeJoins w k
 unfolding transition
-broken-node w c b k e h n m q j s r =
+broken-node w c b k e h n m q j s a r =
     let o = w.replicas (node_of w c) b in
     let is : before w k ≡ o = ap (λ (x : ℕ). w.replicas x k.block) n ∙ ap (λ (y : ℕ). w.replicas (node_of w c) y) m in
     let now : k.replica.known.is_broken ≡ true = ap (λ (x : FullReplica). x.known.is_broken) q in
     record {
+      tells = a;
       goes = subst (λ (x : FullReplica). Goes x.known.info k.replica.known.info) (sym is) (subst (λ (x : FullReplica). Goes o.known.info x.known.info) (sym q) (goes-same o.known.info (h (node_of w c) b)));
       broken = λ _. now;
       joins = quiet j (subst (λ (x : FullReplica). OpenFrom x.known.info k.replica.known.info) (sym is) (subst (λ (x : FullReplica). OpenFrom o.known.info x.known.info) (sym q) (open-same o.known.info))) (λ t. absurd (false≢true (sym t ∙ now)));
@@ -155,15 +159,15 @@ idles-nothing w t i = go t.call (i.call none_given w.past 0)
 
 member-as : (w : World) (c : ℕ) (m : FullMember) (x : Next) (s : Step) (o : Option ReplicaEvent) → Plain w → Nothing o → s.replica ≡ replica_after (replica_at w c (block_of m.fields)) o
     → NodeJoins w (member_change w c m x s (w.breaks (node_of w c) (block_of m.fields)))
-member-as w c m x s None h n e = same-node w (member_change w c m x s (w.breaks (node_of w c) (block_of m.fields))) h (ap (λ (r : FullReplica). r.known) e) refl refl
-member-as w c m x s (Some q) h n e = row-node w (member_change w c m x s (w.breaks (node_of w c) (block_of m.fields))) q h n e refl refl
+member-as w c m x s None h n e = same-node w (member_change w c m x s (w.breaks (node_of w c) (block_of m.fields))) h (ap (λ (r : FullReplica). r.known) e) refl refl tt
+member-as w c m x s (Some q) h n e = row-node w (member_change w c m x s (w.breaks (node_of w c) (block_of m.fields))) q h n e refl refl tt
 
 failing-turn-joins : (w : World) (c : ℕ) (m : FullMember) (x : Next) (t : Turn) (o : Option ReplicaEvent) → Plain w → Nothing o → IfSome (failing_turn w c m x t o) (NodeJoins w)
 failing-turn-joins w c m x t None h n = tt
 failing-turn-joins w c m x t (Some e) h n =
     let b = block_of m.fields in
     let r = replica_at w c b in
-    broken-node w c b (member_change w c m x (faulted_step m.state r t) (broke_at w c b e)) e h refl refl refl refl refl (row-goes r e n (h (node_of w c) b))
+    broken-node w c b (member_change w c m x (faulted_step m.state r t) (broke_at w c b e)) e h refl refl refl refl refl tt (row-goes r e n (h (node_of w c) b))
 
 turn-joins : (w : World) (c : ℕ) (m : FullMember) (x : Next) (t : Turn) (fails : Bool) → Plain w → Nothing t.call → IfSome (turn_change w c m x t fails) (NodeJoins w)
 turn-joins w c m x t true h n = failing-turn-joins w c m x t t.call h n
@@ -227,8 +231,9 @@ Asks w c f s = setup_change w c f s (w.breaks (node_of w c) (block_of f))
 taken-joins : (w : World) (c : ℕ) (f : WriteFields) (asked : Bool) (o : Outcome) → Plain w → w.lives (node_of w c) ≡ (w.dialled c).to.life
     → Goes (replica_at w c (block_of f)).known.info (record_after (replica_at w c (block_of f)).known o).info → ((replica_at w c (block_of f)).known.is_broken ≡ true → (record_after (replica_at w c (block_of f)).known o).is_broken ≡ true)
     → TakenOr (replica_at w c (block_of f)).known o → NodeJoins w (Asks w c f (booked_request (record { 0 = c }) f asked (after (replica_at w c (block_of f)) o) (refused_by (core.answer_of (core.reply o)))))
-taken-joins w c f asked (Err x) h alive g b t = same-node w (Asks w c f (booked_request (record { 0 = c }) f asked (after (replica_at w c (block_of f)) (Err x)) (Some (refusal.Core x)))) h refl refl refl
+taken-joins w c f asked (Err x) h alive g b t = same-node w (Asks w c f (booked_request (record { 0 = c }) f asked (after (replica_at w c (block_of f)) (Err x)) (Some (refusal.Core x)))) h refl refl refl tt
 taken-joins w c f asked (Ok q) h alive g b t = subst (λ (a : Option RequestRefusal). NodeJoins w (Asks w c f (booked_request (record { 0 = c }) f asked (after (replica_at w c (block_of f)) (Ok q)) a))) (sym (ap refused_by t.1)) (record {
+  tells = tt;
   goes = g;
   broken = b;
   joins = taken t.0.info t.0.is t.0.whole (joined t.0.info t.0.is) refl;
@@ -242,7 +247,7 @@ taken-joins w c f asked (Ok q) h alive g b t = subst (λ (a : Option RequestRefu
 
 requested-joins : (w : World) (c : ℕ) (f : WriteFields) (asked : Bool) (e : Result Event RequestRefusal) → Plain w → w.lives (node_of w c) ≡ (w.dialled c).to.life → IfOk e IsSetup
     → NodeJoins w (Asks w c f (request_at (record { 0 = c }) f asked (replica_at w c (block_of f)) e))
-requested-joins w c f asked (Err x) h alive s = same-node w (Asks w c f (request_at (record { 0 = c }) f asked (replica_at w c (block_of f)) (Err x))) h refl refl refl
+requested-joins w c f asked (Err x) h alive s = same-node w (Asks w c f (request_at (record { 0 = c }) f asked (replica_at w c (block_of f)) (Err x))) h refl refl refl tt
 requested-joins w c f asked (Ok e) h alive s =
     let r = replica_at w c (block_of f) in
     taken-joins w c f asked (transition r.known e) h alive (event-goes r.known e (lasting-setup e s) (h (node_of w c) (block_of f))) (λ t. event-broken r.known e t) (event-taken r.known e s)
@@ -252,7 +257,7 @@ failing-write-joins w c f (Err x) h s = tt
 failing-write-joins w c f (Ok e) h s =
     let b = block_of f in
     let r = replica_at w c b in
-    broken-node w c b (setup_change w c f (faulted_request r) (broke_at w c b (replica_event.Other e))) (replica_event.Other e) h refl refl refl refl refl (event-goes r.known e (lasting-setup e s) (h (node_of w c) b))
+    broken-node w c b (setup_change w c f (faulted_request r) (broke_at w c b (replica_event.Other e))) (replica_event.Other e) h refl refl refl refl refl tt (event-goes r.known e (lasting-setup e s) (h (node_of w c) b))
 
 write-joins : (w : World) (c : ℕ) (f : WriteFields) (answered fails : Bool) → Plain w → w.lives (node_of w c) ≡ (w.dialled c).to.life → IfSome (write_request w c f answered fails) (NodeJoins w)
 write-joins w c f answered true h alive =
@@ -264,24 +269,24 @@ write-joins w c f answered false h alive =
 -- READS AND RECOVERIES
 
 closing-joins : (w : World) (c : ℕ) → Plain w → NodeJoins w (closing w c)
-closing-joins w c h = same-node w (closing w c) h refl refl refl
+closing-joins w c h = same-node w (closing w c) h refl refl refl tt
 
 unless-joins : (w : World) (fails : Bool) (c : ℕ) → Plain w → IfSome (unless_failing fails (closing w c)) (NodeJoins w)
 unless-joins w true c h = tt
 unless-joins w false c h = closing-joins w c h
 
 read-change-joins : (w : World) (c b : ℕ) (s : Result ServingState RequestRefusal) → Plain w → NodeJoins w (read_change w c b s)
-read-change-joins w c b (Ok s) h = same-node w (read_change w c b (Ok s)) h refl refl refl
-read-change-joins w c b (Err r) h = same-node w (read_change w c b (Err r)) h refl refl refl
+read-change-joins w c b (Ok s) h = same-node w (read_change w c b (Ok s)) h refl refl refl tt
+read-change-joins w c b (Err r) h = same-node w (read_change w c b (Err r)) h refl refl refl tt
 
 piece-joins : (w : World) (c b : ℕ) (s : ServingState) (o : Option Packet) → Plain w → NodeJoins w (piece_as w c b s o)
 piece-joins w c b s None h = closing-joins w c h
-piece-joins w c b s (Some p) h = same-node w (piece_as w c b s (Some p)) h refl refl refl
+piece-joins w c b s (Some p) h = same-node w (piece_as w c b s (Some p)) h refl refl refl tt
 
 -- an event that leaves a record's info
 breaking-joins : (w : World) (c b : ℕ) (e : Event) (ms : List Message) → Plain w → IsNoSetup e → NodeJoins w (breaking w c b (broken (replica_at w c b)) (replica_event.Other e) ms)
 breaking-joins w c b e ms h n =
-    broken-node w c b (breaking w c b (broken (replica_at w c b)) (replica_event.Other e) ms) (replica_event.Other e) h refl refl refl refl refl (row-goes (replica_at w c b) (replica_event.Other e) n (h (node_of w c) b))
+    broken-node w c b (breaking w c b (broken (replica_at w c b)) (replica_event.Other e) ms) (replica_event.Other e) h refl refl refl refl refl tt (row-goes (replica_at w c b) (replica_event.Other e) n (h (node_of w c) b))
 
 failing-read-joins : (w : World) (c b : ℕ) (e : Result Event RequestRefusal) → Plain w → IfOk e IsNoSetup → IfSome (failing_read w c b e) (NodeJoins w)
 failing-read-joins w c b (Err r) h n = tt
@@ -301,14 +306,14 @@ serve-joins w c b s (Some e) true h n = breaking-joins w c b e [] h n
 serve-joins w c b s (Some e) false h n = piece-joins w c b (piece_at s (replica_at w c b)).serving (piece_at s (replica_at w c b)).packet h
 
 served-joins : (w : World) (c : ℕ) (q : RecoveryOp) (e : Result Event RecoveryReply) → Plain w → IfOk e IsNoSetup → NodeJoins w (recovery_change w c q (served_as (replica_at w c q.block.block.0) e) (w.breaks (node_of w c) q.block.block.0))
-served-joins w c q (Err said) h n = same-node w (recovery_change w c q (served_as (replica_at w c q.block.block.0) (Err said)) (w.breaks (node_of w c) q.block.block.0)) h refl refl refl
-served-joins w c q (Ok e) h n = row-node w (recovery_change w c q (served_as (replica_at w c q.block.block.0) (Ok e)) (w.breaks (node_of w c) q.block.block.0)) (replica_event.Other e) h n refl refl refl
+served-joins w c q (Err said) h n = same-node w (recovery_change w c q (served_as (replica_at w c q.block.block.0) (Err said)) (w.breaks (node_of w c) q.block.block.0)) h refl refl refl tt
+served-joins w c q (Ok e) h n = row-node w (recovery_change w c q (served_as (replica_at w c q.block.block.0) (Ok e)) (w.breaks (node_of w c) q.block.block.0)) (replica_event.Other e) h n refl refl refl tt
 
 failing-recovery-joins : (w : World) (c : ℕ) (q : RecoveryOp) (e : Result Event RecoveryReply) → Plain w → IfOk e IsNoSetup → IfSome (failing_recovery w c q e) (NodeJoins w)
 failing-recovery-joins w c q (Err said) h n = tt
 failing-recovery-joins w c q (Ok e) h n =
     let b = q.block.block.0 in
-    broken-node w c b (recovery_change w c q (serve_faulted (replica_at w c b)) (broke_at w c b (replica_event.Other e))) (replica_event.Other e) h refl refl refl refl refl (row-goes (replica_at w c b) (replica_event.Other e) n (h (node_of w c) b))
+    broken-node w c b (recovery_change w c q (serve_faulted (replica_at w c b)) (broke_at w c b (replica_event.Other e))) (replica_event.Other e) h refl refl refl refl refl tt (row-goes (replica_at w c b) (replica_event.Other e) n (h (node_of w c) b))
 
 init-nothing : (t : Bool) (named id : Stamp) → IfOk (if t then Err no_recovery else Ok (event.Init named id)) IsNoSetup
 init-nothing true named id = tt
@@ -389,4 +394,4 @@ mirror-up-joins ended_below w d x fails h = tt
 
 -- a change that touches no replica
 pub untouched-joins : (w : World) (k : Change) → Plain w → Untouched w k → NodeJoins w k
-untouched-joins w k h u = same-node w k h (ap (λ (r : FullReplica). r.known) u.replica) u.joined u.broke
+untouched-joins w k h u = same-node w k h (ap (λ (r : FullReplica). r.known) u.replica) u.joined u.broke u.tells

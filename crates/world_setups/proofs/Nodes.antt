@@ -8,14 +8,15 @@ use Rattle.hd_base.specs.declared.states.ReplicaState.TheVariants as state
 use Rattle.replica_core.specs.declared.info.ReplicaInfo.{ReplicaInfo}
 use Rattle.replica_model.specs.declared.events.ReplicaEvent.{ReplicaEvent}
 use Rattle.replica_model.specs.Rows.{FullReplica, row}
-use Rattle.world.specs.Parts.{Break, Joined}
-use Rattle.world.specs.Worlds.{World, Change, put_at, apply}
+use Rattle.world_setups.proofs.Telling.{Tells, TellsIn}
+use Rattle.world.specs.Parts.{Break, Joined, Answered}
+use Rattle.world.specs.Worlds.{World, Change, listed, put_at, apply}
 use Rattle.world.specs.Nodes.{first_break}
 use Rattle.world.specs.Safe.{Has}
 use Rattle.world_facts.proofs.Tables.{if-each, and-left, and-right, some-weaker}
 use Rattle.world_stamps.specs.Stamping.{Givens}
 use Rattle.world_bytes.specs.Carrying.{Holds, ReplicaSays, Carried}
-use Rattle.world_setups.specs.Joining.{joined_as, AtLeast, IsPlain, Rises, HasReached, IsSetUp, BreakReached, IsGiven, SetUps}
+use Rattle.world_setups.specs.Joining.{joined_as, AtLeast, IsPlain, Rises, HasReached, IsSetUp, BreakReached, IsGiven, IsOfBlock, SetUps}
 use Rattle.world_setups.proofs.Rising.{Goes, OpenFrom}
 
 -- LISTS
@@ -70,6 +71,7 @@ pub data Breaking (w : World) (k : Change) : Type 0 where
       → Goes (w.replicas k.node k.block).known.info (row (w.replicas k.node k.block) e).known.info → Breaking w k
 
 pub record NodeJoins (w : World) (k : Change) : Type 0 where
+  pub tells : Tells w k
   pub goes : Goes (w.replicas k.node k.block).known.info k.replica.known.info
   pub broken : (w.replicas k.node k.block).known.is_broken ≡ true → k.replica.known.is_broken ≡ true
   pub joins : Joining w k
@@ -210,6 +212,15 @@ own-break g w k h n (Some x) e (first_one d s none now r) =
       broken = now;
     })
 
+-- what was answered
+more-answers : (g : Givens) (xs : List Answered) (o : Option Answered) → IfSome o (IsOfBlock g) → ((a : Answered) → Has xs a → IsOfBlock g a) → (a : Answered) → Has (xs ++ listed o) a → IsOfBlock g a
+more-answers g xs None n h a q = h a (subst (λ (ys : List Answered). Has ys a) (append-nil xs) q)
+more-answers g xs (Some x) n h a q = go (has-split xs x a q)
+  where
+    go : Has xs a ⊎ (x ≡ a) → IsOfBlock g a
+    go (inl j) = h a j
+    go (inr e) = subst (λ (y : Answered). IsOfBlock g y) e n
+
 -- the frame of a change
 both-false : (a c n b : ℕ) → (n == a && b == c) ≡ false → n ≡ a → b ≡ c → ⊥
 both-false a c n b e i j = go (n == a) (b == c) refl refl e
@@ -225,9 +236,10 @@ put-at-split {A} P f a c x h q n b =
     (λ e. subst (λ (m : ℕ). P m b x) (sym (eqb-true n a (and-left (n == a) (b == c) e))) (subst (λ (m : ℕ). P a m x) (sym (eqb-true b c (and-right (n == a) (b == c) e))) h))
     (λ e. q n b (both-false a c n b e))
 
-pub node-joins : (g : Givens) (w : World) (k : Change) → SetUps g w → IsOfOne g → Carried g (apply w k) → NodeJoins w k → SetUps g (apply w k)
+pub node-joins : (g : Givens) (w : World) (k : Change) → SetUps g w → IsOfOne g → Carried g (apply w k) → TellsIn g k → NodeJoins w k → SetUps g (apply w k)
 unfolding apply
-node-joins g w k h i c n = record {
+node-joins g w k h i c a n = record {
+  answers = more-answers g w.answered k.answered a h.answers;
   given = more-given g w k c n.joins h.given;
   reached = put-at-split (λ (m b : ℕ) (r : FullReplica). HasReached g (w.joined ++ k.joined) m b r.known.info) w.replicas k.node k.block k.replica
       (own-reached g w k (h.reached k.node k.block) n.goes n.joins) (λ m b apart. others-reached g w k i c n.joins m b apart (w.replicas m b).known.info (h.reached m b));

@@ -160,6 +160,7 @@ shut-open w l n r h = record {
 pub restart-set : (g : Givens) (w : World) (n : ℕ) (list : List FoundReplica) → SetUps g w → SetUps g (restart w n list)
 unfolding restart
 restart-set g w n list h = record {
+  answers = h.answers;
   given = h.given;
   reached = λ m b. at-reached m b (m == n) refl;
   plain = λ m b. at-plain m b (m == n) refl;

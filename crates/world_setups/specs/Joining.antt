@@ -1,14 +1,14 @@
 -- The setups that nodes accepted, and what their replicas have since.
-use Rattle.std.specs.Prelude.{ℕ, ◌≡◌, ◌<◌, ◌≤◌, Bool, true, false, List, Option, Some, None, IfSome}
+use Rattle.std.specs.Prelude.{ℕ, ◌≡◌, ◌<◌, ◌≤◌, ◌⊎◌, Bool, true, false, List, Option, Some, None, IfSome}
 use Rattle.hd_base.specs.declared.numbers.Stamp.{Stamp}
 use Rattle.hd_base.specs.declared.states.ReplicaState.TheVariants as state
 use Rattle.replica_core.specs.declared.info.ReplicaInfo.{ReplicaInfo}
 use Rattle.replica_model.specs.Rows.{FullReplica, row}
 use Rattle.world.specs.declared.events.Event.{Event}
-use Rattle.world.specs.Parts.{Break, Joined}
+use Rattle.world.specs.Parts.{Break, Joined, Answered}
 use Rattle.world.specs.Worlds.{World, start}
 use Rattle.world.specs.Events.{run}
-use Rattle.world.specs.Safe.{Has}
+use Rattle.world.specs.Safe.{Has, Steady}
 use Rattle.world_stamps.specs.Stamping.{Givens, none_given, given_in}
 
 -- a setup of this stamp that a node accepted in a life
@@ -52,7 +52,12 @@ pub record IsGiven (g : Givens) (stamp : ℕ) : Type 0 where
   pub session : ℕ
   pub is : g block stamp ≡ Some session
 
+-- the stamp of a length that was answered: of no block (0), or given for the answer's block
+abbrev pub IsOfBlock : Givens → Answered → Type 0
+IsOfBlock g a = (a.stamp ≡ 0) ⊎ ((s : ℕ) × (g a.block a.stamp ≡ Some s))
+
 pub record SetUps (g : Givens) (w : World) : Type 0 where
+  pub answers : (a : Answered) → Has w.answered a → IsOfBlock g a
   pub given : (s n l : ℕ) → Has w.joined (joined_as s n l) → IsGiven g s
   pub reached : (n b : ℕ) → HasReached g w.joined n b (w.replicas n b).known.info
   pub plain : (n b : ℕ) → IfSome (w.replicas n b).known.info IsPlain
@@ -62,3 +67,7 @@ pub record SetUps (g : Givens) (w : World) : Type 0 where
 -- So it is after every list of events, of the stamps that are given in them.
 abbrev pub AllSetUp : Type 0
 AllSetUp = (nodes : ℕ) (events : List Event) → SetUps (given_in none_given (start nodes) events) (run (start nodes) events)
+
+-- A node that is steady since the stamp of a length that was answered has a replica of at least that stamp.
+abbrev pub AnsweredReach : World → Type 0
+AnsweredReach w = (a : Answered) (n : ℕ) → Has w.answered a → Steady w a.block a.stamp n → AtLeast (w.replicas n a.block).known.info a.stamp

@@ -188,7 +188,7 @@ start-recorded nodes = record {
   one = λ b c t e q g k. absurd (none-some e g);
   first = omega arith;
   writers = λ b. refl;
-  blocks = λ b. (refl, λ t. refl);
+  blocks = λ b. (refl, λ t. refl, refl);
 }
 
 pub all-recorded : (nodes : ℕ) (events : List Event) → Recorded (given_in none_given (start nodes) events) (run (start nodes) events)

@@ -211,7 +211,7 @@ refusal-committed x e = if-each (λ (y : WriterRecord). y.committed ≡ x.commit
 -- a writer that goes on under the same committed stamp
 pub moved-held : (f : ℕ → Option ℕ) (latest : ℕ) (o : Option BlockRecord) (x y : WriterRecord) → y.committed ≡ x.committed → ((r : Option Stamp) → Fits f latest r x → Fits f latest r y)
     → HeldOf f latest o x → HeldOf f latest o y
-moved-held f latest None x y c k h = h
+moved-held f latest None x y c k h = (h.0, h.1, ap (λ (t : Stamp). t.0) c ∙ h.2)
 moved-held f latest (Some r) x y c k h = record {
   base = h.base;
   office = h.office;

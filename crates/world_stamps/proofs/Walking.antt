@@ -31,7 +31,7 @@ pub record Goes (x y : WriterRecord) : Type 0 where
 goes-same : (x y : WriterRecord) → Same x y → ((f : ℕ → Option ℕ) (l : ℕ) (r : Option Stamp) → Fits f l r x → Fits f l r y) → Goes x y
 goes-same x y s k = record { block = s.block; committed = s.committed; fits = k }
 
-goes-then : (x y z : WriterRecord) → Goes x y → Goes y z → Goes x z
+pub goes-then : (x y z : WriterRecord) → Goes x y → Goes y z → Goes x z
 goes-then x y z a b = record { block = b.block ∙ a.block; committed = b.committed ∙ a.committed; fits = λ f l r k. b.fits f l r (a.fits f l r k) }
 
 pub stays : (x : WriterRecord) → Goes x x
@@ -42,7 +42,7 @@ pub record Moved (w : World) (k : Change) : Type 0 where
   pub goes : Goes (heard (w.writers k.writer_at)) (heard k.writer)
 
 -- the writer of a block that goes on so
-abbrev On : World → ℕ → WriterRecord → Type 0
+abbrev pub On : World → ℕ → WriterRecord → Type 0
 On w b x = Goes (heard (w.writers b)) x
 
 writer-moved : (w : World) (b : ℕ) (x : WriterRecord) → On w b x → Moved w (writer_change w b x)
@@ -98,7 +98,7 @@ rest-moved (phase.Failed f) w b x answered e h = record { goes = h }
 own-goes : (x : WriterRecord) → Goes x (own_step x).writer
 own-goes x = goes-same x (own_step x).writer (own-step-same x) (λ f l r k. own-step-fits f l r x k)
 
-given-goes : (x : WriterRecord) (t : TakenCommand) → Goes x (given (ruled x t.command t.rule) t.command)
+pub given-goes : (x : WriterRecord) (t : TakenCommand) → Goes x (given (ruled x t.command t.rule) t.command)
 given-goes x t =
     let y = ruled x t.command t.rule in
     goes-then x y (given y t.command) (goes-same x y (ruled-same x t.command t.rule) (λ f l r k. ruled-fits f l r x t.command t.rule k))
@@ -115,7 +115,7 @@ command-moved w b x t h =
     (goes-then (heard (w.writers b)) x s.writer h (goes-then x z s.writer (given-goes x t) (own-goes z)))))
 
 -- the writer that has heard this
-on-told : (w : World) (b : ℕ) (o : Option Told) → (w.writers b).told ≡ o → On w b (known_heard (w.writers b).known o)
+pub on-told : (w : World) (b : ℕ) (o : Option Told) → (w.writers b).told ≡ o → On w b (known_heard (w.writers b).known o)
 on-told w b o e = subst (λ (t : Option Told). Goes (heard (w.writers b)) (known_heard (w.writers b).known t)) e (stays (heard (w.writers b)))
 
 step-moved : (w : World) (b : ℕ) (told : Option Told) (takes : Option TakenCommand) (answered : Bool) → (w.writers b).told ≡ told

@@ -150,9 +150,9 @@ pub record Entries (given : ℕ → Option ℕ) (latest : ℕ) (r : BlockRecord)
   pub office : OfficeEntry given latest base r
   pub writer : WriterEntry given latest base r x
 
--- a block that isn't known has no stamps and no session
+-- a block that isn't known has no stamps and no session, and its writer knows no stamp
 abbrev pub HeldOf : (ℕ → Option ℕ) → ℕ → Option BlockRecord → WriterRecord → Type 0
-HeldOf given latest None x = (latest ≡ 0) × ((t : ℕ) → given t ≡ None)
+HeldOf given latest None x = (latest ≡ 0) × ((t : ℕ) → given t ≡ None) × (x.committed.0 ≡ 0)
 HeldOf given latest (Some r) x = Entries given latest r x
 
 -- THE WORLD
