@@ -1,9 +1,8 @@
 -- What was answered, and the replicas of steady nodes.
-use Rattle.std.proofs.Common.{◌≡◌, ℕ, ◌≤◌, ◌⊎◌, inl, inr, List, Option, Some, None, sym, subst, arith}
+use Rattle.std.proofs.Common.{ℕ, inl, inr, List, arith}
 use Rattle.world.specs.declared.events.Event.{Event}
 use Rattle.world.specs.Worlds.{World, start}
 use Rattle.world.specs.Events.{run}
-use Rattle.world.specs.Safe.{Steady}
 use Rattle.world_stamps.specs.Stamping.{Givens, none_given, given_in, Recorded}
 use Rattle.world_stamps.proofs.AllRecorded.{all-recorded}
 use Rattle.world_setups.specs.Joining.{AtLeast, IsOfBlock, SetUps, AnsweredReach}

@@ -1,6 +1,5 @@
 -- Lengths are answered under stamps of their block.
-use Rattle.std.proofs.Common.{◌≡◌, ℕ, ◌⊎◌, inl, inr, List, [], ◌∷◌, slice_get, Option, Some, None, IfSome, refl, sym, ◌∙◌, ap, subst}
-use Rattle.hd_base.specs.declared.numbers.BlockId.{BlockId}
+use Rattle.std.proofs.Common.{◌≡◌, ℕ, ◌⊎◌, inl, inr, List, [], ◌∷◌, slice_get, Option, Some, None, IfSome, refl, ◌∙◌, ap, subst}
 use Rattle.hd_base.specs.declared.numbers.NodeId.{NodeId}
 use Rattle.hd_base.specs.declared.numbers.Stamp.{Stamp}
 use Rattle.name_core.specs.declared.records.BlockRecord.{BlockRecord}
@@ -22,7 +21,7 @@ use Rattle.writer_core.specs.declared.phases.Setup.{Setup}
 use Rattle.writer_core.specs.declared.phases.Setup.TheVariants as setup
 use Rattle.writer_core.specs.declared.phases.Waiting.{Waiting}
 use Rattle.writer_core.specs.declared.records.WriterRecord.{WriterRecord}
-use Rattle.writer_core.specs.Transitions.{own_step, step_in, dial_step, dial_step_as, accepted_step, completed_step, failed_step_as, failed_first, failed_command, failure_answer, free_step_as, take_first, stream_step_as, due_step, due_now, form_step, reach_step_as, reached_length}
+use Rattle.writer_core.specs.Transitions.{own_step, step_in, dial_step_as, accepted_step, completed_step, failed_step_as, failed_first, failed_command, failure_answer, free_step_as, take_first, stream_step_as, due_step, due_now, form_step, reach_step_as, reached_length}
 use Rattle.world.specs.Parts.{Answered}
 use Rattle.world.specs.Worlds.{World, Change}
 use Rattle.world.specs.Clients.{reached_answer}
