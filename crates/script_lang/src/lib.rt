@@ -13,11 +13,7 @@ mod progress;
 mod reading;
 mod report;
 mod report_reading;
-#[cfg(test)]
-mod report_tests;
 mod report_words;
-#[cfg(test)]
-mod tests;
 mod words;
 
 pub use faults::{BadKind, LineFault, ScriptError};

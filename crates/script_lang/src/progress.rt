@@ -127,7 +127,8 @@ impl Progress {
 
     /// `sums` of a block.
     fn rule(&mut self, block: BlockId) -> Result<(), Stop>
-        ensures { Gives (with_value (λ _. before_of self.new) result) (moved is_none (before_of self.old) block Stage.Ruled) }
+        ensures { Gives (with_value (λ _. before_of self.new) result)
+            (moved is_none (before_of self.old) block Stage.Ruled) }
     {
         if self.stage(block).is_some() {
             return Err(Stop::Bad(BadKind::Block));
@@ -148,7 +149,8 @@ impl Progress {
 
     /// `append` to a block.
     fn append(&mut self, block: BlockId) -> Result<(), Stop>
-        ensures { Gives (with_value (λ _. before_of self.new) result) (moved is_closed (before_of self.old) block Stage.Open) }
+        ensures { Gives (with_value (λ _. before_of self.new) result)
+            (moved is_closed (before_of self.old) block Stage.Open) }
     {
         if self.stage(block) != Some(Stage::Closed) {
             return Err(Stop::Bad(BadKind::Block));
@@ -158,7 +160,8 @@ impl Progress {
 
     /// `close` of a block.
     fn close(&mut self, block: BlockId) -> Result<(), Stop>
-        ensures { Gives (with_value (λ _. before_of self.new) result) (moved is_open (before_of self.old) block Stage.Closed) }
+        ensures { Gives (with_value (λ _. before_of self.new) result)
+            (moved is_open (before_of self.old) block Stage.Closed) }
     {
         self.flush(block)?;
         Ok(self.set_stage(block, Stage::Closed)?)

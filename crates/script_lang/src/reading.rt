@@ -140,7 +140,8 @@ impl Reader {
 
     /// What the next line says by itself, if anything.
     fn said(&self, alloc: Global, line: &[u8]) -> Result<Option<Instruction>, Stop>
-        ensures said { Gives result (line_said self.now.shelves self.now.number (before_of self.now.progress) line.now) }
+        ensures said { Gives result
+            (line_said self.now.shelves self.now.number (before_of self.now.progress) line.now) }
         ensures in_range { IfOk result (λ said. IfSome said IsInRange) }
         ensures few { OnOk result (self.now.number ≤ most_lines) }
     {

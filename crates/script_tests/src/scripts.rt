@@ -1,7 +1,7 @@
 //! Worked scripts, one line for each rule, and reading with memory that runs out.
 
-use crate::{BadKind, Instruction, ScriptError, ScriptLine, StepEvent, read_script};
 use hd_base::{BlockId, ByteList, Members, NodeId, ReplicaState, Stamp, SumKind, SumRule};
+use script_lang::{BadKind, Instruction, ScriptError, ScriptLine, StepEvent, read_script};
 use std::alloc::{AllocError, Global};
 use std::test::Fail;
 

@@ -1,10 +1,10 @@
 //! Lines of worked reports: what they say, and that they print to themselves.
 
-use crate::{
+use hd_base::{BlockId, ByteList, Members, NodeId, ReplicaState, Stamp};
+use script_lang::{
     Answer, Failure, FlushResult, LineFault, OfficeRefusal, ReadResult, RecoveryResult, ReportLine,
     SetupResult, print_line, read_line,
 };
-use hd_base::{BlockId, ByteList, Members, NodeId, ReplicaState, Stamp};
 use std::alloc::{AllocError, Global};
 use std::test::Fail;
 

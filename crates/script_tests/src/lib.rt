@@ -1,0 +1,7 @@
+//! Tests of `script_lang`: worked scripts and reports.
+#![tactic(auto)]
+
+#[cfg(test)]
+mod reports;
+#[cfg(test)]
+mod scripts;
