@@ -72,7 +72,7 @@ pub fn pass_packet<F: Files, O: LinkOut>(
         Err(fault) => return taken_as(Err(fault)),
     };
     match send_piece(mirror, &text) {
-        Ok(()) => Taken::Booked(receipt),
+        Ok(_) => Taken::Booked(receipt),
         Err(_) => Taken::MirrorFailed(receipt),
     }
 }

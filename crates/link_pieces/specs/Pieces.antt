@@ -1,5 +1,5 @@
 -- What becomes of an outward half when a piece is sent on it, or nothing is.
-use Rattle.std.specs.Prelude.{◌≡◌, ℕ, ◌+◌, ◌≤◌, if◌then◌else◌, List, None, IfSome, Result, Ok, Err}
+use Rattle.std.specs.Prelude.{◌≡◌, ℕ, ◌+◌, ◌≤◌, if◌then◌else◌, List, length, None, IfSome, IfOk, Result, Ok, Err}
 use Rattle.hd_base.specs.Faults.{FaultsIncreased, FollowsSchedule, KeepsSchedule}
 use Rattle.hd_base.specs.Links.{LinkCause, Sends}
 use Rattle.hd_base.specs.declared.links.LinkError.{LinkError}
@@ -33,18 +33,24 @@ pub record FailsToSend {O : Type 0} (o : link_out.Ghosts O) (old new : O) : Type
   pub rose : FaultsIncreased (o.faults old) (o.faults new)
 
 -- How the sending of a piece ends: it is sent whole, or the link failed. It is never want of memory.
-abbrev pub IsSending : {O : Type 0} → link_out.Ghosts O → List ℕ → O → O → Result (Unit {0}) LinkError → Type 0
+abbrev pub IsSending : {O : Type 0} → link_out.Ghosts O → List ℕ → O → O → Result ℕ LinkError → Type 0
 IsSending o piece old new (Ok _) = SendsPiece o piece old new
 IsSending o piece old new (Err link_error.Failed) = FailsToSend o old new
 IsSending o piece old new (Err link_error.Memory) = ⊥
 
--- The same, and that it is one call of the schedule, where sends are observable.
-pub record PieceEnds {O : Type 0} (o : link_out.Ghosts O) (piece : List ℕ) (old new : O) (result : Result (Unit {0}) LinkError) : Type 0 where
+-- all bytes of a piece were taken
+abbrev pub TakesAll : List ℕ → Result ℕ LinkError → Type 0
+TakesAll piece result = IfOk result (λ n. n ≡ length piece)
+
+-- The same, that the link took all of it, and that it is one call of the schedule, where sends are observable.
+pub record PieceEnds {O : Type 0} (o : link_out.Ghosts O) (piece : List ℕ) (old new : O) (result : Result ℕ LinkError) : Type 0 where
   pub ends : IsSending o piece old new result
+  pub whole : TakesAll piece result
   pub schedule : IfSome (o.sent old) (λ _. FollowsSchedule (o.schedule old) (o.schedule new) (o.faults old) (o.faults new) result)
 
 -- How the sending of what a link left of a piece ends, of which nothing is observable.
-pub record RestEnds {O : Type 0} (o : link_out.Ghosts O) (old new : O) (result : Result (Unit {0}) LinkError) : Type 0 where
+pub record RestEnds {O : Type 0} (o : link_out.Ghosts O) (piece : List ℕ) (old new : O) (result : Result ℕ LinkError) : Type 0 where
+  pub whole : TakesAll piece result
   pub hidden : o.sent old ≡ None → o.sent new ≡ None
   pub kept : KeepsHalf o old new
   pub cause : LinkCause (o.faults old) (o.faults new) result

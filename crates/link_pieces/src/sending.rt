@@ -19,27 +19,29 @@ pub fn take_room<O: LinkOut>(alloc: Global, outward: &mut O, len: usize) -> Resu
 }
 
 /// Sends a piece for which there is room: the whole of it, as one piece, and what the link leaves of it after it. It takes
-/// no memory, and fails only where the link's count of faults rises.
-pub fn send_piece<O: LinkOut>(outward: &mut O, piece: &[u8]) -> Result<(), LinkError>
+/// no memory, and fails only where the link's count of faults rises. Answers how many bytes the link took, which are all.
+pub fn send_piece<O: LinkOut>(outward: &mut O, piece: &[u8]) -> Result<usize, LinkError>
     requires { length piece.now < O.room outward.old }
     ensures { PieceEnds O.LinkOut piece.now outward.old outward.new result }
 {
     let count = outward.send(piece)?;
     if count < piece.len() {
-        return send_rest(outward, piece.split_at(count).1);
+        return Ok(count + send_rest(outward, piece.split_at(count).1)?);
     }
-    Ok(())
+    Ok(count)
 }
 
-/// Sends what a link left of a piece.
-fn send_rest<O: LinkOut>(outward: &mut O, piece: &[u8]) -> Result<(), LinkError>
+/// Sends what a link left of a piece, and answers how many bytes it took.
+fn send_rest<O: LinkOut>(outward: &mut O, piece: &[u8]) -> Result<usize, LinkError>
     requires { length piece.now < O.room outward.old }
-    ensures { RestEnds O.LinkOut outward.old outward.new result }
+    ensures { RestEnds O.LinkOut piece.now outward.old outward.new result }
 {
     let mut rest = piece;
+    let mut taken = 0;
     'pieces: while !rest.is_empty() {
         let count = outward.send(rest)?;
         (_, rest) = rest.split_at(count);
+        taken += count;
     }
-    Ok(())
+    Ok(taken)
 }

@@ -47,7 +47,7 @@ pub fn book_and_send<F: Files, O: LinkOut>(
         Err(fault) => return sending_as(Err(fault)),
     };
     match send_piece(upstream, piece) {
-        Ok(()) => Sending::Done(receipt),
+        Ok(_) => Sending::Done(receipt),
         Err(_) => Sending::LinkFailed(receipt),
     }
 }

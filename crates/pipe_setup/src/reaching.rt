@@ -88,7 +88,7 @@ fn ask_mirror<R: Roads>(
         return Reached::Memory;
     }
     match send_piece(&mut end.outward, text) {
-        Ok(()) => Reached::Asked(end),
+        Ok(_) => Reached::Asked(end),
         Err(_) => Reached::Unsent(end),
     }
 }

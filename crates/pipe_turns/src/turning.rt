@@ -135,7 +135,7 @@ fn send_alone<O: LinkOut>(alloc: Global, text: &Option<Vec<u8>>, upstream: &mut 
         return Done::Memory;
     }
     match send_piece(upstream, text) {
-        Ok(()) => Done::Taken { receipt: None },
+        Ok(_) => Done::Taken { receipt: None },
         Err(_) => Done::LinkFailed { receipt: None },
     }
 }
