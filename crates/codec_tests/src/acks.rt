@@ -1,5 +1,8 @@
 //! Worked examples of the format, byte for byte.
 
+ghost use Rattle.std.specs.Prelude.{All, IfOk};
+ghost use Rattle.hd_base.specs.Wire.{IsStatus};
+
 use ack_codec::{
     Ack, AckBytes, AckFault, MAX_REPLIES, Replies, Response, ResponseFault, decode_ack,
     decode_read_status, decode_response, encode_ack, encode_response,
@@ -28,24 +31,38 @@ fn reads_and_writes_acks(rt: HostRuntime) -> Result<(), Fail> {
         (PACKED, 0, 3, THREE),
         (HEARTBEAT, -1, 1, HEARTBEAT),
     ] {
-        let (ack, taken) = decode_ack(bytes)?;
-        assert_eq!(rt; taken, bytes.len());
-        let replies = Replies::new(&[Status::Success; 3][..count.min(3)]).ok_or("at most 16")?;
-        assert!(rt; ack == Ack { seqno, replies });
-        for cut in 0..bytes.len() {
-            assert_eq!(rt; decode_ack(&bytes[..cut]).err(), Some(AckFault::Short));
-        }
-        if (&ack.replies)
-            .into_iter()
-            .all(|status| *status == Status::Success)
-        {
-            let mut out = AckBytes::new();
-            let replies = Replies::new(&[Status::Success; 3][..count.min(3)]).ok_or("at most 16")?;
-            encode_ack(&Ack { seqno, replies }, &mut out);
-            assert!(rt; out.as_slice() == written);
-        }
+        reads(&rt, bytes, &successes(seqno, count)?)?;
+        writes(&rt, &successes(seqno, count)?, written);
     }
     Ok(())
+}
+
+/// The ack of a packet with so many SUCCESS, at most three.
+fn successes(seqno: i64, count: usize) -> Result<Ack, Fail>
+    ensures { IfOk result (λ ack. All IsStatus ack.replies) }
+{
+    let replies = Replies::new(&[Status::Success; 3][..count.min(3)]).ok_or("at most 16")?;
+    Ok(Ack { seqno, replies })
+}
+
+/// The bytes are read as this ack, and each front of them is Short.
+fn reads(rt: &impl Abort, bytes: &[u8], wanted: &Ack) -> Result<(), Fail> {
+    let (ack, taken) = decode_ack(bytes)?;
+    assert_eq!(rt; taken, bytes.len());
+    assert!(rt; ack == *wanted);
+    for cut in 0..bytes.len() {
+        assert_eq!(rt; decode_ack(&bytes[..cut]).err(), Some(AckFault::Short));
+    }
+    Ok(())
+}
+
+/// The ack is written as these bytes.
+fn writes(rt: &impl Abort, ack: &Ack, bytes: &[u8])
+    requires { All IsStatus ack.now.replies }
+{
+    let mut out = AckBytes::new();
+    encode_ack(ack, &mut out);
+    assert!(rt; out.as_slice() == bytes);
 }
 
 /// Sixteen replies of the longest numbers are written, and of seventeen none is read.
@@ -151,11 +168,7 @@ fn compare(rt: &impl Abort, alloc: Global, bytes: &[u8], wanted: &Response) -> R
     let (read, taken) = decode_response(alloc, bytes)?;
     assert_eq!(rt; taken, bytes.len());
     assert!(rt; read == wanted.duplicate()?);
-    let may = wanted.is_encodable(alloc)?;
-    assert!(rt; may);
-    let mut out = Vec::new(alloc);
-    encode_response(wanted, &mut out)?;
-    assert!(rt; out.as_slice() == bytes);
+    assert!(rt; written(rt, alloc, wanted)?.as_slice() == bytes);
     for cut in 0..bytes.len().min(32) {
         let front = decode_response(alloc, &bytes[..cut]);
         assert_eq!(rt; front.err(), Some(ResponseFault::Short));
@@ -163,52 +176,78 @@ fn compare(rt: &impl Abort, alloc: Global, bytes: &[u8], wanted: &Response) -> R
     Ok(())
 }
 
+/// A response as it is written.
+fn written(rt: &impl Abort, alloc: Global, response: &Response) -> Result<Vec<u8>, AllocError> {
+    assert!(rt; response.is_encodable(alloc)?);
+    let mut out = Vec::new(alloc);
+    encode_response(response, &mut out)?;
+    Ok(out)
+}
+
 /// A setup that was taken, one whose mirror was not reached, one that was refused for an old
 /// stamp, and the answers to reads under two rules.
 #[test]
 fn reads_and_writes_responses(rt: HostRuntime) -> Result<(), Fail> {
     let alloc = rt.alloc();
-    let taken = response(alloc, Status::Success, b"", None, b"")?;
-    compare(&rt, alloc, b"\x04\x08\x00\x12\x00", &taken)?;
-    let unreached = response(alloc, Status::Error, b"127.0.0.1:9867", None, b"")?;
-    compare(
-        &rt,
-        alloc,
-        b"\x12\x08\x01\x12\x0e127.0.0.1:9867",
-        &unreached,
-    )?;
-    let stale = response(alloc, Status::Error, b"", None, b"4 1003 1001 1002")?;
-    compare(
-        &rt,
-        alloc,
-        b"\x16\x08\x01\x12\x00\x2a\x104 1003 1001 1002",
-        &stale,
-    )?;
-    let read = response(alloc, Status::Success, b"", Some((2, 512, 0)), b"")?;
-    compare(
-        &rt,
-        alloc,
-        b"\x0d\x08\x00\x22\x09\x0a\x05\x08\x02\x10\x80\x04\x10\x00",
-        &read,
-    )?;
-    let read = response(alloc, Status::Success, b"", Some((1, 16, 32)), b"")?;
-    compare(
-        &rt,
-        alloc,
-        b"\x0c\x08\x00\x22\x08\x0a\x04\x08\x01\x10\x10\x10\x20",
-        &read,
-    )
+    for (first_bad, sums_from, message, bytes) in [
+        (
+            b"".as_slice(),
+            None,
+            b"".as_slice(),
+            b"\x04\x08\x00\x12\x00".as_slice(),
+        ),
+        (
+            b"127.0.0.1:9867",
+            None,
+            b"",
+            b"\x12\x08\x01\x12\x0e127.0.0.1:9867",
+        ),
+        (
+            b"",
+            None,
+            b"4 1003 1001 1002",
+            b"\x16\x08\x01\x12\x00\x2a\x104 1003 1001 1002",
+        ),
+        (
+            b"",
+            Some((2, 512, 0)),
+            b"",
+            b"\x0d\x08\x00\x22\x09\x0a\x05\x08\x02\x10\x80\x04\x10\x00",
+        ),
+        (
+            b"",
+            Some((1, 16, 32)),
+            b"",
+            b"\x0c\x08\x00\x22\x08\x0a\x04\x08\x01\x10\x10\x10\x20",
+        ),
+    ] {
+        let refused = !first_bad.is_empty() || !message.is_empty();
+        let status = if refused {
+            Status::Error
+        } else {
+            Status::Success
+        };
+        let wanted = response(alloc, status, first_bad, sums_from, message)?;
+        compare(&rt, alloc, bytes, &wanted)?;
+    }
+    Ok(())
 }
 
-/// A message of 65,536 bytes and one of a byte more, a kind that isn't listed, and a status that is.
+/// A message of 65,536 bytes.
 #[test]
-fn tells_what_may_be_written(rt: HostRuntime) -> Result<(), Fail> {
+fn reads_and_writes_the_longest_response(rt: HostRuntime) -> Result<(), Fail> {
     let alloc = rt.alloc();
     let longest = vec![in alloc; b'x'; 65_528]?;
     let most = response(alloc, Status::Success, b"", None, &longest)?;
     let mut bytes = Vec::from_slice(alloc, b"\x80\x80\x04\x08\x00\x12\x00\x2a\xf8\xff\x03")?;
     bytes.extend_from_slice(&longest)?;
-    compare(&rt, alloc, &bytes, &most)?;
+    compare(&rt, alloc, &bytes, &most)
+}
+
+/// A message of a byte more, a kind that isn't listed, and a status that is.
+#[test]
+fn tells_what_may_be_written(rt: HostRuntime) -> Result<(), Fail> {
+    let alloc = rt.alloc();
     let longer = vec![in alloc; b'x'; 65_529]?;
     for (status, first_bad, sums_from, message) in [
         (Status::Success, b"".as_slice(), None, longer.as_slice()),

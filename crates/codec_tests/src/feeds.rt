@@ -4,6 +4,7 @@ use frame_feed::{Feed, FeedFault, Message, Note, NoteList, SentList, Took};
 use hd_base::{ConnId, Status};
 use op_headers::OpFault;
 use packet_codec::PacketFault;
+use std::alloc::AllocError;
 use std::process::Abort;
 use std::test::Fail;
 
@@ -116,16 +117,21 @@ fn takes_a_read_status(rt: HostRuntime) -> Result<(), Fail> {
     Ok(())
 }
 
+/// Whether a request comes next.
+fn has_request(feed: &mut Feed) -> Result<bool, FeedFault> {
+    Ok(feed.next_op()?.is_some())
+}
+
 /// A request for a block's checksum, in two pieces.
 #[test]
 fn takes_a_request(rt: HostRuntime) -> Result<(), Fail> {
     let mut feed = Feed::new(rt.alloc())?;
     feed.push(b"\x00\x1cU!")?;
-    assert!(rt; feed.next_op()?.is_none());
+    assert!(rt; !has_request(&mut feed)?);
     assert_eq!(rt; feed.wanted(), 33);
     feed.push(b"\x0a\x1f\x0a\x1d\x0a\x10BP-1-127.0.0.1-1")?;
     feed.push(b"\x10\x81\x80\x80\x80\x04\x18\xe9\x07\x20\x00")?;
-    assert!(rt; feed.next_op()?.is_some());
+    assert!(rt; has_request(&mut feed)?);
     Ok(())
 }
 
@@ -147,6 +153,11 @@ fn prints_faults(rt: HostRuntime) -> Result<(), Fail> {
     Ok(())
 }
 
+/// Whether a copy of the message is the reader's SUCCESS.
+fn is_success(message: &Message) -> Result<bool, AllocError> {
+    Ok(matches!(message.duplicate()?, Message::ReadStatus(Status::Success)))
+}
+
 #[test]
 fn keeps_what_was_sent(rt: HostRuntime) -> Result<(), Fail> {
     let mut sent = SentList::new(rt.alloc());
@@ -154,7 +165,7 @@ fn keeps_what_was_sent(rt: HostRuntime) -> Result<(), Fail> {
     assert_eq!(rt; sent.len(), 1);
     for (conn, message) in sent.as_slice() {
         assert_eq!(rt; *conn, ConnId(1));
-        assert!(rt; matches!(message.duplicate()?, Message::ReadStatus(Status::Success)));
+        assert!(rt; is_success(message)?);
     }
     Ok(())
 }

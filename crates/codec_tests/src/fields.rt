@@ -197,10 +197,13 @@ fn writes_the_message(rt: HostRuntime) -> Result<(), Fail> {
     Ok(())
 }
 
+/// A message in which two fields stand twice.
+const REPEATED: &[u8] =
+    b"\x1a\x02ab\x08\x05\x1a\x02cd\x08\x07\x12\x01e\x11\x08\x07\x06\x05\x04\x03\x02\x01";
+
 #[test]
-fn takes_the_last_and_joins_all(rt: HostRuntime) -> Result<(), Fail> {
-    let bytes =
-        b"\x1a\x02ab\x08\x05\x1a\x02cd\x08\x07\x12\x01e\x11\x08\x07\x06\x05\x04\x03\x02\x01";
+fn takes_the_last_values(rt: HostRuntime) -> Result<(), Fail> {
+    let bytes = REPEATED;
     let listed = fields(rt.alloc(), bytes)?;
     assert_eq!(rt; listed.number(1), Some(7));
     assert_eq!(rt; listed.number(3), None);
@@ -213,6 +216,13 @@ fn takes_the_last_and_joins_all(rt: HostRuntime) -> Result<(), Fail> {
     );
     assert_eq!(rt; three.part, Some((8, 10)));
     assert_eq!(rt; last_values(bytes, 2)?, two);
+    Ok(())
+}
+
+#[test]
+fn joins_all_parts(rt: HostRuntime) -> Result<(), Fail> {
+    let bytes = REPEATED;
+    let listed = fields(rt.alloc(), bytes)?;
     let joined = merged(rt.alloc(), bytes, 3, &listed)?.ok_or("there are parts")?;
     assert!(rt; joined.as_slice() == b"abcd".as_slice());
     let single = merged(rt.alloc(), bytes, 2, &listed)?.ok_or("there is a part")?;

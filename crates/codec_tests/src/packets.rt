@@ -64,23 +64,35 @@ fn packets_are_read_and_written(rt: HostRuntime) -> Result<(), Fail> {
         (LAST, (9, 1), false, b"".as_slice(), b"".as_slice()),
     ] {
         let wanted = packet(alloc, place, sync, sums, body)?;
-        let (read, size) = decode_packet(alloc, bytes)?;
-        assert_eq!(rt; size, bytes.len());
+        assert!(rt; is_read(alloc, bytes, &wanted)?);
+        is_short_before(&rt, alloc, bytes);
         assert_eq!(rt; packet_parts(bytes)?.sums, sums.len());
-        assert!(rt; read == wanted.clone()?);
-        assert!(rt; wanted.is_encodable());
-        let mut out = Vec::new(alloc);
-        encode_packet(&wanted, &mut out)?;
-        assert_eq!(rt; out.as_slice(), bytes);
-        for end in 0..bytes.len() {
-            assert_eq!(rt;
-                decode_packet(alloc, &bytes[..end]).err(),
-                Some(PacketFault::Short)
-            );
-        }
+        assert_eq!(rt; written(&rt, alloc, &wanted)?.as_slice(), bytes);
     }
     assert!(rt; !packet(alloc, (0, 0), false, b"\0\0\0", b"1")?.is_encodable());
     Ok(())
+}
+
+/// Whether the bytes are read as this packet, all of them.
+fn is_read(alloc: Global, bytes: &[u8], wanted: &Packet) -> Result<bool, PacketFault> {
+    let (read, size) = decode_packet(alloc, bytes)?;
+    Ok(size == bytes.len() && read == *wanted)
+}
+
+/// Each front of the bytes is Short.
+fn is_short_before(rt: &impl Abort, alloc: Global, bytes: &[u8]) {
+    for end in 0..bytes.len() {
+        let front = decode_packet(alloc, &bytes[..end]);
+        assert_eq!(rt; front.err(), Some(PacketFault::Short));
+    }
+}
+
+/// A packet as it is written.
+fn written(rt: &impl Abort, alloc: Global, packet: &Packet) -> Result<Vec<u8>, AllocError> {
+    assert!(rt; packet.is_encodable());
+    let mut out = Vec::new(alloc);
+    encode_packet(packet, &mut out)?;
+    Ok(out)
 }
 
 /// So many bytes that count up.
@@ -103,12 +115,8 @@ fn goes_through(
     let sums = counting(alloc, sums)?;
     let body = counting(alloc, body)?;
     let wanted = packet(alloc, (7, 3), sync, sums.as_slice(), body.as_slice())?;
-    assert!(rt; wanted.is_encodable());
-    let mut out = Vec::new(alloc);
-    encode_packet(&wanted, &mut out)?;
-    let (read, size) = decode_packet(alloc, out.as_slice())?;
-    assert_eq!(rt; size, out.len());
-    assert!(rt; read == wanted);
+    let out = written(rt, alloc, &wanted)?;
+    assert!(rt; is_read(alloc, out.as_slice(), &wanted)?);
     Ok(())
 }
 

@@ -159,13 +159,24 @@ fn reads(rt: &impl Abort, alloc: Global, bytes: &[u8]) -> Result<Op, Fail> {
     Ok(op)
 }
 
-/// Compares what is read of the bytes with a request, and what is written of it with the bytes.
-fn writes(rt: &impl Abort, alloc: Global, op: Op, bytes: &[u8]) -> Result<(), Fail> {
-    assert!(rt; reads(rt, alloc, bytes)? == op);
+/// A request as it is written.
+fn written(rt: &impl Abort, alloc: Global, op: &Op) -> Result<Vec<u8>, Fail> {
     assert!(rt; op.is_encodable(alloc)?);
     let mut out = Vec::new(alloc);
-    encode_op(&op, &mut out)?;
-    assert!(rt; out.as_slice() == bytes);
+    encode_op(op, &mut out)?;
+    Ok(out)
+}
+
+/// Whether the bytes are read as this request.
+fn is_read(rt: &impl Abort, alloc: Global, op: &Op, bytes: &[u8]) -> Result<bool, Fail> {
+    let read = reads(rt, alloc, bytes)?;
+    Ok(read == *op)
+}
+
+/// Compares what is read of the bytes with a request, and what is written of it with the bytes.
+fn writes(rt: &impl Abort, alloc: Global, op: Op, bytes: &[u8]) -> Result<(), Fail> {
+    assert!(rt; is_read(rt, alloc, &op, bytes)?);
+    assert!(rt; written(rt, alloc, &op)?.as_slice() == bytes);
     Ok(())
 }
 
@@ -325,18 +336,22 @@ fn full_write(alloc: Global) -> Result<Op, AllocError> {
     }))
 }
 
-/// The same values are read where a client fills in more fields.
-#[test]
-fn reads_full_requests(rt: HostRuntime) -> Result<(), Fail> {
-    let alloc = rt.alloc();
-    assert!(rt; reads(&rt, alloc, WRITE)? == full_write(alloc)?);
-    let read = ReadOp {
+/// The read request of `READ`.
+fn full_read(alloc: Global) -> Result<Op, AllocError> {
+    Ok(Op::Read(ReadOp {
         block: block(alloc, 4096)?,
         client: text(alloc, b"DFSClient_NONMAPREDUCE_-1_1")?,
         offset: 512,
         len: 1024,
-    };
-    assert!(rt; reads(&rt, alloc, READ)? == Op::Read(read));
+    }))
+}
+
+/// The same values are read where a client fills in more fields.
+#[test]
+fn reads_full_requests(rt: HostRuntime) -> Result<(), Fail> {
+    let alloc = rt.alloc();
+    assert!(rt; is_read(&rt, alloc, &full_write(alloc)?, WRITE)?);
+    assert!(rt; is_read(&rt, alloc, &full_read(alloc)?, READ)?);
     Ok(())
 }
 
@@ -424,11 +439,7 @@ fn answers(
     let (read, taken) = decode_answer(alloc, bytes)?;
     assert_eq!(rt; taken, bytes.len());
     assert!(rt; read == answer.duplicate()?);
-    let may = answer.is_encodable(alloc)?;
-    assert!(rt; may);
-    let mut out = Vec::new(alloc);
-    encode_answer(answer, &mut out)?;
-    assert!(rt; out.as_slice() == bytes);
+    assert!(rt; written_answer(rt, alloc, answer)?.as_slice() == bytes);
     for cut in 0..bytes.len() {
         let front = decode_answer(alloc, &bytes[..cut]);
         assert_eq!(rt; front.err(), Some(AnswerFault::Short));
@@ -436,23 +447,51 @@ fn answers(
     Ok(())
 }
 
+/// An answer as it is written.
+fn written_answer(
+    rt: &impl Abort,
+    alloc: Global,
+    answer: &RecoveryAnswer,
+) -> Result<Vec<u8>, Fail> {
+    assert!(rt; answer.is_encodable(alloc)?);
+    let mut out = Vec::new(alloc);
+    encode_answer(answer, &mut out)?;
+    Ok(out)
+}
+
 #[test]
 fn reads_and_writes_answers(rt: HostRuntime) -> Result<(), Fail> {
     let alloc = rt.alloc();
-    let found = RecoveryAnswer {
-        status: Status::Success,
-        message: text(alloc, b"")?,
-        info: Some((ReplicaState::Rbw, Stamp(1001), 512)),
-    };
-    answers(&rt, alloc, FOUND, &found)?;
-    let refused = RecoveryAnswer {
-        status: Status::Error,
-        message: text(alloc, b"1")?,
-        info: None,
-    };
-    answers(&rt, alloc, REFUSED, &refused)?;
-    let (part, _) = decode_answer(alloc, b"\x06\x08\x00\x18\x01\x20\x05")?;
+    for (bytes, status, message, info) in [
+        (
+            FOUND,
+            Status::Success,
+            b"".as_slice(),
+            Some((ReplicaState::Rbw, Stamp(1001), 512)),
+        ),
+        (REFUSED, Status::Error, b"1".as_slice(), None),
+    ] {
+        let answer = RecoveryAnswer {
+            status,
+            message: text(alloc, message)?,
+            info,
+        };
+        answers(&rt, alloc, bytes, &answer)?;
+    }
+    Ok(())
+}
+
+/// What is learnt of a replica counts where all of it is there.
+#[test]
+fn reads_a_part_of_an_answer(rt: HostRuntime) -> Result<(), Fail> {
+    let (part, _) = decode_answer(rt.alloc(), b"\x06\x08\x00\x18\x01\x20\x05")?;
     assert_eq!(rt; part.info, None);
+    Ok(())
+}
+
+#[test]
+fn refuses_answers(rt: HostRuntime) -> Result<(), Fail> {
+    let alloc = rt.alloc();
     for (bytes, fault, text) in [
         (
             b"\x81\x80\x04".as_slice(),

@@ -29,7 +29,8 @@ pub struct Cutting<R: Roads> {
     ghost plain_seen: { plain ≡ is_some (R.plain inner) },
     ghost dialled: { IfSome (R.plain inner) (λ p. p.dialled ≡ dialled_by newest) } by { Prim.hlevel props },
     ghost counted: { IfSome (R.plain inner) (CountsAll counts.duplexes.items) } by { Prim.hlevel props },
-    ghost observable: { IfSome (R.plain inner) (λ _. AllObservable R.Inward.LinkIn R.Outward.LinkOut) } by { Prim.hlevel props },
+    ghost observable: { IfSome (R.plain inner) (λ _.
+        AllObservable R.Inward.LinkIn R.Outward.LinkOut) } by { Prim.hlevel props },
 }
 
 impl<R: Roads> Cutting<R> {

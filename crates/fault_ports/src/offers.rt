@@ -58,7 +58,8 @@ pub fn offer_next<I: LinkIn>(
     take: bool,
 ) -> Result<Offer, LinkError>
     ensures offer { IfOk result (λ offer. plain ≡ true →
-        IfSome (⟦<CutIn<I> as LinkIn>⟧.held half.old) (λ inbox. OffersNext offer take (is_hungry inbox) standing left)) }
+        IfSome (⟦<CutIn<I> as LinkIn>⟧.held half.old) (λ inbox.
+        OffersNext offer take (is_hungry inbox) standing left)) }
     ensures untaken { IfOk result (λ offer. take ≡ false → offer ≡ Offer.Nothing) }
     ensures bare { IfOk result (λ offer. passes offer ≡ true →
         (half.new.first ≡ None) × (half.new.ended ≡ false)) }

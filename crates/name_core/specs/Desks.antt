@@ -15,7 +15,7 @@ abbrev pub IsStampAnswer : OfficeAnswer → Type 0
 IsStampAnswer (answer.Stamp stamp) = Unit {0}
 IsStampAnswer _ = ⊥
 
--- an append is told a length that it may have
+-- an append is answered a length that it may have
 abbrev pub IsReopenedAnswer : OfficeAnswer → Type 0
 IsReopenedAnswer (answer.Reopened reopened) = reopened.length ≤ MAX_APPEND_LENGTH
 IsReopenedAnswer _ = ⊥
@@ -38,10 +38,10 @@ FitsCall (call.Complete block stamp bytes) a = IsNothingAnswer a
 FitsCall (call.BeginRecovery block) a = IsBegunAnswer a
 FitsCall (call.CommitSync block id bytes members) a = IsNothingAnswer a
 
--- Where the office is told, the answer is its answer, or want of memory.
-abbrev pub AnswersAsTold : Option OfficeState → OfficeCall → Result OfficeAnswer OfficeFault → Type 0
-AnswersAsTold None c r = Unit {0}
-AnswersAsTold (Some o) c r = Gives fault.Memory r (answer_to o c)
+-- Where the office is observable, the answer is its answer, or want of memory.
+abbrev pub AnswersAsOffice : Option OfficeState → OfficeCall → Result OfficeAnswer OfficeFault → Type 0
+AnswersAsOffice None c r = Unit {0}
+AnswersAsOffice (Some o) c r = Gives fault.Memory r (answer_to o c)
 
 -- the office after a call that was answered so: as before where memory was wanting
 abbrev pub office_after_answer : OfficeCall → Result OfficeAnswer OfficeFault → OfficeState → OfficeState

@@ -93,7 +93,7 @@ impl OfficeCall {
     }
 }
 
-/// What an append is told.
+/// What an append is answered.
 #[derive(Clone, Copy, Debug, PartialEq, Eq, Hash)]
 pub struct Reopened {
     /// The committed stamp.
@@ -104,7 +104,7 @@ pub struct Reopened {
     pub new: Stamp,
 }
 
-/// What a block recovery is told.
+/// What a block recovery is answered.
 #[derive(Clone, Copy, Debug, PartialEq, Eq, Hash)]
 pub struct Begun {
     /// The recovery's id.
@@ -118,9 +118,9 @@ pub struct Begun {
 pub enum OfficeAnswer {
     /// The new stamp.
     Stamp(Stamp),
-    /// What an append is told.
+    /// What an append is answered.
     Reopened(Reopened),
-    /// What a block recovery is told.
+    /// What a block recovery is answered.
     Begun(Begun),
     /// No more than that it is granted.
     Nothing,

@@ -2,7 +2,7 @@
 
 ghost use Rattle.std.specs.Prelude.{◌≡◌, IfOk, Option, option_map, None, Some};
 ghost use Rattle.name_core.specs.Offices.{OfficeState};
-ghost use Rattle.name_core.specs.Desks.{FitsCall, AnswersAsTold, office_after_answer};
+ghost use Rattle.name_core.specs.Desks.{FitsCall, AnswersAsOffice, office_after_answer};
 
 use crate::book::OfficeBook;
 use crate::calls::{OfficeAnswer, OfficeCall};
@@ -11,19 +11,19 @@ use std::sync::{Arc, Mutex, Wait};
 
 /// Where writers and primaries call the office.
 pub trait Desk: Drop {
-    /// The office behind the desk, `None` where the desk tells nothing of it.
-    ghost told: { Self → Option OfficeState };
+    /// The office behind the desk, `None` where it isn't observable.
+    ghost office: { Self → Option OfficeState };
 
-    /// One call on the office. An answer has the form of its call, and an append is told a length
+    /// One call on the office. An answer has the form of its call, and an append is answered a length
     /// of at most `MAX_APPEND_LENGTH`. `Memory` may come at any time.
     fn ask(&mut self, call: &OfficeCall) -> Result<OfficeAnswer, OfficeFault>
         ensures fits { IfOk result (FitsCall call.now) }
-        ensures answer { AnswersAsTold (told self.old) call.now result }
-        ensures office { told self.new ≡ option_map (office_after_answer call.now result) (told self.old) };
+        ensures answer { AnswersAsOffice (office self.old) call.now result }
+        ensures office { office self.new ≡ option_map (office_after_answer call.now result) (office self.old) };
 }
 
 impl Desk for OfficeBook {
-    ghost told = { λ book. Some book.office };
+    ghost office = { λ book. Some book.office };
 
     fn ask(&mut self, call: &OfficeCall) -> Result<OfficeAnswer, OfficeFault> {
         self.take(call.duplicate())
@@ -50,7 +50,7 @@ impl<H: Wait> SharedDesk<H> {
 }
 
 impl<H: Wait + Drop> Desk for SharedDesk<H> {
-    ghost told = { λ _. None };
+    ghost office = { λ _. None };
 
     fn ask(&mut self, call: &OfficeCall) -> Result<OfficeAnswer, OfficeFault> {
         self.book.lock(&self.handle).take(call.duplicate())

@@ -96,7 +96,8 @@ impl<F: Files> BookState<F> {
         requires spare { HasSpare self.old.history }
         requires settling { IsSettling event }
         requires lawful { IsLawful event }
-        requires room { HasRoomFor (F.room self.old.drawer) self.old.block event self.old.replica.info (length buffer.old) }
+        requires room { HasRoomFor
+            (F.room self.old.drawer) self.old.block event self.old.replica.info (length buffer.old) }
         ensures book { IsBookOf F.Files self.new }
         ensures ends { CallEnds F.Files self.old self.new (ReplicaEvent.Other event) result }
     {
