@@ -227,7 +227,7 @@ after-set : (g : Givens) (w : World) (e : Event) (o : Option World) → outcome 
 after-set g w e None i h k = idle-set g w e i h
 after-set g w e (Some v) i h k = record { answers = k.answers; given = k.given; reached = k.reached; plain = k.plain; writes = k.writes; breaks = k.breaks }
 
-happens-set : (g : Givens) (w : World) (e : Event) → Facts g w → Agreed w → IsOfOne (given_by g w e) → SetUps g w → SetUps (given_by g w e) (happens w e)
+pub happens-set : (g : Givens) (w : World) (e : Event) → Facts g w → Agreed w → IsOfOne (given_by g w e) → SetUps g w → SetUps (given_by g w e) (happens w e)
 unfolding happens
 happens-set g w e f a one h = after-set g w e (outcome w e) refl h (outcome-set g w e f a one h)
 
@@ -239,7 +239,7 @@ run-set g w (e ∷ events) r i c h =
     let j = happens-recorded g w e i a in
     run-set (given_by g w e) (happens w e) events (reached-next w e r) j (happens-carried g w e f a) (happens-set g w e f a j.one h)
 
-start-set : (nodes : ℕ) → SetUps none_given (start nodes)
+pub start-set : (nodes : ℕ) → SetUps none_given (start nodes)
 unfolding start
 start-set nodes = record {
   answers = λ a j. absurd (none-some a j.there);

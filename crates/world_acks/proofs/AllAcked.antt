@@ -1,0 +1,471 @@
+-- What acks and answers say holds after every list of events.
+use Rattle.std.proofs.Common.{◌≡◌, ℕ, ℤ, ◌<◌, ◌≤◌, ◌⊎◌, inl, inr, Bool, true, false, List, [], ◌∷◌, slice_get, Option, Some, None, IfSome, refl, sym, ◌∙◌, ap, subst, arith, eqb-true}
+use Rattle.std.specs.Prelude.{◌==◌, ◌&&◌, ◌+◌, not, nat_lt, option_map, if◌then◌else◌}
+use Rattle.std.proofs.lemmas.Bool.Decides.{nat_tests}
+use Rattle.std.proofs.lemmas.Bool.{false≢true}
+use Rattle.std.proofs.lemmas.Option.{none-some, same_Some}
+use Rattle.hd_base.specs.SumRules.{default_rule}
+use Rattle.replica_model.specs.Rows.{FullReplica, IsFull}
+use Rattle.replica_model.specs.Found.{Found}
+use Rattle.world.specs.declared.events.Delivery.{Delivery}
+use Rattle.world.specs.declared.events.Delivery.TheVariants as delivery
+use Rattle.world.specs.declared.events.Direction.{Direction}
+use Rattle.world.specs.declared.events.Direction.TheVariants as direction
+use Rattle.world.specs.declared.events.Event.{Event}
+use Rattle.world.specs.declared.events.Event.TheVariants as event
+use Rattle.world.specs.declared.events.FoundReplica.{FoundReplica}
+use Rattle.world.specs.declared.events.OwnStep.{OwnStep}
+use Rattle.world.specs.declared.events.OwnStep.TheVariants as own
+use Rattle.world.specs.Parts.{Message, Marks, Upper, by_writer, by_member, by_reader, by_primary, Lower}
+use Rattle.world.specs.Worlds.{World, Change, Stamped, put, apply, start}
+use Rattle.world.specs.Connections.{Next, message, the_end, ends_at, next_on, next_down, next_up, down_taken, up_taken, is_alive, is_served}
+use Rattle.world.specs.Nodes.{node_of, lower_down, lower_ready}
+use Rattle.world.specs.Clients.{writer_up, reader_up}
+use Rattle.world.specs.Primaries.{primary_up, office_event}
+use Rattle.world.specs.Restarts.{may_find, whole_found, found_in, replica_found, restarted, all_found, restart}
+use Rattle.world.specs.Events.{changed, own_change, down_as, down_event, ready_event, unless_fails, upper_up, up_as, up_event, fault_event, lost, stop, where_so, outcome, after_event, happens, run}
+use Rattle.world.specs.Safe.{Has}
+use Rattle.world_facts.proofs.Tables.{if-each, and-right, and-left, some-weaker}
+use Rattle.world_stamps.specs.Stamping.{Givens, none_given, given_with, stamped_in, given_by, given_in, Recorded}
+use Rattle.world_stamps.proofs.AllRecorded.{happens-recorded, Reached, reached-next, reached-agreed, start-recorded}
+use Rattle.world_stamps.proofs.Recording.{Agreed}
+use Rattle.world_bytes.specs.Carrying.{Carried}
+use Rattle.world_bytes.proofs.Leaves.{Facts}
+use Rattle.world_bytes.proofs.AllCarried.{down-taken-facts, up-taken-facts, happens-carried, reached-facts, at-start, start-carried}
+use Rattle.world_setups.specs.Joining.{joined_as, SetUps}
+use Rattle.world_setups.proofs.AllSetUp.{happens-set, start-set}
+use Rattle.world_acks.specs.Acking.{Shown, Seat, IsUncut, Ends, UpTells, DownTells, Pends, Mirrors, UpperTells, Numbers, Acked, AllAcked}
+use Rattle.world_acks.proofs.Seats.{Onward, up-on, down-on, upper-on, lower-on}
+use Rattle.world_acks.proofs.Frame.{apply-onward, keeps}
+use Rattle.world_acks.proofs.Turning.{Known, HeardTells}
+use Rattle.world_acks.proofs.Lowers.{Leaf, after-at}
+use Rattle.world_acks.proofs.Ends.{NextTells, lower-down-leaf, lower-ready-leaf, mirror-up-leaf}
+use Rattle.world_acks.proofs.Clients.{Leads, leaf-leads}
+use Rattle.world_acks.proofs.Offices.{own-writer-leads, writer-up-leads, own-reader-leads, reader-up-leads, own-recover-leads, own-primary-leads, primary-up-leads}
+use Rattle.world_acks.proofs.Granting.{OfficeLeads, fresh-given, office-event-leads}
+
+-- WORLDS WITH THE SAME PAST
+
+-- a world with the same past, lower ends, replicas, writers and office, whose nodes run only where they ran before
+record IsLike (w v : World) : Type 0 where
+  pub past : v.past ≡ w.past
+  pub runs : (n : ℕ) → v.running n ≡ true → w.running n ≡ true
+  pub lives : (n : ℕ) → v.lives n ≡ w.lives n
+  pub replicas : (n b : ℕ) → v.replicas n b ≡ w.replicas n b
+
+like-onward : (g : Givens) (t : Ends) (w v : World) → IsLike w v → Onward g g t t w v
+like-onward g t w v l = record {
+  seats = λ b s e n j h. record {
+    life = h.life;
+    joins = subst (λ p. Has p.joined (joined_as s n h.life)) (sym l.past) h.joins;
+    born = omega (arith, h.born, l.lives n);
+    shows = λ r a q u.
+        subst (λ (x : FullReplica). Shown x s j (v.written e)) (sym (l.replicas n b)) (subst (λ p. Shown (w.replicas n b) s j (p.written e)) (sym l.past)
+        (h.shows (l.runs n r) (sym (l.lives n) ∙ a) (ap (λ (x : FullReplica). x.known.is_broken) (sym (l.replicas n b)) ∙ q) (record { none = λ x y. u.none x (subst (λ p. Has p.updated x) (sym l.past) y) })));
+  };
+  given = λ b s e q. q;
+  named = λ e x q n. n;
+  first = λ c m e. subst (λ p. slice_get (p.downs c) 0 ≡ Some m) (sym l.past) e;
+  conns = omega (arith, ap (λ p. p.next_conn) l.past);
+  dialled = λ c lt. ap (λ p. p.dialled c) l.past;
+  joined = λ x h. subst (λ p. Has p.joined x) (sym l.past) h;
+}
+
+down-taken-acked : (g : Givens) (t : Ends) (w : World) (c : ℕ) (x : Next) → Acked g t w → Acked g t (down_taken w c x)
+unfolding down_taken
+down-taken-acked g t w c x h =
+    let v = down_taken w c x in
+    let on = like-onward g t w v (record { past = refl; runs = λ n e. e; lives = λ n. refl; replicas = λ n b. refl }) in
+    record {
+      lives = h.lives;
+      begun = h.begun;
+      ups = λ d i m e. up-on g g t t w v d m on (h.ups d i m e);
+      downs = λ d i m e. down-on g g t t w v d m on (h.downs d i m e);
+      uppers = λ d lt. upper-on g g t t w v d (w.dialled d).upper on lt (h.uppers d lt);
+      lowers = λ d. lower-on g g t t w v d (w.lowers d) on (h.lowers d);
+      replicas = h.replicas;
+      writers = h.writers;
+    }
+
+up-taken-acked : (g : Givens) (t : Ends) (w : World) (c : ℕ) (x : Next) → Acked g t w → Acked g t (up_taken w c x)
+unfolding up_taken
+up-taken-acked g t w c x h =
+    let v = up_taken w c x in
+    let on = like-onward g t w v (record { past = refl; runs = λ n e. e; lives = λ n. refl; replicas = λ n b. refl }) in
+    record {
+      lives = h.lives;
+      begun = h.begun;
+      ups = λ d i m e. up-on g g t t w v d m on (h.ups d i m e);
+      downs = λ d i m e. down-on g g t t w v d m on (h.downs d i m e);
+      uppers = λ d lt. upper-on g g t t w v d (w.dialled d).upper on lt (h.uppers d lt);
+      lowers = λ d. lower-on g g t t w v d (w.lowers d) on (h.lowers d);
+      replicas = h.replicas;
+      writers = h.writers;
+    }
+
+down-taken-set : (g : Givens) (w : World) (c : ℕ) (x : Next) → SetUps g w → SetUps g (down_taken w c x)
+unfolding down_taken
+down-taken-set g w c x h = record { answers = h.answers; given = h.given; reached = h.reached; plain = h.plain; writes = h.writes; breaks = h.breaks }
+
+up-taken-set : (g : Givens) (w : World) (c : ℕ) (x : Next) → SetUps g w → SetUps g (up_taken w c x)
+unfolding up_taken
+up-taken-set g w c x h = record { answers = h.answers; given = h.given; reached = h.reached; plain = h.plain; writes = h.writes; breaks = h.breaks }
+
+down-known : (g : Givens) (t : Ends) (w : World) (c : ℕ) (x : Next) → Known g t w → Known g t (down_taken w c x)
+down-known g t w c x h = record { facts = down-taken-facts g w c x h.facts; sets = down-taken-set g w c x h.sets; acked = down-taken-acked g t w c x h.acked }
+
+up-known : (g : Givens) (t : Ends) (w : World) (c : ℕ) (x : Next) → Known g t w → Known g t (up_taken w c x)
+up-known g t w c x h = record { facts = up-taken-facts g w c x h.facts; sets = up-taken-set g w c x h.sets; acked = up-taken-acked g t w c x h.acked }
+
+-- CHANGES
+
+-- with some ends of packets
+record Told (g : Givens) (w : World) : Type 0 where
+  pub ends : Ends
+  pub acked : Acked g ends w
+
+changed-told : (g : Givens) (t : Ends) (w : World) (o : Option Change) → Known g t w → IfSome o (Leads g g t w) → IfSome (changed w o) (Facts g) → IfSome (changed w o) (Told g)
+changed-told g t w None h l f = tt
+changed-told g t w (Some k) h l f =
+    let new = subst (λ (r : FullReplica). IsFull r) (after-at w k) (f.full k.node k.block) in
+    let on = apply-onward g g t l.ends w k l.steps h.facts.full new (λ b s e q. q) l.named in
+    record { ends = l.ends; acked = keeps g g t l.ends w k h.acked on (l.news on f) }
+
+office-told : (g : Givens) (t : Ends) (w : World) (o : Option Change) → Known g t w → IfSome o (OfficeLeads g t w) → IfSome (changed w o) (Facts (given_with g (stamped_in o))) → IfSome (changed w o) (Told (given_with g (stamped_in o)))
+office-told g t w None h l f = tt
+office-told g t w (Some k) h x f =
+    let l = x.leads in
+    let new = subst (λ (r : FullReplica). IsFull r) (after-at w k) (f.full k.node k.block) in
+    let on = apply-onward g (given_with g k.stamped) t l.ends w k l.steps h.facts.full new (fresh-given g t w k.stamped h x.fresh) l.named in
+    record { ends = l.ends; acked = keeps g (given_with g k.stamped) t l.ends w k h.acked on (l.news on f) }
+
+leads-of : (g : Givens) (t : Ends) (w : World) (o : Option Change) → IfSome o (Leaf g t w) → IfSome o (Leads g g t w)
+leads-of g t w o h = some-weaker (Leaf g t w) (Leads g g t w) o (λ k l. leaf-leads g t w k l) h
+
+-- both of a test
+when-two : {A : Type 0} (Q P : A → Type 0) (b : Bool) (o : Option A) → IfSome (if b then o else None) Q → (b ≡ true → IfSome o Q → IfSome o P) → IfSome (if b then o else None) P
+when-two Q P true o q h = h refl q
+when-two Q P false o q h = tt
+
+-- DELIVERIES
+
+alive-life : (w : World) (c : ℕ) → is_alive w (w.dialled c).to ≡ true → w.lives (node_of w c) ≡ (w.dialled c).to.life
+alive-life w c e = let p = (w.dialled c).to in eqb-true (w.lives p.node) p.life (and-right (w.running p.node) (w.lives p.node == p.life) e)
+
+lt-true : (a b : ℕ) → nat_lt a b ≡ true → a < b
+lt-true a b e = grind (arith, nat_tests, e)
+
+served-known : (w : World) (c : ℕ) → is_served w c ≡ true → c < w.next_conn
+served-known w c e = lt-true c w.next_conn (and-left (nat_lt c w.next_conn) (is_alive w (w.dialled c).to) e)
+
+served-life : (w : World) (c : ℕ) → is_served w c ≡ true → w.lives (node_of w c) ≡ (w.dialled c).to.life
+served-life w c e = alive-life w c (and-right (nat_lt c w.next_conn) (is_alive w (w.dialled c).to) e)
+
+-- what stands next was sent
+next-sent : (sent : List Message) (k : Marks) (m : Message) → next_on sent k ≡ Some (message m) → slice_get sent k.taken ≡ Some m
+next-sent sent k m e = go k.over (ends_at k.end k.taken) e
+  where
+    said : (o : Option Message) → option_map message o ≡ Some (message m) → o ≡ Some m
+    said None q = absurd (none-some (message m) q)
+    said (Some n) q = ap (λ (y : Message). Some y) (same n (same_Some (message n) (message m) q))
+      where
+        same : (n : Message) → message n ≡ message m → n ≡ m
+        same n r = cc
+
+    go : (a b : Bool) → (if a then None else (if b then Some the_end else option_map message (slice_get sent k.taken))) ≡ Some (message m) → slice_get sent k.taken ≡ Some m
+    go true b q = absurd (none-some (message m) q)
+    go false true q = absurd (apart (same_Some the_end (message m) q))
+      where
+        apart : the_end ≡ message m → ⊥
+        apart r = cc
+    go false false q = said (slice_get sent k.taken) q
+
+next-tells : (g : Givens) (t : Ends) (w : World) (c : ℕ) (x : Next) → Known g t w → next_down w c ≡ Some x → NextTells g t w c x
+next-tells g t w c (message m) h e = (h.facts.carried.downs c (w.down_marks c).taken m (next-sent (w.downs c) (w.down_marks c) m e), h.acked.downs c (w.down_marks c).taken m (next-sent (w.downs c) (w.down_marks c) m e))
+next-tells g t w c the_end h e = tt
+
+taken-tells : (g : Givens) (t : Ends) (w : World) (c : ℕ) (x y : Next) → NextTells g t w c y → NextTells g t (down_taken w c x) c y
+unfolding down_taken
+taken-tells g t w c x (message m) h =
+    (h.0, down-on g g t t w (down_taken w c x) c m (like-onward g t w (down_taken w c x) (record { past = refl; runs = λ n e. e; lives = λ n. refl; replicas = λ n b. refl })) h.1)
+taken-tells g t w c x the_end h = tt
+
+heard-tells : (g : Givens) (t : Ends) (w : World) (c : ℕ) (x : Next) → Known g t w → next_up w c ≡ Some x → HeardTells g t (up_taken w c x) c x
+unfolding up_taken
+heard-tells g t w c (message m) h e =
+    up-on g g t t w (up_taken w c (message m)) c m (like-onward g t w (up_taken w c (message m)) (record { past = refl; runs = λ n q. q; lives = λ n. refl; replicas = λ n b. refl })) (h.acked.ups c (w.up_marks c).taken m (next-sent (w.ups c) (w.up_marks c) m e))
+heard-tells g t w c the_end h e = tt
+
+lower-taken : (g : Givens) (t : Ends) (w : World) (c : ℕ) (x : Next) (answered fails : Bool) → Known g t (down_taken w c x) → c < w.next_conn → w.lives (node_of w c) ≡ (w.dialled c).to.life → NextTells g t (down_taken w c x) c x
+    → IfSome (lower_down (w.lowers c) (down_taken w c x) c x answered fails) (Leaf g t (down_taken w c x))
+unfolding down_taken
+lower-taken g t w c x answered fails h lt alive n = lower-down-leaf (w.lowers c) g t (down_taken w c x) c x answered fails h refl lt alive n
+
+down-as-told : (g : Givens) (t : Ends) (w : World) (c : ℕ) (answered fails : Bool) (o : Option Next) → Known g t w → c < w.next_conn → w.lives (node_of w c) ≡ (w.dialled c).to.life → next_down w c ≡ o → IfSome (down_as w c answered fails o) (Facts g)
+    → IfSome (down_as w c answered fails o) (Told g)
+down-as-told g t w c answered fails None h lt alive e f = tt
+down-as-told g t w c answered fails (Some x) h lt alive e f =
+    let v = down_taken w c x in
+    changed-told g t v (lower_down (w.lowers c) v c x answered fails) (down-known g t w c x h)
+    (leads-of g t v (lower_down (w.lowers c) v c x answered fails) (lower-taken g t w c x answered fails (down-known g t w c x h) lt alive (taken-tells g t w c x x (next-tells g t w c x h e)))) f
+
+down-told : (g : Givens) (t : Ends) (w : World) (c : ℕ) (answered fails : Bool) → Known g t w → IfSome (down_event w c answered fails) (Facts g) → IfSome (down_event w c answered fails) (Told g)
+down-told g t w c answered fails h f = when-two (Facts g) (Told g) (is_served w c) _ f (λ e q. down-as-told g t w c answered fails (next_down w c) h (served-known w c e) (served-life w c e) refl q)
+
+ready-told : (g : Givens) (t : Ends) (w : World) (c : ℕ) (fails : Bool) → Known g t w → IfSome (ready_event w c fails) (Facts g) → IfSome (ready_event w c fails) (Told g)
+ready-told g t w c fails h f =
+    when-two (Facts g) (Told g) (is_served w c) _ f (λ e q. changed-told g t w (lower_ready (w.lowers c) w c fails) h (leads-of g t w (lower_ready (w.lowers c) w c fails) (lower-ready-leaf (w.lowers c) g t w c fails h refl (served-life w c e))) q)
+
+unless-leads : (g : Givens) (t : Ends) (w : World) (fails : Bool) (o : Option Change) → IfSome o (Leads g g t w) → IfSome (unless_fails fails o) (Leads g g t w)
+unless-leads g t w true o l = tt
+unless-leads g t w false o l = l
+
+upper-leads : (u : Upper) (g : Givens) (t : Ends) (w : World) (c : ℕ) (x : Next) (fails : Bool) → Known g t w → (w.dialled c).upper ≡ u → c < w.next_conn → HeardTells g t w c x → IfSome (upper_up u w c x fails) (Leads g g t w)
+upper-leads (by_writer b) g t w c x fails h e lt n = unless-leads g t w fails (writer_up w b c x) (writer-up-leads g t w b c x h)
+upper-leads (by_member d) g t w c x fails h e lt n =
+    leads-of g t w _ (mirror-up-leaf (w.lowers d) g t w d c x fails h refl (λ a. alive-life w d a) (subst (λ (u : Upper). UpperTells w.past c u) e (h.acked.uppers c lt)) n)
+upper-leads (by_reader i) g t w c x fails h e lt n = unless-leads g t w fails (reader_up w i c x) (reader-up-leads g t w i c x h)
+upper-leads (by_primary i p) g t w c x fails h e lt n = unless-leads g t w fails (primary_up w i p c x) (primary-up-leads g t w i p c x h)
+
+upper-taken : (g : Givens) (t : Ends) (w : World) (c : ℕ) (x : Next) (fails : Bool) → Known g t (up_taken w c x) → c < w.next_conn → HeardTells g t (up_taken w c x) c x → IfSome (upper_up (w.dialled c).upper (up_taken w c x) c x fails) (Leads g g t (up_taken w c x))
+unfolding up_taken
+upper-taken g t w c x fails h lt n = upper-leads (w.dialled c).upper g t (up_taken w c x) c x fails h refl lt n
+
+up-as-told : (g : Givens) (t : Ends) (w : World) (c : ℕ) (fails : Bool) (o : Option Next) → Known g t w → c < w.next_conn → next_up w c ≡ o → IfSome (up_as w c fails o) (Facts g) → IfSome (up_as w c fails o) (Told g)
+up-as-told g t w c fails None h lt e f = tt
+up-as-told g t w c fails (Some x) h lt e f =
+    let v = up_taken w c x in
+    changed-told g t v (upper_up (w.dialled c).upper v c x fails) (up-known g t w c x h) (upper-taken g t w c x fails (up-known g t w c x h) lt (heard-tells g t w c x h e)) f
+
+up-told : (g : Givens) (t : Ends) (w : World) (c : ℕ) (fails : Bool) → Known g t w → IfSome (up_event w c fails) (Facts g) → IfSome (up_event w c fails) (Told g)
+up-told g t w c fails h f = when-two (Facts g) (Told g) (nat_lt c w.next_conn) _ f (λ e q. up-as-told g t w c fails (next_up w c) h (lt-true c w.next_conn e) refl q)
+
+fault-told : (g : Givens) (t : Ends) (w : World) (d : Delivery) → Known g t w → IfSome (fault_event w d) (Facts g) → IfSome (fault_event w d) (Told g)
+fault-told g t w (delivery.Down c) h f = down-told g t w c.0 false true h f
+fault-told g t w (delivery.Ready c) h f = ready-told g t w c.0 true h f
+fault-told g t w (delivery.Up c) h f = up-told g t w c.0 true h f
+
+own-leads : (g : Givens) (t : Ends) (w : World) (s : OwnStep) → Known g t w → IfSome (own_change w s) (Leads g g t w)
+own-leads g t w (own.Writer b takes answered) h = own-writer-leads g t w b.0 takes answered h
+own-leads g t w (own.Reader i n r answered) h = own-reader-leads g t w i n.0 r answered h
+own-leads g t w (own.Recover i n b members answers) h = own-recover-leads g t w i n.0 b members answers h
+own-leads g t w (own.Primary i) h = own-primary-leads g t w i h
+
+-- STOPS, LOSSES, RESTARTS
+
+stop-acked : (g : Givens) (t : Ends) (w : World) (n : ℕ) → Acked g t w → Acked g t (stop w n)
+stop-acked g t w n h =
+    let v = stop w n in
+    let on = like-onward g t w v (record { past = refl; runs = λ m e. if-each (λ (b : Bool). b ≡ true → w.running m ≡ true) (m == n) false (w.running m) (λ _ q. absurd (false≢true q)) (λ _ q. q) e; lives = λ m. refl; replicas = λ m b. refl }) in
+    record {
+      lives = h.lives;
+      begun = h.begun;
+      ups = λ d i m e. up-on g g t t w v d m on (h.ups d i m e);
+      downs = λ d i m e. down-on g g t t w v d m on (h.downs d i m e);
+      uppers = λ d lt. upper-on g g t t w v d (w.dialled d).upper on lt (h.uppers d lt);
+      lowers = λ d. lower-on g g t t w v d (w.lowers d) on (h.lowers d);
+      replicas = h.replicas;
+      writers = h.writers;
+    }
+
+lost-acked : (g : Givens) (t : Ends) (w : World) (c : ℕ) (way : Direction) (more : ℕ) → Acked g t w → Acked g t (lost w c way more)
+lost-acked g t w c direction.Down more h =
+    let v = lost w c direction.Down more in
+    let on = like-onward g t w v (record { past = refl; runs = λ m e. e; lives = λ m. refl; replicas = λ m b. refl }) in
+    record {
+      lives = h.lives;
+      begun = h.begun;
+      ups = λ d i m e. up-on g g t t w v d m on (h.ups d i m e);
+      downs = λ d i m e. down-on g g t t w v d m on (h.downs d i m e);
+      uppers = λ d lt. upper-on g g t t w v d (w.dialled d).upper on lt (h.uppers d lt);
+      lowers = λ d. lower-on g g t t w v d (w.lowers d) on (h.lowers d);
+      replicas = h.replicas;
+      writers = h.writers;
+    }
+lost-acked g t w c direction.Up more h =
+    let v = lost w c direction.Up more in
+    let on = like-onward g t w v (record { past = refl; runs = λ m e. e; lives = λ m. refl; replicas = λ m b. refl }) in
+    record {
+      lives = h.lives;
+      begun = h.begun;
+      ups = λ d i m e. up-on g g t t w v d m on (h.ups d i m e);
+      downs = λ d i m e. down-on g g t t w v d m on (h.downs d i m e);
+      uppers = λ d lt. upper-on g g t t w v d (w.dialled d).upper on lt (h.uppers d lt);
+      lowers = λ d. lower-on g g t t w v d (w.lowers d) on (h.lowers d);
+      replicas = h.replicas;
+      writers = h.writers;
+    }
+
+-- the seats of a node that restarts are of earlier lives
+restart-onward : (g : Givens) (t : Ends) (w : World) (n : ℕ) (list : List FoundReplica) → Onward g g t t w (restart w n list)
+unfolding restart
+restart-onward g t w n list = record {
+  seats = λ b s e m j h. seat b s e m j h (m == n) refl;
+  given = λ b s e q. q;
+  named = λ e x q z. z;
+  first = λ c m e. e;
+  conns = omega arith;
+  dialled = λ c lt. refl;
+  joined = λ x h. h;
+}
+  where
+    more : (m l : ℕ) (b : Bool) → (m == n) ≡ b → l ≤ w.lives m → l ≤ (if b then w.lives n + 1 else w.lives m)
+    more m l true q le = omega (arith, le, ap (λ (i : ℕ). w.lives i) (eqb-true m n q))
+    more m l false q le = le
+
+    seat : (b s e m j : ℕ) → Seat w b s e m j → (c : Bool) → (m == n) ≡ c → Seat (restart w n list) b s e m j
+    seat b s e m j h c q = record {
+      life = h.life;
+      joins = h.joins;
+      born = more m h.life (m == n) refl h.born;
+      shows = λ r a z u. at (m == n) refl r a z u;
+    }
+      where
+        at : (c : Bool) → (m == n) ≡ c → (if c then true else w.running m) ≡ true → (if c then w.lives n + 1 else w.lives m) ≡ h.life
+            → ((if c then (λ d. restarted d (w.replicas n d) (w.breaks n d) (found_in list d)) else w.replicas m) b).known.is_broken ≡ false → IsUncut (restart w n list) b s m h.life
+            → Shown ((if c then (λ d. restarted d (w.replicas n d) (w.breaks n d) (found_in list d)) else w.replicas m) b) s j (w.written e)
+        at true z r a y u = absurd (omega (arith, a, h.born, ap (λ (i : ℕ). w.lives i) (eqb-true m n z)))
+        at false z r a y u = h.shows r a y (record { none = u.none })
+
+-- nothing is pending at a replica that was found
+found-pends : (g : Givens) (t : Ends) (b : ℕ) (f : Option Found) → IfSome (replica_found b f).known.info (Pends g t b (replica_found b f).known)
+found-pends g t b None = tt
+found-pends g t b (Some f) = record { each = λ j e q. absurd (none-some e q) }
+
+restarted-pends : (g : Givens) (t : Ends) (b : ℕ) (w : World) (n : ℕ) (f : Option Found) → IfSome (restarted b (w.replicas n b) (w.breaks n b) f).known.info (Pends g t b (restarted b (w.replicas n b) (w.breaks n b) f).known)
+unfolding restarted
+restarted-pends g t b w n f = found-pends g t b (if may_find (w.replicas n b) (w.breaks n b) f then f else whole_found (w.replicas n b) (w.breaks n b))
+
+restart-acked : (g : Givens) (t : Ends) (w : World) (n : ℕ) (list : List FoundReplica) → Acked g t w → Acked g t (restart w n list)
+unfolding restart
+restart-acked g t w n list h =
+    let v = restart w n list in
+    let on = restart-onward g t w n list in
+    record {
+      lives = λ s m l j. more m l (m == n) refl (h.lives s m l j);
+      begun = h.begun;
+      ups = λ d i m e. up-on g g t t w v d m on (h.ups d i m e);
+      downs = λ d i m e. down-on g g t t w v d m on (h.downs d i m e);
+      uppers = λ d lt. upper-on g g t t w v d (w.dialled d).upper on lt (h.uppers d lt);
+      lowers = λ d. lower-on g g t t w v d (w.lowers d) on (h.lowers d);
+      replicas = λ m b. at m b (m == n);
+      writers = h.writers;
+    }
+  where
+    more : (m l : ℕ) (b : Bool) → (m == n) ≡ b → l ≤ w.lives m → l ≤ (if b then w.lives n + 1 else w.lives m)
+    more m l true q le = omega (arith, le, ap (λ (i : ℕ). w.lives i) (eqb-true m n q))
+    more m l false q le = le
+
+    at : (m b : ℕ) (c : Bool) → IfSome ((if c then (λ d. restarted d (w.replicas n d) (w.breaks n d) (found_in list d)) else w.replicas m) b).known.info
+        (Pends g t b ((if c then (λ d. restarted d (w.replicas n d) (w.breaks n d) (found_in list d)) else w.replicas m) b).known)
+    at m b true = restarted-pends g t b w n (found_in list b)
+    at m b false = h.replicas m b
+
+-- ALL EVENTS
+
+where-told : (g : Givens) (t : Ends) (test : Bool) (v : World) → Acked g t v → IfSome (where_so test v) (Told g)
+where-told g t true v h = record { ends = t; acked = h }
+where-told g t false v h = tt
+
+outcome-told : (g : Givens) (t : Ends) (w : World) (e : Event) → Known g t w → IfSome (outcome w e) (Facts (given_by g w e)) → IfSome (outcome w e) (Told (given_by g w e))
+unfolding outcome
+outcome-told g t w (event.Own s) h f = changed-told g t w (own_change w s) h (own-leads g t w s h) f
+outcome-told g t w (event.Office c) h f = office-told g t w (office_event w c) h (office-event-leads g t w c h) f
+outcome-told g t w (event.Down c answered) h f = down-told g t w c.0 answered false h f
+outcome-told g t w (event.Ready c) h f = ready-told g t w c.0 false h f
+outcome-told g t w (event.Up c) h f = up-told g t w c.0 false h f
+outcome-told g t w (event.Lost c way more) h f = where-told g t (nat_lt c.0 w.next_conn) (lost w c.0 way more) (lost-acked g t w c.0 way more h.acked)
+outcome-told g t w (event.Fault d) h f = fault-told g t w d h f
+outcome-told g t w (event.Stop n) h f = where-told g t (w.running n.0) (stop w n.0) (stop-acked g t w n.0 h.acked)
+outcome-told g t w (event.Restart n list) h f = where-told g t (nat_lt n.0 w.nodes && not (w.running n.0) && all_found w n.0 list) (restart w n.0 list) (restart-acked g t w n.0 list h.acked)
+
+-- an event that isn't enabled gives no stamp
+idle-office : (g : Givens) (t : Ends) (w : World) (o : Option Change) → changed w o ≡ None → Acked g t w → Acked (given_with g (stamped_in o)) t w
+idle-office g t w None e h = h
+idle-office g t w (Some k) e h = absurd (none-some (apply w k) (sym e))
+
+idle-acked : (g : Givens) (t : Ends) (w : World) (e : Event) → outcome w e ≡ None → Acked g t w → Acked (given_by g w e) t w
+unfolding outcome
+idle-acked g t w (event.Own s) i h = h
+idle-acked g t w (event.Office c) i h = idle-office g t w (office_event w c) i h
+idle-acked g t w (event.Down c answered) i h = h
+idle-acked g t w (event.Ready c) i h = h
+idle-acked g t w (event.Up c) i h = h
+idle-acked g t w (event.Lost c way more) i h = h
+idle-acked g t w (event.Fault d) i h = h
+idle-acked g t w (event.Stop n) i h = h
+idle-acked g t w (event.Restart n list) i h = h
+
+last-acked : (g : Givens) (t : Ends) (w : World) (e : Event) → Acked g t w → Acked g t (record w { last = Some e })
+last-acked g t w e h =
+    let v : World = record w { last = Some e } in
+    let on = like-onward g t w v (record { past = refl; runs = λ m q. q; lives = λ m. refl; replicas = λ m b. refl }) in
+    record {
+      lives = h.lives;
+      begun = h.begun;
+      ups = λ d i m q. up-on g g t t w v d m on (h.ups d i m q);
+      downs = λ d i m q. down-on g g t t w v d m on (h.downs d i m q);
+      uppers = λ d lt. upper-on g g t t w v d (w.dialled d).upper on lt (h.uppers d lt);
+      lowers = λ d. lower-on g g t t w v d (w.lowers d) on (h.lowers d);
+      replicas = h.replicas;
+      writers = h.writers;
+    }
+
+-- what is known of the world after an event is known of its outcome
+back-facts : (g : Givens) (v : World) (e : Event) → Facts g (record v { last = Some e }) → Facts g v
+back-facts g v e f =
+    let k = f.carried in
+    let r = f.recorded in
+    record {
+      carried = record { downs = k.downs; ups = k.ups; replicas = k.replicas; breaks = k.breaks; lowers = k.lowers; writers = k.writers; entries = k.entries; primaries = k.primaries; led = k.led };
+      fresh = f.fresh;
+      full = f.full;
+      unused = f.unused;
+      recorded = record { below = r.below; above = r.above; session = r.session; one = r.one; first = r.first; writers = r.writers; blocks = r.blocks };
+    }
+
+outcome-facts : (g : Givens) (w : World) (e : Event) (o : Option World) → Facts g (after_event w e o) → IfSome o (Facts g)
+outcome-facts g w e None f = tt
+outcome-facts g w e (Some v) f = back-facts g v e f
+
+after-told : (g : Givens) (t : Ends) (w : World) (e : Event) (o : Option World) → outcome w e ≡ o → Acked g t w → IfSome o (Told (given_by g w e)) → Told (given_by g w e) (after_event w e o)
+after-told g t w e None i h k = record { ends = t; acked = idle-acked g t w e i h }
+after-told g t w e (Some v) i h k = record { ends = k.ends; acked = last-acked (given_by g w e) k.ends v e k.acked }
+
+happens-told : (g : Givens) (t : Ends) (w : World) (e : Event) → Known g t w → Facts (given_by g w e) (happens w e) → Told (given_by g w e) (happens w e)
+unfolding happens
+happens-told g t w e h f = after-told g t w e (outcome w e) refl h.acked (outcome-told g t w e h (outcome-facts (given_by g w e) w e (outcome w e) f))
+
+run-told : (g : Givens) (t : Ends) (w : World) (events : List Event) → Reached w → Known g t w → (x : Ends) × Acked (given_in g w events) x (run w events)
+run-told g t w [] r h = (t, h.acked)
+run-told g t w (e ∷ events) r h =
+    let a = reached-agreed w r in
+    let j = happens-recorded g w e h.facts.recorded a in
+    let c = happens-carried g w e h.facts a in
+    let s = happens-set g w e h.facts a j.one h.sets in
+    let n = reached-next w e r in
+    let f = reached-facts (given_by g w e) (happens w e) n j c in
+    let k = happens-told g t w e h f in
+    run-told (given_by g w e) k.ends (happens w e) events n (record { facts = f; sets = s; acked = k.acked })
+
+no_ends : Ends
+no_ends e q = None
+
+start-acked : (nodes : ℕ) → Acked none_given no_ends (start nodes)
+unfolding start no_ends
+start-acked nodes = record {
+  lives = λ s n l j. absurd (none-some _ j.there);
+  begun = λ e k q z. absurd (none-some k z);
+  ups = λ c i m e. absurd (none-some m e);
+  downs = λ c i m e. absurd (none-some m e);
+  uppers = λ c lt. absurd (omega (arith, lt));
+  lowers = λ c. tt;
+  replicas = λ n b. tt;
+  writers = λ b. record { known = λ r. absurd (omega (arith, r)); packets = λ r i p q. absurd (none-some p q); below = λ r q k z. absurd (none-some k z) };
+}
+
+pub all-acked : AllAcked
+all-acked nodes events =
+    let c = start-carried nodes in
+    let r = start-recorded nodes in
+    run-told none_given no_ends (start nodes) events (at-start nodes) (record { facts = reached-facts none_given (start nodes) (at-start nodes) r c; sets = start-set nodes; acked = start-acked nodes })

@@ -1,0 +1,13 @@
+pub mod Shows
+pub mod Seats
+pub mod Frame
+pub mod Pending
+pub mod Turning
+pub mod Lowers
+pub mod Setups
+pub mod Ends
+pub mod Moves
+pub mod Clients
+pub mod Offices
+pub mod Granting
+pub mod AllAcked

@@ -1,0 +1,261 @@
+-- Seats stay, whatever a change makes of the world, and what is said by them.
+use Rattle.std.proofs.Common.{◌≡◌, ℕ, ℤ, zero, suc, ◌<◌, ◌≤◌, ◌⊎◌, inl, inr, Bool, true, false, List, [], ◌∷◌, ◌++◌, slice_get, take, length, Option, Some, None, IfSome, refl, sym, ◌∙◌, ap, subst, arith, eqb-true}
+use Rattle.std.specs.Prelude.{◌==◌, ◌&&◌, if◌then◌else◌}
+use Rattle.std.proofs.lemmas.Bool.{false≢true}
+use Rattle.std.proofs.lemmas.Option.{none-some, same_Some}
+use Rattle.hd_base.specs.declared.numbers.Stamp.{Stamp}
+use Rattle.op_headers.specs.declared.nodes.NodeRef.{NodeRef}
+use Rattle.op_headers.specs.declared.ops.Op.{Op}
+use Rattle.op_headers.specs.declared.ops.Op.TheVariants as op
+use Rattle.op_headers.specs.Values.{WriteFields}
+use Rattle.packet_codec.specs.declared.packets.Packet.{Packet}
+use Rattle.replica_core.specs.declared.ack_queue.PendingPacket.{PendingPacket}
+use Rattle.replica_core.specs.declared.info.ReplicaInfo.{ReplicaInfo}
+use Rattle.replica_core.specs.declared.records.ReplicaRecord.{ReplicaRecord}
+use Rattle.replica_model.specs.declared.events.ReplicaEvent.{ReplicaEvent}
+use Rattle.replica_model.specs.Rows.{FullReplica, IsFull, row, event_at}
+use Rattle.replica_model.specs.Found.{IsFront}
+use Rattle.member_core.specs.Requests.{request_from}
+use Rattle.world.specs.Parts.{Message, request, packet, ack, response, read_status, recovery_answer, Dialled, Upper, by_writer, by_member, by_reader, by_primary, FullMember, Lower, idle, writes, serves, recovers, ended_below, Joined, Updated}
+use Rattle.world.specs.Worlds.{Past, World, Change, past_after, apply}
+use Rattle.world.specs.Nodes.{node_of, node_on, block_of}
+use Rattle.world.specs.Safe.{Has}
+use Rattle.world_facts.proofs.Tables.{and-left, and-right, some-weaker}
+use Rattle.world_facts.specs.Growing.{Begins, Grows}
+use Rattle.world_facts.proofs.GrowthLaws.{apply-grows}
+use Rattle.world_stamps.specs.Stamping.{Givens}
+use Rattle.world_bytes.specs.Carrying.{new_stamp}
+use Rattle.world_bytes.proofs.Fronts.{front-takes, front-length}
+use Rattle.world_setups.specs.Joining.{joined_as}
+use Rattle.world_setups.proofs.Rising.{Goes}
+use Rattle.world_acks.specs.Acking.{Shown, IsUncut, Seat, Asked, AsksToRead, Seated, IsPipe, promised, SetUpFrom, Ends, AckedFrom, UpTells, Numbered, PacketTells, DownTells, Mirrors, UpperTells, MemberTells, LowerTells, PendingTells, Pends}
+use Rattle.world_acks.proofs.Shows.{IsNoUpdate, row-shows}
+
+-- LISTS
+
+get-more : {A : Type 0} (xs ys : List A) (i : ℕ) (x : A) → slice_get xs i ≡ Some x → slice_get (xs ++ ys) i ≡ Some x
+get-more [] ys i x e = absurd (none-some x e)
+get-more (z ∷ xs) ys zero x e = e
+get-more (z ∷ xs) ys (suc i) x e = get-more xs ys i x e
+
+pub has-left : {A : Type 0} (xs ys : List A) (x : A) → Has xs x → Has (xs ++ ys) x
+has-left xs ys x h = record { place = h.place; there = get-more xs ys h.place x h.there }
+
+pub has-right : {A : Type 0} (xs ys : List A) (x : A) → Has ys x → Has (xs ++ ys) x
+has-right [] ys x h = h
+has-right (z ∷ xs) ys x h = let k = has-right xs ys x h in record { place = suc k.place; there = k.there }
+
+pub has-one : {A : Type 0} (x : A) → Has (x ∷ []) x
+has-one x = record { place = zero; there = refl }
+
+-- A REPLICA THAT CHANGES
+
+-- a recovery with an id above this stamp has updated the replica that changes
+pub record IsCut (w : World) (k : Change) (stamp : ℕ) : Type 0 where
+  pub entry : Updated
+  pub has : Has k.updated entry
+  pub node : entry.node ≡ k.node
+  pub life : entry.life ≡ w.lives k.node
+  pub block : entry.block ≡ k.block
+  pub above : stamp < entry.recovery
+
+-- what the replica showed it shows still, unless a recovery has updated it
+pub record Steps (w : World) (k : Change) : Type 0 where
+  pub broken : (w.replicas k.node k.block).known.is_broken ≡ true → k.replica.known.is_broken ≡ true
+  pub shown : IsFull (w.replicas k.node k.block) → IsFull k.replica → (s n : ℕ) (v : List ℕ) → Shown (w.replicas k.node k.block) s n v → Shown k.replica s n v ⊎ IsCut w k s
+
+pub steps-same : (w : World) (k : Change) → k.replica ≡ w.replicas k.node k.block → Steps w k
+steps-same w k e = record {
+  broken = λ b. ap (λ (r : FullReplica). r.known.is_broken) e ∙ b;
+  shown = λ _ _ s n v x. inl (subst (λ (r : FullReplica). Shown r s n v) (sym e) x);
+}
+
+pub steps-row : (w : World) (k : Change) (e : ReplicaEvent) → ((w.replicas k.node k.block).known.is_broken ≡ true → k.replica.known.is_broken ≡ true) → k.replica ≡ row (w.replicas k.node k.block) e
+    → IsNoUpdate (event_at (w.replicas k.node k.block) e) → Goes (w.replicas k.node k.block).known.info (row (w.replicas k.node k.block) e).known.info → Steps w k
+steps-row w k e b q u g = record {
+  broken = b;
+  shown = λ f h s n v x. inl (subst (λ (r : FullReplica). Shown r s n v) (sym q)
+      (row-shows (w.replicas k.node k.block) e f (subst (λ (r : FullReplica). IsFull r) q h) u g s n v x));
+}
+
+-- SEATS
+
+-- of more bytes
+shown-more : (r : FullReplica) (s n : ℕ) (v u : List ℕ) → IsFront v u → Shown r s n v → Shown r s n u
+shown-more r s n v u f x = record {
+  info = x.info;
+  is = x.is;
+  least = x.least;
+  visible = x.visible;
+  sees = x.sees;
+  enough = x.enough;
+  bytes = x.bytes ∙ front-takes n v u f x.within;
+  within = omega (arith, x.within, front-length v u f);
+}
+
+-- what is unbroken after the change was so before
+whole-before : (c d : Bool) → (c ≡ true → d ≡ true) → d ≡ false → c ≡ false
+whole-before false d h e = refl
+whole-before true d h e = absurd (false≢true (sym e ∙ h refl))
+
+apply-written : (w : World) (k : Change) (e : ℕ) → IsFront (w.written e) ((past_after w k).written e)
+unfolding apply
+apply-written w k e = let b = (apply-grows w k).written e in (b.rest, b.joins)
+
+pub seat-apply : (w : World) (k : Change) (b s e n j : ℕ) → Steps w k → IsFull (w.replicas k.node k.block) → IsFull k.replica → Seat w b s e n j → Seat (apply w k) b s e n j
+unfolding apply
+seat-apply w k b s e n j st old new h = record {
+  life = h.life;
+  joins = has-left w.joined k.joined (joined_as s n h.life) h.joins;
+  born = h.born;
+  shows = λ runs alive sound uncut. at runs alive uncut (n == k.node && b == k.block) refl sound;
+}
+  where
+    uncut-before : IsUncut (apply w k) b s n h.life → IsUncut w b s n h.life
+    uncut-before u = record { none = λ x q a c d i. u.none x (has-left w.updated k.updated x q) a c d i }
+
+    cut : n ≡ k.node → b ≡ k.block → w.lives n ≡ h.life → IsUncut (apply w k) b s n h.life → IsCut w k s → ⊥
+    cut en eb alive u c = u.none c.entry (has-right w.updated k.updated c.entry c.has) (c.node ∙ sym en) (c.life ∙ ap (λ (x : ℕ). w.lives x) (sym en) ∙ alive) (c.block ∙ sym eb) c.above
+
+    at : w.running n ≡ true → w.lives n ≡ h.life → IsUncut (apply w k) b s n h.life → (t : Bool) → (n == k.node && b == k.block) ≡ t
+        → (if t then k.replica else w.replicas n b).known.is_broken ≡ false → Shown (if t then k.replica else w.replicas n b) s j ((past_after w k).written e)
+    at runs alive uncut false q sound = shown-more (w.replicas n b) s j (w.written e) ((past_after w k).written e) (apply-written w k e) (h.shows runs alive sound (uncut-before uncut))
+    at runs alive uncut true q sound = go (st.shown old new s j (w.written e) (subst (λ (r : FullReplica). Shown r s j (w.written e)) is (h.shows runs alive before (uncut-before uncut))))
+      where
+        en : n ≡ k.node
+        en = eqb-true n k.node (and-left (n == k.node) (b == k.block) q)
+
+        eb : b ≡ k.block
+        eb = eqb-true b k.block (and-right (n == k.node) (b == k.block) q)
+
+        is : w.replicas n b ≡ w.replicas k.node k.block
+        is = ap (λ (x : ℕ). w.replicas x b) en ∙ ap (λ (y : ℕ). w.replicas k.node y) eb
+
+        before : (w.replicas n b).known.is_broken ≡ false
+        before = ap (λ (r : FullReplica). r.known.is_broken) is ∙ whole-before (w.replicas k.node k.block).known.is_broken k.replica.known.is_broken st.broken sound
+
+        go : Shown k.replica s j (w.written e) ⊎ IsCut w k s → Shown k.replica s j ((past_after w k).written e)
+        go (inl x) = shown-more k.replica s j (w.written e) ((past_after w k).written e) (apply-written w k e) x
+        go (inr c) = absurd (cut en eb alive uncut c)
+
+-- LATER WORLDS
+
+-- Seats stay, stamps and ends that were known stay known, connections stay what they were, and setups that were accepted stay so.
+pub record Onward (g k : Givens) (t u : Ends) (w v : World) : Type 0 where
+  pub seats : (b s e n j : ℕ) → Seat w b s e n j → Seat v b s e n j
+  pub given : (b s e : ℕ) → g b s ≡ Some e → k b s ≡ Some e
+  pub named : (e x : ℕ) (q : ℤ) → t e q ≡ Some x → u e q ≡ Some x
+  pub first : (c : ℕ) (m : Message) → slice_get (w.downs c) 0 ≡ Some m → slice_get (v.downs c) 0 ≡ Some m
+  pub conns : w.next_conn ≤ v.next_conn
+  pub dialled : (c : ℕ) → c < w.next_conn → v.dialled c ≡ w.dialled c
+  pub joined : (x : Joined) → Has w.joined x → Has v.joined x
+
+pub asked-on : (g k : Givens) (t u : Ends) (w v : World) (c : ℕ) (f : WriteFields) → Onward g k t u w v → Asked w.past c f → Asked v.past c f
+asked-on g k t u w v c f o h = record { first = o.first c (request (op.Write f)) h.first }
+
+pub reads-on : (g k : Givens) (t u : Ends) (w v : World) (c : ℕ) → Onward g k t u w v → AsksToRead w.past c → AsksToRead v.past c
+reads-on g k t u w v c o h = record { asked = h.asked; first = o.first c (request (op.Read h.asked)) h.first }
+
+pub seated-on : (g k : Givens) (t u : Ends) (w v : World) (f : WriteFields) (n e j : ℕ) → Onward g k t u w v → Seated w f n e j → Seated v f n e j
+seated-on g k t u w v f n e j o h = record {
+  here = o.seats (block_of f) (new_stamp f).0 e n j h.here;
+  below = λ i m x a b. o.seats (block_of f) (new_stamp f).0 e m j (h.below i m x a b);
+}
+
+pub pipe-on : (g k : Givens) (t u : Ends) (w v : World) (c : ℕ) (f : WriteFields) (e : ℕ) → Onward g k t u w v → IsPipe g w c f e → IsPipe k v c f e
+pipe-on g k t u w v c f e o h = record { known = omega (arith, h.known, o.conns); asked = asked-on g k t u w v c f o h.asked; given = o.given (block_of f) (new_stamp f).0 e h.given }
+
+pub node-on : (g k : Givens) (t u : Ends) (w v : World) (c : ℕ) → Onward g k t u w v → c < w.next_conn → node_of w c ≡ node_of v c
+node-on g k t u w v c o lt = sym (ap (λ (d : Dialled). d.to.node) (o.dialled c lt))
+
+set-on : (g k : Givens) (t u : Ends) (w v : World) (c : ℕ) → Onward g k t u w v → SetUpFrom g w c → SetUpFrom k v c
+set-on g k t u w v c o h = record {
+  fields = h.fields;
+  session = h.session;
+  pipe = pipe-on g k t u w v c h.fields h.session o h.pipe;
+  seated = subst (λ (n : ℕ). Seated v h.fields n h.session (promised h.fields)) (node-on g k t u w v c o h.pipe.known)
+      (seated-on g k t u w v h.fields (node_of w c) h.session (promised h.fields) o h.seated);
+}
+
+acked-on : (g k : Givens) (t u : Ends) (w v : World) (c : ℕ) (q : ℤ) → Onward g k t u w v → AckedFrom g t w c q → AckedFrom k u v c q
+acked-on g k t u w v c q o h = record {
+  fields = h.fields;
+  session = h.session;
+  pipe = pipe-on g k t u w v c h.fields h.session o h.pipe;
+  end = h.end;
+  named = o.named h.session h.end q h.named;
+  seated = subst (λ (n : ℕ). Seated v h.fields n h.session h.end) (node-on g k t u w v c o h.pipe.known) (seated-on g k t u w v h.fields (node_of w c) h.session h.end o h.seated);
+}
+
+pub up-on : (g k : Givens) (t u : Ends) (w v : World) (c : ℕ) (m : Message) → Onward g k t u w v → UpTells g t w c m → UpTells k u v c m
+up-on g k t u w v c (response r) o h = λ e. either (h e)
+  where
+    either : SetUpFrom g w c ⊎ AsksToRead w.past c → SetUpFrom k v c ⊎ AsksToRead v.past c
+    either (inl x) = inl (set-on g k t u w v c o x)
+    either (inr x) = inr (reads-on g k t u w v c o x)
+up-on g k t u w v c (ack a) o h = λ e. acked-on g k t u w v c a.seqno o (h e)
+up-on g k t u w v c (request r) o h = tt
+up-on g k t u w v c (packet p) o h = tt
+up-on g k t u w v c (read_status s) o h = tt
+up-on g k t u w v c (recovery_answer a) o h = tt
+
+pub numbered-on : (g k : Givens) (t u : Ends) (w v : World) (e : ℕ) (p : Packet) → Onward g k t u w v → Numbered t e p → Numbered u e p
+numbered-on g k t u w v e p o h = record { number = h.number; is = h.is; named = o.named e _ p.seqno h.named }
+
+pub packet-on : (g k : Givens) (t u : Ends) (w v : World) (c : ℕ) (p : Packet) → Onward g k t u w v → PacketTells g t w c p → PacketTells k u v c p
+packet-on g k t u w v c p o h = record { fields = h.fields; session = h.session; pipe = pipe-on g k t u w v c h.fields h.session o h.pipe; numbered = numbered-on g k t u w v h.session p o h.numbered }
+
+request-on : (g k : Givens) (t u : Ends) (w v : World) (c : ℕ) (r : Op) → Onward g k t u w v → DownTells g t w c (request r) → DownTells k u v c (request r)
+request-on g k t u w v c (op.Read r) o h = reads-on g k t u w v c o h
+request-on g k t u w v c (op.Write f) o h = tt
+request-on g k t u w v c (op.Recovery r) o h = tt
+request-on g k t u w v c (op.Transfer r) o h = tt
+request-on g k t u w v c (op.Checksum r) o h = tt
+
+pub down-on : (g k : Givens) (t u : Ends) (w v : World) (c : ℕ) (m : Message) → Onward g k t u w v → DownTells g t w c m → DownTells k u v c m
+down-on g k t u w v c (request r) o h = request-on g k t u w v c r o h
+down-on g k t u w v c (packet p) o h = packet-on g k t u w v c p o h
+down-on g k t u w v c (response r) o h = tt
+down-on g k t u w v c (ack a) o h = tt
+down-on g k t u w v c (read_status s) o h = tt
+down-on g k t u w v c (recovery_answer a) o h = tt
+
+mirrors-on : (g k : Givens) (t u : Ends) (w v : World) (d c : ℕ) → Onward g k t u w v → c < w.next_conn → Mirrors w.past d c → Mirrors v.past d c
+mirrors-on g k t u w v d c o lt h = record {
+  fields = h.fields;
+  asked = asked-on g k t u w v d h.fields o h.asked;
+  source = h.source;
+  first = h.first;
+  rest = h.rest;
+  targets = h.targets;
+  node = h.node ∙ ap (λ (n : ℕ). Some n) (node-on g k t u w v c o lt);
+  mirror = asked-on g k t u w v c (request_from h.source h.fields h.rest) o h.mirror;
+}
+
+pub upper-on : (g k : Givens) (t u : Ends) (w v : World) (c : ℕ) (x : Upper) → Onward g k t u w v → c < w.next_conn → UpperTells w.past c x → UpperTells v.past c x
+upper-on g k t u w v c (by_member d) o lt h = mirrors-on g k t u w v d c o lt h
+upper-on g k t u w v c (by_writer b) o lt h = tt
+upper-on g k t u w v c (by_reader i) o lt h = tt
+upper-on g k t u w v c (by_primary i p) o lt h = tt
+
+pub member-on : (g k : Givens) (t u : Ends) (w v : World) (c : ℕ) (m : FullMember) → Onward g k t u w v → MemberTells g w c m → MemberTells k v c m
+member-on g k t u w v c m o h = record {
+  session = h.session;
+  pipe = pipe-on g k t u w v c m.fields h.session o h.pipe;
+  joins = subst (λ (d : Dialled). Has v.joined (joined_as (new_stamp m.fields).0 d.to.node d.to.life)) (sym (o.dialled c h.pipe.known)) (o.joined (joined_as (new_stamp m.fields).0 (node_of w c) (w.dialled c).to.life) h.joins);
+  seat = subst (λ (n : ℕ). Seat v (block_of m.fields) (new_stamp m.fields).0 h.session n (promised m.fields)) (node-on g k t u w v c o h.pipe.known)
+      (o.seats (block_of m.fields) (new_stamp m.fields).0 h.session (node_of w c) (promised m.fields) h.seat);
+  alone = h.alone;
+}
+
+pub lower-on : (g k : Givens) (t u : Ends) (w v : World) (c : ℕ) (x : Lower) → Onward g k t u w v → LowerTells g w c x → LowerTells k v c x
+lower-on g k t u w v c (writes m) o h = member-on g k t u w v c m o h
+lower-on g k t u w v c idle o h = tt
+lower-on g k t u w v c (serves b s) o h = tt
+lower-on g k t u w v c recovers o h = tt
+lower-on g k t u w v c ended_below o h = tt
+
+pub pends-on : (g k : Givens) (t u : Ends) (w v : World) (b : ℕ) (r : ReplicaRecord) → Onward g k t u w v → IfSome r.info (Pends g t b r) → IfSome r.info (Pends k u b r)
+pends-on g k t u w v b r o h = some-weaker (Pends g t b r) (Pends k u b r) r.info (λ i x. record {
+  each = λ j e q. let y = x.each j e q in record { session = y.session; given = o.given b i.stamp.0 y.session y.given; named = o.named y.session e.end e.seqno y.named };
+}) h

@@ -1,0 +1,221 @@
+-- What answers to setups and acks say of the replicas below them.
+use Rattle.std.specs.Prelude.{ℕ, ℤ, pos, ◌≡◌, ◌<◌, ◌≤◌, ◌⊎◌, Bool, true, false, List, [], ◌∷◌, length, take, slice_get, Option, Some, None, IfSome}
+use Rattle.hd_base.specs.declared.numbers.Stamp.{Stamp}
+use Rattle.op_headers.specs.declared.nodes.NodeRef.{NodeRef}
+use Rattle.op_headers.specs.declared.ops.Op.TheVariants as op
+use Rattle.op_headers.specs.declared.ops.ReadOp.{ReadOp}
+use Rattle.op_headers.specs.Values.{WriteFields}
+use Rattle.packet_codec.specs.declared.packets.Packet.{Packet}
+use Rattle.packet_stream.specs.Streams.{packet_end}
+use Rattle.replica_core.specs.declared.ack_queue.PendingPacket.{PendingPacket}
+use Rattle.replica_core.specs.declared.info.ReplicaInfo.{ReplicaInfo}
+use Rattle.replica_core.specs.declared.records.ReplicaRecord.{ReplicaRecord}
+use Rattle.replica_core.specs.Info.{visible_of}
+use Rattle.replica_model.specs.Rows.{FullReplica}
+use Rattle.member_core.specs.declared.member.Mirror.TheVariants as mirror
+use Rattle.member_core.specs.declared.requests.SetupKind.{SetupKind}
+use Rattle.member_core.specs.declared.requests.SetupKind.TheVariants as kind
+use Rattle.member_core.specs.Acks.{is_success, failures}
+use Rattle.member_core.specs.Requests.{setup_with, request_from}
+use Rattle.writer_core.specs.declared.phases.Phase.{Phase}
+use Rattle.writer_core.specs.declared.phases.Phase.TheVariants as phase
+use Rattle.writer_core.specs.declared.phases.Setup.{Setup}
+use Rattle.writer_core.specs.declared.phases.Setup.TheVariants as setup
+use Rattle.writer_core.specs.declared.records.WriterRecord.{WriterRecord}
+use Rattle.world.specs.declared.events.Event.{Event}
+use Rattle.world.specs.Parts.{Message, request, packet, ack, response, Upper, by_member, FullMember, Lower, writes, Updated}
+use Rattle.world.specs.Worlds.{Past, World, start}
+use Rattle.world.specs.Nodes.{node_of, node_on, block_of}
+use Rattle.world.specs.Events.{run}
+use Rattle.world.specs.Safe.{Has}
+use Rattle.world_stamps.specs.Stamping.{Givens, none_given, given_in, heard}
+use Rattle.world_bytes.specs.Carrying.{new_stamp}
+use Rattle.world_setups.specs.Joining.{joined_as}
+
+-- WHAT A REPLICA SHOWS
+
+-- A replica has at least this stamp, and at least so many bytes of it are visible, which are the first of these.
+pub record Shown (r : FullReplica) (stamp n : ℕ) (v : List ℕ) : Type 0 where
+  pub info : ReplicaInfo
+  pub is : r.known.info ≡ Some info
+  pub least : stamp ≤ info.stamp.0
+  pub visible : ℕ
+  pub sees : visible_of info ≡ Some visible
+  pub enough : n ≤ visible
+  pub bytes : take n r.bytes ≡ take n v
+  pub within : n ≤ length v
+
+-- no recovery with an id above this stamp updated the block's replica at a node in this life
+pub record IsUncut (w : World) (b stamp n life : ℕ) : Type 0 where
+  pub none : (u : Updated) → Has w.updated u → u.node ≡ n → u.life ≡ life → u.block ≡ b → stamp < u.recovery → ⊥
+
+-- A node accepted the setup of a stamp of a session, in a life that isn't later than its present one. As long as it runs in that life, its replica
+-- isn't broken and no later recovery has updated it, it shows at least so many bytes of the session.
+pub record Seat (w : World) (b stamp session n least : ℕ) : Type 0 where
+  pub life : ℕ
+  pub joins : Has w.joined (joined_as stamp n life)
+  pub born : life ≤ w.lives n
+  pub shows : w.running n ≡ true → w.lives n ≡ life → (w.replicas n b).known.is_broken ≡ false → IsUncut w b stamp n life →
+      Shown (w.replicas n b) stamp least (w.written session)
+
+-- CONNECTIONS
+
+-- The connection's first message is this write request.
+pub record Asked (h : Past) (c : ℕ) (f : WriteFields) : Type 0 where
+  pub first : slice_get (h.downs c) 0 ≡ Some (request (op.Write f))
+
+-- The connection's first message is a request to read.
+pub record AsksToRead (h : Past) (c : ℕ) : Type 0 where
+  pub asked : ReadOp
+  pub first : slice_get (h.downs c) 0 ≡ Some (request (op.Read asked))
+
+-- The node and each target of the request have such a seat.
+pub record Seated (w : World) (f : WriteFields) (n session least : ℕ) : Type 0 where
+  pub here : Seat w (block_of f) (new_stamp f).0 session n least
+  pub below : (i m : ℕ) (t : NodeRef) → slice_get f.targets i ≡ Some t → node_on t.xfer ≡ Some m →
+      Seat w (block_of f) (new_stamp f).0 session m least
+
+-- the connection of a request whose stamp was given for its block in a session
+pub record IsPipe (g : Givens) (w : World) (c : ℕ) (f : WriteFields) (session : ℕ) : Type 0 where
+  pub known : c < w.next_conn
+  pub asked : Asked w.past c f
+  pub given : g (block_of f) (new_stamp f).0 ≡ Some session
+
+-- the least length that a replica has once it took a setup
+abbrev pub least_of : Option SetupKind → ℕ → ℕ
+least_of (Some kind.Create) n = 0
+least_of _ n = n
+
+abbrev pub promised : WriteFields → ℕ
+promised f = least_of (setup_with f.stage) f.min
+
+-- All members from a connection's lower end on accepted the setup, with the least length of its request.
+pub record SetUpFrom (g : Givens) (w : World) (c : ℕ) : Type 0 where
+  pub fields : WriteFields
+  pub session : ℕ
+  pub pipe : IsPipe g w c fields session
+  pub seated : Seated w fields (node_of w c) session (promised fields)
+
+-- by session and number, where the packet of this number ends
+abbrev pub Ends : Type 0
+Ends = ℕ → ℤ → Option ℕ
+
+-- All members from a connection's lower end on show what the packet of this number ends.
+pub record AckedFrom (g : Givens) (t : Ends) (w : World) (c : ℕ) (seqno : ℤ) : Type 0 where
+  pub fields : WriteFields
+  pub session : ℕ
+  pub pipe : IsPipe g w c fields session
+  pub end : ℕ
+  pub named : t session seqno ≡ Some end
+  pub seated : Seated w fields (node_of w c) session end
+
+-- what goes up: an answer of SUCCESS, to a setup or a read, and an ack without a bad reply
+abbrev pub UpTells : Givens → Ends → World → ℕ → Message → Type 0
+UpTells g t w c (response r) = is_success r.status ≡ true → SetUpFrom g w c ⊎ AsksToRead w.past c
+UpTells g t w c (ack a) = failures a.replies ≡ 0 → AckedFrom g t w c a.seqno
+UpTells g t w c _ = Unit {0}
+
+-- a packet with a number, under which its end is known in this session
+pub record Numbered (t : Ends) (session : ℕ) (p : Packet) : Type 0 where
+  pub number : ℕ
+  pub is : p.seqno ≡ pos number
+  pub named : t session p.seqno ≡ Some (packet_end p)
+
+-- a packet has the number under which its end is known in its connection's session
+pub record PacketTells (g : Givens) (t : Ends) (w : World) (c : ℕ) (p : Packet) : Type 0 where
+  pub fields : WriteFields
+  pub session : ℕ
+  pub pipe : IsPipe g w c fields session
+  pub numbered : Numbered t session p
+
+abbrev pub DownTells : Givens → Ends → World → ℕ → Message → Type 0
+DownTells g t w c (packet p) = PacketTells g t w c p
+DownTells g t w c (request (op.Read r)) = AsksToRead w.past c
+DownTells g t w c _ = Unit {0}
+
+-- The connection's request is that of a member, without its first target, which is the node at its lower end.
+pub record Mirrors (h : Past) (d c : ℕ) : Type 0 where
+  pub fields : WriteFields
+  pub asked : Asked h d fields
+  pub source : NodeRef
+  pub first : NodeRef
+  pub rest : List NodeRef
+  pub targets : fields.targets ≡ first ∷ rest
+  pub node : node_on first.xfer ≡ Some (h.dialled c).to.node
+  pub mirror : Asked h c (request_from source fields rest)
+
+abbrev pub UpperTells : Past → ℕ → Upper → Type 0
+UpperTells h c (by_member d) = Mirrors h d c
+UpperTells h c _ = Unit {0}
+
+-- LOWER ENDS
+
+-- A member took the setup of its connection in the life of its connection, and has a seat of the least length; without a mirror it has no targets.
+pub record MemberTells (g : Givens) (w : World) (c : ℕ) (m : FullMember) : Type 0 where
+  pub session : ℕ
+  pub pipe : IsPipe g w c m.fields session
+  pub joins : Has w.joined (joined_as (new_stamp m.fields).0 (node_of w c) (w.dialled c).to.life)
+  pub seat : Seat w (block_of m.fields) (new_stamp m.fields).0 session (node_of w c) (promised m.fields)
+  pub alone : m.state.mirror ≡ mirror.Nobody → m.fields.targets ≡ []
+
+abbrev pub LowerTells : Givens → World → ℕ → Lower → Type 0
+LowerTells g w c (writes m) = MemberTells g w c m
+LowerTells g w c _ = Unit {0}
+
+-- what is pending under a stamp has its end by its number in the stamp's session
+pub record PendingTells (g : Givens) (t : Ends) (b : ℕ) (stamp : Stamp) (e : PendingPacket) : Type 0 where
+  pub session : ℕ
+  pub given : g b stamp.0 ≡ Some session
+  pub named : t session e.seqno ≡ Some e.end
+
+pub record Pends (g : Givens) (t : Ends) (b : ℕ) (r : ReplicaRecord) (i : ReplicaInfo) : Type 0 where
+  pub each : (j : ℕ) (e : PendingPacket) → slice_get r.pending j ≡ Some e → PendingTells g t b i.stamp e
+
+-- WRITERS
+
+-- how far a writer is in its session: outside of one, past its last packet, or before it
+abbrev pub reach_in : Setup → ℕ
+reach_in setup.CloseRecovery = 1
+reach_in _ = 2
+
+abbrev pub reach_wanted : Setup → ℕ
+reach_wanted setup.Create = 0
+reach_wanted setup.Append = 0
+reach_wanted s = reach_in s
+
+abbrev pub reach_of : Phase → ℕ
+reach_of phase.Closed = 0
+reach_of (phase.Wanted s) = reach_wanted s
+reach_of (phase.Stamped s stamp) = reach_in s
+reach_of (phase.Requested s stamp) = reach_in s
+reach_of (phase.Accepted s stamp) = reach_in s
+reach_of phase.Opened = 2
+reach_of (phase.Streaming sent) = 2
+reach_of phase.Closing = 1
+reach_of phase.Finished = 1
+reach_of phase.Completed = 1
+reach_of (phase.Failed e) = 0
+
+-- In its session, which is named by a stamp of its block, a writer's packets have numbers; they lie below the next one until the last packet was
+-- formed.
+pub record Numbers (f : ℕ → Option ℕ) (t : Ends) (session : ℕ) (x : WriterRecord) : Type 0 where
+  pub known : 1 ≤ reach_of x.phase → f session ≡ Some session
+  pub packets : 1 ≤ reach_of x.phase → (i : ℕ) (p : Packet) → slice_get x.stream.unacked i ≡ Some p → Numbered t session p
+  pub below : 2 ≤ reach_of x.phase → (q k : ℕ) → t session (pos q) ≡ Some k → q < x.stream.seqno
+
+-- THE WORLD
+
+pub record Acked (g : Givens) (t : Ends) (w : World) : Type 0 where
+  pub lives : (s n l : ℕ) → Has w.joined (joined_as s n l) → l ≤ w.lives n
+  pub begun : (e k : ℕ) (q : ℤ) → t e q ≡ Some k → e < w.office.next.0
+  pub ups : (c i : ℕ) (m : Message) → slice_get (w.ups c) i ≡ Some m → UpTells g t w c m
+  pub downs : (c i : ℕ) (m : Message) → slice_get (w.downs c) i ≡ Some m → DownTells g t w c m
+  pub uppers : (c : ℕ) → c < w.next_conn → UpperTells w.past c (w.dialled c).upper
+  pub lowers : (c : ℕ) → LowerTells g w c (w.lowers c)
+  pub replicas : (n b : ℕ) → IfSome (w.replicas n b).known.info (Pends g t b (w.replicas n b).known)
+  pub writers : (b : ℕ) → Numbers (g b) t (w.latest b) (heard (w.writers b))
+
+-- So it is after every list of events, of the stamps that are given in them and some ends of packets.
+abbrev pub AllAcked : Type 0
+AllAcked = (nodes : ℕ) (events : List Event) →
+    (t : Ends) × Acked (given_in none_given (start nodes) events) t (run (start nodes) events)
