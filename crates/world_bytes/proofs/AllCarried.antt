@@ -81,7 +81,7 @@ up-taken-facts g w c x h = record {
 }
 
 -- what stands next was sent
-next-sent : (sent : List Message) (k : Marks) (m : Message) → next_on sent k ≡ Some (message m) → slice_get sent k.taken ≡ Some m
+pub next-sent : (sent : List Message) (k : Marks) (m : Message) → next_on sent k ≡ Some (message m) → slice_get sent k.taken ≡ Some m
 next-sent sent k m e = go k.over (ends_at k.end k.taken) e
   where
     said : (o : Option Message) → option_map message o ≡ Some (message m) → o ≡ Some m

@@ -141,7 +141,7 @@ goes-on source f (t ∷ ts) d e = go (nat_le t.xfer MAX_PORT) e
     go true q = record { rest = ts; source = source; is = sym (same_Some (request_from source f ts) d q) }
     go false q = absurd (none-some d q)
 
-mirror-on : (source : NodeRef) (f d : WriteFields) → mirror_request source f ≡ Some d → IsOn f d
+pub mirror-on : (source : NodeRef) (f d : WriteFields) → mirror_request source f ≡ Some d → IsOn f d
 unfolding mirror_request
 mirror-on source f d e = goes-on source f f.targets d e
 

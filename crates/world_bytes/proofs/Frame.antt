@@ -81,7 +81,7 @@ added-other f i xs s h = if-each (λ (v : List ℕ). v ≡ f s) (s == i) (f s ++
 pub unwritten : (w : World) (k : Change) (s : ℕ) → (s ≡ k.session → k.bytes ≡ []) → (past_after w k).written s ≡ w.written s
 unwritten w k s h = added-other w.written k.session k.bytes s h
 
-past-grows : (w : World) (k : Change) → Grows w.past (past_after w k)
+pub past-grows : (w : World) (k : Change) → Grows w.past (past_after w k)
 unfolding apply
 past-grows w k = apply-grows w k
 
@@ -160,7 +160,7 @@ put-at-each {A} P f i k x h q j l =
     (λ e. q j l)
 
 -- a new connection stands at its place in the list of dials
-dial-place : (next : ℕ) (dials : List Dial) (c : ℕ) (d : Dial) → dial_at next dials c ≡ Some d → (slice_get dials (c - next) ≡ Some d) × (next + (c - next) ≡ c)
+pub dial-place : (next : ℕ) (dials : List Dial) (c : ℕ) (d : Dial) → dial_at next dials c ≡ Some d → (slice_get dials (c - next) ≡ Some d) × (next + (c - next) ≡ c)
 dial-place next dials c d e = go (nat_le next c) refl
   where
     go : (b : Bool) → nat_le next c ≡ b → (slice_get dials (c - next) ≡ Some d) × (next + (c - next) ≡ c)
@@ -179,7 +179,7 @@ none-past (x ∷ xs) zero e = absurd (none-some x (sym e))
 none-past (x ∷ xs) (suc i) e = omega (arith, none-past xs i e)
 
 -- no new connection has this number
-dial-none : (next : ℕ) (dials : List Dial) (c : ℕ) → dial_at next dials c ≡ None → c < next + length dials → c < next
+pub dial-none : (next : ℕ) (dials : List Dial) (c : ℕ) → dial_at next dials c ≡ None → c < next + length dials → c < next
 dial-none next dials c e lt = go (nat_le next c) refl
   where
     go : (b : Bool) → nat_le next c ≡ b → c < next

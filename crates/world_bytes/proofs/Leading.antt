@@ -75,7 +75,7 @@ lesser-is Q n (Some m) h k = low-high (Q (min n m)) n m (λ le. subst Q (first l
     second : m < n → m ≡ min n m
     second lt = omega (arith, lt)
 
-least-is : (Q : ℕ → Type 0) (xs : List Info) → Each (λ i. Q i.length) xs → IfSome (least (map (λ (i : Info). i.length) xs)) Q
+pub least-is : (Q : ℕ → Type 0) (xs : List Info) → Each (λ i. Q i.length) xs → IfSome (least (map (λ (i : Info). i.length) xs)) Q
 least-is Q [] h = tt
 least-is Q (x ∷ xs) h = lesser-is Q x.length (least (map (λ (i : Info). i.length) xs)) (h.at zero x refl) (least-is Q xs (each-tail (λ i. Q i.length) x xs h))
 
@@ -359,7 +359,7 @@ zip-each {A} {B} P [] ys h = each-nil (λ (x : A × B). P x.1)
 zip-each {A} {B} P (x ∷ xs) [] h = each-nil (λ (z : A × B). P z.1)
 zip-each {A} {B} P (x ∷ xs) (y ∷ ys) h = each-cons (λ (z : A × B). P z.1) (x, y) (zip xs ys) (h.at zero y refl) (zip-each P xs ys (each-tail P y ys h))
 
-conn-is : (o : Option ℕ) (c : ℕ) → is_conn o c ≡ true → o ≡ Some c
+pub conn-is : (o : Option ℕ) (c : ℕ) → is_conn o c ≡ true → o ≡ Some c
 conn-is None c e = absurd (false≢true e)
 conn-is (Some d) c e = ap (λ (n : ℕ). Some n) (sym (eqb-true c d e))
 

@@ -74,7 +74,7 @@ begins w c = each_case w.office (BeginsBy w) (record {
 }) c
 
 -- the tables before and after
-office-extends : (g : Givens) (w : World) (c : OfficeCall) → Recorded g w → Extends g (given_with g (stamped_by w c (answer_to w.office c)))
+pub office-extends : (g : Givens) (w : World) (c : OfficeCall) → Recorded g w → Extends g (given_with g (stamped_by w c (answer_to w.office c)))
 office-extends g w c r = record {
   before = before-of g w r;
   given = λ b t e q. kept b t e q (stamped_by w c (answer_to w.office c)) (gives w c).fresh;
@@ -117,13 +117,13 @@ latest-below g w r b = go (record_of w.office (record { 0 = b })) (r.blocks b)
     go (Some e) h = r.below b (w.latest b) (w.latest b) h.office.begins
 
 -- A change of the office: bytes go to a session that begins, or nowhere.
-record Answered (w : World) (c : OfficeCall) (k : Change) : Type 0 where
+pub record Answered (w : World) (c : OfficeCall) (k : Change) : Type 0 where
   pub office : k.office ≡ office_after w.office c
   pub stamped : k.stamped ≡ stamped_by w c (answer_to w.office c)
   pub session : k.session ≡ session_begun (stamped_by w c (answer_to w.office c))
   pub bytes : k.bytes ≡ base_of w (answer_to w.office c)
 
-old-written : (g : Givens) (w : World) (c : OfficeCall) (k : Change) → Answered w c k → (s : ℕ) → s < w.office.next.0 → (past_after w k).written s ≡ w.written s
+pub old-written : (g : Givens) (w : World) (c : OfficeCall) (k : Change) → Answered w c k → (s : ℕ) → s < w.office.next.0 → (past_after w k).written s ≡ w.written s
 old-written g w c k a s lt = unwritten w k s (λ e. go (begins w c) (e ∙ a.session))
   where
     go : ((base_of w (answer_to w.office c) ≡ []) ⊎ (session_begun (stamped_by w c (answer_to w.office c)) ≡ w.office.next.0)) → s ≡ session_begun (stamped_by w c (answer_to w.office c)) → k.bytes ≡ []

@@ -64,7 +64,7 @@ up-taken-set g w c x h = record { answers = h.answers; given = h.given; reached 
 -- DELIVERIES
 
 -- the lower end's node is in the life of the connection
-served-life : (w : World) (c : ℕ) → is_served w c ≡ true → w.lives (node_of w c) ≡ (w.dialled c).to.life
+pub served-life : (w : World) (c : ℕ) → is_served w c ≡ true → w.lives (node_of w c) ≡ (w.dialled c).to.life
 served-life w c e =
     let p = (w.dialled c).to in
     eqb-true (w.lives p.node) p.life (and-right (w.running p.node) (w.lives p.node == p.life) (and-right (nat_lt c w.next_conn) (is_alive w p) e))
@@ -119,7 +119,7 @@ own-untouched w (own.Primary i) = own-primary-untouched w i
 -- STAMPS THAT ARE GIVEN
 
 -- a stamp that was given stays given
-given-stays : (g : Givens) (o : Option Stamped) (b t e : ℕ) → g b t ≡ Some e → (d : ℕ) × (given_with g o b t ≡ Some d)
+pub given-stays : (g : Givens) (o : Option Stamped) (b t e : ℕ) → g b t ≡ Some e → (d : ℕ) × (given_with g o b t ≡ Some d)
 given-stays g None b t e q = (e, q)
 given-stays g (Some s) b t e q = at (b == s.block) refl
   where

@@ -21,7 +21,7 @@ use Rattle.world_setups.proofs.Rising.{Goes, OpenFrom}
 
 -- LISTS
 
-get-more : {A : Type 0} (xs ys : List A) (i : ℕ) (x : A) → slice_get xs i ≡ Some x → slice_get (xs ++ ys) i ≡ Some x
+pub get-more : {A : Type 0} (xs ys : List A) (i : ℕ) (x : A) → slice_get xs i ≡ Some x → slice_get (xs ++ ys) i ≡ Some x
 get-more [] ys i x e = absurd (none-some x e)
 get-more (z ∷ xs) ys zero x e = e
 get-more (z ∷ xs) ys (suc i) x e = get-more xs ys i x e
@@ -29,7 +29,7 @@ get-more (z ∷ xs) ys (suc i) x e = get-more xs ys i x e
 has-left : {A : Type 0} (xs ys : List A) (x : A) → Has xs x → Has (xs ++ ys) x
 has-left xs ys x h = record { place = h.place; there = get-more xs ys h.place x h.there }
 
-has-cons : {A : Type 0} (z : A) (xs : List A) (x : A) → Has xs x → Has (z ∷ xs) x
+pub has-cons : {A : Type 0} (z : A) (xs : List A) (x : A) → Has xs x → Has (z ∷ xs) x
 has-cons z xs x h = record { place = suc h.place; there = h.there }
 
 has-end : {A : Type 0} (xs : List A) (x : A) → Has (xs ++ x ∷ []) x
@@ -230,7 +230,7 @@ both-false a c n b e i j = go (n == a) (b == c) refl refl e
     go true false x y z = eqb-false b c y j
     go false t x y z = eqb-false n a x i
 
-put-at-split : {A : Type 0} (P : ℕ → ℕ → A → Type 0) (f : ℕ → ℕ → A) (a c : ℕ) (x : A) → P a c x → ((n b : ℕ) → (n ≡ a → b ≡ c → ⊥) → P n b (f n b)) → (n b : ℕ) → P n b (put_at f a c x n b)
+pub put-at-split : {A : Type 0} (P : ℕ → ℕ → A → Type 0) (f : ℕ → ℕ → A) (a c : ℕ) (x : A) → P a c x → ((n b : ℕ) → (n ≡ a → b ≡ c → ⊥) → P n b (f n b)) → (n b : ℕ) → P n b (put_at f a c x n b)
 put-at-split {A} P f a c x h q n b =
     if-each (λ (y : A). P n b y) (n == a && b == c) x (f n b)
     (λ e. subst (λ (m : ℕ). P m b x) (sym (eqb-true n a (and-left (n == a) (b == c) e))) (subst (λ (m : ℕ). P a m x) (sym (eqb-true b c (and-right (n == a) (b == c) e))) h))

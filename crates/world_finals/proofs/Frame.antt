@@ -1,0 +1,208 @@
+-- What a change leaves of the lengths of FINALIZED replicas, and what is needed of what is new in it.
+use Rattle.std.proofs.Common.{◌≡◌, ℕ, ◌<◌, ◌≤◌, ◌+◌, ◌⊎◌, inl, inr, Bool, true, false, List, [], ◌∷◌, ◌++◌, length, slice_get, Option, Some, None, IfSome, refl, sym, ◌∙◌, ap, subst, arith, eqb-true}
+use Rattle.std.specs.Prelude.{◌==◌, if◌then◌else◌}
+use Rattle.std.proofs.lemmas.Bool.{false≢true, eqb-false}
+use Rattle.std.proofs.lemmas.Option.{none-some, same_Some}
+use Rattle.hd_base.specs.declared.numbers.Stamp.{Stamp}
+use Rattle.op_headers.specs.declared.ops.Op.{Op}
+use Rattle.op_headers.specs.declared.ops.Op.TheVariants as op
+use Rattle.op_headers.specs.declared.ops.RecoveryOp.{RecoveryOp}
+use Rattle.op_headers.specs.Values.{WriteFields}
+use Rattle.packet_codec.specs.declared.packets.Packet.{Packet}
+use Rattle.replica_core.specs.declared.info.ReplicaInfo.{ReplicaInfo}
+use Rattle.replica_core.specs.declared.ack_queue.PendingPacket.{PendingPacket}
+use Rattle.replica_model.specs.Rows.{FullReplica, row}
+use Rattle.packet_stream.specs.Streams.{StreamState, packet_end}
+use Rattle.writer_core.specs.declared.phases.Phase.{Phase}
+use Rattle.writer_core.specs.declared.phases.Phase.TheVariants as phase
+use Rattle.writer_core.specs.declared.records.WriterRecord.{WriterRecord}
+use Rattle.world.specs.Parts.{Message, request, packet, ack, response, read_status, recovery_answer, Writing, Primary, Break}
+use Rattle.world.specs.Worlds.{Past, World, Dial, Stamped, Change, put, past_after, latest_with, apply}
+use Rattle.world_facts.specs.Growing.{Begins, Grows}
+use Rattle.world_facts.proofs.Tables.{if-each, put-each, some-weaker}
+use Rattle.world_stamps.specs.Stamping.{Givens, heard, Recorded}
+use Rattle.world_bytes.specs.Carrying.{new_stamp, Sets, DownSays, Asks}
+use Rattle.world_bytes.proofs.Leaves.{Facts}
+use Rattle.world_bytes.proofs.Frame.{Each, past-grows, unwritten, added-other}
+use Rattle.world_bytes.proofs.Writing.{only-own}
+use Rattle.world_setups.proofs.Nodes.{put-at-split}
+use Rattle.world_recoveries.specs.Recovering.{Updates, HasId}
+use Rattle.world_recoveries.proofs.Histories.{begins-get, NewDown, was_sent, is_sent, is_dialled, new-down}
+use Rattle.world_finals.specs.Finishing.{Ids, writes_no_more, Sealed, EndsAt, FinalLength, of_recovery, of_session, WriteEnds, LastEnds, DownEnds, IsFinalOf, LastPending, ReplicaEnds, KeepsFinal, BreakEnds, SetsNoId, WriterEnds, Finals}
+
+-- WHAT STAYS
+
+-- From one world to another: ids and stamps stay, the past grows, and what is at its end stays there.
+pub record Stays (f : Ids) (g : Givens) (w : World) (e : Ids) (l : Givens) (v : World) : Type 0 where
+  pub ids : (t : ℕ) → t < w.office.next.0 → e t ≡ f t
+  pub below : (t : ℕ) → f t ≡ true → t < w.office.next.0
+  pub given_below : (b t s : ℕ) → g b t ≡ Some s → t < w.office.next.0
+  pub past : Grows w.past v.past
+  pub ends : (b t n : ℕ) → EndsAt g w b t n → EndsAt l v b t n
+
+updates-later : (h p : Past) (c b : ℕ) (id : Stamp) (n : ℕ) → Grows h p → Updates h c b id n → Updates p c b id n
+updates-later h p c b id n d u = record {
+  asked = u.asked;
+  place = u.place;
+  there = begins-get (h.downs c) (p.downs c) u.place (request (op.Recovery u.asked)) (d.downs c) u.there;
+  is_update = u.is_update;
+  block = u.block;
+  recovery = u.recovery;
+  length = u.length;
+}
+
+pub sets-grow : (h p : Past) (c : ℕ) (t : Stamp) → Grows h p → Sets h c t → Sets p c t
+sets-grow h p c t d s = record { fields = s.fields; first = begins-get (h.downs c) (p.downs c) 0 (request (op.Write s.fields)) (d.downs c) s.first; is = s.is }
+
+pub final-stays : (f : Ids) (g : Givens) (w : World) (e : Ids) (l : Givens) (v : World) (b t n : ℕ) → Stays f g w e l v → FinalLength f g w b t n → FinalLength e l v b t n
+final-stays f g w e l v b t n s (of_recovery q c d u) = of_recovery (s.ids t (s.below t q) ∙ q) c d (updates-later w.past v.past c d (record { 0 = t }) n s.past u)
+final-stays f g w e l v b t n s (of_session q x) = of_session (s.ids t (s.given_below b t x.session x.given) ∙ q) (s.ends b t n x)
+
+is-final-stays : (f : Ids) (g : Givens) (w : World) (e : Ids) (l : Givens) (v : World) (b : ℕ) (i : ReplicaInfo) → Stays f g w e l v → IsFinalOf f g w b i → IsFinalOf e l v b i
+is-final-stays f g w e l v b i s h = λ q. final-stays f g w e l v b i.stamp.0 i.written s (h q)
+
+pub replica-stays : (f : Ids) (g : Givens) (w : World) (e : Ids) (l : Givens) (v : World) (b : ℕ) (r : FullReplica) → Stays f g w e l v → ReplicaEnds f g w b r → ReplicaEnds e l v b r
+replica-stays f g w e l v b r s h = record {
+  final = some-weaker (IsFinalOf f g w b) (IsFinalOf e l v b) r.known.info (λ i x. is-final-stays f g w e l v b i s x) h.final;
+  last = some-weaker (LastPending g w b r.known.pending) (LastPending l v b r.known.pending) r.known.info (λ i x. record { ends = λ j p q z. s.ends b i.stamp.0 i.written (x.ends j p q z) }) h.last;
+}
+
+pub break-stays : (f : Ids) (g : Givens) (w : World) (e : Ids) (l : Givens) (v : World) (b : ℕ) (x : Break) → Stays f g w e l v → BreakEnds f g w b x → BreakEnds e l v b x
+break-stays f g w e l v b x s h = record {
+  before = some-weaker (IsFinalOf f g w b) (IsFinalOf e l v b) x.before.known.info (λ i y. is-final-stays f g w e l v b i s y) h.before;
+  after = some-weaker (IsFinalOf f g w b) (IsFinalOf e l v b) (row x.before x.event).known.info (λ i y. is-final-stays f g w e l v b i s y) h.after;
+  keeps = h.keeps;
+}
+
+-- the stamp of a write request was given
+abbrev pub StampBelow : World → Message → Type 0
+StampBelow w (request (op.Write q)) = (new_stamp q).0 < w.office.next.0
+StampBelow w _ = Unit {0}
+
+op-below : (g : Givens) (w : World) (c : ℕ) (o : Op) → Recorded g w → DownSays g w.past c (request o) → StampBelow w (request o)
+op-below g w c (op.Write q) r y = r.below q.block.block.0 (new_stamp q).0 y.session y.given
+op-below g w c (op.Recovery q) r y = tt
+op-below g w c (op.Read q) r y = tt
+op-below g w c (op.Transfer q) r y = tt
+op-below g w c (op.Checksum q) r y = tt
+
+pub down-below : (g : Givens) (w : World) (c : ℕ) (m : Message) → Recorded g w → DownSays g w.past c m → StampBelow w m
+down-below g w c (request o) r y = op-below g w c o r y
+down-below g w c (packet p) r y = tt
+down-below g w c (ack a) r y = tt
+down-below g w c (response q) r y = tt
+down-below g w c (read_status q) r y = tt
+down-below g w c (recovery_answer a) r y = tt
+
+op-stays : (f : Ids) (g : Givens) (w : World) (e : Ids) (l : Givens) (v : World) (c : ℕ) (o : Op) → Stays f g w e l v → StampBelow w (request o) → DownEnds f g w c (request o) → DownEnds e l v c (request o)
+op-stays f g w e l v c (op.Write q) s y h = record { no_id = s.ids (new_stamp q).0 y ∙ h.no_id; closes = λ k. s.ends q.block.block.0 (new_stamp q).0 q.min (h.closes k) }
+op-stays f g w e l v c (op.Recovery q) s y h = s.ids q.recovery.0 (s.below q.recovery.0 h) ∙ h
+op-stays f g w e l v c (op.Read r) s y h = tt
+op-stays f g w e l v c (op.Transfer r) s y h = tt
+op-stays f g w e l v c (op.Checksum r) s y h = tt
+
+pub down-stays : (f : Ids) (g : Givens) (w : World) (e : Ids) (l : Givens) (v : World) (c : ℕ) (m : Message) → Stays f g w e l v → StampBelow w m → DownEnds f g w c m → DownEnds e l v c m
+down-stays f g w e l v c (request o) s y h = op-stays f g w e l v c o s y h
+down-stays f g w e l v c (packet p) s y h = λ q. let x = h q in record { stamp = x.stamp; sets = sets-grow w.past v.past c x.stamp s.past x.sets; block = x.block; ends = s.ends x.block x.stamp.0 (packet_end p) x.ends }
+down-stays f g w e l v c (ack a) s y h = tt
+down-stays f g w e l v c (response r) s y h = tt
+down-stays f g w e l v c (read_status r) s y h = tt
+down-stays f g w e l v c (recovery_answer a) s y h = tt
+
+-- WHAT IS NEW
+
+pub record News (f : Ids) (g : Givens) (w : World) (k : Change) : Type 0 where
+  pub replica : ReplicaEnds f g (apply w k) k.block k.replica
+  pub broke : IfSome k.broke (BreakEnds f g (apply w k) k.block)
+  pub downs : (c j : ℕ) (m : Message) → slice_get (k.downs c) j ≡ Some m → DownEnds f g (apply w k) c m
+  pub dials : (j : ℕ) (d : Dial) → slice_get k.dials j ≡ Some d → DownEnds f g (apply w k) (w.next_conn + j) d.request
+  pub writer : WriterEnds (heard k.writer)
+  pub stamp : SetsNoId f (heard k.writer).phase
+  pub primary : (id : Stamp) → HasId k.primary id → f id.0 ≡ true
+  pub below : (t : ℕ) → f t ≡ true → t < k.office.next.0
+
+pub sets-stays : (f : Ids) (g : Givens) (w : World) (e : Ids) (l : Givens) (v : World) (b n : ℕ) (c : Stamp) (x : StreamState) (p : Phase) → Stays f g w e l v → Asks (g b) w.past n c x p → SetsNoId f p → SetsNoId e p
+sets-stays f g w e l v b n c x (phase.Stamped way t) s a h = s.ids t.0 (s.given_below b t.0 n a.given) ∙ h
+sets-stays f g w e l v b n c x phase.Closed s a h = tt
+sets-stays f g w e l v b n c x (phase.Wanted way) s a h = tt
+sets-stays f g w e l v b n c x (phase.Requested way t) s a h = tt
+sets-stays f g w e l v b n c x (phase.Accepted way t) s a h = tt
+sets-stays f g w e l v b n c x phase.Opened s a h = tt
+sets-stays f g w e l v b n c x (phase.Streaming sent) s a h = tt
+sets-stays f g w e l v b n c x phase.Closing s a h = tt
+sets-stays f g w e l v b n c x phase.Finished s a h = tt
+sets-stays f g w e l v b n c x phase.Completed s a h = tt
+sets-stays f g w e l v b n c x (phase.Failed d) s a h = tt
+
+keeps-downs : (f : Ids) (g : Givens) (w : World) (e : Ids) (l : Givens) (k : Change) → Finals f g w → Facts g w → Stays f g w e l (apply w k) → News e l w k → (c i : ℕ) (m : Message) → slice_get ((past_after w k).downs c) i ≡ Some m → DownEnds e l (apply w k) c m
+keeps-downs f g w e l k h a s n c i m q = go (new-down w k c i m q)
+  where
+    go : NewDown w k c m → DownEnds e l (apply w k) c m
+    go (was_sent j r) = down-stays f g w e l (apply w k) c m s (down-below g w c m a.recorded (a.carried.downs c j m r)) (h.downs c j m r)
+    go (is_sent j r) = n.downs c j m r
+    go (is_dialled j d r t u) = subst (λ (x : ℕ). DownEnds e l (apply w k) x m) u (subst (λ (x : Message). DownEnds e l (apply w k) (w.next_conn + j) x) t (n.dials j d r))
+
+pub keeps : (f : Ids) (g : Givens) (w : World) (e : Ids) (l : Givens) (k : Change) → Finals f g w → Facts g w → Stays f g w e l (apply w k) → News e l w k → Finals e l (apply w k)
+unfolding apply
+keeps f g w e l k h a s n = record {
+  below = n.below;
+  downs = keeps-downs f g w e l k h a s n;
+  replicas = put-at-split (λ (m b : ℕ) (r : FullReplica). ReplicaEnds e l (apply w k) b r) w.replicas k.node k.block k.replica n.replica (λ m b _. replica-stays f g w e l (apply w k) b (w.replicas m b) s (h.replicas m b));
+  breaks = put-at-split (λ (m b : ℕ) (o : Option Break). IfSome o (BreakEnds e l (apply w k) b)) w.breaks k.node k.block k.broke n.broke
+      (λ m b _. some-weaker (BreakEnds f g w b) (BreakEnds e l (apply w k) b) (w.breaks m b) (λ x z. break-stays f g w e l (apply w k) b x s z) (h.breaks m b));
+  writers = put-each (λ (b : ℕ) (x : Writing). WriterEnds (heard x)) w.writers k.writer_at k.writer n.writer h.writers;
+  stamps = put-each (λ (b : ℕ) (x : Writing). SetsNoId e (heard x).phase) w.writers k.writer_at k.writer n.stamp (λ b.
+      let x = heard (w.writers b) in sets-stays f g w e l (apply w k) b (w.latest b) x.committed x.stream x.phase s (a.carried.writers b).asks (h.stamps b));
+  primaries = put-each (λ (i : ℕ) (x : Primary). (id : Stamp) → HasId x id → e id.0 ≡ true) w.primaries k.primary_at k.primary n.primary (λ i id x.
+      let y = h.primaries i id x in s.ids id.0 (s.below id.0 y) ∙ y);
+}
+
+-- WHAT IS AT ITS END STAYS THERE
+
+-- A change that gives no stamp: its writer, where it wrote no more, writes no more, and bytes go nowhere, or to the latest session of a writer that
+-- writes more.
+pub record Ends (w : World) (k : Change) : Type 0 where
+  pub stamped : k.stamped ≡ None
+  pub shuts : writes_no_more (heard (w.writers k.writer_at)).phase ≡ true → writes_no_more (heard k.writer).phase ≡ true
+  pub bytes : (k.bytes ≡ []) ⊎ ((k.session ≡ w.latest k.writer_at) × (writes_no_more (heard (w.writers k.writer_at)).phase ≡ true → k.bytes ≡ []))
+
+latest-same : (f : ℕ → ℕ) (o : Option Stamped) (b : ℕ) → o ≡ None → latest_with f o b ≡ f b
+latest-same f o b e = ap (λ (x : Option Stamped). latest_with f x b) e
+
+-- a session at its end gets no bytes
+shut-written : (g : Givens) (w : World) (k : Change) (b t n : ℕ) → Recorded g w → Ends w k → (x : EndsAt g w b t n) → (past_after w k).written x.session ≡ w.written x.session
+shut-written g w k b t n r h x = unwritten w k x.session (λ e. go e h.bytes)
+  where
+    none : x.session ≡ k.session → k.session ≡ w.latest k.writer_at → (writes_no_more (heard (w.writers k.writer_at)).phase ≡ true → k.bytes ≡ []) → (x.session < w.latest b) ⊎ (writes_no_more (heard (w.writers b)).phase ≡ true) → k.bytes ≡ []
+    none e s m y =
+        let at : b ≡ k.writer_at = only-own g w r k.writer_at b t (subst (λ (d : ℕ). g b t ≡ Some d) (e ∙ s) x.given) in
+        by at y
+      where
+        by : b ≡ k.writer_at → (x.session < w.latest b) ⊎ (writes_no_more (heard (w.writers b)).phase ≡ true) → k.bytes ≡ []
+        by at (inl lt) = absurd (omega (arith, lt, e, s, ap w.latest at))
+        by at (inr z) = m (subst (λ (d : ℕ). writes_no_more (heard (w.writers d)).phase ≡ true) at z)
+
+    go : x.session ≡ k.session → (k.bytes ≡ []) ⊎ ((k.session ≡ w.latest k.writer_at) × (writes_no_more (heard (w.writers k.writer_at)).phase ≡ true → k.bytes ≡ [])) → k.bytes ≡ []
+    go e (inl q) = q
+    go e (inr q) = none e q.0 q.1 x.shut.is
+
+pub ends-stay : (g : Givens) (w : World) (k : Change) → Recorded g w → Ends w k → (b t n : ℕ) → EndsAt g w b t n → EndsAt g (apply w k) b t n
+unfolding apply
+ends-stay g w k r h b t n x = record {
+  session = x.session;
+  given = x.given;
+  shut = record { is = subst (λ (l : ℕ). (x.session < l) ⊎ (writes_no_more (heard (put w.writers k.writer_at k.writer b)).phase ≡ true)) (sym (latest-same w.latest k.stamped b h.stamped)) (go x.shut.is) };
+  length = x.length ∙ ap (λ (v : List ℕ). length v) (sym (shut-written g w k b t n r h x));
+}
+  where
+    go : (x.session < w.latest b) ⊎ (writes_no_more (heard (w.writers b)).phase ≡ true) → (x.session < w.latest b) ⊎ (writes_no_more (heard (put w.writers k.writer_at k.writer b)).phase ≡ true)
+    go (inl lt) = inl lt
+    go (inr z) = inr (if-each (λ (y : Writing). writes_no_more (heard y).phase ≡ true) (b == k.writer_at) k.writer (w.writers b)
+        (λ e. h.shuts (subst (λ (d : ℕ). writes_no_more (heard (w.writers d)).phase ≡ true) (eqb-true b k.writer_at e) z)) (λ _. z))
+
+pub grown : (w : World) (k : Change) → Grows w.past (apply w k).past
+unfolding apply
+grown w k = past-grows w k
+
+pub stays-so : (f : Ids) (g : Givens) (w : World) (k : Change) → Finals f g w → Facts g w → Ends w k → Stays f g w f g (apply w k)
+stays-so f g w k h a e = record { ids = λ t _. refl; below = h.below; given_below = a.recorded.below; past = grown w k; ends = ends-stay g w k a.recorded e }

@@ -1,0 +1,11 @@
+pub mod Writers
+pub mod Rows
+pub mod Frame
+pub mod Idle
+pub mod Nodes
+pub mod Clients
+pub mod Steps
+pub mod Restarting
+pub mod Still
+pub mod AllFinal
+pub mod Laws

@@ -1,0 +1,193 @@
+-- The lengths of FINALIZED replicas: one for each stamp.
+use Rattle.std.specs.Prelude.{ℕ, ◌≡◌, ◌<◌, ◌≤◌, ◌⊎◌, ◌||◌, not, nat_abs, Bool, true, false, List, [], ◌∷◌, length, slice_get, Option, Some, None, IfSome}
+use Rattle.hd_base.specs.declared.numbers.Stamp.{Stamp}
+use Rattle.hd_base.specs.declared.states.ReplicaState.TheVariants as state
+use Rattle.name_core.specs.declared.records.BlockRecord.{BlockRecord}
+use Rattle.name_core.specs.Offices.{record_of}
+use Rattle.op_headers.specs.declared.ops.Op.TheVariants as op
+use Rattle.op_headers.specs.Values.{WriteFields}
+use Rattle.packet_codec.specs.declared.packets.Packet.{Packet}
+use Rattle.packet_stream.specs.Streams.{packet_end, written_in}
+use Rattle.replica_core.specs.declared.ack_queue.PendingPacket.{PendingPacket}
+use Rattle.replica_core.specs.declared.info.ReplicaInfo.{ReplicaInfo}
+use Rattle.replica_model.specs.Rows.{FullReplica, row}
+use Rattle.member_core.specs.declared.requests.SetupKind.TheVariants as kind
+use Rattle.member_core.specs.Requests.{setup_with}
+use Rattle.writer_core.specs.declared.intake.Stand.{Stand}
+use Rattle.writer_core.specs.Commands.{is_open}
+use Rattle.writer_core.specs.declared.phases.Phase.{Phase}
+use Rattle.writer_core.specs.declared.phases.Phase.TheVariants as phase
+use Rattle.writer_core.specs.declared.phases.Setup.{Setup}
+use Rattle.writer_core.specs.declared.phases.Setup.TheVariants as setup
+use Rattle.writer_core.specs.declared.phases.Waiting.TheVariants as waiting
+use Rattle.writer_core.specs.declared.records.WriterRecord.{WriterRecord}
+use Rattle.world.specs.declared.events.Caller.TheVariants as caller
+use Rattle.world.specs.declared.events.Event.{Event}
+use Rattle.world.specs.declared.events.Event.TheVariants as event
+use Rattle.world.specs.Parts.{Message, request, packet, Break}
+use Rattle.world.specs.Worlds.{World, Stamped, put, start}
+use Rattle.world.specs.Primaries.{office_event}
+use Rattle.world.specs.Events.{happens, run}
+use Rattle.world_stamps.specs.Stamping.{Givens, none_given, given_in, stamped_in, heard}
+use Rattle.world_bytes.specs.Carrying.{new_stamp, Sets}
+use Rattle.world_recoveries.specs.Recovering.{Updates, HasId}
+
+-- THE IDS OF RECOVERIES
+
+-- by stamp, whether it was given as the id of a recovery
+abbrev pub Ids : Type 0
+Ids = ℕ → Bool
+
+abbrev pub no_ids : Ids
+no_ids stamp = false
+
+abbrev pub ids_with : Ids → Option Stamped → Ids
+ids_with f None = f
+ids_with f (Some s) = put f s.stamp true
+
+-- with what an event gives a primary
+abbrev pub ids_by : Ids → World → Event → Ids
+ids_by f w (event.Office (caller.Primary i b)) = ids_with f (stamped_in (office_event w (caller.Primary i b)))
+ids_by f w _ = f
+
+abbrev pub ids_in : Ids → World → List Event → Ids
+ids_in f w [] = f
+ids_in f w (e ∷ events) = ids_in (ids_by f w e) (happens w e) events
+
+-- SESSIONS THAT ARE AT THEIR END
+
+-- in the latest session of its block a writer in this phase writes nothing more
+abbrev pub ends_setup : Setup → Bool
+ends_setup setup.CloseRecovery = true
+ends_setup _ = false
+
+abbrev pub begins_or_ends : Setup → Bool
+begins_or_ends setup.Create = true
+begins_or_ends setup.Append = true
+begins_or_ends s = ends_setup s
+
+abbrev pub writes_no_more : Phase → Bool
+writes_no_more (phase.Wanted s) = begins_or_ends s
+writes_no_more (phase.Stamped s stamp) = ends_setup s
+writes_no_more (phase.Requested s stamp) = ends_setup s
+writes_no_more (phase.Accepted s stamp) = ends_setup s
+writes_no_more phase.Opened = false
+writes_no_more (phase.Streaming sent) = false
+writes_no_more _ = true
+
+-- No more bytes join a session: it isn't its block's latest one, or the block's writer writes no more in that.
+pub record Sealed (latest : ℕ) (x : WriterRecord) (session : ℕ) : Type 0 where
+  pub is : (session < latest) ⊎ (writes_no_more x.phase ≡ true)
+
+-- a stamp of a session at its end, and how many bytes that has
+pub record EndsAt (g : Givens) (w : World) (b stamp n : ℕ) : Type 0 where
+  pub session : ℕ
+  pub given : g b stamp ≡ Some session
+  pub shut : Sealed (w.latest b) (heard (w.writers b)) session
+  pub length : n ≡ length (w.written session)
+
+-- The length of what is FINALIZED under a stamp: under a recovery's id the one that was sent as its length, and under a setup's stamp all that
+-- was written in the session.
+pub data FinalLength (f : Ids) (g : Givens) (w : World) (b stamp n : ℕ) : Type 0 where
+  of_recovery : f stamp ≡ true → (c d : ℕ) → Updates w.past c d (record { 0 = stamp }) n → FinalLength f g w b stamp n
+  of_session : f stamp ≡ false → EndsAt g w b stamp n → FinalLength f g w b stamp n
+
+-- MESSAGES
+
+pub record WriteEnds (f : Ids) (g : Givens) (w : World) (q : WriteFields) : Type 0 where
+  pub no_id : f (new_stamp q).0 ≡ false
+  pub closes : setup_with q.stage ≡ Some kind.CloseRecovery → EndsAt g w q.block.block.0 (new_stamp q).0 q.min
+
+-- the last packet ends where its session does
+pub record LastEnds (g : Givens) (w : World) (c : ℕ) (p : Packet) : Type 0 where
+  pub stamp : Stamp
+  pub sets : Sets w.past c stamp
+  pub block : ℕ
+  pub ends : EndsAt g w block stamp.0 (packet_end p)
+
+abbrev pub DownEnds : Ids → Givens → World → ℕ → Message → Type 0
+DownEnds f g w c (request (op.Write q)) = WriteEnds f g w q
+DownEnds f g w c (request (op.Recovery q)) = f q.recovery.0 ≡ true
+DownEnds f g w c (packet p) = p.last ≡ true → LastEnds g w c p
+DownEnds f g w c _ = Unit {0}
+
+-- REPLICAS
+
+-- what is FINALIZED has the length of its stamp
+abbrev pub IsFinalOf : Ids → Givens → World → ℕ → ReplicaInfo → Type 0
+IsFinalOf f g w b i = i.original ≡ state.Finalized → FinalLength f g w b i.stamp.0 i.written
+
+-- where the last packet is pending, all was written
+pub record LastPending (g : Givens) (w : World) (b : ℕ) (pending : List PendingPacket) (i : ReplicaInfo) : Type 0 where
+  pub ends : (j : ℕ) (e : PendingPacket) → slice_get pending j ≡ Some e → e.last ≡ true → EndsAt g w b i.stamp.0 i.written
+
+pub record ReplicaEnds (f : Ids) (g : Givens) (w : World) (b : ℕ) (r : FullReplica) : Type 0 where
+  pub final : IfSome r.known.info (IsFinalOf f g w b)
+  pub last : IfSome r.known.info (LastPending g w b r.known.pending)
+
+-- a replica that was FINALIZED before and after an event has as many bytes as before
+pub record KeepsFinal (o p : Option ReplicaInfo) : Type 0 where
+  pub same : (i k : ReplicaInfo) → o ≡ Some i → p ≡ Some k → i.original ≡ state.Finalized → k.original ≡ state.Finalized → k.written ≡ i.written
+
+pub record BreakEnds (f : Ids) (g : Givens) (w : World) (b : ℕ) (x : Break) : Type 0 where
+  pub before : IfSome x.before.known.info (IsFinalOf f g w b)
+  pub after : IfSome (row x.before x.event).known.info (IsFinalOf f g w b)
+  pub keeps : KeepsFinal x.before.known.info (row x.before x.event).known.info
+
+-- WRITERS
+
+-- the stamp of a setup in progress is no recovery's id
+abbrev pub SetsNoId : Ids → Phase → Type 0
+SetsNoId f (phase.Stamped s stamp) = f stamp.0 ≡ false
+SetsNoId f _ = Unit {0}
+
+-- a phase in which a close waits
+abbrev pub is_closing : Phase → Bool
+is_closing (phase.Wanted s) = ends_setup s
+is_closing (phase.Stamped s stamp) = ends_setup s
+is_closing (phase.Requested s stamp) = ends_setup s
+is_closing (phase.Accepted s stamp) = ends_setup s
+is_closing phase.Closing = true
+is_closing phase.Finished = true
+is_closing phase.Completed = true
+is_closing _ = false
+
+-- a phase with packets that may be sent or acked
+abbrev pub has_packets : Phase → Bool
+has_packets (phase.Wanted s) = not (begins_or_ends s) || ends_setup s
+has_packets (phase.Stamped s stamp) = true
+has_packets (phase.Requested s stamp) = true
+has_packets (phase.Accepted s stamp) = true
+has_packets phase.Opened = true
+has_packets (phase.Streaming sent) = true
+has_packets phase.Closing = true
+has_packets _ = false
+
+-- Where a close waits, or the block is closed, no more is taken in but an append; and the last packet was formed only where a close waits.
+pub record WriterEnds (x : WriterRecord) : Type 0 where
+  pub shut : x.waiting ≡ Some waiting.Close → is_open x.intake.stand ≡ false
+  pub closing : is_closing x.phase ≡ true → x.waiting ≡ Some waiting.Close
+  pub closed : x.phase ≡ phase.Closed → is_open x.intake.stand ≡ false
+  pub last : has_packets x.phase ≡ true → (i : ℕ) (p : Packet) → slice_get x.stream.unacked i ≡ Some p → p.last ≡ true → is_closing x.phase ≡ true
+
+-- THE WORLD
+
+pub record Finals (f : Ids) (g : Givens) (w : World) : Type 0 where
+  pub below : (stamp : ℕ) → f stamp ≡ true → stamp < w.office.next.0
+  pub downs : (c i : ℕ) (m : Message) → slice_get (w.downs c) i ≡ Some m → DownEnds f g w c m
+  pub replicas : (n b : ℕ) → ReplicaEnds f g w b (w.replicas n b)
+  pub breaks : (n b : ℕ) → IfSome (w.breaks n b) (BreakEnds f g w b)
+  pub writers : (b : ℕ) → WriterEnds (heard (w.writers b))
+  pub stamps : (b : ℕ) → SetsNoId f (heard (w.writers b)).phase
+  pub primaries : (i : ℕ) (id : Stamp) → HasId (w.primaries i) id → f id.0 ≡ true
+
+-- So it is after every list of events, of the stamps and ids that are given in them.
+abbrev pub AllFinal : Type 0
+AllFinal = (nodes : ℕ) (events : List Event) →
+    Finals (ids_in no_ids (start nodes) events) (given_in none_given (start nodes) events) (run (start nodes) events)
+
+-- No stamp that was given for a closed block is above its committed one.
+abbrev pub ClosedIsNewest : Type 0
+ClosedIsNewest = (nodes : ℕ) (events : List Event) (block stamp session : ℕ) (r : BlockRecord) →
+    record_of (run (start nodes) events).office (record { 0 = block }) ≡ Some r → r.is_open ≡ false →
+    given_in none_given (start nodes) events block stamp ≡ Some session → stamp ≤ r.committed.0

@@ -1,0 +1,281 @@
+-- Recoveries fit after every list of events.
+use Rattle.std.proofs.Common.{◌≡◌, ℕ, ◌<◌, ◌≤◌, ◌+◌, Bool, true, false, List, [], ◌∷◌, slice_get, Option, Some, None, IfSome, refl, sym, ◌∙◌, ap, subst, arith, eqb-true}
+use Rattle.std.specs.Prelude.{◌==◌, ◌&&◌, not, nat_lt, if◌then◌else◌}
+use Rattle.std.proofs.lemmas.Bool.Decides.{nat_tests}
+use Rattle.std.proofs.lemmas.Bool.{eqb-false}
+use Rattle.std.proofs.lemmas.Option.{none-some}
+use Rattle.hd_base.specs.declared.numbers.Stamp.{Stamp}
+use Rattle.replica_model.specs.Rows.{FullReplica}
+use Rattle.world.specs.declared.events.Caller.{Caller}
+use Rattle.world.specs.declared.events.Caller.TheVariants as caller
+use Rattle.world.specs.declared.events.Delivery.{Delivery}
+use Rattle.world.specs.declared.events.Delivery.TheVariants as delivery
+use Rattle.world.specs.declared.events.Direction.{Direction}
+use Rattle.world.specs.declared.events.Direction.TheVariants as direction
+use Rattle.world.specs.declared.events.Event.{Event}
+use Rattle.world.specs.declared.events.Event.TheVariants as event
+use Rattle.world.specs.declared.events.FoundReplica.{FoundReplica}
+use Rattle.world.specs.declared.events.OwnStep.{OwnStep}
+use Rattle.world.specs.declared.events.OwnStep.TheVariants as own
+use Rattle.world.specs.Parts.{Upper, by_writer, by_member, by_reader, by_primary}
+use Rattle.world.specs.Worlds.{World, Change, Stamped, put, apply, start}
+use Rattle.world.specs.Connections.{Next, message, the_end, next_down, next_up, down_taken, up_taken, is_alive, is_served}
+use Rattle.world.specs.Nodes.{node_of, lower_down, lower_ready}
+use Rattle.world.specs.Clients.{own_writer, own_reader, writer_up, reader_up}
+use Rattle.world.specs.Primaries.{office_event, writer_asks_office, primary_up, primary_asks}
+use Rattle.world.specs.Restarts.{all_found, found_in, restarted, restart}
+use Rattle.world.specs.Events.{changed, own_change, down_as, down_event, ready_event, unless_fails, upper_up, up_as, up_event, fault_event, lost, stop, where_so, outcome, after_event, happens, run}
+use Rattle.world_facts.proofs.Tables.{when-each, and-left, and-right, some-weaker}
+use Rattle.world_stamps.specs.Stamping.{Givens, none_given, given_with, stamped_in, given_by, given_in, Recorded}
+use Rattle.world_stamps.proofs.AllRecorded.{happens-recorded, Reached, reached-next, reached-agreed, start-recorded}
+use Rattle.world_stamps.proofs.Recording.{Agreed}
+use Rattle.world_bytes.specs.Carrying.{Carried}
+use Rattle.world_bytes.proofs.Leaves.{Facts}
+use Rattle.world_bytes.proofs.Ends.{lower-ready-keeps}
+use Rattle.world_bytes.proofs.Offices.{office-event-keeps}
+use Rattle.world_bytes.proofs.AllCarried.{next-sent, down-taken-facts, up-taken-facts, changed-carried, down-as-carried, up-as-carried, own-keeps, office-carried, happens-carried, reached-facts, at-start, start-carried}
+use Rattle.world_setups.specs.Joining.{IsSetUp, SetUps}
+use Rattle.world_setups.proofs.AllSetUp.{served-life, given-stays, all-set}
+use Rattle.world_recoveries.specs.Recovering.{ReplicaTold, Informs, InfoFits, StillTrue, Recovering}
+use Rattle.world_recoveries.proofs.Frame.{News, keeps}
+use Rattle.world_recoveries.proofs.Leading.{SentUp}
+use Rattle.world_recoveries.proofs.Quiet.{Quiet, Brings, quiet-news, quiet-brings}
+use Rattle.world_recoveries.proofs.Clients.{own-writer-quiet, writer-up-quiet, writer-asks-quiet, own-reader-quiet, reader-up-quiet}
+use Rattle.world_recoveries.proofs.Lowers.{Taking, SentDown, lower-down-brings, lower-ready-quiet, mirror-up-quiet}
+use Rattle.world_recoveries.proofs.Steps.{own-recover-brings, own-primary-brings, primary-up-brings, primary-asks-brings}
+
+-- RBW replicas were set up in the life of their nodes
+abbrev Writes : World → Type 0
+Writes w = (n b : ℕ) → IsSetUp w.joined (w.lives n) (w.running n) n (w.replicas n b)
+
+-- CHANGES
+
+changed-fits : (g l : Givens) (w : World) (o : Option Change) → Carried g w → Recovering l w → IfSome (changed w o) (Carried l) → IfSome o (Brings l w) → IfSome (changed w o) (Recovering l)
+changed-fits g l w None a h c n = tt
+changed-fits g l w (Some k) a h c n = keeps g l w k a h (n.news c)
+
+unless-brings : (g : Givens) (w : World) (fails : Bool) (o : Option Change) → IfSome o (Brings g w) → IfSome (unless_fails fails o) (Brings g w)
+unless-brings g w true o n = tt
+unless-brings g w false o n = n
+
+-- DELIVERIES
+
+pub down-taken-fits : (g : Givens) (w : World) (c : ℕ) (x : Next) → Recovering g w → Recovering g (down_taken w c x)
+unfolding down_taken
+down-taken-fits g w c x h = record { lives = h.lives; asks = h.asks; told = h.told; still = h.still; updates = h.updates; one_length = h.one_length; primaries = h.primaries; sends = h.sends; one_primary = h.one_primary; placed = h.placed }
+
+up-taken-fits : (g : Givens) (w : World) (c : ℕ) (x : Next) → Recovering g w → Recovering g (up_taken w c x)
+unfolding up_taken
+up-taken-fits g w c x h = record { lives = h.lives; asks = h.asks; told = h.told; still = h.still; updates = h.updates; one_length = h.one_length; primaries = h.primaries; sends = h.sends; one_primary = h.one_primary; placed = h.placed }
+
+below-of : (w : World) (c : ℕ) → is_served w c ≡ true → c < w.next_conn
+below-of w c e = lt-true c w.next_conn (and-left (nat_lt c w.next_conn) (is_alive w (w.dialled c).to) e)
+  where
+    lt-true : (a b : ℕ) → nat_lt a b ≡ true → a < b
+    lt-true a b e = grind (arith, nat_tests, e)
+
+runs-of : (w : World) (c : ℕ) → is_served w c ≡ true → w.running (node_of w c) ≡ true
+runs-of w c e = and-left (w.running (node_of w c)) (w.lives (node_of w c) == (w.dialled c).to.life) (and-right (nat_lt c w.next_conn) (is_alive w (w.dialled c).to) e)
+
+pub sent-down : (w : World) (c : ℕ) (x : Next) → next_down w c ≡ Some x → SentDown w.past c x
+sent-down w c (message m) e = ((w.down_marks c).taken, next-sent (w.downs c) (w.down_marks c) m e)
+sent-down w c the_end e = tt
+
+sent-up : (w : World) (c : ℕ) (x : Next) → next_up w c ≡ Some x → SentUp w.past c x
+sent-up w c (message m) e = ((w.up_marks c).taken, next-sent (w.ups c) (w.up_marks c) m e)
+sent-up w c the_end e = tt
+
+down-as-fits : (g : Givens) (w : World) (c : ℕ) (answered fails : Bool) (o : Option Next) → Facts g w → Recovering g w → Writes w → is_served w c ≡ true → next_down w c ≡ o → IfSome (down_as w c answered fails o) (Recovering g)
+unfolding down_taken
+down-as-fits g w c answered fails None f h s alive e = tt
+down-as-fits g w c answered fails (Some x) f h s alive e =
+    let v = down_taken w c x in
+    let d = down-taken-facts g w c x f in
+    let i = down-taken-fits g w c x h in
+    changed-fits g g v (lower_down (w.lowers c) v c x answered fails) d.carried i (down-as-carried g w c answered fails (Some x) f e)
+    (lower-down-brings (w.lowers c) g v c x answered fails (record { facts = d; recovering = i; writes = s; known = below-of w c alive; runs = runs-of w c alive; life = served-life w c alive }) (f.carried.lowers c) (sent-down w c x e))
+
+down-fits : (g : Givens) (w : World) (c : ℕ) (answered fails : Bool) → Facts g w → Recovering g w → Writes w → IfSome (down_event w c answered fails) (Recovering g)
+down-fits g w c answered fails f h s = when-each (Recovering g) (is_served w c) _ (λ e. down-as-fits g w c answered fails (next_down w c) f h s e refl)
+
+ready-fits : (g : Givens) (w : World) (c : ℕ) (fails : Bool) → Facts g w → Recovering g w → IfSome (ready_event w c fails) (Recovering g)
+ready-fits g w c fails f h =
+    when-each (Recovering g) (is_served w c) _ (λ _.
+    let k = lower_ready (w.lowers c) w c fails in
+    changed-fits g g w k f.carried h (changed-carried g w k (lower-ready-keeps (w.lowers c) g w c fails f (f.carried.lowers c))) (quiet-brings g w k f h (lower-ready-quiet (w.lowers c) w c fails (f.carried.lowers c))))
+
+upper-brings : (u : Upper) (g : Givens) (w : World) (c : ℕ) (x : Next) (fails : Bool) → Facts g w → Recovering g w → c < w.next_conn → (w.dialled c).upper ≡ u → SentUp w.past c x → IfSome (upper_up u w c x fails) (Brings g w)
+upper-brings (by_writer b) g w c x fails f h lt e s = unless-brings g w fails (writer_up w b c x) (quiet-brings g w (writer_up w b c x) f h (writer-up-quiet w b c x))
+upper-brings (by_member d) g w c x fails f h lt e s = quiet-brings g w (upper_up (by_member d) w c x fails) f h (mirror-up-quiet (w.lowers d) w d x fails (f.carried.lowers d))
+upper-brings (by_reader i) g w c x fails f h lt e s = unless-brings g w fails (reader_up w i c x) (quiet-brings g w (reader_up w i c x) f h (reader-up-quiet w i c x))
+upper-brings (by_primary i p) g w c x fails f h lt e s = unless-brings g w fails (primary_up w i p c x) (primary-up-brings g w i p c x h lt e s)
+
+up-as-fits : (g : Givens) (w : World) (c : ℕ) (fails : Bool) (o : Option Next) → Facts g w → Recovering g w → c < w.next_conn → next_up w c ≡ o → IfSome (up_as w c fails o) (Recovering g)
+unfolding up_taken
+up-as-fits g w c fails None f h lt e = tt
+up-as-fits g w c fails (Some x) f h lt e =
+    let v = up_taken w c x in
+    let d = up-taken-facts g w c x f in
+    let i = up-taken-fits g w c x h in
+    changed-fits g g v (upper_up (w.dialled c).upper v c x fails) d.carried i (up-as-carried g w c fails (Some x) f lt e) (upper-brings (w.dialled c).upper g v c x fails d i lt refl (sent-up w c x e))
+
+up-fits : (g : Givens) (w : World) (c : ℕ) (fails : Bool) → Facts g w → Recovering g w → IfSome (up_event w c fails) (Recovering g)
+up-fits g w c fails f h = when-each (Recovering g) (nat_lt c w.next_conn) _ (λ e. up-as-fits g w c fails (next_up w c) f h (lt-true c w.next_conn e) refl)
+  where
+    lt-true : (a b : ℕ) → nat_lt a b ≡ true → a < b
+    lt-true a b e = grind (arith, nat_tests, e)
+
+fault-fits : (g : Givens) (w : World) (d : Delivery) → Facts g w → Recovering g w → Writes w → IfSome (fault_event w d) (Recovering g)
+fault-fits g w (delivery.Down c) f h s = down-fits g w c.0 false true f h s
+fault-fits g w (delivery.Ready c) f h s = ready-fits g w c.0 true f h
+fault-fits g w (delivery.Up c) f h s = up-fits g w c.0 true f h
+
+-- OWN STEPS AND THE OFFICE
+
+own-brings : (g : Givens) (w : World) (s : OwnStep) → Facts g w → Recovering g w → IfSome (own_change w s) (Brings g w)
+own-brings g w (own.Writer b takes answered) f h = quiet-brings g w (own_writer w b.0 takes answered) f h (own-writer-quiet w b.0 takes answered)
+own-brings g w (own.Reader i n r answered) f h = quiet-brings g w (own_reader w i n.0 r answered) f h (own-reader-quiet w i n.0 r answered)
+own-brings g w (own.Recover i n b members answers) f h = own-recover-brings g w i n.0 b members answers f h
+own-brings g w (own.Primary i) f h = own-primary-brings g w i h
+
+-- what was told is of stamps that stay given
+later-info : (g : Givens) (s : Option Stamped) (w : World) (c b : ℕ) (named id : Stamp) (i : ReplicaTold) → InfoFits g w.past c b named id i → InfoFits (given_with g s) w.past c b named id i
+later-info g s w c b named id i x =
+    let y = given-stays g s b i.1.0 x.session x.given in
+    record { known = x.known; named_below = x.named_below; below = x.below; session = y.0; given = y.1; joins = x.joins }
+
+later-fits : (g : Givens) (s : Option Stamped) (w : World) → Recovering g w → Recovering (given_with g s) w
+later-fits g s w h = record {
+  lives = h.lives;
+  asks = h.asks;
+  told = λ c b id i x. later-info g s w c b x.asked.block.stamp id i (h.told c b id i x);
+  still = h.still;
+  updates = h.updates;
+  one_length = h.one_length;
+  primaries = h.primaries;
+  sends = h.sends;
+  one_primary = h.one_primary;
+  placed = h.placed;
+}
+
+asks-brings : (g l : Givens) (w : World) (o : Option Change) → Facts g w → Recovering l w → IfSome o (Quiet w) → IfSome o (Brings l w)
+asks-brings g l w o f h q = some-weaker (Quiet w) (Brings l w) o (λ k x. record { news = λ a. quiet-news g l w k f h a x }) q
+
+office-brings : (g l : Givens) (w : World) (c : Caller) → Facts g w → Recovering l w → IfSome (office_event w c) (Brings l w)
+office-brings g l w (caller.Writer b) f h = asks-brings g l w (writer_asks_office w b.0) f h (writer-asks-quiet w b.0)
+office-brings g l w (caller.Primary i b) f h = primary-asks-brings (w.primaries i) g l w i b f h refl
+
+office-fits : (g : Givens) (w : World) (c : Caller) → Facts g w → Recovering g w → IfSome (changed w (office_event w c)) (Carried (given_with g (stamped_in (office_event w c))))
+    → IfSome (changed w (office_event w c)) (Recovering (given_with g (stamped_in (office_event w c))))
+office-fits g w c f h a =
+    let l = given_with g (stamped_in (office_event w c)) in
+    let i = later-fits g (stamped_in (office_event w c)) w h in
+    changed-fits g l w (office_event w c) f.carried i a (office-brings g l w c f i)
+
+-- RESTARTS
+
+restart-fits : (g : Givens) (w : World) (n : ℕ) (list : List FoundReplica) → Recovering g w → Recovering g (restart w n list)
+unfolding restart
+restart-fits g w n list h = record {
+  lives = λ c lt. at-lives (w.dialled c).to.node (w.dialled c).to.life (h.lives c lt) ((w.dialled c).to.node == n) refl;
+  asks = h.asks;
+  told = h.told;
+  still = λ c b id i x. at-still c b id i x ((w.dialled c).to.node == n) refl;
+  updates = h.updates;
+  one_length = h.one_length;
+  primaries = h.primaries;
+  sends = h.sends;
+  one_primary = h.one_primary;
+  placed = h.placed;
+}
+  where
+    at-lives : (m l : ℕ) → l ≤ w.lives m → (t : Bool) → (m == n) ≡ t → l ≤ (if t then w.lives n + 1 else w.lives m)
+    at-lives m l le true e = omega (arith, le, ap w.lives (eqb-true m n e))
+    at-lives m l le false e = le
+
+    New : ℕ → FullReplica
+    New b = restarted b (w.replicas n b) (w.breaks n b) (found_in list b)
+
+    at-still : (c b : ℕ) (id : Stamp) (i : ReplicaTold) → Informs w.past c b id i → (t : Bool) → ((w.dialled c).to.node == n) ≡ t → (w.dialled c).to.life ≡ (if t then w.lives n + 1 else w.lives (w.dialled c).to.node)
+        → StillTrue id i ((if t then New else w.replicas (w.dialled c).to.node) b).known.info
+    at-still c b id i x true e life = absurd (omega (arith, life, h.lives c (h.told c b id i x).known, ap w.lives (eqb-true (w.dialled c).to.node n e)))
+    at-still c b id i x false e life = h.still c b id i x life
+
+-- ALL EVENTS
+
+where-fits : (g : Givens) (test : Bool) (v : World) → Recovering g v → IfSome (where_so test v) (Recovering g)
+where-fits g true v h = h
+where-fits g false v h = tt
+
+stop-fits : (g : Givens) (w : World) (n : ℕ) → Recovering g w → Recovering g (stop w n)
+stop-fits g w n h = record { lives = h.lives; asks = h.asks; told = h.told; still = h.still; updates = h.updates; one_length = h.one_length; primaries = h.primaries; sends = h.sends; one_primary = h.one_primary; placed = h.placed }
+
+lost-fits : (g : Givens) (w : World) (c : ℕ) (way : Direction) (more : ℕ) → Recovering g w → Recovering g (lost w c way more)
+lost-fits g w c direction.Down more h = record { lives = h.lives; asks = h.asks; told = h.told; still = h.still; updates = h.updates; one_length = h.one_length; primaries = h.primaries; sends = h.sends; one_primary = h.one_primary; placed = h.placed }
+lost-fits g w c direction.Up more h = record { lives = h.lives; asks = h.asks; told = h.told; still = h.still; updates = h.updates; one_length = h.one_length; primaries = h.primaries; sends = h.sends; one_primary = h.one_primary; placed = h.placed }
+
+outcome-fits : (g : Givens) (w : World) (e : Event) → Facts g w → Agreed w → Recovering g w → Writes w → IfSome (outcome w e) (Recovering (given_by g w e))
+unfolding outcome
+outcome-fits g w (event.Own s) f a h j = changed-fits g g w (own_change w s) f.carried h (changed-carried g w (own_change w s) (own-keeps g w s f)) (own-brings g w s f h)
+outcome-fits g w (event.Office c) f a h j = office-fits g w c f h (office-carried g w (office_event w c) (office-event-keeps g w c f a))
+outcome-fits g w (event.Down c answered) f a h j = down-fits g w c.0 answered false f h j
+outcome-fits g w (event.Ready c) f a h j = ready-fits g w c.0 false f h
+outcome-fits g w (event.Up c) f a h j = up-fits g w c.0 false f h
+outcome-fits g w (event.Lost c way more) f a h j = where-fits g (nat_lt c.0 w.next_conn) (lost w c.0 way more) (lost-fits g w c.0 way more h)
+outcome-fits g w (event.Fault d) f a h j = fault-fits g w d f h j
+outcome-fits g w (event.Stop n) f a h j = where-fits g (w.running n.0) (stop w n.0) (stop-fits g w n.0 h)
+outcome-fits g w (event.Restart n list) f a h j =
+    where-fits g (nat_lt n.0 w.nodes && not (w.running n.0) && all_found w n.0 list) (restart w n.0 list) (restart-fits g w n.0 list h)
+
+-- an event that isn't enabled gives no stamp
+idle-office : (g : Givens) (w : World) (o : Option Change) → changed w o ≡ None → Recovering g w → Recovering (given_with g (stamped_in o)) w
+idle-office g w None e h = h
+idle-office g w (Some k) e h = absurd (none-some (apply w k) (sym e))
+
+idle-fits : (g : Givens) (w : World) (e : Event) → outcome w e ≡ None → Recovering g w → Recovering (given_by g w e) w
+unfolding outcome
+idle-fits g w (event.Own s) i h = h
+idle-fits g w (event.Office c) i h = idle-office g w (office_event w c) i h
+idle-fits g w (event.Down c answered) i h = h
+idle-fits g w (event.Ready c) i h = h
+idle-fits g w (event.Up c) i h = h
+idle-fits g w (event.Lost c way more) i h = h
+idle-fits g w (event.Fault d) i h = h
+idle-fits g w (event.Stop n) i h = h
+idle-fits g w (event.Restart n list) i h = h
+
+after-fits : (g : Givens) (w : World) (e : Event) (o : Option World) → outcome w e ≡ o → Recovering g w → IfSome o (Recovering (given_by g w e)) → Recovering (given_by g w e) (after_event w e o)
+after-fits g w e None i h k = idle-fits g w e i h
+after-fits g w e (Some v) i h k = record { lives = k.lives; asks = k.asks; told = k.told; still = k.still; updates = k.updates; one_length = k.one_length; primaries = k.primaries; sends = k.sends; one_primary = k.one_primary; placed = k.placed }
+
+pub happens-fits : (g : Givens) (w : World) (e : Event) → Facts g w → Agreed w → Recovering g w → Writes w → Recovering (given_by g w e) (happens w e)
+unfolding happens
+happens-fits g w e f a h j = after-fits g w e (outcome w e) refl h (outcome-fits g w e f a h j)
+
+pub reached-writes : (w : World) → Reached w → (n b : ℕ) → IsSetUp w.joined (w.lives n) (w.running n) n (w.replicas n b)
+reached-writes w r = subst (λ (v : World). (n b : ℕ) → IsSetUp v.joined (v.lives n) (v.running n) n (v.replicas n b)) r.is (all-set r.nodes r.events).writes
+
+run-fits : (g : Givens) (w : World) (events : List Event) → Reached w → Recorded g w → Carried g w → Recovering g w → Recovering (given_in g w events) (run w events)
+run-fits g w [] r i c h = h
+run-fits g w (e ∷ events) r i c h =
+    let a = reached-agreed w r in
+    let f = reached-facts g w r i c in
+    run-fits (given_by g w e) (happens w e) events (reached-next w e r) (happens-recorded g w e i a) (happens-carried g w e f a) (happens-fits g w e f a h (reached-writes w r))
+
+pub start-fits : (nodes : ℕ) → Recovering none_given (start nodes)
+unfolding start
+start-fits nodes = record {
+  lives = λ c lt. absurd (omega (arith, lt));
+  asks = λ c i q e. absurd (none-some _ e);
+  told = λ c b id i x. absurd (none-some _ x.there);
+  still = λ c b id i x life. absurd (none-some _ x.there);
+  updates = λ c b id n x. absurd (none-some _ x.there);
+  one_length = λ c d a b id n m x y. absurd (none-some _ x.there);
+  primaries = λ i. tt;
+  sends = λ i. tt;
+  one_primary = λ i j id a b. absurd a;
+  placed = λ c i place lt u. absurd (omega (arith, lt));
+}
+
+pub all-recovering : (nodes : ℕ) (events : List Event) → Recovering (given_in none_given (start nodes) events) (run (start nodes) events)
+all-recovering nodes events = run-fits none_given (start nodes) events (at-start nodes) (start-recorded nodes) (start-carried nodes) (start-fits nodes)

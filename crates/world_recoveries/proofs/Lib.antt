@@ -1,0 +1,11 @@
+pub mod Histories
+pub mod Holding
+pub mod Choosing
+pub mod Frame
+pub mod Leading
+pub mod Quiet
+pub mod Clients
+pub mod Lowers
+pub mod Steps
+pub mod AllRecovering
+pub mod Laws

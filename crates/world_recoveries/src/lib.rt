@@ -1,0 +1,24 @@
+//! Block recoveries in the world. Each function has an empty body; its clauses say what holds after every list of events.
+#![tactic(auto)]
+
+ghost use Rattle.world.specs.Worlds.{start};
+ghost use Rattle.world.specs.Events.{run};
+ghost use Rattle.world_recoveries.specs.Recovering.{AllRecovering, OneLength, UpdatesKeepFinalized};
+
+use world::Schedule;
+
+/// A recovery has one primary, and one length; what a member told of its replica stays true of it while that recovery holds
+/// it in that life; and an UPDATE goes only to nodes that told of their replicas, with a length that fits what was told.
+pub fn recoveries_fit()
+    ensures { AllRecovering }
+{}
+
+/// All that is ever sent as a recovery's length is one length.
+pub fn recoveries_have_one_length(schedule: &Schedule)
+    ensures { OneLength (run (start schedule.now.nodes) schedule.now.events) }
+{}
+
+/// An UPDATE never shortens a replica that was FINALIZED when the recovery began, and lengthens none.
+pub fn updates_keep_finalized(schedule: &Schedule)
+    ensures { UpdatesKeepFinalized (run (start schedule.now.nodes) schedule.now.events) }
+{}
