@@ -1,10 +1,9 @@
 -- What acks and answers say holds after every list of events.
-use Rattle.std.proofs.Common.{◌≡◌, ℕ, ℤ, ◌<◌, ◌≤◌, ◌⊎◌, inl, inr, Bool, true, false, List, [], ◌∷◌, slice_get, Option, Some, None, IfSome, refl, sym, ◌∙◌, ap, subst, arith, eqb-true}
+use Rattle.std.proofs.Common.{◌≡◌, ℕ, ◌<◌, ◌≤◌, Bool, true, false, List, [], ◌∷◌, slice_get, Option, Some, None, IfSome, refl, sym, ◌∙◌, ap, subst, arith, eqb-true}
 use Rattle.std.specs.Prelude.{◌==◌, ◌&&◌, ◌+◌, not, nat_lt, option_map, if◌then◌else◌}
 use Rattle.std.proofs.lemmas.Bool.Decides.{nat_tests}
 use Rattle.std.proofs.lemmas.Bool.{false≢true}
 use Rattle.std.proofs.lemmas.Option.{none-some, same_Some}
-use Rattle.hd_base.specs.SumRules.{default_rule}
 use Rattle.replica_model.specs.Rows.{FullReplica, IsFull}
 use Rattle.replica_model.specs.Found.{Found}
 use Rattle.world.specs.declared.events.Delivery.{Delivery}
@@ -16,8 +15,8 @@ use Rattle.world.specs.declared.events.Event.TheVariants as event
 use Rattle.world.specs.declared.events.FoundReplica.{FoundReplica}
 use Rattle.world.specs.declared.events.OwnStep.{OwnStep}
 use Rattle.world.specs.declared.events.OwnStep.TheVariants as own
-use Rattle.world.specs.Parts.{Message, Marks, Upper, by_writer, by_member, by_reader, by_primary, Lower}
-use Rattle.world.specs.Worlds.{World, Change, Stamped, put, apply, start}
+use Rattle.world.specs.Parts.{Message, Marks, Upper, by_writer, by_member, by_reader, by_primary}
+use Rattle.world.specs.Worlds.{World, Change, apply, start}
 use Rattle.world.specs.Connections.{Next, message, the_end, ends_at, next_on, next_down, next_up, down_taken, up_taken, is_alive, is_served}
 use Rattle.world.specs.Nodes.{node_of, lower_down, lower_ready}
 use Rattle.world.specs.Clients.{writer_up, reader_up}
@@ -26,15 +25,13 @@ use Rattle.world.specs.Restarts.{may_find, whole_found, found_in, replica_found,
 use Rattle.world.specs.Events.{changed, own_change, down_as, down_event, ready_event, unless_fails, upper_up, up_as, up_event, fault_event, lost, stop, where_so, outcome, after_event, happens, run}
 use Rattle.world.specs.Safe.{Has}
 use Rattle.world_facts.proofs.Tables.{if-each, and-right, and-left, some-weaker}
-use Rattle.world_stamps.specs.Stamping.{Givens, none_given, given_with, stamped_in, given_by, given_in, Recorded}
+use Rattle.world_stamps.specs.Stamping.{Givens, none_given, given_with, stamped_in, given_by, given_in}
 use Rattle.world_stamps.proofs.AllRecorded.{happens-recorded, Reached, reached-next, reached-agreed, start-recorded}
-use Rattle.world_stamps.proofs.Recording.{Agreed}
-use Rattle.world_bytes.specs.Carrying.{Carried}
 use Rattle.world_bytes.proofs.Leaves.{Facts}
 use Rattle.world_bytes.proofs.AllCarried.{down-taken-facts, up-taken-facts, happens-carried, reached-facts, at-start, start-carried}
 use Rattle.world_setups.specs.Joining.{joined_as, SetUps}
 use Rattle.world_setups.proofs.AllSetUp.{happens-set, start-set}
-use Rattle.world_acks.specs.Acking.{Shown, Seat, IsUncut, Ends, UpTells, DownTells, Pends, Mirrors, UpperTells, Numbers, Acked, AllAcked}
+use Rattle.world_acks.specs.Acking.{Shown, Seat, IsUncut, Ends, Pends, UpperTells, Acked, AllAcked}
 use Rattle.world_acks.proofs.Seats.{Onward, up-on, down-on, upper-on, lower-on}
 use Rattle.world_acks.proofs.Frame.{apply-onward, keeps}
 use Rattle.world_acks.proofs.Turning.{Known, HeardTells}

@@ -1,7 +1,6 @@
 -- What the other lower ends make of what answers and acks say: reads, and a member's part of a block recovery.
-use Rattle.std.proofs.Common.{◌≡◌, ℕ, ◌<◌, ◌≤◌, inl, inr, Bool, true, false, List, [], ◌∷◌, ◌++◌, length, take, take_all, append-nil, slice_get, Option, Some, None, IfSome, Result, Ok, Err, IfOk, refl, sym, ◌∙◌, ap, subst, arith}
-use Rattle.std.specs.Prelude.{◌==◌, ◌&&◌, if◌then◌else◌}
-use Rattle.std.proofs.lemmas.Bool.{false≢true}
+use Rattle.std.proofs.Common.{◌≡◌, ℕ, ◌<◌, inl, inr, Bool, true, false, List, [], ◌++◌, length, take, take_all, append-nil, slice_get, Option, Some, None, IfSome, Result, Ok, Err, IfOk, refl, sym, ◌∙◌, ap, subst, arith}
+use Rattle.std.specs.Prelude.{◌==◌, if◌then◌else◌}
 use Rattle.std.proofs.lemmas.Option.{none-some, same_Some}
 use Rattle.hd_base.specs.Results.{◌>>=◌}
 use Rattle.hd_base.specs.declared.numbers.Stamp.{Stamp}
@@ -25,35 +24,28 @@ use Rattle.replica_core.specs.Views.{written_in}
 use Rattle.replica_core.proofs.InfoLemmas.{present_is}
 use Rattle.replica_model.specs.declared.events.ReplicaEvent.{ReplicaEvent}
 use Rattle.replica_model.specs.declared.events.ReplicaEvent.TheVariants as replica_event
-use Rattle.replica_model.specs.Rows.{FullReplica, IsFull, row, broken}
+use Rattle.replica_model.specs.Rows.{FullReplica, IsFull, broken}
 use Rattle.request_refusals.specs.declared.refusals.RequestRefusal.{RequestRefusal}
-use Rattle.request_refusals.specs.declared.refusals.RequestRefusal.TheVariants as refusal
 use Rattle.request_refusals.specs.Pools.{is_in_pool}
-use Rattle.read_core.specs.declared.serving.ServePhase.{ServePhase}
-use Rattle.read_core.specs.declared.serving.ServePhase.TheVariants as serve_phase
-use Rattle.read_core.specs.Servings.{ServingState, read_at, read_event, accepting, refusing, next_call, call_at, piece_at, faulted_piece}
+use Rattle.read_core.specs.Servings.{ServingState, read_at, read_event, accepting, refusing, next_call, piece_at}
 use Rattle.recovery_core.specs.declared.members.RecoveryReply.{RecoveryReply}
-use Rattle.recovery_core.specs.declared.members.RecoveryReply.TheVariants as reply
-use Rattle.recovery_core.specs.Members.{Served, no_recovery, step_event, recovery_event, reply_to, answer_of, served_as, serve, serve_faulted}
-use Rattle.world.specs.Parts.{Message, request, packet, ack, response, read_status, recovery_answer, FullMember, Lower, idle, writes, serves, recovers, ended_below, Break, Updated}
+use Rattle.recovery_core.specs.Members.{Served, no_recovery, step_event, recovery_event, reply_to, answer_of, served_as, serve_faulted}
+use Rattle.world.specs.Parts.{Message, request, packet, ack, response, read_status, recovery_answer, FullMember, Lower, idle, writes, serves, recovers, ended_below, Break}
 use Rattle.world.specs.Worlds.{World, Change, apply}
 use Rattle.world.specs.Connections.{Next, message, the_end, is_alive}
-use Rattle.world.specs.Nodes.{node_of, replica_at, block_of, broke_at, closing, unless_failing, breaking, read_change, failing_read, read_request, piece_as, serve_change, updated_by, recovery_change, failing_recovery, recovery_request, first_message, next_recovery, lower_down, lower_ready, mirror_up}
+use Rattle.world.specs.Nodes.{node_of, replica_at, broke_at, closing, unless_failing, breaking, read_change, failing_read, read_request, piece_as, serve_change, updated_by, recovery_change, failing_recovery, recovery_request, first_message, next_recovery, lower_down, lower_ready, mirror_up}
 use Rattle.world.specs.Safe.{Has}
 use Rattle.world_facts.proofs.Tables.{if-each, when-each}
 use Rattle.world_stamps.specs.Stamping.{Givens}
-use Rattle.world_bytes.specs.Carrying.{LowerSays, WriteSays, DownSays}
+use Rattle.world_bytes.specs.Carrying.{LowerSays, DownSays}
 use Rattle.world_bytes.proofs.Frame.{Each, each-nil, each-one}
-use Rattle.world_bytes.proofs.Leaves.{Facts, sent-each}
+use Rattle.world_bytes.proofs.Leaves.{sent-each}
 use Rattle.world_bytes.proofs.Rows.{update-held}
 use Rattle.world_setups.specs.Joining.{IsPlain}
-use Rattle.world_setups.proofs.Rising.{IsNoSetup, event-broken}
-use Rattle.world_acks.specs.Acking.{Shown, AsksToRead, Ends, UpTells, DownTells, Mirrors, LowerTells, PendingTells, Pends, Acked}
-use Rattle.world_acks.proofs.Shows.{IsNoUpdate}
-use Rattle.world_acks.proofs.Seats.{has-one, IsCut, Steps, steps-same, Onward, reads-on}
-use Rattle.world_acks.proofs.Frame.{News}
-use Rattle.world_acks.proofs.Pending.{Brought}
-use Rattle.world_acks.proofs.Turning.{Known, Acts, HeardTells, FromMirror, from-mirror}
+use Rattle.world_setups.proofs.Rising.{event-broken}
+use Rattle.world_acks.specs.Acking.{Shown, AsksToRead, Ends, UpTells, DownTells, Mirrors, LowerTells, Pends}
+use Rattle.world_acks.proofs.Seats.{has-one, Steps, steps-same, Onward, reads-on}
+use Rattle.world_acks.proofs.Turning.{Known, Acts, HeardTells, from-mirror}
 use Rattle.world_acks.proofs.Lowers.{Leaf, TakenTells, still-numbers, aside-begun, row-steps, row-pends, same-pends, down-leaf, up-leaf, ready-leaf}
 use Rattle.world_acks.proofs.Setups.{write-leaf}
 

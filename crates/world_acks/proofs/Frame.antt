@@ -1,20 +1,19 @@
 -- What a change leaves alone, and what is needed of what is new in it.
-use Rattle.std.proofs.Common.{◌≡◌, ℕ, ℤ, zero, suc, ◌<◌, ◌≤◌, ◌+◌, ◌-◌, ◌⊎◌, inl, inr, Bool, true, false, List, [], ◌∷◌, ◌++◌, length, slice_get, Option, Some, None, IfSome, refl, sym, ◌∙◌, ap, subst, arith, append-nil, eqb-true}
+use Rattle.std.proofs.Common.{◌≡◌, ℕ, ℤ, zero, suc, ◌<◌, ◌≤◌, ◌+◌, ◌-◌, ◌⊎◌, inl, inr, Bool, true, false, List, [], ◌∷◌, ◌++◌, length, slice_get, Option, Some, None, IfSome, refl, sym, subst, arith, eqb-true}
 use Rattle.std.specs.Prelude.{◌==◌, ◌&&◌, nat_le, if◌then◌else◌, option_map, unwrap_or}
 use Rattle.std.proofs.lemmas.Bool.Decides.{nat_tests}
-use Rattle.std.proofs.lemmas.Option.{none-some, same_Some}
-use Rattle.replica_core.specs.declared.info.ReplicaInfo.{ReplicaInfo}
+use Rattle.std.proofs.lemmas.Option.{none-some}
 use Rattle.replica_model.specs.Rows.{FullReplica, IsFull}
-use Rattle.world.specs.Parts.{Message, Dialled, Upper, Lower, Writing, Joined}
-use Rattle.world.specs.Worlds.{Past, World, Dial, Change, put, put_at, listed, dial_at, latest_with, past_after, apply}
+use Rattle.world.specs.Parts.{Message, Lower}
+use Rattle.world.specs.Worlds.{World, Dial, Change, put, put_at, listed, dial_at, latest_with, past_after, apply}
 use Rattle.world.specs.Safe.{Has}
-use Rattle.world_facts.specs.Growing.{Begins, Grows}
+use Rattle.world_facts.specs.Growing.{Begins}
 use Rattle.world_facts.proofs.GrowthLaws.{apply-grows}
-use Rattle.world_facts.proofs.Tables.{if-each, put-each, and-left, and-right, some-weaker}
+use Rattle.world_facts.proofs.Tables.{if-each, put-each, and-left, and-right}
 use Rattle.world_stamps.specs.Stamping.{Givens, heard}
 use Rattle.world_bytes.proofs.Frame.{Each, each-nil, each-one, each-append}
 use Rattle.world_setups.specs.Joining.{joined_as}
-use Rattle.world_acks.specs.Acking.{Seat, Ends, UpTells, DownTells, UpperTells, LowerTells, Pends, Numbers, Acked}
+use Rattle.world_acks.specs.Acking.{Ends, UpTells, DownTells, UpperTells, LowerTells, Pends, Numbers, Acked}
 use Rattle.world_acks.proofs.Seats.{has-left, Steps, seat-apply, Onward, up-on, down-on, upper-on, lower-on, pends-on}
 
 -- ONWARD

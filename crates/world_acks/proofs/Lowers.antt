@@ -1,39 +1,28 @@
 -- What lower ends make of what answers and acks say.
-use Rattle.std.proofs.Common.{◌≡◌, ℕ, ℤ, zero, suc, ◌<◌, ◌≤◌, ◌+◌, ◌-◌, ◌⊎◌, inl, inr, Bool, true, false, List, [], ◌∷◌, ◌++◌, length, take, slice_get, Option, Some, None, IfSome, Result, Ok, Err, IfOk, refl, sym, ◌∙◌, ap, subst, arith, eqb-true}
-use Rattle.std.specs.Prelude.{◌==◌, ◌&&◌, nat_le, negsuc, pos, option_map, is_some, if◌then◌else◌}
+use Rattle.std.proofs.Common.{◌≡◌, ℕ, ℤ, ◌<◌, ◌≤◌, ◌⊎◌, inl, inr, Bool, true, false, List, slice_get, Option, Some, None, IfSome, refl, sym, ◌∙◌, ap, subst, arith}
+use Rattle.std.specs.Prelude.{◌==◌, ◌&&◌, nat_le, negsuc, pos, if◌then◌else◌}
 use Rattle.std.specs.Ordering.{int_eq}
 use Rattle.std.proofs.lemmas.Bool.{eqb-false, false≢true}
 use Rattle.std.proofs.lemmas.Bool.Decides.{nat_tests}
-use Rattle.std.proofs.lemmas.Option.{none-some, same_Some}
-use Rattle.hd_base.specs.Results.{◌>>=◌}
-use Rattle.hd_base.specs.declared.numbers.ConnId.{ConnId}
+use Rattle.std.proofs.lemmas.Option.{none-some}
 use Rattle.hd_base.specs.declared.numbers.Stamp.{Stamp}
-use Rattle.op_headers.specs.declared.nodes.NodeRef.{NodeRef}
-use Rattle.op_headers.specs.declared.ops.Op.{Op}
 use Rattle.op_headers.specs.declared.ops.Op.TheVariants as op
-use Rattle.op_headers.specs.declared.ops.ReadOp.{ReadOp}
 use Rattle.op_headers.specs.Values.{WriteFields}
 use Rattle.packet_codec.specs.declared.packets.Packet.{Packet}
-use Rattle.packet_stream.specs.Streams.{packet_end}
 use Rattle.replica_core.specs.declared.ack_queue.PendingPacket.{PendingPacket}
-use Rattle.replica_core.specs.declared.events.Event.{Event}
 use Rattle.replica_core.specs.declared.events.Event.TheVariants as event
-use Rattle.replica_core.specs.declared.info.ReplicaInfo.{ReplicaInfo}
 use Rattle.replica_core.specs.declared.records.ReplicaRecord.{ReplicaRecord}
 use Rattle.replica_core.specs.declared.refusals.Refusal.{Refusal}
 use Rattle.replica_core.specs.declared.refusals.Refusal.TheVariants as refusal
-use Rattle.replica_core.specs.declared.streams.Stream.{Stream}
-use Rattle.replica_core.specs.Transitions.{state_after, is_written_by}
+use Rattle.replica_core.specs.Transitions.{is_written_by}
 use Rattle.replica_model.specs.declared.events.ReplicaEvent.{ReplicaEvent}
 use Rattle.replica_model.specs.declared.events.ReplicaEvent.TheVariants as replica_event
-use Rattle.replica_model.specs.Rows.{FullReplica, IsFull, row, broken, event_at}
+use Rattle.replica_model.specs.Rows.{FullReplica, row, event_at}
 use Rattle.member_core.specs.declared.effects.Effect.{Effect}
 use Rattle.member_core.specs.declared.effects.Shuts.{Shuts}
 use Rattle.member_core.specs.declared.effects.Shuts.TheVariants as shuts
 use Rattle.member_core.specs.declared.effects.Upward.{Upward}
-use Rattle.member_core.specs.declared.inputs.FromAbove.{FromAbove}
 use Rattle.member_core.specs.declared.inputs.FromAbove.TheVariants as above
-use Rattle.member_core.specs.declared.member.Mirror.{Mirror}
 use Rattle.member_core.specs.declared.member.Mirror.TheVariants as mirror
 use Rattle.member_core.specs.declared.turns.Booked.{Booked}
 use Rattle.member_core.specs.declared.turns.Booked.TheVariants as booked
@@ -42,25 +31,24 @@ use Rattle.member_core.specs.declared.turns.Side.TheVariants as side
 use Rattle.member_core.specs.declared.turns.Turn.{Turn}
 use Rattle.member_core.specs.Members.{MemberState, down_turn, up_turn, hears, settled, closed, closed_by, bad_sum}
 use Rattle.member_core.specs.Steps.{Step, step, faulted_step, replica_after, outcome_of, oldest_at, ready_turn_at}
-use Rattle.world.specs.Parts.{Message, request, packet, ack, response, read_status, recovery_answer, Dialled, FullMember, Lower, writes, Writing, Break}
-use Rattle.world.specs.Worlds.{no_past, World, Change, Dial, Stamped, put, put_at, latest_with, past_after, apply}
-use Rattle.world.specs.Connections.{Next, message, the_end, is_alive, sent_on}
+use Rattle.world.specs.Parts.{Message, request, packet, ack, response, read_status, recovery_answer, FullMember, writes, Writing, Break}
+use Rattle.world.specs.Worlds.{no_past, World, Change, Stamped, put, put_at, latest_with, apply}
+use Rattle.world.specs.Connections.{Next, message, the_end}
 use Rattle.world.specs.Nodes.{node_of, replica_at, block_of, above_of, below_of, upward_message, sent_up, passed, member_change, failing_turn, turn_change, pending_at, takes_next, member_down, member_up, ready_change, member_ready, broke_at}
-use Rattle.world_facts.proofs.Tables.{if-each, when-each, put-each, some-weaker}
+use Rattle.world_facts.proofs.Tables.{when-each, put-each, some-weaker}
 use Rattle.world_stamps.specs.Stamping.{Givens, none_given, heard}
-use Rattle.world_bytes.specs.Carrying.{new_stamp, Sets, SetFor, MemberSays, LowerSays, WriteSays, DownSays}
+use Rattle.world_bytes.specs.Carrying.{new_stamp, Sets, LowerSays, WriteSays}
 use Rattle.world_bytes.proofs.Frame.{Each, each-nil, each-one}
 use Rattle.world_bytes.proofs.Leaves.{Facts, one-session, sent-each, sent-if}
-use Rattle.world_bytes.proofs.Rows.{Allows, sets-once}
+use Rattle.world_bytes.proofs.Rows.{Allows}
 use Rattle.world_bytes.proofs.Turns.{Idles, up-idles, ready-idles, follows}
-use Rattle.world_setups.specs.Joining.{joined_as, IsPlain}
-use Rattle.world_setups.proofs.Rising.{Goes, IsNoSetup, event-goes, lasting-of, event-broken}
-use Rattle.world_acks.specs.Acking.{Ends, UpTells, Numbered, PacketTells, DownTells, UpperTells, IsPipe, MemberTells, LowerTells, PendingTells, Pends, Numbers, Acked}
+use Rattle.world_setups.proofs.Rising.{IsNoSetup, event-goes, lasting-of, event-broken}
+use Rattle.world_acks.specs.Acking.{Ends, UpTells, PacketTells, DownTells, IsPipe, MemberTells, PendingTells, Pends, Numbers, Acked}
 use Rattle.world_acks.proofs.Shows.{IsNoUpdate}
-use Rattle.world_acks.proofs.Seats.{Steps, steps-same, steps-row, Onward, pends-on, member-on, numbered-on, pipe-on}
+use Rattle.world_acks.proofs.Seats.{Steps, steps-same, steps-row, Onward, member-on, numbered-on, pipe-on}
 use Rattle.world_acks.proofs.Frame.{News}
 use Rattle.world_acks.proofs.Pending.{Pend, Brought, event-pend}
-use Rattle.world_acks.proofs.Turning.{Known, Then, Acts, HeardTells, FromMirror, same-asked, written-stamp, IsStreamCall, TurnTells, up-tells, ready-tells, down-tells}
+use Rattle.world_acks.proofs.Turning.{Known, Acts, HeardTells, FromMirror, same-asked, written-stamp, IsStreamCall, TurnTells, up-tells, ready-tells, down-tells}
 
 -- LEAVES
 
@@ -352,14 +340,17 @@ forwarded g t w v c d m p a on sets x =
     record { fields = sets.fields; session = x.session; pipe = pipe-on g g t t w v d sets.fields x.session on pipe; numbered = numbered-on g g t t w v x.session p on x.numbered }
 
 packet-brings : (g : Givens) (t : Ends) (w : World) (c : ℕ) (m : FullMember) (p : Packet) → Acts g t w c m → PacketTells g t w c p → Brings g t w c m (Some (replica_event.Packet m.state.conn p))
-packet-brings g t w c m p a x = (number p.seqno x.numbered.number x.numbered.is, λ i s e is writes by seqno end.
-    let stamp : i.stamp ≡ new_stamp m.fields = written-stamp g t w c m i s a is writes (by ∙ a.conn) in
-    let same : x.fields ≡ m.fields = same-asked w c x.fields m.fields x.pipe.asked a.tells.pipe.asked in
-    record {
-      session = x.session;
-      given = ap (λ (y : Stamp). g (block_of m.fields) y.0) stamp ∙ ap (λ (f : WriteFields). g (block_of f) (new_stamp f).0) (sym same) ∙ x.pipe.given;
-      named = ap (λ (z : ℤ). t x.session z) seqno ∙ x.numbered.named ∙ ap (λ (n : ℕ). Some n) (sym end);
-    })
+packet-brings g t w c m p a x = (
+  number p.seqno x.numbered.number x.numbered.is,
+  λ i s e is writes by seqno end.
+      let stamp : i.stamp ≡ new_stamp m.fields = written-stamp g t w c m i s a is writes (by ∙ a.conn) in
+      let same : x.fields ≡ m.fields = same-asked w c x.fields m.fields x.pipe.asked a.tells.pipe.asked in
+      record {
+        session = x.session;
+        given = ap (λ (y : Stamp). g (block_of m.fields) y.0) stamp ∙ ap (λ (f : WriteFields). g (block_of f) (new_stamp f).0) (sym same) ∙ x.pipe.given;
+        named = ap (λ (z : ℤ). t x.session z) seqno ∙ x.numbered.named ∙ ap (λ (n : ℕ). Some n) (sym end);
+      },
+)
   where
     number : (z : ℤ) (n : ℕ) → z ≡ pos n → int_eq z (negsuc 0) ≡ false
     number z n e = subst (λ (y : ℤ). int_eq y (negsuc 0) ≡ false) (sym e) refl

@@ -1,20 +1,13 @@
 -- How writers number their packets.
-use Rattle.std.proofs.Common.{◌≡◌, ℕ, ℤ, zero, suc, ◌<◌, ◌≤◌, ◌+◌, ◌⊎◌, inl, inr, Bool, true, false, List, [], ◌∷◌, ◌++◌, drop, length, slice_get, Option, Some, None, Result, Ok, Err, refl, sym, ◌∙◌, ap, subst, arith}
-use Rattle.std.specs.Prelude.{pos, nat_le, if◌then◌else◌}
-use Rattle.std.proofs.lemmas.Option.{none-some, same_Some}
+use Rattle.std.proofs.Common.{◌≡◌, ℕ, suc, ◌≤◌, ◌+◌, ◌⊎◌, inl, inr, Bool, true, false, List, [], ◌∷◌, ◌++◌, drop, length, slice_get, Option, Some, None, Result, Ok, Err, refl, sym, ◌∙◌, ap, subst, arith}
+use Rattle.std.specs.Prelude.{pos}
+use Rattle.std.proofs.lemmas.Option.{none-some}
 use Rattle.hd_base.specs.declared.numbers.NodeId.{NodeId}
 use Rattle.hd_base.specs.declared.numbers.Stamp.{Stamp}
-use Rattle.hd_base.specs.SumRules.{Rule}
 use Rattle.ack_codec.specs.declared.acks.Ack.{Ack}
 use Rattle.ack_codec.specs.declared.responses.Response.{Response}
-use Rattle.name_core.specs.declared.calls.OfficeAnswer.{OfficeAnswer}
-use Rattle.name_core.specs.declared.calls.OfficeAnswer.TheVariants as office
-use Rattle.name_core.specs.declared.calls.Reopened.{Reopened}
-use Rattle.name_core.specs.declared.faults.OfficeFault.{OfficeFault}
-use Rattle.name_core.specs.declared.faults.OfficeFault.TheVariants as fault
-use Rattle.name_core.specs.declared.records.TheConstants.{MAX_APPEND_LENGTH}
 use Rattle.packet_codec.specs.declared.packets.Packet.{Packet}
-use Rattle.packet_stream.specs.Streams.{StreamState, begun, oldest_acked, acked_packet, oldest_is_last, oldest_seqno, next_packet, sync_packet, last_packet}
+use Rattle.packet_stream.specs.Streams.{StreamState, acked_packet, oldest_is_last, oldest_seqno}
 use Rattle.writer_core.specs.declared.actions.Action.{Action}
 use Rattle.writer_core.specs.declared.actions.Action.TheVariants as action
 use Rattle.writer_core.specs.declared.commands.Command.{Command}
@@ -36,12 +29,11 @@ use Rattle.writer_core.specs.declared.phases.Waiting.{Waiting}
 use Rattle.writer_core.specs.declared.records.WriterRecord.{WriterRecord}
 use Rattle.writer_core.specs.Commands.{admitted}
 use Rattle.writer_core.specs.Phases.{remedy_after, remedy_accepted, remedy_in, remedy_at_ack, is_success, ack_verdict, bad_place, without}
-use Rattle.writer_core.specs.Transitions.{Step, taken_as, take_first, free_step_as, failed_command, failed_first, failed_step_as, dial_step_as, open_step, completed_step, accepted_step, due_now, form_step, reached_length, reach_step_as, due_step, stream_step_as, step_in, own_step, given_as, given, took, dropped, fail_for, fail_named, fail_at, ended_as, ended, phase_acked, acked_oldest, acked_as, acked_in, acked, setup_answered_in, setup_answered, dialled_in, dialled, refused, stamp_given, granted_in, granted_as, granted, stamped, reopened, commit_given, committed_as, phase_committed, complete_given, asks}
+use Rattle.writer_core.specs.Transitions.{Step, taken_as, take_first, free_step_as, failed_command, failed_first, failed_step_as, dial_step_as, open_step, completed_step, accepted_step, due_now, form_step, reached_length, reach_step_as, due_step, stream_step_as, step_in, own_step, given_as, given, took, dropped, fail_for, fail_named, fail_at, ended_as, ended, phase_acked, acked_as, acked_in, acked, setup_answered_in, setup_answered, dialled_in, dialled}
 use Rattle.world.specs.Clients.{named_member, writer_hears}
 use Rattle.world.specs.Connections.{Next, message, the_end}
 use Rattle.world.specs.Parts.{request, packet, ack, response, read_status, recovery_answer}
-use Rattle.world_facts.proofs.Tables.{if-each}
-use Rattle.world_acks.specs.Acking.{Ends, Numbered, reach_in, reach_wanted, reach_of, Numbers}
+use Rattle.world_acks.specs.Acking.{Ends, reach_in, reach_wanted, reach_of, Numbers}
 
 -- NOTHING IS FORMED
 

@@ -1,29 +1,15 @@
 -- What commands, readers, primaries and the office make of what answers and acks say.
-use Rattle.std.proofs.Common.{◌≡◌, ℕ, ℤ, zero, suc, ◌<◌, ◌≤◌, ◌+◌, ◌⊎◌, inl, inr, Bool, true, false, List, [], ◌∷◌, ◌++◌, length, slice_get, Option, Some, None, IfSome, Result, Ok, Err, refl, sym, ◌∙◌, ap, subst, arith, eqb-true}
-use Rattle.std.specs.Prelude.{◌==◌, ◌&&◌, not, is_none, nat_le, pos, zip, if◌then◌else◌}
-use Rattle.std.specs.Ordering.{int_eq}
-use Rattle.std.proofs.lemmas.Bool.{eqb-false, false≢true}
-use Rattle.std.proofs.lemmas.Bool.Decides.{nat_tests}
+use Rattle.std.proofs.Common.{◌≡◌, ℕ, zero, suc, ◌+◌, Bool, true, false, List, [], ◌∷◌, ◌++◌, slice_get, Option, Some, None, IfSome, Result, Ok, Err, refl, sym, ap, subst}
+use Rattle.std.specs.Prelude.{◌==◌, ◌&&◌, not, is_none, zip}
+use Rattle.std.proofs.lemmas.Bool.{false≢true}
 use Rattle.std.proofs.lemmas.Option.{none-some, same_Some}
 use Rattle.hd_base.specs.declared.numbers.BlockId.{BlockId}
 use Rattle.hd_base.specs.declared.numbers.NodeId.{NodeId}
-use Rattle.hd_base.specs.declared.numbers.Stamp.{Stamp}
 use Rattle.hd_base.specs.SumRules.{Rule}
-use Rattle.op_headers.specs.declared.ops.Op.{Op}
 use Rattle.op_headers.specs.declared.ops.Op.TheVariants as op
 use Rattle.op_headers.specs.declared.ops.ReadOp.{ReadOp}
-use Rattle.packet_codec.specs.declared.packets.Packet.{Packet}
-use Rattle.packet_stream.specs.Streams.{packet_end, begun}
-use Rattle.name_core.specs.declared.calls.OfficeAnswer.{OfficeAnswer}
+use Rattle.packet_stream.specs.Streams.{begun}
 use Rattle.name_core.specs.declared.calls.OfficeAnswer.TheVariants as office
-use Rattle.name_core.specs.declared.calls.OfficeCall.{OfficeCall}
-use Rattle.name_core.specs.declared.calls.OfficeCall.TheVariants as call
-use Rattle.name_core.specs.declared.faults.OfficeFault.{OfficeFault}
-use Rattle.name_core.specs.declared.faults.OfficeFault.TheVariants as fault
-use Rattle.name_core.specs.declared.choice.Chosen.{Chosen}
-use Rattle.name_core.specs.Offices.{OfficeState, office_case, answer_to}
-use Rattle.name_core.specs.Steps.{Step, state_after, reply}
-use Rattle.name_core.proofs.CaseLemmas.{each_case}
 use Rattle.read_core.specs.declared.reading.ReadTurn.{ReadTurn}
 use Rattle.read_core.specs.declared.reading.ReadTurn.TheVariants as turn
 use Rattle.read_core.specs.Readings.{ReadTaken, take_from}
@@ -32,51 +18,30 @@ use Rattle.recovery_core.specs.declared.primary.OwnStep.TheVariants as own
 use Rattle.recovery_core.specs.declared.standings.Standing.{Standing}
 use Rattle.recovery_core.specs.Primaries.{PrimaryState, is_among, sync_call}
 use Rattle.recovery_core.specs.Primaries as primary
-use Rattle.writer_core.specs.declared.actions.Action.{Action}
-use Rattle.writer_core.specs.declared.actions.Action.TheVariants as action
-use Rattle.writer_core.specs.declared.actions.ClientAnswer.{ClientAnswer}
 use Rattle.writer_core.specs.declared.commands.Command.{Command}
 use Rattle.writer_core.specs.declared.commands.Command.TheVariants as command
 use Rattle.writer_core.specs.declared.commands.CommandFault.{CommandFault}
 use Rattle.writer_core.specs.declared.intake.Intake.{Intake}
-use Rattle.writer_core.specs.declared.phases.Phase.{Phase}
-use Rattle.writer_core.specs.declared.phases.Phase.TheVariants as phase
-use Rattle.writer_core.specs.declared.phases.Setup.{Setup}
-use Rattle.writer_core.specs.declared.phases.Setup.TheVariants as setup
-use Rattle.writer_core.specs.declared.phases.Waiting.{Waiting}
 use Rattle.writer_core.specs.declared.records.WriterRecord.{WriterRecord}
 use Rattle.writer_core.specs.Commands.{admitted}
-use Rattle.writer_core.specs.Transitions.{given, given_as, own_step, dial_step, open_step, completed_step, granted, dialled, refused, asks, phase_committed}
-use Rattle.writer_core.specs.Transitions as writer
-use Rattle.replica_model.specs.Rows.{FullReplica}
-use Rattle.world.specs.declared.events.Caller.{Caller}
-use Rattle.world.specs.declared.events.Caller.TheVariants as caller
+use Rattle.writer_core.specs.Transitions.{given, given_as, own_step, granted}
 use Rattle.world.specs.declared.events.TakenCommand.{TakenCommand}
-use Rattle.world.specs.Parts.{Message, request, packet, ack, response, read_status, recovery_answer, Place, Upper, by_writer, by_member, by_reader, by_primary, Lower, Told, Writing, Reader, no_reader, reads, has_read, Leading, Primary, no_primary, was_told, leads, has_led}
-use Rattle.world.specs.Worlds.{World, Dial, Stamped, Change, put, latest_with, past_after, apply}
-use Rattle.world.specs.Connections.{Next, message, the_end, is_conn, is_alive, place_of, sent_on}
-use Rattle.world.specs.Clients.{reached_answer, writer_change, did, dialled_change, dialling, rest_in, is_empty, is_formed, ruled, command_bytes, takes_command, writer_step, own_writer, writer_hears, writer_up, reader_dials, own_reader_as, own_reader, from_node_of, reader_turn, reader_up_as, reader_up, are_members}
-use Rattle.world.specs.Primaries.{updates_change, primary_dials, recovery_message, begins_with, begins_as, begins_at, own_recover, dials_answered, updates_on, leads_step, commits_step, leads_told, own_primary_as, own_primary, hears_change, listens, primary_up_as, primary_up, stamped_by, asks_writer, asks_primary, writer_asks, writer_asks_office, primary_commits, primary_asks, office_event}
-use Rattle.world_facts.proofs.Tables.{if-each, put-each, when-each, and-left, and-right, some-weaker}
-use Rattle.world_sessions.proofs.OfficeSteps.{AsksAs, own-step-asking}
-use Rattle.world_sessions.proofs.Sessions.{refused-stamp}
-use Rattle.world_stamps.specs.Stamping.{Givens, given_with, stamped_in, known_heard, heard}
-use Rattle.world_stamps.proofs.Givens.{put-here}
-use Rattle.world_stamps.proofs.Granting.{granted-create, granted-append, granted-again, granted-commit, granted-complete}
+use Rattle.world.specs.Parts.{Message, request, Place, Upper, by_primary, Told, Reader, no_reader, reads, has_read, Leading, Primary, no_primary, was_told, leads, has_led}
+use Rattle.world.specs.Worlds.{World, Dial, Change, past_after, apply}
+use Rattle.world.specs.Connections.{Next, is_conn, is_alive, place_of}
+use Rattle.world.specs.Clients.{did, is_empty, is_formed, ruled, command_bytes, takes_command, writer_step, own_writer, writer_hears, writer_up, reader_dials, own_reader_as, own_reader, from_node_of, reader_turn, reader_up_as, reader_up, are_members}
+use Rattle.world.specs.Primaries.{updates_change, primary_dials, begins_with, begins_as, begins_at, own_recover, dials_answered, updates_on, leads_step, commits_step, leads_told, own_primary_as, own_primary, hears_change, listens, primary_up_as, primary_up}
+use Rattle.world_facts.proofs.Tables.{if-each, when-each, and-right}
+use Rattle.world_stamps.specs.Stamping.{Givens, known_heard}
 use Rattle.world_stamps.proofs.Walking.{none-is}
-use Rattle.world_bytes.specs.Carrying.{new_stamp, Sets, ConnSays, WriteSays, WriterSays}
-use Rattle.world_bytes.proofs.Asking.{first-dial, only-one}
+use Rattle.world_bytes.proofs.Asking.{only-one}
 use Rattle.world_bytes.proofs.Frame.{Each, each-nil, each-one}
-use Rattle.world_bytes.proofs.Leaves.{Facts, one-session, sent-if}
-use Rattle.world_acks.specs.Acking.{Ends, Numbered, PacketTells, UpTells, DownTells, UpperTells, LowerTells, AsksToRead, IsPipe, Pends, reach_in, reach_of, Numbers, Acked}
-use Rattle.world_acks.proofs.Seats.{Steps, steps-same, Onward, lower-on, pends-on, pipe-on}
-use Rattle.world_acks.proofs.Frame.{News}
+use Rattle.world_bytes.proofs.Leaves.{sent-if}
+use Rattle.world_acks.specs.Acking.{Ends, DownTells, UpperTells, Numbers}
 use Rattle.world_acks.proofs.Turning.{Known}
-use Rattle.world_acks.proofs.Lowers.{Leaf, still-numbers, aside-begun, same-pends, dialled-there}
-use Rattle.world_acks.proofs.Moves.{Follows, follows-numbers, follows-itself, same-stream, reach-at, Resends, Forms, Goes, GoesIn, own-step-goes, open-goes, completed-goes, hears-follows, dialled-follows, follows-then, own-step-out, IsUnsent, out-numbers}
-
-use Rattle.world_acks.proofs.Clients.{Leads, IsClient, client-news, none-dials, none-downs, client-leads, asked-first, own-numbers, stays-leads, did-leads, rest-leads, taken-leads, out-leads}
-use Rattle.world_acks.proofs.Setups.{dialled-new}
+use Rattle.world_acks.proofs.Lowers.{still-numbers}
+use Rattle.world_acks.proofs.Moves.{follows-numbers, own-step-goes, hears-follows, own-step-out}
+use Rattle.world_acks.proofs.Clients.{Leads, IsClient, none-dials, none-downs, client-leads, asked-first, stays-leads, did-leads, rest-leads, taken-leads, out-leads}
 
 -- COMMANDS
 

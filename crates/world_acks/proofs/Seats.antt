@@ -1,34 +1,29 @@
 -- Seats stay, whatever a change makes of the world, and what is said by them.
-use Rattle.std.proofs.Common.{◌≡◌, ℕ, ℤ, zero, suc, ◌<◌, ◌≤◌, ◌⊎◌, inl, inr, Bool, true, false, List, [], ◌∷◌, ◌++◌, slice_get, take, length, Option, Some, None, IfSome, refl, sym, ◌∙◌, ap, subst, arith, eqb-true}
+use Rattle.std.proofs.Common.{◌≡◌, ℕ, ℤ, zero, suc, ◌<◌, ◌≤◌, ◌⊎◌, inl, inr, Bool, true, false, List, [], ◌∷◌, ◌++◌, slice_get, Some, IfSome, refl, sym, ◌∙◌, ap, subst, arith, eqb-true}
 use Rattle.std.specs.Prelude.{◌==◌, ◌&&◌, if◌then◌else◌}
 use Rattle.std.proofs.lemmas.Bool.{false≢true}
-use Rattle.std.proofs.lemmas.Option.{none-some, same_Some}
-use Rattle.hd_base.specs.declared.numbers.Stamp.{Stamp}
-use Rattle.op_headers.specs.declared.nodes.NodeRef.{NodeRef}
+use Rattle.std.proofs.lemmas.Option.{none-some}
 use Rattle.op_headers.specs.declared.ops.Op.{Op}
 use Rattle.op_headers.specs.declared.ops.Op.TheVariants as op
 use Rattle.op_headers.specs.Values.{WriteFields}
 use Rattle.packet_codec.specs.declared.packets.Packet.{Packet}
-use Rattle.replica_core.specs.declared.ack_queue.PendingPacket.{PendingPacket}
-use Rattle.replica_core.specs.declared.info.ReplicaInfo.{ReplicaInfo}
 use Rattle.replica_core.specs.declared.records.ReplicaRecord.{ReplicaRecord}
 use Rattle.replica_model.specs.declared.events.ReplicaEvent.{ReplicaEvent}
 use Rattle.replica_model.specs.Rows.{FullReplica, IsFull, row, event_at}
 use Rattle.replica_model.specs.Found.{IsFront}
 use Rattle.member_core.specs.Requests.{request_from}
 use Rattle.world.specs.Parts.{Message, request, packet, ack, response, read_status, recovery_answer, Dialled, Upper, by_writer, by_member, by_reader, by_primary, FullMember, Lower, idle, writes, serves, recovers, ended_below, Joined, Updated}
-use Rattle.world.specs.Worlds.{Past, World, Change, past_after, apply}
-use Rattle.world.specs.Nodes.{node_of, node_on, block_of}
+use Rattle.world.specs.Worlds.{World, Change, past_after, apply}
+use Rattle.world.specs.Nodes.{node_of, block_of}
 use Rattle.world.specs.Safe.{Has}
 use Rattle.world_facts.proofs.Tables.{and-left, and-right, some-weaker}
-use Rattle.world_facts.specs.Growing.{Begins, Grows}
 use Rattle.world_facts.proofs.GrowthLaws.{apply-grows}
 use Rattle.world_stamps.specs.Stamping.{Givens}
 use Rattle.world_bytes.specs.Carrying.{new_stamp}
 use Rattle.world_bytes.proofs.Fronts.{front-takes, front-length}
 use Rattle.world_setups.specs.Joining.{joined_as}
 use Rattle.world_setups.proofs.Rising.{Goes}
-use Rattle.world_acks.specs.Acking.{Shown, IsUncut, Seat, Asked, AsksToRead, Seated, IsPipe, promised, SetUpFrom, Ends, AckedFrom, UpTells, Numbered, PacketTells, DownTells, Mirrors, UpperTells, MemberTells, LowerTells, PendingTells, Pends}
+use Rattle.world_acks.specs.Acking.{Shown, IsUncut, Seat, Asked, AsksToRead, Seated, IsPipe, promised, SetUpFrom, Ends, AckedFrom, UpTells, Numbered, PacketTells, DownTells, Mirrors, UpperTells, MemberTells, LowerTells, Pends}
 use Rattle.world_acks.proofs.Shows.{IsNoUpdate, row-shows}
 
 -- LISTS

@@ -1,6 +1,6 @@
 -- What a write request makes of what answers and acks say.
 use Rattle.std.proofs.Common.{◌≡◌, ℕ, zero, suc, ◌<◌, ◌≤◌, ◌+◌, ◌-◌, ◌⊎◌, inl, inr, Bool, true, false, List, [], ◌∷◌, ◌++◌, length, take, slice_get, Option, Some, None, IfSome, Result, Ok, Err, IfOk, refl, sym, ◌∙◌, ap, subst, arith, eqb-true}
-use Rattle.std.specs.Prelude.{◌==◌, ◌&&◌, not, is_none, nat_le, option_map, unwrap_or, is_some, if◌then◌else◌}
+use Rattle.std.specs.Prelude.{◌==◌, not, is_none, nat_le, option_map, unwrap_or, if◌then◌else◌}
 use Rattle.std.proofs.lemmas.Bool.{false≢true}
 use Rattle.std.proofs.lemmas.Bool.Decides.{nat_tests}
 use Rattle.std.proofs.lemmas.Option.{none-some, same_Some}
@@ -20,14 +20,13 @@ use Rattle.replica_core.specs.declared.events.Event.TheVariants as event
 use Rattle.replica_core.specs.declared.info.ReplicaInfo.{ReplicaInfo}
 use Rattle.replica_core.specs.declared.records.ReplicaRecord.{ReplicaRecord}
 use Rattle.replica_core.specs.declared.refusals.Refusal.{Refusal}
-use Rattle.replica_core.specs.declared.refusals.Refusal.TheVariants as core_refusal
 use Rattle.replica_core.specs.Info.{settled_at, visible_of, reopen, recover_setup, recover_stream}
 use Rattle.replica_core.specs.Transitions.{Outcome, transition, record_after, state_after, present, with_writer, set_writer, new_transition, done}
 use Rattle.replica_core.specs.Transitions as core
 use Rattle.replica_core.specs.Views.{rule_in, written_in, stamp_in}
-use Rattle.replica_core.proofs.InfoLemmas.{present_is, reopen_is, recover_setup_is, recover_stream_is}
+use Rattle.replica_core.proofs.InfoLemmas.{reopen_is, recover_setup_is, recover_stream_is}
 use Rattle.replica_model.specs.declared.events.ReplicaEvent.TheVariants as replica_event
-use Rattle.replica_model.specs.Rows.{FullReplica, IsFull, row, row_answer, broken}
+use Rattle.replica_model.specs.Rows.{FullReplica, row, broken}
 use Rattle.request_refusals.specs.declared.refusals.RequestRefusal.{RequestRefusal}
 use Rattle.request_refusals.specs.declared.refusals.RequestRefusal.TheVariants as refusal
 use Rattle.request_refusals.specs.Pools.{is_in_pool}
@@ -40,26 +39,24 @@ use Rattle.member_core.specs.declared.member.Mirror.TheVariants as mirror
 use Rattle.member_core.specs.declared.requests.SetupKind.{SetupKind}
 use Rattle.member_core.specs.declared.requests.SetupKind.TheVariants as kind
 use Rattle.member_core.specs.declared.requests.TheConstants.{MAX_BELOW, MAX_PORT}
-use Rattle.member_core.specs.Members.{MemberState, mirror_for, set_up, set_up_at}
+use Rattle.member_core.specs.Members.{MemberState, set_up, set_up_at}
 use Rattle.member_core.specs.Requests.{setup_with, rule_for, named_setup, named_rule, setup_event, request_event, request_from, request_to, mirror_request, response_of}
-use Rattle.member_core.specs.Steps.{Setup, request_at, refused_request, booked_request, refused_by, request_step, faulted_request}
+use Rattle.member_core.specs.Steps.{Setup, request_at, refused_request, booked_request, refused_by, faulted_request}
 use Rattle.world.specs.Parts.{Message, request, response, Dialled, by_member, Break}
 use Rattle.world.specs.Worlds.{World, Dial, Change, dial_at, past_after, apply}
-use Rattle.world.specs.Connections.{sent_on}
-use Rattle.world.specs.Nodes.{node_of, node_on, replica_at, block_of, broke_at, joined_at, upward_message, sent_up, mirror_node, runs_there, is_asked, mirror_dial, dials_of, member_dials, mirror_conn, lower_of, setup_change, failing_write, write_request}
+use Rattle.world.specs.Nodes.{node_of, node_on, replica_at, block_of, broke_at, joined_at, sent_up, mirror_node, is_asked, mirror_dial, dials_of, setup_change, failing_write, write_request}
 use Rattle.world.specs.Safe.{Has}
 use Rattle.world_facts.proofs.Tables.{if-each}
 use Rattle.world_stamps.specs.Stamping.{Givens}
-use Rattle.world_bytes.specs.Carrying.{stamp_set, new_stamp, WriteSays, ReplicaSays}
+use Rattle.world_bytes.specs.Carrying.{stamp_set, new_stamp, WriteSays}
 use Rattle.world_bytes.proofs.Asking.{first-dial}
 use Rattle.world_bytes.proofs.Frame.{Each, each-nil, each-one}
 use Rattle.world_bytes.proofs.Leaves.{Facts, sent-each}
 use Rattle.world_setups.specs.Joining.{joined_as}
 use Rattle.world_setups.proofs.Rising.{event-goes, event-broken}
-use Rattle.world_acks.specs.Acking.{Shown, Seat, Asked, Seated, IsPipe, least_of, promised, SetUpFrom, Ends, UpTells, DownTells, Mirrors, UpperTells, MemberTells, LowerTells, PendingTells, Pends, Acked}
+use Rattle.world_acks.specs.Acking.{Shown, Seat, Asked, IsPipe, least_of, promised, Ends, UpTells, DownTells, UpperTells, Pends}
 use Rattle.world_acks.proofs.Shows.{stream-open}
-use Rattle.world_acks.proofs.Seats.{has-right, has-one, Steps, steps-row, steps-same, Onward, asked-on, pipe-on}
-use Rattle.world_acks.proofs.Frame.{News}
+use Rattle.world_acks.proofs.Seats.{has-right, has-one, Steps, steps-row, steps-same}
 use Rattle.world_acks.proofs.Turning.{Known, shown-says}
 use Rattle.world_acks.proofs.Lowers.{Leaf, still-numbers, aside-begun, after-at, same-pends, row-pends, row-steps}
 
@@ -292,16 +289,19 @@ dialled-new w k i d e = ap (λ (o : Option Dial). unwrap_or (option_map (λ (x :
 
 mirror-tells : (g : Givens) (t : Ends) (w : World) (k : Change) (c : ℕ) (f : WriteFields) (i : ℕ) (d : Dial) → Facts g w → ((c : ℕ) → k.downs c ≡ []) → slice_get k.dials i ≡ Some d → Asked (past_after w k) c f → DialsMirror w c f d
     → DownTells g t (apply w k) (w.next_conn + i) d.request × UpperTells (past_after w k) (w.next_conn + i) d.dialled.upper
-mirror-tells g t w k c f i d h none e a x = (subst (λ (m : Message). DownTells g t (apply w k) (w.next_conn + i) m) (sym x.request_is) tt, subst (λ u. UpperTells (past_after w k) (w.next_conn + i) u) (sym x.upper) (record {
-  fields = f;
-  asked = a;
-  source = x.source;
-  first = x.first;
-  rest = x.rest;
-  targets = x.targets;
-  node = x.node ∙ ap (λ (y : Dialled). Some y.to.node) (sym (dialled-new w k i d e));
-  mirror = record { first = first-dial g w k i d h none e ∙ ap (λ (m : Message). Some m) x.request_is };
-}))
+mirror-tells g t w k c f i d h none e a x = (
+  subst (λ (m : Message). DownTells g t (apply w k) (w.next_conn + i) m) (sym x.request_is) tt,
+  subst (λ u. UpperTells (past_after w k) (w.next_conn + i) u) (sym x.upper) (record {
+    fields = f;
+    asked = a;
+    source = x.source;
+    first = x.first;
+    rest = x.rest;
+    targets = x.targets;
+    node = x.node ∙ ap (λ (y : Dialled). Some y.to.node) (sym (dialled-new w k i d e));
+    mirror = record { first = first-dial g w k i d h none e ∙ ap (λ (m : Message). Some m) x.request_is };
+  }),
+)
 
 -- TAKEN
 

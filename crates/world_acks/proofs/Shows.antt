@@ -1,6 +1,6 @@
 -- What a replica shows stays shown, whatever is booked but an update.
-use Rattle.std.proofs.Common.{◌≡◌, ℕ, ◌≤◌, ◌<◌, Bool, true, false, List, [], ◌++◌, length, take, slice_get, Option, Some, None, IfSome, Result, Ok, Err, refl, sym, ◌∙◌, ap, subst, arith}
-use Rattle.std.specs.Prelude.{max, not, is_none, negsuc, if◌then◌else◌}
+use Rattle.std.proofs.Common.{◌≡◌, ℕ, ◌≤◌, Bool, true, false, List, ◌++◌, length, take, slice_get, Option, Some, None, IfSome, Result, Ok, refl, sym, ◌∙◌, ap, subst, arith}
+use Rattle.std.specs.Prelude.{max, not, is_none, negsuc}
 use Rattle.std.specs.Ordering.{int_eq}
 use Rattle.std.proofs.lemmas.Bool.Decides.{nat_tests}
 use Rattle.std.proofs.lemmas.Bool.{false≢true}
@@ -29,7 +29,7 @@ use Rattle.replica_core.specs.Views.{written_in, written_at}
 use Rattle.replica_model.specs.declared.events.ReplicaEvent.{ReplicaEvent}
 use Rattle.replica_model.specs.Rows.{FullReplica, IsFull, row, event_at, brought}
 use Rattle.world_bytes.proofs.Fronts.{front-take, front-takes}
-use Rattle.world_setups.specs.Joining.{AtLeast, IsPlain, Rises}
+use Rattle.world_setups.specs.Joining.{AtLeast, Rises}
 use Rattle.world_setups.proofs.Rising.{Goes}
 use Rattle.world_acks.specs.Acking.{Shown}
 

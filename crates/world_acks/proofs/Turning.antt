@@ -1,6 +1,6 @@
 -- What the turns of members book and send.
-use Rattle.std.proofs.Common.{◌≡◌, ℕ, ℤ, zero, suc, ◌<◌, ◌≤◌, ◌⊎◌, inl, inr, Bool, true, false, List, [], ◌∷◌, ◌++◌, take, length, slice_get, Option, Some, None, IfSome, Result, Ok, Err, refl, sym, ◌∙◌, ap, subst, arith, eqb-true}
-use Rattle.std.specs.Prelude.{◌==◌, ◌&&◌, max, option_map, if◌then◌else◌}
+use Rattle.std.proofs.Common.{◌≡◌, ℕ, ℤ, zero, suc, ◌≤◌, ◌⊎◌, inl, inr, Bool, true, false, List, [], ◌∷◌, length, slice_get, Option, Some, None, IfSome, Ok, Err, refl, sym, ◌∙◌, ap, subst, arith, eqb-true}
+use Rattle.std.specs.Prelude.{◌==◌, max, option_map}
 use Rattle.std.specs.Ordering.{int_eq}
 use Rattle.std.proofs.lemmas.Bool.{eqb-false, false≢true}
 use Rattle.std.proofs.lemmas.Bool.Decides.{nat_tests}
@@ -23,41 +23,33 @@ use Rattle.replica_core.specs.declared.events.Answer.TheVariants as core_answer
 use Rattle.replica_core.specs.declared.events.Event.TheVariants as event
 use Rattle.replica_core.specs.declared.info.ReplicaInfo.{ReplicaInfo}
 use Rattle.replica_core.specs.declared.records.ReplicaRecord.{ReplicaRecord}
-use Rattle.replica_core.specs.declared.refusals.Refusal.{Refusal}
 use Rattle.replica_core.specs.declared.streams.Stream.{Stream}
 use Rattle.replica_core.specs.Info.{state_of, state_under, is_writable, visible_of, advance_acked, close_stream}
 use Rattle.replica_core.specs.Sound.{IsConsistent, IsWritable}
-use Rattle.replica_core.specs.Transitions.{Outcome, Taken, transition, present, stream_by, oldest_of, acknowledge, done, answer_of, reply, is_written_by, state_after}
+use Rattle.replica_core.specs.Transitions.{Outcome, Taken, transition, present, stream_by, oldest_of, acknowledge, done, answer_of, reply}
 use Rattle.replica_core.specs.Views.{written_at, state_in}
 use Rattle.replica_core.proofs.InfoLemmas.{present_is, stream_by_is, oldest_is}
 use Rattle.replica_core.proofs.StepLemmas.{step_ok}
 use Rattle.replica_model.specs.declared.events.ReplicaEvent.{ReplicaEvent}
 use Rattle.replica_model.specs.declared.events.ReplicaEvent.TheVariants as replica_event
-use Rattle.replica_model.specs.Rows.{FullReplica, IsFull, row, row_answer}
+use Rattle.replica_model.specs.Rows.{FullReplica, IsFull, row}
 use Rattle.member_core.specs.declared.effects.SetupAnswer.{SetupAnswer}
 use Rattle.member_core.specs.declared.effects.SetupAnswer.TheVariants as answer
-use Rattle.member_core.specs.declared.effects.Shuts.{Shuts}
-use Rattle.member_core.specs.declared.effects.Upward.{Upward}
-use Rattle.member_core.specs.declared.effects.Upward.TheVariants as upward
 use Rattle.member_core.specs.declared.inputs.FromAbove.{FromAbove}
 use Rattle.member_core.specs.declared.inputs.FromAbove.TheVariants as above
-use Rattle.member_core.specs.declared.inputs.FromBelow.{FromBelow}
-use Rattle.member_core.specs.declared.inputs.FromBelow.TheVariants as below
 use Rattle.member_core.specs.declared.member.Mirror.{Mirror}
 use Rattle.member_core.specs.declared.member.Mirror.TheVariants as mirror
-use Rattle.member_core.specs.declared.turns.Booked.{Booked}
 use Rattle.member_core.specs.declared.turns.Booked.TheVariants as booked
 use Rattle.member_core.specs.declared.turns.Turn.{Turn}
 use Rattle.member_core.specs.Acks.{is_success, failures, begins_with_bad_sum, is_read, are_replies, with_own}
-use Rattle.member_core.specs.Members.{MemberState, down_turn, up_turn, up_at, setup_turn, answered_turn, accept_turn, fail_turn, stream_turn, ack_turn, pass_turn, failed_turn, good_turn, partial_turn, spoiled_turn, give_up_turn, named_bad, ready_turn, ready_at, quiet_turn, idle_turn, patient_turn, bad_turn}
+use Rattle.member_core.specs.Members.{down_turn, up_turn, up_at, setup_turn, answered_turn, accept_turn, fail_turn, stream_turn, ack_turn, pass_turn, failed_turn, good_turn, partial_turn, spoiled_turn, give_up_turn, named_bad, ready_turn, ready_at, quiet_turn, idle_turn, patient_turn, bad_turn}
 use Rattle.member_core.specs.Requests.{response_of, request_from}
 use Rattle.member_core.specs.Steps.{booked_as, outcome_of, replica_after, oldest_at}
 use Rattle.world.specs.Connections.{Next, message, the_end}
-use Rattle.world.specs.Parts.{Message, request, packet, ack, response, read_status, recovery_answer, Dialled, FullMember}
+use Rattle.world.specs.Parts.{request, packet, ack, response, read_status, recovery_answer, FullMember}
 use Rattle.world.specs.Worlds.{World}
 use Rattle.world.specs.Nodes.{below_of, node_of, node_on, replica_at, block_of, upward_message}
-use Rattle.world.specs.Safe.{Has}
-use Rattle.world_facts.proofs.Tables.{if-each, and-left, some-weaker}
+use Rattle.world_facts.proofs.Tables.{if-each, and-left}
 use Rattle.world_stamps.specs.Stamping.{Givens}
 use Rattle.world_bytes.specs.Carrying.{new_stamp, Sets, Holds, SetFor, ReplicaSays}
 use Rattle.replica_model.specs.Found.{IsFront}

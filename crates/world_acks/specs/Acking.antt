@@ -1,5 +1,5 @@
 -- What answers to setups and acks say of the replicas below them.
-use Rattle.std.specs.Prelude.{ℕ, ℤ, pos, ◌≡◌, ◌<◌, ◌≤◌, ◌⊎◌, Bool, true, false, List, [], ◌∷◌, length, take, slice_get, Option, Some, None, IfSome}
+use Rattle.std.specs.Prelude.{ℕ, ℤ, pos, ◌≡◌, ◌<◌, ◌≤◌, ◌⊎◌, true, false, List, [], ◌∷◌, length, take, slice_get, Option, Some, IfSome}
 use Rattle.hd_base.specs.declared.numbers.Stamp.{Stamp}
 use Rattle.op_headers.specs.declared.nodes.NodeRef.{NodeRef}
 use Rattle.op_headers.specs.declared.ops.Op.TheVariants as op
