@@ -1,6 +1,6 @@
 -- FINALIZED replicas have their stamps' lengths after every list of events.
-use Rattle.std.proofs.Common.{◌≡◌, ℕ, ◌<◌, Bool, true, false, List, [], ◌∷◌, Option, Some, None, IfSome, refl, sym, ◌∙◌, subst, arith}
-use Rattle.std.specs.Prelude.{◌&&◌, not, nat_lt, if◌then◌else◌}
+use Rattle.std.proofs.Common.{◌≡◌, ℕ, ◌<◌, Bool, true, false, List, [], ◌∷◌, Option, Some, None, IfSome, refl, sym, subst, arith}
+use Rattle.std.specs.Prelude.{◌&&◌, not, nat_lt}
 use Rattle.std.proofs.lemmas.Bool.Decides.{nat_tests}
 use Rattle.std.proofs.lemmas.Bool.{false≢true}
 use Rattle.std.proofs.lemmas.Option.{none-some}
@@ -12,9 +12,9 @@ use Rattle.world.specs.declared.events.Event.{Event}
 use Rattle.world.specs.declared.events.Event.TheVariants as event
 use Rattle.world.specs.declared.events.OwnStep.{OwnStep}
 use Rattle.world.specs.declared.events.OwnStep.TheVariants as own
-use Rattle.world.specs.Parts.{Upper, by_writer, by_member, by_reader, by_primary, Break}
+use Rattle.world.specs.Parts.{Upper, by_writer, by_member, by_reader, by_primary}
 use Rattle.world.specs.Worlds.{World, Change, Stamped, apply, start}
-use Rattle.world.specs.Connections.{Next, message, the_end, next_down, next_up, down_taken, up_taken, is_served}
+use Rattle.world.specs.Connections.{Next, next_down, next_up, down_taken, up_taken, is_served}
 use Rattle.world.specs.Nodes.{lower_down, lower_ready}
 use Rattle.world.specs.Clients.{writer_up, reader_up}
 use Rattle.world.specs.Primaries.{office_event, primary_up}
@@ -25,7 +25,6 @@ use Rattle.world_replicas.specs.Filling.{IsBreak}
 use Rattle.world_replicas.proofs.FilledLaws.{all-filled}
 use Rattle.world_stamps.specs.Stamping.{Givens, none_given, given_with, stamped_in, given_by, given_in, Recorded}
 use Rattle.world_stamps.proofs.AllRecorded.{happens-recorded, Reached, reached-next, reached-agreed, start-recorded}
-use Rattle.world_stamps.proofs.Recording.{Agreed}
 use Rattle.world_bytes.specs.Carrying.{Carried}
 use Rattle.world_bytes.proofs.Leaves.{Facts}
 use Rattle.world_bytes.proofs.Ends.{lower-ready-keeps}
@@ -34,8 +33,8 @@ use Rattle.world_setups.proofs.AllSetUp.{served-life}
 use Rattle.world_recoveries.specs.Recovering.{Recovering}
 use Rattle.world_recoveries.proofs.AllRecovering.{sent-down, down-taken-fits, happens-fits, reached-writes, start-fits}
 use Rattle.world_finals.specs.Finishing.{Ids, no_ids, ids_with, ids_by, ids_in, Finals}
-use Rattle.world_finals.proofs.Frame.{News, keeps, stays-so}
-use Rattle.world_finals.proofs.Nodes.{Makes, Known, beside-ends, makes-news, Taking, lower-down-makes, lower-ready-makes, mirror-up-makes}
+use Rattle.world_finals.proofs.Frame.{keeps, stays-so}
+use Rattle.world_finals.proofs.Nodes.{Makes, beside-ends, makes-news, lower-down-makes, lower-ready-makes, mirror-up-makes}
 use Rattle.world_finals.proofs.Clients.{Brings, own-writer-brings, writer-up-brings, own-reader-brings, reader-up-brings}
 use Rattle.world_finals.proofs.Steps.{OfficeBrings, own-recover-brings, own-primary-brings, primary-up-brings, writer-asks-brings, primary-asks-brings}
 use Rattle.world_finals.proofs.Still.{same-finals, down-taken-final, up-taken-final, stop-final, lost-final, restart-final}

@@ -1,7 +1,6 @@
 -- What writers and readers make of sessions at their end.
-use Rattle.std.proofs.Common.{◌≡◌, ℕ, zero, suc, ◌<◌, ◌+◌, ◌⊎◌, inl, inr, Bool, true, false, List, [], ◌∷◌, length, slice_get, Option, Some, None, IfSome, Result, Ok, Err, refl, sym, ◌∙◌, ap, subst, arith, eqb-true}
-use Rattle.std.specs.Prelude.{◌==◌, ◌&&◌, ◌++◌, is_none, not, if◌then◌else◌}
-use Rattle.std.proofs.lemmas.Bool.{false≢true}
+use Rattle.std.proofs.Common.{◌≡◌, ℕ, zero, suc, ◌<◌, ◌+◌, ◌⊎◌, inl, inr, Bool, true, false, List, [], ◌∷◌, length, slice_get, Option, Some, None, IfSome, Result, Ok, Err, refl, sym, ◌∙◌, ap, subst, eqb-true}
+use Rattle.std.specs.Prelude.{◌==◌, ◌&&◌, ◌++◌, is_none, not}
 use Rattle.std.proofs.lemmas.Option.{none-some, same_Some}
 use Rattle.hd_base.specs.declared.numbers.BlockId.{BlockId}
 use Rattle.hd_base.specs.declared.numbers.NodeId.{NodeId}
@@ -9,15 +8,11 @@ use Rattle.hd_base.specs.declared.numbers.Stamp.{Stamp}
 use Rattle.hd_base.specs.SumRules.{Rule}
 use Rattle.name_core.specs.Offices.{OfficeState}
 use Rattle.op_headers.specs.declared.ops.Op.{Op}
-use Rattle.op_headers.specs.declared.ops.Op.TheVariants as op
 use Rattle.op_headers.specs.declared.ops.ReadOp.{ReadOp}
-use Rattle.op_headers.specs.Values.{WriteFields}
 use Rattle.packet_codec.specs.declared.packets.Packet.{Packet}
-use Rattle.packet_stream.specs.Streams.{StreamState, begun, packet_end, written_in}
+use Rattle.packet_stream.specs.Streams.{StreamState, packet_end, written_in}
 use Rattle.replica_model.specs.Rows.{FullReplica}
-use Rattle.member_core.specs.declared.requests.SetupKind.{SetupKind}
 use Rattle.member_core.specs.declared.requests.SetupKind.TheVariants as kind
-use Rattle.member_core.specs.Requests.{setup_with}
 use Rattle.read_core.specs.Readings.{ReadTaken, take_from}
 use Rattle.read_core.specs.declared.reading.ReadTurn.{ReadTurn}
 use Rattle.read_core.specs.declared.reading.ReadTurn.TheVariants as turn
@@ -38,21 +33,20 @@ use Rattle.writer_core.specs.declared.commands.CommandFault.{CommandFault}
 use Rattle.writer_core.specs.declared.intake.Intake.{Intake}
 use Rattle.writer_core.specs.Commands.{admitted}
 use Rattle.world.specs.declared.events.TakenCommand.{TakenCommand}
-use Rattle.world.specs.Parts.{Message, request, packet, read_status, Told, Writing, Reader, no_reader, reads, has_read, Primary, Break}
+use Rattle.world.specs.Parts.{Message, request, packet, Told, Writing, Reader, no_reader, reads, has_read, Primary, Break}
 use Rattle.world.specs.Worlds.{World, Dial, Stamped, Change, put, past_after, latest_with, apply}
 use Rattle.world.specs.Connections.{Next, is_conn, sent_on}
-use Rattle.world.specs.Clients.{command_bytes, dialled_change, dialling, did, from_node_of, is_empty, is_formed, own_reader, own_reader_as, own_writer, reader_dials, reader_turn, reader_up, reader_up_as, rest_in, ruled, takes_command, takes_step, writer_change, writer_hears, writer_step, writer_up, writing_as}
-use Rattle.world_facts.specs.Growing.{Grows}
-use Rattle.world_facts.proofs.Tables.{if-each, when-each, and-left, and-right, some-weaker}
-use Rattle.world_stamps.specs.Stamping.{Givens, known_heard, heard, Recorded}
+use Rattle.world.specs.Clients.{command_bytes, dialled_change, dialling, did, from_node_of, is_empty, is_formed, own_reader, own_reader_as, own_writer, reader_dials, reader_turn, reader_up, reader_up_as, rest_in, ruled, takes_command, writer_change, writer_hears, writer_step, writer_up}
+use Rattle.world_facts.proofs.Tables.{if-each, when-each, and-right, some-weaker}
+use Rattle.world_stamps.specs.Stamping.{Givens, known_heard, heard}
 use Rattle.world_stamps.proofs.Walking.{none-is}
 use Rattle.world_stamps.proofs.Givens.{put-here}
-use Rattle.world_bytes.specs.Carrying.{new_stamp, Sets, ConnSays, StreamOf, Streams, kind_of, AsksFor, Asks, WriterSays, Carried}
+use Rattle.world_bytes.specs.Carrying.{new_stamp, ConnSays, StreamOf, Streams, kind_of, AsksFor, Asks, WriterSays, Carried}
 use Rattle.world_bytes.proofs.Leaves.{Facts}
 use Rattle.world_bytes.proofs.Writing.{of-latest, Requested, requested}
 use Rattle.world_recoveries.specs.Recovering.{HasId}
-use Rattle.world_finals.specs.Finishing.{Ids, writes_no_more, Sealed, EndsAt, WriteEnds, LastEnds, DownEnds, ReplicaEnds, BreakEnds, SetsNoId, WriterEnds, Finals}
-use Rattle.world_finals.proofs.Writers.{Follows, follows-same, follows-then, hears-follows, dialled-follows, SendsEnd, OwnEnds, opened-ends, completed-ends, own-step-ends, TakenEnds, command-ends}
+use Rattle.world_finals.specs.Finishing.{Ids, writes_no_more, EndsAt, WriteEnds, LastEnds, DownEnds, ReplicaEnds, BreakEnds, SetsNoId, WriterEnds, Finals}
+use Rattle.world_finals.proofs.Writers.{Follows, follows-same, follows-then, hears-follows, dialled-follows, SendsEnd, OwnEnds, opened-ends, completed-ends, own-step-ends, command-ends}
 use Rattle.world_finals.proofs.Frame.{Ends, replica-stays, break-stays, sets-grow, grown, News, stays-so}
 
 -- WHAT A CLIENT BRINGS

@@ -1,29 +1,20 @@
 -- The turns of members that book an end or an ack.
 use Rattle.replica_core.specs.declared.events.Event.TheVariants as event
-use Rattle.std.proofs.Common.{◌≡◌, ℕ, ℤ, Bool, true, false, List, Option, Some, None, IfSome, refl}
+use Rattle.std.proofs.Common.{ℤ, Bool, true, false, List, Option, Some, None, IfSome}
 use Rattle.std.specs.Prelude.{◌==◌}
-use Rattle.std.proofs.lemmas.Bool.{false≢true}
 use Rattle.hd_base.specs.declared.states.Status.{Status}
 use Rattle.ack_codec.specs.declared.responses.Response.{Response}
 use Rattle.replica_core.specs.declared.ack_queue.PendingPacket.{PendingPacket}
-use Rattle.replica_core.specs.declared.refusals.Refusal.{Refusal}
-use Rattle.replica_core.specs.declared.refusals.Refusal.TheVariants as refusal
 use Rattle.replica_model.specs.declared.events.ReplicaEvent.{ReplicaEvent}
 use Rattle.replica_model.specs.declared.events.ReplicaEvent.TheVariants as replica_event
-use Rattle.member_core.specs.declared.effects.Shuts.{Shuts}
-use Rattle.member_core.specs.declared.effects.Shuts.TheVariants as shuts
 use Rattle.member_core.specs.declared.inputs.FromAbove.TheVariants as above
 use Rattle.member_core.specs.declared.inputs.FromBelow.{FromBelow}
 use Rattle.member_core.specs.declared.inputs.FromBelow.TheVariants as below
 use Rattle.member_core.specs.declared.member.Mirror.{Mirror}
 use Rattle.member_core.specs.declared.member.Mirror.TheVariants as mirror
-use Rattle.member_core.specs.declared.turns.Booked.{Booked}
-use Rattle.member_core.specs.declared.turns.Booked.TheVariants as booked
-use Rattle.member_core.specs.declared.turns.Side.{Side}
-use Rattle.member_core.specs.declared.turns.Side.TheVariants as side
 use Rattle.member_core.specs.declared.turns.Turn.{Turn}
 use Rattle.member_core.specs.Acks.{is_success, failures, begins_with_bad_sum, is_read}
-use Rattle.member_core.specs.Members.{MemberState, down_turn, up_turn, up_at, setup_turn, answered_turn, accept_turn, fail_turn, stream_turn, ack_turn, pass_turn, failed_turn, good_turn, partial_turn, spoiled_turn, give_up_turn, named_bad, ready_turn, ready_at, quiet_turn, idle_turn, patient_turn, closed, closed_by, bad_sum, settled}
+use Rattle.member_core.specs.Members.{MemberState, down_turn, up_turn, up_at, setup_turn, answered_turn, accept_turn, fail_turn, stream_turn, ack_turn, pass_turn, failed_turn, good_turn, partial_turn, spoiled_turn, give_up_turn, named_bad, ready_turn, ready_at, quiet_turn, idle_turn, patient_turn}
 use Rattle.world_facts.proofs.Tables.{if-each}
 
 -- an end or an ack

@@ -1,7 +1,7 @@
 -- FINALIZED replicas agree.
-use Rattle.std.proofs.Common.{◌≡◌, ℕ, ◌≤◌, true, false, List, [], ◌++◌, length, take, Option, Some, None, IfSome, refl, sym, ◌∙◌, ap, subst, arith}
+use Rattle.std.proofs.Common.{◌≡◌, ℕ, ◌≤◌, false, List, length, take, Option, Some, None, IfSome, refl, sym, ◌∙◌, ap, subst}
 use Rattle.std.proofs.lemmas.Bool.{false≢true}
-use Rattle.std.proofs.lemmas.Option.{none-some, same_Some}
+use Rattle.std.proofs.lemmas.Option.{same_Some}
 use Rattle.hd_base.specs.declared.numbers.Stamp.{Stamp}
 use Rattle.hd_base.specs.declared.states.ReplicaState.{ReplicaState}
 use Rattle.hd_base.specs.declared.states.ReplicaState.TheVariants as state
@@ -13,7 +13,7 @@ use Rattle.replica_model.specs.Found.{IsFront}
 use Rattle.world.specs.declared.events.Event.{Event}
 use Rattle.world.specs.Worlds.{World, start}
 use Rattle.world.specs.Events.{run}
-use Rattle.world.specs.Safe.{Final, IsFinal, Agree}
+use Rattle.world.specs.Safe.{Final, Agree}
 use Rattle.world_replicas.proofs.FilledLaws.{all-filled}
 use Rattle.name_core.specs.declared.records.BlockRecord.{BlockRecord}
 use Rattle.writer_core.specs.declared.records.WriterRecord.{WriterRecord}

@@ -1,5 +1,5 @@
 -- What lower ends make of FINALIZED replicas.
-use Rattle.std.proofs.Common.{◌≡◌, ℕ, zero, suc, ◌<◌, ◌+◌, ◌⊎◌, inl, inr, Bool, true, false, List, [], ◌∷◌, length, nat_abs, slice_get, Option, Some, None, IfSome, Result, Ok, Err, IfOk, refl, sym, ◌∙◌, ap, subst, arith}
+use Rattle.std.proofs.Common.{◌≡◌, ℕ, zero, suc, ◌<◌, ◌+◌, ◌⊎◌, inl, inr, Bool, true, false, List, [], length, slice_get, Option, Some, None, IfSome, Result, Ok, Err, IfOk, refl, sym, ◌∙◌, ap, subst}
 use Rattle.std.specs.Prelude.{◌==◌, nat_le, if◌then◌else◌}
 use Rattle.std.proofs.lemmas.Bool.{false≢true}
 use Rattle.std.proofs.lemmas.Option.{none-some, same_Some}
@@ -7,7 +7,6 @@ use Rattle.hd_base.specs.Results.{◌>>=◌}
 use Rattle.hd_base.specs.SumRules.{Rule}
 use Rattle.hd_base.specs.declared.numbers.ConnId.{ConnId}
 use Rattle.hd_base.specs.declared.numbers.Stamp.{Stamp}
-use Rattle.hd_base.specs.declared.states.ReplicaState.TheVariants as state
 use Rattle.op_headers.specs.declared.ops.Op.{Op}
 use Rattle.op_headers.specs.declared.ops.Op.TheVariants as op
 use Rattle.op_headers.specs.declared.ops.ReadOp.{ReadOp}
@@ -24,7 +23,7 @@ use Rattle.replica_core.specs.declared.info.ReplicaInfo.{ReplicaInfo}
 use Rattle.replica_core.specs.declared.records.ReplicaRecord.{ReplicaRecord}
 use Rattle.replica_core.specs.declared.streams.Stream.{Stream}
 use Rattle.name_core.specs.Offices.{OfficeState}
-use Rattle.replica_core.specs.Transitions.{stream_by, is_written_by}
+use Rattle.replica_core.specs.Transitions.{is_written_by}
 use Rattle.replica_core.proofs.InfoLemmas.{stream_by_is}
 use Rattle.replica_core.specs.Views.{rule_in}
 use Rattle.replica_model.specs.declared.events.ReplicaEvent.{ReplicaEvent}
@@ -33,41 +32,39 @@ use Rattle.replica_model.specs.Rows.{FullReplica, event_at, row, broken}
 use Rattle.request_refusals.specs.declared.refusals.RequestRefusal.{RequestRefusal}
 use Rattle.request_refusals.specs.declared.refusals.RequestRefusal.TheVariants as refusal
 use Rattle.request_refusals.specs.Pools.{is_in_pool}
-use Rattle.member_core.specs.declared.inputs.FromAbove.{FromAbove}
-use Rattle.member_core.specs.declared.inputs.FromAbove.TheVariants as above
 use Rattle.member_core.specs.declared.member.Mirror.{Mirror}
 use Rattle.member_core.specs.declared.member.Mirror.TheVariants as mirror
 use Rattle.member_core.specs.declared.requests.SetupKind.{SetupKind}
 use Rattle.member_core.specs.declared.requests.SetupKind.TheVariants as kind
 use Rattle.member_core.specs.declared.requests.TheConstants.{MAX_BELOW}
 use Rattle.member_core.specs.declared.turns.Turn.{Turn}
-use Rattle.member_core.specs.Members.{MemberState, down_turn, up_turn, hears, settled}
+use Rattle.member_core.specs.Members.{MemberState, down_turn, up_turn, hears}
 use Rattle.member_core.specs.Requests.{setup_with, rule_for, named_setup, named_rule, setup_event, mirror_request, request_event}
-use Rattle.member_core.specs.Steps.{Step, Setup, step, faulted_step, replica_after, outcome_of, request_at, request_step, booked_request, refused_by, faulted_request, oldest_at, ready_turn_at}
+use Rattle.member_core.specs.Steps.{Step, Setup, step, faulted_step, replica_after, outcome_of, request_at, request_step, booked_request, faulted_request, oldest_at, ready_turn_at}
 use Rattle.read_core.specs.Servings.{ServingState, read_at, read_event, next_call, call_at, piece_at}
 use Rattle.read_core.specs.declared.serving.ServePhase.{ServePhase}
 use Rattle.read_core.specs.declared.serving.ServePhase.TheVariants as serve_phase
 use Rattle.recovery_core.specs.declared.members.RecoveryReply.{RecoveryReply}
-use Rattle.recovery_core.specs.Members.{Served, no_recovery, step_event, recovery_event, served_as, serve_faulted}
+use Rattle.recovery_core.specs.Members.{no_recovery, step_event, recovery_event, served_as, serve_faulted}
 use Rattle.world.specs.Parts.{Message, request, packet, ack, response, read_status, recovery_answer, FullMember, Lower, idle, writes, serves, recovers, ended_below, Writing, Primary, Break}
 use Rattle.world.specs.Worlds.{World, Dial, Change, apply}
-use Rattle.world.specs.Connections.{Next, message, the_end, is_alive, sent_on}
-use Rattle.world.specs.Nodes.{node_of, replica_at, block_of, first_break, broke_at, closing, unless_failing, above_of, below_of, passed, member_change, failing_turn, turn_change, pending_at, takes_next, member_down, member_up, ready_change, member_ready, mirror_node, is_asked, mirror_dial, dials_of, member_dials, setup_change, failing_write, write_request, breaking, read_change, failing_read, read_request, piece_as, serve_change, recovery_change, failing_recovery, recovery_request, first_message, next_recovery, lower_down, lower_ready, mirror_up}
+use Rattle.world.specs.Connections.{Next, message, the_end, is_alive}
+use Rattle.world.specs.Nodes.{node_of, replica_at, block_of, first_break, broke_at, closing, unless_failing, above_of, below_of, passed, member_change, failing_turn, turn_change, pending_at, takes_next, member_down, member_up, ready_change, mirror_node, is_asked, mirror_dial, dials_of, member_dials, setup_change, failing_write, write_request, breaking, read_change, failing_read, read_request, piece_as, serve_change, recovery_change, failing_recovery, recovery_request, first_message, next_recovery, lower_down, lower_ready, mirror_up}
 use Rattle.world_facts.proofs.Tables.{if-each, when-each, some-weaker}
-use Rattle.world_stamps.specs.Stamping.{Givens, heard, Recorded}
-use Rattle.world_bytes.specs.Carrying.{new_stamp, stamp_set, Sets, WriteSays, DownSays, Holds, SetFor, MemberSays, LowerSays, Carried}
-use Rattle.world_bytes.proofs.Frame.{Each, each-nil, each-one, each-cons}
+use Rattle.world_stamps.specs.Stamping.{Givens, heard}
+use Rattle.world_bytes.specs.Carrying.{new_stamp, stamp_set, Sets, Holds, SetFor, MemberSays, LowerSays}
+use Rattle.world_bytes.proofs.Frame.{Each, each-nil, each-one}
 use Rattle.world_bytes.proofs.Leaves.{Facts, Beside, sent-if}
 use Rattle.world_bytes.proofs.Rows.{sets-once}
-use Rattle.world_bytes.proofs.Turns.{Idles, up-idles, follows}
+use Rattle.world_bytes.proofs.Turns.{up-idles, follows}
 use Rattle.world_bytes.proofs.Asking.{IsOn, mirror-on}
 use Rattle.world_recoveries.specs.Recovering.{Updates, HasId, Recovering}
 use Rattle.world_recoveries.proofs.Laws.{keep-finalized}
 use Rattle.world_recoveries.proofs.Lowers.{SentDown}
 use Rattle.world_finals.specs.Finishing.{Ids, writes_no_more, EndsAt, WriteEnds, LastEnds, DownEnds, ReplicaEnds, BreakEnds, SetsNoId, WriterEnds, Finals}
-use Rattle.world_finals.proofs.Rows.{Ended, EventEnds, Before, Leaves, leaves-same, event-leaves}
-use Rattle.world_finals.proofs.Frame.{Ends, StampBelow, Stays, replica-stays, break-stays, down-stays, down-below, News, stays-so}
-use Rattle.world_finals.proofs.Idle.{IsIdle, Idle, end-idle, up-idle, ready-idle}
+use Rattle.world_finals.proofs.Rows.{Ended, EventEnds, Before, Leaves, event-leaves}
+use Rattle.world_finals.proofs.Frame.{Ends, StampBelow, replica-stays, break-stays, down-stays, down-below, News, stays-so}
+use Rattle.world_finals.proofs.Idle.{IsIdle, Idle, up-idle, ready-idle}
 
 -- WHAT A NODE'S CHANGE MAKES
 

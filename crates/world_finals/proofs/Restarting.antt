@@ -1,8 +1,7 @@
 -- What a restart finds FINALIZED has the length of its stamp.
-use Rattle.std.proofs.Common.{◌≡◌, ℕ, ◌≤◌, inl, inr, Bool, true, false, List, [], length, Option, Some, None, IfSome, refl, sym, ◌∙◌, ap, subst, arith, eqb-true}
-use Rattle.std.specs.Prelude.{◌==◌, ◌+◌, if◌then◌else◌, slice_get}
+use Rattle.std.proofs.Common.{◌≡◌, ℕ, inl, inr, Bool, true, false, List, [], length, Option, Some, None, IfSome, refl, sym, ◌∙◌, subst}
 use Rattle.std.proofs.lemmas.Bool.{false≢true}
-use Rattle.std.proofs.lemmas.Option.{none-some, same_Some}
+use Rattle.std.proofs.lemmas.Option.{none-some}
 use Rattle.hd_base.specs.declared.numbers.Stamp.{Stamp}
 use Rattle.hd_base.specs.declared.states.ReplicaState.{ReplicaState}
 use Rattle.hd_base.specs.declared.states.ReplicaState.TheVariants as state
@@ -14,16 +13,15 @@ use Rattle.replica_model.specs.Rows.{FullReplica, IsFull, row}
 use Rattle.replica_model.proofs.RowLemmas.{rows_keep_bytes}
 use Rattle.replica_model.specs.Plans.{plan, has_changing}
 use Rattle.replica_model.specs.Found.{Found, found_as, found_whole, settled_state, MayFindBetween, waits_old_before, waits_old_after, waits_new_before, waits_new_after, stays_final, becomes_final, cut_final, MayFindNew, MayFindReceived, MayFindChanged, MayFindAmid, MayFindWithin}
-use Rattle.world.specs.declared.events.FoundReplica.{FoundReplica}
 use Rattle.world.specs.Parts.{Break}
-use Rattle.world.specs.Worlds.{World, put}
-use Rattle.world.specs.Restarts.{found_in, replica_found, restarted, restart}
-use Rattle.world_facts.proofs.Tables.{if-each, some-weaker}
+use Rattle.world.specs.Worlds.{World}
+use Rattle.world.specs.Restarts.{replica_found, restarted}
+use Rattle.world_facts.proofs.Tables.{if-each}
 use Rattle.world_replicas.specs.Filling.{IsBreak}
 use Rattle.world_replicas.specs.Finding.{MayFindAt}
 use Rattle.world_replicas.proofs.FoundLaws.{restarts-find}
 use Rattle.world_stamps.specs.Stamping.{Givens}
-use Rattle.world_finals.specs.Finishing.{Ids, EndsAt, FinalLength, of_recovery, of_session, IsFinalOf, LastPending, ReplicaEnds, KeepsFinal, BreakEnds, Finals}
+use Rattle.world_finals.specs.Finishing.{Ids, FinalLength, IsFinalOf, ReplicaEnds, KeepsFinal, BreakEnds, Finals}
 
 -- WHAT IS FOUND
 

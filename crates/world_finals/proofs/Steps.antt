@@ -1,8 +1,8 @@
 -- What primaries and the office make of sessions at their end.
-use Rattle.std.proofs.Common.{◌≡◌, ℕ, zero, suc, ◌<◌, ◌≤◌, ◌+◌, ◌⊎◌, inl, inr, Bool, true, false, List, [], ◌∷◌, slice_get, length, Option, Some, None, IfSome, Result, Ok, Err, refl, sym, ◌∙◌, ap, subst, arith, eqb-true}
+use Rattle.std.proofs.Common.{◌≡◌, ℕ, ◌<◌, ◌≤◌, ◌+◌, ◌⊎◌, inl, inr, Bool, true, false, List, [], ◌∷◌, slice_get, length, Option, Some, None, IfSome, Ok, Err, refl, sym, ◌∙◌, ap, subst, arith, eqb-true}
 use Rattle.std.specs.Prelude.{◌==◌, ◌&&◌, is_none, if◌then◌else◌}
-use Rattle.std.proofs.lemmas.Bool.{false≢true, eqb-false}
-use Rattle.std.proofs.lemmas.Option.{none-some, same_Some}
+use Rattle.std.proofs.lemmas.Bool.{eqb-false}
+use Rattle.std.proofs.lemmas.Option.{none-some}
 use Rattle.hd_base.specs.declared.numbers.BlockId.{BlockId}
 use Rattle.hd_base.specs.declared.numbers.NodeId.{NodeId}
 use Rattle.hd_base.specs.declared.numbers.Stamp.{Stamp}
@@ -12,13 +12,10 @@ use Rattle.name_core.specs.declared.calls.OfficeAnswer.TheVariants as office
 use Rattle.name_core.specs.declared.calls.OfficeCall.{OfficeCall}
 use Rattle.name_core.specs.declared.calls.OfficeCall.TheVariants as call
 use Rattle.name_core.specs.declared.choice.Chosen.{Chosen}
-use Rattle.name_core.specs.declared.faults.OfficeFault.{OfficeFault}
-use Rattle.name_core.specs.Offices.{OfficeState, office_case, office_after, answer_to}
+use Rattle.name_core.specs.Offices.{OfficeState, office_after, answer_to}
 use Rattle.name_core.specs.Steps.{Step, reply}
 use Rattle.name_core.proofs.CaseLemmas.{each_case}
 use Rattle.op_headers.specs.declared.ops.Op.TheVariants as op
-use Rattle.op_headers.specs.declared.ops.RecoveryOp.{RecoveryOp}
-use Rattle.op_headers.specs.declared.ops.RecoveryKind.TheVariants as recovery_kind
 use Rattle.recovery_core.specs.declared.primary.OwnStep.{OwnStep}
 use Rattle.recovery_core.specs.declared.primary.OwnStep.TheVariants as own
 use Rattle.recovery_core.specs.declared.primary.Recovered.{Recovered}
@@ -41,23 +38,22 @@ use Rattle.writer_core.specs.declared.phases.Setup.TheVariants as setup
 use Rattle.writer_core.specs.declared.phases.Waiting.{Waiting}
 use Rattle.writer_core.specs.declared.records.WriterRecord.{WriterRecord}
 use Rattle.writer_core.specs.Transitions.{take_first, free_step_as, failed_command, failed_first, failed_step_as, stamp_call, dial_step_as, accepted_step, form_step, reached_length, reach_step_as, due_now, due_step, stream_step_as, step_in, own_step, granted}
-use Rattle.world.specs.Parts.{Message, request, Place, by_primary, Told, Writing, Leading, Primary, no_primary, was_told, leads, has_led, Break}
-use Rattle.world.specs.Worlds.{World, Dial, Stamped, Change, put, past_after, latest_with, apply}
+use Rattle.world.specs.Parts.{Message, request, Place, Told, Writing, Leading, Primary, no_primary, was_told, leads, has_led, Break}
+use Rattle.world.specs.Worlds.{World, Dial, Stamped, Change, put, latest_with, apply}
 use Rattle.world.specs.Connections.{Next, is_alive, place_of}
 use Rattle.world.specs.Clients.{are_members}
-use Rattle.world.specs.Primaries.{primary_change, dials_answered, recovery_message, begins_with, begins_as, begins_at, own_recover, updates_change, ends_change, leads_step, commits_step, leads_told, own_primary_as, own_primary, heard_of, listens, hears_change, primary_up_as, primary_up, stamped_by, session_begun, base_of, asks_writer, asks_primary, writer_asks, writer_asks_office, primary_commits, primary_asks}
+use Rattle.world.specs.Primaries.{primary_change, dials_answered, recovery_message, begins_with, begins_as, begins_at, own_recover, updates_change, ends_change, leads_step, commits_step, leads_told, own_primary_as, own_primary, heard_of, listens, hears_change, primary_up_as, primary_up, stamped_by, asks_writer, asks_primary, writer_asks, writer_asks_office, primary_commits, primary_asks}
 use Rattle.world_facts.proofs.Tables.{if-each, when-each, and-left, some-weaker}
 use Rattle.world_sessions.proofs.OfficeSteps.{block_in}
-use Rattle.world_stamps.specs.Stamping.{Givens, given_with, known_heard, heard, Recorded}
+use Rattle.world_stamps.specs.Stamping.{Givens, given_with, known_heard, heard}
 use Rattle.world_stamps.proofs.Givens.{put-here}
 use Rattle.world_stamps.proofs.Recording.{gives, others-latest}
 use Rattle.world_stamps.proofs.Walking.{none-is}
-use Rattle.world_bytes.proofs.Frame.{Each}
 use Rattle.world_bytes.proofs.Leaves.{Facts, before-of}
 use Rattle.world_bytes.proofs.Offices.{office-extends, Answered, old-written}
 use Rattle.world_recoveries.specs.Recovering.{ToldId, HasId}
 use Rattle.world_recoveries.proofs.Choosing.{own-updates}
-use Rattle.world_recoveries.proofs.Leading.{chosen_op, SentTo, updates-at, DialOf, dial-of, heard-id, BegunNext, begun-next, id-below}
+use Rattle.world_recoveries.proofs.Leading.{chosen_op, updates-at, dial-of, heard-id}
 use Rattle.world_finals.specs.Finishing.{Ids, ids_with, writes_no_more, Sealed, EndsAt, DownEnds, ReplicaEnds, BreakEnds, SetsNoId, WriterEnds, Finals}
 use Rattle.world_finals.proofs.Writers.{BeginsSession, StampNoId, AnswerEnds, granted-ends}
 use Rattle.world_finals.proofs.Frame.{Stays, Ends, sets-stays, replica-stays, break-stays, grown, News, stays-so}

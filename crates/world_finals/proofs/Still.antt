@@ -1,26 +1,25 @@
 -- Events that change marks, lives and replicas alone.
-use Rattle.std.proofs.Common.{◌≡◌, ℕ, ◌<◌, ◌≤◌, ◌+◌, Bool, true, false, List, [], ◌++◌, length, slice_get, Option, Some, None, IfSome, refl, sym, ◌∙◌, ap, subst, arith, append-nil, eqb-true}
+use Rattle.std.proofs.Common.{◌≡◌, ℕ, ◌<◌, Bool, true, false, List, [], length, slice_get, Some, None, IfSome, refl, sym, ◌∙◌, ap, subst}
 use Rattle.std.specs.Prelude.{◌==◌, if◌then◌else◌}
 use Rattle.hd_base.specs.declared.numbers.Stamp.{Stamp}
 use Rattle.name_core.specs.Offices.{OfficeState}
-use Rattle.replica_model.specs.Rows.{FullReplica, IsFull}
+use Rattle.replica_model.specs.Rows.{FullReplica}
 use Rattle.world.specs.declared.events.Direction.{Direction}
 use Rattle.world.specs.declared.events.Direction.TheVariants as direction
-use Rattle.world.specs.declared.events.Event.{Event}
 use Rattle.world.specs.declared.events.FoundReplica.{FoundReplica}
-use Rattle.world.specs.Parts.{Message, Writing, Primary, Break}
-use Rattle.world.specs.Worlds.{Past, World, put}
+use Rattle.world.specs.Parts.{Writing, Primary}
+use Rattle.world.specs.Worlds.{Past, World}
 use Rattle.world.specs.Connections.{Next, down_taken, up_taken}
 use Rattle.world.specs.Restarts.{found_in, restarted, restart}
 use Rattle.world.specs.Events.{lost, stop}
-use Rattle.world_facts.specs.Growing.{Begins, Grows}
+use Rattle.world_facts.specs.Growing.{Grows}
 use Rattle.world_facts.proofs.GrowthLaws.{run-grows}
 use Rattle.world_facts.proofs.Tables.{some-weaker}
 use Rattle.world_replicas.specs.Filling.{IsBreak}
 use Rattle.world_stamps.specs.Stamping.{Givens, heard}
 use Rattle.world_bytes.proofs.Leaves.{Facts}
 use Rattle.world_recoveries.specs.Recovering.{HasId}
-use Rattle.world_finals.specs.Finishing.{Ids, Sealed, EndsAt, ReplicaEnds, BreakEnds, SetsNoId, WriterEnds, Finals}
+use Rattle.world_finals.specs.Finishing.{Ids, Sealed, ReplicaEnds, BreakEnds, SetsNoId, WriterEnds, Finals}
 use Rattle.world_finals.proofs.Frame.{Stays, replica-stays, break-stays, down-below, down-stays}
 use Rattle.world_finals.proofs.Restarting.{restarted-ends}
 

@@ -1,6 +1,6 @@
 -- What a writer does keeps a session at its end.
-use Rattle.std.proofs.Common.{◌≡◌, ℕ, zero, suc, ◌+◌, ◌-◌, ◌⊎◌, inl, inr, Bool, true, false, List, [], ◌∷◌, ◌++◌, drop, slice_get, Option, Some, None, Result, Ok, Err, refl, sym, ◌∙◌, ap, subst, arith}
-use Rattle.std.specs.Prelude.{◌==◌, ◌&&◌, ◌||◌, not, nat_le, nat_lt, if◌then◌else◌, pos, ℤ, length, ◌≤◌}
+use Rattle.std.proofs.Common.{◌≡◌, ℕ, zero, suc, ◌⊎◌, inl, inr, Bool, true, false, List, [], ◌∷◌, ◌++◌, drop, slice_get, Option, Some, None, Result, Ok, Err, refl, sym, ◌∙◌, ap, subst, arith}
+use Rattle.std.specs.Prelude.{◌&&◌, ◌||◌, not, nat_le, nat_lt, if◌then◌else◌, pos, ℤ, length}
 use Rattle.std.proofs.lemmas.Bool.{false≢true}
 use Rattle.std.proofs.lemmas.Option.{none-some, same_Some}
 use Rattle.hd_base.specs.declared.numbers.NodeId.{NodeId}
@@ -14,7 +14,7 @@ use Rattle.name_core.specs.declared.records.TheConstants.{MAX_APPEND_LENGTH}
 use Rattle.name_core.specs.declared.faults.OfficeFault.{OfficeFault}
 use Rattle.name_core.specs.declared.faults.OfficeFault.TheVariants as fault
 use Rattle.packet_codec.specs.declared.packets.Packet.{Packet}
-use Rattle.packet_stream.specs.Streams.{StreamState, written_in, packet_end, start_in, next_packet, sync_packet, last_packet, acked_packet, oldest_acked, oldest_is_last, is_last}
+use Rattle.packet_stream.specs.Streams.{StreamState, written_in, packet_end, start_in, next_packet, sync_packet, acked_packet, oldest_acked, oldest_is_last, is_last}
 use Rattle.packet_stream.specs.Extents.{greatest_end}
 use Rattle.packet_stream.specs.declared.stream.TheConstants.{MAX_UNACKED}
 use Rattle.writer_core.specs.declared.actions.Action.{Action}
@@ -25,7 +25,6 @@ use Rattle.writer_core.specs.declared.commands.Command.TheVariants as command
 use Rattle.writer_core.specs.declared.commands.CommandFault.{CommandFault}
 use Rattle.writer_core.specs.declared.commands.CommandFault.TheVariants as command_fault
 use Rattle.writer_core.specs.declared.intake.Intake.{Intake}
-use Rattle.writer_core.specs.declared.intake.Stand.{Stand}
 use Rattle.writer_core.specs.declared.phases.DuePacket.{DuePacket}
 use Rattle.writer_core.specs.declared.phases.DuePacket.TheVariants as due
 use Rattle.writer_core.specs.declared.phases.Failure.{Failure}
@@ -43,8 +42,8 @@ use Rattle.writer_core.specs.declared.phases.Waiting.{Waiting}
 use Rattle.writer_core.specs.declared.phases.Waiting.TheVariants as waiting
 use Rattle.writer_core.specs.declared.records.WriterRecord.{WriterRecord}
 use Rattle.writer_core.specs.Commands.{stand_after, is_open, fits, admitted, intake_after, is_too_much}
-use Rattle.writer_core.specs.Phases.{remedy_after, remedy_accepted, remedy_in, remedy_at_ack, is_success, bad_place, ack_verdict, without}
-use Rattle.writer_core.specs.Transitions.{Step, begin_session, failure_answer, given_as, given, taken_as, take_first, free_step_as, failed_first, failed_command, failed_step_as, dial_step_as, open_step, accepted_step, completed_step, due_in, due_now, data_due, empty_due, is_flushing, ends_sync, sync_formed_as, form_step, reached_length, reach_step_as, due_step, stream_step_as, step_in, own_step, dropped, fail_for, fail_named, fail_at, ended_as, ended, phase_acked, acked_oldest, acked_as, acked_in, acked, setup_answered_in, setup_answered, dialled_in, dialled, refused, stamped, reopened, stamp_given, phase_committed, committed_as, commit_given, complete_given, granted_in, granted_as, granted, asks, opening, wrote, waits_as, took}
+use Rattle.writer_core.specs.Phases.{remedy_after, remedy_accepted, remedy_in, remedy_at_ack, is_success, without}
+use Rattle.writer_core.specs.Transitions.{Step, begin_session, failure_answer, given_as, given, taken_as, take_first, free_step_as, failed_first, failed_command, failed_step_as, dial_step_as, open_step, accepted_step, completed_step, due_in, due_now, data_due, empty_due, is_flushing, sync_formed_as, form_step, reached_length, reach_step_as, due_step, stream_step_as, step_in, own_step, dropped, fail_for, fail_named, fail_at, ended_as, ended, phase_acked, acked_oldest, acked_as, acked_in, acked, setup_answered_in, setup_answered, dialled_in, dialled, refused, stamped, reopened, stamp_given, committed_as, commit_given, complete_given, granted_in, granted_as, granted, asks, opening, took}
 use Rattle.world.specs.Connections.{Next, message, the_end}
 use Rattle.world.specs.Parts.{request, packet, ack, response, read_status, recovery_answer}
 use Rattle.world.specs.Clients.{command_bytes, is_empty, named_member, writer_hears}

@@ -1,8 +1,7 @@
 -- Recoveries fit after every list of events.
-use Rattle.std.proofs.Common.{◌≡◌, ℕ, ◌<◌, ◌≤◌, ◌+◌, Bool, true, false, List, [], ◌∷◌, slice_get, Option, Some, None, IfSome, refl, sym, ◌∙◌, ap, subst, arith, eqb-true}
+use Rattle.std.proofs.Common.{◌≡◌, ℕ, ◌<◌, ◌≤◌, ◌+◌, Bool, true, false, List, [], ◌∷◌, Option, Some, None, IfSome, refl, sym, ap, subst, arith, eqb-true}
 use Rattle.std.specs.Prelude.{◌==◌, ◌&&◌, not, nat_lt, if◌then◌else◌}
 use Rattle.std.proofs.lemmas.Bool.Decides.{nat_tests}
-use Rattle.std.proofs.lemmas.Bool.{eqb-false}
 use Rattle.std.proofs.lemmas.Option.{none-some}
 use Rattle.hd_base.specs.declared.numbers.Stamp.{Stamp}
 use Rattle.replica_model.specs.Rows.{FullReplica}
@@ -18,11 +17,11 @@ use Rattle.world.specs.declared.events.FoundReplica.{FoundReplica}
 use Rattle.world.specs.declared.events.OwnStep.{OwnStep}
 use Rattle.world.specs.declared.events.OwnStep.TheVariants as own
 use Rattle.world.specs.Parts.{Upper, by_writer, by_member, by_reader, by_primary}
-use Rattle.world.specs.Worlds.{World, Change, Stamped, put, apply, start}
+use Rattle.world.specs.Worlds.{World, Change, Stamped, apply, start}
 use Rattle.world.specs.Connections.{Next, message, the_end, next_down, next_up, down_taken, up_taken, is_alive, is_served}
 use Rattle.world.specs.Nodes.{node_of, lower_down, lower_ready}
 use Rattle.world.specs.Clients.{own_writer, own_reader, writer_up, reader_up}
-use Rattle.world.specs.Primaries.{office_event, writer_asks_office, primary_up, primary_asks}
+use Rattle.world.specs.Primaries.{office_event, writer_asks_office, primary_up}
 use Rattle.world.specs.Restarts.{all_found, found_in, restarted, restart}
 use Rattle.world.specs.Events.{changed, own_change, down_as, down_event, ready_event, unless_fails, upper_up, up_as, up_event, fault_event, lost, stop, where_so, outcome, after_event, happens, run}
 use Rattle.world_facts.proofs.Tables.{when-each, and-left, and-right, some-weaker}
@@ -34,14 +33,14 @@ use Rattle.world_bytes.proofs.Leaves.{Facts}
 use Rattle.world_bytes.proofs.Ends.{lower-ready-keeps}
 use Rattle.world_bytes.proofs.Offices.{office-event-keeps}
 use Rattle.world_bytes.proofs.AllCarried.{next-sent, down-taken-facts, up-taken-facts, changed-carried, down-as-carried, up-as-carried, own-keeps, office-carried, happens-carried, reached-facts, at-start, start-carried}
-use Rattle.world_setups.specs.Joining.{IsSetUp, SetUps}
+use Rattle.world_setups.specs.Joining.{IsSetUp}
 use Rattle.world_setups.proofs.AllSetUp.{served-life, given-stays, all-set}
 use Rattle.world_recoveries.specs.Recovering.{ReplicaTold, Informs, InfoFits, StillTrue, Recovering}
-use Rattle.world_recoveries.proofs.Frame.{News, keeps}
+use Rattle.world_recoveries.proofs.Frame.{keeps}
 use Rattle.world_recoveries.proofs.Leading.{SentUp}
 use Rattle.world_recoveries.proofs.Quiet.{Quiet, Brings, quiet-news, quiet-brings}
 use Rattle.world_recoveries.proofs.Clients.{own-writer-quiet, writer-up-quiet, writer-asks-quiet, own-reader-quiet, reader-up-quiet}
-use Rattle.world_recoveries.proofs.Lowers.{Taking, SentDown, lower-down-brings, lower-ready-quiet, mirror-up-quiet}
+use Rattle.world_recoveries.proofs.Lowers.{SentDown, lower-down-brings, lower-ready-quiet, mirror-up-quiet}
 use Rattle.world_recoveries.proofs.Steps.{own-recover-brings, own-primary-brings, primary-up-brings, primary-asks-brings}
 
 -- RBW replicas were set up in the life of their nodes

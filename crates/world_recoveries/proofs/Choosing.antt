@@ -1,6 +1,6 @@
 -- What a primary chooses, and from what it was told.
 use Rattle.std.proofs.Common.{◌≡◌, ℕ, zero, suc, ◌≤◌, Bool, true, false, cond, List, [], ◌∷◌, map, slice_get, Option, Some, None, IfSome, Result, Ok, Err, refl, sym, ◌∙◌, ap, subst, arith, eqb-true, min}
-use Rattle.std.specs.Prelude.{◌==◌, ◌&&◌, ◌||◌, not, find, filter, zip, option_map, if◌then◌else◌}
+use Rattle.std.specs.Prelude.{◌==◌, ◌&&◌, ◌||◌, not, find, filter, option_map}
 use Rattle.std.proofs.lemmas.Bool.{false≢true}
 use Rattle.std.proofs.lemmas.Option.{none-some, same_Some}
 use Rattle.hd_base.specs.Results.{◌>>=◌}
@@ -22,7 +22,6 @@ use Rattle.recovery_core.specs.declared.standings.Standing.TheVariants as standi
 use Rattle.recovery_core.specs.Primaries.{PrimaryState, waits, infos, updated_members, is_among, all_after_choice, OwnTaken, taken, choosing, committing, own_at, own_step}
 use Rattle.world.specs.Safe.{Has}
 use Rattle.world_facts.proofs.Tables.{if-each, and-left, and-right}
-use Rattle.world_bytes.proofs.Frame.{Each}
 use Rattle.world_bytes.proofs.Leading.{least-is}
 use Rattle.world_setups.proofs.Nodes.{has-cons}
 

@@ -20,12 +20,11 @@ use Rattle.writer_core.specs.declared.records.WriterRecord.{WriterRecord}
 use Rattle.writer_core.specs.Requests.{request_for}
 use Rattle.writer_core.specs.Transitions.{given, granted, dialled, own_step, dial_step, dial_step_as, open_step, completed_step}
 use Rattle.writer_core.specs.Transitions as writer
-use Rattle.world.specs.declared.events.Caller.{Caller}
 use Rattle.world.specs.declared.events.TakenCommand.{TakenCommand}
 use Rattle.replica_model.specs.Rows.{FullReplica}
 use Rattle.world.specs.Parts.{Message, request, packet, by_writer, by_reader, by_primary, Told, Reader, no_reader, reads, has_read}
 use Rattle.world.specs.Worlds.{World, Dial, Change}
-use Rattle.world.specs.Connections.{Next, is_conn, sent_on}
+use Rattle.world.specs.Connections.{Next, is_conn}
 use Rattle.world.specs.Clients.{command_bytes, dialled_change, dialling, did, from_node_of, is_empty, is_formed, own_reader, own_reader_as, own_writer, reader_dials, reader_turn, reader_up, reader_up_as, rest_in, ruled, takes_command, takes_step, writer_change, writer_hears, writer_step, writer_up}
 use Rattle.world.specs.Primaries.{asks_writer, writer_asks, writer_asks_office}
 use Rattle.world_facts.proofs.Tables.{when-each}

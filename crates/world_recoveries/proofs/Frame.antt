@@ -1,25 +1,22 @@
 -- What a change leaves of what is known of recoveries, and what is needed of what is new in it.
-use Rattle.std.proofs.Common.{◌≡◌, ℕ, zero, suc, ◌<◌, ◌≤◌, ◌+◌, ◌-◌, ◌⊎◌, inl, inr, Bool, true, false, List, [], ◌∷◌, ◌++◌, length, slice_get, Option, Some, None, IfSome, refl, sym, ◌∙◌, ap, subst, arith, eqb-true}
-use Rattle.std.specs.Prelude.{◌==◌, ◌&&◌, if◌then◌else◌, option_map, unwrap_or}
+use Rattle.std.proofs.Common.{◌≡◌, ℕ, ◌<◌, ◌≤◌, ◌+◌, ◌-◌, ◌⊎◌, inl, inr, false, length, slice_get, Option, Some, None, IfSome, refl, sym, ◌∙◌, ap, subst, arith, eqb-true}
+use Rattle.std.specs.Prelude.{◌==◌, option_map, unwrap_or}
 use Rattle.std.proofs.lemmas.Bool.{eqb-false}
-use Rattle.std.proofs.lemmas.Option.{none-some, same_Some}
 use Rattle.hd_base.specs.declared.numbers.Stamp.{Stamp}
 use Rattle.op_headers.specs.declared.answers.RecoveryAnswer.{RecoveryAnswer}
 use Rattle.op_headers.specs.declared.ops.Op.TheVariants as op
 use Rattle.op_headers.specs.declared.ops.RecoveryOp.{RecoveryOp}
 use Rattle.op_headers.specs.declared.ops.RecoveryKind.TheVariants as kind
-use Rattle.replica_core.specs.declared.info.ReplicaInfo.{ReplicaInfo}
 use Rattle.replica_model.specs.Rows.{FullReplica}
-use Rattle.world.specs.Parts.{Message, request, recovery_answer, by_primary, Dialled, Primary}
+use Rattle.world.specs.Parts.{request, recovery_answer, by_primary, Dialled, Primary}
 use Rattle.world.specs.Worlds.{Past, World, Dial, Change, put, put_at, dial_at, dialled_with, past_after, apply}
-use Rattle.world_facts.specs.Growing.{Grows}
 use Rattle.world_facts.proofs.Tables.{if-each, put-each}
 use Rattle.world_stamps.specs.Stamping.{Givens}
-use Rattle.world_bytes.specs.Carrying.{Recovers, InfoSays, UpSays, Carried}
+use Rattle.world_bytes.specs.Carrying.{InfoSays, Carried}
 use Rattle.world_bytes.proofs.Frame.{past-grows, dial-place, dial-none}
 use Rattle.world_setups.proofs.Nodes.{put-at-split}
 use Rattle.world_recoveries.specs.Recovering.{ReplicaTold, Informs, Updates, Agrees, StillTrue, InfoFits, UpdateFits, NoUpdates, HasId, LeadFits, SendsFits, IsPlacedIn, Recovering}
-use Rattle.world_recoveries.proofs.Histories.{split-get, begins-get, first-once, informs-later, agrees-later, info-later, update-later, lead-later, Same, sends-later, NewDown, was_sent, is_sent, is_dialled, new-down}
+use Rattle.world_recoveries.proofs.Histories.{split-get, begins-get, first-once, agrees-later, info-later, update-later, lead-later, sends-later, NewDown, was_sent, is_sent, is_dialled, new-down}
 use Rattle.world_recoveries.proofs.Holding.{Moves, still-moves}
 
 -- WHAT IS NEW

@@ -1,30 +1,24 @@
 -- What was told and sent stays, and what a change adds to it.
-use Rattle.std.proofs.Common.{◌≡◌, ℕ, zero, suc, ◌<◌, ◌≤◌, ◌+◌, ◌-◌, ◌⊎◌, inl, inr, Bool, true, false, List, [], ◌∷◌, ◌++◌, length, slice_get, Option, Some, None, IfSome, Ok, Err, refl, sym, ◌∙◌, ap, subst, arith}
-use Rattle.std.specs.Prelude.{option_map, unwrap_or}
+use Rattle.std.proofs.Common.{◌≡◌, ℕ, zero, suc, ◌+◌, ◌-◌, ◌⊎◌, inl, inr, List, [], ◌∷◌, ◌++◌, slice_get, Option, Some, None, Ok, Err, refl, sym, ◌∙◌, ap, subst, arith}
+use Rattle.std.specs.Prelude.{option_map}
 use Rattle.std.proofs.lemmas.Option.{none-some, same_Some}
-use Rattle.hd_base.specs.declared.numbers.NodeId.{NodeId}
 use Rattle.hd_base.specs.declared.numbers.Stamp.{Stamp}
-use Rattle.hd_base.specs.declared.states.ReplicaState.{ReplicaState}
-use Rattle.hd_base.specs.declared.states.ReplicaState.TheVariants as state
 use Rattle.name_core.specs.declared.calls.OfficeAnswer.TheVariants as office
-use Rattle.op_headers.specs.declared.answers.RecoveryAnswer.{RecoveryAnswer}
 use Rattle.op_headers.specs.declared.ops.Op.TheVariants as op
 use Rattle.op_headers.specs.declared.ops.RecoveryOp.{RecoveryOp}
 use Rattle.op_headers.specs.declared.ops.RecoveryKind.TheVariants as kind
 use Rattle.recovery_core.specs.declared.primary.Phase.{Phase}
 use Rattle.recovery_core.specs.declared.primary.Phase.TheVariants as phase
-use Rattle.recovery_core.specs.declared.standings.Standing.TheVariants as standing
 use Rattle.recovery_core.specs.Primaries.{request_of}
-use Rattle.world.specs.Parts.{Message, request, recovery_answer, Place, Dialled, Told, Leading, Primary, no_primary, was_told, leads, has_led}
-use Rattle.world.specs.Worlds.{Past, World, Dial, Change, dial_at, listed, dialled_with, downs_with, past_after}
+use Rattle.world.specs.Parts.{Message, request, recovery_answer, Dialled, Told, Leading, Primary, no_primary, was_told, leads, has_led}
+use Rattle.world.specs.Worlds.{Past, World, Dial, Change, dial_at, listed, past_after}
 use Rattle.world.specs.Safe.{Has}
 use Rattle.world_facts.specs.Growing.{Begins, Grows}
 use Rattle.world_stamps.specs.Stamping.{Givens}
-use Rattle.world_bytes.specs.Carrying.{Recovers}
 use Rattle.world_bytes.proofs.Frame.{dial-place}
 use Rattle.world_setups.specs.Joining.{joined_as}
 use Rattle.world_setups.proofs.Nodes.{get-more}
-use Rattle.world_recoveries.specs.Recovering.{ReplicaTold, Informs, Updates, Agrees, InfoFits, ToldOpen, UpdateFits, NoUpdates, HasId, ToldAt, LeadingFits, LeadFits, PhaseSends, ToldSends, SendsFits}
+use Rattle.world_recoveries.specs.Recovering.{ReplicaTold, Informs, Updates, Agrees, InfoFits, ToldOpen, UpdateFits, HasId, ToldAt, LeadingFits, LeadFits, PhaseSends, ToldSends, SendsFits}
 
 -- LISTS
 

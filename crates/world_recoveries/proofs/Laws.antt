@@ -1,15 +1,14 @@
 -- What follows of the lengths of recoveries.
-use Rattle.std.proofs.Common.{◌≡◌, ℕ, ◌≤◌, List, Option, Some, sym, ◌∙◌, ap, subst, arith}
+use Rattle.std.proofs.Common.{◌≡◌, ℕ, ◌≤◌, List, Some, sym, ◌∙◌, ap, subst, arith}
 use Rattle.std.proofs.lemmas.Option.{same_Some}
-use Rattle.hd_base.specs.declared.numbers.Stamp.{Stamp}
 use Rattle.hd_base.specs.declared.states.ReplicaState.TheVariants as state
 use Rattle.replica_core.specs.declared.info.ReplicaInfo.{ReplicaInfo}
 use Rattle.world.specs.declared.events.Event.{Event}
-use Rattle.world.specs.Parts.{Dialled, Place}
+use Rattle.world.specs.Parts.{Place}
 use Rattle.world.specs.Worlds.{World, start}
 use Rattle.world.specs.Events.{run}
 use Rattle.world_stamps.specs.Stamping.{Givens, none_given, given_in}
-use Rattle.world_recoveries.specs.Recovering.{StillTrue, Updates, UpdateFits, Shortens, Recovering, OneLength, UpdatesKeepFinalized}
+use Rattle.world_recoveries.specs.Recovering.{StillTrue, UpdateFits, Recovering, OneLength, UpdatesKeepFinalized}
 use Rattle.world_recoveries.proofs.AllRecovering.{all-recovering}
 
 -- an UPDATE shortens no replica that was FINALIZED

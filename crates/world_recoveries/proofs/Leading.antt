@@ -1,6 +1,6 @@
 -- What primaries do and take.
-use Rattle.std.proofs.Common.{◌≡◌, ℕ, zero, suc, ◌<◌, ◌≤◌, ◌+◌, ◌-◌, ◌⊎◌, inl, inr, Bool, true, false, List, [], ◌∷◌, length, map, slice_get, Option, Some, None, IfSome, Ok, Err, refl, sym, ◌∙◌, ap, subst, arith, eqb-true}
-use Rattle.std.specs.Prelude.{◌==◌, ◌&&◌, nat_le, is_none, zip, slice_set, option_map, unwrap_or, if◌then◌else◌}
+use Rattle.std.proofs.Common.{◌≡◌, ℕ, zero, suc, ◌<◌, ◌+◌, ◌-◌, ◌⊎◌, inl, inr, Bool, true, false, List, [], ◌∷◌, length, map, slice_get, Option, Some, None, Ok, Err, refl, sym, ◌∙◌, ap, subst, arith}
+use Rattle.std.specs.Prelude.{◌&&◌, nat_le, zip, slice_set, option_map, unwrap_or}
 use Rattle.std.proofs.lemmas.Bool.Decides.{nat_tests}
 use Rattle.std.proofs.lemmas.Option.{none-some, same_Some}
 use Rattle.hd_base.specs.declared.numbers.BlockId.{BlockId}
@@ -14,43 +14,40 @@ use Rattle.name_core.specs.declared.calls.OfficeCall.{OfficeCall}
 use Rattle.name_core.specs.declared.calls.OfficeCall.TheVariants as call
 use Rattle.name_core.specs.declared.choice.Chosen.{Chosen}
 use Rattle.name_core.specs.declared.infos.Info.{Info}
-use Rattle.name_core.specs.Offices.{OfficeState, office_case, answer_to}
+use Rattle.name_core.specs.Offices.{OfficeState, answer_to}
 use Rattle.name_core.specs.Steps.{Step, reply}
 use Rattle.name_core.proofs.CaseLemmas.{each_case}
 use Rattle.op_headers.specs.declared.answers.RecoveryAnswer.{RecoveryAnswer}
 use Rattle.op_headers.specs.declared.ops.Op.TheVariants as op
 use Rattle.op_headers.specs.declared.ops.RecoveryOp.{RecoveryOp}
 use Rattle.op_headers.specs.declared.ops.RecoveryKind.TheVariants as kind
-use Rattle.recovery_core.specs.declared.primary.OwnStep.{OwnStep}
 use Rattle.recovery_core.specs.declared.primary.OwnStep.TheVariants as own
 use Rattle.recovery_core.specs.declared.primary.Phase.{Phase}
-use Rattle.recovery_core.specs.declared.primary.Phase.TheVariants as phase
 use Rattle.recovery_core.specs.declared.primary.Recovered.{Recovered}
 use Rattle.recovery_core.specs.declared.standings.Heard.{Heard}
 use Rattle.recovery_core.specs.declared.standings.Heard.TheVariants as heard
 use Rattle.recovery_core.specs.declared.standings.Standing.{Standing}
 use Rattle.recovery_core.specs.declared.standings.Standing.TheVariants as standing
-use Rattle.recovery_core.specs.Primaries.{PrimaryState, told, is_success, informed, updated, after_heard, heard_as, heard_at, asked, begun_with, infos, is_among, when_chosen, after_choice, all_after_choice, own_step, request_of, office_refused, sync_call}
+use Rattle.recovery_core.specs.Primaries.{PrimaryState, told, is_success, after_heard, heard_as, heard_at, asked, begun_with, infos, is_among, when_chosen, after_choice, all_after_choice, own_step, request_of, sync_call}
 use Rattle.replica_model.specs.Rows.{FullReplica}
 use Rattle.world.specs.Parts.{Message, request, packet, ack, response, read_status, recovery_answer, Place, Dialled, by_primary, Told, Leading, Primary, no_primary, was_told, leads, has_led}
 use Rattle.world.specs.Worlds.{Past, World, Dial, Change, put, dial_at, dialled_with, past_after}
 use Rattle.world.specs.Connections.{Next, message, the_end, place_of, is_conn}
-use Rattle.world.specs.Primaries.{primary_change, dials_answered, numbered, primary_dials, recovery_message, leading, begins_with, updates_on, updates_change, ends_change, heard_of, asks_primary}
+use Rattle.world.specs.Primaries.{dials_answered, numbered, primary_dials, leading, begins_with, updates_on, updates_change, heard_of, asks_primary}
 use Rattle.world.specs.Safe.{Has}
-use Rattle.world_facts.specs.Growing.{Grows}
 use Rattle.world_facts.proofs.Tables.{if-each, and-left, and-right}
 use Rattle.world_stamps.specs.Stamping.{Givens}
 use Rattle.world_stamps.proofs.Givens.{put-here}
-use Rattle.world_bytes.specs.Carrying.{IsRecovery, DownSays, RecoverySays, PrimarySays, ToldSays, Carried}
-use Rattle.world_bytes.proofs.Frame.{Each, each-nil, each-cons, past-grows}
+use Rattle.world_bytes.specs.Carrying.{RecoverySays, PrimarySays}
+use Rattle.world_bytes.proofs.Frame.{past-grows}
 use Rattle.world_bytes.proofs.Leaves.{Facts}
 use Rattle.world_bytes.proofs.Leading.{conn-is}
 use Rattle.world_bytes.proofs.Asking.{first-dial}
-use Rattle.world_recoveries.specs.Recovering.{ReplicaTold, Informs, Updates, Agrees, ToldOpen, UpdateFits, NoUpdates, ToldId, HasId, ToldAt, LeadingFits, LeadFits, PhaseSends, ToldSends, SendsFits, IsPlacedIn, Recovering}
-use Rattle.world_recoveries.proofs.Histories.{begins-get, agrees-later, update-later, leading-later, lead-later, Same, sends-later, NewDown, was_sent, is_sent, is_dialled, new-down}
+use Rattle.world_recoveries.specs.Recovering.{ReplicaTold, Informs, Updates, ToldOpen, UpdateFits, NoUpdates, ToldId, HasId, ToldAt, LeadingFits, LeadFits, PhaseSends, ToldSends, SendsFits, IsPlacedIn, Recovering}
+use Rattle.world_recoveries.proofs.Histories.{agrees-later, update-later, leading-later, lead-later, sends-later, NewDown, was_sent, is_sent, is_dialled, new-down}
 use Rattle.world_recoveries.proofs.Holding.{Moves, moves-same}
 use Rattle.world_recoveries.proofs.Choosing.{OpenInfo, ChosenFrom, choice-from, ToldBy, infos-told, after_chosen, Choosing, own-updates}
-use Rattle.world_recoveries.proofs.Frame.{NewInfo, NewUpdate, NewAsk, NewDial, News}
+use Rattle.world_recoveries.proofs.Frame.{NewInfo, NewAsk, NewDial, News}
 
 -- PRIMARIES AS THEY STAND
 

@@ -1,15 +1,12 @@
 -- What lower ends tell in recoveries.
-use Rattle.std.proofs.Common.{◌≡◌, ℕ, zero, suc, ◌<◌, ◌≤◌, Bool, true, false, List, [], ◌∷◌, ◌++◌, length, take, slice_get, Option, Some, None, IfSome, Result, Ok, Err, IfOk, refl, sym, ◌∙◌, ap, subst, arith, eqb-true}
-use Rattle.std.specs.Prelude.{◌==◌, nat_le, option_map, if◌then◌else◌}
-use Rattle.std.proofs.lemmas.Bool.{false≢true}
+use Rattle.std.proofs.Common.{◌≡◌, ℕ, zero, suc, ◌<◌, ◌≤◌, Bool, true, false, List, [], ◌∷◌, ◌++◌, take, slice_get, Option, Some, None, IfSome, Result, Ok, Err, IfOk, refl, sym, ◌∙◌, ap, subst, arith, eqb-true}
+use Rattle.std.specs.Prelude.{◌==◌, if◌then◌else◌}
 use Rattle.std.proofs.lemmas.Option.{none-some, same_Some}
-use Rattle.hd_base.specs.Results.{◌>>=◌}
 use Rattle.hd_base.specs.declared.numbers.BlockId.{BlockId}
 use Rattle.hd_base.specs.declared.numbers.ConnId.{ConnId}
 use Rattle.hd_base.specs.declared.numbers.Stamp.{Stamp}
 use Rattle.hd_base.specs.declared.states.ReplicaState.{ReplicaState}
 use Rattle.hd_base.specs.declared.states.ReplicaState.TheVariants as state
-use Rattle.op_headers.specs.declared.nodes.NodeRef.{NodeRef}
 use Rattle.op_headers.specs.declared.answers.RecoveryAnswer.{RecoveryAnswer}
 use Rattle.op_headers.specs.declared.ops.Op.{Op}
 use Rattle.op_headers.specs.declared.ops.Op.TheVariants as op
@@ -26,7 +23,6 @@ use Rattle.replica_core.specs.declared.events.Event.{Event}
 use Rattle.replica_core.specs.declared.events.Event.TheVariants as event
 use Rattle.replica_core.specs.declared.info.ReplicaInfo.{ReplicaInfo}
 use Rattle.replica_core.specs.declared.records.ReplicaRecord.{ReplicaRecord}
-use Rattle.replica_core.specs.declared.refusals.Refusal.TheVariants as refusal
 use Rattle.replica_core.specs.Info.{begin_recovery, end_recovery}
 use Rattle.replica_core.specs.Transitions.{Outcome, Taken, record_after, transition, present, with_writer, set_writer, done}
 use Rattle.replica_core.specs.Transitions as core
@@ -44,25 +40,24 @@ use Rattle.member_core.specs.declared.member.Mirror.TheVariants as mirror
 use Rattle.member_core.specs.declared.turns.Turn.{Turn}
 use Rattle.member_core.specs.Members.{MemberState, down_turn, up_turn, hears}
 use Rattle.member_core.specs.Requests.{mirror_request, request_event}
-use Rattle.member_core.specs.Steps.{Step, Setup, step, faulted_step, replica_after, request_at, request_step, booked_request, faulted_request, refused_by, oldest_at, ready_turn_at}
+use Rattle.member_core.specs.Steps.{Step, Setup, step, faulted_step, replica_after, request_at, request_step, booked_request, faulted_request, oldest_at, ready_turn_at}
 use Rattle.read_core.specs.Servings.{ServingState, read_at, read_event, next_call, piece_at}
 use Rattle.recovery_core.specs.declared.members.RecoveryReply.{RecoveryReply}
 use Rattle.recovery_core.specs.declared.members.RecoveryReply.TheVariants as reply
 use Rattle.recovery_core.specs.Members.{Served, no_recovery, step_event, recovery_event, reply_to, answer_of, served_as, serve_faulted}
-use Rattle.world.specs.Parts.{Message, request, packet, ack, response, read_status, recovery_answer, by_member, by_primary, Place, Dialled, FullMember, Lower, idle, writes, serves, recovers, ended_below, Break}
-use Rattle.world.specs.Worlds.{Past, World, Dial, Change, past_after, apply}
+use Rattle.world.specs.Parts.{Message, request, packet, ack, response, read_status, recovery_answer, by_member, by_primary, Dialled, FullMember, Lower, idle, writes, serves, recovers, ended_below, Break}
+use Rattle.world.specs.Worlds.{Past, World, Dial, Change, past_after}
 use Rattle.world.specs.Connections.{Next, message, the_end, is_alive, sent_on}
-use Rattle.world.specs.Nodes.{node_of, replica_at, block_of, broke_at, closing, unless_failing, above_of, below_of, sent_up, passed, member_change, failing_turn, turn_change, pending_at, takes_next, member_down, member_up, ready_change, member_ready, mirror_node, is_asked, mirror_dial, dials_of, member_dials, setup_change, failing_write, write_request, breaking, read_change, failing_read, read_request, piece_as, serve_change, recovery_change, failing_recovery, recovery_request, first_message, next_recovery, lower_down, lower_ready, mirror_up}
+use Rattle.world.specs.Nodes.{node_of, replica_at, block_of, broke_at, closing, unless_failing, above_of, below_of, sent_up, passed, member_change, failing_turn, turn_change, pending_at, takes_next, member_down, member_up, ready_change, mirror_node, is_asked, mirror_dial, dials_of, member_dials, setup_change, failing_write, write_request, read_change, failing_read, read_request, piece_as, serve_change, recovery_change, failing_recovery, recovery_request, first_message, next_recovery, lower_down, lower_ready, mirror_up}
 use Rattle.world.specs.Safe.{Has}
-use Rattle.world_facts.specs.Growing.{Grows}
 use Rattle.world_facts.proofs.Tables.{if-each, when-each, some-weaker}
 use Rattle.world_stamps.specs.Stamping.{Givens}
-use Rattle.world_bytes.specs.Carrying.{new_stamp, Sets, MemberSays, LowerSays, Holds, ReplicaSays, Carried}
+use Rattle.world_bytes.specs.Carrying.{new_stamp, Sets, MemberSays, LowerSays, Holds}
 use Rattle.world_bytes.proofs.Frame.{Each, each-nil, each-one, past-grows}
 use Rattle.world_bytes.proofs.Leaves.{Facts, sent-if}
 use Rattle.world_bytes.proofs.Rows.{begin-stamp}
 use Rattle.world_setups.specs.Joining.{joined_as, IsSetUp}
-use Rattle.world_recoveries.specs.Recovering.{ReplicaTold, Agrees, StillTrue, InfoFits, Recovering}
+use Rattle.world_recoveries.specs.Recovering.{ReplicaTold, Agrees, Recovering}
 use Rattle.world_recoveries.proofs.Histories.{begins-get, has-later}
 use Rattle.world_recoveries.proofs.Holding.{Moves, Books, as_before, books, event-moves}
 use Rattle.world_recoveries.proofs.Frame.{NewInfo, News}

@@ -1,5 +1,5 @@
 -- Changes that send nothing of a recovery.
-use Rattle.std.proofs.Common.{◌≡◌, ℕ, zero, suc, ◌⊎◌, inl, inr, List, [], ◌∷◌, ◌++◌, slice_get, Option, Some, None, IfSome, refl, sym, ◌∙◌, ap, subst}
+use Rattle.std.proofs.Common.{◌≡◌, ℕ, suc, inl, List, [], ◌∷◌, ◌++◌, slice_get, Option, Some, None, IfSome, sym, ◌∙◌, subst}
 use Rattle.std.specs.Prelude.{option_map}
 use Rattle.std.proofs.lemmas.Option.{none-some, same_Some}
 use Rattle.hd_base.specs.declared.numbers.Stamp.{Stamp}
@@ -15,7 +15,7 @@ use Rattle.world.specs.Connections.{sent_on}
 use Rattle.world.specs.Nodes.{sent_up}
 use Rattle.world_facts.proofs.Tables.{some-weaker}
 use Rattle.world_stamps.specs.Stamping.{Givens}
-use Rattle.world_bytes.specs.Carrying.{Sets, Recovers, DownSays, RecoverySays, Carried}
+use Rattle.world_bytes.specs.Carrying.{Sets, Recovers, RecoverySays, Carried}
 use Rattle.world_bytes.proofs.Frame.{Each, each-nil, each-one, each-cons, past-grows}
 use Rattle.world_bytes.proofs.Leaves.{Facts, sent-if}
 use Rattle.world_setups.proofs.Nodes.{get-more}

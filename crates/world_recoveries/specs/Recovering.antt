@@ -15,7 +15,7 @@ use Rattle.recovery_core.specs.declared.primary.Phase.TheVariants as phase
 use Rattle.recovery_core.specs.declared.standings.Standing.TheVariants as standing
 use Rattle.recovery_core.specs.Primaries.{request_of}
 use Rattle.world.specs.declared.events.Event.{Event}
-use Rattle.world.specs.Parts.{request, recovery_answer, by_primary, Place, Told, Leading, Primary, no_primary, was_told, leads, has_led}
+use Rattle.world.specs.Parts.{request, recovery_answer, by_primary, Told, Leading, Primary, no_primary, was_told, leads, has_led}
 use Rattle.world.specs.Worlds.{Past, World, start}
 use Rattle.world.specs.Events.{run}
 use Rattle.world.specs.Safe.{Has}
