@@ -35,32 +35,46 @@ fn next(alloc: Global, serving: &Serving) -> Result<FromNode, Fail> {
     Ok(FromNode::Packet(serving.packet(alloc, body)?))
 }
 
+/// The read of the block on which a request, or one of its packets, is served.
+fn event(offset: u64, length: u64) -> Event {
+    Event::Read {
+        named: Stamp(1001),
+        offset,
+        length,
+    }
+}
+
+/// The reader takes the answer to its request.
+fn take_answer(
+    alloc: Global,
+    serving: &Serving,
+    reading: &mut Reading,
+) -> Result<ReadTurn, AllocError> {
+    reading.take(FromNode::Response(serving.response(alloc)))
+}
+
+/// The reader takes the next packet.
+fn take_packet(
+    alloc: Global,
+    serving: &mut Serving,
+    reading: &mut Reading,
+) -> Result<ReadTurn, Fail> {
+    let turn = reading.take(next(alloc, serving)?)?;
+    serving.sent();
+    Ok(turn)
+}
+
 #[test]
 fn what_is_visible_is_read(rt: HostRuntime) -> Result<(), Fail> {
     let alloc = rt.alloc();
     let op = read(alloc, 2, 5)?;
-    let event = Event::Read {
-        named: Stamp(1001),
-        offset: 2,
-        length: 5,
-    };
-    assert_eq!(rt; read_event(&op), Ok(event));
+    assert_eq!(rt; read_event(&op), Ok(event(2, 5)));
     let mut serving = Serving::begin(&op, SumRule::default(), 9);
     let mut reading = Reading::new(alloc, &op);
-    let turn = reading.take(FromNode::Response(serving.response(alloc)))?;
-    assert!(rt; turn == ReadTurn::Goes);
-    let whole = Event::Read {
-        named: Stamp(1001),
-        offset: 0,
-        length: 9,
-    };
-    assert_eq!(rt; serving.next_call(), Some(whole));
-    let turn = reading.take(next(alloc, &serving)?)?;
-    assert!(rt; turn == ReadTurn::Goes);
-    serving.sent();
-    let turn = reading.take(next(alloc, &serving)?)?;
-    assert!(rt; turn == ReadTurn::Verified);
-    serving.sent();
+    assert!(rt; take_answer(alloc, &serving, &mut reading)? == ReadTurn::Goes);
+    assert_eq!(rt; serving.next_call(), Some(event(0, 9)));
+    assert!(rt; take_packet(alloc, &mut serving, &mut reading)? == ReadTurn::Goes);
+    assert!(rt; take_packet(alloc, &mut serving, &mut reading)? == ReadTurn::Verified);
     assert_eq!(rt; serving.next_call(), None);
     serving.end();
     assert_eq!(rt; reading.into_bytes().as_slice(), b"34567".as_slice());

@@ -80,6 +80,11 @@ fn flushed(action: &Action) -> Option<(u64, Stamp, usize)> {
     }
 }
 
+/// The office grants what was asked.
+fn grant(writer: &mut Writer, answer: OfficeAnswer) {
+    writer.granted(&Ok(answer));
+}
+
 /// The first member takes the request.
 fn accept(alloc: Global, writer: &mut Writer) -> Result<(), AllocError> {
     let response = Response {
@@ -107,7 +112,7 @@ fn requested(rt: &impl Abort, alloc: Global, nodes: &[NodeId]) -> Result<Writer,
     writer.command(Command::Create { members })?;
     assert_eq!(rt; step(&mut writer), Kind::Took);
     assert_eq!(rt; step(&mut writer), Kind::Ask);
-    writer.granted(&Ok(OfficeAnswer::Stamp(Stamp(1001))));
+    grant(&mut writer, OfficeAnswer::Stamp(Stamp(1001)));
     dialled(&mut writer).ok_or("a request")?;
     Ok(writer)
 }
@@ -132,11 +137,11 @@ fn fill(rt: &impl Abort, writer: &mut Writer, count: u64) -> Result<(), Fail> {
 /// The pipeline is set up again under a new stamp: what is asked for.
 fn recovered(rt: &impl Abort, alloc: Global, writer: &mut Writer) -> Result<WriteOp, Fail> {
     assert_eq!(rt; step(writer), Kind::Ask);
-    writer.granted(&Ok(OfficeAnswer::Stamp(Stamp(1002))));
+    grant(writer, OfficeAnswer::Stamp(Stamp(1002)));
     let request = dialled(writer).ok_or("a request")?;
     accept(alloc, writer)?;
     assert_eq!(rt; step(writer), Kind::Ask);
-    writer.granted(&Ok(OfficeAnswer::Nothing));
+    grant(writer, OfficeAnswer::Nothing);
     Ok(request)
 }
 
@@ -217,7 +222,7 @@ fn end(rt: &impl Abort, writer: &mut Writer, seqno: i64, length: u64) -> Result<
     assert!(rt; marked(writer) == Some((seqno, true, false)));
     ack(writer, seqno, &[Status::Success])?;
     assert_eq!(rt; step(writer), Kind::Ask);
-    writer.granted(&Ok(OfficeAnswer::Nothing));
+    grant(writer, OfficeAnswer::Nothing);
     assert!(rt; reached(writer) == Some((length, Stamp(1001), 1)));
     Ok(())
 }
@@ -265,21 +270,28 @@ fn closed(rt: &impl Abort, alloc: Global) -> Result<Writer, Fail> {
 /// A writer whose pipeline stands for an append to a block of 600 bytes.
 fn appending(rt: &impl Abort, alloc: Global) -> Result<Writer, Fail> {
     let mut writer = closed(rt, alloc)?;
-    let members = Members::new(&[NodeId(0)]).ok_or("members")?;
-    take(rt, &mut writer, Command::Append { members })?;
-    assert_eq!(rt; step(&mut writer), Kind::Ask);
-    writer.granted(&Ok(OfficeAnswer::Reopened(Reopened {
-        committed: Stamp(1001),
-        length: 600,
-        new: Stamp(1002),
-    })));
+    reopen(rt, &mut writer)?;
     let request = dialled(&mut writer).ok_or("a request")?;
     assert_eq!(rt; request.stage, Stage::PipelineSetupAppend.number());
     accept(alloc, &mut writer)?;
     assert_eq!(rt; step(&mut writer), Kind::Ask);
-    writer.granted(&Ok(OfficeAnswer::Nothing));
+    grant(&mut writer, OfficeAnswer::Nothing);
     assert_eq!(rt; step(&mut writer), Kind::Answered);
     Ok(writer)
+}
+
+/// The writer takes an append, which the office grants.
+fn reopen(rt: &impl Abort, writer: &mut Writer) -> Result<(), Fail> {
+    let members = Members::new(&[NodeId(0)]).ok_or("members")?;
+    take(rt, writer, Command::Append { members })?;
+    assert_eq!(rt; step(writer), Kind::Ask);
+    let reopened = Reopened {
+        committed: Stamp(1001),
+        length: 600,
+        new: Stamp(1002),
+    };
+    grant(writer, OfficeAnswer::Reopened(reopened));
+    Ok(())
 }
 
 #[test]

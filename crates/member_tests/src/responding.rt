@@ -3,22 +3,15 @@
 ghost use Rattle.std.specs.Prelude.{All};
 ghost use Rattle.hd_base.specs.Wire.{IsStatus};
 
+use crate::helpers::{Book, CONN, carried, created, dialled, receipt};
 use ack_codec::{Ack, Replies};
 use bytes::Bytes;
-use hd_base::{BlockId, ConnId, NodeId, Receipt, Roads, Shelf, Stamp, Status, SumKind, SumRule};
-use mem_ports::{MemDrawer, MemRoads, MemShelf};
+use hd_base::Status;
+use mem_ports::MemOut;
 use packet_codec::Packet;
 use packet_responder::{FromBelow, Passed, take_ack};
-use replica_core::Event;
-use replica_files::ReplicaBook;
 use std::alloc::{AllocError, Global};
 use std::test::Fail;
-
-/// The block.
-const BLOCK: BlockId = BlockId(7);
-
-/// The connection.
-const CONN: ConnId = ConnId(0);
 
 /// The packet of the bytes `123456789`, or the last one behind it.
 fn packet(alloc: Global, last: bool) -> Result<Packet, AllocError> {
@@ -37,14 +30,6 @@ fn packet(alloc: Global, last: bool) -> Result<Packet, AllocError> {
     })
 }
 
-/// The block's receipt with this number.
-fn receipt(index: u64) -> Receipt {
-    Receipt {
-        block: BLOCK,
-        index,
-    }
-}
-
 /// The ack of a packet with two SUCCESS, or one more.
 fn ack(seqno: i64, more: bool) -> Ack
     ensures { All IsStatus result.replies }
@@ -58,22 +43,8 @@ fn ack(seqno: i64, more: bool) -> Ack
     Ack { seqno, replies }
 }
 
-/// The book of the block, as a create on the connection makes it.
-fn created(alloc: Global) -> Result<ReplicaBook<MemDrawer>, Fail> {
-    let mut shelf = MemShelf::new(alloc, &[])?;
-    let drawer = shelf.lend(alloc, BLOCK)?;
-    let mut book = ReplicaBook::new(alloc, BLOCK, drawer).ok().ok_or("a book")?;
-    let create = Event::Create {
-        conn: CONN,
-        stamp: Stamp(1001),
-        sums: SumRule::new(SumKind::Crc32c, 512).ok_or("a rule")?,
-    };
-    book.setup(&create)?;
-    Ok(book)
-}
-
 /// Books the packet, or the last one.
-fn put(alloc: Global, book: &mut ReplicaBook<MemDrawer>, last: bool) -> Result<(), Fail> {
+fn put(alloc: Global, book: &mut Book, last: bool) -> Result<(), Fail> {
     if book.replica().is_full() {
         return Err(Fail::new("room"));
     }
@@ -81,45 +52,49 @@ fn put(alloc: Global, book: &mut ReplicaBook<MemDrawer>, last: bool) -> Result<(
     Ok(())
 }
 
-/// The middle one of three members passes an ack on, and doesn't read one with a reply too many.
+/// The middle one of three members takes an ack of its mirror.
+fn take(alloc: Global, book: &mut Book, ack: Ack, upstream: &mut MemOut) -> Passed
+    requires { All IsStatus ack.replies }
+{
+    take_ack(alloc, book, CONN, 2, FromBelow::Ack(ack), upstream)
+}
+
+/// A member in whose book nothing is pending tells of a wrong sum.
+fn tell(alloc: Global, book: &mut Book, upstream: &mut MemOut) -> Result<Passed, Fail> {
+    if book.replica().oldest().is_some() {
+        return Err(Fail::new("nothing pending"));
+    }
+    let bad = FromBelow::Bad { seqno: 0 };
+    Ok(take_ack(alloc, book, CONN, 1, bad, upstream))
+}
+
+/// An ack goes on, and one with a reply too many isn't read.
 #[test]
 fn acks_are_booked_and_go_up(rt: HostRuntime) -> Result<(), Fail> {
     let alloc = rt.alloc();
-    let mut book = created(alloc)?;
+    let mut book = created(alloc, 512)?;
     put(alloc, &mut book, false)?;
     put(alloc, &mut book, true)?;
-    let mut roads = MemRoads::new(alloc, &[])?;
-    let port = roads.listen(alloc, NodeId(1))?;
-    let mut end = roads.dial(alloc, port)?;
-    let read = FromBelow::Ack(ack(0, false));
-    let passed = take_ack(alloc, &mut book, CONN, 2, read, &mut end.outward);
+    let (roads, mut end) = dialled(alloc)?;
+    let passed = take(alloc, &mut book, ack(0, false), &mut end.outward);
     assert_eq!(rt; passed, Passed::Sent(receipt(3)));
-    let unread = FromBelow::Ack(ack(1, true));
-    let passed = take_ack(alloc, &mut book, CONN, 2, unread, &mut end.outward);
+    let passed = take(alloc, &mut book, ack(1, true), &mut end.outward);
     assert_eq!(rt; passed, Passed::Closed(receipt(4)));
-    roads.exchange(alloc, &mut end, false)?;
-    let carried = roads.carried_bytes(alloc, end.id, true)?;
     assert_eq!(rt;
-        carried.as_slice(),
+        carried(alloc, roads, end)?.as_slice(),
         b"\x08\x08\0\x10\0\x10\0\x10\0\x06\x08\x02\x10\0\x10\x01".as_slice()
     );
     Ok(())
 }
 
-/// A member tells of a wrong sum.
 #[test]
 fn a_wrong_sum_is_told_of(rt: HostRuntime) -> Result<(), Fail> {
     let alloc = rt.alloc();
-    let mut book = created(alloc)?;
-    let mut roads = MemRoads::new(alloc, &[])?;
-    let port = roads.listen(alloc, NodeId(1))?;
-    let mut end = roads.dial(alloc, port)?;
-    assert!(rt; book.replica().oldest().is_none());
-    let bad = FromBelow::Bad { seqno: 0 };
-    let passed = take_ack(alloc, &mut book, CONN, 1, bad, &mut end.outward);
+    let mut book = created(alloc, 512)?;
+    let (roads, mut end) = dialled(alloc)?;
+    let passed = tell(alloc, &mut book, &mut end.outward)?;
     assert_eq!(rt; passed, Passed::Closed(receipt(1)));
-    roads.exchange(alloc, &mut end, false)?;
-    let carried = roads.carried_bytes(alloc, end.id, true)?;
+    let carried = carried(alloc, roads, end)?;
     assert_eq!(rt; carried.as_slice(), b"\x04\x08\0\x10\x02".as_slice());
     Ok(())
 }

@@ -1,6 +1,8 @@
-//! Tests of numbers and names, sums, metadata files, and files and roads in memory.
+//! Tests of numbers and names, sums, metadata files, files and roads in memory, and files in folders.
 #![tactic(auto)]
 
+#[cfg(test)]
+mod folders;
 #[cfg(test)]
 mod headers;
 #[cfg(test)]

@@ -121,7 +121,7 @@ fn use_files<F: Files>(
 }
 
 /// Ten calls on a drawer of a block.
-fn use_shelf<S: Shelf>(
+pub(crate) fn use_shelf<S: Shelf>(
     alloc: Global,
     shelf: &mut S,
     block: BlockId,
@@ -135,7 +135,7 @@ fn use_shelf<S: Shelf>(
 }
 
 /// The files of a shelf that aren't lent: how many, and the length of the first.
-fn look_at<S: Shelf>(alloc: Global, shelf: &mut S) -> Result<(usize, u64), FileError> {
+pub(crate) fn look_at<S: Shelf>(alloc: Global, shelf: &mut S) -> Result<(usize, u64), FileError> {
     let names = shelf.list(alloc)?;
     let Some(name) = names.first() else {
         return Ok((0, 0));
@@ -191,7 +191,7 @@ fn drawers_fail_at_each_call(rt: HostRuntime) -> Result<(), Fail> {
 }
 
 /// Stores a file in the drawer of a block.
-fn keep<S: Shelf>(
+pub(crate) fn keep<S: Shelf>(
     alloc: Global,
     shelf: &mut S,
     block: BlockId,

@@ -1,0 +1,63 @@
+//! What the tests of a member share: a block's book over files in memory, and a connection of roads in memory.
+
+ghost use Rattle.std.specs.Prelude.{IfOk};
+ghost use Rattle.hd_base.specs.Ends.{IsKnown};
+
+use hd_base::{BlockId, Conn, ConnId, NodeId, Receipt, Roads, Shelf, Stamp, SumKind, SumRule};
+use mem_ports::{MemDrawer, MemIn, MemOut, MemRoads, MemShelf};
+use replica_core::Event;
+use replica_files::ReplicaBook;
+use std::alloc::Global;
+use std::test::Fail;
+
+/// The block.
+pub const BLOCK: BlockId = BlockId(7);
+
+/// The connection on which it is written.
+pub const CONN: ConnId = ConnId(0);
+
+/// The book of the block.
+pub type Book = ReplicaBook<MemDrawer>;
+
+/// An end of a connection.
+pub type End = Conn<MemIn, MemOut>;
+
+/// The block's receipt with this number.
+pub fn receipt(index: u64) -> Receipt {
+    Receipt {
+        block: BLOCK,
+        index,
+    }
+}
+
+/// The book of the block, as a create on the connection makes it, with sums of chunks of this size.
+pub fn created(alloc: Global, chunk: u32) -> Result<Book, Fail> {
+    let mut shelf = MemShelf::new(alloc, &[])?;
+    let drawer = shelf.lend(alloc, BLOCK)?;
+    let mut book = ReplicaBook::new(alloc, BLOCK, drawer).ok().ok_or("a book")?;
+    let create = Event::Create {
+        conn: CONN,
+        stamp: Stamp(1001),
+        sums: SumRule::new(SumKind::Crc32c, chunk).ok_or("a rule")?,
+    };
+    book.setup(&create)?;
+    Ok(book)
+}
+
+/// Roads, and an end of a connection to node 1.
+pub fn dialled(alloc: Global) -> Result<(MemRoads, End), Fail>
+    ensures { IfOk result (λ pair. IsKnown (⟦<MemRoads as Roads>⟧.plain pair.0) pair.1.id.0) }
+{
+    let mut roads = MemRoads::new(alloc, &[])?;
+    let port = roads.listen(alloc, NodeId(1))?;
+    let end = roads.dial(alloc, port)?;
+    Ok((roads, end))
+}
+
+/// The bytes that were sent on the end.
+pub fn carried(alloc: Global, mut roads: MemRoads, mut end: End) -> Result<Vec<u8>, Fail>
+    requires { IsKnown (⟦<MemRoads as Roads>⟧.plain roads) end.id.0 }
+{
+    roads.exchange(alloc, &mut end, false)?;
+    Ok(roads.carried_bytes(alloc, end.id, true)?)
+}
