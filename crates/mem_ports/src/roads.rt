@@ -1,6 +1,6 @@
 //! Roads in memory.
 
-ghost use Rattle.std.specs.Prelude.{◌≡◌, ◌==◌, ◌+◌, ◌<◌, ◌≤◌, ◌&&◌, ◌||◌, ◌∷◌, ◌++◌, ℕ, not, nat_lt, true, false, Some, None, [], length, drop, IfSome, IfOk, OnOk, OnErr, if◌then◌else◌, vec_len};
+ghost use Rattle.std.specs.Prelude.{◌≡◌, ◌↔◌, ◌==◌, ◌+◌, ◌<◌, ◌≤◌, ◌&&◌, ◌||◌, ◌∷◌, ◌++◌, ℕ, not, IsTrue, nat_lt, true, false, Some, None, [], length, drop, IfSome, IfOk, OnOk, OnErr, if◌then◌else◌, vec_len};
 ghost use Rattle.std.specs.List.{position_from};
 ghost use Rattle.hd_base.specs.Faults.{KeepsSchedule};
 ghost use Rattle.hd_base.specs.Lists.{joined};
@@ -81,6 +81,13 @@ impl MemRoads {
             bytes.items ≡ carried conn.0 down)) }
     {
         bytes_carried(alloc, &self.trace, conn, down)
+    }
+
+    /// Whether the connection was dialled on these roads, so that its ends can be exchanged and brought back.
+    pub fn knows(&self, conn: ConnId) -> bool
+        ensures { IsTrue result ↔ IsKnown (⟦<MemRoads as Roads>⟧.plain self.now) conn.0 }
+    {
+        conn.0 < self.duplexes.len() as u64
     }
 
     /// Whether somebody listens on the port.

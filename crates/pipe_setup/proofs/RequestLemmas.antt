@@ -1,5 +1,6 @@
 -- The event of a request that isn't refused is a setup, and it is refused so before the replica is asked.
-use Rattle.std.proofs.Common.{◌≡◌, nat_le, Bool, true, false, Option, Some, None, Result, Ok, Err, length, subst}
+use Rattle.std.proofs.Common.{◌≡◌, ◌≤◌, nat_le, Bool, true, false, Option, Some, None, Result, Ok, Err, length, refl, subst, arith}
+use Rattle.std.proofs.lemmas.Bool.Decides.{nat_tests}
 use Rattle.hd_base.specs.declared.numbers.ConnId.{ConnId}
 use Rattle.hd_base.specs.SumRules.{Rule}
 use Rattle.hd_base.specs.Results.{◌>>=◌}
@@ -45,6 +46,20 @@ refused_by conn op true None sums few r is = subst IsBefore (err_value _ _ is) t
 refused_by conn op true (Some k) None few r is = subst IsBefore (err_value _ _ is) tt
 refused_by conn op true (Some k) (Some s) false r is = subst IsBefore (err_value _ _ is) tt
 refused_by conn op true (Some k) (Some s) true r is = cc
+
+few_by : (conn : ConnId) (op : WriteFields) (pool : Bool) (kind : Option SetupKind) (sums : Option Rule) (few : Bool) (e : Event) → event_by conn op pool kind sums few ≡ Ok e → few ≡ true
+few_by conn op false kind sums few e is = cc
+few_by conn op true None sums few e is = cc
+few_by conn op true (Some k) None few e is = cc
+few_by conn op true (Some k) (Some s) false e is = cc
+few_by conn op true (Some k) (Some s) true e is = refl
+
+-- a request that isn't refused has at most so many targets
+pub request_is_few : (conn : ConnId) (op : WriteFields) (held : Option Rule) (e : Event) → request_event conn op held ≡ Ok e → length op.targets ≤ MAX_BELOW
+unfolding request_event
+request_is_few conn op held e is =
+    let few : nat_le (length op.targets) MAX_BELOW ≡ true = few_by conn op (is_in_pool op.block) (setup_with op.stage) (rule_for op held) (nat_le (length op.targets) MAX_BELOW) e is in
+    grind (arith, nat_tests, few)
 
 pub request_sets_up : (conn : ConnId) (op : WriteFields) (held : Option Rule) (e : Event) → request_event conn op held ≡ Ok e → IsSetup e
 unfolding request_event

@@ -1,5 +1,5 @@
 -- How the setup of a member ends, up to its answer.
-use Rattle.std.specs.Prelude.{◌≡◌, ◌≢◌, [], Option, Some, None, Result, Ok, Err}
+use Rattle.std.specs.Prelude.{◌≡◌, ◌≢◌, ◌⊎◌, ℕ, Bool, true, false, [], Option, Some, None, Result, Ok, Err}
 use Rattle.hd_base.specs.declared.ends.Conn.{Conn}
 use Rattle.hd_base.specs.declared.numbers.ConnId.{ConnId}
 use Rattle.hd_base.specs.declared.numbers.NodeId.{NodeId}
@@ -35,7 +35,7 @@ refused_in other = None
 abbrev pub booked_in : {I O : Type 0} → Setup I O → Option (Result Receipt BookFault)
 booked_in (setup.Last receipt) = Some (Ok receipt)
 booked_in (setup.Mirrored receipt end) = Some (Ok receipt)
-booked_in (setup.MirrorDown receipt) = Some (Ok receipt)
+booked_in (setup.MirrorDown receipt answered) = Some (Ok receipt)
 booked_in (setup.Refused why) = refused_in why
 booked_in (setup.File receipt) = Some (Err (fault.File receipt))
 booked_in (setup.Memory None) = Some (Err fault.Memory)
@@ -46,11 +46,17 @@ abbrev pub EndsAs : {F : Type 0} → files.Ghosts F → BookState F → BookStat
 EndsAs f old new e None = ⊥
 EndsAs f old new e (Some answer) = BookEnds f old new (replica_event.Other e) answer
 
--- The mirror can't be had: no request can go on, its dial wasn't answered, or the link that it gave failed and is given up.
-pub data IsDown {R I O : Type 0} (r : roads.Ghosts R I O) (i : link_in.Ghosts I) (o : link_out.Ghosts O) (node : NodeId) (w : WriteFields) (old new : R) : Type 0 where
-  unwritten : IsUnwritten node w old new → IsDown r i o node w old new
-  unanswered : IsUnanswered r (first_port w.targets) old new → IsDown r i o node w old new
-  unsent : (middle : R) (end : Conn I O) → IsUnsent r i o (first_port w.targets) old middle end → GivesUp r i o end middle new → IsDown r i o node w old new
+-- The dial was answered, and the link that it gave failed and is given up.
+pub record IsLost {R I O : Type 0} (r : roads.Ghosts R I O) (i : link_in.Ghosts I) (o : link_out.Ghosts O) (port : ℕ) (old new : R) : Type 0 where
+  pub middle : R
+  pub end : Conn I O
+  pub unsent : IsUnsent r i o port old middle end
+  pub given_up : GivesUp r i o end middle new
+
+-- The mirror can't be had: its dial was answered and the link failed, or no request can go on, or the dial wasn't answered.
+abbrev pub IsDown : {R I O : Type 0} → roads.Ghosts R I O → link_in.Ghosts I → link_out.Ghosts O → NodeId → WriteFields → Bool → R → R → Type 0
+IsDown r i o node w true old new = IsLost r i o (first_port w.targets) old new
+IsDown r i o node w false old new = IsUnwritten node w old new ⊎ IsUnanswered r (first_port w.targets) old new
 
 -- the request is of a member with a mirror
 abbrev pub HasTarget : WriteFields → Type 0
@@ -60,7 +66,7 @@ HasTarget w = w.targets ≢ []
 abbrev pub GoesOn : {R I O : Type 0} → roads.Ghosts R I O → link_in.Ghosts I → link_out.Ghosts O → NodeId → WriteFields → R → R → Setup I O → Type 0
 GoesOn r i o node w old new (setup.Last receipt) = (w.targets ≡ []) × (new ≡ old)
 GoesOn r i o node w old new (setup.Mirrored receipt end) = HasTarget w × IsAskedBy r i o node w old new end
-GoesOn r i o node w old new (setup.MirrorDown receipt) = HasTarget w × IsDown r i o node w old new
+GoesOn r i o node w old new (setup.MirrorDown receipt answered) = HasTarget w × IsDown r i o node w answered old new
 GoesOn r i o node w old new (setup.Memory (Some receipt)) = HasTarget w × FindsNoMemory r i o (first_port w.targets) old new
 GoesOn r i o node w old new other = new ≡ old
 

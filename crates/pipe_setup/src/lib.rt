@@ -11,4 +11,4 @@ mod setups;
 pub use answers::setup_above;
 pub use laws::answers_follow_the_member;
 pub use refusals::SetupRefusal;
-pub use setups::{Setup, setup_local};
+pub use setups::{Setup, go_on, setup_local};

@@ -25,8 +25,8 @@ pub enum Setup<I, O> {
     /// It was booked, and the request was sent to the mirror on this end.
     Mirrored(Receipt, Conn<I, O>),
     /// It was booked, and the mirror can't be had: its port is none or the request to it too long, its dial wasn't answered,
-    /// or the count of faults of the roads or of the new link rose.
-    MirrorDown(Receipt),
+    /// or the count of faults of the roads or of the new link rose. Only in the last case was the dial answered.
+    MirrorDown { receipt: Receipt, answered: bool },
     /// The member refuses the request.
     Refused(SetupRefusal),
     /// A call on the replica's files failed, and the drawer's count of faults rose.
@@ -114,7 +114,7 @@ fn set_up_by<F: Files, R: Roads>(
 }
 
 /// Lets a request that was booked go on to the mirror, if there is one.
-fn go_on<R: Roads>(
+pub fn go_on<R: Roads>(
     alloc: Global,
     node: NodeId,
     op: &WriteOp,
@@ -131,9 +131,15 @@ fn go_on<R: Roads>(
         Reached::Asked(end) => Setup::Mirrored(receipt, end),
         Reached::Unsent(end) => {
             give_up(alloc, roads, end);
-            Setup::MirrorDown(receipt)
+            Setup::MirrorDown {
+                receipt,
+                answered: true,
+            }
         }
-        Reached::NotDialled => Setup::MirrorDown(receipt),
+        Reached::NotDialled => Setup::MirrorDown {
+            receipt,
+            answered: false,
+        },
         Reached::Memory => Setup::Memory {
             booked: Some(receipt),
         },

@@ -22,7 +22,7 @@ same_number : (n : ℕ) → n ≤ n
 same_number n = omega arith
 
 module _ {O : Type 0} (o : link_out.Ghosts O) where
-  still : (half : O) → SendsNothing o half half
+  pub still : (half : O) → SendsNothing o half half
   still half = record {
     sent = refl;
     lost = refl;
@@ -34,12 +34,12 @@ module _ {O : Type 0} (o : link_out.Ghosts O) where
   tells_nothing None up = (tt, refl)
   tells_nothing (Some text) up = still up
 
-  sends_nothing : (text : Option (List ℕ)) (up : O) → SendsAlone o text done.Memory up up
+  pub sends_nothing : (text : Option (List ℕ)) (up : O) → SendsAlone o text done.Memory up up
   sends_nothing None up = still up
   sends_nothing (Some text) up = still up
 
 module _ {F : Type 0} (f : files.Ghosts F) where
-  unmade : (book : BookState F) → EndsUnmade f book book
+  pub unmade : (book : BookState F) → EndsUnmade f book book
   unmade book = record { block = refl; replica = refl; history = record { start = refl; entries = refl }; same = record { files = refl; log = refl } }
 
 module _ {I O : Type 0} (o : link_out.Ghosts O) where

@@ -93,7 +93,7 @@ fn shut_mirror<I: Drop, O: LinkOut>(shuts: Shuts, mirror: &mut Option<Conn<I, O>
 }
 
 /// What goes up, as it is written; nothing where nothing goes up, or where an answer is too long to be one.
-fn upward_text(
+pub fn upward_text(
     alloc: Global,
     op: &WriteOp,
     sends: &Option<Upward>,

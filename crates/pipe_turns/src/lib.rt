@@ -5,5 +5,5 @@
 mod acting;
 mod turning;
 
-pub use acting::act;
-pub use turning::Done;
+pub use acting::{act, upward_text};
+pub use turning::{Done, send_alone};

@@ -124,8 +124,8 @@ fn tell_event<F: Files, O: LinkOut>(
     book_and_send(alloc, book, event, text, upstream)
 }
 
-/// Sends the text up, where there is one.
-fn send_alone<O: LinkOut>(alloc: Global, text: &Option<Vec<u8>>, upstream: &mut O) -> Done
+/// Sends the text up, where there is one, and books nothing.
+pub fn send_alone<O: LinkOut>(alloc: Global, text: &Option<Vec<u8>>, upstream: &mut O) -> Done
     ensures { SendsAlone O.LinkOut (option_map (λ t. t.items) text.now) result upstream.old upstream.new }
 {
     let Some(text) = text else {

@@ -1,0 +1,5 @@
+pub mod SizeLemmas
+pub mod TakeLemmas
+pub mod TurnLaws
+pub mod EventLaws
+pub mod SetupLaws

@@ -1,0 +1,9 @@
+pub mod Looks
+pub mod Above
+pub mod Below
+pub mod Steps
+pub mod Turns
+pub mod Events
+pub mod Refusing
+pub mod Setups
+pub mod Exchanges

@@ -1,0 +1,18 @@
+//! The running member of a pipeline: it owns its two connections, takes what comes on them, and does the turns of the
+//! member's rules over its book.
+#![tactic(auto)]
+
+mod above;
+mod below;
+mod exchanging;
+mod member;
+mod predicting;
+mod setting_up;
+mod stages;
+mod stepped;
+
+pub use above::Above;
+pub use below::Below;
+pub use member::Member;
+pub use stages::{Looked, Stage, Took};
+pub use stepped::Stepped;
