@@ -11,19 +11,19 @@ use std::alloc::Global;
 use std::test::Fail;
 
 /// The block.
-pub const BLOCK: BlockId = BlockId(7);
+pub(crate) const BLOCK: BlockId = BlockId(7);
 
 /// The connection on which it is written.
-pub const CONN: ConnId = ConnId(0);
+pub(crate) const CONN: ConnId = ConnId(0);
 
 /// The book of the block.
-pub type Book = ReplicaBook<MemDrawer>;
+pub(crate) type Book = ReplicaBook<MemDrawer>;
 
 /// An end of a connection.
-pub type End = Conn<MemIn, MemOut>;
+pub(crate) type End = Conn<MemIn, MemOut>;
 
 /// The block's receipt with this number.
-pub fn receipt(index: u64) -> Receipt {
+pub(crate) fn receipt(index: u64) -> Receipt {
     Receipt {
         block: BLOCK,
         index,
@@ -31,7 +31,7 @@ pub fn receipt(index: u64) -> Receipt {
 }
 
 /// The book of the block, as a create on the connection makes it, with sums of chunks of this size.
-pub fn created(alloc: Global, chunk: u32) -> Result<Book, Fail> {
+pub(crate) fn created(alloc: Global, chunk: u32) -> Result<Book, Fail> {
     let mut shelf = MemShelf::new(alloc, &[])?;
     let drawer = shelf.lend(alloc, BLOCK)?;
     let mut book = ReplicaBook::new(alloc, BLOCK, drawer).ok().ok_or("a book")?;
@@ -45,7 +45,7 @@ pub fn created(alloc: Global, chunk: u32) -> Result<Book, Fail> {
 }
 
 /// Roads, and an end of a connection to node 1.
-pub fn dialled(alloc: Global) -> Result<(MemRoads, End), Fail>
+pub(crate) fn dialled(alloc: Global) -> Result<(MemRoads, End), Fail>
     ensures { IfOk result (λ pair. IsKnown (⟦<MemRoads as Roads>⟧.plain pair.0) pair.1.id.0) }
 {
     let mut roads = MemRoads::new(alloc, &[])?;
@@ -55,7 +55,7 @@ pub fn dialled(alloc: Global) -> Result<(MemRoads, End), Fail>
 }
 
 /// The bytes that were sent on the end.
-pub fn carried(alloc: Global, mut roads: MemRoads, mut end: End) -> Result<Vec<u8>, Fail>
+pub(crate) fn carried(alloc: Global, mut roads: MemRoads, mut end: End) -> Result<Vec<u8>, Fail>
     requires { IsKnown (⟦<MemRoads as Roads>⟧.plain roads) end.id.0 }
 {
     roads.exchange(alloc, &mut end, false)?;

@@ -16,7 +16,7 @@ pub(crate) struct FilePath {
 
 impl FilePath {
     /// A path in this folder, of no file yet.
-    pub fn new(alloc: Global, folder: &str) -> Result<FilePath, AllocError> {
+    pub(crate) fn new(alloc: Global, folder: &str) -> Result<FilePath, AllocError> {
         let mut bytes = Vec::new(alloc);
         bytes.extend_from_slice(folder.as_bytes())?;
         bytes.push(b'/')?;
@@ -26,13 +26,13 @@ impl FilePath {
     }
 
     /// Makes it the path of this file. The buffer has room for it.
-    pub fn set(&mut self, name: &FileName) -> Result<(), AllocError> {
+    pub(crate) fn set(&mut self, name: &FileName) -> Result<(), AllocError> {
         self.bytes.truncate(self.folder);
         self.bytes.extend_from_slice(name.as_slice())
     }
 
     /// The path as text. The folder's path is text and so is every name, so that it always is.
-    pub fn text(&self) -> &str {
+    pub(crate) fn text(&self) -> &str {
         str::from_utf8(&self.bytes).unwrap_or("")
     }
 }
