@@ -24,13 +24,13 @@ use Rattle.world.specs.Primaries.{primary_up, office_event}
 use Rattle.world.specs.Restarts.{may_find, whole_found, found_in, replica_found, restarted, all_found, restart}
 use Rattle.world.specs.Events.{changed, own_change, down_as, down_event, ready_event, unless_fails, upper_up, up_as, up_event, fault_event, lost, stop, where_so, outcome, after_event, happens, run}
 use Rattle.world.specs.Safe.{Has}
-use Rattle.world_facts.proofs.Tables.{if-each, and-right, and-left, some-weaker}
-use Rattle.world_stamps.specs.Stamping.{Givens, none_given, given_with, stamped_in, given_by, given_in}
-use Rattle.world_stamps.proofs.AllRecorded.{happens-recorded, Reached, reached-next, reached-agreed, start-recorded}
-use Rattle.world_bytes.proofs.Leaves.{Facts}
-use Rattle.world_bytes.proofs.AllCarried.{down-taken-facts, up-taken-facts, happens-carried, reached-facts, at-start, start-carried}
-use Rattle.world_setups.specs.Joining.{joined_as, SetUps}
-use Rattle.world_setups.proofs.AllSetUp.{happens-set, start-set}
+use Rattle.world_laws.proofs.FactTables.{if-each, and-right, and-left, some-weaker}
+use Rattle.world_laws.specs.Stamping.{Givens, none_given, given_with, stamped_in, given_by, given_in}
+use Rattle.world_laws.proofs.AllRecorded.{happens-recorded, Reached, reached-next, reached-agreed, start-recorded}
+use Rattle.world_laws.proofs.ByteLeaves.{Facts}
+use Rattle.world_laws.proofs.AllCarried.{down-taken-facts, up-taken-facts, happens-carried, reached-facts, at-start, start-carried}
+use Rattle.world_laws.specs.Joining.{joined_as, SetUps}
+use Rattle.world_laws.proofs.AllSetUp.{happens-set, start-set}
 use Rattle.world_acks.specs.Acking.{Shown, Seat, IsUncut, Ends, Pends, UpperTells, Acked, AllAcked}
 use Rattle.world_acks.proofs.Seats.{Onward, up-on, down-on, upper-on, lower-on}
 use Rattle.world_acks.proofs.Frame.{apply-onward, keeps}

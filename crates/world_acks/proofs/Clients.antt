@@ -28,12 +28,12 @@ use Rattle.world.specs.Parts.{Message, request, packet, Lower, Writing}
 use Rattle.world.specs.Worlds.{World, Dial, Change, put, latest_with, past_after, apply}
 use Rattle.world.specs.Connections.{sent_on}
 use Rattle.world.specs.Clients.{reached_answer, writer_change, did, dialled_change, dialling, rest_in}
-use Rattle.world_facts.proofs.Tables.{if-each, and-left, and-right, some-weaker}
-use Rattle.world_stamps.specs.Stamping.{Givens, heard}
-use Rattle.world_bytes.specs.Carrying.{ConnSays, WriteSays}
-use Rattle.world_bytes.proofs.Asking.{first-dial, only-one}
-use Rattle.world_bytes.proofs.Frame.{Each, each-nil, each-one}
-use Rattle.world_bytes.proofs.Leaves.{Facts, one-session, sent-if}
+use Rattle.world_laws.proofs.FactTables.{if-each, and-left, and-right, some-weaker}
+use Rattle.world_laws.specs.Stamping.{Givens, heard}
+use Rattle.world_laws.specs.Carrying.{ConnSays, WriteSays}
+use Rattle.world_laws.proofs.ByteAsking.{first-dial, only-one}
+use Rattle.world_laws.proofs.ByteFrame.{Each, each-nil, each-one}
+use Rattle.world_laws.proofs.ByteLeaves.{Facts, one-session, sent-if}
 use Rattle.world_acks.specs.Acking.{Ends, Numbered, PacketTells, UpTells, DownTells, UpperTells, LowerTells, IsPipe, Pends, reach_of, Numbers, Acked}
 use Rattle.world_acks.proofs.Seats.{Steps, steps-same, Onward, lower-on, pends-on, pipe-on}
 use Rattle.world_acks.proofs.Frame.{News}

@@ -35,14 +35,14 @@ use Rattle.world.specs.Worlds.{World, Change, apply}
 use Rattle.world.specs.Connections.{Next, message, the_end, is_alive}
 use Rattle.world.specs.Nodes.{node_of, replica_at, broke_at, closing, unless_failing, breaking, read_change, failing_read, read_request, piece_as, serve_change, updated_by, recovery_change, failing_recovery, recovery_request, first_message, next_recovery, lower_down, lower_ready, mirror_up}
 use Rattle.world.specs.Safe.{Has}
-use Rattle.world_facts.proofs.Tables.{if-each, when-each}
-use Rattle.world_stamps.specs.Stamping.{Givens}
-use Rattle.world_bytes.specs.Carrying.{LowerSays, DownSays}
-use Rattle.world_bytes.proofs.Frame.{Each, each-nil, each-one}
-use Rattle.world_bytes.proofs.Leaves.{sent-each}
-use Rattle.world_bytes.proofs.Rows.{update-held}
-use Rattle.world_setups.specs.Joining.{IsPlain}
-use Rattle.world_setups.proofs.Rising.{event-broken}
+use Rattle.world_laws.proofs.FactTables.{if-each, when-each}
+use Rattle.world_laws.specs.Stamping.{Givens}
+use Rattle.world_laws.specs.Carrying.{LowerSays, DownSays}
+use Rattle.world_laws.proofs.ByteFrame.{Each, each-nil, each-one}
+use Rattle.world_laws.proofs.ByteLeaves.{sent-each}
+use Rattle.world_laws.proofs.ByteRows.{update-held}
+use Rattle.world_laws.specs.Joining.{IsPlain}
+use Rattle.world_laws.proofs.SetupRising.{event-broken}
 use Rattle.world_acks.specs.Acking.{Shown, AsksToRead, Ends, UpTells, DownTells, Mirrors, LowerTells, Pends}
 use Rattle.world_acks.proofs.Seats.{has-one, Steps, steps-same, Onward, reads-on}
 use Rattle.world_acks.proofs.Turning.{Known, Acts, HeardTells, from-mirror}

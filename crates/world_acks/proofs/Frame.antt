@@ -7,12 +7,12 @@ use Rattle.replica_model.specs.Rows.{FullReplica, IsFull}
 use Rattle.world.specs.Parts.{Message, Lower}
 use Rattle.world.specs.Worlds.{World, Dial, Change, put, put_at, listed, dial_at, latest_with, past_after, apply}
 use Rattle.world.specs.Safe.{Has}
-use Rattle.world_facts.specs.Growing.{Begins}
-use Rattle.world_facts.proofs.GrowthLaws.{apply-grows}
-use Rattle.world_facts.proofs.Tables.{if-each, put-each, and-left, and-right}
-use Rattle.world_stamps.specs.Stamping.{Givens, heard}
-use Rattle.world_bytes.proofs.Frame.{Each, each-nil, each-one, each-append}
-use Rattle.world_setups.specs.Joining.{joined_as}
+use Rattle.world_laws.specs.Growing.{Begins}
+use Rattle.world_laws.proofs.GrowthLaws.{apply-grows}
+use Rattle.world_laws.proofs.FactTables.{if-each, put-each, and-left, and-right}
+use Rattle.world_laws.specs.Stamping.{Givens, heard}
+use Rattle.world_laws.proofs.ByteFrame.{Each, each-nil, each-one, each-append}
+use Rattle.world_laws.specs.Joining.{joined_as}
 use Rattle.world_acks.specs.Acking.{Ends, UpTells, DownTells, UpperTells, LowerTells, Pends, Numbers, Acked}
 use Rattle.world_acks.proofs.Seats.{has-left, Steps, seat-apply, Onward, up-on, down-on, upper-on, lower-on, pends-on}
 

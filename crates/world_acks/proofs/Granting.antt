@@ -31,19 +31,19 @@ use Rattle.world.specs.Parts.{Told, Writing, Leading, Primary, no_primary, was_t
 use Rattle.world.specs.Worlds.{World, Stamped, Change, put, latest_with, apply}
 use Rattle.world.specs.Connections.{is_alive}
 use Rattle.world.specs.Primaries.{stamped_by, asks_writer, asks_primary, writer_asks, primary_commits, primary_asks, office_event}
-use Rattle.world_facts.proofs.Tables.{if-each, put-each, when-each}
-use Rattle.world_sessions.proofs.OfficeSteps.{AsksAs, Asking, own-step-asking}
-use Rattle.world_sessions.proofs.Sessions.{refused-stamp}
-use Rattle.world_stamps.specs.Stamping.{Givens, given_with, known_heard, heard}
-use Rattle.world_stamps.proofs.Givens.{put-here}
-use Rattle.world_stamps.proofs.Granting.{granted-create, granted-append, granted-again, granted-commit, granted-complete}
-use Rattle.world_stamps.proofs.Walking.{none-is}
+use Rattle.world_laws.proofs.FactTables.{if-each, put-each, when-each}
+use Rattle.world_laws.proofs.OfficeSteps.{AsksAs, Asking, own-step-asking}
+use Rattle.world_laws.proofs.Sessions.{refused-stamp}
+use Rattle.world_laws.specs.Stamping.{Givens, given_with, known_heard, heard}
+use Rattle.world_laws.proofs.StampGivens.{put-here}
+use Rattle.world_laws.proofs.StampGranting.{granted-create, granted-append, granted-again, granted-commit, granted-complete}
+use Rattle.world_laws.proofs.StampWalking.{none-is}
 use Rattle.world_acks.specs.Acking.{Ends, reach_in, reach_wanted, reach_of, Numbers}
 use Rattle.world_acks.proofs.Seats.{steps-same}
 use Rattle.world_acks.proofs.Turning.{Known}
 use Rattle.world_acks.proofs.Moves.{Follows, follows-numbers, follows-itself, same-stream, reach-at}
 use Rattle.world_acks.proofs.Clients.{Leads, IsClient, client-news, none-dials, none-downs}
-use Rattle.world_sessions.proofs.OfficeSteps.{IsAgain, IsLater, IsPrimarys}
+use Rattle.world_laws.proofs.OfficeSteps.{IsAgain, IsLater, IsPrimarys}
 
 -- WHAT A WRITER MAKES OF A REFUSAL
 

@@ -35,14 +35,14 @@ use Rattle.world.specs.Parts.{Message, request, packet, ack, response, read_stat
 use Rattle.world.specs.Worlds.{no_past, World, Change, Stamped, put, put_at, latest_with, apply}
 use Rattle.world.specs.Connections.{Next, message, the_end}
 use Rattle.world.specs.Nodes.{node_of, replica_at, block_of, above_of, below_of, upward_message, sent_up, passed, member_change, failing_turn, turn_change, pending_at, takes_next, member_down, member_up, ready_change, member_ready, broke_at}
-use Rattle.world_facts.proofs.Tables.{when-each, put-each, some-weaker}
-use Rattle.world_stamps.specs.Stamping.{Givens, none_given, heard}
-use Rattle.world_bytes.specs.Carrying.{new_stamp, Sets, LowerSays, WriteSays}
-use Rattle.world_bytes.proofs.Frame.{Each, each-nil, each-one}
-use Rattle.world_bytes.proofs.Leaves.{Facts, one-session, sent-each, sent-if}
-use Rattle.world_bytes.proofs.Rows.{Allows}
-use Rattle.world_bytes.proofs.Turns.{Idles, up-idles, ready-idles, follows}
-use Rattle.world_setups.proofs.Rising.{IsNoSetup, event-goes, lasting-of, event-broken}
+use Rattle.world_laws.proofs.FactTables.{when-each, put-each, some-weaker}
+use Rattle.world_laws.specs.Stamping.{Givens, none_given, heard}
+use Rattle.world_laws.specs.Carrying.{new_stamp, Sets, LowerSays, WriteSays}
+use Rattle.world_laws.proofs.ByteFrame.{Each, each-nil, each-one}
+use Rattle.world_laws.proofs.ByteLeaves.{Facts, one-session, sent-each, sent-if}
+use Rattle.world_laws.proofs.ByteRows.{Allows}
+use Rattle.world_laws.proofs.ByteTurns.{Idles, up-idles, ready-idles, follows}
+use Rattle.world_laws.proofs.SetupRising.{IsNoSetup, event-goes, lasting-of, event-broken}
 use Rattle.world_acks.specs.Acking.{Ends, UpTells, PacketTells, DownTells, IsPipe, MemberTells, PendingTells, Pends, Numbers, Acked}
 use Rattle.world_acks.proofs.Shows.{IsNoUpdate}
 use Rattle.world_acks.proofs.Seats.{Steps, steps-same, steps-row, Onward, member-on, numbered-on, pipe-on}

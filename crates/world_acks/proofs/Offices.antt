@@ -31,12 +31,12 @@ use Rattle.world.specs.Worlds.{World, Dial, Change, past_after, apply}
 use Rattle.world.specs.Connections.{Next, is_conn, is_alive, place_of}
 use Rattle.world.specs.Clients.{did, is_empty, is_formed, ruled, command_bytes, takes_command, writer_step, own_writer, writer_hears, writer_up, reader_dials, own_reader_as, own_reader, from_node_of, reader_turn, reader_up_as, reader_up, are_members}
 use Rattle.world.specs.Primaries.{updates_change, primary_dials, begins_with, begins_as, begins_at, own_recover, dials_answered, updates_on, leads_step, commits_step, leads_told, own_primary_as, own_primary, hears_change, listens, primary_up_as, primary_up}
-use Rattle.world_facts.proofs.Tables.{if-each, when-each, and-right}
-use Rattle.world_stamps.specs.Stamping.{Givens, known_heard}
-use Rattle.world_stamps.proofs.Walking.{none-is}
-use Rattle.world_bytes.proofs.Asking.{only-one}
-use Rattle.world_bytes.proofs.Frame.{Each, each-nil, each-one}
-use Rattle.world_bytes.proofs.Leaves.{sent-if}
+use Rattle.world_laws.proofs.FactTables.{if-each, when-each, and-right}
+use Rattle.world_laws.specs.Stamping.{Givens, known_heard}
+use Rattle.world_laws.proofs.StampWalking.{none-is}
+use Rattle.world_laws.proofs.ByteAsking.{only-one}
+use Rattle.world_laws.proofs.ByteFrame.{Each, each-nil, each-one}
+use Rattle.world_laws.proofs.ByteLeaves.{sent-if}
 use Rattle.world_acks.specs.Acking.{Ends, DownTells, UpperTells, Numbers}
 use Rattle.world_acks.proofs.Turning.{Known}
 use Rattle.world_acks.proofs.Lowers.{still-numbers}

@@ -16,13 +16,13 @@ use Rattle.world.specs.Parts.{Message, request, packet, ack, response, read_stat
 use Rattle.world.specs.Worlds.{World, Change, past_after, apply}
 use Rattle.world.specs.Nodes.{node_of, block_of}
 use Rattle.world.specs.Safe.{Has}
-use Rattle.world_facts.proofs.Tables.{and-left, and-right, some-weaker}
-use Rattle.world_facts.proofs.GrowthLaws.{apply-grows}
-use Rattle.world_stamps.specs.Stamping.{Givens}
-use Rattle.world_bytes.specs.Carrying.{new_stamp}
-use Rattle.world_bytes.proofs.Fronts.{front-takes, front-length}
-use Rattle.world_setups.specs.Joining.{joined_as}
-use Rattle.world_setups.proofs.Rising.{Goes}
+use Rattle.world_laws.proofs.FactTables.{and-left, and-right, some-weaker}
+use Rattle.world_laws.proofs.GrowthLaws.{apply-grows}
+use Rattle.world_laws.specs.Stamping.{Givens}
+use Rattle.world_laws.specs.Carrying.{new_stamp}
+use Rattle.world_laws.proofs.Fronts.{front-takes, front-length}
+use Rattle.world_laws.specs.Joining.{joined_as}
+use Rattle.world_laws.proofs.SetupRising.{Goes}
 use Rattle.world_acks.specs.Acking.{Shown, IsUncut, Seat, Asked, AsksToRead, Seated, IsPipe, promised, SetUpFrom, Ends, AckedFrom, UpTells, Numbered, PacketTells, DownTells, Mirrors, UpperTells, MemberTells, LowerTells, Pends}
 use Rattle.world_acks.proofs.Shows.{IsNoUpdate, row-shows}
 

@@ -46,14 +46,14 @@ use Rattle.world.specs.Parts.{Message, request, response, Dialled, by_member, Br
 use Rattle.world.specs.Worlds.{World, Dial, Change, dial_at, past_after, apply}
 use Rattle.world.specs.Nodes.{node_of, node_on, replica_at, block_of, broke_at, joined_at, sent_up, mirror_node, is_asked, mirror_dial, dials_of, setup_change, failing_write, write_request}
 use Rattle.world.specs.Safe.{Has}
-use Rattle.world_facts.proofs.Tables.{if-each}
-use Rattle.world_stamps.specs.Stamping.{Givens}
-use Rattle.world_bytes.specs.Carrying.{stamp_set, new_stamp, WriteSays}
-use Rattle.world_bytes.proofs.Asking.{first-dial}
-use Rattle.world_bytes.proofs.Frame.{Each, each-nil, each-one}
-use Rattle.world_bytes.proofs.Leaves.{Facts, sent-each}
-use Rattle.world_setups.specs.Joining.{joined_as}
-use Rattle.world_setups.proofs.Rising.{event-goes, event-broken}
+use Rattle.world_laws.proofs.FactTables.{if-each}
+use Rattle.world_laws.specs.Stamping.{Givens}
+use Rattle.world_laws.specs.Carrying.{stamp_set, new_stamp, WriteSays}
+use Rattle.world_laws.proofs.ByteAsking.{first-dial}
+use Rattle.world_laws.proofs.ByteFrame.{Each, each-nil, each-one}
+use Rattle.world_laws.proofs.ByteLeaves.{Facts, sent-each}
+use Rattle.world_laws.specs.Joining.{joined_as}
+use Rattle.world_laws.proofs.SetupRising.{event-goes, event-broken}
 use Rattle.world_acks.specs.Acking.{Shown, Seat, Asked, IsPipe, least_of, promised, Ends, UpTells, DownTells, UpperTells, Pends}
 use Rattle.world_acks.proofs.Shows.{stream-open}
 use Rattle.world_acks.proofs.Seats.{has-right, has-one, Steps, steps-row, steps-same}

@@ -49,14 +49,14 @@ use Rattle.world.specs.Connections.{Next, message, the_end}
 use Rattle.world.specs.Parts.{request, packet, ack, response, read_status, recovery_answer, FullMember}
 use Rattle.world.specs.Worlds.{World}
 use Rattle.world.specs.Nodes.{below_of, node_of, node_on, replica_at, block_of, upward_message}
-use Rattle.world_facts.proofs.Tables.{if-each, and-left}
-use Rattle.world_stamps.specs.Stamping.{Givens}
-use Rattle.world_bytes.specs.Carrying.{new_stamp, Sets, Holds, SetFor, ReplicaSays}
+use Rattle.world_laws.proofs.FactTables.{if-each, and-left}
+use Rattle.world_laws.specs.Stamping.{Givens}
+use Rattle.world_laws.specs.Carrying.{new_stamp, Sets, Holds, SetFor, ReplicaSays}
 use Rattle.replica_model.specs.Found.{IsFront}
-use Rattle.world_bytes.proofs.Fronts.{front-takes, front-length}
-use Rattle.world_bytes.proofs.Leaves.{Facts}
-use Rattle.world_bytes.proofs.Rows.{sets-once}
-use Rattle.world_setups.specs.Joining.{joined_as, IsPlain, SetUps}
+use Rattle.world_laws.proofs.Fronts.{front-takes, front-length}
+use Rattle.world_laws.proofs.ByteLeaves.{Facts}
+use Rattle.world_laws.proofs.ByteRows.{sets-once}
+use Rattle.world_laws.specs.Joining.{joined_as, IsPlain, SetUps}
 use Rattle.world_acks.specs.Acking.{Shown, Seat, Asked, AsksToRead, Seated, IsPipe, promised, SetUpFrom, Ends, AckedFrom, UpTells, Mirrors, MemberTells, PendingTells, Pends, Acked}
 use Rattle.world_acks.proofs.Seats.{Onward, seated-on, pipe-on, node-on}
 

@@ -28,9 +28,9 @@ use Rattle.world.specs.Worlds.{Past, World, start}
 use Rattle.world.specs.Nodes.{node_of, node_on, block_of}
 use Rattle.world.specs.Events.{run}
 use Rattle.world.specs.Safe.{Has}
-use Rattle.world_stamps.specs.Stamping.{Givens, none_given, given_in, heard}
-use Rattle.world_bytes.specs.Carrying.{new_stamp}
-use Rattle.world_setups.specs.Joining.{joined_as}
+use Rattle.world_laws.specs.Stamping.{Givens, none_given, given_in, heard}
+use Rattle.world_laws.specs.Carrying.{new_stamp}
+use Rattle.world_laws.specs.Joining.{joined_as}
 
 -- WHAT A REPLICA SHOWS
 

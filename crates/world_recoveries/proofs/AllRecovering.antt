@@ -24,17 +24,17 @@ use Rattle.world.specs.Clients.{own_writer, own_reader, writer_up, reader_up}
 use Rattle.world.specs.Primaries.{office_event, writer_asks_office, primary_up}
 use Rattle.world.specs.Restarts.{all_found, found_in, restarted, restart}
 use Rattle.world.specs.Events.{changed, own_change, down_as, down_event, ready_event, unless_fails, upper_up, up_as, up_event, fault_event, lost, stop, where_so, outcome, after_event, happens, run}
-use Rattle.world_facts.proofs.Tables.{when-each, and-left, and-right, some-weaker}
-use Rattle.world_stamps.specs.Stamping.{Givens, none_given, given_with, stamped_in, given_by, given_in, Recorded}
-use Rattle.world_stamps.proofs.AllRecorded.{happens-recorded, Reached, reached-next, reached-agreed, start-recorded}
-use Rattle.world_stamps.proofs.Recording.{Agreed}
-use Rattle.world_bytes.specs.Carrying.{Carried}
-use Rattle.world_bytes.proofs.Leaves.{Facts}
-use Rattle.world_bytes.proofs.Ends.{lower-ready-keeps}
-use Rattle.world_bytes.proofs.Offices.{office-event-keeps}
-use Rattle.world_bytes.proofs.AllCarried.{next-sent, down-taken-facts, up-taken-facts, changed-carried, down-as-carried, up-as-carried, own-keeps, office-carried, happens-carried, reached-facts, at-start, start-carried}
-use Rattle.world_setups.specs.Joining.{IsSetUp}
-use Rattle.world_setups.proofs.AllSetUp.{served-life, given-stays, all-set}
+use Rattle.world_laws.proofs.FactTables.{when-each, and-left, and-right, some-weaker}
+use Rattle.world_laws.specs.Stamping.{Givens, none_given, given_with, stamped_in, given_by, given_in, Recorded}
+use Rattle.world_laws.proofs.AllRecorded.{happens-recorded, Reached, reached-next, reached-agreed, start-recorded}
+use Rattle.world_laws.proofs.StampRecording.{Agreed}
+use Rattle.world_laws.specs.Carrying.{Carried}
+use Rattle.world_laws.proofs.ByteLeaves.{Facts}
+use Rattle.world_laws.proofs.ByteEnds.{lower-ready-keeps}
+use Rattle.world_laws.proofs.ByteOffices.{office-event-keeps}
+use Rattle.world_laws.proofs.AllCarried.{next-sent, down-taken-facts, up-taken-facts, changed-carried, down-as-carried, up-as-carried, own-keeps, office-carried, happens-carried, reached-facts, at-start, start-carried}
+use Rattle.world_laws.specs.Joining.{IsSetUp}
+use Rattle.world_laws.proofs.AllSetUp.{served-life, given-stays, all-set}
 use Rattle.world_recoveries.specs.Recovering.{ReplicaTold, Informs, InfoFits, StillTrue, Recovering}
 use Rattle.world_recoveries.proofs.Frame.{keeps}
 use Rattle.world_recoveries.proofs.Leading.{SentUp}

@@ -27,8 +27,8 @@ use Rattle.world.specs.Worlds.{World, Dial, Change}
 use Rattle.world.specs.Connections.{Next, is_conn}
 use Rattle.world.specs.Clients.{command_bytes, dialled_change, dialling, did, from_node_of, is_empty, is_formed, own_reader, own_reader_as, own_writer, reader_dials, reader_turn, reader_up, reader_up_as, rest_in, ruled, takes_command, takes_step, writer_change, writer_hears, writer_step, writer_up}
 use Rattle.world.specs.Primaries.{asks_writer, writer_asks, writer_asks_office}
-use Rattle.world_facts.proofs.Tables.{when-each}
-use Rattle.world_bytes.proofs.Frame.{Each, each-nil, each-one}
+use Rattle.world_laws.proofs.FactTables.{when-each}
+use Rattle.world_laws.proofs.ByteFrame.{Each, each-nil, each-one}
 use Rattle.world_recoveries.proofs.Holding.{as_before}
 use Rattle.world_recoveries.proofs.Quiet.{Untold, OfSetup, QuietDial, Quiet, each-sent}
 

@@ -10,11 +10,11 @@ use Rattle.op_headers.specs.declared.ops.RecoveryKind.TheVariants as kind
 use Rattle.replica_model.specs.Rows.{FullReplica}
 use Rattle.world.specs.Parts.{request, recovery_answer, by_primary, Dialled, Primary}
 use Rattle.world.specs.Worlds.{Past, World, Dial, Change, put, put_at, dial_at, dialled_with, past_after, apply}
-use Rattle.world_facts.proofs.Tables.{if-each, put-each}
-use Rattle.world_stamps.specs.Stamping.{Givens}
-use Rattle.world_bytes.specs.Carrying.{InfoSays, Carried}
-use Rattle.world_bytes.proofs.Frame.{past-grows, dial-place, dial-none}
-use Rattle.world_setups.proofs.Nodes.{put-at-split}
+use Rattle.world_laws.proofs.FactTables.{if-each, put-each}
+use Rattle.world_laws.specs.Stamping.{Givens}
+use Rattle.world_laws.specs.Carrying.{InfoSays, Carried}
+use Rattle.world_laws.proofs.ByteFrame.{past-grows, dial-place, dial-none}
+use Rattle.world_laws.proofs.SetupNodes.{put-at-split}
 use Rattle.world_recoveries.specs.Recovering.{ReplicaTold, Informs, Updates, Agrees, StillTrue, InfoFits, UpdateFits, NoUpdates, HasId, LeadFits, SendsFits, IsPlacedIn, Recovering}
 use Rattle.world_recoveries.proofs.Histories.{split-get, begins-get, first-once, agrees-later, info-later, update-later, lead-later, sends-later, NewDown, was_sent, is_sent, is_dialled, new-down}
 use Rattle.world_recoveries.proofs.Holding.{Moves, still-moves}

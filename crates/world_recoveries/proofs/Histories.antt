@@ -13,11 +13,11 @@ use Rattle.recovery_core.specs.Primaries.{request_of}
 use Rattle.world.specs.Parts.{Message, request, recovery_answer, Dialled, Told, Leading, Primary, no_primary, was_told, leads, has_led}
 use Rattle.world.specs.Worlds.{Past, World, Dial, Change, dial_at, listed, past_after}
 use Rattle.world.specs.Safe.{Has}
-use Rattle.world_facts.specs.Growing.{Begins, Grows}
-use Rattle.world_stamps.specs.Stamping.{Givens}
-use Rattle.world_bytes.proofs.Frame.{dial-place}
-use Rattle.world_setups.specs.Joining.{joined_as}
-use Rattle.world_setups.proofs.Nodes.{get-more}
+use Rattle.world_laws.specs.Growing.{Begins, Grows}
+use Rattle.world_laws.specs.Stamping.{Givens}
+use Rattle.world_laws.proofs.ByteFrame.{dial-place}
+use Rattle.world_laws.specs.Joining.{joined_as}
+use Rattle.world_laws.proofs.SetupNodes.{get-more}
 use Rattle.world_recoveries.specs.Recovering.{ReplicaTold, Informs, Updates, Agrees, InfoFits, ToldOpen, UpdateFits, HasId, ToldAt, LeadingFits, LeadFits, PhaseSends, ToldSends, SendsFits}
 
 -- LISTS

@@ -35,14 +35,14 @@ use Rattle.world.specs.Worlds.{Past, World, Dial, Change, put, dial_at, dialled_
 use Rattle.world.specs.Connections.{Next, message, the_end, place_of, is_conn}
 use Rattle.world.specs.Primaries.{dials_answered, numbered, primary_dials, leading, begins_with, updates_on, updates_change, heard_of, asks_primary}
 use Rattle.world.specs.Safe.{Has}
-use Rattle.world_facts.proofs.Tables.{if-each, and-left, and-right}
-use Rattle.world_stamps.specs.Stamping.{Givens}
-use Rattle.world_stamps.proofs.Givens.{put-here}
-use Rattle.world_bytes.specs.Carrying.{RecoverySays, PrimarySays}
-use Rattle.world_bytes.proofs.Frame.{past-grows}
-use Rattle.world_bytes.proofs.Leaves.{Facts}
-use Rattle.world_bytes.proofs.Leading.{conn-is}
-use Rattle.world_bytes.proofs.Asking.{first-dial}
+use Rattle.world_laws.proofs.FactTables.{if-each, and-left, and-right}
+use Rattle.world_laws.specs.Stamping.{Givens}
+use Rattle.world_laws.proofs.StampGivens.{put-here}
+use Rattle.world_laws.specs.Carrying.{RecoverySays, PrimarySays}
+use Rattle.world_laws.proofs.ByteFrame.{past-grows}
+use Rattle.world_laws.proofs.ByteLeaves.{Facts}
+use Rattle.world_laws.proofs.ByteLeading.{conn-is}
+use Rattle.world_laws.proofs.ByteAsking.{first-dial}
 use Rattle.world_recoveries.specs.Recovering.{ReplicaTold, Informs, Updates, ToldOpen, UpdateFits, NoUpdates, ToldId, HasId, ToldAt, LeadingFits, LeadFits, PhaseSends, ToldSends, SendsFits, IsPlacedIn, Recovering}
 use Rattle.world_recoveries.proofs.Histories.{agrees-later, update-later, leading-later, lead-later, sends-later, NewDown, was_sent, is_sent, is_dialled, new-down}
 use Rattle.world_recoveries.proofs.Holding.{Moves, moves-same}

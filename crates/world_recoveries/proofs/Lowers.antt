@@ -50,13 +50,13 @@ use Rattle.world.specs.Worlds.{Past, World, Dial, Change, past_after}
 use Rattle.world.specs.Connections.{Next, message, the_end, is_alive, sent_on}
 use Rattle.world.specs.Nodes.{node_of, replica_at, block_of, broke_at, closing, unless_failing, above_of, below_of, sent_up, passed, member_change, failing_turn, turn_change, pending_at, takes_next, member_down, member_up, ready_change, mirror_node, is_asked, mirror_dial, dials_of, member_dials, setup_change, failing_write, write_request, read_change, failing_read, read_request, piece_as, serve_change, recovery_change, failing_recovery, recovery_request, first_message, next_recovery, lower_down, lower_ready, mirror_up}
 use Rattle.world.specs.Safe.{Has}
-use Rattle.world_facts.proofs.Tables.{if-each, when-each, some-weaker}
-use Rattle.world_stamps.specs.Stamping.{Givens}
-use Rattle.world_bytes.specs.Carrying.{new_stamp, Sets, MemberSays, LowerSays, Holds}
-use Rattle.world_bytes.proofs.Frame.{Each, each-nil, each-one, past-grows}
-use Rattle.world_bytes.proofs.Leaves.{Facts, sent-if}
-use Rattle.world_bytes.proofs.Rows.{begin-stamp}
-use Rattle.world_setups.specs.Joining.{joined_as, IsSetUp}
+use Rattle.world_laws.proofs.FactTables.{if-each, when-each, some-weaker}
+use Rattle.world_laws.specs.Stamping.{Givens}
+use Rattle.world_laws.specs.Carrying.{new_stamp, Sets, MemberSays, LowerSays, Holds}
+use Rattle.world_laws.proofs.ByteFrame.{Each, each-nil, each-one, past-grows}
+use Rattle.world_laws.proofs.ByteLeaves.{Facts, sent-if}
+use Rattle.world_laws.proofs.ByteRows.{begin-stamp}
+use Rattle.world_laws.specs.Joining.{joined_as, IsSetUp}
 use Rattle.world_recoveries.specs.Recovering.{ReplicaTold, Agrees, Recovering}
 use Rattle.world_recoveries.proofs.Histories.{begins-get, has-later}
 use Rattle.world_recoveries.proofs.Holding.{Moves, Books, as_before, books, event-moves}

@@ -13,12 +13,12 @@ use Rattle.world.specs.Parts.{Message, request, packet, ack, response, read_stat
 use Rattle.world.specs.Worlds.{Past, World, Dial, Change, dial_at, listed, past_after, apply}
 use Rattle.world.specs.Connections.{sent_on}
 use Rattle.world.specs.Nodes.{sent_up}
-use Rattle.world_facts.proofs.Tables.{some-weaker}
-use Rattle.world_stamps.specs.Stamping.{Givens}
-use Rattle.world_bytes.specs.Carrying.{Sets, Recovers, RecoverySays, Carried}
-use Rattle.world_bytes.proofs.Frame.{Each, each-nil, each-one, each-cons, past-grows}
-use Rattle.world_bytes.proofs.Leaves.{Facts, sent-if}
-use Rattle.world_setups.proofs.Nodes.{get-more}
+use Rattle.world_laws.proofs.FactTables.{some-weaker}
+use Rattle.world_laws.specs.Stamping.{Givens}
+use Rattle.world_laws.specs.Carrying.{Sets, Recovers, RecoverySays, Carried}
+use Rattle.world_laws.proofs.ByteFrame.{Each, each-nil, each-one, each-cons, past-grows}
+use Rattle.world_laws.proofs.ByteLeaves.{Facts, sent-if}
+use Rattle.world_laws.proofs.SetupNodes.{get-more}
 use Rattle.world_recoveries.specs.Recovering.{Updates, LeadFits, HasId, SendsFits, IsPlacedIn, Recovering}
 use Rattle.world_recoveries.proofs.Histories.{begins-get, lead-later, sends-later, NewDown, was_sent, is_sent, is_dialled, new-down}
 use Rattle.world_recoveries.proofs.Holding.{Books, books-moves}

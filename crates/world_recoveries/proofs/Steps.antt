@@ -13,9 +13,9 @@ use Rattle.world.specs.Worlds.{World, Change}
 use Rattle.world.specs.Connections.{Next, is_alive, place_of}
 use Rattle.world.specs.Clients.{are_members}
 use Rattle.world.specs.Primaries.{primary_change, begins_as, begins_at, own_recover, ends_change, leads_step, commits_step, leads_told, own_primary_as, own_primary, listens, hears_change, primary_up_as, primary_up, primary_commits, primary_asks}
-use Rattle.world_facts.proofs.Tables.{when-each, and-left}
-use Rattle.world_stamps.specs.Stamping.{Givens}
-use Rattle.world_bytes.proofs.Leaves.{Facts}
+use Rattle.world_laws.proofs.FactTables.{when-each, and-left}
+use Rattle.world_laws.specs.Stamping.{Givens}
+use Rattle.world_laws.proofs.ByteLeaves.{Facts}
 use Rattle.world_recoveries.specs.Recovering.{Recovering}
 use Rattle.world_recoveries.proofs.Frame.{News}
 use Rattle.world_recoveries.proofs.Leading.{updates-news, ended-news, begins-news, SentUp, hears-news, asked-news, commits-news}

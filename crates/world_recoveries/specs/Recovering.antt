@@ -19,8 +19,8 @@ use Rattle.world.specs.Parts.{request, recovery_answer, by_primary, Told, Leadin
 use Rattle.world.specs.Worlds.{Past, World, start}
 use Rattle.world.specs.Events.{run}
 use Rattle.world.specs.Safe.{Has}
-use Rattle.world_stamps.specs.Stamping.{Givens, none_given, given_in}
-use Rattle.world_setups.specs.Joining.{joined_as}
+use Rattle.world_laws.specs.Stamping.{Givens, none_given, given_in}
+use Rattle.world_laws.specs.Joining.{joined_as}
 
 -- WHAT WAS TOLD AND SENT
 
