@@ -272,7 +272,7 @@ same-asked w c f k x y = same f k (same_Some _ _ (sym x.first ∙ y.first))
     same : (a d : WriteFields) → request (op.Write a) ≡ request (op.Write d) → a ≡ d
     same a d e = cc
 
-never-both : (w : World) (c : ℕ) (f : WriteFields) → Asked w.past c f → AsksToRead w.past c → ⊥
+pub never-both : (w : World) (c : ℕ) (f : WriteFields) → Asked w.past c f → AsksToRead w.past c → ⊥
 never-both w c f x y = apart f y.asked (same_Some _ _ (sym x.first ∙ y.first))
   where
     apart : (a : WriteFields) (d : ReadOp) → request (op.Write a) ≡ request (op.Read d) → ⊥
