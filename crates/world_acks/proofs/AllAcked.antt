@@ -31,7 +31,7 @@ use Rattle.world_laws.proofs.ByteLeaves.{Facts}
 use Rattle.world_laws.proofs.AllCarried.{down-taken-facts, up-taken-facts, happens-carried, reached-facts, at-start, start-carried}
 use Rattle.world_laws.specs.Joining.{joined_as, SetUps}
 use Rattle.world_laws.proofs.AllSetUp.{happens-set, start-set}
-use Rattle.world_acks.specs.Acking.{Shown, Seat, IsUncut, Ends, Pends, UpperTells, Acked, AllAcked}
+use Rattle.world_acks.specs.Acking.{Shown, Seat, UpdatesLeave, Ends, Pends, UpperTells, Acked, AllAcked}
 use Rattle.world_acks.proofs.Seats.{Onward, up-on, down-on, upper-on, lower-on}
 use Rattle.world_acks.proofs.Frame.{apply-onward, keeps}
 use Rattle.world_acks.proofs.Turning.{Known, HeardTells}
@@ -56,9 +56,9 @@ like-onward g t w v l = record {
     life = h.life;
     joins = subst (λ p. Has p.joined (joined_as s n h.life)) (sym l.past) h.joins;
     born = omega (arith, h.born, l.lives n);
-    shows = λ r a q u.
-        subst (λ (x : FullReplica). Shown x s j (v.written e)) (sym (l.replicas n b)) (subst (λ p. Shown (w.replicas n b) s j (p.written e)) (sym l.past)
-        (h.shows (l.runs n r) (sym (l.lives n) ∙ a) (ap (λ (x : FullReplica). x.known.is_broken) (sym (l.replicas n b)) ∙ q) (record { none = λ x y. u.none x (subst (λ p. Has p.updated x) (sym l.past) y) })));
+    shows = λ r a q i le u.
+        subst (λ (x : FullReplica). Shown x s i (v.written e)) (sym (l.replicas n b)) (subst (λ p. Shown (w.replicas n b) s i (p.written e)) (sym l.past)
+        (h.shows (l.runs n r) (sym (l.lives n) ∙ a) (ap (λ (x : FullReplica). x.known.is_broken) (sym (l.replicas n b)) ∙ q) i le (record { each = λ x y. u.each x (subst (λ p. Has p.updated x) (sym l.past) y) })));
   };
   given = λ b s e q. q;
   named = λ e x q n. n;
@@ -315,14 +315,14 @@ restart-onward g t w n list = record {
       life = h.life;
       joins = h.joins;
       born = more m h.life (m == n) refl h.born;
-      shows = λ r a z u. at (m == n) refl r a z u;
+      shows = λ r a z i le u. at (m == n) refl r a z i le u;
     }
       where
         at : (c : Bool) → (m == n) ≡ c → (if c then true else w.running m) ≡ true → (if c then w.lives n + 1 else w.lives m) ≡ h.life
-            → ((if c then (λ d. restarted d (w.replicas n d) (w.breaks n d) (found_in list d)) else w.replicas m) b).known.is_broken ≡ false → IsUncut (restart w n list) b s m h.life
-            → Shown ((if c then (λ d. restarted d (w.replicas n d) (w.breaks n d) (found_in list d)) else w.replicas m) b) s j (w.written e)
-        at true z r a y u = absurd (omega (arith, a, h.born, ap (λ (i : ℕ). w.lives i) (eqb-true m n z)))
-        at false z r a y u = h.shows r a y (record { none = u.none })
+            → ((if c then (λ d. restarted d (w.replicas n d) (w.breaks n d) (found_in list d)) else w.replicas m) b).known.is_broken ≡ false → (i : ℕ) → i ≤ j → UpdatesLeave (restart w n list) b s m h.life i
+            → Shown ((if c then (λ d. restarted d (w.replicas n d) (w.breaks n d) (found_in list d)) else w.replicas m) b) s i (w.written e)
+        at true z r a y i le u = absurd (omega (arith, a, h.born, ap (λ (i : ℕ). w.lives i) (eqb-true m n z)))
+        at false z r a y i le u = h.shows r a y i le (record { each = u.each })
 
 -- nothing is pending at a replica that was found
 found-pends : (g : Givens) (t : Ends) (b : ℕ) (f : Option Found) → IfSome (replica_found b f).known.info (Pends g t b (replica_found b f).known)

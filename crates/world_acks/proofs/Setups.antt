@@ -56,7 +56,7 @@ use Rattle.world_laws.specs.Joining.{joined_as}
 use Rattle.world_laws.proofs.SetupRising.{event-goes, event-broken}
 use Rattle.world_acks.specs.Acking.{Shown, Seat, Asked, IsPipe, least_of, promised, Ends, UpTells, DownTells, UpperTells, Pends}
 use Rattle.world_acks.proofs.Shows.{stream-open}
-use Rattle.world_acks.proofs.Seats.{has-right, has-one, Steps, steps-row, steps-same}
+use Rattle.world_acks.proofs.Seats.{has-right, has-one, shown-less, Steps, steps-row, steps-same}
 use Rattle.world_acks.proofs.Turning.{Known, shown-says}
 use Rattle.world_acks.proofs.Lowers.{Leaf, still-numbers, aside-begun, after-at, same-pends, row-pends, row-steps}
 
@@ -319,8 +319,8 @@ new-seat g v b n life e k stamp r facts at x given joins born = record {
   life = life;
   joins = joins;
   born = born;
-  shows = λ _ _ _ _. subst (λ (s : Stamp). Shown (v.replicas n b) s.0 k (v.written e)) x.under
-      (shown-says g v b (v.replicas n b) x.info e x.visible k (facts.carried.replicas n b) (facts.full n b) (ap (λ (q : FullReplica). q.known.info) at ∙ x.is) (ap (λ (s : Stamp). g b s.0) x.under ∙ given) x.sees x.within x.enough);
+  shows = λ _ _ _ i le _. shown-less (v.replicas n b) stamp.0 i k (v.written e) le (subst (λ (s : Stamp). Shown (v.replicas n b) s.0 k (v.written e)) x.under
+      (shown-says g v b (v.replicas n b) x.info e x.visible k (facts.carried.replicas n b) (facts.full n b) (ap (λ (q : FullReplica). q.known.info) at ∙ x.is) (ap (λ (s : Stamp). g b s.0) x.under ∙ given) x.sees x.within x.enough));
 }
 
 taken-leaf : (g : Givens) (t : Ends) (w : World) (c : ℕ) (f : WriteFields) (asked : Bool) (r : FullReplica) → Known g t w → WriteSays g w.past c f → c < w.next_conn → w.lives (node_of w c) ≡ (w.dialled c).to.life

@@ -58,7 +58,7 @@ use Rattle.world_laws.proofs.ByteLeaves.{Facts}
 use Rattle.world_laws.proofs.ByteRows.{sets-once}
 use Rattle.world_laws.specs.Joining.{joined_as, IsPlain, SetUps}
 use Rattle.world_acks.specs.Acking.{Shown, Seat, Asked, AsksToRead, Seated, IsPipe, promised, SetUpFrom, Ends, AckedFrom, UpTells, Mirrors, MemberTells, PendingTells, Pends, Acked}
-use Rattle.world_acks.proofs.Seats.{Onward, seated-on, pipe-on, node-on}
+use Rattle.world_acks.proofs.Seats.{shown-less, Onward, seated-on, pipe-on, node-on}
 
 -- WHAT IS KNOWN
 
@@ -258,9 +258,9 @@ books g t w v c m e a old y taken =
         life = (w.dialled c).to.life;
         joins = y.on.joined (joined_as (new_stamp m.fields).0 n (w.dialled c).to.life) a.tells.joins;
         born = omega (arith, y.lives, a.alive);
-        shows = λ _ _ _ _. subst (λ (z : FullReplica). Shown z (new_stamp m.fields).0 e.end (v.written a.tells.session)) (sym y.at)
+        shows = λ _ _ _ i le _. shown-less (v.replicas n b) (new_stamp m.fields).0 i e.end (v.written a.tells.session) le (subst (λ (z : FullReplica). Shown z (new_stamp m.fields).0 e.end (v.written a.tells.session)) (sym y.at)
             (subst (λ (z : PendingPacket). Shown q (new_stamp m.fields).0 z.end (v.written a.tells.session)) same
-            (subst (λ (z : Stamp). Shown q z.0 x.entry.end (v.written a.tells.session)) after shown));
+            (subst (λ (z : Stamp). Shown q z.0 x.entry.end (v.written a.tells.session)) after shown)));
       };
     }
 
