@@ -22,7 +22,7 @@ first-more : (xs ys : List Message) (m : Message) → slice_get xs 0 ≡ Some m 
 first-more [] ys m e = absurd (none-some m e)
 first-more (x ∷ xs) ys m e = e
 
-begins-first : (xs ys : List Message) (m : Message) → Begins xs ys → slice_get xs 0 ≡ Some m → slice_get ys 0 ≡ Some m
+pub begins-first : (xs ys : List Message) (m : Message) → Begins xs ys → slice_get xs 0 ≡ Some m → slice_get ys 0 ≡ Some m
 begins-first xs ys m b e = subst (λ (zs : List Message). slice_get zs 0 ≡ Some m) b.joins (first-more xs b.rest m e)
 
 pub apply-onward : (g k : Givens) (t u : Ends) (w : World) (c : Change) → Steps w c → ((n b : ℕ) → IsFull (w.replicas n b)) → IsFull c.replica
@@ -60,7 +60,7 @@ put-at-each {A} P f i k x h q j l =
     (subst (λ (n : ℕ). P i n x) (sym (eqb-true l k (and-right (j == i) (l == k) e))) h))
     (λ e. q j l)
 
-dial-place : (next : ℕ) (dials : List Dial) (c : ℕ) (d : Dial) → dial_at next dials c ≡ Some d → (slice_get dials (c - next) ≡ Some d) × (next + (c - next) ≡ c)
+pub dial-place : (next : ℕ) (dials : List Dial) (c : ℕ) (d : Dial) → dial_at next dials c ≡ Some d → (slice_get dials (c - next) ≡ Some d) × (next + (c - next) ≡ c)
 dial-place next dials c d e = go (nat_le next c) refl
   where
     go : (b : Bool) → nat_le next c ≡ b → (slice_get dials (c - next) ≡ Some d) × (next + (c - next) ≡ c)
@@ -79,7 +79,7 @@ none-past [] i e = omega arith
 none-past (x ∷ xs) zero e = absurd (none-some x (sym e))
 none-past (x ∷ xs) (suc i) e = omega (arith, none-past xs i e)
 
-dial-none : (next : ℕ) (dials : List Dial) (c : ℕ) → dial_at next dials c ≡ None → c < next + length dials → c < next
+pub dial-none : (next : ℕ) (dials : List Dial) (c : ℕ) → dial_at next dials c ≡ None → c < next + length dials → c < next
 dial-none next dials c e lt = go (nat_le next c) refl
   where
     go : (b : Bool) → nat_le next c ≡ b → c < next
