@@ -1,5 +1,5 @@
 -- What acks and answers say holds after every list of events.
-use Rattle.std.proofs.Common.{◌≡◌, ℕ, ◌<◌, ◌≤◌, Bool, true, false, List, [], ◌∷◌, slice_get, Option, Some, None, IfSome, refl, sym, ◌∙◌, ap, subst, arith, eqb-true}
+use Rattle.std.proofs.Common.{◌≡◌, ℕ, ◌<◌, ◌≤◌, Bool, true, false, List, [], ◌∷◌, slice_get, Option, Some, None, IfSome, refl, sym, ◌∙◌, ap, subst, arith, eqb-true, inl, inr}
 use Rattle.std.specs.Prelude.{◌==◌, ◌&&◌, ◌+◌, not, nat_lt, option_map, if◌then◌else◌}
 use Rattle.std.proofs.lemmas.Bool.Decides.{nat_tests}
 use Rattle.std.proofs.lemmas.Bool.{false≢true}
@@ -15,7 +15,7 @@ use Rattle.world.specs.declared.events.Event.TheVariants as event
 use Rattle.world.specs.declared.events.FoundReplica.{FoundReplica}
 use Rattle.world.specs.declared.events.OwnStep.{OwnStep}
 use Rattle.world.specs.declared.events.OwnStep.TheVariants as own
-use Rattle.world.specs.Parts.{Message, Marks, Upper, by_writer, by_member, by_reader, by_primary}
+use Rattle.world.specs.Parts.{Message, Marks, Upper, by_writer, by_member, by_reader, by_primary, Break}
 use Rattle.world.specs.Worlds.{World, Change, apply, start}
 use Rattle.world.specs.Connections.{Next, message, the_end, ends_at, next_on, next_down, next_up, down_taken, up_taken, is_alive, is_served}
 use Rattle.world.specs.Nodes.{node_of, lower_down, lower_ready}
@@ -32,7 +32,12 @@ use Rattle.world_laws.proofs.AllCarried.{down-taken-facts, up-taken-facts, happe
 use Rattle.world_laws.specs.Joining.{joined_as, SetUps}
 use Rattle.world_laws.proofs.AllSetUp.{happens-set, start-set}
 use Rattle.world_acks.specs.Acking.{Shown, Seat, IsUncut, Ends, Pends, UpperTells, Acked, AllAcked}
-use Rattle.world_acks.proofs.Seats.{Onward, up-on, down-on, upper-on, lower-on}
+use Rattle.world_acks.specs.Closing.{FinalUnder, BrokeFinal, HasClosed}
+use Rattle.world_acks.specs.Waiting.{Requests, IsQuiet}
+use Rattle.world_acks.proofs.Requests.{Requesting, quiet-apply, requests-apply, same-quiet, same-requests}
+use Rattle.world_acks.proofs.ClosedLaws.{GoesOn, stands-on}
+use Rattle.world_acks.proofs.Seats.{Onward, Lasting, up-on, down-on, upper-on, lower-on}
+use Rattle.world_acks.proofs.ClosedMoves.{Moved, moves-on, untouched-moved, lower-ready-moved, down-moves, upper-moved, own-moved, restart-on, next-sent}
 use Rattle.world_acks.proofs.Frame.{apply-onward, keeps}
 use Rattle.world_acks.proofs.Turning.{Known, HeardTells}
 use Rattle.world_acks.proofs.Lowers.{Leaf, after-at}
@@ -40,6 +45,7 @@ use Rattle.world_acks.proofs.Ends.{NextTells, lower-down-leaf, lower-ready-leaf,
 use Rattle.world_acks.proofs.Clients.{Leads, leaf-leads}
 use Rattle.world_acks.proofs.Offices.{own-writer-leads, writer-up-leads, own-reader-leads, reader-up-leads, own-recover-leads, own-primary-leads, primary-up-leads}
 use Rattle.world_acks.proofs.Granting.{OfficeLeads, fresh-given, office-event-leads}
+use Rattle.world_laws.proofs.ReplicaUntouching.{office-untouched}
 
 -- WORLDS WITH THE SAME PAST
 
@@ -68,17 +74,32 @@ like-onward g t w v l = record {
   joined = λ x h. subst (λ p. Has p.joined x) (sym l.past) h;
 }
 
+-- where breaks and lower ends are the same too, nodes that stand closed do so still
+like-lasting : (g : Givens) (t : Ends) (w v : World) → IsLike w v → ((n b : ℕ) → v.breaks n b ≡ w.breaks n b) → ((c : ℕ) → v.lowers c ≡ w.lowers c) → Lasting g g t t w v
+like-lasting g t w v l k d = record {
+  on = like-onward g t w v l;
+  closed = λ b s n h. record { has = go b s n h.has; quiet = same-quiet w v s l.past d h.quiet };
+  quiet = λ s q. same-quiet w v s l.past d q;
+}
+  where
+    go : (b s n : ℕ) → HasClosed g w b s n → HasClosed g v b s n
+    go b s n (inl x) = inl (record {
+      replica = subst (λ (r : FullReplica). FinalUnder s r.known.info) (sym (l.replicas n b)) x.replica;
+      broke = subst (λ (o : Option Break). IfSome o (BrokeFinal s)) (sym (k n b)) x.broke;
+    })
+    go b s n (inr x) = inr x
+
 down-taken-acked : (g : Givens) (t : Ends) (w : World) (c : ℕ) (x : Next) → Acked g t w → Acked g t (down_taken w c x)
 unfolding down_taken
 down-taken-acked g t w c x h =
     let v = down_taken w c x in
-    let on = like-onward g t w v (record { past = refl; runs = λ n e. e; lives = λ n. refl; replicas = λ n b. refl }) in
+    let on = like-lasting g t w v (record { past = refl; runs = λ n e. e; lives = λ n. refl; replicas = λ n b. refl }) (λ m b. refl) (λ d. refl) in
     record {
       lives = h.lives;
       begun = h.begun;
       ups = λ d i m e. up-on g g t t w v d m on (h.ups d i m e);
-      downs = λ d i m e. down-on g g t t w v d m on (h.downs d i m e);
-      uppers = λ d lt. upper-on g g t t w v d (w.dialled d).upper on lt (h.uppers d lt);
+      downs = λ d i m e. down-on g g t t w v d m on.on (h.downs d i m e);
+      uppers = λ d lt. upper-on g g t t w v d (w.dialled d).upper on.on lt (h.uppers d lt);
       lowers = λ d. lower-on g g t t w v d (w.lowers d) on (h.lowers d);
       replicas = h.replicas;
       writers = h.writers;
@@ -88,13 +109,13 @@ up-taken-acked : (g : Givens) (t : Ends) (w : World) (c : ℕ) (x : Next) → Ac
 unfolding up_taken
 up-taken-acked g t w c x h =
     let v = up_taken w c x in
-    let on = like-onward g t w v (record { past = refl; runs = λ n e. e; lives = λ n. refl; replicas = λ n b. refl }) in
+    let on = like-lasting g t w v (record { past = refl; runs = λ n e. e; lives = λ n. refl; replicas = λ n b. refl }) (λ m b. refl) (λ d. refl) in
     record {
       lives = h.lives;
       begun = h.begun;
       ups = λ d i m e. up-on g g t t w v d m on (h.ups d i m e);
-      downs = λ d i m e. down-on g g t t w v d m on (h.downs d i m e);
-      uppers = λ d lt. upper-on g g t t w v d (w.dialled d).upper on lt (h.uppers d lt);
+      downs = λ d i m e. down-on g g t t w v d m on.on (h.downs d i m e);
+      uppers = λ d lt. upper-on g g t t w v d (w.dialled d).upper on.on lt (h.uppers d lt);
       lowers = λ d. lower-on g g t t w v d (w.lowers d) on (h.lowers d);
       replicas = h.replicas;
       writers = h.writers;
@@ -108,11 +129,19 @@ up-taken-set : (g : Givens) (w : World) (c : ℕ) (x : Next) → SetUps g w → 
 unfolding up_taken
 up-taken-set g w c x h = record { answers = h.answers; given = h.given; reached = h.reached; plain = h.plain; writes = h.writes; breaks = h.breaks }
 
+down-taken-requests : (w : World) (c : ℕ) (x : Next) → Requests w → Requests (down_taken w c x)
+unfolding down_taken
+down-taken-requests w c x h = same-requests w (down_taken w c x) refl (λ d. refl) (λ b. refl) h
+
+up-taken-requests : (w : World) (c : ℕ) (x : Next) → Requests w → Requests (up_taken w c x)
+unfolding up_taken
+up-taken-requests w c x h = same-requests w (up_taken w c x) refl (λ d. refl) (λ b. refl) h
+
 down-known : (g : Givens) (t : Ends) (w : World) (c : ℕ) (x : Next) → Known g t w → Known g t (down_taken w c x)
-down-known g t w c x h = record { facts = down-taken-facts g w c x h.facts; sets = down-taken-set g w c x h.sets; acked = down-taken-acked g t w c x h.acked }
+down-known g t w c x h = record { facts = down-taken-facts g w c x h.facts; sets = down-taken-set g w c x h.sets; requests = down-taken-requests w c x h.requests; acked = down-taken-acked g t w c x h.acked }
 
 up-known : (g : Givens) (t : Ends) (w : World) (c : ℕ) (x : Next) → Known g t w → Known g t (up_taken w c x)
-up-known g t w c x h = record { facts = up-taken-facts g w c x h.facts; sets = up-taken-set g w c x h.sets; acked = up-taken-acked g t w c x h.acked }
+up-known g t w c x h = record { facts = up-taken-facts g w c x h.facts; sets = up-taken-set g w c x h.sets; requests = up-taken-requests w c x h.requests; acked = up-taken-acked g t w c x h.acked }
 
 -- CHANGES
 
@@ -120,21 +149,31 @@ up-known g t w c x h = record { facts = up-taken-facts g w c x h.facts; sets = u
 record Told (g : Givens) (w : World) : Type 0 where
   pub ends : Ends
   pub acked : Acked g ends w
+  pub requests : Requests w
 
-changed-told : (g : Givens) (t : Ends) (w : World) (o : Option Change) → Known g t w → IfSome o (Leads g g t w) → IfSome (changed w o) (Facts g) → IfSome (changed w o) (Told g)
-changed-told g t w None h l f = tt
-changed-told g t w (Some k) h l f =
+-- what a change leads to lasts
+apply-lasting : (g l : Givens) (t u : Ends) (w : World) (k : Change) → Known g t w → Moved w k → Requesting w k → Facts l (apply w k) → Onward g l t u w (apply w k) → Lasting g l t u w (apply w k)
+apply-lasting g l t u w k h m r f on =
+    let quiet : (s : ℕ) → IsQuiet w s → IsQuiet (apply w k) s = λ s q. quiet-apply g l w k s h.requests r h.facts f q in
+    let goes : GoesOn g l w (apply w k) = record { given = on.given; went = moves-on w k m; carried = f.carried; full = h.facts.full; plain = h.sets.plain; quiet = quiet } in
+    record { on = on; closed = λ b s n x. stands-on g l w (apply w k) b s n goes x; quiet = quiet }
+
+changed-told : (g : Givens) (t : Ends) (w : World) (o : Option Change) → Known g t w → IfSome o (Moved w) → IfSome o (Leads g g t w) → IfSome (changed w o) (Facts g) → IfSome (changed w o) (Told g)
+changed-told g t w None h m l f = tt
+changed-told g t w (Some k) h m l f =
     let new = subst (λ (r : FullReplica). IsFull r) (after-at w k) (f.full k.node k.block) in
     let on = apply-onward g g t l.ends w k l.steps h.facts.full new (λ b s e q. q) l.named in
-    record { ends = l.ends; acked = keeps g g t l.ends w k h.acked on (l.news on f) }
+    let lasts = apply-lasting g g t l.ends w k h m l.requests f on in
+    record { ends = l.ends; acked = keeps g g t l.ends w k h.acked lasts (l.news lasts f); requests = requests-apply g g w k h.requests l.requests h.facts f }
 
-office-told : (g : Givens) (t : Ends) (w : World) (o : Option Change) → Known g t w → IfSome o (OfficeLeads g t w) → IfSome (changed w o) (Facts (given_with g (stamped_in o))) → IfSome (changed w o) (Told (given_with g (stamped_in o)))
-office-told g t w None h l f = tt
-office-told g t w (Some k) h x f =
+office-told : (g : Givens) (t : Ends) (w : World) (o : Option Change) → Known g t w → IfSome o (Moved w) → IfSome o (OfficeLeads g t w) → IfSome (changed w o) (Facts (given_with g (stamped_in o))) → IfSome (changed w o) (Told (given_with g (stamped_in o)))
+office-told g t w None h m l f = tt
+office-told g t w (Some k) h m x f =
     let l = x.leads in
     let new = subst (λ (r : FullReplica). IsFull r) (after-at w k) (f.full k.node k.block) in
     let on = apply-onward g (given_with g k.stamped) t l.ends w k l.steps h.facts.full new (fresh-given g t w k.stamped h x.fresh) l.named in
-    record { ends = l.ends; acked = keeps g (given_with g k.stamped) t l.ends w k h.acked on (l.news on f) }
+    let lasts = apply-lasting g (given_with g k.stamped) t l.ends w k h m l.requests f on in
+    record { ends = l.ends; acked = keeps g (given_with g k.stamped) t l.ends w k h.acked lasts (l.news lasts f); requests = requests-apply g (given_with g k.stamped) w k h.requests l.requests h.facts f }
 
 leads-of : (g : Givens) (t : Ends) (w : World) (o : Option Change) → IfSome o (Leaf g t w) → IfSome o (Leads g g t w)
 leads-of g t w o h = some-weaker (Leaf g t w) (Leads g g t w) o (λ k l. leaf-leads g t w k l) h
@@ -158,25 +197,6 @@ served-known w c e = lt-true c w.next_conn (and-left (nat_lt c w.next_conn) (is_
 served-life : (w : World) (c : ℕ) → is_served w c ≡ true → w.lives (node_of w c) ≡ (w.dialled c).to.life
 served-life w c e = alive-life w c (and-right (nat_lt c w.next_conn) (is_alive w (w.dialled c).to) e)
 
--- what stands next was sent
-next-sent : (sent : List Message) (k : Marks) (m : Message) → next_on sent k ≡ Some (message m) → slice_get sent k.taken ≡ Some m
-next-sent sent k m e = go k.over (ends_at k.end k.taken) e
-  where
-    said : (o : Option Message) → option_map message o ≡ Some (message m) → o ≡ Some m
-    said None q = absurd (none-some (message m) q)
-    said (Some n) q = ap (λ (y : Message). Some y) (same n (same_Some (message n) (message m) q))
-      where
-        same : (n : Message) → message n ≡ message m → n ≡ m
-        same n r = cc
-
-    go : (a b : Bool) → (if a then None else (if b then Some the_end else option_map message (slice_get sent k.taken))) ≡ Some (message m) → slice_get sent k.taken ≡ Some m
-    go true b q = absurd (none-some (message m) q)
-    go false true q = absurd (apart (same_Some the_end (message m) q))
-      where
-        apart : the_end ≡ message m → ⊥
-        apart r = cc
-    go false false q = said (slice_get sent k.taken) q
-
 next-tells : (g : Givens) (t : Ends) (w : World) (c : ℕ) (x : Next) → Known g t w → next_down w c ≡ Some x → NextTells g t w c x
 next-tells g t w c (message m) h e = (h.facts.carried.downs c (w.down_marks c).taken m (next-sent (w.downs c) (w.down_marks c) m e), h.acked.downs c (w.down_marks c).taken m (next-sent (w.downs c) (w.down_marks c) m e))
 next-tells g t w c the_end h e = tt
@@ -190,7 +210,7 @@ taken-tells g t w c x the_end h = tt
 heard-tells : (g : Givens) (t : Ends) (w : World) (c : ℕ) (x : Next) → Known g t w → next_up w c ≡ Some x → HeardTells g t (up_taken w c x) c x
 unfolding up_taken
 heard-tells g t w c (message m) h e =
-    up-on g g t t w (up_taken w c (message m)) c m (like-onward g t w (up_taken w c (message m)) (record { past = refl; runs = λ n q. q; lives = λ n. refl; replicas = λ n b. refl })) (h.acked.ups c (w.up_marks c).taken m (next-sent (w.ups c) (w.up_marks c) m e))
+    up-on g g t t w (up_taken w c (message m)) c m (like-lasting g t w (up_taken w c (message m)) (record { past = refl; runs = λ n q. q; lives = λ n. refl; replicas = λ n b. refl }) (λ n b. refl) (λ d. refl)) (h.acked.ups c (w.up_marks c).taken m (next-sent (w.ups c) (w.up_marks c) m e))
 heard-tells g t w c the_end h e = tt
 
 lower-taken : (g : Givens) (t : Ends) (w : World) (c : ℕ) (x : Next) (answered fails : Bool) → Known g t (down_taken w c x) → c < w.next_conn → w.lives (node_of w c) ≡ (w.dialled c).to.life → NextTells g t (down_taken w c x) c x
@@ -203,7 +223,7 @@ down-as-told : (g : Givens) (t : Ends) (w : World) (c : ℕ) (answered fails : B
 down-as-told g t w c answered fails None h lt alive e f = tt
 down-as-told g t w c answered fails (Some x) h lt alive e f =
     let v = down_taken w c x in
-    changed-told g t v (lower_down (w.lowers c) v c x answered fails) (down-known g t w c x h)
+    changed-told g t v (lower_down (w.lowers c) v c x answered fails) (down-known g t w c x h) (down-moves g w c x answered fails h.facts.carried e)
     (leads-of g t v (lower_down (w.lowers c) v c x answered fails) (lower-taken g t w c x answered fails (down-known g t w c x h) lt alive (taken-tells g t w c x x (next-tells g t w c x h e)))) f
 
 down-told : (g : Givens) (t : Ends) (w : World) (c : ℕ) (answered fails : Bool) → Known g t w → IfSome (down_event w c answered fails) (Facts g) → IfSome (down_event w c answered fails) (Told g)
@@ -211,7 +231,7 @@ down-told g t w c answered fails h f = when-two (Facts g) (Told g) (is_served w 
 
 ready-told : (g : Givens) (t : Ends) (w : World) (c : ℕ) (fails : Bool) → Known g t w → IfSome (ready_event w c fails) (Facts g) → IfSome (ready_event w c fails) (Told g)
 ready-told g t w c fails h f =
-    when-two (Facts g) (Told g) (is_served w c) _ f (λ e q. changed-told g t w (lower_ready (w.lowers c) w c fails) h (leads-of g t w (lower_ready (w.lowers c) w c fails) (lower-ready-leaf (w.lowers c) g t w c fails h refl (served-life w c e))) q)
+    when-two (Facts g) (Told g) (is_served w c) _ f (λ e q. changed-told g t w (lower_ready (w.lowers c) w c fails) h (lower-ready-moved (w.lowers c) w c fails) (leads-of g t w (lower_ready (w.lowers c) w c fails) (lower-ready-leaf (w.lowers c) g t w c fails h refl (served-life w c e))) q)
 
 unless-leads : (g : Givens) (t : Ends) (w : World) (fails : Bool) (o : Option Change) → IfSome o (Leads g g t w) → IfSome (unless_fails fails o) (Leads g g t w)
 unless-leads g t w true o l = tt
@@ -232,7 +252,7 @@ up-as-told : (g : Givens) (t : Ends) (w : World) (c : ℕ) (fails : Bool) (o : O
 up-as-told g t w c fails None h lt e f = tt
 up-as-told g t w c fails (Some x) h lt e f =
     let v = up_taken w c x in
-    changed-told g t v (upper_up (w.dialled c).upper v c x fails) (up-known g t w c x h) (upper-taken g t w c x fails (up-known g t w c x h) lt (heard-tells g t w c x h e)) f
+    changed-told g t v (upper_up (w.dialled c).upper v c x fails) (up-known g t w c x h) (upper-moved (w.dialled c).upper v c x fails) (upper-taken g t w c x fails (up-known g t w c x h) lt (heard-tells g t w c x h e)) f
 
 up-told : (g : Givens) (t : Ends) (w : World) (c : ℕ) (fails : Bool) → Known g t w → IfSome (up_event w c fails) (Facts g) → IfSome (up_event w c fails) (Told g)
 up-told g t w c fails h f = when-two (Facts g) (Told g) (nat_lt c w.next_conn) _ f (λ e q. up-as-told g t w c fails (next_up w c) h (lt-true c w.next_conn e) refl q)
@@ -253,13 +273,13 @@ own-leads g t w (own.Primary i) h = own-primary-leads g t w i h
 stop-acked : (g : Givens) (t : Ends) (w : World) (n : ℕ) → Acked g t w → Acked g t (stop w n)
 stop-acked g t w n h =
     let v = stop w n in
-    let on = like-onward g t w v (record { past = refl; runs = λ m e. if-each (λ (b : Bool). b ≡ true → w.running m ≡ true) (m == n) false (w.running m) (λ _ q. absurd (false≢true q)) (λ _ q. q) e; lives = λ m. refl; replicas = λ m b. refl }) in
+    let on = like-lasting g t w v (record { past = refl; runs = λ m e. if-each (λ (b : Bool). b ≡ true → w.running m ≡ true) (m == n) false (w.running m) (λ _ q. absurd (false≢true q)) (λ _ q. q) e; lives = λ m. refl; replicas = λ m b. refl }) (λ m b. refl) (λ d. refl) in
     record {
       lives = h.lives;
       begun = h.begun;
       ups = λ d i m e. up-on g g t t w v d m on (h.ups d i m e);
-      downs = λ d i m e. down-on g g t t w v d m on (h.downs d i m e);
-      uppers = λ d lt. upper-on g g t t w v d (w.dialled d).upper on lt (h.uppers d lt);
+      downs = λ d i m e. down-on g g t t w v d m on.on (h.downs d i m e);
+      uppers = λ d lt. upper-on g g t t w v d (w.dialled d).upper on.on lt (h.uppers d lt);
       lowers = λ d. lower-on g g t t w v d (w.lowers d) on (h.lowers d);
       replicas = h.replicas;
       writers = h.writers;
@@ -268,26 +288,26 @@ stop-acked g t w n h =
 lost-acked : (g : Givens) (t : Ends) (w : World) (c : ℕ) (way : Direction) (more : ℕ) → Acked g t w → Acked g t (lost w c way more)
 lost-acked g t w c direction.Down more h =
     let v = lost w c direction.Down more in
-    let on = like-onward g t w v (record { past = refl; runs = λ m e. e; lives = λ m. refl; replicas = λ m b. refl }) in
+    let on = like-lasting g t w v (record { past = refl; runs = λ m e. e; lives = λ m. refl; replicas = λ m b. refl }) (λ m b. refl) (λ d. refl) in
     record {
       lives = h.lives;
       begun = h.begun;
       ups = λ d i m e. up-on g g t t w v d m on (h.ups d i m e);
-      downs = λ d i m e. down-on g g t t w v d m on (h.downs d i m e);
-      uppers = λ d lt. upper-on g g t t w v d (w.dialled d).upper on lt (h.uppers d lt);
+      downs = λ d i m e. down-on g g t t w v d m on.on (h.downs d i m e);
+      uppers = λ d lt. upper-on g g t t w v d (w.dialled d).upper on.on lt (h.uppers d lt);
       lowers = λ d. lower-on g g t t w v d (w.lowers d) on (h.lowers d);
       replicas = h.replicas;
       writers = h.writers;
     }
 lost-acked g t w c direction.Up more h =
     let v = lost w c direction.Up more in
-    let on = like-onward g t w v (record { past = refl; runs = λ m e. e; lives = λ m. refl; replicas = λ m b. refl }) in
+    let on = like-lasting g t w v (record { past = refl; runs = λ m e. e; lives = λ m. refl; replicas = λ m b. refl }) (λ m b. refl) (λ d. refl) in
     record {
       lives = h.lives;
       begun = h.begun;
       ups = λ d i m e. up-on g g t t w v d m on (h.ups d i m e);
-      downs = λ d i m e. down-on g g t t w v d m on (h.downs d i m e);
-      uppers = λ d lt. upper-on g g t t w v d (w.dialled d).upper on lt (h.uppers d lt);
+      downs = λ d i m e. down-on g g t t w v d m on.on (h.downs d i m e);
+      uppers = λ d lt. upper-on g g t t w v d (w.dialled d).upper on.on lt (h.uppers d lt);
       lowers = λ d. lower-on g g t t w v d (w.lowers d) on (h.lowers d);
       replicas = h.replicas;
       writers = h.writers;
@@ -333,17 +353,27 @@ restarted-pends : (g : Givens) (t : Ends) (b : ℕ) (w : World) (n : ℕ) (f : O
 unfolding restarted
 restarted-pends g t b w n f = found-pends g t b (if may_find (w.replicas n b) (w.breaks n b) f then f else whole_found (w.replicas n b) (w.breaks n b))
 
-restart-acked : (g : Givens) (t : Ends) (w : World) (n : ℕ) (list : List FoundReplica) → Acked g t w → Acked g t (restart w n list)
+-- what stood closed is found so
+restart-lasting : (g : Givens) (t : Ends) (w : World) (n : ℕ) (list : List FoundReplica) → Known g t w → Facts g (restart w n list) → Lasting g g t t w (restart w n list)
 unfolding restart
-restart-acked g t w n list h =
+restart-lasting g t w n list k f =
     let v = restart w n list in
-    let on = restart-onward g t w n list in
+    let quiet : (s : ℕ) → IsQuiet w s → IsQuiet v s = λ s q. same-quiet w v s refl (λ d. refl) q in
+    let goes : GoesOn g g w v = record { given = λ b s e q. q; went = restart-on w n list; carried = f.carried; full = k.facts.full; plain = k.sets.plain; quiet = quiet } in
+    record { on = restart-onward g t w n list; closed = λ b s m x. stands-on g g w v b s m goes x; quiet = quiet }
+
+restart-acked : (g : Givens) (t : Ends) (w : World) (n : ℕ) (list : List FoundReplica) → Known g t w → Facts g (restart w n list) → Acked g t (restart w n list)
+unfolding restart
+restart-acked g t w n list k f =
+    let v = restart w n list in
+    let h = k.acked in
+    let on = restart-lasting g t w n list k f in
     record {
       lives = λ s m l j. more m l (m == n) refl (h.lives s m l j);
       begun = h.begun;
       ups = λ d i m e. up-on g g t t w v d m on (h.ups d i m e);
-      downs = λ d i m e. down-on g g t t w v d m on (h.downs d i m e);
-      uppers = λ d lt. upper-on g g t t w v d (w.dialled d).upper on lt (h.uppers d lt);
+      downs = λ d i m e. down-on g g t t w v d m on.on (h.downs d i m e);
+      uppers = λ d lt. upper-on g g t t w v d (w.dialled d).upper on.on lt (h.uppers d lt);
       lowers = λ d. lower-on g g t t w v d (w.lowers d) on (h.lowers d);
       replicas = λ m b. at m b (m == n);
       writers = h.writers;
@@ -356,25 +386,33 @@ restart-acked g t w n list h =
     at : (m b : ℕ) (c : Bool) → IfSome ((if c then (λ d. restarted d (w.replicas n d) (w.breaks n d) (found_in list d)) else w.replicas m) b).known.info
         (Pends g t b ((if c then (λ d. restarted d (w.replicas n d) (w.breaks n d) (found_in list d)) else w.replicas m) b).known)
     at m b true = restarted-pends g t b w n (found_in list b)
-    at m b false = h.replicas m b
+    at m b false = k.acked.replicas m b
 
 -- ALL EVENTS
 
-where-told : (g : Givens) (t : Ends) (test : Bool) (v : World) → Acked g t v → IfSome (where_so test v) (Told g)
-where-told g t true v h = record { ends = t; acked = h }
-where-told g t false v h = tt
+where-told : (g : Givens) (t : Ends) (test : Bool) (v : World) → (Facts g v → Acked g t v) → Requests v → IfSome (where_so test v) (Facts g) → IfSome (where_so test v) (Told g)
+where-told g t true v h r f = record { ends = t; acked = h f; requests = r }
+where-told g t false v h r f = tt
+
+lost-requests : (w : World) (c : ℕ) (way : Direction) (more : ℕ) → Requests w → Requests (lost w c way more)
+lost-requests w c direction.Down more h = same-requests w (lost w c direction.Down more) refl (λ d. refl) (λ b. refl) h
+lost-requests w c direction.Up more h = same-requests w (lost w c direction.Up more) refl (λ d. refl) (λ b. refl) h
+
+restart-requests : (w : World) (n : ℕ) (list : List FoundReplica) → Requests w → Requests (restart w n list)
+unfolding restart
+restart-requests w n list h = same-requests w (restart w n list) refl (λ d. refl) (λ b. refl) h
 
 outcome-told : (g : Givens) (t : Ends) (w : World) (e : Event) → Known g t w → IfSome (outcome w e) (Facts (given_by g w e)) → IfSome (outcome w e) (Told (given_by g w e))
 unfolding outcome
-outcome-told g t w (event.Own s) h f = changed-told g t w (own_change w s) h (own-leads g t w s h) f
-outcome-told g t w (event.Office c) h f = office-told g t w (office_event w c) h (office-event-leads g t w c h) f
+outcome-told g t w (event.Own s) h f = changed-told g t w (own_change w s) h (own-moved w s) (own-leads g t w s h) f
+outcome-told g t w (event.Office c) h f = office-told g t w (office_event w c) h (untouched-moved w (office_event w c) (office-untouched w c)) (office-event-leads g t w c h) f
 outcome-told g t w (event.Down c answered) h f = down-told g t w c.0 answered false h f
 outcome-told g t w (event.Ready c) h f = ready-told g t w c.0 false h f
 outcome-told g t w (event.Up c) h f = up-told g t w c.0 false h f
-outcome-told g t w (event.Lost c way more) h f = where-told g t (nat_lt c.0 w.next_conn) (lost w c.0 way more) (lost-acked g t w c.0 way more h.acked)
+outcome-told g t w (event.Lost c way more) h f = where-told g t (nat_lt c.0 w.next_conn) (lost w c.0 way more) (λ _. lost-acked g t w c.0 way more h.acked) (lost-requests w c.0 way more h.requests) f
 outcome-told g t w (event.Fault d) h f = fault-told g t w d h f
-outcome-told g t w (event.Stop n) h f = where-told g t (w.running n.0) (stop w n.0) (stop-acked g t w n.0 h.acked)
-outcome-told g t w (event.Restart n list) h f = where-told g t (nat_lt n.0 w.nodes && not (w.running n.0) && all_found w n.0 list) (restart w n.0 list) (restart-acked g t w n.0 list h.acked)
+outcome-told g t w (event.Stop n) h f = where-told g t (w.running n.0) (stop w n.0) (λ _. stop-acked g t w n.0 h.acked) (same-requests w (stop w n.0) refl (λ d. refl) (λ b. refl) h.requests) f
+outcome-told g t w (event.Restart n list) h f = where-told g t (nat_lt n.0 w.nodes && not (w.running n.0) && all_found w n.0 list) (restart w n.0 list) (λ y. restart-acked g t w n.0 list h y) (restart-requests w n.0 list h.requests) f
 
 -- an event that isn't enabled gives no stamp
 idle-office : (g : Givens) (t : Ends) (w : World) (o : Option Change) → changed w o ≡ None → Acked g t w → Acked (given_with g (stamped_in o)) t w
@@ -396,13 +434,13 @@ idle-acked g t w (event.Restart n list) i h = h
 last-acked : (g : Givens) (t : Ends) (w : World) (e : Event) → Acked g t w → Acked g t (record w { last = Some e })
 last-acked g t w e h =
     let v : World = record w { last = Some e } in
-    let on = like-onward g t w v (record { past = refl; runs = λ m q. q; lives = λ m. refl; replicas = λ m b. refl }) in
+    let on = like-lasting g t w v (record { past = refl; runs = λ m q. q; lives = λ m. refl; replicas = λ m b. refl }) (λ m b. refl) (λ d. refl) in
     record {
       lives = h.lives;
       begun = h.begun;
       ups = λ d i m q. up-on g g t t w v d m on (h.ups d i m q);
-      downs = λ d i m q. down-on g g t t w v d m on (h.downs d i m q);
-      uppers = λ d lt. upper-on g g t t w v d (w.dialled d).upper on lt (h.uppers d lt);
+      downs = λ d i m q. down-on g g t t w v d m on.on (h.downs d i m q);
+      uppers = λ d lt. upper-on g g t t w v d (w.dialled d).upper on.on lt (h.uppers d lt);
       lowers = λ d. lower-on g g t t w v d (w.lowers d) on (h.lowers d);
       replicas = h.replicas;
       writers = h.writers;
@@ -425,16 +463,19 @@ outcome-facts : (g : Givens) (w : World) (e : Event) (o : Option World) → Fact
 outcome-facts g w e None f = tt
 outcome-facts g w e (Some v) f = back-facts g v e f
 
-after-told : (g : Givens) (t : Ends) (w : World) (e : Event) (o : Option World) → outcome w e ≡ o → Acked g t w → IfSome o (Told (given_by g w e)) → Told (given_by g w e) (after_event w e o)
-after-told g t w e None i h k = record { ends = t; acked = idle-acked g t w e i h }
-after-told g t w e (Some v) i h k = record { ends = k.ends; acked = last-acked (given_by g w e) k.ends v e k.acked }
+last-requests : (w : World) (e : Event) → Requests w → Requests (record w { last = Some e })
+last-requests w e h = same-requests w (record w { last = Some e }) refl (λ d. refl) (λ b. refl) h
+
+after-told : (g : Givens) (t : Ends) (w : World) (e : Event) (o : Option World) → outcome w e ≡ o → Known g t w → IfSome o (Told (given_by g w e)) → Told (given_by g w e) (after_event w e o)
+after-told g t w e None i h k = record { ends = t; acked = idle-acked g t w e i h.acked; requests = h.requests }
+after-told g t w e (Some v) i h k = record { ends = k.ends; acked = last-acked (given_by g w e) k.ends v e k.acked; requests = last-requests v e k.requests }
 
 happens-told : (g : Givens) (t : Ends) (w : World) (e : Event) → Known g t w → Facts (given_by g w e) (happens w e) → Told (given_by g w e) (happens w e)
 unfolding happens
-happens-told g t w e h f = after-told g t w e (outcome w e) refl h.acked (outcome-told g t w e h (outcome-facts (given_by g w e) w e (outcome w e) f))
+happens-told g t w e h f = after-told g t w e (outcome w e) refl h (outcome-told g t w e h (outcome-facts (given_by g w e) w e (outcome w e) f))
 
-run-told : (g : Givens) (t : Ends) (w : World) (events : List Event) → Reached w → Known g t w → (x : Ends) × Acked (given_in g w events) x (run w events)
-run-told g t w [] r h = (t, h.acked)
+run-told : (g : Givens) (t : Ends) (w : World) (events : List Event) → Reached w → Known g t w → (x : Ends) × Known (given_in g w events) x (run w events)
+run-told g t w [] r h = (t, h)
 run-told g t w (e ∷ events) r h =
     let a = reached-agreed w r in
     let j = happens-recorded g w e h.facts.recorded a in
@@ -443,7 +484,7 @@ run-told g t w (e ∷ events) r h =
     let n = reached-next w e r in
     let f = reached-facts (given_by g w e) (happens w e) n j c in
     let k = happens-told g t w e h f in
-    run-told (given_by g w e) k.ends (happens w e) events n (record { facts = f; sets = s; acked = k.acked })
+    run-told (given_by g w e) k.ends (happens w e) events n (record { facts = f; sets = s; requests = k.requests; acked = k.acked })
 
 no_ends : Ends
 no_ends e q = None
@@ -461,8 +502,20 @@ start-acked nodes = record {
   writers = λ b. record { known = λ r. absurd (omega (arith, r)); packets = λ r i p q. absurd (none-some p q); below = λ r q k z. absurd (none-some k z) };
 }
 
-pub all-acked : AllAcked
-all-acked nodes events =
+start-requests : (nodes : ℕ) → Requests (start nodes)
+unfolding start
+start-requests nodes = record {
+  begun = λ c lt. absurd (omega (arith, lt));
+  once = λ c d f k x y e. absurd (none-some _ x.first);
+  unasked = λ b. tt;
+}
+
+pub all-known : (nodes : ℕ) (events : List Event) → (t : Ends) × Known (given_in none_given (start nodes) events) t (run (start nodes) events)
+all-known nodes events =
     let c = start-carried nodes in
     let r = start-recorded nodes in
-    run-told none_given no_ends (start nodes) events (at-start nodes) (record { facts = reached-facts none_given (start nodes) (at-start nodes) r c; sets = start-set nodes; acked = start-acked nodes })
+    run-told none_given no_ends (start nodes) events (at-start nodes)
+    (record { facts = reached-facts none_given (start nodes) (at-start nodes) r c; sets = start-set nodes; requests = start-requests nodes; acked = start-acked nodes })
+
+pub all-acked : AllAcked
+all-acked nodes events = let k = all-known nodes events in (k.0, k.1.acked)
