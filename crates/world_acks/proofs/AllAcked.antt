@@ -31,7 +31,7 @@ use Rattle.world_laws.proofs.ByteLeaves.{Facts}
 use Rattle.world_laws.proofs.AllCarried.{down-taken-facts, up-taken-facts, happens-carried, reached-facts, at-start, start-carried}
 use Rattle.world_laws.specs.Joining.{joined_as, SetUps}
 use Rattle.world_laws.proofs.AllSetUp.{happens-set, start-set}
-use Rattle.world_acks.specs.Acking.{Shown, Seat, IsUncut, Ends, Pends, UpperTells, Acked, AllAcked}
+use Rattle.world_acks.specs.Acking.{Shown, Seat, UpdatesLeave, Ends, Pends, UpperTells, Acked, AllAcked}
 use Rattle.world_acks.specs.Closing.{FinalUnder, BrokeFinal, HasClosed}
 use Rattle.world_acks.specs.Waiting.{Requests, IsQuiet}
 use Rattle.world_acks.proofs.Requests.{Requesting, quiet-apply, requests-apply, same-quiet, same-requests}
@@ -50,21 +50,21 @@ use Rattle.world_laws.proofs.ReplicaUntouching.{office-untouched}
 -- WORLDS WITH THE SAME PAST
 
 -- a world with the same past, lower ends, replicas, writers and office, whose nodes run only where they ran before
-record IsLike (w v : World) : Type 0 where
+pub record IsLike (w v : World) : Type 0 where
   pub past : v.past ≡ w.past
   pub runs : (n : ℕ) → v.running n ≡ true → w.running n ≡ true
   pub lives : (n : ℕ) → v.lives n ≡ w.lives n
   pub replicas : (n b : ℕ) → v.replicas n b ≡ w.replicas n b
 
-like-onward : (g : Givens) (t : Ends) (w v : World) → IsLike w v → Onward g g t t w v
+pub like-onward : (g : Givens) (t : Ends) (w v : World) → IsLike w v → Onward g g t t w v
 like-onward g t w v l = record {
   seats = λ b s e n j h. record {
     life = h.life;
     joins = subst (λ p. Has p.joined (joined_as s n h.life)) (sym l.past) h.joins;
     born = omega (arith, h.born, l.lives n);
-    shows = λ r a q u.
-        subst (λ (x : FullReplica). Shown x s j (v.written e)) (sym (l.replicas n b)) (subst (λ p. Shown (w.replicas n b) s j (p.written e)) (sym l.past)
-        (h.shows (l.runs n r) (sym (l.lives n) ∙ a) (ap (λ (x : FullReplica). x.known.is_broken) (sym (l.replicas n b)) ∙ q) (record { none = λ x y. u.none x (subst (λ p. Has p.updated x) (sym l.past) y) })));
+    shows = λ r a q i le u.
+        subst (λ (x : FullReplica). Shown x s i (v.written e)) (sym (l.replicas n b)) (subst (λ p. Shown (w.replicas n b) s i (p.written e)) (sym l.past)
+        (h.shows (l.runs n r) (sym (l.lives n) ∙ a) (ap (λ (x : FullReplica). x.known.is_broken) (sym (l.replicas n b)) ∙ q) i le (record { each = λ x y. u.each x (subst (λ p. Has p.updated x) (sym l.past) y) })));
   };
   given = λ b s e q. q;
   named = λ e x q n. n;
@@ -137,16 +137,16 @@ up-taken-requests : (w : World) (c : ℕ) (x : Next) → Requests w → Requests
 unfolding up_taken
 up-taken-requests w c x h = same-requests w (up_taken w c x) refl (λ d. refl) (λ b. refl) h
 
-down-known : (g : Givens) (t : Ends) (w : World) (c : ℕ) (x : Next) → Known g t w → Known g t (down_taken w c x)
+pub down-known : (g : Givens) (t : Ends) (w : World) (c : ℕ) (x : Next) → Known g t w → Known g t (down_taken w c x)
 down-known g t w c x h = record { facts = down-taken-facts g w c x h.facts; sets = down-taken-set g w c x h.sets; requests = down-taken-requests w c x h.requests; acked = down-taken-acked g t w c x h.acked }
 
-up-known : (g : Givens) (t : Ends) (w : World) (c : ℕ) (x : Next) → Known g t w → Known g t (up_taken w c x)
+pub up-known : (g : Givens) (t : Ends) (w : World) (c : ℕ) (x : Next) → Known g t w → Known g t (up_taken w c x)
 up-known g t w c x h = record { facts = up-taken-facts g w c x h.facts; sets = up-taken-set g w c x h.sets; requests = up-taken-requests w c x h.requests; acked = up-taken-acked g t w c x h.acked }
 
 -- CHANGES
 
 -- with some ends of packets
-record Told (g : Givens) (w : World) : Type 0 where
+pub record Told (g : Givens) (w : World) : Type 0 where
   pub ends : Ends
   pub acked : Acked g ends w
   pub requests : Requests w
@@ -175,11 +175,11 @@ office-told g t w (Some k) h m x f =
     let lasts = apply-lasting g (given_with g k.stamped) t l.ends w k h m l.requests f on in
     record { ends = l.ends; acked = keeps g (given_with g k.stamped) t l.ends w k h.acked lasts (l.news lasts f); requests = requests-apply g (given_with g k.stamped) w k h.requests l.requests h.facts f }
 
-leads-of : (g : Givens) (t : Ends) (w : World) (o : Option Change) → IfSome o (Leaf g t w) → IfSome o (Leads g g t w)
+pub leads-of : (g : Givens) (t : Ends) (w : World) (o : Option Change) → IfSome o (Leaf g t w) → IfSome o (Leads g g t w)
 leads-of g t w o h = some-weaker (Leaf g t w) (Leads g g t w) o (λ k l. leaf-leads g t w k l) h
 
 -- both of a test
-when-two : {A : Type 0} (Q P : A → Type 0) (b : Bool) (o : Option A) → IfSome (if b then o else None) Q → (b ≡ true → IfSome o Q → IfSome o P) → IfSome (if b then o else None) P
+pub when-two : {A : Type 0} (Q P : A → Type 0) (b : Bool) (o : Option A) → IfSome (if b then o else None) Q → (b ≡ true → IfSome o Q → IfSome o P) → IfSome (if b then o else None) P
 when-two Q P true o q h = h refl q
 when-two Q P false o q h = tt
 
@@ -188,32 +188,32 @@ when-two Q P false o q h = tt
 alive-life : (w : World) (c : ℕ) → is_alive w (w.dialled c).to ≡ true → w.lives (node_of w c) ≡ (w.dialled c).to.life
 alive-life w c e = let p = (w.dialled c).to in eqb-true (w.lives p.node) p.life (and-right (w.running p.node) (w.lives p.node == p.life) e)
 
-lt-true : (a b : ℕ) → nat_lt a b ≡ true → a < b
+pub lt-true : (a b : ℕ) → nat_lt a b ≡ true → a < b
 lt-true a b e = grind (arith, nat_tests, e)
 
-served-known : (w : World) (c : ℕ) → is_served w c ≡ true → c < w.next_conn
+pub served-known : (w : World) (c : ℕ) → is_served w c ≡ true → c < w.next_conn
 served-known w c e = lt-true c w.next_conn (and-left (nat_lt c w.next_conn) (is_alive w (w.dialled c).to) e)
 
-served-life : (w : World) (c : ℕ) → is_served w c ≡ true → w.lives (node_of w c) ≡ (w.dialled c).to.life
+pub served-life : (w : World) (c : ℕ) → is_served w c ≡ true → w.lives (node_of w c) ≡ (w.dialled c).to.life
 served-life w c e = alive-life w c (and-right (nat_lt c w.next_conn) (is_alive w (w.dialled c).to) e)
 
-next-tells : (g : Givens) (t : Ends) (w : World) (c : ℕ) (x : Next) → Known g t w → next_down w c ≡ Some x → NextTells g t w c x
+pub next-tells : (g : Givens) (t : Ends) (w : World) (c : ℕ) (x : Next) → Known g t w → next_down w c ≡ Some x → NextTells g t w c x
 next-tells g t w c (message m) h e = (h.facts.carried.downs c (w.down_marks c).taken m (next-sent (w.downs c) (w.down_marks c) m e), h.acked.downs c (w.down_marks c).taken m (next-sent (w.downs c) (w.down_marks c) m e))
 next-tells g t w c the_end h e = tt
 
-taken-tells : (g : Givens) (t : Ends) (w : World) (c : ℕ) (x y : Next) → NextTells g t w c y → NextTells g t (down_taken w c x) c y
+pub taken-tells : (g : Givens) (t : Ends) (w : World) (c : ℕ) (x y : Next) → NextTells g t w c y → NextTells g t (down_taken w c x) c y
 unfolding down_taken
 taken-tells g t w c x (message m) h =
     (h.0, down-on g g t t w (down_taken w c x) c m (like-onward g t w (down_taken w c x) (record { past = refl; runs = λ n e. e; lives = λ n. refl; replicas = λ n b. refl })) h.1)
 taken-tells g t w c x the_end h = tt
 
-heard-tells : (g : Givens) (t : Ends) (w : World) (c : ℕ) (x : Next) → Known g t w → next_up w c ≡ Some x → HeardTells g t (up_taken w c x) c x
+pub heard-tells : (g : Givens) (t : Ends) (w : World) (c : ℕ) (x : Next) → Known g t w → next_up w c ≡ Some x → HeardTells g t (up_taken w c x) c x
 unfolding up_taken
 heard-tells g t w c (message m) h e =
     up-on g g t t w (up_taken w c (message m)) c m (like-lasting g t w (up_taken w c (message m)) (record { past = refl; runs = λ n q. q; lives = λ n. refl; replicas = λ n b. refl }) (λ n b. refl) (λ d. refl)) (h.acked.ups c (w.up_marks c).taken m (next-sent (w.ups c) (w.up_marks c) m e))
 heard-tells g t w c the_end h e = tt
 
-lower-taken : (g : Givens) (t : Ends) (w : World) (c : ℕ) (x : Next) (answered fails : Bool) → Known g t (down_taken w c x) → c < w.next_conn → w.lives (node_of w c) ≡ (w.dialled c).to.life → NextTells g t (down_taken w c x) c x
+pub lower-taken : (g : Givens) (t : Ends) (w : World) (c : ℕ) (x : Next) (answered fails : Bool) → Known g t (down_taken w c x) → c < w.next_conn → w.lives (node_of w c) ≡ (w.dialled c).to.life → NextTells g t (down_taken w c x) c x
     → IfSome (lower_down (w.lowers c) (down_taken w c x) c x answered fails) (Leaf g t (down_taken w c x))
 unfolding down_taken
 lower-taken g t w c x answered fails h lt alive n = lower-down-leaf (w.lowers c) g t (down_taken w c x) c x answered fails h refl lt alive n
@@ -244,7 +244,7 @@ upper-leads (by_member d) g t w c x fails h e lt n =
 upper-leads (by_reader i) g t w c x fails h e lt n = unless-leads g t w fails (reader_up w i c x) (reader-up-leads g t w i c x h)
 upper-leads (by_primary i p) g t w c x fails h e lt n = unless-leads g t w fails (primary_up w i p c x) (primary-up-leads g t w i p c x h)
 
-upper-taken : (g : Givens) (t : Ends) (w : World) (c : ℕ) (x : Next) (fails : Bool) → Known g t (up_taken w c x) → c < w.next_conn → HeardTells g t (up_taken w c x) c x → IfSome (upper_up (w.dialled c).upper (up_taken w c x) c x fails) (Leads g g t (up_taken w c x))
+pub upper-taken : (g : Givens) (t : Ends) (w : World) (c : ℕ) (x : Next) (fails : Bool) → Known g t (up_taken w c x) → c < w.next_conn → HeardTells g t (up_taken w c x) c x → IfSome (upper_up (w.dialled c).upper (up_taken w c x) c x fails) (Leads g g t (up_taken w c x))
 unfolding up_taken
 upper-taken g t w c x fails h lt n = upper-leads (w.dialled c).upper g t (up_taken w c x) c x fails h refl lt n
 
@@ -262,7 +262,7 @@ fault-told g t w (delivery.Down c) h f = down-told g t w c.0 false true h f
 fault-told g t w (delivery.Ready c) h f = ready-told g t w c.0 true h f
 fault-told g t w (delivery.Up c) h f = up-told g t w c.0 true h f
 
-own-leads : (g : Givens) (t : Ends) (w : World) (s : OwnStep) → Known g t w → IfSome (own_change w s) (Leads g g t w)
+pub own-leads : (g : Givens) (t : Ends) (w : World) (s : OwnStep) → Known g t w → IfSome (own_change w s) (Leads g g t w)
 own-leads g t w (own.Writer b takes answered) h = own-writer-leads g t w b.0 takes answered h
 own-leads g t w (own.Reader i n r answered) h = own-reader-leads g t w i n.0 r answered h
 own-leads g t w (own.Recover i n b members answers) h = own-recover-leads g t w i n.0 b members answers h
@@ -314,7 +314,7 @@ lost-acked g t w c direction.Up more h =
     }
 
 -- the seats of a node that restarts are of earlier lives
-restart-onward : (g : Givens) (t : Ends) (w : World) (n : ℕ) (list : List FoundReplica) → Onward g g t t w (restart w n list)
+pub restart-onward : (g : Givens) (t : Ends) (w : World) (n : ℕ) (list : List FoundReplica) → Onward g g t t w (restart w n list)
 unfolding restart
 restart-onward g t w n list = record {
   seats = λ b s e m j h. seat b s e m j h (m == n) refl;
@@ -335,14 +335,14 @@ restart-onward g t w n list = record {
       life = h.life;
       joins = h.joins;
       born = more m h.life (m == n) refl h.born;
-      shows = λ r a z u. at (m == n) refl r a z u;
+      shows = λ r a z i le u. at (m == n) refl r a z i le u;
     }
       where
         at : (c : Bool) → (m == n) ≡ c → (if c then true else w.running m) ≡ true → (if c then w.lives n + 1 else w.lives m) ≡ h.life
-            → ((if c then (λ d. restarted d (w.replicas n d) (w.breaks n d) (found_in list d)) else w.replicas m) b).known.is_broken ≡ false → IsUncut (restart w n list) b s m h.life
-            → Shown ((if c then (λ d. restarted d (w.replicas n d) (w.breaks n d) (found_in list d)) else w.replicas m) b) s j (w.written e)
-        at true z r a y u = absurd (omega (arith, a, h.born, ap (λ (i : ℕ). w.lives i) (eqb-true m n z)))
-        at false z r a y u = h.shows r a y (record { none = u.none })
+            → ((if c then (λ d. restarted d (w.replicas n d) (w.breaks n d) (found_in list d)) else w.replicas m) b).known.is_broken ≡ false → (i : ℕ) → i ≤ j → UpdatesLeave (restart w n list) b s m h.life i
+            → Shown ((if c then (λ d. restarted d (w.replicas n d) (w.breaks n d) (found_in list d)) else w.replicas m) b) s i (w.written e)
+        at true z r a y i le u = absurd (omega (arith, a, h.born, ap (λ (i : ℕ). w.lives i) (eqb-true m n z)))
+        at false z r a y i le u = h.shows r a y i le (record { each = u.each })
 
 -- nothing is pending at a replica that was found
 found-pends : (g : Givens) (t : Ends) (b : ℕ) (f : Option Found) → IfSome (replica_found b f).known.info (Pends g t b (replica_found b f).known)
@@ -459,7 +459,7 @@ back-facts g v e f =
       recorded = record { below = r.below; above = r.above; session = r.session; one = r.one; first = r.first; writers = r.writers; blocks = r.blocks };
     }
 
-outcome-facts : (g : Givens) (w : World) (e : Event) (o : Option World) → Facts g (after_event w e o) → IfSome o (Facts g)
+pub outcome-facts : (g : Givens) (w : World) (e : Event) (o : Option World) → Facts g (after_event w e o) → IfSome o (Facts g)
 outcome-facts g w e None f = tt
 outcome-facts g w e (Some v) f = back-facts g v e f
 
@@ -470,7 +470,7 @@ after-told : (g : Givens) (t : Ends) (w : World) (e : Event) (o : Option World) 
 after-told g t w e None i h k = record { ends = t; acked = idle-acked g t w e i h.acked; requests = h.requests }
 after-told g t w e (Some v) i h k = record { ends = k.ends; acked = last-acked (given_by g w e) k.ends v e k.acked; requests = last-requests v e k.requests }
 
-happens-told : (g : Givens) (t : Ends) (w : World) (e : Event) → Known g t w → Facts (given_by g w e) (happens w e) → Told (given_by g w e) (happens w e)
+pub happens-told : (g : Givens) (t : Ends) (w : World) (e : Event) → Known g t w → Facts (given_by g w e) (happens w e) → Told (given_by g w e) (happens w e)
 unfolding happens
 happens-told g t w e h f = after-told g t w e (outcome w e) refl h (outcome-told g t w e h (outcome-facts (given_by g w e) w e (outcome w e) f))
 
@@ -486,10 +486,10 @@ run-told g t w (e ∷ events) r h =
     let k = happens-told g t w e h f in
     run-told (given_by g w e) k.ends (happens w e) events n (record { facts = f; sets = s; requests = k.requests; acked = k.acked })
 
-no_ends : Ends
+pub no_ends : Ends
 no_ends e q = None
 
-start-acked : (nodes : ℕ) → Acked none_given no_ends (start nodes)
+pub start-acked : (nodes : ℕ) → Acked none_given no_ends (start nodes)
 unfolding start no_ends
 start-acked nodes = record {
   lives = λ s n l j. absurd (none-some _ j.there);

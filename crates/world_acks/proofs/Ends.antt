@@ -1,6 +1,8 @@
 -- What the other lower ends make of what answers and acks say: reads, and a member's part of a block recovery.
-use Rattle.std.proofs.Common.{◌≡◌, ℕ, ◌<◌, inl, inr, Bool, true, false, List, [], ◌++◌, length, take, take_all, append-nil, slice_get, Option, Some, None, IfSome, Result, Ok, Err, IfOk, refl, sym, ◌∙◌, ap, subst, arith}
+use Rattle.std.proofs.Common.{◌≡◌, ℕ, ◌<◌, ◌≤◌, ◌⊎◌, inl, inr, Bool, true, false, List, [], ◌++◌, length, take, take_all, append-nil, slice_get, Option, Some, None, IfSome, Result, Ok, Err, IfOk, refl, sym, ◌∙◌, ap, subst, arith}
 use Rattle.std.specs.Prelude.{◌==◌, if◌then◌else◌}
+use Rattle.std.proofs.lemmas.Bool.{cases_lt}
+use Rattle.std.proofs.lemmas.List.{take-take}
 use Rattle.std.proofs.lemmas.Option.{none-some, same_Some}
 use Rattle.hd_base.specs.Results.{◌>>=◌}
 use Rattle.hd_base.specs.declared.numbers.Stamp.{Stamp}
@@ -17,11 +19,12 @@ use Rattle.replica_core.specs.declared.events.Event.TheVariants as event
 use Rattle.replica_core.specs.declared.info.ReplicaInfo.{ReplicaInfo}
 use Rattle.replica_core.specs.declared.records.ReplicaRecord.{ReplicaRecord}
 use Rattle.replica_core.specs.declared.refusals.Refusal.{Refusal}
-use Rattle.replica_core.specs.Info.{end_recovery}
+use Rattle.hd_base.specs.declared.states.ReplicaState.TheVariants as state
+use Rattle.replica_core.specs.Info.{settled_at, end_recovery}
 use Rattle.replica_core.specs.Transitions.{Outcome, Taken, transition, record_after, state_after, present, with_writer, done, set_writer}
 use Rattle.replica_core.specs.Transitions as core
-use Rattle.replica_core.specs.Views.{written_in}
-use Rattle.replica_core.proofs.InfoLemmas.{present_is}
+use Rattle.replica_core.specs.Views.{written_in, written_at}
+use Rattle.replica_core.proofs.InfoLemmas.{present_is, end_recovery_is}
 use Rattle.replica_model.specs.declared.events.ReplicaEvent.{ReplicaEvent}
 use Rattle.replica_model.specs.declared.events.ReplicaEvent.TheVariants as replica_event
 use Rattle.replica_model.specs.Rows.{FullReplica, IsFull, broken}
@@ -30,7 +33,7 @@ use Rattle.request_refusals.specs.Pools.{is_in_pool}
 use Rattle.read_core.specs.Servings.{ServingState, read_at, read_event, accepting, refusing, next_call, piece_at}
 use Rattle.recovery_core.specs.declared.members.RecoveryReply.{RecoveryReply}
 use Rattle.recovery_core.specs.Members.{Served, no_recovery, step_event, recovery_event, reply_to, answer_of, served_as, serve_faulted}
-use Rattle.world.specs.Parts.{Message, request, packet, ack, response, read_status, recovery_answer, FullMember, Lower, idle, writes, serves, recovers, ended_below, Break}
+use Rattle.world.specs.Parts.{Message, request, packet, ack, response, read_status, recovery_answer, FullMember, Lower, idle, writes, serves, recovers, ended_below, Break, Updated}
 use Rattle.world.specs.Worlds.{World, Change, apply}
 use Rattle.world.specs.Connections.{Next, message, the_end, is_alive}
 use Rattle.world.specs.Nodes.{node_of, replica_at, broke_at, closing, unless_failing, breaking, read_change, failing_read, read_request, piece_as, serve_change, updated_by, recovery_change, failing_recovery, recovery_request, first_message, next_recovery, lower_down, lower_ready, mirror_up}
@@ -44,7 +47,7 @@ use Rattle.world_laws.proofs.ByteRows.{update-held}
 use Rattle.world_laws.specs.Joining.{IsPlain}
 use Rattle.world_laws.proofs.SetupRising.{event-broken}
 use Rattle.world_acks.specs.Acking.{Shown, AsksToRead, Ends, UpTells, DownTells, Mirrors, LowerTells, Pends}
-use Rattle.world_acks.proofs.Seats.{has-one, Steps, steps-same, Lasting, reads-on}
+use Rattle.world_acks.proofs.Seats.{has-one, IsCut, Steps, steps-same, Lasting, reads-on}
 use Rattle.world_acks.proofs.Turning.{Known, Acts, HeardTells, from-mirror}
 use Rattle.world_acks.proofs.Lowers.{Leaf, TakenTells, still-numbers, aside-begun, row-steps, row-pends, same-pends, down-leaf, up-leaf, ready-leaf}
 use Rattle.world_acks.proofs.Requests.{still-requests}
@@ -139,7 +142,7 @@ serve-leaf g t w c b s (Some e) false h = piece-leaf g t w c b (piece_at s (repl
 -- a recovery's event
 abbrev IsRecoveryEvent : RecoveryOp → Event → Type 0
 IsRecoveryEvent q (event.Init named id) = Unit {0}
-IsRecoveryEvent q (event.Update id n) = id ≡ q.recovery
+IsRecoveryEvent q (event.Update id n) = (id ≡ q.recovery) × (n ≡ q.new_length)
 IsRecoveryEvent q _ = ⊥
 
 init-is : (q : RecoveryOp) (b : Bool) (named id : Stamp) → IfOk (if b then Err no_recovery else Ok (event.Init named id)) (IsRecoveryEvent q)
@@ -149,31 +152,32 @@ init-is q false named id = tt
 step-is : (k : RecoveryKind) (q : RecoveryOp) → IfOk (step_event k q) (IsRecoveryEvent q)
 step-is recovery_kind.Begin q = tt
 step-is recovery_kind.Init q = init-is q (q.recovery.0 == 0) q.block.stamp q.recovery
-step-is recovery_kind.Update q = refl
+step-is recovery_kind.Update q = (refl, refl)
 
 event-is : (q : RecoveryOp) → IfOk (recovery_event q) (IsRecoveryEvent q)
 unfolding recovery_event
 event-is q = if-each (λ (e : Result Event RecoveryReply). IfOk e (IsRecoveryEvent q)) (is_in_pool q.block) (step_event q.kind q) _ (λ _. step-is q.kind q) (λ _. tt)
 
--- an update: refused, or of a replica that the recovery held
-record IsHeldBy (c : ReplicaRecord) (id : Stamp) : Type 0 where
+-- an update: refused, or of a replica that the recovery held, which is then FINALIZED with just that length
+record IsHeldBy (c : ReplicaRecord) (id : Stamp) (n : ℕ) (d : ReplicaRecord) : Type 0 where
   pub info : ReplicaInfo
   pub is : c.info ≡ Some info
   pub holder : info.recovery ≡ Some id
+  pub after : d.info ≡ Some (settled_at state.Finalized id info.sums n)
 
-abbrev HeldOr : ReplicaRecord → Stamp → Outcome → Type 0
-HeldOr c id (Ok t) = IsHeldBy c id × (t.answer ≡ core_answer.Done)
-HeldOr c id (Err e) = Unit {0}
+abbrev HeldOr : ReplicaRecord → Stamp → ℕ → Outcome → Type 0
+HeldOr c id n (Ok t) = IsHeldBy c id n t.replica × (t.answer ≡ core_answer.Done)
+HeldOr c id n (Err e) = Unit {0}
 
-update-held-or : (c : ReplicaRecord) (id : Stamp) (n : ℕ) → HeldOr c id (transition c (event.Update id n))
+update-held-or : (c : ReplicaRecord) (id : Stamp) (n : ℕ) → HeldOr c id n (transition c (event.Update id n))
 unfolding transition
 update-held-or c id n = outer (present c) refl
   where
-    inner : (i : ReplicaInfo) → c.info ≡ Some i → (r : Result ReplicaInfo Refusal) → end_recovery i i.recovery id n ≡ r → HeldOr c id (with_writer c None r)
+    inner : (i : ReplicaInfo) → c.info ≡ Some i → (r : Result ReplicaInfo Refusal) → end_recovery i i.recovery id n ≡ r → HeldOr c id n (with_writer c None r)
     inner i is (Err x) e = tt
-    inner i is (Ok j) e = (record { info = i; is = is; holder = update-held i j i.recovery id n e }, refl)
+    inner i is (Ok j) e = (record { info = i; is = is; holder = update-held i j i.recovery id n e; after = ap (λ (k : ReplicaInfo). Some k) (end_recovery_is i j i.recovery id n e).0 }, refl)
 
-    outer : (r : Result ReplicaInfo Refusal) → present c ≡ r → HeldOr c id (r >>= (λ h. with_writer c None (end_recovery h h.recovery id n)))
+    outer : (r : Result ReplicaInfo Refusal) → present c ≡ r → HeldOr c id n (r >>= (λ h. with_writer c None (end_recovery h h.recovery id n)))
     outer (Err x) e = tt
     outer (Ok i) e = inner i (present_is c i e).1 (end_recovery i i.recovery id n) refl
 
@@ -197,27 +201,51 @@ refused-shown r e s n v f x = subst (λ (y : FullReplica). Shown y s n v) (sym (
         whole : (n : ℕ) (v : List ℕ) → length v ≡ n → take n (v ++ []) ≡ v
         whole n v q = ap (λ (xs : List ℕ). take n xs) (append-nil v) ∙ take_all n v (omega (arith, q))
 
-update-steps : (g : Givens) (t : Ends) (w : World) (c : ℕ) (q : RecoveryOp) (id : Stamp) (o : Outcome) → Known g t w → w.lives (node_of w c) ≡ (w.dialled c).to.life → id ≡ q.recovery
-    → HeldOr (replica_at w c q.block.block.0).known id o → ((replica_at w c q.block.block.0).known.is_broken ≡ true → (record_after (replica_at w c q.block.block.0).known o).is_broken ≡ true) → Steps w (Serves w c q (Told (replica_at w c q.block.block.0) o))
-update-steps g t w c q id (Err x) h alive e held b = record { broken = b; shown = λ f _ s n v y. inl (refused-shown (replica_at w c q.block.block.0) x s n v f y) }
-update-steps g t w c q id (Ok u) h alive e held b = record {
-  broken = b;
-  shown = λ f _ s n v y. inr (record {
-    entry = record { node = node_of w c; life = (w.dialled c).to.life; block = q.block.block.0; recovery = q.recovery.0; length = q.new_length };
-    has = subst (λ (a : RecoveryReply). Has (updated_by a (w.dialled c).to q) (record { node = node_of w c; life = (w.dialled c).to.life; block = q.block.block.0; recovery = q.recovery.0; length = q.new_length })) (sym (ap reply_to held.1)) (has-one _);
-    node = refl;
-    life = sym alive;
-    block = refl;
-    above = above s y;
-  });
+-- what is FINALIZED with these bytes shows them
+updated-shown : (r q : FullReplica) (i : ReplicaInfo) (id : Stamp) (k s n : ℕ) (v : List ℕ) → q.known.info ≡ Some (settled_at state.Finalized id i.sums k) → q.bytes ≡ take k (r.bytes ++ []) → s ≤ id.0 → n ≤ k → Shown r s n v → Shown q s n v
+updated-shown r q i id k s n v is bytes low le x = record {
+  info = settled_at state.Finalized id i.sums k;
+  is = is;
+  least = low;
+  visible = k;
+  sees = refl;
+  enough = le;
+  bytes = ap (λ (xs : List ℕ). take n xs) bytes ∙ take-take n k (r.bytes ++ []) le ∙ ap (λ (xs : List ℕ). take n xs) (append-nil r.bytes) ∙ x.bytes;
+  within = x.within;
 }
+
+update-steps : (g : Givens) (t : Ends) (w : World) (c : ℕ) (q : RecoveryOp) (id : Stamp) (k : ℕ) (o : Outcome) → Known g t w → w.lives (node_of w c) ≡ (w.dialled c).to.life → id ≡ q.recovery → k ≡ q.new_length
+    → HeldOr (replica_at w c q.block.block.0).known id k o → ((replica_at w c q.block.block.0).known.is_broken ≡ true → (record_after (replica_at w c q.block.block.0).known o).is_broken ≡ true) → Steps w (Serves w c q (Told (replica_at w c q.block.block.0) o))
+update-steps g t w c q id k (Err x) h alive e size held b = record { broken = b; shown = λ f _ s n v y. inl (refused-shown (replica_at w c q.block.block.0) x s n v f y) }
+update-steps g t w c q id k (Ok u) h alive e size held b = record { broken = b; shown = λ f _ s n v y. go s n v y (cases_lt k n) }
   where
-    above : (s : ℕ) {n : ℕ} {v : List ℕ} → Shown (replica_at w c q.block.block.0) s n v → s < q.recovery.0
+    r : FullReplica
+    r = replica_at w c q.block.block.0
+
+    last : Updated
+    last = record { node = node_of w c; life = (w.dialled c).to.life; block = q.block.block.0; recovery = q.recovery.0; length = q.new_length }
+
+    above : (s : ℕ) {n : ℕ} {v : List ℕ} → Shown r s n v → s < q.recovery.0
     above s y =
         let plain : IsPlain held.0.info = subst (λ (o : Option ReplicaInfo). IfSome o IsPlain) held.0.is (h.sets.plain (node_of w c) q.block.block.0) in
         let same : held.0.info ≡ y.info = same_Some held.0.info y.info (sym held.0.is ∙ y.is) in
         let low = plain.above id held.0.holder in
         omega (arith, low, y.least, ap (λ (i : ReplicaInfo). i.stamp.0) same, ap (λ (z : Stamp). z.0) e)
+
+    bytes : (after r (Ok u)).bytes ≡ take k (r.bytes ++ [])
+    bytes = ap (λ (o : Option ReplicaInfo). take (written_at o) (r.bytes ++ [])) held.0.after
+
+    go : (s n : ℕ) (v : List ℕ) → Shown r s n v → (k < n) ⊎ (n ≤ k) → Shown (after r (Ok u)) s n v ⊎ IsCut w (Serves w c q (Told r (Ok u))) s n
+    go s n v y (inr le) = inl (updated-shown r (after r (Ok u)) held.0.info id k s n v held.0.after bytes (omega (arith, above s y, ap (λ (z : Stamp). z.0) e)) le y)
+    go s n v y (inl lt) = inr (record {
+      entry = last;
+      has = subst (λ (a : RecoveryReply). Has (updated_by a (w.dialled c).to q) last) (sym (ap reply_to held.1)) (has-one _);
+      node = refl;
+      life = sym alive;
+      block = refl;
+      above = above s y;
+      fewer = omega (arith, lt, size);
+    })
 
 served-beside : (w : World) (c : ℕ) (q : RecoveryOp) (s : Served) (b : Option Break) → IsBeside w (recovery_change w c q s b)
 served-beside w c q s b = record { office = refl; stamped = refl; writer = refl; dials = refl; downs = λ _. refl; joined = refl; busy = λ e. absurd (recovers-busy e); lower = λ _ _. tt }
@@ -235,7 +263,7 @@ served-event g t w c q (event.Update id n) h alive x =
     let r = replica_at w c q.block.block.0 in
     let s = served_as r (Ok (event.Update id n)) in
     let k = Serves w c q s in
-    beside-leaf g t w k h (served-beside w c q s (w.breaks (node_of w c) q.block.block.0)) (update-steps g t w c q id (transition r.known (event.Update id n)) h alive x (update-held-or r.known id n) (λ b. event-broken r.known (event.Update id n) b))
+    beside-leaf g t w k h (served-beside w c q s (w.breaks (node_of w c) q.block.block.0)) (update-steps g t w c q id n (transition r.known (event.Update id n)) h alive x.0 x.1 (update-held-or r.known id n) (λ b. event-broken r.known (event.Update id n) b))
     (row-pends g t w k (replica_event.Other (event.Update id n)) h refl tt) (served-ups g t w c q s (w.breaks (node_of w c) q.block.block.0))
 served-event g t w c q (event.Create conn s r) h alive x = absurd x
 served-event g t w c q (event.Temporary conn s r) h alive x = absurd x

@@ -83,10 +83,10 @@ pub record IsNext (o : OfficeState) (s : Option Stamped) (p : OfficeState) : Typ
   pub rises : o.next.0 ≤ p.next.0
   pub fresh : IfSome s (λ x. x.stamp ≡ o.next.0)
 
-abbrev NextBy : World → OfficeCall → Step OfficeState OfficeAnswer → Type 0
+abbrev pub NextBy : World → OfficeCall → Step OfficeState OfficeAnswer → Type 0
 NextBy w c s = IsNext w.office (stamped_by w c (reply s)) (state_after w.office s)
 
-next-by : (w : World) (c : OfficeCall) → NextBy w c (office_case w.office c)
+pub next-by : (w : World) (c : OfficeCall) → NextBy w c (office_case w.office c)
 next-by w c = each_case w.office (NextBy w) (record {
   refused = λ d e. record { rises = omega arith; fresh = subst (λ (o : Option Stamped). IfSome o (λ x. x.stamp ≡ w.office.next.0)) (sym (refused-stamp w d e)) tt };
   created = λ block members none. record { rises = omega arith; fresh = refl };
@@ -100,22 +100,22 @@ next-by w c = each_case w.office (NextBy w) (record {
 
 -- LATEST SESSIONS
 
-put-own : (f : ℕ → ℕ) (i j : ℕ) → put f i (f i) j ≡ f j
+pub put-own : (f : ℕ → ℕ) (i j : ℕ) → put f i (f i) j ≡ f j
 put-own f i j = if-each (λ (x : ℕ). x ≡ f j) (j == i) (f i) (f j) (λ e. ap f (sym (eqb-true j i e))) (λ _. refl)
 
 put-apart : (f : ℕ → ℕ) (i x j b : ℕ) → i ≡ b → (j ≡ b → ⊥) → put f i x j ≡ f j
 put-apart f i x j b e a = if-each (λ (y : ℕ). y ≡ f j) (j == i) x (f j) (λ q. absurd (a (eqb-true j i q ∙ e))) (λ _. refl)
 
-none-latest : (w : World) (o : Option Stamped) (d : ℕ) → o ≡ None → latest_with w.latest o d ≡ w.latest d
+pub none-latest : (w : World) (o : Option Stamped) (d : ℕ) → o ≡ None → latest_with w.latest o d ≡ w.latest d
 none-latest w o d e = subst (λ (q : Option Stamped). latest_with w.latest q d ≡ w.latest d) (sym e) refl
 
 -- what a writer knows after an answer
-record Answers (g : Givens) (t : Ends) (w : World) (b : ℕ) (s : Option Stamped) (y : WriterRecord) : Type 0 where
+pub record Answers (g : Givens) (t : Ends) (w : World) (b : ℕ) (s : Option Stamped) (y : WriterRecord) : Type 0 where
   pub own : Numbers (given_with g s b) t (latest_with w.latest s b) y
   pub unasked : Unasked w.past y.phase
   pub others : (d : ℕ) → (d ≡ b → ⊥) → latest_with w.latest s d ≡ w.latest d
 
-abbrev AnswersBy : Givens → Ends → World → ℕ → OfficeCall → Step OfficeState OfficeAnswer → Type 0
+abbrev pub AnswersBy : Givens → Ends → World → ℕ → OfficeCall → Step OfficeState OfficeAnswer → Type 0
 AnswersBy g t w b c s = (x : WriterRecord) → AsksAs x c → x.block ≡ record { 0 = b } → Known g t w → Numbers (g b) t (w.latest b) x → Unasked w.past x.phase → Answers g t w b (stamped_by w c (reply s)) (granted x (reply s))
 
 -- a writer at the beginning of a session
@@ -184,7 +184,7 @@ committed-unstamped setup.AppendRecovery = tt
 committed-unstamped setup.StreamRecovery = tt
 committed-unstamped setup.CloseRecovery = tt
 
-answers-by : (g : Givens) (t : Ends) (w : World) (b : ℕ) (c : OfficeCall) → AnswersBy g t w b c (office_case w.office c)
+pub answers-by : (g : Givens) (t : Ends) (w : World) (b : ℕ) (c : OfficeCall) → AnswersBy g t w b c (office_case w.office c)
 answers-by g t w b c = each_case w.office (AnswersBy g t w b) (record {
   refused = λ d e. λ x a q h n u.
       subst (λ (o : Option Stamped). Answers g t w b o (granted x (Err e))) (sym (refused-stamp w d e)) (same-answers g t w b None x (granted x (Err e)) h tt (λ _. refl) (refused-follows x e).continues (follows-unasked w.past x (granted x (Err e)) (refused-follows x e) u) n);
@@ -208,10 +208,10 @@ answers-by g t w b c = each_case w.office (AnswersBy g t w b) (record {
   synced = λ block id bytes members r is is_open latest. λ x a q h n u. absurd a;
 }) c
 
-abbrev LatestBy : World → OfficeCall → Step OfficeState OfficeAnswer → Type 0
+abbrev pub LatestBy : World → OfficeCall → Step OfficeState OfficeAnswer → Type 0
 LatestBy w c s = IsPrimarys c → (d : ℕ) → latest_with w.latest (stamped_by w c (reply s)) d ≡ w.latest d
 
-latest-by : (w : World) (c : OfficeCall) → LatestBy w c (office_case w.office c)
+pub latest-by : (w : World) (c : OfficeCall) → LatestBy w c (office_case w.office c)
 latest-by w c = each_case w.office (LatestBy w) (record {
   refused = λ d e. λ p i. none-latest w (stamped_by w d (Err e)) i (refused-stamp w d e);
   created = λ block members none. λ p i. absurd p;

@@ -1,7 +1,8 @@
 -- Seats stay, whatever a change makes of the world, and what is said by them.
-use Rattle.std.proofs.Common.{◌≡◌, ℕ, ℤ, zero, suc, ◌<◌, ◌≤◌, ◌⊎◌, inl, inr, Bool, true, false, List, [], ◌∷◌, ◌++◌, slice_get, Some, IfSome, refl, sym, ◌∙◌, ap, subst, arith, eqb-true}
+use Rattle.std.proofs.Common.{◌≡◌, ℕ, ℤ, zero, suc, ◌<◌, ◌≤◌, ◌⊎◌, inl, inr, Bool, true, false, List, [], ◌∷◌, ◌++◌, take, slice_get, Some, IfSome, refl, sym, ◌∙◌, ap, subst, arith, eqb-true}
 use Rattle.std.specs.Prelude.{◌==◌, ◌&&◌, if◌then◌else◌}
 use Rattle.std.proofs.lemmas.Bool.{false≢true}
+use Rattle.std.proofs.lemmas.List.{take-take}
 use Rattle.std.proofs.lemmas.Option.{none-some}
 use Rattle.op_headers.specs.declared.ops.Op.{Op}
 use Rattle.op_headers.specs.declared.ops.Op.TheVariants as op
@@ -25,7 +26,7 @@ use Rattle.world_laws.specs.Joining.{joined_as}
 use Rattle.world_laws.proofs.SetupRising.{Goes}
 use Rattle.world_acks.specs.Closing.{StandsClosed, AllClosed}
 use Rattle.world_acks.specs.Waiting.{IsQuiet}
-use Rattle.world_acks.specs.Acking.{PacketEnd, pending_end, Shown, IsUncut, Seat, Asked, AsksToRead, Seated, IsPipe, promised, SetUpFrom, Ends, AckedFrom, UpTells, Numbered, PacketTells, DownTells, Mirrors, UpperTells, MemberTells, LowerTells, Pends}
+use Rattle.world_acks.specs.Acking.{PacketEnd, pending_end, Shown, UpdatesLeave, Seat, Asked, AsksToRead, Seated, IsPipe, promised, SetUpFrom, Ends, AckedFrom, UpTells, Numbered, PacketTells, DownTells, Mirrors, UpperTells, MemberTells, LowerTells, Pends}
 use Rattle.world_acks.proofs.Shows.{IsNoUpdate, row-shows}
 
 -- LISTS
@@ -47,19 +48,20 @@ has-one x = record { place = zero; there = refl }
 
 -- A REPLICA THAT CHANGES
 
--- a recovery with an id above this stamp has updated the replica that changes
-pub record IsCut (w : World) (k : Change) (stamp : ℕ) : Type 0 where
+-- a recovery with an id above this stamp has updated the replica that changes, to fewer bytes than these
+pub record IsCut (w : World) (k : Change) (stamp least : ℕ) : Type 0 where
   pub entry : Updated
   pub has : Has k.updated entry
   pub node : entry.node ≡ k.node
   pub life : entry.life ≡ w.lives k.node
   pub block : entry.block ≡ k.block
   pub above : stamp < entry.recovery
+  pub fewer : entry.length < least
 
--- what the replica showed it shows still, unless a recovery has updated it
+-- what the replica showed it shows still, unless a recovery has left it fewer bytes
 pub record Steps (w : World) (k : Change) : Type 0 where
   pub broken : (w.replicas k.node k.block).known.is_broken ≡ true → k.replica.known.is_broken ≡ true
-  pub shown : IsFull (w.replicas k.node k.block) → IsFull k.replica → (s n : ℕ) (v : List ℕ) → Shown (w.replicas k.node k.block) s n v → Shown k.replica s n v ⊎ IsCut w k s
+  pub shown : IsFull (w.replicas k.node k.block) → IsFull k.replica → (s n : ℕ) (v : List ℕ) → Shown (w.replicas k.node k.block) s n v → Shown k.replica s n v ⊎ IsCut w k s n
 
 pub steps-same : (w : World) (k : Change) → k.replica ≡ w.replicas k.node k.block → Steps w k
 steps-same w k e = record {
@@ -90,6 +92,19 @@ shown-more r s n v u f x = record {
   within = omega (arith, x.within, front-length v u f);
 }
 
+-- of fewer bytes
+pub shown-less : (r : FullReplica) (s m n : ℕ) (v : List ℕ) → m ≤ n → Shown r s n v → Shown r s m v
+shown-less r s m n v le x = record {
+  info = x.info;
+  is = x.is;
+  least = x.least;
+  visible = x.visible;
+  sees = x.sees;
+  enough = omega (arith, le, x.enough);
+  bytes = sym (take-take m n r.bytes le) ∙ ap (λ (xs : List ℕ). take m xs) x.bytes ∙ take-take m n v le;
+  within = omega (arith, le, x.within);
+}
+
 -- what is unbroken after the change was so before
 whole-before : (c d : Bool) → (c ≡ true → d ≡ true) → d ≡ false → c ≡ false
 whole-before false d h e = refl
@@ -105,19 +120,22 @@ seat-apply w k b s e n j st old new h = record {
   life = h.life;
   joins = has-left w.joined k.joined (joined_as s n h.life) h.joins;
   born = h.born;
-  shows = λ runs alive sound uncut. at runs alive uncut (n == k.node && b == k.block) refl sound;
+  shows = λ runs alive sound m le left. at runs alive m le left (n == k.node && b == k.block) refl sound;
 }
   where
-    uncut-before : IsUncut (apply w k) b s n h.life → IsUncut w b s n h.life
-    uncut-before u = record { none = λ x q a c d i. u.none x (has-left w.updated k.updated x q) a c d i }
+    left-before : (m : ℕ) → UpdatesLeave (apply w k) b s n h.life m → UpdatesLeave w b s n h.life m
+    left-before m u = record { each = λ x q a c d i. u.each x (has-left w.updated k.updated x q) a c d i }
 
-    cut : n ≡ k.node → b ≡ k.block → w.lives n ≡ h.life → IsUncut (apply w k) b s n h.life → IsCut w k s → ⊥
-    cut en eb alive u c = u.none c.entry (has-right w.updated k.updated c.entry c.has) (c.node ∙ sym en) (c.life ∙ ap (λ (x : ℕ). w.lives x) (sym en) ∙ alive) (c.block ∙ sym eb) c.above
+    cut : (m : ℕ) → n ≡ k.node → b ≡ k.block → w.lives n ≡ h.life → UpdatesLeave (apply w k) b s n h.life m → IsCut w k s m → ⊥
+    cut m en eb alive u c =
+        let left : m ≤ c.entry.length =
+        u.each c.entry (has-right w.updated k.updated c.entry c.has) (c.node ∙ sym en) (c.life ∙ ap (λ (x : ℕ). w.lives x) (sym en) ∙ alive) (c.block ∙ sym eb) c.above in
+        omega (arith, left, c.fewer)
 
-    at : w.running n ≡ true → w.lives n ≡ h.life → IsUncut (apply w k) b s n h.life → (t : Bool) → (n == k.node && b == k.block) ≡ t
-        → (if t then k.replica else w.replicas n b).known.is_broken ≡ false → Shown (if t then k.replica else w.replicas n b) s j ((past_after w k).written e)
-    at runs alive uncut false q sound = shown-more (w.replicas n b) s j (w.written e) ((past_after w k).written e) (apply-written w k e) (h.shows runs alive sound (uncut-before uncut))
-    at runs alive uncut true q sound = go (st.shown old new s j (w.written e) (subst (λ (r : FullReplica). Shown r s j (w.written e)) is (h.shows runs alive before (uncut-before uncut))))
+    at : w.running n ≡ true → w.lives n ≡ h.life → (m : ℕ) → m ≤ j → UpdatesLeave (apply w k) b s n h.life m → (t : Bool) → (n == k.node && b == k.block) ≡ t
+        → (if t then k.replica else w.replicas n b).known.is_broken ≡ false → Shown (if t then k.replica else w.replicas n b) s m ((past_after w k).written e)
+    at runs alive m le left false q sound = shown-more (w.replicas n b) s m (w.written e) ((past_after w k).written e) (apply-written w k e) (h.shows runs alive sound m le (left-before m left))
+    at runs alive m le left true q sound = go (st.shown old new s m (w.written e) (subst (λ (r : FullReplica). Shown r s m (w.written e)) is (h.shows runs alive before m le (left-before m left))))
       where
         en : n ≡ k.node
         en = eqb-true n k.node (and-left (n == k.node) (b == k.block) q)
@@ -131,9 +149,9 @@ seat-apply w k b s e n j st old new h = record {
         before : (w.replicas n b).known.is_broken ≡ false
         before = ap (λ (r : FullReplica). r.known.is_broken) is ∙ whole-before (w.replicas k.node k.block).known.is_broken k.replica.known.is_broken st.broken sound
 
-        go : Shown k.replica s j (w.written e) ⊎ IsCut w k s → Shown k.replica s j ((past_after w k).written e)
-        go (inl x) = shown-more k.replica s j (w.written e) ((past_after w k).written e) (apply-written w k e) x
-        go (inr c) = absurd (cut en eb alive uncut c)
+        go : Shown k.replica s m (w.written e) ⊎ IsCut w k s m → Shown k.replica s m ((past_after w k).written e)
+        go (inl x) = shown-more k.replica s m (w.written e) ((past_after w k).written e) (apply-written w k e) x
+        go (inr c) = absurd (cut m en eb alive left c)
 
 -- LATER WORLDS
 

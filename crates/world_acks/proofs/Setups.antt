@@ -59,7 +59,7 @@ use Rattle.world_acks.proofs.Shows.{stream-open}
 use Rattle.world_acks.specs.Closing.{FinalUnder, BrokeFinal, StandsClosed}
 use Rattle.world_acks.specs.Waiting.{Waits, IsQuiet}
 use Rattle.world_acks.proofs.Requests.{NewRequest, of_member, Requesting, still-requests, quiet-taken, lower-there}
-use Rattle.world_acks.proofs.Seats.{has-right, has-one, Steps, steps-row, steps-same}
+use Rattle.world_acks.proofs.Seats.{has-right, has-one, shown-less, Steps, steps-row, steps-same}
 use Rattle.world_acks.proofs.Turning.{Known, shown-says, no-break, lone-closed}
 use Rattle.world_acks.proofs.Lowers.{Leaf, still-numbers, aside-begun, after-at, after-breaks, writes-busy, same-pends, row-pends, row-steps}
 
@@ -369,8 +369,8 @@ new-seat g v b n life e k stamp r facts at x given joins born = record {
   life = life;
   joins = joins;
   born = born;
-  shows = λ _ _ _ _. subst (λ (s : Stamp). Shown (v.replicas n b) s.0 k (v.written e)) x.under
-      (shown-says g v b (v.replicas n b) x.info e x.visible k (facts.carried.replicas n b) (facts.full n b) (ap (λ (q : FullReplica). q.known.info) at ∙ x.is) (ap (λ (s : Stamp). g b s.0) x.under ∙ given) x.sees x.within x.enough);
+  shows = λ _ _ _ i le _. shown-less (v.replicas n b) stamp.0 i k (v.written e) le (subst (λ (s : Stamp). Shown (v.replicas n b) s.0 k (v.written e)) x.under
+      (shown-says g v b (v.replicas n b) x.info e x.visible k (facts.carried.replicas n b) (facts.full n b) (ap (λ (q : FullReplica). q.known.info) at ∙ x.is) (ap (λ (s : Stamp). g b s.0) x.under ∙ given) x.sees x.within x.enough));
 }
 
 same-write : (x y : WriteFields) → request (op.Write x) ≡ request (op.Write y) → x ≡ y

@@ -60,7 +60,7 @@ use Rattle.world_laws.specs.Joining.{joined_as, IsPlain, BreakReached, SetUps}
 use Rattle.world_acks.specs.Acking.{PacketEnd, pending_end, Shown, Seat, Asked, AsksToRead, Seated, IsPipe, promised, SetUpFrom, Ends, AckedFrom, UpTells, Mirrors, MemberTells, PendingTells, Pends, Acked}
 use Rattle.world_acks.specs.Closing.{FinalUnder, BrokeFinal, IsClosed, StandsClosed, AllClosed}
 use Rattle.world_acks.specs.Waiting.{Requests}
-use Rattle.world_acks.proofs.Seats.{Lasting, all-closed-on, seated-on, pipe-on, node-on}
+use Rattle.world_acks.proofs.Seats.{shown-less, Lasting, all-closed-on, seated-on, pipe-on, node-on}
 
 -- WHAT IS KNOWN
 
@@ -280,9 +280,9 @@ books g t w v c m e a old y taken =
         life = (w.dialled c).to.life;
         joins = y.on.joined (joined_as (new_stamp m.fields).0 n (w.dialled c).to.life) a.tells.joins;
         born = omega (arith, y.lives, a.alive);
-        shows = λ _ _ _ _. subst (λ (z : FullReplica). Shown z (new_stamp m.fields).0 e.end (v.written a.tells.session)) (sym y.at)
+        shows = λ _ _ _ i le _. shown-less (v.replicas n b) (new_stamp m.fields).0 i e.end (v.written a.tells.session) le (subst (λ (z : FullReplica). Shown z (new_stamp m.fields).0 e.end (v.written a.tells.session)) (sym y.at)
             (subst (λ (z : PendingPacket). Shown q (new_stamp m.fields).0 z.end (v.written a.tells.session)) same
-            (subst (λ (z : Stamp). Shown q z.0 x.entry.end (v.written a.tells.session)) after shown));
+            (subst (λ (z : Stamp). Shown q z.0 x.entry.end (v.written a.tells.session)) after shown)));
       };
     }
 
@@ -294,7 +294,7 @@ same-asked w c f k x y = same f k (same_Some _ _ (sym x.first ∙ y.first))
     same : (a d : WriteFields) → request (op.Write a) ≡ request (op.Write d) → a ≡ d
     same a d e = cc
 
-never-both : (w : World) (c : ℕ) (f : WriteFields) → Asked w.past c f → AsksToRead w.past c → ⊥
+pub never-both : (w : World) (c : ℕ) (f : WriteFields) → Asked w.past c f → AsksToRead w.past c → ⊥
 never-both w c f x y = apart f y.asked (same_Some _ _ (sym x.first ∙ y.first))
   where
     apart : (a : WriteFields) (d : ReadOp) → request (op.Write a) ≡ request (op.Read d) → ⊥

@@ -47,18 +47,18 @@ pub record Shown (r : FullReplica) (stamp n : ℕ) (v : List ℕ) : Type 0 where
   pub bytes : take n r.bytes ≡ take n v
   pub within : n ≤ length v
 
--- no recovery with an id above this stamp updated the block's replica at a node in this life
-pub record IsUncut (w : World) (b stamp n life : ℕ) : Type 0 where
-  pub none : (u : Updated) → Has w.updated u → u.node ≡ n → u.life ≡ life → u.block ≡ b → stamp < u.recovery → ⊥
+-- each recovery with an id above this stamp that updated the block's replica at a node in this life left it at least so many bytes
+pub record UpdatesLeave (w : World) (b stamp n life least : ℕ) : Type 0 where
+  pub each : (u : Updated) → Has w.updated u → u.node ≡ n → u.life ≡ life → u.block ≡ b → stamp < u.recovery → least ≤ u.length
 
--- A node accepted the setup of a stamp of a session, in a life that isn't later than its present one. As long as it runs in that life, its replica
--- isn't broken and no later recovery has updated it, it shows at least so many bytes of the session.
+-- A node accepted the setup of a stamp of a session, in a life that isn't later than its present one. Of so many bytes of the session it shows, as
+-- long as it runs in that life and its replica isn't broken, as many as each later recovery left that has updated it.
 pub record Seat (w : World) (b stamp session n least : ℕ) : Type 0 where
   pub life : ℕ
   pub joins : Has w.joined (joined_as stamp n life)
   pub born : life ≤ w.lives n
-  pub shows : w.running n ≡ true → w.lives n ≡ life → (w.replicas n b).known.is_broken ≡ false → IsUncut w b stamp n life →
-      Shown (w.replicas n b) stamp least (w.written session)
+  pub shows : w.running n ≡ true → w.lives n ≡ life → (w.replicas n b).known.is_broken ≡ false → (j : ℕ) → j ≤ least →
+      UpdatesLeave w b stamp n life j → Shown (w.replicas n b) stamp j (w.written session)
 
 -- CONNECTIONS
 

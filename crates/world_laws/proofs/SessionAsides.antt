@@ -45,34 +45,35 @@ use Rattle.world.specs.Primaries.{begins_as, begins_at, own_recover, leads_step,
 use Rattle.world.specs.Nodes.{block_of, setup_change, failing_write, write_request, is_asked}
 use Rattle.world_laws.proofs.FactTables.{when-each}
 
--- the office stays, no stamp is given, no writer comes into another state, and no session gets bytes
+-- the office stays, no stamp is given, no writer comes into another state, no session gets bytes, and no length is answered
 pub record Aside (w : World) (k : Change) : Type 0 where
   pub office : k.office ≡ w.office
   pub stamped : k.stamped ≡ None
   pub writer : k.writer ≡ w.writers k.writer_at
   pub bytes : k.bytes ≡ []
+  pub answered : k.answered ≡ None
 
 closes-aside : (w : World) (c : ℕ) → Aside w (closing w c)
-closes-aside w c = record { office = refl; stamped = refl; writer = refl; bytes = refl }
+closes-aside w c = record { office = refl; stamped = refl; writer = refl; bytes = refl; answered = refl }
 
 member-aside : (w : World) (c : ℕ) (m : FullMember) (x : Next) (s : Step) (b : Option Break) → Aside w (member_change w c m x s b)
-member-aside w c m x s b = record { office = refl; stamped = refl; writer = refl; bytes = refl }
+member-aside w c m x s b = record { office = refl; stamped = refl; writer = refl; bytes = refl; answered = refl }
 
 setup-aside : (w : World) (c : ℕ) (fields : WriteFields) (s : Setup) (b : Option Break) → Aside w (setup_change w c fields s b)
-setup-aside w c fields s b = record { office = refl; stamped = refl; writer = refl; bytes = refl }
+setup-aside w c fields s b = record { office = refl; stamped = refl; writer = refl; bytes = refl; answered = refl }
 
 breaks-aside : (w : World) (c b : ℕ) (r : FullReplica) (e : ReplicaEvent) (answers : List Message) → Aside w (breaking w c b r e answers)
-breaks-aside w c b r e answers = record { office = refl; stamped = refl; writer = refl; bytes = refl }
+breaks-aside w c b r e answers = record { office = refl; stamped = refl; writer = refl; bytes = refl; answered = refl }
 
 answers-aside : (w : World) (c : ℕ) (answers : List Message) → Aside w (record (closing w c) { ups = sent_on (Some c) answers })
-answers-aside w c answers = record { office = refl; stamped = refl; writer = refl; bytes = refl }
+answers-aside w c answers = record { office = refl; stamped = refl; writer = refl; bytes = refl; answered = refl }
 
 serving-aside : (w : World) (c b : ℕ) (s : ServingState) (answers : List Message)
     → Aside w (record (still w) { lower_at = c; lower = serves b s; ups = sent_on (Some c) answers })
-serving-aside w c b s answers = record { office = refl; stamped = refl; writer = refl; bytes = refl }
+serving-aside w c b s answers = record { office = refl; stamped = refl; writer = refl; bytes = refl; answered = refl }
 
 recovery-aside : (w : World) (c : ℕ) (r : RecoveryOp) (s : Served) (b : Option Break) → Aside w (recovery_change w c r s b)
-recovery-aside w c r s b = record { office = refl; stamped = refl; writer = refl; bytes = refl }
+recovery-aside w c r s b = record { office = refl; stamped = refl; writer = refl; bytes = refl; answered = refl }
 
 -- WRITE REQUESTS
 
@@ -218,8 +219,8 @@ mirror-up-aside ended_below w d x fails = tt
 -- READERS
 
 dials-aside : (w : World) (i n : ℕ) (r : ReadOp) (answered : Bool) → Aside w (reader_dials w i n r answered)
-dials-aside w i n r true = record { office = refl; stamped = refl; writer = refl; bytes = refl }
-dials-aside w i n r false = record { office = refl; stamped = refl; writer = refl; bytes = refl }
+dials-aside w i n r true = record { office = refl; stamped = refl; writer = refl; bytes = refl; answered = refl }
+dials-aside w i n r false = record { office = refl; stamped = refl; writer = refl; bytes = refl; answered = refl }
 
 own-reader-as : (x : Reader) (w : World) (i n : ℕ) (r : ReadOp) (answered : Bool) → IfSome (own_reader_as x w i n r answered) (Aside w)
 own-reader-as no_reader w i n r answered = dials-aside w i n r _
@@ -230,9 +231,9 @@ pub own-reader-aside : (w : World) (i n : ℕ) (r : ReadOp) (answered : Bool) �
 own-reader-aside w i n r answered = own-reader-as (w.readers i) w i n r answered
 
 reader-turn-aside : (w : World) (i c : ℕ) (t : ReadTaken) (d : ReadTurn) → Aside w (reader_turn w i c t d)
-reader-turn-aside w i c t turn.Goes = record { office = refl; stamped = refl; writer = refl; bytes = refl }
-reader-turn-aside w i c t turn.Verified = record { office = refl; stamped = refl; writer = refl; bytes = refl }
-reader-turn-aside w i c t (turn.Fails f) = record { office = refl; stamped = refl; writer = refl; bytes = refl }
+reader-turn-aside w i c t turn.Goes = record { office = refl; stamped = refl; writer = refl; bytes = refl; answered = refl }
+reader-turn-aside w i c t turn.Verified = record { office = refl; stamped = refl; writer = refl; bytes = refl; answered = refl }
+reader-turn-aside w i c t (turn.Fails f) = record { office = refl; stamped = refl; writer = refl; bytes = refl; answered = refl }
 
 reader-up-as : (r : Reader) (w : World) (i c : ℕ) (x : Next) → IfSome (reader_up_as r w i c x) (Aside w)
 reader-up-as no_reader w i c x = tt
@@ -248,9 +249,9 @@ reader-up-aside w i c x = reader-up-as (w.readers i) w i c x
 begins-as : (t : Told) (w : World) (i : ℕ) (at : Place) (b : BlockId) (members : List NodeId) (answers : List Bool) → IfSome (begins_as t w i at b members answers) (Aside w)
 begins-as (Ok (office.Stamp s)) w i at b members answers = tt
 begins-as (Ok (office.Reopened r)) w i at b members answers = tt
-begins-as (Ok (office.Begun begun)) w i at b members answers = record { office = refl; stamped = refl; writer = refl; bytes = refl }
+begins-as (Ok (office.Begun begun)) w i at b members answers = record { office = refl; stamped = refl; writer = refl; bytes = refl; answered = refl }
 begins-as (Ok office.Nothing) w i at b members answers = tt
-begins-as (Err fault) w i at b members answers = record { office = refl; stamped = refl; writer = refl; bytes = refl }
+begins-as (Err fault) w i at b members answers = record { office = refl; stamped = refl; writer = refl; bytes = refl; answered = refl }
 
 begins-at : (p : Primary) (w : World) (i n : ℕ) (b : BlockId) (members : List NodeId) (answers : List Bool) → IfSome (begins_at p w i n b members answers) (Aside w)
 begins-at no_primary w i n b members answers = tt
@@ -265,14 +266,14 @@ own-recover-aside w i n b members answers = begins-at (w.primaries i) w i n b me
 
 leads-step-aside : (s : OwnStep) (w : World) (i : ℕ) (l : Leading) (p : PrimaryState) → IfSome (leads_step s w i l p) (Aside w)
 leads-step-aside own.Waits w i l p = tt
-leads-step-aside (own.Updates c) w i l p = record { office = refl; stamped = refl; writer = refl; bytes = refl }
+leads-step-aside (own.Updates c) w i l p = record { office = refl; stamped = refl; writer = refl; bytes = refl; answered = refl }
 leads-step-aside (own.Commits c) w i l p = tt
-leads-step-aside (own.Ends r) w i l p = record { office = refl; stamped = refl; writer = refl; bytes = refl }
+leads-step-aside (own.Ends r) w i l p = record { office = refl; stamped = refl; writer = refl; bytes = refl; answered = refl }
 
 commits-aside : (s : OwnStep) (w : World) (i : ℕ) (l : Leading) (t : Told) → IfSome (commits_step s w i l t) (Aside w)
 commits-aside own.Waits w i l t = tt
 commits-aside (own.Updates c) w i l t = tt
-commits-aside (own.Commits c) w i l t = record { office = refl; stamped = refl; writer = refl; bytes = refl }
+commits-aside (own.Commits c) w i l t = record { office = refl; stamped = refl; writer = refl; bytes = refl; answered = refl }
 commits-aside (own.Ends r) w i l t = tt
 
 leads-told-aside : (t : Option Told) (w : World) (i : ℕ) (l : Leading) → IfSome (leads_told t w i l) (Aside w)
@@ -290,7 +291,7 @@ own-primary-aside w i = own-primary-as (w.primaries i) w i
 
 hears-aside : (w : World) (i : ℕ) (l : Leading) (place c : ℕ) (x : Next) (o : Option Standing) → IfSome (hears_change w i l place c x o) (Aside w)
 hears-aside w i l place c x None = tt
-hears-aside w i l place c x (Some s) = when-each (Aside w) (listens l.state.phase s) _ (λ _. record { office = refl; stamped = refl; writer = refl; bytes = refl })
+hears-aside w i l place c x (Some s) = when-each (Aside w) (listens l.state.phase s) _ (λ _. record { office = refl; stamped = refl; writer = refl; bytes = refl; answered = refl })
 
 primary-up-as : (p : Primary) (w : World) (i place c : ℕ) (x : Next) → IfSome (primary_up_as p w i place c x) (Aside w)
 primary-up-as no_primary w i place c x = tt

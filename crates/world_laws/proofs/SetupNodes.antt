@@ -41,7 +41,7 @@ either-of z xs x y (inl e) up down = inl (record { place = zero; there = ap (λ 
 either-of z xs x y (inr h) up down = up (down h)
 
 -- what stands in a list with one more
-has-split : {A : Type 0} (xs : List A) (x y : A) → Has (xs ++ x ∷ []) y → Has xs y ⊎ (x ≡ y)
+pub has-split : {A : Type 0} (xs : List A) (x y : A) → Has (xs ++ x ∷ []) y → Has xs y ⊎ (x ≡ y)
 has-split {A} [] x y h = at h.place h.there
   where
     at : (i : ℕ) → slice_get (x ∷ []) i ≡ Some y → Has {A = A} [] y ⊎ (x ≡ y)
