@@ -502,7 +502,7 @@ start-acked nodes = record {
   writers = λ b. record { known = λ r. absurd (omega (arith, r)); packets = λ r i p q. absurd (none-some p q); below = λ r q k z. absurd (none-some k z) };
 }
 
-start-requests : (nodes : ℕ) → Requests (start nodes)
+pub start-requests : (nodes : ℕ) → Requests (start nodes)
 unfolding start
 start-requests nodes = record {
   begun = λ c lt. absurd (omega (arith, lt));

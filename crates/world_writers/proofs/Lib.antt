@@ -1,0 +1,13 @@
+pub mod AllMove
+pub mod AllPiped
+pub mod AllShow
+pub mod Granting
+pub mod Hearing
+pub mod Intakes
+pub mod Keeping
+pub mod Links
+pub mod Moving
+pub mod Piped
+pub mod Reaching
+pub mod Standing
+pub mod Stepping

@@ -1,0 +1,4 @@
+pub mod Moving
+pub mod Piping
+pub mod Settling
+pub mod Showing
