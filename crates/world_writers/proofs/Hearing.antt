@@ -54,7 +54,7 @@ record Hears (g : Givens) (t : Ends) (w : World) (b c : ℕ) (x : WriterRecord) 
   pub piped : PipedOf w b
 
 -- its session is the latest one
-latest-is : (g : Givens) (t : Ends) (w : World) (b c : ℕ) (f : WriteFields) (e : ℕ) → Known g t w → ConnSays g w.past b (w.latest b) c → IsPipe g w c f e → e ≡ w.latest b
+pub latest-is : (g : Givens) (t : Ends) (w : World) (b c : ℕ) (f : WriteFields) (e : ℕ) → Known g t w → ConnSays g w.past b (w.latest b) c → IsPipe g w c f e → e ≡ w.latest b
 latest-is g t w b c f e h s p =
     let sets = s.sets in
     let same : sets.fields ≡ f = same-asked w c sets.fields f (record { first = sets.first }) p.asked in
