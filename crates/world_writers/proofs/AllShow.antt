@@ -37,7 +37,7 @@ use Rattle.world_acks.proofs.Ends.{lower-ready-leaf}
 use Rattle.world_acks.proofs.Clients.{Leads}
 use Rattle.world_acks.proofs.Granting.{OfficeLeads, fresh-given, office-event-leads}
 use Rattle.world_laws.proofs.FactTables.{if-each}
-use Rattle.world_acks.proofs.AllAcked.{like-onward, down-known, up-known, leads-of, when-two, lt-true, served-known, served-life, next-tells, taken-tells, heard-tells, lower-taken, upper-taken, own-leads, outcome-facts, happens-told, no_ends, start-acked, restart-onward}
+use Rattle.world_acks.proofs.AllAcked.{like-onward, down-known, up-known, leads-of, when-two, lt-true, served-known, served-life, next-tells, taken-tells, heard-tells, lower-taken, upper-taken, own-leads, outcome-facts, happens-told, no_ends, start-requests, start-acked, restart-onward}
 use Rattle.std.proofs.lemmas.Option.{none-some}
 use Rattle.world.specs.Parts.{Answered}
 use Rattle.world.specs.Safe.{Has}
@@ -243,7 +243,7 @@ run-stands g t w (e ∷ events) r h d =
     let n = reached-next w e r in
     let f = reached-facts (given_by g w e) (happens w e) n j c in
     let k = happens-told g t w e h f in
-    run-stands (given_by g w e) k.ends (happens w e) events n (record { facts = f; sets = s; acked = k.acked }) (happens-stands g t w e h (writers-at w r) d f)
+    run-stands (given_by g w e) k.ends (happens w e) events n (record { facts = f; sets = s; requests = k.requests; acked = k.acked }) (happens-stands g t w e h (writers-at w r) d f)
 
 start-stands : (nodes : ℕ) → Standing none_given (start nodes)
 unfolding start
@@ -261,7 +261,7 @@ pub at-end : (nodes : ℕ) (events : List Event) → AtEnd (given_in none_given 
 at-end nodes events =
     let c = start-carried nodes in
     let r = start-recorded nodes in
-    run-stands none_given no_ends (start nodes) events (at-start nodes) (record { facts = reached-facts none_given (start nodes) (at-start nodes) r c; sets = start-set nodes; acked = start-acked nodes }) (start-stands nodes)
+    run-stands none_given no_ends (start nodes) events (at-start nodes) (record { facts = reached-facts none_given (start nodes) (at-start nodes) r c; sets = start-set nodes; requests = start-requests nodes; acked = start-acked nodes }) (start-stands nodes)
 
 pub all-show : AllShow
 all-show nodes events b =

@@ -41,6 +41,7 @@ use Rattle.world_laws.specs.Carrying.{StreamOf, Streams, WriterSays}
 use Rattle.world_laws.proofs.ByteLeaves.{Facts}
 use Rattle.world_acks.specs.Acking.{Ends, reach_of, Numbers}
 use Rattle.world_acks.proofs.Seats.{Onward}
+use Rattle.world_acks.specs.Waiting.{Unasked}
 use Rattle.world_acks.proofs.Turning.{Known}
 use Rattle.world_acks.proofs.Granting.{put-own, answers-by, latest-by}
 use Rattle.std.proofs.lemmas.Bool.{false≢true}
@@ -150,7 +151,8 @@ asks-stood (action.Ask c) g t w b h s e q =
     let asking : AsksAs x c = asks-as x c q in
     let block : x.block ≡ record { 0 = b } = subst (λ (o : Option Told). (known_heard x o).block ≡ record { 0 = b }) e (h.facts.recorded.writers b) in
     let numbers : Numbers (g b) t (w.latest b) x = subst (λ (o : Option Told). Numbers (g b) t (w.latest b) (known_heard x o)) e (h.acked.writers b) in
-    let y = answers-by g t w b c x asking block h numbers in
+    let asked : Unasked w.past x.phase = subst (λ (o : Option Told). Unasked w.past (known_heard x o).phase) e (h.requests.unasked b) in
+    let y = answers-by g t w b c x asking block h numbers asked in
     record {
       others = y.others;
       own = λ u o f. granted-stands g t u w b c (stands-told g w b None s e) y.own o f (grants-by w b c x asking);

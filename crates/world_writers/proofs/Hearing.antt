@@ -27,7 +27,7 @@ use Rattle.world_laws.specs.Stamping.{Givens, NoLast, Setting, InPhase, Fits, kn
 use Rattle.world_laws.proofs.StampWalking.{none-is}
 use Rattle.world_laws.specs.Carrying.{new_stamp, ConnSays}
 use Rattle.world_laws.proofs.ByteLeaves.{one-session}
-use Rattle.world_acks.specs.Acking.{AsksToRead, Seated, IsPipe, promised, SetUpFrom, Ends, AckedFrom, UpTells, reach_of, Numbers}
+use Rattle.world_acks.specs.Acking.{PacketEnd, end_of, AsksToRead, Seated, IsPipe, promised, SetUpFrom, Ends, AckedFrom, UpTells, reach_of, Numbers}
 use Rattle.world_acks.proofs.Turning.{Known, HeardTells, same-asked, never-both}
 use Rattle.world_writers.specs.Showing.{Asking, not_asked, was_asked, was_answered, asking_in}
 use Rattle.world_writers.proofs.Standing.{never-asked, asked-only, HearingIn, steps-turns, ended-steps, Answered, beside, accepted, answered-is, AckTaken, unacked, good, ack-taken}
@@ -54,7 +54,7 @@ record Hears (g : Givens) (t : Ends) (w : World) (b c : ℕ) (x : WriterRecord) 
   pub piped : PipedOf w b
 
 -- its session is the latest one
-latest-is : (g : Givens) (t : Ends) (w : World) (b c : ℕ) (f : WriteFields) (e : ℕ) → Known g t w → ConnSays g w.past b (w.latest b) c → IsPipe g w c f e → e ≡ w.latest b
+pub latest-is : (g : Givens) (t : Ends) (w : World) (b c : ℕ) (f : WriteFields) (e : ℕ) → Known g t w → ConnSays g w.past b (w.latest b) c → IsPipe g w c f e → e ≡ w.latest b
 latest-is g t w b c f e h s p =
     let sets = s.sets in
     let same : sets.fields ≡ f = same-asked w c sets.fields f (record { first = sets.first }) p.asked in
@@ -129,13 +129,13 @@ end-shown : (g : Givens) (t : Ends) (w : World) (b c n : ℕ) (x : WriterRecord)
 end-shown g t w b c n x p a h r old number before u =
     let e = latest-is g t w b c u.fields u.session h.known h.says u.pipe in
     let numbers = subst (λ (z : WriterRecord). Numbers (g b) t (w.latest b) z) h.at (h.known.acked.writers b) in
-    let named : t (w.latest b) a.seqno ≡ Some (packet_end p) = subst (λ (q : ℤ). t (w.latest b) q ≡ Some (packet_end p)) number (numbers.packets r 0 p old).named in
-    let end : u.end ≡ packet_end p = same_Some u.end (packet_end p) (sym u.named ∙ ap (λ (i : ℕ). t i a.seqno) e ∙ named) in
+    let named : t (w.latest b) a.seqno ≡ Some (end_of p) = subst (λ (q : ℤ). t (w.latest b) q ≡ Some (end_of p)) number (numbers.packets r 0 p old).named in
+    let end : u.end ≡ end_of p = same_Some u.end (end_of p) (sym u.named ∙ ap (λ (i : ℕ). t i a.seqno) e ∙ named) in
     record {
       fields = u.fields;
       known = before.known;
       asked = u.pipe.asked;
-      shows = subst (λ (i : ℕ). Seated w u.fields (node_of w c) i (packet_end p)) e (subst (λ (m : ℕ). Seated w u.fields (node_of w c) u.session m) end u.seated);
+      shows = subst (λ (i : ℕ). Seated w u.fields (node_of w c) i (packet_end p)) e (subst (λ (m : PacketEnd). Seated w u.fields (node_of w c) u.session m.at) end u.seated);
     }
 
 either-shown : (w : World) (e c m n k : ℕ) → (k ≡ m) ⊎ (k ≡ n) → Piped w e was_answered m c → Piped w e was_answered n c → Piped w e was_answered k c

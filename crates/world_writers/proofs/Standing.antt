@@ -293,7 +293,7 @@ replies-good n rs e =
 int-same : (a b : ℤ) → int_eq a b ≡ true → a ≡ b
 int-same a b e = grind (arith, nat_tests, e)
 
-verdict-good : (p : Packet) (n : ℕ) (a : Ack) → ack_verdict (Some p.seqno) n a ≡ verdict.Good → (p.seqno ≡ a.seqno) × (failures a.replies ≡ 0)
+pub verdict-good : (p : Packet) (n : ℕ) (a : Ack) → ack_verdict (Some p.seqno) n a ≡ verdict.Good → (p.seqno ≡ a.seqno) × (failures a.replies ≡ 0)
 verdict-good p n a e = go (int_eq p.seqno a.seqno) refl e
   where
     go : (b : Bool) → int_eq p.seqno a.seqno ≡ b → (if b then replies_verdict n a.replies else verdict.Bad 0) ≡ verdict.Good → (p.seqno ≡ a.seqno) × (failures a.replies ≡ 0)

@@ -26,6 +26,7 @@ use Rattle.request_refusals.specs.declared.refusals.RequestRefusal.{RequestRefus
 use Rattle.request_refusals.specs.declared.refusals.RequestRefusal.TheVariants as refusal
 use Rattle.member_core.specs.declared.member.Mirror.{Mirror}
 use Rattle.member_core.specs.declared.member.Mirror.TheVariants as mirror
+use Rattle.member_core.specs.declared.requests.SetupKind.{SetupKind}
 use Rattle.member_core.specs.declared.turns.Turn.{Turn}
 use Rattle.member_core.specs.Members.{MemberState, set_up, down_turn, up_turn, hears}
 use Rattle.member_core.specs.Requests.{request_from, request_to, mirror_request, request_event}
@@ -183,8 +184,8 @@ passes-on w k f q d h busy x e =
           ∙ ap (λ (ts : List NodeRef). map (λ (t : NodeRef). node_on t.xfer) ts) (sym x.targets);
     }
 
-taken-takes : (w : World) (c : ℕ) (f : WriteFields) (asked : Bool) (r : FullReplica) → Waits w.past w.lowers c f → Set r.known (new_stamp f) (promised f) → Takes w (setup_change w c f (booked_request (record { 0 = c }) f asked r None) (w.breaks (node_of w c) (block_of f)))
-taken-takes w c f asked r h x = record {
+taken-takes : (w : World) (c : ℕ) (f : WriteFields) (asked : Bool) (s : SetupKind) (r : FullReplica) → Waits w.past w.lowers c f → Set s r.known (new_stamp f) (promised f) → Takes w (setup_change w c f (booked_request (record { 0 = c }) f asked r None) (w.breaks (node_of w c) (block_of f)))
+taken-takes w c f asked way r h x = record {
   lower = λ e. absurd (writes-busy _ e);
   dials = λ j d q e s. (first-one w c f (set_up (record { 0 = c }) f asked).0.mirror j d e, of_member (passes-on w k f q d h (λ z. writes-busy _ z) (member-dial w c f (set_up (record { 0 = c }) f asked).0.mirror j d e) s));
   alone = λ j d e y. refl;
@@ -214,19 +215,19 @@ taken-takes w c f asked r h x = record {
 abbrev after : FullReplica → Outcome → FullReplica
 after r o = record { known = record_after r.known o; bytes = take (written_in (record_after r.known o)) (r.bytes ++ []) }
 
-outcome-takes : (w : World) (c : ℕ) (f : WriteFields) (asked : Bool) (o : Outcome) → Waits w.past w.lowers c f → SetOr (new_stamp f) (promised f) o
+outcome-takes : (w : World) (c : ℕ) (f : WriteFields) (asked : Bool) (way : SetupKind) (broken : Bool) (o : Outcome) → Waits w.past w.lowers c f → SetOr way (new_stamp f) (promised f) broken o
     → Takes w (setup_change w c f (booked_request (record { 0 = c }) f asked (after (replica_at w c (block_of f)) o) (refused_by (core.answer_of (core.reply o)))) (w.breaks (node_of w c) (block_of f)))
-outcome-takes w c f asked (Err x) h s = refused-takes w c f (after (replica_at w c (block_of f)) (Err x)) (refusal.Core x) (w.breaks (node_of w c) (block_of f))
-outcome-takes w c f asked (Ok q) h s =
+outcome-takes w c f asked way broken (Err x) h s = refused-takes w c f (after (replica_at w c (block_of f)) (Err x)) (refusal.Core x) (w.breaks (node_of w c) (block_of f))
+outcome-takes w c f asked way broken (Ok q) h s =
     let r = after (replica_at w c (block_of f)) (Ok q) in
-    subst (λ (a : Option RequestRefusal). Takes w (setup_change w c f (booked_request (record { 0 = c }) f asked r a) (w.breaks (node_of w c) (block_of f)))) (sym (ap refused_by s.1)) (taken-takes w c f asked r h s.0)
+    subst (λ (a : Option RequestRefusal). Takes w (setup_change w c f (booked_request (record { 0 = c }) f asked r a) (w.breaks (node_of w c) (block_of f)))) (sym (ap refused_by s.done)) (taken-takes w c f asked way r h s.set)
 
 requested-takes : (w : World) (c : ℕ) (f : WriteFields) (asked : Bool) (e : Result Event RequestRefusal) → Waits w.past w.lowers c f → IfOk e (IsRequest (record { 0 = c }) f)
     → Takes w (setup_change w c f (request_at (record { 0 = c }) f asked (replica_at w c (block_of f)) e) (w.breaks (node_of w c) (block_of f)))
 requested-takes w c f asked (Err x) h q = refused-takes w c f (replica_at w c (block_of f)) x (w.breaks (node_of w c) (block_of f))
 requested-takes w c f asked (Ok e) h q =
     let r = replica_at w c (block_of f) in
-    outcome-takes w c f asked (transition r.known e) h (request-set r.known (record { 0 = c }) f e q)
+    outcome-takes w c f asked q.kind_of r.known.is_broken (transition r.known e) h (request-set r.known (record { 0 = c }) f e q)
 
 write-takes : (w : World) (c : ℕ) (f : WriteFields) (answered fails : Bool) → Waits w.past w.lowers c f → IfSome (write_request w c f answered fails) (Takes w)
 write-takes w c f answered true h = failing-write-takes w c f (request_event (record { 0 = c }) f (rule_in (replica_at w c (block_of f)).known))
