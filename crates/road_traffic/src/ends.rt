@@ -8,8 +8,8 @@ ghost use Rattle.road_traffic.specs.Showing.{Remembers, ShowsExchange, ShowsLoss
 use hd_base::{Conn, LinkIn, LinkOut, RoadError, Roads};
 use std::alloc::Global;
 
-/// Exchanges an end with the roads that gave it: what it sent is flushed, and with `take` it gets what stands next, where it
-/// holds nothing.
+/// Exchanges an end with the roads that gave it: what it sent is flushed, and with `take` it gets what stands next, where
+/// it holds nothing.
 pub fn pass<R: Roads>(
     alloc: Global,
     roads: &mut R,
