@@ -510,7 +510,7 @@ idle-closed g w (event.Fault d) i b t n h = h
 idle-closed g w (event.Stop d) i b t n h = h
 idle-closed g w (event.Restart d list) i b t n h = h
 
-last-closed : (g : Givens) (w : World) (e : Event) (b s n : ℕ) → StandsClosed g w b s n → StandsClosed g (record w { last = Some e }) b s n
+pub last-closed : (g : Givens) (w : World) (e : Event) (b s n : ℕ) → StandsClosed g w b s n → StandsClosed g (record w { last = Some e }) b s n
 last-closed g w e b s n h =
     (like-lasting g no_ends w (record w { last = Some e }) (record { past = refl; runs = λ m q. q; lives = λ m. refl; replicas = λ m d. refl }) (λ m d. refl) (λ d. refl)).closed b s n h
 
