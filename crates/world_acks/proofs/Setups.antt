@@ -66,7 +66,7 @@ use Rattle.world_acks.proofs.Lowers.{Leaf, still-numbers, aside-begun, after-at,
 -- THE EVENT
 
 -- the event of a request
-record IsRequest (conn : ConnId) (f : WriteFields) (e : Event) : Type 0 where
+pub record IsRequest (conn : ConnId) (f : WriteFields) (e : Event) : Type 0 where
   pub kind_of : SetupKind
   pub sums : Rule
   pub stage : setup_with f.stage ≡ Some kind_of
@@ -86,14 +86,14 @@ named-request : (conn : ConnId) (f : WriteFields) (held : Option Rule) (o : Opti
 named-request conn f held None q = tt
 named-request conn f held (Some s) q = few-request conn f s (rule_for f held) q
 
-request-is : (conn : ConnId) (f : WriteFields) (held : Option Rule) → IfOk (request_event conn f held) (IsRequest conn f)
+pub request-is : (conn : ConnId) (f : WriteFields) (held : Option Rule) → IfOk (request_event conn f held) (IsRequest conn f)
 unfolding request_event
 request-is conn f held = checked conn f (is_in_pool f.block) refusal.Pool _ (named-request conn f held (setup_with f.stage) refl)
 
 -- WHAT IT LEAVES
 
 -- a replica under this stamp that shows at least so many bytes
-record Set (s : SetupKind) (c : ReplicaRecord) (stamp : Stamp) (n : ℕ) : Type 0 where
+pub record Set (s : SetupKind) (c : ReplicaRecord) (stamp : Stamp) (n : ℕ) : Type 0 where
   pub info : ReplicaInfo
   pub is : c.info ≡ Some info
   pub under : info.stamp ≡ stamp
@@ -104,12 +104,12 @@ record Set (s : SetupKind) (c : ReplicaRecord) (stamp : Stamp) (n : ℕ) : Type 
   pub final : s ≡ kind.CloseRecovery → info.original ≡ state.Finalized
 
 -- a setup that was taken, at a replica that wasn't broken
-record WasSet (s : SetupKind) (stamp : Stamp) (n : ℕ) (t : Taken) (broken : Bool) : Type 0 where
+pub record WasSet (s : SetupKind) (stamp : Stamp) (n : ℕ) (t : Taken) (broken : Bool) : Type 0 where
   pub set : Set s t.replica stamp n
   pub done : t.answer ≡ core_answer.Done
   pub sound : broken ≡ false
 
-abbrev SetOr : SetupKind → Stamp → ℕ → Bool → Outcome → Type 0
+abbrev pub SetOr : SetupKind → Stamp → ℕ → Bool → Outcome → Type 0
 SetOr s stamp n broken (Ok t) = WasSet s stamp n t broken
 SetOr s stamp n broken (Err e) = Unit {0}
 
@@ -175,7 +175,7 @@ setup-set c conn f r kind.CloseRecovery =
     there-set kind.CloseRecovery f.latest f.min c _ (λ b i. writer-set kind.CloseRecovery c None (recover_setup i f.block.stamp f.latest f.min state.Finalized) state.Finalized f.latest f.min b (λ _. refl) (λ x k. refl)
     (λ j e. (i.sums, f.min, (recover_setup_is i j f.block.stamp f.latest f.min state.Finalized e).0, omega arith)))
 
-request-set : (c : ReplicaRecord) (conn : ConnId) (f : WriteFields) (e : Event) → (q : IsRequest conn f e) → SetOr q.kind_of (new_stamp f) (promised f) c.is_broken (transition c e)
+pub request-set : (c : ReplicaRecord) (conn : ConnId) (f : WriteFields) (e : Event) → (q : IsRequest conn f e) → SetOr q.kind_of (new_stamp f) (promised f) c.is_broken (transition c e)
 request-set c conn f e q =
     subst (λ (x : Event). SetOr q.kind_of (new_stamp f) (promised f) c.is_broken (transition c x)) (sym q.is)
     (subst (λ (o : Option SetupKind). SetOr q.kind_of (stamp_set o f.block.stamp f.latest) (least_of o f.min) c.is_broken (transition c (setup_event conn f q.sums q.kind_of))) (sym q.stage) (setup-set c conn f q.sums q.kind_of))
@@ -272,7 +272,7 @@ new-member f conn asked = new-as f conn asked (length f.targets == 0) (none-leng
 -- THE DIAL
 
 -- a dial of a mirror, with the first of the targets
-record DialsMirror (w : World) (c : ℕ) (f : WriteFields) (d : Dial) : Type 0 where
+pub record DialsMirror (w : World) (c : ℕ) (f : WriteFields) (d : Dial) : Type 0 where
   pub source : NodeRef
   pub first : NodeRef
   pub rest : List NodeRef
@@ -301,7 +301,7 @@ dial-is w c f source (t ∷ ts) (Some k) (Some n) a b e zero d q = subst (λ (x 
     go false r = absurd (none-some k r)
 dial-is w c f source (t ∷ ts) (Some k) (Some n) a b e (suc i) d q = absurd (none-some d q)
 
-member-dial : (w : World) (c : ℕ) (f : WriteFields) (m : Mirror) (i : ℕ) (d : Dial) → slice_get (dials_of m w c f) i ≡ Some d → DialsMirror w c f d
+pub member-dial : (w : World) (c : ℕ) (f : WriteFields) (m : Mirror) (i : ℕ) (d : Dial) → slice_get (dials_of m w c f) i ≡ Some d → DialsMirror w c f d
 unfolding mirror_request
 member-dial w c f mirror.Asked i d e = dial-is w c f (ref_of (record { 0 = node_of w c })) f.targets _ _ refl refl refl i d e
 member-dial w c f mirror.Nobody i d e = absurd (none-some d e)

@@ -169,7 +169,7 @@ stays-linked w b x h = change-linked w b x x (λ e. record { connected = e; memb
 same-write : (a d : WriteFields) → op.Write a ≡ op.Write d → a ≡ d
 same-write a d e = cc
 
-request-targets : (b : BlockId) (c : Stamp) (s : StreamState) (way : Setup) (stamp : Stamp) (n : ℕ) (ts : List NodeId) (f : WriteFields) → request_for b c s way stamp n ts ≡ op.Write f → f.targets ≡ map ref_of ts
+pub request-targets : (b : BlockId) (c : Stamp) (s : StreamState) (way : Setup) (stamp : Stamp) (n : ℕ) (ts : List NodeId) (f : WriteFields) → request_for b c s way stamp n ts ≡ op.Write f → f.targets ≡ map ref_of ts
 unfolding request_for
 request-targets b c s way stamp n ts f e = sym (ap (λ (d : WriteFields). d.targets) (same-write _ f e))
 

@@ -228,7 +228,7 @@ writers-at : (w : World) → Reached w → Writers w
 writers-at w r = subst (λ (v : World). Writers v) r.is (record { pipes = all-piped r.nodes r.events; reaches = all-reached r.nodes r.events })
 
 -- what a world that some events lead to has
-record AtEnd (g : Givens) (w : World) : Type 0 where
+pub record AtEnd (g : Givens) (w : World) : Type 0 where
   pub ends : Ends
   pub known : Known g ends w
   pub stands : Standing g w
@@ -257,7 +257,7 @@ shows-of w b e x conn h = record { within = h.within; starts = h.starts; shown =
     go : (c : ℕ) (f : WriteFields) → Asked w.past c f → Piped w e (asking_in x.phase) x.stream.acked c → ShowsAt (asking_in x.phase) w c f e x.stream.acked
     go c f a p = subst (λ (k : WriteFields). ShowsAt (asking_in x.phase) w c k e x.stream.acked) (same-asked w c p.fields f p.asked a) p.shows
 
-at-end : (nodes : ℕ) (events : List Event) → AtEnd (given_in none_given (start nodes) events) (run (start nodes) events)
+pub at-end : (nodes : ℕ) (events : List Event) → AtEnd (given_in none_given (start nodes) events) (run (start nodes) events)
 at-end nodes events =
     let c = start-carried nodes in
     let r = start-recorded nodes in

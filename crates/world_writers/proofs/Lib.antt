@@ -1,3 +1,4 @@
+pub mod AllJoin
 pub mod AllMove
 pub mod AllPiped
 pub mod AllShow
@@ -6,8 +7,12 @@ pub mod Hearing
 pub mod Intakes
 pub mod Keeping
 pub mod Links
+pub mod Meeting
 pub mod Moving
 pub mod Piped
 pub mod Reaching
 pub mod Standing
+pub mod Staying
 pub mod Stepping
+pub mod Taking
+pub mod Trailing

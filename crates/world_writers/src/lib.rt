@@ -2,10 +2,18 @@
 //! members of these show. Each function has an empty body; its clause says what holds after every list of events.
 #![tactic(auto)]
 
+ghost use Rattle.std.specs.Prelude.{◌≤◌};
+ghost use Rattle.hd_base.specs.declared.roads.TheConstants.{MAX_NODES};
+ghost use Rattle.world.specs.Worlds.{start};
+ghost use Rattle.world.specs.Events.{run};
 ghost use Rattle.world_writers.specs.Moving.{AllMove, AllReached};
 ghost use Rattle.world_writers.specs.Piping.{AllPiped};
 ghost use Rattle.world_writers.specs.Settling.{AllSit};
 ghost use Rattle.world_writers.specs.Showing.{AllShow};
+ghost use Rattle.world_writers.specs.Staying.{AnsweredStay};
+ghost use Rattle.world_writers.specs.Taking.{AllJoin};
+
+use world::Schedule;
 
 /// Each block's writer is as the moves of a writer left it, from one that was given nothing; and until it was given a
 /// command it is such a one.
@@ -36,4 +44,17 @@ pub fn acked_bytes_are_shown()
 /// as later recoveries that updated it left them.
 pub fn answered_members_show()
     ensures { AllSit }
+{}
+
+/// A node accepts the setup of a stamp once: of the requests under a stamp at most one waits to be taken, and it reaches
+/// no node twice, and none that has accepted it.
+pub fn setups_are_accepted_once()
+    ensures { AllJoin }
+{}
+
+/// Bytes for which a flush, a sync or a close was answered stay at each member that is steady since the stamp of the
+/// answer, where each later recovery that updated it in this life left it at least so many.
+pub fn answered_bytes_stay(schedule: &Schedule)
+    requires few { schedule.now.nodes ≤ MAX_NODES }
+    ensures { AnsweredStay (run (start schedule.now.nodes) schedule.now.events) }
 {}
