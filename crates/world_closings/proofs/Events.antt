@@ -428,14 +428,16 @@ gains w l b c = each_case w.office (Gains w l b) (record {
   committed = λ block stamp members r is writers new. λ x conn v a own agreed e h.
       subst (λ (z : WriterRecord). ClosesIn l v b conn z z.phase) (sym (granted-commit x stamp a.way a.at a.later)) (commit-gains l v b conn x stamp a.way (subst (λ (p : Phase). ClosesIn l v b conn x p) a.at h));
   completed = λ block stamp bytes r is writers new. λ x conn v a own agreed e h.
-      subst (λ (z : WriterRecord). ClosesIn l v b conn z z.phase) (sym (granted-complete x a.at))
-      (subst (λ (p : Phase). ClosesIn l v b conn x p) a.at h, record {
-        entry = record r { is_open = false; length = bytes };
-        is = subst (λ (o : OfficeState). record_of o (record { 0 = b }) ≡ Some (record r { is_open = false; length = bytes })) (sym e)
-            (subst (λ (q : BlockId). record_of (with_record w.office block (record r { is_open = false; length = bytes })) q ≡ Some (record r { is_open = false; length = bytes })) (a.block ∙ own) (record_of-with_record_same w.office block r _ is));
-        closed = refl;
-        committed = sym (agreed r (subst (λ (q : BlockId). record_of w.office q ≡ Some r) a.block is) writers.lease);
-      });
+      subst (λ (z : WriterRecord). ClosesIn l v b conn z z.phase) (sym (granted-complete x a.at)) (
+        subst (λ (p : Phase). ClosesIn l v b conn x p) a.at h,
+        record {
+          entry = record r { is_open = false; length = bytes };
+          is = subst (λ (o : OfficeState). record_of o (record { 0 = b }) ≡ Some (record r { is_open = false; length = bytes })) (sym e)
+              (subst (λ (q : BlockId). record_of (with_record w.office block (record r { is_open = false; length = bytes })) q ≡ Some (record r { is_open = false; length = bytes })) (a.block ∙ own) (record_of-with_record_same w.office block r _ is));
+          closed = refl;
+          committed = sym (agreed r (subst (λ (q : BlockId). record_of w.office q ≡ Some r) a.block is) writers.lease);
+        },
+      );
   begun = λ block r is opens. λ x conn v a own agreed e h. absurd a;
   synced = λ block id bytes members r is opens latest. λ x conn v a own agreed e h. absurd a;
 }) c
