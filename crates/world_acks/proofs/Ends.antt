@@ -47,10 +47,11 @@ use Rattle.world_laws.proofs.ByteRows.{update-held}
 use Rattle.world_laws.specs.Joining.{IsPlain}
 use Rattle.world_laws.proofs.SetupRising.{event-broken}
 use Rattle.world_acks.specs.Acking.{Shown, AsksToRead, Ends, UpTells, DownTells, Mirrors, LowerTells, Pends}
-use Rattle.world_acks.proofs.Seats.{has-one, IsCut, Steps, steps-same, Onward, reads-on}
+use Rattle.world_acks.proofs.Seats.{has-one, IsCut, Steps, steps-same, Lasting, reads-on}
 use Rattle.world_acks.proofs.Turning.{Known, Acts, HeardTells, from-mirror}
 use Rattle.world_acks.proofs.Lowers.{Leaf, TakenTells, still-numbers, aside-begun, row-steps, row-pends, same-pends, down-leaf, up-leaf, ready-leaf}
-use Rattle.world_acks.proofs.Setups.{write-leaf}
+use Rattle.world_acks.proofs.Requests.{still-requests}
+use Rattle.world_acks.proofs.Setups.{ended-busy, write-leaf}
 
 -- CHANGES BESIDE
 
@@ -62,12 +63,14 @@ pub record IsBeside (w : World) (k : Change) : Type 0 where
   pub dials : k.dials ≡ []
   pub downs : (c : ℕ) → k.downs c ≡ []
   pub joined : k.joined ≡ []
+  pub busy : k.lower ≡ idle → ⊥
   pub lower : (g : Givens) (v : World) → LowerTells g v k.lower_at k.lower
 
 pub beside-leaf : (g : Givens) (t : Ends) (w : World) (k : Change) → Known g t w → IsBeside w k → Steps w k → IfSome k.replica.known.info (Pends g t k.block k.replica.known)
-    → ((v : World) → Onward g g t t w v → (c : ℕ) → Each (UpTells g t v c) (k.ups c)) → Leaf g t w k
+    → ((v : World) → Lasting g g t t w v → (c : ℕ) → Each (UpTells g t v c) (k.ups c)) → Leaf g t w k
 beside-leaf g t w k h a steps pends ups = record {
   steps = steps;
+  requests = still-requests w k h.requests a.writer a.dials (λ e. absurd (a.busy e));
   news = λ on facts. record {
     ups = ups (apply w k) on;
     downs = λ c. subst (λ (ms : List Message). Each (DownTells g t (apply w k) c) ms) (sym (a.downs c)) (each-nil (DownTells g t (apply w k) c));
@@ -81,9 +84,15 @@ beside-leaf g t w k h a steps pends ups = record {
   };
 }
 
+serves-busy : (b : ℕ) (s : ServingState) → serves b s ≡ idle → ⊥
+serves-busy b s e = cc
+
+recovers-busy : recovers ≡ idle → ⊥
+recovers-busy e = cc
+
 closing-leaf : (g : Givens) (t : Ends) (w : World) (c : ℕ) → Known g t w → Leaf g t w (closing w c)
 closing-leaf g t w c h =
-    beside-leaf g t w (closing w c) h (record { office = refl; stamped = refl; writer = refl; dials = refl; downs = λ _. refl; joined = refl; lower = λ _ _. tt }) (steps-same w (closing w c) refl) (same-pends g t w (closing w c) h refl)
+    beside-leaf g t w (closing w c) h (record { office = refl; stamped = refl; writer = refl; dials = refl; downs = λ _. refl; joined = refl; busy = λ e. absurd (ended-busy e); lower = λ _ _. tt }) (steps-same w (closing w c) refl) (same-pends g t w (closing w c) h refl)
     (λ v _ d. each-nil (UpTells g t v d))
 
 unless-leaf : (g : Givens) (t : Ends) (w : World) (fails : Bool) (c : ℕ) → Known g t w → IfSome (unless_failing fails (closing w c)) (Leaf g t w)
@@ -95,29 +104,29 @@ unless-leaf g t w false c h = closing-leaf g t w c h
 read-change-leaf : (g : Givens) (t : Ends) (w : World) (c b : ℕ) (s : Result ServingState RequestRefusal) → Known g t w → AsksToRead w.past c → Leaf g t w (read_change w c b s)
 read-change-leaf g t w c b (Ok s) h a =
     let k = read_change w c b (Ok s) in
-    beside-leaf g t w k h (record { office = refl; stamped = refl; writer = refl; dials = refl; downs = λ _. refl; joined = refl; lower = λ _ _. tt }) (steps-same w k refl) (same-pends g t w k h refl)
-    (λ v on. sent-each (UpTells g t v) c _ (each-one (UpTells g t v c) (response (accepting s)) (λ _. inr (reads-on g g t t w v c on a))))
+    beside-leaf g t w k h (record { office = refl; stamped = refl; writer = refl; dials = refl; downs = λ _. refl; joined = refl; busy = λ e. absurd (serves-busy b s e); lower = λ _ _. tt }) (steps-same w k refl) (same-pends g t w k h refl)
+    (λ v on. sent-each (UpTells g t v) c _ (each-one (UpTells g t v c) (response (accepting s)) (λ _. inr (reads-on g g t t w v c on.on a))))
 read-change-leaf g t w c b (Err r) h a =
     let k = read_change w c b (Err r) in
-    beside-leaf g t w k h (record { office = refl; stamped = refl; writer = refl; dials = refl; downs = λ _. refl; joined = refl; lower = λ _ _. tt }) (steps-same w k refl) (same-pends g t w k h refl)
-    (λ v on. sent-each (UpTells g t v) c _ (each-one (UpTells g t v c) (response (refusing r)) (λ _. inr (reads-on g g t t w v c on a))))
+    beside-leaf g t w k h (record { office = refl; stamped = refl; writer = refl; dials = refl; downs = λ _. refl; joined = refl; busy = λ e. absurd (ended-busy e); lower = λ _ _. tt }) (steps-same w k refl) (same-pends g t w k h refl)
+    (λ v on. sent-each (UpTells g t v) c _ (each-one (UpTells g t v c) (response (refusing r)) (λ _. inr (reads-on g g t t w v c on.on a))))
 
 piece-leaf : (g : Givens) (t : Ends) (w : World) (c b : ℕ) (s : ServingState) (o : Option Packet) → Known g t w → Leaf g t w (piece_as w c b s o)
 piece-leaf g t w c b s None h = closing-leaf g t w c h
 piece-leaf g t w c b s (Some p) h =
     let k = piece_as w c b s (Some p) in
-    beside-leaf g t w k h (record { office = refl; stamped = refl; writer = refl; dials = refl; downs = λ _. refl; joined = refl; lower = λ _ _. tt }) (steps-same w k refl) (same-pends g t w k h refl)
+    beside-leaf g t w k h (record { office = refl; stamped = refl; writer = refl; dials = refl; downs = λ _. refl; joined = refl; busy = λ e. absurd (serves-busy b s e); lower = λ _ _. tt }) (steps-same w k refl) (same-pends g t w k h refl)
     (λ v on. sent-each (UpTells g t v) c _ (each-one (UpTells g t v c) (packet p) tt))
 
-breaking-leaf : (g : Givens) (t : Ends) (w : World) (c b : ℕ) (e : ReplicaEvent) (ms : List Message) → Known g t w → ((v : World) → Onward g g t t w v → Each (UpTells g t v c) ms) → Leaf g t w (breaking w c b (broken (replica_at w c b)) e ms)
+breaking-leaf : (g : Givens) (t : Ends) (w : World) (c b : ℕ) (e : ReplicaEvent) (ms : List Message) → Known g t w → ((v : World) → Lasting g g t t w v → Each (UpTells g t v c) ms) → Leaf g t w (breaking w c b (broken (replica_at w c b)) e ms)
 breaking-leaf g t w c b e ms h u =
     let k = breaking w c b (broken (replica_at w c b)) e ms in
-    beside-leaf g t w k h (record { office = refl; stamped = refl; writer = refl; dials = refl; downs = λ _. refl; joined = refl; lower = λ _ _. tt })
+    beside-leaf g t w k h (record { office = refl; stamped = refl; writer = refl; dials = refl; downs = λ _. refl; joined = refl; busy = λ e. absurd (ended-busy e); lower = λ _ _. tt })
     (row-steps g t w k (replica_event.Other event.FileFault) h refl tt tt) (row-pends g t w k (replica_event.Other event.FileFault) h refl tt) (λ v on. sent-each (UpTells g t v) c ms (u v on))
 
 failing-read-leaf : (g : Givens) (t : Ends) (w : World) (c b : ℕ) (e : Result Event RequestRefusal) → Known g t w → AsksToRead w.past c → IfSome (failing_read w c b e) (Leaf g t w)
 failing-read-leaf g t w c b (Err r) h a = tt
-failing-read-leaf g t w c b (Ok e) h a = breaking-leaf g t w c b (replica_event.Other e) _ h (λ v on. each-one (UpTells g t v c) _ (λ _. inr (reads-on g g t t w v c on a)))
+failing-read-leaf g t w c b (Ok e) h a = breaking-leaf g t w c b (replica_event.Other e) _ h (λ v on. each-one (UpTells g t v c) _ (λ _. inr (reads-on g g t t w v c on.on a)))
 
 read-leaf : (g : Givens) (t : Ends) (w : World) (c : ℕ) (r : ReadOp) (fails : Bool) → Known g t w → AsksToRead w.past c → IfSome (read_request w c r fails) (Leaf g t w)
 read-leaf g t w c r true h a = failing-read-leaf g t w c r.block.block.0 (read_event r) h a
@@ -239,9 +248,9 @@ update-steps g t w c q id k (Ok u) h alive e size held b = record { broken = b; 
     })
 
 served-beside : (w : World) (c : ℕ) (q : RecoveryOp) (s : Served) (b : Option Break) → IsBeside w (recovery_change w c q s b)
-served-beside w c q s b = record { office = refl; stamped = refl; writer = refl; dials = refl; downs = λ _. refl; joined = refl; lower = λ _ _. tt }
+served-beside w c q s b = record { office = refl; stamped = refl; writer = refl; dials = refl; downs = λ _. refl; joined = refl; busy = λ e. absurd (recovers-busy e); lower = λ _ _. tt }
 
-served-ups : (g : Givens) (t : Ends) (w : World) (c : ℕ) (q : RecoveryOp) (s : Served) (b : Option Break) → (v : World) → Onward g g t t w v → (d : ℕ) → Each (UpTells g t v d) ((recovery_change w c q s b).ups d)
+served-ups : (g : Givens) (t : Ends) (w : World) (c : ℕ) (q : RecoveryOp) (s : Served) (b : Option Break) → (v : World) → Lasting g g t t w v → (d : ℕ) → Each (UpTells g t v d) ((recovery_change w c q s b).ups d)
 served-ups g t w c q s b v on = sent-each (UpTells g t v) c _ (each-one (UpTells g t v c) (recovery_answer (answer_of s.reply)) tt)
 
 served-event : (g : Givens) (t : Ends) (w : World) (c : ℕ) (q : RecoveryOp) (e : Event) → Known g t w → w.lives (node_of w c) ≡ (w.dialled c).to.life → IsRecoveryEvent q e → Leaf g t w (Serves w c q (served_as (replica_at w c q.block.block.0) (Ok e)))
@@ -299,20 +308,20 @@ next-taken : (g : Givens) (t : Ends) (w : World) (c : ℕ) (x : Next) → NextTe
 next-taken g t w c (message m) h = h.1
 next-taken g t w c the_end h = tt
 
-request-leaf : (g : Givens) (t : Ends) (w : World) (c : ℕ) (o : Op) (answered fails : Bool) → Known g t w → c < w.next_conn → w.lives (node_of w c) ≡ (w.dialled c).to.life → NextTells g t w c (message (request o)) → IfSome (first_message w c (request o) answered fails) (Leaf g t w)
-request-leaf g t w c (op.Write f) answered fails h lt alive n = write-leaf g t w c f answered fails h n.0 lt alive
-request-leaf g t w c (op.Read r) answered fails h lt alive n = read-leaf g t w c r fails h n.1
-request-leaf g t w c (op.Recovery q) answered fails h lt alive n = recovery-leaf g t w c q fails h alive
-request-leaf g t w c (op.Transfer r) answered fails h lt alive n = unless-leaf g t w fails c h
-request-leaf g t w c (op.Checksum r) answered fails h lt alive n = unless-leaf g t w fails c h
+request-leaf : (g : Givens) (t : Ends) (w : World) (c : ℕ) (o : Op) (answered fails : Bool) → Known g t w → w.lowers c ≡ idle → c < w.next_conn → w.lives (node_of w c) ≡ (w.dialled c).to.life → NextTells g t w c (message (request o)) → IfSome (first_message w c (request o) answered fails) (Leaf g t w)
+request-leaf g t w c (op.Write f) answered fails h low lt alive n = write-leaf g t w c f answered fails h n.0 low lt alive
+request-leaf g t w c (op.Read r) answered fails h low lt alive n = read-leaf g t w c r fails h n.1
+request-leaf g t w c (op.Recovery q) answered fails h low lt alive n = recovery-leaf g t w c q fails h alive
+request-leaf g t w c (op.Transfer r) answered fails h low lt alive n = unless-leaf g t w fails c h
+request-leaf g t w c (op.Checksum r) answered fails h low lt alive n = unless-leaf g t w fails c h
 
-first-leaf : (g : Givens) (t : Ends) (w : World) (c : ℕ) (m : Message) (answered fails : Bool) → Known g t w → c < w.next_conn → w.lives (node_of w c) ≡ (w.dialled c).to.life → NextTells g t w c (message m) → IfSome (first_message w c m answered fails) (Leaf g t w)
-first-leaf g t w c (request o) answered fails h lt alive n = request-leaf g t w c o answered fails h lt alive n
-first-leaf g t w c (packet p) answered fails h lt alive n = unless-leaf g t w fails c h
-first-leaf g t w c (ack a) answered fails h lt alive n = unless-leaf g t w fails c h
-first-leaf g t w c (response r) answered fails h lt alive n = unless-leaf g t w fails c h
-first-leaf g t w c (read_status s) answered fails h lt alive n = unless-leaf g t w fails c h
-first-leaf g t w c (recovery_answer a) answered fails h lt alive n = unless-leaf g t w fails c h
+first-leaf : (g : Givens) (t : Ends) (w : World) (c : ℕ) (m : Message) (answered fails : Bool) → Known g t w → w.lowers c ≡ idle → c < w.next_conn → w.lives (node_of w c) ≡ (w.dialled c).to.life → NextTells g t w c (message m) → IfSome (first_message w c m answered fails) (Leaf g t w)
+first-leaf g t w c (request o) answered fails h low lt alive n = request-leaf g t w c o answered fails h low lt alive n
+first-leaf g t w c (packet p) answered fails h low lt alive n = unless-leaf g t w fails c h
+first-leaf g t w c (ack a) answered fails h low lt alive n = unless-leaf g t w fails c h
+first-leaf g t w c (response r) answered fails h low lt alive n = unless-leaf g t w fails c h
+first-leaf g t w c (read_status s) answered fails h low lt alive n = unless-leaf g t w fails c h
+first-leaf g t w c (recovery_answer a) answered fails h low lt alive n = unless-leaf g t w fails c h
 
 next-op-leaf : (g : Givens) (t : Ends) (w : World) (c : ℕ) (o : Op) (fails : Bool) → Known g t w → w.lives (node_of w c) ≡ (w.dialled c).to.life → IfSome (next_recovery w c (message (request o)) fails) (Leaf g t w)
 next-op-leaf g t w c (op.Write f) fails h alive = unless-leaf g t w fails c h
@@ -337,7 +346,7 @@ acts-of g t w c m h e alive =
 
 pub lower-down-leaf : (l : Lower) (g : Givens) (t : Ends) (w : World) (c : ℕ) (x : Next) (answered fails : Bool) → Known g t w → w.lowers c ≡ l → c < w.next_conn → w.lives (node_of w c) ≡ (w.dialled c).to.life → NextTells g t w c x
     → IfSome (lower_down l w c x answered fails) (Leaf g t w)
-lower-down-leaf idle g t w c (message m) answered fails h e lt alive n = first-leaf g t w c m answered fails h lt alive n
+lower-down-leaf idle g t w c (message m) answered fails h e lt alive n = first-leaf g t w c m answered fails h e lt alive n
 lower-down-leaf idle g t w c the_end answered fails h e lt alive n = unless-leaf g t w fails c h
 lower-down-leaf (writes m) g t w c x answered fails h e lt alive n = let a = acts-of g t w c m h e alive in down-leaf g t w c m x fails a.0 a.1 (next-taken g t w c x n)
 lower-down-leaf (serves b s) g t w c x answered fails h e lt alive n = unless-leaf g t w fails c h

@@ -24,7 +24,9 @@ use Rattle.world_laws.specs.Carrying.{new_stamp}
 use Rattle.world_laws.proofs.Fronts.{front-takes, front-length}
 use Rattle.world_laws.specs.Joining.{joined_as}
 use Rattle.world_laws.proofs.SetupRising.{Goes}
-use Rattle.world_acks.specs.Acking.{Shown, UpdatesLeave, Seat, Asked, AsksToRead, Seated, IsPipe, promised, SetUpFrom, Ends, AckedFrom, UpTells, Numbered, PacketTells, DownTells, Mirrors, UpperTells, MemberTells, LowerTells, Pends}
+use Rattle.world_acks.specs.Closing.{StandsClosed, AllClosed}
+use Rattle.world_acks.specs.Waiting.{IsQuiet}
+use Rattle.world_acks.specs.Acking.{PacketEnd, pending_end, Shown, UpdatesLeave, Seat, Asked, AsksToRead, Seated, IsPipe, promised, SetUpFrom, Ends, AckedFrom, UpTells, Numbered, PacketTells, DownTells, Mirrors, UpperTells, MemberTells, LowerTells, Pends}
 use Rattle.world_acks.proofs.Shows.{IsNoUpdate, row-shows}
 
 -- LISTS
@@ -157,11 +159,18 @@ seat-apply w k b s e n j st old new h = record {
 pub record Onward (g k : Givens) (t u : Ends) (w v : World) : Type 0 where
   pub seats : (b s e n j : ℕ) → Seat w b s e n j → Seat v b s e n j
   pub given : (b s e : ℕ) → g b s ≡ Some e → k b s ≡ Some e
-  pub named : (e x : ℕ) (q : ℤ) → t e q ≡ Some x → u e q ≡ Some x
+  pub named : (e : ℕ) (x : PacketEnd) (q : ℤ) → t e q ≡ Some x → u e q ≡ Some x
   pub first : (c : ℕ) (m : Message) → slice_get (w.downs c) 0 ≡ Some m → slice_get (v.downs c) 0 ≡ Some m
   pub conns : w.next_conn ≤ v.next_conn
   pub dialled : (c : ℕ) → c < w.next_conn → v.dialled c ≡ w.dialled c
   pub joined : (x : Joined) → Has w.joined x → Has v.joined x
+
+-- The same, and nodes that stand closed stand so; no request comes to wait under a stamp under which none waits.
+pub record Lasting (g k : Givens) (t u : Ends) (w v : World) : Type 0 where
+  pub on : Onward g k t u w v
+  pub open on use *
+  pub closed : (b s n : ℕ) → StandsClosed g w b s n → StandsClosed k v b s n
+  pub quiet : (s : ℕ) → IsQuiet w s → IsQuiet v s
 
 pub asked-on : (g k : Givens) (t u : Ends) (w v : World) (c : ℕ) (f : WriteFields) → Onward g k t u w v → Asked w.past c f → Asked v.past c f
 asked-on g k t u w v c f o h = record { first = o.first c (request (op.Write f)) h.first }
@@ -181,31 +190,39 @@ pipe-on g k t u w v c f e o h = record { known = omega (arith, h.known, o.conns)
 pub node-on : (g k : Givens) (t u : Ends) (w v : World) (c : ℕ) → Onward g k t u w v → c < w.next_conn → node_of w c ≡ node_of v c
 node-on g k t u w v c o lt = sym (ap (λ (d : Dialled). d.to.node) (o.dialled c lt))
 
-set-on : (g k : Givens) (t u : Ends) (w v : World) (c : ℕ) → Onward g k t u w v → SetUpFrom g w c → SetUpFrom k v c
+pub all-closed-on : (g k : Givens) (t u : Ends) (w v : World) (f : WriteFields) (n : ℕ) → Lasting g k t u w v → AllClosed g w f n → AllClosed k v f n
+all-closed-on g k t u w v f n o h = record {
+  here = o.closed (block_of f) (new_stamp f).0 n h.here;
+  below = λ i m x a b. o.closed (block_of f) (new_stamp f).0 m (h.below i m x a b);
+}
+
+pub set-on : (g k : Givens) (t u : Ends) (w v : World) (c : ℕ) → Lasting g k t u w v → SetUpFrom g w c → SetUpFrom k v c
 set-on g k t u w v c o h = record {
   fields = h.fields;
   session = h.session;
-  pipe = pipe-on g k t u w v c h.fields h.session o h.pipe;
-  seated = subst (λ (n : ℕ). Seated v h.fields n h.session (promised h.fields)) (node-on g k t u w v c o h.pipe.known)
-      (seated-on g k t u w v h.fields (node_of w c) h.session (promised h.fields) o h.seated);
+  pipe = pipe-on g k t u w v c h.fields h.session o.on h.pipe;
+  seated = subst (λ (n : ℕ). Seated v h.fields n h.session (promised h.fields)) (node-on g k t u w v c o.on h.pipe.known)
+      (seated-on g k t u w v h.fields (node_of w c) h.session (promised h.fields) o.on h.seated);
+  closed = λ s. subst (λ (n : ℕ). AllClosed k v h.fields n) (node-on g k t u w v c o.on h.pipe.known) (all-closed-on g k t u w v h.fields (node_of w c) o (h.closed s));
 }
 
-acked-on : (g k : Givens) (t u : Ends) (w v : World) (c : ℕ) (q : ℤ) → Onward g k t u w v → AckedFrom g t w c q → AckedFrom k u v c q
+acked-on : (g k : Givens) (t u : Ends) (w v : World) (c : ℕ) (q : ℤ) → Lasting g k t u w v → AckedFrom g t w c q → AckedFrom k u v c q
 acked-on g k t u w v c q o h = record {
   fields = h.fields;
   session = h.session;
-  pipe = pipe-on g k t u w v c h.fields h.session o h.pipe;
+  pipe = pipe-on g k t u w v c h.fields h.session o.on h.pipe;
   end = h.end;
   named = o.named h.session h.end q h.named;
-  seated = subst (λ (n : ℕ). Seated v h.fields n h.session h.end) (node-on g k t u w v c o h.pipe.known) (seated-on g k t u w v h.fields (node_of w c) h.session h.end o h.seated);
+  seated = subst (λ (n : ℕ). Seated v h.fields n h.session h.end.at) (node-on g k t u w v c o.on h.pipe.known) (seated-on g k t u w v h.fields (node_of w c) h.session h.end.at o.on h.seated);
+  closed = λ l. subst (λ (n : ℕ). AllClosed k v h.fields n) (node-on g k t u w v c o.on h.pipe.known) (all-closed-on g k t u w v h.fields (node_of w c) o (h.closed l));
 }
 
-pub up-on : (g k : Givens) (t u : Ends) (w v : World) (c : ℕ) (m : Message) → Onward g k t u w v → UpTells g t w c m → UpTells k u v c m
+pub up-on : (g k : Givens) (t u : Ends) (w v : World) (c : ℕ) (m : Message) → Lasting g k t u w v → UpTells g t w c m → UpTells k u v c m
 up-on g k t u w v c (response r) o h = λ e. either (h e)
   where
     either : SetUpFrom g w c ⊎ AsksToRead w.past c → SetUpFrom k v c ⊎ AsksToRead v.past c
     either (inl x) = inl (set-on g k t u w v c o x)
-    either (inr x) = inr (reads-on g k t u w v c o x)
+    either (inr x) = inr (reads-on g k t u w v c o.on x)
 up-on g k t u w v c (ack a) o h = λ e. acked-on g k t u w v c a.seqno o (h e)
 up-on g k t u w v c (request r) o h = tt
 up-on g k t u w v c (packet p) o h = tt
@@ -251,17 +268,19 @@ upper-on g k t u w v c (by_writer b) o lt h = tt
 upper-on g k t u w v c (by_reader i) o lt h = tt
 upper-on g k t u w v c (by_primary i p) o lt h = tt
 
-pub member-on : (g k : Givens) (t u : Ends) (w v : World) (c : ℕ) (m : FullMember) → Onward g k t u w v → MemberTells g w c m → MemberTells k v c m
+pub member-on : (g k : Givens) (t u : Ends) (w v : World) (c : ℕ) (m : FullMember) → Lasting g k t u w v → MemberTells g w c m → MemberTells k v c m
 member-on g k t u w v c m o h = record {
   session = h.session;
-  pipe = pipe-on g k t u w v c m.fields h.session o h.pipe;
+  pipe = pipe-on g k t u w v c m.fields h.session o.on h.pipe;
   joins = subst (λ (d : Dialled). Has v.joined (joined_as (new_stamp m.fields).0 d.to.node d.to.life)) (sym (o.dialled c h.pipe.known)) (o.joined (joined_as (new_stamp m.fields).0 (node_of w c) (w.dialled c).to.life) h.joins);
-  seat = subst (λ (n : ℕ). Seat v (block_of m.fields) (new_stamp m.fields).0 h.session n (promised m.fields)) (node-on g k t u w v c o h.pipe.known)
+  seat = subst (λ (n : ℕ). Seat v (block_of m.fields) (new_stamp m.fields).0 h.session n (promised m.fields)) (node-on g k t u w v c o.on h.pipe.known)
       (o.seats (block_of m.fields) (new_stamp m.fields).0 h.session (node_of w c) (promised m.fields) h.seat);
   alone = h.alone;
+  quiet = λ e. o.quiet (new_stamp m.fields).0 (h.quiet e);
+  closes = λ s. subst (λ (n : ℕ). StandsClosed k v (block_of m.fields) (new_stamp m.fields).0 n) (node-on g k t u w v c o.on h.pipe.known) (o.closed (block_of m.fields) (new_stamp m.fields).0 (node_of w c) (h.closes s));
 }
 
-pub lower-on : (g k : Givens) (t u : Ends) (w v : World) (c : ℕ) (x : Lower) → Onward g k t u w v → LowerTells g w c x → LowerTells k v c x
+pub lower-on : (g k : Givens) (t u : Ends) (w v : World) (c : ℕ) (x : Lower) → Lasting g k t u w v → LowerTells g w c x → LowerTells k v c x
 lower-on g k t u w v c (writes m) o h = member-on g k t u w v c m o h
 lower-on g k t u w v c idle o h = tt
 lower-on g k t u w v c (serves b s) o h = tt
@@ -270,5 +289,5 @@ lower-on g k t u w v c ended_below o h = tt
 
 pub pends-on : (g k : Givens) (t u : Ends) (w v : World) (b : ℕ) (r : ReplicaRecord) → Onward g k t u w v → IfSome r.info (Pends g t b r) → IfSome r.info (Pends k u b r)
 pends-on g k t u w v b r o h = some-weaker (Pends g t b r) (Pends k u b r) r.info (λ i x. record {
-  each = λ j e q. let y = x.each j e q in record { session = y.session; given = o.given b i.stamp.0 y.session y.given; named = o.named y.session e.end e.seqno y.named };
+  each = λ j e q. let y = x.each j e q in record { session = y.session; given = o.given b i.stamp.0 y.session y.given; named = o.named y.session (pending_end e) e.seqno y.named };
 }) h
