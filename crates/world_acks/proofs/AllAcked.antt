@@ -33,7 +33,7 @@ use Rattle.world_laws.specs.Joining.{joined_as, SetUps}
 use Rattle.world_laws.proofs.AllSetUp.{happens-set, start-set}
 use Rattle.world_acks.specs.Acking.{Shown, Seat, UpdatesLeave, Ends, Pends, UpperTells, Acked, AllAcked}
 use Rattle.world_acks.specs.Closing.{FinalUnder, BrokeFinal, HasClosed, StandsClosed}
-use Rattle.world_acks.specs.Waiting.{Requests, IsQuiet}
+use Rattle.world_acks.specs.Waiting.{Requests, IsQuiet, AllWaiting}
 use Rattle.world_acks.proofs.Requests.{Requesting, quiet-apply, requests-apply, same-quiet, same-requests}
 use Rattle.world_acks.proofs.ClosedLaws.{GoesOn, stands-on}
 use Rattle.world_acks.proofs.Seats.{Onward, Lasting, up-on, down-on, upper-on, lower-on}
@@ -510,7 +510,7 @@ idle-closed g w (event.Fault d) i b t n h = h
 idle-closed g w (event.Stop d) i b t n h = h
 idle-closed g w (event.Restart d list) i b t n h = h
 
-last-closed : (g : Givens) (w : World) (e : Event) (b s n : ℕ) → StandsClosed g w b s n → StandsClosed g (record w { last = Some e }) b s n
+pub last-closed : (g : Givens) (w : World) (e : Event) (b s n : ℕ) → StandsClosed g w b s n → StandsClosed g (record w { last = Some e }) b s n
 last-closed g w e b s n h =
     (like-lasting g no_ends w (record w { last = Some e }) (record { past = refl; runs = λ m q. q; lives = λ m. refl; replicas = λ m d. refl }) (λ m d. refl) (λ d. refl)).closed b s n h
 
@@ -567,3 +567,6 @@ all-known nodes events =
 
 pub all-acked : AllAcked
 all-acked nodes events = let k = all-known nodes events in (k.0, k.1.acked)
+
+pub all-waiting : AllWaiting
+all-waiting nodes events = (all-known nodes events).1.requests

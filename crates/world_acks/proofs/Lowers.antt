@@ -57,7 +57,6 @@ use Rattle.world_acks.proofs.Turning.{Known, Acts, HeardTells, FromMirror, same-
 pub writes-busy : (m : FullMember) → writes m ≡ idle → ⊥
 writes-busy m e = cc
 
-
 -- what is needed of a change
 pub record Leaf (g : Givens) (t : Ends) (w : World) (k : Change) : Type 0 where
   pub steps : Steps w k

@@ -401,11 +401,14 @@ taken-leaf g t w c f asked r h says low lt alive s stage x sound steps pends =
           let quiet : (k.dials ≡ []) ⊎ (setup_with f.stage ≡ Some kind.AppendRecovery → ⊥) → IsQuiet v (new_stamp f).0 =
           λ either. quiet-taken g g w k f h.requests asks h.facts facts waits (λ e. writes-busy _ (sym (lower-there w k c refl) ∙ e)) either in
           let closes : setup_with f.stage ≡ Some kind.CloseRecovery → StandsClosed g v (block_of f) (new_stamp f).0 (node_of v c) =
-          λ e. subst (λ (y : Dialled). StandsClosed g v (block_of f) (new_stamp f).0 y.to.node) (sym same) (record { has = inl (record {
-            replica = subst (λ (y : FullReplica). FinalUnder (new_stamp f).0 y.known.info) (sym (after-at w k))
-                (record { info = x.info; is = x.is; original = x.final (same_Some s kind.CloseRecovery (sym stage ∙ e)); under = ap (λ (y : Stamp). y.0) x.under });
-            broke = subst (λ (o : Option Break). IfSome o (BrokeFinal (new_stamp f).0)) (sym (after-breaks w k)) (no-break g w n (block_of f) (BrokeFinal (new_stamp f).0) h.sets sound);
-          }); quiet = quiet (inr (λ z. closes-apart (same_Some _ _ (sym z ∙ e)))) }) in
+          λ e. subst (λ (y : Dialled). StandsClosed g v (block_of f) (new_stamp f).0 y.to.node) (sym same) (record {
+            has = inl (record {
+              replica = subst (λ (y : FullReplica). FinalUnder (new_stamp f).0 y.known.info) (sym (after-at w k))
+                  (record { info = x.info; is = x.is; original = x.final (same_Some s kind.CloseRecovery (sym stage ∙ e)); under = ap (λ (y : Stamp). y.0) x.under });
+              broke = subst (λ (o : Option Break). IfSome o (BrokeFinal (new_stamp f).0)) (sym (after-breaks w k)) (no-break g w n (block_of f) (BrokeFinal (new_stamp f).0) h.sets sound);
+            });
+            quiet = quiet (inr (λ z. closes-apart (same_Some _ _ (sym z ∙ e))));
+          }) in
           let there : Seat v (block_of f) (new_stamp f).0 says.session (node_of v c) (promised f) = subst (λ (y : Dialled). Seat v (block_of f) (new_stamp f).0 says.session y.to.node (promised f)) (sym same) seat in
           record {
             ups = sent-each (UpTells g t v) c (sent_up f (set_up conn f asked).1.sends) (up v pipe there closes made.sends);
