@@ -1,10 +1,8 @@
 -- What recoveries name holds after every list of events.
 use Rattle.std.proofs.Common.{◌≡◌, ℕ, ◌<◌, ◌≤◌, ◌+◌, Bool, true, false, List, [], ◌∷◌, Option, Some, None, IfSome, is_none, refl, sym, ap, subst, arith, eqb-true}
 use Rattle.std.specs.Prelude.{◌==◌, ◌&&◌, not, nat_lt, if◌then◌else◌}
-use Rattle.std.proofs.lemmas.Bool.Decides.{nat_tests}
 use Rattle.std.proofs.lemmas.Option.{none-some}
 use Rattle.hd_base.specs.declared.numbers.Stamp.{Stamp}
-use Rattle.replica_model.specs.Rows.{FullReplica}
 use Rattle.world.specs.declared.events.Caller.{Caller}
 use Rattle.world.specs.declared.events.Caller.TheVariants as caller
 use Rattle.world.specs.declared.events.Delivery.{Delivery}
@@ -13,7 +11,6 @@ use Rattle.world.specs.declared.events.Direction.{Direction}
 use Rattle.world.specs.declared.events.Direction.TheVariants as direction
 use Rattle.world.specs.declared.events.Event.{Event}
 use Rattle.world.specs.declared.events.Event.TheVariants as event
-use Rattle.world.specs.declared.events.FoundReplica.{FoundReplica}
 use Rattle.world.specs.declared.events.OwnStep.{OwnStep}
 use Rattle.world.specs.declared.events.OwnStep.TheVariants as own
 use Rattle.world.specs.Parts.{Upper, by_writer, by_member, by_reader, by_primary}
@@ -21,23 +18,20 @@ use Rattle.world.specs.Worlds.{World, Change, Stamped, apply, start}
 use Rattle.world.specs.Connections.{Next, message, the_end, next_down, next_up, down_taken, up_taken, is_alive, is_served}
 use Rattle.world.specs.Nodes.{node_of, lower_down, lower_ready}
 use Rattle.world.specs.Clients.{own_writer, own_reader, writer_up, reader_up}
-use Rattle.world.specs.Primaries.{office_event, writer_asks_office, primary_up}
-use Rattle.world.specs.Restarts.{all_found, found_in, restarted, restart}
+use Rattle.world.specs.Primaries.{office_event, primary_up}
+use Rattle.world.specs.Restarts.{all_found, restart}
 use Rattle.world.specs.Events.{changed, own_change, down_as, down_event, ready_event, unless_fails, upper_up, up_as, up_event, fault_event, lost, stop, where_so, outcome, after_event, happens, run}
-use Rattle.world_laws.proofs.FactTables.{when-each, and-left, and-right, some-weaker}
+use Rattle.world_laws.proofs.FactTables.{when-each, and-left, some-weaker}
 use Rattle.world_laws.specs.Stamping.{Givens, none_given, given_with, stamped_in, given_by, given_in, Recorded}
 use Rattle.world_laws.proofs.AllRecorded.{happens-recorded, Reached, reached-next, reached-agreed, start-recorded}
-use Rattle.world_laws.proofs.StampRecording.{Agreed}
 use Rattle.world_laws.specs.Carrying.{Carried}
 use Rattle.world_laws.proofs.ByteLeaves.{Facts}
-use Rattle.world_laws.proofs.ByteEnds.{lower-ready-keeps}
-use Rattle.world_laws.proofs.ByteOffices.{office-event-keeps}
-use Rattle.world_laws.proofs.AllCarried.{next-sent, down-taken-facts, up-taken-facts, changed-carried, down-as-carried, up-as-carried, own-keeps, office-carried, happens-carried, reached-facts, at-start, start-carried}
+use Rattle.world_laws.proofs.AllCarried.{up-taken-facts, happens-carried, reached-facts, at-start, start-carried}
 use Rattle.world_laws.proofs.AllSetUp.{given-stays}
 use Rattle.world_recoveries.proofs.Quiet.{Quiet}
-use Rattle.world_recoveries.proofs.Clients.{own-writer-quiet, writer-up-quiet, writer-asks-quiet, own-reader-quiet, reader-up-quiet}
+use Rattle.world_recoveries.proofs.Clients.{own-writer-quiet, writer-up-quiet, own-reader-quiet, reader-up-quiet}
 use Rattle.world_recoveries.proofs.Lowers.{lower-ready-quiet, mirror-up-quiet}
-use Rattle.std.proofs.Common.{zero, suc, ◌⊎◌, inl, inr, ◌++◌, append-nil, slice_get, Result, Ok, Err, ◌∙◌}
+use Rattle.std.proofs.Common.{zero, suc, ◌⊎◌, inl, inr, append-nil, slice_get, Result, Ok, Err, ◌∙◌}
 use Rattle.std.specs.BTreeMap.{is_at}
 use Rattle.std.proofs.lemmas.Bool.{eqb-false}
 use Rattle.std.proofs.lemmas.Option.{same_Some}
@@ -81,15 +75,15 @@ use Rattle.writer_core.specs.declared.phases.Waiting.{Waiting}
 use Rattle.writer_core.specs.declared.records.WriterRecord.{WriterRecord}
 use Rattle.writer_core.specs.Commands.{admitted}
 use Rattle.writer_core.specs.Laws.{NamesCommitted}
-use Rattle.writer_core.specs.Transitions.{given, given_as, own_step, dial_step, granted, dialled}
+use Rattle.writer_core.specs.Transitions.{given, given_as, own_step, dial_step, granted}
 use Rattle.writer_core.proofs.StampLemmas.{stamps_are_committed}
 use Rattle.world.specs.declared.events.TakenCommand.{TakenCommand}
 use Rattle.world.specs.Parts.{Message, request, packet, ack, response, read_status, recovery_answer, Place, Lower, idle, writes, serves, recovers, ended_below, Break, Answered, Told, Writing, Leading, Primary, no_primary, was_told, leads, has_led}
 use Rattle.world.specs.Worlds.{Past, Dial, put}
 use Rattle.world.specs.Connections.{place_of, is_conn}
 use Rattle.world.specs.Nodes.{replica_at, broke_at, read_request, write_request, recovery_change, failing_recovery, recovery_request, first_message, next_recovery, mirror_up}
-use Rattle.world.specs.Clients.{are_members, writer_change, did, reached_answer, dialled_change, dialling, rest_in, is_empty, is_formed, ruled, command_bytes, takes_command, writer_step}
-use Rattle.world.specs.Primaries.{primary_change, is_among_conns, primary_dials, dials_answered, begins_with, begins_as, begins_at, own_recover, updates_change, leads_step, commits_step, leads_told, own_primary_as, own_primary, heard_of, listens, hears_change, primary_up_as, stamp_of, stamped_by, asks_writer, asks_primary, writer_asks, primary_commits, primary_asks}
+use Rattle.world.specs.Clients.{are_members, did, reached_answer, dialled_change, dialling, rest_in, is_empty, is_formed, ruled, command_bytes, writer_step}
+use Rattle.world.specs.Primaries.{primary_change, is_among_conns, primary_dials, dials_answered, begins_with, begins_as, begins_at, updates_change, leads_step, commits_step, leads_told, own_primary_as, heard_of, listens, hears_change, primary_up_as, stamp_of, stamped_by, asks_writer, asks_primary, writer_asks, primary_commits, primary_asks}
 use Rattle.world.specs.Safe.{Has}
 use Rattle.world_laws.specs.Sessions.{told_stamp, stamp_heard}
 use Rattle.world_laws.proofs.FactTables.{if-each}

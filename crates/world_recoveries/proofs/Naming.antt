@@ -1,9 +1,9 @@
 -- What a change leaves of what recoveries name, and what the office's answers make of it.
-use Rattle.std.proofs.Common.{◌≡◌, ℕ, ◌<◌, ◌≤◌, ◌+◌, ◌⊎◌, inl, inr, Bool, true, false, List, [], ◌∷◌, ◌++◌, append-nil, slice_get, Option, Some, None, IfSome, Ok, Err, refl, sym, ◌∙◌, ap, subst, arith, eqb-true}
-use Rattle.std.specs.Prelude.{◌==◌, nat_lt, if◌then◌else◌}
+use Rattle.std.proofs.Common.{◌≡◌, ℕ, ◌<◌, ◌≤◌, ◌⊎◌, inl, inr, true, false, List, ◌++◌, append-nil, slice_get, Option, Some, None, IfSome, Ok, Err, refl, sym, ◌∙◌, ap, subst, arith, eqb-true}
+use Rattle.std.specs.Prelude.{◌==◌, nat_lt}
 use Rattle.std.proofs.lemmas.Bool.{false≢true}
 use Rattle.std.proofs.lemmas.Bool.Decides.{nat_tests}
-use Rattle.std.proofs.lemmas.Option.{none-some, same_Some}
+use Rattle.std.proofs.lemmas.Option.{none-some}
 use Rattle.std.specs.BTreeMap.{is_at}
 use Rattle.hd_base.specs.declared.numbers.BlockId.{BlockId}
 use Rattle.hd_base.specs.declared.numbers.Stamp.{Stamp}
@@ -11,12 +11,11 @@ use Rattle.name_core.specs.declared.calls.OfficeAnswer.{OfficeAnswer}
 use Rattle.name_core.specs.declared.calls.OfficeAnswer.TheVariants as office
 use Rattle.name_core.specs.declared.faults.OfficeFault.{OfficeFault}
 use Rattle.name_core.specs.declared.calls.OfficeCall.{OfficeCall}
-use Rattle.name_core.specs.declared.calls.OfficeCall.TheVariants as call
 use Rattle.name_core.specs.declared.records.BlockRecord.{BlockRecord}
 use Rattle.name_core.specs.Offices.{OfficeState, block_order, record_of, with_record, with_new_record, stamp_given, office_case}
 use Rattle.name_core.specs.Records.{opened, is_stamp}
 use Rattle.name_core.specs.Steps.{Step, reply, state_after}
-use Rattle.name_core.proofs.BlockLemmas.{same_or_other, record_of-with_record_same, record_of-with_record_other, record_of-with_new_record_same, record_of-with_new_record_other}
+use Rattle.name_core.proofs.BlockLemmas.{same_or_other, record_of-with_record_same, record_of-with_record_other, record_of-with_new_record_same}
 use Rattle.name_core.proofs.CaseLemmas.{each_case}
 use Rattle.op_headers.specs.declared.ops.Op.TheVariants as op
 use Rattle.op_headers.specs.declared.ops.RecoveryOp.{RecoveryOp}
@@ -24,17 +23,16 @@ use Rattle.writer_core.specs.declared.phases.Phase.{Phase}
 use Rattle.writer_core.specs.declared.phases.Phase.TheVariants as phase
 use Rattle.writer_core.specs.declared.phases.Setup.{Setup}
 use Rattle.writer_core.specs.declared.records.WriterRecord.{WriterRecord}
-use Rattle.writer_core.specs.Laws.{Grants, after_move, IsGiven}
+use Rattle.writer_core.specs.Laws.{Grants, IsGiven}
 use Rattle.writer_core.specs.Transitions.{granted}
 use Rattle.writer_core.proofs.StampLemmas.{only_the_office_commits}
 use Rattle.world.specs.Parts.{request, Answered, Told, Writing, Primary, no_primary, was_told, leads, has_led}
-use Rattle.world.specs.Worlds.{World, Dial, Stamped, Change, put, listed, past_after, apply}
+use Rattle.world.specs.Worlds.{World, Dial, Change, put, listed, apply}
 use Rattle.world.specs.Safe.{Has}
 use Rattle.world_laws.proofs.FactTables.{if-each, put-each, some-weaker}
 use Rattle.world_laws.proofs.OfficeSteps.{AsksAs, IsPrimarys}
 use Rattle.world_laws.proofs.SetupNodes.{has-split}
 use Rattle.world_laws.proofs.StampGranting.{granted-create, granted-append, granted-again, granted-commit, granted-complete}
-use Rattle.world_laws.proofs.StampWalking.{none-is}
 use Rattle.world_laws.specs.Stamping.{Givens, InPhase, Fits, Entries, HeldOf, Recorded, heard}
 use Rattle.world_recoveries.specs.Naming.{known_stamp, IsNamed, IsBehind, ToldNamed, PrimaryNamed, RequestNamed, Naming}
 use Rattle.world_recoveries.proofs.Histories.{NewDown, was_sent, is_sent, is_dialled, new-down}

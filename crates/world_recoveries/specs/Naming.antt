@@ -1,6 +1,6 @@
 -- Nothing is committed under a recovery: what a writer knows as committed, and what was answered, is of no stamp between the one that a recovery names
 -- and its id.
-use Rattle.std.specs.Prelude.{ℕ, ◌≡◌, ◌<◌, ◌≤◌, List, slice_get, Option, Some, None, IfSome, Ok}
+use Rattle.std.specs.Prelude.{ℕ, ◌≡◌, ◌<◌, ◌≤◌, List, slice_get, Some, IfSome, Ok}
 use Rattle.hd_base.specs.declared.numbers.BlockId.{BlockId}
 use Rattle.hd_base.specs.declared.numbers.Stamp.{Stamp}
 use Rattle.name_core.specs.declared.calls.OfficeAnswer.TheVariants as office
