@@ -97,7 +97,9 @@ use Rattle.world_laws.specs.Stamping.{HeldOf, known_heard, heard}
 use Rattle.world_laws.specs.Carrying.{LowerSays}
 use Rattle.world_laws.proofs.AllSetUp.{happens-set, start-set}
 use Rattle.world_laws.specs.Joining.{SetUps}
-use Rattle.world_recoveries.specs.Naming.{known_stamp, IsNamed, IsBehind, ToldNamed, PrimaryNamed, RequestNamed, Naming, AllNaming}
+use Rattle.world_recoveries.specs.Recovering.{Recovering}
+use Rattle.world_recoveries.specs.Naming.{NoneStale, known_stamp, IsNamed, IsBehind, ToldNamed, PrimaryNamed, RequestNamed, Naming, AllNaming}
+use Rattle.world_recoveries.proofs.AllRecovering.{all-recovering}
 use Rattle.world_recoveries.proofs.Choosing.{own-updates}
 use Rattle.world_recoveries.proofs.Leading.{updates-at}
 use Rattle.world_recoveries.proofs.Lowers.{write-quiet, read-quiet, unless-quiet, down-quiet}
@@ -768,3 +770,11 @@ start-naming nodes = record { behind = λ b. tt; asked = λ c i q e. absurd (non
 
 pub all-naming : AllNaming
 all-naming nodes events = run-naming none_given (start nodes) events (at-start nodes) (start-recorded nodes) (start-carried nodes) (start-set nodes) (start-naming nodes)
+
+none-stale : (g : Givens) (w : World) → Recovering g w → Naming g w → NoneStale w
+none-stale g w r n c b id i x a has at lt =
+    let low = (n.asked c 0 x.asked x.first).answered a has (at ∙ sym x.block) (omega (arith, lt, ap (λ (s : Stamp). s.0) x.recovery)) in
+    omega (arith, low, (r.told c b id i x).named_below)
+
+pub all-none-stale : (nodes : ℕ) (events : List Event) → NoneStale (run (start nodes) events)
+all-none-stale nodes events = none-stale (given_in none_given (start nodes) events) (run (start nodes) events) (all-recovering nodes events) (all-naming nodes events)

@@ -14,6 +14,7 @@ use Rattle.world.specs.Worlds.{World, start}
 use Rattle.world.specs.Events.{run}
 use Rattle.world.specs.Safe.{Has}
 use Rattle.world_laws.specs.Stamping.{Givens, none_given, given_in, heard}
+use Rattle.world_recoveries.specs.Recovering.{ReplicaTold, Informs}
 
 -- the stamp that a block's writer knows as committed, once it has taken the answer of the office that waits for it
 abbrev pub known_stamp : World → ℕ → ℕ
@@ -53,3 +54,9 @@ pub record Naming (g : Givens) (w : World) : Type 0 where
 -- So it is after every list of events, of the stamps that are given in them.
 abbrev pub AllNaming : Type 0
 AllNaming = (nodes : ℕ) (events : List Event) → Naming (given_in none_given (start nodes) events) (run (start nodes) events)
+
+-- LAWS
+
+-- What is told on a recovery's connection is of no earlier stamp than any that a length of the block was answered under, and that is below its id.
+abbrev pub NoneStale : World → Type 0
+NoneStale w = (c b : ℕ) (id : Stamp) (i : ReplicaTold) → Informs w.past c b id i → (a : Answered) → Has w.answered a → a.block ≡ b → a.stamp < id.0 → a.stamp ≤ i.1.0
