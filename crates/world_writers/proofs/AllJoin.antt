@@ -1,6 +1,6 @@
 -- Nodes accept the setup of a stamp once, after every list of events.
 use Rattle.std.proofs.Common.{◌≡◌, ℕ, zero, suc, ◌<◌, ◌≤◌, ◌+◌, ◌++◌, length, slice_get, Bool, true, false, List, [], ◌∷◌, Option, Some, None, IfSome, Result, Ok, Err, refl, sym, ◌∙◌, ap, subst, arith}
-use Rattle.std.specs.Prelude.{◌==◌, ◌&&◌, ◌-◌, ◌^◌, not, map, min, nat_le, nat_lt, is_none, if◌then◌else◌}
+use Rattle.std.specs.Prelude.{◌==◌, ◌&&◌, ◌-◌, ◌^◌, not, map, min, nat_le, nat_lt, is_none}
 use Rattle.hd_base.specs.declared.numbers.BlockId.{BlockId}
 use Rattle.hd_base.specs.declared.numbers.NodeId.{NodeId}
 use Rattle.hd_base.specs.declared.numbers.Stamp.{Stamp}
@@ -60,7 +60,7 @@ use Rattle.world.specs.declared.events.Event.TheVariants as event
 use Rattle.world.specs.declared.events.OwnStep as step
 use Rattle.world.specs.declared.events.OwnStep.TheVariants as own
 use Rattle.world.specs.declared.events.TakenCommand.{TakenCommand}
-use Rattle.world.specs.Parts.{Message, request, packet, ack, response, read_status, recovery_answer, Place, idle, Upper, by_writer, by_member, by_reader, by_primary, Told, Writing, Reader, no_reader, reads, has_read, Leading, Primary, no_primary, was_told, leads, has_led}
+use Rattle.world.specs.Parts.{request, packet, ack, response, read_status, recovery_answer, Place, idle, Upper, by_writer, by_member, by_reader, by_primary, Told, Writing, Reader, no_reader, reads, has_read, Leading, Primary, no_primary, was_told, leads, has_led}
 use Rattle.world.specs.Worlds.{World, Dial, Change, start}
 use Rattle.world.specs.Connections.{Next, message, the_end, next_down, next_up, down_taken, up_taken, place_of, is_served, is_conn, is_alive, sent_on}
 use Rattle.world.specs.Nodes.{node_on, lower_down, lower_ready, mirror_up}
@@ -80,7 +80,7 @@ use Rattle.world_laws.specs.Stamping.{Givens, none_given, given_in, known_heard,
 use Rattle.world_laws.proofs.AllRecorded.{Reached, reached-next}
 use Rattle.world_laws.proofs.StampWalking.{none-is}
 use Rattle.world_laws.proofs.AllCarried.{at-start}
-use Rattle.world_acks.specs.Acking.{Ends, Asked}
+use Rattle.world_acks.specs.Acking.{Ends}
 use Rattle.world_acks.proofs.Turning.{Known}
 use Rattle.world_acks.proofs.Ends.{NextTells}
 use Rattle.world_acks.proofs.AllAcked.{down-known, up-known, when-two, next-tells, outcome-facts}

@@ -1,10 +1,9 @@
 -- Writers in the world make the moves of their core, after every list of events.
-use Rattle.std.proofs.Common.{◌≡◌, ℕ, Bool, true, false, List, [], ◌∷◌, Option, Some, None, IfSome, Ok, Err, refl, sym, ◌∙◌, ap, subst, arith}
+use Rattle.std.proofs.Common.{◌≡◌, ℕ, Bool, true, false, List, [], ◌∷◌, Option, Some, None, IfSome, refl, sym, subst, arith}
 use Rattle.std.specs.Prelude.{◌&&◌, not, nat_lt, is_none}
 use Rattle.hd_base.specs.declared.numbers.BlockId.{BlockId}
 use Rattle.hd_base.specs.declared.numbers.NodeId.{NodeId}
-use Rattle.hd_base.specs.SumRules.{Rule, default_rule}
-use Rattle.name_core.specs.declared.calls.OfficeCall.{OfficeCall}
+use Rattle.hd_base.specs.SumRules.{default_rule}
 use Rattle.op_headers.specs.declared.ops.Op.{Op}
 use Rattle.recovery_core.specs.declared.primary.OwnStep.{OwnStep}
 use Rattle.recovery_core.specs.declared.primary.OwnStep.TheVariants as lead
@@ -16,8 +15,8 @@ use Rattle.writer_core.specs.declared.phases.Phase.{Phase}
 use Rattle.writer_core.specs.declared.phases.Phase.TheVariants as phase
 use Rattle.writer_core.specs.declared.phases.Waiting.{Waiting}
 use Rattle.writer_core.specs.declared.records.WriterRecord.{WriterRecord}
-use Rattle.writer_core.specs.Transitions.{fresh, given, own_step, step_in, dial_step, open_step, completed_step, granted, dialled}
-use Rattle.writer_core.specs.Laws.{after_moves, IsReached}
+use Rattle.writer_core.specs.Transitions.{given, own_step, step_in, dial_step, open_step, completed_step, granted}
+use Rattle.writer_core.specs.Laws.{IsReached}
 use Rattle.writer_core.proofs.ReachedLemmas.{answered_is_acked}
 use Rattle.world.specs.declared.events.Caller.{Caller}
 use Rattle.world.specs.declared.events.Caller.TheVariants as caller
@@ -31,11 +30,11 @@ use Rattle.world.specs.declared.events.OwnStep as step
 use Rattle.world.specs.declared.events.OwnStep.TheVariants as own
 use Rattle.world.specs.declared.events.TakenCommand.{TakenCommand}
 use Rattle.world.specs.Parts.{Upper, by_writer, by_member, by_reader, by_primary, Told, Writing, Leading, Primary, no_primary, was_told, leads, has_led}
-use Rattle.world.specs.Worlds.{World, Change, put, apply, start}
+use Rattle.world.specs.Worlds.{World, Change, apply, start}
 use Rattle.world.specs.Connections.{Next, next_down, next_up, down_taken, up_taken, is_served, is_conn, is_alive}
 use Rattle.world.specs.Nodes.{lower_down, lower_ready, mirror_up}
-use Rattle.world.specs.Clients.{writer_change, did, dialled_change, dialling, rest_in, is_empty, is_formed, ruled, command_bytes, takes_command, writer_step, own_writer, writer_hears, writer_up, own_reader, reader_up}
-use Rattle.world.specs.Primaries.{asks_writer, asks_primary, writer_asks, primary_commits, primary_asks, office_event, own_recover, own_primary, primary_up}
+use Rattle.world.specs.Clients.{did, dialled_change, dialling, rest_in, is_empty, is_formed, ruled, command_bytes, takes_command, writer_step, own_writer, writer_up, own_reader, reader_up}
+use Rattle.world.specs.Primaries.{writer_asks, primary_commits, primary_asks, office_event, own_recover, own_primary, primary_up}
 use Rattle.world.specs.Restarts.{all_found, restart}
 use Rattle.world.specs.Events.{changed, own_change, down_as, down_event, ready_event, unless_fails, upper_up, up_as, up_event, fault_event, lost, stop, where_so, outcome, after_event, happens, run}
 use Rattle.world_laws.proofs.FactTables.{put-each, when-each, some-weaker, and-left, and-right}

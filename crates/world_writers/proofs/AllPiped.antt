@@ -1,9 +1,8 @@
 -- Writers know their pipelines, after every list of events.
-use Rattle.std.proofs.Common.{◌≡◌, ℕ, ◌<◌, ◌≤◌, ◌+◌, ◌-◌, Bool, true, false, List, [], ◌∷◌, ◌++◌, Option, Some, None, IfSome, Ok, Err, refl, sym, ◌∙◌, ap, subst, arith}
+use Rattle.std.proofs.Common.{◌≡◌, ℕ, ◌<◌, ◌+◌, ◌-◌, Bool, true, false, List, [], ◌∷◌, ◌++◌, Option, Some, None, IfSome, refl, sym, ◌∙◌, ap, subst, arith}
 use Rattle.std.specs.Prelude.{◌&&◌, not, nat_lt, nat_le, is_none, map, length, slice_get, unwrap_or, option_map, if◌then◌else◌}
 use Rattle.hd_base.specs.declared.numbers.BlockId.{BlockId}
 use Rattle.hd_base.specs.declared.numbers.NodeId.{NodeId}
-use Rattle.hd_base.specs.SumRules.{Rule, default_rule}
 use Rattle.name_core.specs.declared.calls.OfficeCall.TheVariants as call
 use Rattle.name_core.specs.Offices.{office_case}
 use Rattle.name_core.specs.Steps.{reply}
@@ -13,12 +12,11 @@ use Rattle.recovery_core.specs.declared.primary.OwnStep.TheVariants as lead
 use Rattle.recovery_core.specs.Primaries as primary
 use Rattle.writer_core.specs.declared.actions.Action.{Action}
 use Rattle.writer_core.specs.declared.actions.Action.TheVariants as action
-use Rattle.writer_core.specs.declared.actions.ClientAnswer.TheVariants as answer
 use Rattle.writer_core.specs.declared.phases.Phase.{Phase}
 use Rattle.writer_core.specs.declared.phases.Phase.TheVariants as phase
 use Rattle.writer_core.specs.declared.phases.Waiting.{Waiting}
 use Rattle.writer_core.specs.declared.records.WriterRecord.{WriterRecord}
-use Rattle.writer_core.specs.Transitions.{fresh, given, own_step, step_in, dial_step, open_step, completed_step, granted, dialled}
+use Rattle.writer_core.specs.Transitions.{given, own_step, open_step, completed_step, granted, dialled}
 use Rattle.world.specs.declared.events.Caller.{Caller}
 use Rattle.world.specs.declared.events.Caller.TheVariants as caller
 use Rattle.world.specs.declared.events.Delivery.{Delivery}
@@ -31,14 +29,14 @@ use Rattle.world.specs.declared.events.OwnStep as step
 use Rattle.world.specs.declared.events.OwnStep.TheVariants as own
 use Rattle.world.specs.declared.events.TakenCommand.{TakenCommand}
 use Rattle.world.specs.Parts.{Upper, by_writer, by_member, by_reader, by_primary, Told, Writing, Leading, Primary, no_primary, was_told, leads, has_led}
-use Rattle.world.specs.Worlds.{World, Change, put, apply, start}
+use Rattle.world.specs.Worlds.{World, Change, apply, start}
 use Rattle.world.specs.Connections.{Next, next_down, next_up, down_taken, up_taken, is_served, is_conn, is_alive}
 use Rattle.world.specs.Nodes.{lower_down, lower_ready, mirror_up}
 use Rattle.world.specs.Clients.{writer_change, did, dialled_change, dialling, rest_in, is_empty, is_formed, ruled, command_bytes, takes_command, writer_step, own_writer, writer_hears, writer_up, own_reader, reader_up}
 use Rattle.world.specs.Primaries.{asks_writer, asks_primary, writer_asks, primary_commits, primary_asks, office_event, own_recover, own_primary, primary_up}
 use Rattle.world.specs.Restarts.{all_found, restart}
 use Rattle.world.specs.Events.{changed, own_change, down_as, down_event, ready_event, unless_fails, upper_up, up_as, up_event, fault_event, lost, stop, where_so, outcome, after_event, happens, run}
-use Rattle.world_laws.proofs.FactTables.{put-each, when-each, some-weaker, and-left, and-right}
+use Rattle.world_laws.proofs.FactTables.{put-each, when-each, some-weaker, and-right}
 use Rattle.world_laws.proofs.SessionAsides.{Aside, lower-down-aside, lower-ready-aside, mirror-up-aside, own-reader-aside, reader-up-aside, own-recover-aside, own-primary-aside, primary-up-aside}
 use Rattle.world_laws.specs.Stamping.{known_heard, heard}
 use Rattle.world_laws.proofs.AllRecorded.{Reached, reached-next}
@@ -67,7 +65,7 @@ use Rattle.world.specs.Clients.{writing_as, reached_answer}
 use Rattle.world.specs.Connections.{sent_on}
 use Rattle.world.specs.Parts.{packet}
 use Rattle.writer_core.specs.declared.actions.ClientAnswer.{ClientAnswer}
-use Rattle.world_laws.specs.Carrying.{new_stamp, AsksFor, Asks}
+use Rattle.world_laws.specs.Carrying.{AsksFor, Asks}
 use Rattle.world_laws.proofs.ByteLeaves.{Facts}
 use Rattle.world_laws.proofs.AllCarried.{reached-facts}
 use Rattle.world_laws.proofs.ByteAsking.{first-dial}

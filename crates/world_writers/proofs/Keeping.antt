@@ -1,6 +1,6 @@
 -- What a writer's steps leave of the members and the stamp of a pipeline whose connection it has given up.
-use Rattle.std.proofs.Common.{◌≡◌, ℕ, Bool, true, false, List, [], ◌∷◌, Option, Some, None, Result, Ok, Err, refl, sym, ◌∙◌, ap, subst}
-use Rattle.std.specs.Prelude.{slice_get, length, nat_le, if◌then◌else◌}
+use Rattle.std.proofs.Common.{◌≡◌, ℕ, Bool, true, false, List, [], ◌∷◌, Option, Some, None, Result, Ok, Err, refl, sym, ◌∙◌, ap}
+use Rattle.std.specs.Prelude.{slice_get, nat_le}
 use Rattle.hd_base.specs.declared.numbers.NodeId.{NodeId}
 use Rattle.hd_base.specs.declared.numbers.Stamp.{Stamp}
 use Rattle.name_core.specs.declared.calls.OfficeAnswer.{OfficeAnswer}
@@ -9,10 +9,7 @@ use Rattle.name_core.specs.declared.calls.Reopened.{Reopened}
 use Rattle.name_core.specs.declared.faults.OfficeFault.{OfficeFault}
 use Rattle.name_core.specs.declared.faults.OfficeFault.TheVariants as fault
 use Rattle.name_core.specs.declared.records.TheConstants.{MAX_APPEND_LENGTH}
-use Rattle.ack_codec.specs.declared.acks.Ack.{Ack}
-use Rattle.ack_codec.specs.declared.responses.Response.{Response}
 use Rattle.packet_codec.specs.declared.packets.Packet.{Packet}
-use Rattle.packet_stream.specs.Streams.{oldest_seqno, oldest_is_last}
 use Rattle.writer_core.specs.declared.commands.Command.{Command}
 use Rattle.writer_core.specs.declared.commands.Command.TheVariants as command
 use Rattle.writer_core.specs.declared.commands.CommandFault.{CommandFault}
@@ -26,20 +23,16 @@ use Rattle.writer_core.specs.declared.phases.Remedy.{Remedy}
 use Rattle.writer_core.specs.declared.phases.Remedy.TheVariants as remedy
 use Rattle.writer_core.specs.declared.phases.Setup.{Setup}
 use Rattle.writer_core.specs.declared.phases.Setup.TheVariants as setup
-use Rattle.writer_core.specs.declared.phases.Verdict.{Verdict}
-use Rattle.writer_core.specs.declared.phases.Verdict.TheVariants as verdict
 use Rattle.writer_core.specs.declared.phases.Waiting.{Waiting}
 use Rattle.writer_core.specs.declared.records.WriterRecord.{WriterRecord}
 use Rattle.writer_core.specs.Commands.{admitted}
-use Rattle.writer_core.specs.Phases.{remedy_after, remedy_in, remedy_at_ack, ack_verdict, bad_place, without, is_success}
-use Rattle.writer_core.specs.Transitions.{given, given_as, take_first, taken_as, free_step_as, failed_first, failed_command, failed_step_as, dial_step_as, open_step, accepted_step, completed_step, form_step, reach_step_as, reached_length, due_step, due_now, stream_step_as, step_in, own_step, dropped, fail_for, fail_named, fail_at, ended, ended_as, acked, acked_as, acked_in, setup_answered, setup_answered_in, dialled, dialled_in, refused, stamped, reopened, begin_session, stamp_given, committed_as, commit_given, complete_given, granted_in, granted_as, granted, asks, took, phase_acked, acked_oldest, Step}
-use Rattle.world.specs.Connections.{Next, message, the_end}
-use Rattle.world.specs.Parts.{request, packet, ack, response, read_status, recovery_answer}
-use Rattle.world.specs.Clients.{ruled, named_member, writer_hears}
+use Rattle.writer_core.specs.Phases.{remedy_after, remedy_in, without}
+use Rattle.writer_core.specs.Transitions.{given, given_as, take_first, taken_as, free_step_as, failed_first, failed_command, failed_step_as, dial_step_as, open_step, accepted_step, completed_step, form_step, reach_step_as, reached_length, due_step, due_now, stream_step_as, step_in, own_step, dropped, fail_for, fail_named, fail_at, ended, ended_as, dialled, dialled_in, refused, stamped, reopened, begin_session, stamp_given, committed_as, commit_given, complete_given, granted_in, granted_as, granted, asks, took, Step}
+use Rattle.world.specs.Clients.{ruled}
 use Rattle.std.proofs.lemmas.Bool.{false≢true}
 use Rattle.hd_base.specs.SumRules.{Rule}
 use Rattle.world_laws.proofs.FactTables.{if-each}
-use Rattle.world_writers.specs.Piping.{setup_stamp, Creates}
+use Rattle.world_writers.specs.Piping.{setup_stamp}
 
 -- WRITERS
 

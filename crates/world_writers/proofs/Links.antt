@@ -1,6 +1,6 @@
 -- What a writer's steps leave of its connection's members and stamp.
 use Rattle.std.proofs.Common.{◌≡◌, ℕ, Bool, true, false, List, [], ◌∷◌, Option, Some, None, Result, Ok, Err, refl, sym, ◌∙◌, ap, subst}
-use Rattle.std.specs.Prelude.{slice_get, length, nat_le, if◌then◌else◌}
+use Rattle.std.specs.Prelude.{slice_get, length, nat_le}
 use Rattle.hd_base.specs.declared.numbers.NodeId.{NodeId}
 use Rattle.hd_base.specs.declared.numbers.Stamp.{Stamp}
 use Rattle.name_core.specs.declared.calls.OfficeAnswer.{OfficeAnswer}

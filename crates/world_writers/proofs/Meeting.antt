@@ -1,72 +1,35 @@
 -- What a change leaves of it that nodes accept the setup of a stamp once.
-use Rattle.std.proofs.Common.{◌≡◌, ℕ, zero, suc, ◌<◌, ◌≤◌, ◌+◌, ◌-◌, ◌⊎◌, inl, inr, Bool, true, false, List, [], ◌∷◌, ◌++◌, length, slice_get, Option, Some, None, IfSome, Ok, Err, refl, sym, ◌∙◌, ap, subst, arith, eqb-true}
-use Rattle.std.specs.Prelude.{◌==◌, ◌&&◌, ◌||◌, not, nat_le, nat_lt, is_none, map, min, unwrap_or, option_map, if◌then◌else◌}
+use Rattle.std.proofs.Common.{◌≡◌, ℕ, zero, suc, ◌<◌, ◌≤◌, ◌+◌, ◌-◌, ◌⊎◌, inl, inr, Bool, true, false, List, [], ◌∷◌, ◌++◌, length, slice_get, Option, Some, None, refl, sym, ◌∙◌, ap, subst, arith, eqb-true}
+use Rattle.std.specs.Prelude.{◌==◌, ◌||◌, not, nat_le, map, unwrap_or, option_map, if◌then◌else◌}
 use Rattle.std.proofs.lemmas.Bool.{eqb-false, cases_lt, false≢true}
 use Rattle.std.proofs.lemmas.Bool.Decides.{nat_tests}
 use Rattle.std.proofs.lemmas.Option.{none-some, same_Some}
 use Rattle.std.specs.List.{list_any}
-use Rattle.hd_base.specs.declared.numbers.BlockId.{BlockId}
 use Rattle.hd_base.specs.declared.numbers.NodeId.{NodeId}
 use Rattle.hd_base.specs.declared.numbers.Stamp.{Stamp}
-use Rattle.hd_base.specs.declared.roads.TheConstants.{FIRST_PORT, MAX_NODES}
-use Rattle.hd_base.specs.SumRules.{Rule}
-use Rattle.name_core.specs.declared.calls.OfficeAnswer.TheVariants as office
-use Rattle.name_core.specs.declared.calls.OfficeCall.{OfficeCall}
-use Rattle.name_core.specs.declared.calls.OfficeCall.TheVariants as call
-use Rattle.name_core.specs.declared.faults.OfficeFault.{OfficeFault}
-use Rattle.name_core.specs.declared.faults.OfficeFault.TheVariants as fault
-use Rattle.name_core.specs.declared.calls.OfficeAnswer.{OfficeAnswer}
-use Rattle.name_core.specs.Offices.{OfficeState, office_case}
-use Rattle.name_core.specs.Steps as office_step
-use Rattle.name_core.proofs.CaseLemmas.{each_case}
-use Rattle.node_refs.specs.NodeRefs.{ref_of, port_of}
 use Rattle.op_headers.specs.declared.nodes.NodeRef.{NodeRef}
-use Rattle.op_headers.specs.declared.ops.Op.{Op}
 use Rattle.op_headers.specs.declared.ops.Op.TheVariants as op
-use Rattle.op_headers.specs.declared.ops.ReadOp.{ReadOp}
 use Rattle.op_headers.specs.Values.{WriteFields}
-use Rattle.recovery_core.specs.declared.primary.OwnStep.{OwnStep}
-use Rattle.recovery_core.specs.declared.primary.OwnStep.TheVariants as lead
-use Rattle.recovery_core.specs.Primaries as primary
-use Rattle.writer_core.specs.declared.actions.Action.{Action}
-use Rattle.writer_core.specs.declared.actions.Action.TheVariants as action
-use Rattle.writer_core.specs.declared.actions.ClientAnswer.{ClientAnswer}
-use Rattle.writer_core.specs.declared.commands.Command.{Command}
-use Rattle.writer_core.specs.declared.commands.Command.TheVariants as command
 use Rattle.writer_core.specs.declared.phases.Phase.{Phase}
 use Rattle.writer_core.specs.declared.phases.Phase.TheVariants as phase
 use Rattle.writer_core.specs.declared.phases.Setup.{Setup}
-use Rattle.writer_core.specs.declared.phases.Setup.TheVariants as setup
-use Rattle.writer_core.specs.declared.phases.Waiting.{Waiting}
-use Rattle.writer_core.specs.declared.records.WriterRecord.{WriterRecord}
-use Rattle.writer_core.specs.Requests.{request_for}
-use Rattle.writer_core.specs.Transitions.{given, own_step, dial_step_as, open_step, completed_step, granted, dialled, asks, refused, phase_committed}
-use Rattle.world.specs.declared.events.TakenCommand.{TakenCommand}
-use Rattle.world.specs.Parts.{Message, request, packet, Dialled, Place, Lower, idle, Told, Writing, Leading, Primary, no_primary, was_told, leads, has_led, Joined}
-use Rattle.world.specs.Worlds.{Past, World, Dial, Stamped, Change, put, listed, dial_at, dialled_with, past_after, apply}
-use Rattle.world.specs.Connections.{is_alive, is_conn, sent_on}
+use Rattle.world.specs.Parts.{Message, request, Dialled, Lower, idle, Writing, Joined}
+use Rattle.world.specs.Worlds.{World, Dial, Change, put, listed, dial_at, past_after, apply}
 use Rattle.world.specs.Nodes.{node_on}
-use Rattle.world.specs.Clients.{are_distinct, are_members, writer_change, did, dialled_change, dialling, rest_in, is_empty, is_formed, ruled, command_bytes, takes_command, writer_step, reached_answer}
-use Rattle.world.specs.Primaries.{stamped_by, asks_writer, asks_primary, writer_asks, primary_commits, primary_asks}
+use Rattle.world.specs.Clients.{are_distinct}
 use Rattle.world.specs.Safe.{Has}
-use Rattle.world_laws.specs.Growing.{Begins, Grows}
 use Rattle.world_laws.proofs.GrowthLaws.{apply-grows}
-use Rattle.world_laws.proofs.FactTables.{if-each, when-each, and-left, and-right, put-each}
-use Rattle.world_laws.proofs.OfficeSteps.{AsksAs, IsAgain}
-use Rattle.world_laws.specs.Stamping.{Givens, known_heard, heard}
-use Rattle.world_laws.proofs.StampGranting.{granted-create, granted-append, granted-again, granted-commit, granted-complete}
+use Rattle.world_laws.proofs.FactTables.{if-each, and-left, and-right}
+use Rattle.world_laws.specs.Stamping.{Givens, heard}
 use Rattle.world_laws.specs.Carrying.{new_stamp, AsksFor, Asks}
 use Rattle.world_laws.proofs.ByteAsking.{first-dial}
 use Rattle.world_laws.proofs.ByteLeaves.{Facts}
-use Rattle.world_laws.proofs.ByteWriting.{Requested, requested}
-use Rattle.world_laws.proofs.SetupNodes.{get-more}
-use Rattle.world_laws.specs.Joining.{SetUps, joined_as}
-use Rattle.world_acks.specs.Acking.{Ends, Asked}
+use Rattle.world_laws.specs.Joining.{joined_as}
+use Rattle.world_acks.specs.Acking.{Asked}
 use Rattle.world_acks.proofs.Frame.{begins-first, dial-place, dial-none}
 use Rattle.world_acks.proofs.Lowers.{dialled-there}
-use Rattle.world_acks.proofs.Turning.{Known}
 use Rattle.world_writers.specs.Taking.{Waits, chain, IsUnmet, IsUnasked, Joins}
-use Rattle.world_writers.proofs.Trailing.{CommandFits, QueueFits, is_stamped, Trails}
+use Rattle.world_writers.proofs.Trailing.{is_stamped}
 use Rattle.world_writers.proofs.Taking.{PassesOn, Begins as WriterBegins, NewRequest, of_member, of_writer, Accepts, Takes}
 
 -- WHAT WAS SENT

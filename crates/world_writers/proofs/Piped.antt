@@ -1,11 +1,8 @@
 -- What members show of a writer's acked bytes, in a world and in later ones.
-use Rattle.std.proofs.Common.{◌≡◌, ℕ, ◌<◌, ◌≤◌, ◌⊎◌, inl, inr, Bool, true, false, List, ◌++◌, append-nil, length, take, Option, Some, None, IfSome, refl, sym, ◌∙◌, ap, subst, arith, eqb-true}
+use Rattle.std.proofs.Common.{◌≡◌, ℕ, ◌<◌, ◌≤◌, ◌⊎◌, inl, inr, Bool, true, false, List, ◌++◌, append-nil, length, Option, Some, None, IfSome, refl, sym, ◌∙◌, ap, subst, arith, eqb-true}
 use Rattle.std.specs.Prelude.{◌==◌, if◌then◌else◌}
 use Rattle.std.proofs.lemmas.Bool.{eqb-false}
-use Rattle.std.proofs.lemmas.List.{take-take}
-use Rattle.op_headers.specs.declared.ops.Op.TheVariants as op
 use Rattle.op_headers.specs.Values.{WriteFields}
-use Rattle.replica_model.specs.Rows.{FullReplica}
 use Rattle.writer_core.specs.declared.phases.Phase.{Phase}
 use Rattle.writer_core.specs.declared.phases.Phase.TheVariants as phase
 use Rattle.writer_core.specs.declared.phases.Setup.TheVariants as setup
@@ -13,7 +10,7 @@ use Rattle.writer_core.specs.declared.records.WriterRecord.{WriterRecord}
 use Rattle.writer_core.specs.Transitions.{is_connected}
 use Rattle.hd_base.specs.declared.numbers.NodeId.{NodeId}
 use Rattle.hd_base.specs.declared.numbers.Stamp.{Stamp}
-use Rattle.world.specs.Parts.{request, Writing, Answered}
+use Rattle.world.specs.Parts.{Writing, Answered}
 use Rattle.world.specs.Worlds.{World, Change, listed, latest_with, past_after, apply}
 use Rattle.world.specs.Nodes.{node_of, block_of}
 use Rattle.world.specs.Clients.{writing_as}
@@ -24,7 +21,7 @@ use Rattle.world_laws.specs.Carrying.{new_stamp}
 use Rattle.world_laws.proofs.Fronts.{front-length}
 use Rattle.world_laws.proofs.ByteLeaves.{Facts}
 use Rattle.world_laws.proofs.SessionAsides.{Aside}
-use Rattle.world_acks.specs.Acking.{Shown, Seat, Asked, Seated, Ends}
+use Rattle.world_acks.specs.Acking.{Seat, Asked, Seated, Ends}
 use Rattle.world_acks.proofs.Seats.{Onward, asked-on, seated-on, node-on}
 use Rattle.world_acks.proofs.Granting.{none-latest}
 use Rattle.world_writers.specs.Showing.{Asking, not_asked, was_asked, was_answered, asking_in, ShowsAt, Starts}

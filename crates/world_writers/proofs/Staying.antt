@@ -1,29 +1,25 @@
 -- Answered bytes stay as far as later recoveries left them.
-use Rattle.std.proofs.Common.{◌≡◌, ℕ, zero, suc, ◌<◌, ◌≤◌, ◌+◌, List, [], ◌∷◌, length, length-take, take, slice_get, Option, Some, None, IfSome, refl, sym, ◌∙◌, ap, subst, arith}
-use Rattle.std.specs.Prelude.{◌-◌, ◌^◌, map, min, nat_le, if◌then◌else◌}
+use Rattle.std.proofs.Common.{◌≡◌, ℕ, zero, suc, ◌<◌, ◌≤◌, ◌+◌, List, [], ◌∷◌, length, length-take, take, slice_get, Option, Some, IfSome, sym, ◌∙◌, ap, subst, arith}
+use Rattle.std.specs.Prelude.{◌-◌, ◌^◌, map, min}
 use Rattle.std.proofs.lemmas.Bool.Decides.{nat_tests}
 use Rattle.std.proofs.lemmas.Option.{none-some, same_Some}
 use Rattle.hd_base.specs.declared.numbers.NodeId.{NodeId}
 use Rattle.hd_base.specs.declared.numbers.Stamp.{Stamp}
 use Rattle.hd_base.specs.declared.roads.TheConstants.{FIRST_PORT, MAX_NODES}
-use Rattle.node_refs.specs.NodeRefs.{ref_of, port_of}
+use Rattle.node_refs.specs.NodeRefs.{ref_of}
 use Rattle.op_headers.specs.declared.nodes.NodeRef.{NodeRef}
-use Rattle.op_headers.specs.Values.{WriteFields}
 use Rattle.replica_core.specs.declared.info.ReplicaInfo.{ReplicaInfo}
-use Rattle.replica_core.specs.Info.{visible_of}
-use Rattle.replica_model.specs.Rows.{FullReplica}
 use Rattle.world.specs.declared.events.Event.{Event}
-use Rattle.world.specs.Parts.{Answered, Updated}
+use Rattle.world.specs.Parts.{Answered}
 use Rattle.world.specs.Worlds.{World, start}
 use Rattle.world.specs.Nodes.{node_of, node_on, block_of}
 use Rattle.world.specs.Events.{run}
-use Rattle.world.specs.Safe.{Has, Steady, KeptAt, IsReached, written_under}
+use Rattle.world.specs.Safe.{Has, Steady, KeptAt, IsReached}
 use Rattle.world_laws.specs.Placing.{Placed}
 use Rattle.world_laws.proofs.PlacedLaws.{all-placed}
 use Rattle.world_laws.specs.Stamping.{Givens, none_given, given_in, Recorded}
 use Rattle.world_laws.proofs.AllRecorded.{all-recorded}
 use Rattle.world_laws.specs.Carrying.{new_stamp}
-use Rattle.world_laws.specs.Joining.{joined_as}
 use Rattle.world_acks.specs.Acking.{Shown, UpdatesLeave, Seat, Seated}
 use Rattle.world_writers.specs.Piping.{IsPipeline}
 use Rattle.world_writers.specs.Settling.{AnswerSits}

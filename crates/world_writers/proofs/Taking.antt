@@ -1,10 +1,7 @@
 -- What a change makes of the requests that wait and of the setups that were accepted.
-use Rattle.std.proofs.Common.{◌≡◌, ℕ, zero, suc, ◌<◌, ◌≤◌, ◌+◌, ◌-◌, ◌⊎◌, inl, inr, Bool, true, false, List, [], ◌∷◌, ◌++◌, length, take, slice_get, Option, Some, None, IfSome, Result, Ok, Err, IfOk, refl, sym, ◌∙◌, ap, subst, arith, eqb-true}
-use Rattle.std.specs.Prelude.{◌==◌, ◌&&◌, nat_le, nat_lt, map, is_some, is_none, option_map, if◌then◌else◌}
-use Rattle.std.proofs.lemmas.Bool.{eqb-false, cases_lt, false≢true}
-use Rattle.std.proofs.lemmas.Bool.Decides.{nat_tests}
+use Rattle.std.proofs.Common.{◌≡◌, ℕ, zero, suc, ◌<◌, Bool, true, false, List, [], ◌∷◌, ◌++◌, take, slice_get, Option, Some, None, IfSome, Result, Ok, Err, IfOk, refl, sym, ◌∙◌, ap, subst}
+use Rattle.std.specs.Prelude.{map, option_map}
 use Rattle.std.proofs.lemmas.Option.{none-some, same_Some}
-use Rattle.hd_base.specs.declared.numbers.ConnId.{ConnId}
 use Rattle.hd_base.specs.declared.numbers.Stamp.{Stamp}
 use Rattle.op_headers.specs.declared.nodes.NodeRef.{NodeRef}
 use Rattle.op_headers.specs.declared.ops.Op.{Op}
@@ -21,29 +18,28 @@ use Rattle.replica_core.specs.Transitions as core
 use Rattle.replica_core.specs.Views.{rule_in, stamp_in, written_in}
 use Rattle.replica_model.specs.declared.events.ReplicaEvent.{ReplicaEvent}
 use Rattle.replica_model.specs.declared.events.ReplicaEvent.TheVariants as replica_event
-use Rattle.replica_model.specs.Rows.{FullReplica, row}
+use Rattle.replica_model.specs.Rows.{FullReplica}
 use Rattle.request_refusals.specs.declared.refusals.RequestRefusal.{RequestRefusal}
 use Rattle.request_refusals.specs.declared.refusals.RequestRefusal.TheVariants as refusal
 use Rattle.member_core.specs.declared.member.Mirror.{Mirror}
 use Rattle.member_core.specs.declared.member.Mirror.TheVariants as mirror
 use Rattle.member_core.specs.declared.requests.SetupKind.{SetupKind}
 use Rattle.member_core.specs.declared.turns.Turn.{Turn}
-use Rattle.member_core.specs.Members.{MemberState, set_up, down_turn, up_turn, hears}
-use Rattle.member_core.specs.Requests.{request_from, request_to, mirror_request, request_event}
-use Rattle.member_core.specs.Steps.{Step, Setup, step, faulted_step, request_step, request_at, booked_request, refused_request, faulted_request, refused_by, oldest_at, ready_turn_at}
+use Rattle.member_core.specs.Members.{set_up, down_turn, up_turn, hears}
+use Rattle.member_core.specs.Requests.{request_from, mirror_request, request_event}
+use Rattle.member_core.specs.Steps.{Step, step, faulted_step, request_at, booked_request, refused_request, faulted_request, refused_by, oldest_at, ready_turn_at}
 use Rattle.read_core.specs.Servings.{ServingState, read_at, read_event, next_call, piece_at}
 use Rattle.recovery_core.specs.declared.members.RecoveryReply.{RecoveryReply}
 use Rattle.recovery_core.specs.Members.{recovery_event}
-use Rattle.world.specs.Parts.{Message, request, packet, ack, response, read_status, recovery_answer, Place, FullMember, Lower, idle, writes, serves, recovers, ended_below, Break, Joined}
-use Rattle.world.specs.Worlds.{World, Dial, Change, put, dial_at, past_after, apply}
+use Rattle.world.specs.Parts.{Message, request, packet, ack, response, read_status, recovery_answer, FullMember, Lower, idle, writes, serves, recovers, ended_below, Break, Joined}
+use Rattle.world.specs.Worlds.{World, Dial, Change}
 use Rattle.world.specs.Connections.{Next, message, the_end, is_alive}
-use Rattle.world.specs.Nodes.{node_of, node_on, replica_at, block_of, broke_at, closing, unless_failing, member_change, failing_turn, turn_change, pending_at, takes_next, above_of, below_of, member_down, member_up, ready_change, member_ready, mirror_node, is_asked, mirror_dial, dials_of, setup_change, failing_write, write_request, joined_at, breaking, read_change, failing_read, read_request, piece_as, serve_change, recovery_change, failing_recovery, recovery_request, first_message, next_recovery, lower_down, lower_ready, mirror_up}
+use Rattle.world.specs.Nodes.{node_of, node_on, replica_at, block_of, broke_at, closing, unless_failing, member_change, failing_turn, turn_change, pending_at, takes_next, above_of, below_of, member_down, member_up, ready_change, mirror_node, is_asked, mirror_dial, dials_of, setup_change, failing_write, write_request, joined_at, read_change, failing_read, read_request, piece_as, serve_change, failing_recovery, recovery_request, first_message, next_recovery, lower_down, lower_ready, mirror_up}
 use Rattle.world.specs.Safe.{Has}
-use Rattle.world_laws.proofs.FactTables.{if-each, when-each}
+use Rattle.world_laws.proofs.FactTables.{when-each}
 use Rattle.world_laws.specs.Carrying.{new_stamp}
 use Rattle.world_laws.specs.Joining.{joined_as}
 use Rattle.world_acks.specs.Acking.{Asked, promised}
-use Rattle.world_acks.proofs.Seats.{has-one}
 use Rattle.world_acks.proofs.Setups.{Set, SetOr, IsRequest, request-is, request-set, DialsMirror, member-dial}
 use Rattle.hd_base.specs.declared.numbers.NodeId.{NodeId}
 use Rattle.writer_core.specs.declared.phases.Phase.TheVariants as phase

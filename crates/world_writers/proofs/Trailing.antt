@@ -1,14 +1,8 @@
 -- What a writer's steps leave of a stamp that isn't dialled yet, and of its members.
-use Rattle.std.proofs.Common.{◌≡◌, ℕ, Bool, true, false, List, [], ◌∷◌, Option, Some, None, Result, Ok, Err, refl, sym, ◌∙◌, ap, subst}
-use Rattle.std.specs.Prelude.{◌==◌, ◌&&◌, ◌||◌, not, filter, slice_get, length, nat_le, if◌then◌else◌}
+use Rattle.std.proofs.Common.{◌≡◌, ℕ, Bool, true, false, List, [], ◌∷◌, Option, Some, None, Result, Ok, Err, refl}
+use Rattle.std.specs.Prelude.{◌==◌, ◌&&◌, ◌||◌, not, filter, slice_get, length}
 use Rattle.hd_base.specs.declared.numbers.NodeId.{NodeId}
 use Rattle.hd_base.specs.declared.numbers.Stamp.{Stamp}
-use Rattle.name_core.specs.declared.calls.OfficeAnswer.{OfficeAnswer}
-use Rattle.name_core.specs.declared.calls.OfficeAnswer.TheVariants as office
-use Rattle.name_core.specs.declared.calls.Reopened.{Reopened}
-use Rattle.name_core.specs.declared.faults.OfficeFault.{OfficeFault}
-use Rattle.name_core.specs.declared.faults.OfficeFault.TheVariants as fault
-use Rattle.name_core.specs.declared.records.TheConstants.{MAX_APPEND_LENGTH}
 use Rattle.ack_codec.specs.declared.acks.Ack.{Ack}
 use Rattle.ack_codec.specs.declared.responses.Response.{Response}
 use Rattle.packet_codec.specs.declared.packets.Packet.{Packet}
@@ -32,7 +26,7 @@ use Rattle.writer_core.specs.declared.phases.Waiting.{Waiting}
 use Rattle.writer_core.specs.declared.records.WriterRecord.{WriterRecord}
 use Rattle.writer_core.specs.Commands.{admitted}
 use Rattle.writer_core.specs.Phases.{remedy_after, remedy_in, remedy_at_ack, ack_verdict, bad_place, without, is_success}
-use Rattle.writer_core.specs.Transitions.{given, given_as, take_first, taken_as, free_step_as, failed_first, failed_command, failed_step_as, dial_step_as, open_step, accepted_step, completed_step, form_step, reach_step_as, reached_length, due_step, due_now, stream_step_as, step_in, own_step, dropped, fail_for, fail_named, fail_at, ended, ended_as, acked, acked_as, acked_in, setup_answered, setup_answered_in, dialled, dialled_in, refused, stamped, reopened, begin_session, stamp_given, committed_as, commit_given, complete_given, granted_in, granted_as, granted, asks, took, phase_acked, acked_oldest, Step}
+use Rattle.writer_core.specs.Transitions.{given, given_as, take_first, taken_as, free_step_as, failed_first, failed_command, failed_step_as, dial_step_as, open_step, accepted_step, completed_step, form_step, reach_step_as, reached_length, due_step, due_now, stream_step_as, step_in, own_step, dropped, fail_for, fail_named, fail_at, ended, ended_as, acked, acked_as, acked_in, setup_answered, setup_answered_in, dialled, dialled_in, took, phase_acked, Step}
 use Rattle.world.specs.Connections.{Next, message, the_end}
 use Rattle.world.specs.Parts.{request, packet, ack, response, read_status, recovery_answer}
 use Rattle.world.specs.Clients.{ruled, named_member, writer_hears}
