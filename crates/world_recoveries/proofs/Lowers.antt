@@ -93,7 +93,7 @@ turn-quiet : (w : World) (c : ℕ) (m : FullMember) (x : Next) (t : Turn) (fails
 turn-quiet w c m x t true h = failing-turn-quiet w c m x t t.call h
 turn-quiet w c m x t false h = member-quiet w c m x (step m.state (replica_at w c (block_of m.fields)) t) _ h (books-call (replica_at w c (block_of m.fields)) t.call)
 
-down-quiet : (w : World) (c : ℕ) (m : FullMember) (x : Next) (fails : Bool) → MemberSays w.past c m → IfSome (member_down w c m x fails) (Quiet w)
+pub down-quiet : (w : World) (c : ℕ) (m : FullMember) (x : Next) (fails : Bool) → MemberSays w.past c m → IfSome (member_down w c m x fails) (Quiet w)
 down-quiet w c m x fails h = when-each (Quiet w) (takes_next m.state (pending_at w c m) x) _ (λ _. turn-quiet w c m x (down_turn m.state (above_of x)) fails h)
 
 up-quiet : (w : World) (c : ℕ) (m : FullMember) (x : Next) (fails : Bool) → MemberSays w.past c m → IfSome (member_up w c m x fails) (Quiet w)
@@ -149,7 +149,7 @@ failing-write-quiet : (w : World) (c : ℕ) (f : WriteFields) (e : Result Event 
 failing-write-quiet w c f (Err x) = tt
 failing-write-quiet w c f (Ok e) = setup-quiet w c f (faulted_request (replica_at w c (block_of f))) _ (books-broken (replica_at w c (block_of f)))
 
-write-quiet : (w : World) (c : ℕ) (f : WriteFields) (answered fails : Bool) → IfSome (write_request w c f answered fails) (Quiet w)
+pub write-quiet : (w : World) (c : ℕ) (f : WriteFields) (answered fails : Bool) → IfSome (write_request w c f answered fails) (Quiet w)
 write-quiet w c f answered true = failing-write-quiet w c f (request_event (record { 0 = c }) f (rule_in (replica_at w c (block_of f)).known))
 write-quiet w c f answered false =
     let r = replica_at w c (block_of f) in
@@ -161,7 +161,7 @@ write-quiet w c f answered false =
 closing-quiet : (w : World) (c : ℕ) → Quiet w (closing w c)
 closing-quiet w c = still-quiet w (closing w c) (λ _. refl) (λ _. refl) refl refl refl refl
 
-unless-quiet : (w : World) (fails : Bool) (c : ℕ) → IfSome (unless_failing fails (closing w c)) (Quiet w)
+pub unless-quiet : (w : World) (fails : Bool) (c : ℕ) → IfSome (unless_failing fails (closing w c)) (Quiet w)
 unless-quiet w true c = tt
 unless-quiet w false c = closing-quiet w c
 
@@ -184,7 +184,7 @@ failing-read-quiet : (w : World) (c b : ℕ) (e : Result Event RequestRefusal) �
 failing-read-quiet w c b (Err r) = tt
 failing-read-quiet w c b (Ok e) = telling w c _ _ (λ _. refl) (λ _. refl) refl refl (each-one Untold _ tt) (books-broken (replica_at w c b)) (λ y h. absurd (none-some y h.there))
 
-read-quiet : (w : World) (c : ℕ) (r : ReadOp) (fails : Bool) → IfSome (read_request w c r fails) (Quiet w)
+pub read-quiet : (w : World) (c : ℕ) (r : ReadOp) (fails : Bool) → IfSome (read_request w c r fails) (Quiet w)
 read-quiet w c r true = failing-read-quiet w c r.block.block.0 (read_event r)
 read-quiet w c r false = read-change-quiet w c r.block.block.0 (read_at r (replica_at w c r.block.block.0))
 

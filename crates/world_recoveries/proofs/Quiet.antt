@@ -96,7 +96,7 @@ apart h c id t r s = differ (same_Some (request (op.Recovery r.asked)) (request 
     differ : request (op.Recovery r.asked) ≡ request (op.Write s.fields) → ⊥
     differ e = cc
 
-none-asked : (g : Givens) (w : World) (k : Change) (c j : ℕ) (q : RecoveryOp) → Carried g (apply w k) → Quiet w k → slice_get (k.downs c) j ≡ Some (request (op.Recovery q)) → ⊥
+pub none-asked : (g : Givens) (w : World) (k : Change) (c j : ℕ) (q : RecoveryOp) → Carried g (apply w k) → Quiet w k → slice_get (k.downs c) j ≡ Some (request (op.Recovery q)) → ⊥
 unfolding apply
 none-asked g w k c j q h n e =
     let p = past_after w k in

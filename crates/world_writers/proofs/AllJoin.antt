@@ -196,7 +196,7 @@ dialled-joined g w b x s stamp m ms le f h a e mem = record {
     created : s ≡ setup.Create → x.committed ≡ stamp
     created =
         let y : AsksFor (g b) w.past (w.latest b) x.committed x.stream s stamp = subst (λ (p : Phase). Asks (g b) w.past (w.latest b) x.committed x.stream p) e
-            (subst (λ (z : WriterRecord). Asks (g b) w.past (w.latest b) z.committed z.stream z.phase) a.is (f.carried.writers b).asks) in y.created
+        (subst (λ (z : WriterRecord). Asks (g b) w.past (w.latest b) z.committed z.stream z.phase) a.is (f.carried.writers b).asks) in y.created
 
     only : Dial
     only = record { dialled = record { upper = by_writer b; from = None; to = place_of w m.0 }; request = request o }

@@ -256,7 +256,6 @@ ruled-trails x command.Hflush r = itself-trails x
 ruled-trails x command.Hsync r = itself-trails x
 ruled-trails x command.Close r = itself-trails x
 
-
 -- ANSWERS AND ACKS
 
 answered-in-trails : (x : WriterRecord) (p : Phase) (good : Bool) (bad : Option NodeId) → Trails x (setup_answered_in x p good bad)
