@@ -1,8 +1,8 @@
 -- What writers' members have, event by event.
-use Rattle.std.proofs.Common.{◌≡◌, ℕ, ◌<◌, ◌+◌, ◌⊎◌, inl, inr, arith, Bool, true, false, List, [], ◌∷◌, length, slice_get, Option, Some, None, IfSome, Ok, Err, refl, sym, ◌∙◌, ap, subst, eqb-true}
-use Rattle.std.specs.Prelude.{◌==◌, ◌&&◌, nat_lt, not, is_none, if◌then◌else◌}
-use Rattle.std.proofs.lemmas.Bool.{false≢true, eqb-false}
-use Rattle.std.proofs.lemmas.Option.{none-some, same_Some}
+use Rattle.std.proofs.Common.{◌≡◌, ℕ, ◌+◌, ◌⊎◌, inl, inr, arith, Bool, true, false, List, [], ◌∷◌, length, slice_get, Option, Some, None, IfSome, Ok, refl, sym, ◌∙◌, ap, subst, eqb-true}
+use Rattle.std.specs.Prelude.{◌&&◌, nat_lt, not, is_none, if◌then◌else◌}
+use Rattle.std.proofs.lemmas.Bool.{false≢true}
+use Rattle.std.proofs.lemmas.Option.{same_Some}
 use Rattle.std.specs.BTreeMap.{is_at}
 use Rattle.hd_base.specs.declared.numbers.BlockId.{BlockId}
 use Rattle.hd_base.specs.declared.numbers.NodeId.{NodeId}
@@ -18,10 +18,6 @@ use Rattle.name_core.proofs.BlockLemmas.{same_or_other, record_of-with_record_sa
 use Rattle.name_core.proofs.CaseLemmas.{each_case}
 use Rattle.op_headers.specs.declared.ops.Op.{Op}
 use Rattle.op_headers.specs.declared.ops.Op.TheVariants as op
-use Rattle.op_headers.specs.Values.{WriteFields}
-use Rattle.member_core.specs.declared.requests.SetupKind.{SetupKind}
-use Rattle.member_core.specs.declared.requests.SetupKind.TheVariants as kind
-use Rattle.member_core.specs.Requests.{setup_with}
 use Rattle.writer_core.specs.declared.actions.Action.{Action}
 use Rattle.writer_core.specs.declared.actions.Action.TheVariants as action
 use Rattle.writer_core.specs.declared.actions.ClientAnswer.{ClientAnswer}
@@ -44,32 +40,28 @@ use Rattle.world.specs.declared.events.Direction.{Direction}
 use Rattle.world.specs.declared.events.Direction.TheVariants as direction
 use Rattle.world.specs.declared.events.Event.{Event}
 use Rattle.world.specs.declared.events.Event.TheVariants as event
-use Rattle.world.specs.declared.events.FoundReplica.{FoundReplica}
 use Rattle.world.specs.declared.events.OwnStep.{OwnStep}
 use Rattle.world.specs.declared.events.OwnStep.TheVariants as own
 use Rattle.world.specs.declared.events.TakenCommand.{TakenCommand}
-use Rattle.world.specs.Parts.{Message, request, packet, Upper, by_writer, by_member, by_reader, by_primary, Told, Writing, Leading, Primary, no_primary, was_told, leads, has_led}
-use Rattle.world.specs.Worlds.{Past, World, Dial, Change, put, past_after, apply}
+use Rattle.world.specs.Parts.{request, packet, Upper, by_writer, by_member, by_reader, by_primary, Told, Writing, Leading, Primary, no_primary, was_told, leads, has_led}
+use Rattle.world.specs.Worlds.{World, Change, past_after, apply}
 use Rattle.world.specs.Connections.{Next, message, the_end, next_down, next_up, down_taken, up_taken, sent_on, is_alive, is_conn, is_served}
 use Rattle.world.specs.Nodes.{lower_down, lower_ready, mirror_up}
-use Rattle.world.specs.Clients.{writing_as, reached_answer, writer_change, did, dialled_change, dialling, rest_in, is_empty, is_formed, ruled, command_bytes, takes_command, writer_step, own_writer, writer_hears, writer_up, own_reader, reader_up}
+use Rattle.world.specs.Clients.{writing_as, reached_answer, writer_change, did, dialled_change, dialling, rest_in, is_empty, is_formed, ruled, command_bytes, takes_command, writer_step, writer_hears, writer_up, own_reader, reader_up}
 use Rattle.world.specs.Primaries.{own_recover, own_primary, primary_up, asks_writer, asks_primary, writer_asks, primary_commits, primary_asks, office_event}
 use Rattle.world.specs.Restarts.{all_found, restart}
-use Rattle.world.specs.Events.{changed, own_change, down_as, down_event, ready_event, unless_fails, upper_up, up_as, up_event, fault_event, lost, stop, where_so, outcome, after_event, happens}
-use Rattle.world_laws.specs.Growing.{Grows}
-use Rattle.world_laws.proofs.FactTables.{if-each, when-each, put-each, some-weaker, and-left, and-right}
+use Rattle.world.specs.Events.{changed, own_change, down_as, down_event, ready_event, unless_fails, upper_up, up_as, up_event, fault_event, lost, stop, where_so, outcome}
+use Rattle.world_laws.proofs.FactTables.{when-each, put-each, some-weaker, and-left, and-right}
 use Rattle.world_laws.specs.Sessions.{IsCommitted}
 use Rattle.world_laws.proofs.SessionAsides.{Aside, lower-down-aside, lower-ready-aside, mirror-up-aside, own-reader-aside, own-recover-aside, own-primary-aside, primary-up-aside, reader-up-aside}
-use Rattle.world_laws.proofs.OfficeSteps.{AsksAs, Asking, own-step-asking, block_in, keeps-other, asks-block, IsLater, IsPrimarys}
+use Rattle.world_laws.proofs.OfficeSteps.{AsksAs, Asking, own-step-asking, block_in, keeps-other, asks-block, IsPrimarys}
 use Rattle.world_laws.proofs.StampGranting.{granted-create, granted-append, granted-again, granted-commit, granted-complete}
 use Rattle.world_laws.proofs.StampRecording.{Agreed, other-block, none-stamp}
 use Rattle.world_laws.specs.Stamping.{Givens, known_heard, heard}
-use Rattle.world_laws.specs.Carrying.{AsksFor, Asks}
 use Rattle.world_laws.proofs.ByteAsking.{first-dial}
 use Rattle.world_laws.proofs.ByteLeaves.{Facts}
 use Rattle.world_laws.proofs.ByteWriting.{Requested, requested}
-use Rattle.world_acks.specs.Closing.{StandsClosed}
-use Rattle.world_acks.specs.Acking.{Ends, UpTells}
+use Rattle.world_acks.specs.Acking.{Ends}
 use Rattle.world_acks.proofs.ClosedMoves.{next-sent}
 use Rattle.world_acks.proofs.Frame.{begins-first}
 use Rattle.world_acks.proofs.Turning.{HeardTells, Known}
