@@ -5,6 +5,7 @@ use Rattle.hd_base.specs.Channels.{Plain, next_inbox}
 use Rattle.hd_base.specs.Ends.{is_shut}
 use Rattle.hd_base.specs.declared.ends.Conn.{Conn}
 use Rattle.hd_base.specs.declared.ends.RoadError.{RoadError}
+use Rattle.hd_base.specs.declared.ends.RoadError.TheVariants as road_error
 use Rattle.hd_base.specs.declared.links.LinkIn as link_in
 use Rattle.hd_base.specs.declared.links.LinkOut as link_out
 use Rattle.hd_base.specs.declared.roads.Roads as roads
@@ -139,3 +140,20 @@ pub record Remembers (failed : Bool) (conn : ℕ) (old new : ℕ → Bool) : Typ
   pub this : failed ≡ true → new conn ≡ true
   pub kept : (c : ℕ) → old c ≡ true → new c ≡ true
   pub others : (c : ℕ) → (conn == c) ≡ false → new c ≡ old c
+
+-- How a dial went.
+pub record ShowsDialled {R I O : Type 0} (r : roads.Ghosts R I O) (i : link_in.Ghosts I) (o : link_out.Ghosts O) (net : Net) (port : ℕ) (road : R) (at_end : Conn I O) : Type 0 where
+  pub number : at_end.id.0 ≡ net.conns
+  pub upper : at_end.lower ≡ false
+  pub listened : net.listens port ≡ true
+  pub both : BothShow r i o (dialled_net net port) false [] no_inbox road at_end
+
+-- The roads show what they did, and nobody listens on the port, or their count of faults rose, or memory ran out.
+pub record ShowsUndialled {R I O : Type 0} (r : roads.Ghosts R I O) (net : Net) (port : ℕ) (why : RoadError) (old new : R) : Type 0 where
+  pub road_shows : RoadsShow r net new
+  pub cause : why ≡ road_error.NotListening → net.listens port ≡ false
+
+-- Whatever connections the roads show: a dial that is answered is the next one, and waits at its port; one that isn't changes nothing.
+abbrev pub ShowsDial : {R I O : Type 0} → roads.Ghosts R I O → link_in.Ghosts I → link_out.Ghosts O → ℕ → R → R → Result (Conn I O) RoadError → Type 0
+ShowsDial r i o port old new (Ok end) = (net : Net) → IsSane net → RoadsShow r net old → ShowsDialled r i o net port new end
+ShowsDial r i o port old new (Err why) = (net : Net) → IsSane net → RoadsShow r net old → ShowsUndialled r net port why old new

@@ -1,9 +1,9 @@
 //! An end and the roads that gave it.
 
-ghost use Rattle.std.specs.Prelude.{◌≡◌, OnOk, OnErr};
-ghost use Rattle.hd_base.specs.Ends.{has_failed, KeepsEnd, KeepsConnections, IsKnown};
-ghost use Rattle.hd_base.specs.RoadCauses.{RoadCause, OnlyMemory};
-ghost use Rattle.road_traffic.specs.Showing.{Remembers, ShowsExchange, ShowsLoss};
+ghost use Rattle.std.specs.Prelude.{◌≡◌, IfOk, OnOk, OnErr};
+ghost use Rattle.hd_base.specs.Ends.{has_failed, IsFresh, KeepsEnd, KeepsConnections, IsKnown};
+ghost use Rattle.hd_base.specs.RoadCauses.{RoadCause, DialCause, OnlyMemory};
+ghost use Rattle.road_traffic.specs.Showing.{Remembers, ShowsDial, ShowsExchange, ShowsLoss};
 
 use hd_base::{Conn, LinkIn, LinkOut, RoadError, Roads};
 use std::alloc::Global;
@@ -25,6 +25,22 @@ pub fn pass<R: Roads>(
     ensures cause { RoadCause (R.faults roads.old) (R.faults roads.new) result }
 {
     roads.exchange(alloc, end, take)
+}
+
+/// Dials a port, and answers the upper end of the new connection. `NotListening` comes exactly where nobody listens there,
+/// where that is observable, `Failed` only where the roads' count of faults rose.
+pub fn dial<R: Roads>(
+    alloc: Global,
+    roads: &mut R,
+    port: u16,
+) -> Result<Conn<R::Inward, R::Outward>, RoadError>
+    ensures shows { ShowsDial R.Roads R.Inward.LinkIn R.Outward.LinkOut port roads.old roads.new result }
+    ensures known { IfOk result (λ end. IsKnown (R.plain roads.new) end.id.0) }
+    ensures fresh { IfOk result (IsFresh R.Inward.LinkIn R.Outward.LinkOut) }
+    ensures risen { R.risen roads.new ≡ R.risen roads.old }
+    ensures cause { DialCause (R.plain roads.old) port (R.faults roads.old) (R.faults roads.new) result }
+{
+    roads.dial(alloc, port)
 }
 
 /// Gives an end up: shuts it, and brings it back to the roads that gave it with all that it sent. Its only error is

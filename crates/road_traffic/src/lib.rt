@@ -4,4 +4,4 @@
 
 mod ends;
 
-pub use ends::{give_up, pass};
+pub use ends::{dial, give_up, pass};

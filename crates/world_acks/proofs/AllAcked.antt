@@ -1,9 +1,9 @@
 -- What acks and answers say holds after every list of events.
 use Rattle.std.proofs.Common.{◌≡◌, ℕ, ◌<◌, ◌≤◌, Bool, true, false, List, [], ◌∷◌, slice_get, Option, Some, None, IfSome, refl, sym, ◌∙◌, ap, subst, arith, eqb-true, inl, inr}
-use Rattle.std.specs.Prelude.{◌==◌, ◌&&◌, ◌+◌, not, nat_lt, option_map, if◌then◌else◌}
+use Rattle.std.specs.Prelude.{◌==◌, ◌&&◌, ◌+◌, not, nat_lt, if◌then◌else◌}
 use Rattle.std.proofs.lemmas.Bool.Decides.{nat_tests}
 use Rattle.std.proofs.lemmas.Bool.{false≢true}
-use Rattle.std.proofs.lemmas.Option.{none-some, same_Some}
+use Rattle.std.proofs.lemmas.Option.{none-some}
 use Rattle.replica_model.specs.Rows.{FullReplica, IsFull}
 use Rattle.replica_model.specs.Found.{Found}
 use Rattle.world.specs.declared.events.Delivery.{Delivery}
@@ -15,9 +15,9 @@ use Rattle.world.specs.declared.events.Event.TheVariants as event
 use Rattle.world.specs.declared.events.FoundReplica.{FoundReplica}
 use Rattle.world.specs.declared.events.OwnStep.{OwnStep}
 use Rattle.world.specs.declared.events.OwnStep.TheVariants as own
-use Rattle.world.specs.Parts.{Message, Marks, Upper, by_writer, by_member, by_reader, by_primary, Break}
+use Rattle.world.specs.Parts.{Upper, by_writer, by_member, by_reader, by_primary, Break}
 use Rattle.world.specs.Worlds.{World, Change, apply, start}
-use Rattle.world.specs.Connections.{Next, message, the_end, ends_at, next_on, next_down, next_up, down_taken, up_taken, is_alive, is_served}
+use Rattle.world.specs.Connections.{Next, message, the_end, next_down, next_up, down_taken, up_taken, is_alive, is_served}
 use Rattle.world.specs.Nodes.{node_of, lower_down, lower_ready}
 use Rattle.world.specs.Clients.{writer_up, reader_up}
 use Rattle.world.specs.Primaries.{primary_up, office_event}

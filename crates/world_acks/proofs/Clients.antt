@@ -1,5 +1,5 @@
 -- What writers, readers, primaries and the office make of what answers and acks say.
-use Rattle.std.proofs.Common.{◌≡◌, ℕ, ℤ, zero, suc, ◌<◌, ◌≤◌, ◌+◌, ◌⊎◌, inl, inr, Bool, true, false, List, [], ◌∷◌, ◌++◌, slice_get, Option, Some, IfSome, Result, Ok, Err, refl, sym, ◌∙◌, ap, subst, arith, eqb-true, length, None}
+use Rattle.std.proofs.Common.{◌≡◌, ℕ, ℤ, zero, suc, ◌<◌, ◌≤◌, ◌+◌, ◌⊎◌, inl, inr, Bool, true, false, List, [], ◌∷◌, ◌++◌, slice_get, Option, Some, IfSome, Result, Ok, Err, refl, sym, ◌∙◌, ap, subst, arith, eqb-true, length}
 use Rattle.std.specs.Prelude.{◌==◌, ◌&&◌, pos, if◌then◌else◌}
 use Rattle.std.specs.Ordering.{int_eq}
 use Rattle.std.proofs.lemmas.Bool.{eqb-false}
@@ -10,7 +10,7 @@ use Rattle.hd_base.specs.declared.numbers.Stamp.{Stamp}
 use Rattle.op_headers.specs.declared.ops.Op.{Op}
 use Rattle.op_headers.specs.declared.ops.Op.TheVariants as op
 use Rattle.packet_codec.specs.declared.packets.Packet.{Packet}
-use Rattle.packet_stream.specs.Streams.{packet_end, begun}
+use Rattle.packet_stream.specs.Streams.{begun}
 use Rattle.writer_core.specs.declared.actions.Action.{Action}
 use Rattle.writer_core.specs.declared.actions.Action.TheVariants as action
 use Rattle.writer_core.specs.declared.actions.ClientAnswer.{ClientAnswer}
@@ -22,7 +22,7 @@ use Rattle.writer_core.specs.declared.phases.Phase.TheVariants as phase
 use Rattle.writer_core.specs.declared.phases.Waiting.{Waiting}
 use Rattle.writer_core.specs.declared.records.WriterRecord.{WriterRecord}
 use Rattle.writer_core.specs.Commands.{admitted}
-use Rattle.writer_core.specs.Transitions.{given, given_as, own_step, dial_step, open_step, completed_step, dialled, dialled_in, dial_step_as}
+use Rattle.writer_core.specs.Transitions.{given, given_as, own_step, open_step, completed_step, dialled, dialled_in, dial_step_as}
 use Rattle.replica_model.specs.Rows.{FullReplica}
 use Rattle.world.specs.Parts.{Message, request, packet, Lower, Writing}
 use Rattle.world.specs.Worlds.{World, Dial, Change, put, latest_with, past_after, apply}
@@ -35,7 +35,7 @@ use Rattle.world_laws.proofs.ByteAsking.{first-dial, only-one}
 use Rattle.world_laws.proofs.ByteFrame.{Each, each-nil, each-one}
 use Rattle.world_laws.proofs.ByteLeaves.{Facts, one-session, sent-if}
 use Rattle.world_acks.specs.Acking.{PacketEnd, end_of, Ends, Numbered, PacketTells, UpTells, DownTells, UpperTells, LowerTells, IsPipe, Pends, reach_of, Numbers, Acked}
-use Rattle.world_acks.proofs.Seats.{Steps, steps-same, Onward, lower-on, pends-on, pipe-on, Lasting}
+use Rattle.world_acks.proofs.Seats.{Steps, steps-same, lower-on, pends-on, pipe-on, Lasting}
 use Rattle.world_acks.proofs.Frame.{News}
 use Rattle.world_acks.specs.Waiting.{Unasked}
 use Rattle.world_acks.proofs.Requests.{of_writer, Requesting, follows-unasked, out-unasked, client-requests}

@@ -92,7 +92,7 @@ eq-self n = go (n == n) refl
     go true e = e
     go false e = absurd (eqb-false n n e refl)
 
-put-self : {A : Type 0} (f : ℕ → ℕ → A) (n b : ℕ) (x : A) → put_at f n b x n b ≡ x
+pub put-self : {A : Type 0} (f : ℕ → ℕ → A) (n b : ℕ) (x : A) → put_at f n b x n b ≡ x
 put-self {A} f n b x = ap (λ (t : Bool). if t && b == b then x else f n b) (eq-self n) ∙ ap (λ (t : Bool). if t then x else f n b) (eq-self b)
 
 abbrev GoesTo : World → ℕ → ℕ → FullReplica → Option Break → Type 0

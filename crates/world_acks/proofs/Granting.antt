@@ -48,8 +48,7 @@ use Rattle.world_acks.proofs.Clients.{Leads, IsClient, client-news, none-dials, 
 use Rattle.world_laws.proofs.OfficeSteps.{IsAgain, IsLater, IsPrimarys}
 use Rattle.writer_core.specs.declared.phases.Phase.{Phase}
 use Rattle.hd_base.specs.declared.numbers.Stamp.{Stamp}
-use Rattle.op_headers.specs.Values.{WriteFields}
-use Rattle.world_laws.specs.Carrying.{new_stamp, WriteSays, Sets}
+use Rattle.world_laws.specs.Carrying.{new_stamp, WriteSays}
 use Rattle.op_headers.specs.declared.ops.Op.TheVariants as op
 
 -- WHAT A WRITER MAKES OF A REFUSAL

@@ -1,8 +1,8 @@
 -- What lower ends make of what answers and acks say.
 use Rattle.std.proofs.Common.{◌≡◌, ℕ, ℤ, ◌<◌, ◌≤◌, ◌⊎◌, inl, inr, Bool, true, false, List, slice_get, Option, Some, None, IfSome, refl, sym, ◌∙◌, ap, subst, arith}
-use Rattle.std.specs.Prelude.{◌==◌, ◌&&◌, nat_le, negsuc, pos, if◌then◌else◌}
+use Rattle.std.specs.Prelude.{nat_le, negsuc, pos}
 use Rattle.std.specs.Ordering.{int_eq}
-use Rattle.std.proofs.lemmas.Bool.{eqb-false, false≢true}
+use Rattle.std.proofs.lemmas.Bool.{false≢true}
 use Rattle.std.proofs.lemmas.Bool.Decides.{nat_tests}
 use Rattle.std.proofs.lemmas.Option.{none-some}
 use Rattle.hd_base.specs.declared.numbers.Stamp.{Stamp}
@@ -32,7 +32,7 @@ use Rattle.member_core.specs.declared.turns.Turn.{Turn}
 use Rattle.member_core.specs.Members.{MemberState, down_turn, up_turn, hears, settled, closed, closed_by, bad_sum}
 use Rattle.member_core.specs.Steps.{Step, step, faulted_step, replica_after, outcome_of, oldest_at, ready_turn_at}
 use Rattle.world.specs.Parts.{Message, request, packet, ack, response, read_status, recovery_answer, FullMember, idle, writes, Writing, Break}
-use Rattle.world.specs.Worlds.{no_past, World, Change, Stamped, put, put_at, latest_with, apply}
+use Rattle.world.specs.Worlds.{no_past, World, Change, Stamped, put, latest_with, apply}
 use Rattle.world.specs.Connections.{Next, message, the_end}
 use Rattle.world.specs.Nodes.{node_of, replica_at, block_of, above_of, below_of, upward_message, sent_up, passed, member_change, failing_turn, turn_change, pending_at, takes_next, member_down, member_up, ready_change, member_ready, broke_at}
 use Rattle.world_laws.proofs.FactTables.{when-each, put-each, some-weaker}
@@ -47,6 +47,7 @@ use Rattle.world_acks.specs.Acking.{PacketEnd, Ends, UpTells, PacketTells, DownT
 use Rattle.world_acks.proofs.Shows.{IsNoUpdate}
 use Rattle.world_acks.proofs.Seats.{Steps, steps-same, steps-row, Lasting, member-on, numbered-on, pipe-on}
 use Rattle.world_acks.proofs.Frame.{News}
+use Rattle.world_acks.proofs.ClosedMoves.{put-self}
 use Rattle.world_acks.proofs.Requests.{Requesting, still-requests}
 use Rattle.world_acks.proofs.Pending.{Pend, Brought, event-pend}
 use Rattle.world_acks.proofs.Turning.{Known, Acts, HeardTells, FromMirror, same-asked, written-stamp, IsStreamCall, TurnTells, up-tells, ready-tells, down-tells}
@@ -76,16 +77,6 @@ still-numbers g t w k h s q b =
 
 pub aside-begun : (g : Givens) (t : Ends) (w : World) (k : Change) → Acked g t w → k.office ≡ w.office → (e : ℕ) (x : PacketEnd) (q : ℤ) → t e q ≡ Some x → e < k.office.next.0
 aside-begun g t w k h o e x q n = subst (λ z. e < z.next.0) (sym o) (h.begun e x q n)
-
-eq-self : (n : ℕ) → (n == n) ≡ true
-eq-self n = go (n == n) refl
-  where
-    go : (b : Bool) → (n == n) ≡ b → (n == n) ≡ true
-    go true e = e
-    go false e = absurd (eqb-false n n e refl)
-
-put-self : {A : Type 0} (f : ℕ → ℕ → A) (n b : ℕ) (x : A) → put_at f n b x n b ≡ x
-put-self {A} f n b x = ap (λ (t : Bool). if t && b == b then x else f n b) (eq-self n) ∙ ap (λ (t : Bool). if t then x else f n b) (eq-self b)
 
 pub after-at : (w : World) (k : Change) → (apply w k).replicas k.node k.block ≡ k.replica
 unfolding apply

@@ -1,13 +1,12 @@
 -- Which requests wait to be taken: what a change sends, and what follows for the stamps under which none waits.
-use Rattle.std.proofs.Common.{◌≡◌, ℕ, zero, suc, ◌<◌, ◌≤◌, ◌+◌, ◌-◌, ◌⊎◌, inl, inr, Bool, true, false, List, [], ◌∷◌, ◌++◌, length, slice_get, Option, Some, None, IfSome, refl, sym, ◌∙◌, ap, subst, arith, eqb-true}
-use Rattle.std.specs.Prelude.{◌==◌, ◌&&◌, nat_le, if◌then◌else◌, option_map}
+use Rattle.std.proofs.Common.{◌≡◌, ℕ, ◌<◌, ◌≤◌, ◌+◌, ◌-◌, ◌⊎◌, inl, inr, Bool, true, false, List, [], ◌∷◌, ◌++◌, length, slice_get, Option, Some, None, refl, sym, ◌∙◌, ap, subst, arith, eqb-true}
+use Rattle.std.specs.Prelude.{◌==◌, nat_le, if◌then◌else◌, option_map}
 use Rattle.std.proofs.lemmas.Bool.{eqb-false}
 use Rattle.std.proofs.lemmas.Bool.Decides.{nat_tests}
 use Rattle.std.proofs.lemmas.Option.{none-some, same_Some}
 use Rattle.hd_base.specs.declared.numbers.Stamp.{Stamp}
 use Rattle.op_headers.specs.declared.ops.Op.TheVariants as op
 use Rattle.op_headers.specs.Values.{WriteFields}
-use Rattle.member_core.specs.declared.requests.SetupKind.{SetupKind}
 use Rattle.member_core.specs.declared.requests.SetupKind.TheVariants as kind
 use Rattle.member_core.specs.Requests.{setup_with}
 use Rattle.writer_core.specs.declared.phases.Phase.{Phase}
@@ -15,16 +14,15 @@ use Rattle.writer_core.specs.declared.phases.Phase.TheVariants as phase
 use Rattle.writer_core.specs.declared.phases.Setup.{Setup}
 use Rattle.writer_core.specs.declared.records.WriterRecord.{WriterRecord}
 use Rattle.world.specs.Parts.{Message, request, Lower, idle, Writing}
-use Rattle.world.specs.Worlds.{Past, World, Dial, Change, put, listed, dial_at, past_after, apply}
-use Rattle.world_laws.specs.Growing.{Begins}
+use Rattle.world.specs.Worlds.{Past, World, Dial, Change, listed, dial_at, past_after, apply}
 use Rattle.world_laws.proofs.GrowthLaws.{apply-grows}
 use Rattle.world_laws.proofs.FactTables.{if-each}
-use Rattle.world_laws.specs.Stamping.{Givens, heard, Recorded}
+use Rattle.world_laws.specs.Stamping.{Givens, heard}
 use Rattle.world_laws.specs.Carrying.{new_stamp, Sets, AsksFor, Asks}
 use Rattle.world_laws.proofs.ByteLeaves.{Facts}
 use Rattle.world_acks.specs.Waiting.{Waits, HasFirst, Unasked, Requests, IsQuiet}
 use Rattle.world_acks.proofs.Moves.{Follows, IsUnstamped, none-stamped}
-use Rattle.world_acks.proofs.Frame.{begins-first, dial-place, dial-none, none-past}
+use Rattle.world_acks.proofs.Frame.{begins-first, dial-place, dial-none}
 
 -- WHAT A CHANGE SENDS
 
@@ -95,7 +93,7 @@ other-requests w k h l q e none = record {
 -- WHAT WAITS AFTER IT
 
 -- the same connection's first message
-first-once : (w : World) (c : ℕ) (f q : WriteFields) → slice_get (w.downs c) 0 ≡ Some (request (op.Write f)) → slice_get (w.downs c) 0 ≡ Some (request (op.Write q)) → f ≡ q
+pub first-once : (w : World) (c : ℕ) (f q : WriteFields) → slice_get (w.downs c) 0 ≡ Some (request (op.Write f)) → slice_get (w.downs c) 0 ≡ Some (request (op.Write q)) → f ≡ q
 first-once w c f q a b = same f q (same_Some (request (op.Write f)) (request (op.Write q)) (sym a ∙ b))
   where
     same : (x y : WriteFields) → request (op.Write x) ≡ request (op.Write y) → x ≡ y

@@ -60,6 +60,7 @@ use Rattle.world_laws.specs.Joining.{joined_as, IsPlain, BreakReached, SetUps}
 use Rattle.world_acks.specs.Acking.{PacketEnd, pending_end, Shown, Seat, Asked, AsksToRead, Seated, IsPipe, promised, SetUpFrom, Ends, AckedFrom, UpTells, Mirrors, MemberTells, PendingTells, Pends, Acked}
 use Rattle.world_acks.specs.Closing.{FinalUnder, BrokeFinal, IsClosed, StandsClosed, AllClosed}
 use Rattle.world_acks.specs.Waiting.{Requests}
+use Rattle.world_acks.proofs.Requests.{first-once}
 use Rattle.world_acks.proofs.Seats.{shown-less, Lasting, all-closed-on, seated-on, pipe-on, node-on}
 
 -- WHAT IS KNOWN
@@ -289,10 +290,7 @@ books g t w v c m e a old y taken =
 -- THE MIRROR
 
 pub same-asked : (w : World) (c : ℕ) (f k : WriteFields) → Asked w.past c f → Asked w.past c k → f ≡ k
-same-asked w c f k x y = same f k (same_Some _ _ (sym x.first ∙ y.first))
-  where
-    same : (a d : WriteFields) → request (op.Write a) ≡ request (op.Write d) → a ≡ d
-    same a d e = cc
+same-asked w c f k x y = first-once w c f k x.first y.first
 
 pub never-both : (w : World) (c : ℕ) (f : WriteFields) → Asked w.past c f → AsksToRead w.past c → ⊥
 never-both w c f x y = apart f y.asked (same_Some _ _ (sym x.first ∙ y.first))

@@ -1,9 +1,8 @@
 -- A close that is answered leaves each member closed, where what writers are known to have holds before it.
-use Rattle.std.proofs.Common.{◌≡◌, ℕ, ◌<◌, Bool, true, false, List, [], ◌∷◌, ◌++◌, length, append-nil, Option, Some, None, IfSome, refl, sym, ◌∙◌, ap, subst, eqb-true}
-use Rattle.std.specs.Prelude.{◌==◌, ◌&&◌, nat_lt, not, if◌then◌else◌}
-use Rattle.std.proofs.lemmas.Option.{none-some, same_Some}
+use Rattle.std.proofs.Common.{◌≡◌, ℕ, Bool, true, false, List, [], ◌++◌, length, append-nil, Option, Some, None, IfSome, refl, sym, ◌∙◌, ap, subst, eqb-true}
+use Rattle.std.specs.Prelude.{◌==◌, ◌&&◌, nat_lt, not}
+use Rattle.std.proofs.lemmas.Option.{none-some}
 use Rattle.hd_base.specs.declared.numbers.NodeId.{NodeId}
-use Rattle.replica_core.specs.declared.info.ReplicaInfo.{ReplicaInfo}
 use Rattle.replica_model.specs.Rows.{FullReplica}
 use Rattle.writer_core.specs.declared.phases.Phase.{Phase}
 use Rattle.world.specs.declared.events.Delivery.{Delivery}
@@ -16,22 +15,22 @@ use Rattle.world.specs.declared.events.FoundReplica.{FoundReplica}
 use Rattle.world.specs.declared.events.OwnStep.{OwnStep}
 use Rattle.world.specs.declared.events.OwnStep.TheVariants as own
 use Rattle.world.specs.Parts.{Upper, by_writer, by_member, by_reader, by_primary, Answered}
-use Rattle.world.specs.Worlds.{World, Change, Stamped, put_at, add, sessions_with, apply, start}
+use Rattle.world.specs.Worlds.{World, Change, Stamped, put_at, add, sessions_with, apply}
 use Rattle.world.specs.Connections.{Next, next_down, next_up, down_taken, up_taken, is_served}
 use Rattle.world.specs.Nodes.{lower_down, lower_ready}
 use Rattle.world.specs.Clients.{writer_up, reader_up}
 use Rattle.world.specs.Primaries.{office_event, primary_up}
 use Rattle.world.specs.Restarts.{all_found, restart}
-use Rattle.world.specs.Events.{changed, own_change, down_as, down_event, ready_event, unless_fails, upper_up, up_as, up_event, fault_event, lost, stop, where_so, outcome, after_event, happens, run}
-use Rattle.world.specs.Safe.{Has, IsFinal, Final, written_under, ClosedAt, IsClose, Closed}
-use Rattle.world_laws.proofs.FactTables.{if-each, when-each, some-weaker, and-left, and-right}
-use Rattle.world_laws.specs.Stamping.{Givens, none_given, given_in, heard}
-use Rattle.world_finals.specs.Finishing.{Ids, no_ids, ids_in}
-use Rattle.world_closings.specs.Answering.{AnswersClose, MembersClosed, IsCompleted, ClosesIn, Closes}
+use Rattle.world.specs.Events.{changed, own_change, down_as, down_event, ready_event, unless_fails, upper_up, up_as, up_event, fault_event, lost, stop, where_so, outcome, after_event, happens}
+use Rattle.world.specs.Safe.{Has, Final, written_under, ClosedAt, IsClose, Closed}
+use Rattle.world_laws.proofs.FactTables.{if-each, when-each, and-left, and-right}
+use Rattle.world_laws.specs.Stamping.{Givens, heard}
+use Rattle.world_finals.specs.Finishing.{Ids}
+use Rattle.world_closings.specs.Answering.{AnswersClose, ClosesIn, Closes}
 use Rattle.world_closings.proofs.Completing.{Known, closed-member}
 use Rattle.node_refs.specs.NodeRefs.{port_of}
 use Rattle.world.specs.Nodes.{node_on}
-use Rattle.world_closings.proofs.Telling.{Silent, Answers, Tells, is_silent, tells_of, silent-tells, lower-down-silent, lower-ready-silent, mirror-up-silent, own-writer-tells, writer-up-silent, own-reader-silent, reader-up-silent, own-recover-silent, own-primary-silent, primary-up-silent, office-silent}
+use Rattle.world_closings.proofs.Telling.{Silent, Tells, is_silent, tells_of, silent-tells, lower-down-silent, lower-ready-silent, mirror-up-silent, own-writer-tells, writer-up-silent, own-reader-silent, reader-up-silent, own-recover-silent, own-primary-silent, primary-up-silent, office-silent}
 
 -- WHAT AN EVENT ANSWERS
 

@@ -1,5 +1,5 @@
 -- A close is answered where the block is completed, and nowhere else.
-use Rattle.std.proofs.Common.{◌≡◌, ℕ, Bool, List, [], ◌∷◌, slice_get, Option, Some, None, IfSome, refl, ap}
+use Rattle.std.proofs.Common.{◌≡◌, ℕ, List, [], ◌∷◌, slice_get, Option, Some, None, IfSome, refl, ap}
 use Rattle.std.specs.Prelude.{nat_le}
 use Rattle.hd_base.specs.declared.numbers.NodeId.{NodeId}
 use Rattle.hd_base.specs.declared.numbers.Stamp.{Stamp}
@@ -8,7 +8,6 @@ use Rattle.packet_stream.specs.Streams.{written_in, oldest_seqno}
 use Rattle.writer_core.specs.declared.actions.Action.{Action}
 use Rattle.writer_core.specs.declared.actions.Action.TheVariants as action
 use Rattle.writer_core.specs.declared.actions.ClientAnswer.{ClientAnswer}
-use Rattle.writer_core.specs.declared.actions.ClientAnswer.TheVariants as answer
 use Rattle.writer_core.specs.declared.commands.Command.{Command}
 use Rattle.writer_core.specs.declared.commands.Command.TheVariants as command
 use Rattle.writer_core.specs.declared.phases.DuePacket.{DuePacket}

@@ -1,5 +1,5 @@
 -- Where a block is completed, each member that has closed has all that the writer has written.
-use Rattle.std.proofs.Common.{◌≡◌, ℕ, ◌≤◌, ◌⊎◌, inl, inr, false, List, length, take, Option, Some, None, IfSome, refl, sym, ◌∙◌, ap, subst, arith, take_all}
+use Rattle.std.proofs.Common.{◌≡◌, ℕ, ◌≤◌, inl, inr, List, length, Option, Some, None, IfSome, refl, sym, ◌∙◌, ap, subst, arith, take_all}
 use Rattle.std.proofs.lemmas.Bool.{false≢true}
 use Rattle.std.proofs.lemmas.Option.{none-some, same_Some}
 use Rattle.hd_base.specs.declared.numbers.NodeId.{NodeId}
@@ -12,7 +12,6 @@ use Rattle.packet_stream.specs.Streams.{written_in}
 use Rattle.replica_core.specs.declared.info.ReplicaInfo.{ReplicaInfo}
 use Rattle.replica_core.specs.Info.{state_of, state_under}
 use Rattle.replica_core.specs.Views.{written_at}
-use Rattle.replica_model.specs.Rows.{FullReplica, IsFull}
 use Rattle.replica_model.specs.Found.{IsFront}
 use Rattle.writer_core.specs.declared.phases.Phase.{Phase}
 use Rattle.writer_core.specs.declared.phases.Phase.TheVariants as phase
@@ -21,9 +20,9 @@ use Rattle.world.specs.declared.events.Event.{Event}
 use Rattle.world.specs.Parts.{request, by_close, Answered}
 use Rattle.world.specs.Worlds.{World, start}
 use Rattle.world.specs.Events.{run}
-use Rattle.world.specs.Safe.{Has, IsFinal, Final, written_under, ClosedAt}
+use Rattle.world.specs.Safe.{Has, written_under, ClosedAt}
 use Rattle.world_laws.specs.Stamping.{Givens, none_given, given_in, heard, HeldOf, Entries, IsSetup, InPhase, Recorded}
-use Rattle.world_laws.specs.Carrying.{Under, Holds, Streams, StreamOf, Carried}
+use Rattle.world_laws.specs.Carrying.{Under, Holds, Streams, StreamOf}
 use Rattle.world_laws.proofs.Fronts.{front-is}
 use Rattle.world_laws.proofs.ByteLeaves.{Facts}
 use Rattle.world_laws.proofs.AllCarried.{reached-facts, all-carried}
@@ -32,7 +31,7 @@ use Rattle.world_laws.proofs.AllSetUp.{all-set}
 use Rattle.world_finals.proofs.AllFinal.{all-final}
 use Rattle.world_laws.specs.Joining.{IsPlain}
 use Rattle.world_finals.specs.Finishing.{Ids, no_ids, ids_in, EndsAt, FinalLength, of_recovery, of_session, WriteEnds, IsFinalOf, Finals}
-use Rattle.world_acks.specs.Closing.{FinalUnder, IsClosed, IsPassed, HasClosed}
+use Rattle.world_acks.specs.Closing.{IsClosed, IsPassed, HasClosed}
 use Rattle.world.specs.Nodes.{node_on}
 use Rattle.node_refs.specs.NodeRefs.{port_of}
 use Rattle.world_closings.specs.Answering.{MembersClosed, IsCompleted, AnswersClose}

@@ -1,8 +1,8 @@
 -- What writers' members have, event by event.
-use Rattle.std.proofs.Common.{◌≡◌, ℕ, ◌<◌, ◌+◌, ◌⊎◌, inl, inr, arith, Bool, true, false, List, [], ◌∷◌, length, slice_get, Option, Some, None, IfSome, Ok, Err, refl, sym, ◌∙◌, ap, subst, eqb-true}
-use Rattle.std.specs.Prelude.{◌==◌, ◌&&◌, nat_lt, not, is_none, if◌then◌else◌}
-use Rattle.std.proofs.lemmas.Bool.{false≢true, eqb-false}
-use Rattle.std.proofs.lemmas.Option.{none-some, same_Some}
+use Rattle.std.proofs.Common.{◌≡◌, ℕ, ◌+◌, ◌⊎◌, inl, inr, arith, Bool, true, false, List, [], ◌∷◌, length, slice_get, Option, Some, None, IfSome, Ok, refl, sym, ◌∙◌, ap, subst, eqb-true}
+use Rattle.std.specs.Prelude.{◌&&◌, nat_lt, not, is_none, if◌then◌else◌}
+use Rattle.std.proofs.lemmas.Bool.{false≢true}
+use Rattle.std.proofs.lemmas.Option.{same_Some}
 use Rattle.std.specs.BTreeMap.{is_at}
 use Rattle.hd_base.specs.declared.numbers.BlockId.{BlockId}
 use Rattle.hd_base.specs.declared.numbers.NodeId.{NodeId}
@@ -18,10 +18,6 @@ use Rattle.name_core.proofs.BlockLemmas.{same_or_other, record_of-with_record_sa
 use Rattle.name_core.proofs.CaseLemmas.{each_case}
 use Rattle.op_headers.specs.declared.ops.Op.{Op}
 use Rattle.op_headers.specs.declared.ops.Op.TheVariants as op
-use Rattle.op_headers.specs.Values.{WriteFields}
-use Rattle.member_core.specs.declared.requests.SetupKind.{SetupKind}
-use Rattle.member_core.specs.declared.requests.SetupKind.TheVariants as kind
-use Rattle.member_core.specs.Requests.{setup_with}
 use Rattle.writer_core.specs.declared.actions.Action.{Action}
 use Rattle.writer_core.specs.declared.actions.Action.TheVariants as action
 use Rattle.writer_core.specs.declared.actions.ClientAnswer.{ClientAnswer}
@@ -44,32 +40,28 @@ use Rattle.world.specs.declared.events.Direction.{Direction}
 use Rattle.world.specs.declared.events.Direction.TheVariants as direction
 use Rattle.world.specs.declared.events.Event.{Event}
 use Rattle.world.specs.declared.events.Event.TheVariants as event
-use Rattle.world.specs.declared.events.FoundReplica.{FoundReplica}
 use Rattle.world.specs.declared.events.OwnStep.{OwnStep}
 use Rattle.world.specs.declared.events.OwnStep.TheVariants as own
 use Rattle.world.specs.declared.events.TakenCommand.{TakenCommand}
-use Rattle.world.specs.Parts.{Message, request, packet, Upper, by_writer, by_member, by_reader, by_primary, Told, Writing, Leading, Primary, no_primary, was_told, leads, has_led}
-use Rattle.world.specs.Worlds.{Past, World, Dial, Change, put, past_after, apply}
+use Rattle.world.specs.Parts.{request, packet, Upper, by_writer, by_member, by_reader, by_primary, Told, Writing, Leading, Primary, no_primary, was_told, leads, has_led}
+use Rattle.world.specs.Worlds.{World, Change, past_after, apply}
 use Rattle.world.specs.Connections.{Next, message, the_end, next_down, next_up, down_taken, up_taken, sent_on, is_alive, is_conn, is_served}
 use Rattle.world.specs.Nodes.{lower_down, lower_ready, mirror_up}
-use Rattle.world.specs.Clients.{writing_as, reached_answer, writer_change, did, dialled_change, dialling, rest_in, is_empty, is_formed, ruled, command_bytes, takes_command, writer_step, own_writer, writer_hears, writer_up, own_reader, reader_up}
+use Rattle.world.specs.Clients.{writing_as, reached_answer, writer_change, did, dialled_change, dialling, rest_in, is_empty, is_formed, ruled, command_bytes, takes_command, writer_step, writer_hears, writer_up, own_reader, reader_up}
 use Rattle.world.specs.Primaries.{own_recover, own_primary, primary_up, asks_writer, asks_primary, writer_asks, primary_commits, primary_asks, office_event}
 use Rattle.world.specs.Restarts.{all_found, restart}
-use Rattle.world.specs.Events.{changed, own_change, down_as, down_event, ready_event, unless_fails, upper_up, up_as, up_event, fault_event, lost, stop, where_so, outcome, after_event, happens}
-use Rattle.world_laws.specs.Growing.{Grows}
-use Rattle.world_laws.proofs.FactTables.{if-each, when-each, put-each, some-weaker, and-left, and-right}
+use Rattle.world.specs.Events.{changed, own_change, down_as, down_event, ready_event, unless_fails, upper_up, up_as, up_event, fault_event, lost, stop, where_so, outcome}
+use Rattle.world_laws.proofs.FactTables.{when-each, put-each, some-weaker, and-left, and-right}
 use Rattle.world_laws.specs.Sessions.{IsCommitted}
 use Rattle.world_laws.proofs.SessionAsides.{Aside, lower-down-aside, lower-ready-aside, mirror-up-aside, own-reader-aside, own-recover-aside, own-primary-aside, primary-up-aside, reader-up-aside}
-use Rattle.world_laws.proofs.OfficeSteps.{AsksAs, Asking, own-step-asking, block_in, keeps-other, asks-block, IsLater, IsPrimarys}
+use Rattle.world_laws.proofs.OfficeSteps.{AsksAs, Asking, own-step-asking, block_in, keeps-other, asks-block, IsPrimarys}
 use Rattle.world_laws.proofs.StampGranting.{granted-create, granted-append, granted-again, granted-commit, granted-complete}
 use Rattle.world_laws.proofs.StampRecording.{Agreed, other-block, none-stamp}
 use Rattle.world_laws.specs.Stamping.{Givens, known_heard, heard}
-use Rattle.world_laws.specs.Carrying.{AsksFor, Asks}
 use Rattle.world_laws.proofs.ByteAsking.{first-dial}
 use Rattle.world_laws.proofs.ByteLeaves.{Facts}
 use Rattle.world_laws.proofs.ByteWriting.{Requested, requested}
-use Rattle.world_acks.specs.Closing.{StandsClosed}
-use Rattle.world_acks.specs.Acking.{Ends, UpTells}
+use Rattle.world_acks.specs.Acking.{Ends}
 use Rattle.world_acks.proofs.ClosedMoves.{next-sent}
 use Rattle.world_acks.proofs.Frame.{begins-first}
 use Rattle.world_acks.proofs.Turning.{HeardTells, Known}
@@ -78,6 +70,10 @@ use Rattle.world_finals.specs.Finishing.{WriterEnds}
 use Rattle.world_closings.specs.Answering.{MembersClosed, IsCompleted, AsksToClose, ClosesIn, ClosesOf, Closes}
 use Rattle.world_closings.proofs.Nearing.{Passes, passes-then, kept-conn, own-step-passes, open-passes, completed-passes, given-passes, ruled-passes, unanswered-passes, refused-passes}
 use Rattle.world_closings.proofs.Hearing.{Later, sets-later, Hears, hears-closes}
+use Rattle.world_laws.proofs.StampWalking.{none-is}
+use Rattle.world_writers.proofs.Links.{dialled-is}
+use Rattle.world_writers.proofs.Hearing.{conn-is}
+use Rattle.world_acks.proofs.AllAcked.{when-two}
 
 -- WHAT IS KNOWN
 
@@ -182,10 +178,6 @@ stays-turn g l u w b x q = change-turn g l u w b x x q (λ i v c conn h. h)
 
 -- DIALS
 
-dialled-is : (x : WriterRecord) (s : Setup) (t : Stamp) → x.phase ≡ phase.Stamped s t → dialled x true ≡ record x { phase = phase.Requested s t }
-unfolding dialled
-dialled-is x s t e = ap (λ (p : Phase). dialled_in x p true) e
-
 -- the request of the recovery of a close asks for one
 dialled-closes : (g l : Givens) (w : World) (b : ℕ) (x : WriterRecord) (s : Setup) (stamp : Stamp) (m : NodeId) (ms : List NodeId) → Facts g w → heard (w.writers b) ≡ x
     → ClosesIn l (apply w (dialled_change w b x m (request_for x.block x.committed x.stream s stamp (length x.members) ms) true)) b (Some w.next_conn) (record x { phase = phase.Requested s stamp }) (phase.Requested s stamp)
@@ -269,14 +261,6 @@ own-turn g l u w (own.Primary i) h = asides-turn g l u w (own_primary w i) (own-
 
 -- WHAT IS TAKEN
 
-conn-is : (o : Option ℕ) (c : ℕ) → is_conn o c ≡ true → o ≡ Some c
-conn-is None c e = absurd (false≢true e)
-conn-is (Some d) c e = ap (λ (i : ℕ). Some i) (sym (eqb-true c d e))
-
-none-is : (o : Option Told) → is_none o ≡ true → o ≡ None
-none-is None e = refl
-none-is (Some x) e = absurd (false≢true e)
-
 heard-at : (g : Givens) (t : Ends) (w : World) (c : ℕ) (x : Next) → Known g t w → next_up w c ≡ Some x → HeardTells g t w c x
 heard-at g t w c (message m) h e = h.acked.ups c (w.up_marks c).taken m (next-sent (w.ups c) (w.up_marks c) m e)
 heard-at g t w c the_end h e = tt
@@ -330,13 +314,8 @@ up-as-closes g l t w c fails None h e k = tt
 up-as-closes g l t w c fails (Some x) h e k =
     changed-closes g l t w (up_taken w c x) (upper_up (w.dialled c).upper (up_taken w c x) c x fails) h (up-writers w c x) (up-office w c x) k (upper-turn (w.dialled c).upper g l t w c x fails h (heard-at g t w c x h.known e))
 
--- both of a test
-when-both : {A : Type 0} (Q P : A → Type 0) (b : Bool) (o : Option A) → (IfSome o Q → IfSome o P) → IfSome (if b then o else None) Q → IfSome (if b then o else None) P
-when-both Q P true o h q = h q
-when-both Q P false o h q = tt
-
 up-closes : (g l : Givens) (t : Ends) (w : World) (c : ℕ) (fails : Bool) → Before g t w → IfSome (up_event w c fails) (Later g l w) → IfSome (up_event w c fails) (Closes l)
-up-closes g l t w c fails h k = when-both (Later g l w) (Closes l) (nat_lt c w.next_conn) _ (up-as-closes g l t w c fails (next_up w c) h refl) k
+up-closes g l t w c fails h k = when-two (Later g l w) (Closes l) (nat_lt c w.next_conn) _ k (λ _ q. up-as-closes g l t w c fails (next_up w c) h refl q)
 
 down-as-closes : (g l : Givens) (t : Ends) (w : World) (c : ℕ) (answered fails : Bool) (o : Option Next) → Before g t w → IfSome (down_as w c answered fails o) (Later g l w) → IfSome (down_as w c answered fails o) (Closes l)
 down-as-closes g l t w c answered fails None h k = tt
@@ -346,12 +325,12 @@ down-as-closes g l t w c answered fails (Some x) h k =
     changed-closes g l t w v d h (down-writers w c x) (down-office w c x) k (asides-turn g l w v d (lower-down-aside (w.lowers c) v c x answered fails))
 
 down-closes : (g l : Givens) (t : Ends) (w : World) (c : ℕ) (answered fails : Bool) → Before g t w → IfSome (down_event w c answered fails) (Later g l w) → IfSome (down_event w c answered fails) (Closes l)
-down-closes g l t w c answered fails h k = when-both (Later g l w) (Closes l) (is_served w c) _ (down-as-closes g l t w c answered fails (next_down w c) h) k
+down-closes g l t w c answered fails h k = when-two (Later g l w) (Closes l) (is_served w c) _ k (λ _ q. down-as-closes g l t w c answered fails (next_down w c) h q)
 
 ready-closes : (g l : Givens) (t : Ends) (w : World) (c : ℕ) (fails : Bool) → Before g t w → IfSome (ready_event w c fails) (Later g l w) → IfSome (ready_event w c fails) (Closes l)
 ready-closes g l t w c fails h k =
     let d = lower_ready (w.lowers c) w c fails in
-    when-both (Later g l w) (Closes l) (is_served w c) _ (λ q. changed-closes g l t w w d h (λ b. refl) refl q (asides-turn g l w w d (lower-ready-aside (w.lowers c) w c fails))) k
+    when-two (Later g l w) (Closes l) (is_served w c) _ k (λ _ q. changed-closes g l t w w d h (λ b. refl) refl q (asides-turn g l w w d (lower-ready-aside (w.lowers c) w c fails)))
 
 fault-closes : (g l : Givens) (t : Ends) (w : World) (d : Delivery) → Before g t w → IfSome (fault_event w d) (Later g l w) → IfSome (fault_event w d) (Closes l)
 fault-closes g l t w (delivery.Down c) h k = down-closes g l t w c.0 false true h k

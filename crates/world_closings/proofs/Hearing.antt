@@ -12,26 +12,24 @@ use Rattle.op_headers.specs.declared.nodes.NodeRef.{NodeRef}
 use Rattle.op_headers.specs.declared.ops.Op.TheVariants as op
 use Rattle.op_headers.specs.Values.{WriteFields}
 use Rattle.packet_codec.specs.declared.packets.Packet.{Packet}
-use Rattle.packet_stream.specs.Streams.{is_last, oldest_is_last, oldest_seqno}
-use Rattle.member_core.specs.Acks.{is_success, failures}
+use Rattle.packet_stream.specs.Streams.{is_last, oldest_is_last}
+use Rattle.member_core.specs.Acks.{is_success}
 use Rattle.member_core.specs.declared.requests.SetupKind.TheVariants as kind
 use Rattle.member_core.specs.Requests.{setup_with}
 use Rattle.writer_core.specs.declared.phases.Phase.{Phase}
 use Rattle.writer_core.specs.declared.phases.Phase.TheVariants as phase
 use Rattle.writer_core.specs.declared.phases.Remedy.{Remedy}
-use Rattle.writer_core.specs.declared.phases.Setup.{Setup}
 use Rattle.writer_core.specs.declared.phases.Setup.TheVariants as setup
 use Rattle.writer_core.specs.declared.phases.Verdict.{Verdict}
 use Rattle.writer_core.specs.declared.phases.Verdict.TheVariants as verdict
 use Rattle.writer_core.specs.declared.records.WriterRecord.{WriterRecord}
 use Rattle.writer_core.specs.Phases.{remedy_after, remedy_at_ack, ack_verdict, bad_place}
-use Rattle.writer_core.specs.Transitions.{setup_answered_in, setup_answered, phase_acked, acked_oldest, acked_as, acked_in, acked, ended, is_connected}
-use Rattle.world.specs.Parts.{Message, request, packet, ack, response, read_status, recovery_answer, Dialled}
-use Rattle.world.specs.Worlds.{Past, World}
+use Rattle.writer_core.specs.Transitions.{setup_answered_in, setup_answered, phase_acked, acked_oldest, acked_as, acked_in, acked, is_connected}
+use Rattle.world.specs.Parts.{request, packet, ack, response, read_status, recovery_answer}
+use Rattle.world.specs.Worlds.{World}
 use Rattle.world.specs.Connections.{Next, message, the_end}
 use Rattle.world.specs.Nodes.{node_of, node_on, block_of}
 use Rattle.world.specs.Clients.{named_member, writer_hears}
-use Rattle.world.specs.Safe.{Has}
 use Rattle.world_laws.specs.Growing.{Grows}
 use Rattle.world_laws.specs.Stamping.{Givens, heard}
 use Rattle.world_laws.specs.Carrying.{new_stamp, Sets, ConnSays}
@@ -42,9 +40,9 @@ use Rattle.world_acks.proofs.Turning.{HeardTells, Known, same-asked, never-both}
 use Rattle.world_writers.specs.Piping.{setup_stamp, IsPipeline, Piped, PipedOf}
 use Rattle.world_writers.proofs.Hearing.{latest-is}
 use Rattle.world_writers.proofs.Standing.{verdict-good}
-use Rattle.world_finals.specs.Finishing.{ends_setup, is_closing, has_packets, WriterEnds}
+use Rattle.world_finals.specs.Finishing.{is_closing, has_packets, WriterEnds}
 use Rattle.world_closings.specs.Answering.{MembersClosed, AsksToClose, ClosesIn}
-use Rattle.world_closings.proofs.Nearing.{Passes, itself-passes, fail-passes, ended-passes}
+use Rattle.world_closings.proofs.Nearing.{fail-passes, ended-passes}
 
 -- LATER WORLDS
 

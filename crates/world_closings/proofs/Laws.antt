@@ -1,30 +1,23 @@
 -- A close that was answered leaves each member that runs and isn't broken closed, after every list of events.
-use Rattle.std.proofs.Common.{◌≡◌, ℕ, ◌<◌, ◌≤◌, ◌+◌, ◌⊎◌, inl, inr, Bool, true, false, List, [], ◌∷◌, ◌++◌, append-nil, Option, Some, None, IfSome, refl, sym, ◌∙◌, ap, subst, arith}
+use Rattle.std.proofs.Common.{◌≡◌, ℕ, ◌<◌, ◌≤◌, ◌+◌, inl, inr, Bool, true, false, List, [], ◌∷◌, ◌++◌, append-nil, Option, Some, None, IfSome, refl, sym, ◌∙◌, ap, subst, arith}
 use Rattle.std.specs.Prelude.{◌&&◌, ◌^◌, ◌-◌, min, nat_lt, not}
 use Rattle.std.proofs.lemmas.Bool.Decides.{nat_tests}
 use Rattle.std.proofs.lemmas.Option.{none-some}
-use Rattle.hd_base.specs.declared.numbers.NodeId.{NodeId}
 use Rattle.hd_base.specs.declared.roads.TheConstants.{FIRST_PORT, MAX_NODES}
-use Rattle.node_refs.specs.NodeRefs.{port_of}
-use Rattle.op_headers.specs.Values.{WriteFields}
-use Rattle.writer_core.specs.declared.phases.Phase.TheVariants as phase
 use Rattle.world.specs.declared.events.Delivery.{Delivery}
 use Rattle.world.specs.declared.events.Delivery.TheVariants as delivery
 use Rattle.world.specs.declared.events.Direction.{Direction}
 use Rattle.world.specs.declared.events.Direction.TheVariants as direction
 use Rattle.world.specs.declared.events.Event.{Event}
 use Rattle.world.specs.declared.events.Event.TheVariants as event
-use Rattle.world.specs.declared.events.FoundReplica.{FoundReplica}
-use Rattle.world.specs.Parts.{Writing}
-use Rattle.world.specs.Worlds.{Past, World, Change, apply, start}
+use Rattle.world.specs.Worlds.{World, Change, apply, start}
 use Rattle.world.specs.Connections.{Next, next_down, next_up, down_taken, up_taken, is_served}
 use Rattle.world.specs.Nodes.{node_on, lower_down, lower_ready}
 use Rattle.world.specs.Primaries.{office_event}
 use Rattle.world.specs.Restarts.{all_found, restart}
-use Rattle.world.specs.Events.{changed, own_change, down_as, down_event, ready_event, upper_up, up_as, up_event, fault_event, lost, stop, where_so, outcome, after_event, happens, run}
+use Rattle.world.specs.Events.{changed, own_change, down_as, upper_up, up_as, fault_event, lost, stop, where_so, outcome, after_event, happens, run}
 use Rattle.world.specs.Safe.{Closed}
 use Rattle.world_laws.specs.Growing.{Grows}
-use Rattle.world_laws.specs.Placing.{Placed}
 use Rattle.world_laws.proofs.FactTables.{when-each}
 use Rattle.world_laws.proofs.GrowthLaws.{run-grows}
 use Rattle.world_laws.proofs.RunLaws.{runs-end}
@@ -33,14 +26,13 @@ use Rattle.world_laws.proofs.Agreements.{office-and-writer-agree}
 use Rattle.world_laws.specs.Stamping.{Givens, none_given, given_by, given_in, heard}
 use Rattle.world_laws.proofs.ByteLeaves.{Facts}
 use Rattle.world_acks.specs.Closing.{HasClosed, StandsClosed}
-use Rattle.world_acks.specs.Waiting.{IsQuiet}
 use Rattle.world_acks.specs.Acking.{Ends}
 use Rattle.world_acks.proofs.Turning.{Known}
 use Rattle.world_acks.proofs.AllAcked.{Told, happens-told, last-closed, all-known}
 use Rattle.world_writers.proofs.AllPiped.{all-piped}
 use Rattle.world_finals.specs.Finishing.{no_ids, ids_in}
 use Rattle.world_finals.proofs.AllFinal.{all-final}
-use Rattle.world_closings.specs.Answering.{ClosesOf, Closes, AllClose}
+use Rattle.world_closings.specs.Answering.{Closes, AllClose}
 use Rattle.world_closings.proofs.Completing.{known-of}
 use Rattle.world_closings.proofs.Answers.{RunsNamed, happens-closed}
 use Rattle.world_closings.proofs.Hearing.{Later}

@@ -39,7 +39,7 @@ use Rattle.world_closings.specs.Answering.{AnswersClose}
 use Rattle.world_laws.proofs.FactTables.{and-right, some-weaker, when-each}
 use Rattle.world_laws.specs.Stamping.{heard, known_heard}
 use Rattle.writer_core.specs.Commands.{admitted}
-use Rattle.writer_core.specs.Transitions.{completed_step, dial_step, dialled, given, given_as, granted, open_step, own_step, step_in}
+use Rattle.writer_core.specs.Transitions.{completed_step, dial_step, given, given_as, granted, open_step, own_step, step_in}
 use Rattle.writer_core.specs.declared.actions.Action.{Action}
 use Rattle.writer_core.specs.declared.commands.Command.{Command}
 use Rattle.writer_core.specs.declared.commands.CommandFault.{CommandFault}
@@ -53,7 +53,6 @@ use Rattle.read_core.specs.declared.reading.ReadTurn.TheVariants as turn
 use Rattle.recovery_core.specs.Primaries as primary
 use Rattle.recovery_core.specs.declared.primary.OwnStep.TheVariants as own
 use Rattle.world.specs.declared.events.Caller.TheVariants as caller
-use Rattle.writer_core.specs.Transitions as writer
 use Rattle.writer_core.specs.declared.actions.Action.TheVariants as action
 use Rattle.writer_core.specs.declared.commands.Command.TheVariants as command
 use Rattle.writer_core.specs.declared.phases.Phase.TheVariants as phase

@@ -9,8 +9,8 @@ ghost use Rattle.world_closings.specs.Answering.{AllClose};
 
 use world::Schedule;
 
-/// From the good ack of the last packet on, and from the answer to the recovery of a close on, all members of a writer's
-/// pipeline have closed; once the office has answered it has closed the block.
+/// From the good ack of the last packet on, and from the answer to the recovery of a close on, all members of a
+/// writer's pipeline have closed; once the office has answered it has closed the block.
 pub fn members_have_closed()
     ensures { AllClose }
 {}

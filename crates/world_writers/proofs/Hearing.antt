@@ -40,7 +40,7 @@ use Rattle.world_writers.proofs.Stepping.{sets-reach, stream-of, in-session, sta
 
 -- CONNECTIONS
 
-conn-is : (o : Option ℕ) (c : ℕ) → is_conn o c ≡ true → o ≡ Some c
+pub conn-is : (o : Option ℕ) (c : ℕ) → is_conn o c ≡ true → o ≡ Some c
 conn-is None c e = absurd (false≢true e)
 conn-is (Some d) c e = ap (λ (i : ℕ). Some i) (sym (eqb-true c d e))
 
