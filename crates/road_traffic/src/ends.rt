@@ -44,7 +44,7 @@ pub fn dial<R: Roads>(
 }
 
 /// Gives an end up: shuts it, and brings it back to the roads that gave it with all that it sent. Its only error is
-/// `Memory`; the end is then lost.
+/// `Memory`; the end is then lost, and the roads are as they were.
 pub fn give_up<R: Roads>(
     alloc: Global,
     roads: &mut R,
@@ -55,6 +55,8 @@ pub fn give_up<R: Roads>(
     ensures connections { KeepsConnections (R.plain roads.old) (R.plain roads.new) }
     ensures risen { OnOk result (Remembers
         (has_failed R.Inward.LinkIn R.Outward.LinkOut end) end.id.0 (R.risen roads.old) (R.risen roads.new)) }
+    ensures err_plain { OnErr result (R.plain roads.new ≡ R.plain roads.old) }
+    ensures err_carried { OnErr result (R.carried roads.new ≡ R.carried roads.old) }
     ensures err_risen { OnErr result (R.risen roads.new ≡ R.risen roads.old) }
     ensures cause { OnlyMemory (R.faults roads.old) (R.faults roads.new) result }
 {
