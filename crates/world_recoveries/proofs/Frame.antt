@@ -17,6 +17,7 @@ use Rattle.world_laws.proofs.ByteFrame.{past-grows, dial-place, dial-none}
 use Rattle.world_laws.proofs.SetupNodes.{put-at-split}
 use Rattle.world.specs.Safe.{Has}
 use Rattle.world_recoveries.specs.Recovering.{ReplicaTold, WasSent, Informs, Updates, Agrees, StillTrue, InfoFits, UpdateFits, NoUpdates, HasId, LeadFits, SendsFits, IsPlacedIn, Recovering}
+use Rattle.world_recoveries.specs.Telling.{TellsNow, TellsFrom}
 use Rattle.world_recoveries.proofs.Histories.{split-get, begins-get, first-once, agrees-later, info-later, update-later, was-sent-later, lead-later, sends-later, NewDown, was_sent, is_sent, is_dialled, new-down}
 use Rattle.world_recoveries.proofs.Holding.{Moves, still-moves}
 
@@ -31,6 +32,7 @@ pub record NewInfo (g : Givens) (w : World) (k : Change) (c : ℕ) (i : ReplicaT
   pub block : asked.block.block.0 ≡ k.block
   pub fits : InfoFits g (past_after w k) c k.block asked.block.stamp asked.recovery i
   pub still : StillTrue asked.recovery i k.replica.known.info
+  pub now : TellsNow w.running w.lives w.replicas (w.dialled c).to k.block asked.recovery i
 
 -- an UPDATE of this length that the primary sends, which has sent none before
 pub record NewUpdate (w : World) (k : Change) (length c : ℕ) (q : RecoveryOp) : Type 0 where
@@ -93,12 +95,13 @@ old-informs g w k c b id i x j h e =
     }
 
 -- what is told now, of the recovery that the connection is of
-record IsNews (g : Givens) (w : World) (k : Change) (c b : ℕ) (id : Stamp) (asked : RecoveryOp) (i : ReplicaTold) : Type 0 where
+pub record IsNews (g : Givens) (w : World) (k : Change) (c b : ℕ) (id : Stamp) (asked : RecoveryOp) (i : ReplicaTold) : Type 0 where
   pub known : c < w.next_conn
   pub node : (w.dialled c).to.node ≡ k.node
   pub block : b ≡ k.block
   pub fits : InfoFits g (past_after w k) c b asked.block.stamp id i
   pub still : StillTrue id i k.replica.known.info
+  pub now : TellsNow w.running w.lives w.replicas (w.dialled c).to b id i
 
 new-informs : (g : Givens) (w : World) (k : Change) (c b : ℕ) (id : Stamp) (i : ReplicaTold) (x : Informs (past_after w k) c b id i) → NewInfo g w k c i → IsNews g w k c b id x.asked i
 new-informs g w k c b id i x n =
@@ -114,9 +117,11 @@ new-informs g w k c b id i x n =
           (subst (λ (s : Stamp). InfoFits g p c k.block x.asked.block.stamp s i) is
           (subst (λ (s : Stamp). InfoFits g p c k.block s n.asked.recovery i) (ap (λ (q : RecoveryOp). q.block.stamp) same) n.fits));
       still = subst (λ (s : Stamp). StillTrue s i k.replica.known.info) is n.still;
+      now = subst (λ (y : ℕ). TellsNow w.running w.lives w.replicas (w.dialled c).to y id i) at
+          (subst (λ (s : Stamp). TellsNow w.running w.lives w.replicas (w.dialled c).to k.block s i) is n.now);
     }
 
-informs-either : (g l : Givens) (w : World) (k : Change) (c b : ℕ) (id : Stamp) (i : ReplicaTold) → Carried g w → News l w k → (x : Informs (past_after w k) c b id i) → Informs w.past c b id i ⊎ IsNews l w k c b id x.asked i
+pub informs-either : (g l : Givens) (w : World) (k : Change) (c b : ℕ) (id : Stamp) (i : ReplicaTold) → Carried g w → News l w k → (x : Informs (past_after w k) c b id i) → Informs w.past c b id i ⊎ IsNews l w k c b id x.asked i
 informs-either g l w k c b id i h n x = go (split-get (w.ups c) (k.ups c) x.place (recovery_answer x.answer) x.there)
   where
     go : ((j : ℕ) × (slice_get (w.ups c) j ≡ Some (recovery_answer x.answer))) ⊎ ((j : ℕ) × (slice_get (k.ups c) j ≡ Some (recovery_answer x.answer))) → Informs w.past c b id i ⊎ IsNews l w k c b id x.asked i
@@ -271,6 +276,15 @@ keeps-asks g w k h n c i q e = go (new-down w k c i (request (op.Recovery q)) e)
     go (was_sent j r) = agrees-later w.past (past_after w k) c q (past-grows w k) (h.asks c j q r)
     go (is_sent j r) = (n.asks c j q r).agrees
     go (is_dialled j d r s t) = subst (λ (v : ℕ). Agrees (past_after w k) v q) t ((n.dials j d r).agrees q s)
+
+-- what is told anew is told of a replica as it was
+pub keeps-tells : (g l : Givens) (w : World) (k : Change) → Carried g w → News l w k → TellsFrom w (apply w k)
+unfolding apply
+keeps-tells g l w k a n = record { each = λ c b id i x. go c b id i x (informs-either g l w k c b id i a n x) }
+  where
+    go : (c b : ℕ) (id : Stamp) (i : ReplicaTold) (x : Informs (past_after w k) c b id i) → Informs w.past c b id i ⊎ IsNews l w k c b id x.asked i → Informs w.past c b id i ⊎ TellsNow w.running w.lives w.replicas (dialled_with w k c).to b id i
+    go c b id i x (inl y) = inl y
+    go c b id i x (inr z) = inr (subst (λ (d : Dialled). TellsNow w.running w.lives w.replicas d.to b id i) (sym ((past-grows w k).dialled c z.known)) z.now)
 
 pub keeps : (g l : Givens) (w : World) (k : Change) → Carried g w → Recovering l w → News l w k → Recovering l (apply w k)
 unfolding apply

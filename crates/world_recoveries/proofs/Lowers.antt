@@ -1,6 +1,7 @@
 -- What lower ends tell in recoveries.
 use Rattle.std.proofs.Common.{◌≡◌, ℕ, zero, suc, ◌<◌, ◌≤◌, Bool, true, false, List, [], ◌∷◌, ◌++◌, take, slice_get, Option, Some, None, IfSome, Result, Ok, Err, IfOk, refl, sym, ◌∙◌, ap, subst, arith, eqb-true}
 use Rattle.std.specs.Prelude.{◌==◌, if◌then◌else◌}
+use Rattle.std.proofs.lemmas.Bool.Decides.{nat_tests}
 use Rattle.std.proofs.lemmas.Option.{none-some, same_Some}
 use Rattle.hd_base.specs.declared.numbers.BlockId.{BlockId}
 use Rattle.hd_base.specs.declared.numbers.ConnId.{ConnId}
@@ -23,7 +24,7 @@ use Rattle.replica_core.specs.declared.events.Event.{Event}
 use Rattle.replica_core.specs.declared.events.Event.TheVariants as event
 use Rattle.replica_core.specs.declared.info.ReplicaInfo.{ReplicaInfo}
 use Rattle.replica_core.specs.declared.records.ReplicaRecord.{ReplicaRecord}
-use Rattle.replica_core.specs.Info.{begin_recovery, end_recovery}
+use Rattle.replica_core.specs.Info.{begin_recovery, end_recovery, is_free_for}
 use Rattle.replica_core.specs.Transitions.{Outcome, Taken, record_after, transition, present, with_writer, set_writer, done}
 use Rattle.replica_core.specs.Transitions as core
 use Rattle.replica_core.specs.Views.{rule_in, written_in}
@@ -57,7 +58,7 @@ use Rattle.world_laws.proofs.ByteFrame.{Each, each-nil, each-one, past-grows}
 use Rattle.world_laws.proofs.ByteLeaves.{Facts, sent-if}
 use Rattle.world_laws.proofs.ByteRows.{begin-stamp}
 use Rattle.world_laws.specs.Joining.{joined_as, IsSetUp}
-use Rattle.world_recoveries.specs.Recovering.{ReplicaTold, WasSent, Agrees, Recovering}
+use Rattle.world_recoveries.specs.Recovering.{ReplicaTold, top_under, top_of, WasSent, Agrees, Recovering}
 use Rattle.world_recoveries.proofs.Histories.{begins-get, has-later}
 use Rattle.world_recoveries.proofs.Holding.{Moves, Books, as_before, books, event-moves}
 use Rattle.world_recoveries.proofs.Frame.{NewInfo, News}
@@ -243,13 +244,23 @@ record InitTaken (c : ReplicaRecord) (named id : Stamp) (t : Taken) : Type 0 whe
   pub told : t.answer ≡ answer.Info info.original info.stamp info.written
   pub least : named.0 ≤ info.stamp.0
   pub below : info.stamp.0 < id.0
+  pub later : top_of info < id.0
+
+-- an INIT that was taken is of a later recovery than any that held the replica
+begins-later : (o : Option Stamp) (s id : Stamp) → s.0 < id.0 → is_free_for o id ≡ true → top_under o s < id.0
+begins-later None s id lt e = lt
+begins-later (Some held) s id lt e = grind (arith, nat_tests, e)
+
+begin-free : (i k : ReplicaInfo) (named id : Stamp) → begin_recovery i named id ≡ Ok k → is_free_for i.recovery id ≡ true
+unfolding begin_recovery
+begin-free i k named id e = grind (arith, nat_tests)
 
 init-taken : (c : ReplicaRecord) (named id : Stamp) → IfOk (transition c (event.Init named id)) (InitTaken c named id)
 unfolding transition
 init-taken c named id = if_step (InitTaken c named id) (present c) _ (λ h e. if_step (InitTaken c named id) (begin_recovery h named id) _ (λ k f.
     let p = present_is c h e in
     let s = begin-stamp h k named id f in
-    record { info = h; is = p.1; whole = p.0; held = ap (λ (x : ReplicaInfo). Some x) (begin_recovery_is h k named id f); told = refl; least = s.0; below = s.1 }))
+    record { info = h; is = p.1; whole = p.0; held = ap (λ (x : ReplicaInfo). Some x) (begin_recovery_is h k named id f); told = refl; least = s.0; below = s.1; later = begins-later h.recovery h.stamp id s.1 (begin-free h k named id f) }))
 
 -- an UPDATE that was taken tells nothing
 update-taken : (c : ReplicaRecord) (id : Stamp) (n : ℕ) → IfOk (transition c (event.Update id n)) (λ t. t.answer ≡ answer.Done)
@@ -348,6 +359,11 @@ init-news g w c q r named id t h a ne ie x same m = still-news g w k h.recoverin
         is = ap (λ (y : ReplicaRecord). y.info) same ∙ x.held;
         above = omega (arith, ap (λ (s : Stamp). s.0) ie, ap (λ (s : Stamp). s.0) a.recovery);
         same = λ _. (refl, refl, refl);
+      };
+      now = record {
+        runs = h.runs;
+        life = sym h.life;
+        replica = record { info = x.info; is = x.is; sound = x.whole; told = refl; below = omega (arith, x.later, ap (λ (s : Stamp). s.0) ie, ap (λ (s : Stamp). s.0) a.recovery) };
       };
     }
 
