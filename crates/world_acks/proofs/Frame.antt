@@ -13,6 +13,8 @@ use Rattle.world_laws.proofs.FactTables.{if-each, put-each, and-left, and-right}
 use Rattle.world_laws.specs.Stamping.{Givens, heard}
 use Rattle.world_laws.proofs.ByteFrame.{Each, each-nil, each-one, each-append}
 use Rattle.world_laws.specs.Joining.{joined_as}
+use Rattle.world_recoveries.specs.Recovering.{Recovering}
+use Rattle.world_recoveries.specs.Telling.{TellsFrom}
 use Rattle.world_acks.specs.Acking.{PacketEnd, Ends, UpTells, DownTells, UpperTells, LowerTells, Pends, Numbers, Acked}
 use Rattle.world_acks.proofs.Seats.{has-left, Steps, seat-apply, Onward, Lasting, up-on, down-on, upper-on, lower-on, pends-on}
 
@@ -25,13 +27,13 @@ first-more (x ∷ xs) ys m e = e
 pub begins-first : (xs ys : List Message) (m : Message) → Begins xs ys → slice_get xs 0 ≡ Some m → slice_get ys 0 ≡ Some m
 begins-first xs ys m b e = subst (λ (zs : List Message). slice_get zs 0 ≡ Some m) b.joins (first-more xs b.rest m e)
 
-pub apply-onward : (g k : Givens) (t u : Ends) (w : World) (c : Change) → Steps w c → ((n b : ℕ) → IsFull (w.replicas n b)) → IsFull c.replica
+pub apply-onward : (g k : Givens) (t u : Ends) (w : World) (c : Change) → Steps w c → Recovering g w → TellsFrom w (apply w c) → ((n b : ℕ) → IsFull (w.replicas n b)) → IsFull c.replica
     → ((b s e : ℕ) → g b s ≡ Some e → k b s ≡ Some e) → ((e : ℕ) (x : PacketEnd) (q : ℤ) → t e q ≡ Some x → u e q ≡ Some x) → Onward g k t u w (apply w c)
 unfolding apply
-apply-onward g k t u w c st full new given named =
+apply-onward g k t u w c st rec tells full new given named =
     let y = apply-grows w c in
     record {
-      seats = λ b s e n j h. seat-apply w c b s e n j st (full c.node c.block) new h;
+      seats = λ b s e n j h. seat-apply g w c b s e n j st rec tells full new h;
       given = given;
       named = named;
       first = λ d m e. begins-first (w.downs d) ((past_after w c).downs d) m (y.downs d) e;
