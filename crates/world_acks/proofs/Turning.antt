@@ -121,7 +121,7 @@ record Shows (d : ReplicaRecord) (i : ReplicaInfo) (p : PendingPacket) : Type 0 
   pub after : ReplicaInfo
   pub is : d.info ≡ Some after
   pub stamp : after.stamp ≡ i.stamp
-  pub free : after.recovery ≡ i.recovery
+  pub free : i.recovery ≡ None → after.recovery ≡ None
   pub visible : ℕ
   pub sees : visible_of after ≡ Some visible
   pub enough : IsConsistent after → p.end ≤ visible
@@ -135,7 +135,7 @@ acknowledged c i p e =
       after = close_stream (advance_acked i p.end);
       is = refl;
       stamp = refl;
-      free = refl;
+      free = λ _. refl;
       visible = i.written;
       sees = subst (λ (s : ReplicaState). visible_of (close_stream (record (advance_acked i p.end) { original = s })) ≡ Some i.written) (sym e) refl;
       enough = λ h. omega (arith, h.acked);
@@ -146,7 +146,7 @@ acknowledged c i p e =
       after = advance_acked i p.end;
       is = refl;
       stamp = refl;
-      free = refl;
+      free = λ e. e;
       visible = max i.acked p.end;
       sees = subst (λ (s : ReplicaState). visible_of (record (advance_acked i p.end) { original = s }) ≡ Some (max i.acked p.end)) (sym e) refl;
       enough = λ h. omega arith;
@@ -296,7 +296,7 @@ books g t w v c m e a old y taken =
         shows = λ _ _ _ i le _. shown-less (v.replicas n b) (new_stamp m.fields).0 i e.end (v.written a.tells.session) le (subst (λ (z : FullReplica). Shown z (new_stamp m.fields).0 e.end (v.written a.tells.session)) (sym y.at)
             (subst (λ (z : PendingPacket). Shown q (new_stamp m.fields).0 z.end (v.written a.tells.session)) same
             (subst (λ (z : Stamp). Shown q z.0 x.entry.end (v.written a.tells.session)) after shown)));
-        told = told-none g v b (new_stamp m.fields).0 n (w.dialled c).to.life e.end k.after y.recovering (ap (λ (z : FullReplica). z.known.info) y.at ∙ k.is) (k.free ∙ x.free)
+        told = told-none g v b (new_stamp m.fields).0 n (w.dialled c).to.life e.end k.after y.recovering (ap (λ (z : FullReplica). z.known.info) y.at ∙ k.is) (k.free x.free)
             (omega (arith, ap (λ (z : Stamp). z.0) after)) (sym (y.lives ∙ a.alive));
       };
     }
