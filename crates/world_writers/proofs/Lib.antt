@@ -16,3 +16,5 @@ pub mod Staying
 pub mod Stepping
 pub mod Taking
 pub mod Trailing
+pub mod Leaving
+mod Kept

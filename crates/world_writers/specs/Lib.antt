@@ -4,3 +4,4 @@ pub mod Settling
 pub mod Showing
 pub mod Staying
 pub mod Taking
+pub mod Leaving

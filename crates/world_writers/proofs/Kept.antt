@@ -1,0 +1,51 @@
+-- Answered bytes stay.
+use Rattle.std.proofs.Common.{◌≡◌, ℕ, ◌<◌, ◌≤◌, List, Some, refl, sym, ap, subst, arith}
+use Rattle.hd_base.specs.declared.numbers.NodeId.{NodeId}
+use Rattle.hd_base.specs.declared.roads.TheConstants.{MAX_NODES}
+use Rattle.world.specs.declared.events.Event.{Event}
+use Rattle.world.specs.Parts.{Place, Answered}
+use Rattle.world.specs.Worlds.{World, start}
+use Rattle.world.specs.Events.{run}
+use Rattle.world.specs.Safe.{Has, Kept, Steady}
+use Rattle.world_laws.specs.Stamping.{Givens, none_given, given_in}
+use Rattle.world_laws.proofs.PlacedLaws.{all-placed}
+use Rattle.world_recoveries.proofs.AllRecovering.{all-recovering}
+use Rattle.world_recoveries.proofs.AllNaming.{all-none-stale}
+use Rattle.world_acks.specs.Acking.{UpdatesLeave}
+use Rattle.world_writers.specs.Leaving.{JoinedSince, ToldSince, LaterSessionsKeep}
+use Rattle.world_writers.proofs.AllShow.{all-sit}
+use Rattle.world_writers.proofs.Leaving.{Leaving, updates-keep}
+use Rattle.world_writers.proofs.Staying.{answered-stay}
+
+told-since : (nodes : ℕ) (events : List Event) → nodes ≤ MAX_NODES → ToldSince (given_in none_given (start nodes) events) (run (start nodes) events)
+told-since nodes events le = ?
+
+later-keep : (nodes : ℕ) (events : List Event) → nodes ≤ MAX_NODES → LaterSessionsKeep (given_in none_given (start nodes) events) (run (start nodes) events)
+later-keep nodes events le = ?
+
+leaving : (nodes : ℕ) (events : List Event) → nodes ≤ MAX_NODES → Leaving (given_in none_given (start nodes) events) (run (start nodes) events)
+leaving nodes events le = record {
+  recovering = all-recovering nodes events;
+  stale = all-none-stale nodes events;
+  placed = all-placed nodes events;
+  told = told-since nodes events le;
+  later = later-keep nodes events le;
+}
+
+pub kept : (nodes : ℕ) (events : List Event) → nodes ≤ MAX_NODES → Kept (run (start nodes) events)
+kept nodes events le a m h member s = answered-stay nodes events le a m h member s left
+  where
+    g : Givens
+    g = given_in none_given (start nodes) events
+
+    w : World
+    w = run (start nodes) events
+
+    at : Place
+    at = record { node = m.0; life = w.lives m.0 }
+
+    since : JoinedSince g w a a.stamp at
+    since = record { session = (all-sit nodes events a h).session; answer = (all-sit nodes events a h).given; given = (all-sit nodes events a h).given; since = omega arith; joins = s.joins }
+
+    left : UpdatesLeave w a.block a.stamp m.0 (w.lives m.0) a.length
+    left = updates-keep g w (leaving nodes events le) a a.stamp at h ((all-placed nodes events).runs m.0 s.runs) since

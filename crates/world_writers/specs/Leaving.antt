@@ -1,0 +1,36 @@
+-- Recoveries leave what was answered, at the nodes that accepted a setup of the answer's session since.
+use Rattle.std.specs.Prelude.{ℕ, ◌≡◌, ◌<◌, ◌≤◌, Some}
+use Rattle.hd_base.specs.declared.numbers.Stamp.{Stamp}
+use Rattle.hd_base.specs.declared.states.ReplicaState.TheVariants as state
+use Rattle.world.specs.Parts.{Place, Answered, Updated}
+use Rattle.world.specs.Worlds.{World}
+use Rattle.world.specs.Safe.{Has}
+use Rattle.world_laws.specs.Stamping.{Givens}
+use Rattle.world_laws.specs.Joining.{joined_as}
+use Rattle.world_recoveries.specs.Recovering.{ReplicaTold, Informs}
+use Rattle.world_acks.specs.Acking.{UpdatesLeave, EarlierLeave, ToldBytes}
+
+-- In this life a node accepted the setup of this stamp, which is that of an answer or a later one of its session.
+pub record JoinedSince (g : Givens) (w : World) (a : Answered) (stamp : ℕ) (at : Place) : Type 0 where
+  pub session : ℕ
+  pub answer : g a.block a.stamp ≡ Some session
+  pub given : g a.block stamp ≡ Some session
+  pub since : a.stamp ≤ stamp
+  pub joins : Has w.joined (joined_as stamp at.node at.life)
+
+-- What such a node told of its replica is of the answered bytes, as far as earlier recoveries left them.
+abbrev pub ToldSince : Givens → World → Type 0
+ToldSince g w = (a : Answered) (stamp : ℕ) (at : Place) → Has w.answered a → at.node < w.nodes → JoinedSince g w a stamp at →
+    ToldBytes w.past a.block stamp at.node at.life a.length
+
+-- An RBW replica of a later session that a recovery was told of beside that of such a node is of the answered bytes too, as far as earlier recoveries
+-- left them at that node.
+abbrev pub LaterSessionsKeep : Givens → World → Type 0
+LaterSessionsKeep g w = (a : Answered) (stamp c d session : ℕ) (id : Stamp) (i k : ReplicaTold) → Has w.answered a → JoinedSince g w a stamp (w.dialled c).to →
+    Informs w.past c a.block id i → Informs w.past d a.block id k → stamp < id.0 → k.0 ≡ state.Rbw → g a.block k.1.0 ≡ Some session → (g a.block a.stamp ≡ Some session → ⊥) →
+    EarlierLeave w.past a.block stamp id.0 (w.dialled c).to.node (w.dialled c).to.life a.length → a.length ≤ k.2
+
+-- Each later recovery that updated such a node left it the answered bytes.
+abbrev pub UpdatesKeep : Givens → World → Type 0
+UpdatesKeep g w = (a : Answered) (stamp : ℕ) (at : Place) → Has w.answered a → at.node < w.nodes → JoinedSince g w a stamp at →
+    UpdatesLeave w a.block stamp at.node at.life a.length
