@@ -37,7 +37,7 @@ use Rattle.world_acks.specs.Closing.{FinalUnder, BrokeFinal, HasClosed, StandsCl
 use Rattle.world_acks.specs.Waiting.{Requests, IsQuiet, AllWaiting}
 use Rattle.world_acks.proofs.Requests.{Requesting, quiet-apply, requests-apply, same-quiet, same-requests}
 use Rattle.world_acks.proofs.ClosedLaws.{GoesOn, stands-on}
-use Rattle.world_acks.proofs.Seats.{Onward, Lasting, up-on, down-on, upper-on, lower-on}
+use Rattle.world_acks.proofs.Seats.{Onward, Lasting, join-on, up-on, down-on, upper-on, lower-on}
 use Rattle.world_acks.proofs.ClosedMoves.{Moved, moves-on, untouched-moved, lower-ready-moved, down-moves, upper-moved, own-moved, restart-on, next-sent}
 use Rattle.world_acks.proofs.Frame.{apply-onward, keeps}
 use Rattle.world_acks.proofs.Turning.{Known, HeardTells}
@@ -102,6 +102,7 @@ down-taken-acked g t w c x h =
     let on = like-lasting g t w v (record { past = refl; runs = λ n e. e; lives = λ n. refl; replicas = λ n b. refl }) (λ m b. refl) (λ d. refl) in
     record {
       lives = h.lives;
+      joins = λ a n l x. join-on g g t t w v a n l on.on (h.joins a n l x);
       begun = h.begun;
       ups = λ d i m e. up-on g g t t w v d m on (h.ups d i m e);
       downs = λ d i m e. down-on g g t t w v d m on.on (h.downs d i m e);
@@ -118,6 +119,7 @@ up-taken-acked g t w c x h =
     let on = like-lasting g t w v (record { past = refl; runs = λ n e. e; lives = λ n. refl; replicas = λ n b. refl }) (λ m b. refl) (λ d. refl) in
     record {
       lives = h.lives;
+      joins = λ a n l x. join-on g g t t w v a n l on.on (h.joins a n l x);
       begun = h.begun;
       ups = λ d i m e. up-on g g t t w v d m on (h.ups d i m e);
       downs = λ d i m e. down-on g g t t w v d m on.on (h.downs d i m e);
@@ -325,6 +327,7 @@ stop-acked g t w n h =
     let on = stop-lasting g t w n in
     record {
       lives = h.lives;
+      joins = λ a n l x. join-on g g t t w v a n l on.on (h.joins a n l x);
       begun = h.begun;
       ups = λ d i m e. up-on g g t t w v d m on (h.ups d i m e);
       downs = λ d i m e. down-on g g t t w v d m on.on (h.downs d i m e);
@@ -340,6 +343,7 @@ lost-acked g t w c direction.Down more h =
     let on = lost-lasting g t w c direction.Down more in
     record {
       lives = h.lives;
+      joins = λ a n l x. join-on g g t t w v a n l on.on (h.joins a n l x);
       begun = h.begun;
       ups = λ d i m e. up-on g g t t w v d m on (h.ups d i m e);
       downs = λ d i m e. down-on g g t t w v d m on.on (h.downs d i m e);
@@ -353,6 +357,7 @@ lost-acked g t w c direction.Up more h =
     let on = lost-lasting g t w c direction.Up more in
     record {
       lives = h.lives;
+      joins = λ a n l x. join-on g g t t w v a n l on.on (h.joins a n l x);
       begun = h.begun;
       ups = λ d i m e. up-on g g t t w v d m on (h.ups d i m e);
       downs = λ d i m e. down-on g g t t w v d m on.on (h.downs d i m e);
@@ -420,6 +425,7 @@ restart-acked g t w n list k f =
     let on = restart-lasting g t w n list k f in
     record {
       lives = λ s m l j. more m l (m == n) refl (h.lives s m l j);
+      joins = λ s m l j. join-on g g t t w v s m l on.on (h.joins s m l j);
       begun = h.begun;
       ups = λ d i m e. up-on g g t t w v d m on (h.ups d i m e);
       downs = λ d i m e. down-on g g t t w v d m on.on (h.downs d i m e);
@@ -487,6 +493,7 @@ last-acked g t w e h =
     let on = like-lasting g t w v (record { past = refl; runs = λ m q. q; lives = λ m. refl; replicas = λ m b. refl }) (λ m b. refl) (λ d. refl) in
     record {
       lives = h.lives;
+      joins = λ a n l x. join-on g g t t w v a n l on.on (h.joins a n l x);
       begun = h.begun;
       ups = λ d i m q. up-on g g t t w v d m on (h.ups d i m q);
       downs = λ d i m q. down-on g g t t w v d m on.on (h.downs d i m q);
@@ -565,6 +572,7 @@ pub start-acked : (nodes : ℕ) → Acked none_given no_ends (start nodes)
 unfolding start no_ends
 start-acked nodes = record {
   lives = λ s n l j. absurd (none-some _ j.there);
+  joins = λ s n l j. absurd (none-some _ j.there);
   begun = λ e k q z. absurd (none-some k z);
   ups = λ c i m e. absurd (none-some m e);
   downs = λ c i m e. absurd (none-some m e);

@@ -15,8 +15,8 @@ use Rattle.world_laws.proofs.ByteFrame.{Each, each-nil, each-one, each-append}
 use Rattle.world_laws.specs.Joining.{joined_as}
 use Rattle.world_recoveries.specs.Recovering.{Recovering}
 use Rattle.world_recoveries.specs.Telling.{TellsFrom}
-use Rattle.world_acks.specs.Acking.{PacketEnd, Ends, UpTells, DownTells, UpperTells, LowerTells, Pends, Numbers, Acked}
-use Rattle.world_acks.proofs.Seats.{has-left, Steps, seat-apply, Onward, Lasting, up-on, down-on, upper-on, lower-on, pends-on}
+use Rattle.world_acks.specs.Acking.{PacketEnd, Ends, UpTells, DownTells, UpperTells, LowerTells, Pends, Numbers, JoinSeat, Acked}
+use Rattle.world_acks.proofs.Seats.{has-left, Steps, seat-apply, Onward, Lasting, join-on, up-on, down-on, upper-on, lower-on, pends-on}
 
 -- ONWARD
 
@@ -51,7 +51,7 @@ pub record News (g : Givens) (t : Ends) (w : World) (k : Change) : Type 0 where
   pub uppers : (i : ℕ) (d : Dial) → slice_get k.dials i ≡ Some d → UpperTells (past_after w k) (w.next_conn + i) d.dialled.upper
   pub lower : LowerTells g (apply w k) k.lower_at k.lower
   pub replica : IfSome k.replica.known.info (Pends g t k.block k.replica.known)
-  pub joined : (s n l : ℕ) → Has k.joined (joined_as s n l) → l ≤ w.lives n
+  pub joined : (s n l : ℕ) → Has k.joined (joined_as s n l) → (l ≤ w.lives n) × JoinSeat g (apply w k) s n l
   pub writers : (b : ℕ) → Numbers (g b) t (latest_with w.latest k.stamped b) (heard (put w.writers k.writer_at k.writer b))
   pub begun : (e : ℕ) (x : PacketEnd) (q : ℤ) → t e q ≡ Some x → e < k.office.next.0
 
@@ -117,7 +117,14 @@ lives-of g t w k h n s m l q = go (has-either w.joined k.joined (joined_as s m l
   where
     go : Has w.joined (joined_as s m l) ⊎ Has k.joined (joined_as s m l) → l ≤ w.lives m
     go (inl x) = h s m l x
-    go (inr x) = n.joined s m l x
+    go (inr x) = (n.joined s m l x).0
+
+joins-of : (l g : Givens) (s t : Ends) (w : World) (k : Change) → Acked l s w → Onward l g s t w (apply w k) → News g t w k → (a n b : ℕ) → Has (w.joined ++ k.joined) (joined_as a n b) → JoinSeat g (apply w k) a n b
+joins-of l g s t w k h on news a n b q = go (has-either w.joined k.joined (joined_as a n b) q)
+  where
+    go : Has w.joined (joined_as a n b) ⊎ Has k.joined (joined_as a n b) → JoinSeat g (apply w k) a n b
+    go (inl x) = join-on l g s t w (apply w k) a n b on (h.joins a n b x)
+    go (inr x) = (news.joined a n b x).1
 
 pub keeps : (l g : Givens) (s t : Ends) (w : World) (k : Change) → Acked l s w → Lasting l g s t w (apply w k) → News g t w k → Acked g t (apply w k)
 unfolding apply
@@ -125,6 +132,7 @@ keeps l g s t w k h y n =
     let v = apply w k in
     record {
       lives = lives-of g t w k h.lives n;
+      joins = joins-of l g s t w k h y.on n;
       begun = n.begun;
       ups = λ c. (each-append (UpTells g t v c) (w.ups c) (k.ups c) (record { at = λ i m e. up-on l g s t w v c m y (h.ups c i m e) }) (n.ups c)).at;
       downs = λ c. (each-append (DownTells g t v c) (w.downs c ++ k.downs c) _

@@ -35,7 +35,7 @@ use Rattle.world_recoveries.specs.Telling.{IsOf, TellsNow, TellsFrom}
 use Rattle.world_recoveries.proofs.Telling.{told-below, updated-below}
 use Rattle.world_acks.specs.Closing.{StandsClosed, AllClosed}
 use Rattle.world_acks.specs.Waiting.{IsQuiet}
-use Rattle.world_acks.specs.Acking.{PacketEnd, pending_end, Shown, UpdatesLeave, EarlierLeave, TellsBytes, ToldBytes, Seat, Asked, AsksToRead, Seated, IsPipe, promised, SetUpFrom, Ends, AckedFrom, UpTells, Numbered, PacketTells, DownTells, Mirrors, UpperTells, MemberTells, LowerTells, Pends}
+use Rattle.world_acks.specs.Acking.{PacketEnd, pending_end, Shown, UpdatesLeave, EarlierLeave, TellsBytes, ToldBytes, Seat, Asked, AsksToRead, Seated, IsPipe, promised, JoinSeat, SetUpFrom, Ends, AckedFrom, UpTells, Numbered, PacketTells, DownTells, Mirrors, UpperTells, MemberTells, LowerTells, Pends}
 use Rattle.world_acks.proofs.Shows.{IsNoUpdate, row-shows}
 
 -- LISTS
@@ -243,6 +243,17 @@ seated-on g k t u w v f n e j o h = record {
 
 pub pipe-on : (g k : Givens) (t u : Ends) (w v : World) (c : ℕ) (f : WriteFields) (e : ℕ) → Onward g k t u w v → IsPipe g w c f e → IsPipe k v c f e
 pipe-on g k t u w v c f e o h = record { known = omega (arith, h.known, o.conns); asked = asked-on g k t u w v c f o h.asked; given = o.given (block_of f) (new_stamp f).0 e h.given }
+
+pub join-on : (g k : Givens) (t u : Ends) (w v : World) (s n l : ℕ) → Onward g k t u w v → JoinSeat g w s n l → JoinSeat k v s n l
+join-on g k t u w v s n l o h = record {
+  conn = h.conn;
+  fields = h.fields;
+  session = h.session;
+  pipe = pipe-on g k t u w v h.conn h.fields h.session o h.pipe;
+  is = h.is;
+  to = ap (λ (d : Dialled). d.to) (o.dialled h.conn h.pipe.known) ∙ h.to;
+  seat = o.seats (block_of h.fields) s h.session n (promised h.fields) h.seat;
+}
 
 pub node-on : (g k : Givens) (t u : Ends) (w v : World) (c : ℕ) → Onward g k t u w v → c < w.next_conn → node_of w c ≡ node_of v c
 node-on g k t u w v c o lt = sym (ap (λ (d : Dialled). d.to.node) (o.dialled c lt))

@@ -42,7 +42,7 @@ use Rattle.member_core.specs.declared.requests.TheConstants.{MAX_BELOW, MAX_PORT
 use Rattle.member_core.specs.Members.{MemberState, set_up, set_up_at}
 use Rattle.member_core.specs.Requests.{setup_with, rule_for, named_setup, named_rule, setup_event, request_event, request_from, request_to, mirror_request, response_of}
 use Rattle.member_core.specs.Steps.{Setup, request_at, refused_request, booked_request, refused_by, faulted_request}
-use Rattle.world.specs.Parts.{Message, request, response, Dialled, by_member, idle, ended_below, Break}
+use Rattle.world.specs.Parts.{Message, request, response, Dialled, by_member, idle, ended_below, Break, Joined}
 use Rattle.world.specs.Worlds.{World, Dial, Change, dial_at, past_after, apply}
 use Rattle.world.specs.Nodes.{node_of, node_on, replica_at, block_of, broke_at, joined_at, sent_up, mirror_node, is_asked, mirror_dial, dials_of, setup_change, failing_write, write_request}
 use Rattle.world.specs.Safe.{Has}
@@ -55,7 +55,7 @@ use Rattle.world_laws.proofs.ByteLeaves.{Facts, sent-each}
 use Rattle.world_laws.specs.Joining.{joined_as}
 use Rattle.world_laws.proofs.SetupRising.{event-goes, event-broken}
 use Rattle.world_recoveries.specs.Recovering.{Recovering}
-use Rattle.world_acks.specs.Acking.{Shown, Seat, Asked, IsPipe, least_of, promised, Ends, UpTells, DownTells, UpperTells, Pends}
+use Rattle.world_acks.specs.Acking.{Shown, Seat, Asked, IsPipe, least_of, promised, JoinSeat, Ends, UpTells, DownTells, UpperTells, Pends}
 use Rattle.world_acks.proofs.Shows.{stream-open}
 use Rattle.world_acks.specs.Closing.{FinalUnder, BrokeFinal, StandsClosed}
 use Rattle.world_acks.specs.Waiting.{Waits, IsQuiet}
@@ -428,7 +428,9 @@ taken-leaf g t w c f asked r h says low lt alive s stage x sound steps pends =
               closes = closes;
             };
             replica = pends;
-            joined = λ p m l j. lives p m l (subst (λ xs. Has xs (joined_as p m l)) (joined x) j);
+            joined = λ p m l j.
+                let here : Has (joined_as (new_stamp f).0 n (w.dialled c).to.life ∷ []) (joined_as p m l) = subst (λ xs. Has xs (joined_as p m l)) (joined x) j in
+                (lives p m l here, join-here v pipe seat (ap (λ (y : Dialled). y.to) same) p m l here);
             writers = still-numbers g t w k h.acked refl refl;
             begun = aside-begun g t w k h.acked refl;
           };
@@ -457,6 +459,26 @@ taken-leaf g t w c f asked r h says low lt alive s stage x sound steps pends =
     joined y =
         ap (λ (o : Option ReplicaInfo). joined_at (w.dialled c).to (option_map (λ (i : ReplicaInfo). i.stamp) o)) y.is
         ∙ ap (λ (s : Stamp). joined_as s.0 (node_of w c) (w.dialled c).to.life ∷ []) y.under
+
+    -- the setup that was accepted is that of the request
+    join-here : (v : World) → IsPipe g v c f says.session → Seat v (block_of f) (new_stamp f).0 says.session (node_of w c) (promised f) → (v.dialled c).to ≡ (w.dialled c).to
+        → (p m l : ℕ) → Has (joined_as (new_stamp f).0 (node_of w c) (w.dialled c).to.life ∷ []) (joined_as p m l) → JoinSeat g v p m l
+    join-here v pipe seat same p m l j = at j.place j.there
+      where
+        at : (i : ℕ) → slice_get (joined_as (new_stamp f).0 (node_of w c) (w.dialled c).to.life ∷ []) i ≡ Some (joined_as p m l) → JoinSeat g v p m l
+        at zero e =
+            let y = same_Some (joined_as (new_stamp f).0 (node_of w c) (w.dialled c).to.life) (joined_as p m l) e in
+            let stamp : (new_stamp f).0 ≡ p = ap (λ z. z.stamp) y in
+            record {
+              conn = c;
+              fields = f;
+              session = says.session;
+              pipe = pipe;
+              is = stamp;
+              to = same ∙ ap (λ (z : Joined). record { node = z.node; life = z.life }) y;
+              seat = subst (λ (q : ℕ). Seat v (block_of f) p says.session q (promised f)) (ap (λ z. z.node) y) (subst (λ (q : ℕ). Seat v (block_of f) q says.session (node_of w c) (promised f)) stamp seat);
+            }
+        at (suc i) e = absurd (none-some _ e)
 
     lives : (p m l : ℕ) → Has (joined_as (new_stamp f).0 (node_of w c) (w.dialled c).to.life ∷ []) (joined_as p m l) → l ≤ w.lives m
     lives p m l j = at j.place j.there

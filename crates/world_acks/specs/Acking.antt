@@ -117,6 +117,16 @@ pub record SetUpFrom (g : Givens) (w : World) (c : ℕ) : Type 0 where
   pub seated : Seated w fields (node_of w c) session (promised fields)
   pub closed : setup_with fields.stage ≡ Some kind.CloseRecovery → AllClosed g w fields (node_of w c)
 
+-- A node that accepted a setup was asked to over a connection to it, in that life, and has a seat of the least length of the request.
+pub record JoinSeat (g : Givens) (w : World) (stamp n life : ℕ) : Type 0 where
+  pub conn : ℕ
+  pub fields : WriteFields
+  pub session : ℕ
+  pub pipe : IsPipe g w conn fields session
+  pub is : (new_stamp fields).0 ≡ stamp
+  pub to : (w.dialled conn).to ≡ record { node = n; life = life }
+  pub seat : Seat w (block_of fields) stamp session n (promised fields)
+
 -- where a packet ends, and whether it is the last one of its block
 pub record PacketEnd : Type 0 where
   pub at : ℕ
@@ -244,6 +254,7 @@ pub record Numbers (f : ℕ → Option ℕ) (t : Ends) (session : ℕ) (x : Writ
 
 pub record Acked (g : Givens) (t : Ends) (w : World) : Type 0 where
   pub lives : (s n l : ℕ) → Has w.joined (joined_as s n l) → l ≤ w.lives n
+  pub joins : (s n l : ℕ) → Has w.joined (joined_as s n l) → JoinSeat g w s n l
   pub begun : (e : ℕ) (k : PacketEnd) (q : ℤ) → t e q ≡ Some k → e < w.office.next.0
   pub ups : (c i : ℕ) (m : Message) → slice_get (w.ups c) i ≡ Some m → UpTells g t w c m
   pub downs : (c i : ℕ) (m : Message) → slice_get (w.downs c) i ≡ Some m → DownTells g t w c m

@@ -563,11 +563,11 @@ changed-joins g l w (Some k) f h n j = joins-apply g l w k h j.takes j.after f n
 
 down-taken-joins : (w : World) (c : ℕ) (x : Next) → Joins w → Joins (down_taken w c x)
 unfolding down_taken
-down-taken-joins w c x h = record { few = h.few; begun = h.begun; once = h.once; unmet = h.unmet; stamped = h.stamped; members = h.members; single = h.single }
+down-taken-joins w c x h = record { few = h.few; begun = h.begun; once = h.once; unmet = h.unmet; stamped = h.stamped; members = h.members; reach = h.reach; single = h.single }
 
 up-taken-joins : (w : World) (c : ℕ) (x : Next) → Joins w → Joins (up_taken w c x)
 unfolding up_taken
-up-taken-joins w c x h = record { few = h.few; begun = h.begun; once = h.once; unmet = h.unmet; stamped = h.stamped; members = h.members; single = h.single }
+up-taken-joins w c x h = record { few = h.few; begun = h.begun; once = h.once; unmet = h.unmet; stamped = h.stamped; members = h.members; reach = h.reach; single = h.single }
 
 first-op : (g : Givens) (t : Ends) (w : World) (c : ℕ) (o : Op) → NextTells g t w c (message (request o)) → FirstOf w c (message (request o))
 first-op g t w c (op.Write f) h = record { first = h.0.first }
@@ -658,8 +658,8 @@ where-joins true v h = h
 where-joins false v h = tt
 
 lost-joins : (w : World) (c : ℕ) (way : Direction) (more : ℕ) → Joins w → Joins (lost w c way more)
-lost-joins w c direction.Down more h = record { few = h.few; begun = h.begun; once = h.once; unmet = h.unmet; stamped = h.stamped; members = h.members; single = h.single }
-lost-joins w c direction.Up more h = record { few = h.few; begun = h.begun; once = h.once; unmet = h.unmet; stamped = h.stamped; members = h.members; single = h.single }
+lost-joins w c direction.Down more h = record { few = h.few; begun = h.begun; once = h.once; unmet = h.unmet; stamped = h.stamped; members = h.members; reach = h.reach; single = h.single }
+lost-joins w c direction.Up more h = record { few = h.few; begun = h.begun; once = h.once; unmet = h.unmet; stamped = h.stamped; members = h.members; reach = h.reach; single = h.single }
 
 outcome-joins : (g l : Givens) (t : Ends) (w : World) (e : Event) → Known g t w → Joins w → IfSome (outcome w e) (Facts l) → IfSome (outcome w e) Joins
 unfolding outcome restart
@@ -670,13 +670,13 @@ outcome-joins g l t w (event.Ready c) k h n = ready-joins g l t w c.0 false k h 
 outcome-joins g l t w (event.Up c) k h n = up-joins g l t w c.0 false k h n
 outcome-joins g l t w (event.Lost c way more) k h n = where-joins (nat_lt c.0 w.next_conn) (lost w c.0 way more) (lost-joins w c.0 way more h)
 outcome-joins g l t w (event.Fault d) k h n = fault-joins g l t w d k h n
-outcome-joins g l t w (event.Stop n) k h q = where-joins (w.running n.0) (stop w n.0) (record { few = h.few; begun = h.begun; once = h.once; unmet = h.unmet; stamped = h.stamped; members = h.members; single = h.single })
+outcome-joins g l t w (event.Stop n) k h q = where-joins (w.running n.0) (stop w n.0) (record { few = h.few; begun = h.begun; once = h.once; unmet = h.unmet; stamped = h.stamped; members = h.members; reach = h.reach; single = h.single })
 outcome-joins g l t w (event.Restart n list) k h q =
-    where-joins (nat_lt n.0 w.nodes && not (w.running n.0) && all_found w n.0 list) (restart w n.0 list) (record { few = h.few; begun = h.begun; once = h.once; unmet = h.unmet; stamped = h.stamped; members = h.members; single = h.single })
+    where-joins (nat_lt n.0 w.nodes && not (w.running n.0) && all_found w n.0 list) (restart w n.0 list) (record { few = h.few; begun = h.begun; once = h.once; unmet = h.unmet; stamped = h.stamped; members = h.members; reach = h.reach; single = h.single })
 
 after-joins : (w : World) (e : Event) (o : Option World) → Joins w → IfSome o Joins → Joins (after_event w e o)
 after-joins w e None h k = h
-after-joins w e (Some v) h k = record { few = k.few; begun = k.begun; once = k.once; unmet = k.unmet; stamped = k.stamped; members = k.members; single = k.single }
+after-joins w e (Some v) h k = record { few = k.few; begun = k.begun; once = k.once; unmet = k.unmet; stamped = k.stamped; members = k.members; reach = k.reach; single = k.single }
 
 happens-joins : (g l : Givens) (t : Ends) (w : World) (e : Event) → Known g t w → Facts l (happens w e) → Joins w → Joins (happens w e)
 unfolding happens
@@ -710,6 +710,7 @@ start-joins nodes le = record {
   unmet = λ c f x. absurd (none-some _ x.asked.first);
   stamped = λ b s t e. absurd (apart e);
   members = λ b. refl;
+  reach = λ c d b f k o x y. absurd (none-some _ x.first);
   single = λ s n l k lt x y. absurd (none-some _ x.there);
 }
   where

@@ -13,8 +13,8 @@ use Rattle.op_headers.specs.Values.{WriteFields}
 use Rattle.writer_core.specs.declared.phases.Phase.{Phase}
 use Rattle.writer_core.specs.declared.phases.Phase.TheVariants as phase
 use Rattle.writer_core.specs.declared.phases.Setup.{Setup}
-use Rattle.world.specs.Parts.{Message, request, Dialled, Lower, idle, Writing, Joined}
-use Rattle.world.specs.Worlds.{World, Dial, Change, put, listed, dial_at, past_after, apply}
+use Rattle.world.specs.Parts.{Message, request, by_writer, by_member, Dialled, Lower, idle, Writing, Joined}
+use Rattle.world.specs.Worlds.{Past, World, Dial, Change, put, listed, dial_at, past_after, apply}
 use Rattle.world.specs.Nodes.{node_on}
 use Rattle.world.specs.Clients.{are_distinct}
 use Rattle.world.specs.Safe.{Has}
@@ -28,9 +28,17 @@ use Rattle.world_laws.specs.Joining.{joined_as}
 use Rattle.world_acks.specs.Acking.{Asked}
 use Rattle.world_acks.proofs.Frame.{begins-first, dial-place, dial-none}
 use Rattle.world_acks.proofs.Lowers.{dialled-there}
+use Rattle.world_acks.proofs.Setups.{dialled-new}
 use Rattle.world_writers.specs.Taking.{Waits, chain, IsUnmet, IsUnasked, Joins}
 use Rattle.world_writers.proofs.Trailing.{is_stamped}
 use Rattle.world_writers.proofs.Taking.{PassesOn, Begins as WriterBegins, NewRequest, of_member, of_writer, Accepts, Takes}
+
+same-write : (a b : WriteFields) → request (op.Write a) ≡ request (op.Write b) → a ≡ b
+same-write a b e = cc
+
+-- a connection has one first request
+first-request : (h : Past) (c : ℕ) (f q : WriteFields) → Asked h c f → Asked h c q → f ≡ q
+first-request h c f q a b = same-write f q (same_Some (request (op.Write f)) (request (op.Write q)) (sym a.first ∙ b.first))
 
 -- WHAT WAS SENT
 
@@ -250,6 +258,47 @@ single-after w k s n l m h r lt (inr x) (inr y) =
     let b = r.joined _ y in
     ap (λ (j : Joined). j.life) a.is ∙ sym (ap (λ (j : Joined). j.life) b.is)
 
+-- WHAT REQUESTS REACH
+
+dialled-now : (w : World) (k : Change) (c : ℕ) (d : Dial) → c ≡ w.next_conn → slice_get k.dials 0 ≡ Some d → (past_after w k).dialled c ≡ d.dialled
+dialled-now w k c d at e = ap (λ (i : ℕ). (past_after w k).dialled i) (at ∙ plus w.next_conn) ∙ dialled-new w k 0 d e
+  where
+    plus : (n : ℕ) → n ≡ n + 0
+    plus n = omega arith
+
+by-apart : (b c : ℕ) → by_writer b ≡ by_member c → ⊥
+by-apart b c e = cc
+
+-- a request that a member passes on reaches what its own reaches
+passed-reach : (w : World) (k : Change) (c : ℕ) (d : Dial) (f : WriteFields) (o : Option ℕ) → c ≡ w.next_conn → slice_get k.dials 0 ≡ Some d → (p : PassesOn w k d f) → Has (chain (past_after w k) c f) o → Has (chain w.past k.lower_at p.own) o
+passed-reach w k c d f o at e p h = record { place = suc h.place; there = sym (ap (λ (xs : List (Option ℕ)). slice_get xs h.place) (chain-new w k c d f at e ∙ p.rest)) ∙ h.there }
+
+reach-old : (g : Givens) (w : World) (k : Change) (c d b : ℕ) (f q : WriteFields) (o : Option ℕ) → Joins w → Facts g w → new_stamp f ≡ new_stamp q → ((past_after w k).dialled c).upper ≡ by_writer b → Asked w.past c f → Sent w k d q → Has (chain (past_after w k) d q) o
+    → Has (chain w.past c f) o
+reach-old g w k c d b f q o h old e up a (sent_before x) i =
+    h.reach c d b f q o a x e (sym (ap (λ (y : Dialled). y.upper) (dialled-same w k c (dialled-there g w c (request (op.Write f)) old a.first))) ∙ up)
+    (subst (λ (xs : List (Option ℕ)). Has xs o) (chain-old w k d q (dialled-there g w d (request (op.Write q)) old x.first)) i)
+reach-old g w k c d b f q o h old e up a (sent_now at z y (of_member p)) i =
+    h.reach c k.lower_at b f p.own o a p.waited.asked (e ∙ p.stamp) (sym (ap (λ (v : Dialled). v.upper) (dialled-same w k c (dialled-there g w c (request (op.Write f)) old a.first))) ∙ up)
+    (passed-reach w k d z q o at y p i)
+reach-old g w k c d b f q o h old e up a (sent_now at z y (of_writer p)) i = absurd ((h.stamped k.writer_at p.setup_is p.stamp p.phase_is).asked c f a (e ∙ p.is))
+
+-- the request of a new connection of a writer is the only one of its stamp
+reach-new : (g : Givens) (w : World) (k : Change) (c d b : ℕ) (f q : WriteFields) (o : Option ℕ) (z : Dial) → Joins w → c ≡ w.next_conn → slice_get k.dials 0 ≡ Some z → NewRequest w k z f → new_stamp f ≡ new_stamp q → ((past_after w k).dialled c).upper ≡ by_writer b
+    → Asked (past_after w k) c f → Asked (past_after w k) d q → Sent w k d q → Has (chain (past_after w k) d q) o → Has (chain (past_after w k) c f) o
+reach-new g w k c d b f q o z h at y (of_member p) e up a x s i = absurd (by-apart b k.lower_at (sym up ∙ ap (λ (v : Dialled). v.upper) (dialled-now w k c z at y) ∙ p.upper))
+reach-new g w k c d b f q o z h at y (of_writer p) e up a x (sent_before r) i = absurd ((h.stamped k.writer_at p.setup_is p.stamp p.phase_is).asked d q r (sym e ∙ p.is))
+reach-new g w k c d b f q o z h at y (of_writer p) e up a x (sent_now here u v n) i =
+    let same : d ≡ c = here ∙ sym at in
+    let asked : Asked (past_after w k) c q = subst (λ (j : ℕ). Asked (past_after w k) j q) same x in
+    subst (λ (y : WriteFields). Has (chain (past_after w k) c y) o) (first-request (past_after w k) c q f asked a) (subst (λ (j : ℕ). Has (chain (past_after w k) j q) o) same i)
+
+reach-after : (g : Givens) (w : World) (k : Change) (c d b : ℕ) (f q : WriteFields) (o : Option ℕ) → Joins w → Facts g w → new_stamp f ≡ new_stamp q → ((past_after w k).dialled c).upper ≡ by_writer b → Asked (past_after w k) c f → Asked (past_after w k) d q
+    → Sent w k c f → Sent w k d q → Has (chain (past_after w k) d q) o → Has (chain (past_after w k) c f) o
+reach-after g w k c d b f q o h old e up a x (sent_before r) s i =
+    subst (λ (xs : List (Option ℕ)). Has xs o) (sym (chain-old w k c f (dialled-there g w c (request (op.Write f)) old r.first))) (reach-old g w k c d b f q o h old e up r s i)
+reach-after g w k c d b f q o h old e up a x (sent_now at z y n) s i = reach-new g w k c d b f q o z h at y n e up a x s i
+
 -- WRITERS
 
 -- what the writer of a change is then
@@ -299,6 +348,7 @@ joins-apply g l w k h r t old new = record {
       (λ _ e. unasked-after g l w k b s v h r old new (t.stamped s v e) (λ q x n. not-stamped (heard k.writer).phase s v n e))
       (λ n e. unasked-after g l w k b s v h r old new (h.stamped b s v e) (λ q x _. eqb-false b k.writer_at n (stamp-apart g w b k.writer_at s q v old e x)));
   members = λ b. if-each (λ (z : Writing). are_distinct (heard z).members ≡ true) (b == k.writer_at) k.writer (w.writers b) (λ _. t.members) (λ _. h.members b);
+  reach = λ c d b f q o x y e up i. reach-after g w k c d b f q o h old e up x y (sent g l w k c f h r old new x) (sent g l w k d q h r old new y) i;
   single = λ s n a b lt x y. single-after w k s n a b h r lt (split-has w.joined k.joined (joined_as s n a) x) (split-has w.joined k.joined (joined_as s n b) y);
 }
   where

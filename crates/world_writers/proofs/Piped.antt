@@ -90,6 +90,7 @@ sit-on g k t u w v b s ms e n o h = record {
     others = p.others;
     are = p.are;
     node = sym (node-on g k t u w v h.conn o p.known) ∙ p.node;
+    upper = ap (λ (d : Dialled). d.upper) (o.dialled h.conn p.known) ∙ p.upper;
     targets = p.targets;
   };
   seated = λ f a. subst (λ (x : WriteFields). Seated v x (node_of v h.conn) e n) (same-asked v h.conn p.fields f asked a)

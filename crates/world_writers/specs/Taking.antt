@@ -1,4 +1,4 @@
--- Nodes accept the setup of a stamp once.
+-- Nodes accept the setup of a stamp once, and only those that the writer's request reaches.
 use Rattle.std.specs.Prelude.{ℕ, ◌≡◌, ◌<◌, ◌≤◌, true, List, ◌∷◌, map, slice_get, Option, Some}
 use Rattle.hd_base.specs.declared.numbers.Stamp.{Stamp}
 use Rattle.hd_base.specs.declared.roads.TheConstants.{MAX_NODES}
@@ -7,7 +7,7 @@ use Rattle.op_headers.specs.Values.{WriteFields}
 use Rattle.writer_core.specs.declared.phases.Phase.TheVariants as phase
 use Rattle.writer_core.specs.declared.phases.Setup.{Setup}
 use Rattle.world.specs.declared.events.Event.{Event}
-use Rattle.world.specs.Parts.{Message, Lower, idle}
+use Rattle.world.specs.Parts.{Message, Lower, idle, by_writer}
 use Rattle.world.specs.Worlds.{Past, World, start}
 use Rattle.world.specs.Nodes.{node_on}
 use Rattle.world.specs.Clients.{are_distinct}
@@ -46,6 +46,9 @@ pub record Joins (w : World) : Type 0 where
   pub unmet : (c : ℕ) (f : WriteFields) → Waits w.past w.lowers c f → IsUnmet w.past w.nodes c f
   pub stamped : (b : ℕ) (s : Setup) (stamp : Stamp) → (heard (w.writers b)).phase ≡ phase.Stamped s stamp → IsUnasked w.past stamp
   pub members : (b : ℕ) → are_distinct (heard (w.writers b)).members ≡ true
+  -- a writer's request reaches all that any request of its stamp reaches
+  pub reach : (c d b : ℕ) (f k : WriteFields) (o : Option ℕ) → Asked w.past c f → Asked w.past d k → new_stamp f ≡ new_stamp k → (w.dialled c).upper ≡ by_writer b →
+      Has (chain w.past d k) o → Has (chain w.past c f) o
   pub single : (stamp n l k : ℕ) → n < w.nodes → Has w.joined (joined_as stamp n l) → Has w.joined (joined_as stamp n k) → l ≡ k
 
 -- So it is after every list of events of at most 16 nodes.
