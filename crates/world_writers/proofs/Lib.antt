@@ -17,4 +17,5 @@ pub mod Stepping
 pub mod Taking
 pub mod Trailing
 pub mod Leaving
+pub mod Seating
 mod Kept

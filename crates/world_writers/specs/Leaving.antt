@@ -2,13 +2,16 @@
 use Rattle.std.specs.Prelude.{ℕ, ◌≡◌, ◌<◌, ◌≤◌, Some}
 use Rattle.hd_base.specs.declared.numbers.Stamp.{Stamp}
 use Rattle.hd_base.specs.declared.states.ReplicaState.TheVariants as state
+use Rattle.op_headers.specs.Values.{WriteFields}
 use Rattle.world.specs.Parts.{Place, Answered, Updated}
 use Rattle.world.specs.Worlds.{World}
+use Rattle.world.specs.Nodes.{block_of}
 use Rattle.world.specs.Safe.{Has}
 use Rattle.world_laws.specs.Stamping.{Givens}
+use Rattle.world_laws.specs.Carrying.{new_stamp}
 use Rattle.world_laws.specs.Joining.{joined_as}
 use Rattle.world_recoveries.specs.Recovering.{ReplicaTold, Informs}
-use Rattle.world_acks.specs.Acking.{UpdatesLeave, EarlierLeave, ToldBytes}
+use Rattle.world_acks.specs.Acking.{UpdatesLeave, EarlierLeave, ToldBytes, Asked, promised}
 
 -- In this life a node accepted the setup of this stamp, which is that of an answer or a later one of its session.
 pub record JoinedSince (g : Givens) (w : World) (a : Answered) (stamp : ℕ) (at : Place) : Type 0 where
@@ -22,6 +25,11 @@ pub record JoinedSince (g : Givens) (w : World) (a : Answered) (stamp : ℕ) (at
 abbrev pub ToldSince : Givens → World → Type 0
 ToldSince g w = (a : Answered) (stamp : ℕ) (at : Place) → Has w.answered a → at.node < w.nodes → JoinedSince g w a stamp at →
     ToldBytes w.past a.block stamp at.node at.life a.length
+
+-- Each later setup of an answer's session asks for the answered bytes.
+abbrev pub RequestsCover : Givens → World → Type 0
+RequestsCover g w = (a : Answered) (c session : ℕ) (f : WriteFields) → Has w.answered a → Asked w.past c f → block_of f ≡ a.block → g a.block a.stamp ≡ Some session →
+    g a.block (new_stamp f).0 ≡ Some session → a.stamp < (new_stamp f).0 → a.length ≤ promised f
 
 -- An RBW replica of a later session that a recovery was told of beside that of such a node is of the answered bytes too, as far as earlier recoveries
 -- left them at that node.
