@@ -16,7 +16,7 @@ use Rattle.world.specs.declared.events.Event.TheVariants as event
 use Rattle.world.specs.declared.events.FoundReplica.{FoundReplica}
 use Rattle.world.specs.declared.events.OwnStep.{OwnStep}
 use Rattle.world.specs.declared.events.OwnStep.TheVariants as own
-use Rattle.world.specs.Parts.{Upper, by_writer, by_member, by_reader, by_primary}
+use Rattle.world.specs.Parts.{Place, Updated, Upper, by_writer, by_member, by_reader, by_primary}
 use Rattle.world.specs.Worlds.{Past, World, Change, Stamped, apply, start}
 use Rattle.world.specs.Connections.{Next, message, the_end, next_down, next_up, down_taken, up_taken, is_alive, is_served}
 use Rattle.world.specs.Nodes.{node_of, lower_down, lower_ready}
@@ -33,7 +33,8 @@ use Rattle.world_laws.proofs.ByteLeaves.{Facts}
 use Rattle.world_laws.proofs.ByteEnds.{lower-ready-keeps}
 use Rattle.world_laws.proofs.ByteOffices.{office-event-keeps}
 use Rattle.world_laws.proofs.AllCarried.{next-sent, down-taken-facts, up-taken-facts, changed-carried, down-as-carried, up-as-carried, own-keeps, office-carried, happens-carried, reached-facts, at-start, start-carried}
-use Rattle.world_laws.specs.Joining.{IsSetUp}
+use Rattle.world.specs.Safe.{Has}
+use Rattle.world_laws.specs.Joining.{AtLeast, IsSetUp}
 use Rattle.world_laws.proofs.AllSetUp.{served-life, given-stays, all-set}
 use Rattle.world_recoveries.specs.Recovering.{ReplicaTold, Informs, InfoFits, StillTrue, Recovering}
 use Rattle.world_recoveries.specs.Telling.{TellsFrom}
@@ -80,11 +81,11 @@ unless-brings g w false o n = n
 
 pub down-taken-fits : (g : Givens) (w : World) (c : ℕ) (x : Next) → Recovering g w → Recovering g (down_taken w c x)
 unfolding down_taken
-down-taken-fits g w c x h = record { lives = h.lives; asks = h.asks; told = h.told; still = h.still; updates = h.updates; updated = h.updated; one_length = h.one_length; primaries = h.primaries; sends = h.sends; one_primary = h.one_primary; placed = h.placed }
+down-taken-fits g w c x h = record { lives = h.lives; asks = h.asks; told = h.told; still = h.still; updates = h.updates; updated = h.updated; settled = h.settled; earlier = h.earlier; one_length = h.one_length; primaries = h.primaries; sends = h.sends; one_primary = h.one_primary; placed = h.placed }
 
 pub up-taken-fits : (g : Givens) (w : World) (c : ℕ) (x : Next) → Recovering g w → Recovering g (up_taken w c x)
 unfolding up_taken
-up-taken-fits g w c x h = record { lives = h.lives; asks = h.asks; told = h.told; still = h.still; updates = h.updates; updated = h.updated; one_length = h.one_length; primaries = h.primaries; sends = h.sends; one_primary = h.one_primary; placed = h.placed }
+up-taken-fits g w c x h = record { lives = h.lives; asks = h.asks; told = h.told; still = h.still; updates = h.updates; updated = h.updated; settled = h.settled; earlier = h.earlier; one_length = h.one_length; primaries = h.primaries; sends = h.sends; one_primary = h.one_primary; placed = h.placed }
 
 below-of : (w : World) (c : ℕ) → is_served w c ≡ true → c < w.next_conn
 below-of w c e = lt-true c w.next_conn (and-left (nat_lt c w.next_conn) (is_alive w (w.dialled c).to) e)
@@ -170,6 +171,8 @@ later-fits g s w h = record {
   still = h.still;
   updates = h.updates;
   updated = h.updated;
+  settled = h.settled;
+  earlier = h.earlier;
   one_length = h.one_length;
   primaries = h.primaries;
   sends = h.sends;
@@ -202,6 +205,8 @@ restart-fits g w n list h = record {
   still = λ c b id i x. at-still c b id i x ((w.dialled c).to.node == n) refl;
   updates = h.updates;
   updated = h.updated;
+  settled = λ u x life. at-settled u x (u.node == n) refl life;
+  earlier = h.earlier;
   one_length = h.one_length;
   primaries = h.primaries;
   sends = h.sends;
@@ -216,6 +221,14 @@ restart-fits g w n list h = record {
     New : ℕ → FullReplica
     New b = restarted b (w.replicas n b) (w.breaks n b) (found_in list b)
 
+    -- no update was of a later life
+    born : (u : Updated) → Has w.updated u → u.life ≤ w.lives u.node
+    born u x = let s = h.updated u x in subst (λ (p : Place). p.life ≤ w.lives p.node) s.to (h.lives s.conn s.known)
+
+    at-settled : (u : Updated) → Has w.updated u → (t : Bool) → (u.node == n) ≡ t → u.life ≡ (if t then w.lives n + 1 else w.lives u.node) → AtLeast ((if t then New else w.replicas u.node) u.block).known.info u.recovery
+    at-settled u x true e life = absurd (omega (arith, life, born u x, ap w.lives (eqb-true u.node n e)))
+    at-settled u x false e life = h.settled u x life
+
     at-still : (c b : ℕ) (id : Stamp) (i : ReplicaTold) → Informs w.past c b id i → (t : Bool) → ((w.dialled c).to.node == n) ≡ t → (w.dialled c).to.life ≡ (if t then w.lives n + 1 else w.lives (w.dialled c).to.node)
         → StillTrue id i ((if t then New else w.replicas (w.dialled c).to.node) b).known.info
     at-still c b id i x true e life = absurd (omega (arith, life, h.lives c (h.told c b id i x).known, ap w.lives (eqb-true (w.dialled c).to.node n e)))
@@ -228,11 +241,11 @@ where-fits g w true v e h = record { recovering = h; tells = same-tells w v e }
 where-fits g w false v e h = tt
 
 stop-fits : (g : Givens) (w : World) (n : ℕ) → Recovering g w → Recovering g (stop w n)
-stop-fits g w n h = record { lives = h.lives; asks = h.asks; told = h.told; still = h.still; updates = h.updates; updated = h.updated; one_length = h.one_length; primaries = h.primaries; sends = h.sends; one_primary = h.one_primary; placed = h.placed }
+stop-fits g w n h = record { lives = h.lives; asks = h.asks; told = h.told; still = h.still; updates = h.updates; updated = h.updated; settled = h.settled; earlier = h.earlier; one_length = h.one_length; primaries = h.primaries; sends = h.sends; one_primary = h.one_primary; placed = h.placed }
 
 lost-fits : (g : Givens) (w : World) (c : ℕ) (way : Direction) (more : ℕ) → Recovering g w → Recovering g (lost w c way more)
-lost-fits g w c direction.Down more h = record { lives = h.lives; asks = h.asks; told = h.told; still = h.still; updates = h.updates; updated = h.updated; one_length = h.one_length; primaries = h.primaries; sends = h.sends; one_primary = h.one_primary; placed = h.placed }
-lost-fits g w c direction.Up more h = record { lives = h.lives; asks = h.asks; told = h.told; still = h.still; updates = h.updates; updated = h.updated; one_length = h.one_length; primaries = h.primaries; sends = h.sends; one_primary = h.one_primary; placed = h.placed }
+lost-fits g w c direction.Down more h = record { lives = h.lives; asks = h.asks; told = h.told; still = h.still; updates = h.updates; updated = h.updated; settled = h.settled; earlier = h.earlier; one_length = h.one_length; primaries = h.primaries; sends = h.sends; one_primary = h.one_primary; placed = h.placed }
+lost-fits g w c direction.Up more h = record { lives = h.lives; asks = h.asks; told = h.told; still = h.still; updates = h.updates; updated = h.updated; settled = h.settled; earlier = h.earlier; one_length = h.one_length; primaries = h.primaries; sends = h.sends; one_primary = h.one_primary; placed = h.placed }
 
 lost-past : (w : World) (c : ℕ) (way : Direction) (more : ℕ) → (lost w c way more).past ≡ w.past
 lost-past w c direction.Down more = refl
@@ -273,11 +286,11 @@ idle-fits g w (event.Stop n) i h = h
 idle-fits g w (event.Restart n list) i h = h
 
 last-fits : (g : Givens) (v : World) (e : Event) → Recovering g v → Recovering g (record v { last = Some e })
-last-fits g v e k = record { lives = k.lives; asks = k.asks; told = k.told; still = k.still; updates = k.updates; updated = k.updated; one_length = k.one_length; primaries = k.primaries; sends = k.sends; one_primary = k.one_primary; placed = k.placed }
+last-fits g v e k = record { lives = k.lives; asks = k.asks; told = k.told; still = k.still; updates = k.updates; updated = k.updated; settled = k.settled; earlier = k.earlier; one_length = k.one_length; primaries = k.primaries; sends = k.sends; one_primary = k.one_primary; placed = k.placed }
 
 back-fits : (g : Givens) (w v : World) (e : Event) → Coming g w (record v { last = Some e }) → Coming g w v
 back-fits g w v e c = let k = c.recovering in record {
-  recovering = record { lives = k.lives; asks = k.asks; told = k.told; still = k.still; updates = k.updates; updated = k.updated; one_length = k.one_length; primaries = k.primaries; sends = k.sends; one_primary = k.one_primary; placed = k.placed };
+  recovering = record { lives = k.lives; asks = k.asks; told = k.told; still = k.still; updates = k.updates; updated = k.updated; settled = k.settled; earlier = k.earlier; one_length = k.one_length; primaries = k.primaries; sends = k.sends; one_primary = k.one_primary; placed = k.placed };
   tells = record { each = c.tells.each };
 }
 
@@ -317,6 +330,8 @@ start-fits nodes = record {
   sends = λ i. tt;
   one_primary = λ i j id a b. absurd a;
   updated = λ u x. absurd (none-some u x.there);
+  settled = λ u x life. absurd (none-some u x.there);
+  earlier = λ c b id i x. absurd (none-some _ x.there);
   placed = λ c i place lt u. absurd (omega (arith, lt));
 }
 

@@ -10,7 +10,7 @@ use Rattle.writer_core.specs.declared.records.WriterRecord.{WriterRecord}
 use Rattle.writer_core.specs.Transitions.{is_connected}
 use Rattle.hd_base.specs.declared.numbers.NodeId.{NodeId}
 use Rattle.hd_base.specs.declared.numbers.Stamp.{Stamp}
-use Rattle.world.specs.Parts.{Writing, Answered}
+use Rattle.world.specs.Parts.{Writing, Answered, Dialled}
 use Rattle.world.specs.Worlds.{World, Change, listed, latest_with, past_after, apply}
 use Rattle.world.specs.Nodes.{node_of, block_of}
 use Rattle.world.specs.Clients.{writing_as}
