@@ -12,12 +12,12 @@ use Rattle.world_laws.proofs.PlacedLaws.{all-placed}
 use Rattle.world_recoveries.proofs.AllRecovering.{all-recovering}
 use Rattle.world_recoveries.proofs.AllNaming.{all-none-stale}
 use Rattle.world_acks.specs.Acking.{UpdatesLeave}
-use Rattle.world_writers.specs.Leaving.{JoinedSince, RequestsCover, LaterSessionsKeep}
+use Rattle.world_writers.specs.Leaving.{JoinedSince, RequestsCover, LaterSessionsCover}
 use Rattle.world_acks.proofs.AllAcked.{all-acked}
 use Rattle.world_laws.proofs.AllRecorded.{all-recorded}
 use Rattle.world_writers.proofs.AllJoin.{all-join}
 use Rattle.world_writers.proofs.AllShow.{all-sit}
-use Rattle.world_writers.proofs.Seating.{Seating, told-since}
+use Rattle.world_writers.proofs.Seating.{Seating, told-since, later-keeps}
 use Rattle.world_writers.proofs.Leaving.{Leaving, updates-keep}
 use Rattle.world_writers.proofs.Staying.{answered-stay}
 
@@ -28,14 +28,16 @@ seating : (nodes : ℕ) (events : List Event) → nodes ≤ MAX_NODES → Seatin
 seating nodes events le = record {
   ends = (all-acked nodes events).0;
   recorded = all-recorded nodes events;
+  recovering = all-recovering nodes events;
+  placed = all-placed nodes events;
   acked = (all-acked nodes events).1;
   joins = all-join nodes events le;
   sits = all-sit nodes events;
   covers = covers nodes events le;
 }
 
-later-keep : (nodes : ℕ) (events : List Event) → nodes ≤ MAX_NODES → LaterSessionsKeep (given_in none_given (start nodes) events) (run (start nodes) events)
-later-keep nodes events le = ?
+later-covers : (nodes : ℕ) (events : List Event) → nodes ≤ MAX_NODES → LaterSessionsCover (given_in none_given (start nodes) events) (run (start nodes) events)
+later-covers nodes events le = ?
 
 leaving : (nodes : ℕ) (events : List Event) → nodes ≤ MAX_NODES → Leaving (given_in none_given (start nodes) events) (run (start nodes) events)
 leaving nodes events le = record {
@@ -43,7 +45,7 @@ leaving nodes events le = record {
   stale = all-none-stale nodes events;
   placed = all-placed nodes events;
   told = told-since (given_in none_given (start nodes) events) (run (start nodes) events) (seating nodes events le);
-  later = later-keep nodes events le;
+  later = later-keeps (given_in none_given (start nodes) events) (run (start nodes) events) (seating nodes events le) (later-covers nodes events le);
 }
 
 pub kept : (nodes : ℕ) (events : List Event) → nodes ≤ MAX_NODES → Kept (run (start nodes) events)

@@ -6,17 +6,20 @@ use Rattle.std.proofs.lemmas.Option.{none-some, same_Some}
 use Rattle.hd_base.specs.declared.numbers.Stamp.{Stamp}
 use Rattle.op_headers.specs.declared.nodes.NodeRef.{NodeRef}
 use Rattle.op_headers.specs.Values.{WriteFields}
-use Rattle.world.specs.Parts.{Place, Answered}
+use Rattle.hd_base.specs.declared.states.ReplicaState.TheVariants as state
+use Rattle.world.specs.Parts.{Place, Answered, Updated}
 use Rattle.world.specs.Worlds.{Past, World}
 use Rattle.world.specs.Nodes.{node_of, node_on, block_of}
 use Rattle.world.specs.Safe.{Has}
 use Rattle.world_laws.specs.Stamping.{Givens, Recorded}
 use Rattle.world_laws.specs.Carrying.{new_stamp}
-use Rattle.world_acks.specs.Acking.{ToldBytes, Seat, Asked, Seated, promised, JoinSeat, Ends, Acked}
+use Rattle.world_laws.specs.Placing.{Placed}
+use Rattle.world_recoveries.specs.Recovering.{ReplicaTold, Informs, InfoFits, Recovering}
+use Rattle.world_acks.specs.Acking.{EarlierLeave, ToldBytes, Seat, Asked, Seated, promised, JoinSeat, Ends, Acked}
 use Rattle.world_writers.specs.Piping.{IsPipeline}
 use Rattle.world_writers.specs.Settling.{MembersSit, AnswerSits}
 use Rattle.world_writers.specs.Taking.{chain, Joins}
-use Rattle.world_writers.specs.Leaving.{JoinedSince, ToldSince, RequestsCover}
+use Rattle.world_writers.specs.Leaving.{JoinedSince, ToldSince, RequestsCover, LaterSessionsCover, LaterSessionsKeep}
 
 told-less : (h : Past) (b stamp n life m k : ℕ) → m ≤ k → ToldBytes h b stamp n life k → ToldBytes h b stamp n life m
 told-less h b stamp n life m k le x = record { each = λ c id i y at above j lt u. x.each c id i y at above j (omega (arith, lt, le)) u }
@@ -39,6 +42,8 @@ chain-seat w c n session least f s h = go h.place h.there
 pub record Seating (g : Givens) (w : World) : Type 0 where
   pub ends : Ends
   pub recorded : Recorded g w
+  pub recovering : Recovering g w
+  pub placed : Placed w
   pub acked : Acked g ends w
   pub joins : Joins w
   pub sits : (a : Answered) → Has w.answered a → AnswerSits g w a
@@ -47,6 +52,41 @@ pub record Seating (g : Givens) (w : World) : Type 0 where
 -- of the life in which the node accepted the setup
 seat-told : (w : World) (b stamp session n life least : ℕ) → Joins w → n < w.nodes → Has w.joined (record { stamp = stamp; node = n; life = life }) → Seat w b stamp session n least → ToldBytes w.past b stamp n life least
 seat-told w b stamp session n life least j lt has s = subst (λ (l : ℕ). ToldBytes w.past b stamp n l least) (j.single stamp n s.life life lt s.joins has) s.told
+
+-- an RBW replica that a recovery was told of has the bytes that the setup of its stamp asked for
+record IsOpen (g : Givens) (w : World) (d b : ℕ) (k : ReplicaTold) : Type 0 where
+  pub joins : JoinSeat g w k.1.0 (w.dialled d).to.node (w.dialled d).to.life
+  pub block : block_of joins.fields ≡ b
+  pub enough : promised joins.fields ≤ k.2
+
+open-promised : (g : Givens) (w : World) (d b : ℕ) (id : Stamp) (k : ReplicaTold) → Seating g w → Informs w.past d b id k → k.0 ≡ state.Rbw → IsOpen g w d b k
+open-promised g w d b id k s y e =
+    let fits : InfoFits g w.past d b y.asked.block.stamp id k = s.recovering.told d b id k y in
+    let at = (w.dialled d).to in
+    let lt : at.node < w.nodes = (s.placed.dialled d fits.known).to in
+    let j = fits.joins e in
+    let x = s.acked.joins k.1.0 at.node at.life j in
+    let given : g (block_of x.fields) k.1.0 ≡ Some x.session = subst (λ (t : ℕ). g (block_of x.fields) t ≡ Some x.session) x.is x.pipe.given in
+    let block : block_of x.fields ≡ b = s.recorded.one (block_of x.fields) b k.1.0 x.session fits.session given fits.given in
+    let told : ToldBytes w.past b k.1.0 at.node at.life (promised x.fields) =
+    subst (λ (c : ℕ). ToldBytes w.past c k.1.0 at.node at.life (promised x.fields)) block (seat-told w (block_of x.fields) k.1.0 x.session at.node at.life (promised x.fields) s.joins lt j x.seat) in
+    let none : EarlierLeave w.past b k.1.0 id.0 at.node at.life (promised x.fields) = record {
+      each = λ u q n l c above below. absurd (omega (arith, above, s.recovering.earlier d b id k y u q (place-of at u n l) c below));
+    } in
+    record { joins = x; block = block; enough = (told.each d id k y refl fits.below (promised x.fields) (omega arith) none).enough }
+  where
+    place-of : (p : Place) (u : Updated) → u.node ≡ p.node → u.life ≡ p.life → p ≡ record { node = u.node; life = u.life }
+    place-of p u n l = ap (λ (m : ℕ). record { node = m; life = p.life }) (sym n) ∙ ap (λ (m : ℕ). record { node = u.node; life = m }) (sym l)
+
+-- what is told of an RBW replica of a later session
+pub later-keeps : (g : Givens) (w : World) → Seating g w → LaterSessionsCover g w → LaterSessionsKeep g w
+later-keeps g w s covers a stamp c d session id i k h j x y above e given apart left =
+    let z = open-promised g w d a.block id k s y e in
+    let fits = s.recovering.told d a.block id k y in
+    let q = z.joins in
+    let low : a.length ≤ promised q.fields =
+    covers a stamp c q.conn session id i q.fields h j x above q.pipe.asked z.block (omega (arith, q.is, fits.below)) (subst (λ (t : ℕ). g a.block t ≡ Some session) (sym q.is) given) apart left in
+    omega (arith, low, z.enough)
 
 -- under the stamp of the answer
 told-at : (g : Givens) (w : World) (a : Answered) (stamp : ℕ) (at : Place) → Seating g w → Has w.answered a → at.node < w.nodes → JoinedSince g w a stamp at → (x : JoinSeat g w stamp at.node at.life) → a.stamp ≡ stamp

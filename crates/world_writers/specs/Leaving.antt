@@ -38,6 +38,13 @@ LaterSessionsKeep g w = (a : Answered) (stamp c d session : ℕ) (id : Stamp) (i
     Informs w.past c a.block id i → Informs w.past d a.block id k → stamp < id.0 → k.0 ≡ state.Rbw → g a.block k.1.0 ≡ Some session → (g a.block a.stamp ≡ Some session → ⊥) →
     EarlierLeave w.past a.block stamp id.0 (w.dialled c).to.node (w.dialled c).to.life a.length → a.length ≤ k.2
 
+-- The setup of a later session asks for the answered bytes, where a recovery with a later id was told of the replica of such a node, as far as earlier
+-- recoveries left them at that node.
+abbrev pub LaterSessionsCover : Givens → World → Type 0
+LaterSessionsCover g w = (a : Answered) (stamp c d session : ℕ) (id : Stamp) (i : ReplicaTold) (f : WriteFields) → Has w.answered a → JoinedSince g w a stamp (w.dialled c).to →
+    Informs w.past c a.block id i → stamp < id.0 → Asked w.past d f → block_of f ≡ a.block → (new_stamp f).0 < id.0 → g a.block (new_stamp f).0 ≡ Some session →
+    (g a.block a.stamp ≡ Some session → ⊥) → EarlierLeave w.past a.block stamp id.0 (w.dialled c).to.node (w.dialled c).to.life a.length → a.length ≤ promised f
+
 -- Each later recovery that updated such a node left it the answered bytes.
 abbrev pub UpdatesKeep : Givens → World → Type 0
 UpdatesKeep g w = (a : Answered) (stamp : ℕ) (at : Place) → Has w.answered a → at.node < w.nodes → JoinedSince g w a stamp at →
