@@ -1,6 +1,6 @@
 -- Nodes accept the setup of a stamp once, after every list of events.
-use Rattle.std.proofs.Common.{◌≡◌, ℕ, zero, suc, ◌<◌, ◌≤◌, ◌+◌, ◌++◌, length, slice_get, Bool, true, false, List, [], ◌∷◌, Option, Some, None, IfSome, Result, Ok, Err, refl, sym, ◌∙◌, ap, subst, arith}
-use Rattle.std.specs.Prelude.{◌==◌, ◌&&◌, ◌-◌, ◌^◌, not, map, min, nat_le, nat_lt, is_none}
+use Rattle.std.proofs.Common.{◌≡◌, ℕ, zero, suc, ◌<◌, ◌≤◌, ◌+◌, ◌++◌, length, slice_get, Bool, true, false, List, [], ◌∷◌, Option, Some, None, IfSome, Result, Ok, Err, refl, sym, ◌∙◌, ap, subst, arith, eqb-true}
+use Rattle.std.specs.Prelude.{if◌then◌else◌, ◌==◌, ◌&&◌, ◌-◌, ◌^◌, not, map, min, nat_le, nat_lt, is_none}
 use Rattle.hd_base.specs.declared.numbers.BlockId.{BlockId}
 use Rattle.hd_base.specs.declared.numbers.NodeId.{NodeId}
 use Rattle.hd_base.specs.declared.numbers.Stamp.{Stamp}
@@ -61,22 +61,28 @@ use Rattle.world.specs.declared.events.OwnStep as step
 use Rattle.world.specs.declared.events.OwnStep.TheVariants as own
 use Rattle.world.specs.declared.events.TakenCommand.{TakenCommand}
 use Rattle.world.specs.Parts.{request, packet, ack, response, read_status, recovery_answer, Place, idle, Upper, by_writer, by_member, by_reader, by_primary, Told, Writing, Reader, no_reader, reads, has_read, Leading, Primary, no_primary, was_told, leads, has_led}
-use Rattle.world.specs.Worlds.{World, Dial, Change, start}
+use Rattle.world.specs.Worlds.{World, Dial, Change, Stamped, put, latest_with, start}
 use Rattle.world.specs.Connections.{Next, message, the_end, next_down, next_up, down_taken, up_taken, place_of, is_served, is_conn, is_alive, sent_on}
-use Rattle.world.specs.Nodes.{node_on, lower_down, lower_ready, mirror_up}
+use Rattle.world.specs.Nodes.{node_on, block_of, lower_down, lower_ready, mirror_up}
 use Rattle.world.specs.Clients.{are_distinct, are_members, writer_change, did, reached_answer, dialled_change, dialling, rest_in, is_empty, is_formed, ruled, command_bytes, takes_command, writer_step, writer_hears, writer_up, reader_dials, own_reader_as, own_reader, from_node_of, reader_turn, reader_up_as, reader_up}
 use Rattle.world.specs.Primaries.{primary_dials, dials_answered, begins_with, begins_as, begins_at, own_recover, leads_step, commits_step, leads_told, own_primary_as, own_primary, listens, hears_change, primary_up_as, primary_up, asks_writer, asks_primary, writer_asks, primary_commits, primary_asks, office_event}
 use Rattle.world.specs.Restarts.{all_found, restart}
 use Rattle.world.specs.Events.{changed, own_change, down_as, down_event, ready_event, unless_fails, upper_up, up_as, up_event, fault_event, lost, stop, where_so, outcome, after_event, happens, run}
-use Rattle.world_laws.proofs.FactTables.{if-each, when-each, and-left, and-right}
-use Rattle.world_laws.proofs.OfficeSteps.{AsksAs, Asking, own-step-asking}
+use Rattle.world_laws.proofs.FactTables.{if-each, when-each, and-left, and-right, put-each, some-weaker}
+use Rattle.world_laws.proofs.OfficeSteps.{AsksAs, Asking, own-step-asking, block_in, asks-block, IsPrimarys}
+use Rattle.world_laws.proofs.StampRecording.{Quietly, none-heard, gives, given-each, others-given, others-latest}
+use Rattle.world_laws.proofs.AllSetUp.{given-stays}
+use Rattle.world_laws.proofs.AllRecorded.{aside-quietly, own-quietly, upper-quietly}
+use Rattle.world_acks.proofs.Granting.{latest-by}
+use Rattle.name_core.specs.Offices.{answer_to}
+use Rattle.world_writers.proofs.Giving.{Sets, quiet-sets, settles-by}
 use Rattle.world_laws.proofs.StampGranting.{granted-create, granted-append, granted-again, granted-commit, granted-complete}
 use Rattle.world_laws.proofs.ByteLeaves.{Facts}
 use Rattle.world_laws.proofs.ByteWriting.{Requested, requested}
 use Rattle.world_laws.specs.Carrying.{new_stamp, AsksFor, Asks}
 use Rattle.world_laws.specs.Joining.{SetUps}
 use Rattle.world_laws.proofs.SessionAsides.{Aside, lower-down-aside, lower-ready-aside, mirror-up-aside, own-reader-aside, reader-up-aside, own-recover-aside, own-primary-aside, primary-up-aside}
-use Rattle.world_laws.specs.Stamping.{Givens, none_given, given_in, known_heard, heard}
+use Rattle.world_laws.specs.Stamping.{Givens, none_given, given_in, given_with, Fits, known_heard, heard}
 use Rattle.world_laws.proofs.AllRecorded.{Reached, reached-next}
 use Rattle.world_laws.proofs.StampWalking.{none-is}
 use Rattle.world_laws.proofs.AllCarried.{at-start}
@@ -84,7 +90,7 @@ use Rattle.world_acks.specs.Acking.{Ends}
 use Rattle.world_acks.proofs.Turning.{Known}
 use Rattle.world_acks.proofs.Ends.{NextTells}
 use Rattle.world_acks.proofs.AllAcked.{down-known, up-known, when-two, next-tells, outcome-facts}
-use Rattle.std.proofs.lemmas.Bool.{false≢true}
+use Rattle.std.proofs.lemmas.Bool.{eqb-false, false≢true}
 use Rattle.std.proofs.lemmas.Bool.Decides.{nat_tests}
 use Rattle.std.proofs.lemmas.Option.{none-some, same_Some}
 use Rattle.world_writers.specs.Taking.{IsUnasked, Joins, AllJoin}
@@ -219,6 +225,7 @@ dialled-joined g w b x s stamp m ms le f h a e mem = record {
           stamp = stamp;
           phase_is = ap (λ (y : WriterRecord). y.phase) a.is ∙ e;
           is = ap new_stamp (sym same) ∙ r.new created;
+          block = ap block_of (sym same) ∙ ap (λ (i : BlockId). i.0) (r.block ∙ ap (λ (z : WriterRecord). z.block) (sym a.is) ∙ f.recorded.writers b);
           members = m ∷ ms;
           distinct = subst (λ (ys : List NodeId). are_distinct ys ≡ true) mem distinct;
           reaches = λ v n lt y. chain-reach m ms v n w.nodes le lt
@@ -555,19 +562,91 @@ office-joined : (g : Givens) (w : World) (c : Caller) → Facts g w → SetUps g
 office-joined g w (caller.Writer b) f s h = when-each (Joined w) (is_none (w.writers b.0).told) _ (λ e. asks-joined (own_step (w.writers b.0).known).action g w b.0 f s h (none-is (w.writers b.0).told e) refl)
 office-joined g w (caller.Primary i b) f s h = primary-asks-joined (w.primaries i) w i b h
 
+-- the stamp that a writer is given, if it is
+writer-sets : (g : Givens) (w : World) (b : ℕ) (c : OfficeCall) → Facts g w → (h : Joins w) → (w.writers b).told ≡ None → AsksAs (w.writers b).known c → Sets w (asks_writer w b c) h.setups
+writer-sets g w b c f h none a = record {
+  setups = given_with h.setups s;
+  keeps = λ d t e q. given-stays h.setups s d t e q;
+  fits = λ d. at d (d == b) refl;
+  under = given-each (λ d t e. t < k.office.next.0) h.setups s (some-weaker _ (λ z. z.stamp < k.office.next.0) s (λ z v. v.2) (gives w c).fresh) (λ d t e q. omega (arith, h.under d t e q, (gives w c).rises));
+}
+  where
+    k : Change
+    k = asks_writer w b c
+
+    s : Option Stamped
+    s = k.stamped
+
+    is : heard (w.writers b) ≡ (w.writers b).known
+    is = none-heard (w.writers b) none
+
+    block : (w.writers b).known.block ≡ record { 0 = b }
+    block = subst (λ (x : WriterRecord). x.block ≡ record { 0 = b }) is (f.recorded.writers b)
+
+    own : Fits (given_with h.setups s b) (latest_with w.latest s b) None (granted (w.writers b).known (answer_to w.office c))
+    own = settles-by w b h.setups c (w.writers b).known a block (subst (λ (x : WriterRecord). Fits (h.setups b) (w.latest b) None x) is (h.fits b)) (record { below = λ t e q. h.under b t e q })
+
+    at-block : (block_in c).0 ≡ b
+    at-block = ap (λ (q : BlockId). q.0) (asks-block (w.writers b).known c a ∙ block)
+
+    at : (d : ℕ) (t : Bool) → (d == b) ≡ t → Fits (given_with h.setups s d) (latest_with w.latest s d) None (heard (if t then k.writer else w.writers d))
+    at d true e = subst (λ (i : ℕ). Fits (given_with h.setups s i) (latest_with w.latest s i) None (heard k.writer)) (sym (eqb-true d b e)) own
+    at d false e =
+        let apart : d ≡ (block_in c).0 → ⊥ = λ q. eqb-false d b e (q ∙ at-block) in
+        subst (λ (z : ℕ → Option ℕ). Fits z (latest_with w.latest s d) None (heard (w.writers d))) (sym (others-given h.setups s (block_in c).0 d w.office.next.0 k.office.next.0 (gives w c).fresh apart))
+        (subst (λ (z : ℕ). Fits (h.setups d) z None (heard (w.writers d))) (sym (others-latest w.latest s (block_in c).0 d w.office.next.0 k.office.next.0 (gives w c).fresh apart)) (h.fits d))
+
+primary-sets : (w : World) (i : ℕ) (c : OfficeCall) (p : Told → Primary) → IsPrimarys c → (h : Joins w) → Sets w (asks_primary w i c p) h.setups
+primary-sets w i c p a h = record {
+  setups = h.setups;
+  keeps = λ b t e q. (e, q);
+  fits = λ b. subst (λ (l : ℕ). Fits (h.setups b) l None (heard (put w.writers 0 (w.writers 0) b))) (sym (latest-by w c a b))
+      (put-each (λ (d : ℕ) (y : Writing). Fits (h.setups d) (w.latest d) None (heard y)) w.writers 0 (w.writers 0) (h.fits 0) h.fits b);
+  under = λ b t e q. omega (arith, h.under b t e q, (gives w c).rises);
+}
+
+asks-sets : (a : Action) (g : Givens) (w : World) (b : ℕ) → Facts g w → (h : Joins w) → (w.writers b).told ≡ None → (own_step (w.writers b).known).action ≡ a → IfSome (writer_asks a w b) (λ k. Sets w k h.setups)
+asks-sets action.Wait g w b f h e q = tt
+asks-sets action.Took g w b f h e q = tt
+asks-sets (action.Dial to r) g w b f h e q = tt
+asks-sets (action.Send p) g w b f h e q = tt
+asks-sets (action.Answered n c) g w b f h e q = tt
+asks-sets action.Memory g w b f h e q = tt
+asks-sets (action.Ask c) g w b f h e q = writer-sets g w b c f h e (subst (λ (z : Action). Asking (w.writers b).known z) q (own-step-asking (w.writers b).known))
+
+commits-sets : (s : OwnStep) (w : World) (i : ℕ) (l : Leading) → (h : Joins w) → IfSome (primary_commits s w i l) (λ k. Sets w k h.setups)
+commits-sets lead.Waits w i l h = tt
+commits-sets (lead.Updates c) w i l h = tt
+commits-sets (lead.Commits c) w i l h = primary-sets w i (primary.sync_call l.state c) (λ told. leads (record l { told = Some told })) tt h
+commits-sets (lead.Ends r) w i l h = tt
+
+primary-asks-sets : (p : Primary) (w : World) (i : ℕ) (b : BlockId) → (h : Joins w) → IfSome (primary_asks p w i b) (λ k. Sets w k h.setups)
+primary-asks-sets no_primary w i b h = primary-sets w i (call.BeginRecovery b) (was_told b) tt h
+primary-asks-sets (was_told c told) w i b h = tt
+primary-asks-sets (leads l) w i b h = when-each (λ k. Sets w k h.setups) (is_alive w l.at && is_none l.told) _ (λ _. commits-sets (primary.own_step l.state).does w i l h)
+primary-asks-sets (has_led r) w i b h = tt
+
+office-sets : (g : Givens) (w : World) (c : Caller) → Facts g w → (h : Joins w) → IfSome (office_event w c) (λ k. Sets w k h.setups)
+office-sets g w (caller.Writer b) f h = when-each (λ k. Sets w k h.setups) (is_none (w.writers b.0).told) _ (λ e. asks-sets (own_step (w.writers b.0).known).action g w b.0 f h (none-is (w.writers b.0).told e) refl)
+office-sets g w (caller.Primary i b) f h = primary-asks-sets (w.primaries i) w i b h
+
 -- EVENTS
 
-changed-joins : (g l : Givens) (w : World) (o : Option Change) → Facts g w → Joins w → IfSome (changed w o) (Facts l) → IfSome o (Joined w) → IfSome (changed w o) Joins
-changed-joins g l w None f h n j = tt
-changed-joins g l w (Some k) f h n j = joins-apply g l w k h j.takes j.after f n
+changed-joins : (g l : Givens) (w : World) (o : Option Change) → Facts g w → (h : Joins w) → IfSome (changed w o) (Facts l) → IfSome o (Joined w) → IfSome o (Quietly w) → IfSome (changed w o) Joins
+changed-joins g l w None f h n j q = tt
+changed-joins g l w (Some k) f h n j q = joins-apply g l w k h j.takes j.after (quiet-sets w k h.setups q h.fits h.under) f n
+
+office-joins : (g l : Givens) (w : World) (o : Option Change) → Facts g w → (h : Joins w) → IfSome (changed w o) (Facts l) → IfSome o (Joined w) → IfSome o (λ k. Sets w k h.setups) → IfSome (changed w o) Joins
+office-joins g l w None f h n j q = tt
+office-joins g l w (Some k) f h n j q = joins-apply g l w k h j.takes j.after q f n
 
 down-taken-joins : (w : World) (c : ℕ) (x : Next) → Joins w → Joins (down_taken w c x)
 unfolding down_taken
-down-taken-joins w c x h = record { few = h.few; begun = h.begun; once = h.once; unmet = h.unmet; stamped = h.stamped; members = h.members; reach = h.reach; single = h.single }
+down-taken-joins w c x h = record { few = h.few; begun = h.begun; once = h.once; unmet = h.unmet; stamped = h.stamped; members = h.members; setups = h.setups; fits = h.fits; under = h.under; given = h.given; reach = h.reach; single = h.single }
 
 up-taken-joins : (w : World) (c : ℕ) (x : Next) → Joins w → Joins (up_taken w c x)
 unfolding up_taken
-up-taken-joins w c x h = record { few = h.few; begun = h.begun; once = h.once; unmet = h.unmet; stamped = h.stamped; members = h.members; reach = h.reach; single = h.single }
+up-taken-joins w c x h = record { few = h.few; begun = h.begun; once = h.once; unmet = h.unmet; stamped = h.stamped; members = h.members; setups = h.setups; fits = h.fits; under = h.under; given = h.given; reach = h.reach; single = h.single }
 
 first-op : (g : Givens) (t : Ends) (w : World) (c : ℕ) (o : Op) → NextTells g t w c (message (request o)) → FirstOf w c (message (request o))
 first-op g t w c (op.Write f) h = record { first = h.0.first }
@@ -612,6 +691,7 @@ down-as-joins g l t w c answered fails (Some x) k h e n =
     let j = down-taken-joins w c x h in
     let o = lower_down (w.lowers c) v c x answered fails in
     changed-joins g l v o (down-known g t w c x k).facts j n (asides-joined v o j (lower-down-aside (w.lowers c) v c x answered fails) (lower-takes w c x answered fails (first-of g t w c x (next-tells g t w c x k e))))
+    (aside-quietly v o (lower-down-aside (w.lowers c) v c x answered fails))
 
 down-joins : (g l : Givens) (t : Ends) (w : World) (c : ℕ) (answered fails : Bool) → Known g t w → Joins w → IfSome (down_event w c answered fails) (Facts l) → IfSome (down_event w c answered fails) Joins
 down-joins g l t w c answered fails k h n = when-two (Facts l) Joins (is_served w c) _ n (λ _ q. down-as-joins g l t w c answered fails (next_down w c) k h refl q)
@@ -619,7 +699,7 @@ down-joins g l t w c answered fails k h n = when-two (Facts l) Joins (is_served 
 ready-joins : (g l : Givens) (t : Ends) (w : World) (c : ℕ) (fails : Bool) → Known g t w → Joins w → IfSome (ready_event w c fails) (Facts l) → IfSome (ready_event w c fails) Joins
 ready-joins g l t w c fails k h n =
     let o = lower_ready (w.lowers c) w c fails in
-    when-two (Facts l) Joins (is_served w c) _ n (λ _ q. changed-joins g l w o k.facts h q (asides-joined w o h (lower-ready-aside (w.lowers c) w c fails) (lower-ready-takes (w.lowers c) w c fails)))
+    when-two (Facts l) Joins (is_served w c) _ n (λ _ q. changed-joins g l w o k.facts h q (asides-joined w o h (lower-ready-aside (w.lowers c) w c fails) (lower-ready-takes (w.lowers c) w c fails)) (aside-quietly w o (lower-ready-aside (w.lowers c) w c fails)))
 
 unless-joined : (w : World) (fails : Bool) (o : Option Change) → IfSome o (Joined w) → IfSome (unless_fails fails o) (Joined w)
 unless-joined w true o h = tt
@@ -637,7 +717,7 @@ up-as-joins g l t w c fails (Some x) k h n =
     let v = up_taken w c x in
     let f = (up-known g t w c x k).facts in
     let j = up-taken-joins w c x h in
-    changed-joins g l v (upper_up (w.dialled c).upper v c x fails) f j n (upper-joined (w.dialled c).upper g v c x fails f j)
+    changed-joins g l v (upper_up (w.dialled c).upper v c x fails) f j n (upper-joined (w.dialled c).upper g v c x fails f j) (upper-quietly (w.dialled c).upper v c x fails)
 
 up-joins : (g l : Givens) (t : Ends) (w : World) (c : ℕ) (fails : Bool) → Known g t w → Joins w → IfSome (up_event w c fails) (Facts l) → IfSome (up_event w c fails) Joins
 up-joins g l t w c fails k h n = when-two (Facts l) Joins (nat_lt c w.next_conn) _ n (λ _ q. up-as-joins g l t w c fails (next_up w c) k h q)
@@ -658,25 +738,25 @@ where-joins true v h = h
 where-joins false v h = tt
 
 lost-joins : (w : World) (c : ℕ) (way : Direction) (more : ℕ) → Joins w → Joins (lost w c way more)
-lost-joins w c direction.Down more h = record { few = h.few; begun = h.begun; once = h.once; unmet = h.unmet; stamped = h.stamped; members = h.members; reach = h.reach; single = h.single }
-lost-joins w c direction.Up more h = record { few = h.few; begun = h.begun; once = h.once; unmet = h.unmet; stamped = h.stamped; members = h.members; reach = h.reach; single = h.single }
+lost-joins w c direction.Down more h = record { few = h.few; begun = h.begun; once = h.once; unmet = h.unmet; stamped = h.stamped; members = h.members; setups = h.setups; fits = h.fits; under = h.under; given = h.given; reach = h.reach; single = h.single }
+lost-joins w c direction.Up more h = record { few = h.few; begun = h.begun; once = h.once; unmet = h.unmet; stamped = h.stamped; members = h.members; setups = h.setups; fits = h.fits; under = h.under; given = h.given; reach = h.reach; single = h.single }
 
 outcome-joins : (g l : Givens) (t : Ends) (w : World) (e : Event) → Known g t w → Joins w → IfSome (outcome w e) (Facts l) → IfSome (outcome w e) Joins
 unfolding outcome restart
-outcome-joins g l t w (event.Own s) k h n = changed-joins g l w (own_change w s) k.facts h n (own-joined g w s k.facts h)
-outcome-joins g l t w (event.Office c) k h n = changed-joins g l w (office_event w c) k.facts h n (office-joined g w c k.facts k.sets h)
+outcome-joins g l t w (event.Own s) k h n = changed-joins g l w (own_change w s) k.facts h n (own-joined g w s k.facts h) (own-quietly w s)
+outcome-joins g l t w (event.Office c) k h n = office-joins g l w (office_event w c) k.facts h n (office-joined g w c k.facts k.sets h) (office-sets g w c k.facts h)
 outcome-joins g l t w (event.Down c answered) k h n = down-joins g l t w c.0 answered false k h n
 outcome-joins g l t w (event.Ready c) k h n = ready-joins g l t w c.0 false k h n
 outcome-joins g l t w (event.Up c) k h n = up-joins g l t w c.0 false k h n
 outcome-joins g l t w (event.Lost c way more) k h n = where-joins (nat_lt c.0 w.next_conn) (lost w c.0 way more) (lost-joins w c.0 way more h)
 outcome-joins g l t w (event.Fault d) k h n = fault-joins g l t w d k h n
-outcome-joins g l t w (event.Stop n) k h q = where-joins (w.running n.0) (stop w n.0) (record { few = h.few; begun = h.begun; once = h.once; unmet = h.unmet; stamped = h.stamped; members = h.members; reach = h.reach; single = h.single })
+outcome-joins g l t w (event.Stop n) k h q = where-joins (w.running n.0) (stop w n.0) (record { few = h.few; begun = h.begun; once = h.once; unmet = h.unmet; stamped = h.stamped; members = h.members; setups = h.setups; fits = h.fits; under = h.under; given = h.given; reach = h.reach; single = h.single })
 outcome-joins g l t w (event.Restart n list) k h q =
-    where-joins (nat_lt n.0 w.nodes && not (w.running n.0) && all_found w n.0 list) (restart w n.0 list) (record { few = h.few; begun = h.begun; once = h.once; unmet = h.unmet; stamped = h.stamped; members = h.members; reach = h.reach; single = h.single })
+    where-joins (nat_lt n.0 w.nodes && not (w.running n.0) && all_found w n.0 list) (restart w n.0 list) (record { few = h.few; begun = h.begun; once = h.once; unmet = h.unmet; stamped = h.stamped; members = h.members; setups = h.setups; fits = h.fits; under = h.under; given = h.given; reach = h.reach; single = h.single })
 
 after-joins : (w : World) (e : Event) (o : Option World) → Joins w → IfSome o Joins → Joins (after_event w e o)
 after-joins w e None h k = h
-after-joins w e (Some v) h k = record { few = k.few; begun = k.begun; once = k.once; unmet = k.unmet; stamped = k.stamped; members = k.members; reach = k.reach; single = k.single }
+after-joins w e (Some v) h k = record { few = k.few; begun = k.begun; once = k.once; unmet = k.unmet; stamped = k.stamped; members = k.members; setups = k.setups; fits = k.fits; under = k.under; given = k.given; reach = k.reach; single = k.single }
 
 happens-joins : (g l : Givens) (t : Ends) (w : World) (e : Event) → Known g t w → Facts l (happens w e) → Joins w → Joins (happens w e)
 unfolding happens
@@ -710,6 +790,10 @@ start-joins nodes le = record {
   unmet = λ c f x. absurd (none-some _ x.asked.first);
   stamped = λ b s t e. absurd (apart e);
   members = λ b. refl;
+  setups = none_given;
+  fits = λ b. record { is = refl };
+  under = λ b t e x. absurd (none-some e x);
+  given = λ c f x. absurd (none-some _ x.first);
   reach = λ c d b f k o x y. absurd (none-some _ x.first);
   single = λ s n l k lt x y. absurd (none-some _ x.there);
 }

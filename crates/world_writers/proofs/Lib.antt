@@ -2,6 +2,7 @@ pub mod AllJoin
 pub mod AllMove
 pub mod AllPiped
 pub mod AllShow
+pub mod Giving
 pub mod Granting
 pub mod Hearing
 pub mod Intakes

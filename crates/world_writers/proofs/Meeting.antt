@@ -15,12 +15,13 @@ use Rattle.writer_core.specs.declared.phases.Phase.TheVariants as phase
 use Rattle.writer_core.specs.declared.phases.Setup.{Setup}
 use Rattle.world.specs.Parts.{Message, request, by_writer, by_member, Dialled, Lower, idle, Writing, Joined}
 use Rattle.world.specs.Worlds.{Past, World, Dial, Change, put, listed, dial_at, past_after, apply}
-use Rattle.world.specs.Nodes.{node_on}
+use Rattle.world.specs.Nodes.{node_on, block_of}
 use Rattle.world.specs.Clients.{are_distinct}
 use Rattle.world.specs.Safe.{Has}
 use Rattle.world_laws.proofs.GrowthLaws.{apply-grows}
 use Rattle.world_laws.proofs.FactTables.{if-each, and-left, and-right}
-use Rattle.world_laws.specs.Stamping.{Givens, heard}
+use Rattle.world_laws.specs.Stamping.{Givens, InPhase, heard}
+use Rattle.world_writers.proofs.Giving.{Sets}
 use Rattle.world_laws.specs.Carrying.{new_stamp, AsksFor, Asks}
 use Rattle.world_laws.proofs.ByteAsking.{first-dial}
 use Rattle.world_laws.proofs.ByteLeaves.{Facts}
@@ -336,9 +337,24 @@ unasked-after g l w k b s t h r old new u other = record {
 not-stamped : (p : Phase) (s : Setup) (t : Stamp) → is_stamped p ≡ false → p ≡ phase.Stamped s t → ⊥
 not-stamped p s t e q = false≢true (sym e ∙ ap is_stamped q)
 
-pub joins-apply : (g l : Givens) (w : World) (k : Change) → Joins w → Takes w k → Then w k → Facts g w → Facts l (apply w k) → Joins (apply w k)
+-- the stamp of a request was given to a writer
+given-after : (w : World) (k : Change) (c : ℕ) (f : WriteFields) (h : Joins w) (z : Sets w k h.setups) → Sent w k c f → (e : ℕ) × (z.setups (block_of f) (new_stamp f).0 ≡ Some e)
+given-after w k c f h z (sent_before a) = let x = h.given c f a in z.keeps (block_of f) (new_stamp f).0 x.0 x.1
+given-after w k c f h z (sent_now at d i (of_member p)) =
+    let x = h.given k.lower_at p.own p.waited.asked in
+    let y = z.keeps (block_of p.own) (new_stamp p.own).0 x.0 x.1 in
+    (y.0, ap (λ (s : Stamp). z.setups (block_of f) s.0) p.stamp ∙ ap (λ (b : ℕ). z.setups b (new_stamp p.own).0) p.block ∙ y.1)
+given-after w k c f h z (sent_now at d i (of_writer p)) =
+    let b = k.writer_at in
+    let x = heard (w.writers b) in
+    let fits : InPhase (h.setups b) (w.latest b) None x.committed x.waiting x.stream.unacked (phase.Stamped p.setup_is p.stamp) =
+    subst (λ (q : Phase). InPhase (h.setups b) (w.latest b) None x.committed x.waiting x.stream.unacked q) p.phase_is (h.fits b) in
+    let y = z.keeps b p.stamp.0 (w.latest b) fits.0.session.is in
+    (y.0, ap (λ (s : Stamp). z.setups (block_of f) s.0) p.is ∙ ap (λ (d : ℕ). z.setups d p.stamp.0) p.block ∙ y.1)
+
+pub joins-apply : (g l : Givens) (w : World) (k : Change) (h : Joins w) → Takes w k → Then w k → Sets w k h.setups → Facts g w → Facts l (apply w k) → Joins (apply w k)
 unfolding apply
-joins-apply g l w k h r t old new = record {
+joins-apply g l w k h r t z old new = record {
   few = h.few;
   begun = λ c lt. begun c lt (dial_at w.next_conn k.dials c) refl;
   once = λ c d f q x y e. once-after w k c d f q h r e x y (sent g l w k c f h r old new x.asked) (sent g l w k d q h r old new y.asked);
@@ -348,6 +364,10 @@ joins-apply g l w k h r t old new = record {
       (λ _ e. unasked-after g l w k b s v h r old new (t.stamped s v e) (λ q x n. not-stamped (heard k.writer).phase s v n e))
       (λ n e. unasked-after g l w k b s v h r old new (h.stamped b s v e) (λ q x _. eqb-false b k.writer_at n (stamp-apart g w b k.writer_at s q v old e x)));
   members = λ b. if-each (λ (z : Writing). are_distinct (heard z).members ≡ true) (b == k.writer_at) k.writer (w.writers b) (λ _. t.members) (λ _. h.members b);
+  setups = z.setups;
+  fits = z.fits;
+  under = z.under;
+  given = λ c f x. given-after w k c f h z (sent g l w k c f h r old new x);
   reach = λ c d b f q o x y e up i. reach-after g w k c d b f q o h old e up x y (sent g l w k c f h r old new x) (sent g l w k d q h r old new y) i;
   single = λ s n a b lt x y. single-after w k s n a b h r lt (split-has w.joined k.joined (joined_as s n a) x) (split-has w.joined k.joined (joined_as s n b) y);
 }
