@@ -72,7 +72,7 @@ use Rattle.world_laws.proofs.FactTables.{if-each, when-each, and-left, and-right
 use Rattle.world_laws.proofs.OfficeSteps.{AsksAs, Asking, own-step-asking, block_in, asks-block, IsPrimarys}
 use Rattle.world_laws.proofs.StampRecording.{Quietly, none-heard, gives, given-each, others-given, others-latest}
 use Rattle.world_laws.proofs.AllSetUp.{given-stays}
-use Rattle.world_laws.proofs.AllRecorded.{aside-quietly, own-quietly, upper-quietly}
+use Rattle.world_laws.proofs.AllRecorded.{aside-quietly, own-quietly, upper-quietly, start-recorded}
 use Rattle.world_acks.proofs.Granting.{latest-by}
 use Rattle.name_core.specs.Offices.{answer_to}
 use Rattle.world_writers.proofs.Giving.{Sets, quiet-sets, settles-by}
@@ -781,8 +781,15 @@ run-joins w (e ∷ events) r h =
     let v = seen (happens w e) n in
     run-joins (happens w e) events n (happens-joins k.givens v.givens k.ends w e k.known v.known.facts h)
 
+-- 0 stands for the stamp of a block that no writer has created
+first_setups : Givens
+first_setups b t = if t == 0 then Some 0 else None
+
+first-is : (t e : ℕ) → (if t == 0 then Some 0 else None) ≡ Some e → t ≡ 0
+first-is t e = if-each (λ (o : Option ℕ). o ≡ Some e → t ≡ 0) (t == 0) (Some 0) None (λ q _. eqb-true t 0 q) (λ _ q. absurd (none-some e q))
+
 start-joins : (nodes : ℕ) → nodes ≤ MAX_NODES → Joins (start nodes)
-unfolding start
+unfolding start first_setups
 start-joins nodes le = record {
   few = le;
   begun = λ c lt. absurd (omega (arith, lt));
@@ -790,9 +797,9 @@ start-joins nodes le = record {
   unmet = λ c f x. absurd (none-some _ x.asked.first);
   stamped = λ b s t e. absurd (apart e);
   members = λ b. refl;
-  setups = none_given;
+  setups = first_setups;
   fits = λ b. record { is = refl };
-  under = λ b t e x. absurd (none-some e x);
+  under = λ b t e x. omega (arith, first-is t e x, (start-recorded nodes).first);
   given = λ c f x. absurd (none-some _ x.first);
   reach = λ c d b f k o x y. absurd (none-some _ x.first);
   single = λ s n l k lt x y. absurd (none-some _ x.there);

@@ -25,7 +25,8 @@ use Rattle.world_laws.proofs.OfficeSteps.{AsksAs}
 use Rattle.world_laws.proofs.StampGivens.{put-here, put-old, put-new, Below}
 use Rattle.world_laws.proofs.StampMoves.{no-last-nil}
 use Rattle.world_laws.proofs.StampGranting.{granted-create, granted-append, granted-again, granted-commit, granted-complete, refusal-fits, at-phase, again-setting, committed-fits}
-use Rattle.world_laws.proofs.StampRecording.{refused-stamp, Quietly}
+use Rattle.world_laws.proofs.Sessions.{refused-stamp}
+use Rattle.world_laws.proofs.StampRecording.{Quietly}
 
 -- what a change makes of the stamps that were given to writers
 pub record Sets (w : World) (k : Change) (h : Givens) : Type 0 where
