@@ -15,7 +15,7 @@ use Rattle.name_core.proofs.CaseLemmas.{each_case}
 use Rattle.writer_core.specs.declared.phases.Phase.TheVariants as phase
 use Rattle.writer_core.specs.declared.phases.Setup.TheVariants as setup
 use Rattle.writer_core.specs.declared.records.WriterRecord.{WriterRecord}
-use Rattle.writer_core.specs.Transitions.{granted}
+use Rattle.writer_core.specs.Transitions.{begin_session, granted}
 use Rattle.world.specs.Parts.{Writing}
 use Rattle.world.specs.Worlds.{World, Change, Stamped, put, latest_with}
 use Rattle.world.specs.Primaries.{stamp_of, stamped_by}
@@ -24,7 +24,7 @@ use Rattle.world_laws.specs.Stamping.{Givens, given_with, Fits, heard}
 use Rattle.world_laws.proofs.OfficeSteps.{AsksAs}
 use Rattle.world_laws.proofs.StampGivens.{put-here, put-old, put-new, Below}
 use Rattle.world_laws.proofs.StampMoves.{no-last-nil}
-use Rattle.world_laws.proofs.StampGranting.{granted-create, granted-append, granted-again, granted-commit, granted-complete, refusal-fits, at-phase, again-setting, committed-fits}
+use Rattle.world_laws.proofs.StampGranting.{back, granted-create, granted-append, granted-again, granted-commit, granted-complete, refusal-fits, at-phase, again-setting, committed-fits}
 use Rattle.world_laws.proofs.Sessions.{refused-stamp}
 use Rattle.world_laws.proofs.StampRecording.{Quietly}
 
@@ -70,7 +70,7 @@ settles-by w b h c = each_case w.office (SettlesBy w b h) (record {
   created = λ block members none. λ x a q k u.
       let n = w.office.next.0 in
       subst (λ (y : WriterRecord). Settled w b h (stamped_by w (call.Create block members) (Ok (office.Stamp w.office.next))) y) (sym (granted-create x w.office.next a.at))
-      (new-settled w b block.0 n n n h _ (index-of b block x.block a.block q) (
+      (new-settled w b block.0 n n n h (record (begin_session x w.office.next 0) { phase = phase.Stamped setup.Create w.office.next }) (index-of b block x.block a.block q) (
         record {
           session = record { is = put-here (h b) n (Some n) };
           newest = record { last = λ _. put-new (λ t e. t ≤ n) (h b) n n (omega arith) (λ t e z. omega (arith, u.below t e z)) };
@@ -81,7 +81,7 @@ settles-by w b h c = each_case w.office (SettlesBy w b h) (record {
       let n = w.office.next.0 in
       subst (λ (y : WriterRecord). Settled w b h (stamped_by w (call.Append block) (Ok (office.Reopened (record { committed = r.committed; length = r.length; new = w.office.next })))) y)
       (sym (granted-append x (record { committed = r.committed; length = r.length; new = w.office.next }) a.at short))
-      (new-settled w b block.0 n n n h _ (index-of b block x.block a.block q) (
+      (new-settled w b block.0 n n n h (back x (record { committed = r.committed; length = r.length; new = w.office.next })) (index-of b block x.block a.block q) (
         record {
           session = record { is = put-here (h b) n (Some n) };
           newest = record { last = λ _. put-new (λ t e. t ≤ n) (h b) n n (omega arith) (λ t e z. omega (arith, u.below t e z)) };

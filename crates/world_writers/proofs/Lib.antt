@@ -7,6 +7,7 @@ pub mod Granting
 pub mod Hearing
 pub mod Intakes
 pub mod Keeping
+pub mod Lifting
 pub mod Links
 pub mod Meeting
 pub mod Moving

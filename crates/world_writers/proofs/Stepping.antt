@@ -290,7 +290,7 @@ rest-stood phase.Completed g t w b x answered e h v q st =
 rest-stood (phase.Failed f) g t w b x answered e h v q st = stays-stood g t w b x st
 
 -- a command that was taken isn't in the queue, so nothing was answered with a length
-queue-grows : (x : WriterRecord) (c : Command) (r : Rule) → (given (ruled x c r) c).queue ≡ (given x c).queue
+pub queue-grows : (x : WriterRecord) (c : Command) (r : Rule) → (given (ruled x c r) c).queue ≡ (given x c).queue
 queue-grows x (command.Create members) r = go (admitted x.intake (command.Create members))
   where
     go : (a : Result Intake CommandFault) → (given_as (ruled x (command.Create members) r) (command.Create members) a).queue ≡ (given_as x (command.Create members) a).queue
