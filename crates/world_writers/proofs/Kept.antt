@@ -17,6 +17,7 @@ use Rattle.world_acks.proofs.AllAcked.{all-acked}
 use Rattle.world_laws.proofs.AllRecorded.{all-recorded}
 use Rattle.world_writers.proofs.AllJoin.{all-join}
 use Rattle.world_writers.proofs.AllShow.{all-sit}
+use Rattle.world_writers.proofs.Lifting.{Lifted, writer-up-lifted}
 use Rattle.world_writers.proofs.Seating.{Seating, told-since, later-keeps}
 use Rattle.world_writers.proofs.Leaving.{Leaving, updates-keep}
 use Rattle.world_writers.proofs.Staying.{answered-stay}
