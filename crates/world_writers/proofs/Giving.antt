@@ -1,5 +1,5 @@
 -- The stamps that the office gives to writers: what writers know fits these alone, whatever recoveries begin.
-use Rattle.std.proofs.Common.{◌≡◌, ℕ, ◌<◌, ◌≤◌, Option, Some, None, IfSome, Ok, Err, refl, sym, ◌∙◌, ap, subst, arith, eqb-true}
+use Rattle.std.proofs.Common.{◌≡◌, ℕ, ◌<◌, ◌≤◌, inl, Option, Some, None, IfSome, Ok, Err, refl, sym, ◌∙◌, ap, subst, arith, eqb-true}
 use Rattle.std.specs.Prelude.{◌==◌}
 use Rattle.std.proofs.lemmas.Bool.{eqb-false}
 use Rattle.hd_base.specs.declared.numbers.BlockId.{BlockId}
@@ -17,7 +17,7 @@ use Rattle.writer_core.specs.declared.phases.Setup.TheVariants as setup
 use Rattle.writer_core.specs.declared.records.WriterRecord.{WriterRecord}
 use Rattle.writer_core.specs.Transitions.{begin_session, granted}
 use Rattle.world.specs.Parts.{Writing}
-use Rattle.world.specs.Worlds.{World, Change, Stamped, put, latest_with}
+use Rattle.world.specs.Worlds.{World, Change, Stamped, put, sessions_with, latest_with}
 use Rattle.world.specs.Primaries.{stamp_of, stamped_by}
 use Rattle.world_laws.proofs.FactTables.{put-each}
 use Rattle.world_laws.specs.Stamping.{Givens, given_with, Fits, heard}
@@ -27,24 +27,40 @@ use Rattle.world_laws.proofs.StampMoves.{no-last-nil}
 use Rattle.world_laws.proofs.StampGranting.{back, granted-create, granted-append, granted-again, granted-commit, granted-complete, refusal-fits, at-phase, again-setting, committed-fits}
 use Rattle.world_laws.proofs.Sessions.{refused-stamp}
 use Rattle.world_laws.proofs.StampRecording.{Quietly}
+use Rattle.world_writers.specs.Taking.{Joins}
+use Rattle.world_writers.proofs.Lifting.{Lifts, Begun, AnswerFits, Lifted}
 
 -- what a change makes of the stamps that were given to writers
 pub record Sets (w : World) (k : Change) (h : Givens) : Type 0 where
   pub setups : Givens
-  pub keeps : (b t e : ℕ) → h b t ≡ Some e → (d : ℕ) × (setups b t ≡ Some d)
+  pub keeps : (b t e : ℕ) → h b t ≡ Some e → setups b t ≡ Some e
+  pub lifts : (b : ℕ) → Begun w b k.stamped (heard (w.writers b)) (heard (put w.writers k.writer_at k.writer b))
+  pub sessions : (b t e : ℕ) → setups b t ≡ Some e → sessions_with w.session_of k.stamped t ≡ e
+  pub early : (b t e : ℕ) → setups b t ≡ Some e → e < k.office.next.0
+  pub late : (b : ℕ) → latest_with w.latest k.stamped b < k.office.next.0
+  pub answers : IfSome k.answered (AnswerFits w)
   pub fits : (b : ℕ) → Fits (setups b) (latest_with w.latest k.stamped b) None (heard (put w.writers k.writer_at k.writer b))
   pub under : (b t e : ℕ) → setups b t ≡ Some e → t < k.office.next.0
 
 -- none is given
-pub quiet-sets : (w : World) (k : Change) (h : Givens) → Quietly w k → ((b : ℕ) → Fits (h b) (w.latest b) None (heard (w.writers b))) → ((b t e : ℕ) → h b t ≡ Some e → t < w.office.next.0) → Sets w k h
-quiet-sets w k h q fits under = record {
+pub quiet-sets : (w : World) (k : Change) (j : Joins w) → Quietly w k → Lifted w k → Sets w k j.setups
+quiet-sets w k j q l = record {
   setups = h;
-  keeps = λ b t e x. (e, x);
+  keeps = λ b t e x. x;
+  lifts = λ b. subst (λ (o : Option Stamped). Begun w b o (heard (w.writers b)) (heard (put w.writers k.writer_at k.writer b))) (sym q.stamped)
+      (inl (refl, put-each (λ (d : ℕ) (y : Writing). Lifts (heard (w.writers d)) (heard y)) w.writers k.writer_at k.writer l.acked (λ d. omega arith) b));
+  sessions = λ b t e x. subst (λ (o : Option Stamped). sessions_with w.session_of o t ≡ e) (sym q.stamped) (j.sessions b t e x);
+  early = λ b t e x. subst (λ (o : OfficeState). e < o.next.0) (sym q.office) (j.early b t e x);
+  late = λ b. subst (λ (o : Option Stamped). latest_with w.latest o b < k.office.next.0) (sym q.stamped) (subst (λ (o : OfficeState). w.latest b < o.next.0) (sym q.office) (j.late b));
+  answers = l.answers;
   fits = λ b. subst (λ (o : Option Stamped). Fits (h b) (latest_with w.latest o b) None (heard (put w.writers k.writer_at k.writer b))) (sym q.stamped)
       (put-each (λ (d : ℕ) (y : Writing). Fits (h d) (w.latest d) None (heard y)) w.writers k.writer_at k.writer
-      (q.moved.goes.fits (h k.writer_at) (w.latest k.writer_at) None (fits k.writer_at)) fits b);
-  under = λ b t e x. subst (λ (o : OfficeState). t < o.next.0) (sym q.office) (under b t e x);
+      (q.moved.goes.fits (h k.writer_at) (w.latest k.writer_at) None (j.fits k.writer_at)) j.fits b);
+  under = λ b t e x. subst (λ (o : OfficeState). t < o.next.0) (sym q.office) (j.under b t e x);
 }
+  where
+    h : Givens
+    h = j.setups
 
 -- WHAT THE OFFICE ANSWERS A WRITER
 

@@ -1,5 +1,5 @@
 -- Answered bytes stay.
-use Rattle.std.proofs.Common.{◌≡◌, ℕ, ◌<◌, ◌≤◌, List, Some, refl, sym, ap, subst, arith}
+use Rattle.std.proofs.Common.{◌≡◌, ℕ, ◌<◌, ◌≤◌, List, Some, refl, sym, ◌∙◌, ap, subst, arith}
 use Rattle.hd_base.specs.declared.numbers.NodeId.{NodeId}
 use Rattle.hd_base.specs.declared.roads.TheConstants.{MAX_NODES}
 use Rattle.world.specs.declared.events.Event.{Event}
@@ -7,7 +7,10 @@ use Rattle.world.specs.Parts.{Place, Answered}
 use Rattle.world.specs.Worlds.{World, start}
 use Rattle.world.specs.Events.{run}
 use Rattle.world.specs.Safe.{Has, Kept, Steady}
-use Rattle.world_laws.specs.Stamping.{Givens, none_given, given_in}
+use Rattle.world.specs.Nodes.{block_of}
+use Rattle.world_laws.specs.Carrying.{new_stamp}
+use Rattle.world_laws.specs.Stamping.{Givens, none_given, given_in, Recorded}
+use Rattle.world_writers.specs.Taking.{Joins}
 use Rattle.world_laws.proofs.PlacedLaws.{all-placed}
 use Rattle.world_recoveries.proofs.AllRecovering.{all-recovering}
 use Rattle.world_recoveries.proofs.AllNaming.{all-none-stale}
@@ -17,13 +20,34 @@ use Rattle.world_acks.proofs.AllAcked.{all-acked}
 use Rattle.world_laws.proofs.AllRecorded.{all-recorded}
 use Rattle.world_writers.proofs.AllJoin.{all-join}
 use Rattle.world_writers.proofs.AllShow.{all-sit}
-use Rattle.world_writers.proofs.Lifting.{Lifted, writer-up-lifted}
 use Rattle.world_writers.proofs.Seating.{Seating, told-since, later-keeps}
 use Rattle.world_writers.proofs.Leaving.{Leaving, updates-keep}
 use Rattle.world_writers.proofs.Staying.{answered-stay}
 
 covers : (nodes : ℕ) (events : List Event) → nodes ≤ MAX_NODES → RequestsCover (given_in none_given (start nodes) events) (run (start nodes) events)
-covers nodes events le = ?
+covers nodes events le a c session f h x b ga gf lt = j.cover a c y.0 f h x b y.1 (there ∙ ap (λ (e : ℕ). Some e) (sym same)) lt
+  where
+    w : World
+    w = run (start nodes) events
+
+    j : Joins w
+    j = all-join nodes events le
+
+    r : Recorded (given_in none_given (start nodes) events) w
+    r = all-recorded nodes events
+
+    y : (e : ℕ) × (j.setups a.block a.stamp ≡ Some e)
+    y = j.answered a h
+
+    z : (e : ℕ) × (j.setups (block_of f) (new_stamp f).0 ≡ Some e)
+    z = j.given c f x
+
+    there : j.setups a.block (new_stamp f).0 ≡ Some z.0
+    there = ap (λ (v : ℕ). j.setups v (new_stamp f).0) (sym b) ∙ z.1
+
+    -- both are of the session that events have given them
+    same : y.0 ≡ z.0
+    same = sym (j.sessions a.block a.stamp y.0 y.1) ∙ r.session a.block a.stamp session ga ∙ sym (r.session a.block (new_stamp f).0 session gf) ∙ j.sessions a.block (new_stamp f).0 z.0 there
 
 seating : (nodes : ℕ) (events : List Event) → nodes ≤ MAX_NODES → Seating (given_in none_given (start nodes) events) (run (start nodes) events)
 seating nodes events le = record {

@@ -10,7 +10,7 @@ use Rattle.name_core.specs.declared.calls.OfficeAnswer.TheVariants as office
 use Rattle.name_core.specs.declared.calls.OfficeCall.{OfficeCall}
 use Rattle.name_core.specs.declared.calls.OfficeCall.TheVariants as call
 use Rattle.name_core.specs.Offices.{OfficeState, office_case}
-use Rattle.name_core.specs.Steps.{Step as OfficeStep, reply}
+use Rattle.name_core.specs.Steps.{Step as OfficeStep, reply, state_after}
 use Rattle.name_core.proofs.CaseLemmas.{each_case}
 use Rattle.writer_core.specs.declared.actions.Action.{Action}
 use Rattle.writer_core.specs.declared.actions.Action.TheVariants as action
@@ -31,7 +31,7 @@ use Rattle.writer_core.specs.Transitions.{Step, step_in, given, open_step, compl
 use Rattle.world.specs.declared.events.TakenCommand.{TakenCommand}
 use Rattle.world.specs.Connections.{is_conn}
 use Rattle.world.specs.Clients.{is_empty, is_formed, ruled, command_bytes, did, dialled_change, dialling, rest_in, takes_command, writer_step, writer_change, writer_up}
-use Rattle.world_laws.proofs.FactTables.{when-each, and-right, some-weaker}
+use Rattle.world_laws.proofs.FactTables.{if-each, when-each, and-right, some-weaker}
 use Rattle.world_laws.proofs.SessionAsides.{Aside}
 use Rattle.world_laws.proofs.StampWalking.{none-is}
 use Rattle.world_writers.specs.Moving.{Makes}
@@ -107,6 +107,27 @@ begun-by w b c = each_case w.office (BegunBy w b) (record {
   begun = λ block r is is_open. λ x a q. absurd a;
   synced = λ block id bytes members r is is_open latest. λ x a q. absurd a;
 }) c
+
+-- the sessions of the stamps that are given have begun
+abbrev SessionBy : World → OfficeCall → OfficeStep OfficeState OfficeAnswer → Type 0
+SessionBy w c s = (x : WriterRecord) → AsksAs x c → ((d : ℕ) → w.latest d < w.office.next.0) →
+    IfSome (stamped_by w c (reply s)) (λ z. (z.session < (state_after w.office s).next.0) × (z.latest < (state_after w.office s).next.0))
+
+pub session-by : (w : World) (c : OfficeCall) → SessionBy w c (office_case w.office c)
+session-by w c = each_case w.office (SessionBy w) (record {
+  refused = λ d e. λ x a l. subst (λ (o : Option Stamped). IfSome o (λ z. (z.session < w.office.next.0) × (z.latest < w.office.next.0))) (sym (refused-stamp w d e)) tt;
+  created = λ block members none. λ x a l. (omega arith, omega arith);
+  appended = λ block r is shut short. λ x a l. (omega arith, omega arith);
+  stamped = λ block r is writers. λ x a l. (omega (arith, l block.0), omega (arith, l block.0));
+  committed = λ block stamp members r is writers new. λ x a l. tt;
+  completed = λ block stamp bytes r is writers new. λ x a l. tt;
+  begun = λ block r is is_open. λ x a l. absurd a;
+  synced = λ block id bytes members r is is_open latest. λ x a l. absurd a;
+}) c
+
+pub late-with : (f : ℕ → ℕ) (s : Option Stamped) (n : ℕ) → ((d : ℕ) → f d < n) → IfSome s (λ z. z.latest < n) → (d : ℕ) → latest_with f s d < n
+late-with f None n h z d = h d
+late-with f (Some s) n h z d = if-each (λ (i : ℕ). i < n) (d == s.block) s.latest (f d) (λ _. z) (λ _. h d)
 
 -- WHAT A WRITER ANSWERS
 

@@ -21,6 +21,16 @@ use Rattle.world.specs.Safe.{Has}
 use Rattle.world_laws.proofs.GrowthLaws.{apply-grows}
 use Rattle.world_laws.proofs.FactTables.{if-each, and-left, and-right}
 use Rattle.world_laws.specs.Stamping.{Givens, InPhase, heard}
+use Rattle.packet_codec.specs.declared.packets.Packet.{Packet}
+use Rattle.writer_core.specs.declared.phases.Waiting.{Waiting}
+use Rattle.world.specs.Parts.{Answered}
+use Rattle.world.specs.Worlds.{latest_with}
+use Rattle.world_laws.proofs.SetupNodes.{has-split}
+use Rattle.world_acks.specs.Acking.{promised}
+use Rattle.world_writers.proofs.Reaching.{answers_in}
+use Rattle.world_writers.proofs.Stepping.{answers-latest}
+use Rattle.world_writers.proofs.Lifting.{Begun, AnswerFits}
+use Rattle.std.proofs.Common.{append-nil, IfSome}
 use Rattle.world_writers.proofs.Giving.{Sets}
 use Rattle.world_laws.specs.Carrying.{new_stamp, AsksFor, Asks}
 use Rattle.world_laws.proofs.ByteAsking.{first-dial}
@@ -337,20 +347,122 @@ unasked-after g l w k b s t h r old new u other = record {
 not-stamped : (p : Phase) (s : Setup) (t : Stamp) → is_stamped p ≡ false → p ≡ phase.Stamped s t → ⊥
 not-stamped p s t e q = false≢true (sym e ∙ ap is_stamped q)
 
--- the stamp of a request was given to a writer
-given-after : (w : World) (k : Change) (c : ℕ) (f : WriteFields) (h : Joins w) (z : Sets w k h.setups) → Sent w k c f → (e : ℕ) × (z.setups (block_of f) (new_stamp f).0 ≡ Some e)
-given-after w k c f h z (sent_before a) = let x = h.given c f a in z.keeps (block_of f) (new_stamp f).0 x.0 x.1
-given-after w k c f h z (sent_now at d i (of_member p)) =
-    let x = h.given k.lower_at p.own p.waited.asked in
-    let y = z.keeps (block_of p.own) (new_stamp p.own).0 x.0 x.1 in
-    (y.0, ap (λ (s : Stamp). z.setups (block_of f) s.0) p.stamp ∙ ap (λ (b : ℕ). z.setups b (new_stamp p.own).0) p.block ∙ y.1)
-given-after w k c f h z (sent_now at d i (of_writer p)) =
-    let b = k.writer_at in
+-- what a writer in a phase with a stamp fits
+stamped-given : (w : World) (h : Joins w) (b : ℕ) (s : Setup) (t : Stamp) → (heard (w.writers b)).phase ≡ phase.Stamped s t → h.setups b t.0 ≡ Some (w.latest b)
+stamped-given w h b s t e =
     let x = heard (w.writers b) in
-    let fits : InPhase (h.setups b) (w.latest b) None x.committed x.waiting x.stream.unacked (phase.Stamped p.setup_is p.stamp) =
-    subst (λ (q : Phase). InPhase (h.setups b) (w.latest b) None x.committed x.waiting x.stream.unacked q) p.phase_is (h.fits b) in
-    let y = z.keeps b p.stamp.0 (w.latest b) fits.0.session.is in
-    (y.0, ap (λ (s : Stamp). z.setups (block_of f) s.0) p.is ∙ ap (λ (d : ℕ). z.setups d p.stamp.0) p.block ∙ y.1)
+    let fits : InPhase (h.setups b) (w.latest b) None x.committed x.waiting x.stream.unacked (phase.Stamped s t) =
+    subst (λ (q : Phase). InPhase (h.setups b) (w.latest b) None x.committed x.waiting x.stream.unacked q) e (h.fits b) in
+    fits.0.session.is
+
+-- the stamp of a request was given to a writer before
+given-before : (w : World) (k : Change) (c : ℕ) (f : WriteFields) (h : Joins w) → Sent w k c f → (e : ℕ) × (h.setups (block_of f) (new_stamp f).0 ≡ Some e)
+given-before w k c f h (sent_before a) = h.given c f a
+given-before w k c f h (sent_now at d i (of_member p)) =
+    let x = h.given k.lower_at p.own p.waited.asked in
+    (x.0, ap (λ (s : Stamp). h.setups (block_of f) s.0) p.stamp ∙ ap (λ (b : ℕ). h.setups b (new_stamp p.own).0) p.block ∙ x.1)
+given-before w k c f h (sent_now at d i (of_writer p)) =
+    (w.latest k.writer_at, ap (λ (s : Stamp). h.setups (block_of f) s.0) p.is ∙ ap (λ (d : ℕ). h.setups d p.stamp.0) p.block ∙ stamped-given w h k.writer_at p.setup_is p.stamp p.phase_is)
+
+given-after : (w : World) (k : Change) (c : ℕ) (f : WriteFields) (h : Joins w) (z : Sets w k h.setups) → Sent w k c f → (e : ℕ) × (z.setups (block_of f) (new_stamp f).0 ≡ Some e)
+given-after w k c f h z s = let x = given-before w k c f h s in (x.0, z.keeps (block_of f) (new_stamp f).0 x.0 x.1)
+
+-- WHAT IS ANSWERED
+
+-- a length that was answered, or is now
+data Answering (w : World) (k : Change) (a : Answered) : Type 0 where
+  answered_before : Has w.answered a → Answering w k a
+  answered_now : AnswerFits w a → Answering w k a
+
+answering : (w : World) (k : Change) (a : Answered) → IfSome k.answered (AnswerFits w) → Has (w.answered ++ listed k.answered) a → Answering w k a
+answering w k a n h = go k.answered n h
+  where
+    go : (o : Option Answered) → IfSome o (AnswerFits w) → Has (w.answered ++ listed o) a → Answering w k a
+    go None n q = answered_before (subst (λ (ys : List Answered). Has ys a) (append-nil w.answered) q)
+    go (Some x) n q = either (has-split w.answered x a q)
+      where
+        either : Has w.answered a ⊎ (x ≡ a) → Answering w k a
+        either (inl j) = answered_before j
+        either (inr e) = answered_now (subst (λ (y : Answered). AnswerFits w y) e n)
+
+-- the stamp of what is answered now is of the latest session, and no later one was given to a writer
+now-given : (w : World) (h : Joins w) (a : Answered) → AnswerFits w a → h.setups a.block a.stamp ≡ Some (w.latest a.block)
+now-given w h a n =
+    let x = heard (w.writers a.block) in
+    ap (λ (s : ℕ). h.setups a.block s) n.stamp ∙ answers-latest (h.setups a.block) (w.latest a.block) None x.committed x.waiting x.stream.unacked x.phase n.answers (h.fits a.block)
+
+answers-newest : (f : ℕ → Option ℕ) (l : ℕ) (c : Stamp) (waits : Option Waiting) (ps : List Packet) (p : Phase) → answers_in p ≡ true → InPhase f l None c waits ps p → (t e : ℕ) → f t ≡ Some e → t ≤ c.0
+answers-newest f l c waits ps (phase.Streaming sent) a h = h.0.newest.last refl
+answers-newest f l c waits ps phase.Completed a h = h.newest.last refl
+answers-newest f l c waits ps phase.Closed a h = absurd (false≢true a)
+answers-newest f l c waits ps (phase.Wanted s) a h = absurd (false≢true a)
+answers-newest f l c waits ps (phase.Stamped s t) a h = absurd (false≢true a)
+answers-newest f l c waits ps (phase.Requested s t) a h = absurd (false≢true a)
+answers-newest f l c waits ps (phase.Accepted s t) a h = absurd (false≢true a)
+answers-newest f l c waits ps phase.Opened a h = absurd (false≢true a)
+answers-newest f l c waits ps phase.Closing a h = absurd (false≢true a)
+answers-newest f l c waits ps phase.Finished a h = absurd (false≢true a)
+answers-newest f l c waits ps (phase.Failed e) a h = absurd (false≢true a)
+
+answered-given : (w : World) (k : Change) (a : Answered) (h : Joins w) → Answering w k a → (e : ℕ) × (h.setups a.block a.stamp ≡ Some e)
+answered-given w k a h (answered_before q) = h.answered a q
+answered-given w k a h (answered_now n) = (w.latest a.block, now-given w h a n)
+
+acked-before : (w : World) (k : Change) (a : Answered) (h : Joins w) → Answering w k a → h.setups a.block a.stamp ≡ Some (w.latest a.block) → a.length ≤ (heard (w.writers a.block)).stream.acked
+acked-before w k a h (answered_before q) e = h.acked a q e
+acked-before w k a h (answered_now n) e = n.acked
+
+acked-after : (w : World) (k : Change) (a : Answered) (h : Joins w) (z : Sets w k h.setups) → Answering w k a → z.setups a.block a.stamp ≡ Some (latest_with w.latest k.stamped a.block) → a.length ≤ (heard (put w.writers k.writer_at k.writer a.block)).stream.acked
+acked-after w k a h z q e = go (z.lifts a.block)
+  where
+    g : (e : ℕ) × (h.setups a.block a.stamp ≡ Some e)
+    g = answered-given w k a h q
+
+    same : g.0 ≡ latest_with w.latest k.stamped a.block
+    same = same_Some g.0 (latest_with w.latest k.stamped a.block) (sym (z.keeps a.block a.stamp g.0 g.1) ∙ e)
+
+    go : Begun w a.block k.stamped (heard (w.writers a.block)) (heard (put w.writers k.writer_at k.writer a.block)) → a.length ≤ (heard (put w.writers k.writer_at k.writer a.block)).stream.acked
+    go (inl x) = omega (arith, acked-before w k a h q (g.1 ∙ ap (λ (i : ℕ). Some i) (same ∙ x.0)), x.1)
+    go (inr x) = absurd (omega (arith, h.early a.block a.stamp g.0 g.1, same, x))
+
+cover-old : (w : World) (k : Change) (a : Answered) (c e : ℕ) (f : WriteFields) (h : Joins w) → Has w.answered a → Sent w k c f → block_of f ≡ a.block → h.setups a.block a.stamp ≡ Some e → h.setups a.block (new_stamp f).0 ≡ Some e → a.stamp < (new_stamp f).0
+    → a.length ≤ promised f
+cover-old w k a c e f h q (sent_before x) b s t lt = h.cover a c e f q x b s t lt
+cover-old w k a c e f h q (sent_now at d i (of_member p)) b s t lt =
+    let same = ap (λ (v : Stamp). v.0) p.stamp in
+    let low = h.cover a k.lower_at e p.own q p.waited.asked (sym p.block ∙ b) s (ap (λ (v : ℕ). h.setups a.block v) (sym same) ∙ t) (omega (arith, lt, same)) in
+    omega (arith, low, p.least)
+cover-old w k a c e f h q (sent_now at d i (of_writer p)) b s t lt =
+    let here : a.block ≡ k.writer_at = sym b ∙ p.block in
+    let latest : h.setups a.block (new_stamp f).0 ≡ Some (w.latest a.block) =
+    ap (λ (v : Stamp). h.setups a.block v.0) p.is ∙ subst (λ (v : ℕ). h.setups v p.stamp.0 ≡ Some (w.latest v)) (sym here) (stamped-given w h k.writer_at p.setup_is p.stamp p.phase_is) in
+    let low = h.acked a q (s ∙ sym t ∙ latest) in
+    omega (arith, low, p.covers, ap (λ (v : ℕ). (heard (w.writers v)).stream.acked) here)
+
+cover-after : (w : World) (k : Change) (a : Answered) (c e : ℕ) (f : WriteFields) (h : Joins w) (z : Sets w k h.setups) → Answering w k a → Sent w k c f → block_of f ≡ a.block → z.setups a.block a.stamp ≡ Some e → z.setups a.block (new_stamp f).0 ≡ Some e
+    → a.stamp < (new_stamp f).0 → a.length ≤ promised f
+cover-after w k a c e f h z q x b s t lt = go q
+  where
+    g : (e : ℕ) × (h.setups a.block a.stamp ≡ Some e)
+    g = answered-given w k a h q
+
+    d : (e : ℕ) × (h.setups (block_of f) (new_stamp f).0 ≡ Some e)
+    d = given-before w k c f h x
+
+    there : h.setups a.block (new_stamp f).0 ≡ Some d.0
+    there = ap (λ (v : ℕ). h.setups v (new_stamp f).0) (sym b) ∙ d.1
+
+    one : g.0 ≡ e
+    one = same_Some g.0 e (sym (z.keeps a.block a.stamp g.0 g.1) ∙ s)
+
+    two : d.0 ≡ e
+    two = same_Some d.0 e (sym (z.keeps a.block (new_stamp f).0 d.0 there) ∙ t)
+
+    go : Answering w k a → a.length ≤ promised f
+    go (answered_before q) = cover-old w k a c e f h q x b (g.1 ∙ ap (λ (i : ℕ). Some i) one) (there ∙ ap (λ (i : ℕ). Some i) two) lt
+    go (answered_now n) =
+        let y = heard (w.writers a.block) in
+        absurd (omega (arith, answers-newest (h.setups a.block) (w.latest a.block) y.committed y.waiting y.stream.unacked y.phase n.answers (h.fits a.block) (new_stamp f).0 d.0 there, n.stamp, lt))
 
 pub joins-apply : (g l : Givens) (w : World) (k : Change) (h : Joins w) → Takes w k → Then w k → Sets w k h.setups → Facts g w → Facts l (apply w k) → Joins (apply w k)
 unfolding apply
@@ -368,6 +480,12 @@ joins-apply g l w k h r t z old new = record {
   fits = z.fits;
   under = z.under;
   given = λ c f x. given-after w k c f h z (sent g l w k c f h r old new x);
+  sessions = z.sessions;
+  early = z.early;
+  late = z.late;
+  answered = λ a x. let y = answered-given w k a h (answering w k a z.answers x) in (y.0, z.keeps a.block a.stamp y.0 y.1);
+  acked = λ a x e. acked-after w k a h z (answering w k a z.answers x) e;
+  cover = λ a c e f x y b s q lt. cover-after w k a c e f h z (answering w k a z.answers x) (sent g l w k c f h r old new y) b s q lt;
   reach = λ c d b f q o x y e up i. reach-after g w k c d b f q o h old e up x y (sent g l w k c f h r old new x) (sent g l w k d q h r old new y) i;
   single = λ s n a b lt x y. single-after w k s n a b h r lt (split-has w.joined k.joined (joined_as s n a) x) (split-has w.joined k.joined (joined_as s n b) y);
 }

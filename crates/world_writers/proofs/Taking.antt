@@ -1,5 +1,5 @@
 -- What a change makes of the requests that wait and of the setups that were accepted.
-use Rattle.std.proofs.Common.{◌≡◌, ℕ, zero, suc, ◌<◌, Bool, true, false, List, [], ◌∷◌, ◌++◌, take, slice_get, Option, Some, None, IfSome, Result, Ok, Err, IfOk, refl, sym, ◌∙◌, ap, subst}
+use Rattle.std.proofs.Common.{◌≤◌, ◌≡◌, ℕ, zero, suc, ◌<◌, Bool, true, false, List, [], ◌∷◌, ◌++◌, take, slice_get, Option, Some, None, IfSome, Result, Ok, Err, IfOk, refl, sym, ◌∙◌, ap, subst}
 use Rattle.std.specs.Prelude.{map, option_map}
 use Rattle.std.proofs.lemmas.Option.{none-some, same_Some}
 use Rattle.hd_base.specs.declared.numbers.Stamp.{Stamp}
@@ -59,6 +59,7 @@ pub record PassesOn (w : World) (k : Change) (d : Dial) (f : WriteFields) : Type
   pub stamp : new_stamp f ≡ new_stamp own
   pub upper : d.dialled.upper ≡ by_member k.lower_at
   pub block : block_of f ≡ block_of own
+  pub least : promised f ≡ promised own
   pub rest : Some d.dialled.to.node ∷ map (λ (t : NodeRef). node_on t.xfer) f.targets ≡ map (λ (t : NodeRef). node_on t.xfer) own.targets
 
 -- a writer's request: under the stamp that its setup had, to members that stand once
@@ -68,6 +69,7 @@ pub record Begins (w : World) (k : Change) (d : Dial) (f : WriteFields) : Type 0
   pub phase_is : (heard (w.writers k.writer_at)).phase ≡ phase.Stamped setup_is stamp
   pub is : new_stamp f ≡ stamp
   pub block : block_of f ≡ k.writer_at
+  pub covers : (heard (w.writers k.writer_at)).stream.acked ≤ promised f
   pub members : List NodeId
   pub distinct : are_distinct members ≡ true
   pub reaches : (i n : ℕ) → n < w.nodes → slice_get (Some d.dialled.to.node ∷ map (λ (t : NodeRef). node_on t.xfer) f.targets) i ≡ Some (Some n) → (m : NodeId) × (slice_get members i ≡ Some m) × (m.0 ≡ n)
@@ -180,6 +182,7 @@ passes-on w k f q d h busy x e =
       stamp = ap new_stamp (sym same);
       upper = x.upper;
       block = ap block_of (sym same);
+      least = ap promised (sym same);
       rest = ap (λ (o : Option ℕ). o ∷ map (λ (t : NodeRef). node_on t.xfer) q.targets) (sym x.node)
           ∙ ap (λ (ts : List NodeRef). node_on x.first.xfer ∷ map (λ (t : NodeRef). node_on t.xfer) ts) (sym (ap (λ (y : WriteFields). y.targets) same))
           ∙ ap (λ (ts : List NodeRef). map (λ (t : NodeRef). node_on t.xfer) ts) (sym x.targets);
