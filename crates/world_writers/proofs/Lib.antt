@@ -18,6 +18,3 @@ pub mod Staying
 pub mod Stepping
 pub mod Taking
 pub mod Trailing
-pub mod Leaving
-pub mod Seating
-mod Kept

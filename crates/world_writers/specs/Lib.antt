@@ -4,4 +4,3 @@ pub mod Settling
 pub mod Showing
 pub mod Staying
 pub mod Taking
-pub mod Leaving

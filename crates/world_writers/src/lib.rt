@@ -6,7 +6,6 @@ ghost use Rattle.std.specs.Prelude.{◌≤◌};
 ghost use Rattle.hd_base.specs.declared.roads.TheConstants.{MAX_NODES};
 ghost use Rattle.world.specs.Worlds.{start};
 ghost use Rattle.world.specs.Events.{run};
-ghost use Rattle.world.specs.Safe.{Kept};
 ghost use Rattle.world_writers.specs.Moving.{AllMove, AllReached};
 ghost use Rattle.world_writers.specs.Piping.{AllPiped};
 ghost use Rattle.world_writers.specs.Settling.{AllSit};
@@ -58,10 +57,4 @@ pub fn setups_are_accepted_once()
 pub fn answered_bytes_stay(schedule: &Schedule)
     requires few { schedule.now.nodes ≤ MAX_NODES }
     ensures { AnsweredStay (run (start schedule.now.nodes) schedule.now.events) }
-{}
-
-/// Bytes for which an hflush, hsync or close was answered stay at each member that is steady since the stamp of the answer.
-pub fn kept_law(schedule: &Schedule)
-    requires few { schedule.now.nodes ≤ MAX_NODES }
-    ensures { Kept (run (start schedule.now.nodes) schedule.now.events) }
 {}
