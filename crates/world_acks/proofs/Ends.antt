@@ -71,7 +71,7 @@ pub beside-leaf : (g : Givens) (t : Ends) (w : World) (k : Change) → Known g t
 beside-leaf g t w k h a steps pends ups = record {
   steps = steps;
   requests = still-requests w k h.requests a.writer a.dials (λ e. absurd (a.busy e));
-  news = λ on facts. record {
+  news = λ on facts recovers. record {
     ups = ups (apply w k) on;
     downs = λ c. subst (λ (ms : List Message). Each (DownTells g t (apply w k) c) ms) (sym (a.downs c)) (each-nil (DownTells g t (apply w k) c));
     dials = λ i d e. absurd (none-some d (sym (ap (λ xs. slice_get xs i) a.dials) ∙ e));

@@ -25,6 +25,7 @@ use Rattle.world_laws.proofs.PlacedLaws.{all-placed}
 use Rattle.world_laws.proofs.Agreements.{office-and-writer-agree}
 use Rattle.world_laws.specs.Stamping.{Givens, none_given, given_by, given_in, heard}
 use Rattle.world_laws.proofs.ByteLeaves.{Facts}
+use Rattle.world_recoveries.proofs.AllRecovering.{happens-fits}
 use Rattle.world_acks.specs.Closing.{HasClosed, StandsClosed}
 use Rattle.world_acks.specs.Acking.{Ends}
 use Rattle.world_acks.proofs.Turning.{Known}
@@ -70,7 +71,7 @@ happens-closes : (g : Givens) (t : Ends) (w : World) (e : Event) → Before g t 
 unfolding happens
 happens-closes g t w e h f =
     let l = given_by g w e in
-    let k : Told g w l (happens w e) = happens-told g t w e h.known f in
+    let k : Told g w l (happens w e) = happens-told g t w e h.known (record { facts = f; coming = happens-fits g w e h.known.facts h.agreed h.known.recovering h.known.sets.writes }) in
     after-closes g l t w e (outcome w e) h k.closed (grows-by w e) (λ y. outcome-closes g l t w e h y)
 
 -- THE NUMBER OF NODES

@@ -183,7 +183,7 @@ run-final f g w (e ∷ events) r i c y h =
     let j = happens-recorded g w e i a in
     let d = happens-carried g w e x a in
     let next = reached-next w e r in
-    run-final (ids_by f w e) (given_by g w e) (happens w e) events next j d (happens-fits g w e x a y (reached-writes w r))
+    run-final (ids_by f w e) (given_by g w e) (happens w e) events next j d (happens-fits g w e x a y (reached-writes w r)).recovering
     (happens-final f g w e h x y (reached-broken w r) (reached-facts (given_by g w e) (happens w e) next j d))
 
 start-final : (nodes : ℕ) → Finals no_ids none_given (start nodes)

@@ -20,7 +20,7 @@ use Rattle.world.specs.Worlds.{Past, World, start}
 use Rattle.world.specs.Events.{run}
 use Rattle.world.specs.Safe.{Has}
 use Rattle.world_laws.specs.Stamping.{Givens, none_given, given_in}
-use Rattle.world_laws.specs.Joining.{joined_as}
+use Rattle.world_laws.specs.Joining.{joined_as, AtLeast}
 
 -- WHAT WAS TOLD AND SENT
 
@@ -188,6 +188,11 @@ pub record Recovering (g : Givens) (w : World) : Type 0 where
       (w.dialled c).to.life ≡ w.lives (w.dialled c).to.node → StillTrue id i (w.replicas (w.dialled c).to.node b).known.info
   pub updates : (c b : ℕ) (id : Stamp) (n : ℕ) → Updates w.past c b id n → UpdateFits w.past c b id n
   pub updated : (u : Updated) → Has w.updated u → WasSent w.past u
+  -- a replica that was updated in the life that its node is in is under that recovery's id or a later stamp
+  pub settled : (u : Updated) → Has w.updated u → u.life ≡ w.lives u.node → AtLeast (w.replicas u.node u.block).known.info u.recovery
+  -- what was told is of a stamp that no earlier recovery is above that updated the replica in that life
+  pub earlier : (c b : ℕ) (id : Stamp) (i : ReplicaTold) → Informs w.past c b id i → (u : Updated) → Has w.updated u → (w.dialled c).to ≡ record { node = u.node; life = u.life } →
+      u.block ≡ b → u.recovery < id.0 → u.recovery ≤ i.1.0
   -- a recovery has one length
   pub one_length : (c d a b : ℕ) (id : Stamp) (n m : ℕ) → Updates w.past c a id n → Updates w.past d b id m → n ≡ m
   pub primaries : (i : ℕ) → LeadFits w.past (w.primaries i)

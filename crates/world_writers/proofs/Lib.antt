@@ -2,10 +2,12 @@ pub mod AllJoin
 pub mod AllMove
 pub mod AllPiped
 pub mod AllShow
+pub mod Giving
 pub mod Granting
 pub mod Hearing
 pub mod Intakes
 pub mod Keeping
+pub mod Lifting
 pub mod Links
 pub mod Meeting
 pub mod Moving

@@ -1,5 +1,5 @@
--- Nodes accept the setup of a stamp once.
-use Rattle.std.specs.Prelude.{ℕ, ◌≡◌, ◌<◌, ◌≤◌, true, List, ◌∷◌, map, slice_get, Option, Some}
+-- Nodes accept the setup of a stamp once, and only those that the writer's request reaches.
+use Rattle.std.specs.Prelude.{ℕ, ◌≡◌, ◌<◌, ◌≤◌, true, List, ◌∷◌, map, slice_get, Option, Some, None}
 use Rattle.hd_base.specs.declared.numbers.Stamp.{Stamp}
 use Rattle.hd_base.specs.declared.roads.TheConstants.{MAX_NODES}
 use Rattle.op_headers.specs.declared.nodes.NodeRef.{NodeRef}
@@ -7,16 +7,16 @@ use Rattle.op_headers.specs.Values.{WriteFields}
 use Rattle.writer_core.specs.declared.phases.Phase.TheVariants as phase
 use Rattle.writer_core.specs.declared.phases.Setup.{Setup}
 use Rattle.world.specs.declared.events.Event.{Event}
-use Rattle.world.specs.Parts.{Message, Lower, idle}
+use Rattle.world.specs.Parts.{Message, Lower, Answered, idle, by_writer}
 use Rattle.world.specs.Worlds.{Past, World, start}
-use Rattle.world.specs.Nodes.{node_on}
+use Rattle.world.specs.Nodes.{node_on, block_of}
 use Rattle.world.specs.Clients.{are_distinct}
 use Rattle.world.specs.Events.{run}
 use Rattle.world.specs.Safe.{Has}
-use Rattle.world_laws.specs.Stamping.{heard}
+use Rattle.world_laws.specs.Stamping.{Givens, Fits, heard}
 use Rattle.world_laws.specs.Carrying.{new_stamp}
 use Rattle.world_laws.specs.Joining.{joined_as}
-use Rattle.world_acks.specs.Acking.{Asked}
+use Rattle.world_acks.specs.Acking.{Asked, promised}
 
 -- a write request that its connection's lower end hasn't taken
 pub record Waits (h : Past) (lowers : ℕ → Lower) (c : ℕ) (f : WriteFields) : Type 0 where
@@ -46,6 +46,22 @@ pub record Joins (w : World) : Type 0 where
   pub unmet : (c : ℕ) (f : WriteFields) → Waits w.past w.lowers c f → IsUnmet w.past w.nodes c f
   pub stamped : (b : ℕ) (s : Setup) (stamp : Stamp) → (heard (w.writers b)).phase ≡ phase.Stamped s stamp → IsUnasked w.past stamp
   pub members : (b : ℕ) → are_distinct (heard (w.writers b)).members ≡ true
+  -- the stamps that were given to writers: what writers know fits these, as if no recovery had begun, and requests are of such stamps
+  pub setups : Givens
+  pub fits : (b : ℕ) → Fits (setups b) (w.latest b) None (heard (w.writers b))
+  pub under : (b t e : ℕ) → setups b t ≡ Some e → t < w.office.next.0
+  pub sessions : (b t e : ℕ) → setups b t ≡ Some e → w.session_of t ≡ e
+  pub early : (b t e : ℕ) → setups b t ≡ Some e → e < w.office.next.0
+  pub late : (b : ℕ) → w.latest b < w.office.next.0
+  -- what was answered in a writer's session is acked there, and each later setup of the session asks for it
+  pub answered : (a : Answered) → Has w.answered a → (e : ℕ) × (setups a.block a.stamp ≡ Some e)
+  pub acked : (a : Answered) → Has w.answered a → setups a.block a.stamp ≡ Some (w.latest a.block) → a.length ≤ (heard (w.writers a.block)).stream.acked
+  pub cover : (a : Answered) (c e : ℕ) (f : WriteFields) → Has w.answered a → Asked w.past c f → block_of f ≡ a.block → setups a.block a.stamp ≡ Some e →
+      setups a.block (new_stamp f).0 ≡ Some e → a.stamp < (new_stamp f).0 → a.length ≤ promised f
+  pub given : (c : ℕ) (f : WriteFields) → Asked w.past c f → (e : ℕ) × (setups (block_of f) (new_stamp f).0 ≡ Some e)
+  -- a writer's request reaches all that any request of its stamp reaches
+  pub reach : (c d b : ℕ) (f k : WriteFields) (o : Option ℕ) → Asked w.past c f → Asked w.past d k → new_stamp f ≡ new_stamp k → (w.dialled c).upper ≡ by_writer b →
+      Has (chain w.past d k) o → Has (chain w.past c f) o
   pub single : (stamp n l k : ℕ) → n < w.nodes → Has w.joined (joined_as stamp n l) → Has w.joined (joined_as stamp n k) → l ≡ k
 
 -- So it is after every list of events of at most 16 nodes.
