@@ -15,7 +15,7 @@ git init -q "$work"
 for crate in $crates; do
   grep "^$crate:" "$top/crates.txt" >> "$work/crates.txt"
   mkdir -p "$work/crates/$crate"
-  tar -C "$top/crates/$crate" --exclude=./out --exclude=./must-fail -cf - . | tar -C "$work/crates/$crate" -xf -
+  tar -C "$top/crates/$crate" --exclude=./out -cf - . | tar -C "$work/crates/$crate" -xf -
 done
 echo 'book_bench: hd_base mem_ports packet_codec replica_core replica_model replica_files bytes anyhow' >> "$work/crates.txt"
 mkdir -p "$work/crates/book_bench/src" "$work/crates/book_bench/proofs/new_book"

@@ -15,7 +15,7 @@ git init -q "$work"
 for crate in $crates; do
   grep "^$crate:" "$top/crates.txt" >> "$work/crates.txt"
   mkdir -p "$work/crates/$crate"
-  tar -C "$top/crates/$crate" --exclude=./out --exclude=./must-fail -cf - . | tar -C "$work/crates/$crate" -xf -
+  tar -C "$top/crates/$crate" --exclude=./out -cf - . | tar -C "$work/crates/$crate" -xf -
 done
 echo 'feed_bench: packet_codec frame_feed bytes anyhow' >> "$work/crates.txt"
 mkdir -p "$work/crates/feed_bench/src"

@@ -15,7 +15,7 @@ printf 'hd_base: thiserror\nscript_lang: hd_base thiserror hex itoa\nscript_benc
 mkdir -p "$work/crates/script_bench/src"
 for crate in hd_base script_lang; do
   mkdir -p "$work/crates/$crate"
-  tar -C "$top/crates/$crate" --exclude=./out --exclude=./must-fail -cf - . | tar -C "$work/crates/$crate" -xf -
+  tar -C "$top/crates/$crate" --exclude=./out -cf - . | tar -C "$work/crates/$crate" -xf -
 done
 cp "$here/program.rattle" "$work/crates/script_bench/src/main.rt"
 echo "proving and building; this takes some minutes" >&2

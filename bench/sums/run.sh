@@ -20,7 +20,7 @@ printf 'hd_base: thiserror\nchunk_sums: hd_base\nsums_bench: hd_base chunk_sums\
 mkdir -p "$work/crates/sums_bench/src"
 for crate in hd_base chunk_sums; do
   mkdir -p "$work/crates/$crate"
-  tar -C "$top/crates/$crate" --exclude=./out --exclude=./must-fail -cf - . | tar -C "$work/crates/$crate" -xf -
+  tar -C "$top/crates/$crate" --exclude=./out -cf - . | tar -C "$work/crates/$crate" -xf -
 done
 cp "$here/program.rattle" "$work/crates/sums_bench/src/main.rt"
 echo "proving and building; this takes some minutes" >&2

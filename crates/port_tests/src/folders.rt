@@ -1,8 +1,9 @@
 //! Files in folders of the system, a reader, and a writer behind a buffer.
 
 use crate::memory::{keep, look_at, use_shelf};
-use hd_base::{BlockId, FileError, FileName, Sink, Source};
+use hd_base::{BlockId, Failed, FileError, FileName, Files, Shelf, Sink, Source};
 use real_ports::{FolderShelf, StdSink, StdSource};
+use std::alloc::Global;
 use std::fs;
 use std::process::Abort;
 use std::test::Fail;
@@ -31,6 +32,32 @@ fn files_lie_in_a_folder(rt: HostRuntime) -> Result<(), Fail> {
     Ok(())
 }
 
+/// The length of a file of five bytes that is cut to none.
+fn emptied<F: Files>(alloc: Global, files: &mut F, name: &FileName) -> Result<u64, FileError> {
+    files.room(alloc, name, 5)?;
+    files.make(name)?;
+    files.write_at(name, 0, b"12345")?;
+    files.cut(name, 0)?;
+    files.length(name)
+}
+
+/// The same in a shelf's drawer, which it gets back.
+fn emptied_in<S: Shelf>(alloc: Global, shelf: &mut S, name: &FileName) -> Result<u64, FileError> {
+    let mut drawer = shelf.lend(alloc, BlockId(7))?;
+    let answer = emptied(alloc, &mut drawer, name);
+    shelf.give_back(BlockId(7), drawer);
+    answer
+}
+
+#[test]
+fn a_file_is_cut(rt: HostRuntime) -> Result<(), Fail> {
+    let mut shelf = FolderShelf::new(rt.alloc(), rt, "dn1")?;
+    assert_eq!(rt; emptied_in(rt.alloc(), &mut shelf, &data(&rt)), Ok(0));
+    let stored = fs::read(&rt, "dn1/current/a/blk_7")?;
+    assert!(rt; stored.is_empty());
+    Ok(())
+}
+
 #[test]
 fn a_folder_that_is_none_fails(rt: HostRuntime) -> Result<(), Fail> {
     fs::write(&rt, "plain", b"")?;
@@ -48,6 +75,16 @@ fn a_buffer_is_flushed(rt: HostRuntime) -> Result<(), Fail> {
     assert_eq!(rt; sink.flush(), Ok(()));
     drop(sink);
     assert_eq!(rt; written.as_slice(), b"abc".as_slice());
+    Ok(())
+}
+
+#[test]
+fn a_flush_that_finds_no_room_fails(rt: HostRuntime) -> Result<(), Fail> {
+    let mut room = [0u8; 2];
+    let mut writer = room.as_mut_slice();
+    let mut sink = StdSink::new(rt.alloc(), &mut writer)?;
+    assert_eq!(rt; sink.write(b"abc"), Ok(3));
+    assert_eq!(rt; sink.flush(), Err(Failed));
     Ok(())
 }
 

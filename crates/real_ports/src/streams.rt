@@ -5,7 +5,7 @@ ghost use Rattle.hd_base.specs.Faults.{HasCause};
 
 use hd_base::{Failed, Sink, Source};
 use std::alloc::{AllocError, Global};
-use std::io::{self, BufWriter, Read, Write};
+use std::io::{BufWriter, Read, Write};
 
 /// A reader as a source. It shows nothing of what is left.
 #[derive(Drop)]
@@ -43,14 +43,14 @@ pub struct StdSink<W: Write + Drop> {
 }
 
 impl<W: Write + Drop> StdSink<W> {
-    /// A sink over this writer.
-    pub fn new(alloc: Global, inner: W) -> io::Result<StdSink<W>>
+    /// A sink over this writer. Its only error is that the buffer finds no memory.
+    pub fn new(alloc: Global, inner: W) -> Result<StdSink<W>, AllocError>
         ensures { IfOk result (λ sink. ⟦<StdSink<W> as Sink>⟧.faults sink ≡ 0) }
     {
-        Ok(StdSink {
-            inner: BufWriter::new(alloc, inner)?,
-            faults: 0,
-        })
+        match BufWriter::new(alloc, inner) {
+            Ok(inner) => Ok(StdSink { inner, faults: 0 }),
+            Err(_) => Err(AllocError),
+        }
     }
 
     /// Brings what stands in the buffer to the writer. A failure is counted.

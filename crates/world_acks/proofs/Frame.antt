@@ -7,14 +7,14 @@ use Rattle.replica_model.specs.Rows.{FullReplica, IsFull}
 use Rattle.world.specs.Parts.{Message, Lower}
 use Rattle.world.specs.Worlds.{World, Dial, Change, put, put_at, listed, dial_at, latest_with, past_after, apply}
 use Rattle.world.specs.Safe.{Has}
-use Rattle.world_facts.specs.Growing.{Begins}
-use Rattle.world_facts.proofs.GrowthLaws.{apply-grows}
-use Rattle.world_facts.proofs.Tables.{if-each, put-each, and-left, and-right}
-use Rattle.world_stamps.specs.Stamping.{Givens, heard}
-use Rattle.world_bytes.proofs.Frame.{Each, each-nil, each-one, each-append}
-use Rattle.world_setups.specs.Joining.{joined_as}
-use Rattle.world_acks.specs.Acking.{Ends, UpTells, DownTells, UpperTells, LowerTells, Pends, Numbers, Acked}
-use Rattle.world_acks.proofs.Seats.{has-left, Steps, seat-apply, Onward, up-on, down-on, upper-on, lower-on, pends-on}
+use Rattle.world_laws.specs.Growing.{Begins}
+use Rattle.world_laws.proofs.GrowthLaws.{apply-grows}
+use Rattle.world_laws.proofs.FactTables.{if-each, put-each, and-left, and-right}
+use Rattle.world_laws.specs.Stamping.{Givens, heard}
+use Rattle.world_laws.proofs.ByteFrame.{Each, each-nil, each-one, each-append}
+use Rattle.world_laws.specs.Joining.{joined_as}
+use Rattle.world_acks.specs.Acking.{PacketEnd, Ends, UpTells, DownTells, UpperTells, LowerTells, Pends, Numbers, Acked}
+use Rattle.world_acks.proofs.Seats.{has-left, Steps, seat-apply, Onward, Lasting, up-on, down-on, upper-on, lower-on, pends-on}
 
 -- ONWARD
 
@@ -22,11 +22,11 @@ first-more : (xs ys : List Message) (m : Message) → slice_get xs 0 ≡ Some m 
 first-more [] ys m e = absurd (none-some m e)
 first-more (x ∷ xs) ys m e = e
 
-begins-first : (xs ys : List Message) (m : Message) → Begins xs ys → slice_get xs 0 ≡ Some m → slice_get ys 0 ≡ Some m
+pub begins-first : (xs ys : List Message) (m : Message) → Begins xs ys → slice_get xs 0 ≡ Some m → slice_get ys 0 ≡ Some m
 begins-first xs ys m b e = subst (λ (zs : List Message). slice_get zs 0 ≡ Some m) b.joins (first-more xs b.rest m e)
 
 pub apply-onward : (g k : Givens) (t u : Ends) (w : World) (c : Change) → Steps w c → ((n b : ℕ) → IsFull (w.replicas n b)) → IsFull c.replica
-    → ((b s e : ℕ) → g b s ≡ Some e → k b s ≡ Some e) → ((e x : ℕ) (q : ℤ) → t e q ≡ Some x → u e q ≡ Some x) → Onward g k t u w (apply w c)
+    → ((b s e : ℕ) → g b s ≡ Some e → k b s ≡ Some e) → ((e : ℕ) (x : PacketEnd) (q : ℤ) → t e q ≡ Some x → u e q ≡ Some x) → Onward g k t u w (apply w c)
 unfolding apply
 apply-onward g k t u w c st full new given named =
     let y = apply-grows w c in
@@ -51,7 +51,7 @@ pub record News (g : Givens) (t : Ends) (w : World) (k : Change) : Type 0 where
   pub replica : IfSome k.replica.known.info (Pends g t k.block k.replica.known)
   pub joined : (s n l : ℕ) → Has k.joined (joined_as s n l) → l ≤ w.lives n
   pub writers : (b : ℕ) → Numbers (g b) t (latest_with w.latest k.stamped b) (heard (put w.writers k.writer_at k.writer b))
-  pub begun : (e x : ℕ) (q : ℤ) → t e q ≡ Some x → e < k.office.next.0
+  pub begun : (e : ℕ) (x : PacketEnd) (q : ℤ) → t e q ≡ Some x → e < k.office.next.0
 
 put-at-each : {A : Type 0} (P : ℕ → ℕ → A → Type 0) (f : ℕ → ℕ → A) (i k : ℕ) (x : A) → P i k x → ((j l : ℕ) → P j l (f j l)) → (j l : ℕ) → P j l (put_at f i k x j l)
 put-at-each {A} P f i k x h q j l =
@@ -60,7 +60,7 @@ put-at-each {A} P f i k x h q j l =
     (subst (λ (n : ℕ). P i n x) (sym (eqb-true l k (and-right (j == i) (l == k) e))) h))
     (λ e. q j l)
 
-dial-place : (next : ℕ) (dials : List Dial) (c : ℕ) (d : Dial) → dial_at next dials c ≡ Some d → (slice_get dials (c - next) ≡ Some d) × (next + (c - next) ≡ c)
+pub dial-place : (next : ℕ) (dials : List Dial) (c : ℕ) (d : Dial) → dial_at next dials c ≡ Some d → (slice_get dials (c - next) ≡ Some d) × (next + (c - next) ≡ c)
 dial-place next dials c d e = go (nat_le next c) refl
   where
     go : (b : Bool) → nat_le next c ≡ b → (slice_get dials (c - next) ≡ Some d) × (next + (c - next) ≡ c)
@@ -74,12 +74,12 @@ new-downs g t w k c n (Some d) e =
     let at = dial-place w.next_conn k.dials c d e in
     each-one (DownTells g t (apply w k) c) d.request (subst (λ (j : ℕ). DownTells g t (apply w k) j d.request) at.1 (n.dials (c - w.next_conn) d at.0))
 
-none-past : {A : Type 0} (xs : List A) (i : ℕ) → slice_get xs i ≡ None → length xs ≤ i
+pub none-past : {A : Type 0} (xs : List A) (i : ℕ) → slice_get xs i ≡ None → length xs ≤ i
 none-past [] i e = omega arith
 none-past (x ∷ xs) zero e = absurd (none-some x (sym e))
 none-past (x ∷ xs) (suc i) e = omega (arith, none-past xs i e)
 
-dial-none : (next : ℕ) (dials : List Dial) (c : ℕ) → dial_at next dials c ≡ None → c < next + length dials → c < next
+pub dial-none : (next : ℕ) (dials : List Dial) (c : ℕ) → dial_at next dials c ≡ None → c < next + length dials → c < next
 dial-none next dials c e lt = go (nat_le next c) refl
   where
     go : (b : Bool) → nat_le next c ≡ b → c < next
@@ -89,11 +89,11 @@ dial-none next dials c e lt = go (nat_le next c) refl
         le = grind (arith, nat_tests, q)
     go false q = grind (arith, nat_tests, q)
 
-upper-of : (l g : Givens) (s t : Ends) (w : World) (k : Change) → Acked l s w → Onward l g s t w (apply w k) → News g t w k → (c : ℕ) → c < w.next_conn + length k.dials → (o : Option Dial) → dial_at w.next_conn k.dials c ≡ o
+upper-of : (l g : Givens) (s t : Ends) (w : World) (k : Change) → Acked l s w → Lasting l g s t w (apply w k) → News g t w k → (c : ℕ) → c < w.next_conn + length k.dials → (o : Option Dial) → dial_at w.next_conn k.dials c ≡ o
     → UpperTells (past_after w k) c (unwrap_or (option_map (λ d. d.dialled) o) (w.dialled c)).upper
 unfolding apply
 upper-of l g s t w k h y n c lt None e =
-    let low = dial-none w.next_conn k.dials c e lt in upper-on l g s t w (apply w k) c (w.dialled c).upper y low (h.uppers c low)
+    let low = dial-none w.next_conn k.dials c e lt in upper-on l g s t w (apply w k) c (w.dialled c).upper y.on low (h.uppers c low)
 upper-of l g s t w k h y n c lt (Some d) e =
     let at = dial-place w.next_conn k.dials c d e in subst (λ (j : ℕ). UpperTells (past_after w k) j d.dialled.upper) at.1 (n.uppers (c - w.next_conn) d at.0)
 
@@ -117,7 +117,7 @@ lives-of g t w k h n s m l q = go (has-either w.joined k.joined (joined_as s m l
     go (inl x) = h s m l x
     go (inr x) = n.joined s m l x
 
-pub keeps : (l g : Givens) (s t : Ends) (w : World) (k : Change) → Acked l s w → Onward l g s t w (apply w k) → News g t w k → Acked g t (apply w k)
+pub keeps : (l g : Givens) (s t : Ends) (w : World) (k : Change) → Acked l s w → Lasting l g s t w (apply w k) → News g t w k → Acked g t (apply w k)
 unfolding apply
 keeps l g s t w k h y n =
     let v = apply w k in
@@ -126,11 +126,11 @@ keeps l g s t w k h y n =
       begun = n.begun;
       ups = λ c. (each-append (UpTells g t v c) (w.ups c) (k.ups c) (record { at = λ i m e. up-on l g s t w v c m y (h.ups c i m e) }) (n.ups c)).at;
       downs = λ c. (each-append (DownTells g t v c) (w.downs c ++ k.downs c) _
-          (each-append (DownTells g t v c) (w.downs c) (k.downs c) (record { at = λ i m e. down-on l g s t w v c m y (h.downs c i m e) }) (n.downs c))
+          (each-append (DownTells g t v c) (w.downs c) (k.downs c) (record { at = λ i m e. down-on l g s t w v c m y.on (h.downs c i m e) }) (n.downs c))
           (new-downs g t w k c n (dial_at w.next_conn k.dials c) refl)).at;
       uppers = λ c lt. upper-of l g s t w k h y n c lt (dial_at w.next_conn k.dials c) refl;
       lowers = put-each (λ (c : ℕ) (x : Lower). LowerTells g v c x) w.lowers k.lower_at k.lower n.lower (λ c. lower-on l g s t w v c (w.lowers c) y (h.lowers c));
       replicas = put-at-each (λ (m b : ℕ) (r : FullReplica). IfSome r.known.info (Pends g t b r.known)) w.replicas k.node k.block k.replica n.replica
-          (λ m b. pends-on l g s t w v b (w.replicas m b).known y (h.replicas m b));
+          (λ m b. pends-on l g s t w v b (w.replicas m b).known y.on (h.replicas m b));
       writers = n.writers;
     }

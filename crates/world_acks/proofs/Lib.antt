@@ -1,4 +1,7 @@
 pub mod Shows
+pub mod ClosedRows
+pub mod ClosedMoves
+pub mod ClosedLaws
 pub mod Seats
 pub mod Frame
 pub mod Pending
@@ -7,6 +10,7 @@ pub mod Lowers
 pub mod Setups
 pub mod Ends
 pub mod Moves
+pub mod Requests
 pub mod Clients
 pub mod Offices
 pub mod Granting

@@ -1,8 +1,8 @@
 -- What lower ends make of what answers and acks say.
 use Rattle.std.proofs.Common.{◌≡◌, ℕ, ℤ, ◌<◌, ◌≤◌, ◌⊎◌, inl, inr, Bool, true, false, List, slice_get, Option, Some, None, IfSome, refl, sym, ◌∙◌, ap, subst, arith}
-use Rattle.std.specs.Prelude.{◌==◌, ◌&&◌, nat_le, negsuc, pos, if◌then◌else◌}
+use Rattle.std.specs.Prelude.{nat_le, negsuc, pos}
 use Rattle.std.specs.Ordering.{int_eq}
-use Rattle.std.proofs.lemmas.Bool.{eqb-false, false≢true}
+use Rattle.std.proofs.lemmas.Bool.{false≢true}
 use Rattle.std.proofs.lemmas.Bool.Decides.{nat_tests}
 use Rattle.std.proofs.lemmas.Option.{none-some}
 use Rattle.hd_base.specs.declared.numbers.Stamp.{Stamp}
@@ -31,31 +31,38 @@ use Rattle.member_core.specs.declared.turns.Side.TheVariants as side
 use Rattle.member_core.specs.declared.turns.Turn.{Turn}
 use Rattle.member_core.specs.Members.{MemberState, down_turn, up_turn, hears, settled, closed, closed_by, bad_sum}
 use Rattle.member_core.specs.Steps.{Step, step, faulted_step, replica_after, outcome_of, oldest_at, ready_turn_at}
-use Rattle.world.specs.Parts.{Message, request, packet, ack, response, read_status, recovery_answer, FullMember, writes, Writing, Break}
-use Rattle.world.specs.Worlds.{no_past, World, Change, Stamped, put, put_at, latest_with, apply}
+use Rattle.world.specs.Parts.{Message, request, packet, ack, response, read_status, recovery_answer, FullMember, idle, writes, Writing, Break}
+use Rattle.world.specs.Worlds.{no_past, World, Change, Stamped, put, latest_with, apply}
 use Rattle.world.specs.Connections.{Next, message, the_end}
 use Rattle.world.specs.Nodes.{node_of, replica_at, block_of, above_of, below_of, upward_message, sent_up, passed, member_change, failing_turn, turn_change, pending_at, takes_next, member_down, member_up, ready_change, member_ready, broke_at}
-use Rattle.world_facts.proofs.Tables.{when-each, put-each, some-weaker}
-use Rattle.world_stamps.specs.Stamping.{Givens, none_given, heard}
-use Rattle.world_bytes.specs.Carrying.{new_stamp, Sets, LowerSays, WriteSays}
-use Rattle.world_bytes.proofs.Frame.{Each, each-nil, each-one}
-use Rattle.world_bytes.proofs.Leaves.{Facts, one-session, sent-each, sent-if}
-use Rattle.world_bytes.proofs.Rows.{Allows}
-use Rattle.world_bytes.proofs.Turns.{Idles, up-idles, ready-idles, follows}
-use Rattle.world_setups.proofs.Rising.{IsNoSetup, event-goes, lasting-of, event-broken}
-use Rattle.world_acks.specs.Acking.{Ends, UpTells, PacketTells, DownTells, IsPipe, MemberTells, PendingTells, Pends, Numbers, Acked}
+use Rattle.world_laws.proofs.FactTables.{when-each, put-each, some-weaker}
+use Rattle.world_laws.specs.Stamping.{Givens, none_given, heard}
+use Rattle.world_laws.specs.Carrying.{new_stamp, Sets, LowerSays, WriteSays}
+use Rattle.world_laws.proofs.ByteFrame.{Each, each-nil, each-one}
+use Rattle.world_laws.proofs.ByteLeaves.{Facts, one-session, sent-each, sent-if}
+use Rattle.world_laws.proofs.ByteRows.{Allows}
+use Rattle.world_laws.proofs.ByteTurns.{Idles, up-idles, ready-idles, follows}
+use Rattle.world_laws.proofs.SetupRising.{IsNoSetup, event-goes, lasting-of, event-broken}
+use Rattle.world_acks.specs.Acking.{PacketEnd, Ends, UpTells, PacketTells, DownTells, IsPipe, MemberTells, PendingTells, Pends, Numbers, Acked}
 use Rattle.world_acks.proofs.Shows.{IsNoUpdate}
-use Rattle.world_acks.proofs.Seats.{Steps, steps-same, steps-row, Onward, member-on, numbered-on, pipe-on}
+use Rattle.world_acks.proofs.Seats.{Steps, steps-same, steps-row, Lasting, member-on, numbered-on, pipe-on}
 use Rattle.world_acks.proofs.Frame.{News}
+use Rattle.world_acks.proofs.ClosedMoves.{put-self}
+use Rattle.world_acks.proofs.Requests.{Requesting, still-requests}
 use Rattle.world_acks.proofs.Pending.{Pend, Brought, event-pend}
 use Rattle.world_acks.proofs.Turning.{Known, Acts, HeardTells, FromMirror, same-asked, written-stamp, IsStreamCall, TurnTells, up-tells, ready-tells, down-tells}
 
 -- LEAVES
 
+-- a lower end that acts doesn't wait
+pub writes-busy : (m : FullMember) → writes m ≡ idle → ⊥
+writes-busy m e = cc
+
 -- what is needed of a change
 pub record Leaf (g : Givens) (t : Ends) (w : World) (k : Change) : Type 0 where
   pub steps : Steps w k
-  pub news : Onward g g t t w (apply w k) → Facts g (apply w k) → News g t w k
+  pub requests : Requesting w k
+  pub news : Lasting g g t t w (apply w k) → Facts g (apply w k) → News g t w k
 
 -- the office and the writers stay
 pub record Aside (w : World) (k : Change) : Type 0 where
@@ -68,22 +75,16 @@ still-numbers g t w k h s q b =
     subst (λ (o : Option Stamped). Numbers (g b) t (latest_with w.latest o b) (heard (put w.writers k.writer_at k.writer b))) (sym s)
     (put-each (λ (d : ℕ) (x : Writing). Numbers (g d) t (w.latest d) (heard x)) w.writers k.writer_at k.writer (subst (λ (x : Writing). Numbers (g k.writer_at) t (w.latest k.writer_at) (heard x)) (sym q) (h.writers k.writer_at)) h.writers b)
 
-pub aside-begun : (g : Givens) (t : Ends) (w : World) (k : Change) → Acked g t w → k.office ≡ w.office → (e x : ℕ) (q : ℤ) → t e q ≡ Some x → e < k.office.next.0
+pub aside-begun : (g : Givens) (t : Ends) (w : World) (k : Change) → Acked g t w → k.office ≡ w.office → (e : ℕ) (x : PacketEnd) (q : ℤ) → t e q ≡ Some x → e < k.office.next.0
 aside-begun g t w k h o e x q n = subst (λ z. e < z.next.0) (sym o) (h.begun e x q n)
-
-eq-self : (n : ℕ) → (n == n) ≡ true
-eq-self n = go (n == n) refl
-  where
-    go : (b : Bool) → (n == n) ≡ b → (n == n) ≡ true
-    go true e = e
-    go false e = absurd (eqb-false n n e refl)
-
-put-self : {A : Type 0} (f : ℕ → ℕ → A) (n b : ℕ) (x : A) → put_at f n b x n b ≡ x
-put-self {A} f n b x = ap (λ (t : Bool). if t && b == b then x else f n b) (eq-self n) ∙ ap (λ (t : Bool). if t then x else f n b) (eq-self b)
 
 pub after-at : (w : World) (k : Change) → (apply w k).replicas k.node k.block ≡ k.replica
 unfolding apply
 after-at w k = put-self w.replicas k.node k.block k.replica
+
+pub after-breaks : (w : World) (k : Change) → (apply w k).breaks k.node k.block ≡ k.broke
+unfolding apply
+after-breaks w k = put-self w.breaks k.node k.block k.broke
 
 pub after-lives : (w : World) (k : Change) (n : ℕ) → (apply w k).lives n ≡ w.lives n
 unfolding apply
@@ -151,10 +152,16 @@ sent-tells g t v c f (Some u) h = each-one (UpTells g t v c) (upward_message f u
 
 -- a member's change
 abbrev Passes : Givens → Ends → World → FullMember → Next → Turn → Type 0
-Passes g t w m x s = (v : World) → Onward g g t t w v → Facts g v → (d : ℕ) → Sets w.past d (new_stamp m.fields) → (f : Bool) → (f ≡ true → s.effect.forwards ≡ true) → Each (DownTells g t v d) (passed f x)
+Passes g t w m x s = (v : World) → Lasting g g t t w v → Facts g v → (d : ℕ) → Sets w.past d (new_stamp m.fields) → (f : Bool) → (f ≡ true → s.effect.forwards ≡ true) → Each (DownTells g t v d) (passed f x)
+
+-- the turn's call was taken: the replica is that after it, and its break stays
+record TookCall (w : World) (c : ℕ) (m : FullMember) (turn : Turn) (s : Step) (b : Option Break) : Type 0 where
+  pub replica : s.replica ≡ replica_after (replica_at w c (block_of m.fields)) turn.call
+  pub taken : outcome_of (replica_at w c (block_of m.fields)) turn.call ≡ booked.Taken
+  pub broke : b ≡ w.breaks (node_of w c) (block_of m.fields)
 
 member-leaf : (g : Givens) (t : Ends) (w : World) (c : ℕ) (m : FullMember) (x : Next) (turn : Turn) (s : Step) (b : Option Break) (out : Booked) → Acts g t w c m → LowerSays w.past c (writes m) → TurnTells g t w c m turn
-    → s.member ≡ (settled m.state turn out).0 → s.effect ≡ (settled m.state turn out).1 → (out ≡ booked.Taken → (s.replica ≡ replica_after (replica_at w c (block_of m.fields)) turn.call) × (outcome_of (replica_at w c (block_of m.fields)) turn.call ≡ booked.Taken))
+    → s.member ≡ (settled m.state turn out).0 → s.effect ≡ (settled m.state turn out).1 → (out ≡ booked.Taken → TookCall w c m turn s b)
     → Passes g t w m x turn → Steps w (member_change w c m x s b) → IfSome s.replica.known.info (Pends g t (block_of m.fields) s.replica.known) → Leaf g t w (member_change w c m x s b)
 member-leaf g t w c m x turn s b out a low tells em ef took passes steps pends =
     let k = member_change w c m x s b in
@@ -162,11 +169,12 @@ member-leaf g t w c m x turn s b out a low tells em ef took passes steps pends =
     let z = settles m.state turn out in
     record {
       steps = steps;
+      requests = still-requests w k a.known.requests refl refl (λ e. absurd (writes-busy (record m { state = s.member }) e));
       news = λ on facts.
           let old : MemberTells g v c m = member-on g g t t w v c m on a.tells in
           record {
             ups = sent-each (UpTells g t v) c (sent_up m.fields s.effect.sends) (sent-tells g t v c m.fields s.effect.sends
-                (subst (λ (y : Effect). IfSome y.sends (λ u. UpTells g t v c (upward_message m.fields u))) (sym ef) (up v on facts (after-at w k) (after-lives w k (node_of w c)) z.sends)));
+                (subst (λ (y : Effect). IfSome y.sends (λ u. UpTells g t v c (upward_message m.fields u))) (sym ef) (up v on facts (after-at w k) (after-breaks w k) (after-lives w k (node_of w c)) z.sends)));
             downs = sent-if (DownTells g t v) m.mirror (passed s.effect.forwards x) (some-weaker (λ d. Sets w.past d (new_stamp m.fields)) (λ d. Each (DownTells g t v d) (passed s.effect.forwards x)) m.mirror
                 (λ d q. passes v on facts d q s.effect.forwards (λ e. (follows m.state turn out).forwards (ap (λ (y : Effect). y.forwards) (sym ef) ∙ e))) low.mirror);
             dials = λ i d e. absurd (none-some d e);
@@ -177,6 +185,8 @@ member-leaf g t w c m x turn s b out a low tells em ef took passes steps pends =
               joins = old.joins;
               seat = old.seat;
               alone = λ e. a.tells.alone (alone (z.mirror (ap (λ (y : MemberState). y.mirror) (sym em) ∙ e)));
+              quiet = λ e. on.quiet (new_stamp m.fields).0 (a.tells.quiet (alone (z.mirror (ap (λ (y : MemberState). y.mirror) (sym em) ∙ e))));
+              closes = old.closes;
             };
             replica = pends;
             joined = λ p n l j. absurd (none-some _ j.there);
@@ -189,12 +199,12 @@ member-leaf g t w c m x turn s b out a low tells em ef took passes steps pends =
     alone (inl e) = tells.mirror e
     alone (inr e) = e
 
-    up : (v : World) → Onward g g t t w v → Facts g v → v.replicas (node_of w c) (block_of m.fields) ≡ s.replica → v.lives (node_of w c) ≡ w.lives (node_of w c)
+    up : (v : World) → Lasting g g t t w v → Facts g v → v.replicas (node_of w c) (block_of m.fields) ≡ s.replica → v.breaks (node_of w c) (block_of m.fields) ≡ b → v.lives (node_of w c) ≡ w.lives (node_of w c)
         → ((settled m.state turn out).1.sends ≡ None) ⊎ ((out ≡ booked.Taken) × ((settled m.state turn out).1.sends ≡ turn.effect.sends)) → IfSome (settled m.state turn out).1.sends (λ u. UpTells g t v c (upward_message m.fields u))
-    up v on facts at live (inl e) = subst (λ (o : Option Upward). IfSome o (λ u. UpTells g t v c (upward_message m.fields u))) (sym e) tt
-    up v on facts at live (inr y) =
+    up v on facts at broke live (inl e) = subst (λ (o : Option Upward). IfSome o (λ u. UpTells g t v c (upward_message m.fields u))) (sym e) tt
+    up v on facts at broke live (inr y) =
         let q = took y.0 in
-        subst (λ (o : Option Upward). IfSome o (λ u. UpTells g t v c (upward_message m.fields u))) (sym y.1) (tells.sends v (record { on = on; facts = facts; at = at ∙ q.0; lives = live }) q.1)
+        subst (λ (o : Option Upward). IfSome o (λ u. UpTells g t v c (upward_message m.fields u))) (sym y.1) (tells.sends v (record { on = on; facts = facts; at = at ∙ q.replica; breaks = broke ∙ q.broke; lives = live }) q.taken)
 
 -- what a turn books brings nothing that isn't known
 abbrev Brings : Givens → Ends → World → ℕ → FullMember → Option ReplicaEvent → Type 0
@@ -265,7 +275,7 @@ turn-leaf g t w c m x turn false a low tells passes brings =
     let r = replica_at w c (block_of m.fields) in
     let s = step m.state r turn in
     let b = w.breaks (node_of w c) (block_of m.fields) in
-    member-leaf g t w c m x turn s b (outcome_of r turn.call) a low tells refl refl (λ q. (refl, q)) passes (booked-steps g t w c m x s b turn.call a.known tells.call refl) (booked-pends g t w c m x s b turn.call a.known brings refl)
+    member-leaf g t w c m x turn s b (outcome_of r turn.call) a low tells refl refl (λ q. record { replica = refl; taken = q; broke = refl }) passes (booked-steps g t w c m x s b turn.call a.known tells.call refl) (booked-pends g t w c m x s b turn.call a.known brings refl)
 
 -- turns that pass nothing on
 quiet-passes : (g : Givens) (t : Ends) (w : World) (m : FullMember) (x : Next) (turn : Turn) → turn.effect.forwards ≡ false → Passes g t w m x turn
@@ -326,7 +336,7 @@ dialled-there g w d m h e = go (nat_le w.next_conn d) refl
         low = grind (arith, nat_tests, q)
 
 -- a packet that goes on to the mirror
-forwarded : (g : Givens) (t : Ends) (w v : World) (c d : ℕ) (m : FullMember) (p : Packet) → Acts g t w c m → Onward g g t t w v → Sets w.past d (new_stamp m.fields) → PacketTells g t w c p → PacketTells g t v d p
+forwarded : (g : Givens) (t : Ends) (w v : World) (c d : ℕ) (m : FullMember) (p : Packet) → Acts g t w c m → Lasting g g t t w v → Sets w.past d (new_stamp m.fields) → PacketTells g t w c p → PacketTells g t v d p
 forwarded g t w v c d m p a on sets x =
     let says : WriteSays g w.past d sets.fields = a.known.facts.carried.downs d 0 (request (op.Write sets.fields)) sets.first in
     let same : says.session ≡ x.session =
@@ -337,18 +347,18 @@ forwarded g t w v c d m p a on sets x =
       asked = record { first = sets.first };
       given = says.given ∙ ap (λ (n : ℕ). Some n) same;
     } in
-    record { fields = sets.fields; session = x.session; pipe = pipe-on g g t t w v d sets.fields x.session on pipe; numbered = numbered-on g g t t w v x.session p on x.numbered }
+    record { fields = sets.fields; session = x.session; pipe = pipe-on g g t t w v d sets.fields x.session on.on pipe; numbered = numbered-on g g t t w v x.session p on.on x.numbered }
 
 packet-brings : (g : Givens) (t : Ends) (w : World) (c : ℕ) (m : FullMember) (p : Packet) → Acts g t w c m → PacketTells g t w c p → Brings g t w c m (Some (replica_event.Packet m.state.conn p))
 packet-brings g t w c m p a x = (
   number p.seqno x.numbered.number x.numbered.is,
-  λ i s e is writes by seqno end.
+  λ i s e is writes by seqno end last.
       let stamp : i.stamp ≡ new_stamp m.fields = written-stamp g t w c m i s a is writes (by ∙ a.conn) in
       let same : x.fields ≡ m.fields = same-asked w c x.fields m.fields x.pipe.asked a.tells.pipe.asked in
       record {
         session = x.session;
         given = ap (λ (y : Stamp). g (block_of m.fields) y.0) stamp ∙ ap (λ (f : WriteFields). g (block_of f) (new_stamp f).0) (sym same) ∙ x.pipe.given;
-        named = ap (λ (z : ℤ). t x.session z) seqno ∙ x.numbered.named ∙ ap (λ (n : ℕ). Some n) (sym end);
+        named = ap (λ (z : ℤ). t x.session z) seqno ∙ x.numbered.named ∙ ap (λ (n : ℕ). Some (record { at = n; last = p.last })) (sym end) ∙ ap (λ (l : Bool). Some (record { at = e.end; last = l })) (sym last);
       },
 )
   where
@@ -359,7 +369,7 @@ above-leaf : (g : Givens) (t : Ends) (w : World) (c : ℕ) (m : FullMember) (x :
 above-leaf g t w c m (message (packet p)) fails a low h =
     turn-leaf g t w c m (message (packet p)) (down_turn m.state (above.Packet p)) fails a low (down-tells g t w c m (above.Packet p)) (λ v on facts d sets f q. go v on d sets f) (packet-brings g t w c m p a h)
   where
-    go : (v : World) → Onward g g t t w v → (d : ℕ) → Sets w.past d (new_stamp m.fields) → (f : Bool) → Each (DownTells g t v d) (passed f (message (packet p)))
+    go : (v : World) → Lasting g g t t w v → (d : ℕ) → Sets w.past d (new_stamp m.fields) → (f : Bool) → Each (DownTells g t v d) (passed f (message (packet p)))
     go v on d sets false = each-nil (DownTells g t v d)
     go v on d sets true = each-one (DownTells g t v d) (packet p) (forwarded g t w v c d m p a on sets h)
 above-leaf g t w c m (message (request r)) fails a low h = turn-leaf g t w c m (message (request r)) (down_turn m.state above.Unreadable) fails a low (down-tells g t w c m above.Unreadable) (quiet-passes g t w m (message (request r)) (down_turn m.state above.Unreadable) refl) tt

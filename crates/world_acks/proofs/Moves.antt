@@ -1,6 +1,6 @@
 -- How writers number their packets.
 use Rattle.std.proofs.Common.{◌≡◌, ℕ, suc, ◌≤◌, ◌+◌, ◌⊎◌, inl, inr, Bool, true, false, List, [], ◌∷◌, ◌++◌, drop, length, slice_get, Option, Some, None, Result, Ok, Err, refl, sym, ◌∙◌, ap, subst, arith}
-use Rattle.std.specs.Prelude.{pos}
+use Rattle.std.specs.Prelude.{pos, ◌-◌}
 use Rattle.std.proofs.lemmas.Option.{none-some}
 use Rattle.hd_base.specs.declared.numbers.NodeId.{NodeId}
 use Rattle.hd_base.specs.declared.numbers.Stamp.{Stamp}
@@ -17,6 +17,7 @@ use Rattle.writer_core.specs.declared.intake.Intake.{Intake}
 use Rattle.writer_core.specs.declared.phases.DuePacket.{DuePacket}
 use Rattle.writer_core.specs.declared.phases.DuePacket.TheVariants as due
 use Rattle.writer_core.specs.declared.phases.Failure.{Failure}
+use Rattle.writer_core.specs.declared.phases.Failure.TheVariants as failure
 use Rattle.writer_core.specs.declared.phases.Phase.{Phase}
 use Rattle.writer_core.specs.declared.phases.Phase.TheVariants as phase
 use Rattle.writer_core.specs.declared.phases.Remedy.{Remedy}
@@ -43,12 +44,18 @@ pub record IsOld (xs : List Packet) (p : Packet) : Type 0 where
   pub there : slice_get xs place ≡ Some p
 
 -- a writer after another: no further from its session's end, with no other packets, and no lower number
-pub record Follows (x y : WriterRecord) : Type 0 where
+pub record Continues (x y : WriterRecord) : Type 0 where
   pub reach : reach_of y.phase ≤ reach_of x.phase
   pub packets : (i : ℕ) (p : Packet) → slice_get y.stream.unacked i ≡ Some p → IsOld x.stream.unacked p
   pub number : x.stream.seqno ≤ y.stream.seqno
 
-pub follows-numbers : (b : ℕ → Option ℕ) (t : Ends) (e : ℕ) (x y : WriterRecord) → Follows x y → Numbers b t e x → Numbers b t e y
+-- The same of one that was given no stamp: where it has the stamp of a setup to dial, it had that before.
+pub record Follows (x y : WriterRecord) : Type 0 where
+  pub continues : Continues x y
+  pub open continues use *
+  pub stamps : (s : Setup) (t : Stamp) → y.phase ≡ phase.Stamped s t → x.phase ≡ phase.Stamped s t
+
+pub follows-numbers : (b : ℕ → Option ℕ) (t : Ends) (e : ℕ) (x y : WriterRecord) → Continues x y → Numbers b t e x → Numbers b t e y
 follows-numbers b t e x y f h = record {
   known = λ r. h.known (omega (arith, r, f.reach));
   packets = λ r i p q. let o = f.packets i p q in h.packets (omega (arith, r, f.reach)) o.place p o.there;
@@ -56,15 +63,35 @@ follows-numbers b t e x y f h = record {
 }
 
 -- the packets and the number stay
-pub same-stream : (x y : WriterRecord) → y.stream.unacked ≡ x.stream.unacked → y.stream.seqno ≡ x.stream.seqno → reach_of y.phase ≤ reach_of x.phase → Follows x y
+pub same-stream : (x y : WriterRecord) → y.stream.unacked ≡ x.stream.unacked → y.stream.seqno ≡ x.stream.seqno → reach_of y.phase ≤ reach_of x.phase → Continues x y
 same-stream x y u s r = record {
   reach = r;
   packets = λ i p q. record { place = i; there = subst (λ (xs : List Packet). slice_get xs i ≡ Some p) u q };
   number = omega (arith, s);
 }
 
+abbrev pub Restamps : Phase → Phase → Type 0
+Restamps p q = (s : Setup) (t : Stamp) → q ≡ phase.Stamped s t → p ≡ phase.Stamped s t
+
+-- a phase without a setup to dial
+abbrev pub IsUnstamped : Phase → Type 0
+IsUnstamped (phase.Stamped s t) = ⊥
+IsUnstamped _ = Unit {0}
+
+pub none-stamped : (q : Phase) → IsUnstamped q → (s : Setup) (t : Stamp) → q ≡ phase.Stamped s t → ⊥
+none-stamped q u s t e = subst IsUnstamped e u
+
+pub to-unstamped : (p q : Phase) → IsUnstamped q → Restamps p q
+to-unstamped p q u = λ s t e. absurd (none-stamped q u s t e)
+
+stamped-same : (p : Phase) → Restamps p p
+stamped-same p = λ s t e. e
+
+pub goes-on : (x y : WriterRecord) → y.stream.unacked ≡ x.stream.unacked → y.stream.seqno ≡ x.stream.seqno → reach_of y.phase ≤ reach_of x.phase → Restamps x.phase y.phase → Follows x y
+goes-on x y u s r k = record { continues = same-stream x y u s r; stamps = k }
+
 pub follows-itself : (x : WriterRecord) → Follows x x
-follows-itself x = same-stream x x refl refl (omega arith)
+follows-itself x = goes-on x x refl refl (omega arith) (stamped-same x.phase)
 
 -- at a phase
 pub reach-at : (x : WriterRecord) (p : Phase) → x.phase ≡ p → reach_of x.phase ≡ reach_of p
@@ -73,13 +100,13 @@ reach-at x p e = ap reach_of e
 -- COMMANDS
 
 taken-follows : (x : WriterRecord) (c : Command) → Follows x (taken_as x c)
-taken-follows x (command.Create members) = same-stream x (taken_as x (command.Create members)) refl refl (omega arith)
-taken-follows x (command.Append members) = same-stream x (taken_as x (command.Append members)) refl refl (omega arith)
-taken-follows x (command.Write bytes) = same-stream x (taken_as x (command.Write bytes)) refl refl (omega arith)
-taken-follows x (command.Fill count) = same-stream x (taken_as x (command.Fill count)) refl refl (omega arith)
-taken-follows x command.Hflush = same-stream x (taken_as x command.Hflush) refl refl (omega arith)
-taken-follows x command.Hsync = same-stream x (taken_as x command.Hsync) refl refl (omega arith)
-taken-follows x command.Close = same-stream x (taken_as x command.Close) refl refl (omega arith)
+taken-follows x (command.Create members) = goes-on x (taken_as x (command.Create members)) refl refl (omega arith) (to-unstamped x.phase (phase.Wanted setup.Create) tt)
+taken-follows x (command.Append members) = goes-on x (taken_as x (command.Append members)) refl refl (omega arith) (to-unstamped x.phase (phase.Wanted setup.Append) tt)
+taken-follows x (command.Write bytes) = goes-on x (taken_as x (command.Write bytes)) refl refl (omega arith) (stamped-same x.phase)
+taken-follows x (command.Fill count) = goes-on x (taken_as x (command.Fill count)) refl refl (omega arith) (stamped-same x.phase)
+taken-follows x command.Hflush = goes-on x (taken_as x command.Hflush) refl refl (omega arith) (stamped-same x.phase)
+taken-follows x command.Hsync = goes-on x (taken_as x command.Hsync) refl refl (omega arith) (stamped-same x.phase)
+taken-follows x command.Close = goes-on x (taken_as x command.Close) refl refl (omega arith) (stamped-same x.phase)
 
 -- a packet that is formed has the next number, and the last one ends the session
 pub record Forms (x y : WriterRecord) (p : Packet) : Type 0 where
@@ -88,6 +115,7 @@ pub record Forms (x y : WriterRecord) (p : Packet) : Type 0 where
   pub reach : reach_of x.phase ≡ 2
   pub within : 1 ≤ reach_of y.phase
   pub next : 2 ≤ reach_of y.phase → y.stream.seqno ≡ x.stream.seqno + 1
+  pub unstamped : IsUnstamped y.phase
 
 -- one that is sent again
 pub record Resends (x y : WriterRecord) (p : Packet) : Type 0 where
@@ -111,7 +139,7 @@ free-goes x None = first-goes x (slice_get x.queue 0)
 free-goes x (Some w) = follows-itself x
 
 took-follows : (x : WriterRecord) → Follows x (took x)
-took-follows x = same-stream x (took x) refl refl (omega arith)
+took-follows x = goes-on x (took x) refl refl (omega arith) (stamped-same x.phase)
 
 failed-command-goes : (x : WriterRecord) (f : Failure) (c : Command) → GoesIn x (failed_command x f c)
 failed-command-goes x f (command.Create members) = took-follows x
@@ -128,14 +156,14 @@ failed-first-goes x f (Some c) = failed-command-goes x f c
 
 failed-goes : (x : WriterRecord) (f : Failure) (o : Option Waiting) → GoesIn x (failed_step_as x f o)
 failed-goes x f None = failed-first-goes x f (slice_get x.queue 0)
-failed-goes x f (Some w) = same-stream x (record x { waiting = None }) refl refl (omega arith)
+failed-goes x f (Some w) = goes-on x (record x { waiting = None }) refl refl (omega arith) (stamped-same x.phase)
 
 dial-goes : (x : WriterRecord) (s : Setup) (t : Stamp) (ms : List NodeId) → GoesIn x (dial_step_as x s t ms)
 dial-goes x s t [] = follows-itself x
 dial-goes x s t (m ∷ ms) = follows-itself x
 
 pub open-goes : (x : WriterRecord) → reach_of x.phase ≡ 2 → GoesIn x (open_step x)
-open-goes x e = same-stream x (open_step x).writer refl refl (omega (arith, e))
+open-goes x e = goes-on x (open_step x).writer refl refl (omega (arith, e)) (to-unstamped x.phase (phase.Streaming 0) tt)
 
 accepted-goes : (x : WriterRecord) (s : Setup) (t : Stamp) → x.phase ≡ phase.Accepted s t → GoesIn x (accepted_step x s t)
 accepted-goes x setup.Create t e = open-goes x (reach-at x (phase.Accepted setup.Create t) e)
@@ -145,16 +173,16 @@ accepted-goes x setup.StreamRecovery t e = follows-itself x
 accepted-goes x setup.CloseRecovery t e = follows-itself x
 
 pub completed-goes : (x : WriterRecord) → GoesIn x (completed_step x)
-completed-goes x = same-stream x (completed_step x).writer refl refl (omega arith)
+completed-goes x = goes-on x (completed_step x).writer refl refl (omega arith) (to-unstamped x.phase phase.Closed tt)
 
 form-goes : (x : WriterRecord) (d : DuePacket) → reach_of x.phase ≡ 2 → GoesIn x (form_step x d)
-form-goes x (due.Data end s) e = inr (record { packets = refl; number = refl; reach = e; within = omega arith; next = λ _. refl })
-form-goes x due.Sync e = inr (record { packets = refl; number = refl; reach = e; within = omega arith; next = λ _. refl })
-form-goes x due.Last e = inr (record { packets = refl; number = refl; reach = e; within = omega arith; next = λ h. absurd (omega (arith, h)) })
+form-goes x (due.Data end s) e = inr (record { packets = refl; number = refl; reach = e; within = omega arith; next = λ _. refl; unstamped = tt })
+form-goes x due.Sync e = inr (record { packets = refl; number = refl; reach = e; within = omega arith; next = λ _. refl; unstamped = tt })
+form-goes x due.Last e = inr (record { packets = refl; number = refl; reach = e; within = omega arith; next = λ h. absurd (omega (arith, h)); unstamped = tt })
 
 reach-goes : (x : WriterRecord) (o : Option ℕ) → GoesIn x (reach_step_as x o)
 reach-goes x None = free-goes x x.waiting
-reach-goes x (Some n) = same-stream x (record x { waiting = None }) refl refl (omega arith)
+reach-goes x (Some n) = goes-on x (record x { waiting = None }) refl refl (omega arith) (stamped-same x.phase)
 
 due-goes : (x : WriterRecord) (o : Option DuePacket) → reach_of x.phase ≡ 2 → GoesIn x (due_step x o)
 due-goes x None e = reach-goes x (reached_length x.waiting x.stream)
@@ -162,7 +190,7 @@ due-goes x (Some d) e = form-goes x d e
 
 stream-goes : (x : WriterRecord) (sent : ℕ) (o : Option Packet) → slice_get x.stream.unacked sent ≡ o → reach_of x.phase ≡ 2 → GoesIn x (stream_step_as x sent o)
 stream-goes x sent None q e = due-goes x (due_now x) e
-stream-goes x sent (Some p) q e = inl (record { follows = same-stream x (record x { phase = phase.Streaming (sent + 1) }) refl refl (omega (arith, e)); old = record { place = sent; there = q }; within = omega (arith, e) })
+stream-goes x sent (Some p) q e = inl (record { follows = goes-on x (record x { phase = phase.Streaming (sent + 1) }) refl refl (omega (arith, e)) (to-unstamped x.phase (phase.Streaming (sent + 1)) tt); old = record { place = sent; there = q }; within = omega (arith, e) })
 
 step-goes : (x : WriterRecord) (p : Phase) → x.phase ≡ p → GoesIn x (step_in x p)
 step-goes x phase.Closed e = free-goes x x.waiting
@@ -188,11 +216,11 @@ reach-after remedy.Abandon = 0
 reach-after (remedy.Recover s) = reach_wanted s
 
 dropped-follows : (x : WriterRecord) (s : Setup) (bad : NodeId) (ms : List NodeId) → reach_wanted s ≤ reach_of x.phase → Follows x (dropped x s bad ms)
-dropped-follows x s bad [] r = same-stream x (dropped x s bad []) refl refl (omega arith)
-dropped-follows x s bad (m ∷ ms) r = same-stream x (dropped x s bad (m ∷ ms)) refl refl r
+dropped-follows x s bad [] r = goes-on x (dropped x s bad []) refl refl (omega arith) (to-unstamped x.phase (phase.Failed (failure.AllBad bad)) tt)
+dropped-follows x s bad (m ∷ ms) r = goes-on x (dropped x s bad (m ∷ ms)) refl refl r (to-unstamped x.phase (phase.Wanted s) tt)
 
 fail-for-follows : (x : WriterRecord) (r : Remedy) (bad : NodeId) → reach-after r ≤ reach_of x.phase → Follows x (fail_for x r bad)
-fail-for-follows x remedy.Abandon bad h = same-stream x (fail_for x remedy.Abandon bad) refl refl (omega arith)
+fail-for-follows x remedy.Abandon bad h = goes-on x (fail_for x remedy.Abandon bad) refl refl (omega arith) (to-unstamped x.phase (phase.Failed (failure.Abandoned bad)) tt)
 fail-for-follows x (remedy.Recover s) bad h = dropped-follows x s bad (without x.members bad) h
 
 fail-named-follows : (x : WriterRecord) (r : Remedy) (o : Option NodeId) → reach-after r ≤ reach_of x.phase → Follows x (fail_named x r o)
@@ -288,11 +316,28 @@ phase-acked-reach false phase.Finished h = omega arith
 phase-acked-reach false phase.Completed h = omega arith
 phase-acked-reach false (phase.Failed e) h = omega arith
 
+phase-acked-stamps : (b : Bool) (p : Phase) → Restamps p (phase_acked b p)
+phase-acked-stamps true p = to-unstamped p phase.Finished tt
+phase-acked-stamps false phase.Closed = stamped-same phase.Closed
+phase-acked-stamps false (phase.Wanted s) = stamped-same (phase.Wanted s)
+phase-acked-stamps false (phase.Stamped s t) = stamped-same (phase.Stamped s t)
+phase-acked-stamps false (phase.Requested s t) = stamped-same (phase.Requested s t)
+phase-acked-stamps false (phase.Accepted s t) = stamped-same (phase.Accepted s t)
+phase-acked-stamps false phase.Opened = stamped-same phase.Opened
+phase-acked-stamps false (phase.Streaming sent) = to-unstamped (phase.Streaming sent) (phase.Streaming (sent - 1)) tt
+phase-acked-stamps false phase.Closing = stamped-same phase.Closing
+phase-acked-stamps false phase.Finished = stamped-same phase.Finished
+phase-acked-stamps false phase.Completed = stamped-same phase.Completed
+phase-acked-stamps false (phase.Failed e) = stamped-same (phase.Failed e)
+
 acked-as-follows : (x : WriterRecord) (r : Remedy) (v : Verdict) → reach-after r ≤ reach_of x.phase → 1 ≤ reach_of x.phase → Follows x (acked_as x r v)
 acked-as-follows x r verdict.Good h k = record {
-  reach = phase-acked-reach (oldest_is_last x.stream) x.phase k;
-  packets = λ i p q. oldest-packets x.stream (slice_get x.stream.unacked 0) i p q;
-  number = omega (arith, oldest-number x.stream (slice_get x.stream.unacked 0));
+  continues = record {
+    reach = phase-acked-reach (oldest_is_last x.stream) x.phase k;
+    packets = λ i p q. oldest-packets x.stream (slice_get x.stream.unacked 0) i p q;
+    number = omega (arith, oldest-number x.stream (slice_get x.stream.unacked 0));
+  };
+  stamps = phase-acked-stamps (oldest_is_last x.stream) x.phase;
 }
 acked-as-follows x r (verdict.Bad place) h k = fail-follows x r place h
 
@@ -305,7 +350,7 @@ unfolding acked
 acked-follows x a = acked-in-follows x a (remedy_at_ack x.phase) (ack-within x.phase)
 
 answered-in-follows : (x : WriterRecord) (p : Phase) (good : Bool) (bad : Option NodeId) → x.phase ≡ p → Follows x (setup_answered_in x p good bad)
-answered-in-follows x (phase.Requested s t) true bad e = same-stream x (record x { phase = phase.Accepted s t }) refl refl (omega (arith, reach-at x (phase.Requested s t) e))
+answered-in-follows x (phase.Requested s t) true bad e = goes-on x (record x { phase = phase.Accepted s t }) refl refl (omega (arith, reach-at x (phase.Requested s t) e)) (to-unstamped x.phase (phase.Accepted s t) tt)
 answered-in-follows x (phase.Requested s t) false bad e = fail-follows x (remedy_after s) (bad_place x.members bad) (omega (arith, after-reach s, reach-at x (phase.Requested s t) e))
 answered-in-follows x phase.Closed good bad e = follows-itself x
 answered-in-follows x (phase.Wanted s) good bad e = follows-itself x
@@ -332,7 +377,7 @@ hears-follows x (message (recovery_answer a)) = ended-follows x
 hears-follows x the_end = ended-follows x
 
 dialled-in-follows : (x : WriterRecord) (p : Phase) (answered : Bool) → x.phase ≡ p → Follows x (dialled_in x p answered)
-dialled-in-follows x (phase.Stamped s t) true e = same-stream x (record x { phase = phase.Requested s t }) refl refl (omega (arith, reach-at x (phase.Stamped s t) e))
+dialled-in-follows x (phase.Stamped s t) true e = goes-on x (record x { phase = phase.Requested s t }) refl refl (omega (arith, reach-at x (phase.Stamped s t) e)) (to-unstamped x.phase (phase.Requested s t) tt)
 dialled-in-follows x (phase.Stamped s t) false e = fail-follows x (remedy_after s) 0 (omega (arith, after-reach s, reach-at x (phase.Stamped s t) e))
 dialled-in-follows x phase.Closed answered e = follows-itself x
 dialled-in-follows x (phase.Wanted s) answered e = follows-itself x
@@ -350,7 +395,7 @@ unfolding dialled
 dialled-follows x answered = dialled-in-follows x x.phase answered refl
 
 given-as-follows : (x : WriterRecord) (c : Command) (r : Result Intake CommandFault) → Follows x (given_as x c r)
-given-as-follows x c (Ok i) = same-stream x (given_as x c (Ok i)) refl refl (omega arith)
+given-as-follows x c (Ok i) = goes-on x (given_as x c (Ok i)) refl refl (omega arith) (stamped-same x.phase)
 given-as-follows x c (Err e) = follows-itself x
 
 pub given-follows : (x : WriterRecord) (c : Command) → Follows x (given x c)
@@ -361,9 +406,12 @@ follows-then x y a z s p h = go a h
   where
     plain : Follows y z → Follows x z
     plain f = record {
-      reach = omega (arith, f.reach, ap reach_of p);
-      packets = λ i q e. subst (λ (u : StreamState). IsOld u.unacked q) s (f.packets i q e);
-      number = omega (arith, f.number, ap (λ (u : StreamState). u.seqno) s);
+      continues = record {
+        reach = omega (arith, f.reach, ap reach_of p);
+        packets = λ i q e. subst (λ (u : StreamState). IsOld u.unacked q) s (f.packets i q e);
+        number = omega (arith, f.number, ap (λ (u : StreamState). u.seqno) s);
+      };
+      stamps = λ w t e. sym p ∙ f.stamps w t e;
     }
 
     sent : (q : Packet) → Resends y z q ⊎ Forms y z q → Resends x z q ⊎ Forms x z q
@@ -374,6 +422,7 @@ follows-then x y a z s p h = go a h
       reach = sym (ap reach_of p) ∙ f.reach;
       within = f.within;
       next = λ r. f.next r ∙ ap (λ (u : StreamState). u.seqno + 1) s;
+      unstamped = f.unstamped;
     })
 
     go : (b : Action) → Goes y b z → Goes x b z
@@ -466,3 +515,16 @@ own-step-out x ms e = step-out x ms x.phase refl e
 -- outside of a session nothing is to be known
 pub out-numbers : (b : ℕ → Option ℕ) (t : Ends) (e : ℕ) (x : WriterRecord) → reach_of x.phase ≡ 0 → Numbers b t e x
 out-numbers b t e x z = record { known = λ r. absurd (omega (arith, r, z)); packets = λ r i p q. absurd (omega (arith, r, z)); below = λ r q k n. absurd (omega (arith, r, z)) }
+
+pub out-unstamped : (p : Phase) → reach_of p ≡ 0 → IsUnstamped p
+out-unstamped (phase.Stamped s t) z = absurd (omega (arith, z, reach-in-one s))
+out-unstamped phase.Closed z = tt
+out-unstamped (phase.Wanted s) z = tt
+out-unstamped (phase.Requested s t) z = tt
+out-unstamped (phase.Accepted s t) z = tt
+out-unstamped phase.Opened z = tt
+out-unstamped (phase.Streaming sent) z = tt
+out-unstamped phase.Closing z = tt
+out-unstamped phase.Finished z = tt
+out-unstamped phase.Completed z = tt
+out-unstamped (phase.Failed e) z = tt

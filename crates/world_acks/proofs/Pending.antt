@@ -32,7 +32,7 @@ Pend P c = IfSome c.info (λ i. (j : ℕ) (e : PendingPacket) → slice_get c.pe
 
 -- a packet that isn't a heartbeat, taken from the connection that writes
 abbrev pub Enters : (Stamp → PendingPacket → Type 0) → ReplicaRecord → ConnId → PacketExtent → Type 0
-Enters P c conn p = (i : ReplicaInfo) (s : Stream) (e : PendingPacket) → c.info ≡ Some i → c.stream ≡ Some s → s.conn.0 ≡ conn.0 → e.seqno ≡ p.seqno → e.end ≡ nat_abs p.offset + p.length → P i.stamp e
+Enters P c conn p = (i : ReplicaInfo) (s : Stream) (e : PendingPacket) → c.info ≡ Some i → c.stream ≡ Some s → s.conn.0 ≡ conn.0 → e.seqno ≡ p.seqno → e.end ≡ nat_abs p.offset + p.length → e.last ≡ p.last → P i.stamp e
 
 -- what an event brings
 abbrev pub Brought : (Stamp → PendingPacket → Type 0) → ReplicaRecord → Event → Type 0
@@ -75,19 +75,19 @@ starts : (p : PacketExtent) (offset : ℕ) → start_of p ≡ Ok offset → offs
 unfolding start_of
 starts p offset e = grind (arith, nat_tests)
 
-packs : (r : Rule) (p : PacketExtent) (offset : ℕ) (e : PendingPacket) → packet_at r p offset ≡ Ok e → (e.seqno ≡ p.seqno) × (e.end ≡ offset + p.length)
+packs : (r : Rule) (p : PacketExtent) (offset : ℕ) (e : PendingPacket) → packet_at r p offset ≡ Ok e → (e.seqno ≡ p.seqno) × (e.end ≡ offset + p.length) × (e.last ≡ p.last)
 unfolding packet_at
 packs r p offset e q = grind (arith, nat_tests)
 
 -- what is pending of a packet
-pending-is : (r : Rule) (p : PacketExtent) (w : ℕ) (e : PendingPacket) → pending_of r p w ≡ Ok e → (e.seqno ≡ p.seqno) × (e.end ≡ nat_abs p.offset + p.length)
+pending-is : (r : Rule) (p : PacketExtent) (w : ℕ) (e : PendingPacket) → pending_of r p w ≡ Ok e → (e.seqno ≡ p.seqno) × (e.end ≡ nat_abs p.offset + p.length) × (e.last ≡ p.last)
 pending-is r p w e q = outer (step_ok (start_of p) (λ offset. place_check p w offset >>= (λ _. packet_at r p offset)) e q)
   where
-    outer : (offset : ℕ) × (start_of p ≡ Ok offset) × ((place_check p w offset >>= (λ _. packet_at r p offset)) ≡ Ok e) → (e.seqno ≡ p.seqno) × (e.end ≡ nat_abs p.offset + p.length)
+    outer : (offset : ℕ) × (start_of p ≡ Ok offset) × ((place_check p w offset >>= (λ _. packet_at r p offset)) ≡ Ok e) → (e.seqno ≡ p.seqno) × (e.end ≡ nat_abs p.offset + p.length) × (e.last ≡ p.last)
     outer x = inner x.0 x.1 (step_ok (place_check p w x.0) (λ _. packet_at r p x.0) e x.2)
       where
-        inner : (offset : ℕ) → start_of p ≡ Ok offset → (y : Unit {0}) × (place_check p w offset ≡ Ok y) × (packet_at r p offset ≡ Ok e) → (e.seqno ≡ p.seqno) × (e.end ≡ nat_abs p.offset + p.length)
-        inner offset a b = let z = packs r p offset e b.2 in (z.0, z.1 ∙ ap (λ (n : ℕ). n + p.length) (starts p offset a))
+        inner : (offset : ℕ) → start_of p ≡ Ok offset → (y : Unit {0}) × (place_check p w offset ≡ Ok y) × (packet_at r p offset ≡ Ok e) → (e.seqno ≡ p.seqno) × (e.end ≡ nat_abs p.offset + p.length) × (e.last ≡ p.last)
+        inner offset a b = let z = packs r p offset e b.2 in (z.0, z.1 ∙ ap (λ (n : ℕ). n + p.length) (starts p offset a), z.2)
 
 get-end : (xs : List PendingPacket) (x : PendingPacket) (j : ℕ) (e : PendingPacket) (Q : PendingPacket → Type 0) → ((i : ℕ) (d : PendingPacket) → slice_get xs i ≡ Some d → Q d) → Q x → slice_get (xs ++ x ∷ []) j ≡ Some e → Q e
 get-end [] x zero e Q h k q = subst (λ (y : PendingPacket). Q y) (same_Some x e q) k
@@ -105,7 +105,7 @@ packet-pend P c conn q n x h =
     (λ _. after_step (Pend P) c (stream_after s q) _ h (λ t _. after_step (Pend P) c (pending_of i.sums q i.written) _ h (λ e pend.
     let z = pending-is i.sums q i.written e pend in
     let b = stream_by_is c.stream conn s by in
-    λ j d r. get-end c.pending e j d (λ (y : PendingPacket). P i.stamp y) (at-pend P c.info i c.pending is h) (x i s e is b.0 b.1 z.0 z.1) r))))))
+    λ j d r. get-end c.pending e j d (λ (y : PendingPacket). P i.stamp y) (at-pend P c.info i c.pending is h) (x i s e is b.0 b.1 z.0 z.1 z.2) r))))))
 
 pub event-pend : (P : Stamp → PendingPacket → Type 0) (c : ReplicaRecord) (e : Event) → Brought P c e → Pend P c → Pend P (state_after c e)
 unfolding transition

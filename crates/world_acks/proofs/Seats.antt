@@ -1,7 +1,8 @@
 -- Seats stay, whatever a change makes of the world, and what is said by them.
-use Rattle.std.proofs.Common.{◌≡◌, ℕ, ℤ, zero, suc, ◌<◌, ◌≤◌, ◌⊎◌, inl, inr, Bool, true, false, List, [], ◌∷◌, ◌++◌, slice_get, Some, IfSome, refl, sym, ◌∙◌, ap, subst, arith, eqb-true}
+use Rattle.std.proofs.Common.{◌≡◌, ℕ, ℤ, zero, suc, ◌<◌, ◌≤◌, ◌⊎◌, inl, inr, Bool, true, false, List, [], ◌∷◌, ◌++◌, take, slice_get, Some, IfSome, refl, sym, ◌∙◌, ap, subst, arith, eqb-true}
 use Rattle.std.specs.Prelude.{◌==◌, ◌&&◌, if◌then◌else◌}
 use Rattle.std.proofs.lemmas.Bool.{false≢true}
+use Rattle.std.proofs.lemmas.List.{take-take}
 use Rattle.std.proofs.lemmas.Option.{none-some}
 use Rattle.op_headers.specs.declared.ops.Op.{Op}
 use Rattle.op_headers.specs.declared.ops.Op.TheVariants as op
@@ -16,14 +17,16 @@ use Rattle.world.specs.Parts.{Message, request, packet, ack, response, read_stat
 use Rattle.world.specs.Worlds.{World, Change, past_after, apply}
 use Rattle.world.specs.Nodes.{node_of, block_of}
 use Rattle.world.specs.Safe.{Has}
-use Rattle.world_facts.proofs.Tables.{and-left, and-right, some-weaker}
-use Rattle.world_facts.proofs.GrowthLaws.{apply-grows}
-use Rattle.world_stamps.specs.Stamping.{Givens}
-use Rattle.world_bytes.specs.Carrying.{new_stamp}
-use Rattle.world_bytes.proofs.Fronts.{front-takes, front-length}
-use Rattle.world_setups.specs.Joining.{joined_as}
-use Rattle.world_setups.proofs.Rising.{Goes}
-use Rattle.world_acks.specs.Acking.{Shown, IsUncut, Seat, Asked, AsksToRead, Seated, IsPipe, promised, SetUpFrom, Ends, AckedFrom, UpTells, Numbered, PacketTells, DownTells, Mirrors, UpperTells, MemberTells, LowerTells, Pends}
+use Rattle.world_laws.proofs.FactTables.{and-left, and-right, some-weaker}
+use Rattle.world_laws.proofs.GrowthLaws.{apply-grows}
+use Rattle.world_laws.specs.Stamping.{Givens}
+use Rattle.world_laws.specs.Carrying.{new_stamp}
+use Rattle.world_laws.proofs.Fronts.{front-takes, front-length}
+use Rattle.world_laws.specs.Joining.{joined_as}
+use Rattle.world_laws.proofs.SetupRising.{Goes}
+use Rattle.world_acks.specs.Closing.{StandsClosed, AllClosed}
+use Rattle.world_acks.specs.Waiting.{IsQuiet}
+use Rattle.world_acks.specs.Acking.{PacketEnd, pending_end, Shown, UpdatesLeave, Seat, Asked, AsksToRead, Seated, IsPipe, promised, SetUpFrom, Ends, AckedFrom, UpTells, Numbered, PacketTells, DownTells, Mirrors, UpperTells, MemberTells, LowerTells, Pends}
 use Rattle.world_acks.proofs.Shows.{IsNoUpdate, row-shows}
 
 -- LISTS
@@ -45,19 +48,20 @@ has-one x = record { place = zero; there = refl }
 
 -- A REPLICA THAT CHANGES
 
--- a recovery with an id above this stamp has updated the replica that changes
-pub record IsCut (w : World) (k : Change) (stamp : ℕ) : Type 0 where
+-- a recovery with an id above this stamp has updated the replica that changes, to fewer bytes than these
+pub record IsCut (w : World) (k : Change) (stamp least : ℕ) : Type 0 where
   pub entry : Updated
   pub has : Has k.updated entry
   pub node : entry.node ≡ k.node
   pub life : entry.life ≡ w.lives k.node
   pub block : entry.block ≡ k.block
   pub above : stamp < entry.recovery
+  pub fewer : entry.length < least
 
--- what the replica showed it shows still, unless a recovery has updated it
+-- what the replica showed it shows still, unless a recovery has left it fewer bytes
 pub record Steps (w : World) (k : Change) : Type 0 where
   pub broken : (w.replicas k.node k.block).known.is_broken ≡ true → k.replica.known.is_broken ≡ true
-  pub shown : IsFull (w.replicas k.node k.block) → IsFull k.replica → (s n : ℕ) (v : List ℕ) → Shown (w.replicas k.node k.block) s n v → Shown k.replica s n v ⊎ IsCut w k s
+  pub shown : IsFull (w.replicas k.node k.block) → IsFull k.replica → (s n : ℕ) (v : List ℕ) → Shown (w.replicas k.node k.block) s n v → Shown k.replica s n v ⊎ IsCut w k s n
 
 pub steps-same : (w : World) (k : Change) → k.replica ≡ w.replicas k.node k.block → Steps w k
 steps-same w k e = record {
@@ -88,6 +92,19 @@ shown-more r s n v u f x = record {
   within = omega (arith, x.within, front-length v u f);
 }
 
+-- of fewer bytes
+pub shown-less : (r : FullReplica) (s m n : ℕ) (v : List ℕ) → m ≤ n → Shown r s n v → Shown r s m v
+shown-less r s m n v le x = record {
+  info = x.info;
+  is = x.is;
+  least = x.least;
+  visible = x.visible;
+  sees = x.sees;
+  enough = omega (arith, le, x.enough);
+  bytes = sym (take-take m n r.bytes le) ∙ ap (λ (xs : List ℕ). take m xs) x.bytes ∙ take-take m n v le;
+  within = omega (arith, le, x.within);
+}
+
 -- what is unbroken after the change was so before
 whole-before : (c d : Bool) → (c ≡ true → d ≡ true) → d ≡ false → c ≡ false
 whole-before false d h e = refl
@@ -103,19 +120,22 @@ seat-apply w k b s e n j st old new h = record {
   life = h.life;
   joins = has-left w.joined k.joined (joined_as s n h.life) h.joins;
   born = h.born;
-  shows = λ runs alive sound uncut. at runs alive uncut (n == k.node && b == k.block) refl sound;
+  shows = λ runs alive sound m le left. at runs alive m le left (n == k.node && b == k.block) refl sound;
 }
   where
-    uncut-before : IsUncut (apply w k) b s n h.life → IsUncut w b s n h.life
-    uncut-before u = record { none = λ x q a c d i. u.none x (has-left w.updated k.updated x q) a c d i }
+    left-before : (m : ℕ) → UpdatesLeave (apply w k) b s n h.life m → UpdatesLeave w b s n h.life m
+    left-before m u = record { each = λ x q a c d i. u.each x (has-left w.updated k.updated x q) a c d i }
 
-    cut : n ≡ k.node → b ≡ k.block → w.lives n ≡ h.life → IsUncut (apply w k) b s n h.life → IsCut w k s → ⊥
-    cut en eb alive u c = u.none c.entry (has-right w.updated k.updated c.entry c.has) (c.node ∙ sym en) (c.life ∙ ap (λ (x : ℕ). w.lives x) (sym en) ∙ alive) (c.block ∙ sym eb) c.above
+    cut : (m : ℕ) → n ≡ k.node → b ≡ k.block → w.lives n ≡ h.life → UpdatesLeave (apply w k) b s n h.life m → IsCut w k s m → ⊥
+    cut m en eb alive u c =
+        let left : m ≤ c.entry.length =
+        u.each c.entry (has-right w.updated k.updated c.entry c.has) (c.node ∙ sym en) (c.life ∙ ap (λ (x : ℕ). w.lives x) (sym en) ∙ alive) (c.block ∙ sym eb) c.above in
+        omega (arith, left, c.fewer)
 
-    at : w.running n ≡ true → w.lives n ≡ h.life → IsUncut (apply w k) b s n h.life → (t : Bool) → (n == k.node && b == k.block) ≡ t
-        → (if t then k.replica else w.replicas n b).known.is_broken ≡ false → Shown (if t then k.replica else w.replicas n b) s j ((past_after w k).written e)
-    at runs alive uncut false q sound = shown-more (w.replicas n b) s j (w.written e) ((past_after w k).written e) (apply-written w k e) (h.shows runs alive sound (uncut-before uncut))
-    at runs alive uncut true q sound = go (st.shown old new s j (w.written e) (subst (λ (r : FullReplica). Shown r s j (w.written e)) is (h.shows runs alive before (uncut-before uncut))))
+    at : w.running n ≡ true → w.lives n ≡ h.life → (m : ℕ) → m ≤ j → UpdatesLeave (apply w k) b s n h.life m → (t : Bool) → (n == k.node && b == k.block) ≡ t
+        → (if t then k.replica else w.replicas n b).known.is_broken ≡ false → Shown (if t then k.replica else w.replicas n b) s m ((past_after w k).written e)
+    at runs alive m le left false q sound = shown-more (w.replicas n b) s m (w.written e) ((past_after w k).written e) (apply-written w k e) (h.shows runs alive sound m le (left-before m left))
+    at runs alive m le left true q sound = go (st.shown old new s m (w.written e) (subst (λ (r : FullReplica). Shown r s m (w.written e)) is (h.shows runs alive before m le (left-before m left))))
       where
         en : n ≡ k.node
         en = eqb-true n k.node (and-left (n == k.node) (b == k.block) q)
@@ -129,9 +149,9 @@ seat-apply w k b s e n j st old new h = record {
         before : (w.replicas n b).known.is_broken ≡ false
         before = ap (λ (r : FullReplica). r.known.is_broken) is ∙ whole-before (w.replicas k.node k.block).known.is_broken k.replica.known.is_broken st.broken sound
 
-        go : Shown k.replica s j (w.written e) ⊎ IsCut w k s → Shown k.replica s j ((past_after w k).written e)
-        go (inl x) = shown-more k.replica s j (w.written e) ((past_after w k).written e) (apply-written w k e) x
-        go (inr c) = absurd (cut en eb alive uncut c)
+        go : Shown k.replica s m (w.written e) ⊎ IsCut w k s m → Shown k.replica s m ((past_after w k).written e)
+        go (inl x) = shown-more k.replica s m (w.written e) ((past_after w k).written e) (apply-written w k e) x
+        go (inr c) = absurd (cut m en eb alive left c)
 
 -- LATER WORLDS
 
@@ -139,11 +159,18 @@ seat-apply w k b s e n j st old new h = record {
 pub record Onward (g k : Givens) (t u : Ends) (w v : World) : Type 0 where
   pub seats : (b s e n j : ℕ) → Seat w b s e n j → Seat v b s e n j
   pub given : (b s e : ℕ) → g b s ≡ Some e → k b s ≡ Some e
-  pub named : (e x : ℕ) (q : ℤ) → t e q ≡ Some x → u e q ≡ Some x
+  pub named : (e : ℕ) (x : PacketEnd) (q : ℤ) → t e q ≡ Some x → u e q ≡ Some x
   pub first : (c : ℕ) (m : Message) → slice_get (w.downs c) 0 ≡ Some m → slice_get (v.downs c) 0 ≡ Some m
   pub conns : w.next_conn ≤ v.next_conn
   pub dialled : (c : ℕ) → c < w.next_conn → v.dialled c ≡ w.dialled c
   pub joined : (x : Joined) → Has w.joined x → Has v.joined x
+
+-- The same, and nodes that stand closed stand so; no request comes to wait under a stamp under which none waits.
+pub record Lasting (g k : Givens) (t u : Ends) (w v : World) : Type 0 where
+  pub on : Onward g k t u w v
+  pub open on use *
+  pub closed : (b s n : ℕ) → StandsClosed g w b s n → StandsClosed k v b s n
+  pub quiet : (s : ℕ) → IsQuiet w s → IsQuiet v s
 
 pub asked-on : (g k : Givens) (t u : Ends) (w v : World) (c : ℕ) (f : WriteFields) → Onward g k t u w v → Asked w.past c f → Asked v.past c f
 asked-on g k t u w v c f o h = record { first = o.first c (request (op.Write f)) h.first }
@@ -163,31 +190,39 @@ pipe-on g k t u w v c f e o h = record { known = omega (arith, h.known, o.conns)
 pub node-on : (g k : Givens) (t u : Ends) (w v : World) (c : ℕ) → Onward g k t u w v → c < w.next_conn → node_of w c ≡ node_of v c
 node-on g k t u w v c o lt = sym (ap (λ (d : Dialled). d.to.node) (o.dialled c lt))
 
-set-on : (g k : Givens) (t u : Ends) (w v : World) (c : ℕ) → Onward g k t u w v → SetUpFrom g w c → SetUpFrom k v c
+pub all-closed-on : (g k : Givens) (t u : Ends) (w v : World) (f : WriteFields) (n : ℕ) → Lasting g k t u w v → AllClosed g w f n → AllClosed k v f n
+all-closed-on g k t u w v f n o h = record {
+  here = o.closed (block_of f) (new_stamp f).0 n h.here;
+  below = λ i m x a b. o.closed (block_of f) (new_stamp f).0 m (h.below i m x a b);
+}
+
+pub set-on : (g k : Givens) (t u : Ends) (w v : World) (c : ℕ) → Lasting g k t u w v → SetUpFrom g w c → SetUpFrom k v c
 set-on g k t u w v c o h = record {
   fields = h.fields;
   session = h.session;
-  pipe = pipe-on g k t u w v c h.fields h.session o h.pipe;
-  seated = subst (λ (n : ℕ). Seated v h.fields n h.session (promised h.fields)) (node-on g k t u w v c o h.pipe.known)
-      (seated-on g k t u w v h.fields (node_of w c) h.session (promised h.fields) o h.seated);
+  pipe = pipe-on g k t u w v c h.fields h.session o.on h.pipe;
+  seated = subst (λ (n : ℕ). Seated v h.fields n h.session (promised h.fields)) (node-on g k t u w v c o.on h.pipe.known)
+      (seated-on g k t u w v h.fields (node_of w c) h.session (promised h.fields) o.on h.seated);
+  closed = λ s. subst (λ (n : ℕ). AllClosed k v h.fields n) (node-on g k t u w v c o.on h.pipe.known) (all-closed-on g k t u w v h.fields (node_of w c) o (h.closed s));
 }
 
-acked-on : (g k : Givens) (t u : Ends) (w v : World) (c : ℕ) (q : ℤ) → Onward g k t u w v → AckedFrom g t w c q → AckedFrom k u v c q
+acked-on : (g k : Givens) (t u : Ends) (w v : World) (c : ℕ) (q : ℤ) → Lasting g k t u w v → AckedFrom g t w c q → AckedFrom k u v c q
 acked-on g k t u w v c q o h = record {
   fields = h.fields;
   session = h.session;
-  pipe = pipe-on g k t u w v c h.fields h.session o h.pipe;
+  pipe = pipe-on g k t u w v c h.fields h.session o.on h.pipe;
   end = h.end;
   named = o.named h.session h.end q h.named;
-  seated = subst (λ (n : ℕ). Seated v h.fields n h.session h.end) (node-on g k t u w v c o h.pipe.known) (seated-on g k t u w v h.fields (node_of w c) h.session h.end o h.seated);
+  seated = subst (λ (n : ℕ). Seated v h.fields n h.session h.end.at) (node-on g k t u w v c o.on h.pipe.known) (seated-on g k t u w v h.fields (node_of w c) h.session h.end.at o.on h.seated);
+  closed = λ l. subst (λ (n : ℕ). AllClosed k v h.fields n) (node-on g k t u w v c o.on h.pipe.known) (all-closed-on g k t u w v h.fields (node_of w c) o (h.closed l));
 }
 
-pub up-on : (g k : Givens) (t u : Ends) (w v : World) (c : ℕ) (m : Message) → Onward g k t u w v → UpTells g t w c m → UpTells k u v c m
+pub up-on : (g k : Givens) (t u : Ends) (w v : World) (c : ℕ) (m : Message) → Lasting g k t u w v → UpTells g t w c m → UpTells k u v c m
 up-on g k t u w v c (response r) o h = λ e. either (h e)
   where
     either : SetUpFrom g w c ⊎ AsksToRead w.past c → SetUpFrom k v c ⊎ AsksToRead v.past c
     either (inl x) = inl (set-on g k t u w v c o x)
-    either (inr x) = inr (reads-on g k t u w v c o x)
+    either (inr x) = inr (reads-on g k t u w v c o.on x)
 up-on g k t u w v c (ack a) o h = λ e. acked-on g k t u w v c a.seqno o (h e)
 up-on g k t u w v c (request r) o h = tt
 up-on g k t u w v c (packet p) o h = tt
@@ -233,17 +268,19 @@ upper-on g k t u w v c (by_writer b) o lt h = tt
 upper-on g k t u w v c (by_reader i) o lt h = tt
 upper-on g k t u w v c (by_primary i p) o lt h = tt
 
-pub member-on : (g k : Givens) (t u : Ends) (w v : World) (c : ℕ) (m : FullMember) → Onward g k t u w v → MemberTells g w c m → MemberTells k v c m
+pub member-on : (g k : Givens) (t u : Ends) (w v : World) (c : ℕ) (m : FullMember) → Lasting g k t u w v → MemberTells g w c m → MemberTells k v c m
 member-on g k t u w v c m o h = record {
   session = h.session;
-  pipe = pipe-on g k t u w v c m.fields h.session o h.pipe;
+  pipe = pipe-on g k t u w v c m.fields h.session o.on h.pipe;
   joins = subst (λ (d : Dialled). Has v.joined (joined_as (new_stamp m.fields).0 d.to.node d.to.life)) (sym (o.dialled c h.pipe.known)) (o.joined (joined_as (new_stamp m.fields).0 (node_of w c) (w.dialled c).to.life) h.joins);
-  seat = subst (λ (n : ℕ). Seat v (block_of m.fields) (new_stamp m.fields).0 h.session n (promised m.fields)) (node-on g k t u w v c o h.pipe.known)
+  seat = subst (λ (n : ℕ). Seat v (block_of m.fields) (new_stamp m.fields).0 h.session n (promised m.fields)) (node-on g k t u w v c o.on h.pipe.known)
       (o.seats (block_of m.fields) (new_stamp m.fields).0 h.session (node_of w c) (promised m.fields) h.seat);
   alone = h.alone;
+  quiet = λ e. o.quiet (new_stamp m.fields).0 (h.quiet e);
+  closes = λ s. subst (λ (n : ℕ). StandsClosed k v (block_of m.fields) (new_stamp m.fields).0 n) (node-on g k t u w v c o.on h.pipe.known) (o.closed (block_of m.fields) (new_stamp m.fields).0 (node_of w c) (h.closes s));
 }
 
-pub lower-on : (g k : Givens) (t u : Ends) (w v : World) (c : ℕ) (x : Lower) → Onward g k t u w v → LowerTells g w c x → LowerTells k v c x
+pub lower-on : (g k : Givens) (t u : Ends) (w v : World) (c : ℕ) (x : Lower) → Lasting g k t u w v → LowerTells g w c x → LowerTells k v c x
 lower-on g k t u w v c (writes m) o h = member-on g k t u w v c m o h
 lower-on g k t u w v c idle o h = tt
 lower-on g k t u w v c (serves b s) o h = tt
@@ -252,5 +289,5 @@ lower-on g k t u w v c ended_below o h = tt
 
 pub pends-on : (g k : Givens) (t u : Ends) (w v : World) (b : ℕ) (r : ReplicaRecord) → Onward g k t u w v → IfSome r.info (Pends g t b r) → IfSome r.info (Pends k u b r)
 pends-on g k t u w v b r o h = some-weaker (Pends g t b r) (Pends k u b r) r.info (λ i x. record {
-  each = λ j e q. let y = x.each j e q in record { session = y.session; given = o.given b i.stamp.0 y.session y.given; named = o.named y.session e.end e.seqno y.named };
+  each = λ j e q. let y = x.each j e q in record { session = y.session; given = o.given b i.stamp.0 y.session y.given; named = o.named y.session (pending_end e) e.seqno y.named };
 }) h

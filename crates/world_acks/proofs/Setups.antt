@@ -21,10 +21,10 @@ use Rattle.replica_core.specs.declared.info.ReplicaInfo.{ReplicaInfo}
 use Rattle.replica_core.specs.declared.records.ReplicaRecord.{ReplicaRecord}
 use Rattle.replica_core.specs.declared.refusals.Refusal.{Refusal}
 use Rattle.replica_core.specs.Info.{settled_at, visible_of, reopen, recover_setup, recover_stream}
-use Rattle.replica_core.specs.Transitions.{Outcome, transition, record_after, state_after, present, with_writer, set_writer, new_transition, done}
+use Rattle.replica_core.specs.Transitions.{Outcome, transition, record_after, state_after, present, with_writer, set_writer, new_transition, done, Taken}
 use Rattle.replica_core.specs.Transitions as core
 use Rattle.replica_core.specs.Views.{rule_in, written_in, stamp_in}
-use Rattle.replica_core.proofs.InfoLemmas.{reopen_is, recover_setup_is, recover_stream_is}
+use Rattle.replica_core.proofs.InfoLemmas.{reopen_is, recover_setup_is, recover_stream_is, present_is}
 use Rattle.replica_model.specs.declared.events.ReplicaEvent.TheVariants as replica_event
 use Rattle.replica_model.specs.Rows.{FullReplica, row, broken}
 use Rattle.request_refusals.specs.declared.refusals.RequestRefusal.{RequestRefusal}
@@ -42,28 +42,31 @@ use Rattle.member_core.specs.declared.requests.TheConstants.{MAX_BELOW, MAX_PORT
 use Rattle.member_core.specs.Members.{MemberState, set_up, set_up_at}
 use Rattle.member_core.specs.Requests.{setup_with, rule_for, named_setup, named_rule, setup_event, request_event, request_from, request_to, mirror_request, response_of}
 use Rattle.member_core.specs.Steps.{Setup, request_at, refused_request, booked_request, refused_by, faulted_request}
-use Rattle.world.specs.Parts.{Message, request, response, Dialled, by_member, Break}
+use Rattle.world.specs.Parts.{Message, request, response, Dialled, by_member, idle, ended_below, Break}
 use Rattle.world.specs.Worlds.{World, Dial, Change, dial_at, past_after, apply}
 use Rattle.world.specs.Nodes.{node_of, node_on, replica_at, block_of, broke_at, joined_at, sent_up, mirror_node, is_asked, mirror_dial, dials_of, setup_change, failing_write, write_request}
 use Rattle.world.specs.Safe.{Has}
-use Rattle.world_facts.proofs.Tables.{if-each}
-use Rattle.world_stamps.specs.Stamping.{Givens}
-use Rattle.world_bytes.specs.Carrying.{stamp_set, new_stamp, WriteSays}
-use Rattle.world_bytes.proofs.Asking.{first-dial}
-use Rattle.world_bytes.proofs.Frame.{Each, each-nil, each-one}
-use Rattle.world_bytes.proofs.Leaves.{Facts, sent-each}
-use Rattle.world_setups.specs.Joining.{joined_as}
-use Rattle.world_setups.proofs.Rising.{event-goes, event-broken}
+use Rattle.world_laws.proofs.FactTables.{if-each}
+use Rattle.world_laws.specs.Stamping.{Givens}
+use Rattle.world_laws.specs.Carrying.{stamp_set, new_stamp, WriteSays}
+use Rattle.world_laws.proofs.ByteAsking.{first-dial}
+use Rattle.world_laws.proofs.ByteFrame.{Each, each-nil, each-one}
+use Rattle.world_laws.proofs.ByteLeaves.{Facts, sent-each}
+use Rattle.world_laws.specs.Joining.{joined_as}
+use Rattle.world_laws.proofs.SetupRising.{event-goes, event-broken}
 use Rattle.world_acks.specs.Acking.{Shown, Seat, Asked, IsPipe, least_of, promised, Ends, UpTells, DownTells, UpperTells, Pends}
 use Rattle.world_acks.proofs.Shows.{stream-open}
-use Rattle.world_acks.proofs.Seats.{has-right, has-one, Steps, steps-row, steps-same}
-use Rattle.world_acks.proofs.Turning.{Known, shown-says}
-use Rattle.world_acks.proofs.Lowers.{Leaf, still-numbers, aside-begun, after-at, same-pends, row-pends, row-steps}
+use Rattle.world_acks.specs.Closing.{FinalUnder, BrokeFinal, StandsClosed}
+use Rattle.world_acks.specs.Waiting.{Waits, IsQuiet}
+use Rattle.world_acks.proofs.Requests.{NewRequest, of_member, Requesting, still-requests, quiet-taken, lower-there}
+use Rattle.world_acks.proofs.Seats.{has-right, has-one, shown-less, Steps, steps-row, steps-same}
+use Rattle.world_acks.proofs.Turning.{Known, shown-says, no-break, lone-closed}
+use Rattle.world_acks.proofs.Lowers.{Leaf, still-numbers, aside-begun, after-at, after-breaks, writes-busy, same-pends, row-pends, row-steps}
 
 -- THE EVENT
 
 -- the event of a request
-record IsRequest (conn : ConnId) (f : WriteFields) (e : Event) : Type 0 where
+pub record IsRequest (conn : ConnId) (f : WriteFields) (e : Event) : Type 0 where
   pub kind_of : SetupKind
   pub sums : Rule
   pub stage : setup_with f.stage ≡ Some kind_of
@@ -83,14 +86,14 @@ named-request : (conn : ConnId) (f : WriteFields) (held : Option Rule) (o : Opti
 named-request conn f held None q = tt
 named-request conn f held (Some s) q = few-request conn f s (rule_for f held) q
 
-request-is : (conn : ConnId) (f : WriteFields) (held : Option Rule) → IfOk (request_event conn f held) (IsRequest conn f)
+pub request-is : (conn : ConnId) (f : WriteFields) (held : Option Rule) → IfOk (request_event conn f held) (IsRequest conn f)
 unfolding request_event
 request-is conn f held = checked conn f (is_in_pool f.block) refusal.Pool _ (named-request conn f held (setup_with f.stage) refl)
 
 -- WHAT IT LEAVES
 
 -- a replica under this stamp that shows at least so many bytes
-record Set (c : ReplicaRecord) (stamp : Stamp) (n : ℕ) : Type 0 where
+pub record Set (s : SetupKind) (c : ReplicaRecord) (stamp : Stamp) (n : ℕ) : Type 0 where
   pub info : ReplicaInfo
   pub is : c.info ≡ Some info
   pub under : info.stamp ≡ stamp
@@ -98,55 +101,84 @@ record Set (c : ReplicaRecord) (stamp : Stamp) (n : ℕ) : Type 0 where
   pub sees : visible_of info ≡ Some visible
   pub enough : n ≤ visible
   pub within : visible ≤ info.written
+  pub final : s ≡ kind.CloseRecovery → info.original ≡ state.Finalized
 
-abbrev SetOr : Stamp → ℕ → Outcome → Type 0
-SetOr stamp n (Ok t) = Set t.replica stamp n × (t.answer ≡ core_answer.Done)
-SetOr stamp n (Err e) = Unit {0}
+-- a setup that was taken, at a replica that wasn't broken
+pub record WasSet (s : SetupKind) (stamp : Stamp) (n : ℕ) (t : Taken) (broken : Bool) : Type 0 where
+  pub set : Set s t.replica stamp n
+  pub done : t.answer ≡ core_answer.Done
+  pub sound : broken ≡ false
 
-there-set : (stamp : Stamp) (n : ℕ) (c : ReplicaRecord) (next : ReplicaInfo → Outcome) → ((i : ReplicaInfo) → SetOr stamp n (next i)) → SetOr stamp n (present c >>= next)
-there-set stamp n c next onward = go (present c)
+abbrev pub SetOr : SetupKind → Stamp → ℕ → Bool → Outcome → Type 0
+SetOr s stamp n broken (Ok t) = WasSet s stamp n t broken
+SetOr s stamp n broken (Err e) = Unit {0}
+
+not-true : (b : Bool) → not b ≡ true → b ≡ false
+not-true true e = absurd (false≢true e)
+not-true false e = refl
+
+there-set : (s : SetupKind) (stamp : Stamp) (n : ℕ) (c : ReplicaRecord) (next : ReplicaInfo → Outcome) → (c.is_broken ≡ false → (i : ReplicaInfo) → SetOr s stamp n c.is_broken (next i)) → SetOr s stamp n c.is_broken (present c >>= next)
+there-set s stamp n c next onward = go (present c) refl
   where
-    go : (r : Result ReplicaInfo Refusal) → SetOr stamp n (r >>= next)
-    go (Ok i) = onward i
-    go (Err x) = tt
+    go : (r : Result ReplicaInfo Refusal) → present c ≡ r → SetOr s stamp n c.is_broken (r >>= next)
+    go (Ok i) e = onward (present_is c i e).0 i
+    go (Err x) e = tt
+
+abbrev IsClose : SetupKind → ReplicaState → Type 0
+IsClose s at = s ≡ kind.CloseRecovery → at ≡ state.Finalized
 
 -- settled at such a length
-settled-set : (c : ReplicaRecord) (writer : Option ConnId) (at : ReplicaState) (t : Stamp) (r : Rule) (k n : ℕ) → visible_of (settled_at at t r k) ≡ Some k → n ≤ k → Set (set_writer c (settled_at at t r k) writer) t n
-settled-set c writer at t r k n sees le = record { info = settled_at at t r k; is = refl; under = refl; visible = k; sees = sees; enough = le; within = omega arith }
+settled-set : (s : SetupKind) (c : ReplicaRecord) (writer : Option ConnId) (at : ReplicaState) (t : Stamp) (r : Rule) (k n : ℕ) → visible_of (settled_at at t r k) ≡ Some k → n ≤ k → IsClose s at → Set s (set_writer c (settled_at at t r k) writer) t n
+settled-set s c writer at t r k n sees le final = record { info = settled_at at t r k; is = refl; under = refl; visible = k; sees = sees; enough = le; within = omega arith; final = final }
 
-writer-set : (c : ReplicaRecord) (writer : Option ConnId) (next : Result ReplicaInfo Refusal) (at : ReplicaState) (t : Stamp) (n : ℕ) → ((r : Rule) (k : ℕ) → visible_of (settled_at at t r k) ≡ Some k)
-    → ((j : ReplicaInfo) → next ≡ Ok j → (r : Rule) × (k : ℕ) × (j ≡ settled_at at t r k) × (n ≤ k)) → SetOr t n (with_writer c writer next)
-writer-set c writer next at t n sees h = go next refl
+writer-set : (s : SetupKind) (c : ReplicaRecord) (writer : Option ConnId) (next : Result ReplicaInfo Refusal) (at : ReplicaState) (t : Stamp) (n : ℕ) → c.is_broken ≡ false → IsClose s at → ((r : Rule) (k : ℕ) → visible_of (settled_at at t r k) ≡ Some k)
+    → ((j : ReplicaInfo) → next ≡ Ok j → (r : Rule) × (k : ℕ) × (j ≡ settled_at at t r k) × (n ≤ k)) → SetOr s t n c.is_broken (with_writer c writer next)
+writer-set s c writer next at t n sound final sees h = go next refl
   where
-    go : (r : Result ReplicaInfo Refusal) → next ≡ r → SetOr t n (with_writer c writer r)
+    go : (r : Result ReplicaInfo Refusal) → next ≡ r → SetOr s t n c.is_broken (with_writer c writer r)
     go (Err x) e = tt
-    go (Ok j) e = let x = h j e in (subst (λ (i : ReplicaInfo). Set (set_writer c i writer) t n) (sym x.2) (settled-set c writer at t x.0 x.1 n (sees x.0 x.1) x.3), refl)
+    go (Ok j) e =
+        let x = h j e in
+        record { set = subst (λ (i : ReplicaInfo). Set s (set_writer c i writer) t n) (sym x.2) (settled-set s c writer at t x.0 x.1 n (sees x.0 x.1) x.3 final); done = refl; sound = sound }
 
-new-set : (c : ReplicaRecord) (conn : ConnId) (t : Stamp) (r : Rule) → SetOr t 0 (new_transition c state.Rbw conn t r)
+create-isnt : IsClose kind.Create state.Rbw
+create-isnt e = cc
+
+append-isnt : IsClose kind.Append state.Rbw
+append-isnt e = cc
+
+again-isnt : IsClose kind.AppendRecovery state.Rbw
+again-isnt e = cc
+
+stream-isnt : IsClose kind.StreamRecovery state.Rbw
+stream-isnt e = cc
+
+new-set : (c : ReplicaRecord) (conn : ConnId) (t : Stamp) (r : Rule) → SetOr kind.Create t 0 c.is_broken (new_transition c state.Rbw conn t r)
 new-set c conn t r =
-    if-each (λ (o : Outcome). SetOr t 0 o) (not c.is_broken) _ _
-    (λ _. if-each (λ (o : Outcome). SetOr t 0 o) (is_none c.info) _ _ (λ _. (settled-set c (Some conn) state.Rbw t r 0 0 refl (omega arith), refl)) (λ _. tt)) (λ _. tt)
+    if-each (λ (o : Outcome). SetOr kind.Create t 0 c.is_broken o) (not c.is_broken) _ _
+    (λ e. if-each (λ (o : Outcome). SetOr kind.Create t 0 c.is_broken o) (is_none c.info) _ _
+    (λ _. record { set = settled-set kind.Create c (Some conn) state.Rbw t r 0 0 refl (omega arith) create-isnt; done = refl; sound = not-true c.is_broken e }) (λ _. tt)) (λ _. tt)
 
-setup-set : (c : ReplicaRecord) (conn : ConnId) (f : WriteFields) (r : Rule) (s : SetupKind) → SetOr (stamp_set (Some s) f.block.stamp f.latest) (least_of (Some s) f.min) (transition c (setup_event conn f r s))
+setup-set : (c : ReplicaRecord) (conn : ConnId) (f : WriteFields) (r : Rule) (s : SetupKind) → SetOr s (stamp_set (Some s) f.block.stamp f.latest) (least_of (Some s) f.min) c.is_broken (transition c (setup_event conn f r s))
 unfolding transition
 setup-set c conn f r kind.Create = new-set c conn f.block.stamp r
 setup-set c conn f r kind.Append =
-    there-set f.latest f.min c _ (λ i. writer-set c (Some conn) (reopen i f.block.stamp f.latest f.min) state.Rbw f.latest f.min (λ x k. refl)
+    there-set kind.Append f.latest f.min c _ (λ b i. writer-set kind.Append c (Some conn) (reopen i f.block.stamp f.latest f.min) state.Rbw f.latest f.min b append-isnt (λ x k. refl)
     (λ j e. (i.sums, f.min, (reopen_is i j f.block.stamp f.latest f.min e).0, omega arith)))
 setup-set c conn f r kind.AppendRecovery =
-    there-set f.latest f.min c _ (λ i. writer-set c (Some conn) (recover_setup i f.block.stamp f.latest f.min state.Rbw) state.Rbw f.latest f.min (λ x k. refl)
+    there-set kind.AppendRecovery f.latest f.min c _ (λ b i. writer-set kind.AppendRecovery c (Some conn) (recover_setup i f.block.stamp f.latest f.min state.Rbw) state.Rbw f.latest f.min b again-isnt (λ x k. refl)
     (λ j e. (i.sums, f.min, (recover_setup_is i j f.block.stamp f.latest f.min state.Rbw e).0, omega arith)))
 setup-set c conn f r kind.StreamRecovery =
-    there-set f.latest f.min c _ (λ i. writer-set c (Some conn) (recover_stream i f.block.stamp f.latest f.min f.max) state.Rbw f.latest f.min (λ x k. refl)
+    there-set kind.StreamRecovery f.latest f.min c _ (λ b i. writer-set kind.StreamRecovery c (Some conn) (recover_stream i f.block.stamp f.latest f.min f.max) state.Rbw f.latest f.min b stream-isnt (λ x k. refl)
     (λ j e. (i.sums, i.acked, recover_stream_is i j f.block.stamp f.latest f.min f.max e, (stream-open i j f.block.stamp f.latest f.min f.max e).1)))
 setup-set c conn f r kind.CloseRecovery =
-    there-set f.latest f.min c _ (λ i. writer-set c None (recover_setup i f.block.stamp f.latest f.min state.Finalized) state.Finalized f.latest f.min (λ x k. refl)
+    there-set kind.CloseRecovery f.latest f.min c _ (λ b i. writer-set kind.CloseRecovery c None (recover_setup i f.block.stamp f.latest f.min state.Finalized) state.Finalized f.latest f.min b (λ _. refl) (λ x k. refl)
     (λ j e. (i.sums, f.min, (recover_setup_is i j f.block.stamp f.latest f.min state.Finalized e).0, omega arith)))
 
-request-set : (c : ReplicaRecord) (conn : ConnId) (f : WriteFields) (e : Event) → IsRequest conn f e → SetOr (new_stamp f) (promised f) (transition c e)
+pub request-set : (c : ReplicaRecord) (conn : ConnId) (f : WriteFields) (e : Event) → (q : IsRequest conn f e) → SetOr q.kind_of (new_stamp f) (promised f) c.is_broken (transition c e)
 request-set c conn f e q =
-    subst (λ (x : Event). SetOr (new_stamp f) (promised f) (transition c x)) (sym q.is)
-    (subst (λ (o : Option SetupKind). SetOr (stamp_set o f.block.stamp f.latest) (least_of o f.min) (transition c (setup_event conn f q.sums q.kind_of))) (sym q.stage) (setup-set c conn f q.sums q.kind_of))
+    subst (λ (x : Event). SetOr q.kind_of (new_stamp f) (promised f) c.is_broken (transition c x)) (sym q.is)
+    (subst (λ (o : Option SetupKind). SetOr q.kind_of (stamp_set o f.block.stamp f.latest) (least_of o f.min) c.is_broken (transition c (setup_event conn f q.sums q.kind_of))) (sym q.stage) (setup-set c conn f q.sums q.kind_of))
 
 -- REPLICAS
 
@@ -174,6 +206,9 @@ request-pends g t w k conn f e h q r = goes-pends g t w k conn f q.sums q.kind_o
 
 -- REFUSED
 
+pub ended-busy : ended_below ≡ idle → ⊥
+ended-busy e = cc
+
 abbrev Made : World → ℕ → WriteFields → Setup → Option Break → Change
 Made w c f s b = setup_change w c f s b
 
@@ -185,6 +220,7 @@ refused-leaf g t w c f r q b h steps pends =
     let v = apply w k in
     record {
       steps = steps;
+      requests = still-requests w k h.requests refl refl (λ e. absurd (ended-busy e));
       news = λ on facts. record {
         ups = sent-each (UpTells g t v) c _ (each-one (UpTells g t v c) (response (response_of f (answer.Refused q))) (λ e. absurd (false≢true e)));
         downs = λ d. each-nil (DownTells g t v d);
@@ -236,7 +272,7 @@ new-member f conn asked = new-as f conn asked (length f.targets == 0) (none-leng
 -- THE DIAL
 
 -- a dial of a mirror, with the first of the targets
-record DialsMirror (w : World) (c : ℕ) (f : WriteFields) (d : Dial) : Type 0 where
+pub record DialsMirror (w : World) (c : ℕ) (f : WriteFields) (d : Dial) : Type 0 where
   pub source : NodeRef
   pub first : NodeRef
   pub rest : List NodeRef
@@ -265,13 +301,27 @@ dial-is w c f source (t ∷ ts) (Some k) (Some n) a b e zero d q = subst (λ (x 
     go false r = absurd (none-some k r)
 dial-is w c f source (t ∷ ts) (Some k) (Some n) a b e (suc i) d q = absurd (none-some d q)
 
-member-dial : (w : World) (c : ℕ) (f : WriteFields) (m : Mirror) (i : ℕ) (d : Dial) → slice_get (dials_of m w c f) i ≡ Some d → DialsMirror w c f d
+pub member-dial : (w : World) (c : ℕ) (f : WriteFields) (m : Mirror) (i : ℕ) (d : Dial) → slice_get (dials_of m w c f) i ≡ Some d → DialsMirror w c f d
 unfolding mirror_request
 member-dial w c f mirror.Asked i d e = dial-is w c f (ref_of (record { 0 = node_of w c })) f.targets _ _ refl refl refl i d e
 member-dial w c f mirror.Nobody i d e = absurd (none-some d e)
 member-dial w c f mirror.Unreachable i d e = absurd (none-some d e)
 member-dial w c f mirror.Open i d e = absurd (none-some d e)
 member-dial w c f mirror.Ended i d e = absurd (none-some d e)
+
+one-dial : (w : World) (c : ℕ) (o : Option WriteFields) (n : Option ℕ) (i : ℕ) (d : Dial) → slice_get (mirror_dial w c o n) i ≡ Some d → i ≡ 0
+one-dial w c None n i d e = absurd (none-some d e)
+one-dial w c (Some f) None i d e = absurd (none-some d e)
+one-dial w c (Some f) (Some n) zero d e = refl
+one-dial w c (Some f) (Some n) (suc i) d e = absurd (none-some d e)
+
+-- a member dials once
+one-mirror : (w : World) (c : ℕ) (f : WriteFields) (m : Mirror) (i : ℕ) (d : Dial) → slice_get (dials_of m w c f) i ≡ Some d → i ≡ 0
+one-mirror w c f mirror.Asked i d e = one-dial w c _ _ i d e
+one-mirror w c f mirror.Nobody i d e = absurd (none-some d e)
+one-mirror w c f mirror.Unreachable i d e = absurd (none-some d e)
+one-mirror w c f mirror.Open i d e = absurd (none-some d e)
+one-mirror w c f mirror.Ended i d e = absurd (none-some d e)
 
 -- what a new connection is
 pub dialled-new : (w : World) (k : Change) (i : ℕ) (d : Dial) → slice_get k.dials i ≡ Some d → (past_after w k).dialled (w.next_conn + i) ≡ d.dialled
@@ -313,20 +363,26 @@ abbrev Asks : World → ℕ → WriteFields → Setup → Change
 Asks w c f s = setup_change w c f s (w.breaks (node_of w c) (block_of f))
 
 -- a replica that was set up has a seat
-new-seat : (g : Givens) (v : World) (b n life e k : ℕ) (stamp : Stamp) (r : FullReplica) → Facts g v → v.replicas n b ≡ r → Set r.known stamp k → g b stamp.0 ≡ Some e → Has v.joined (joined_as stamp.0 n life) → life ≤ v.lives n
+new-seat : (g : Givens) (v : World) (b n life e k : ℕ) (stamp : Stamp) (r : FullReplica) → Facts g v → v.replicas n b ≡ r → {s : SetupKind} → Set s r.known stamp k → g b stamp.0 ≡ Some e → Has v.joined (joined_as stamp.0 n life) → life ≤ v.lives n
     → Seat v b stamp.0 e n k
 new-seat g v b n life e k stamp r facts at x given joins born = record {
   life = life;
   joins = joins;
   born = born;
-  shows = λ _ _ _ _. subst (λ (s : Stamp). Shown (v.replicas n b) s.0 k (v.written e)) x.under
-      (shown-says g v b (v.replicas n b) x.info e x.visible k (facts.carried.replicas n b) (facts.full n b) (ap (λ (q : FullReplica). q.known.info) at ∙ x.is) (ap (λ (s : Stamp). g b s.0) x.under ∙ given) x.sees x.within x.enough);
+  shows = λ _ _ _ i le _. shown-less (v.replicas n b) stamp.0 i k (v.written e) le (subst (λ (s : Stamp). Shown (v.replicas n b) s.0 k (v.written e)) x.under
+      (shown-says g v b (v.replicas n b) x.info e x.visible k (facts.carried.replicas n b) (facts.full n b) (ap (λ (q : FullReplica). q.known.info) at ∙ x.is) (ap (λ (s : Stamp). g b s.0) x.under ∙ given) x.sees x.within x.enough));
 }
 
-taken-leaf : (g : Givens) (t : Ends) (w : World) (c : ℕ) (f : WriteFields) (asked : Bool) (r : FullReplica) → Known g t w → WriteSays g w.past c f → c < w.next_conn → w.lives (node_of w c) ≡ (w.dialled c).to.life
-    → Set r.known (new_stamp f) (promised f) → Steps w (Asks w c f (booked_request (record { 0 = c }) f asked r None)) → IfSome r.known.info (Pends g t (block_of f) r.known) → Leaf g t w (Asks w c f (booked_request (record { 0 = c }) f asked r None))
+same-write : (x y : WriteFields) → request (op.Write x) ≡ request (op.Write y) → x ≡ y
+same-write x y e = cc
+
+closes-apart : kind.AppendRecovery ≡ kind.CloseRecovery → ⊥
+closes-apart e = cc
+
+taken-leaf : (g : Givens) (t : Ends) (w : World) (c : ℕ) (f : WriteFields) (asked : Bool) (r : FullReplica) → Known g t w → WriteSays g w.past c f → w.lowers c ≡ idle → c < w.next_conn → w.lives (node_of w c) ≡ (w.dialled c).to.life
+    → (s : SetupKind) → setup_with f.stage ≡ Some s → Set s r.known (new_stamp f) (promised f) → (replica_at w c (block_of f)).known.is_broken ≡ false → Steps w (Asks w c f (booked_request (record { 0 = c }) f asked r None)) → IfSome r.known.info (Pends g t (block_of f) r.known) → Leaf g t w (Asks w c f (booked_request (record { 0 = c }) f asked r None))
 unfolding apply response_of
-taken-leaf g t w c f asked r h says lt alive x steps pends =
+taken-leaf g t w c f asked r h says low lt alive s stage x sound steps pends =
     let conn : ConnId = record { 0 = c } in
     let k = Asks w c f (booked_request conn f asked r None) in
     let v = apply w k in
@@ -334,6 +390,7 @@ taken-leaf g t w c f asked r h says lt alive x steps pends =
     let made = new-member f conn asked in
     record {
       steps = steps;
+      requests = asks;
       news = λ on facts.
           let pipe : IsPipe g v c f says.session = record { known = omega (arith, lt, on.conns); asked = record { first = on.first c (request (op.Write f)) says.first }; given = says.given } in
           let same : (v.dialled c) ≡ (w.dialled c) = on.dialled c lt in
@@ -341,9 +398,20 @@ taken-leaf g t w c f asked r h says lt alive x steps pends =
           has-right w.joined k.joined (joined_as (new_stamp f).0 n (w.dialled c).to.life) (subst (λ xs. Has xs (joined_as (new_stamp f).0 n (w.dialled c).to.life)) (sym (joined x)) (has-one (joined_as (new_stamp f).0 n (w.dialled c).to.life))) in
           let seat : Seat v (block_of f) (new_stamp f).0 says.session n (promised f) =
           new-seat g v (block_of f) n (w.dialled c).to.life says.session (promised f) (new_stamp f) r facts (after-at w k) x says.given joins (omega (arith, alive)) in
+          let quiet : (k.dials ≡ []) ⊎ (setup_with f.stage ≡ Some kind.AppendRecovery → ⊥) → IsQuiet v (new_stamp f).0 =
+          λ either. quiet-taken g g w k f h.requests asks h.facts facts waits (λ e. writes-busy _ (sym (lower-there w k c refl) ∙ e)) either in
+          let closes : setup_with f.stage ≡ Some kind.CloseRecovery → StandsClosed g v (block_of f) (new_stamp f).0 (node_of v c) =
+          λ e. subst (λ (y : Dialled). StandsClosed g v (block_of f) (new_stamp f).0 y.to.node) (sym same) (record {
+            has = inl (record {
+              replica = subst (λ (y : FullReplica). FinalUnder (new_stamp f).0 y.known.info) (sym (after-at w k))
+                  (record { info = x.info; is = x.is; original = x.final (same_Some s kind.CloseRecovery (sym stage ∙ e)); under = ap (λ (y : Stamp). y.0) x.under });
+              broke = subst (λ (o : Option Break). IfSome o (BrokeFinal (new_stamp f).0)) (sym (after-breaks w k)) (no-break g w n (block_of f) (BrokeFinal (new_stamp f).0) h.sets sound);
+            });
+            quiet = quiet (inr (λ z. closes-apart (same_Some _ _ (sym z ∙ e))));
+          }) in
           let there : Seat v (block_of f) (new_stamp f).0 says.session (node_of v c) (promised f) = subst (λ (y : Dialled). Seat v (block_of f) (new_stamp f).0 says.session y.to.node (promised f)) (sym same) seat in
           record {
-            ups = sent-each (UpTells g t v) c (sent_up f (set_up conn f asked).1.sends) (up v pipe there made.sends);
+            ups = sent-each (UpTells g t v) c (sent_up f (set_up conn f asked).1.sends) (up v pipe there closes made.sends);
             downs = λ d. each-nil (DownTells g t v d);
             dials = λ i d e. (mirror-tells g t w k c f i d h.facts (λ _. refl) e pipe.asked (member-dial w c f (set_up conn f asked).0.mirror i d e)).0;
             uppers = λ i d e. (mirror-tells g t w k c f i d h.facts (λ _. refl) e pipe.asked (member-dial w c f (set_up conn f asked).0.mirror i d e)).1;
@@ -353,6 +421,8 @@ taken-leaf g t w c f asked r h says lt alive x steps pends =
               joins = subst (λ (y : Dialled). Has v.joined (joined_as (new_stamp f).0 y.to.node y.to.life)) (sym same) joins;
               seat = there;
               alone = made.alone;
+              quiet = λ e. quiet (inl (ap (λ (m : Mirror). dials_of m w c f) e));
+              closes = closes;
             };
             replica = pends;
             joined = λ p m l j. lives p m l (subst (λ xs. Has xs (joined_as p m l)) (joined x) j);
@@ -361,7 +431,26 @@ taken-leaf g t w c f asked r h says lt alive x steps pends =
           };
     }
   where
-    joined : (y : Set r.known (new_stamp f) (promised f)) → joined_at (w.dialled c).to (stamp_in r.known) ≡ joined_as (new_stamp f).0 (node_of w c) (w.dialled c).to.life ∷ []
+    waits : Waits w c f
+    waits = record { first = says.first; waits = low }
+
+    change : Change
+    change = Asks w c f (booked_request (record { 0 = c }) f asked r None)
+
+    asks : Requesting w change
+    asks = record {
+      lower = λ e. absurd (writes-busy _ e);
+      alone = λ i d e b. refl;
+      each = λ i d q e z. (one-mirror w c f (set_up (record { 0 = c }) f asked).0.mirror i d e, mirror-asks (member-dial w c f (set_up (record { 0 = c }) f asked).0.mirror i d e) q z);
+      own = h.requests.unasked 0;
+    }
+      where
+        mirror-asks : {d : Dial} → DialsMirror w c f d → (q : WriteFields) → d.request ≡ request (op.Write q) → NewRequest w change q
+        mirror-asks x q z =
+            let same : q ≡ request_from x.source f x.rest = same-write q (request_from x.source f x.rest) (sym z ∙ x.request_is) in
+            of_member f waits (writes-busy _) (ap new_stamp same) (ap (λ (y : WriteFields). y.stage) same)
+
+    joined : (y : Set s r.known (new_stamp f) (promised f)) → joined_at (w.dialled c).to (stamp_in r.known) ≡ joined_as (new_stamp f).0 (node_of w c) (w.dialled c).to.life ∷ []
     joined y =
         ap (λ (o : Option ReplicaInfo). joined_at (w.dialled c).to (option_map (λ (i : ReplicaInfo). i.stamp) o)) y.is
         ∙ ap (λ (s : Stamp). joined_as s.0 (node_of w c) (w.dialled c).to.life ∷ []) y.under
@@ -377,34 +466,37 @@ taken-leaf g t w c f asked r h says lt alive x steps pends =
         at (suc i) e = absurd (none-some _ e)
 
     up : (v : World) → IsPipe g v c f says.session → Seat v (block_of f) (new_stamp f).0 says.session (node_of v c) (promised f)
+        → (setup_with f.stage ≡ Some kind.CloseRecovery → StandsClosed g v (block_of f) (new_stamp f).0 (node_of v c))
         → ((set_up (record { 0 = c }) f asked).1.sends ≡ None) ⊎ (((set_up (record { 0 = c }) f asked).1.sends ≡ Some (upward.Answer answer.Success)) × (f.targets ≡ [])) → Each (UpTells g t v c) (sent_up f (set_up (record { 0 = c }) f asked).1.sends)
-    up v pipe seat (inl e) = subst (λ (o : Option Upward). Each (UpTells g t v c) (sent_up f o)) (sym e) (each-nil (UpTells g t v c))
-    up v pipe seat (inr e) = subst (λ (o : Option Upward). Each (UpTells g t v c) (sent_up f o)) (sym e.0) (each-one (UpTells g t v c) (response (response_of f answer.Success)) (λ _. inl (record {
+    up v pipe seat closes (inl e) = subst (λ (o : Option Upward). Each (UpTells g t v c) (sent_up f o)) (sym e) (each-nil (UpTells g t v c))
+    up v pipe seat closes (inr e) = subst (λ (o : Option Upward). Each (UpTells g t v c) (sent_up f o)) (sym e.0) (each-one (UpTells g t v c) (response (response_of f answer.Success)) (λ _. inl (record {
       fields = f;
       session = says.session;
       pipe = pipe;
       seated = record { here = seat; below = λ i m q a b. absurd (none-some q (subst (λ (xs : List NodeRef). slice_get xs i ≡ Some q) e.1 a)) };
+      closed = λ s. lone-closed g v f (node_of v c) e.1 (closes s);
     })))
 
-outcome-leaf : (g : Givens) (t : Ends) (w : World) (c : ℕ) (f : WriteFields) (asked : Bool) (o : Outcome) → Known g t w → WriteSays g w.past c f → c < w.next_conn → w.lives (node_of w c) ≡ (w.dialled c).to.life → SetOr (new_stamp f) (promised f) o
+outcome-leaf : (g : Givens) (t : Ends) (w : World) (c : ℕ) (f : WriteFields) (asked : Bool) (o : Outcome) → Known g t w → WriteSays g w.past c f → w.lowers c ≡ idle → c < w.next_conn → w.lives (node_of w c) ≡ (w.dialled c).to.life
+    → (s : SetupKind) → setup_with f.stage ≡ Some s → SetOr s (new_stamp f) (promised f) (replica_at w c (block_of f)).known.is_broken o
     → ((k : Change) → k.node ≡ node_of w c → k.block ≡ block_of f → k.replica ≡ after (replica_at w c (block_of f)) o → Steps w k) → IfSome (record_after (replica_at w c (block_of f)).known o).info (Pends g t (block_of f) (record_after (replica_at w c (block_of f)).known o))
     → Leaf g t w (Asks w c f (booked_request (record { 0 = c }) f asked (after (replica_at w c (block_of f)) o) (refused_by (core.answer_of (core.reply o)))))
-outcome-leaf g t w c f asked (Err x) h says lt alive s steps pends =
+outcome-leaf g t w c f asked (Err x) h says low lt alive s stage z steps pends =
     refused-leaf g t w c f (after (replica_at w c (block_of f)) (Err x)) (refusal.Core x) (w.breaks (node_of w c) (block_of f)) h (steps (Asks w c f (refused_request (after (replica_at w c (block_of f)) (Err x)) (refusal.Core x))) refl refl refl) pends
-outcome-leaf g t w c f asked (Ok q) h says lt alive s steps pends =
+outcome-leaf g t w c f asked (Ok q) h says low lt alive s stage z steps pends =
     let r = after (replica_at w c (block_of f)) (Ok q) in
-    subst (λ (a : Option RequestRefusal). Leaf g t w (Asks w c f (booked_request (record { 0 = c }) f asked r a))) (sym (ap refused_by s.1))
-    (taken-leaf g t w c f asked r h says lt alive s.0 (steps (Asks w c f (booked_request (record { 0 = c }) f asked r None)) refl refl refl) pends)
+    subst (λ (a : Option RequestRefusal). Leaf g t w (Asks w c f (booked_request (record { 0 = c }) f asked r a))) (sym (ap refused_by z.done))
+    (taken-leaf g t w c f asked r h says low lt alive s stage z.set z.sound (steps (Asks w c f (booked_request (record { 0 = c }) f asked r None)) refl refl refl) pends)
 
-requested-leaf : (g : Givens) (t : Ends) (w : World) (c : ℕ) (f : WriteFields) (asked : Bool) (e : Result Event RequestRefusal) → Known g t w → WriteSays g w.past c f → c < w.next_conn → w.lives (node_of w c) ≡ (w.dialled c).to.life
+requested-leaf : (g : Givens) (t : Ends) (w : World) (c : ℕ) (f : WriteFields) (asked : Bool) (e : Result Event RequestRefusal) → Known g t w → WriteSays g w.past c f → w.lowers c ≡ idle → c < w.next_conn → w.lives (node_of w c) ≡ (w.dialled c).to.life
     → IfOk e (IsRequest (record { 0 = c }) f) → Leaf g t w (Asks w c f (request_at (record { 0 = c }) f asked (replica_at w c (block_of f)) e))
-requested-leaf g t w c f asked (Err x) h says lt alive q =
+requested-leaf g t w c f asked (Err x) h says low lt alive q =
     let k = Asks w c f (refused_request (replica_at w c (block_of f)) x) in
     refused-leaf g t w c f (replica_at w c (block_of f)) x (w.breaks (node_of w c) (block_of f)) h (steps-same w k refl) (same-pends g t w k h refl)
-requested-leaf g t w c f asked (Ok e) h says lt alive q =
+requested-leaf g t w c f asked (Ok e) h says low lt alive q =
     let conn : ConnId = record { 0 = c } in
     let r = replica_at w c (block_of f) in
-    outcome-leaf g t w c f asked (transition r.known e) h says lt alive (request-set r.known conn f e q)
+    outcome-leaf g t w c f asked (transition r.known e) h says low lt alive q.kind_of q.stage (request-set r.known conn f e q)
     (λ k n b z. request-steps g t w k conn f e h q (z ∙ ap (λ (y : FullReplica). row y (replica_event.Other e)) (sym (ap (λ (x : ℕ). w.replicas x k.block) n ∙ ap (λ (y : ℕ). w.replicas (node_of w c) y) b))))
     (request-pends g t w (Asks w c f (refused_request (row r (replica_event.Other e)) refusal.Pool)) conn f e h q refl)
 
@@ -415,9 +507,9 @@ failing-leaf g t w c f (Ok e) h =
     let k = setup_change w c f (faulted_request (replica_at w c (block_of f))) b in
     refused-leaf g t w c f (broken (replica_at w c (block_of f))) refusal.File b h (row-steps g t w k (replica_event.Other event.FileFault) h refl tt tt) (row-pends g t w k (replica_event.Other event.FileFault) h refl tt)
 
-pub write-leaf : (g : Givens) (t : Ends) (w : World) (c : ℕ) (f : WriteFields) (answered fails : Bool) → Known g t w → WriteSays g w.past c f → c < w.next_conn → w.lives (node_of w c) ≡ (w.dialled c).to.life
+pub write-leaf : (g : Givens) (t : Ends) (w : World) (c : ℕ) (f : WriteFields) (answered fails : Bool) → Known g t w → WriteSays g w.past c f → w.lowers c ≡ idle → c < w.next_conn → w.lives (node_of w c) ≡ (w.dialled c).to.life
     → IfSome (write_request w c f answered fails) (Leaf g t w)
-write-leaf g t w c f answered true h says lt alive = failing-leaf g t w c f (request_event (record { 0 = c }) f (rule_in (replica_at w c (block_of f)).known)) h
-write-leaf g t w c f answered false h says lt alive =
+write-leaf g t w c f answered true h says low lt alive = failing-leaf g t w c f (request_event (record { 0 = c }) f (rule_in (replica_at w c (block_of f)).known)) h
+write-leaf g t w c f answered false h says low lt alive =
     let r = replica_at w c (block_of f) in
-    requested-leaf g t w c f (is_asked w c f answered) (request_event (record { 0 = c }) f (rule_in r.known)) h says lt alive (request-is (record { 0 = c }) f (rule_in r.known))
+    requested-leaf g t w c f (is_asked w c f answered) (request_event (record { 0 = c }) f (rule_in r.known)) h says low lt alive (request-is (record { 0 = c }) f (rule_in r.known))

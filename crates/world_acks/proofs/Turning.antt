@@ -24,7 +24,7 @@ use Rattle.replica_core.specs.declared.events.Event.TheVariants as event
 use Rattle.replica_core.specs.declared.info.ReplicaInfo.{ReplicaInfo}
 use Rattle.replica_core.specs.declared.records.ReplicaRecord.{ReplicaRecord}
 use Rattle.replica_core.specs.declared.streams.Stream.{Stream}
-use Rattle.replica_core.specs.Info.{state_of, state_under, is_writable, visible_of, advance_acked, close_stream}
+use Rattle.replica_core.specs.Info.{state_of, state_under, is_writable, visible_of, state_after_last, advance_acked, close_stream}
 use Rattle.replica_core.specs.Sound.{IsConsistent, IsWritable}
 use Rattle.replica_core.specs.Transitions.{Outcome, Taken, transition, present, stream_by, oldest_of, acknowledge, done, answer_of, reply}
 use Rattle.replica_core.specs.Views.{written_at, state_in}
@@ -43,35 +43,40 @@ use Rattle.member_core.specs.declared.turns.Booked.TheVariants as booked
 use Rattle.member_core.specs.declared.turns.Turn.{Turn}
 use Rattle.member_core.specs.Acks.{is_success, failures, begins_with_bad_sum, is_read, are_replies, with_own}
 use Rattle.member_core.specs.Members.{down_turn, up_turn, up_at, setup_turn, answered_turn, accept_turn, fail_turn, stream_turn, ack_turn, pass_turn, failed_turn, good_turn, partial_turn, spoiled_turn, give_up_turn, named_bad, ready_turn, ready_at, quiet_turn, idle_turn, patient_turn, bad_turn}
-use Rattle.member_core.specs.Requests.{response_of, request_from}
+use Rattle.member_core.specs.Requests.{setup_with, response_of, request_from}
 use Rattle.member_core.specs.Steps.{booked_as, outcome_of, replica_after, oldest_at}
 use Rattle.world.specs.Connections.{Next, message, the_end}
-use Rattle.world.specs.Parts.{request, packet, ack, response, read_status, recovery_answer, FullMember}
+use Rattle.world.specs.Parts.{request, packet, ack, response, read_status, recovery_answer, FullMember, Break}
 use Rattle.world.specs.Worlds.{World}
 use Rattle.world.specs.Nodes.{below_of, node_of, node_on, replica_at, block_of, upward_message}
-use Rattle.world_facts.proofs.Tables.{if-each, and-left}
-use Rattle.world_stamps.specs.Stamping.{Givens}
-use Rattle.world_bytes.specs.Carrying.{new_stamp, Sets, Holds, SetFor, ReplicaSays}
+use Rattle.world_laws.proofs.FactTables.{if-each, and-left}
+use Rattle.world_laws.specs.Stamping.{Givens}
+use Rattle.world_laws.specs.Carrying.{new_stamp, Sets, Holds, SetFor, ReplicaSays}
 use Rattle.replica_model.specs.Found.{IsFront}
-use Rattle.world_bytes.proofs.Fronts.{front-takes, front-length}
-use Rattle.world_bytes.proofs.Leaves.{Facts}
-use Rattle.world_bytes.proofs.Rows.{sets-once}
-use Rattle.world_setups.specs.Joining.{joined_as, IsPlain, SetUps}
-use Rattle.world_acks.specs.Acking.{Shown, Seat, Asked, AsksToRead, Seated, IsPipe, promised, SetUpFrom, Ends, AckedFrom, UpTells, Mirrors, MemberTells, PendingTells, Pends, Acked}
-use Rattle.world_acks.proofs.Seats.{Onward, seated-on, pipe-on, node-on}
+use Rattle.world_laws.proofs.Fronts.{front-takes, front-length}
+use Rattle.world_laws.proofs.ByteLeaves.{Facts}
+use Rattle.world_laws.proofs.ByteRows.{sets-once}
+use Rattle.world_laws.specs.Joining.{joined_as, IsPlain, BreakReached, SetUps}
+use Rattle.world_acks.specs.Acking.{PacketEnd, pending_end, Shown, Seat, Asked, AsksToRead, Seated, IsPipe, promised, SetUpFrom, Ends, AckedFrom, UpTells, Mirrors, MemberTells, PendingTells, Pends, Acked}
+use Rattle.world_acks.specs.Closing.{FinalUnder, BrokeFinal, IsClosed, StandsClosed, AllClosed}
+use Rattle.world_acks.specs.Waiting.{Requests}
+use Rattle.world_acks.proofs.Requests.{first-once}
+use Rattle.world_acks.proofs.Seats.{shown-less, Lasting, all-closed-on, seated-on, pipe-on, node-on}
 
 -- WHAT IS KNOWN
 
 pub record Known (g : Givens) (t : Ends) (w : World) : Type 0 where
   pub facts : Facts g w
   pub sets : SetUps g w
+  pub requests : Requests w
   pub acked : Acked g t w
 
 -- a later world in which a node's replica of a block is this one
 pub record Then (g : Givens) (t : Ends) (w v : World) (n b : ℕ) (r : FullReplica) : Type 0 where
-  pub on : Onward g g t t w v
+  pub on : Lasting g g t t w v
   pub facts : Facts g v
   pub at : v.replicas n b ≡ r
+  pub breaks : v.breaks n b ≡ w.breaks n b
   pub lives : v.lives n ≡ w.lives n
 
 -- what a replica shows under its stamp
@@ -109,18 +114,19 @@ ok-of (Err f) e = absurd (refused e)
     refused q = cc
 
 -- what is acked is shown
-record Shows (d : ReplicaRecord) (i : ReplicaInfo) (k : ℕ) : Type 0 where
+record Shows (d : ReplicaRecord) (i : ReplicaInfo) (p : PendingPacket) : Type 0 where
   pub after : ReplicaInfo
   pub is : d.info ≡ Some after
   pub stamp : after.stamp ≡ i.stamp
   pub visible : ℕ
   pub sees : visible_of after ≡ Some visible
-  pub enough : IsConsistent after → k ≤ visible
+  pub enough : IsConsistent after → p.end ≤ visible
   pub within : IsConsistent after → visible ≤ after.written
+  pub final : p.last ≡ true → after.original ≡ state.Finalized
 
-acknowledged : (c : ReplicaRecord) (i : ReplicaInfo) (p : PendingPacket) → i.original ≡ state.Rbw → Shows (acknowledge c i p true) i p.end
+acknowledged : (c : ReplicaRecord) (i : ReplicaInfo) (p : PendingPacket) → i.original ≡ state.Rbw → Shows (acknowledge c i p true) i p
 acknowledged c i p e =
-    if-each (λ (d : ReplicaRecord). Shows d i p.end) p.last _ _
+    if-each (λ (d : ReplicaRecord). Shows d i p) p.last _ _
     (λ _. record {
       after = close_stream (advance_acked i p.end);
       is = refl;
@@ -129,8 +135,9 @@ acknowledged c i p e =
       sees = subst (λ (s : ReplicaState). visible_of (close_stream (record (advance_acked i p.end) { original = s })) ≡ Some i.written) (sym e) refl;
       enough = λ h. omega (arith, h.acked);
       within = λ h. omega arith;
+      final = λ _. ap state_after_last e;
     })
-    (λ _. record {
+    (λ q. record {
       after = advance_acked i p.end;
       is = refl;
       stamp = refl;
@@ -138,6 +145,7 @@ acknowledged c i p e =
       sees = subst (λ (s : ReplicaState). visible_of (record (advance_acked i p.end) { original = s }) ≡ Some (max i.acked p.end)) (sym e) refl;
       enough = λ h. omega arith;
       within = λ h. omega (arith, h.acked);
+      final = λ l. absurd (false≢true (sym q ∙ l));
     })
 
 rbw-of : (o : Option Stamp) (s : ReplicaState) → is_writable (state_under o s) ≡ true → (s ≡ state.Temporary → ⊥) → s ≡ state.Rbw
@@ -156,7 +164,7 @@ record GoodAck (r : FullReplica) (conn : ConnId) (seqno : ℤ) : Type 0 where
   pub stream : Stream
   pub writes : r.known.stream ≡ Some stream
   pub by : stream.conn.0 ≡ conn.0
-  pub shows : Shows (row r (replica_event.Other (event.Ack conn seqno true))).known info entry.end
+  pub shows : Shows (row r (replica_event.Other (event.Ack conn seqno true))).known info entry
 
 same-taken : (x y : Taken) (o : Outcome) → o ≡ Ok x → o ≡ Ok y → x.replica ≡ y.replica
 same-taken x y o e f = cc
@@ -182,7 +190,7 @@ good-ack r conn seqno full plain taken = go (ok-of (transition r.known (event.Ac
           stream = s;
           writes = writes.0;
           by = writes.1;
-          shows = subst (λ (d : ReplicaRecord). Shows d h e.end) (sym (ap after whole ∙ sym (same-taken (record { replica = acknowledge c h e true; answer = core_answer.Done }) x (done (acknowledge c h e true)) refl made)))
+          shows = subst (λ (d : ReplicaRecord). Shows d h e) (sym (ap after whole ∙ sym (same-taken (record { replica = acknowledge c h e true; answer = core_answer.Done }) x (done (acknowledge c h e true)) refl made)))
               (acknowledged c h e (rbw-of h.recovery h.original state (subst (λ (o : Option ReplicaInfo). IfSome o IsPlain) is plain).lasting));
         }
       where
@@ -225,9 +233,18 @@ written-stamp g t w c m i s a is by conn =
     subst (λ (o : Option ReplicaInfo). IfSome o (λ j. Sets w.past s.conn.0 j.stamp)) is (subst (λ (o : Option Stream). IfSome o (SetFor w.past (At w c m).known.info)) by says.stream) in
     sets-once w.past c i.stamp (new_stamp m.fields) (subst (λ (n : ℕ). Sets w.past n i.stamp) conn own) (record { fields = m.fields; first = a.tells.pipe.asked.first; is = refl })
 
--- what a member acks, by its number, and what it shows then
+-- a replica that isn't broken has no break
+pub no-break : (g : Givens) (w : World) (n b : ℕ) (P : Break → Type 0) → SetUps g w → (w.replicas n b).known.is_broken ≡ false → IfSome (w.breaks n b) P
+no-break g w n b P h e = go (w.breaks n b) (h.breaks n b)
+  where
+    go : (o : Option Break) → IfSome o (BreakReached g w.joined n b (w.replicas n b)) → IfSome o P
+    go None x = tt
+    go (Some k) x = absurd (false≢true (sym e ∙ x.broken))
+
+-- what a member acks, by its number, and what it shows then; with the last packet it has closed
 record Books (t : Ends) (v : World) (n session : ℕ) (m : FullMember) (e : PendingPacket) : Type 0 where
-  pub named : t session e.seqno ≡ Some e.end
+  pub named : t session e.seqno ≡ Some (pending_end e)
+  pub closed : e.last ≡ true → IsClosed v (block_of m.fields) (new_stamp m.fields).0 n
   pub seat : Seat v (block_of m.fields) (new_stamp m.fields).0 session n e.end
 
 abbrev Good : FullMember → PendingPacket → ReplicaEvent
@@ -247,32 +264,35 @@ books g t w v c m e a old y taken =
     let session : pend.session ≡ a.tells.session = same_Some pend.session a.tells.session (sym pend.given ∙ ap (λ (z : Stamp). g b z.0) stamp ∙ a.tells.pipe.given) in
     let full : IsFull q = subst (λ (z : FullReplica). IsFull z) y.at (y.facts.full n b) in
     let says : ReplicaSays g v.past b q = subst (λ (z : FullReplica). ReplicaSays g v.past b z) y.at (y.facts.carried.replicas n b) in
-    let k : Shows q.known x.info x.entry.end = x.shows in
+    let k : Shows q.known x.info x.entry = x.shows in
     let after : k.after.stamp ≡ new_stamp m.fields = k.stamp ∙ stamp in
     let good : IsConsistent k.after = subst (λ (o : Option ReplicaInfo). IfSome o IsConsistent) k.is full.sound.info in
     let shown : Shown q k.after.stamp.0 x.entry.end (v.written a.tells.session) =
     shown-says g v b q k.after a.tells.session k.visible x.entry.end says full k.is (ap (λ (z : Stamp). g b z.0) after ∙ a.tells.pipe.given) k.sees (k.within good) (k.enough good) in
     record {
       named = ap (λ (z : ℕ). t z e.seqno) (sym session) ∙ pend.named;
+      closed = λ l. record {
+        replica = subst (λ (z : FullReplica). FinalUnder (new_stamp m.fields).0 z.known.info) (sym y.at)
+            (record { info = k.after; is = k.is; original = k.final (ap (λ (z : PendingPacket). z.last) same ∙ l); under = ap (λ (z : Stamp). z.0) after });
+        broke = subst (λ (o : Option Break). IfSome o (BrokeFinal (new_stamp m.fields).0)) (sym y.breaks) (no-break g w n b (BrokeFinal (new_stamp m.fields).0) a.known.sets
+            (subst (λ (o : Option Stream). IfSome o (λ _. r.known.is_broken ≡ false)) x.writes (a.known.facts.full n b).sound.sound));
+      };
       seat = record {
         life = (w.dialled c).to.life;
         joins = y.on.joined (joined_as (new_stamp m.fields).0 n (w.dialled c).to.life) a.tells.joins;
         born = omega (arith, y.lives, a.alive);
-        shows = λ _ _ _ _. subst (λ (z : FullReplica). Shown z (new_stamp m.fields).0 e.end (v.written a.tells.session)) (sym y.at)
+        shows = λ _ _ _ i le _. shown-less (v.replicas n b) (new_stamp m.fields).0 i e.end (v.written a.tells.session) le (subst (λ (z : FullReplica). Shown z (new_stamp m.fields).0 e.end (v.written a.tells.session)) (sym y.at)
             (subst (λ (z : PendingPacket). Shown q (new_stamp m.fields).0 z.end (v.written a.tells.session)) same
-            (subst (λ (z : Stamp). Shown q z.0 x.entry.end (v.written a.tells.session)) after shown));
+            (subst (λ (z : Stamp). Shown q z.0 x.entry.end (v.written a.tells.session)) after shown)));
       };
     }
 
 -- THE MIRROR
 
 pub same-asked : (w : World) (c : ℕ) (f k : WriteFields) → Asked w.past c f → Asked w.past c k → f ≡ k
-same-asked w c f k x y = same f k (same_Some _ _ (sym x.first ∙ y.first))
-  where
-    same : (a d : WriteFields) → request (op.Write a) ≡ request (op.Write d) → a ≡ d
-    same a d e = cc
+same-asked w c f k x y = first-once w c f k x.first y.first
 
-never-both : (w : World) (c : ℕ) (f : WriteFields) → Asked w.past c f → AsksToRead w.past c → ⊥
+pub never-both : (w : World) (c : ℕ) (f : WriteFields) → Asked w.past c f → AsksToRead w.past c → ⊥
 never-both w c f x y = apart f y.asked (same_Some _ _ (sym x.first ∙ y.first))
   where
     apart : (a : WriteFields) (d : ReadOp) → request (op.Write a) ≡ request (op.Read d) → ⊥
@@ -313,6 +333,21 @@ join-seats v f source first rest n d e k ts at own h = record {
 lone-seat : (v : World) (f : WriteFields) (n e k : ℕ) → f.targets ≡ [] → Seat v (block_of f) (new_stamp f).0 e n k → Seated v f n e k
 lone-seat v f n e k ts own = record { here = own; below = λ i m t a b. absurd (none-some t (subst (λ (xs : List NodeRef). slice_get xs i ≡ Some t) ts a)) }
 
+-- the same of nodes that stand closed
+join-closed : (g : Givens) (v : World) (f : WriteFields) (source first : NodeRef) (rest : List NodeRef) (n d : ℕ) → f.targets ≡ first ∷ rest → node_on first.xfer ≡ Some d → StandsClosed g v (block_of f) (new_stamp f).0 n
+    → AllClosed g v (request_from source f rest) d → AllClosed g v f n
+join-closed g v f source first rest n d ts at own h = record {
+  here = own;
+  below = λ i m t a b. go i m t (subst (λ (xs : List NodeRef). slice_get xs i ≡ Some t) ts a) b;
+}
+  where
+    go : (i m : ℕ) (t : NodeRef) → slice_get (first ∷ rest) i ≡ Some t → node_on t.xfer ≡ Some m → StandsClosed g v (block_of f) (new_stamp f).0 m
+    go zero m t a b = subst (λ (x : ℕ). StandsClosed g v (block_of f) (new_stamp f).0 x) (same_Some d m (sym at ∙ ap (λ (z : NodeRef). node_on z.xfer) (same_Some first t a) ∙ b)) h.here
+    go (suc i) m t a b = h.below i m t a b
+
+pub lone-closed : (g : Givens) (v : World) (f : WriteFields) (n : ℕ) → f.targets ≡ [] → StandsClosed g v (block_of f) (new_stamp f).0 n → AllClosed g v f n
+lone-closed g v f n ts own = record { here = own; below = λ i m t a b. absurd (none-some t (subst (λ (xs : List NodeRef). slice_get xs i ≡ Some t) ts a)) }
+
 -- what is said of the mirror's connection, of the request that went there
 below-seated : (g : Givens) (t : Ends) (w : World) (c d : ℕ) (m : FullMember) (f : WriteFields) (e k : ℕ) (a : Acts g t w c m) (x : FromMirror w d m) → IsPipe g w d f e → Seated w f (node_of w d) e k
     → (f ≡ request_from x.source m.fields x.rest) × (e ≡ a.tells.session) × Seated w (request_from x.source m.fields x.rest) (node_of w d) a.tells.session k
@@ -321,7 +356,7 @@ below-seated g t w c d m f e k a x p s =
     let one : e ≡ a.tells.session = same_Some e a.tells.session (sym p.given ∙ ap (λ (y : WriteFields). g (block_of y) (new_stamp y).0) same ∙ a.tells.pipe.given) in
     (same, one, subst (λ (y : ℕ). Seated w (request_from x.source m.fields x.rest) (node_of w d) y k) one (subst (λ (y : WriteFields). Seated w y (node_of w d) e k) same s))
 
-passes-setup : (g : Givens) (t : Ends) (w v : World) (c d : ℕ) (m : FullMember) → Acts g t w c m → FromMirror w d m → Onward g g t t w v → SetUpFrom g w d → SetUpFrom g v c
+passes-setup : (g : Givens) (t : Ends) (w v : World) (c d : ℕ) (m : FullMember) → Acts g t w c m → FromMirror w d m → Lasting g g t t w v → SetUpFrom g w d → SetUpFrom g v c
 passes-setup g t w v c d m a x o h =
     let y = below-seated g t w c d m h.fields h.session (promised h.fields) a x h.pipe h.seated in
     let low = subst (λ (f : WriteFields). Seated w (request_from x.source m.fields x.rest) (node_of w d) a.tells.session (promised f)) y.0 y.2 in
@@ -329,32 +364,45 @@ passes-setup g t w v c d m a x o h =
     record {
       fields = m.fields;
       session = a.tells.session;
-      pipe = pipe-on g g t t w v c m.fields a.tells.session o a.tells.pipe;
-      seated = subst (λ (n : ℕ). Seated v m.fields n a.tells.session (promised m.fields)) (node-on g g t t w v c o a.tells.pipe.known) (seated-on g g t t w v m.fields (node_of w c) a.tells.session (promised m.fields) o all);
+      pipe = pipe-on g g t t w v c m.fields a.tells.session o.on a.tells.pipe;
+      seated = subst (λ (n : ℕ). Seated v m.fields n a.tells.session (promised m.fields)) (node-on g g t t w v c o.on a.tells.pipe.known) (seated-on g g t t w v m.fields (node_of w c) a.tells.session (promised m.fields) o.on all);
+      closed = λ s. subst (λ (n : ℕ). AllClosed g v m.fields n) (node-on g g t t w v c o.on a.tells.pipe.known) (all-closed-on g g t t w v m.fields (node_of w c) o
+          (join-closed g w m.fields x.source x.first x.rest (node_of w c) (node_of w d) x.targets x.node (a.tells.closes s)
+          (subst (λ (f : WriteFields). AllClosed g w f (node_of w d)) y.0 (h.closed (ap (λ (f : WriteFields). setup_with f.stage) y.0 ∙ s)))));
     }
 
-acked-with : (g : Givens) (t : Ends) (w v : World) (c : ℕ) (m : FullMember) (e : PendingPacket) (a : Acts g t w c m) → Onward g g t t w v → t a.tells.session e.seqno ≡ Some e.end
-    → Seated v m.fields (node_of w c) a.tells.session e.end → AckedFrom g t v c e.seqno
-acked-with g t w v c m e a o named s = record {
+acked-with : (g : Givens) (t : Ends) (w v : World) (c : ℕ) (m : FullMember) (e : PendingPacket) (a : Acts g t w c m) → Lasting g g t t w v → t a.tells.session e.seqno ≡ Some (pending_end e)
+    → Seated v m.fields (node_of w c) a.tells.session e.end → (e.last ≡ true → AllClosed g v m.fields (node_of w c)) → AckedFrom g t v c e.seqno
+acked-with g t w v c m e a o named s closed = record {
   fields = m.fields;
   session = a.tells.session;
-  pipe = pipe-on g g t t w v c m.fields a.tells.session o a.tells.pipe;
-  end = e.end;
+  pipe = pipe-on g g t t w v c m.fields a.tells.session o.on a.tells.pipe;
+  end = pending_end e;
   named = named;
-  seated = subst (λ (n : ℕ). Seated v m.fields n a.tells.session e.end) (node-on g g t t w v c o a.tells.pipe.known) s;
+  seated = subst (λ (n : ℕ). Seated v m.fields n a.tells.session e.end) (node-on g g t t w v c o.on a.tells.pipe.known) s;
+  closed = λ l. subst (λ (n : ℕ). AllClosed g v m.fields n) (node-on g g t t w v c o.on a.tells.pipe.known) (closed l);
 }
 
-passes-ack : (g : Givens) (t : Ends) (w v : World) (c d : ℕ) (m : FullMember) (e : PendingPacket) (a : Acts g t w c m) → FromMirror w d m → Onward g g t t w v → AckedFrom g t w d e.seqno → Books t v (node_of w c) a.tells.session m e
+passes-ack : (g : Givens) (t : Ends) (w v : World) (c d : ℕ) (m : FullMember) (e : PendingPacket) (a : Acts g t w c m) → FromMirror w d m → Lasting g g t t w v → AckedFrom g t w d e.seqno → Books t v (node_of w c) a.tells.session m e
     → AckedFrom g t v c e.seqno
 passes-ack g t w v c d m e a x o h k =
-    let y = below-seated g t w c d m h.fields h.session h.end a x h.pipe h.seated in
-    let one : h.end ≡ e.end = same_Some h.end e.end (sym h.named ∙ ap (λ (z : ℕ). t z e.seqno) y.1 ∙ k.named) in
-    let low = subst (λ (z : ℕ). Seated w (request_from x.source m.fields x.rest) (node_of w d) a.tells.session z) one y.2 in
+    let y = below-seated g t w c d m h.fields h.session h.end.at a x h.pipe h.seated in
+    let one : h.end ≡ pending_end e = same_Some h.end (pending_end e) (sym h.named ∙ ap (λ (z : ℕ). t z e.seqno) y.1 ∙ k.named) in
+    let low = subst (λ (z : PacketEnd). Seated w (request_from x.source m.fields x.rest) (node_of w d) a.tells.session z.at) one y.2 in
     acked-with g t w v c m e a o k.named (join-seats v m.fields x.source x.first x.rest (node_of w c) (node_of w d) a.tells.session e.end x.targets x.node k.seat
-    (seated-on g g t t w v (request_from x.source m.fields x.rest) (node_of w d) a.tells.session e.end o low))
+    (seated-on g g t t w v (request_from x.source m.fields x.rest) (node_of w d) a.tells.session e.end o.on low)) (λ l. all y.0 (ap (λ (z : PacketEnd). z.last) one ∙ l) l)
+  where
+    all : h.fields ≡ request_from x.source m.fields x.rest → h.end.last ≡ true → e.last ≡ true → AllClosed g v m.fields (node_of w c)
+    all same last own =
+        let low : AllClosed g v (request_from x.source m.fields x.rest) (node_of w d) =
+        all-closed-on g g t t w v (request_from x.source m.fields x.rest) (node_of w d) o (subst (λ (f : WriteFields). AllClosed g w f (node_of w d)) same (h.closed last)) in
+        join-closed g v m.fields x.source x.first x.rest (node_of w c) (node_of w d) x.targets x.node (record { has = inl (k.closed own); quiet = low.here.quiet }) low
 
-lone-ack : (g : Givens) (t : Ends) (w v : World) (c : ℕ) (m : FullMember) (e : PendingPacket) (a : Acts g t w c m) → m.fields.targets ≡ [] → Onward g g t t w v → Books t v (node_of w c) a.tells.session m e → AckedFrom g t v c e.seqno
-lone-ack g t w v c m e a ts o k = acked-with g t w v c m e a o k.named (lone-seat v m.fields (node_of w c) a.tells.session e.end ts k.seat)
+lone-ack : (g : Givens) (t : Ends) (w v : World) (c : ℕ) (m : FullMember) (e : PendingPacket) (a : Acts g t w c m) → m.state.mirror ≡ mirror.Nobody → Lasting g g t t w v → Books t v (node_of w c) a.tells.session m e → AckedFrom g t v c e.seqno
+lone-ack g t w v c m e a none o k =
+    let ts = a.tells.alone none in
+    acked-with g t w v c m e a o k.named (lone-seat v m.fields (node_of w c) a.tells.session e.end ts k.seat)
+    (λ l. lone-closed g v m.fields (node_of w c) ts (record { has = inl (k.closed l); quiet = o.quiet (new_stamp m.fields).0 (a.tells.quiet none) }))
 
 -- TURNS
 
@@ -451,7 +499,7 @@ answered-tells g t w c d m r a x h =
     (λ q. record { call = tt; mirror = not-nobody mirror.Open m open-not; sends = λ v y _ _. inl (go v y.on (h q)) })
     (λ _. fail-tells g t w c m (named_bad r.first_bad) (named-not r.first_bad))
   where
-    go : (v : World) → Onward g g t t w v → SetUpFrom g w d ⊎ AsksToRead w.past d → SetUpFrom g v c
+    go : (v : World) → Lasting g g t t w v → SetUpFrom g w d ⊎ AsksToRead w.past d → SetUpFrom g v c
     go v o (inl y) = passes-setup g t w v c d m a x o y
     go v o (inr y) = absurd (never-both w d (request_from x.source m.fields x.rest) x.asked y)
 
@@ -499,7 +547,7 @@ ready-at-tells : (q : Mirror) (g : Givens) (t : Ends) (w : World) (c : ℕ) (m :
     → IfSome (ready_at q m.state o writes) (TurnTells g t w c m)
 ready-at-tells mirror.Asked g t w c m o writes e a old = tt
 ready-at-tells mirror.Unreachable g t w c m o writes e a old = fail-tells g t w c m answer.Unreached unreached-not
-ready-at-tells mirror.Nobody g t w c m (Some p) writes e a old = record { call = tt; mirror = λ z. z; sends = λ v y taken _. lone-ack g t w v c m p a (a.tells.alone e) y.on (books g t w v c m p a old y taken) }
+ready-at-tells mirror.Nobody g t w c m (Some p) writes e a old = record { call = tt; mirror = λ z. z; sends = λ v y taken _. lone-ack g t w v c m p a e y.on (books g t w v c m p a old y taken) }
 ready-at-tells mirror.Nobody g t w c m None writes e a old = quiet-tells g t w c m m.state.bad writes
 ready-at-tells mirror.Open g t w c m (Some p) writes e a old = tt
 ready-at-tells mirror.Open g t w c m None writes e a old = patient-tells g t w c m m.state.bad

@@ -1,5 +1,5 @@
 -- What answers to setups and acks say of the replicas below them.
-use Rattle.std.specs.Prelude.{ℕ, ℤ, pos, ◌≡◌, ◌<◌, ◌≤◌, ◌⊎◌, true, false, List, [], ◌∷◌, length, take, slice_get, Option, Some, IfSome}
+use Rattle.std.specs.Prelude.{ℕ, ℤ, pos, ◌≡◌, ◌<◌, ◌≤◌, ◌⊎◌, Bool, true, false, List, [], ◌∷◌, length, take, slice_get, Option, Some, IfSome}
 use Rattle.hd_base.specs.declared.numbers.Stamp.{Stamp}
 use Rattle.op_headers.specs.declared.nodes.NodeRef.{NodeRef}
 use Rattle.op_headers.specs.declared.ops.Op.TheVariants as op
@@ -28,9 +28,11 @@ use Rattle.world.specs.Worlds.{Past, World, start}
 use Rattle.world.specs.Nodes.{node_of, node_on, block_of}
 use Rattle.world.specs.Events.{run}
 use Rattle.world.specs.Safe.{Has}
-use Rattle.world_stamps.specs.Stamping.{Givens, none_given, given_in, heard}
-use Rattle.world_bytes.specs.Carrying.{new_stamp}
-use Rattle.world_setups.specs.Joining.{joined_as}
+use Rattle.world_laws.specs.Stamping.{Givens, none_given, given_in, heard}
+use Rattle.world_laws.specs.Carrying.{new_stamp}
+use Rattle.world_laws.specs.Joining.{joined_as}
+use Rattle.world_acks.specs.Closing.{StandsClosed, AllClosed}
+use Rattle.world_acks.specs.Waiting.{IsQuiet}
 
 -- WHAT A REPLICA SHOWS
 
@@ -45,18 +47,18 @@ pub record Shown (r : FullReplica) (stamp n : ℕ) (v : List ℕ) : Type 0 where
   pub bytes : take n r.bytes ≡ take n v
   pub within : n ≤ length v
 
--- no recovery with an id above this stamp updated the block's replica at a node in this life
-pub record IsUncut (w : World) (b stamp n life : ℕ) : Type 0 where
-  pub none : (u : Updated) → Has w.updated u → u.node ≡ n → u.life ≡ life → u.block ≡ b → stamp < u.recovery → ⊥
+-- each recovery with an id above this stamp that updated the block's replica at a node in this life left it at least so many bytes
+pub record UpdatesLeave (w : World) (b stamp n life least : ℕ) : Type 0 where
+  pub each : (u : Updated) → Has w.updated u → u.node ≡ n → u.life ≡ life → u.block ≡ b → stamp < u.recovery → least ≤ u.length
 
--- A node accepted the setup of a stamp of a session, in a life that isn't later than its present one. As long as it runs in that life, its replica
--- isn't broken and no later recovery has updated it, it shows at least so many bytes of the session.
+-- A node accepted the setup of a stamp of a session, in a life that isn't later than its present one. Of so many bytes of the session it shows, as
+-- long as it runs in that life and its replica isn't broken, as many as each later recovery left that has updated it.
 pub record Seat (w : World) (b stamp session n least : ℕ) : Type 0 where
   pub life : ℕ
   pub joins : Has w.joined (joined_as stamp n life)
   pub born : life ≤ w.lives n
-  pub shows : w.running n ≡ true → w.lives n ≡ life → (w.replicas n b).known.is_broken ≡ false → IsUncut w b stamp n life →
-      Shown (w.replicas n b) stamp least (w.written session)
+  pub shows : w.running n ≡ true → w.lives n ≡ life → (w.replicas n b).known.is_broken ≡ false → (j : ℕ) → j ≤ least →
+      UpdatesLeave w b stamp n life j → Shown (w.replicas n b) stamp j (w.written session)
 
 -- CONNECTIONS
 
@@ -89,25 +91,38 @@ least_of _ n = n
 abbrev pub promised : WriteFields → ℕ
 promised f = least_of (setup_with f.stage) f.min
 
--- All members from a connection's lower end on accepted the setup, with the least length of its request.
+-- All members from a connection's lower end on accepted the setup, with the least length of its request; where it recovers a close, they have closed.
 pub record SetUpFrom (g : Givens) (w : World) (c : ℕ) : Type 0 where
   pub fields : WriteFields
   pub session : ℕ
   pub pipe : IsPipe g w c fields session
   pub seated : Seated w fields (node_of w c) session (promised fields)
+  pub closed : setup_with fields.stage ≡ Some kind.CloseRecovery → AllClosed g w fields (node_of w c)
 
--- by session and number, where the packet of this number ends
+-- where a packet ends, and whether it is the last one of its block
+pub record PacketEnd : Type 0 where
+  pub at : ℕ
+  pub last : Bool
+
+abbrev pub end_of : Packet → PacketEnd
+end_of p = record { at = packet_end p; last = p.last }
+
+abbrev pub pending_end : PendingPacket → PacketEnd
+pending_end e = record { at = e.end; last = e.last }
+
+-- by session and number, the end of the packet of this number
 abbrev pub Ends : Type 0
-Ends = ℕ → ℤ → Option ℕ
+Ends = ℕ → ℤ → Option PacketEnd
 
--- All members from a connection's lower end on show what the packet of this number ends.
+-- All members from a connection's lower end on show what the packet of this number ends; where it is the last one, they have closed.
 pub record AckedFrom (g : Givens) (t : Ends) (w : World) (c : ℕ) (seqno : ℤ) : Type 0 where
   pub fields : WriteFields
   pub session : ℕ
   pub pipe : IsPipe g w c fields session
-  pub end : ℕ
+  pub end : PacketEnd
   pub named : t session seqno ≡ Some end
-  pub seated : Seated w fields (node_of w c) session end
+  pub seated : Seated w fields (node_of w c) session end.at
+  pub closed : end.last ≡ true → AllClosed g w fields (node_of w c)
 
 -- what goes up: an answer of SUCCESS, to a setup or a read, and an ack without a bad reply
 abbrev pub UpTells : Givens → Ends → World → ℕ → Message → Type 0
@@ -119,7 +134,7 @@ UpTells g t w c _ = Unit {0}
 pub record Numbered (t : Ends) (session : ℕ) (p : Packet) : Type 0 where
   pub number : ℕ
   pub is : p.seqno ≡ pos number
-  pub named : t session p.seqno ≡ Some (packet_end p)
+  pub named : t session p.seqno ≡ Some (end_of p)
 
 -- a packet has the number under which its end is known in its connection's session
 pub record PacketTells (g : Givens) (t : Ends) (w : World) (c : ℕ) (p : Packet) : Type 0 where
@@ -150,13 +165,17 @@ UpperTells h c _ = Unit {0}
 
 -- LOWER ENDS
 
--- A member took the setup of its connection in the life of its connection, and has a seat of the least length; without a mirror it has no targets.
+-- A member took the setup of its connection in the life of its connection, and has a seat of the least length. Without a mirror it has no targets,
+-- and no request waits under its stamp that recovers an append; where it took the recovery of a close it has closed.
 pub record MemberTells (g : Givens) (w : World) (c : ℕ) (m : FullMember) : Type 0 where
   pub session : ℕ
   pub pipe : IsPipe g w c m.fields session
   pub joins : Has w.joined (joined_as (new_stamp m.fields).0 (node_of w c) (w.dialled c).to.life)
   pub seat : Seat w (block_of m.fields) (new_stamp m.fields).0 session (node_of w c) (promised m.fields)
   pub alone : m.state.mirror ≡ mirror.Nobody → m.fields.targets ≡ []
+  pub quiet : m.state.mirror ≡ mirror.Nobody → IsQuiet w (new_stamp m.fields).0
+  pub closes : setup_with m.fields.stage ≡ Some kind.CloseRecovery →
+      StandsClosed g w (block_of m.fields) (new_stamp m.fields).0 (node_of w c)
 
 abbrev pub LowerTells : Givens → World → ℕ → Lower → Type 0
 LowerTells g w c (writes m) = MemberTells g w c m
@@ -166,7 +185,7 @@ LowerTells g w c _ = Unit {0}
 pub record PendingTells (g : Givens) (t : Ends) (b : ℕ) (stamp : Stamp) (e : PendingPacket) : Type 0 where
   pub session : ℕ
   pub given : g b stamp.0 ≡ Some session
-  pub named : t session e.seqno ≡ Some e.end
+  pub named : t session e.seqno ≡ Some (pending_end e)
 
 pub record Pends (g : Givens) (t : Ends) (b : ℕ) (r : ReplicaRecord) (i : ReplicaInfo) : Type 0 where
   pub each : (j : ℕ) (e : PendingPacket) → slice_get r.pending j ≡ Some e → PendingTells g t b i.stamp e
@@ -201,13 +220,13 @@ reach_of (phase.Failed e) = 0
 pub record Numbers (f : ℕ → Option ℕ) (t : Ends) (session : ℕ) (x : WriterRecord) : Type 0 where
   pub known : 1 ≤ reach_of x.phase → f session ≡ Some session
   pub packets : 1 ≤ reach_of x.phase → (i : ℕ) (p : Packet) → slice_get x.stream.unacked i ≡ Some p → Numbered t session p
-  pub below : 2 ≤ reach_of x.phase → (q k : ℕ) → t session (pos q) ≡ Some k → q < x.stream.seqno
+  pub below : 2 ≤ reach_of x.phase → (q : ℕ) (k : PacketEnd) → t session (pos q) ≡ Some k → q < x.stream.seqno
 
 -- THE WORLD
 
 pub record Acked (g : Givens) (t : Ends) (w : World) : Type 0 where
   pub lives : (s n l : ℕ) → Has w.joined (joined_as s n l) → l ≤ w.lives n
-  pub begun : (e k : ℕ) (q : ℤ) → t e q ≡ Some k → e < w.office.next.0
+  pub begun : (e : ℕ) (k : PacketEnd) (q : ℤ) → t e q ≡ Some k → e < w.office.next.0
   pub ups : (c i : ℕ) (m : Message) → slice_get (w.ups c) i ≡ Some m → UpTells g t w c m
   pub downs : (c i : ℕ) (m : Message) → slice_get (w.downs c) i ≡ Some m → DownTells g t w c m
   pub uppers : (c : ℕ) → c < w.next_conn → UpperTells w.past c (w.dialled c).upper

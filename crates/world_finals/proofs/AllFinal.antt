@@ -20,16 +20,16 @@ use Rattle.world.specs.Clients.{writer_up, reader_up}
 use Rattle.world.specs.Primaries.{office_event, primary_up}
 use Rattle.world.specs.Restarts.{all_found, restart}
 use Rattle.world.specs.Events.{changed, own_change, down_as, down_event, ready_event, unless_fails, upper_up, up_as, up_event, fault_event, lost, stop, where_so, outcome, after_event, happens, run}
-use Rattle.world_facts.proofs.Tables.{when-each, some-weaker}
-use Rattle.world_replicas.specs.Filling.{IsBreak}
-use Rattle.world_replicas.proofs.FilledLaws.{all-filled}
-use Rattle.world_stamps.specs.Stamping.{Givens, none_given, given_with, stamped_in, given_by, given_in, Recorded}
-use Rattle.world_stamps.proofs.AllRecorded.{happens-recorded, Reached, reached-next, reached-agreed, start-recorded}
-use Rattle.world_bytes.specs.Carrying.{Carried}
-use Rattle.world_bytes.proofs.Leaves.{Facts}
-use Rattle.world_bytes.proofs.Ends.{lower-ready-keeps}
-use Rattle.world_bytes.proofs.AllCarried.{down-taken-facts, up-taken-facts, changed-carried, down-as-carried, up-as-carried, own-keeps, happens-carried, reached-facts, at-start, start-carried}
-use Rattle.world_setups.proofs.AllSetUp.{served-life}
+use Rattle.world_laws.proofs.FactTables.{when-each, some-weaker}
+use Rattle.world_laws.specs.Filling.{IsBreak}
+use Rattle.world_laws.proofs.FilledLaws.{all-filled}
+use Rattle.world_laws.specs.Stamping.{Givens, none_given, given_with, stamped_in, given_by, given_in, Recorded}
+use Rattle.world_laws.proofs.AllRecorded.{happens-recorded, Reached, reached-next, reached-agreed, start-recorded}
+use Rattle.world_laws.specs.Carrying.{Carried}
+use Rattle.world_laws.proofs.ByteLeaves.{Facts}
+use Rattle.world_laws.proofs.ByteEnds.{lower-ready-keeps}
+use Rattle.world_laws.proofs.AllCarried.{down-taken-facts, up-taken-facts, changed-carried, down-as-carried, up-as-carried, own-keeps, happens-carried, reached-facts, at-start, start-carried}
+use Rattle.world_laws.proofs.AllSetUp.{served-life}
 use Rattle.world_recoveries.specs.Recovering.{Recovering}
 use Rattle.world_recoveries.proofs.AllRecovering.{sent-down, down-taken-fits, happens-fits, reached-writes, start-fits}
 use Rattle.world_finals.specs.Finishing.{Ids, no_ids, ids_with, ids_by, ids_in, Finals}

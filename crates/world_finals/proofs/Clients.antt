@@ -37,13 +37,13 @@ use Rattle.world.specs.Parts.{Message, request, packet, Told, Writing, Reader, n
 use Rattle.world.specs.Worlds.{World, Dial, Stamped, Change, put, past_after, latest_with, apply}
 use Rattle.world.specs.Connections.{Next, is_conn, sent_on}
 use Rattle.world.specs.Clients.{command_bytes, dialled_change, dialling, did, from_node_of, is_empty, is_formed, own_reader, own_reader_as, own_writer, reader_dials, reader_turn, reader_up, reader_up_as, rest_in, ruled, takes_command, writer_change, writer_hears, writer_step, writer_up}
-use Rattle.world_facts.proofs.Tables.{if-each, when-each, and-right, some-weaker}
-use Rattle.world_stamps.specs.Stamping.{Givens, known_heard, heard}
-use Rattle.world_stamps.proofs.Walking.{none-is}
-use Rattle.world_stamps.proofs.Givens.{put-here}
-use Rattle.world_bytes.specs.Carrying.{new_stamp, ConnSays, StreamOf, Streams, kind_of, AsksFor, Asks, WriterSays, Carried}
-use Rattle.world_bytes.proofs.Leaves.{Facts}
-use Rattle.world_bytes.proofs.Writing.{of-latest, Requested, requested}
+use Rattle.world_laws.proofs.FactTables.{if-each, when-each, and-right, some-weaker}
+use Rattle.world_laws.specs.Stamping.{Givens, known_heard, heard}
+use Rattle.world_laws.proofs.StampWalking.{none-is}
+use Rattle.world_laws.proofs.StampGivens.{put-here}
+use Rattle.world_laws.specs.Carrying.{new_stamp, ConnSays, StreamOf, Streams, kind_of, AsksFor, Asks, WriterSays, Carried}
+use Rattle.world_laws.proofs.ByteLeaves.{Facts}
+use Rattle.world_laws.proofs.ByteWriting.{of-latest, Requested, requested}
 use Rattle.world_recoveries.specs.Recovering.{HasId}
 use Rattle.world_finals.specs.Finishing.{Ids, writes_no_more, EndsAt, WriteEnds, LastEnds, DownEnds, ReplicaEnds, BreakEnds, SetsNoId, WriterEnds, Finals}
 use Rattle.world_finals.proofs.Writers.{Follows, follows-same, follows-then, hears-follows, dialled-follows, SendsEnd, OwnEnds, opened-ends, completed-ends, own-step-ends, command-ends}

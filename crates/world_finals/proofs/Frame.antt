@@ -11,14 +11,14 @@ use Rattle.writer_core.specs.declared.phases.Phase.{Phase}
 use Rattle.writer_core.specs.declared.phases.Phase.TheVariants as phase
 use Rattle.world.specs.Parts.{Message, request, packet, ack, response, read_status, recovery_answer, Writing, Primary, Break}
 use Rattle.world.specs.Worlds.{Past, World, Dial, Stamped, Change, put, past_after, latest_with, apply}
-use Rattle.world_facts.specs.Growing.{Grows}
-use Rattle.world_facts.proofs.Tables.{if-each, put-each, some-weaker}
-use Rattle.world_stamps.specs.Stamping.{Givens, heard, Recorded}
-use Rattle.world_bytes.specs.Carrying.{new_stamp, Sets, DownSays, Asks}
-use Rattle.world_bytes.proofs.Leaves.{Facts}
-use Rattle.world_bytes.proofs.Frame.{past-grows, unwritten}
-use Rattle.world_bytes.proofs.Writing.{only-own}
-use Rattle.world_setups.proofs.Nodes.{put-at-split}
+use Rattle.world_laws.specs.Growing.{Grows}
+use Rattle.world_laws.proofs.FactTables.{if-each, put-each, some-weaker}
+use Rattle.world_laws.specs.Stamping.{Givens, heard, Recorded}
+use Rattle.world_laws.specs.Carrying.{new_stamp, Sets, DownSays, Asks}
+use Rattle.world_laws.proofs.ByteLeaves.{Facts}
+use Rattle.world_laws.proofs.ByteFrame.{past-grows, unwritten}
+use Rattle.world_laws.proofs.ByteWriting.{only-own}
+use Rattle.world_laws.proofs.SetupNodes.{put-at-split}
 use Rattle.world_recoveries.specs.Recovering.{Updates, HasId}
 use Rattle.world_recoveries.proofs.Histories.{begins-get, NewDown, was_sent, is_sent, is_dialled, new-down}
 use Rattle.world_finals.specs.Finishing.{Ids, writes_no_more, EndsAt, FinalLength, of_recovery, of_session, DownEnds, IsFinalOf, LastPending, ReplicaEnds, BreakEnds, SetsNoId, WriterEnds, Finals}

@@ -15,7 +15,7 @@ use Rattle.member_core.specs.declared.member.Mirror.TheVariants as mirror
 use Rattle.member_core.specs.declared.turns.Turn.{Turn}
 use Rattle.member_core.specs.Acks.{is_success, failures, begins_with_bad_sum, is_read}
 use Rattle.member_core.specs.Members.{MemberState, down_turn, up_turn, up_at, setup_turn, answered_turn, accept_turn, fail_turn, stream_turn, ack_turn, pass_turn, failed_turn, good_turn, partial_turn, spoiled_turn, give_up_turn, named_bad, ready_turn, ready_at, quiet_turn, idle_turn, patient_turn}
-use Rattle.world_facts.proofs.Tables.{if-each}
+use Rattle.world_laws.proofs.FactTables.{if-each}
 
 -- an end or an ack
 abbrev pub IsIdle : ReplicaEvent → Type 0

@@ -14,14 +14,14 @@ use Rattle.world.specs.declared.events.Event.{Event}
 use Rattle.world.specs.Worlds.{World, start}
 use Rattle.world.specs.Events.{run}
 use Rattle.world.specs.Safe.{Final, Agree}
-use Rattle.world_replicas.proofs.FilledLaws.{all-filled}
+use Rattle.world_laws.proofs.FilledLaws.{all-filled}
 use Rattle.name_core.specs.declared.records.BlockRecord.{BlockRecord}
 use Rattle.writer_core.specs.declared.records.WriterRecord.{WriterRecord}
-use Rattle.world_stamps.specs.Stamping.{Givens, none_given, given_in, heard, HeldOf}
-use Rattle.world_stamps.proofs.AllRecorded.{all-recorded}
-use Rattle.world_bytes.specs.Carrying.{Under, Holds, Carried}
-use Rattle.world_bytes.proofs.Fronts.{front-is}
-use Rattle.world_bytes.proofs.AllCarried.{all-carried}
+use Rattle.world_laws.specs.Stamping.{Givens, none_given, given_in, heard, HeldOf}
+use Rattle.world_laws.proofs.AllRecorded.{all-recorded}
+use Rattle.world_laws.specs.Carrying.{Under, Holds, Carried}
+use Rattle.world_laws.proofs.Fronts.{front-is}
+use Rattle.world_laws.proofs.AllCarried.{all-carried}
 use Rattle.world_recoveries.specs.Recovering.{Recovering}
 use Rattle.world_recoveries.proofs.AllRecovering.{all-recovering}
 use Rattle.world_finals.specs.Finishing.{Ids, no_ids, ids_in, FinalLength, of_recovery, of_session, IsFinalOf, Finals, ClosedIsNewest}

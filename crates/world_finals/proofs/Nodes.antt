@@ -50,14 +50,14 @@ use Rattle.world.specs.Parts.{Message, request, packet, ack, response, read_stat
 use Rattle.world.specs.Worlds.{World, Dial, Change, apply}
 use Rattle.world.specs.Connections.{Next, message, the_end, is_alive}
 use Rattle.world.specs.Nodes.{node_of, replica_at, block_of, first_break, broke_at, closing, unless_failing, above_of, below_of, passed, member_change, failing_turn, turn_change, pending_at, takes_next, member_down, member_up, ready_change, mirror_node, is_asked, mirror_dial, dials_of, member_dials, setup_change, failing_write, write_request, breaking, read_change, failing_read, read_request, piece_as, serve_change, recovery_change, failing_recovery, recovery_request, first_message, next_recovery, lower_down, lower_ready, mirror_up}
-use Rattle.world_facts.proofs.Tables.{if-each, when-each, some-weaker}
-use Rattle.world_stamps.specs.Stamping.{Givens, heard}
-use Rattle.world_bytes.specs.Carrying.{new_stamp, stamp_set, Sets, Holds, SetFor, MemberSays, LowerSays}
-use Rattle.world_bytes.proofs.Frame.{Each, each-nil, each-one}
-use Rattle.world_bytes.proofs.Leaves.{Facts, Beside, sent-if}
-use Rattle.world_bytes.proofs.Rows.{sets-once}
-use Rattle.world_bytes.proofs.Turns.{up-idles, follows}
-use Rattle.world_bytes.proofs.Asking.{IsOn, mirror-on}
+use Rattle.world_laws.proofs.FactTables.{if-each, when-each, some-weaker}
+use Rattle.world_laws.specs.Stamping.{Givens, heard}
+use Rattle.world_laws.specs.Carrying.{new_stamp, stamp_set, Sets, Holds, SetFor, MemberSays, LowerSays}
+use Rattle.world_laws.proofs.ByteFrame.{Each, each-nil, each-one}
+use Rattle.world_laws.proofs.ByteLeaves.{Facts, Beside, sent-if}
+use Rattle.world_laws.proofs.ByteRows.{sets-once}
+use Rattle.world_laws.proofs.ByteTurns.{up-idles, follows}
+use Rattle.world_laws.proofs.ByteAsking.{IsOn, mirror-on}
 use Rattle.world_recoveries.specs.Recovering.{Updates, HasId, Recovering}
 use Rattle.world_recoveries.proofs.Laws.{keep-finalized}
 use Rattle.world_recoveries.proofs.Lowers.{SentDown}

@@ -16,11 +16,11 @@ use Rattle.replica_model.specs.Found.{Found, found_as, found_whole, settled_stat
 use Rattle.world.specs.Parts.{Break}
 use Rattle.world.specs.Worlds.{World}
 use Rattle.world.specs.Restarts.{replica_found, restarted}
-use Rattle.world_facts.proofs.Tables.{if-each}
-use Rattle.world_replicas.specs.Filling.{IsBreak}
-use Rattle.world_replicas.specs.Finding.{MayFindAt}
-use Rattle.world_replicas.proofs.FoundLaws.{restarts-find}
-use Rattle.world_stamps.specs.Stamping.{Givens}
+use Rattle.world_laws.proofs.FactTables.{if-each}
+use Rattle.world_laws.specs.Filling.{IsBreak}
+use Rattle.world_laws.specs.Finding.{MayFindAt}
+use Rattle.world_laws.proofs.FoundLaws.{restarts-find}
+use Rattle.world_laws.specs.Stamping.{Givens}
 use Rattle.world_finals.specs.Finishing.{Ids, FinalLength, IsFinalOf, ReplicaEnds, KeepsFinal, BreakEnds, Finals}
 
 -- WHAT IS FOUND

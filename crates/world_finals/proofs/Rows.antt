@@ -28,8 +28,8 @@ use Rattle.replica_core.specs.Transitions.{Outcome, done, record_after, state_af
 use Rattle.replica_core.proofs.InfoLemmas.{present_is, reopen_is, recover_setup_is, recover_stream_is, begin_recovery_is, end_recovery_is, heartbeat_is, stream_after_is, pending_of_is}
 use Rattle.replica_core.proofs.StepLemmas.{after_check, after_step, choice, step_ok}
 use Rattle.world.specs.Worlds.{World}
-use Rattle.world_stamps.specs.Stamping.{Givens}
-use Rattle.world_bytes.proofs.Rows.{update-held}
+use Rattle.world_laws.specs.Stamping.{Givens}
+use Rattle.world_laws.proofs.ByteRows.{update-held}
 use Rattle.world_recoveries.specs.Recovering.{Updates}
 use Rattle.world_recoveries.proofs.Histories.{split-get}
 use Rattle.world_finals.specs.Finishing.{Ids, EndsAt, FinalLength, of_recovery, of_session, IsFinalOf, LastPending, KeepsFinal}

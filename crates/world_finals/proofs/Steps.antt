@@ -43,14 +43,14 @@ use Rattle.world.specs.Worlds.{World, Dial, Stamped, Change, put, latest_with, a
 use Rattle.world.specs.Connections.{Next, is_alive, place_of}
 use Rattle.world.specs.Clients.{are_members}
 use Rattle.world.specs.Primaries.{primary_change, dials_answered, recovery_message, begins_with, begins_as, begins_at, own_recover, updates_change, ends_change, leads_step, commits_step, leads_told, own_primary_as, own_primary, heard_of, listens, hears_change, primary_up_as, primary_up, stamped_by, asks_writer, asks_primary, writer_asks, writer_asks_office, primary_commits, primary_asks}
-use Rattle.world_facts.proofs.Tables.{if-each, when-each, and-left, some-weaker}
-use Rattle.world_sessions.proofs.OfficeSteps.{block_in}
-use Rattle.world_stamps.specs.Stamping.{Givens, given_with, known_heard, heard}
-use Rattle.world_stamps.proofs.Givens.{put-here}
-use Rattle.world_stamps.proofs.Recording.{gives, others-latest}
-use Rattle.world_stamps.proofs.Walking.{none-is}
-use Rattle.world_bytes.proofs.Leaves.{Facts, before-of}
-use Rattle.world_bytes.proofs.Offices.{office-extends, Answered, old-written}
+use Rattle.world_laws.proofs.FactTables.{if-each, when-each, and-left, some-weaker}
+use Rattle.world_laws.proofs.OfficeSteps.{block_in}
+use Rattle.world_laws.specs.Stamping.{Givens, given_with, known_heard, heard}
+use Rattle.world_laws.proofs.StampGivens.{put-here}
+use Rattle.world_laws.proofs.StampRecording.{gives, others-latest}
+use Rattle.world_laws.proofs.StampWalking.{none-is}
+use Rattle.world_laws.proofs.ByteLeaves.{Facts, before-of}
+use Rattle.world_laws.proofs.ByteOffices.{office-extends, Answered, old-written}
 use Rattle.world_recoveries.specs.Recovering.{ToldId, HasId}
 use Rattle.world_recoveries.proofs.Choosing.{own-updates}
 use Rattle.world_recoveries.proofs.Leading.{chosen_op, updates-at, dial-of, heard-id}

@@ -12,12 +12,12 @@ use Rattle.world.specs.Worlds.{Past, World}
 use Rattle.world.specs.Connections.{Next, down_taken, up_taken}
 use Rattle.world.specs.Restarts.{found_in, restarted, restart}
 use Rattle.world.specs.Events.{lost, stop}
-use Rattle.world_facts.specs.Growing.{Grows}
-use Rattle.world_facts.proofs.GrowthLaws.{run-grows}
-use Rattle.world_facts.proofs.Tables.{some-weaker}
-use Rattle.world_replicas.specs.Filling.{IsBreak}
-use Rattle.world_stamps.specs.Stamping.{Givens, heard}
-use Rattle.world_bytes.proofs.Leaves.{Facts}
+use Rattle.world_laws.specs.Growing.{Grows}
+use Rattle.world_laws.proofs.GrowthLaws.{run-grows}
+use Rattle.world_laws.proofs.FactTables.{some-weaker}
+use Rattle.world_laws.specs.Filling.{IsBreak}
+use Rattle.world_laws.specs.Stamping.{Givens, heard}
+use Rattle.world_laws.proofs.ByteLeaves.{Facts}
 use Rattle.world_recoveries.specs.Recovering.{HasId}
 use Rattle.world_finals.specs.Finishing.{Ids, Sealed, ReplicaEnds, BreakEnds, SetsNoId, WriterEnds, Finals}
 use Rattle.world_finals.proofs.Frame.{Stays, replica-stays, break-stays, down-below, down-stays}

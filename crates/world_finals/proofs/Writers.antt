@@ -47,7 +47,7 @@ use Rattle.writer_core.specs.Transitions.{Step, begin_session, failure_answer, g
 use Rattle.world.specs.Connections.{Next, message, the_end}
 use Rattle.world.specs.Parts.{request, packet, ack, response, read_status, recovery_answer}
 use Rattle.world.specs.Clients.{command_bytes, is_empty, named_member, writer_hears}
-use Rattle.world_facts.proofs.Tables.{if-each}
+use Rattle.world_laws.proofs.FactTables.{if-each}
 use Rattle.world_finals.specs.Finishing.{Ids, ends_setup, begins_or_ends, writes_no_more, SetsNoId, is_closing, has_packets, WriterEnds}
 
 -- PHASES

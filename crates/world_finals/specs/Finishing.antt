@@ -27,8 +27,8 @@ use Rattle.world.specs.Parts.{Message, request, packet, Break}
 use Rattle.world.specs.Worlds.{World, Stamped, put, start}
 use Rattle.world.specs.Primaries.{office_event}
 use Rattle.world.specs.Events.{happens, run}
-use Rattle.world_stamps.specs.Stamping.{Givens, none_given, given_in, stamped_in, heard}
-use Rattle.world_bytes.specs.Carrying.{new_stamp, Sets}
+use Rattle.world_laws.specs.Stamping.{Givens, none_given, given_in, stamped_in, heard}
+use Rattle.world_laws.specs.Carrying.{new_stamp, Sets}
 use Rattle.world_recoveries.specs.Recovering.{Updates, HasId}
 
 -- THE IDS OF RECOVERIES

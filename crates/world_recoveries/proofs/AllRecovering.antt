@@ -24,17 +24,17 @@ use Rattle.world.specs.Clients.{own_writer, own_reader, writer_up, reader_up}
 use Rattle.world.specs.Primaries.{office_event, writer_asks_office, primary_up}
 use Rattle.world.specs.Restarts.{all_found, found_in, restarted, restart}
 use Rattle.world.specs.Events.{changed, own_change, down_as, down_event, ready_event, unless_fails, upper_up, up_as, up_event, fault_event, lost, stop, where_so, outcome, after_event, happens, run}
-use Rattle.world_facts.proofs.Tables.{when-each, and-left, and-right, some-weaker}
-use Rattle.world_stamps.specs.Stamping.{Givens, none_given, given_with, stamped_in, given_by, given_in, Recorded}
-use Rattle.world_stamps.proofs.AllRecorded.{happens-recorded, Reached, reached-next, reached-agreed, start-recorded}
-use Rattle.world_stamps.proofs.Recording.{Agreed}
-use Rattle.world_bytes.specs.Carrying.{Carried}
-use Rattle.world_bytes.proofs.Leaves.{Facts}
-use Rattle.world_bytes.proofs.Ends.{lower-ready-keeps}
-use Rattle.world_bytes.proofs.Offices.{office-event-keeps}
-use Rattle.world_bytes.proofs.AllCarried.{next-sent, down-taken-facts, up-taken-facts, changed-carried, down-as-carried, up-as-carried, own-keeps, office-carried, happens-carried, reached-facts, at-start, start-carried}
-use Rattle.world_setups.specs.Joining.{IsSetUp}
-use Rattle.world_setups.proofs.AllSetUp.{served-life, given-stays, all-set}
+use Rattle.world_laws.proofs.FactTables.{when-each, and-left, and-right, some-weaker}
+use Rattle.world_laws.specs.Stamping.{Givens, none_given, given_with, stamped_in, given_by, given_in, Recorded}
+use Rattle.world_laws.proofs.AllRecorded.{happens-recorded, Reached, reached-next, reached-agreed, start-recorded}
+use Rattle.world_laws.proofs.StampRecording.{Agreed}
+use Rattle.world_laws.specs.Carrying.{Carried}
+use Rattle.world_laws.proofs.ByteLeaves.{Facts}
+use Rattle.world_laws.proofs.ByteEnds.{lower-ready-keeps}
+use Rattle.world_laws.proofs.ByteOffices.{office-event-keeps}
+use Rattle.world_laws.proofs.AllCarried.{next-sent, down-taken-facts, up-taken-facts, changed-carried, down-as-carried, up-as-carried, own-keeps, office-carried, happens-carried, reached-facts, at-start, start-carried}
+use Rattle.world_laws.specs.Joining.{IsSetUp}
+use Rattle.world_laws.proofs.AllSetUp.{served-life, given-stays, all-set}
 use Rattle.world_recoveries.specs.Recovering.{ReplicaTold, Informs, InfoFits, StillTrue, Recovering}
 use Rattle.world_recoveries.proofs.Frame.{keeps}
 use Rattle.world_recoveries.proofs.Leading.{SentUp}
@@ -61,11 +61,11 @@ unless-brings g w false o n = n
 
 pub down-taken-fits : (g : Givens) (w : World) (c : ℕ) (x : Next) → Recovering g w → Recovering g (down_taken w c x)
 unfolding down_taken
-down-taken-fits g w c x h = record { lives = h.lives; asks = h.asks; told = h.told; still = h.still; updates = h.updates; one_length = h.one_length; primaries = h.primaries; sends = h.sends; one_primary = h.one_primary; placed = h.placed }
+down-taken-fits g w c x h = record { lives = h.lives; asks = h.asks; told = h.told; still = h.still; updates = h.updates; updated = h.updated; one_length = h.one_length; primaries = h.primaries; sends = h.sends; one_primary = h.one_primary; placed = h.placed }
 
 up-taken-fits : (g : Givens) (w : World) (c : ℕ) (x : Next) → Recovering g w → Recovering g (up_taken w c x)
 unfolding up_taken
-up-taken-fits g w c x h = record { lives = h.lives; asks = h.asks; told = h.told; still = h.still; updates = h.updates; one_length = h.one_length; primaries = h.primaries; sends = h.sends; one_primary = h.one_primary; placed = h.placed }
+up-taken-fits g w c x h = record { lives = h.lives; asks = h.asks; told = h.told; still = h.still; updates = h.updates; updated = h.updated; one_length = h.one_length; primaries = h.primaries; sends = h.sends; one_primary = h.one_primary; placed = h.placed }
 
 below-of : (w : World) (c : ℕ) → is_served w c ≡ true → c < w.next_conn
 below-of w c e = lt-true c w.next_conn (and-left (nat_lt c w.next_conn) (is_alive w (w.dialled c).to) e)
@@ -150,6 +150,7 @@ later-fits g s w h = record {
   told = λ c b id i x. later-info g s w c b x.asked.block.stamp id i (h.told c b id i x);
   still = h.still;
   updates = h.updates;
+  updated = h.updated;
   one_length = h.one_length;
   primaries = h.primaries;
   sends = h.sends;
@@ -181,6 +182,7 @@ restart-fits g w n list h = record {
   told = h.told;
   still = λ c b id i x. at-still c b id i x ((w.dialled c).to.node == n) refl;
   updates = h.updates;
+  updated = h.updated;
   one_length = h.one_length;
   primaries = h.primaries;
   sends = h.sends;
@@ -207,11 +209,11 @@ where-fits g true v h = h
 where-fits g false v h = tt
 
 stop-fits : (g : Givens) (w : World) (n : ℕ) → Recovering g w → Recovering g (stop w n)
-stop-fits g w n h = record { lives = h.lives; asks = h.asks; told = h.told; still = h.still; updates = h.updates; one_length = h.one_length; primaries = h.primaries; sends = h.sends; one_primary = h.one_primary; placed = h.placed }
+stop-fits g w n h = record { lives = h.lives; asks = h.asks; told = h.told; still = h.still; updates = h.updates; updated = h.updated; one_length = h.one_length; primaries = h.primaries; sends = h.sends; one_primary = h.one_primary; placed = h.placed }
 
 lost-fits : (g : Givens) (w : World) (c : ℕ) (way : Direction) (more : ℕ) → Recovering g w → Recovering g (lost w c way more)
-lost-fits g w c direction.Down more h = record { lives = h.lives; asks = h.asks; told = h.told; still = h.still; updates = h.updates; one_length = h.one_length; primaries = h.primaries; sends = h.sends; one_primary = h.one_primary; placed = h.placed }
-lost-fits g w c direction.Up more h = record { lives = h.lives; asks = h.asks; told = h.told; still = h.still; updates = h.updates; one_length = h.one_length; primaries = h.primaries; sends = h.sends; one_primary = h.one_primary; placed = h.placed }
+lost-fits g w c direction.Down more h = record { lives = h.lives; asks = h.asks; told = h.told; still = h.still; updates = h.updates; updated = h.updated; one_length = h.one_length; primaries = h.primaries; sends = h.sends; one_primary = h.one_primary; placed = h.placed }
+lost-fits g w c direction.Up more h = record { lives = h.lives; asks = h.asks; told = h.told; still = h.still; updates = h.updates; updated = h.updated; one_length = h.one_length; primaries = h.primaries; sends = h.sends; one_primary = h.one_primary; placed = h.placed }
 
 outcome-fits : (g : Givens) (w : World) (e : Event) → Facts g w → Agreed w → Recovering g w → Writes w → IfSome (outcome w e) (Recovering (given_by g w e))
 unfolding outcome
@@ -245,7 +247,7 @@ idle-fits g w (event.Restart n list) i h = h
 
 after-fits : (g : Givens) (w : World) (e : Event) (o : Option World) → outcome w e ≡ o → Recovering g w → IfSome o (Recovering (given_by g w e)) → Recovering (given_by g w e) (after_event w e o)
 after-fits g w e None i h k = idle-fits g w e i h
-after-fits g w e (Some v) i h k = record { lives = k.lives; asks = k.asks; told = k.told; still = k.still; updates = k.updates; one_length = k.one_length; primaries = k.primaries; sends = k.sends; one_primary = k.one_primary; placed = k.placed }
+after-fits g w e (Some v) i h k = record { lives = k.lives; asks = k.asks; told = k.told; still = k.still; updates = k.updates; updated = k.updated; one_length = k.one_length; primaries = k.primaries; sends = k.sends; one_primary = k.one_primary; placed = k.placed }
 
 pub happens-fits : (g : Givens) (w : World) (e : Event) → Facts g w → Agreed w → Recovering g w → Writes w → Recovering (given_by g w e) (happens w e)
 unfolding happens
@@ -273,6 +275,7 @@ start-fits nodes = record {
   primaries = λ i. tt;
   sends = λ i. tt;
   one_primary = λ i j id a b. absurd a;
+  updated = λ u x. absurd (none-some u x.there);
   placed = λ c i place lt u. absurd (omega (arith, lt));
 }
 

@@ -21,9 +21,9 @@ use Rattle.recovery_core.specs.declared.standings.Standing.{Standing}
 use Rattle.recovery_core.specs.declared.standings.Standing.TheVariants as standing
 use Rattle.recovery_core.specs.Primaries.{PrimaryState, waits, infos, updated_members, is_among, all_after_choice, OwnTaken, taken, choosing, committing, own_at, own_step}
 use Rattle.world.specs.Safe.{Has}
-use Rattle.world_facts.proofs.Tables.{if-each, and-left, and-right}
-use Rattle.world_bytes.proofs.Leading.{least-is}
-use Rattle.world_setups.proofs.Nodes.{has-cons}
+use Rattle.world_laws.proofs.FactTables.{if-each, and-left, and-right}
+use Rattle.world_laws.proofs.ByteLeading.{least-is}
+use Rattle.world_laws.proofs.SetupNodes.{has-cons}
 
 -- LISTS
 

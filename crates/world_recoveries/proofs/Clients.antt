@@ -1,5 +1,5 @@
 -- Writers and readers send nothing of a recovery.
-use Rattle.std.proofs.Common.{Bool, true, false, List, [], ◌∷◌, Option, Some, None, IfSome, refl, sym, ap, subst, length}
+use Rattle.std.proofs.Common.{Bool, true, false, List, [], ◌∷◌, Option, Some, None, IfSome, refl, sym, ◌∙◌, ap, subst, length, slice_get}
 use Rattle.std.specs.Prelude.{is_none, not, ℕ, ◌≡◌, ◌&&◌, ◌==◌}
 use Rattle.hd_base.specs.declared.numbers.NodeId.{NodeId}
 use Rattle.hd_base.specs.declared.numbers.Stamp.{Stamp}
@@ -22,34 +22,36 @@ use Rattle.writer_core.specs.Transitions.{given, granted, dialled, own_step, dia
 use Rattle.writer_core.specs.Transitions as writer
 use Rattle.world.specs.declared.events.TakenCommand.{TakenCommand}
 use Rattle.replica_model.specs.Rows.{FullReplica}
-use Rattle.world.specs.Parts.{Message, request, packet, by_writer, by_reader, by_primary, Told, Reader, no_reader, reads, has_read}
+use Rattle.world.specs.Parts.{Message, request, packet, by_writer, by_reader, by_primary, Told, Updated, Reader, no_reader, reads, has_read}
 use Rattle.world.specs.Worlds.{World, Dial, Change}
 use Rattle.world.specs.Connections.{Next, is_conn}
 use Rattle.world.specs.Clients.{command_bytes, dialled_change, dialling, did, from_node_of, is_empty, is_formed, own_reader, own_reader_as, own_writer, reader_dials, reader_turn, reader_up, reader_up_as, rest_in, ruled, takes_command, takes_step, writer_change, writer_hears, writer_step, writer_up}
 use Rattle.world.specs.Primaries.{asks_writer, writer_asks, writer_asks_office}
-use Rattle.world_facts.proofs.Tables.{when-each}
-use Rattle.world_bytes.proofs.Frame.{Each, each-nil, each-one}
+use Rattle.world_laws.proofs.FactTables.{when-each}
+use Rattle.world_laws.proofs.ByteFrame.{Each, each-nil, each-one}
+use Rattle.std.proofs.lemmas.Option.{none-some}
 use Rattle.world_recoveries.proofs.Holding.{as_before}
 use Rattle.world_recoveries.proofs.Quiet.{Untold, OfSetup, QuietDial, Quiet, each-sent}
 
 -- a change that sends and dials nothing, and leaves replicas and primaries
-pub still-quiet : (w : World) (k : Change) → ((c : ℕ) → k.ups c ≡ []) → ((c : ℕ) → k.downs c ≡ []) → k.dials ≡ [] → k.primary ≡ w.primaries k.primary_at → k.replica ≡ w.replicas k.node k.block → Quiet w k
-still-quiet w k u d s p r = record {
+pub still-quiet : (w : World) (k : Change) → ((c : ℕ) → k.ups c ≡ []) → ((c : ℕ) → k.downs c ≡ []) → k.dials ≡ [] → k.primary ≡ w.primaries k.primary_at → k.replica ≡ w.replicas k.node k.block → k.updated ≡ [] → Quiet w k
+still-quiet w k u d s p r e = record {
   ups = λ c. subst (λ (ms : List Message). Each Untold ms) (sym (u c)) (each-nil Untold);
   downs = λ c. subst (λ (ms : List Message). Each (OfSetup w.past c) ms) (sym (d c)) (each-nil (OfSetup w.past c));
   dials = subst (λ (ds : List Dial). Each (QuietDial w) ds) (sym s) (each-nil (QuietDial w));
   primary = p;
   books = as_before (ap (λ (x : FullReplica). x.known) r);
+  updated = λ y h. absurd (none-some y (sym (ap (λ (ys : List Updated). slice_get ys h.place) e) ∙ h.there));
 }
 
 -- WRITERS
 
 writer-quiet : (w : World) (b : ℕ) (x : WriterRecord) → Quiet w (writer_change w b x)
-writer-quiet w b x = still-quiet w (writer_change w b x) (λ _. refl) (λ _. refl) refl refl refl
+writer-quiet w b x = still-quiet w (writer_change w b x) (λ _. refl) (λ _. refl) refl refl refl refl
 
 did-quiet : (w : World) (b : ℕ) (waits : Option Waiting) (a : Action) (x : WriterRecord) (bytes : List ℕ) → IfSome (did w b waits a x bytes) (Quiet w)
 did-quiet w b waits action.Wait x bytes = tt
-did-quiet w b waits action.Took x bytes = still-quiet w _ (λ _. refl) (λ _. refl) refl refl refl
+did-quiet w b waits action.Took x bytes = still-quiet w _ (λ _. refl) (λ _. refl) refl refl refl refl
 did-quiet w b waits (action.Ask c) x bytes = tt
 did-quiet w b waits (action.Dial to r) x bytes = tt
 did-quiet w b waits (action.Send p) x bytes = record {
@@ -58,8 +60,9 @@ did-quiet w b waits (action.Send p) x bytes = record {
   dials = each-nil (QuietDial w);
   primary = refl;
   books = as_before refl;
+  updated = λ y h. absurd (none-some y h.there);
 }
-did-quiet w b waits (action.Answered n a) x bytes = still-quiet w _ (λ _. refl) (λ _. refl) refl refl refl
+did-quiet w b waits (action.Answered n a) x bytes = still-quiet w _ (λ _. refl) (λ _. refl) refl refl refl refl
 did-quiet w b waits action.Memory x bytes = tt
 
 -- a request of a recovery isn't dialled
@@ -73,6 +76,7 @@ dialled-quiet w b x to r true s = record {
   dials = each-one (QuietDial w) _ (record { life = refl; silent = s; unled = λ i place e. differ i place e });
   primary = refl;
   books = as_before refl;
+  updated = λ y h. absurd (none-some y h.there);
 }
   where
     differ : (i place : ℕ) → by_writer b ≡ by_primary i place → ⊥
@@ -126,7 +130,7 @@ writer-up-quiet w b c x =
 asks-quiet : (a : Action) (w : World) (b : ℕ) → IfSome (writer_asks a w b) (Quiet w)
 asks-quiet action.Wait w b = tt
 asks-quiet action.Took w b = tt
-asks-quiet (action.Ask c) w b = still-quiet w (asks_writer w b c) (λ _. refl) (λ _. refl) refl refl refl
+asks-quiet (action.Ask c) w b = still-quiet w (asks_writer w b c) (λ _. refl) (λ _. refl) refl refl refl refl
 asks-quiet (action.Dial to r) w b = tt
 asks-quiet (action.Send p) w b = tt
 asks-quiet (action.Answered n a) w b = tt
@@ -144,6 +148,7 @@ reader-dials-quiet w i n r true = record {
   dials = each-one (QuietDial w) _ (record { life = refl; silent = λ q e. silent q e; unled = λ j place e. differ j place e });
   primary = refl;
   books = as_before refl;
+  updated = λ y h. absurd (none-some y h.there);
 }
   where
     silent : (q : RecoveryOp) → request (op.Read r) ≡ request (op.Recovery q) → ⊥
@@ -151,7 +156,7 @@ reader-dials-quiet w i n r true = record {
 
     differ : (j place : ℕ) → by_reader i ≡ by_primary j place → ⊥
     differ j place e = cc
-reader-dials-quiet w i n r false = still-quiet w _ (λ _. refl) (λ _. refl) refl refl refl
+reader-dials-quiet w i n r false = still-quiet w _ (λ _. refl) (λ _. refl) refl refl refl refl
 
 own-reader-as : (x : Reader) (w : World) (i n : ℕ) (r : ReadOp) (answered : Bool) → IfSome (own_reader_as x w i n r answered) (Quiet w)
 own-reader-as no_reader w i n r answered = reader-dials-quiet w i n r _
@@ -162,15 +167,16 @@ pub own-reader-quiet : (w : World) (i n : ℕ) (r : ReadOp) (answered : Bool) �
 own-reader-quiet w i n r answered = own-reader-as (w.readers i) w i n r answered
 
 reader-turn-quiet : (w : World) (i c : ℕ) (t : ReadTaken) (d : ReadTurn) → Quiet w (reader_turn w i c t d)
-reader-turn-quiet w i c t turn.Goes = still-quiet w _ (λ _. refl) (λ _. refl) refl refl refl
+reader-turn-quiet w i c t turn.Goes = still-quiet w _ (λ _. refl) (λ _. refl) refl refl refl refl
 reader-turn-quiet w i c t turn.Verified = record {
   ups = λ d. each-nil Untold;
   downs = each-sent (λ d m. OfSetup w.past d m) (Some c) _ (λ d. each-one (OfSetup w.past d) _ tt);
   dials = each-nil (QuietDial w);
   primary = refl;
   books = as_before refl;
+  updated = λ y h. absurd (none-some y h.there);
 }
-reader-turn-quiet w i c t (turn.Fails f) = still-quiet w _ (λ _. refl) (λ _. refl) refl refl refl
+reader-turn-quiet w i c t (turn.Fails f) = still-quiet w _ (λ _. refl) (λ _. refl) refl refl refl refl
 
 reader-up-as : (r : Reader) (w : World) (i c : ℕ) (x : Next) → IfSome (reader_up_as r w i c x) (Quiet w)
 reader-up-as no_reader w i c x = tt

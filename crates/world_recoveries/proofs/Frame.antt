@@ -1,5 +1,5 @@
 -- What a change leaves of what is known of recoveries, and what is needed of what is new in it.
-use Rattle.std.proofs.Common.{◌≡◌, ℕ, ◌<◌, ◌≤◌, ◌+◌, ◌-◌, ◌⊎◌, inl, inr, false, length, slice_get, Option, Some, None, IfSome, refl, sym, ◌∙◌, ap, subst, arith, eqb-true}
+use Rattle.std.proofs.Common.{◌≡◌, ◌++◌, ℕ, ◌<◌, ◌≤◌, ◌+◌, ◌-◌, ◌⊎◌, inl, inr, false, length, slice_get, Option, Some, None, IfSome, refl, sym, ◌∙◌, ap, subst, arith, eqb-true}
 use Rattle.std.specs.Prelude.{◌==◌, option_map, unwrap_or}
 use Rattle.std.proofs.lemmas.Bool.{eqb-false}
 use Rattle.hd_base.specs.declared.numbers.Stamp.{Stamp}
@@ -8,15 +8,16 @@ use Rattle.op_headers.specs.declared.ops.Op.TheVariants as op
 use Rattle.op_headers.specs.declared.ops.RecoveryOp.{RecoveryOp}
 use Rattle.op_headers.specs.declared.ops.RecoveryKind.TheVariants as kind
 use Rattle.replica_model.specs.Rows.{FullReplica}
-use Rattle.world.specs.Parts.{request, recovery_answer, by_primary, Dialled, Primary}
+use Rattle.world.specs.Parts.{request, recovery_answer, by_primary, Dialled, Primary, Updated}
 use Rattle.world.specs.Worlds.{Past, World, Dial, Change, put, put_at, dial_at, dialled_with, past_after, apply}
-use Rattle.world_facts.proofs.Tables.{if-each, put-each}
-use Rattle.world_stamps.specs.Stamping.{Givens}
-use Rattle.world_bytes.specs.Carrying.{InfoSays, Carried}
-use Rattle.world_bytes.proofs.Frame.{past-grows, dial-place, dial-none}
-use Rattle.world_setups.proofs.Nodes.{put-at-split}
-use Rattle.world_recoveries.specs.Recovering.{ReplicaTold, Informs, Updates, Agrees, StillTrue, InfoFits, UpdateFits, NoUpdates, HasId, LeadFits, SendsFits, IsPlacedIn, Recovering}
-use Rattle.world_recoveries.proofs.Histories.{split-get, begins-get, first-once, agrees-later, info-later, update-later, lead-later, sends-later, NewDown, was_sent, is_sent, is_dialled, new-down}
+use Rattle.world_laws.proofs.FactTables.{if-each, put-each}
+use Rattle.world_laws.specs.Stamping.{Givens}
+use Rattle.world_laws.specs.Carrying.{InfoSays, Carried}
+use Rattle.world_laws.proofs.ByteFrame.{past-grows, dial-place, dial-none}
+use Rattle.world_laws.proofs.SetupNodes.{put-at-split}
+use Rattle.world.specs.Safe.{Has}
+use Rattle.world_recoveries.specs.Recovering.{ReplicaTold, WasSent, Informs, Updates, Agrees, StillTrue, InfoFits, UpdateFits, NoUpdates, HasId, LeadFits, SendsFits, IsPlacedIn, Recovering}
+use Rattle.world_recoveries.proofs.Histories.{split-get, begins-get, first-once, agrees-later, info-later, update-later, was-sent-later, lead-later, sends-later, NewDown, was_sent, is_sent, is_dialled, new-down}
 use Rattle.world_recoveries.proofs.Holding.{Moves, still-moves}
 
 -- WHAT IS NEW
@@ -58,6 +59,7 @@ pub record News (g : Givens) (w : World) (k : Change) : Type 0 where
   pub sends : SendsFits (past_after w k) k.primary
   pub ids : (id : Stamp) → HasId k.primary id → HasId (w.primaries k.primary_at) id ⊎ ((j : ℕ) → HasId (w.primaries j) id → ⊥)
   pub placed : (c place : ℕ) → c < w.next_conn → (w.dialled c).upper ≡ by_primary k.primary_at place → IsPlacedIn c place k.primary
+  pub updated : (u : Updated) → Has k.updated u → WasSent (past_after w k) u
 
 -- CONNECTIONS
 
@@ -212,6 +214,13 @@ keeps-one-length g w k h n c d a b id m o x y = go (updates-either g w k c a id 
     go (inr u) (inl v) = absurd (u.none d b o v)
     go (inr u) (inr v) = u.is ∙ sym v.is
 
+keeps-updated : (g : Givens) (w : World) (k : Change) → Recovering g w → News g w k → (u : Updated) → Has (w.updated ++ k.updated) u → WasSent (past_after w k) u
+keeps-updated g w k h n u x = go (split-get w.updated k.updated x.place u x.there)
+  where
+    go : ((j : ℕ) × (slice_get w.updated j ≡ Some u)) ⊎ ((j : ℕ) × (slice_get k.updated j ≡ Some u)) → WasSent (past_after w k) u
+    go (inl y) = was-sent-later w.past (past_after w k) u (past-grows w k) (h.updated u (record { place = y.0; there = y.1 }))
+    go (inr y) = n.updated u (record { place = y.0; there = y.1 })
+
 -- PRIMARIES
 
 keeps-sends : (g : Givens) (w : World) (k : Change) → Recovering g w → News g w k → (i : ℕ) → SendsFits (past_after w k) (put w.primaries k.primary_at k.primary i)
@@ -271,6 +280,7 @@ keeps g l w k a h n = record {
   told = keeps-told g l w k a h n;
   still = keeps-still g l w k a h n;
   updates = keeps-updates l w k h n;
+  updated = keeps-updated l w k h n;
   one_length = keeps-one-length l w k h n;
   primaries = put-each (λ (i : ℕ) (x : Primary). LeadFits (past_after w k) x) w.primaries k.primary_at k.primary n.primary (λ i. lead-later w.past (past_after w k) (w.primaries i) (past-grows w k) (h.primaries i));
   sends = keeps-sends l w k h n;

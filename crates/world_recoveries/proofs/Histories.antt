@@ -10,15 +10,15 @@ use Rattle.op_headers.specs.declared.ops.RecoveryKind.TheVariants as kind
 use Rattle.recovery_core.specs.declared.primary.Phase.{Phase}
 use Rattle.recovery_core.specs.declared.primary.Phase.TheVariants as phase
 use Rattle.recovery_core.specs.Primaries.{request_of}
-use Rattle.world.specs.Parts.{Message, request, recovery_answer, Dialled, Told, Leading, Primary, no_primary, was_told, leads, has_led}
+use Rattle.world.specs.Parts.{Message, request, recovery_answer, Dialled, Updated, Told, Leading, Primary, no_primary, was_told, leads, has_led}
 use Rattle.world.specs.Worlds.{Past, World, Dial, Change, dial_at, listed, past_after}
 use Rattle.world.specs.Safe.{Has}
-use Rattle.world_facts.specs.Growing.{Begins, Grows}
-use Rattle.world_stamps.specs.Stamping.{Givens}
-use Rattle.world_bytes.proofs.Frame.{dial-place}
-use Rattle.world_setups.specs.Joining.{joined_as}
-use Rattle.world_setups.proofs.Nodes.{get-more}
-use Rattle.world_recoveries.specs.Recovering.{ReplicaTold, Informs, Updates, Agrees, InfoFits, ToldOpen, UpdateFits, HasId, ToldAt, LeadingFits, LeadFits, PhaseSends, ToldSends, SendsFits}
+use Rattle.world_laws.specs.Growing.{Begins, Grows}
+use Rattle.world_laws.specs.Stamping.{Givens}
+use Rattle.world_laws.proofs.ByteFrame.{dial-place}
+use Rattle.world_laws.specs.Joining.{joined_as}
+use Rattle.world_laws.proofs.SetupNodes.{get-more}
+use Rattle.world_recoveries.specs.Recovering.{ReplicaTold, WasSent, Informs, Updates, Agrees, InfoFits, ToldOpen, UpdateFits, HasId, ToldAt, LeadingFits, LeadFits, PhaseSends, ToldSends, SendsFits}
 
 -- LISTS
 
@@ -92,6 +92,25 @@ update-later h p c b id n d x = record {
   least = x.least;
   final = x.final;
   opens = λ e. open-later h p b id n d (x.opens e);
+}
+
+updates-later : (h p : Past) (c b : ℕ) (id : Stamp) (n : ℕ) → Grows h p → Updates h c b id n → Updates p c b id n
+updates-later h p c b id n d x = record {
+  asked = x.asked;
+  place = x.place;
+  there = begins-get (h.downs c) (p.downs c) x.place (request (op.Recovery x.asked)) (d.downs c) x.there;
+  is_update = x.is_update;
+  block = x.block;
+  recovery = x.recovery;
+  length = x.length;
+}
+
+pub was-sent-later : (h p : Past) (u : Updated) → Grows h p → WasSent h u → WasSent p u
+was-sent-later h p u d x = record {
+  conn = x.conn;
+  known = omega (arith, x.known, d.conns);
+  to = ap (λ (y : Dialled). y.to) (d.dialled x.conn x.known) ∙ x.to;
+  sent = updates-later h p x.conn u.block (record { 0 = u.recovery }) u.length d x.sent;
 }
 
 told-later : (h p : Past) (l : Leading) (place : ℕ) (i : ReplicaTold) → Grows h p → ToldAt h l place i → ToldAt p l place i

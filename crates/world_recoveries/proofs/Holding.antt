@@ -28,7 +28,7 @@ use Rattle.replica_core.proofs.InfoLemmas.{present_is, reopen_is, recover_setup_
 use Rattle.replica_core.proofs.StepLemmas.{after_check, after_step, choice}
 use Rattle.replica_model.specs.declared.events.ReplicaEvent.{ReplicaEvent}
 use Rattle.replica_model.specs.Rows.{FullReplica, row, event_at}
-use Rattle.world_bytes.proofs.Rows.{reopen-stamp, setup-stamp, stream-stamp, begin-stamp, update-held}
+use Rattle.world_laws.proofs.ByteRows.{reopen-stamp, setup-stamp, stream-stamp, begin-stamp, update-held}
 use Rattle.world_recoveries.specs.Recovering.{ReplicaTold, top_under, top_of, StillTrue}
 
 -- REPLICAS THAT ARE HELD

@@ -7,7 +7,7 @@ use Rattle.world.specs.declared.events.Event.{Event}
 use Rattle.world.specs.Parts.{Place}
 use Rattle.world.specs.Worlds.{World, start}
 use Rattle.world.specs.Events.{run}
-use Rattle.world_stamps.specs.Stamping.{Givens, none_given, given_in}
+use Rattle.world_laws.specs.Stamping.{Givens, none_given, given_in}
 use Rattle.world_recoveries.specs.Recovering.{StillTrue, UpdateFits, Recovering, OneLength, UpdatesKeepFinalized}
 use Rattle.world_recoveries.proofs.AllRecovering.{all-recovering}
 

@@ -30,20 +30,20 @@ use Rattle.recovery_core.specs.declared.standings.Standing.{Standing}
 use Rattle.recovery_core.specs.declared.standings.Standing.TheVariants as standing
 use Rattle.recovery_core.specs.Primaries.{PrimaryState, told, is_success, after_heard, heard_as, heard_at, asked, begun_with, infos, is_among, when_chosen, after_choice, all_after_choice, own_step, request_of, sync_call}
 use Rattle.replica_model.specs.Rows.{FullReplica}
-use Rattle.world.specs.Parts.{Message, request, packet, ack, response, read_status, recovery_answer, Place, Dialled, by_primary, Told, Leading, Primary, no_primary, was_told, leads, has_led}
+use Rattle.world.specs.Parts.{Message, request, packet, ack, response, read_status, recovery_answer, Place, Dialled, by_primary, Updated, Told, Leading, Primary, no_primary, was_told, leads, has_led}
 use Rattle.world.specs.Worlds.{Past, World, Dial, Change, put, dial_at, dialled_with, past_after}
 use Rattle.world.specs.Connections.{Next, message, the_end, place_of, is_conn}
 use Rattle.world.specs.Primaries.{dials_answered, numbered, primary_dials, leading, begins_with, updates_on, updates_change, heard_of, asks_primary}
 use Rattle.world.specs.Safe.{Has}
-use Rattle.world_facts.proofs.Tables.{if-each, and-left, and-right}
-use Rattle.world_stamps.specs.Stamping.{Givens}
-use Rattle.world_stamps.proofs.Givens.{put-here}
-use Rattle.world_bytes.specs.Carrying.{RecoverySays, PrimarySays}
-use Rattle.world_bytes.proofs.Frame.{past-grows}
-use Rattle.world_bytes.proofs.Leaves.{Facts}
-use Rattle.world_bytes.proofs.Leading.{conn-is}
-use Rattle.world_bytes.proofs.Asking.{first-dial}
-use Rattle.world_recoveries.specs.Recovering.{ReplicaTold, Informs, Updates, ToldOpen, UpdateFits, NoUpdates, ToldId, HasId, ToldAt, LeadingFits, LeadFits, PhaseSends, ToldSends, SendsFits, IsPlacedIn, Recovering}
+use Rattle.world_laws.proofs.FactTables.{if-each, and-left, and-right}
+use Rattle.world_laws.specs.Stamping.{Givens}
+use Rattle.world_laws.proofs.StampGivens.{put-here}
+use Rattle.world_laws.specs.Carrying.{RecoverySays, PrimarySays}
+use Rattle.world_laws.proofs.ByteFrame.{past-grows}
+use Rattle.world_laws.proofs.ByteLeaves.{Facts}
+use Rattle.world_laws.proofs.ByteLeading.{conn-is}
+use Rattle.world_laws.proofs.ByteAsking.{first-dial}
+use Rattle.world_recoveries.specs.Recovering.{ReplicaTold, WasSent, Informs, Updates, ToldOpen, UpdateFits, NoUpdates, ToldId, HasId, ToldAt, LeadingFits, LeadFits, PhaseSends, ToldSends, SendsFits, IsPlacedIn, Recovering}
 use Rattle.world_recoveries.proofs.Histories.{agrees-later, update-later, leading-later, lead-later, sends-later, NewDown, was_sent, is_sent, is_dialled, new-down}
 use Rattle.world_recoveries.proofs.Holding.{Moves, moves-same}
 use Rattle.world_recoveries.proofs.Choosing.{OpenInfo, ChosenFrom, choice-from, ToldBy, infos-told, after_chosen, Choosing, own-updates}
@@ -75,8 +75,8 @@ same-sends g w k x d s h = sends-later w.past (past_after w k) x (λ id a. recor
 
 -- a change that sends nothing down and leaves the primaries
 pub still-news : (g : Givens) (w : World) (k : Change) → Recovering g w → k.primary ≡ w.primaries k.primary_at → ((c : ℕ) → k.downs c ≡ []) → k.dials ≡ [] → Moves (w.replicas k.node k.block).known.info k.replica.known.info
-    → ((c j : ℕ) (a : RecoveryAnswer) (i : ReplicaTold) → slice_get (k.ups c) j ≡ Some (recovery_answer a) → a.info ≡ Some i → NewInfo g w k c i) → News g w k
-still-news g w k h same d s m infos =
+    → ((c j : ℕ) (a : RecoveryAnswer) (i : ReplicaTold) → slice_get (k.ups c) j ≡ Some (recovery_answer a) → a.info ≡ Some i → NewInfo g w k c i) → ((u : Updated) → Has k.updated u → WasSent (past_after w k) u) → News g w k
+still-news g w k h same d s m infos sent =
     let p = past_after w k in
     record {
       moves = m;
@@ -88,6 +88,7 @@ still-news g w k h same d s m infos =
       sends = subst (λ (x : Primary). SendsFits p x) (sym same) (same-sends g w k (w.primaries k.primary_at) d s (h.sends k.primary_at));
       ids = λ id x. inl (subst (λ (y : Primary). HasId y id) same x);
       placed = λ c place lt u. subst (λ (x : Primary). IsPlacedIn c place x) (sym same) (h.placed c k.primary_at place lt u);
+      updated = sent;
     }
 
 -- THE CHOICE
@@ -188,6 +189,7 @@ updates-news g w i l c h e d = record {
   sends = subst (λ (s : PrimaryState). PhaseSends (past_after w k) s.begun.id s.phase) (sym x.primary) sends;
   ids = λ id a. inl (subst (λ (z : Primary). HasId z id) (sym e) (subst (λ (s : PrimaryState). s.begun.id ≡ id) x.primary a));
   placed = λ v place lt u. placed-of g w i l h e v place lt u;
+  updated = λ u z. absurd (none-some u z.there);
 }
   where
     k : Change
@@ -242,8 +244,8 @@ updates-news g w i l c h e d = record {
 
 -- PRIMARIES THAT END
 
-pub ended-news : (g : Givens) (w : World) (k : Change) (r : Recovered) → k.primary ≡ has_led r → k.replica ≡ w.replicas k.node k.block → ((c : ℕ) → k.ups c ≡ []) → ((c : ℕ) → k.downs c ≡ []) → k.dials ≡ [] → News g w k
-ended-news g w k r e same ups downs dials = record {
+pub ended-news : (g : Givens) (w : World) (k : Change) (r : Recovered) → k.primary ≡ has_led r → k.replica ≡ w.replicas k.node k.block → ((c : ℕ) → k.ups c ≡ []) → ((c : ℕ) → k.downs c ≡ []) → k.dials ≡ [] → k.updated ≡ [] → News g w k
+ended-news g w k r e same ups downs dials none = record {
   moves = subst (λ (x : FullReplica). Moves (w.replicas k.node k.block).known.info x.known.info) (sym same) (moves-same (w.replicas k.node k.block).known.info);
   infos = λ c j a i q s. absurd (none-some _ (sym (ap (λ (ms : List Message). slice_get ms j) (ups c)) ∙ q));
   length = 0;
@@ -253,6 +255,7 @@ ended-news g w k r e same ups downs dials = record {
   sends = subst (λ (x : Primary). SendsFits (past_after w k) x) (sym e) tt;
   ids = λ id a. absurd (subst (λ (x : Primary). HasId x id) e a);
   placed = λ c place lt u. subst (λ (x : Primary). IsPlacedIn c place x) (sym e) tt;
+  updated = λ u z. absurd (none-some u (sym (ap (λ (us : List Updated). slice_get us z.place) none) ∙ z.there));
 }
 
 -- ITS FIRST STEP
@@ -358,6 +361,7 @@ begins-news g w i at b begun ms bs f h e = record {
   sends = sends;
   ids = λ id a. inl (subst (λ (z : Primary). HasId z id) (sym e) a);
   placed = λ v place lt u. absurd (subst (λ (z : Primary). IsPlacedIn v place z) e (h.placed v i place lt u));
+  updated = λ u z. absurd (none-some u z.there);
 }
   where
     answers : List Bool
@@ -524,8 +528,8 @@ heard-id x place y None = refl
 heard-id x place y (Some s) = refl
 
 pub hears-news : (g : Givens) (w : World) (i : ℕ) (l : Leading) (place c : ℕ) (x : Next) (k : Change) → Recovering g w → w.primaries i ≡ leads l → c < w.next_conn → (w.dialled c).upper ≡ by_primary i place → SentUp w.past c x
-    → k.primary_at ≡ i → k.primary ≡ leads (record l { state = heard_at l.state place (heard_of x) }) → k.replica ≡ w.replicas k.node k.block → ((d : ℕ) → k.ups d ≡ []) → ((d : ℕ) → k.downs d ≡ []) → k.dials ≡ [] → News g w k
-hears-news g w i l place c x k h e lt u s pa pi same ups downs dials =
+    → k.primary_at ≡ i → k.primary ≡ leads (record l { state = heard_at l.state place (heard_of x) }) → k.replica ≡ w.replicas k.node k.block → ((d : ℕ) → k.ups d ≡ []) → ((d : ℕ) → k.downs d ≡ []) → k.dials ≡ [] → k.updated ≡ [] → News g w k
+hears-news g w i l place c x k h e lt u s pa pi same ups downs dials none =
     let f = leading-of g w i l h e in
     let at = placed-of g w i l h e c place lt u in
     let y = heard_of x in
@@ -543,6 +547,7 @@ hears-news g w i l place c x k h e lt u s pa pi same ups downs dials =
       ids = λ id a. inl (subst (λ (v : ℕ). HasId (w.primaries v) id) (sym pa) (subst (λ (z : Primary). HasId z id) (sym e)
           (sym (ap (λ (b : Begun). b.id) (heard-id l.state place y o)) ∙ subst (λ (z : Primary). HasId z id) pi a)));
       placed = λ v q low r. subst (λ (z : Primary). IsPlacedIn v q z) (sym pi) (placed-of g w i l h e v q low (r ∙ ap (λ (z : ℕ). by_primary z q) pa));
+      updated = λ u z. absurd (none-some u (sym (ap (λ (us : List Updated). slice_get us z.place) none) ∙ z.there));
     }
 
 -- THE OFFICE
@@ -595,6 +600,7 @@ asked-news g l w i b f h e = record {
   sends = sends (answer_to w.office (call.BeginRecovery b)) (begun-next w.office (call.BeginRecovery b));
   ids = λ id a. inr (λ j x. fresh (answer_to w.office (call.BeginRecovery b)) (begun-next w.office (call.BeginRecovery b)) id a j x);
   placed = λ v place lt u. absurd (subst (λ (z : Primary). IsPlacedIn v place z) e (h.placed v i place lt u));
+  updated = λ u z. absurd (none-some u z.there);
 }
   where
     k : Change
@@ -631,4 +637,5 @@ commits-news g w i l c h e =
       sends = same-sends g w k (leads m) (λ _. refl) refl (sends-of g w i l h e);
       ids = λ id a. inl (subst (λ (z : Primary). HasId z id) (sym e) a);
       placed = λ v place lt u. placed-of g w i l h e v place lt u;
+      updated = λ u z. absurd (none-some u z.there);
     }

@@ -9,3 +9,5 @@ pub mod Lowers
 pub mod Steps
 pub mod AllRecovering
 pub mod Laws
+pub mod AllNaming
+pub mod Naming

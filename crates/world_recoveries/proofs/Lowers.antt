@@ -45,19 +45,19 @@ use Rattle.read_core.specs.Servings.{ServingState, read_at, read_event, next_cal
 use Rattle.recovery_core.specs.declared.members.RecoveryReply.{RecoveryReply}
 use Rattle.recovery_core.specs.declared.members.RecoveryReply.TheVariants as reply
 use Rattle.recovery_core.specs.Members.{Served, no_recovery, step_event, recovery_event, reply_to, answer_of, served_as, serve_faulted}
-use Rattle.world.specs.Parts.{Message, request, packet, ack, response, read_status, recovery_answer, by_member, by_primary, Dialled, FullMember, Lower, idle, writes, serves, recovers, ended_below, Break}
+use Rattle.world.specs.Parts.{Message, request, packet, ack, response, read_status, recovery_answer, by_member, by_primary, Dialled, FullMember, Lower, idle, writes, serves, recovers, ended_below, Break, Place, Updated}
 use Rattle.world.specs.Worlds.{Past, World, Dial, Change, past_after}
 use Rattle.world.specs.Connections.{Next, message, the_end, is_alive, sent_on}
-use Rattle.world.specs.Nodes.{node_of, replica_at, block_of, broke_at, closing, unless_failing, above_of, below_of, sent_up, passed, member_change, failing_turn, turn_change, pending_at, takes_next, member_down, member_up, ready_change, mirror_node, is_asked, mirror_dial, dials_of, member_dials, setup_change, failing_write, write_request, read_change, failing_read, read_request, piece_as, serve_change, recovery_change, failing_recovery, recovery_request, first_message, next_recovery, lower_down, lower_ready, mirror_up}
+use Rattle.world.specs.Nodes.{node_of, replica_at, block_of, broke_at, closing, unless_failing, above_of, below_of, sent_up, passed, member_change, failing_turn, turn_change, pending_at, takes_next, member_down, member_up, ready_change, mirror_node, is_asked, mirror_dial, dials_of, member_dials, setup_change, failing_write, write_request, read_change, failing_read, read_request, piece_as, serve_change, updated_by, recovery_change, failing_recovery, recovery_request, first_message, next_recovery, lower_down, lower_ready, mirror_up}
 use Rattle.world.specs.Safe.{Has}
-use Rattle.world_facts.proofs.Tables.{if-each, when-each, some-weaker}
-use Rattle.world_stamps.specs.Stamping.{Givens}
-use Rattle.world_bytes.specs.Carrying.{new_stamp, Sets, MemberSays, LowerSays, Holds}
-use Rattle.world_bytes.proofs.Frame.{Each, each-nil, each-one, past-grows}
-use Rattle.world_bytes.proofs.Leaves.{Facts, sent-if}
-use Rattle.world_bytes.proofs.Rows.{begin-stamp}
-use Rattle.world_setups.specs.Joining.{joined_as, IsSetUp}
-use Rattle.world_recoveries.specs.Recovering.{ReplicaTold, Agrees, Recovering}
+use Rattle.world_laws.proofs.FactTables.{if-each, when-each, some-weaker}
+use Rattle.world_laws.specs.Stamping.{Givens}
+use Rattle.world_laws.specs.Carrying.{new_stamp, Sets, MemberSays, LowerSays, Holds}
+use Rattle.world_laws.proofs.ByteFrame.{Each, each-nil, each-one, past-grows}
+use Rattle.world_laws.proofs.ByteLeaves.{Facts, sent-if}
+use Rattle.world_laws.proofs.ByteRows.{begin-stamp}
+use Rattle.world_laws.specs.Joining.{joined_as, IsSetUp}
+use Rattle.world_recoveries.specs.Recovering.{ReplicaTold, WasSent, Agrees, Recovering}
 use Rattle.world_recoveries.proofs.Histories.{begins-get, has-later}
 use Rattle.world_recoveries.proofs.Holding.{Moves, Books, as_before, books, event-moves}
 use Rattle.world_recoveries.proofs.Frame.{NewInfo, News}
@@ -82,6 +82,7 @@ member-quiet w c m x s b h k = record {
   dials = each-nil (QuietDial w);
   primary = refl;
   books = k;
+  updated = λ u x. absurd (none-some u x.there);
 }
 
 failing-turn-quiet : (w : World) (c : ℕ) (m : FullMember) (x : Next) (t : Turn) (o : Option ReplicaEvent) → MemberSays w.past c m → IfSome (failing_turn w c m x t o) (Quiet w)
@@ -92,7 +93,7 @@ turn-quiet : (w : World) (c : ℕ) (m : FullMember) (x : Next) (t : Turn) (fails
 turn-quiet w c m x t true h = failing-turn-quiet w c m x t t.call h
 turn-quiet w c m x t false h = member-quiet w c m x (step m.state (replica_at w c (block_of m.fields)) t) _ h (books-call (replica_at w c (block_of m.fields)) t.call)
 
-down-quiet : (w : World) (c : ℕ) (m : FullMember) (x : Next) (fails : Bool) → MemberSays w.past c m → IfSome (member_down w c m x fails) (Quiet w)
+pub down-quiet : (w : World) (c : ℕ) (m : FullMember) (x : Next) (fails : Bool) → MemberSays w.past c m → IfSome (member_down w c m x fails) (Quiet w)
 down-quiet w c m x fails h = when-each (Quiet w) (takes_next m.state (pending_at w c m) x) _ (λ _. turn-quiet w c m x (down_turn m.state (above_of x)) fails h)
 
 up-quiet : (w : World) (c : ℕ) (m : FullMember) (x : Next) (fails : Bool) → MemberSays w.past c m → IfSome (member_up w c m x fails) (Quiet w)
@@ -133,6 +134,7 @@ setup-quiet w c f s b k = record {
   dials = member-dials-quiet w c f s.member;
   primary = refl;
   books = k;
+  updated = λ u x. absurd (none-some u x.there);
 }
 
 booked-books : (conn : ConnId) (f : WriteFields) (asked : Bool) (r s : FullReplica) (o : Option RequestRefusal) → Books r s → Books r (booked_request conn f asked s o).replica
@@ -147,7 +149,7 @@ failing-write-quiet : (w : World) (c : ℕ) (f : WriteFields) (e : Result Event 
 failing-write-quiet w c f (Err x) = tt
 failing-write-quiet w c f (Ok e) = setup-quiet w c f (faulted_request (replica_at w c (block_of f))) _ (books-broken (replica_at w c (block_of f)))
 
-write-quiet : (w : World) (c : ℕ) (f : WriteFields) (answered fails : Bool) → IfSome (write_request w c f answered fails) (Quiet w)
+pub write-quiet : (w : World) (c : ℕ) (f : WriteFields) (answered fails : Bool) → IfSome (write_request w c f answered fails) (Quiet w)
 write-quiet w c f answered true = failing-write-quiet w c f (request_event (record { 0 = c }) f (rule_in (replica_at w c (block_of f)).known))
 write-quiet w c f answered false =
     let r = replica_at w c (block_of f) in
@@ -157,74 +159,80 @@ write-quiet w c f answered false =
 -- READS
 
 closing-quiet : (w : World) (c : ℕ) → Quiet w (closing w c)
-closing-quiet w c = still-quiet w (closing w c) (λ _. refl) (λ _. refl) refl refl refl
+closing-quiet w c = still-quiet w (closing w c) (λ _. refl) (λ _. refl) refl refl refl refl
 
-unless-quiet : (w : World) (fails : Bool) (c : ℕ) → IfSome (unless_failing fails (closing w c)) (Quiet w)
+pub unless-quiet : (w : World) (fails : Bool) (c : ℕ) → IfSome (unless_failing fails (closing w c)) (Quiet w)
 unless-quiet w true c = tt
 unless-quiet w false c = closing-quiet w c
 
 -- a change of a lower end that tells this
-telling : (w : World) (c : ℕ) (k : Change) (ms : List Message) → ((d : ℕ) → k.ups d ≡ sent_on (Some c) ms d) → ((d : ℕ) → k.downs d ≡ []) → k.dials ≡ [] → k.primary ≡ w.primaries k.primary_at → Each Untold ms → Books (w.replicas k.node k.block) k.replica → Quiet w k
-telling w c k ms u d s p e b = record {
+telling : (w : World) (c : ℕ) (k : Change) (ms : List Message) → ((d : ℕ) → k.ups d ≡ sent_on (Some c) ms d) → ((d : ℕ) → k.downs d ≡ []) → k.dials ≡ [] → k.primary ≡ w.primaries k.primary_at → Each Untold ms → Books (w.replicas k.node k.block) k.replica → ((y : Updated) → Has k.updated y → WasSent w.past y) → Quiet w k
+telling w c k ms u d s p e b sent = record {
   ups = λ x. subst (λ (ys : List Message). Each Untold ys) (sym (u x)) (each-sent (λ _ y. Untold y) (Some c) ms (λ _. e) x);
   downs = λ x. subst (λ (ys : List Message). Each (OfSetup w.past x) ys) (sym (d x)) (each-nil (OfSetup w.past x));
   dials = subst (λ (ds : List Dial). Each (QuietDial w) ds) (sym s) (each-nil (QuietDial w));
   primary = p;
   books = b;
+  updated = sent;
 }
 
 read-change-quiet : (w : World) (c b : ℕ) (s : Result ServingState RequestRefusal) → Quiet w (read_change w c b s)
-read-change-quiet w c b (Ok s) = telling w c (read_change w c b (Ok s)) _ (λ _. refl) (λ _. refl) refl refl (each-one Untold _ tt) (as_before refl)
-read-change-quiet w c b (Err r) = telling w c (read_change w c b (Err r)) _ (λ _. refl) (λ _. refl) refl refl (each-one Untold _ tt) (as_before refl)
+read-change-quiet w c b (Ok s) = telling w c (read_change w c b (Ok s)) _ (λ _. refl) (λ _. refl) refl refl (each-one Untold _ tt) (as_before refl) (λ y h. absurd (none-some y h.there))
+read-change-quiet w c b (Err r) = telling w c (read_change w c b (Err r)) _ (λ _. refl) (λ _. refl) refl refl (each-one Untold _ tt) (as_before refl) (λ y h. absurd (none-some y h.there))
 
 failing-read-quiet : (w : World) (c b : ℕ) (e : Result Event RequestRefusal) → IfSome (failing_read w c b e) (Quiet w)
 failing-read-quiet w c b (Err r) = tt
-failing-read-quiet w c b (Ok e) = telling w c _ _ (λ _. refl) (λ _. refl) refl refl (each-one Untold _ tt) (books-broken (replica_at w c b))
+failing-read-quiet w c b (Ok e) = telling w c _ _ (λ _. refl) (λ _. refl) refl refl (each-one Untold _ tt) (books-broken (replica_at w c b)) (λ y h. absurd (none-some y h.there))
 
-read-quiet : (w : World) (c : ℕ) (r : ReadOp) (fails : Bool) → IfSome (read_request w c r fails) (Quiet w)
+pub read-quiet : (w : World) (c : ℕ) (r : ReadOp) (fails : Bool) → IfSome (read_request w c r fails) (Quiet w)
 read-quiet w c r true = failing-read-quiet w c r.block.block.0 (read_event r)
 read-quiet w c r false = read-change-quiet w c r.block.block.0 (read_at r (replica_at w c r.block.block.0))
 
 piece-quiet : (w : World) (c b : ℕ) (s : ServingState) (o : Option Packet) → Quiet w (piece_as w c b s o)
 piece-quiet w c b s None = closing-quiet w c
-piece-quiet w c b s (Some p) = telling w c (piece_as w c b s (Some p)) _ (λ _. refl) (λ _. refl) refl refl (each-one Untold _ tt) (as_before refl)
+piece-quiet w c b s (Some p) = telling w c (piece_as w c b s (Some p)) _ (λ _. refl) (λ _. refl) refl refl (each-one Untold _ tt) (as_before refl) (λ y h. absurd (none-some y h.there))
 
 serve-quiet : (w : World) (c b : ℕ) (s : ServingState) (o : Option Event) (fails : Bool) → IfSome (serve_change w c b s o fails) (Quiet w)
 serve-quiet w c b s None fails = tt
-serve-quiet w c b s (Some e) true = telling w c _ [] (λ _. refl) (λ _. refl) refl refl (each-nil Untold) (books-broken (replica_at w c b))
+serve-quiet w c b s (Some e) true = telling w c _ [] (λ _. refl) (λ _. refl) refl refl (each-nil Untold) (books-broken (replica_at w c b)) (λ y h. absurd (none-some y h.there))
 serve-quiet w c b s (Some e) false = piece-quiet w c b (piece_at s (replica_at w c b)).serving (piece_at s (replica_at w c b)).packet
 
 -- RECOVERIES
 
+-- what stands next from above was sent
+abbrev pub SentDown : Past → ℕ → Next → Type 0
+SentDown h c (message m) = (j : ℕ) × (slice_get (h.downs c) j ≡ Some m)
+SentDown h c the_end = Unit {0}
+
 -- what a step of a recovery is: an INIT or an UPDATE of the request's, or a refusal, which tells nothing
 abbrev IsStep : RecoveryOp → Event → Type 0
 IsStep q (event.Init named id) = (named ≡ q.block.stamp) × (id ≡ q.recovery)
-IsStep q (event.Update id n) = Unit {0}
+IsStep q (event.Update id n) = q.kind ≡ kind.Update
 IsStep q _ = ⊥
 
 abbrev StepSays : RecoveryOp → Result Event RecoveryReply → Type 0
 StepSays q (Ok e) = IsStep q e
-StepSays q (Err said) = (answer_of said).info ≡ None
+StepSays q (Err said) = ((answer_of said).info ≡ None) × ((p : Place) → updated_by said p q ≡ [])
 
 init-says : (q : RecoveryOp) (b : Bool) → StepSays q (if b then Err no_recovery else Ok (event.Init q.block.stamp q.recovery))
 unfolding answer_of
-init-says q true = refl
+init-says q true = (refl, λ p. refl)
 init-says q false = (refl, refl)
 
-event-says : (k : RecoveryKind) (q : RecoveryOp) → StepSays q (step_event k q)
+event-says : (k : RecoveryKind) (q : RecoveryOp) → q.kind ≡ k → StepSays q (step_event k q)
 unfolding answer_of
-event-says kind.Begin q = refl
-event-says kind.Init q = init-says q (q.recovery.0 == 0)
-event-says kind.Update q = tt
+event-says kind.Begin q e = (refl, λ p. refl)
+event-says kind.Init q e = init-says q (q.recovery.0 == 0)
+event-says kind.Update q e = e
 
 pool-says : (q : RecoveryOp) (b : Bool) (r : Result Event RecoveryReply) → StepSays q r → StepSays q (if b then r else Err (reply.Refused request_refusal.Pool))
 unfolding answer_of
 pool-says q true r h = h
-pool-says q false r h = refl
+pool-says q false r h = (refl, λ p. refl)
 
 step-says : (q : RecoveryOp) → StepSays q (recovery_event q)
 unfolding recovery_event
-step-says q = pool-says q (is_in_pool q.block) (step_event q.kind q) (event-says q.kind q)
+step-says q = pool-says q (is_in_pool q.block) (step_event q.kind q) (event-says q.kind q refl)
 
 -- an INIT that was taken
 record InitTaken (c : ReplicaRecord) (named id : Stamp) (t : Taken) : Type 0 where
@@ -255,8 +263,8 @@ abbrev Does : World → ℕ → RecoveryOp → FullReplica → Answer → Change
 Does w c q r a = recovery_change w c q (record { replica = r; reply = reply_to a }) (w.breaks (node_of w c) q.block.block.0)
 
 -- an answer that tells nothing
-untold-change : (w : World) (c : ℕ) (q : RecoveryOp) (s : Served) (b : Option Break) → (answer_of s.reply).info ≡ None → Books (replica_at w c q.block.block.0) s.replica → Quiet w (recovery_change w c q s b)
-untold-change w c q s b e k = telling w c (recovery_change w c q s b) (recovery_answer (answer_of s.reply) ∷ []) (λ _. refl) (λ _. refl) refl refl (each-one Untold _ e) k
+untold-change : (w : World) (c : ℕ) (q : RecoveryOp) (s : Served) (b : Option Break) → (answer_of s.reply).info ≡ None → Books (replica_at w c q.block.block.0) s.replica → ((u : Updated) → Has (updated_by s.reply (w.dialled c).to q) u → WasSent w.past u) → Quiet w (recovery_change w c q s b)
+untold-change w c q s b e k sent = telling w c (recovery_change w c q s b) (recovery_answer (answer_of s.reply) ∷ []) (λ _. refl) (λ _. refl) refl refl (each-one Untold _ e) k sent
 
 refused-untold : (x : RequestRefusal) → (answer_of (reply.Refused x)).info ≡ None
 unfolding answer_of
@@ -297,7 +305,7 @@ replica-given g w n b i f e =
 init-news : (g : Givens) (w : World) (c : ℕ) (q : RecoveryOp) (r : FullReplica) (named id : Stamp) (t : Taken) → Taking g w c → Agrees w.past c q → named ≡ q.block.stamp → id ≡ q.recovery
     → (x : InitTaken (replica_at w c q.block.block.0).known named id t) → r.known ≡ t.replica → Moves (replica_at w c q.block.block.0).known.info r.known.info
     → News g w (Does w c q r (answer.Info x.info.original x.info.stamp x.info.written))
-init-news g w c q r named id t h a ne ie x same m = still-news g w k h.recovering refl (λ _. refl) refl m infos
+init-news g w c q r named id t h a ne ie x same m = still-news g w k h.recovering refl (λ _. refl) refl m infos (λ u z. absurd (none-some u z.there))
   where
     k : Change
     k = Does w c q r (answer.Info x.info.original x.info.stamp x.info.written)
@@ -360,64 +368,71 @@ init-brings : (g : Givens) (w : World) (c : ℕ) (q : RecoveryOp) (named id : St
     → Books (replica_at w c q.block.block.0) (after (replica_at w c q.block.block.0) o) → Brings g w (Does w c q (after (replica_at w c q.block.block.0) o) (core.answer_of (core.reply o)))
 init-brings g w c q named id (Err x) h a ne ie n m k =
     let r = after (replica_at w c q.block.block.0) (Err x) in
-    one-brings g w (Does w c q r (answer.Refused x)) c h (untold-change w c q (record { replica = r; reply = reply_to (answer.Refused x) }) (w.breaks (node_of w c) q.block.block.0) (refused-untold (request_refusal.Core x)) k)
+    one-brings g w (Does w c q r (answer.Refused x)) c h (untold-change w c q (record { replica = r; reply = reply_to (answer.Refused x) }) (w.breaks (node_of w c) q.block.block.0) (refused-untold (request_refusal.Core x)) k (λ u z. absurd (none-some u z.there)))
 init-brings g w c q named id (Ok t) h a ne ie n m k = record {
   news = λ _. subst (λ (y : Answer). News g w (Does w c q (after (replica_at w c q.block.block.0) (Ok t)) y)) (sym n.told) (init-news g w c q (after (replica_at w c q.block.block.0) (Ok t)) named id t h a ne ie n refl m);
 }
 
-update-brings : (g : Givens) (w : World) (c : ℕ) (q : RecoveryOp) (o : Outcome) → Taking g w c → IfOk o (λ t. t.answer ≡ answer.Done)
+-- what an UPDATE that is done leaves in the records
+abbrev update_of : Place → RecoveryOp → Updated
+update_of p q = record { node = p.node; life = p.life; block = q.block.block.0; recovery = q.recovery.0; length = q.new_length }
+
+only-update : {h : Past} (p : Place) (q : RecoveryOp) (u : Updated) → WasSent h (update_of p q) → (i : ℕ) → slice_get (update_of p q ∷ []) i ≡ Some u → WasSent h u
+only-update {h} p q u s zero e = subst (λ (x : Updated). WasSent h x) (same_Some (update_of p q) u e) s
+only-update p q u s (suc i) e = absurd (none-some u e)
+
+-- an UPDATE that was sent on the connection
+update-sent : (g : Givens) (w : World) (c : ℕ) (q : RecoveryOp) → Taking g w c → q.kind ≡ kind.Update → SentDown w.past c (message (request (op.Recovery q))) → WasSent w.past (update_of (w.dialled c).to q)
+update-sent g w c q h e s = record { conn = c; known = h.known; to = refl; sent = record { asked = q; place = s.0; there = s.1; is_update = e; block = refl; recovery = refl; length = refl } }
+
+update-brings : (g : Givens) (w : World) (c : ℕ) (q : RecoveryOp) (o : Outcome) → Taking g w c → WasSent w.past (update_of (w.dialled c).to q) → IfOk o (λ t. t.answer ≡ answer.Done)
     → Books (replica_at w c q.block.block.0) (after (replica_at w c q.block.block.0) o) → Brings g w (Does w c q (after (replica_at w c q.block.block.0) o) (core.answer_of (core.reply o)))
-update-brings g w c q (Err x) h n k =
+update-brings g w c q (Err x) h sent n k =
     let r = after (replica_at w c q.block.block.0) (Err x) in
-    one-brings g w (Does w c q r (answer.Refused x)) c h (untold-change w c q (record { replica = r; reply = reply_to (answer.Refused x) }) (w.breaks (node_of w c) q.block.block.0) (refused-untold (request_refusal.Core x)) k)
-update-brings g w c q (Ok t) h n k =
+    one-brings g w (Does w c q r (answer.Refused x)) c h (untold-change w c q (record { replica = r; reply = reply_to (answer.Refused x) }) (w.breaks (node_of w c) q.block.block.0) (refused-untold (request_refusal.Core x)) k (λ u z. absurd (none-some u z.there)))
+update-brings g w c q (Ok t) h sent n k =
     let r = after (replica_at w c q.block.block.0) (Ok t) in
     subst (λ (y : Answer). Brings g w (Does w c q r y)) (sym n)
-    (one-brings g w (Does w c q r answer.Done) c h (untold-change w c q (record { replica = r; reply = reply_to answer.Done }) (w.breaks (node_of w c) q.block.block.0) updated-untold k))
+    (one-brings g w (Does w c q r answer.Done) c h (untold-change w c q (record { replica = r; reply = reply_to answer.Done }) (w.breaks (node_of w c) q.block.block.0) updated-untold k (λ u z. only-update (w.dialled c).to q u sent z.place z.there)))
 
-served-brings : (g : Givens) (w : World) (c : ℕ) (q : RecoveryOp) (e : Result Event RecoveryReply) → Taking g w c → Agrees w.past c q → StepSays q e
+served-brings : (g : Givens) (w : World) (c : ℕ) (q : RecoveryOp) (e : Result Event RecoveryReply) → Taking g w c → Agrees w.past c q → SentDown w.past c (message (request (op.Recovery q))) → StepSays q e
     → Brings g w (recovery_change w c q (served_as (replica_at w c q.block.block.0) e) (w.breaks (node_of w c) q.block.block.0))
-served-brings g w c q (Err said) h a s =
+served-brings g w c q (Err said) h a d s =
     let r = replica_at w c q.block.block.0 in
     one-brings g w (recovery_change w c q (served_as r (Err said)) (w.breaks (node_of w c) q.block.block.0)) c h
-    (untold-change w c q (served_as r (Err said)) (w.breaks (node_of w c) q.block.block.0) s (as_before refl))
-served-brings g w c q (Ok (event.Init named id)) h a s =
+    (untold-change w c q (served_as r (Err said)) (w.breaks (node_of w c) q.block.block.0) s.0 (as_before refl) (λ u z. absurd (none-some u (sym (ap (λ (us : List Updated). slice_get us z.place) (s.1 (w.dialled c).to)) ∙ z.there))))
+served-brings g w c q (Ok (event.Init named id)) h a d s =
     let r = replica_at w c q.block.block.0 in
     init-brings g w c q named id (transition r.known (event.Init named id)) h a s.0 s.1 (init-taken r.known named id)
     (event-moves r.known (event.Init named id) (h.facts.full (node_of w c) q.block.block.0).sound) (books (replica_event.Other (event.Init named id)) refl)
-served-brings g w c q (Ok (event.Update id n)) h a s =
+served-brings g w c q (Ok (event.Update id n)) h a d s =
     let r = replica_at w c q.block.block.0 in
-    update-brings g w c q (transition r.known (event.Update id n)) h (update-taken r.known id n) (books (replica_event.Other (event.Update id n)) refl)
-served-brings g w c q (Ok (event.Create conn t r)) h a s = absurd s
-served-brings g w c q (Ok (event.Temporary conn t r)) h a s = absurd s
-served-brings g w c q (Ok (event.Append conn named new n)) h a s = absurd s
-served-brings g w c q (Ok (event.AppendRecovery conn named new n)) h a s = absurd s
-served-brings g w c q (Ok (event.StreamRecovery conn named new low high)) h a s = absurd s
-served-brings g w c q (Ok (event.CloseRecovery named new n)) h a s = absurd s
-served-brings g w c q (Ok (event.Packet conn seqno offset n sums last sync bad)) h a s = absurd s
-served-brings g w c q (Ok (event.Ack conn seqno good)) h a s = absurd s
-served-brings g w c q (Ok (event.Ended conn)) h a s = absurd s
-served-brings g w c q (Ok (event.Read named offset n)) h a s = absurd s
-served-brings g w c q (Ok (event.Give named offset n)) h a s = absurd s
-served-brings g w c q (Ok event.FileFault) h a s = absurd s
+    update-brings g w c q (transition r.known (event.Update id n)) h (update-sent g w c q h s d) (update-taken r.known id n) (books (replica_event.Other (event.Update id n)) refl)
+served-brings g w c q (Ok (event.Create conn t r)) h a d s = absurd s
+served-brings g w c q (Ok (event.Temporary conn t r)) h a d s = absurd s
+served-brings g w c q (Ok (event.Append conn named new n)) h a d s = absurd s
+served-brings g w c q (Ok (event.AppendRecovery conn named new n)) h a d s = absurd s
+served-brings g w c q (Ok (event.StreamRecovery conn named new low high)) h a d s = absurd s
+served-brings g w c q (Ok (event.CloseRecovery named new n)) h a d s = absurd s
+served-brings g w c q (Ok (event.Packet conn seqno offset n sums last sync bad)) h a d s = absurd s
+served-brings g w c q (Ok (event.Ack conn seqno good)) h a d s = absurd s
+served-brings g w c q (Ok (event.Ended conn)) h a d s = absurd s
+served-brings g w c q (Ok (event.Read named offset n)) h a d s = absurd s
+served-brings g w c q (Ok (event.Give named offset n)) h a d s = absurd s
+served-brings g w c q (Ok event.FileFault) h a d s = absurd s
 
 failing-recovery-brings : (g : Givens) (w : World) (c : ℕ) (q : RecoveryOp) (e : Result Event RecoveryReply) → Taking g w c → IfSome (failing_recovery w c q e) (Brings g w)
 failing-recovery-brings g w c q (Err said) h = tt
 failing-recovery-brings g w c q (Ok e) h =
     let r = replica_at w c q.block.block.0 in
     let b = broke_at w c q.block.block.0 (replica_event.Other e) in
-    one-brings g w (recovery_change w c q (serve_faulted r) b) c h (untold-change w c q (serve_faulted r) b (refused-untold request_refusal.File) (books-broken r))
+    one-brings g w (recovery_change w c q (serve_faulted r) b) c h (untold-change w c q (serve_faulted r) b (refused-untold request_refusal.File) (books-broken r) (λ u z. absurd (none-some u z.there)))
 
-recovery-brings : (g : Givens) (w : World) (c : ℕ) (q : RecoveryOp) (fails : Bool) → Taking g w c → Agrees w.past c q → IfSome (recovery_request w c q fails) (Brings g w)
-recovery-brings g w c q true h a = failing-recovery-brings g w c q (recovery_event q) h
-recovery-brings g w c q false h a = served-brings g w c q (recovery_event q) h a (step-says q)
+recovery-brings : (g : Givens) (w : World) (c : ℕ) (q : RecoveryOp) (fails : Bool) → Taking g w c → Agrees w.past c q → SentDown w.past c (message (request (op.Recovery q))) → IfSome (recovery_request w c q fails) (Brings g w)
+recovery-brings g w c q true h a d = failing-recovery-brings g w c q (recovery_event q) h
+recovery-brings g w c q false h a d = served-brings g w c q (recovery_event q) h a d (step-says q)
 
 -- THE LOWER END
-
--- what stands next from above was sent
-abbrev pub SentDown : Past → ℕ → Next → Type 0
-SentDown h c (message m) = (j : ℕ) × (slice_get (h.downs c) j ≡ Some m)
-SentDown h c the_end = Unit {0}
 
 quiet-as : (g : Givens) (w : World) (c : ℕ) (o : Option Change) → Taking g w c → IfSome o (Quiet w) → IfSome o (Brings g w)
 quiet-as g w c o h q = quiet-brings g w o h.facts h.recovering q
@@ -428,7 +443,7 @@ unless-brings g w fails c h = quiet-as g w c (unless_failing fails (closing w c)
 request-brings : (g : Givens) (w : World) (c : ℕ) (o : Op) (answered fails : Bool) → Taking g w c → SentDown w.past c (message (request o)) → IfSome (first_message w c (request o) answered fails) (Brings g w)
 request-brings g w c (op.Write f) answered fails h s = quiet-as g w c (write_request w c f answered fails) h (write-quiet w c f answered fails)
 request-brings g w c (op.Read r) answered fails h s = quiet-as g w c (read_request w c r fails) h (read-quiet w c r fails)
-request-brings g w c (op.Recovery q) answered fails h s = recovery-brings g w c q fails h (h.recovering.asks c s.0 q s.1)
+request-brings g w c (op.Recovery q) answered fails h s = recovery-brings g w c q fails h (h.recovering.asks c s.0 q s.1) s
 request-brings g w c (op.Transfer r) answered fails h s = unless-brings g w fails c h
 request-brings g w c (op.Checksum r) answered fails h s = unless-brings g w fails c h
 
@@ -443,7 +458,7 @@ first-brings g w c (recovery_answer a) answered fails h s = unless-brings g w fa
 next-op-brings : (g : Givens) (w : World) (c : ℕ) (o : Op) (fails : Bool) → Taking g w c → SentDown w.past c (message (request o)) → IfSome (next_recovery w c (message (request o)) fails) (Brings g w)
 next-op-brings g w c (op.Write f) fails h s = unless-brings g w fails c h
 next-op-brings g w c (op.Read r) fails h s = unless-brings g w fails c h
-next-op-brings g w c (op.Recovery q) fails h s = recovery-brings g w c q fails h (h.recovering.asks c s.0 q s.1)
+next-op-brings g w c (op.Recovery q) fails h s = recovery-brings g w c q fails h (h.recovering.asks c s.0 q s.1) s
 next-op-brings g w c (op.Transfer r) fails h s = unless-brings g w fails c h
 next-op-brings g w c (op.Checksum r) fails h s = unless-brings g w fails c h
 

@@ -9,18 +9,19 @@ use Rattle.op_headers.specs.declared.ops.RecoveryOp.{RecoveryOp}
 use Rattle.op_headers.specs.Values.{WriteFields}
 use Rattle.member_core.specs.declared.effects.Upward.{Upward}
 use Rattle.member_core.specs.declared.effects.Upward.TheVariants as upward
-use Rattle.world.specs.Parts.{Message, request, packet, ack, response, read_status, recovery_answer, by_primary, Primary}
+use Rattle.world.specs.Parts.{Message, request, packet, ack, response, read_status, recovery_answer, by_primary, Primary, Updated}
 use Rattle.world.specs.Worlds.{Past, World, Dial, Change, dial_at, listed, past_after, apply}
 use Rattle.world.specs.Connections.{sent_on}
 use Rattle.world.specs.Nodes.{sent_up}
-use Rattle.world_facts.proofs.Tables.{some-weaker}
-use Rattle.world_stamps.specs.Stamping.{Givens}
-use Rattle.world_bytes.specs.Carrying.{Sets, Recovers, RecoverySays, Carried}
-use Rattle.world_bytes.proofs.Frame.{Each, each-nil, each-one, each-cons, past-grows}
-use Rattle.world_bytes.proofs.Leaves.{Facts, sent-if}
-use Rattle.world_setups.proofs.Nodes.{get-more}
-use Rattle.world_recoveries.specs.Recovering.{Updates, LeadFits, HasId, SendsFits, IsPlacedIn, Recovering}
-use Rattle.world_recoveries.proofs.Histories.{begins-get, lead-later, sends-later, NewDown, was_sent, is_sent, is_dialled, new-down}
+use Rattle.world_laws.proofs.FactTables.{some-weaker}
+use Rattle.world_laws.specs.Stamping.{Givens}
+use Rattle.world_laws.specs.Carrying.{Sets, Recovers, RecoverySays, Carried}
+use Rattle.world_laws.proofs.ByteFrame.{Each, each-nil, each-one, each-cons, past-grows}
+use Rattle.world_laws.proofs.ByteLeaves.{Facts, sent-if}
+use Rattle.world_laws.proofs.SetupNodes.{get-more}
+use Rattle.world.specs.Safe.{Has}
+use Rattle.world_recoveries.specs.Recovering.{WasSent, Updates, LeadFits, HasId, SendsFits, IsPlacedIn, Recovering}
+use Rattle.world_recoveries.proofs.Histories.{begins-get, was-sent-later, lead-later, sends-later, NewDown, was_sent, is_sent, is_dialled, new-down}
 use Rattle.world_recoveries.proofs.Holding.{Books, books-moves}
 use Rattle.world_recoveries.proofs.Frame.{News}
 
@@ -39,13 +40,14 @@ pub record QuietDial (w : World) (d : Dial) : Type 0 where
   pub silent : (q : RecoveryOp) → d.request ≡ request (op.Recovery q) → ⊥
   pub unled : (i place : ℕ) → d.dialled.upper ≡ by_primary i place → ⊥
 
--- nothing is sent of a recovery, and primaries stay
+-- nothing is sent of a recovery, primaries stay, and a replica that is updated was sent that
 pub record Quiet (w : World) (k : Change) : Type 0 where
   pub ups : (c : ℕ) → Each Untold (k.ups c)
   pub downs : (c : ℕ) → Each (OfSetup w.past c) (k.downs c)
   pub dials : Each (QuietDial w) k.dials
   pub primary : k.primary ≡ w.primaries k.primary_at
   pub books : Books (w.replicas k.node k.block) k.replica
+  pub updated : (u : Updated) → Has k.updated u → WasSent w.past u
 
 -- what is sent on a connection
 pub each-sent : (P : ℕ → Message → Type 0) (o : Option ℕ) (ms : List Message) → ((c : ℕ) → Each (P c) ms) → (d : ℕ) → Each (P d) (sent_on o ms d)
@@ -94,7 +96,7 @@ apart h c id t r s = differ (same_Some (request (op.Recovery r.asked)) (request 
     differ : request (op.Recovery r.asked) ≡ request (op.Write s.fields) → ⊥
     differ e = cc
 
-none-asked : (g : Givens) (w : World) (k : Change) (c j : ℕ) (q : RecoveryOp) → Carried g (apply w k) → Quiet w k → slice_get (k.downs c) j ≡ Some (request (op.Recovery q)) → ⊥
+pub none-asked : (g : Givens) (w : World) (k : Change) (c j : ℕ) (q : RecoveryOp) → Carried g (apply w k) → Quiet w k → slice_get (k.downs c) j ≡ Some (request (op.Recovery q)) → ⊥
 unfolding apply
 none-asked g w k c j q h n e =
     let p = past_after w k in
@@ -126,6 +128,7 @@ quiet-news g l w k f h a q =
       sends = subst (λ (x : Primary). SendsFits p x) (sym q.primary) (sends-later w.past p (w.primaries k.primary_at) (λ id _. record { back = λ c b n u. quiet-updates l w k c b id n a q u }) (h.sends k.primary_at));
       ids = λ id x. inl (subst (λ (y : Primary). HasId y id) q.primary x);
       placed = λ c place lt u. subst (λ (x : Primary). IsPlacedIn c place x) (sym q.primary) (h.placed c k.primary_at place lt u);
+      updated = λ u x. was-sent-later w.past p u (past-grows w k) (q.updated u x);
     }
 
 pub quiet-brings : (g : Givens) (w : World) (o : Option Change) → Facts g w → Recovering g w → IfSome o (Quiet w) → IfSome o (Brings g w)

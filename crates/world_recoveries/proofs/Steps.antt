@@ -13,9 +13,9 @@ use Rattle.world.specs.Worlds.{World, Change}
 use Rattle.world.specs.Connections.{Next, is_alive, place_of}
 use Rattle.world.specs.Clients.{are_members}
 use Rattle.world.specs.Primaries.{primary_change, begins_as, begins_at, own_recover, ends_change, leads_step, commits_step, leads_told, own_primary_as, own_primary, listens, hears_change, primary_up_as, primary_up, primary_commits, primary_asks}
-use Rattle.world_facts.proofs.Tables.{when-each, and-left}
-use Rattle.world_stamps.specs.Stamping.{Givens}
-use Rattle.world_bytes.proofs.Leaves.{Facts}
+use Rattle.world_laws.proofs.FactTables.{when-each, and-left}
+use Rattle.world_laws.specs.Stamping.{Givens}
+use Rattle.world_laws.proofs.ByteLeaves.{Facts}
 use Rattle.world_recoveries.specs.Recovering.{Recovering}
 use Rattle.world_recoveries.proofs.Frame.{News}
 use Rattle.world_recoveries.proofs.Leading.{updates-news, ended-news, begins-news, SentUp, hears-news, asked-news, commits-news}
@@ -31,7 +31,7 @@ begins-as-brings g w i at b ms bs (Ok (office.Begun begun)) f h e = news-brings 
 begins-as-brings g w i at b ms bs (Ok (office.Stamp s)) f h e = tt
 begins-as-brings g w i at b ms bs (Ok (office.Reopened r)) f h e = tt
 begins-as-brings g w i at b ms bs (Ok office.Nothing) f h e = tt
-begins-as-brings g w i at b ms bs (Err x) f h e = news-brings g w _ (ended-news g w (primary_change w i (has_led (office_refused x))) (office_refused x) refl refl (λ _. refl) (λ _. refl) refl)
+begins-as-brings g w i at b ms bs (Err x) f h e = news-brings g w _ (ended-news g w (primary_change w i (has_led (office_refused x))) (office_refused x) refl refl (λ _. refl) (λ _. refl) refl refl)
 
 begins-at-brings : (x : Primary) (g : Givens) (w : World) (i n : ℕ) (b : BlockId) (ms : List NodeId) (bs : List Bool) → Facts g w → Recovering g w → w.primaries i ≡ x → IfSome (begins_at x w i n b ms bs) (Brings g w)
 begins-at-brings no_primary g w i n b ms bs f h e = tt
@@ -51,12 +51,12 @@ leads-step-brings : (s : OwnStep) (g : Givens) (w : World) (i : ℕ) (l : Leadin
 leads-step-brings own.Waits g w i l h e d = tt
 leads-step-brings (own.Updates c) g w i l h e d = news-brings g w _ (updates-news g w i l c h e d)
 leads-step-brings (own.Commits c) g w i l h e d = tt
-leads-step-brings (own.Ends r) g w i l h e d = news-brings g w _ (ended-news g w (ends_change w i l r) r refl refl (λ _. refl) (λ _. refl) refl)
+leads-step-brings (own.Ends r) g w i l h e d = news-brings g w _ (ended-news g w (ends_change w i l r) r refl refl (λ _. refl) (λ _. refl) refl refl)
 
 commits-step-brings : (s : OwnStep) (g : Givens) (w : World) (i : ℕ) (l : Leading) (t : Told) → IfSome (commits_step s w i l t) (Brings g w)
 commits-step-brings own.Waits g w i l t = tt
 commits-step-brings (own.Updates c) g w i l t = tt
-commits-step-brings (own.Commits c) g w i l t = news-brings g w _ (ended-news g w (ends_change w i l (end_with l.state c t)) (end_with l.state c t) refl refl (λ _. refl) (λ _. refl) refl)
+commits-step-brings (own.Commits c) g w i l t = news-brings g w _ (ended-news g w (ends_change w i l (end_with l.state c t)) (end_with l.state c t) refl refl (λ _. refl) (λ _. refl) refl refl)
 commits-step-brings (own.Ends r) g w i l t = tt
 
 leads-told-brings : (o : Option Told) (g : Givens) (w : World) (i : ℕ) (l : Leading) → Recovering g w → w.primaries i ≡ leads l → IfSome (leads_told o w i l) (Brings g w)
@@ -78,7 +78,7 @@ hears-change-brings : (g : Givens) (w : World) (i : ℕ) (l : Leading) (place c 
     → IfSome (hears_change w i l place c x o) (Brings g w)
 hears-change-brings g w i l place c x None h e lt u s = tt
 hears-change-brings g w i l place c x (Some q) h e lt u s =
-    when-each (Brings g w) (listens l.state.phase q) _ (λ _. news-brings g w _ (hears-news g w i l place c x _ h e lt u s refl refl refl (λ _. refl) (λ _. refl) refl))
+    when-each (Brings g w) (listens l.state.phase q) _ (λ _. news-brings g w _ (hears-news g w i l place c x _ h e lt u s refl refl refl (λ _. refl) (λ _. refl) refl refl))
 
 primary-up-as-brings : (z : Primary) (g : Givens) (w : World) (i place c : ℕ) (x : Next) → Recovering g w → w.primaries i ≡ z → c < w.next_conn → (w.dialled c).upper ≡ by_primary i place → SentUp w.past c x
     → IfSome (primary_up_as z w i place c x) (Brings g w)

@@ -15,12 +15,12 @@ use Rattle.recovery_core.specs.declared.primary.Phase.TheVariants as phase
 use Rattle.recovery_core.specs.declared.standings.Standing.TheVariants as standing
 use Rattle.recovery_core.specs.Primaries.{request_of}
 use Rattle.world.specs.declared.events.Event.{Event}
-use Rattle.world.specs.Parts.{request, recovery_answer, by_primary, Told, Leading, Primary, no_primary, was_told, leads, has_led}
+use Rattle.world.specs.Parts.{request, recovery_answer, by_primary, Updated, Told, Leading, Primary, no_primary, was_told, leads, has_led}
 use Rattle.world.specs.Worlds.{Past, World, start}
 use Rattle.world.specs.Events.{run}
 use Rattle.world.specs.Safe.{Has}
-use Rattle.world_stamps.specs.Stamping.{Givens, none_given, given_in}
-use Rattle.world_setups.specs.Joining.{joined_as}
+use Rattle.world_laws.specs.Stamping.{Givens, none_given, given_in}
+use Rattle.world_laws.specs.Joining.{joined_as}
 
 -- WHAT WAS TOLD AND SENT
 
@@ -108,6 +108,13 @@ pub record UpdateFits (h : Past) (c b : ℕ) (id : Stamp) (n : ℕ) : Type 0 whe
   pub final : told.0 ≡ state.Finalized → n ≡ told.2
   pub opens : told.0 ≡ state.Rbw → ToldOpen h b id n
 
+-- The UPDATE that gave a replica its length was sent to its node, in that life.
+pub record WasSent (h : Past) (u : Updated) : Type 0 where
+  pub conn : ℕ
+  pub known : conn < h.next_conn
+  pub to : (h.dialled conn).to ≡ record { node = u.node; life = u.life }
+  pub sent : Updates h conn u.block (record { 0 = u.recovery }) u.length
+
 -- no UPDATE was sent of the recovery with this id
 abbrev pub NoUpdates : Past → Stamp → Type 0
 NoUpdates h id = (c b n : ℕ) → Updates h c b id n → ⊥
@@ -180,6 +187,7 @@ pub record Recovering (g : Givens) (w : World) : Type 0 where
   pub still : (c b : ℕ) (id : Stamp) (i : ReplicaTold) → Informs w.past c b id i →
       (w.dialled c).to.life ≡ w.lives (w.dialled c).to.node → StillTrue id i (w.replicas (w.dialled c).to.node b).known.info
   pub updates : (c b : ℕ) (id : Stamp) (n : ℕ) → Updates w.past c b id n → UpdateFits w.past c b id n
+  pub updated : (u : Updated) → Has w.updated u → WasSent w.past u
   -- a recovery has one length
   pub one_length : (c d a b : ℕ) (id : Stamp) (n m : ℕ) → Updates w.past c a id n → Updates w.past d b id m → n ≡ m
   pub primaries : (i : ℕ) → LeadFits w.past (w.primaries i)

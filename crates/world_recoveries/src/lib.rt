@@ -3,6 +3,7 @@
 
 ghost use Rattle.world.specs.Worlds.{start};
 ghost use Rattle.world.specs.Events.{run};
+ghost use Rattle.world_recoveries.specs.Naming.{AllNaming, NoneStale};
 ghost use Rattle.world_recoveries.specs.Recovering.{AllRecovering, OneLength, UpdatesKeepFinalized};
 
 use world::Schedule;
@@ -21,4 +22,16 @@ pub fn recoveries_have_one_length(schedule: &Schedule)
 /// An UPDATE never shortens a replica that was FINALIZED when the recovery began, and lengthens none.
 pub fn updates_keep_finalized(schedule: &Schedule)
     ensures { UpdatesKeepFinalized (run (start schedule.now.nodes) schedule.now.events) }
+{}
+
+/// Nothing is committed under a recovery: below its id no later stamp than the one that it names is known to the block's
+/// writer as committed, and none was answered.
+pub fn recoveries_name_what_is_committed()
+    ensures { AllNaming }
+{}
+
+/// No stale replica takes part in a recovery: what its members tell is of no earlier stamp than any below its id that a length
+/// was answered under.
+pub fn recoveries_hear_of_no_stale_replica(schedule: &Schedule)
+    ensures { NoneStale (run (start schedule.now.nodes) schedule.now.events) }
 {}

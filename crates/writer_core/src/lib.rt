@@ -17,5 +17,6 @@ pub use actions::{Action, ClientAnswer};
 pub use commands::{Command, CommandFault};
 pub use intake::{MAX_COMMANDS, MAX_GIVEN};
 pub use laws::{answered_bytes_are_acked, only_the_office_commits, stamps_are_committed};
+pub use phases::{Failure, Phase, Setup};
 pub use requests::POOL;
 pub use writer::Writer;

@@ -129,6 +129,20 @@ impl Writer {
         self.known.phase.remedy().is_some()
     }
 
+    /// At which point of its work the writer is.
+    pub fn phase(&self) -> Phase
+        ensures { result ≡ self.now.phase }
+    {
+        self.known.phase
+    }
+
+    /// The members of the pipeline that stands or is wanted.
+    pub fn members(&self) -> &Members
+        ensures { result.now ≡ self.now.members }
+    {
+        &self.known.members
+    }
+
     /// Whether the next own step sets up a pipeline.
     pub fn wants_pipeline(&self) -> bool
         ensures { result ≡ wants_pipeline self.now.phase }

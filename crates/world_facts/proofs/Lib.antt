@@ -1,4 +1,0 @@
-pub mod RunLaws
-pub mod Tables
-pub mod TestLaws
-pub mod GrowthLaws

@@ -1,0 +1,11 @@
+pub mod Facts
+pub mod Testing
+pub mod Growing
+pub mod Placing
+pub mod Sessions
+pub mod Finding
+pub mod Filling
+pub mod Stamping
+pub mod Carrying
+pub mod Fronts
+pub mod Joining

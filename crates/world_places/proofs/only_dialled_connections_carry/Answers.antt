@@ -1,5 +1,0 @@
-use Rattle.world_places.proofs.PlacedLaws.{only-dialled-carry}
-use Rattle.world_places.proofs.only_dialled_connections_carry.Goals as goal
-
-pub returns : goal.returns
-returns c = only-dialled-carry

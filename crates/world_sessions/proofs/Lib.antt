@@ -1,6 +1,0 @@
-pub mod WriterSteps
-pub mod OfficeSteps
-pub mod Asides
-pub mod Agreements
-pub mod Sessions
-pub mod Unused

@@ -1,5 +1,0 @@
-use Rattle.world_sessions.proofs.Sessions.{stamps-keep-sessions}
-use Rattle.world_sessions.proofs.stamps_keep_their_sessions.Goals as goal
-
-pub returns : goal.returns
-returns c = stamps-keep-sessions
