@@ -14,6 +14,7 @@ use Rattle.packet_codec.specs.Refusals.{AreLawful, IsWholeFrame as IsWholePacket
 use Rattle.std.specs.Int.{w16, w32, from_be_bytes}
 use Rattle.std.specs.Prelude.{IsSome}
 use Rattle.std.proofs.lemmas.List.{take-append-le, drop-append-le}
+use Rattle.std.proofs.Math.Seq.{take-append_seam}
 use Rattle.proto_fields.specs.Frames.{IsCutFrame}
 use Rattle.proto_fields.specs.Varint.{BeginsWithVarint}
 use Rattle.op_headers.specs.Requests.{IsCutRequest}
@@ -52,9 +53,10 @@ use Rattle.op_headers.proofs.AnswerLemmas as answer_laws
 use Rattle.frame_feed.specs.declared.faults.FeedFault.{FeedFault}
 use Rattle.frame_feed.specs.declared.faults.FeedFault.TheVariants as feed
 use Rattle.frame_feed.specs.declared.faults.NoMessage.{NoMessage}
+use Rattle.frame_feed.specs.declared.packet_frames.PacketFrame.{PacketFrame}
 use Rattle.frame_feed.specs.declared.faults.NoMessage.TheVariants.{Short, Memory, Refused}
 use Rattle.frame_feed.specs.Faults.{no_op, no_packet, no_ack, no_response, no_answer, StandsThere, IsOfStream}
-use Rattle.frame_feed.specs.Kinds.{IsSound, requests, packets, acks, responses, answers, read_statuses}
+use Rattle.frame_feed.specs.Kinds.{IsSound, requests, packets, packet_frames, with_text, SpellsFrame, acks, responses, answers, read_statuses}
 
 -- ---- a decoder's result
 
@@ -355,6 +357,47 @@ packets_sound = record {
   where
     packets_fails : (why : NoMessage) (bytes : List ℕ) → IsBytes bytes → (d : PacketFault) × ((packet_at bytes ≡ Err d) × (no_packet d ≡ why)) → StandsThere no_packet IsRefused why bytes
     packets_fails why bytes fits d = (d.0, d.1.1, packet_laws.packet_refused bytes d.0 fits d.1.0)
+
+-- ---- packets with their bytes
+
+ok_parts : (x : Packet × ℕ) (p : Packet) (k : ℕ) → x.0 ≡ p → x.1 ≡ k → x ≡ (p, k)
+ok_parts x p k one two = ap (λ (q : Packet). (q, x.1)) one ∙ ap (λ (n : ℕ). (p, n)) two
+
+-- a packet with these bytes
+abbrev framed : Packet → List ℕ → PacketFrame
+framed p text = record { packet = p; text = text }
+
+text_read : (bytes : List ℕ) (r : Result (Packet × ℕ) NoMessage) (m : PacketFrame) (k : ℕ) → with_text bytes r ≡ Ok (m, k) → (r ≡ Ok (m.packet, k)) × (m.text ≡ take k bytes)
+text_read bytes (Ok x) m k e =
+    let same : ◌≡◌ {A = PacketFrame × ℕ} (framed x.0 (take x.1 bytes), x.1) (m, k) = cc in
+    let size : x.1 ≡ k = ap (λ p. p.1) same in
+    (ap Ok (ok_parts x m.packet k (ap (λ p. p.0.packet) same) size), sym (ap (λ p. p.0.text) same) ∙ ap (λ n. take n bytes) size)
+text_read bytes (Err why) m k e = cc
+
+text_unread : (bytes : List ℕ) (r : Result (Packet × ℕ) NoMessage) (why : NoMessage) → with_text bytes r ≡ Err why → r ≡ Err why
+text_unread bytes (Ok x) why e = cc
+text_unread bytes (Err other) why e = cc
+
+pub packet_frames_sound : IsSound packet_frames
+packet_frames_sound = record {
+  found = λ m k bytes fits e. let d = text_read bytes (packets.reads bytes) m k e in (packets_sound.found m.packet k bytes fits d.0, d.1);
+  within = λ m k bytes fits e. packets_sound.within m.packet k bytes fits (text_read bytes (packets.reads bytes) m k e).0;
+  listed = λ m k bytes fits e. tt;
+  only = λ m text rest s. frame_only m text rest s;
+  fails = λ why bytes fits e. packets_sound.fails why bytes fits (text_unread bytes (packets.reads bytes) why e);
+  stopped = λ why bytes fits s. ap (with_text bytes) (packets_sound.stopped why bytes fits s);
+  is_cut = packets_sound.is_cut;
+  cut = packets_sound.cut;
+  front = λ m text bytes more s parts some. packets_sound.front m.packet text bytes more s.0 parts some;
+  no_memory = packets_sound.no_memory;
+  sized = λ m text s. packets_sound.sized m.packet text s.0;
+  of_stream = packets_sound.of_stream;
+}
+  where
+    frame_only : (m : PacketFrame) (text rest : List ℕ) → SpellsFrame m text → with_text (text ++ rest) (packets.reads (text ++ rest)) ≡ Ok (m, length text)
+    frame_only m text rest s =
+        let kept : m.text ≡ take (length text) (text ++ rest) = s.1 ∙ sym (take-append_seam text rest) in
+        ap (with_text (text ++ rest)) (packets_sound.only m.packet text rest s.0) ∙ ap (λ (t : List ℕ). Ok (framed m.packet t, length text)) (sym kept)
 
 -- ---- responses
 

@@ -21,6 +21,7 @@ use Rattle.frame_feed.specs.declared.faults.FeedFault.{FeedFault}
 use Rattle.frame_feed.specs.declared.faults.NoMessage.{NoMessage}
 use Rattle.frame_feed.specs.declared.faults.NoMessage.TheVariants.{Short, Memory, Refused}
 use Rattle.frame_feed.specs.declared.framing.Framing.{Framing}
+use Rattle.frame_feed.specs.declared.packet_frames.PacketFrame.{PacketFrame}
 use Rattle.frame_feed.specs.declared.framing.Framing.TheVariants as framing
 use Rattle.frame_feed.specs.Faults.{no_op, no_packet, no_ack, no_response, no_answer, StandsThere, IsOfStream}
 use Rattle.frame_feed.specs.Framings.{IsCut, size_at}
@@ -49,6 +50,24 @@ packets = record {
   listed = λ _. Unit {0};
   framing = framing.Packet;
   reads = λ bytes. with_cause no_packet (packet_at bytes);
+}
+
+-- a packet that was read off the front of the bytes, with those that spell it
+abbrev pub with_text : List ℕ → Result (Packet × ℕ) NoMessage → Result (PacketFrame × ℕ) NoMessage
+with_text bytes (Ok x) = Ok (record { packet = x.0; text = take x.1 bytes }, x.1)
+with_text bytes (Err why) = Err why
+
+-- The bytes spell the packet, and are those that are kept with it.
+abbrev pub SpellsFrame : PacketFrame → List ℕ → Type 0
+SpellsFrame f text = SpellsPacket f.packet text × (f.text ≡ text)
+
+abbrev pub packet_frames : Kind PacketFrame
+packet_frames = record {
+  spells = SpellsFrame;
+  stops = packets.stops;
+  listed = λ _. Unit {0};
+  framing = framing.Packet;
+  reads = λ bytes. with_text bytes (packets.reads bytes);
 }
 
 abbrev pub acks : Kind Ack

@@ -1,7 +1,7 @@
 //! The kinds of messages that are taken.
 
 use ack_codec::{Ack, Response};
-use frame_feed::{Feed, FeedFault};
+use frame_feed::{Feed, FeedFault, PacketFrame};
 use packet_codec::Packet;
 
 /// A message of a stream.
@@ -40,6 +40,22 @@ impl Streamed for Packet {
 
     fn take(feed: &mut Feed) -> Result<Option<Packet>, FeedFault> {
         feed.next_packet()
+    }
+}
+
+impl Streamed for PacketFrame {
+    ghost use Rattle.frame_feed.specs.Kinds.{packet_frames};
+    ghost use Rattle.frame_feed.specs.KindLaws.{packet_frames_sound};
+    ghost use Rattle.link_messages.specs.Empties.{packets_empty};
+
+    ghost kind = { packet_frames };
+
+    ghost sound = { packet_frames_sound };
+
+    ghost empty = { packets_empty };
+
+    fn take(feed: &mut Feed) -> Result<Option<PacketFrame>, FeedFault> {
+        feed.next_packet_frame()
     }
 }
 

@@ -3,11 +3,14 @@
 ghost use Rattle.std.specs.Prelude.{IfOk};
 ghost use Rattle.hd_base.specs.Ends.{IsKnown};
 
-use hd_base::{BlockId, Conn, ConnId, NodeId, Receipt, Roads, Shelf, Stamp, SumKind, SumRule};
+use hd_base::{
+    BlockId, Conn, ConnId, FileError, NodeId, Receipt, Roads, Shelf, Stamp, SumKind, SumRule,
+};
 use mem_ports::{MemDrawer, MemIn, MemOut, MemRoads, MemShelf};
 use replica_core::Event;
 use replica_files::ReplicaBook;
 use std::alloc::Global;
+use std::process::Abort;
 use std::test::Fail;
 
 /// The block.
@@ -30,18 +33,30 @@ pub(crate) fn receipt(index: u64) -> Receipt {
     }
 }
 
-/// The book of the block, as a create on the connection makes it, with sums of chunks of this size.
-pub(crate) fn created(alloc: Global, chunk: u32) -> Result<Book, Fail> {
+/// The book of the block, of which there is no replica.
+pub(crate) fn absent(alloc: Global) -> Result<Book, FileError> {
     let mut shelf = MemShelf::new(alloc, &[])?;
     let drawer = shelf.lend(alloc, BLOCK)?;
-    let mut book = ReplicaBook::new(alloc, BLOCK, drawer).ok().ok_or("a book")?;
-    let create = Event::Create {
-        conn: CONN,
-        stamp: Stamp(1001),
-        sums: SumRule::new(SumKind::Crc32c, chunk).ok_or("a rule")?,
-    };
-    book.setup(&create)?;
-    Ok(book)
+    Ok(
+        ReplicaBook::new(alloc, BLOCK, drawer)
+            .ok()
+            .ok_or(FileError::Memory)?,
+    )
+}
+
+/// The book of the block, as a create of this stamp on this connection makes it, with sums of chunks of this size.
+pub(crate) fn created(
+    rt: &impl Abort,
+    alloc: Global,
+    conn: ConnId,
+    stamp: Stamp,
+    chunk: u32,
+) -> Book {
+    let mut book = absent(alloc).expect(rt, "a book");
+    let sums = SumRule::new(SumKind::Crc32c, chunk).expect(rt, "a rule");
+    book.setup(&Event::Create { conn, stamp, sums })
+        .expect(rt, "a create");
+    book
 }
 
 /// Roads, and an end of a connection to node 1.

@@ -4,6 +4,12 @@
 #[cfg(test)]
 mod helpers;
 #[cfg(test)]
+mod members;
+#[cfg(test)]
+mod nodes;
+#[cfg(test)]
+mod pieces;
+#[cfg(test)]
 mod receiving;
 #[cfg(test)]
 mod responding;

@@ -3,6 +3,7 @@
 use crate::helpers::{Book, CONN, carried, created, dialled, receipt};
 use block_receiver::{Taken, take_packet};
 use bytes::Bytes;
+use hd_base::Stamp;
 use mem_ports::MemOut;
 use packet_codec::Packet;
 use replica_core::Refusal;
@@ -49,7 +50,7 @@ fn take(
 #[test]
 fn a_packet_goes_on_unless_a_sum_differs(rt: HostRuntime) -> Result<(), Fail> {
     let alloc = rt.alloc();
-    let mut book = created(alloc, 32)?;
+    let mut book = created(&rt, alloc, CONN, Stamp(1001), 32);
     let (roads, mut end) = dialled(alloc)?;
     let taken = take(alloc, &mut book, &packet(alloc, WRONG)?, &mut end.outward)?;
     let refusal = Refusal::BadSum { chunk: 3 };

@@ -6,7 +6,7 @@ ghost use Rattle.hd_base.specs.Wire.{IsStatus};
 use crate::helpers::{Book, CONN, carried, created, dialled, receipt};
 use ack_codec::{Ack, Replies};
 use bytes::Bytes;
-use hd_base::Status;
+use hd_base::{Stamp, Status};
 use mem_ports::MemOut;
 use packet_codec::Packet;
 use packet_responder::{FromBelow, Passed, take_ack};
@@ -72,7 +72,7 @@ fn tell(alloc: Global, book: &mut Book, upstream: &mut MemOut) -> Result<Passed,
 #[test]
 fn acks_are_booked_and_go_up(rt: HostRuntime) -> Result<(), Fail> {
     let alloc = rt.alloc();
-    let mut book = created(alloc, 512)?;
+    let mut book = created(&rt, alloc, CONN, Stamp(1001), 512);
     put(alloc, &mut book, false)?;
     put(alloc, &mut book, true)?;
     let (roads, mut end) = dialled(alloc)?;
@@ -90,7 +90,7 @@ fn acks_are_booked_and_go_up(rt: HostRuntime) -> Result<(), Fail> {
 #[test]
 fn a_wrong_sum_is_told_of(rt: HostRuntime) -> Result<(), Fail> {
     let alloc = rt.alloc();
-    let mut book = created(alloc, 512)?;
+    let mut book = created(&rt, alloc, CONN, Stamp(1001), 512);
     let (roads, mut end) = dialled(alloc)?;
     let passed = tell(alloc, &mut book, &mut end.outward)?;
     assert_eq!(rt; passed, Passed::Closed(receipt(1)));

@@ -3,3 +3,4 @@ pub mod TakeLemmas
 pub mod TurnLaws
 pub mod EventLaws
 pub mod SetupLaws
+pub mod SteppingLemmas

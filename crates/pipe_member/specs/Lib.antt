@@ -7,3 +7,4 @@ pub mod Events
 pub mod Refusing
 pub mod Setups
 pub mod Exchanges
+pub mod Stepping

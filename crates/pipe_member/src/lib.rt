@@ -5,6 +5,7 @@
 mod above;
 mod below;
 mod exchanging;
+mod laws;
 mod member;
 mod predicting;
 mod setting_up;
@@ -13,6 +14,7 @@ mod stepped;
 
 pub use above::Above;
 pub use below::Below;
+pub use laws::turns_are_steps;
 pub use member::Member;
 pub use stages::{Looked, Stage, Took};
 pub use stepped::Stepped;

@@ -1,12 +1,12 @@
 -- Doing a turn: its call on the book, and what is sent then.
-use Rattle.std.specs.Prelude.{◌≡◌, ◌<◌, ℕ, List, All, Option, Some, None}
+use Rattle.std.specs.Prelude.{◌≡◌, ◌<◌, ℕ, List, All, Option, Some, None, IfSome}
 use Rattle.hd_base.specs.Wire.{IsStatus}
 use Rattle.hd_base.specs.declared.ends.Conn.{Conn}
 use Rattle.hd_base.specs.declared.files.Files as files
 use Rattle.hd_base.specs.declared.links.LinkOut as link_out
 use Rattle.link_pieces.specs.Pieces.{SendsNothing, SendsPiece, FailsToSend}
 use Rattle.packet_codec.specs.declared.packets.Packet.{Packet}
-use Rattle.packet_codec.specs.Packets.{IsEncodable}
+use Rattle.packet_codec.specs.Packets.{IsEncodable, SpellsPacket}
 use Rattle.replica_core.specs.declared.ack_queue.TheConstants.{MAX_PENDING}
 use Rattle.replica_model.specs.declared.events.ReplicaEvent.{ReplicaEvent}
 use Rattle.replica_model.specs.declared.events.ReplicaEvent.TheVariants as replica_event
@@ -33,6 +33,11 @@ abbrev pub CanBook : ℕ → Option ReplicaEvent → Type 0
 CanBook pending None = Unit {0}
 CanBook pending (Some (replica_event.Packet conn p)) = (pending < MAX_PENDING) × IsEncodable p
 CanBook pending (Some (replica_event.Other e)) = IsAnswering e
+
+-- Bytes that are given spell the packet of the call.
+abbrev pub IsSpelled : Option ReplicaEvent → Option (List ℕ) → Type 0
+IsSpelled (Some (replica_event.Packet conn p)) spelling = IfSome spelling (SpellsPacket p)
+IsSpelled other spelling = Unit {0}
 
 -- how a packet was taken
 abbrev pub packet_done : Taken → Done

@@ -2,7 +2,7 @@
 use Rattle.std.proofs.Common.{option_map, refl, ap, ◌∙◌}
 use Rattle.std.proofs.lemmas.Option.{same_Some}
 use Rattle.hd_base.specs.FileMaps.{part_of}
-use Rattle.member_tests.proofs.helpers.created.Goals as goal
+use Rattle.member_tests.proofs.helpers.absent.Goals as goal
 
 pub new-requires-2 : goal.new-requires-2
 new-requires-2 c name other =
