@@ -2,8 +2,10 @@
 //! given up.
 #![tactic(auto)]
 
+mod exchanging;
 mod giving_up;
 mod sending;
 
+pub use exchanging::exchange_end;
 pub use giving_up::give_up;
 pub use sending::{send_piece, take_room};

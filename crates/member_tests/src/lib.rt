@@ -4,6 +4,8 @@
 #[cfg(test)]
 mod helpers;
 #[cfg(test)]
+mod rebuilding;
+#[cfg(test)]
 mod receiving;
 #[cfg(test)]
 mod responding;

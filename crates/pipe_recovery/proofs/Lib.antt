@@ -1,2 +1,4 @@
 pub mod Leads
 pub mod StepLaws
+pub mod FitLaws
+pub mod DrivingLaws

@@ -7,3 +7,4 @@ pub mod Dialling
 pub mod Reports
 pub mod Steps
 pub mod Exchanging
+pub mod Driving

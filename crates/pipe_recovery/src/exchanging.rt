@@ -1,13 +1,11 @@
 //! The connection of a setup and the roads.
 
-ghost use Rattle.std.specs.Prelude.{◌≡◌};
-ghost use Rattle.link_pieces.specs.Roads.{names, ExchangesEnd};
-ghost use Rattle.hd_base.specs.Ends.{IsKnown};
 ghost use Rattle.pipe_recovery.specs.Dialling.{LinkIsKnown};
 ghost use Rattle.pipe_recovery.specs.Exchanging.{ExchangesLink, BringsLink};
 
 use crate::rebuilding::Rebuild;
-use hd_base::{Conn, ConnId, LinkIn, LinkOut, RoadError, Roads};
+use hd_base::{ConnId, LinkIn, LinkOut, RoadError, Roads};
+use link_pieces::exchange_end;
 use std::alloc::Global;
 
 impl<I: LinkIn, O: LinkOut> Rebuild<I, O> {
@@ -40,30 +38,5 @@ impl<I: LinkIn, O: LinkOut> Rebuild<I, O> {
             Some(link) => roads.bring(alloc, link.end),
             None => Ok(()),
         }
-    }
-}
-
-/// Exchanges an end, which takes where it is named.
-fn exchange_end<R: Roads>(
-    alloc: Global,
-    roads: &mut R,
-    end: &mut Conn<R::Inward, R::Outward>,
-    take: Option<ConnId>,
-) -> Result<(), RoadError>
-    requires { IsKnown (R.plain roads.old) end.old.id.0 }
-    ensures { ExchangesEnd R.Roads R.Inward.LinkIn R.Outward.LinkOut (names take end.old.id)
-        end.old end.new roads.old roads.new result }
-{
-    let takes = names(take, end.id);
-    roads.exchange(alloc, end, takes)
-}
-
-/// Whether this names the connection.
-fn names(take: Option<ConnId>, conn: ConnId) -> bool
-    ensures { result ≡ names take conn }
-{
-    match take {
-        Some(named) => named.0 == conn.0,
-        None => false,
     }
 }

@@ -4,6 +4,7 @@
 mod acting;
 mod asking;
 mod dialling;
+mod driving;
 mod exchanging;
 mod hearing;
 mod links;
@@ -12,6 +13,7 @@ mod rebuilding;
 mod reporting;
 
 pub use acting::Acted;
+pub use driving::rebuild;
 pub use hearing::{Answer, Heard, Looked};
 pub use links::Link;
 pub use rebuilding::{Rebuild, RebuildStep, Rebuilt};

@@ -15,7 +15,8 @@ const HOST: &[u8] = b"127.0.0.1:";
 pub(crate) fn named_member(members: &[NodeId], text: &[u8]) -> Option<NodeId>
     ensures { result ≡ named_member members.now text.now }
 {
-    members.iter().find(|member| has_address(**member, text)).copied()
+    let member = members.iter().find(|member| has_address(**member, text))?;
+    Some(*member)
 }
 
 /// Whether this text is the address of a node.

@@ -1,6 +1,6 @@
 //! The setup of a pipeline, step by step.
 
-ghost use Rattle.std.specs.Prelude.{◌≡◌, true, None, is_some};
+ghost use Rattle.std.specs.Prelude.{◌≡◌, true, false, None, is_some, option_map};
 ghost use Rattle.writer_core.specs.Transitions.{own_step};
 ghost use Rattle.pipe_recovery.specs.Hearing.{told};
 ghost use Rattle.pipe_recovery.specs.Dialling.{LinkIsKnown};
@@ -11,7 +11,7 @@ use crate::asking::ask;
 use crate::hearing::{Answer, Looked};
 use crate::links::Link;
 use crate::naming::named_member;
-use hd_base::{Conn, LinkIn, LinkOut, NodeId, Roads, Stamp};
+use hd_base::{Conn, ConnId, LinkIn, LinkOut, NodeId, Roads, Stamp};
 use link_messages::Incoming;
 use link_pieces::give_up;
 use name_core::{Desk, OfficeFault};
@@ -62,6 +62,16 @@ impl<I: LinkIn, O: LinkOut> Rebuild<I, O> {
         ensures { result.link ≡ None }
     {
         Rebuild { link: None }
+    }
+
+    /// The writer's connection, where the setup holds its end.
+    pub fn conn(&self) -> Option<ConnId>
+        ensures { result ≡ option_map (λ l. l.end.id) self.now.link }
+    {
+        match &self.link {
+            Some(link) => Some(link.end.id),
+            None => None,
+        }
     }
 
     /// Whether a step may be done for this writer: a pipeline is wanted, or this setup has begun it and hasn't ended. It
@@ -170,9 +180,21 @@ impl<I: LinkIn, O: LinkOut> Rebuild<I, O> {
             self.old.link self.new.link roads.old roads.new }
         ensures known { LinkIsKnown (R.plain roads.new) self.new.link }
     {
-        if keeps_link(writer) {
-            return;
+        if !keeps_link(writer) {
+            self.give_up(alloc, roads);
         }
+    }
+
+    /// Gives up the connection, if there is one.
+    pub(crate) fn give_up<R: Roads<Inward = I, Outward = O>>(
+        &mut self,
+        alloc: Global,
+        roads: &mut R,
+    )
+        requires known { LinkIsKnown (R.plain roads.old) self.old.link }
+        ensures settles { Settles R.Roads I.LinkIn O.LinkOut false self.old.link self.new.link roads.old roads.new }
+        ensures known { LinkIsKnown (R.plain roads.new) self.new.link }
+    {
         if let Some(link) = self.link.take() {
             give_up(alloc, roads, link.end);
         }
