@@ -88,15 +88,15 @@ module _ {R I O : Type 0} (r : roads.Ghosts R I O) (i : link_in.Ghosts I) (o : l
   sends-same text w w' (Some a) None s = absurd s
   sends-same text w w' (Some a) (Some b) s = sends-to-same text w w' a.end b.end s.sends
 
-  follows-same : (x : Opened) (text : List ℕ) (w w' : WriterRecord) (open link' : Option (Link I O)) → FollowsDial o text w w' open link' x acted.Memory → w' ≡ w
-  follows-same opened.Answered text w w' open link' f = sends-same text w w' open link' f
-  follows-same opened.Unanswered text w w' open link' f = let no : acted.Memory ≡ acted.Moved = f.1.1 in cc
-  follows-same opened.Memory text w w' open link' f = f.0
+  follows-same : (x : Opened) (text : List ℕ) (w w' : WriterRecord) (middle link' : Option (Link I O)) → FollowsDial o text w w' middle link' x acted.Memory → w' ≡ w
+  follows-same opened.Answered text w w' middle link' f = sends-same text w w' middle link' f
+  follows-same opened.Unanswered text w w' middle link' f = let no : acted.Memory ≡ acted.Moved = f.1.1 in cc
+  follows-same opened.Memory text w w' middle link' f = f.0
 
   reaches-same : (to : NodeId) (op : Op) (w w' : WriterRecord) (link link' : Option (Link I O)) (old new : R) → Reaches r i o to op w w' link link' old new acted.Memory → w' ≡ w
   reaches-same to op w w' link link' old new (no_memory u) = u.writer
   reaches-same to op w w' link link' old new (no_way why u) = let no : acted.Memory ≡ acted.Moved = u.is in cc
-  reaches-same to op w w' link link' old new (dials n) = follows-same n.reaches.opened _ w w' n.reaches.open link' n.reaches.follows
+  reaches-same to op w w' link link' old new (dials n) = follows-same n.reaches.opened _ w w' n.reaches.held link' n.reaches.follows
 
   dials-by-same : (a : Action) (w w' : WriterRecord) (link link' : Option (Link I O)) (old new : R) → DialsBy r i o a w w' link link' old new acted.Memory → w' ≡ w
   dials-by-same action.Wait w w' link link' old new u = u.writer
@@ -216,7 +216,6 @@ unlinked phase.Closing k f = f
 unlinked phase.Finished k f = f
 unlinked phase.Completed k f = f
 unlinked (phase.Failed why) k f = f
-
 
 -- A connection that the writer doesn't have was given up.
 abbrev pub IsSettled : {I O : Type 0} → Phase → Option (Link I O) → Type 0

@@ -67,30 +67,30 @@ module _ {R I O : Type 0} (r : roads.Ghosts R I O) (i : link_in.Ghosts I) (o : l
   sends-leads text w w' (Some a) None result h some s = absurd s
   sends-leads text w w' (Some a) (Some b) result h some s = sends-to-leads text w w' a.end b.end result h s.sends
 
-  opens-some : (port : ℕ) (link open : Option (Link I O)) (old new : R) → Opens r i o port link open old new opened.Answered → is_some open ≡ true
-  opens-some port None open old new p = ap is_some p.is
-  opens-some port (Some l) open old new p = ap is_some p.0
+  opens-some : (port : ℕ) (link middle : Option (Link I O)) (old new : R) → Opens r i o port link middle old new opened.Answered → is_some middle ≡ true
+  opens-some port None middle old new p = ap is_some p.is
+  opens-some port (Some l) middle old new p = ap is_some p.0
 
-  unanswered-same : (port : ℕ) (link open : Option (Link I O)) (old new : R) → Opens r i o port link open old new opened.Unanswered → open ≡ link
-  unanswered-same port None open old new p = p.0
-  unanswered-same port (Some l) open old new p = p.0
+  unanswered-same : (port : ℕ) (link middle : Option (Link I O)) (old new : R) → Opens r i o port link middle old new opened.Unanswered → middle ≡ link
+  unanswered-same port None middle old new p = p.0
+  unanswered-same port (Some l) middle old new p = p.0
 
-  memory-same : (port : ℕ) (link open : Option (Link I O)) (old new : R) → Opens r i o port link open old new opened.Memory → open ≡ link
-  memory-same port None open old new p = p.0
-  memory-same port (Some l) open old new p = p.0
+  memory-same : (port : ℕ) (link middle : Option (Link I O)) (old new : R) → Opens r i o port link middle old new opened.Memory → middle ≡ link
+  memory-same port None middle old new p = p.0
+  memory-same port (Some l) middle old new p = p.0
 
-  follows-leads : (x : Opened) (port : ℕ) (text : List ℕ) (w w' : WriterRecord) (link open link' : Option (Link I O)) (old new : R) (result : Acted) → Leads w (is_some link)
-      → Opens r i o port link open old new x → FollowsDial o text w w' open link' x result → Leads w' (is_some link')
-  follows-leads opened.Answered port text w w' link open link' old new result h p f =
-      sends-leads text w w' open link' result (leads-more w.phase (is_some link) h) (opens-some port link open old new p) f
-  follows-leads opened.Unanswered port text w w' link open link' old new result h p f =
-      rw (f.0, f.1.0, unanswered-same port link open old new p) (undialled-leads w (is_some link) h)
-  follows-leads opened.Memory port text w w' link open link' old new result h p f =
-      rw (f.0, f.1.0, memory-same port link open old new p) h
+  follows-leads : (x : Opened) (port : ℕ) (text : List ℕ) (w w' : WriterRecord) (link middle link' : Option (Link I O)) (old new : R) (result : Acted) → Leads w (is_some link)
+      → Opens r i o port link middle old new x → FollowsDial o text w w' middle link' x result → Leads w' (is_some link')
+  follows-leads opened.Answered port text w w' link middle link' old new result h p f =
+      sends-leads text w w' middle link' result (leads-more w.phase (is_some link) h) (opens-some port link middle old new p) f
+  follows-leads opened.Unanswered port text w w' link middle link' old new result h p f =
+      rw (f.0, f.1.0, unanswered-same port link middle old new p) (undialled-leads w (is_some link) h)
+  follows-leads opened.Memory port text w w' link middle link' old new result h p f =
+      rw (f.0, f.1.0, memory-same port link middle old new p) h
 
   port-leads : (port : ℕ) (text : List ℕ) (w w' : WriterRecord) (link link' : Option (Link I O)) (old new : R) (result : Acted) → Leads w (is_some link)
       → ReachesPort r i o port text w w' link link' old new result → Leads w' (is_some link')
-  port-leads port text w w' link link' old new result h p = follows-leads p.opened port text w w' link p.open link' old new result h p.opens p.follows
+  port-leads port text w w' link link' old new result h p = follows-leads p.opened port text w w' link p.held link' old new result h p.opens p.follows
 
   reaches-leads : (to : NodeId) (op : Op) (w w' : WriterRecord) (link link' : Option (Link I O)) (old new : R) (result : Acted) → Leads w (is_some link)
       → Reaches r i o to op w w' link link' old new result → Leads w' (is_some link')

@@ -101,9 +101,9 @@ FollowsDial o text w w' link link' opened.Memory result = (w' ≡ w) × (link' �
 -- A port is dialled, and reached with the request.
 pub record ReachesPort {R I O : Type 0} (r : roads.Ghosts R I O) (i : link_in.Ghosts I) (o : link_out.Ghosts O) (port : ℕ) (text : List ℕ) (w w' : WriterRecord) (link link' : Option (Link I O)) (old new : R) (result : Acted) : Type 0 where
   pub opened : Opened
-  pub open : Option (Link I O)
-  pub opens : Opens r i o port link open old new opened
-  pub follows : FollowsDial o text w w' open link' opened result
+  pub held : Option (Link I O)
+  pub opens : Opens r i o port link held old new opened
+  pub follows : FollowsDial o text w w' held link' opened result
 
 -- Nothing was dialled or sent.
 pub record Unreached {R I O : Type 0} (w w' : WriterRecord) (link link' : Option (Link I O)) (old new : R) (why result : Acted) : Type 0 where

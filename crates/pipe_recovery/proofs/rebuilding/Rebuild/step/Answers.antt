@@ -9,7 +9,7 @@ pub report-requires : goal.report-requires
 report-requires g c =
     settles-leads g.R.Roads g.I.LinkIn g.O.LinkOut _ c.act-acted.new.self.link c.settle.new.self.link c.act-acted.new.roads c.settle.new.roads
     (acts-leads g.D.Desk g.R.Roads g.I.LinkIn g.O.LinkOut c.args.writer.now c.act-acted.new.writer c.args.self.now.link c.act-acted.new.self.link
-      c.args.office.now c.act-acted.new.office c.args.roads.now c.act-acted.new.roads c.act-acted.result c.requires.fits c.act-acted.ensures.acts)
+    c.args.office.now c.act-acted.new.office c.args.roads.now c.act-acted.new.roads c.act-acted.result c.requires.fits c.act-acted.ensures.acts)
     c.settle.ensures.settles
 
 pub returns-clause-steps : goal.returns-clause-steps
@@ -27,16 +27,16 @@ pub returns-clause-fits : goal.returns-clause-fits
 returns-clause-fits g c =
     reports-fit g.I.LinkIn c.act-acted.result c.act-acted.new.writer c.settle.new.self.link c.report.new.self.link c.report.result
     (settles-leads g.R.Roads g.I.LinkIn g.O.LinkOut _ c.act-acted.new.self.link c.settle.new.self.link c.act-acted.new.roads c.settle.new.roads
-      (acts-leads g.D.Desk g.R.Roads g.I.LinkIn g.O.LinkOut c.args.writer.now c.act-acted.new.writer c.args.self.now.link c.act-acted.new.self.link
-        c.args.office.now c.act-acted.new.office c.args.roads.now c.act-acted.new.roads c.act-acted.result c.requires.fits c.act-acted.ensures.acts)
-      c.settle.ensures.settles)
+    (acts-leads g.D.Desk g.R.Roads g.I.LinkIn g.O.LinkOut c.args.writer.now c.act-acted.new.writer c.args.self.now.link c.act-acted.new.self.link
+    c.args.office.now c.act-acted.new.office c.args.roads.now c.act-acted.new.roads c.act-acted.result c.requires.fits c.act-acted.ensures.acts)
+    c.settle.ensures.settles)
     (settled-at g.R.Roads g.I.LinkIn g.O.LinkOut (keeps_link c.act-acted.new.writer.phase) c.act-acted.new.writer.phase c.act-acted.new.self.link c.settle.new.self.link
-      c.act-acted.new.roads c.settle.new.roads refl c.settle.ensures.settles)
+    c.act-acted.new.roads c.settle.new.roads refl c.settle.ensures.settles)
     (λ e. kept-fits-at g.R.Roads g.I.LinkIn g.O.LinkOut (keeps_link c.act-acted.new.writer.phase) c.act-acted.new.writer.phase c.act-acted.new.self.link c.settle.new.self.link
-      c.act-acted.new.roads c.settle.new.roads refl
-      (acts-fit-at g.D.Desk g.R.Roads g.I.LinkIn g.O.LinkOut c.args.writer.now.phase c.args.writer.now c.act-acted.new.writer c.args.self.now.link c.act-acted.new.self.link
-        c.args.office.now c.act-acted.new.office c.args.roads.now c.act-acted.new.roads refl c.requires.fits
-        (subst (λ x. Acts g.D.Desk g.R.Roads g.I.LinkIn g.O.LinkOut c.args.writer.now.phase c.args.writer.now c.act-acted.new.writer c.args.self.now.link c.act-acted.new.self.link
-          c.args.office.now c.act-acted.new.office c.args.roads.now c.act-acted.new.roads x) e c.act-acted.ensures.acts))
-      c.settle.ensures.settles)
+    c.act-acted.new.roads c.settle.new.roads refl
+    (acts-fit-at g.D.Desk g.R.Roads g.I.LinkIn g.O.LinkOut c.args.writer.now.phase c.args.writer.now c.act-acted.new.writer c.args.self.now.link c.act-acted.new.self.link
+    c.args.office.now c.act-acted.new.office c.args.roads.now c.act-acted.new.roads refl c.requires.fits
+    (subst (λ x. Acts g.D.Desk g.R.Roads g.I.LinkIn g.O.LinkOut c.args.writer.now.phase c.args.writer.now c.act-acted.new.writer c.args.self.now.link c.act-acted.new.self.link
+    c.args.office.now c.act-acted.new.office c.args.roads.now c.act-acted.new.roads x) e c.act-acted.ensures.acts))
+    c.settle.ensures.settles)
     c.report.ensures
