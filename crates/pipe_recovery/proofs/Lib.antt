@@ -2,3 +2,4 @@ pub mod Leads
 pub mod StepLaws
 pub mod FitLaws
 pub mod DrivingLaws
+pub mod OwnLaws

@@ -1,9 +1,8 @@
 //! How a step ended.
 
-ghost use Rattle.std.specs.Prelude.{◌≡◌, ◌&&◌, not, true, is_some, if◌then◌else◌};
-ghost use Rattle.pipe_recovery.specs.Acting.{has_own_step};
-ghost use Rattle.pipe_recovery.specs.Reports.{goes_on, leads_in, failed_as, moved_if, Reports, ReportsAt, Streams, Awaits, AwaitsOn};
-ghost use Rattle.pipe_recovery.specs.declared.rebuilding.RebuildStep.TheVariants as step;
+ghost use Rattle.std.specs.Prelude.{◌≡◌, true, is_some};
+ghost use Rattle.pipe_recovery.specs.Acting.{has_own_step, sets_up, enabled_in};
+ghost use Rattle.pipe_recovery.specs.Reports.{leads_in, failed_as, moved_if, Reports, Streams, Awaits, AwaitsOn};
 
 use crate::acting::Acted;
 use crate::hearing::Looked;
@@ -31,7 +30,7 @@ impl<I: LinkIn, O: LinkOut> Rebuild<I, O> {
             Phase::Finished => RebuildStep::Ended(Rebuilt::Closed),
             Phase::Failed { failure } => RebuildStep::Ended(failed_as(failure)),
             Phase::Requested { .. } => self.await_answer(writer),
-            Phase::Stamped { .. } => moved_if(!writer.members().is_empty()),
+            Phase::Wanted { .. } | Phase::Stamped { .. } => moved_if(has_own_step(writer)),
             _ => RebuildStep::Moved,
         }
     }
@@ -52,7 +51,8 @@ impl<I: LinkIn, O: LinkOut> Rebuild<I, O> {
 
     /// Looks whether the answer, or the end, stands next, or a command is to be taken.
     fn await_answer(&mut self, writer: &Writer) -> RebuildStep<I, O>
-        requires { is_some self.old.link ≡ true }
+        requires linked { is_some self.old.link ≡ true }
+        requires requested { sets_up writer.now.phase ≡ true }
         ensures { Awaits I.LinkIn writer.now self.old.link self.new.link result }
     {
         match &mut self.link {
@@ -64,11 +64,31 @@ impl<I: LinkIn, O: LinkOut> Rebuild<I, O> {
 
 /// Looks whether the answer, or the end, stands next on this connection, or a command is to be taken.
 fn await_on<I: LinkIn, O: LinkOut>(link: &mut Link<I, O>, writer: &Writer) -> RebuildStep<I, O>
+    requires { sets_up writer.now.phase ≡ true }
     ensures { AwaitsOn I.LinkIn writer.now link.old link.new result }
 {
     match link.look() {
         Looked::Memory => RebuildStep::Ended(Rebuilt::Memory),
-        Looked::Known => moved_if(link.stands() || writer.has_command_due()),
+        Looked::Known => moved_if(link.stands() || has_own_step(writer)),
+    }
+}
+
+/// Whether an own step is enabled of a writer whose pipeline is set up.
+fn has_own_step(writer: &Writer) -> bool
+    requires { sets_up writer.now.phase ≡ true }
+    ensures { result ≡ has_own_step writer.now }
+{
+    is_enabled(writer)
+}
+
+/// Whether there is somebody to dial where a stamp was given, or a command is due where an answer is awaited.
+fn is_enabled(writer: &Writer) -> bool
+    ensures { result ≡ enabled_in writer.now.phase writer.now }
+{
+    match writer.phase() {
+        Phase::Stamped { .. } => !writer.members().is_empty(),
+        Phase::Requested { .. } => writer.has_command_due(),
+        _ => true,
     }
 }
 
