@@ -70,10 +70,6 @@ use Rattle.world_finals.specs.Finishing.{WriterEnds}
 use Rattle.world_closings.specs.Answering.{MembersClosed, IsCompleted, AsksToClose, ClosesIn, ClosesOf, Closes}
 use Rattle.world_closings.proofs.Nearing.{Passes, passes-then, kept-conn, own-step-passes, open-passes, completed-passes, given-passes, ruled-passes, unanswered-passes, refused-passes}
 use Rattle.world_closings.proofs.Hearing.{Later, sets-later, Hears, hears-closes}
-use Rattle.world_laws.proofs.StampWalking.{none-is}
-use Rattle.world_writers.proofs.Links.{dialled-is}
-use Rattle.world_writers.proofs.Hearing.{conn-is}
-use Rattle.world_acks.proofs.AllAcked.{when-two}
 
 -- WHAT IS KNOWN
 
@@ -178,6 +174,10 @@ stays-turn g l u w b x q = change-turn g l u w b x x q (λ i v c conn h. h)
 
 -- DIALS
 
+dialled-is : (x : WriterRecord) (s : Setup) (t : Stamp) → x.phase ≡ phase.Stamped s t → dialled x true ≡ record x { phase = phase.Requested s t }
+unfolding dialled
+dialled-is x s t e = ap (λ (p : Phase). dialled_in x p true) e
+
 -- the request of the recovery of a close asks for one
 dialled-closes : (g l : Givens) (w : World) (b : ℕ) (x : WriterRecord) (s : Setup) (stamp : Stamp) (m : NodeId) (ms : List NodeId) → Facts g w → heard (w.writers b) ≡ x
     → ClosesIn l (apply w (dialled_change w b x m (request_for x.block x.committed x.stream s stamp (length x.members) ms) true)) b (Some w.next_conn) (record x { phase = phase.Requested s stamp }) (phase.Requested s stamp)
@@ -261,6 +261,14 @@ own-turn g l u w (own.Primary i) h = asides-turn g l u w (own_primary w i) (own-
 
 -- WHAT IS TAKEN
 
+conn-is : (o : Option ℕ) (c : ℕ) → is_conn o c ≡ true → o ≡ Some c
+conn-is None c e = absurd (false≢true e)
+conn-is (Some d) c e = ap (λ (i : ℕ). Some i) (sym (eqb-true c d e))
+
+none-is : (o : Option Told) → is_none o ≡ true → o ≡ None
+none-is None e = refl
+none-is (Some x) e = absurd (false≢true e)
+
 heard-at : (g : Givens) (t : Ends) (w : World) (c : ℕ) (x : Next) → Known g t w → next_up w c ≡ Some x → HeardTells g t w c x
 heard-at g t w c (message m) h e = h.acked.ups c (w.up_marks c).taken m (next-sent (w.ups c) (w.up_marks c) m e)
 heard-at g t w c the_end h e = tt
@@ -314,8 +322,13 @@ up-as-closes g l t w c fails None h e k = tt
 up-as-closes g l t w c fails (Some x) h e k =
     changed-closes g l t w (up_taken w c x) (upper_up (w.dialled c).upper (up_taken w c x) c x fails) h (up-writers w c x) (up-office w c x) k (upper-turn (w.dialled c).upper g l t w c x fails h (heard-at g t w c x h.known e))
 
+-- both of a test
+when-both : {A : Type 0} (Q P : A → Type 0) (b : Bool) (o : Option A) → (IfSome o Q → IfSome o P) → IfSome (if b then o else None) Q → IfSome (if b then o else None) P
+when-both Q P true o h q = h q
+when-both Q P false o h q = tt
+
 up-closes : (g l : Givens) (t : Ends) (w : World) (c : ℕ) (fails : Bool) → Before g t w → IfSome (up_event w c fails) (Later g l w) → IfSome (up_event w c fails) (Closes l)
-up-closes g l t w c fails h k = when-two (Later g l w) (Closes l) (nat_lt c w.next_conn) _ k (λ _ q. up-as-closes g l t w c fails (next_up w c) h refl q)
+up-closes g l t w c fails h k = when-both (Later g l w) (Closes l) (nat_lt c w.next_conn) _ (up-as-closes g l t w c fails (next_up w c) h refl) k
 
 down-as-closes : (g l : Givens) (t : Ends) (w : World) (c : ℕ) (answered fails : Bool) (o : Option Next) → Before g t w → IfSome (down_as w c answered fails o) (Later g l w) → IfSome (down_as w c answered fails o) (Closes l)
 down-as-closes g l t w c answered fails None h k = tt
@@ -325,12 +338,12 @@ down-as-closes g l t w c answered fails (Some x) h k =
     changed-closes g l t w v d h (down-writers w c x) (down-office w c x) k (asides-turn g l w v d (lower-down-aside (w.lowers c) v c x answered fails))
 
 down-closes : (g l : Givens) (t : Ends) (w : World) (c : ℕ) (answered fails : Bool) → Before g t w → IfSome (down_event w c answered fails) (Later g l w) → IfSome (down_event w c answered fails) (Closes l)
-down-closes g l t w c answered fails h k = when-two (Later g l w) (Closes l) (is_served w c) _ k (λ _ q. down-as-closes g l t w c answered fails (next_down w c) h q)
+down-closes g l t w c answered fails h k = when-both (Later g l w) (Closes l) (is_served w c) _ (down-as-closes g l t w c answered fails (next_down w c) h) k
 
 ready-closes : (g l : Givens) (t : Ends) (w : World) (c : ℕ) (fails : Bool) → Before g t w → IfSome (ready_event w c fails) (Later g l w) → IfSome (ready_event w c fails) (Closes l)
 ready-closes g l t w c fails h k =
     let d = lower_ready (w.lowers c) w c fails in
-    when-two (Later g l w) (Closes l) (is_served w c) _ k (λ _ q. changed-closes g l t w w d h (λ b. refl) refl q (asides-turn g l w w d (lower-ready-aside (w.lowers c) w c fails)))
+    when-both (Later g l w) (Closes l) (is_served w c) _ (λ q. changed-closes g l t w w d h (λ b. refl) refl q (asides-turn g l w w d (lower-ready-aside (w.lowers c) w c fails))) k
 
 fault-closes : (g l : Givens) (t : Ends) (w : World) (d : Delivery) → Before g t w → IfSome (fault_event w d) (Later g l w) → IfSome (fault_event w d) (Closes l)
 fault-closes g l t w (delivery.Down c) h k = down-closes g l t w c.0 false true h k
