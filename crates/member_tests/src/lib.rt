@@ -10,6 +10,8 @@ mod nodes;
 #[cfg(test)]
 mod pieces;
 #[cfg(test)]
+mod rebuilding;
+#[cfg(test)]
 mod receiving;
 #[cfg(test)]
 mod responding;

@@ -8,6 +8,7 @@ use Rattle.hd_base.specs.declared.files.Files as files
 use Rattle.hd_base.specs.declared.links.LinkIn as link_in
 use Rattle.hd_base.specs.declared.links.LinkOut as link_out
 use Rattle.hd_base.specs.declared.roads.Roads as roads
+use Rattle.link_pieces.specs.Roads.{IsUnanswered, GivesUp}
 use Rattle.op_headers.specs.Values.{WriteFields}
 use Rattle.replica_core.specs.declared.events.Event.{Event}
 use Rattle.replica_core.specs.Views.{rule_in}
@@ -20,7 +21,7 @@ use Rattle.request_refusals.specs.declared.refusals.RequestRefusal.{RequestRefus
 use Rattle.member_core.specs.Requests.{request_event}
 use Rattle.pipe_setup.specs.Refusals.{refusal_of, IsUnbooked}
 use Rattle.pipe_setup.specs.Requests.{first_port}
-use Rattle.pipe_setup.specs.Reaching.{IsAskedBy, IsUnwritten, IsUnanswered, IsUnsent, GivesUp, FindsNoMemory}
+use Rattle.pipe_setup.specs.Reaching.{IsAskedBy, IsUnwritten, IsUnsent, FindsNoMemory}
 use Rattle.pipe_setup.specs.declared.refusals.SetupRefusal.{SetupRefusal}
 use Rattle.pipe_setup.specs.declared.refusals.SetupRefusal.TheVariants as refusal
 use Rattle.pipe_setup.specs.declared.setups.Setup.{Setup}

@@ -1,7 +1,7 @@
 -- What each call makes of a writer, and what its own step asks for. The writer's record holds: the block; what was given to it; the commands
 -- given and not taken; how many were taken; the command that waits; the phase; the members of the pipeline that stands or is wanted; the
 -- committed stamp; the stream of packets; and whether this create or append had an hsync.
-use Rattle.std.specs.Prelude.{ℕ, ℤ, pos, ◌≡◌, ◌⊎◌, ◌==◌, ◌+◌, ◌-◌, ◌&&◌, nat_lt, nat_le, int_lt, if◌then◌else◌, Bool, true, false, List, [], ◌∷◌, ◌++◌, length, drop, slice_get, is_some, Option, Some, None, Result, Ok, Err}
+use Rattle.std.specs.Prelude.{ℕ, ℤ, pos, ◌≡◌, ◌⊎◌, ◌==◌, ◌+◌, ◌-◌, ◌&&◌, nat_lt, nat_le, int_lt, if◌then◌else◌, Bool, true, false, List, [], ◌∷◌, ◌++◌, length, drop, slice_get, is_some, is_none, Option, Some, None, Result, Ok, Err}
 use Rattle.hd_base.specs.declared.numbers.BlockId.{BlockId}
 use Rattle.hd_base.specs.declared.numbers.NodeId.{NodeId}
 use Rattle.hd_base.specs.declared.numbers.Stamp.{Stamp}
@@ -437,6 +437,10 @@ abbrev pub wants_pipeline : Phase → Bool
 wants_pipeline (phase.Wanted s) = true
 wants_pipeline (phase.Stamped s stamp) = true
 wants_pipeline _ = false
+
+-- no command waits, and one is to be taken
+abbrev pub has_command_due : WriterRecord → Bool
+has_command_due w = is_none w.waiting && is_some (slice_get w.queue 0)
 
 -- the writer has a connection
 abbrev pub is_connected : Phase → Bool

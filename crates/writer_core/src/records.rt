@@ -5,7 +5,7 @@ ghost use Rattle.ack_codec.specs.declared.acks.Ack.{Ack};
 ghost use Rattle.hd_base.specs.Results.{Gives, with_value};
 ghost use Rattle.writer_core.specs.Commands.{admitted};
 ghost use Rattle.writer_core.specs.Phases.{without};
-ghost use Rattle.writer_core.specs.Transitions.{given, ordinal, took, waits_as, opening, wrote, taken_as};
+ghost use Rattle.writer_core.specs.Transitions.{given, ordinal, took, waits_as, opening, wrote, taken_as, has_command_due};
 ghost use Rattle.writer_core.specs.Transitions.{free_step, failed_command, failed_step, stamp_call, dial_step, open_step};
 ghost use Rattle.writer_core.specs.Transitions.{accepted_step, reached, completed_step, due_in, due_now, form_step};
 ghost use Rattle.writer_core.specs.Transitions.{reached_length, reach_step, stream_step, own_step, fail_at, ended, dropped, data_due};
@@ -101,6 +101,13 @@ impl WriterRecord {
         self.await_as(Waiting::Opening);
         self.members = members;
         self.phase = Phase::Wanted { setup };
+    }
+
+    /// Whether no command waits, and one is to be taken.
+    pub fn has_command_due(&self) -> bool
+        ensures { result ≡ has_command_due self.now }
+    {
+        self.waiting.is_none() && self.queue.first().is_some()
     }
 
     /// Rule 8: where no command waits, the next one is taken.

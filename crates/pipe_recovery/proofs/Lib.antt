@@ -1,0 +1,5 @@
+pub mod Leads
+pub mod StepLaws
+pub mod FitLaws
+pub mod DrivingLaws
+pub mod OwnLaws

@@ -1,0 +1,42 @@
+//! The connection of a setup and the roads.
+
+ghost use Rattle.pipe_recovery.specs.Dialling.{LinkIsKnown};
+ghost use Rattle.pipe_recovery.specs.Exchanging.{ExchangesLink, BringsLink};
+
+use crate::rebuilding::Rebuild;
+use hd_base::{ConnId, LinkIn, LinkOut, RoadError, Roads};
+use link_pieces::exchange_end;
+use std::alloc::Global;
+
+impl<I: LinkIn, O: LinkOut> Rebuild<I, O> {
+    /// Exchanges the writer's connection, if there is one, with the roads that gave it, with `take` where it is this one.
+    pub fn exchange<R: Roads<Inward = I, Outward = O>>(
+        &mut self,
+        alloc: Global,
+        roads: &mut R,
+        take: Option<ConnId>,
+    ) -> Result<(), RoadError>
+        requires { LinkIsKnown (R.plain roads.old) self.old.link }
+        ensures { ExchangesLink R.Roads I.LinkIn O.LinkOut take self.old.link self.new.link roads.old roads.new result }
+    {
+        match &mut self.link {
+            Some(link) => exchange_end(alloc, roads, &mut link.end, take),
+            None => Ok(()),
+        }
+    }
+
+    /// Brings the writer's connection, if there is one, back to the roads that gave it.
+    pub fn retire<R: Roads<Inward = I, Outward = O>>(
+        self,
+        alloc: Global,
+        roads: &mut R,
+    ) -> Result<(), RoadError>
+        requires { LinkIsKnown (R.plain roads.old) self.link }
+        ensures { BringsLink R.Roads I.LinkIn O.LinkOut self.link roads.old roads.new result }
+    {
+        match self.link {
+            Some(link) => roads.bring(alloc, link.end),
+            None => Ok(()),
+        }
+    }
+}
