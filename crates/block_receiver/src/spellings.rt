@@ -67,12 +67,7 @@ fn push_places(packet: &Packet, text: &mut Vec<u8>) -> Result<(), AllocError>
 
 /// Appends lastPacketInBlock and dataLen, and syncBlock where it is true.
 #[tactic(auto, unfolding(packet_codec::specs::Headers::marks_text))]
-fn push_marks(
-    last: bool,
-    data_len: u32,
-    sync: bool,
-    text: &mut Vec<u8>,
-) -> Result<(), AllocError>
+fn push_marks(last: bool, data_len: u32, sync: bool, text: &mut Vec<u8>) -> Result<(), AllocError>
     ensures { OnOk result (text.new.items ≡ text.old.items ++ marks_text last data_len sync) }
 {
     put_varint(text, 3, u64::from(last))?;

@@ -208,6 +208,7 @@ silent m t (booked.Refused why) never = refused_silent m t.call t why
     bad_silent m None t chunk is = rw is (refl, refl)
     bad_silent m (Some (replica_event.Packet conn p)) t chunk is = rw is (refl, refl)
     bad_silent m (Some (replica_event.Other e)) t chunk is = rw is (refl, refl)
+
     refused_silent : (m : MemberState) (call : Option ReplicaEvent) (t : Turn) (why : Refusal) → ((refused_turn m t why).1.sends ≡ None) × ((refused_turn m t why).1.forwards ≡ false)
     refused_silent m call t (refusal.BadSum chunk) = bad_silent m t.call t chunk refl
     refused_silent m call t why = (refl, refl)

@@ -81,11 +81,7 @@ impl Above {
 
     /// What the member may take now of what stands next, if something does. Its only error is that a copy of it finds no
     /// memory.
-    pub(crate) fn due(
-        &self,
-        core: &Core,
-        replica: &Replica,
-    ) -> Result<Option<DueAbove>, AllocError>
+    pub(crate) fn due(&self, core: &Core, replica: &Replica) -> Result<Option<DueAbove>, AllocError>
         ensures due { IfOk result (λ due. option_map (λ d. d.taken) due
             ≡ due_above core.now (length replica.now.pending) self.now.next) }
         ensures memory { OnErr result (IsSome (due_above core.now (length replica.now.pending) self.now.next)) }

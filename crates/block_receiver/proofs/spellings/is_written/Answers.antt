@@ -20,7 +20,7 @@ returns c = λ yes.
     let header : c.as_slice-header.result.now ≡ w = c.as_slice-header.ensures.value ∙ c.in_ok-written.ensures in
     let front : behind ≡ c.as_slice-header.result.now ++ drop (length c.as_slice-header.result.now) behind = (starts_is Decides-eqb behind c.as_slice-header.result.now c.starts_with.result c.starts_with.ensures.value).0 yes in
     let size : length c.args.text.now ≡ 6 + length w + (length c.args.packet.now.sums + length c.args.packet.now.body) =
-        c.if-text-header.false ∙ sizes _ _ _ _ _ _ (ap length header) c.len.ensures.value c.len-2.ensures.value in
+    c.if-text-header.false ∙ sizes _ _ _ _ _ _ (ap length header) c.len.ensures.value c.len-2.ensures.value in
     written_by c.args.packet.now c.args.text.now (drop (length c.as_slice-header.result.now) behind) c.requires size
     (sym c.split_at.ensures.back ∙ (front ∙ ap (λ l. l ++ drop (length c.as_slice-header.result.now) behind) header))
   where
