@@ -442,6 +442,15 @@ wants_pipeline _ = false
 abbrev pub has_command_due : WriterRecord → Bool
 has_command_due w = is_none w.waiting && is_some (slice_get w.queue 0)
 
+-- an action by which something is done or asked
+abbrev pub is_action : Action → Bool
+is_action action.Wait = false
+is_action _ = true
+
+-- the writer's own step does or asks something
+abbrev pub has_step : WriterRecord → Bool
+has_step w = is_action (own_step w).action
+
 -- the writer has a connection
 abbrev pub is_connected : Phase → Bool
 is_connected p = is_some (remedy_in p)
