@@ -2,6 +2,7 @@
 
 use ack_codec::{Ack, Response};
 use frame_feed::{Feed, FeedFault, PacketFrame};
+use op_headers::Op;
 use packet_codec::Packet;
 
 /// A message of a stream.
@@ -25,6 +26,22 @@ pub trait Streamed: Sized + Drop {
 
     // No bytes are a front of a message.
     ghost empty: { IsCut kind.framing [] };
+}
+
+impl Streamed for Op {
+    ghost use Rattle.frame_feed.specs.Kinds.{requests};
+    ghost use Rattle.frame_feed.specs.KindLaws.{requests_sound};
+    ghost use Rattle.link_messages.specs.Empties.{requests_empty};
+
+    ghost kind = { requests };
+
+    ghost sound = { requests_sound };
+
+    ghost empty = { requests_empty };
+
+    fn take(feed: &mut Feed) -> Result<Option<Op>, FeedFault> {
+        feed.next_op()
+    }
 }
 
 impl Streamed for Packet {

@@ -3,6 +3,7 @@ pub mod Above
 pub mod Below
 pub mod Steps
 pub mod Turns
+pub mod Enabled
 pub mod Events
 pub mod Refusing
 pub mod Setups

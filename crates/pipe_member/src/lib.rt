@@ -4,6 +4,7 @@
 
 mod above;
 mod below;
+mod enabled;
 mod exchanging;
 mod laws;
 mod member;
