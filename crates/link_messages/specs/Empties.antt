@@ -33,7 +33,7 @@ pub responses_empty : IsCut responses.framing []
 responses_empty = prefixed_empty
 
 pub requests_empty : IsCut requests.framing []
-  unfolding prefixed_empty
+unfolding prefixed_empty
 requests_empty = record {
   missing = 0 ∷ 28 ∷ 80 ∷ 0 ∷ [];
   some = omega arith;
