@@ -10,8 +10,6 @@ mod nodes;
 #[cfg(test)]
 mod pieces;
 #[cfg(test)]
-mod rebuilding;
-#[cfg(test)]
 mod receiving;
 #[cfg(test)]
 mod responding;
