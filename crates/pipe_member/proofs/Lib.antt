@@ -1,6 +1,7 @@
+pub mod EventLaws
+pub mod KnownLemmas
+pub mod SetupLaws
 pub mod SizeLemmas
+pub mod SteppingLemmas
 pub mod TakeLemmas
 pub mod TurnLaws
-pub mod EventLaws
-pub mod SetupLaws
-pub mod SteppingLemmas
