@@ -1,5 +1,7 @@
 pub mod EventLaws
+pub mod EventStepLemmas
 pub mod KnownLemmas
+pub mod RuledTurns
 pub mod SetupLaws
 pub mod SizeLemmas
 pub mod SteppingLemmas

@@ -8,3 +8,4 @@ pub mod Refusing
 pub mod Setups
 pub mod Exchanges
 pub mod Stepping
+pub mod EventSteps
