@@ -41,11 +41,11 @@ module _ {I O : Type 0} where
   held m None h there = cc
   held m (Some end) h there = h
 
-  holds_open : (m : MemberState) (end : Option (Conn I O)) → (IsSome end → Has m.mirror) → HoldsMirror (stage.Open m) end
+  pub holds_open : (m : MemberState) (end : Option (Conn I O)) → (IsSome end → Has m.mirror) → HoldsMirror (stage.Open m) end
   holds_open m None h = tt
   holds_open m (Some end) h = h refl
 
-  holds_after : (m : MemberState) (s : Shuts) (end : Option (Conn I O)) → (IsSome end → Has m.mirror) → HoldsMirror (stage_after m s) end
+  pub holds_after : (m : MemberState) (s : Shuts) (end : Option (Conn I O)) → (IsSome end → Has m.mirror) → HoldsMirror (stage_after m s) end
   holds_after m shuts.Nothing end h = holds_open m end h
   holds_after m shuts.Mirror end h = tt
   holds_after m shuts.Both end h = tt
@@ -56,7 +56,7 @@ module _ {I O : Type 0} (o : link_out.Ghosts O) where
   told_there text None (Some new) h there = absurd h
   told_there text (Some old) new h there = refl
 
-  shut_there : (closes : Bool) (old new : Option (Conn I O)) → ShutsMirror o closes old new → IsSome new → IsSome old
+  pub shut_there : (closes : Bool) (old new : Option (Conn I O)) → ShutsMirror o closes old new → IsSome new → IsSome old
   shut_there closes None None h there = there
   shut_there closes None (Some new) h there = absurd h
   shut_there closes (Some old) new h there = refl

@@ -3,6 +3,7 @@ pub mod EventStepLemmas
 pub mod KnownLemmas
 pub mod RuledTurns
 pub mod SetupLaws
+pub mod SetupStepLemmas
 pub mod SizeLemmas
 pub mod SteppingLemmas
 pub mod TakeLemmas

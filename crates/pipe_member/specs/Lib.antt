@@ -9,3 +9,4 @@ pub mod Setups
 pub mod Exchanges
 pub mod Stepping
 pub mod EventSteps
+pub mod SetupSteps
