@@ -17,7 +17,7 @@ git init -q "$work"
 for crate in $crates; do
   grep "^$crate:" "$top/crates.txt" >> "$work/crates.txt"
   mkdir -p "$work/crates/$crate"
-  tar -C "$top/crates/$crate" --exclude=./out --exclude=./must-fail -cf - . | tar -C "$work/crates/$crate" -xf -
+  tar -C "$top/crates/$crate" --exclude=./out -cf - . | tar -C "$work/crates/$crate" -xf -
 done
 echo 'member_bench: hd_base mem_ports packet_codec op_headers node_refs replica_core replica_model replica_files pipe_member bytes anyhow' >> "$work/crates.txt"
 mkdir -p "$work/crates/member_bench/src" "$work/crates/member_bench/proofs/knows"

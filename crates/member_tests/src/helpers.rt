@@ -33,9 +33,9 @@ pub(crate) fn receipt(index: u64) -> Receipt {
     }
 }
 
-/// The book of the block, of which there is no replica.
-pub(crate) fn absent(alloc: Global) -> Result<Book, FileError> {
-    let mut shelf = MemShelf::new(alloc, &[])?;
+/// The book of the block, of which there is no replica, on a shelf that fails at these calls.
+pub(crate) fn absent(alloc: Global, failing: &[u64]) -> Result<Book, FileError> {
+    let mut shelf = MemShelf::new(alloc, failing)?;
     let drawer = shelf.lend(alloc, BLOCK)?;
     Ok(
         ReplicaBook::new(alloc, BLOCK, drawer)
@@ -52,18 +52,18 @@ pub(crate) fn created(
     stamp: Stamp,
     chunk: u32,
 ) -> Book {
-    let mut book = absent(alloc).expect(rt, "a book");
+    let mut book = absent(alloc, &[]).expect(rt, "a book");
     let sums = SumRule::new(SumKind::Crc32c, chunk).expect(rt, "a rule");
     book.setup(&Event::Create { conn, stamp, sums })
         .expect(rt, "a create");
     book
 }
 
-/// Roads, and an end of a connection to node 1.
-pub(crate) fn dialled(alloc: Global) -> Result<(MemRoads, End), Fail>
+/// Roads, and an end of a connection to node 1, which fail at these calls.
+pub(crate) fn dialled(alloc: Global, failing: &[u64]) -> Result<(MemRoads, End), Fail>
     ensures { IfOk result (λ pair. IsKnown (⟦<MemRoads as Roads>⟧.plain pair.0) pair.1.id.0) }
 {
-    let mut roads = MemRoads::new(alloc, &[])?;
+    let mut roads = MemRoads::new(alloc, failing)?;
     let port = roads.listen(alloc, NodeId(1))?;
     let end = roads.dial(alloc, port)?;
     Ok((roads, end))

@@ -2,16 +2,20 @@
 #![tactic(auto)]
 
 #[cfg(test)]
-mod helpers;
+mod alone;
 #[cfg(test)]
-mod members;
+mod chains;
+#[cfg(test)]
+mod failing;
+#[cfg(test)]
+mod helpers;
 #[cfg(test)]
 mod nodes;
 #[cfg(test)]
 mod pieces;
 #[cfg(test)]
-mod rebuilding;
-#[cfg(test)]
 mod receiving;
+#[cfg(test)]
+mod refusing;
 #[cfg(test)]
 mod responding;

@@ -75,7 +75,7 @@ fn acks_are_booked_and_go_up(rt: HostRuntime) -> Result<(), Fail> {
     let mut book = created(&rt, alloc, CONN, Stamp(1001), 512);
     put(alloc, &mut book, false)?;
     put(alloc, &mut book, true)?;
-    let (roads, mut end) = dialled(alloc)?;
+    let (roads, mut end) = dialled(alloc, &[])?;
     let passed = take(alloc, &mut book, ack(0, false), &mut end.outward);
     assert_eq!(rt; passed, Passed::Sent(receipt(3)));
     let passed = take(alloc, &mut book, ack(1, true), &mut end.outward);
@@ -91,10 +91,23 @@ fn acks_are_booked_and_go_up(rt: HostRuntime) -> Result<(), Fail> {
 fn a_wrong_sum_is_told_of(rt: HostRuntime) -> Result<(), Fail> {
     let alloc = rt.alloc();
     let mut book = created(&rt, alloc, CONN, Stamp(1001), 512);
-    let (roads, mut end) = dialled(alloc)?;
+    let (roads, mut end) = dialled(alloc, &[])?;
     let passed = tell(alloc, &mut book, &mut end.outward)?;
     assert_eq!(rt; passed, Passed::Closed(receipt(1)));
     let carried = carried(alloc, roads, end)?;
     assert_eq!(rt; carried.as_slice(), b"\x04\x08\0\x10\x02".as_slice());
+    Ok(())
+}
+
+/// The ack can't go up, and stays booked.
+#[test]
+fn an_ack_is_booked_where_the_link_fails(rt: HostRuntime) -> Result<(), Fail> {
+    let alloc = rt.alloc();
+    let mut book = created(&rt, alloc, CONN, Stamp(1001), 512);
+    put(alloc, &mut book, false)?;
+    let (_roads, mut end) = dialled(alloc, &[3])?;
+    let passed = take(alloc, &mut book, ack(0, false), &mut end.outward);
+    assert_eq!(rt; passed, Passed::LinkFailed(receipt(2)));
+    assert_eq!(rt; book.replica().acked(), 9);
     Ok(())
 }

@@ -181,7 +181,7 @@ module _ {I O : Type 0} (o : link_out.Ghosts O) where
   shut_keeps true old new h = record { sent = h.half.sent; later = h.half.never_falls }
   shut_keeps false old new h = record { sent = ap (λ (end : Conn I O). o.sent end.outward) h; later = subst (λ (end : Conn I O). o.faults old.outward ≤ o.faults end.outward) (sym h) (same_le (o.faults old.outward)) }
 
-  told_end : (text : Option (List ℕ)) (closes : Bool) (old : O) (mid new : Conn I O) → Tells o text old mid.outward → ShutsEnd o closes mid new → Tells o text old new.outward
+  pub told_end : (text : Option (List ℕ)) (closes : Bool) (old : O) (mid new : Conn I O) → Tells o text old mid.outward → ShutsEnd o closes mid new → Tells o text old new.outward
   told_end text closes old mid new h shut = let k = shut_keeps closes mid new shut in tells_on o text old mid.outward new.outward h k.sent k.later
 
   told_mirror : (text : Option (List ℕ)) (closes : Bool) (old mid new : Option (Conn I O)) → TellsMirror o text old mid → ShutsMirror o closes mid new → TellsMirror o text old new
@@ -252,27 +252,27 @@ module _ {O : Type 0} (o : link_out.Ghosts O) where
   says_none : (op : WriteFields) (sends : Option Upward) (up sent : O) → sends ≡ None → o.sent sent ≡ o.sent up → Tells o (texts_of op sends) up sent
   says_none op sends up sent none same = rw none (inl same)
 
-  alone_says : (text : Option (List ℕ)) (r : Option Receipt) (up sent : O) → SendsAlone o text (done.Taken r) up sent → Tells o text up sent
+  pub alone_says : (text : Option (List ℕ)) (r : Option Receipt) (up sent : O) → SendsAlone o text (done.Taken r) up sent → Tells o text up sent
   alone_says None None up sent h = inl (ap o.sent h)
   alone_says (Some text) None up sent h = inl h.sent
   alone_says None (Some r) up sent h = absurd h
   alone_says (Some text) (Some r) up sent h = absurd h
 
-  alone_fails : (text : Option (List ℕ)) (r : Option Receipt) (up sent : O) → SendsAlone o text (done.LinkFailed r) up sent → Tells o text up sent
+  pub alone_fails : (text : Option (List ℕ)) (r : Option Receipt) (up sent : O) → SendsAlone o text (done.LinkFailed r) up sent → Tells o text up sent
   alone_fails None None up sent h = absurd h
   alone_fails (Some text) None up sent h = inr h.rose
   alone_fails None (Some r) up sent h = absurd h
   alone_fails (Some text) (Some r) up sent h = absurd h
 
-  refused_alone : (text : Option (List ℕ)) (why : Refusal) (r : Receipt) (up sent : O) → SendsAlone o text (done.Refused why r) up sent → ⊥
+  pub refused_alone : (text : Option (List ℕ)) (why : Refusal) (r : Receipt) (up sent : O) → SendsAlone o text (done.Refused why r) up sent → ⊥
   refused_alone None why r up sent h = h
   refused_alone (Some text) why r up sent h = h
 
-  file_alone : (text : Option (List ℕ)) (r : Receipt) (up sent : O) → SendsAlone o text (done.File r) up sent → ⊥
+  pub file_alone : (text : Option (List ℕ)) (r : Receipt) (up sent : O) → SendsAlone o text (done.File r) up sent → ⊥
   file_alone None r up sent h = h
   file_alone (Some text) r up sent h = h
 
-  mirror_alone : (text : Option (List ℕ)) (r : Receipt) (up sent : O) → SendsAlone o text (done.MirrorFailed r) up sent → ⊥
+  pub mirror_alone : (text : Option (List ℕ)) (r : Receipt) (up sent : O) → SendsAlone o text (done.MirrorFailed r) up sent → ⊥
   mirror_alone None r up sent h = h
   mirror_alone (Some text) r up sent h = h
 

@@ -9,3 +9,5 @@ pub mod Refusing
 pub mod Setups
 pub mod Exchanges
 pub mod Stepping
+pub mod EventSteps
+pub mod SetupSteps
