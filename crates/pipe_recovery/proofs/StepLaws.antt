@@ -84,9 +84,9 @@ module _ {R I O : Type 0} (r : roads.Ghosts R I O) (i : link_in.Ghosts I) (o : l
   follows-leads opened.Answered port text w w' link middle link' old new result h p f =
       sends-leads text w w' middle link' result (leads-more w.phase (is_some link) h) (opens-some port link middle old new p) f
   follows-leads opened.Unanswered port text w w' link middle link' old new result h p f =
-      rw (f.0, f.1.0, unanswered-same port link middle old new p) (undialled-leads w (is_some link) h)
+      rw (f.0, f.1, unanswered-same port link middle old new p) (undialled-leads w (is_some link) h)
   follows-leads opened.Memory port text w w' link middle link' old new result h p f =
-      rw (f.0, f.1.0, memory-same port link middle old new p) h
+      rw (f.0, f.1, memory-same port link middle old new p) h
 
   port-leads : (port : ℕ) (text : List ℕ) (w w' : WriterRecord) (link link' : Option (Link I O)) (old new : R) (result : Acted) → Leads w (is_some link)
       → ReachesPort r i o port text w w' link link' old new result → Leads w' (is_some link')
@@ -155,7 +155,7 @@ module _ {D R I O : Type 0} (d : desk.Ghosts D) (r : roads.Ghosts R I O) (i : li
   goes-leads : (b : Bool) (w w' : WriterRecord) (link link' : Option (Link I O)) (old new : R) (first result : Acted) → is_stamped w.phase ≡ b → Leads w (is_some link)
       → GoesOn r i o b w w' link link' old new first result → Leads w' (is_some link')
   goes-leads true w w' link link' old new first result s h g = dials-leads r i o w w' link link' old new result s g
-  goes-leads false w w' link link' old new first result s h g = rw (g.0, g.1.0) h
+  goes-leads false w w' link link' old new first result s h g = rw (g.0, g.1) h
 
   asks-and-leads : (w w' : WriterRecord) (link link' : Option (Link I O)) (office office' : D) (old new : R) (result : Acted) → IsAsking w.phase → fits_in w.phase (is_some link) ≡ true
       → AsksAndDials d r i o w w' link link' office office' old new result → Leads w' (is_some link')
