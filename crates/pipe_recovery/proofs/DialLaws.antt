@@ -20,7 +20,7 @@ use Rattle.pipe_recovery.specs.Dialling.{Opens, Reaches, DialsBy, Dials}
 module _ {R I O : Type 0} (r : roads.Ghosts R I O) (i : link_in.Ghosts I) (o : link_out.Ghosts O) where
   -- No end was kept, and a dial was answered.
   pub opens-new : (port : ℕ) (link : Option (Link I O)) (old new : R) (end : Conn I O) (heard : HeardState) → is_some link ≡ false → IsDialled r i o port old new end → heard ≡ nothing_heard
-      → Opens r i o port link (Some (record { end = end; heard = heard })) old new opened.Answered
+      → Opens r i o port link (Some (record { end = end; heard = heard; asked = false })) old new opened.Answered
   opens-new port None old new end heard h d q = record { end = end; dialled = d; is = rw q refl }
   opens-new port (Some l) old new end heard h d q = cc
 

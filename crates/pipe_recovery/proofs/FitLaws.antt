@@ -38,8 +38,9 @@ use Rattle.pipe_recovery.specs.Asking.{Asks, AsksBy, asked_as}
 use Rattle.pipe_recovery.specs.Dialling.{SendsTo, Sends, FollowsDial, Reaches, no_memory, no_way, dials, DialsBy, Dials}
 use Rattle.pipe_recovery.specs.declared.rebuilding.RebuildStep.TheVariants as step
 use Rattle.pipe_recovery.specs.Reports.{leads_in, moved_if, failed_as, Streams, Sees, Awaits, ReportsAccepted, Reports, ReportsAt}
-use Rattle.pipe_recovery.specs.Steps.{fits_in, is_stamped, keeps_link, TakesAs, FollowsLook, Waits, GoesOn, AsksAndDials, Acts, Settles, StillFits}
+use Rattle.pipe_recovery.specs.Steps.{fits_in, is_stamped, keeps_link, TakesAs, FollowsLook, Hears, ElseAsks, Waits, GoesOn, AsksAndDials, Acts, Settles, StillFits}
 use Rattle.pipe_recovery.proofs.Leads.{IsAsking, IsRequested, stamped-same, asking-same}
+use Rattle.pipe_recovery.proofs.StepLaws.{unheard-fits, unheard-asks}
 
 stamped-fits : (p : Phase) (linked : Bool) → is_stamped p ≡ true → fits_in p linked ≡ true
 stamped-fits phase.Closed linked h = cc
@@ -184,13 +185,21 @@ module _ {D R I O : Type 0} (d : desk.Ghosts D) (r : roads.Ghosts R I O) (i : li
   asks-and-fit w w' link link' office office' old new a f p =
       goes-fit (is_stamped p.answered.phase) w p.answered w' link link' office office' old new p.first refl a f p.asks p.goes_on
 
+  else-fit : (x : Option Acted) (w y w' : WriterRecord) (link held link' : Option (Link I O)) (office office' : D) (old new : R) → IsAsking w.phase → fits_in w.phase (is_some link) ≡ true
+      → Hears i w y link held x → ElseAsks d r i o x y w' held link' office office' old new acted.Memory → fits_in w'.phase (is_some link') ≡ true
+  else-fit None w y w' link held link' office office' old new a f h p =
+      asks-and-fit y w' held link' office office' old new (unheard-asks i w y link held None (λ e. cc) a h) (unheard-fits i w y link held None (λ e. cc) f h) p
+  else-fit (Some x) w y w' link held link' office office' old new a f h p =
+      let is : acted.Memory ≡ x = p.4 in rw (p.0, p.1) (unheard-fits i w y link held (Some x) (λ e. cc) f h)
+
   pub acts-fit-at : (x : Phase) (w w' : WriterRecord) (link link' : Option (Link I O)) (office office' : D) (old new : R) → w.phase ≡ x → fits_in w.phase (is_some link) ≡ true
       → Acts d r i o x w w' link link' office office' old new acted.Memory → fits_in w'.phase (is_some link') ≡ true
   acts-fit-at phase.Closed w w' link link' office office' old new e f p = absurd (cc)
   acts-fit-at (phase.Wanted s) w w' link link' office office' old new e f p = asks-and-fit w w' link link' office office' old new (subst IsAsking (sym e) tt) f p
   acts-fit-at (phase.Stamped s stamp) w w' link link' office office' old new e f p = dials-fit r i o w w' link link' old new (ap is_stamped e) p.1
   acts-fit-at (phase.Requested s stamp) w w' link link' office office' old new e f p = waits-fit i w w' link link' (subst IsRequested (sym e) tt) f p.1.1
-  acts-fit-at (phase.Accepted s stamp) w w' link link' office office' old new e f p = asks-and-fit w w' link link' office office' old new (subst IsAsking (sym e) tt) f p
+  acts-fit-at (phase.Accepted s stamp) w w' link link' office office' old new e f p =
+      else-fit p.heard w p.after w' link p.held link' office office' old new (subst IsAsking (sym e) tt) f p.hears p.else_asks
   acts-fit-at phase.Opened w w' link link' office office' old new e f p = absurd (cc)
   acts-fit-at (phase.Streaming sent) w w' link link' office office' old new e f p = absurd (cc)
   acts-fit-at phase.Closing w w' link link' office office' old new e f p = absurd (cc)
