@@ -1,5 +1,5 @@
 -- What becomes of roads and ends where a port is dialled, an end is exchanged, and one is given up.
-use Rattle.std.specs.Prelude.{◌≡◌, ◌⊎◌, ◌||◌, ◌&&◌, ◌==◌, ℕ, ◌≤◌, Bool, true, false, List, [], Option, Some, None, option_map, IfSome, OnOk, OnErr, Result}
+use Rattle.std.specs.Prelude.{◌≡◌, ◌⊎◌, ◌||◌, ◌&&◌, ◌==◌, ℕ, ◌≤◌, Bool, true, false, [], Option, Some, None, option_map, IfSome, OnOk, OnErr, Result}
 use Rattle.hd_base.specs.Channels.{empty_channel, with_dial}
 use Rattle.hd_base.specs.Ends.{has_failed, IsFresh, IsObservable, FailBy, KeepsEnd, CarriesOf, CarriesFlushed, Flushes, FlushesAll, Exchanges, TakesNext, KeepsConnections}
 use Rattle.hd_base.specs.Faults.{FaultsIncreased, FollowsSchedule, KeepsSchedule}

@@ -38,8 +38,9 @@ use Rattle.pipe_recovery.specs.Asking.{Asks, AsksBy, asked_as}
 use Rattle.pipe_recovery.specs.Dialling.{SendsTo, Sends, FollowsDial, Reaches, no_memory, no_way, dials, DialsBy, Dials}
 use Rattle.pipe_recovery.specs.declared.rebuilding.RebuildStep.TheVariants as step
 use Rattle.pipe_recovery.specs.Reports.{leads_in, moved_if, failed_as, Streams, Sees, Awaits, ReportsAccepted, Reports, ReportsAt}
-use Rattle.pipe_recovery.specs.Steps.{fits_in, is_stamped, keeps_link, TakesAs, FollowsLook, Waits, GoesOn, AsksAndDials, Acts, Settles, StillFits}
+use Rattle.pipe_recovery.specs.Steps.{fits_in, is_stamped, keeps_link, TakesAs, FollowsLook, Hears, ElseAsks, Waits, GoesOn, AsksAndDials, Acts, Settles, StillFits}
 use Rattle.pipe_recovery.proofs.Leads.{IsAsking, IsRequested, stamped-same, asking-same}
+use Rattle.pipe_recovery.proofs.StepLaws.{unheard-fits, unheard-asks}
 
 stamped-fits : (p : Phase) (linked : Bool) → is_stamped p ≡ true → fits_in p linked ≡ true
 stamped-fits phase.Closed linked h = cc
@@ -90,7 +91,7 @@ module _ {R I O : Type 0} (r : roads.Ghosts R I O) (i : link_in.Ghosts I) (o : l
 
   follows-same : (x : Opened) (text : List ℕ) (w w' : WriterRecord) (middle link' : Option (Link I O)) → FollowsDial o text w w' middle link' x acted.Memory → w' ≡ w
   follows-same opened.Answered text w w' middle link' f = sends-same text w w' middle link' f
-  follows-same opened.Unanswered text w w' middle link' f = let no : acted.Memory ≡ acted.Moved = f.1.1 in cc
+  follows-same opened.Unanswered text w w' middle link' f = let no : acted.Memory ≡ acted.Moved = f.2 in cc
   follows-same opened.Memory text w w' middle link' f = f.0
 
   reaches-same : (to : NodeId) (op : Op) (w w' : WriterRecord) (link link' : Option (Link I O)) (old new : R) → Reaches r i o to op w w' link link' old new acted.Memory → w' ≡ w
@@ -147,7 +148,7 @@ moves-same w w' q (inr m) = absurd (requested-is w q m.0)
 
 takes-same : {I O : Type 0} → (x : Option Answer) (w w' : WriterRecord) (a b : Link I O) → IsRequested w.phase → TakesAs x w w' a b acted.Memory → w' ≡ w
 takes-same None w w' a b q t = moves-same w w' q t.1
-takes-same (Some x) w w' a b q t = let no : acted.Memory ≡ acted.Moved = t.1.1 in cc
+takes-same (Some x) w w' a b q t = let no : acted.Memory ≡ acted.Moved = t.2 in cc
 
 look-same : {I O : Type 0} → (x : Looked) (w w' : WriterRecord) (a b : Link I O) → IsRequested w.phase → FollowsLook x w w' a b acted.Memory → w' ≡ w
 look-same looked.Memory w w' a b q f = f.0
@@ -177,12 +178,19 @@ module _ {D R I O : Type 0} (d : desk.Ghosts D) (r : roads.Ghosts R I O) (i : li
       → Asks d (own_step w) w x office office' first → GoesOn r i o b x w' link link' old new first acted.Memory → fits_in w'.phase (is_some link') ≡ true
   goes-fit true w x w' link link' office office' old new first s a f asked g = dials-fit r i o x w' link link' old new s g
   goes-fit false w x w' link link' office office' old new first s a f asked g =
-      rw (g.0 ∙ asks-same w x (is_some link) office office' a f (subst (λ y. Asks d (own_step w) w x office office' y) (sym g.1.1.1) asked), g.1.0) f
+      rw (g.0 ∙ asks-same w x (is_some link) office office' a f (subst (λ y. Asks d (own_step w) w x office office' y) (sym g.3) asked), g.1) f
 
   asks-and-fit : (w w' : WriterRecord) (link link' : Option (Link I O)) (office office' : D) (old new : R) → IsAsking w.phase → fits_in w.phase (is_some link) ≡ true
       → AsksAndDials d r i o w w' link link' office office' old new acted.Memory → fits_in w'.phase (is_some link') ≡ true
   asks-and-fit w w' link link' office office' old new a f p =
       goes-fit (is_stamped p.answered.phase) w p.answered w' link link' office office' old new p.first refl a f p.asks p.goes_on
+
+  else-fit : (x : Option Acted) (w y w' : WriterRecord) (link held link' : Option (Link I O)) (office office' : D) (old new : R) → IsAsking w.phase → fits_in w.phase (is_some link) ≡ true
+      → Hears i w y link held x → ElseAsks d r i o x y w' held link' office office' old new acted.Memory → fits_in w'.phase (is_some link') ≡ true
+  else-fit None w y w' link held link' office office' old new a f h p =
+      asks-and-fit y w' held link' office office' old new (unheard-asks i w y link held None (λ e. cc) a h) (unheard-fits i w y link held None (λ e. cc) f h) p
+  else-fit (Some x) w y w' link held link' office office' old new a f h p =
+      let is : acted.Memory ≡ x = p.4 in rw (p.0, p.1) (unheard-fits i w y link held (Some x) (λ e. cc) f h)
 
   pub acts-fit-at : (x : Phase) (w w' : WriterRecord) (link link' : Option (Link I O)) (office office' : D) (old new : R) → w.phase ≡ x → fits_in w.phase (is_some link) ≡ true
       → Acts d r i o x w w' link link' office office' old new acted.Memory → fits_in w'.phase (is_some link') ≡ true
@@ -190,7 +198,8 @@ module _ {D R I O : Type 0} (d : desk.Ghosts D) (r : roads.Ghosts R I O) (i : li
   acts-fit-at (phase.Wanted s) w w' link link' office office' old new e f p = asks-and-fit w w' link link' office office' old new (subst IsAsking (sym e) tt) f p
   acts-fit-at (phase.Stamped s stamp) w w' link link' office office' old new e f p = dials-fit r i o w w' link link' old new (ap is_stamped e) p.1
   acts-fit-at (phase.Requested s stamp) w w' link link' office office' old new e f p = waits-fit i w w' link link' (subst IsRequested (sym e) tt) f p.1.1
-  acts-fit-at (phase.Accepted s stamp) w w' link link' office office' old new e f p = asks-and-fit w w' link link' office office' old new (subst IsAsking (sym e) tt) f p
+  acts-fit-at (phase.Accepted s stamp) w w' link link' office office' old new e f p =
+      else-fit p.heard w p.after w' link p.held link' office office' old new (subst IsAsking (sym e) tt) f p.hears p.else_asks
   acts-fit-at phase.Opened w w' link link' office office' old new e f p = absurd (cc)
   acts-fit-at (phase.Streaming sent) w w' link link' office office' old new e f p = absurd (cc)
   acts-fit-at phase.Closing w w' link link' office office' old new e f p = absurd (cc)
@@ -232,15 +241,15 @@ module _ {R I O : Type 0} (r : roads.Ghosts R I O) (i : link_in.Ghosts I) (o : l
   kept-fits-at false p None link' old new k f s = rw s.0 f
   kept-fits-at false p (Some l) link' old new k f s = rw s.0 (unlinked p k f)
 
-moved-fit : {I O : Type 0} → (b : Bool) (p : Phase) (linked : Bool) → fits_in p linked ≡ true → StillFits {I = I} {O = O} p linked (moved_if b)
-moved-fit true p linked f = f
-moved-fit false p linked f = f
+moved-fit : (I O : Type 0) (b : Bool) (p : Phase) (linked : Bool) → fits_in p linked ≡ true → StillFits {I = I} {O = O} p linked (moved_if b)
+moved-fit I O true p linked f = f
+moved-fit I O false p linked f = f
 
-failed-fit : {I O : Type 0} → (f : Failure) (p : Phase) (linked : Bool) → StillFits {I = I} {O = O} p linked (step.Ended (failed_as f))
-failed-fit (failure.Abandoned member) p linked = tt
-failed-fit (failure.AllBad member) p linked = tt
-failed-fit (failure.Lost recovery) p linked = tt
-failed-fit (failure.Refused why) p linked = tt
+failed-fit : (I O : Type 0) (f : Failure) (p : Phase) (linked : Bool) → StillFits {I = I} {O = O} p linked (step.Ended (failed_as f))
+failed-fit I O (failure.Abandoned member) p linked = tt
+failed-fit I O (failure.AllBad member) p linked = tt
+failed-fit I O (failure.Lost recovery) p linked = tt
+failed-fit I O (failure.Refused why) p linked = tt
 
 streams-fit : {I O : Type 0} → (p : Phase) (old new : Option (Link I O)) (result : RebuildStep I O) → Streams old new result → StillFits p (is_some new) result
 streams-fit p None new result s = absurd s
@@ -248,7 +257,7 @@ streams-fit p (Some l) new result s = rw s.1 tt
 
 sees-fit : {I O : Type 0} → (s : Setup) (stamp : Stamp) (w : WriterRecord) (x : Looked) (l : Link I O) (result : RebuildStep I O) → Sees w l x result → StillFits (phase.Requested s stamp) true result
 sees-fit s stamp w looked.Memory l result e = rw e refl
-sees-fit s stamp w looked.Known l result e = rw e (moved-fit _ (phase.Requested s stamp) true refl)
+sees-fit s stamp w looked.Known l result e = rw e (moved-fit _ _ _ (phase.Requested s stamp) true refl)
 
 awaits-fit : {I O : Type 0} → (i : link_in.Ghosts I) (s : Setup) (stamp : Stamp) (w : WriterRecord) (old new : Option (Link I O)) (result : RebuildStep I O) → Awaits i w old new result → StillFits (phase.Requested s stamp) (is_some new) result
 awaits-fit i s stamp w None None result p = absurd p
@@ -267,8 +276,8 @@ accepted-fit setup.CloseRecovery stamp old new result h q e = rw (e.0, e.1, q re
 reports-fit-at : {I O : Type 0} → (i : link_in.Ghosts I) (p : Phase) (w : WriterRecord) (old new : Option (Link I O)) (result : RebuildStep I O) → leads_in p (is_some old) ≡ true → IsSettled p old
     → ReportsAt i p w old new result → StillFits p (is_some new) result
 reports-fit-at i phase.Closed w old new result h q e = absurd (cc)
-reports-fit-at i (phase.Wanted s) w old new result h q e = rw (e.0, e.1, q refl) (moved-fit _ (phase.Wanted s) false refl)
-reports-fit-at i (phase.Stamped s stamp) w old new result h q e = rw (e.0, e.1) (moved-fit _ (phase.Stamped s stamp) (is_some old) refl)
+reports-fit-at i (phase.Wanted s) w old new result h q e = rw (e.0, e.1, q refl) (moved-fit _ _ _ (phase.Wanted s) false refl)
+reports-fit-at i (phase.Stamped s stamp) w old new result h q e = rw (e.0, e.1) (moved-fit _ _ _ (phase.Stamped s stamp) (is_some old) refl)
 reports-fit-at i (phase.Requested s stamp) w old new result h q e = awaits-fit i s stamp w old new result e
 reports-fit-at i (phase.Accepted s stamp) w old new result h q e = accepted-fit s stamp old new result h q e
 reports-fit-at i phase.Opened w old new result h q e = streams-fit phase.Opened old new result e
@@ -276,7 +285,7 @@ reports-fit-at i (phase.Streaming sent) w old new result h q e = streams-fit (ph
 reports-fit-at i phase.Closing w old new result h q e = absurd (cc)
 reports-fit-at i phase.Finished w old new result h q e = rw e.1 tt
 reports-fit-at i phase.Completed w old new result h q e = absurd (cc)
-reports-fit-at i (phase.Failed f) w old new result h q e = rw e.1 (failed-fit f (phase.Failed f) (is_some new))
+reports-fit-at i (phase.Failed f) w old new result h q e = rw e.1 (failed-fit _ _ f (phase.Failed f) (is_some new))
 
 -- After its report a step is followed by another, unless the setup has ended.
 pub reports-fit : {I O : Type 0} → (i : link_in.Ghosts I) (x : Acted) (w : WriterRecord) (old new : Option (Link I O)) (result : RebuildStep I O) → leads_in w.phase (is_some old) ≡ true → IsSettled w.phase old

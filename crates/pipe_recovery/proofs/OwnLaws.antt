@@ -1,5 +1,6 @@
 -- Where an own step of the writer is enabled while a pipeline is set up.
-use Rattle.std.proofs.Common.{◌≡◌, ◌==◌, ◌&&◌, not, Bool, true, false, List, [], ◌∷◌, length, Option, Some, None, is_some, is_none, refl}
+use Rattle.std.proofs.Common.{◌≡◌, ◌==◌, ◌&&◌, not, Bool, true, false, List, [], ◌∷◌, length, Option, Some, None, is_some, is_none, refl, ap, arith}
+use Rattle.std.proofs.lemmas.Bool.Decides.{nat_tests}
 use Rattle.std.specs.Prelude.{slice_get}
 use Rattle.hd_base.specs.declared.numbers.NodeId.{NodeId}
 use Rattle.hd_base.specs.declared.numbers.Stamp.{Stamp}
@@ -12,9 +13,12 @@ use Rattle.writer_core.specs.declared.records.WriterRecord.{WriterRecord}
 use Rattle.writer_core.specs.Transitions.{own_step, step_in, dial_step_as, free_step_as, take_first}
 use Rattle.pipe_recovery.specs.Acting.{is_wait, has_own_step, sets_up, enabled_in}
 
+some-left : (m : NodeId) (ms : List NodeId) → (length (m ∷ ms) == 0) ≡ false
+some-left m ms = grind (arith, nat_tests)
+
 dial-due : (w : WriterRecord) (s : Setup) (stamp : Stamp) (ms : List NodeId) → not (length ms == 0) ≡ not (is_wait (dial_step_as w s stamp ms).action)
 dial-due w s stamp [] = refl
-dial-due w s stamp (m ∷ ms) = refl
+dial-due w s stamp (m ∷ ms) = ap not (some-left m ms)
 
 first-due : (w : WriterRecord) (c : Option Command) → is_some c ≡ not (is_wait (take_first w c).action)
 first-due w None = refl

@@ -31,7 +31,7 @@ use Rattle.pipe_recovery.specs.Acting.{MovesOn}
 use Rattle.pipe_recovery.specs.Asking.{Asks, AsksBy}
 use Rattle.pipe_recovery.specs.Dialling.{asked_after, SendsTo, Sends, Opens, FollowsDial, Unreached, Reaches, no_memory, no_way, dials, ReachesPort, DialsBy, Dials}
 use Rattle.pipe_recovery.specs.Reports.{leads_in}
-use Rattle.pipe_recovery.specs.Steps.{fits_in, is_stamped, keeps_link, Takes, TakesAs, FollowsLook, Waits, GoesOn, AsksAndDials, Acts, Settles}
+use Rattle.pipe_recovery.specs.Steps.{fits_in, is_stamped, keeps_link, Takes, TakesAs, FollowsLook, HearsNextAs, HearsSeen, HearsGiven, Hears, ElseAsks, Waits, GoesOn, AsksAndDials, Acts, Settles}
 use Rattle.pipe_recovery.proofs.Leads.{Leads, IsAsking, IsRequested, fits-leads, leads-more, ended-leads, undialled-leads, dialled-leads, told-leads, granted-leads, stamped-same, asking-same, requested-leads}
 
 asked-leads : (w : WriterRecord) (sending : Result ℕ LinkError) → Leads w true → Leads (asked_after w sending) true
@@ -84,9 +84,9 @@ module _ {R I O : Type 0} (r : roads.Ghosts R I O) (i : link_in.Ghosts I) (o : l
   follows-leads opened.Answered port text w w' link middle link' old new result h p f =
       sends-leads text w w' middle link' result (leads-more w.phase (is_some link) h) (opens-some port link middle old new p) f
   follows-leads opened.Unanswered port text w w' link middle link' old new result h p f =
-      rw (f.0, f.1.0, unanswered-same port link middle old new p) (undialled-leads w (is_some link) h)
+      rw (f.0, f.1, unanswered-same port link middle old new p) (undialled-leads w (is_some link) h)
   follows-leads opened.Memory port text w w' link middle link' old new result h p f =
-      rw (f.0, f.1.0, memory-same port link middle old new p) h
+      rw (f.0, f.1, memory-same port link middle old new p) h
 
   port-leads : (port : ℕ) (text : List ℕ) (w w' : WriterRecord) (link link' : Option (Link I O)) (old new : R) (result : Acted) → Leads w (is_some link)
       → ReachesPort r i o port text w w' link link' old new result → Leads w' (is_some link')
@@ -135,6 +135,51 @@ module _ {R I O : Type 0} (r : roads.Ghosts R I O) (i : link_in.Ghosts I) (o : l
   waits-leads w w' (Some a) None result q h p = absurd p
   waits-leads w w' (Some a) (Some b) result q h p = look-leads p.found w w' p.seen b result q h p.follows
 
+module _ {I O : Type 0} (i : link_in.Ghosts I) where
+  next-leads : (x : Option Answer) (w w' : WriterRecord) (a b : Link I O) (result : Option Acted) → Leads w true → HearsNextAs x w w' a b result → Leads w' true
+  next-leads None w w' a b result h t = rw t.0 h
+  next-leads (Some x) w w' a b result h t = rw t.0 (told-leads w x h)
+
+  seen-leads : (x : Looked) (w w' : WriterRecord) (a b : Link I O) (result : Option Acted) → Leads w true → HearsSeen x w w' a b result → Leads w' true
+  seen-leads looked.Memory w w' a b result h f = rw f.0 h
+  seen-leads looked.Known w w' a b result h f = next-leads a.heard.next w w' a b result h f
+
+  given-leads : (asked : Bool) (w w' : WriterRecord) (a b : Link I O) (result : Option Acted) → Leads w true → HearsGiven i asked w w' a b result → Leads w' true
+  given-leads true w w' a b result h p = seen-leads p.found w w' p.seen b result h p.hears
+  given-leads false w w' a b result h p = rw p.0 h
+
+  hears-leads : (w w' : WriterRecord) (link link' : Option (Link I O)) (result : Option Acted) → Leads w (is_some link) → Hears i w w' link link' result → Leads w' (is_some link')
+  hears-leads w w' None None result h p = rw p.0 h
+  hears-leads w w' None (Some b) result h p = absurd p
+  hears-leads w w' (Some a) None result h p = absurd p
+  hears-leads w w' (Some a) (Some b) result h p = given-leads a.asked w w' a b result h p
+
+  next-same : (x : Option Answer) (w w' : WriterRecord) (a b : Link I O) (result : Option Acted) → (result ≡ Some acted.Moved → ⊥) → HearsNextAs x w w' a b result → w' ≡ w
+  next-same None w w' a b result n t = t.0
+  next-same (Some x) w w' a b result n t = absurd (n t.2)
+
+  seen-same : (x : Looked) (w w' : WriterRecord) (a b : Link I O) (result : Option Acted) → (result ≡ Some acted.Moved → ⊥) → HearsSeen x w w' a b result → w' ≡ w
+  seen-same looked.Memory w w' a b result n f = f.0
+  seen-same looked.Known w w' a b result n f = next-same a.heard.next w w' a b result n f
+
+  given-same : (asked : Bool) (w w' : WriterRecord) (a b : Link I O) (result : Option Acted) → (result ≡ Some acted.Moved → ⊥) → HearsGiven i asked w w' a b result → w' ≡ w
+  given-same true w w' a b result n p = seen-same p.found w w' p.seen b result n p.hears
+  given-same false w w' a b result n p = p.0
+
+  -- Where nothing was taken the writer stays as it is, and so a step still fits.
+  pub unheard-fits : (w w' : WriterRecord) (link link' : Option (Link I O)) (result : Option Acted) → (result ≡ Some acted.Moved → ⊥) → fits_in w.phase (is_some link) ≡ true → Hears i w w' link link' result
+      → fits_in w'.phase (is_some link') ≡ true
+  unheard-fits w w' None None result n f p = rw p.0 f
+  unheard-fits w w' None (Some b) result n f p = absurd p
+  unheard-fits w w' (Some a) None result n f p = absurd p
+  unheard-fits w w' (Some a) (Some b) result n f p = rw (given-same a.asked w w' a b result n p) f
+
+  pub unheard-asks : (w w' : WriterRecord) (link link' : Option (Link I O)) (result : Option Acted) → (result ≡ Some acted.Moved → ⊥) → IsAsking w.phase → Hears i w w' link link' result → IsAsking w'.phase
+  unheard-asks w w' None None result n q p = rw p.0 q
+  unheard-asks w w' None (Some b) result n q p = absurd p
+  unheard-asks w w' (Some a) None result n q p = absurd p
+  unheard-asks w w' (Some a) (Some b) result n q p = rw (given-same a.asked w w' a b result n p) q
+
 -- THE OFFICE
 
 module _ {D R I O : Type 0} (d : desk.Ghosts D) (r : roads.Ghosts R I O) (i : link_in.Ghosts I) (o : link_out.Ghosts O) where
@@ -155,12 +200,19 @@ module _ {D R I O : Type 0} (d : desk.Ghosts D) (r : roads.Ghosts R I O) (i : li
   goes-leads : (b : Bool) (w w' : WriterRecord) (link link' : Option (Link I O)) (old new : R) (first result : Acted) → is_stamped w.phase ≡ b → Leads w (is_some link)
       → GoesOn r i o b w w' link link' old new first result → Leads w' (is_some link')
   goes-leads true w w' link link' old new first result s h g = dials-leads r i o w w' link link' old new result s g
-  goes-leads false w w' link link' old new first result s h g = rw (g.0, g.1.0) h
+  goes-leads false w w' link link' old new first result s h g = rw (g.0, g.1) h
 
   asks-and-leads : (w w' : WriterRecord) (link link' : Option (Link I O)) (office office' : D) (old new : R) (result : Acted) → IsAsking w.phase → fits_in w.phase (is_some link) ≡ true
       → AsksAndDials d r i o w w' link link' office office' old new result → Leads w' (is_some link')
   asks-and-leads w w' link link' office office' old new result a f p =
       goes-leads (is_stamped p.answered.phase) p.answered w' link link' old new p.first result refl (asks-leads w p.answered (is_some link) office office' p.first a f p.asks) p.goes_on
+
+  else-leads : (x : Option Acted) (w y w' : WriterRecord) (link held link' : Option (Link I O)) (office office' : D) (old new : R) (result : Acted) → IsAsking w.phase → fits_in w.phase (is_some link) ≡ true
+      → Hears i w y link held x → ElseAsks d r i o x y w' held link' office office' old new result → Leads w' (is_some link')
+  else-leads None w y w' link held link' office office' old new result a f h p =
+      asks-and-leads y w' held link' office office' old new result (unheard-asks i w y link held None (λ e. cc) a h) (unheard-fits i w y link held None (λ e. cc) f h) p
+  else-leads (Some x) w y w' link held link' office office' old new result a f h p =
+      rw (p.0, p.1) (hears-leads i w y link held (Some x) (fits-leads w.phase (is_some link) f) h)
 
   -- the action of a step, where the writer is here
   acts-leads-at : (x : Phase) (w w' : WriterRecord) (link link' : Option (Link I O)) (office office' : D) (old new : R) (result : Acted) → w.phase ≡ x → fits_in w.phase (is_some link) ≡ true
@@ -170,7 +222,8 @@ module _ {D R I O : Type 0} (d : desk.Ghosts D) (r : roads.Ghosts R I O) (i : li
   acts-leads-at (phase.Stamped s stamp) w w' link link' office office' old new result e f p = dials-leads r i o w w' link link' old new result (ap is_stamped e) p.1
   acts-leads-at (phase.Requested s stamp) w w' link link' office office' old new result e f p =
       waits-leads r i o w w' link link' result (subst IsRequested (sym e) tt) (fits-leads w.phase (is_some link) f) p.1.1
-  acts-leads-at (phase.Accepted s stamp) w w' link link' office office' old new result e f p = asks-and-leads w w' link link' office office' old new result (subst IsAsking (sym e) tt) f p
+  acts-leads-at (phase.Accepted s stamp) w w' link link' office office' old new result e f p =
+      else-leads p.heard w p.after w' link p.held link' office office' old new result (subst IsAsking (sym e) tt) f p.hears p.else_asks
   acts-leads-at phase.Opened w w' link link' office office' old new result e f p = absurd (cc)
   acts-leads-at (phase.Streaming sent) w w' link link' office office' old new result e f p = absurd (cc)
   acts-leads-at phase.Closing w w' link link' office office' old new result e f p = absurd (cc)

@@ -61,13 +61,10 @@ pub record IsKept {I O : Type 0} (o : link_out.Ghosts O) (w w' : WriterRecord) (
 abbrev pub SendsTo : {I O : Type 0} → link_out.Ghosts O → List ℕ → WriterRecord → WriterRecord → Conn I O → Conn I O → Acted → Type 0
 SendsTo o text w w' old new result = IsKept o w w' old new result ⊎ IsSent o text w w' old new result
 
--- the link with this end
-abbrev pub with_end : {I O : Type 0} → Link I O → Conn I O → Link I O
-with_end l end = record { end = end; heard = l.heard }
-
 -- It is sent on the end that there is.
 pub record SendsOn {I O : Type 0} (o : link_out.Ghosts O) (text : List ℕ) (w w' : WriterRecord) (old new : Link I O) (result : Acted) : Type 0 where
   pub heard : new.heard ≡ old.heard
+  pub asked : new.asked ≡ old.asked
   pub sends : SendsTo o text w w' old.end new.end result
 
 abbrev pub Sends : {I O : Type 0} → link_out.Ghosts O → List ℕ → WriterRecord → WriterRecord → Option (Link I O) → Option (Link I O) → Acted → Type 0
@@ -79,7 +76,7 @@ Sends o text w w' old new result = ⊥
 pub record OpensNew {R I O : Type 0} (r : roads.Ghosts R I O) (i : link_in.Ghosts I) (o : link_out.Ghosts O) (port : ℕ) (link' : Option (Link I O)) (old new : R) : Type 0 where
   pub end : Conn I O
   pub dialled : IsDialled r i o port old new end
-  pub is : link' ≡ Some (record { end = end; heard = nothing_heard })
+  pub is : link' ≡ Some (record { end = end; heard = nothing_heard; asked = false })
 
 -- How a port is dialled where no end is kept.
 abbrev pub OpensAs : {R I O : Type 0} → roads.Ghosts R I O → link_in.Ghosts I → link_out.Ghosts O → ℕ → Option (Link I O) → R → R → Opened → Type 0

@@ -10,6 +10,7 @@ pub record KeepsOutward {I O : Type 0} (old new : Link I O) : Type 0 where
   pub id : new.end.id ≡ old.end.id
   pub lower : new.end.lower ≡ old.end.lower
   pub outward : new.end.outward ≡ old.end.outward
+  pub asked : new.asked ≡ old.asked
 
 -- What stands next is looked at by the inward half of the end.
 pub record LooksAt {I O : Type 0} (i : link_in.Ghosts I) (old new : Link I O) (found : Looked) : Type 0 where

@@ -63,7 +63,7 @@ StillFits p linked other = Unit {0}
 
 -- What is taken where something stands next, or the writer's own step.
 abbrev pub TakesAs : {I O : Type 0} → Option Answer → WriterRecord → WriterRecord → Link I O → Link I O → Acted → Type 0
-TakesAs (Some x) w w' old new result = (w' ≡ told w x) × (new ≡ record { end = old.end; heard = record old.heard { next = None } }) × (result ≡ acted.Moved)
+TakesAs (Some x) w w' old new result = (w' ≡ told w x) × (new ≡ record old { heard = record old.heard { next = None } }) × (result ≡ acted.Moved)
 TakesAs None w w' old new result = (new ≡ old) × MovesOn (own_step w) w w' result
 
 abbrev pub Takes : {I O : Type 0} → WriterRecord → WriterRecord → Link I O → Link I O → Acted → Type 0
@@ -98,6 +98,49 @@ pub record AsksAndDials {D R I O : Type 0} (d : desk.Ghosts D) (r : roads.Ghosts
   pub asks : Asks d (own_step w) w answered office office' first
   pub goes_on : GoesOn r i o (is_stamped answered.phase) answered w' link link' old new first result
 
+-- What stands next is told to the writer, where something does.
+abbrev pub HearsNextAs : {I O : Type 0} → Option Answer → WriterRecord → WriterRecord → Link I O → Link I O → Option Acted → Type 0
+HearsNextAs (Some x) w w' old new result = (w' ≡ told w x) × (new ≡ record old { heard = record old.heard { next = None } }) × (result ≡ Some acted.Moved)
+HearsNextAs None w w' old new result = (w' ≡ w) × (new ≡ old) × (result ≡ None)
+
+abbrev pub HearsNext : {I O : Type 0} → WriterRecord → WriterRecord → Link I O → Link I O → Option Acted → Type 0
+HearsNext w w' old new result = HearsNextAs old.heard.next w w' old new result
+
+abbrev pub HearsSeen : {I O : Type 0} → Looked → WriterRecord → WriterRecord → Link I O → Link I O → Option Acted → Type 0
+HearsSeen looked.Memory w w' old new result = (w' ≡ w) × (new ≡ old) × (result ≡ Some acted.Memory)
+HearsSeen looked.Known w w' old new result = HearsNext w w' old new result
+
+-- It is looked at what stands next.
+pub record HearsOn {I O : Type 0} (i : link_in.Ghosts I) (w w' : WriterRecord) (old new : Link I O) (result : Option Acted) : Type 0 where
+  pub found : Looked
+  pub seen : Link I O
+  pub looks : LooksAt i old seen found
+  pub hears : HearsSeen found w w' seen new result
+
+-- It is, where the roads were asked to give it. A look might wait where they weren't.
+abbrev pub HearsGiven : {I O : Type 0} → link_in.Ghosts I → Bool → WriterRecord → WriterRecord → Link I O → Link I O → Option Acted → Type 0
+HearsGiven i true w w' old new result = HearsOn i w w' old new result
+HearsGiven i false w w' old new result = (w' ≡ w) × (new ≡ old) × (result ≡ None)
+
+-- The same, if there is a connection.
+abbrev pub Hears : {I O : Type 0} → link_in.Ghosts I → WriterRecord → WriterRecord → Option (Link I O) → Option (Link I O) → Option Acted → Type 0
+Hears i w w' None None result = (w' ≡ w) × (result ≡ None)
+Hears i w w' (Some old) (Some new) result = HearsGiven i old.asked w w' old new result
+Hears i w w' old new result = ⊥
+
+-- Where nothing was heard the office is asked.
+abbrev pub ElseAsks : {D R I O : Type 0} → desk.Ghosts D → roads.Ghosts R I O → link_in.Ghosts I → link_out.Ghosts O → Option Acted → WriterRecord → WriterRecord → Option (Link I O) → Option (Link I O) → D → D → R → R → Acted → Type 0
+ElseAsks d r i o (Some x) w w' link link' office office' old new result = (w' ≡ w) × (link' ≡ link) × (office' ≡ office) × (new ≡ old) × (result ≡ x)
+ElseAsks d r i o None w w' link link' office office' old new result = AsksAndDials d r i o w w' link link' office office' old new result
+
+-- What stands next goes before the commit: the end of a connection is a setup that failed.
+pub record HearsOrAsks {D R I O : Type 0} (d : desk.Ghosts D) (r : roads.Ghosts R I O) (i : link_in.Ghosts I) (o : link_out.Ghosts O) (w w' : WriterRecord) (link link' : Option (Link I O)) (office office' : D) (old new : R) (result : Acted) : Type 0 where
+  pub heard : Option Acted
+  pub after : WriterRecord
+  pub held : Option (Link I O)
+  pub hears : Hears i w after link held heard
+  pub else_asks : ElseAsks d r i o heard after w' held link' office office' old new result
+
 -- what isn't used stays
 abbrev pub Leaves : {A : Type 0} → A → A → Type 0 → Type 0
 Leaves old new does = (new ≡ old) × does
@@ -109,7 +152,7 @@ IsIdle w w' link link' result = (w' ≡ w) × (link' ≡ link) × (result ≡ ac
 -- What a step does by where the writer is.
 abbrev pub Acts : {D R I O : Type 0} → desk.Ghosts D → roads.Ghosts R I O → link_in.Ghosts I → link_out.Ghosts O → Phase → WriterRecord → WriterRecord → Option (Link I O) → Option (Link I O) → D → D → R → R → Acted → Type 0
 Acts d r i o (phase.Wanted s) w w' link link' office office' old new result = AsksAndDials d r i o w w' link link' office office' old new result
-Acts d r i o (phase.Accepted s stamp) w w' link link' office office' old new result = AsksAndDials d r i o w w' link link' office office' old new result
+Acts d r i o (phase.Accepted s stamp) w w' link link' office office' old new result = HearsOrAsks d r i o w w' link link' office office' old new result
 Acts d r i o (phase.Stamped s stamp) w w' link link' office office' old new result = Leaves office office' (Dials r i o (own_step w) w w' link link' old new result)
 Acts d r i o (phase.Requested s stamp) w w' link link' office office' old new result = Leaves office office' (Leaves old new (Waits i w w' link link' result))
 Acts d r i o other w w' link link' office office' old new result = Leaves office office' (Leaves old new (IsIdle w w' link link' result))

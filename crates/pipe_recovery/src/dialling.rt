@@ -124,7 +124,11 @@ impl<I: LinkIn, O: LinkOut> Rebuild<I, O> {
         };
         match roads.dial(alloc, port) {
             Ok(end) => {
-                self.link = Some(Link { end, heard });
+                self.link = Some(Link {
+                    end,
+                    heard,
+                    asked: false,
+                });
                 Opened::Answered
             }
             Err(RoadError::Memory) => Opened::Memory,

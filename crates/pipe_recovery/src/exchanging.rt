@@ -1,8 +1,10 @@
 //! The connection of a setup and the roads.
 
+ghost use Rattle.hd_base.specs.Ends.{IsKnown};
 ghost use Rattle.pipe_recovery.specs.Dialling.{LinkIsKnown};
-ghost use Rattle.pipe_recovery.specs.Exchanging.{ExchangesLink, BringsLink};
+ghost use Rattle.pipe_recovery.specs.Exchanging.{Exchanges, ExchangesLink, BringsLink};
 
+use crate::links::Link;
 use crate::rebuilding::Rebuild;
 use hd_base::{ConnId, LinkIn, LinkOut, RoadError, Roads};
 use link_pieces::exchange_end;
@@ -20,7 +22,7 @@ impl<I: LinkIn, O: LinkOut> Rebuild<I, O> {
         ensures { ExchangesLink R.Roads I.LinkIn O.LinkOut take self.old.link self.new.link roads.old roads.new result }
     {
         match &mut self.link {
-            Some(link) => exchange_end(alloc, roads, &mut link.end, take),
+            Some(link) => exchange_link(alloc, roads, link, take),
             None => Ok(()),
         }
     }
@@ -39,4 +41,20 @@ impl<I: LinkIn, O: LinkOut> Rebuild<I, O> {
             None => Ok(()),
         }
     }
+}
+
+/// Exchanges the end of a link.
+fn exchange_link<R: Roads>(
+    alloc: Global,
+    roads: &mut R,
+    link: &mut Link<R::Inward, R::Outward>,
+    take: Option<ConnId>,
+) -> Result<(), RoadError>
+    requires { IsKnown (R.plain roads.old) link.old.end.id.0 }
+    ensures { Exchanges R.Roads R.Inward.LinkIn R.Outward.LinkOut take link.old link.new roads.old roads.new result }
+{
+    if take.is_some() {
+        link.asked = true;
+    }
+    exchange_end(alloc, roads, &mut link.end, take)
 }

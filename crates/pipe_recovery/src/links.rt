@@ -12,6 +12,8 @@ use link_messages::Incoming;
 pub struct Link<I, O> {
     pub(crate) end: Conn<I, O>,
     pub(crate) heard: Heard,
+    /// Whether the roads were asked to give what stands next on a connection: a look doesn't wait there.
+    pub(crate) asked: bool,
 }
 
 impl<I: LinkIn, O: Drop> Link<I, O> {
@@ -32,7 +34,7 @@ impl<I: LinkIn, O: Drop> Link<I, O> {
     /// Takes what stands next, if something does.
     pub(crate) fn take(&mut self) -> Option<Answer>
         ensures taken { result ≡ self.old.heard.next }
-        ensures left { self.new ≡ record { end = self.old.end; heard = record self.old.heard { next = None } } }
+        ensures left { self.new ≡ record self.old { heard = record self.old.heard { next = None } } }
     {
         self.heard.take()
     }

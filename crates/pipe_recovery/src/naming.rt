@@ -1,9 +1,8 @@
 //! Which member an answer to a request names.
 
-ghost use Rattle.std.specs.Prelude.{◌≡◌, ◌↔◌, ◌==◌, ◌++◌, IsTrue};
-ghost use Rattle.std.specs.Cmp.Lexicographic.{pointwise};
+ghost use Rattle.std.specs.Prelude.{◌≡◌, ◌↔◌, ◌++◌, IsTrue};
 ghost use Rattle.node_refs.specs.NodeRefs.{port_of};
-ghost use Rattle.pipe_recovery.specs.Naming.{address_of, named_member};
+ghost use Rattle.pipe_recovery.specs.Naming.{is_address, named_member};
 
 use hd_base::{FIRST_PORT, NodeId};
 use itoa::Buffer;
@@ -21,7 +20,7 @@ pub(crate) fn named_member(members: &[NodeId], text: &[u8]) -> Option<NodeId>
 
 /// Whether this text is the address of a node.
 fn has_address(node: NodeId, text: &[u8]) -> bool
-    ensures { result ≡ pointwise ◌==◌ (address_of node) text.now }
+    ensures { result ≡ is_address text.now node }
 {
     let mut buffer = Buffer::new();
     is_joined(HOST, buffer.format(port(node)).as_bytes(), text)

@@ -4,7 +4,7 @@ ghost use Rattle.std.specs.Prelude.{◌≡◌, true, false, None, is_some, optio
 ghost use Rattle.writer_core.specs.Transitions.{own_step};
 ghost use Rattle.pipe_recovery.specs.Hearing.{told};
 ghost use Rattle.pipe_recovery.specs.Dialling.{LinkIsKnown};
-ghost use Rattle.pipe_recovery.specs.Steps.{fits_in, keeps_link, Acts, AsksAndDials, Takes, WaitsOn, Waits, Settles, Steps, StillFits};
+ghost use Rattle.pipe_recovery.specs.Steps.{fits_in, keeps_link, Acts, AsksAndDials, HearsNext, HearsOn, HearsGiven, Hears, HearsOrAsks, Takes, WaitsOn, Waits, Settles, Steps, StillFits};
 
 use crate::acting::{Acted, move_on};
 use crate::asking::ask;
@@ -129,12 +129,41 @@ impl<I: LinkIn, O: LinkOut> Rebuild<I, O> {
         ensures known { LinkIsKnown (R.plain roads.new) self.new.link }
     {
         match writer.phase() {
-            Phase::Wanted { .. } | Phase::Accepted { .. } => {
-                self.ask_and_dial(alloc, writer, office, roads)
-            }
+            Phase::Wanted { .. } => self.ask_and_dial(alloc, writer, office, roads),
+            Phase::Accepted { .. } => self.hear_or_ask(alloc, writer, office, roads),
             Phase::Stamped { .. } => self.dial(alloc, writer, roads),
             Phase::Requested { .. } => self.wait(writer),
             _ => Acted::Idle,
+        }
+    }
+
+    /// Takes what the roads gave on the connection, where something stands next there; else asks the office.
+    fn hear_or_ask<D: Desk, R: Roads<Inward = I, Outward = O>>(
+        &mut self,
+        alloc: Global,
+        writer: &mut Writer,
+        office: &mut D,
+        roads: &mut R,
+    ) -> Acted
+        requires known { LinkIsKnown (R.plain roads.old) self.old.link }
+        ensures acts { HearsOrAsks D.Desk R.Roads I.LinkIn O.LinkOut writer.old writer.new
+            self.old.link self.new.link office.old office.new roads.old roads.new result }
+        ensures known { LinkIsKnown (R.plain roads.new) self.new.link }
+    {
+        match self.hear(writer) {
+            Some(acted) => acted,
+            None => self.ask_and_dial(alloc, writer, office, roads),
+        }
+    }
+
+    /// Takes what stands next, where the roads were asked to give it and something does.
+    fn hear(&mut self, writer: &mut Writer) -> Option<Acted>
+        ensures hears { Hears I.LinkIn writer.old writer.new self.old.link self.new.link result }
+        ensures same { option_map (λ l. l.end.id) self.new.link ≡ option_map (λ l. l.end.id) self.old.link }
+    {
+        match &mut self.link {
+            Some(link) => hear_given(link, writer),
+            None => None,
         }
     }
 
@@ -198,6 +227,43 @@ impl<I: LinkIn, O: LinkOut> Rebuild<I, O> {
         if let Some(link) = self.link.take() {
             give_up(alloc, roads, link.end);
         }
+    }
+}
+
+/// Takes what stands next on a connection, where the roads were asked to give it and something does.
+fn hear_given<I: LinkIn, O: Drop>(link: &mut Link<I, O>, writer: &mut Writer) -> Option<Acted>
+    ensures hears { HearsGiven I.LinkIn link.old.asked writer.old writer.new link.old link.new result }
+    ensures same { link.new.end.id ≡ link.old.end.id }
+{
+    if link.asked {
+        hear_on(link, writer)
+    } else {
+        None
+    }
+}
+
+/// Takes what stands next on a connection, where something does.
+fn hear_on<I: LinkIn, O: Drop>(link: &mut Link<I, O>, writer: &mut Writer) -> Option<Acted>
+    ensures hears { HearsOn I.LinkIn writer.old writer.new link.old link.new result }
+    ensures same { link.new.end.id ≡ link.old.end.id }
+{
+    match link.look() {
+        Looked::Memory => Some(Acted::Memory),
+        Looked::Known => hear_next(link, writer),
+    }
+}
+
+/// Takes what stands next, where something does.
+fn hear_next<I: LinkIn, O: Drop>(link: &mut Link<I, O>, writer: &mut Writer) -> Option<Acted>
+    ensures hears { HearsNext writer.old writer.new link.old link.new result }
+    ensures same { link.new.end.id ≡ link.old.end.id }
+{
+    match link.take() {
+        Some(answer) => {
+            tell(writer, &answer);
+            Some(Acted::Moved)
+        }
+        None => None,
     }
 }
 
