@@ -117,9 +117,9 @@ module _ {F I O : Type 0} (f : files.Ghosts F) (i : link_in.Ghosts I) (o : link_
       let pending = ap (λ (r : ReplicaRecord). length r.pending) asked.of_history in
       let due : Option Turn = option_map (down_turn m) (due_above m (length (replica_of book).known.pending) seen.above.next) in
       let turns : TurnsIf f o m due took.Above seen new book book' takes.answer =
-        subst (λ (n : ℕ). TurnsIf f o m (option_map (down_turn m) (due_above m n seen.above.next)) took.Above seen new book book' takes.answer) pending takes.takes in
+      subst (λ (n : ℕ). TurnsIf f o m (option_map (down_turn m) (due_above m n seen.above.next)) took.Above seen new book book' takes.answer) pending takes.takes in
       let x = leads f o m took.Above seen new book book' takes.answer due (mapped (IsRuled m seen.mirror) (down_turn m) _ (λ x. down_ruled m seen.mirror x there))
-        (looks.stage ∙ asked.open_by) there (λ e. asked.found_memory (takes.is ∙ failed_memory found takes.answer e)) turns in
+      (looks.stage ∙ asked.open_by) there (λ e. asked.found_memory (takes.is ∙ failed_memory found takes.answer e)) turns in
       (record { seen = seen; found = found; answer = takes.answer; looks = looks; steps = x.0; is = takes.is }, x.1)
 
   down_seen : (m : MemberState) (old seen new : Member I O) (book book' : BookState F) (result : Stepped) (found : Looked) → IsOpenEvent m old book result
@@ -142,9 +142,9 @@ module _ {F I O : Type 0} (f : files.Ghosts F) (i : link_in.Ghosts I) (o : link_
       let there : IsSome seen.mirror → Has m.mirror = (λ (k : IsSome seen.mirror). h (looked_there i _ _ _ _ old.mirror looks.mirror found looks.looks (shut_there o _ looks.mirror seen.mirror looks.shuts k))) in
       let due : Option Turn = option_map (up_turn m (oldest_at (replica_of book))) seen.below.next in
       let turns : TurnsIf f o m due took.Below seen new book book' result =
-        subst (λ (r : ReplicaRecord). TurnsIf f o m (option_map (up_turn m (slice_get r.pending 0)) seen.below.next) took.Below seen new book book' result) asked.of_history takes in
+      subst (λ (r : ReplicaRecord). TurnsIf f o m (option_map (up_turn m (slice_get r.pending 0)) seen.below.next) took.Below seen new book book' result) asked.of_history takes in
       let x = leads f o m took.Below seen new book book' result due (mapped (IsRuled m seen.mirror) (up_turn m (oldest_at (replica_of book))) _ (λ x. up_ruled m seen.mirror _ x))
-        (looks.stage ∙ asked.open_by) there asked.found_memory turns in
+      (looks.stage ∙ asked.open_by) there asked.found_memory turns in
       (record { seen = seen; found = found; looks = looks; steps = x.0 }, x.1)
 
   up_seen : (m : MemberState) (old seen new : Member I O) (book book' : BookState F) (result : Stepped) (found : Looked) → IsOpenEvent m old book result

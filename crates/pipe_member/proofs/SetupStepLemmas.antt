@@ -181,9 +181,10 @@ module _ {F I O : Type 0} (f : files.Ghosts F) (o : link_out.Ghosts O) (e : Even
         member = x.follows.stage;
         replica = noted book book' (replica_event.Other e) false receipt ends.noted;
         told = subst (λ (t : Option (List ℕ)). Tells o t old.upstream.outward new.upstream.outward) text (opens_tell o _ receipt _ _ old new half result quiet x);
-      } in
-      (subst (λ (y : Setup). IsSetup o y old new book') (sym (opens_by _ receipt _ _ x ∙ leads_to false None asked (unrefused_by (replica_of book) e _ refl ends.takes))) here,
-       subst (λ (st : Stage). HoldsMirror st new.mirror) (sym x.follows.stage) (holds_after u.0 u.1.shuts new.mirror (no_mirror o _ old.mirror new.mirror u.0 asked.mirror x.follows.lower)))
+      } in (
+        subst (λ (y : Setup). IsSetup o y old new book') (sym (opens_by _ receipt _ _ x ∙ leads_to false None asked (unrefused_by (replica_of book) e _ refl ends.takes))) here,
+        subst (λ (st : Stage). HoldsMirror st new.mirror) (sym x.follows.stage) (holds_after u.0 u.1.shuts new.mirror (no_mirror o _ old.mirror new.mirror u.0 asked.mirror x.follows.lower)),
+      )
 
   refused_leads : (why : Refusal) (receipt : Receipt) → IsNewRequest (Ok e) old book result → SendsNothing o old.upstream.outward half → BookEnds f book book' (replica_event.Other e) (Err (fault.Refused why receipt))
       → Opens o (opened old.upstream.id old.op (transition book.replica e)).answer receipt stage.Shut shuts.Both (with_outward old half) new result
@@ -196,9 +197,10 @@ module _ {F I O : Type 0} (f : files.Ghosts F) (o : link_out.Ghosts O) (e : Even
         member = x.follows.stage;
         replica = noted book book' (replica_event.Other e) false receipt ends.noted;
         told = subst (λ (t : Option (List ℕ)). Tells o t old.upstream.outward new.upstream.outward) text (opens_tell o _ receipt _ _ old new half result quiet x);
-      } in
-      (subst (λ (y : Setup). IsSetup o y old new book') (sym (opens_by _ receipt _ _ x ∙ leads_to false (Some (request.Core why)) asked (refused_as (replica_of book) e why ends.refused))) here,
-       subst (λ (st : Stage). HoldsMirror st new.mirror) (sym x.follows.stage) tt)
+      } in (
+        subst (λ (y : Setup). IsSetup o y old new book') (sym (opens_by _ receipt _ _ x ∙ leads_to false (Some (request.Core why)) asked (refused_as (replica_of book) e why ends.refused))) here,
+        subst (λ (st : Stage). HoldsMirror st new.mirror) (sym x.follows.stage) tt,
+      )
 
   failed_leads : (receipt : Receipt) → SendsNothing o old.upstream.outward half → BookEnds f book book' (replica_event.Other e) (Err (fault.File receipt))
       → FollowsSetup {I = I} o (opened old.upstream.id old.op (transition book.replica e)) (setup.File receipt) (with_outward old half) new result
@@ -208,9 +210,10 @@ module _ {F I O : Type 0} (f : files.Ghosts F) (o : link_out.Ghosts O) (e : Even
         member = x.says.follows.stage;
         replica = noted book book' (replica_event.Other e) true receipt ends.noted;
         told = opens_tell o _ receipt _ _ old new half x.answer quiet x.says;
-      } in
-      (subst (λ (y : Stepped). IsSetup o (setup_by y old.upstream.id old.op false (replica_of book)) old new book') (sym x.is) here,
-       subst (λ (st : Stage). HoldsMirror st new.mirror) (sym x.says.follows.stage) tt)
+      } in (
+        subst (λ (y : Stepped). IsSetup o (setup_by y old.upstream.id old.op false (replica_of book)) old new book') (sym x.is) here,
+        subst (λ (st : Stage). HoldsMirror st new.mirror) (sym x.says.follows.stage) tt,
+      )
 
   waits_lead : (answered : Bool) (core : MemberState) (mid : Member I O) (receipt : Receipt) → IsNewRequest (Ok e) old book result → SendsNothing o old.upstream.outward half
       → BookEnds f book book' (replica_event.Other e) (Ok receipt) → HasTarget old.op → core ≡ (set_up old.upstream.id old.op answered).0 → mid.upstream ≡ with_half old.upstream half → Waits o receipt core mid new result
@@ -224,9 +227,10 @@ module _ {F I O : Type 0} (f : files.Ghosts F) (o : link_out.Ghosts O) (e : Even
         member = stays ∙ sym (ap (stage_after u.0) w.1);
         replica = noted book book' (replica_event.Other e) false receipt ends.noted;
         told = subst (λ (y : Option Upward). Tells o (texts_of old.op y) old.upstream.outward new.upstream.outward) (sym w.0) (inl (ap (λ (end : Conn I O). o.sent end.outward) (x.upper ∙ same) ∙ quiet.sent));
-      } in
-      (subst (λ (y : Setup). IsSetup o y old new book') (sym (ap (λ (y : Stepped). setup_by y old.upstream.id old.op answered (replica_of book)) x.answer ∙ leads_to answered None asked (unrefused_by (replica_of book) e _ refl ends.takes))) here,
-       subst (λ (st : Stage). HoldsMirror st new.mirror) (sym stays) (holds_open u.0 new.mirror (λ there. w.2)))
+      } in (
+        subst (λ (y : Setup). IsSetup o y old new book') (sym (ap (λ (y : Stepped). setup_by y old.upstream.id old.op answered (replica_of book)) x.answer ∙ leads_to answered None asked (unrefused_by (replica_of book) e _ refl ends.takes))) here,
+        subst (λ (st : Stage). HoldsMirror st new.mirror) (sym stays) (holds_open u.0 new.mirror (λ there. w.2)),
+      )
 
 core_if : (conn : ConnId) (op : WriteFields) (out : Outcome) (answered : Bool) → asked_if (opened conn op out) answered ≡ (set_up conn op answered).0
 core_if conn op out true = refl
@@ -274,12 +278,12 @@ module _ {F I O : Type 0} (o : link_out.Ghosts O) where
   refused_before why old new book result d half never asked says x =
       let refuses = subst (λ (c : ReplicaRecord). request_event old.upstream.id old.op (rule_in c) ≡ Err why) asked.of_history asked.event_is in
       let by = ap (λ (y : Stepped). setup_by y old.upstream.id old.op false (replica_of book)) x.follows.answer
-        ∙ (not_file d shuts.Both old.upstream.id old.op false (replica_of book) (λ receipt. alone_no_fault o _ d old.upstream.outward half receipt says) ∙ ap (request_at old.upstream.id old.op false (replica_of book)) refuses) in
+      ∙ (not_file d shuts.Both old.upstream.id old.op false (replica_of book) (λ receipt. alone_no_fault o _ d old.upstream.outward half receipt says) ∙ ap (request_at old.upstream.id old.op false (replica_of book)) refuses) in
       let here : IsSetup o (refused_request (replica_of book) why) old new book = record {
         member = x.follows.stage;
         replica = refl;
         told = told_end o _ (loses_upstream d) old.upstream.outward x.upper new.upstream
-          (told_end o _ true old.upstream.outward (with_half old.upstream half) x.upper (alone_tells o _ d old.upstream.outward half never says) x.shut) x.follows.upper;
+            (told_end o _ true old.upstream.outward (with_half old.upstream half) x.upper (alone_tells o _ d old.upstream.outward half never says) x.shut) x.follows.upper;
       } in
       (subst (λ (y : Setup). IsSetup o y old new book) (sym by) here, subst (λ (st : Stage). HoldsMirror st new.mirror) (sym x.follows.stage) tt)
 
