@@ -17,7 +17,7 @@ pub returns-in-Some : goal.returns-in-Some
 returns-in-Some c =
     let is = strip_prefix_is Decides-eqb c.args.text.now c.args.front.now c.strip_prefix.result c.strip_prefix.ensures.cases in
     joined_with c.args.front.now c.args.back.now c.in-Some.rest.now c.args.text.now c.eq.result (rw c.in-Some.is at is)
-        (slice_eq-Decides Decides-eqb c.in-Some.rest.now c.args.back.now c.eq.result c.eq.ensures)
+    (slice_eq-Decides Decides-eqb c.in-Some.rest.now c.args.back.now c.eq.result c.eq.ensures)
 
 pub returns-in-None : goal.returns-in-None
 returns-in-None c =
