@@ -1,5 +1,5 @@
 -- What the writer asks of the name office.
-use Rattle.std.specs.Prelude.{◌≡◌, ◌⊎◌, Option, option_map, IfOk, Result, Ok, Err}
+use Rattle.std.specs.Prelude.{◌≡◌, ◌⊎◌, option_map, IfOk, Result, Err}
 use Rattle.name_core.specs.declared.calls.OfficeAnswer.{OfficeAnswer}
 use Rattle.name_core.specs.declared.calls.OfficeCall.{OfficeCall}
 use Rattle.name_core.specs.declared.desks.Desk as desk

@@ -1,5 +1,5 @@
 -- How a step of a setup ends.
-use Rattle.std.specs.Prelude.{◌≡◌, ◌||◌, Bool, true, false, not, length, ◌==◌, if◌then◌else◌, Option, Some, None, is_some}
+use Rattle.std.specs.Prelude.{◌≡◌, ◌||◌, Bool, true, false, Option, Some, None, is_some}
 use Rattle.hd_base.specs.declared.links.LinkIn as link_in
 use Rattle.writer_core.specs.declared.phases.Failure.{Failure}
 use Rattle.writer_core.specs.declared.phases.Failure.TheVariants as failure

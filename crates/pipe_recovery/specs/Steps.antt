@@ -1,5 +1,5 @@
 -- The steps of a setup.
-use Rattle.std.specs.Prelude.{◌≡◌, ◌⊎◌, not, ◌||◌, Bool, true, false, Option, Some, None}
+use Rattle.std.specs.Prelude.{◌≡◌, not, ◌||◌, Bool, true, false, Option, Some, None}
 use Rattle.hd_base.specs.declared.links.LinkIn as link_in
 use Rattle.hd_base.specs.declared.links.LinkOut as link_out
 use Rattle.hd_base.specs.declared.roads.Roads as roads
