@@ -23,7 +23,7 @@ use Rattle.writer_core.specs.declared.phases.Setup.{Setup}
 use Rattle.writer_core.specs.declared.phases.Setup.TheVariants as setup
 use Rattle.writer_core.specs.declared.phases.Waiting.{Waiting}
 use Rattle.writer_core.specs.declared.records.WriterRecord.{WriterRecord}
-use Rattle.writer_core.specs.Transitions.{Step, own_step, step_in, free_step_as, take_first, granted, granted_as, asks, refused}
+use Rattle.writer_core.specs.Transitions.{own_step, step_in, free_step_as, take_first, granted, granted_as, asks}
 use Rattle.pipe_recovery.specs.declared.acting.Acted.{Acted}
 use Rattle.pipe_recovery.specs.declared.acting.Acted.TheVariants as acted
 use Rattle.pipe_recovery.specs.declared.dialling.Opened.{Opened}

@@ -3,7 +3,6 @@ use Rattle.std.proofs.Common.{◌≡◌, ℕ, Bool, true, false, if◌then◌els
 use Rattle.std.specs.Prelude.{slice_get}
 use Rattle.hd_base.specs.declared.numbers.NodeId.{NodeId}
 use Rattle.hd_base.specs.declared.numbers.Stamp.{Stamp}
-use Rattle.ack_codec.specs.declared.responses.Response.{Response}
 use Rattle.name_core.specs.declared.calls.OfficeAnswer.{OfficeAnswer}
 use Rattle.name_core.specs.declared.calls.OfficeAnswer.TheVariants as office
 use Rattle.name_core.specs.declared.calls.Reopened.{Reopened}
@@ -21,7 +20,7 @@ use Rattle.writer_core.specs.declared.phases.Setup.TheVariants as setup
 use Rattle.writer_core.specs.declared.phases.Waiting.{Waiting}
 use Rattle.writer_core.specs.declared.records.WriterRecord.{WriterRecord}
 use Rattle.writer_core.specs.Phases.{remedy_in, remedy_after, bad_place, is_success, without}
-use Rattle.writer_core.specs.Transitions.{own_step, step_in, dial_step_as, free_step_as, take_first, taken_as, granted, granted_as, granted_in, stamp_given, stamped, reopened, commit_given, committed_as, complete_given, asks, refused, dropped, fail_for, fail_named, fail_at, ended, ended_as, dialled, dialled_in, setup_answered, setup_answered_in}
+use Rattle.writer_core.specs.Transitions.{own_step, step_in, dial_step_as, free_step_as, take_first, taken_as, granted, granted_as, granted_in, stamp_given, stamped, reopened, commit_given, committed_as, asks, refused, dropped, fail_for, fail_named, fail_at, ended, ended_as, dialled, dialled_in, setup_answered, setup_answered_in}
 use Rattle.pipe_recovery.specs.declared.hearing.Answer.{Answer}
 use Rattle.pipe_recovery.specs.declared.hearing.Answer.TheVariants as answer
 use Rattle.pipe_recovery.specs.Hearing.{told}

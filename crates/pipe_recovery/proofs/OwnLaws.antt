@@ -1,5 +1,5 @@
 -- Where an own step of the writer is enabled while a pipeline is set up.
-use Rattle.std.proofs.Common.{◌≡◌, ◌==◌, ◌&&◌, not, Bool, true, false, List, [], ◌∷◌, length, Option, Some, None, is_some, is_none, refl, ap, arith}
+use Rattle.std.proofs.Common.{◌≡◌, ◌==◌, ◌&&◌, not, true, false, List, [], ◌∷◌, length, Option, Some, None, is_some, is_none, refl, ap, arith}
 use Rattle.std.proofs.lemmas.Bool.Decides.{nat_tests}
 use Rattle.std.specs.Prelude.{slice_get}
 use Rattle.hd_base.specs.declared.numbers.NodeId.{NodeId}

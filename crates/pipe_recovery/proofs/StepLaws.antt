@@ -1,24 +1,20 @@
 -- A step leaves the setup where another may be done, unless it has ended.
-use Rattle.std.proofs.Common.{◌≡◌, ℕ, Bool, true, false, if◌then◌else◌, List, Option, Some, None, is_some, Result, Ok, Err, inl, inr, refl, sym, ap, subst, ◌∙◌}
+use Rattle.std.proofs.Common.{◌≡◌, ℕ, Bool, true, false, List, Option, Some, None, is_some, Result, Ok, Err, inl, inr, refl, sym, ap, subst}
 use Rattle.hd_base.specs.declared.ends.Conn.{Conn}
 use Rattle.hd_base.specs.declared.links.LinkError.{LinkError}
 use Rattle.hd_base.specs.declared.links.LinkIn as link_in
 use Rattle.hd_base.specs.declared.links.LinkOut as link_out
 use Rattle.hd_base.specs.declared.numbers.NodeId.{NodeId}
 use Rattle.hd_base.specs.declared.roads.Roads as roads
-use Rattle.name_core.specs.declared.calls.OfficeAnswer.{OfficeAnswer}
 use Rattle.name_core.specs.declared.desks.Desk as desk
-use Rattle.name_core.specs.declared.faults.OfficeFault.{OfficeFault}
-use Rattle.name_core.specs.declared.faults.OfficeFault.TheVariants as fault
 use Rattle.op_headers.specs.declared.ops.Op.{Op}
 use Rattle.writer_core.specs.declared.actions.Action.{Action}
 use Rattle.writer_core.specs.declared.actions.Action.TheVariants as action
 use Rattle.writer_core.specs.declared.phases.Phase.{Phase}
 use Rattle.writer_core.specs.declared.phases.Phase.TheVariants as phase
-use Rattle.writer_core.specs.declared.phases.Setup.{Setup}
 use Rattle.writer_core.specs.declared.phases.Setup.TheVariants as setup
 use Rattle.writer_core.specs.declared.records.WriterRecord.{WriterRecord}
-use Rattle.writer_core.specs.Transitions.{Step, own_step, granted, dialled, ended, is_connected}
+use Rattle.writer_core.specs.Transitions.{own_step, dialled}
 use Rattle.pipe_recovery.specs.declared.acting.Acted.{Acted}
 use Rattle.pipe_recovery.specs.declared.acting.Acted.TheVariants as acted
 use Rattle.pipe_recovery.specs.declared.dialling.Opened.{Opened}
@@ -31,7 +27,7 @@ use Rattle.pipe_recovery.specs.Acting.{MovesOn}
 use Rattle.pipe_recovery.specs.Asking.{Asks, AsksBy}
 use Rattle.pipe_recovery.specs.Dialling.{asked_after, SendsTo, Sends, Opens, FollowsDial, Unreached, Reaches, no_memory, no_way, dials, ReachesPort, DialsBy, Dials}
 use Rattle.pipe_recovery.specs.Reports.{leads_in}
-use Rattle.pipe_recovery.specs.Steps.{fits_in, is_stamped, keeps_link, Takes, TakesAs, FollowsLook, HearsNextAs, HearsSeen, HearsGiven, Hears, ElseAsks, Waits, GoesOn, AsksAndDials, Acts, Settles}
+use Rattle.pipe_recovery.specs.Steps.{fits_in, is_stamped, keeps_link, TakesAs, FollowsLook, HearsNextAs, HearsSeen, HearsGiven, Hears, ElseAsks, Waits, GoesOn, AsksAndDials, Acts, Settles}
 use Rattle.pipe_recovery.proofs.Leads.{Leads, IsAsking, IsRequested, fits-leads, leads-more, ended-leads, undialled-leads, dialled-leads, told-leads, granted-leads, stamped-same, asking-same, requested-leads}
 
 asked-leads : (w : WriterRecord) (sending : Result ℕ LinkError) → Leads w true → Leads (asked_after w sending) true

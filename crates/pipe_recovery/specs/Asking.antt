@@ -1,5 +1,5 @@
 -- What the writer asks of the name office.
-use Rattle.std.specs.Prelude.{◌≡◌, ◌⊎◌, Option, option_map, IfOk, Result, Ok, Err}
+use Rattle.std.specs.Prelude.{◌≡◌, ◌⊎◌, option_map, IfOk, Result, Err}
 use Rattle.name_core.specs.declared.calls.OfficeAnswer.{OfficeAnswer}
 use Rattle.name_core.specs.declared.calls.OfficeCall.{OfficeCall}
 use Rattle.name_core.specs.declared.desks.Desk as desk
@@ -24,7 +24,8 @@ asked_by action.Memory = acted.Memory
 asked_by other = acted.Idle
 
 -- A call is put to the office, and the writer told its answer.
-pub record IsPut {D : Type 0} (d : desk.Ghosts D) (call : OfficeCall) (w w' : WriterRecord) (old new : D) (result : Acted) : Type 0 where
+pub record IsPut {D : Type 0} (d : desk.Ghosts D) (call : OfficeCall) (w w' : WriterRecord) (old new : D)
+    (result : Acted) : Type 0 where
   pub answer : Result OfficeAnswer OfficeFault
   pub fits : IfOk answer (FitsCall call)
   pub answers : AnswersAsOffice (d.office old) call answer
@@ -44,4 +45,5 @@ AsksBy d other w w' old new result = IsUnasked w w' old new (asked_by other) res
 
 -- The writer's own step asks the office, or memory was wanting for it.
 abbrev pub Asks : {D : Type 0} → desk.Ghosts D → Step → WriterRecord → WriterRecord → D → D → Acted → Type 0
-Asks d s w w' old new result = IsUnasked w w' old new acted.Memory result ⊎ AsksBy d s.action s.writer w' old new result
+Asks d s w w' old new result = IsUnasked w w' old new acted.Memory result
+    ⊎ AsksBy d s.action s.writer w' old new result

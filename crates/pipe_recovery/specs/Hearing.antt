@@ -37,7 +37,8 @@ looked_of came.Memory = looked.Memory
 looked_of other = looked.Known
 
 -- What comes next of the link is what stands next then.
-pub record Receives {I : Type 0} (i : link_in.Ghosts I) (old new : HeardState) (half half' : I) (found : Looked) : Type 0 where
+pub record Receives {I : Type 0} (i : link_in.Ghosts I) (old new : HeardState) (half half' : I) (found : Looked)
+    : Type 0 where
   pub came : Next Response
   pub comes : NextEnds responses i old.received new.received half half' came
   pub stands : new.next ≡ answer_of came

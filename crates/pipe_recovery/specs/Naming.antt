@@ -1,5 +1,5 @@
 -- Which member an answer to a request names.
-use Rattle.std.specs.Prelude.{ℕ, Bool, ◌==◌, ◌++◌, List, [], ◌∷◌, find, Option}
+use Rattle.std.specs.Prelude.{ℕ, Bool, ◌==◌, List, [], ◌∷◌, find, Option}
 use Rattle.std.specs.Cmp.Lexicographic.{pointwise}
 use Rattle.hd_base.specs.declared.numbers.NodeId.{NodeId}
 use Rattle.member_core.specs.Requests.{first_address}

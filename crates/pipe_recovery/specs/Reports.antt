@@ -1,5 +1,5 @@
 -- How a step of a setup ends.
-use Rattle.std.specs.Prelude.{◌≡◌, ◌||◌, Bool, true, false, not, length, ◌==◌, if◌then◌else◌, Option, Some, None, is_some}
+use Rattle.std.specs.Prelude.{◌≡◌, ◌||◌, Bool, true, false, Option, Some, None, is_some}
 use Rattle.hd_base.specs.declared.links.LinkIn as link_in
 use Rattle.writer_core.specs.declared.phases.Failure.{Failure}
 use Rattle.writer_core.specs.declared.phases.Failure.TheVariants as failure
@@ -60,17 +60,20 @@ Sees w l looked.Memory result = result ≡ step.Ended rebuilt.Memory
 Sees w l looked.Known result = result ≡ moved_if (is_some l.heard.next || has_own_step w)
 
 -- Where an answer is awaited it is looked at what stands next.
-pub record AwaitsOn {I O : Type 0} (i : link_in.Ghosts I) (w : WriterRecord) (old new : Link I O) (result : RebuildStep I O) : Type 0 where
+pub record AwaitsOn {I O : Type 0} (i : link_in.Ghosts I) (w : WriterRecord) (old new : Link I O)
+    (result : RebuildStep I O) : Type 0 where
   pub found : Looked
   pub looks : LooksAt i old new found
   pub sees : Sees w new found result
 
-abbrev pub Awaits : {I O : Type 0} → link_in.Ghosts I → WriterRecord → Option (Link I O) → Option (Link I O) → RebuildStep I O → Type 0
+abbrev pub Awaits : {I O : Type 0} → link_in.Ghosts I → WriterRecord → Option (Link I O) → Option (Link I O)
+    → RebuildStep I O → Type 0
 Awaits i w (Some old) (Some new) result = AwaitsOn i w old new result
 Awaits i w old new result = ⊥
 
 -- It ends so, and what the setup holds stays.
-abbrev pub EndsAs : {I O : Type 0} → Option (Link I O) → Option (Link I O) → RebuildStep I O → RebuildStep I O → Type 0
+abbrev pub EndsAs : {I O : Type 0} → Option (Link I O) → Option (Link I O) → RebuildStep I O → RebuildStep I O
+    → Type 0
 EndsAs old new why result = (new ≡ old) × (result ≡ why)
 
 abbrev pub ReportsAccepted : {I O : Type 0} → Setup → Option (Link I O) → Option (Link I O) → RebuildStep I O → Type 0
@@ -78,7 +81,8 @@ ReportsAccepted setup.Create old new result = Streams old new result
 ReportsAccepted s old new result = EndsAs old new step.Moved result
 
 -- How a step ends by where the writer is then: the setup has ended, or more can be done, or not.
-abbrev pub ReportsAt : {I O : Type 0} → link_in.Ghosts I → Phase → WriterRecord → Option (Link I O) → Option (Link I O) → RebuildStep I O → Type 0
+abbrev pub ReportsAt : {I O : Type 0} → link_in.Ghosts I → Phase → WriterRecord → Option (Link I O)
+    → Option (Link I O) → RebuildStep I O → Type 0
 ReportsAt i (phase.Accepted s stamp) w old new result = ReportsAccepted s old new result
 ReportsAt i phase.Opened w old new result = Streams old new result
 ReportsAt i (phase.Streaming sent) w old new result = Streams old new result
@@ -88,6 +92,7 @@ ReportsAt i (phase.Requested s stamp) w old new result = Awaits i w old new resu
 ReportsAt i other w old new result = EndsAs old new (moved_if (has_own_step w)) result
 
 -- The same, but where memory ran out in the action.
-abbrev pub Reports : {I O : Type 0} → link_in.Ghosts I → Acted → WriterRecord → Option (Link I O) → Option (Link I O) → RebuildStep I O → Type 0
+abbrev pub Reports : {I O : Type 0} → link_in.Ghosts I → Acted → WriterRecord → Option (Link I O) → Option (Link I O)
+    → RebuildStep I O → Type 0
 Reports i acted.Memory w old new result = EndsAs old new (step.Ended rebuilt.Memory) result
 Reports i other w old new result = ReportsAt i w.phase w old new result

@@ -11,8 +11,8 @@ use std::alloc::Global;
 use std::sync::Wait;
 use writer_core::Writer;
 
-/// Sets up the pipeline that a writer wants, step by step, and waits where the answer to its request isn't there yet. After
-/// `Memory` the writer is as after the last action that was done, and a connection that it had is given up.
+/// Sets up the pipeline that a writer wants, step by step, and waits where the answer to its request isn't there yet.
+/// After `Memory` the writer is as after the last action that was done, and a connection that it had is given up.
 pub fn rebuild<H: Wait, D: Desk, R: Roads>(
     rt: &H,
     alloc: Global,

@@ -11,7 +11,7 @@ use link_pieces::exchange_end;
 use std::alloc::Global;
 
 impl<I: LinkIn, O: LinkOut> Rebuild<I, O> {
-    /// Exchanges the writer's connection, if there is one, with the roads that gave it, with `take` where it is this one.
+    /// Exchanges the writer's connection, if there is one, with the roads that gave it, with `take` where it is named.
     pub fn exchange<R: Roads<Inward = I, Outward = O>>(
         &mut self,
         alloc: Global,
@@ -43,7 +43,7 @@ impl<I: LinkIn, O: LinkOut> Rebuild<I, O> {
     }
 }
 
-/// Exchanges the end of a link.
+/// Exchanges the end of a link. Whoever asks the roads to give what stands next knows that a look doesn't wait.
 fn exchange_link<R: Roads>(
     alloc: Global,
     roads: &mut R,

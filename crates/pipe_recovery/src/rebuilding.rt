@@ -4,7 +4,23 @@ ghost use Rattle.std.specs.Prelude.{◌≡◌, true, false, None, is_some, optio
 ghost use Rattle.writer_core.specs.Transitions.{own_step};
 ghost use Rattle.pipe_recovery.specs.Hearing.{told};
 ghost use Rattle.pipe_recovery.specs.Dialling.{LinkIsKnown};
-ghost use Rattle.pipe_recovery.specs.Steps.{fits_in, keeps_link, Acts, AsksAndDials, HearsNext, HearsOn, HearsGiven, Hears, HearsOrAsks, Takes, WaitsOn, Waits, Settles, Steps, StillFits};
+ghost use Rattle.pipe_recovery.specs.Steps.{
+  fits_in,
+  keeps_link,
+  Acts,
+  AsksAndDials,
+  HearsNext,
+  HearsOn,
+  HearsGiven,
+  Hears,
+  HearsOrAsks,
+  Takes,
+  WaitsOn,
+  Waits,
+  Settles,
+  Steps,
+  StillFits,
+};
 
 use crate::acting::{Acted, move_on};
 use crate::asking::ask;
@@ -74,8 +90,9 @@ impl<I: LinkIn, O: LinkOut> Rebuild<I, O> {
         }
     }
 
-    /// Whether a step may be done for this writer: a pipeline is wanted, or this setup has begun it and hasn't ended. It
-    /// may after each step that didn't end the setup, and after `Memory`, whatever commands the writer was given since.
+    /// Whether a step may be done for this writer: a pipeline is wanted, or this setup has begun it and hasn't ended.
+    /// It may after each step that didn't end the setup, and after `Memory`, whatever commands the writer was given
+    /// since.
     pub fn fits(&self, writer: &Writer) -> bool
         ensures { result ≡ fits_in writer.now.phase (is_some self.now.link) }
     {
@@ -93,9 +110,10 @@ impl<I: LinkIn, O: LinkOut> Rebuild<I, O> {
         }
     }
 
-    /// Does the writer's own step, or takes the answer to its request: asks the office and goes on with the dial, dials and
-    /// sends the request, or takes a command while the answer is awaited. A connection that the writer no longer has is
-    /// given up.
+    /// Does the writer's own step, or takes the answer to its request: asks the office and goes on with the dial,
+    /// dials and sends the request, or takes a command while the answer is awaited. Before a stamp is committed it
+    /// takes what the roads were asked to give on the connection, so that an end there is a setup that failed. A
+    /// connection that the writer no longer has is given up.
     pub fn step<D: Desk, R: Roads<Inward = I, Outward = O>>(
         &mut self,
         alloc: Global,
@@ -303,7 +321,7 @@ fn tell(writer: &mut Writer, answer: &Answer)
     }
 }
 
-/// Whether a connection of the setup is kept: the writer has it, or its dial was answered and the request is to be sent.
+/// Whether a connection of the setup is kept: the writer has it, or its dial was answered and the request is due.
 fn keeps_link(writer: &Writer) -> bool
     ensures { result ≡ keeps_link writer.now.phase }
 {

@@ -1,5 +1,5 @@
 -- The first member of which this is the address is found.
-use Rattle.std.proofs.Common.{◌≡◌, Some, None, option_map, Bor, ◌∙◌, rules, tests}
+use Rattle.std.proofs.Common.{◌≡◌, option_map, Bor, ◌∙◌, rules, tests}
 use Rattle.std.proofs.lemmas.Iterator.{YieldsList-from_slice}
 use Rattle.std.proofs.lemmas.Iterator.Search.{find_from_yields_List}
 use Rattle.hd_base.specs.declared.numbers.NodeId.{NodeId}
