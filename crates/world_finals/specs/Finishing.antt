@@ -85,8 +85,8 @@ pub record EndsAt (g : Givens) (w : World) (b stamp n : ℕ) : Type 0 where
   pub shut : Sealed (w.latest b) (heard (w.writers b)) session
   pub length : n ≡ length (w.written session)
 
--- The length of what is FINALIZED under a stamp: under a recovery's id the one that was sent as its length, and under a setup's stamp all that
--- was written in the session.
+-- The length of what is FINALIZED under a stamp: under a recovery's id the one that was sent as its length, and under
+-- a setup's stamp all that was written in the session.
 pub data FinalLength (f : Ids) (g : Givens) (w : World) (b stamp n : ℕ) : Type 0 where
   of_recovery : f stamp ≡ true → (c d : ℕ) → Updates w.past c d (record { 0 = stamp }) n → FinalLength f g w b stamp n
   of_session : f stamp ≡ false → EndsAt g w b stamp n → FinalLength f g w b stamp n
@@ -118,7 +118,8 @@ IsFinalOf f g w b i = i.original ≡ state.Finalized → FinalLength f g w b i.s
 
 -- where the last packet is pending, all was written
 pub record LastPending (g : Givens) (w : World) (b : ℕ) (pending : List PendingPacket) (i : ReplicaInfo) : Type 0 where
-  pub ends : (j : ℕ) (e : PendingPacket) → slice_get pending j ≡ Some e → e.last ≡ true → EndsAt g w b i.stamp.0 i.written
+  pub ends : (j : ℕ) (e : PendingPacket) → slice_get pending j ≡ Some e → e.last ≡ true →
+      EndsAt g w b i.stamp.0 i.written
 
 pub record ReplicaEnds (f : Ids) (g : Givens) (w : World) (b : ℕ) (r : FullReplica) : Type 0 where
   pub final : IfSome r.known.info (IsFinalOf f g w b)
@@ -126,7 +127,8 @@ pub record ReplicaEnds (f : Ids) (g : Givens) (w : World) (b : ℕ) (r : FullRep
 
 -- a replica that was FINALIZED before and after an event has as many bytes as before
 pub record KeepsFinal (o p : Option ReplicaInfo) : Type 0 where
-  pub same : (i k : ReplicaInfo) → o ≡ Some i → p ≡ Some k → i.original ≡ state.Finalized → k.original ≡ state.Finalized → k.written ≡ i.written
+  pub same : (i k : ReplicaInfo) → o ≡ Some i → p ≡ Some k → i.original ≡ state.Finalized →
+      k.original ≡ state.Finalized → k.written ≡ i.written
 
 pub record BreakEnds (f : Ids) (g : Givens) (w : World) (b : ℕ) (x : Break) : Type 0 where
   pub before : IfSome x.before.known.info (IsFinalOf f g w b)
@@ -162,12 +164,14 @@ has_packets (phase.Streaming sent) = true
 has_packets phase.Closing = true
 has_packets _ = false
 
--- Where a close waits, or the block is closed, no more is taken in but an append; and the last packet was formed only where a close waits.
+-- Where a close waits, or the block is closed, no more is taken in but an append; and the last packet was formed only
+-- where a close waits.
 pub record WriterEnds (x : WriterRecord) : Type 0 where
   pub shut : x.waiting ≡ Some waiting.Close → is_open x.intake.stand ≡ false
   pub closing : is_closing x.phase ≡ true → x.waiting ≡ Some waiting.Close
   pub closed : x.phase ≡ phase.Closed → is_open x.intake.stand ≡ false
-  pub last : has_packets x.phase ≡ true → (i : ℕ) (p : Packet) → slice_get x.stream.unacked i ≡ Some p → p.last ≡ true → is_closing x.phase ≡ true
+  pub last : has_packets x.phase ≡ true → (i : ℕ) (p : Packet) → slice_get x.stream.unacked i ≡ Some p →
+      p.last ≡ true → is_closing x.phase ≡ true
 
 -- THE WORLD
 

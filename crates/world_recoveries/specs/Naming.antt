@@ -1,5 +1,5 @@
--- Nothing is committed under a recovery: what a writer knows as committed, and what was answered, is of no stamp between the one that a recovery names
--- and its id.
+-- Nothing is committed under a recovery: what a writer knows as committed, and what was answered, is of no stamp
+-- between the one that a recovery names and its id.
 use Rattle.std.specs.Prelude.{ℕ, ◌≡◌, ◌<◌, ◌≤◌, List, slice_get, Some, IfSome, Ok}
 use Rattle.hd_base.specs.declared.numbers.BlockId.{BlockId}
 use Rattle.hd_base.specs.declared.numbers.Stamp.{Stamp}
@@ -20,7 +20,8 @@ use Rattle.world_recoveries.specs.Recovering.{ReplicaTold, Informs}
 abbrev pub known_stamp : World → ℕ → ℕ
 known_stamp w b = (heard (w.writers b)).committed.0
 
--- A recovery of a block names a stamp: below its id no later stamp is known to the block's writer as committed, or was answered.
+-- A recovery of a block names a stamp: below its id no later stamp is known to the block's writer as committed, or
+-- was answered.
 pub record IsNamed (g : Givens) (w : World) (b : ℕ) (named id : Stamp) : Type 0 where
   pub session : ℕ
   pub given : g b id.0 ≡ Some session
@@ -53,10 +54,13 @@ pub record Naming (g : Givens) (w : World) : Type 0 where
 
 -- So it is after every list of events, of the stamps that are given in them.
 abbrev pub AllNaming : Type 0
-AllNaming = (nodes : ℕ) (events : List Event) → Naming (given_in none_given (start nodes) events) (run (start nodes) events)
+AllNaming = (nodes : ℕ) (events : List Event) →
+    Naming (given_in none_given (start nodes) events) (run (start nodes) events)
 
 -- LAWS
 
--- What is told on a recovery's connection is of no earlier stamp than any that a length of the block was answered under, and that is below its id.
+-- What is told on a recovery's connection is of no earlier stamp than any that a length of the block was answered
+-- under, and that is below its id.
 abbrev pub NoneStale : World → Type 0
-NoneStale w = (c b : ℕ) (id : Stamp) (i : ReplicaTold) → Informs w.past c b id i → (a : Answered) → Has w.answered a → a.block ≡ b → a.stamp < id.0 → a.stamp ≤ i.1.0
+NoneStale w = (c b : ℕ) (id : Stamp) (i : ReplicaTold) → Informs w.past c b id i → (a : Answered) → Has w.answered a →
+    a.block ≡ b → a.stamp < id.0 → a.stamp ≤ i.1.0

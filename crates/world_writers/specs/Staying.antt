@@ -5,8 +5,8 @@ use Rattle.world.specs.Worlds.{World}
 use Rattle.world.specs.Safe.{Has, Steady, KeptAt}
 use Rattle.world_acks.specs.Acking.{UpdatesLeave}
 
--- Bytes for which an hflush, hsync or close was answered stay at each member that is steady since the stamp of the answer, where each later
--- recovery that updated it in this life left it at least so many.
+-- Bytes for which an hflush, hsync or close was answered stay at each member that is steady since the stamp of the
+-- answer, where each later recovery that updated it in this life left it at least so many.
 abbrev pub AnsweredStay : World → Type 0
 AnsweredStay w = (a : Answered) (m : NodeId) → Has w.answered a → Has a.members m → Steady w a.block a.stamp m.0 →
     UpdatesLeave w a.block a.stamp m.0 (w.lives m.0) a.length → KeptAt w a m.0

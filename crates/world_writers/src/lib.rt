@@ -33,21 +33,21 @@ pub fn writers_know_their_pipeline()
     ensures { AllPiped }
 {}
 
-/// The bytes that are acked at a writer are shown by each member of its pipeline, as long as it runs in the life in which
-/// it accepted the setup and its replica isn't broken, as far as later recoveries that updated it left them.
+/// The bytes that are acked at a writer are shown by each member of its pipeline, as long as it runs in the life in
+/// which it accepted the setup and its replica isn't broken, as far as later recoveries that updated it left them.
 pub fn acked_bytes_are_shown()
     ensures { AllShow }
 {}
 
-/// Each member that an answer to a flush, a sync or a close names was asked to accept a setup of the answer's stamp, and
-/// shows the answered bytes, as long as it runs in the life in which it accepted that and its replica isn't broken, as far
-/// as later recoveries that updated it left them.
+/// Each member that an answer to a flush, a sync or a close names was asked to accept a setup of the answer's stamp,
+/// and shows the answered bytes, as long as it runs in the life in which it accepted that and its replica isn't
+/// broken, as far as later recoveries that updated it left them.
 pub fn answered_members_show()
     ensures { AllSit }
 {}
 
-/// A node accepts the setup of a stamp once: of the requests under a stamp at most one waits to be taken, and it reaches
-/// no node twice, and none that has accepted it.
+/// A node accepts the setup of a stamp once: of the requests under a stamp at most one waits to be taken, and it
+/// reaches no node twice, and none that has accepted it.
 pub fn setups_are_accepted_once()
     ensures { AllJoin }
 {}
