@@ -59,6 +59,9 @@ pub record Joins (w : World) : Type 0 where
   pub sessions : (b t e : ℕ) → setups b t ≡ Some e → w.session_of t ≡ e
   pub early : (b t e : ℕ) → setups b t ≡ Some e → e < w.office.next.0
   pub late : (b : ℕ) → w.latest b < w.office.next.0
+  -- they are of no session later than the latest, and a later one is of no earlier session
+  pub within : (b t e : ℕ) → setups b t ≡ Some e → e ≤ w.latest b
+  pub order : (b t u e d : ℕ) → setups b t ≡ Some e → setups b u ≡ Some d → t ≤ u → e ≤ d
   -- what was answered in a writer's session is acked there, and each later setup of the session asks for it
   pub answered : (a : Answered) → Has w.answered a → (e : ℕ) × (setups a.block a.stamp ≡ Some e)
   pub acked : (a : Answered) → Has w.answered a → setups a.block a.stamp ≡ Some (w.latest a.block) →
