@@ -10,7 +10,7 @@ ghost use Rattle.world_writers.specs.Moving.{AllMove, AllReached};
 ghost use Rattle.world_writers.specs.Piping.{AllPiped};
 ghost use Rattle.world_writers.specs.Settling.{AllSit};
 ghost use Rattle.world_writers.specs.Showing.{AllShow};
-ghost use Rattle.world_writers.specs.Staying.{AnsweredStay};
+ghost use Rattle.world_writers.specs.Staying.{AnsweredStay, LatestStay};
 ghost use Rattle.world_writers.specs.Taking.{AllJoin};
 
 use world::Schedule;
@@ -57,4 +57,11 @@ pub fn setups_are_accepted_once()
 pub fn answered_bytes_stay(schedule: &Schedule)
     requires few { schedule.now.nodes ≤ MAX_NODES }
     ensures { AnsweredStay (run (start schedule.now.nodes) schedule.now.events) }
+{}
+
+/// Bytes of the latest session of a block for which a flush, a sync or a close was answered stay at each member that is
+/// steady since the stamp of the answer: later recoveries that updated it in this life left it at least so many.
+pub fn latest_answers_stay(schedule: &Schedule)
+    requires few { schedule.now.nodes ≤ MAX_NODES }
+    ensures { LatestStay (run (start schedule.now.nodes) schedule.now.events) }
 {}
