@@ -27,13 +27,13 @@ first-more (x ∷ xs) ys m e = e
 pub begins-first : (xs ys : List Message) (m : Message) → Begins xs ys → slice_get xs 0 ≡ Some m → slice_get ys 0 ≡ Some m
 begins-first xs ys m b e = subst (λ (zs : List Message). slice_get zs 0 ≡ Some m) b.joins (first-more xs b.rest m e)
 
-pub apply-onward : (g k : Givens) (t u : Ends) (w : World) (c : Change) → Steps w c → Recovering g w → TellsFrom w (apply w c) → ((n b : ℕ) → IsFull (w.replicas n b)) → IsFull c.replica
+pub apply-onward : (g k : Givens) (t u : Ends) (w : World) (c : Change) → Steps w c → Recovering g w → TellsFrom w (apply w c) → Recovering k (apply w c) → ((n b : ℕ) → IsFull (w.replicas n b)) → IsFull c.replica
     → ((b s e : ℕ) → g b s ≡ Some e → k b s ≡ Some e) → ((e : ℕ) (x : PacketEnd) (q : ℤ) → t e q ≡ Some x → u e q ≡ Some x) → Onward g k t u w (apply w c)
 unfolding apply
-apply-onward g k t u w c st rec tells full new given named =
+apply-onward g k t u w c st rec tells next full new given named =
     let y = apply-grows w c in
     record {
-      seats = λ b s e n j h. seat-apply g w c b s e n j st rec tells full new h;
+      seats = λ b s e n j h. seat-apply g k w c b s e n j st rec tells next full new h;
       given = given;
       named = named;
       first = λ d m e. begins-first (w.downs d) ((past_after w c).downs d) m (y.downs d) e;

@@ -33,6 +33,7 @@ use Rattle.world_laws.specs.Stamping.{Givens, none_given, given_in, heard}
 use Rattle.world_laws.specs.Carrying.{new_stamp}
 use Rattle.world_laws.specs.Joining.{joined_as}
 use Rattle.world_recoveries.specs.Recovering.{ReplicaTold, Informs}
+use Rattle.world_acks.specs.Passing.{PassesSince}
 use Rattle.world_acks.specs.Closing.{StandsClosed, AllClosed}
 use Rattle.world_acks.specs.Waiting.{IsQuiet}
 
@@ -74,7 +75,7 @@ pub record ToldBytes (h : Past) (b stamp n life least : ℕ) : Type 0 where
 
 -- A node accepted the setup of a stamp of a session, in a life that isn't later than its present one. Of so many
 -- bytes of the session it shows, as long as it runs in that life and its replica isn't broken, as many as each later
--- recovery left that has updated it; and it told no recovery of fewer.
+-- recovery left that has updated it; it told no recovery of fewer; and its replica got past all later stamps since.
 pub record Seat (w : World) (b stamp session n least : ℕ) : Type 0 where
   pub life : ℕ
   pub joins : Has w.joined (joined_as stamp n life)
@@ -82,6 +83,7 @@ pub record Seat (w : World) (b stamp session n least : ℕ) : Type 0 where
   pub shows : w.running n ≡ true → w.lives n ≡ life → (w.replicas n b).known.is_broken ≡ false → (j : ℕ) → j ≤ least →
       UpdatesLeave w b stamp n life j → Shown (w.replicas n b) stamp j (w.written session)
   pub told : ToldBytes w.past b stamp n life least
+  pub passes : PassesSince w b stamp n life
 
 -- CONNECTIONS
 

@@ -37,7 +37,7 @@ use Rattle.world_writers.proofs.Standing.{Goes, stays, off, on, Turns}
 -- FEWER BYTES
 
 seat-less : (w : World) (b s e i m n : ℕ) → m ≤ n → Seat w b s e i n → Seat w b s e i m
-seat-less w b s e i m n le h = record { life = h.life; joins = h.joins; born = h.born; shows = λ r a q j lt u. h.shows r a q j (omega (arith, lt, le)) u; told = record { each = λ c id x y at above j lt u. h.told.each c id x y at above j (omega (arith, lt, le)) u } }
+seat-less w b s e i m n le h = record { life = h.life; joins = h.joins; born = h.born; shows = λ r a q j lt u. h.shows r a q j (omega (arith, lt, le)) u; told = record { each = λ c id x y at above j lt u. h.told.each c id x y at above j (omega (arith, lt, le)) u }; passes = h.passes }
 
 pub seated-less : (w : World) (f : WriteFields) (i e m n : ℕ) → m ≤ n → Seated w f i e n → Seated w f i e m
 seated-less w f i e m n le h = record {
