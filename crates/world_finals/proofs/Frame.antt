@@ -102,8 +102,13 @@ past-stays f g w e l v b named own session s given h = record { each = λ c i x 
         h.each c i old (record { base = q.base; is = s.back b c i q.base i q.is old (omega (arith, q.less)); less = q.less; last = λ t d y le. q.last t d (s.same b t d y) le }) lt
 
 op-stays : (f : Ids) (g : Givens) (w : World) (e : Ids) (l : Givens) (v : World) (c : ℕ) (o : Op) → Stays f g w e l v → StampBelow w (request o) → DownEnds f g w c (request o) → DownEnds e l v c (request o)
-op-stays f g w e l v c (op.Write q) s y h = record { no_id = s.ids (new_stamp q).0 y ∙ h.no_id; session = h.session; given = s.same q.block.block.0 (new_stamp q).0 h.session h.given;
-  past = past-stays f g w e l v q.block.block.0 q.block.stamp.0 (new_stamp q).0 h.session s h.given h.past; closes = λ k. s.ends q.block.block.0 (new_stamp q).0 q.min (h.closes k) }
+op-stays f g w e l v c (op.Write q) s y h = record {
+  no_id = s.ids (new_stamp q).0 y ∙ h.no_id;
+  session = h.session;
+  given = s.same q.block.block.0 (new_stamp q).0 h.session h.given;
+  past = past-stays f g w e l v q.block.block.0 q.block.stamp.0 (new_stamp q).0 h.session s h.given h.past;
+  closes = λ k. s.ends q.block.block.0 (new_stamp q).0 q.min (h.closes k);
+}
 op-stays f g w e l v c (op.Recovery q) s y h = s.ids q.recovery.0 (s.below q.recovery.0 h) ∙ h
 op-stays f g w e l v c (op.Read r) s y h = tt
 op-stays f g w e l v c (op.Transfer r) s y h = tt
