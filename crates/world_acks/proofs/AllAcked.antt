@@ -1,5 +1,5 @@
 -- What acks and answers say holds after every list of events.
-use Rattle.std.proofs.Common.{◌≡◌, ℕ, ◌<◌, ◌≤◌, Bool, true, false, List, [], ◌∷◌, slice_get, Option, Some, None, IfSome, refl, sym, ◌∙◌, ap, subst, arith, eqb-true, inl, inr}
+use Rattle.std.proofs.Common.{◌≡◌, ℕ, ◌<◌, ◌≤◌, Bool, true, false, List, [], ◌∷◌, slice_get, Option, Some, None, IfSome, refl, sym, ◌∙◌, ap, subst, arith, eqb-true, inl, inr, length}
 use Rattle.std.specs.Prelude.{◌==◌, ◌&&◌, ◌+◌, not, nat_lt, if◌then◌else◌}
 use Rattle.std.proofs.lemmas.Bool.Decides.{nat_tests}
 use Rattle.std.proofs.lemmas.Bool.{false≢true}
@@ -39,6 +39,8 @@ use Rattle.world_acks.proofs.Requests.{Requesting, quiet-apply, requests-apply, 
 use Rattle.world_acks.proofs.ClosedLaws.{GoesOn, stands-on}
 use Rattle.world_acks.proofs.Seats.{Onward, Lasting, join-on, up-on, down-on, upper-on, lower-on}
 use Rattle.world_acks.proofs.ClosedMoves.{Moved, moves-on, untouched-moved, lower-ready-moved, down-moves, upper-moved, own-moved, restart-on, next-sent}
+use Rattle.world_acks.specs.Passing.{PassesTo}
+use Rattle.world_acks.proofs.Passing.{passes-like}
 use Rattle.world_acks.proofs.Frame.{apply-onward, keeps}
 use Rattle.world_acks.proofs.Turning.{Known, HeardTells}
 use Rattle.world_acks.proofs.Lowers.{Leaf, after-at}
@@ -71,6 +73,7 @@ like-onward g t w v l = record {
         subst (λ (x : FullReplica). Shown x s i (v.written e)) (sym (l.replicas n b)) (subst (λ p. Shown (w.replicas n b) s i (p.written e)) (sym l.past)
         (h.shows (l.runs n r) (sym (l.lives n) ∙ a) (ap (λ (x : FullReplica). x.known.is_broken) (sym (l.replicas n b)) ∙ q) i le (record { each = λ x y. u.each x (subst (λ p. Has p.updated x) (sym l.past) y) })));
     told = subst (λ p. ToldBytes p b s n h.life j) (sym l.past) h.told;
+    passes = passes-like w v b s n h.life l.past (l.lives n) (l.replicas n b) h.passes;
   };
   given = λ b s e q. q;
   named = λ e x q n. n;
@@ -78,6 +81,7 @@ like-onward g t w v l = record {
   conns = omega (arith, ap (λ p. p.next_conn) l.past);
   dialled = λ c lt. ap (λ p. p.dialled c) l.past;
   joined = λ x h. subst (λ p. Has p.joined x) (sym l.past) h;
+  written = λ e. omega (arith, ap (λ p. length (p.written e)) l.past);
 }
 
 -- where breaks and lower ends are the same too, nodes that stand closed do so still
@@ -187,7 +191,7 @@ changed-told : (g : Givens) (t : Ends) (w : World) (o : Option Change) → Known
 changed-told g t w None h m l f = tt
 changed-told g t w (Some k) h m l f =
     let new = subst (λ (r : FullReplica). IsFull r) (after-at w k) (f.facts.full k.node k.block) in
-    let on = apply-onward g g t l.ends w k l.steps h.recovering f.coming.tells h.facts.full new (λ b s e q. q) l.named in
+    let on = apply-onward g g t l.ends w k l.steps h.recovering f.coming.tells f.coming.recovering h.facts.full new (λ b s e q. q) l.named in
     let lasts = apply-lasting g g t l.ends w k h m l.requests f.facts on in
     record { ends = l.ends; acked = keeps g g t l.ends w k h.acked lasts (l.news lasts f.facts f.coming.recovering); requests = requests-apply g g w k h.requests l.requests h.facts f.facts; closed = lasts.closed }
 
@@ -196,7 +200,7 @@ office-told g t w None h m l f = tt
 office-told g t w (Some k) h m x f =
     let l = x.leads in
     let new = subst (λ (r : FullReplica). IsFull r) (after-at w k) (f.facts.full k.node k.block) in
-    let on = apply-onward g (given_with g k.stamped) t l.ends w k l.steps h.recovering f.coming.tells h.facts.full new (fresh-given g t w k.stamped h x.fresh) l.named in
+    let on = apply-onward g (given_with g k.stamped) t l.ends w k l.steps h.recovering f.coming.tells f.coming.recovering h.facts.full new (fresh-given g t w k.stamped h x.fresh) l.named in
     let lasts = apply-lasting g (given_with g k.stamped) t l.ends w k h m l.requests f.facts on in
     record { ends = l.ends; acked = keeps g (given_with g k.stamped) t l.ends w k h.acked lasts (l.news lasts f.facts f.coming.recovering); requests = requests-apply g (given_with g k.stamped) w k h.requests l.requests h.facts f.facts; closed = lasts.closed }
 
@@ -378,6 +382,7 @@ restart-onward g t w n list = record {
   conns = omega arith;
   dialled = λ c lt. refl;
   joined = λ x h. h;
+  written = λ e. omega arith;
 }
   where
     more : (m l : ℕ) (b : Bool) → (m == n) ≡ b → l ≤ w.lives m → l ≤ (if b then w.lives n + 1 else w.lives m)
@@ -391,8 +396,14 @@ restart-onward g t w n list = record {
       born = more m h.life (m == n) refl h.born;
       shows = λ r a z i le u. at (m == n) refl r a z i le u;
       told = h.told;
+      passes = record { now = λ a. now (m == n) refl a; told = h.passes.told };
     }
       where
+        now : (c : Bool) → (m == n) ≡ c → (if c then w.lives n + 1 else w.lives m) ≡ h.life
+            → PassesTo w.past b s (record { node = m; life = h.life }) ((if c then (λ d. restarted d (w.replicas n d) (w.breaks n d) (found_in list d)) else w.replicas m) b).known.info
+        now true z a = absurd (omega (arith, a, h.born, ap (λ (i : ℕ). w.lives i) (eqb-true m n z)))
+        now false z a = h.passes.now a
+
         at : (c : Bool) → (m == n) ≡ c → (if c then true else w.running m) ≡ true → (if c then w.lives n + 1 else w.lives m) ≡ h.life
             → ((if c then (λ d. restarted d (w.replicas n d) (w.breaks n d) (found_in list d)) else w.replicas m) b).known.is_broken ≡ false → (i : ℕ) → i ≤ j → UpdatesLeave (restart w n list) b s m h.life i
             → Shown ((if c then (λ d. restarted d (w.replicas n d) (w.breaks n d) (found_in list d)) else w.replicas m) b) s i (w.written e)

@@ -8,6 +8,7 @@ use Rattle.world.specs.Parts.{Message, Lower}
 use Rattle.world.specs.Worlds.{World, Dial, Change, put, put_at, listed, dial_at, latest_with, past_after, apply}
 use Rattle.world.specs.Safe.{Has}
 use Rattle.world_laws.specs.Growing.{Begins}
+use Rattle.world_laws.proofs.Fronts.{front-length}
 use Rattle.world_laws.proofs.GrowthLaws.{apply-grows}
 use Rattle.world_laws.proofs.FactTables.{if-each, put-each, and-left, and-right}
 use Rattle.world_laws.specs.Stamping.{Givens, heard}
@@ -16,7 +17,7 @@ use Rattle.world_laws.specs.Joining.{joined_as}
 use Rattle.world_recoveries.specs.Recovering.{Recovering}
 use Rattle.world_recoveries.specs.Telling.{TellsFrom}
 use Rattle.world_acks.specs.Acking.{PacketEnd, Ends, UpTells, DownTells, UpperTells, LowerTells, Pends, Numbers, JoinSeat, Acked}
-use Rattle.world_acks.proofs.Seats.{has-left, Steps, seat-apply, Onward, Lasting, join-on, up-on, down-on, upper-on, lower-on, pends-on}
+use Rattle.world_acks.proofs.Seats.{apply-written, has-left, Steps, seat-apply, Onward, Lasting, join-on, up-on, down-on, upper-on, lower-on, pends-on}
 
 -- ONWARD
 
@@ -27,19 +28,20 @@ first-more (x ∷ xs) ys m e = e
 pub begins-first : (xs ys : List Message) (m : Message) → Begins xs ys → slice_get xs 0 ≡ Some m → slice_get ys 0 ≡ Some m
 begins-first xs ys m b e = subst (λ (zs : List Message). slice_get zs 0 ≡ Some m) b.joins (first-more xs b.rest m e)
 
-pub apply-onward : (g k : Givens) (t u : Ends) (w : World) (c : Change) → Steps w c → Recovering g w → TellsFrom w (apply w c) → ((n b : ℕ) → IsFull (w.replicas n b)) → IsFull c.replica
+pub apply-onward : (g k : Givens) (t u : Ends) (w : World) (c : Change) → Steps w c → Recovering g w → TellsFrom w (apply w c) → Recovering k (apply w c) → ((n b : ℕ) → IsFull (w.replicas n b)) → IsFull c.replica
     → ((b s e : ℕ) → g b s ≡ Some e → k b s ≡ Some e) → ((e : ℕ) (x : PacketEnd) (q : ℤ) → t e q ≡ Some x → u e q ≡ Some x) → Onward g k t u w (apply w c)
 unfolding apply
-apply-onward g k t u w c st rec tells full new given named =
+apply-onward g k t u w c st rec tells next full new given named =
     let y = apply-grows w c in
     record {
-      seats = λ b s e n j h. seat-apply g w c b s e n j st rec tells full new h;
+      seats = λ b s e n j h. seat-apply g k w c b s e n j st rec tells next full new h;
       given = given;
       named = named;
       first = λ d m e. begins-first (w.downs d) ((past_after w c).downs d) m (y.downs d) e;
       conns = y.conns;
       dialled = λ d lt. y.dialled d lt;
       joined = λ x h. has-left w.joined c.joined x h;
+      written = λ e. front-length (w.written e) ((past_after w c).written e) (apply-written w c e);
     }
 
 -- WHAT IS NEW

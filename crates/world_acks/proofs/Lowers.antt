@@ -46,6 +46,7 @@ use Rattle.world_laws.proofs.SetupRising.{IsNoSetup, event-goes, lasting-of, eve
 use Rattle.world_recoveries.specs.Recovering.{Recovering}
 use Rattle.world_acks.specs.Acking.{PacketEnd, Ends, UpTells, PacketTells, DownTells, IsPipe, MemberTells, PendingTells, Pends, Numbers, Acked}
 use Rattle.world_acks.proofs.Shows.{IsNoUpdate}
+use Rattle.world_acks.proofs.Passing.{stamps-row}
 use Rattle.world_acks.proofs.Seats.{Steps, steps-same, steps-row, Lasting, member-on, numbered-on, pipe-on}
 use Rattle.world_acks.proofs.Frame.{News}
 use Rattle.world_acks.proofs.ClosedMoves.{put-self}
@@ -98,7 +99,7 @@ pub row-steps : (g : Givens) (t : Ends) (w : World) (k : Change) (e : ReplicaEve
     → IsNoSetup (event_at (w.replicas k.node k.block) e) → Steps w k
 row-steps g t w k e h q u n =
     let r = w.replicas k.node k.block in
-    steps-row w k e (λ b. ap (λ (x : FullReplica). x.known.is_broken) q ∙ event-broken r.known (event_at r e) b) q u (event-goes r.known (event_at r e) (lasting-of (event_at r e) n) (h.sets.plain k.node k.block))
+    steps-row w k e (λ b. ap (λ (x : FullReplica). x.known.is_broken) q ∙ event-broken r.known (event_at r e) b) q u (event-goes r.known (event_at r e) (lasting-of (event_at r e) n) (h.sets.plain k.node k.block)) (stamps-row w k e q u n)
 
 -- pending packets of a replica that stays
 pub same-pends : (g : Givens) (t : Ends) (w : World) (k : Change) → Known g t w → k.replica.known ≡ (w.replicas k.node k.block).known → IfSome k.replica.known.info (Pends g t k.block k.replica.known)

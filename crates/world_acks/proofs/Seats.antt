@@ -1,5 +1,5 @@
 -- Seats stay, whatever a change makes of the world, and what is said by them.
-use Rattle.std.proofs.Common.{◌≡◌, ℕ, ℤ, zero, suc, ◌<◌, ◌≤◌, ◌⊎◌, inl, inr, Bool, true, false, List, [], ◌∷◌, ◌++◌, take, slice_get, Option, Some, None, IfSome, refl, sym, ◌∙◌, ap, subst, arith, eqb-true}
+use Rattle.std.proofs.Common.{◌≡◌, ℕ, ℤ, zero, suc, ◌<◌, ◌≤◌, ◌⊎◌, inl, inr, Bool, true, false, List, [], ◌∷◌, ◌++◌, take, slice_get, Option, Some, None, IfSome, refl, sym, ◌∙◌, ap, subst, arith, eqb-true, length}
 use Rattle.std.specs.Prelude.{◌==◌, ◌&&◌, if◌then◌else◌}
 use Rattle.std.proofs.lemmas.Bool.{false≢true}
 use Rattle.std.proofs.lemmas.List.{take-take}
@@ -36,6 +36,7 @@ use Rattle.world_recoveries.proofs.Telling.{told-below, updated-below}
 use Rattle.world_acks.specs.Closing.{StandsClosed, AllClosed}
 use Rattle.world_acks.specs.Waiting.{IsQuiet}
 use Rattle.world_acks.specs.Acking.{PacketEnd, pending_end, Shown, UpdatesLeave, EarlierLeave, TellsBytes, ToldBytes, Seat, Asked, AsksToRead, Seated, IsPipe, promised, JoinSeat, SetUpFrom, Ends, AckedFrom, UpTells, Numbered, PacketTells, DownTells, Mirrors, UpperTells, MemberTells, LowerTells, Pends}
+use Rattle.world_acks.proofs.Passing.{StampSteps, stamps-same, passes-apply}
 use Rattle.world_acks.proofs.Shows.{IsNoUpdate, row-shows}
 
 -- LISTS
@@ -70,17 +71,20 @@ pub record IsCut (w : World) (k : Change) (stamp least : ℕ) : Type 0 where
 -- what the replica showed it shows still, unless a recovery has left it fewer bytes
 pub record Steps (w : World) (k : Change) : Type 0 where
   pub broken : (w.replicas k.node k.block).known.is_broken ≡ true → k.replica.known.is_broken ≡ true
+  pub stamps : StampSteps w k
   pub shown : IsFull (w.replicas k.node k.block) → IsFull k.replica → (s n : ℕ) (v : List ℕ) → Shown (w.replicas k.node k.block) s n v → Shown k.replica s n v ⊎ IsCut w k s n
 
 pub steps-same : (w : World) (k : Change) → k.replica ≡ w.replicas k.node k.block → Steps w k
 steps-same w k e = record {
+  stamps = stamps-same w k e;
   broken = λ b. ap (λ (r : FullReplica). r.known.is_broken) e ∙ b;
   shown = λ _ _ s n v x. inl (subst (λ (r : FullReplica). Shown r s n v) (sym e) x);
 }
 
 pub steps-row : (w : World) (k : Change) (e : ReplicaEvent) → ((w.replicas k.node k.block).known.is_broken ≡ true → k.replica.known.is_broken ≡ true) → k.replica ≡ row (w.replicas k.node k.block) e
-    → IsNoUpdate (event_at (w.replicas k.node k.block) e) → Goes (w.replicas k.node k.block).known.info (row (w.replicas k.node k.block) e).known.info → Steps w k
-steps-row w k e b q u g = record {
+    → IsNoUpdate (event_at (w.replicas k.node k.block) e) → Goes (w.replicas k.node k.block).known.info (row (w.replicas k.node k.block) e).known.info → StampSteps w k → Steps w k
+steps-row w k e b q u g st = record {
+  stamps = st;
   broken = b;
   shown = λ f h s n v x. inl (subst (λ (r : FullReplica). Shown r s n v) (sym q)
       (row-shows (w.replicas k.node k.block) e f (subst (λ (r : FullReplica). IsFull r) q h) u g s n v x));
@@ -119,7 +123,7 @@ whole-before : (c d : Bool) → (c ≡ true → d ≡ true) → d ≡ false → 
 whole-before false d h e = refl
 whole-before true d h e = absurd (false≢true (sym e ∙ h refl))
 
-apply-written : (w : World) (k : Change) (e : ℕ) → IsFront (w.written e) ((past_after w k).written e)
+pub apply-written : (w : World) (k : Change) (e : ℕ) → IsFront (w.written e) ((past_after w k).written e)
 unfolding apply
 apply-written w k e = let b = (apply-grows w k).written e in (b.rest, b.joins)
 
@@ -157,9 +161,10 @@ told-none g v b stamp n life least info h is free le alive = record {
       absurd (omega (arith, told-below g v c b id i (record { node = n; life = life }) info h x at alive is, above, le, ap (λ (o : Option Stamp). top_under o info.stamp) free));
 }
 
-pub seat-apply : (g : Givens) (w : World) (k : Change) (b s e n j : ℕ) → Steps w k → Recovering g w → TellsFrom w (apply w k) → ((m d : ℕ) → IsFull (w.replicas m d)) → IsFull k.replica → Seat w b s e n j → Seat (apply w k) b s e n j
+pub seat-apply : (g l : Givens) (w : World) (k : Change) (b s e n j : ℕ) → Steps w k → Recovering g w → TellsFrom w (apply w k) → Recovering l (apply w k) → ((m d : ℕ) → IsFull (w.replicas m d)) → IsFull k.replica → Seat w b s e n j → Seat (apply w k) b s e n j
 unfolding apply
-seat-apply g w k b s e n j st rec tells full new h = record {
+seat-apply g l w k b s e n j st rec tells next full new h = record {
+  passes = passes-apply g l w k b s n h.life st.stamps rec tells next h.passes;
   life = h.life;
   joins = has-left w.joined k.joined (joined_as s n h.life) h.joins;
   born = h.born;
@@ -221,6 +226,7 @@ pub record Onward (g k : Givens) (t u : Ends) (w v : World) : Type 0 where
   pub conns : w.next_conn ≤ v.next_conn
   pub dialled : (c : ℕ) → c < w.next_conn → v.dialled c ≡ w.dialled c
   pub joined : (x : Joined) → Has w.joined x → Has v.joined x
+  pub written : (e : ℕ) → length (w.written e) ≤ length (v.written e)
 
 -- The same, and nodes that stand closed stand so; no request comes to wait under a stamp under which none waits.
 pub record Lasting (g k : Givens) (t u : Ends) (w v : World) : Type 0 where

@@ -60,6 +60,7 @@ use Rattle.world_acks.proofs.Shows.{stream-open}
 use Rattle.world_acks.specs.Closing.{FinalUnder, BrokeFinal, StandsClosed}
 use Rattle.world_acks.specs.Waiting.{Waits, IsQuiet}
 use Rattle.world_acks.proofs.Requests.{NewRequest, of_member, Requesting, still-requests, quiet-taken, lower-there}
+use Rattle.world_acks.proofs.Passing.{StampSteps, stamps-setup, passes-none}
 use Rattle.world_acks.proofs.Seats.{has-right, has-one, shown-less, told-none, Steps, steps-row, steps-same}
 use Rattle.world_acks.proofs.Turning.{Known, shown-says, no-break, lone-closed}
 use Rattle.world_acks.proofs.Lowers.{Leaf, still-numbers, aside-begun, after-at, after-breaks, writes-busy, same-pends, row-pends, row-steps}
@@ -184,12 +185,12 @@ request-set c conn f e q =
 
 -- REPLICAS
 
-goes-steps : (g : Givens) (t : Ends) (w : World) (k : Change) (conn : ConnId) (f : WriteFields) (r : Rule) (s : SetupKind) → Known g t w → k.replica ≡ row (w.replicas k.node k.block) (replica_event.Other (setup_event conn f r s)) → Steps w k
-goes-steps g t w k conn f r kind.Create h q = let o = (w.replicas k.node k.block).known in steps-row w k (replica_event.Other (setup_event conn f r kind.Create)) (λ b. ap (λ (x : FullReplica). x.known.is_broken) q ∙ event-broken o (setup_event conn f r kind.Create) b) q tt (event-goes o (setup_event conn f r kind.Create) tt (h.sets.plain k.node k.block))
-goes-steps g t w k conn f r kind.Append h q = let o = (w.replicas k.node k.block).known in steps-row w k (replica_event.Other (setup_event conn f r kind.Append)) (λ b. ap (λ (x : FullReplica). x.known.is_broken) q ∙ event-broken o (setup_event conn f r kind.Append) b) q tt (event-goes o (setup_event conn f r kind.Append) tt (h.sets.plain k.node k.block))
-goes-steps g t w k conn f r kind.AppendRecovery h q = let o = (w.replicas k.node k.block).known in steps-row w k (replica_event.Other (setup_event conn f r kind.AppendRecovery)) (λ b. ap (λ (x : FullReplica). x.known.is_broken) q ∙ event-broken o (setup_event conn f r kind.AppendRecovery) b) q tt (event-goes o (setup_event conn f r kind.AppendRecovery) tt (h.sets.plain k.node k.block))
-goes-steps g t w k conn f r kind.StreamRecovery h q = let o = (w.replicas k.node k.block).known in steps-row w k (replica_event.Other (setup_event conn f r kind.StreamRecovery)) (λ b. ap (λ (x : FullReplica). x.known.is_broken) q ∙ event-broken o (setup_event conn f r kind.StreamRecovery) b) q tt (event-goes o (setup_event conn f r kind.StreamRecovery) tt (h.sets.plain k.node k.block))
-goes-steps g t w k conn f r kind.CloseRecovery h q = let o = (w.replicas k.node k.block).known in steps-row w k (replica_event.Other (setup_event conn f r kind.CloseRecovery)) (λ b. ap (λ (x : FullReplica). x.known.is_broken) q ∙ event-broken o (setup_event conn f r kind.CloseRecovery) b) q tt (event-goes o (setup_event conn f r kind.CloseRecovery) tt (h.sets.plain k.node k.block))
+goes-steps : (g : Givens) (t : Ends) (w : World) (k : Change) (conn : ConnId) (f : WriteFields) (r : Rule) (s : SetupKind) → Known g t w → k.replica ≡ row (w.replicas k.node k.block) (replica_event.Other (setup_event conn f r s)) → StampSteps w k → Steps w k
+goes-steps g t w k conn f r kind.Create h q st = let o = (w.replicas k.node k.block).known in steps-row w k (replica_event.Other (setup_event conn f r kind.Create)) (λ b. ap (λ (x : FullReplica). x.known.is_broken) q ∙ event-broken o (setup_event conn f r kind.Create) b) q tt (event-goes o (setup_event conn f r kind.Create) tt (h.sets.plain k.node k.block)) st
+goes-steps g t w k conn f r kind.Append h q st = let o = (w.replicas k.node k.block).known in steps-row w k (replica_event.Other (setup_event conn f r kind.Append)) (λ b. ap (λ (x : FullReplica). x.known.is_broken) q ∙ event-broken o (setup_event conn f r kind.Append) b) q tt (event-goes o (setup_event conn f r kind.Append) tt (h.sets.plain k.node k.block)) st
+goes-steps g t w k conn f r kind.AppendRecovery h q st = let o = (w.replicas k.node k.block).known in steps-row w k (replica_event.Other (setup_event conn f r kind.AppendRecovery)) (λ b. ap (λ (x : FullReplica). x.known.is_broken) q ∙ event-broken o (setup_event conn f r kind.AppendRecovery) b) q tt (event-goes o (setup_event conn f r kind.AppendRecovery) tt (h.sets.plain k.node k.block)) st
+goes-steps g t w k conn f r kind.StreamRecovery h q st = let o = (w.replicas k.node k.block).known in steps-row w k (replica_event.Other (setup_event conn f r kind.StreamRecovery)) (λ b. ap (λ (x : FullReplica). x.known.is_broken) q ∙ event-broken o (setup_event conn f r kind.StreamRecovery) b) q tt (event-goes o (setup_event conn f r kind.StreamRecovery) tt (h.sets.plain k.node k.block)) st
+goes-steps g t w k conn f r kind.CloseRecovery h q st = let o = (w.replicas k.node k.block).known in steps-row w k (replica_event.Other (setup_event conn f r kind.CloseRecovery)) (λ b. ap (λ (x : FullReplica). x.known.is_broken) q ∙ event-broken o (setup_event conn f r kind.CloseRecovery) b) q tt (event-goes o (setup_event conn f r kind.CloseRecovery) tt (h.sets.plain k.node k.block)) st
 
 goes-pends : (g : Givens) (t : Ends) (w : World) (k : Change) (conn : ConnId) (f : WriteFields) (r : Rule) (s : SetupKind) → Known g t w → k.replica ≡ row (w.replicas k.node k.block) (replica_event.Other (setup_event conn f r s))
     → IfSome k.replica.known.info (Pends g t k.block k.replica.known)
@@ -199,8 +200,11 @@ goes-pends g t w k conn f r kind.AppendRecovery h q = row-pends g t w k (replica
 goes-pends g t w k conn f r kind.StreamRecovery h q = row-pends g t w k (replica_event.Other (setup_event conn f r kind.StreamRecovery)) h q tt
 goes-pends g t w k conn f r kind.CloseRecovery h q = row-pends g t w k (replica_event.Other (setup_event conn f r kind.CloseRecovery)) h q tt
 
-request-steps : (g : Givens) (t : Ends) (w : World) (k : Change) (conn : ConnId) (f : WriteFields) (e : Event) → Known g t w → IsRequest conn f e → k.replica ≡ row (w.replicas k.node k.block) (replica_event.Other e) → Steps w k
-request-steps g t w k conn f e h q r = goes-steps g t w k conn f q.sums q.kind_of h (r ∙ ap (λ (x : Event). row (w.replicas k.node k.block) (replica_event.Other x)) q.is)
+request-steps : (g : Givens) (t : Ends) (w : World) (k : Change) (c : ℕ) (conn : ConnId) (f : WriteFields) (e : Event) → Known g t w → IsRequest conn f e → k.replica ≡ row (w.replicas k.node k.block) (replica_event.Other e)
+    → slice_get (w.downs c) 0 ≡ Some (request (op.Write f)) → block_of f ≡ k.block → Steps w k
+request-steps g t w k c conn f e h q r asked block =
+    let is = r ∙ ap (λ (x : Event). row (w.replicas k.node k.block) (replica_event.Other x)) q.is in
+    goes-steps g t w k conn f q.sums q.kind_of h is (stamps-setup w k c conn f q.sums q.kind_of asked block q.stage (ap (λ (x : FullReplica). x.known) is))
 
 request-pends : (g : Givens) (t : Ends) (w : World) (k : Change) (conn : ConnId) (f : WriteFields) (e : Event) → Known g t w → IsRequest conn f e → k.replica ≡ row (w.replicas k.node k.block) (replica_event.Other e)
     → IfSome k.replica.known.info (Pends g t k.block k.replica.known)
@@ -372,6 +376,7 @@ new-seat g v b n life e k stamp r facts recovers at x given joins alive = record
   joins = joins;
   born = omega (arith, alive);
   told = told-none g v b stamp.0 n life k x.info recovers (ap (λ (q : FullReplica). q.known.info) at ∙ x.is) x.free (omega (arith, ap (λ (s : Stamp). s.0) x.under)) alive;
+  passes = passes-none g v b stamp.0 n life x.info recovers (ap (λ (q : FullReplica). q.known.info) at ∙ x.is) x.free (ap (λ (s : Stamp). s.0) x.under) alive;
   shows = λ _ _ _ i le _. shown-less (v.replicas n b) stamp.0 i k (v.written e) le (subst (λ (s : Stamp). Shown (v.replicas n b) s.0 k (v.written e)) x.under
       (shown-says g v b (v.replicas n b) x.info e x.visible k (facts.carried.replicas n b) (facts.full n b) (ap (λ (q : FullReplica). q.known.info) at ∙ x.is) (ap (λ (s : Stamp). g b s.0) x.under ∙ given) x.sees x.within x.enough));
 }
@@ -522,7 +527,7 @@ requested-leaf g t w c f asked (Ok e) h says low lt alive q =
     let conn : ConnId = record { 0 = c } in
     let r = replica_at w c (block_of f) in
     outcome-leaf g t w c f asked (transition r.known e) h says low lt alive q.kind_of q.stage (request-set r.known conn f e q)
-    (λ k n b z. request-steps g t w k conn f e h q (z ∙ ap (λ (y : FullReplica). row y (replica_event.Other e)) (sym (ap (λ (x : ℕ). w.replicas x k.block) n ∙ ap (λ (y : ℕ). w.replicas (node_of w c) y) b))))
+    (λ k n b z. request-steps g t w k c conn f e h q (z ∙ ap (λ (y : FullReplica). row y (replica_event.Other e)) (sym (ap (λ (x : ℕ). w.replicas x k.block) n ∙ ap (λ (y : ℕ). w.replicas (node_of w c) y) b))) says.first (sym b))
     (request-pends g t w (Asks w c f (refused_request (row r (replica_event.Other e)) refusal.Pool)) conn f e h q refl)
 
 failing-leaf : (g : Givens) (t : Ends) (w : World) (c : ℕ) (f : WriteFields) (e : Result Event RequestRefusal) → Known g t w → IfSome (failing_write w c f e) (Leaf g t w)

@@ -62,6 +62,7 @@ use Rattle.world_acks.specs.Acking.{PacketEnd, pending_end, Shown, Seat, Asked, 
 use Rattle.world_acks.specs.Closing.{FinalUnder, BrokeFinal, IsClosed, StandsClosed, AllClosed}
 use Rattle.world_acks.specs.Waiting.{Requests}
 use Rattle.world_acks.proofs.Requests.{first-once}
+use Rattle.world_acks.proofs.Passing.{passes-none}
 use Rattle.world_acks.proofs.Seats.{shown-less, told-none, Lasting, all-closed-on, seated-on, pipe-on, node-on}
 
 -- WHAT IS KNOWN
@@ -298,6 +299,7 @@ books g t w v c m e a old y taken =
             (subst (λ (z : Stamp). Shown q z.0 x.entry.end (v.written a.tells.session)) after shown)));
         told = told-none g v b (new_stamp m.fields).0 n (w.dialled c).to.life e.end k.after y.recovering (ap (λ (z : FullReplica). z.known.info) y.at ∙ k.is) (k.free x.free)
             (omega (arith, ap (λ (z : Stamp). z.0) after)) (sym (y.lives ∙ a.alive));
+        passes = passes-none g v b (new_stamp m.fields).0 n (w.dialled c).to.life k.after y.recovering (ap (λ (z : FullReplica). z.known.info) y.at ∙ k.is) (k.free x.free) (ap (λ (z : Stamp). z.0) after) (sym (y.lives ∙ a.alive));
       };
     }
 

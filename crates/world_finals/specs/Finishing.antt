@@ -30,6 +30,7 @@ use Rattle.world.specs.Events.{happens, run}
 use Rattle.world_laws.specs.Stamping.{Givens, none_given, given_in, stamped_in, heard}
 use Rattle.world_laws.specs.Carrying.{new_stamp, Sets}
 use Rattle.world_recoveries.specs.Recovering.{Updates, HasId}
+use Rattle.world_recoveries.specs.Naming.{NamesPast}
 
 -- THE IDS OF RECOVERIES
 
@@ -85,16 +86,21 @@ pub record EndsAt (g : Givens) (w : World) (b stamp n : ℕ) : Type 0 where
   pub shut : Sealed (w.latest b) (heard (w.writers b)) session
   pub length : n ≡ length (w.written session)
 
--- The length of what is FINALIZED under a stamp: under a recovery's id the one that was sent as its length, and under a setup's stamp all that
--- was written in the session.
+-- The length of what is FINALIZED under a stamp: under a recovery's id the one that was sent as its length, and under
+-- a setup's stamp all that was written in the session.
 pub data FinalLength (f : Ids) (g : Givens) (w : World) (b stamp n : ℕ) : Type 0 where
   of_recovery : f stamp ≡ true → (c d : ℕ) → Updates w.past c d (record { 0 = stamp }) n → FinalLength f g w b stamp n
   of_session : f stamp ≡ false → EndsAt g w b stamp n → FinalLength f g w b stamp n
 
 -- MESSAGES
 
+-- A write request is of a stamp that was given for its block, which is no recovery's id; it names no stamp before the
+-- last one before a session, if its own is later than that; and the recovery of a close asks for all that was written.
 pub record WriteEnds (f : Ids) (g : Givens) (w : World) (q : WriteFields) : Type 0 where
   pub no_id : f (new_stamp q).0 ≡ false
+  pub session : ℕ
+  pub given : g q.block.block.0 (new_stamp q).0 ≡ Some session
+  pub past : NamesPast (g q.block.block.0) q.block.stamp.0 (new_stamp q).0
   pub closes : setup_with q.stage ≡ Some kind.CloseRecovery → EndsAt g w q.block.block.0 (new_stamp q).0 q.min
 
 -- the last packet ends where its session does
@@ -118,7 +124,8 @@ IsFinalOf f g w b i = i.original ≡ state.Finalized → FinalLength f g w b i.s
 
 -- where the last packet is pending, all was written
 pub record LastPending (g : Givens) (w : World) (b : ℕ) (pending : List PendingPacket) (i : ReplicaInfo) : Type 0 where
-  pub ends : (j : ℕ) (e : PendingPacket) → slice_get pending j ≡ Some e → e.last ≡ true → EndsAt g w b i.stamp.0 i.written
+  pub ends : (j : ℕ) (e : PendingPacket) → slice_get pending j ≡ Some e → e.last ≡ true →
+      EndsAt g w b i.stamp.0 i.written
 
 pub record ReplicaEnds (f : Ids) (g : Givens) (w : World) (b : ℕ) (r : FullReplica) : Type 0 where
   pub final : IfSome r.known.info (IsFinalOf f g w b)
@@ -126,7 +133,8 @@ pub record ReplicaEnds (f : Ids) (g : Givens) (w : World) (b : ℕ) (r : FullRep
 
 -- a replica that was FINALIZED before and after an event has as many bytes as before
 pub record KeepsFinal (o p : Option ReplicaInfo) : Type 0 where
-  pub same : (i k : ReplicaInfo) → o ≡ Some i → p ≡ Some k → i.original ≡ state.Finalized → k.original ≡ state.Finalized → k.written ≡ i.written
+  pub same : (i k : ReplicaInfo) → o ≡ Some i → p ≡ Some k → i.original ≡ state.Finalized →
+      k.original ≡ state.Finalized → k.written ≡ i.written
 
 pub record BreakEnds (f : Ids) (g : Givens) (w : World) (b : ℕ) (x : Break) : Type 0 where
   pub before : IfSome x.before.known.info (IsFinalOf f g w b)
@@ -162,12 +170,20 @@ has_packets (phase.Streaming sent) = true
 has_packets phase.Closing = true
 has_packets _ = false
 
--- Where a close waits, or the block is closed, no more is taken in but an append; and the last packet was formed only where a close waits.
+-- Where a close waits, or the block is closed, no more is taken in but an append; and the last packet was formed only
+-- where a close waits.
 pub record WriterEnds (x : WriterRecord) : Type 0 where
   pub shut : x.waiting ≡ Some waiting.Close → is_open x.intake.stand ≡ false
   pub closing : is_closing x.phase ≡ true → x.waiting ≡ Some waiting.Close
   pub closed : x.phase ≡ phase.Closed → is_open x.intake.stand ≡ false
-  pub last : has_packets x.phase ≡ true → (i : ℕ) (p : Packet) → slice_get x.stream.unacked i ≡ Some p → p.last ≡ true → is_closing x.phase ≡ true
+  pub last : has_packets x.phase ≡ true → (i : ℕ) (p : Packet) → slice_get x.stream.unacked i ≡ Some p →
+      p.last ≡ true → is_closing x.phase ≡ true
+
+-- STAMPS
+
+-- where a session has begun, the stamps of setups of earlier sessions are earlier
+abbrev pub Earlier : Ids → Givens → Type 0
+Earlier f g = (b t d e : ℕ) → g b t ≡ Some d → g b e ≡ Some e → f t ≡ false → d < e → t < e
 
 -- THE WORLD
 
@@ -179,6 +195,7 @@ pub record Finals (f : Ids) (g : Givens) (w : World) : Type 0 where
   pub writers : (b : ℕ) → WriterEnds (heard (w.writers b))
   pub stamps : (b : ℕ) → SetsNoId f (heard (w.writers b)).phase
   pub primaries : (i : ℕ) (id : Stamp) → HasId (w.primaries i) id → f id.0 ≡ true
+  pub earlier : Earlier f g
 
 -- So it is after every list of events, of the stamps and ids that are given in them.
 abbrev pub AllFinal : Type 0

@@ -1,5 +1,5 @@
 -- Nodes accept the setup of a stamp once, after every list of events.
-use Rattle.std.proofs.Common.{◌≡◌, ℕ, zero, suc, ◌<◌, ◌≤◌, ◌+◌, ◌++◌, length, slice_get, Bool, true, false, List, [], ◌∷◌, Option, Some, None, IfSome, Result, Ok, Err, inl, refl, sym, ◌∙◌, ap, subst, arith, eqb-true}
+use Rattle.std.proofs.Common.{inl, inr, ◌≡◌, ℕ, zero, suc, ◌<◌, ◌≤◌, ◌+◌, ◌++◌, length, slice_get, Bool, true, false, List, [], ◌∷◌, Option, Some, None, IfSome, Result, Ok, Err, refl, sym, ◌∙◌, ap, subst, arith, eqb-true}
 use Rattle.std.specs.Prelude.{if◌then◌else◌, ◌==◌, ◌&&◌, ◌-◌, ◌^◌, not, map, min, nat_le, nat_lt, is_none}
 use Rattle.hd_base.specs.declared.numbers.BlockId.{BlockId}
 use Rattle.hd_base.specs.declared.numbers.NodeId.{NodeId}
@@ -65,12 +65,13 @@ use Rattle.world.specs.Worlds.{World, Dial, Change, Stamped, put, sessions_with,
 use Rattle.world.specs.Connections.{Next, message, the_end, next_down, next_up, down_taken, up_taken, place_of, is_served, is_conn, is_alive, sent_on}
 use Rattle.world.specs.Nodes.{node_on, block_of, lower_down, lower_ready, mirror_up}
 use Rattle.world.specs.Clients.{are_distinct, are_members, writer_change, did, reached_answer, dialled_change, dialling, rest_in, is_empty, is_formed, ruled, command_bytes, takes_command, writer_step, writer_hears, writer_up, reader_dials, own_reader_as, own_reader, from_node_of, reader_turn, reader_up_as, reader_up}
-use Rattle.world.specs.Primaries.{primary_dials, dials_answered, begins_with, begins_as, begins_at, own_recover, leads_step, commits_step, leads_told, own_primary_as, own_primary, listens, hears_change, primary_up_as, primary_up, asks_writer, asks_primary, writer_asks, primary_commits, primary_asks, office_event}
+use Rattle.world.specs.Primaries.{primary_dials, dials_answered, begins_with, begins_as, begins_at, own_recover, leads_step, commits_step, leads_told, own_primary_as, own_primary, listens, hears_change, primary_up_as, primary_up, asks_writer, asks_primary, writer_asks, primary_commits, primary_asks, office_event, stamped_by}
 use Rattle.world.specs.Restarts.{all_found, restart}
 use Rattle.world.specs.Events.{changed, own_change, down_as, down_event, ready_event, unless_fails, upper_up, up_as, up_event, fault_event, lost, stop, where_so, outcome, after_event, happens, run}
 use Rattle.world_laws.proofs.FactTables.{if-each, when-each, and-left, and-right, put-each, some-weaker}
 use Rattle.world_laws.proofs.OfficeSteps.{AsksAs, Asking, own-step-asking, block_in, asks-block, IsPrimarys}
 use Rattle.world_laws.proofs.StampRecording.{Quietly, given-sessions, none-heard, gives, given-each, others-given, others-latest}
+use Rattle.world_laws.proofs.Sessions.{refused-stamp}
 use Rattle.world_laws.proofs.StampGivens.{put-here}
 use Rattle.world_laws.proofs.AllRecorded.{aside-quietly, own-quietly, upper-quietly, start-recorded}
 use Rattle.world_acks.proofs.Granting.{latest-by}
@@ -579,6 +580,32 @@ new-session : (f : ℕ → ℕ) (s : Option Stamped) → IfSome s (λ z. session
 new-session f None = tt
 new-session f (Some z) = put-here f z.stamp z.session
 
+-- a stamp that is given is of no earlier session than those that were given before
+ordered-with : (f : Givens) (s : Option Stamped) (n : ℕ) → IfSome s (λ z. z.stamp ≡ n) → ((b t e : ℕ) → f b t ≡ Some e → t < n) → ((b t u e d : ℕ) → f b t ≡ Some e → f b u ≡ Some d → t ≤ u → e ≤ d)
+    → IfSome s (λ z. (t e : ℕ) → f z.block t ≡ Some e → e ≤ z.session) → (b t u e d : ℕ) → given_with f s b t ≡ Some e → given_with f s b u ≡ Some d → t ≤ u → e ≤ d
+ordered-with f None n new under order top = order
+ordered-with f (Some z) n new under order top = λ b t u e d x y le. given-each (λ (i v o : ℕ). (u d : ℕ) → given_with f (Some z) i u ≡ Some d → v ≤ u → o ≤ d) f (Some z)
+    (λ u d y le. given-each (λ (i v o : ℕ). z.stamp ≤ v → z.session ≤ o) f (Some z) (λ _. omega arith) (λ i v o q w. absurd (omega (arith, w, new, under i v o q))) z.block u d y le)
+    (λ i v o q u d y le. given-each (λ (j a c : ℕ). j ≡ i → v ≤ a → o ≤ c) f (Some z) (λ same _. top v o (subst (λ (j : ℕ). f j v ≡ Some o) (sym same) q)) (λ j a c w same lt. order i v a o c q (subst (λ (l : ℕ). f l a ≡ Some c) same w) lt) i u d y refl le)
+    b t e x u d y le
+
+-- the session of a stamp that a writer is given
+abbrev NewSessionBy : (w : World) → Joins w → OfficeCall → office_step.Step OfficeState OfficeAnswer → Type 0
+NewSessionBy w h c s = (x : WriterRecord) → AsksAs x c →
+    IfSome (stamped_by w c (office_step.reply s)) (λ z. ((t e : ℕ) → h.setups z.block t ≡ Some e → e ≤ z.session) × (z.session ≤ latest_with w.latest (stamped_by w c (office_step.reply s)) z.block))
+
+session-new : (w : World) (h : Joins w) (c : OfficeCall) → NewSessionBy w h c (office_case w.office c)
+session-new w h c = each_case w.office (NewSessionBy w h) (record {
+  refused = λ d e. λ x a. subst (λ (o : Option Stamped). IfSome o (λ z. ((t e : ℕ) → h.setups z.block t ≡ Some e → e ≤ z.session) × (z.session ≤ latest_with w.latest o z.block))) (sym (refused-stamp w d e)) tt;
+  created = λ block members none. λ x a. (λ t e q. omega (arith, h.early block.0 t e q), omega (arith, put-here w.latest block.0 w.office.next.0));
+  appended = λ block r is shut short. λ x a. (λ t e q. omega (arith, h.early block.0 t e q), omega (arith, put-here w.latest block.0 w.office.next.0));
+  stamped = λ block r is writers. λ x a. (λ t e q. h.within block.0 t e q, omega (arith, put-here w.latest block.0 (w.latest block.0)));
+  committed = λ block stamp members r is writers new. λ x a. tt;
+  completed = λ block stamp bytes r is writers new. λ x a. tt;
+  begun = λ block r is is_open. λ x a. absurd a;
+  synced = λ block id bytes members r is is_open latest. λ x a. absurd a;
+}) c
+
 -- the stamp that a writer is given, if it is
 writer-sets : (g : Givens) (w : World) (b : ℕ) (c : OfficeCall) → Facts g w → (h : Joins w) → (w.writers b).told ≡ None → AsksAs (w.writers b).known c → Sets w (asks_writer w b c) h.setups
 writer-sets g w b c f h none a = record {
@@ -589,6 +616,9 @@ writer-sets g w b c f h none a = record {
       (λ d t e q. given-sessions w.session_of s w.office.next.0 (block_in c).0 k.office.next.0 (gives w c).fresh t (h.under d t e q) ∙ h.sessions d t e q);
   early = given-each (λ d t e. e < k.office.next.0) h.setups s early-new (λ d t e q. omega (arith, h.early d t e q, (gives w c).rises));
   late = λ d. later d;
+  within = given-each (λ d t e. e ≤ latest_with w.latest s d) h.setups s (some-weaker _ (λ z. z.session ≤ latest_with w.latest s z.block) s (λ z v. v.1) news)
+      (λ d t e q. old-within d t e q (up d (d == b) refl));
+  order = ordered-with h.setups s w.office.next.0 (some-weaker _ (λ z. z.stamp ≡ w.office.next.0) s (λ z v. v.0) (gives w c).fresh) h.under h.order (some-weaker _ (λ z. (t e : ℕ) → h.setups z.block t ≡ Some e → e ≤ z.session) s (λ z v. v.0) news);
   answers = tt;
   fits = λ d. at d (d == b) refl;
   under = given-each (λ d t e. t < k.office.next.0) h.setups s (some-weaker _ (λ z. z.stamp < k.office.next.0) s (λ z v. v.2) (gives w c).fresh) (λ d t e q. omega (arith, h.under d t e q, (gives w c).rises));
@@ -608,6 +638,13 @@ writer-sets g w b c f h none a = record {
 
     own : Fits (given_with h.setups s b) (latest_with w.latest s b) None (granted (w.writers b).known (answer_to w.office c))
     own = settles-by w b h.setups c (w.writers b).known a block (subst (λ (x : WriterRecord). Fits (h.setups b) (w.latest b) None x) is (h.fits b)) (record { below = λ t e q. h.under b t e q })
+
+    news : IfSome s (λ z. ((t e : ℕ) → h.setups z.block t ≡ Some e → e ≤ z.session) × (z.session ≤ latest_with w.latest s z.block))
+    news = session-new w h c (w.writers b).known a
+
+    old-within : (d t e : ℕ) → h.setups d t ≡ Some e → Goes w d s (heard (w.writers d)) (heard (put w.writers b k.writer d)) → e ≤ latest_with w.latest s d
+    old-within d t e q (inl x) = omega (arith, h.within d t e q, x.0)
+    old-within d t e q (inr x) = omega (arith, h.early d t e q, x)
 
     at-block : (block_in c).0 ≡ b
     at-block = ap (λ (q : BlockId). q.0) (asks-block (w.writers b).known c a ∙ block)
@@ -643,6 +680,8 @@ primary-sets w i c p a h = record {
       given-sessions w.session_of (asks_primary w i c p).stamped w.office.next.0 (block_in c).0 (asks_primary w i c p).office.next.0 (gives w c).fresh t (h.under b t e q) ∙ h.sessions b t e q;
   early = λ b t e q. omega (arith, h.early b t e q, (gives w c).rises);
   late = λ b. omega (arith, h.late b, latest-by w c a b, (gives w c).rises);
+  within = λ b t e q. omega (arith, h.within b t e q, latest-by w c a b);
+  order = h.order;
   answers = tt;
   fits = λ b. subst (λ (l : ℕ). Fits (h.setups b) l None (heard (put w.writers 0 (w.writers 0) b))) (sym (latest-by w c a b))
       (put-each (λ (d : ℕ) (y : Writing). Fits (h.setups d) (w.latest d) None (heard y)) w.writers 0 (w.writers 0) (h.fits 0) h.fits b);
@@ -686,11 +725,11 @@ office-joins g l w (Some k) f h n j q = joins-apply g l w k h j.takes j.after q 
 
 down-taken-joins : (w : World) (c : ℕ) (x : Next) → Joins w → Joins (down_taken w c x)
 unfolding down_taken
-down-taken-joins w c x h = record { few = h.few; begun = h.begun; once = h.once; unmet = h.unmet; stamped = h.stamped; members = h.members; setups = h.setups; fits = h.fits; under = h.under; sessions = h.sessions; early = h.early; late = h.late; answered = h.answered; acked = h.acked; cover = h.cover; given = h.given; reach = h.reach; single = h.single }
+down-taken-joins w c x h = record { few = h.few; begun = h.begun; once = h.once; unmet = h.unmet; stamped = h.stamped; members = h.members; setups = h.setups; fits = h.fits; under = h.under; sessions = h.sessions; early = h.early; late = h.late; within = h.within; order = h.order; answered = h.answered; acked = h.acked; cover = h.cover; given = h.given; reach = h.reach; single = h.single }
 
 up-taken-joins : (w : World) (c : ℕ) (x : Next) → Joins w → Joins (up_taken w c x)
 unfolding up_taken
-up-taken-joins w c x h = record { few = h.few; begun = h.begun; once = h.once; unmet = h.unmet; stamped = h.stamped; members = h.members; setups = h.setups; fits = h.fits; under = h.under; sessions = h.sessions; early = h.early; late = h.late; answered = h.answered; acked = h.acked; cover = h.cover; given = h.given; reach = h.reach; single = h.single }
+up-taken-joins w c x h = record { few = h.few; begun = h.begun; once = h.once; unmet = h.unmet; stamped = h.stamped; members = h.members; setups = h.setups; fits = h.fits; under = h.under; sessions = h.sessions; early = h.early; late = h.late; within = h.within; order = h.order; answered = h.answered; acked = h.acked; cover = h.cover; given = h.given; reach = h.reach; single = h.single }
 
 first-op : (g : Givens) (t : Ends) (w : World) (c : ℕ) (o : Op) → NextTells g t w c (message (request o)) → FirstOf w c (message (request o))
 first-op g t w c (op.Write f) h = record { first = h.0.first }
@@ -811,8 +850,8 @@ where-joins true v h = h
 where-joins false v h = tt
 
 lost-joins : (w : World) (c : ℕ) (way : Direction) (more : ℕ) → Joins w → Joins (lost w c way more)
-lost-joins w c direction.Down more h = record { few = h.few; begun = h.begun; once = h.once; unmet = h.unmet; stamped = h.stamped; members = h.members; setups = h.setups; fits = h.fits; under = h.under; sessions = h.sessions; early = h.early; late = h.late; answered = h.answered; acked = h.acked; cover = h.cover; given = h.given; reach = h.reach; single = h.single }
-lost-joins w c direction.Up more h = record { few = h.few; begun = h.begun; once = h.once; unmet = h.unmet; stamped = h.stamped; members = h.members; setups = h.setups; fits = h.fits; under = h.under; sessions = h.sessions; early = h.early; late = h.late; answered = h.answered; acked = h.acked; cover = h.cover; given = h.given; reach = h.reach; single = h.single }
+lost-joins w c direction.Down more h = record { few = h.few; begun = h.begun; once = h.once; unmet = h.unmet; stamped = h.stamped; members = h.members; setups = h.setups; fits = h.fits; under = h.under; sessions = h.sessions; early = h.early; late = h.late; within = h.within; order = h.order; answered = h.answered; acked = h.acked; cover = h.cover; given = h.given; reach = h.reach; single = h.single }
+lost-joins w c direction.Up more h = record { few = h.few; begun = h.begun; once = h.once; unmet = h.unmet; stamped = h.stamped; members = h.members; setups = h.setups; fits = h.fits; under = h.under; sessions = h.sessions; early = h.early; late = h.late; within = h.within; order = h.order; answered = h.answered; acked = h.acked; cover = h.cover; given = h.given; reach = h.reach; single = h.single }
 
 outcome-joins : (g l : Givens) (t : Ends) (w : World) (e : Event) → Known g t w → Moving w → Joins w → IfSome (outcome w e) (Facts l) → IfSome (outcome w e) Joins
 unfolding outcome restart
@@ -823,13 +862,13 @@ outcome-joins g l t w (event.Ready c) k m h n = ready-joins g l t w c.0 false k 
 outcome-joins g l t w (event.Up c) k m h n = up-joins g l t w c.0 false k h n
 outcome-joins g l t w (event.Lost c way more) k m h n = where-joins (nat_lt c.0 w.next_conn) (lost w c.0 way more) (lost-joins w c.0 way more h)
 outcome-joins g l t w (event.Fault d) k m h n = fault-joins g l t w d k h n
-outcome-joins g l t w (event.Stop n) k m h q = where-joins (w.running n.0) (stop w n.0) (record { few = h.few; begun = h.begun; once = h.once; unmet = h.unmet; stamped = h.stamped; members = h.members; setups = h.setups; fits = h.fits; under = h.under; sessions = h.sessions; early = h.early; late = h.late; answered = h.answered; acked = h.acked; cover = h.cover; given = h.given; reach = h.reach; single = h.single })
+outcome-joins g l t w (event.Stop n) k m h q = where-joins (w.running n.0) (stop w n.0) (record { few = h.few; begun = h.begun; once = h.once; unmet = h.unmet; stamped = h.stamped; members = h.members; setups = h.setups; fits = h.fits; under = h.under; sessions = h.sessions; early = h.early; late = h.late; within = h.within; order = h.order; answered = h.answered; acked = h.acked; cover = h.cover; given = h.given; reach = h.reach; single = h.single })
 outcome-joins g l t w (event.Restart n list) k m h q =
-    where-joins (nat_lt n.0 w.nodes && not (w.running n.0) && all_found w n.0 list) (restart w n.0 list) (record { few = h.few; begun = h.begun; once = h.once; unmet = h.unmet; stamped = h.stamped; members = h.members; setups = h.setups; fits = h.fits; under = h.under; sessions = h.sessions; early = h.early; late = h.late; answered = h.answered; acked = h.acked; cover = h.cover; given = h.given; reach = h.reach; single = h.single })
+    where-joins (nat_lt n.0 w.nodes && not (w.running n.0) && all_found w n.0 list) (restart w n.0 list) (record { few = h.few; begun = h.begun; once = h.once; unmet = h.unmet; stamped = h.stamped; members = h.members; setups = h.setups; fits = h.fits; under = h.under; sessions = h.sessions; early = h.early; late = h.late; within = h.within; order = h.order; answered = h.answered; acked = h.acked; cover = h.cover; given = h.given; reach = h.reach; single = h.single })
 
 after-joins : (w : World) (e : Event) (o : Option World) → Joins w → IfSome o Joins → Joins (after_event w e o)
 after-joins w e None h k = h
-after-joins w e (Some v) h k = record { few = k.few; begun = k.begun; once = k.once; unmet = k.unmet; stamped = k.stamped; members = k.members; setups = k.setups; fits = k.fits; under = k.under; sessions = k.sessions; early = k.early; late = k.late; answered = k.answered; acked = k.acked; cover = k.cover; given = k.given; reach = k.reach; single = k.single }
+after-joins w e (Some v) h k = record { few = k.few; begun = k.begun; once = k.once; unmet = k.unmet; stamped = k.stamped; members = k.members; setups = k.setups; fits = k.fits; under = k.under; sessions = k.sessions; early = k.early; late = k.late; within = k.within; order = k.order; answered = k.answered; acked = k.acked; cover = k.cover; given = k.given; reach = k.reach; single = k.single }
 
 happens-joins : (g l : Givens) (t : Ends) (w : World) (e : Event) → Known g t w → Moving w → Facts l (happens w e) → Joins w → Joins (happens w e)
 unfolding happens
@@ -879,6 +918,8 @@ start-joins nodes le = record {
   sessions = λ b t e x. sym (first-zero t e x);
   early = λ b t e x. omega (arith, first-zero t e x, (start-recorded nodes).first);
   late = λ b. (start-recorded nodes).first;
+  within = λ b t e x. omega (arith, first-zero t e x);
+  order = λ b t u e d x y lt. omega (arith, first-zero t e x);
   answered = λ a x. absurd (none-some a x.there);
   acked = λ a x. absurd (none-some a x.there);
   cover = λ a c e f x. absurd (none-some a x.there);

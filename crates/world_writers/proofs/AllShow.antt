@@ -25,7 +25,6 @@ use Rattle.world.specs.Events.{changed, own_change, down_as, down_event, ready_e
 use Rattle.world_laws.proofs.SessionAsides.{lower-down-aside, lower-ready-aside, mirror-up-aside, own-reader-aside, reader-up-aside, own-recover-aside, own-primary-aside, primary-up-aside}
 use Rattle.world_laws.specs.Stamping.{Givens, none_given, given_with, stamped_in, given_by, given_in, heard}
 use Rattle.world_laws.proofs.AllRecorded.{happens-recorded, Reached, reached-next, reached-agreed, start-recorded}
-use Rattle.world_laws.proofs.ByteLeaves.{Facts}
 use Rattle.world_laws.proofs.AllCarried.{happens-carried, reached-facts, at-start, start-carried}
 use Rattle.world_laws.proofs.AllSetUp.{happens-set, start-set}
 use Rattle.world_acks.specs.Acking.{Ends, Asked}
@@ -57,7 +56,7 @@ changed-stands : (g : Givens) (t : Ends) (w : World) (o : Option Change) → Kno
 changed-stands g t w None h s l f d = tt
 changed-stands g t w (Some k) h s l f d =
     let new = subst (λ (r : FullReplica). IsFull r) (after-at w k) (f.facts.full k.node k.block) in
-    let on = apply-onward g g t l.ends w k l.steps h.recovering f.coming.tells h.facts.full new (λ b i e q. q) l.named in
+    let on = apply-onward g g t l.ends w k l.steps h.recovering f.coming.tells f.coming.recovering h.facts.full new (λ b i e q. q) l.named in
     apply-stands g g t l.ends w k s on f.facts d
 
 office-stands : (g : Givens) (t : Ends) (w : World) (o : Option Change) → Known g t w → Standing g w → IfSome o (OfficeLeads g t w) → IfSome (changed w o) (Follows (given_with g (stamped_in o)) w) → IfSome o (Gives g t w) → IfSome (changed w o) (Standing (given_with g (stamped_in o)))
@@ -65,7 +64,7 @@ office-stands g t w None h s l f d = tt
 office-stands g t w (Some k) h s x f d =
     let l = x.leads in
     let new = subst (λ (r : FullReplica). IsFull r) (after-at w k) (f.facts.full k.node k.block) in
-    let on = apply-onward g (given_with g k.stamped) t l.ends w k l.steps h.recovering f.coming.tells h.facts.full new (fresh-given g t w k.stamped h x.fresh) l.named in
+    let on = apply-onward g (given_with g k.stamped) t l.ends w k l.steps h.recovering f.coming.tells f.coming.recovering h.facts.full new (fresh-given g t w k.stamped h x.fresh) l.named in
     apply-stands g (given_with g k.stamped) t l.ends w k s on f.facts d
 
 -- WORLDS WITH THE SAME WRITERS

@@ -1,14 +1,10 @@
 -- The stamps that the office gives to writers: what writers know fits these alone, whatever recoveries begin.
-use Rattle.std.proofs.Common.{◌≡◌, ℕ, ◌<◌, ◌≤◌, inl, Option, Some, None, IfSome, Ok, Err, refl, sym, ◌∙◌, ap, subst, arith, eqb-true}
-use Rattle.std.specs.Prelude.{◌==◌}
-use Rattle.std.proofs.lemmas.Bool.{eqb-false}
+use Rattle.std.proofs.Common.{◌≡◌, ℕ, ◌<◌, ◌≤◌, inl, Option, Some, None, IfSome, Ok, Err, refl, sym, ◌∙◌, ap, subst, arith}
 use Rattle.hd_base.specs.declared.numbers.BlockId.{BlockId}
-use Rattle.hd_base.specs.declared.numbers.Stamp.{Stamp}
 use Rattle.name_core.specs.declared.calls.OfficeAnswer.{OfficeAnswer}
 use Rattle.name_core.specs.declared.calls.OfficeAnswer.TheVariants as office
 use Rattle.name_core.specs.declared.calls.OfficeCall.{OfficeCall}
 use Rattle.name_core.specs.declared.calls.OfficeCall.TheVariants as call
-use Rattle.name_core.specs.declared.records.BlockRecord.{BlockRecord}
 use Rattle.name_core.specs.Offices.{OfficeState, office_case}
 use Rattle.name_core.specs.Steps.{Step, reply}
 use Rattle.name_core.proofs.CaseLemmas.{each_case}
@@ -38,6 +34,8 @@ pub record Sets (w : World) (k : Change) (h : Givens) : Type 0 where
   pub sessions : (b t e : ℕ) → setups b t ≡ Some e → sessions_with w.session_of k.stamped t ≡ e
   pub early : (b t e : ℕ) → setups b t ≡ Some e → e < k.office.next.0
   pub late : (b : ℕ) → latest_with w.latest k.stamped b < k.office.next.0
+  pub within : (b t e : ℕ) → setups b t ≡ Some e → e ≤ latest_with w.latest k.stamped b
+  pub order : (b t u e d : ℕ) → setups b t ≡ Some e → setups b u ≡ Some d → t ≤ u → e ≤ d
   pub answers : IfSome k.answered (AnswerFits w)
   pub fits : (b : ℕ) → Fits (setups b) (latest_with w.latest k.stamped b) None (heard (put w.writers k.writer_at k.writer b))
   pub under : (b t e : ℕ) → setups b t ≡ Some e → t < k.office.next.0
@@ -52,6 +50,8 @@ quiet-sets w k j q l = record {
   sessions = λ b t e x. subst (λ (o : Option Stamped). sessions_with w.session_of o t ≡ e) (sym q.stamped) (j.sessions b t e x);
   early = λ b t e x. subst (λ (o : OfficeState). e < o.next.0) (sym q.office) (j.early b t e x);
   late = λ b. subst (λ (o : Option Stamped). latest_with w.latest o b < k.office.next.0) (sym q.stamped) (subst (λ (o : OfficeState). w.latest b < o.next.0) (sym q.office) (j.late b));
+  within = λ b t e x. subst (λ (o : Option Stamped). e ≤ latest_with w.latest o b) (sym q.stamped) (j.within b t e x);
+  order = j.order;
   answers = l.answers;
   fits = λ b. subst (λ (o : Option Stamped). Fits (h b) (latest_with w.latest o b) None (heard (put w.writers k.writer_at k.writer b))) (sym q.stamped)
       (put-each (λ (d : ℕ) (y : Writing). Fits (h d) (w.latest d) None (heard y)) w.writers k.writer_at k.writer

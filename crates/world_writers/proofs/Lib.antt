@@ -7,12 +7,15 @@ pub mod Granting
 pub mod Hearing
 pub mod Intakes
 pub mod Keeping
+pub mod Kept
+pub mod Leaving
 pub mod Lifting
 pub mod Links
 pub mod Meeting
 pub mod Moving
 pub mod Piped
 pub mod Reaching
+pub mod Seating
 pub mod Standing
 pub mod Staying
 pub mod Stepping

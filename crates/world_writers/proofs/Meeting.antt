@@ -483,6 +483,8 @@ joins-apply g l w k h r t z old new = record {
   sessions = z.sessions;
   early = z.early;
   late = z.late;
+  within = z.within;
+  order = z.order;
   answered = λ a x. let y = answered-given w k a h (answering w k a z.answers x) in (y.0, z.keeps a.block a.stamp y.0 y.1);
   acked = λ a x e. acked-after w k a h z (answering w k a z.answers x) e;
   cover = λ a c e f x y b s q lt. cover-after w k a c e f h z (answering w k a z.answers x) (sent g l w k c f h r old new y) b s q lt;

@@ -30,7 +30,8 @@ Creates (phase.Requested setup.Create stamp) committed = committed ≡ stamp
 Creates (phase.Accepted setup.Create stamp) committed = committed ≡ stamp
 Creates _ committed = Unit {0}
 
--- A writer's connection, whose request is of this block and stamp; the members are the node at its lower end and the targets.
+-- A writer's connection, whose request is of this block and stamp; the members are the node at its lower end and the
+-- targets.
 pub record IsPipeline (h : Past) (block : ℕ) (stamp : Stamp) (members : List NodeId) (conn : ℕ) : Type 0 where
   pub known : conn < h.next_conn
   pub fields : WriteFields
