@@ -2,20 +2,8 @@
 #![tactic(auto)]
 
 #[cfg(test)]
-mod alone;
-#[cfg(test)]
-mod chains;
-#[cfg(test)]
-mod failing;
-#[cfg(test)]
 mod helpers;
 #[cfg(test)]
-mod nodes;
-#[cfg(test)]
-mod pieces;
-#[cfg(test)]
 mod receiving;
-#[cfg(test)]
-mod refusing;
 #[cfg(test)]
 mod responding;
