@@ -108,7 +108,8 @@ read_statuses = record {
 
 -- What holds of each kind: reading gives what is spelled at the front, or why nothing is; Short is that the message is cut off, as each front of one is; and a message's front tells its size.
 pub record IsSound {M : Type 0} (kind : Kind M) : Type 0 where
-  pub found : (m : M) (k : ℕ) (bytes : List ℕ) → IsBytes bytes → kind.reads bytes ≡ Ok (m, k) → kind.spells m (take k bytes)
+  pub found : (m : M) (k : ℕ) (bytes : List ℕ) → IsBytes bytes → kind.reads bytes ≡ Ok (m, k) →
+      kind.spells m (take k bytes)
   pub within : (m : M) (k : ℕ) (bytes : List ℕ) → IsBytes bytes → kind.reads bytes ≡ Ok (m, k) → k ≤ length bytes
   pub listed : (m : M) (k : ℕ) (bytes : List ℕ) → IsBytes bytes → kind.reads bytes ≡ Ok (m, k) → kind.listed m
   pub only : (m : M) (text rest : List ℕ) → kind.spells m text → kind.reads (text ++ rest) ≡ Ok (m, length text)
@@ -116,7 +117,8 @@ pub record IsSound {M : Type 0} (kind : Kind M) : Type 0 where
   pub stopped : (why : NoMessage) (bytes : List ℕ) → IsBytes bytes → kind.stops why bytes → kind.reads bytes ≡ Err why
   pub is_cut : (bytes : List ℕ) → kind.stops Short bytes → IsCut kind.framing bytes
   pub cut : (bytes : List ℕ) → IsCut kind.framing bytes → kind.stops Short bytes
-  pub front : (m : M) (text bytes more : List ℕ) → kind.spells m text → bytes ++ more ≡ text → 0 < length more → IsCut kind.framing bytes
+  pub front : (m : M) (text bytes more : List ℕ) → kind.spells m text → bytes ++ more ≡ text → 0 < length more →
+      IsCut kind.framing bytes
   pub no_memory : (bytes : List ℕ) → kind.stops Memory bytes → ⊥
   pub sized : (m : M) (text : List ℕ) → kind.spells m text → size_at kind.framing text ≡ Some (length text)
   pub of_stream : (e : FeedFault) (bytes : List ℕ) → kind.stops (Refused e) bytes → IsOfStream e

@@ -19,7 +19,8 @@ pub record KeepsRoads {R I O : Type 0} (r : roads.Ghosts R I O) (old new : R) : 
   pub never_falls : r.faults old ≤ r.faults new
 
 -- A dial of this port was answered, by this end.
-pub record IsDialled {R I O : Type 0} (r : roads.Ghosts R I O) (i : link_in.Ghosts I) (o : link_out.Ghosts O) (port : ℕ) (old new : R) (end : Conn I O) : Type 0 where
+pub record IsDialled {R I O : Type 0} (r : roads.Ghosts R I O) (i : link_in.Ghosts I) (o : link_out.Ghosts O)
+    (port : ℕ) (old new : R) (end : Conn I O) : Type 0 where
   pub upper : end.lower ≡ false
   pub number : IfSome (r.plain old) (λ p. end.id.0 ≡ p.dialled)
   pub fresh : IsFresh i o end
@@ -49,7 +50,8 @@ names None conn = false
 names (Some named) conn = named.0 == conn.0
 
 -- An end is exchanged, as the roads' call says.
-pub record ExchangesEnd {R I O : Type 0} (r : roads.Ghosts R I O) (i : link_in.Ghosts I) (o : link_out.Ghosts O) (take : Bool) (old new : Conn I O) (roads roads' : R) (result : Result (Unit {0}) RoadError) : Type 0 where
+pub record ExchangesEnd {R I O : Type 0} (r : roads.Ghosts R I O) (i : link_in.Ghosts I) (o : link_out.Ghosts O)
+    (take : Bool) (old new : Conn I O) (roads roads' : R) (result : Result (Unit {0}) RoadError) : Type 0 where
   pub flushed : OnOk result (FlushesAll o old new (r.plain roads))
   pub carried : OnOk result (CarriesFlushed o old (r.plain roads) (r.carried roads) (r.carried roads'))
   pub plain : OnOk result (Exchanges i o old take (r.plain roads) (r.plain roads'))
@@ -66,7 +68,8 @@ pub record ExchangesEnd {R I O : Type 0} (r : roads.Ghosts R I O) (i : link_in.G
   pub schedule : FollowsSchedule (r.schedule roads) (r.schedule roads') (r.faults roads) (r.faults roads') result
 
 -- An end is brought back, as the roads' call says.
-pub record BringsEnd {R I O : Type 0} (r : roads.Ghosts R I O) (i : link_in.Ghosts I) (o : link_out.Ghosts O) (end : Conn I O) (roads roads' : R) (result : Result (Unit {0}) RoadError) : Type 0 where
+pub record BringsEnd {R I O : Type 0} (r : roads.Ghosts R I O) (i : link_in.Ghosts I) (o : link_out.Ghosts O)
+    (end : Conn I O) (roads roads' : R) (result : Result (Unit {0}) RoadError) : Type 0 where
   pub carried : OnOk result (CarriesOf o end (r.carried roads) (r.carried roads'))
   pub plain : OnOk result (Flushes i o end (r.plain roads) (r.plain roads'))
   pub connections : KeepsConnections (r.plain roads) (r.plain roads')
@@ -78,7 +81,8 @@ pub record BringsEnd {R I O : Type 0} (r : roads.Ghosts R I O) (i : link_in.Ghos
   pub schedule : KeepsSchedule (r.schedule roads) (r.schedule roads') (r.faults roads) (r.faults roads')
 
 -- An end is shut, and brought back; where that finds no memory, the roads stay.
-pub record GivesUp {R I O : Type 0} (r : roads.Ghosts R I O) (i : link_in.Ghosts I) (o : link_out.Ghosts O) (end : Conn I O) (old new : R) : Type 0 where
+pub record GivesUp {R I O : Type 0} (r : roads.Ghosts R I O) (i : link_in.Ghosts I) (o : link_out.Ghosts O)
+    (end : Conn I O) (old new : R) : Type 0 where
   pub shut : Conn I O
   pub result : Result (Unit {0}) RoadError
   pub kept : KeepsInward end shut

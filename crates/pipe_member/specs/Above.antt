@@ -55,14 +55,16 @@ above_of came.NotYet = None
 above_of came.Memory = None
 
 -- What comes next of the link is what stands next then.
-pub record ReceivesAbove {I : Type 0} (i : link_in.Ghosts I) (old new : AboveState) (half half' : I) (found : Looked) : Type 0 where
+pub record ReceivesAbove {I : Type 0} (i : link_in.Ghosts I) (old new : AboveState) (half half' : I) (found : Looked) :
+    Type 0 where
   pub came : Next Packet
   pub comes : NextEnds packets i old.received new.received half half' came
   pub stands : new.next ≡ above_of came
   pub is : found ≡ looked_of came
 
 -- Nothing is received where it is known what stands next.
-abbrev pub LooksAbove : {I : Type 0} → link_in.Ghosts I → Option FromAbove → AboveState → AboveState → I → I → Looked → Type 0
+abbrev pub LooksAbove : {I : Type 0} → link_in.Ghosts I → Option FromAbove → AboveState → AboveState → I → I → Looked →
+    Type 0
 LooksAbove i None old new half half' found = ReceivesAbove i old new half half' found
 LooksAbove i (Some x) old new half half' found = (new ≡ old) × (half' ≡ half) × (found ≡ looked.Known)
 

@@ -46,26 +46,34 @@ setup_by (stepped.File receipt) conn op answered r = faulted_request r
 setup_by other conn op answered r = request_step conn op answered r
 
 -- The member and the replica are where the step leads, and its answer was sent, if it has one.
-pub record IsSetup {F I O : Type 0} (o : link_out.Ghosts O) (s : Setup) (old new : Member I O) (book' : BookState F) : Type 0 where
+pub record IsSetup {F I O : Type 0} (o : link_out.Ghosts O) (s : Setup) (old new : Member I O) (book' : BookState F) :
+    Type 0 where
   pub member : new.stage ≡ stage_of s.member s.effect.shuts
   pub replica : replica_of book' ≡ s.replica
   pub told : Tells o (texts_of old.op s.effect.sends) old.upstream.outward new.upstream.outward
 
 -- What is asked of a setup: the member has no end to a mirror yet, its request is this event of the replica or refused before, and memory was found.
-pub record IsNewRequest {F I O : Type 0} (event : Result Event RequestRefusal) (old : Member I O) (book : BookState F) (result : Stepped) : Type 0 where
+pub record IsNewRequest {F I O : Type 0} (event : Result Event RequestRefusal) (old : Member I O) (book : BookState F)
+    (result : Stepped) : Type 0 where
   pub mirror : old.mirror ≡ None
   pub of_history : IsOfHistory book
   pub found_memory : result ≢ stepped.Memory
   pub event_is : request_event old.upstream.id old.op (rule_in book.replica) ≡ event
 
 -- Each setup that found memory is the request's step, and the member holds an end only to a mirror of its rules.
-abbrev pub SetupsAreSteps : (F R I O : Type 0) → files.Ghosts F → roads.Ghosts R I O → link_in.Ghosts I → link_out.Ghosts O → Type 0
-SetupsAreSteps F R I O f r i o = (e : Event) (old new : Member I O) (book book' : BookState F) (roads roads' : R) (result : Stepped) → IsNewRequest (Ok e) old book result
+abbrev pub SetupsAreSteps : (F R I O : Type 0) → files.Ghosts F → roads.Ghosts R I O → link_in.Ghosts I →
+    link_out.Ghosts O → Type 0
+SetupsAreSteps F R I O f r i o =
+    (e : Event) (old new : Member I O) (book book' : BookState F) (roads roads' : R) (result : Stepped) →
+    IsNewRequest (Ok e) old book result
     → (x : SetsUpWith f r i o e old new book book' roads roads' result)
-    → IsSetup o (setup_by result old.upstream.id old.op (was_answered x.ended) (replica_of book)) old new book' × HoldsMirror new.stage new.mirror
+    → IsSetup o (setup_by result old.upstream.id old.op (was_answered x.ended) (replica_of book)) old new book' ×
+        HoldsMirror new.stage new.mirror
 
 -- So is each request that is refused before the replica is asked.
 abbrev pub RefusalsAreSteps : (F I O : Type 0) → link_out.Ghosts O → Type 0
-RefusalsAreSteps F I O o = (why : RequestRefusal) (old new : Member I O) (book : BookState F) (result : Stepped) → IsNewRequest (Err why) old book result
+RefusalsAreSteps F I O o = (why : RequestRefusal) (old new : Member I O) (book : BookState F) (result : Stepped) →
+    IsNewRequest (Err why) old book result
     → Refuses o (texts_of old.op (refused_setup why).sends) old new result
-    → IsSetup o (setup_by result old.upstream.id old.op false (replica_of book)) old new book × HoldsMirror new.stage new.mirror
+    → IsSetup o (setup_by result old.upstream.id old.op false (replica_of book)) old new book ×
+        HoldsMirror new.stage new.mirror

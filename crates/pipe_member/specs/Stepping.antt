@@ -34,7 +34,8 @@ abbrev pub Tells : {O : Type 0} → link_out.Ghosts O → Option (List ℕ) → 
 Tells o text old new = HasSent (o.sent old) (o.sent new) text ⊎ FaultsIncreased (o.faults old) (o.faults new)
 
 -- The same on the end to the mirror, where the member holds one.
-abbrev pub TellsMirror : {I O : Type 0} → link_out.Ghosts O → Option (List ℕ) → Option (Conn I O) → Option (Conn I O) → Type 0
+abbrev pub TellsMirror : {I O : Type 0} → link_out.Ghosts O → Option (List ℕ) → Option (Conn I O) → Option (Conn I O) →
+    Type 0
 TellsMirror o text None None = Unit {0}
 TellsMirror o text (Some old) (Some new) = Tells o text old.outward new.outward
 TellsMirror o text old new = ⊥
@@ -51,7 +52,8 @@ IsOfRules (Some (replica_event.Packet conn p)) e mirror = (e.sends ≡ None) × 
 IsOfRules (Some (replica_event.Other x)) e mirror = IsAnswering x
 
 -- The member is where the step leads, so is the replica, and the step's effect was sent: its message up, and the packet to the mirror.
-pub record IsStep {F I O : Type 0} (o : link_out.Ghosts O) (t : Turn) (s : Step) (old new : Member I O) (book book' : BookState F) : Type 0 where
+pub record IsStep {F I O : Type 0} (o : link_out.Ghosts O) (t : Turn) (s : Step) (old new : Member I O)
+    (book book' : BookState F) : Type 0 where
   pub member : new.stage ≡ stage_after s.member s.effect.shuts
   pub replica : replica_of book' ≡ s.replica
   pub told : Tells o (texts_of old.op s.effect.sends) old.upstream.outward new.upstream.outward
@@ -64,6 +66,8 @@ step_by other m r t = step m r t
 
 -- Each turn that found memory is its step.
 abbrev pub TurnsAreSteps : (F I O : Type 0) → files.Ghosts F → link_out.Ghosts O → Type 0
-TurnsAreSteps F I O f o = (m : MemberState) (t : Turn) (took : Took) (old new : Member I O) (book book' : BookState F) (result : Stepped)
+TurnsAreSteps F I O f o = (m : MemberState) (t : Turn) (took : Took) (old new : Member I O) (book book' : BookState F)
+    (result : Stepped)
     → IsOfRules t.call t.effect old.mirror → result ≢ stepped.Memory
-    → Turns f o m t took old new book book' result → IsStep o t (step_by result m (replica_of book) t) old new book book'
+    → Turns f o m t took old new book book' result →
+        IsStep o t (step_by result m (replica_of book) t) old new book book'

@@ -13,34 +13,39 @@ use Rattle.pipe_setup.specs.declared.reaching.Reached.{Reached}
 use Rattle.pipe_setup.specs.declared.reaching.Reached.TheVariants as reached
 
 -- The request was sent on the end of a dial.
-pub record IsAsked {R I O : Type 0} (r : roads.Ghosts R I O) (i : link_in.Ghosts I) (o : link_out.Ghosts O) (text : List ℕ) (port : ℕ) (old new : R) (end : Conn I O) : Type 0 where
+pub record IsAsked {R I O : Type 0} (r : roads.Ghosts R I O) (i : link_in.Ghosts I) (o : link_out.Ghosts O)
+    (text : List ℕ) (port : ℕ) (old new : R) (end : Conn I O) : Type 0 where
   pub fresh : Conn I O
   pub dialled : IsDialled r i o port old new fresh
   pub kept : KeepsInward fresh end
   pub sent : SendsPiece o text fresh.outward end.outward
 
 -- The dial was answered, and the link failed before the request was sent.
-pub record IsUnsent {R I O : Type 0} (r : roads.Ghosts R I O) (i : link_in.Ghosts I) (o : link_out.Ghosts O) (port : ℕ) (old new : R) (end : Conn I O) : Type 0 where
+pub record IsUnsent {R I O : Type 0} (r : roads.Ghosts R I O) (i : link_in.Ghosts I) (o : link_out.Ghosts O) (port : ℕ)
+    (old new : R) (end : Conn I O) : Type 0 where
   pub fresh : Conn I O
   pub dialled : IsDialled r i o port old new fresh
   pub kept : KeepsInward fresh end
   pub failed : FailsToSend o fresh.outward end.outward
 
 -- Memory ran out before the dial or in it, and the roads stay; or for the request on the end of the dial, which is given up.
-pub data FindsNoMemory {R I O : Type 0} (r : roads.Ghosts R I O) (i : link_in.Ghosts I) (o : link_out.Ghosts O) (port : ℕ) (old new : R) : Type 0 where
+pub data FindsNoMemory {R I O : Type 0} (r : roads.Ghosts R I O) (i : link_in.Ghosts I) (o : link_out.Ghosts O)
+    (port : ℕ) (old new : R) : Type 0 where
   before : KeepsRoads r old new → FindsNoMemory r i o port old new
   after : (middle : R) (fresh end : Conn I O) → IsDialled r i o port old middle fresh → KeepsInward fresh end
       → SendsNothing o fresh.outward end.outward → GivesUp r i o end middle new → FindsNoMemory r i o port old new
 
 -- How a port is reached with a request.
-abbrev pub ReachesPort : {R I O : Type 0} → roads.Ghosts R I O → link_in.Ghosts I → link_out.Ghosts O → List ℕ → ℕ → R → R → Reached I O → Type 0
+abbrev pub ReachesPort : {R I O : Type 0} → roads.Ghosts R I O → link_in.Ghosts I → link_out.Ghosts O → List ℕ → ℕ →
+    R → R → Reached I O → Type 0
 ReachesPort r i o text port old new (reached.Asked end) = IsAsked r i o text port old new end
 ReachesPort r i o text port old new (reached.Unsent end) = IsUnsent r i o port old new end
 ReachesPort r i o text port old new reached.NotDialled = IsUnanswered r port old new
 ReachesPort r i o text port old new reached.Memory = FindsNoMemory r i o port old new
 
 -- The request to the mirror, as it is written, was sent.
-pub record IsAskedBy {R I O : Type 0} (r : roads.Ghosts R I O) (i : link_in.Ghosts I) (o : link_out.Ghosts O) (node : NodeId) (w : WriteFields) (old new : R) (end : Conn I O) : Type 0 where
+pub record IsAskedBy {R I O : Type 0} (r : roads.Ghosts R I O) (i : link_in.Ghosts I) (o : link_out.Ghosts O)
+    (node : NodeId) (w : WriteFields) (old new : R) (end : Conn I O) : Type 0 where
   pub text : List ℕ
   pub is : request_text node w ≡ Some text
   pub asked : IsAsked r i o text (first_port w.targets) old new end
@@ -51,8 +56,10 @@ pub record IsUnwritten {R : Type 0} (node : NodeId) (w : WriteFields) (old new :
   pub same : new ≡ old
 
 -- How the mirror of a request is reached.
-abbrev pub Reaches : {R I O : Type 0} → roads.Ghosts R I O → link_in.Ghosts I → link_out.Ghosts O → NodeId → WriteFields → R → R → Reached I O → Type 0
+abbrev pub Reaches : {R I O : Type 0} → roads.Ghosts R I O → link_in.Ghosts I → link_out.Ghosts O → NodeId →
+    WriteFields → R → R → Reached I O → Type 0
 Reaches r i o node w old new (reached.Asked end) = IsAskedBy r i o node w old new end
 Reaches r i o node w old new (reached.Unsent end) = IsUnsent r i o (first_port w.targets) old new end
-Reaches r i o node w old new reached.NotDialled = IsUnwritten node w old new ⊎ IsUnanswered r (first_port w.targets) old new
+Reaches r i o node w old new reached.NotDialled = IsUnwritten node w old new ⊎
+    IsUnanswered r (first_port w.targets) old new
 Reaches r i o node w old new reached.Memory = FindsNoMemory r i o (first_port w.targets) old new

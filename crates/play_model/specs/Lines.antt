@@ -62,7 +62,8 @@ PlaysLine blocks other old new = new ≡ old
 -- one after the other; behind the last one all is settled
 abbrev pub PlaysLines : List ℕ → List ScriptLine → PlayState → PlayState → Type 0
 PlaysLines blocks [] old new = Settles blocks old new
-PlaysLines blocks (l ∷ lines) old new = (middle : PlayState) × (PlaysLine blocks l.instruction old middle × PlaysLines blocks lines middle new)
+PlaysLines blocks (l ∷ lines) old new = (middle : PlayState) ×
+    (PlaysLine blocks l.instruction old middle × PlaysLines blocks lines middle new)
 
 -- SCRIPTS
 

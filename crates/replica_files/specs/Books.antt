@@ -25,7 +25,8 @@ abbrev pub HasLastSum : ℕ → FullReplica → Type 0
 HasLastSum sum r = r.known.is_broken ≡ false → IfSome r.known.info (λ h. IsLastSum h.sums sum r.bytes)
 
 -- The replica is of this block, and the files hold it; where they are observable, all are of its block, and the kept sum is that of its last chunk.
-pub record IsHeld {F : Type 0} (f : files.Ghosts F) (drawer : F) (block : BlockId) (sum : ℕ) (r : FullReplica) : Type 0 where
+pub record IsHeld {F : Type 0} (f : files.Ghosts F) (drawer : F) (block : BlockId) (sum : ℕ) (r : FullReplica) : Type 0
+    where
   pub fits : block.0 < 2 ^ 64
   pub of_block : r.known.block ≡ block
   pub full : IsFull r
@@ -54,7 +55,8 @@ AreStrays files None None strays = strays ≡ []
 AreStrays files (Some h) next strays = strays ≡ []
 
 -- The calls of an event were made.
-pub record MakesEvent {F : Type 0} (f : files.Ghosts F) (old new : F) (r : FullReplica) (e : ReplicaEvent) : Type 0 where
+pub record MakesEvent {F : Type 0} (f : files.Ghosts F) (old new : F) (r : FullReplica) (e : ReplicaEvent) : Type 0
+    where
   pub strays : List (List ℕ)
   pub are : AreStrays (f.files old) r.known.info (row r e).known.info strays
   pub made : MakesCalls (f.files old) (f.files new) (f.log old) (f.log new) (event_calls r e strays)
@@ -63,4 +65,5 @@ pub record MakesEvent {F : Type 0} (f : files.Ghosts F) (old new : F) (r : FullR
 pub data StopsEvent {F : Type 0} (f : files.Ghosts F) (old new : F) (r : FullReplica) (e : ReplicaEvent) : Type 0 where
   before_all : IsUnchanged (f.files old) (f.files new) (f.log old) (f.log new) → StopsEvent f old new r e
   amid : (strays : List (List ℕ)) → AreStrays (f.files old) r.known.info (row r e).known.info strays
-      → StopsWithin (f.files old) (f.files new) (f.log old) (f.log new) (event_calls r e strays) → StopsEvent f old new r e
+      → StopsWithin (f.files old) (f.files new) (f.log old) (f.log new) (event_calls r e strays) →
+          StopsEvent f old new r e

@@ -38,13 +38,15 @@ pub record RoadsShow {R I O : Type 0} (r : roads.Ghosts R I O) (net : Net) (road
   pub carried : r.carried road ≡ option_map (λ _. carried_of net.traffic) (r.carried road)
 
 -- An end is shut or not, and nothing that it sent is lost.
-pub record IsShutOr {I O : Type 0} (i : link_in.Ghosts I) (o : link_out.Ghosts O) (shut : Bool) (end : Conn I O) : Type 0 where
+pub record IsShutOr {I O : Type 0} (i : link_in.Ghosts I) (o : link_out.Ghosts O) (shut : Bool) (end : Conn I O) : Type
+    0 where
   pub shut_is : is_shut i o end ≡ shut
   pub none_lost : o.lost end.outward ≡ 0
 
 -- An end in the middle of an event: it has sent these messages past those of the traffic, was shut since or not, and holds this. Where the end of
 -- a direction stands already nothing is said of shuts and losses.
-pub record EndIs {I O : Type 0} (i : link_in.Ghosts I) (o : link_out.Ghosts O) (traffic : Traffics) (shut : Bool) (extra : List (List ℕ)) (inbox : Inbox) (at_end : Conn I O) : Type 0 where
+pub record EndIs {I O : Type 0} (i : link_in.Ghosts I) (o : link_out.Ghosts O) (traffic : Traffics) (shut : Bool)
+    (extra : List (List ℕ)) (inbox : Inbox) (at_end : Conn I O) : Type 0 where
   pub sent : o.sent at_end.outward ≡ Some ((traffic at_end.id.0 (not at_end.lower)).sent ++ extra)
   pub flushed : o.flushed at_end.outward ≡ length (traffic at_end.id.0 (not at_end.lower)).sent
   pub held : i.held at_end.inward ≡ Some inbox
@@ -115,24 +117,30 @@ abbrev pub MayTake : Net → Bool → Inbox → ℕ → Bool → Type 0
 MayTake net takes inbox conn lower = takes ≡ true → (inbox ≡ no_inbox) × ((net.traffic conn lower).over ≡ false)
 
 -- The roads and this end of theirs show the connections.
-pub record BothShow {R I O : Type 0} (r : roads.Ghosts R I O) (i : link_in.Ghosts I) (o : link_out.Ghosts O) (net : Net) (shut : Bool) (extra : List (List ℕ)) (inbox : Inbox) (road : R) (at_end : Conn I O) : Type 0 where
+pub record BothShow {R I O : Type 0} (r : roads.Ghosts R I O) (i : link_in.Ghosts I) (o : link_out.Ghosts O)
+    (net : Net) (shut : Bool) (extra : List (List ℕ)) (inbox : Inbox) (road : R) (at_end : Conn I O) : Type 0 where
   pub road_shows : RoadsShow r net road
   pub end_is : EndIs i o net.traffic shut extra inbox at_end
 
 -- Whatever connections roads and end show: after an exchange they show them with what was flushed and taken, and after one that failed they show
 -- what they did.
-abbrev pub ShowsExchange : {R I O : Type 0} → roads.Ghosts R I O → link_in.Ghosts I → link_out.Ghosts O → Bool → Conn I O → Conn I O → R → R → Result (Unit {0}) RoadError → Type 0
+abbrev pub ShowsExchange : {R I O : Type 0} → roads.Ghosts R I O → link_in.Ghosts I → link_out.Ghosts O → Bool →
+    Conn I O → Conn I O → R → R → Result (Unit {0}) RoadError → Type 0
 ShowsExchange r i o takes old new road road' result =
-    (net : Net) (shut : Bool) (extra : List (List ℕ)) (inbox : Inbox) → IsSane net → BothShow r i o net shut extra inbox road old
+    (net : Net) (shut : Bool) (extra : List (List ℕ)) (inbox : Inbox) → IsSane net →
+        BothShow r i o net shut extra inbox road old
     → MayTake net takes inbox old.id.0 old.lower
     → ResultIs result
-    (BothShow r i o (exchanged_net net old.id.0 old.lower takes shut extra) false [] (exchanged_inbox net old.id.0 old.lower takes shut extra inbox) road' new)
+    (BothShow r i o (exchanged_net net old.id.0 old.lower takes shut extra) false []
+        (exchanged_inbox net old.id.0 old.lower takes shut extra inbox) road' new)
     (BothShow r i o net shut extra inbox road' new)
 
 -- Whatever connections roads and end show: once the end was given up, the roads show that.
-abbrev pub ShowsLoss : {R I O : Type 0} → roads.Ghosts R I O → link_in.Ghosts I → link_out.Ghosts O → Conn I O → R → R → Result (Unit {0}) RoadError → Type 0
+abbrev pub ShowsLoss : {R I O : Type 0} → roads.Ghosts R I O → link_in.Ghosts I → link_out.Ghosts O → Conn I O → R →
+    R → Result (Unit {0}) RoadError → Type 0
 ShowsLoss r i o end road road' result =
-    (net : Net) (shut : Bool) (extra : List (List ℕ)) (inbox : Inbox) → IsSane net → BothShow r i o net shut extra inbox road end
+    (net : Net) (shut : Bool) (extra : List (List ℕ)) (inbox : Inbox) → IsSane net →
+        BothShow r i o net shut extra inbox road end
     → OnOk result (RoadsShow r (lost_net net end.id.0 end.lower extra) road')
 
 -- The roads remember of the connection of an end that was brought back whether a count of it had risen, and of all others what they did.
@@ -142,18 +150,23 @@ pub record Remembers (failed : Bool) (conn : ℕ) (old new : ℕ → Bool) : Typ
   pub others : (c : ℕ) → (conn == c) ≡ false → new c ≡ old c
 
 -- How a dial went.
-pub record ShowsDialled {R I O : Type 0} (r : roads.Ghosts R I O) (i : link_in.Ghosts I) (o : link_out.Ghosts O) (net : Net) (port : ℕ) (road : R) (at_end : Conn I O) : Type 0 where
+pub record ShowsDialled {R I O : Type 0} (r : roads.Ghosts R I O) (i : link_in.Ghosts I) (o : link_out.Ghosts O)
+    (net : Net) (port : ℕ) (road : R) (at_end : Conn I O) : Type 0 where
   pub number : at_end.id.0 ≡ net.conns
   pub upper : at_end.lower ≡ false
   pub listened : net.listens port ≡ true
   pub both : BothShow r i o (dialled_net net port) false [] no_inbox road at_end
 
 -- The roads show what they did, and nobody listens on the port, or their count of faults rose, or memory ran out.
-pub record ShowsUndialled {R I O : Type 0} (r : roads.Ghosts R I O) (net : Net) (port : ℕ) (why : RoadError) (old new : R) : Type 0 where
+pub record ShowsUndialled {R I O : Type 0} (r : roads.Ghosts R I O) (net : Net) (port : ℕ) (why : RoadError)
+    (old new : R) : Type 0 where
   pub road_shows : RoadsShow r net new
   pub cause : why ≡ road_error.NotListening → net.listens port ≡ false
 
 -- Whatever connections the roads show: a dial that is answered is the next one, and waits at its port; one that isn't changes nothing.
-abbrev pub ShowsDial : {R I O : Type 0} → roads.Ghosts R I O → link_in.Ghosts I → link_out.Ghosts O → ℕ → R → R → Result (Conn I O) RoadError → Type 0
-ShowsDial r i o port old new (Ok end) = (net : Net) → IsSane net → RoadsShow r net old → ShowsDialled r i o net port new end
-ShowsDial r i o port old new (Err why) = (net : Net) → IsSane net → RoadsShow r net old → ShowsUndialled r net port why old new
+abbrev pub ShowsDial : {R I O : Type 0} → roads.Ghosts R I O → link_in.Ghosts I → link_out.Ghosts O → ℕ → R → R →
+    Result (Conn I O) RoadError → Type 0
+ShowsDial r i o port old new (Ok end) = (net : Net) → IsSane net → RoadsShow r net old →
+    ShowsDialled r i o net port new end
+ShowsDial r i o port old new (Err why) = (net : Net) → IsSane net → RoadsShow r net old →
+    ShowsUndialled r net port why old new

@@ -62,7 +62,8 @@ pub data Closing (g : Givens) (w v : World) (b stamp n : ℕ) : Type 0 where
 abbrev pub StaysClosed : Type 0
 StaysClosed = (nodes : ℕ) (events : List Event) (e : Event) (b stamp n : ℕ) →
     IsClosed (run (start nodes) events) b stamp n →
-    Closing (given_by (given_in none_given (start nodes) events) (run (start nodes) events) e) (run (start nodes) events)
+    Closing (given_by (given_in none_given (start nodes) events) (run (start nodes) events) e)
+        (run (start nodes) events)
     (happens (run (start nodes) events) e) b stamp n
 
 -- THE MEMBERS OF A PIPELINE

@@ -10,12 +10,14 @@ use Rattle.world_nets.specs.Nets.{AreRows, inbox_for}
 -- An end has flushed these messages, and was shut or not.
 abbrev pub FlushesAreRows : Type 0
 FlushesAreRows = (rows : Rows) (traffic : Traffics) (conn : ℕ) (lower shut : Bool) (messages : List Message)
-    → AreRows rows traffic → AreRows (rows_flushed rows conn lower shut messages) (after_flush traffic conn lower shut (map text_of messages))
+    → AreRows rows traffic → AreRows (rows_flushed rows conn lower shut messages)
+        (after_flush traffic conn lower shut (map text_of messages))
 
 -- An end that sent these messages was given up.
 abbrev pub LossesAreRows : Type 0
 LossesAreRows = (rows : Rows) (traffic : Traffics) (conn : ℕ) (lower : Bool) (messages : List Message)
-    → AreRows rows traffic → AreRows (rows_flushed rows conn lower true messages) (after_loss traffic conn lower (map text_of messages))
+    → AreRows rows traffic → AreRows (rows_flushed rows conn lower true messages)
+        (after_loss traffic conn lower (map text_of messages))
 
 -- What an end takes: the traffic then, and what the end holds.
 pub record TakesRow (rows : Rows) (traffic : Traffics) (conn : ℕ) (lower : Bool) (x : Next) : Type 0 where
@@ -24,5 +26,6 @@ pub record TakesRow (rows : Rows) (traffic : Traffics) (conn : ℕ) (lower : Boo
 
 -- An end whose inward direction may still be taken from takes what stands next.
 abbrev pub TakesAreRows : Type 0
-TakesAreRows = (rows : Rows) (traffic : Traffics) (conn : ℕ) (lower : Bool) (x : Next) → AreRows rows traffic → (traffic conn lower).over ≡ false
+TakesAreRows = (rows : Rows) (traffic : Traffics) (conn : ℕ) (lower : Bool) (x : Next) → AreRows rows traffic →
+    (traffic conn lower).over ≡ false
     → next_on (rows conn lower).sent (rows conn lower).marks ≡ Some x → TakesRow rows traffic conn lower x

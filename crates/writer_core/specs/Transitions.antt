@@ -169,7 +169,8 @@ dial_step w s stamp = dial_step_as w s stamp w.members
 
 -- the create or append is answered, and the writer streams
 abbrev pub open_step : WriterRecord → Step
-open_step w = step (action.Answered (ordinal w) (answer.Granted w.committed)) (record w { waiting = None; phase = phase.Streaming 0 })
+open_step w = step (action.Answered (ordinal w) (answer.Granted w.committed)) (record w { waiting = None;
+    phase = phase.Streaming 0 })
 
 -- Rule 2: a new block streams at once; else the stamp and the members are committed first.
 abbrev pub accepted_step : WriterRecord → Setup → Stamp → Step
@@ -210,7 +211,8 @@ data_due x end = due.Data end (ends_sync x end)
 -- The packet that is due: one with bytes where those written reach its greatest end, or a command waits for bytes past the sent end.
 abbrev pub due_in : Option Waiting → StreamState → Option DuePacket
 due_in x s =
-    if nat_le (greatest_end s.rule.chunk (start_in s)) (written_in s) then Some (data_due x (greatest_end s.rule.chunk (start_in s)))
+    if nat_le (greatest_end s.rule.chunk (start_in s)) (written_in s)
+        then Some (data_due x (greatest_end s.rule.chunk (start_in s)))
     else if is_flushing x && nat_lt s.sent (written_in s) then Some (data_due x (written_in s))
     else empty_due x s
 
@@ -239,7 +241,8 @@ form_step w due.Sync = step (action.Send (sync_packet w.stream)) (record w {
   waiting = sync_formed_as true (pos w.stream.seqno) w.waiting;
   phase = all_sent w;
 })
-form_step w due.Last = step (action.Send (last_packet w.stream w.had_sync)) (record w { stream = last_formed w.stream w.had_sync; phase = phase.Closing })
+form_step w due.Last = step (action.Send (last_packet w.stream w.had_sync))
+    (record w { stream = last_formed w.stream w.had_sync; phase = phase.Closing })
 
 -- the packet of this number, which was formed, is acked where this is the oldest one that isn't
 abbrev pub is_acked : ℤ → Option ℤ → Bool
