@@ -45,8 +45,8 @@ pub disk_by-fits : (entries : List DiskEntry) (name : List ℕ) →
 disk_by-fits [] name = tt
 disk_by-fits (entry ∷ rest) name =
     elim (bytes_eq entry.name name) as
-        (λ here. IfSome (option_map (λ f. f.bytes)
-        (cond here (option_map disk_file_of entry.file) (disk_by rest name))) (λ b. length b < 2 ^ 64)) [
+    (λ here. IfSome (option_map (λ f. f.bytes)
+    (cond here (option_map disk_file_of entry.file) (disk_by rest name))) (λ b. length b < 2 ^ 64)) [
       | true ↦ fits_file entry.file
       | false ↦ disk_by-fits rest name
     ]

@@ -119,13 +119,13 @@ response_of_never : (message : List ℕ) → response_of message ≡ Err respons
 unfolding response_of
 response_of_never message e =
     elim (bind_err (with_cause response.Wire (found_response_at message)) (decoded_response message) response.Memory
-        e) [
+    e) [
       | inl one ↦ let d = with_cause_err response.Wire (found_response_at message) response.Memory one in
           let is : response.Wire d.0 ≡ response.Memory = d.1.1 in cc
       | inr later ↦
           let d = with_cause_err response.Missing (decoded_parts later.0) response.Memory
-              (with_value_err (response_with message later.0) (with_cause response.Missing (decoded_parts later.0))
-              response.Memory later.1.1) in
+          (with_value_err (response_with message later.0) (with_cause response.Missing (decoded_parts later.0))
+          response.Memory later.1.1) in
           let is : response.Missing d.0 ≡ response.Memory = d.1.1 in cc
     ]
 
@@ -188,14 +188,14 @@ packet_never bytes fits e = packet_laws.packet_refused bytes packet.Memory fits 
 prefixed_sized : (P : List ℕ → Type 0) (text : List ℕ) → FramesSome P text → prefixed_size text ≡ Some (length text)
 prefixed_sized P text f =
     let read : varint_at text ≡ Ok (length f.message, f.message) = ap varint_at f.parts ∙
-        read_varint_again f.prefix (length f.message) f.message f.spelled in
+    read_varint_again f.prefix (length f.message) f.message f.spelled in
     ap (behind_varint (length text)) read ∙ ap Some (omega (arith, ap length f.parts, length-append f.prefix f.message))
 
 request_sized : (request : Op) (text : List ℕ) → SpellsOp request text → request_size text ≡ Some (length text)
 request_sized request text s =
     let size : length text ≡ 3 + length s.rest = omega (arith, ap length s.parts) in
     let told : prefixed_size (drop 3 text) ≡ Some (length s.rest) = ap prefixed_size (ap (drop 3) s.parts) ∙
-        prefixed_sized _ s.rest s.holds in
+    prefixed_sized _ s.rest s.holds in
     rw (le-ltb (length text) 3 (omega arith)) (ap (option_map (λ k. 3 + k)) told ∙ ap Some (sym size))
 
 packet_sized : (m : Packet) (text : List ℕ) → SpellsPacket m text → packet_size text ≡ Some (length text)
@@ -218,11 +218,14 @@ prefixed_front P text bytes more f parts some = record {
     few : (n : ℕ) (rest : List ℕ) → BeginsWithVarint bytes n rest → n ≤ 65536
     few n rest b =
         let whole : text ≡ b.text ++ (rest ++ more) = sym parts ∙
-            (ap (λ l. l ++ more) b.parts ∙ append_assoc b.text rest more) in
+        (ap (λ l. l ++ more) b.parts ∙ append_assoc b.text rest more) in
         let one = read_varint_begins text n (rest ++
-            more) (record { text = b.text; parts = whole; spelled = b.spelled }) in
-        let two = read_varint_begins text (length f.message) f.message (record { text = f.prefix; parts = f.parts;
-            spelled = f.spelled }) in
+        more) (record { text = b.text; parts = whole; spelled = b.spelled }) in
+        let two = read_varint_begins text (length f.message) f.message (record {
+          text = f.prefix;
+          parts = f.parts;
+          spelled = f.spelled;
+        }) in
         let same = ok_pair n (length f.message) (rest ++ more) f.message (sym one ∙ two) in
         omega (arith, same.0, f.few)
 
@@ -239,9 +242,9 @@ request_listed : (request : Op) (text : List ℕ) (s : SpellsOp request text) �
 unfolding request_at
 request_listed request text s =
     let read : request_at text ≡ Ok (request, length text) =
-        exactly op.Memory (request_at text) (Ok (request, length text)) (op_never text)
-        (request_laws.request_only text (request_at text) request text [] (gives_itself op.Memory (request_at text)) s
-        (sym (append-nil text))) in
+    exactly op.Memory (request_at text) (Ok (request, length text)) (op_never text)
+    (request_laws.request_only text (request_at text) request text [] (gives_itself op.Memory (request_at text)) s
+    (sym (append-nil text))) in
     let head = bind_ok (head_at text) _ (request, length text) read in
     head_some (opcode_number s.code) s.rest head.0 (ap head_at (sym s.parts) ∙ head.1.0)
 
@@ -255,21 +258,25 @@ request_front request text bytes more s parts some = record {
     rest = s.rest;
     parts = parts ∙ s.parts;
     three = refl;
-    framed = record { prefix = s.holds.prefix; message = s.holds.message; parts = s.holds.parts;
-        spelled = s.holds.spelled };
+    framed = record {
+      prefix = s.holds.prefix;
+      message = s.holds.message;
+      parts = s.holds.parts;
+      spelled = s.holds.spelled;
+    };
   };
   version = λ high low rest e.
       let same : high ∷ low ∷ (rest ++ more) ≡ 0 ∷ 28 ∷ opcode_number s.code ∷ s.rest = ap (λ l. l ++ more) (sym e) ∙
-          (parts ∙ s.parts) in
+      (parts ∙ s.parts) in
       let a : high ≡ 0 = cc in let b : low ≡ 28 = cc in omega arith;
   code = λ high low number rest e.
       let same : high ∷ low ∷ number ∷ (rest ++ more) ≡ 0 ∷ 28 ∷ opcode_number s.code ∷ s.rest =
-          ap (λ l. l ++ more) (sym e) ∙ (parts ∙ s.parts) in
+      ap (λ l. l ++ more) (sym e) ∙ (parts ∙ s.parts) in
       let a : opcode_number s.code ≡ number = cc in
-          subst (λ (k : ℕ). IsSome (opcode_with k)) a (request_listed request text s);
+      subst (λ (k : ℕ). IsSome (opcode_with k)) a (request_listed request text s);
   lawful = λ high low number rest e n behind begins.
       let same : high ∷ low ∷ number ∷ (rest ++ more) ≡ 0 ∷ 28 ∷ opcode_number s.code ∷ s.rest =
-          ap (λ l. l ++ more) (sym e) ∙ (parts ∙ s.parts) in
+      ap (λ l. l ++ more) (sym e) ∙ (parts ∙ s.parts) in
       let a : rest ++ more ≡ s.rest = cc in (prefixed_front _ s.rest rest more s.holds a some).lawful n behind begins;
 }
 
@@ -279,7 +286,7 @@ packet_front m text bytes more s parts some =
     let read = read_steps text m (length text) (ap packet_at (sym (append-nil text)) ∙ packet_again m text [] s) in
     let passes = frame_passes text read.frame read.framed in
     let size : length text ≡ frame_len (payload_of text) (header_len_of text) =
-        sym (ap Frame.size passes.1 ∙ read.size) in
+    sym (ap Frame.size passes.1 ∙ read.size) in
     record {
       missing = more;
       some = some;
@@ -291,10 +298,10 @@ packet_front m text bytes more s parts some =
         AreLawful (payload_of bytes) (header_len_of bytes)
     lengths six low high =
         let payload : payload_of text ≡ payload_of bytes = ap payload_of (sym parts) ∙
-            ap (from_be_bytes w32) (take-append-le 4 bytes more (omega arith)) in
+        ap (from_be_bytes w32) (take-append-le 4 bytes more (omega arith)) in
         let header : header_len_of text ≡ header_len_of bytes = ap header_len_of (sym parts) ∙
-            ap (from_be_bytes w16) (ap (take 2) (drop-append-le 4 bytes more (omega arith)) ∙
-            take-append-le 2 (drop 4 bytes) more (omega (arith, length-drop 4 bytes))) in
+        ap (from_be_bytes w16) (ap (take 2) (drop-append-le 4 bytes more (omega arith)) ∙
+        take-append-le 2 (drop 4 bytes) more (omega (arith, length-drop 4 bytes))) in
         record { low = omega (arith, payload, low); high = omega (arith, payload, header, high) }
 
 -- ---- requests
@@ -415,9 +422,11 @@ text_read : (bytes : List ℕ) (r : Result (Packet × ℕ) NoMessage) (m : Packe
     with_text bytes r ≡ Ok (m, k) → (r ≡ Ok (m.packet, k)) × (m.text ≡ take k bytes)
 text_read bytes (Ok x) m k e =
     let same : ◌≡◌ {A = PacketFrame × ℕ} (framed x.0 (take x.1 bytes), x.1) (m, k) = cc in
-    let size : x.1 ≡ k = ap (λ p. p.1) same in
-    (ap Ok (ok_parts x m.packet k (ap (λ p. p.0.packet) same) size), sym (ap (λ p. p.0.text) same) ∙
-        ap (λ n. take n bytes) size)
+    let size : x.1 ≡ k = ap (λ p. p.1) same in (
+      ap Ok (ok_parts x m.packet k (ap (λ p. p.0.packet) same) size),
+      sym (ap (λ p. p.0.text) same) ∙
+          ap (λ n. take n bytes) size,
+    )
 text_read bytes (Err why) m k e = cc
 
 text_unread : (bytes : List ℕ) (r : Result (Packet × ℕ) NoMessage) (why : NoMessage) → with_text bytes r ≡ Err why →
@@ -448,7 +457,7 @@ packet_frames_sound = record {
     frame_only m text rest s =
         let kept : m.text ≡ take (length text) (text ++ rest) = s.1 ∙ sym (take-append_seam text rest) in
         ap (with_text (text ++ rest)) (packets_sound.only m.packet text rest s.0) ∙
-            ap (λ (t : List ℕ). Ok (framed m.packet t, length text)) (sym kept)
+        ap (λ (t : List ℕ). Ok (framed m.packet t, length text)) (sym kept)
 
 -- ---- responses
 

@@ -56,7 +56,7 @@ abbrev pub after_flush : {I O : Type 0} → link_in.Ghosts I → link_out.Ghosts
     Plain
 after_flush i o end sent plain =
     with_flushed plain end.id.0 end.lower (unflushed sent (o.flushed end.outward) (o.lost end.outward))
-        (is_shut i o end)
+    (is_shut i o end)
 
 -- What the roads carried now is what they had carried and what the end had sent and not yet flushed.
 abbrev pub CarriesOf : {I O : Type 0} → link_out.Ghosts O → Conn I O → Option Carried → Option Carried → Type 0

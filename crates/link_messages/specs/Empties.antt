@@ -22,8 +22,12 @@ prefixed_empty : IsCutFrame []
 prefixed_empty = record {
   missing = 0 ∷ [];
   some = omega arith;
-  whole = record { prefix = 0 ∷ []; message = []; parts = refl;
-      spelled = record { shape = omega arith; short = omega arith; value = refl } };
+  whole = record {
+    prefix = 0 ∷ [];
+    message = [];
+    parts = refl;
+    spelled = record { shape = omega arith; short = omega arith; value = refl };
+  };
   lawful = λ n rest b. no_varint b.text rest n b.parts b.spelled;
 }
 

@@ -32,12 +32,12 @@ coming s held = option_map (in_front (s.rest ++ s.unpushed)) held
 
 -- A message was taken: it is spelled at the front of what was to be taken.
 pub record GivesOne {M : Type 0} (kind : Kind M) (m : M) (old new : IncomingState) (held held' : Option Inbox) : Type 0
-    where
-  pub text : List ℕ
-  pub spelled : kind.spells m text
-  pub listed : kind.listed m
-  pub front : coming old held ≡ option_map (in_front text) (coming new held')
-  pub reads_on : new.refused ≡ None
+  where
+    pub text : List ℕ
+    pub spelled : kind.spells m text
+    pub listed : kind.listed m
+    pub front : coming old held ≡ option_map (in_front text) (coming new held')
+    pub reads_on : new.refused ≡ None
 
 -- The message at the front of these bytes is none of the kind, however they go on.
 abbrev pub IsNone : {M : Type 0} → Kind M → List ℕ → Type 0

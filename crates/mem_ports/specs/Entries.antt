@@ -47,7 +47,7 @@ of_block block entries = filter (λ entry. is_of_block block entry.name) entries
 abbrev pub renamed : List ℕ → List ℕ → Entry → Entry
 renamed from to entry =
     cond (bytes_eq entry.name from) (record entry { name = to })
-        (cond (bytes_eq entry.name to) (record entry { name = from; there = false }) entry)
+    (cond (bytes_eq entry.name to) (record entry { name = from; there = false }) entry)
 
 fits_shown : (entry : Entry) (there : Bool) →
     IfSome (cond there (Some entry.bytes.items) None) (λ b. length b < vec_capacity entry.bytes + 1)
@@ -59,8 +59,8 @@ pub look-fits : (entries : List Entry) (name : List ℕ) → IfSome (look entrie
 look-fits [] name = tt
 look-fits (entry ∷ rest) name =
     elim (bytes_eq entry.name name) as
-        (λ here. IfSome (cond here (shown entry) (look rest name))
-        (λ b. length b < cond here (vec_capacity entry.bytes + 1) (space rest name))) [
+    (λ here. IfSome (cond here (shown entry) (look rest name))
+    (λ b. length b < cond here (vec_capacity entry.bytes + 1) (space rest name))) [
       | true ↦ fits_shown entry entry.there
       | false ↦ look-fits rest name
     ]

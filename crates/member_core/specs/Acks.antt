@@ -22,7 +22,7 @@ begins_with_bad_sum _ = false
 abbrev pub are_replies : ℕ → List Status → Bool
 are_replies below replies =
     nat_lt 0 (length replies) && (length replies == below ||
-        (nat_lt (length replies) below && nat_lt 0 (failures replies)))
+    (nat_lt (length replies) below && nat_lt 0 (failures replies)))
 
 -- An ack from below that counts as read: it is of the oldest pending packet, and has replies of the members below.
 abbrev pub is_read : ℕ → ℤ → Ack → Bool

@@ -32,7 +32,7 @@ SuccessFromBelow = (m : MemberState) (oldest : Option PendingPacket) (taken : Fr
 abbrev pub SuccessAtTheEnd : Type 0
 SuccessAtTheEnd = (m : MemberState) (oldest : Option PendingPacket) (writes : Bool) (a : Ack) →
     IfSome (ready_at m.mirror m oldest writes) (λ t. SendsSuccess t a → (m.mirror ≡ mirror.Nobody) ×
-        BooksGood m oldest t)
+    BooksGood m oldest t)
 
 -- nothing goes up or down
 pub record IsSilent (effect : Effect) : Type 0 where

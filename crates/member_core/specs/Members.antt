@@ -59,8 +59,12 @@ shut_both = record { forwards = false; sends = None; shuts = shuts.Both }
 
 -- this is sent up, and both connections are shut where the test holds
 abbrev pub sending : Upward → Bool → Effect
-sending message over = record { forwards = false; sends = Some message; shuts = if over then shuts.Both
-    else shuts.Nothing }
+sending message over = record {
+  forwards = false;
+  sends = Some message;
+  shuts = if over then shuts.Both
+      else shuts.Nothing;
+}
 
 -- SETUP
 
@@ -116,7 +120,7 @@ has_mirror _ = true
 abbrev pub down_turn : MemberState → FromAbove → Turn
 down_turn m (above.Packet p) =
     turn_of side.Receiver (Some (replica_event.Packet m.conn p)) m.mirror
-        (record no_effect { forwards = has_mirror m.mirror })
+    (record no_effect { forwards = has_mirror m.mirror })
 down_turn m above.Unreadable = turn_of side.Receiver None m.mirror shut_both
 down_turn m above.End = turn_of side.Receiver (ended_call m) m.mirror (record no_effect { shuts = shuts.Mirror })
 

@@ -59,9 +59,16 @@ answer_length_to_encode None = None
 answer_length_to_encode (Some i) = Some i.2
 
 abbrev pub answer_to_encode : RecoveryAnswer → FieldsToEncode answer_table
-answer_to_encode a = (status_number a.status,
-    (message_to_encode a.message, (state_to_encode a.info,
-    (stamp_to_encode a.info, (answer_length_to_encode a.info, tt)))))
+answer_to_encode a = (
+  status_number a.status,
+  (
+    message_to_encode a.message,
+    (
+      state_to_encode a.info,
+      (stamp_to_encode a.info, (answer_length_to_encode a.info, tt)),
+    ),
+  ),
+)
 
 -- state, stamp and length, where they are there
 abbrev pub info_text : Option (ReplicaState × Stamp × ℕ) → List ℕ

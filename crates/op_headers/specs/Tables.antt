@@ -113,18 +113,18 @@ abbrev pub RowsSay : (t : Table) → List ℕ → List (ℕ × Wire) → Result 
 RowsSay End bytes fs decoded = decoded ≡ Ok tt
 RowsSay (Number number kind presence rest) bytes fs decoded =
     (later : Result (DecodedFields rest) Path) × RowsSay rest bytes fs later ×
-        (decoded ≡ both (decoded_field presence number (last_of (number_of kind) number fs)) later)
+    (decoded ≡ both (decoded_field presence number (last_of (number_of kind) number fs)) later)
 RowsSay (Text number presence rest) bytes fs decoded =
     (later : Result (DecodedFields rest) Path) × RowsSay rest bytes fs later ×
-        (decoded ≡ both (decoded_field presence number (text_under number bytes fs)) later)
+    (decoded ≡ both (decoded_field presence number (text_under number bytes fs)) later)
 RowsSay (Message {X} number format presence rest) bytes fs decoded =
     (x : Option (Result X Path)) × FindsInner format.says (joined number bytes fs) x
     × (later : Result (DecodedFields rest) Path) × RowsSay rest bytes fs later ×
-        (decoded ≡ both (decoded_message presence number x) later)
+    (decoded ≡ both (decoded_message presence number x) later)
 RowsSay (Messages {X} number format rest) bytes fs decoded =
     (xs : Result (List X) Path) × EachSays format.says (texts_under number bytes fs) xs
     × (later : Result (DecodedFields rest) Path) × RowsSay rest bytes fs later ×
-        (decoded ≡ both (with_cause (below number) xs) later)
+    (decoded ≡ both (with_cause (below number) xs) later)
 
 -- The message says this by its table.
 pub record Says (t : Table) (bytes : List ℕ) (decoded : Result (DecodedFields t) Path) : Type 0 where

@@ -74,16 +74,16 @@ abbrev pub DownsAreSteps : (F I O : Type 0) → files.Ghosts F → link_in.Ghost
 DownsAreSteps F I O f i o = (m : MemberState) (old new : Member I O) (book book' : BookState F) (result : Stepped) →
     IsOpenEvent m old book result
     → GoesDown f i o old.stage old new book book' result → DownIsStep i o m old new book book' result ×
-        HoldsMirror new.stage new.mirror
+    HoldsMirror new.stage new.mirror
 
 abbrev pub ReadiesAreSteps : (F I O : Type 0) → files.Ghosts F → link_out.Ghosts O → Type 0
 ReadiesAreSteps F I O f o = (m : MemberState) (old new : Member I O) (book book' : BookState F) (result : Stepped) →
     IsOpenEvent m old book result
     → IsReady f o old.stage old new book book' result →
-        StepsIf o m (ready_turn_at m (replica_of book)) old new book book' result × HoldsMirror new.stage new.mirror
+    StepsIf o m (ready_turn_at m (replica_of book)) old new book book' result × HoldsMirror new.stage new.mirror
 
 abbrev pub UpsAreSteps : (F I O : Type 0) → files.Ghosts F → link_in.Ghosts I → link_out.Ghosts O → Type 0
 UpsAreSteps F I O f i o = (m : MemberState) (old new : Member I O) (book book' : BookState F) (result : Stepped) →
     IsOpenEvent m old book result
     → GoesUp f i o old.stage old new book book' result → UpIsStepIf i o (hears m) m old new book book' result ×
-        HoldsMirror new.stage new.mirror
+    HoldsMirror new.stage new.mirror

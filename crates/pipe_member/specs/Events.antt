@@ -40,15 +40,19 @@ abbrev pub TakesAbove : {F I O : Type 0} → files.Ghosts F → link_out.Ghosts 
     BookState F → BookState F → Stepped → Type 0
 TakesAbove f o m old new book book' result =
     TurnsIf f o m (option_map (down_turn m) (due_above m (length book.replica.pending) old.above.next)) took.Above old
-        new book book' result
+    new book book' result
 
 -- The member looked for what stands next from above. Where the link failed, its end is shut.
 pub record LooksUp {I O : Type 0} (i : link_in.Ghosts I) (o : link_out.Ghosts O) (old new : Member I O)
     (found : Looked) : Type 0 where
   pub inward : I
   pub looks : LooksAbove i old.above.next old.above new.above old.upstream.inward inward found
-  pub shuts : ShutsEnd o (is_failed found) (record { id = old.upstream.id; lower = old.upstream.lower; inward = inward;
-      outward = old.upstream.outward }) new.upstream
+  pub shuts : ShutsEnd o (is_failed found) (record {
+    id = old.upstream.id;
+    lower = old.upstream.lower;
+    inward = inward;
+    outward = old.upstream.outward;
+  }) new.upstream
   pub same : IsSameMember old new
   pub mirror : new.mirror ≡ old.mirror
   pub below : new.below ≡ old.below
@@ -94,7 +98,7 @@ abbrev pub TakesBelow : {F I O : Type 0} → files.Ghosts F → link_out.Ghosts 
     BookState F → BookState F → Stepped → Type 0
 TakesBelow f o m old new book book' result =
     TurnsIf f o m (option_map (up_turn m (slice_get book.replica.pending 0)) old.below.next) took.Below old new book
-        book' result
+    book' result
 
 -- The member looked for what stands next from its mirror. Where the link failed, its end is shut.
 pub record LooksDown {I O : Type 0} (i : link_in.Ghosts I) (o : link_out.Ghosts O) (m : MemberState)

@@ -36,12 +36,12 @@ ExchangesMirror r i o take old new roads roads' (Ok u) result = ⊥
 -- Both ends of a member are exchanged, the one from above first, and the named one takes.
 pub record ExchangesBoth {R I O : Type 0} (r : roads.Ghosts R I O) (i : link_in.Ghosts I) (o : link_out.Ghosts O)
     (take : Option ConnId) (old new : Member I O) (roads roads' : R) (result : Result (Unit {0}) RoadError) : Type 0
-    where
-  pub middle : R
-  pub first : Result (Unit {0}) RoadError
-  pub upper : ExchangesEnd r i o (names take old.upstream.id) old.upstream new.upstream roads middle first
-  pub lower : ExchangesMirror r i o take old.mirror new.mirror middle roads' first result
-  pub rest : KeepsRest old new
+  where
+    pub middle : R
+    pub first : Result (Unit {0}) RoadError
+    pub upper : ExchangesEnd r i o (names take old.upstream.id) old.upstream new.upstream roads middle first
+    pub lower : ExchangesMirror r i o take old.mirror new.mirror middle roads' first result
+    pub rest : KeepsRest old new
 
 abbrev pub BringsMirror : {R I O : Type 0} → roads.Ghosts R I O → link_in.Ghosts I → link_out.Ghosts O →
     Option (Conn I O) → R → R → Result (Unit {0}) RoadError → Result (Unit {0}) RoadError → Type 0

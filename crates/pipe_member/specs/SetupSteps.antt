@@ -68,7 +68,7 @@ SetupsAreSteps F R I O f r i o =
     IsNewRequest (Ok e) old book result
     → (x : SetsUpWith f r i o e old new book book' roads roads' result)
     → IsSetup o (setup_by result old.upstream.id old.op (was_answered x.ended) (replica_of book)) old new book' ×
-        HoldsMirror new.stage new.mirror
+    HoldsMirror new.stage new.mirror
 
 -- So is each request that is refused before the replica is asked.
 abbrev pub RefusalsAreSteps : (F I O : Type 0) → link_out.Ghosts O → Type 0
@@ -76,4 +76,4 @@ RefusalsAreSteps F I O o = (why : RequestRefusal) (old new : Member I O) (book :
     IsNewRequest (Err why) old book result
     → Refuses o (texts_of old.op (refused_setup why).sends) old new result
     → IsSetup o (setup_by result old.upstream.id old.op false (replica_of book)) old new book ×
-        HoldsMirror new.stage new.mirror
+    HoldsMirror new.stage new.mirror

@@ -203,8 +203,13 @@ pub record GoesOnWith {R I O : Type 0} (r : roads.Ghosts R I O) (i : link_in.Gho
   pub ended : Setup I O
   pub booked : booked_in ended ≡ Some (Ok receipt)
   pub goes_on : GoesOn r i o old.node old.op roads roads' ended
-  pub follows : FollowsDial o (record { asked = asked; unasked = unasked; shuts = shuts.Nothing; answer = None;
-      fault = None }) ended old new result
+  pub follows : FollowsDial o (record {
+    asked = asked;
+    unasked = unasked;
+    shuts = shuts.Nothing;
+    answer = None;
+    fault = None;
+  }) ended old new result
 
 -- The roads are as they were.
 abbrev pub Leaves : {R : Type 0} → R → R → Type 0 → Type 0

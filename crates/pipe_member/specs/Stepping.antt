@@ -70,4 +70,4 @@ TurnsAreSteps F I O f o = (m : MemberState) (t : Turn) (took : Took) (old new : 
     (result : Stepped)
     → IsOfRules t.call t.effect old.mirror → result ≢ stepped.Memory
     → Turns f o m t took old new book book' result →
-        IsStep o t (step_by result m (replica_of book) t) old new book book'
+    IsStep o t (step_by result m (replica_of book) t) old new book book'

@@ -97,7 +97,7 @@ abbrev pub FollowsAs : {I O : Type 0} → link_out.Ghosts O → Turn → MemberS
 FollowsAs o t m m' up up' below below' s None = (m' ≡ m) × (up' ≡ up) × (below' ≡ below) × (s ≡ shuts.Nothing)
 FollowsAs o t m m' up up' below below' s (Some b) =
     (m' ≡ (settled m t b).0) × (s ≡ (settled m t b).1.shuts) × ShutsEnd o (shuts_up s) up up' ×
-        ShutsMirror o (shuts_below s) below below'
+    ShutsMirror o (shuts_below s) below below'
 
 -- What a turn does: its call on the book and what is sent then, and what follows.
 pub record Acts {F I O : Type 0} (f : files.Ghosts F) (o : link_out.Ghosts O) (op : WriteFields) (t : Turn)

@@ -58,7 +58,7 @@ own_dues w queues (b ∷ blocks) = when_due w queues (due.Own (record { 0 = b })
 abbrev pub conn_dues : World → Queues → ℕ → List Due
 conn_dues w queues c =
     when_due w queues (due.Down (record { 0 = c })) ++
-        (when_due w queues (due.Ready (record { 0 = c })) ++ when_due w queues (due.Up (record { 0 = c })))
+    (when_due w queues (due.Ready (record { 0 = c })) ++ when_due w queues (due.Up (record { 0 = c })))
 
 -- All that is due, in the order in which it is counted: the writers of these blocks, then each connection.
 unfoldable pub dues : List ℕ → PlayState → List Due

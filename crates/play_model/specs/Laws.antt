@@ -32,5 +32,5 @@ IsQuiet w = (b : ℕ) → (w.writers b).told ≡ None
 abbrev pub AreEnabledWhereListed : Type 0
 AreEnabledWhereListed =
     (blocks : List ℕ) (p : PlayState) (i : ℕ) (d : Due) → IsQuiet (world_of p) → slice_get (dues blocks p) i ≡ Some d →
-        IsDeed (world_of p) d
+    IsDeed (world_of p) d
     → AreEnabled (world_of p) (due_events (world_of p) p.queues d)

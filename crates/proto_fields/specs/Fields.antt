@@ -198,7 +198,7 @@ value_at end wire_type.Varint bytes = do
   Ok (wire.Varint n.0, n.1)
 value_at end wire_type.Fixed64 bytes =
     if nat_lt (length bytes) 8 then Err cause.Short
-        else Ok (wire.Eight (from_le_bytes w64 (take 8 bytes)), drop 8 bytes)
+    else Ok (wire.Eight (from_le_bytes w64 (take 8 bytes)), drop 8 bytes)
 value_at end wire_type.LengthDelimited bytes = part_at end bytes
 value_at end wire_type.Fixed32 bytes =
     if nat_lt (length bytes) 4 then Err cause.Short else Ok (wire.Four (from_le_bytes w32 (take 4 bytes)), drop 4 bytes)
@@ -215,7 +215,7 @@ unfoldable pub next_at : List ℕ → ℕ → Result (Option (ℕ × Wire × ℕ
 next_at bytes at =
     if length (drop at bytes) == 0 then Ok None
     else with_cause (fault_at at) (with_value (λ f. Some (f.0.0, f.0.1, length bytes - length f.1))
-        (field_at (length bytes) (drop at bytes)))
+    (field_at (length bytes) (drop at bytes)))
 
 -- The fields that are left once the next one is known, where `rest` gives those from a place on.
 abbrev pub then_fields : (ℕ → Result (List (ℕ × Wire)) WireFault) → Option (ℕ × Wire × ℕ) →

@@ -170,7 +170,7 @@ unchosen (choose_fault.Unequal a b) = recovered.Unequal a b
 abbrev pub choosing : PrimaryState → Result Chosen ChooseFault → OwnTaken
 choosing p (Ok c) =
     taken (record p { phase = phase.Updating c.length; standings = all_after_choice c.members p.members p.standings })
-        (own.Updates c)
+    (own.Updates c)
 choosing p (Err fault) = over p (unchosen fault)
 
 -- the members that were updated are committed, if there are any

@@ -107,7 +107,7 @@ unless_bad size offset (Some bad) next = Err (refusal.BadSum (offset / size + ba
 unfoldable pub packet_at : Rule → PacketExtent → ℕ → Result PendingPacket Refusal
 packet_at r p offset =
     check (offset % r.chunk == 0 || nat_le (offset + p.length) (chunk_start r.chunk offset + r.chunk))
-        (refusal.Piece rule.MidChunk)
+    (refusal.Piece rule.MidChunk)
     (check (p.sums == sum_count r offset p.length) (refusal.Piece rule.Sums)
     (unless_bad r.chunk offset p.bad
     (Ok (record { seqno = p.seqno; end = offset + p.length; last = p.last; sync = p.sync }))))

@@ -112,7 +112,7 @@ extent_transition c h s p =
 abbrev pub packet_transition : ReplicaRecord → ConnId → PacketExtent → Outcome
 packet_transition c conn p =
     present c >>= (λ h. check (is_writable (state_of h)) refusal.NotWriter (stream_by c.stream conn >>=
-        (λ s. extent_transition c h s p)))
+    (λ s. extent_transition c h s p)))
 
 -- A replica whose oldest pending packet was acked. A good ack raises what is acked; after that of the last packet nobody writes, a TEMPORARY replica is RBW and an RBW one FINALIZED.
 abbrev pub acknowledge : ReplicaRecord → ReplicaInfo → PendingPacket → Bool → ReplicaRecord
@@ -145,7 +145,7 @@ end_connection c conn = if is_written_by c.stream conn then record c { stream = 
 abbrev pub init_transition : ReplicaRecord → Stamp → Stamp → Outcome
 init_transition c named recovery =
     present c >>= (λ h. begin_recovery h named recovery >>=
-        (λ k. Ok (record { replica = set_writer c k None; answer = answer.Info h.original h.stamp h.written })))
+    (λ k. Ok (record { replica = set_writer c k None; answer = answer.Info h.original h.stamp h.written })))
 
 abbrev pub update_transition : ReplicaRecord → Stamp → ℕ → Outcome
 update_transition c recovery bytes = present c >>= (λ h. with_writer c None (end_recovery h h.recovery recovery bytes))
@@ -153,12 +153,12 @@ update_transition c recovery bytes = present c >>= (λ h. with_writer c None (en
 abbrev pub read_transition : ReplicaRecord → Stamp → ℕ → ℕ → Outcome
 read_transition c named offset bytes =
     present c >>= (λ h. readable h (visible_of h) named offset bytes >>=
-        (λ visible. Ok (record { replica = c; answer = answer.Visible visible })))
+    (λ visible. Ok (record { replica = c; answer = answer.Visible visible })))
 
 abbrev pub give_transition : ReplicaRecord → Stamp → ℕ → ℕ → Outcome
 give_transition c named offset bytes =
     present c >>= (λ h. given h named offset bytes >>=
-        (λ visible. Ok (record { replica = c; answer = answer.Visible visible })))
+    (λ visible. Ok (record { replica = c; answer = answer.Visible visible })))
 
 -- broken, and nobody writes
 abbrev pub mark_broken : ReplicaRecord → ReplicaRecord
@@ -173,8 +173,15 @@ transition c (event.AppendRecovery conn named new bytes) = append_recovery_trans
 transition c (event.StreamRecovery conn named new low high) = stream_recovery_transition c conn named new low high
 transition c (event.CloseRecovery named new bytes) = close_recovery_transition c named new bytes
 transition c (event.Packet conn seqno offset bytes sums last sync bad) =
-    packet_transition c conn (record { seqno = seqno; offset = offset; length = bytes; sums = sums; last = last;
-        sync = sync; bad = bad })
+    packet_transition c conn (record {
+      seqno = seqno;
+      offset = offset;
+      length = bytes;
+      sums = sums;
+      last = last;
+      sync = sync;
+      bad = bad;
+    })
 transition c (event.Ack conn seqno good) = ack_transition c conn seqno good
 transition c (event.Ended conn) = done (end_connection c conn)
 transition c (event.Init named recovery) = init_transition c named recovery

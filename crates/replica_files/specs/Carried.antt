@@ -36,10 +36,10 @@ pub record CarriesOut {F : Type 0} (f : files.Ghosts F) (old new : F) (block : B
 
 -- The files hold this of the block, with these bytes, where they are observable, and the sum is that of the last chunk.
 pub record Holding (files : Option FileMap) (block : BlockId) (h : ReplicaInfo) (sum : ℕ) (bytes : List ℕ) : Type 0
-    where
-  pub all : length bytes ≡ h.written
-  pub placed : IfSome files (λ m. m ≡ files_of block.0 (placed_info h bytes))
-  pub last : IfSome files (λ _. IsLastSum h.sums sum bytes)
+  where
+    pub all : length bytes ≡ h.written
+    pub placed : IfSome files (λ m. m ≡ files_of block.0 (placed_info h bytes))
+    pub last : IfSome files (λ _. IsLastSum h.sums sum bytes)
 
 -- There is room for the sum of a last chunk that a cut makes short, and for its bytes in a buffer of this length.
 pub record HasRoomToCut (room : List ℕ → ℕ) (block : BlockId) (h : ReplicaInfo) (buffer : ℕ) : Type 0 where

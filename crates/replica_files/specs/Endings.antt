@@ -24,10 +24,10 @@ use Rattle.replica_files.specs.declared.book_state.Taken.{Taken}
 
 -- The book of the same block has one entry more, with this receipt.
 pub record Notes {F : Type 0} (old new : BookState F) (e : ReplicaEvent) (failed : Bool) (receipt : Receipt) : Type 0
-    where
-  pub block : new.block ≡ old.block
-  pub entry : HasEntry old.history new.history e failed receipt.index
-  pub named : receipt.block ≡ old.block
+  where
+    pub block : new.block ≡ old.block
+    pub entry : HasEntry old.history new.history e failed receipt.index
+    pub named : receipt.block ≡ old.block
 
 -- The event was taken, and its calls were made.
 pub record EndsTaken {F : Type 0} (f : files.Ghosts F) (old new : BookState F) (e : ReplicaEvent) (taken : Taken) :

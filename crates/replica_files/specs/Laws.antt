@@ -63,4 +63,4 @@ pub record IsWhole (r : FullReplica) : Type 0 where
 abbrev pub HistoriesDetermineFiles : {F G : Type 0} → files.Ghosts F → files.Ghosts G → Type 0
 HistoriesDetermineFiles {F} {G} f g = (s : BookState F) (t : BookState G) →
     IsBookOf f s → IsBookOf g t → s.block ≡ t.block → IsSame s.history t.history → IsWhole (replica_of s) →
-        AreSameFiles (f.files s.drawer) (g.files t.drawer)
+    AreSameFiles (f.files s.drawer) (g.files t.drawer)

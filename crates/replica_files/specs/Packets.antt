@@ -32,7 +32,7 @@ pub record FitsGrowth {F : Type 0} (f : files.Ghosts F) (drawer : F) (block : Bl
   pub within : g.from ≤ length p.body
   pub room : h.written + length (brought_by h.written p) < 2 ^ 64
       → Covers (f.room drawer) (names_of block.0 h) (h.written + length (brought_by h.written p))
-          (sum_place h.sums h.written + length g.sums.sums.items)
+      (sum_place h.sums h.written + length g.sums.sums.items)
   pub sums_are : (bytes : List ℕ) → IsGrowing h.sums h.written sum bytes →
       AreSumsOf h.sums bytes (brought_by h.written p) g.sums
 

@@ -60,10 +60,10 @@ pub record KeepsBook {F : Type 0} (old new : BookState F) : Type 0 where
 
 -- The replica has met an event that has no entry yet, and this is its answer.
 pub record IsStepped {F : Type 0} (old new : BookState F) (e : ReplicaEvent) (result : Result Answer Refusal) : Type 0
-    where
-  pub kept : KeepsBook old new
-  pub known : new.replica ≡ (row (replica_of old) e).known
-  pub answered : result ≡ reply (transition (replica_of old).known (event_at (replica_of old) e))
+  where
+    pub kept : KeepsBook old new
+    pub known : new.replica ≡ (row (replica_of old) e).known
+    pub answered : result ≡ reply (transition (replica_of old).known (event_at (replica_of old) e))
 
 -- An event that was taken has no entry yet; its calls on the files were made, with the sum of the last chunk then, or one of them failed. `before` is what was held before the event.
 pub record IsToNote {F : Type 0} (f : files.Ghosts F) (s : BookState F) (e : ReplicaEvent)

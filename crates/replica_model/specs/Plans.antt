@@ -61,7 +61,7 @@ has_sums kind.Crc32c = true
 abbrev pub grow_calls : Rule → List ℕ → List ℕ → List BlockCall
 grow_calls r bytes more =
     WriteData (length bytes) more ∷
-        when (has_sums r.kind) (WriteMeta (sum_place r (length bytes)) (sums r (tail r bytes ++ more)) ∷ [])
+    when (has_sums r.kind) (WriteMeta (sum_place r (length bytes)) (sums r (tail r bytes ++ more)) ∷ [])
 
 -- both files are synced, the data file first
 abbrev pub sync_calls : List BlockCall
@@ -75,14 +75,14 @@ packet_calls r bytes more sync = when (nat_lt 0 (length more)) (grow_calls r byt
 abbrev pub last_sum_calls : Rule → List ℕ → List BlockCall
 last_sum_calls r bytes =
     when (has_sums r.kind && not (length bytes % r.chunk == 0))
-        (WriteMeta (sum_place r (length bytes)) (sums r (tail r bytes)) ∷ [])
+    (WriteMeta (sum_place r (length bytes)) (sums r (tail r bytes)) ∷ [])
 
 -- Bytes past a length are cut off: the data, then the sum of the last chunk is written if it is short, then the metadata is cut.
 abbrev pub cut_calls : Rule → List ℕ → ℕ → List BlockCall
 cut_calls r bytes n =
     when (nat_lt n (length bytes))
     (CutData n ∷ (last_sum_calls r (take n bytes) ++
-        when (nat_lt (meta_len r n) (meta_len r (length bytes))) (CutMeta (meta_len r n) ∷ [])))
+    when (nat_lt (meta_len r n) (meta_len r (length bytes))) (CutMeta (meta_len r n) ∷ [])))
 
 abbrev pub same_folder : Folder → Folder → Bool
 same_folder Rbw Rbw = true

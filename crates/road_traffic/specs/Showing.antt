@@ -128,11 +128,11 @@ abbrev pub ShowsExchange : {R I O : Type 0} → roads.Ghosts R I O → link_in.G
     Conn I O → Conn I O → R → R → Result (Unit {0}) RoadError → Type 0
 ShowsExchange r i o takes old new road road' result =
     (net : Net) (shut : Bool) (extra : List (List ℕ)) (inbox : Inbox) → IsSane net →
-        BothShow r i o net shut extra inbox road old
+    BothShow r i o net shut extra inbox road old
     → MayTake net takes inbox old.id.0 old.lower
     → ResultIs result
     (BothShow r i o (exchanged_net net old.id.0 old.lower takes shut extra) false []
-        (exchanged_inbox net old.id.0 old.lower takes shut extra inbox) road' new)
+    (exchanged_inbox net old.id.0 old.lower takes shut extra inbox) road' new)
     (BothShow r i o net shut extra inbox road' new)
 
 -- Whatever connections roads and end show: once the end was given up, the roads show that.
@@ -140,7 +140,7 @@ abbrev pub ShowsLoss : {R I O : Type 0} → roads.Ghosts R I O → link_in.Ghost
     R → Result (Unit {0}) RoadError → Type 0
 ShowsLoss r i o end road road' result =
     (net : Net) (shut : Bool) (extra : List (List ℕ)) (inbox : Inbox) → IsSane net →
-        BothShow r i o net shut extra inbox road end
+    BothShow r i o net shut extra inbox road end
     → OnOk result (RoadsShow r (lost_net net end.id.0 end.lower extra) road')
 
 -- The roads remember of the connection of an end that was brought back whether a count of it had risen, and of all others what they did.

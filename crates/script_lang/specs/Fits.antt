@@ -28,8 +28,15 @@ pub record Before : Type 0 where
 
 -- before the first line
 abbrev pub start : Before
-start = record { head = head.Nodes; nodes = 0; stopped = λ node. false; stage = λ block. None; created = 0;
-    written = 0; read = 0 }
+start = record {
+  head = head.Nodes;
+  nodes = 0;
+  stopped = λ node. false;
+  stage = λ block. None;
+  created = 0;
+  written = 0;
+  read = 0;
+}
 
 -- a block that was created and isn't closed
 abbrev pub is_open : Option Stage → Bool
@@ -120,12 +127,12 @@ created_now before block =
 abbrev pub wrote : Before → BlockId → ℕ → Result Before BadKind
 wrote before block count =
     by_rules (block_rule is_open before block ∷ (kind.TooMuch, nat_le (before.written + count) most_bytes) ∷ [])
-        (record before { written = before.written + count })
+    (record before { written = before.written + count })
 
 abbrev pub has_read : Before → BlockId → ℕ → Result Before BadKind
 has_read before block count =
     by_rules (block_rule is_created before block ∷ (kind.TooMuch, nat_le (before.read + count) most_bytes) ∷ [])
-        (record before { read = before.read + count })
+    (record before { read = before.read + count })
 
 -- a node that stops, and one that starts
 abbrev pub stopped_now : Before → NodeId → Result Before BadKind

@@ -26,7 +26,7 @@ AreGood shelves number before [] said = (said ≡ []) × (head_is_there before.h
 AreGood shelves number before (line ∷ lines) said =
     ((line_said shelves number before line ≡ Ok None) × AreGood shelves (number + 1) before lines said)
     ⊎ ((i : Instruction) × (rest : List ScriptLine) × (line_said shelves number before line ≡ Ok (Some i)) ×
-        AllKept (fit_rules before i)
+    AllKept (fit_rules before i)
     × (said ≡ numbered number i ∷ rest) × AreGood shelves (number + 1) (after before i) lines rest)
 
 -- A text is a script of these lines.

@@ -72,8 +72,10 @@ node_rule nodes word = (kind.Node, nat_lt (value_of word) nodes)
 
 -- the rule of sums that a kind and a word make
 abbrev pub rule_said : SumKind → List ℕ → Result Rule BadKind
-rule_said sum_kind chunk = by_rules ((kind.Number, is_number_within 16 65536 chunk) ∷ []) (record { kind = sum_kind;
-    chunk = value_of chunk })
+rule_said sum_kind chunk = by_rules ((kind.Number, is_number_within 16 65536 chunk) ∷ []) (record {
+  kind = sum_kind;
+  chunk = value_of chunk;
+})
 
 -- the members that a word names
 abbrev pub members_said : ℕ → List ℕ → Result (List NodeId) BadKind

@@ -74,7 +74,7 @@ unfoldable pub script_from : ℕ → ℕ → Before → List ScriptLine → List
 script_from shelves number before said [] = if head_is_there before.head then Ok said else Err (number, kind.Head)
 script_from shelves number before said (line ∷ lines) =
     with_cause (λ kind. (number, kind)) (line_told shelves number before said line) >>=
-        (λ next. script_from shelves (number + 1) next.0 next.1 lines)
+    (λ next. script_from shelves (number + 1) next.0 next.1 lines)
 
 -- The script that a text is, or its first bad line and the first rule that this breaks.
 unfoldable pub script_of : ℕ → List ℕ → Result (List ScriptLine) (ℕ × BadKind)

@@ -73,8 +73,10 @@ fault_event w (delivery.Up c) = up_event w c.0 true
 abbrev pub lost : World → ℕ → Direction → ℕ → World
 lost w c direction.Down more =
     record w { down_marks = put w.down_marks c (lost_marks (w.downs c) more (w.down_marks c)); last_answer = None }
-lost w c direction.Up more = record w { up_marks = put w.up_marks c (lost_marks (w.ups c) more (w.up_marks c));
-    last_answer = None }
+lost w c direction.Up more = record w {
+  up_marks = put w.up_marks c (lost_marks (w.ups c) more (w.up_marks c));
+  last_answer = None;
+}
 
 abbrev pub stop : World → ℕ → World
 stop w n = record w {

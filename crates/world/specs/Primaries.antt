@@ -72,7 +72,7 @@ leading at p conns = record { at = at; state = p; conns = conns; told = None }
 abbrev pub begins_with : World → ℕ → Place → BlockId → Begun → List NodeId → List Bool → Change
 begins_with w i at b begun members answers =
     record (primary_change w i (leads
-        (leading at (begun_with b begun members answers) (numbered w.next_conn answers)))) {
+    (leading at (begun_with b begun members answers) (numbered w.next_conn answers)))) {
       dials = primary_dials w i at (recovery_message (begun_with b begun members answers)) 0 members answers;
     }
 
@@ -87,7 +87,7 @@ begins_as (Err fault) w i at b members answers = Some (primary_change w i (has_l
 abbrev pub begins_at : Primary → World → ℕ → ℕ → BlockId → List NodeId → List Bool → Option Change
 begins_at (was_told asked told) w i n b members answers =
     if asked.0 == b.0 && w.running n && are_members members then begins_as told w i (place_of w n) b members answers
-        else None
+    else None
 begins_at _ w i n b members answers = None
 
 abbrev pub own_recover : World → ℕ → ℕ → BlockId → List NodeId → List Bool → Option Change
@@ -213,8 +213,10 @@ asks_writer w b c = record (office_change w c (answer_to w.office c)) {
 
 -- the answer waits for a primary
 abbrev pub asks_primary : World → ℕ → OfficeCall → (Told → Primary) → Change
-asks_primary w i c p = record (office_change w c (answer_to w.office c)) { primary_at = i;
-    primary = p (answer_to w.office c) }
+asks_primary w i c p = record (office_change w c (answer_to w.office c)) {
+  primary_at = i;
+  primary = p (answer_to w.office c);
+}
 
 -- a writer's own step asks the office
 abbrev pub writer_asks : Action → World → ℕ → Option Change

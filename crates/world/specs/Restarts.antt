@@ -27,14 +27,14 @@ abbrev pub is_found : Option Found → ReplicaState → Stamp → Rule → List 
 is_found None at stamp sums bytes = false
 is_found (Some f) at stamp sums bytes =
     state_number f.state == state_number at && f.stamp.0 == stamp.0 && same_rule f.sums sums &&
-        pointwise ◌==◌ f.bytes bytes
+    pointwise ◌==◌ f.bytes bytes
 
 -- RWR under this stamp is found, with a front of these bytes
 abbrev pub is_waiting : Option Found → Stamp → Rule → List ℕ → Bool
 is_waiting None stamp sums bytes = false
 is_waiting (Some f) stamp sums bytes =
     state_number f.state == state_number state.Rwr && f.stamp.0 == stamp.0 && same_rule f.sums sums &&
-        starts_with ◌==◌ bytes f.bytes
+    starts_with ◌==◌ bytes f.bytes
 
 -- the same as what is found where the files are whole
 abbrev pub is_whole_as : Option Found → Option Found → Bool
@@ -47,7 +47,7 @@ is_whole info bytes f = is_whole_as (found_whole info bytes) f
 abbrev pub waits_between : ReplicaInfo → List ℕ → ReplicaInfo → List ℕ → Option Found → Bool
 waits_between h before k after f =
     is_waiting f h.stamp h.sums before || is_waiting f h.stamp h.sums after || is_waiting f k.stamp h.sums before ||
-        is_waiting f k.stamp h.sums after
+    is_waiting f k.stamp h.sums after
 
 abbrev pub final_between : ReplicaInfo → List ℕ → ReplicaInfo → List ℕ → Option Found → Bool
 final_between h before k after f =

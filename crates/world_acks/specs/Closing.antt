@@ -63,7 +63,7 @@ abbrev pub StaysClosed : Type 0
 StaysClosed = (nodes : ℕ) (events : List Event) (e : Event) (b stamp n : ℕ) →
     IsClosed (run (start nodes) events) b stamp n →
     Closing (given_by (given_in none_given (start nodes) events) (run (start nodes) events) e)
-        (run (start nodes) events)
+    (run (start nodes) events)
     (happens (run (start nodes) events) e) b stamp n
 
 -- THE MEMBERS OF A PIPELINE

@@ -49,8 +49,13 @@ pub record IsCompleted (w : World) (b : ℕ) (stamp : Stamp) : Type 0 where
 -- the answer of a writer in this state to a close, once its block is completed
 pub record AnswersClose (b : ℕ) (x : WriterRecord) (a : Answered) : Type 0 where
   pub phase_is : x.phase ≡ phase.Completed
-  pub is : a ≡ record { block = b; command = by_close; length = written_in x.stream; stamp = x.committed.0;
-      members = x.members }
+  pub is : a ≡ record {
+    block = b;
+    command = by_close;
+    length = written_in x.stream;
+    stamp = x.committed.0;
+    members = x.members;
+  }
 
 -- From the good ack of the last packet on, and from the answer to the recovery of a close on, all members have
 -- closed; once the block is completed, the office has closed it.

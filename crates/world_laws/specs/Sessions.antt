@@ -28,7 +28,7 @@ IsCommitted o block stamp = (r : BlockRecord) → record_of o block ≡ Some r �
 abbrev pub OfficeAndWriterAgree : Type 0
 OfficeAndWriterAgree = (nodes : ℕ) (events : List Event) (b : ℕ) →
     IsCommitted (run (start nodes) events).office (record { 0 = b })
-        (stamp_heard ((run (start nodes) events).writers b))
+    (stamp_heard ((run (start nodes) events).writers b))
 
 -- A stamp that was given has one session: whatever happens later, it stays in the session in which it was given.
 abbrev pub StampsKeepSessions : Type 0

@@ -11,13 +11,13 @@ use Rattle.world_nets.specs.Nets.{AreRows, inbox_for}
 abbrev pub FlushesAreRows : Type 0
 FlushesAreRows = (rows : Rows) (traffic : Traffics) (conn : ℕ) (lower shut : Bool) (messages : List Message)
     → AreRows rows traffic → AreRows (rows_flushed rows conn lower shut messages)
-        (after_flush traffic conn lower shut (map text_of messages))
+    (after_flush traffic conn lower shut (map text_of messages))
 
 -- An end that sent these messages was given up.
 abbrev pub LossesAreRows : Type 0
 LossesAreRows = (rows : Rows) (traffic : Traffics) (conn : ℕ) (lower : Bool) (messages : List Message)
     → AreRows rows traffic → AreRows (rows_flushed rows conn lower true messages)
-        (after_loss traffic conn lower (map text_of messages))
+    (after_loss traffic conn lower (map text_of messages))
 
 -- What an end takes: the traffic then, and what the end holds.
 pub record TakesRow (rows : Rows) (traffic : Traffics) (conn : ℕ) (lower : Bool) (x : Next) : Type 0 where

@@ -59,7 +59,7 @@ AnsweredIsAcked = (block : BlockId) (rule : Rule) (moves : List Move) (ordinal b
     (members : List NodeId) →
     IsChunkSize rule.chunk →
     (own_step (after_moves (fresh block rule) moves)).action ≡
-        action.Answered ordinal (answer.Reached bytes stamp members) →
+    action.Answered ordinal (answer.Reached bytes stamp members) →
     IsReached (after_moves (fresh block rule) moves) bytes stamp members
 
 -- A request names the committed stamp, and so do a call to complete the block and an answer.

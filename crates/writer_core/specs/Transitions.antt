@@ -169,8 +169,10 @@ dial_step w s stamp = dial_step_as w s stamp w.members
 
 -- the create or append is answered, and the writer streams
 abbrev pub open_step : WriterRecord → Step
-open_step w = step (action.Answered (ordinal w) (answer.Granted w.committed)) (record w { waiting = None;
-    phase = phase.Streaming 0 })
+open_step w = step (action.Answered (ordinal w) (answer.Granted w.committed)) (record w {
+  waiting = None;
+  phase = phase.Streaming 0;
+})
 
 -- Rule 2: a new block streams at once; else the stamp and the members are committed first.
 abbrev pub accepted_step : WriterRecord → Setup → Stamp → Step
@@ -212,7 +214,7 @@ data_due x end = due.Data end (ends_sync x end)
 abbrev pub due_in : Option Waiting → StreamState → Option DuePacket
 due_in x s =
     if nat_le (greatest_end s.rule.chunk (start_in s)) (written_in s)
-        then Some (data_due x (greatest_end s.rule.chunk (start_in s)))
+    then Some (data_due x (greatest_end s.rule.chunk (start_in s)))
     else if is_flushing x && nat_lt s.sent (written_in s) then Some (data_due x (written_in s))
     else empty_due x s
 
