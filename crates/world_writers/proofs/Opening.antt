@@ -1,0 +1,197 @@
+-- Later sessions begin with the bytes that were answered before, by the order of sessions.
+use Rattle.std.proofs.Common.{◌≡◌, ℕ, zero, suc, ◌<◌, ◌≤◌, ◌⊎◌, inl, inr, Bool, true, false, List, length, slice_get, Option, Some, None, refl, sym, ◌∙◌, ap, subst, arith}
+use Rattle.std.proofs.lemmas.Bool.{cases_lt, false≢true}
+use Rattle.std.proofs.lemmas.Option.{none-some, same_Some}
+use Rattle.hd_base.specs.declared.numbers.Stamp.{Stamp}
+use Rattle.hd_base.specs.declared.states.ReplicaState.TheVariants as state
+use Rattle.name_core.specs.declared.records.BlockRecord.{BlockRecord}
+use Rattle.name_core.specs.Offices.{record_of}
+use Rattle.op_headers.specs.declared.ops.Op.TheVariants as op
+use Rattle.op_headers.specs.Values.{WriteFields}
+use Rattle.writer_core.specs.declared.records.WriterRecord.{WriterRecord}
+use Rattle.world.specs.Parts.{request, Place, Answered, Updated}
+use Rattle.world.specs.Worlds.{World}
+use Rattle.world.specs.Nodes.{block_of}
+use Rattle.world.specs.Safe.{Has}
+use Rattle.world_laws.specs.Stamping.{Givens, HeldOf, Recorded, heard}
+use Rattle.world_laws.specs.Carrying.{new_stamp}
+use Rattle.world_laws.specs.Joining.{joined_as}
+use Rattle.world_recoveries.specs.Recovering.{ReplicaTold, Informs, InfoFits, Updates, WasSent, Recovering}
+use Rattle.world_acks.specs.Acking.{Asked, EarlierLeave, JoinSeat, promised}
+use Rattle.world_finals.specs.Finishing.{Ids, EndsAt, FinalLength, of_recovery, of_session, Finals}
+use Rattle.world_writers.specs.Leaving.{LaterSessionsKeep}
+use Rattle.world_acks.specs.Passing.{IsPassed, by_setup, by_update, by_recovery, Passes, PassesSince}
+use Rattle.world_writers.specs.Opening.{Origins, Begins, first_session, begins_behind, Opened}
+use Rattle.world_writers.proofs.Seating.{Seating, later-session, open-promised}
+
+-- what is known of the world
+pub record Opening (from : Origins) (f : Ids) (g : Givens) (w : World) : Type 0 where
+  pub seating : Seating g w
+  pub opened : Opened from f g w
+  pub finals : Finals f g w
+
+-- a session is named by a stamp that was given in it, no later than any other
+record IsNamed (g : Givens) (b t e : ℕ) : Type 0 where
+  pub own : g b e ≡ Some e
+  pub first : e ≤ t
+
+is-named : (g : Givens) (w : World) (b t e : ℕ) → Recorded g w → g b t ≡ Some e → IsNamed g b t e
+is-named g w b t e r q = go (record_of w.office (record { 0 = b })) (heard (w.writers b)) (r.blocks b)
+  where
+    go : (o : Option BlockRecord) (x : WriterRecord) → HeldOf (g b) (w.latest b) o x → IsNamed g b t e
+    go None x h = absurd (none-some e (sym (h.1 t) ∙ q))
+    go (Some k) x h = record { own = h.office.session t e q; first = h.office.before t e q }
+
+-- the stamp of a setup that a node accepted is no recovery's id
+joined-plain : (f : Ids) (g : Givens) (w : World) (s n l : ℕ) → Seating g w → Finals f g w → Has w.joined (joined_as s n l) → f s ≡ false
+joined-plain f g w s n l k h j =
+    let x = k.acked.joins s n l j in
+    let d = h.downs x.conn 0 (request (op.Write x.fields)) x.pipe.asked.first in
+    ap f (sym x.is) ∙ d.no_id
+
+-- a node that accepted the setup of a stamp got past all later ones up to the one that it told
+told-passes : (g : Givens) (w : World) (b s e c : ℕ) (id : Stamp) (i : ReplicaTold) → Seating g w → Informs w.past c b id i → Has w.joined (joined_as s (w.dialled c).to.node (w.dialled c).to.life) → g b s ≡ Some e → Passes w.past b s i.1.0 (w.dialled c).to
+told-passes g w b s e c id i k t j given = subst (λ (l : ℕ). Passes w.past b s i.1.0 (record { node = at.node; life = l })) alive (here.told c id i t (ap (λ (l : ℕ). record { node = at.node; life = l }) (sym alive)))
+  where
+    at : Place
+    at = (w.dialled c).to
+
+    x : JoinSeat g w s at.node at.life
+    x = k.acked.joins s at.node at.life j
+
+    block : block_of x.fields ≡ b
+    block = k.recorded.one (block_of x.fields) b s x.session e (subst (λ (t : ℕ). g (block_of x.fields) t ≡ Some x.session) x.is x.pipe.given) given
+
+    alive : x.seat.life ≡ at.life
+    alive = k.joins.single s at.node x.seat.life at.life (k.placed.dialled c (k.recovering.told c b id i t).known).to x.seat.joins j
+
+    here : PassesSince w b s at.node x.seat.life
+    here = subst (λ (v : ℕ). PassesSince w v s at.node x.seat.life) block x.seat.passes
+
+-- the bytes that an answer told of at a node that told a recovery of its replica
+record Case (from : Origins) (f : Ids) (g : Givens) (w : World) (a : Answered) (e s c : ℕ) (id : Stamp) : Type 0 where
+  pub known : Opening from f g w
+  pub has : Has w.answered a
+  pub answer : g a.block a.stamp ≡ Some e
+  pub given : g a.block s ≡ Some e
+  pub plain : f s ≡ false
+  pub told : ReplicaTold
+  pub informs : Informs w.past c a.block id told
+  pub joins : Has w.joined (joined_as s (w.dialled c).to.node (w.dialled c).to.life)
+  pub earlier : EarlierLeave w.past a.block s id.0 (w.dialled c).to.node (w.dialled c).to.life a.length
+
+-- the length with which a recovery closed the block before a session
+recovery-covers : (from : Origins) (f : Ids) (g : Givens) (w : World) (a : Answered) (e s c i m d b : ℕ) (id : Stamp) → Case from f g w a e s c id → g a.block i ≡ Some i → i < id.0 → from i < i → s ≤ from i → f (from i) ≡ true
+    → Updates w.past d b (record { 0 = from i }) m → a.length ≤ m
+recovery-covers from f g w a e s c i m d b id k own lt low since is u = go ((told-passes g w a.block s e c id k.told k.known.seating k.informs k.joins k.given).each (from i) above there)
+  where
+    apart : s ≡ from i → ⊥
+    apart q = false≢true (sym k.plain ∙ ap f q ∙ is)
+
+    above : s < from i
+    above = either (cases_lt s (from i))
+      where
+        either : (s < from i) ⊎ (from i ≤ s) → s < from i
+        either (inl z) = z
+        either (inr z) = absurd (apart (omega (arith, since, z)))
+
+    named : from i ≤ k.informs.asked.block.stamp.0
+    named = (k.known.opened.recoveries c 0 k.informs.asked k.informs.first).each i (subst (λ (v : ℕ). g v i ≡ Some i) (sym k.informs.block) own) (omega (arith, low, lt, ap (λ (v : Stamp). v.0) k.informs.recovery))
+
+    there : from i ≤ k.told.1.0
+    there = omega (arith, named, (k.known.seating.recovering.told c a.block id k.told k.informs).named_below)
+
+    go : IsPassed w.past a.block (from i) (w.dialled c).to → a.length ≤ m
+    go (by_update x has n l y r) =
+        let left : a.length ≤ x.length = k.earlier.each x has n l y (omega (arith, above, r)) (omega (arith, low, lt, r)) in
+        let s : WasSent w.past x = k.known.seating.recovering.updated x has in
+        let same : x.length ≡ m = k.known.seating.recovering.one_length s.conn d x.block b (record { 0 = from i }) x.length m (subst (λ (v : ℕ). Updates w.past s.conn x.block (record { 0 = v }) x.length) r s.sent) u in
+        omega (arith, left, same)
+    go (by_setup v q asked y lo hi) = absurd (setup (cases_lt (from i) (new_stamp q).0))
+      where
+        setup : (from i < (new_stamp q).0) ⊎ ((new_stamp q).0 ≤ from i) → ⊥
+        setup (inl z) = omega (arith, lo, (k.known.opened.writes v q (record { first = asked })).each i (subst (λ (b : ℕ). g b i ≡ Some i) (sym y) own) z)
+        setup (inr z) =
+            let same : from i ≡ (new_stamp q).0 = omega (arith, hi, z) in
+            false≢true (sym (ap f same ∙ (k.known.finals.downs v 0 (request (op.Write q)) asked).no_id) ∙ is)
+    go (by_recovery v q sent y lo hi) =
+        absurd (omega (arith, lo, (k.known.opened.recoveries v 0 q sent).each i (subst (λ (z : ℕ). g z i ≡ Some i) (sym y) own) hi))
+
+-- all that was written in the session that was closed before a later one
+closed-covers : (from : Origins) (f : Ids) (g : Givens) (w : World) (a : Answered) (e s c i m : ℕ) (id : Stamp) → Case from f g w a e s c id → e < i → g a.block i ≡ Some i → f (from i) ≡ false → EndsAt g w a.block (from i) m
+    → ((d : ℕ) → e < d → d < i → g a.block d ≡ Some d → Begins from f g w a.block d (length (w.written d)) → a.length ≤ length (w.written d)) → a.length ≤ m
+closed-covers from f g w a e s c i m id k later own plain x deeper = omega (arith, x.length, whole (cases_lt e x.session))
+  where
+    o : Opened from f g w
+    o = k.known.opened
+
+    low : from i < i
+    low = o.below a.block s e i k.given own later
+
+    since : s ≤ from i
+    since = o.older a.block s e i k.given own k.plain later
+
+    own-session : IsNamed g a.block s e
+    own-session = is-named g w a.block s e k.known.seating.recorded k.given
+
+    there : IsNamed g a.block (from i) x.session
+    there = is-named g w a.block (from i) x.session k.known.seating.recorded x.given
+
+    -- the session that was closed isn't earlier
+    least : (x.session < e) ⊎ (e ≤ x.session) → e ≤ x.session
+    least (inr z) = z
+    least (inl z) = absurd (omega (arith, since, own-session.first, o.older a.block (from i) x.session e x.given own-session.own plain z, o.below a.block (from i) x.session e x.given own-session.own z))
+
+    whole : (e < x.session) ⊎ (x.session ≤ e) → a.length ≤ length (w.written x.session)
+    whole (inl z) = deeper x.session z (o.before a.block x.session i x.given own low) there.own (o.sessions a.block x.session there.own)
+    whole (inr z) =
+        let same : x.session ≡ e = omega (arith, z, least (cases_lt x.session e)) in
+        o.answered a x.session k.has (k.answer ∙ ap (λ (v : ℕ). Some v) (sym same))
+
+-- the length that the block was closed with before a later session
+length-covers : (from : Origins) (f : Ids) (g : Givens) (w : World) (a : Answered) (e s c i m : ℕ) (id : Stamp) → Case from f g w a e s c id → e < i → i < id.0 → g a.block i ≡ Some i → FinalLength f g w a.block (from i) m
+    → ((d : ℕ) → e < d → d < i → g a.block d ≡ Some d → Begins from f g w a.block d (length (w.written d)) → a.length ≤ length (w.written d)) → a.length ≤ m
+length-covers from f g w a e s c i m id k later lt own (of_recovery is d b u) deeper =
+    recovery-covers from f g w a e s c i m d b id k own lt (k.known.opened.below a.block s e i k.given own later) (k.known.opened.older a.block s e i k.given own k.plain later) is u
+length-covers from f g w a e s c i m id k later lt own (of_session plain x) deeper = closed-covers from f g w a e s c i m id k later own plain x deeper
+
+-- a later session begins with the answered bytes
+begins-cover : (from : Origins) (f : Ids) (g : Givens) (w : World) (a : Answered) (e s c fuel i n : ℕ) (id : Stamp) → Case from f g w a e s c id → i < fuel → e < i → i < id.0 → g a.block i ≡ Some i → Begins from f g w a.block i n → a.length ≤ n
+begins-cover from f g w a e s c zero i n id k less later lt own h = absurd (omega (arith, less))
+begins-cover from f g w a e s c (suc fuel) i n id k less later lt own (first_session h) = absurd (omega (arith, later, h a.stamp e k.answer))
+begins-cover from f g w a e s c (suc fuel) i n id k less later lt own (begins_behind m l le) =
+    omega (arith, le, length-covers from f g w a e s c i m id k later lt own l (λ d past below there h. begins-cover from f g w a e s c fuel d (length (w.written d)) id k (omega (arith, below, less)) past (omega (arith, below, lt)) there h))
+
+-- what is told of an RBW replica of a later session
+pub later-keeps : (from : Origins) (f : Ids) (g : Givens) (w : World) (a : Answered) → Opening from f g w → Has w.answered a → LaterSessionsKeep g w a
+later-keeps from f g w a k h stamp c d id z t y e o =
+    let s = k.seating in
+    let x = open-promised g w d a.block id z s y e in
+    let q = x.joins in
+    let fits = s.recovering.told d a.block id z y in
+    let since : a.stamp ≤ z.1.0 = s.stale d a.block id z y a h refl (omega (arith, t.above, t.joins.since)) in
+    let rises : t.joins.session ≤ o.session = later-session g w a z.1.0 t.joins.session o.session q.conn q.fields s h q.pipe.asked x.block q.is t.joins.answer o.given since in
+    let apart : t.joins.session ≡ o.session → ⊥ = λ v. o.apart (t.joins.answer ∙ ap (λ (i : ℕ). Some i) v) in
+    let v = is-named g w a.block z.1.0 o.session s.recorded o.given in
+    let below : o.session < id.0 = omega (arith, v.first, fits.below) in
+    let there : g (block_of q.fields) (new_stamp q.fields).0 ≡ Some o.session = ap (λ (i : ℕ). g (block_of q.fields) i) q.is ∙ ap (λ (b : ℕ). g b z.1.0) x.block ∙ o.given in
+    let begins : Begins from f g w a.block o.session (promised q.fields) = subst (λ (b : ℕ). Begins from f g w b o.session (promised q.fields)) x.block (k.opened.asked q.conn o.session q.fields q.pipe.asked there) in
+    let case : Case from f g w a t.joins.session stamp c id = record {
+      known = k;
+      has = h;
+      answer = t.joins.answer;
+      given = t.joins.given;
+      plain = joined-plain f g w stamp (w.dialled c).to.node (w.dialled c).to.life s k.finals t.joins.joins;
+      told = t.told;
+      informs = t.informs;
+      joins = t.joins.joins;
+      earlier = t.earlier;
+    } in
+    omega (arith, x.enough, begins-cover from f g w a t.joins.session stamp c (suc o.session) o.session (promised q.fields) id case (omega arith) (apart-less t.joins.session o.session rises apart) below v.own begins)
+  where
+    apart-less : (m n : ℕ) → m ≤ n → (m ≡ n → ⊥) → m < n
+    apart-less m n le differ = go (cases_lt m n)
+      where
+        go : (m < n) ⊎ (n ≤ m) → m < n
+        go (inl z) = z
+        go (inr z) = absurd (differ (omega (arith, le, z)))
