@@ -46,7 +46,7 @@ use Rattle.world_recoveries.specs.Recovering.{ReplicaTold, top_under, top_of, In
 use Rattle.world_recoveries.specs.Telling.{TellsNow, TellsFrom}
 use Rattle.world_recoveries.proofs.Histories.{begins-get}
 use Rattle.world_recoveries.proofs.Telling.{told-below}
-use Rattle.world_acks.specs.Passing.{IsPassed, by_setup, by_update, by_recovery, Passes, PassesTo, PassesSince}
+use Rattle.world_acks.specs.Passing.{GotPast, by_setup, by_update, by_recovery, Passes, PassesTo, PassesSince}
 use Rattle.world_acks.proofs.Shows.{IsNoUpdate}
 
 -- EVENTS
@@ -216,7 +216,7 @@ has-behind : {A : Type 0} (xs ys : List A) (x : A) → Has ys x → Has (xs ++ y
 has-behind [] ys x h = h
 has-behind (z ∷ xs) ys x h = let k = has-behind xs ys x h in record { place = suc k.place; there = k.there }
 
-passed-later : (w : World) (k : Change) (b stamp : ℕ) (at : Place) → IsPassed w.past b stamp at → IsPassed (past_after w k) b stamp at
+passed-later : (w : World) (k : Change) (b stamp : ℕ) (at : Place) → GotPast w.past b stamp at → GotPast (past_after w k) b stamp at
 unfolding apply
 passed-later w k b stamp at (by_setup c q e x lo hi) = by_setup c q (begins-get (w.downs c) ((past_after w k).downs c) 0 (request (op.Write q)) ((apply-grows w k).downs c) e) x lo hi
 passed-later w k b stamp at (by_update u h n l x r) = by_update u (has-more w.updated k.updated u h) n l x r
@@ -285,17 +285,17 @@ passes-then : (g l : Givens) (w : World) (k : Change) (b from to : ℕ) (at : Pl
 unfolding apply
 passes-then g l w k b from to at i rec tells next is block node life h s = record { each = λ stamp lo hi. go stamp lo hi (cases_lt i.stamp.0 stamp) s }
   where
-    old : (stamp : ℕ) → from < stamp → stamp ≤ i.stamp.0 → IsPassed (past_after w k) b stamp at
+    old : (stamp : ℕ) → from < stamp → stamp ≤ i.stamp.0 → GotPast (past_after w k) b stamp at
     old stamp lo hi = passed-later w k b stamp at (h.each stamp lo hi)
 
     updated : (stamp : ℕ) (u : Updated) → i.stamp.0 < stamp → stamp ≤ u.recovery → Has k.updated u → u.node ≡ k.node → u.life ≡ w.lives k.node → u.block ≡ k.block → i.recovery ≡ Some (record { 0 = u.recovery }) → (stamp < u.recovery) ⊎ (u.recovery ≤ stamp)
-        → IsPassed (past_after w k) b stamp at
+        → GotPast (past_after w k) b stamp at
     updated stamp u lo hi has n y x held (inl z) =
         let m = sent-names g l w k u i rec tells next has n y x is held in
         by_recovery m.conn m.asked m.first (m.block ∙ x ∙ sym block) (omega (arith, m.named, lo)) (omega (arith, z, m.recovery))
     updated stamp u lo hi has n y x held (inr z) = by_update u (has-behind w.updated k.updated u has) (n ∙ sym node) (y ∙ sym life) (x ∙ sym block) (omega (arith, hi, z))
 
-    go : (stamp : ℕ) → from < stamp → stamp ≤ to → (i.stamp.0 < stamp) ⊎ (stamp ≤ i.stamp.0) → Gets w k i to → IsPassed (past_after w k) b stamp at
+    go : (stamp : ℕ) → from < stamp → stamp ≤ to → (i.stamp.0 < stamp) ⊎ (stamp ≤ i.stamp.0) → Gets w k i to → GotPast (past_after w k) b stamp at
     go stamp lo hi (inr z) s = old stamp lo z
     go stamp lo hi (inl z) (keeps_stamp e) = absurd (omega (arith, hi, z, e))
     go stamp lo hi (inl z) (gets_setup c q e x low t) =

@@ -14,17 +14,17 @@ use Rattle.world_recoveries.specs.Recovering.{ReplicaTold, Informs}
 
 -- A setup of the block was asked that names an earlier stamp, and is of this one or a later; or a recovery with this id
 -- updated the replica in this life; or a recovery of the block has a later id, and names an earlier stamp.
-pub data IsPassed (h : Past) (b stamp : ℕ) (at : Place) : Type 0 where
+pub data GotPast (h : Past) (b stamp : ℕ) (at : Place) : Type 0 where
   by_setup : (c : ℕ) (q : WriteFields) → slice_get (h.downs c) 0 ≡ Some (request (op.Write q)) → block_of q ≡ b →
-      q.block.stamp.0 < stamp → stamp ≤ (new_stamp q).0 → IsPassed h b stamp at
+      q.block.stamp.0 < stamp → stamp ≤ (new_stamp q).0 → GotPast h b stamp at
   by_update : (u : Updated) → Has h.updated u → u.node ≡ at.node → u.life ≡ at.life → u.block ≡ b →
-      u.recovery ≡ stamp → IsPassed h b stamp at
+      u.recovery ≡ stamp → GotPast h b stamp at
   by_recovery : (c : ℕ) (q : RecoveryOp) → slice_get (h.downs c) 0 ≡ Some (request (op.Recovery q)) →
-      q.block.block.0 ≡ b → q.block.stamp.0 < stamp → stamp < q.recovery.0 → IsPassed h b stamp at
+      q.block.block.0 ≡ b → q.block.stamp.0 < stamp → stamp < q.recovery.0 → GotPast h b stamp at
 
 -- so it got past each stamp from the one to the other
 pub record Passes (h : Past) (b from to : ℕ) (at : Place) : Type 0 where
-  pub each : (stamp : ℕ) → from < stamp → stamp ≤ to → IsPassed h b stamp at
+  pub each : (stamp : ℕ) → from < stamp → stamp ≤ to → GotPast h b stamp at
 
 -- the replica is there, and got past each stamp from this one to its own
 pub record PassesTo (h : Past) (b from : ℕ) (at : Place) (o : Option ReplicaInfo) : Type 0 where
