@@ -13,10 +13,10 @@ use Rattle.world_laws.specs.Stamping.{Givens, none_given, given_in, Recorded}
 use Rattle.world_writers.specs.Taking.{Joins}
 use Rattle.world_laws.proofs.PlacedLaws.{all-placed}
 use Rattle.world_recoveries.proofs.AllRecovering.{all-recovering}
-use Rattle.world_recoveries.proofs.AllNaming.{all-none-stale}
+use Rattle.world_recoveries.proofs.AllNaming.{all-naming, all-none-stale}
 use Rattle.world_acks.specs.Acking.{UpdatesLeave}
 use Rattle.world_writers.specs.Leaving.{JoinedSince, RequestsCover, LaterSessionsKeep}
-use Rattle.world_writers.specs.Opening.{Origins, Opened}
+use Rattle.world_writers.specs.Opening.{Opened}
 use Rattle.world_writers.specs.Staying.{LatestStay}
 use Rattle.world_finals.specs.Finishing.{no_ids, ids_in}
 use Rattle.world_finals.proofs.AllFinal.{all-final}
@@ -96,16 +96,15 @@ answer-kept nodes events a m le h member s later = answered-stay nodes events le
     left : UpdatesLeave w a.block a.stamp m.0 (w.lives m.0) a.length
     left = updates-keep g w a (leaving nodes events a le h later) h a.stamp at ((all-placed nodes events).runs m.0 s.runs) since
 
-opened : (nodes : ℕ) (events : List Event) → nodes ≤ MAX_NODES → (from : Origins) × Opened from (ids_in no_ids (start nodes) events) (given_in none_given (start nodes) events) (run (start nodes) events)
+opened : (nodes : ℕ) (events : List Event) → nodes ≤ MAX_NODES → Opened (ids_in no_ids (start nodes) events) (given_in none_given (start nodes) events) (run (start nodes) events)
 opened nodes events le = ?
 
-opening : (nodes : ℕ) (events : List Event) → nodes ≤ MAX_NODES → (from : Origins) × Opening from (ids_in no_ids (start nodes) events) (given_in none_given (start nodes) events) (run (start nodes) events)
-opening nodes events le = let o = opened nodes events le in (o.0, record { seating = seating nodes events le; opened = o.1; finals = all-final nodes events })
+opening : (nodes : ℕ) (events : List Event) → nodes ≤ MAX_NODES → Opening (ids_in no_ids (start nodes) events) (given_in none_given (start nodes) events) (run (start nodes) events)
+opening nodes events le = record { seating = seating nodes events le; naming = all-naming nodes events; opened = opened nodes events le; finals = all-final nodes events }
 
 pub kept : (nodes : ℕ) (events : List Event) → nodes ≤ MAX_NODES → Kept (run (start nodes) events)
 kept nodes events le a m h member s =
-    let o = opening nodes events le in
-    answer-kept nodes events a m le h member s (later-keeps o.0 (ids_in no_ids (start nodes) events) (given_in none_given (start nodes) events) (run (start nodes) events) a o.1 h)
+    answer-kept nodes events a m le h member s (later-keeps (ids_in no_ids (start nodes) events) (given_in none_given (start nodes) events) (run (start nodes) events) a (opening nodes events le) h)
 
 pub latest-stay : (nodes : ℕ) (events : List Event) → nodes ≤ MAX_NODES → LatestStay (run (start nodes) events)
 latest-stay nodes events le a m h latest member s =

@@ -20,14 +20,16 @@ use Rattle.world_recoveries.specs.Recovering.{ReplicaTold, Informs, InfoFits, Up
 use Rattle.world_acks.specs.Acking.{Asked, EarlierLeave, JoinSeat, promised}
 use Rattle.world_finals.specs.Finishing.{Ids, EndsAt, FinalLength, of_recovery, of_session, Finals}
 use Rattle.world_writers.specs.Leaving.{LaterSessionsKeep}
-use Rattle.world_acks.specs.Passing.{IsPassed, by_setup, by_update, by_recovery, Passes, PassesSince}
-use Rattle.world_writers.specs.Opening.{Origins, Begins, first_session, begins_behind, Opened}
+use Rattle.world_recoveries.specs.Naming.{IsBefore, NamesPast, Naming}
+use Rattle.world_acks.specs.Passing.{GotPast, by_setup, by_update, by_recovery, Passes, PassesSince}
+use Rattle.world_writers.specs.Opening.{Begins, first_session, begins_behind, Opened}
 use Rattle.world_writers.proofs.Seating.{Seating, later-session, open-promised}
 
 -- what is known of the world
-pub record Opening (from : Origins) (f : Ids) (g : Givens) (w : World) : Type 0 where
+pub record Opening (f : Ids) (g : Givens) (w : World) : Type 0 where
   pub seating : Seating g w
-  pub opened : Opened from f g w
+  pub naming : Naming g w
+  pub opened : Opened f g w
   pub finals : Finals f g w
 
 -- a session is named by a stamp that was given in it, no later than any other
@@ -69,8 +71,8 @@ told-passes g w b s e c id i k t j given = subst (λ (l : ℕ). Passes w.past b 
     here = subst (λ (v : ℕ). PassesSince w v s at.node x.seat.life) block x.seat.passes
 
 -- the bytes that an answer told of at a node that told a recovery of its replica
-record Case (from : Origins) (f : Ids) (g : Givens) (w : World) (a : Answered) (e s c : ℕ) (id : Stamp) : Type 0 where
-  pub known : Opening from f g w
+record Case (f : Ids) (g : Givens) (w : World) (a : Answered) (e s c : ℕ) (id : Stamp) : Type 0 where
+  pub known : Opening f g w
   pub has : Has w.answered a
   pub answer : g a.block a.stamp ≡ Some e
   pub given : g a.block s ≡ Some e
@@ -80,91 +82,99 @@ record Case (from : Origins) (f : Ids) (g : Givens) (w : World) (a : Answered) (
   pub joins : Has w.joined (joined_as s (w.dialled c).to.node (w.dialled c).to.life)
   pub earlier : EarlierLeave w.past a.block s id.0 (w.dialled c).to.node (w.dialled c).to.life a.length
 
+-- a later session of the block, with the last stamp before it
+record Later (g : Givens) (a : Answered) (e i r : ℕ) (id : Stamp) : Type 0 where
+  pub own : g a.block i ≡ Some i
+  pub past : e < i
+  pub below : i < id.0
+  pub before : IsBefore (g a.block) r i
+
+-- the setup of the stamp was before that
+setup-before : (f : Ids) (g : Givens) (w : World) (a : Answered) (e s c i r : ℕ) (id : Stamp) → Case f g w a e s c id → Later g a e i r id → s ≤ r
+setup-before f g w a e s c i r id k l = l.before.last s e k.given (k.known.opened.plain a.block s e i k.given l.own k.plain l.past)
+
 -- the length with which a recovery closed the block before a session
-recovery-covers : (from : Origins) (f : Ids) (g : Givens) (w : World) (a : Answered) (e s c i m d b : ℕ) (id : Stamp) → Case from f g w a e s c id → g a.block i ≡ Some i → i < id.0 → from i < i → s ≤ from i → f (from i) ≡ true
-    → Updates w.past d b (record { 0 = from i }) m → a.length ≤ m
-recovery-covers from f g w a e s c i m d b id k own lt low since is u = go ((told-passes g w a.block s e c id k.told k.known.seating k.informs k.joins k.given).each (from i) above there)
+recovery-covers : (f : Ids) (g : Givens) (w : World) (a : Answered) (e s c i r m d b : ℕ) (id : Stamp) → Case f g w a e s c id → Later g a e i r id → f r ≡ true → Updates w.past d b (record { 0 = r }) m → a.length ≤ m
+recovery-covers f g w a e s c i r m d b id k l is u = go ((told-passes g w a.block s e c id k.told k.known.seating k.informs k.joins k.given).each r above there)
   where
-    apart : s ≡ from i → ⊥
+    since : s ≤ r
+    since = setup-before f g w a e s c i r id k l
+
+    apart : s ≡ r → ⊥
     apart q = false≢true (sym k.plain ∙ ap f q ∙ is)
 
-    above : s < from i
-    above = either (cases_lt s (from i))
+    above : s < r
+    above = either (cases_lt s r)
       where
-        either : (s < from i) ⊎ (from i ≤ s) → s < from i
+        either : (s < r) ⊎ (r ≤ s) → s < r
         either (inl z) = z
         either (inr z) = absurd (apart (omega (arith, since, z)))
 
-    named : from i ≤ k.informs.asked.block.stamp.0
-    named = (k.known.opened.recoveries c 0 k.informs.asked k.informs.first).each i (subst (λ (v : ℕ). g v i ≡ Some i) (sym k.informs.block) own) (omega (arith, low, lt, ap (λ (v : Stamp). v.0) k.informs.recovery))
+    -- what names a stamp of this block, with a later one of its own, names none before
+    names : (v named own : ℕ) → v ≡ a.block → NamesPast (g v) named own → r < own → r ≤ named
+    names v named own at h lt = h.each r i (subst (λ (z : ℕ). g z i ≡ Some i) (sym at) l.own) (subst (λ (z : ℕ). IsBefore (g z) r i) (sym at) l.before) lt
 
-    there : from i ≤ k.told.1.0
+    named : r ≤ k.informs.asked.block.stamp.0
+    named = names k.informs.asked.block.block.0 k.informs.asked.block.stamp.0 k.informs.asked.recovery.0 k.informs.block (k.known.naming.asked c 0 k.informs.asked k.informs.first).past
+        (omega (arith, l.before.less, l.below, ap (λ (v : Stamp). v.0) k.informs.recovery))
+
+    there : r ≤ k.told.1.0
     there = omega (arith, named, (k.known.seating.recovering.told c a.block id k.told k.informs).named_below)
 
-    go : IsPassed w.past a.block (from i) (w.dialled c).to → a.length ≤ m
-    go (by_update x has n l y r) =
-        let left : a.length ≤ x.length = k.earlier.each x has n l y (omega (arith, above, r)) (omega (arith, low, lt, r)) in
-        let s : WasSent w.past x = k.known.seating.recovering.updated x has in
-        let same : x.length ≡ m = k.known.seating.recovering.one_length s.conn d x.block b (record { 0 = from i }) x.length m (subst (λ (v : ℕ). Updates w.past s.conn x.block (record { 0 = v }) x.length) r s.sent) u in
+    go : GotPast w.past a.block r (w.dialled c).to → a.length ≤ m
+    go (by_update x has n y z v) =
+        let left : a.length ≤ x.length = k.earlier.each x has n y z (omega (arith, above, v)) (omega (arith, l.before.less, l.below, v)) in
+        let t : WasSent w.past x = k.known.seating.recovering.updated x has in
+        let same : x.length ≡ m = k.known.seating.recovering.one_length t.conn d x.block b (record { 0 = r }) x.length m (subst (λ (n : ℕ). Updates w.past t.conn x.block (record { 0 = n }) x.length) v t.sent) u in
         omega (arith, left, same)
-    go (by_setup v q asked y lo hi) = absurd (setup (cases_lt (from i) (new_stamp q).0))
+    go (by_setup v q asked y lo hi) = absurd (setup (cases_lt r (new_stamp q).0))
       where
-        setup : (from i < (new_stamp q).0) ⊎ ((new_stamp q).0 ≤ from i) → ⊥
-        setup (inl z) = omega (arith, lo, (k.known.opened.writes v q (record { first = asked })).each i (subst (λ (b : ℕ). g b i ≡ Some i) (sym y) own) z)
+        setup : (r < (new_stamp q).0) ⊎ ((new_stamp q).0 ≤ r) → ⊥
+        setup (inl z) = omega (arith, lo, names (block_of q) q.block.stamp.0 (new_stamp q).0 y (k.known.opened.writes v q (record { first = asked })) z)
         setup (inr z) =
-            let same : from i ≡ (new_stamp q).0 = omega (arith, hi, z) in
+            let same : r ≡ (new_stamp q).0 = omega (arith, hi, z) in
             false≢true (sym (ap f same ∙ (k.known.finals.downs v 0 (request (op.Write q)) asked).no_id) ∙ is)
-    go (by_recovery v q sent y lo hi) =
-        absurd (omega (arith, lo, (k.known.opened.recoveries v 0 q sent).each i (subst (λ (z : ℕ). g z i ≡ Some i) (sym y) own) hi))
+    go (by_recovery v q sent y lo hi) = absurd (omega (arith, lo, names q.block.block.0 q.block.stamp.0 q.recovery.0 y (k.known.naming.asked v 0 q sent).past hi))
 
 -- all that was written in the session that was closed before a later one
-closed-covers : (from : Origins) (f : Ids) (g : Givens) (w : World) (a : Answered) (e s c i m : ℕ) (id : Stamp) → Case from f g w a e s c id → e < i → g a.block i ≡ Some i → f (from i) ≡ false → EndsAt g w a.block (from i) m
-    → ((d : ℕ) → e < d → d < i → g a.block d ≡ Some d → Begins from f g w a.block d (length (w.written d)) → a.length ≤ length (w.written d)) → a.length ≤ m
-closed-covers from f g w a e s c i m id k later own plain x deeper = omega (arith, x.length, whole (cases_lt e x.session))
+closed-covers : (f : Ids) (g : Givens) (w : World) (a : Answered) (e s c i r m : ℕ) (id : Stamp) → Case f g w a e s c id → Later g a e i r id → f r ≡ false → EndsAt g w a.block r m
+    → ((d : ℕ) → e < d → d < i → g a.block d ≡ Some d → Begins f g w a.block d (length (w.written d)) → a.length ≤ length (w.written d)) → a.length ≤ m
+closed-covers f g w a e s c i r m id k l plain x deeper = omega (arith, x.length, whole (cases_lt e x.session))
   where
-    o : Opened from f g w
-    o = k.known.opened
-
-    low : from i < i
-    low = o.below a.block s e i k.given own later
-
-    since : s ≤ from i
-    since = o.older a.block s e i k.given own k.plain later
-
     own-session : IsNamed g a.block s e
     own-session = is-named g w a.block s e k.known.seating.recorded k.given
 
-    there : IsNamed g a.block (from i) x.session
-    there = is-named g w a.block (from i) x.session k.known.seating.recorded x.given
+    there : IsNamed g a.block r x.session
+    there = is-named g w a.block r x.session k.known.seating.recorded x.given
 
     -- the session that was closed isn't earlier
     least : (x.session < e) ⊎ (e ≤ x.session) → e ≤ x.session
     least (inr z) = z
-    least (inl z) = absurd (omega (arith, since, own-session.first, o.older a.block (from i) x.session e x.given own-session.own plain z, o.below a.block (from i) x.session e x.given own-session.own z))
+    least (inl z) = absurd (omega (arith, setup-before f g w a e s c i r id k l, own-session.first, k.known.opened.plain a.block r x.session e x.given own-session.own plain z))
 
     whole : (e < x.session) ⊎ (x.session ≤ e) → a.length ≤ length (w.written x.session)
-    whole (inl z) = deeper x.session z (o.before a.block x.session i x.given own low) there.own (o.sessions a.block x.session there.own)
+    whole (inl z) = deeper x.session z (omega (arith, there.first, l.before.less)) there.own (k.known.opened.sessions a.block x.session there.own)
     whole (inr z) =
         let same : x.session ≡ e = omega (arith, z, least (cases_lt x.session e)) in
-        o.answered a x.session k.has (k.answer ∙ ap (λ (v : ℕ). Some v) (sym same))
+        k.known.opened.answered a x.session k.has (k.answer ∙ ap (λ (v : ℕ). Some v) (sym same))
 
 -- the length that the block was closed with before a later session
-length-covers : (from : Origins) (f : Ids) (g : Givens) (w : World) (a : Answered) (e s c i m : ℕ) (id : Stamp) → Case from f g w a e s c id → e < i → i < id.0 → g a.block i ≡ Some i → FinalLength f g w a.block (from i) m
-    → ((d : ℕ) → e < d → d < i → g a.block d ≡ Some d → Begins from f g w a.block d (length (w.written d)) → a.length ≤ length (w.written d)) → a.length ≤ m
-length-covers from f g w a e s c i m id k later lt own (of_recovery is d b u) deeper =
-    recovery-covers from f g w a e s c i m d b id k own lt (k.known.opened.below a.block s e i k.given own later) (k.known.opened.older a.block s e i k.given own k.plain later) is u
-length-covers from f g w a e s c i m id k later lt own (of_session plain x) deeper = closed-covers from f g w a e s c i m id k later own plain x deeper
+length-covers : (f : Ids) (g : Givens) (w : World) (a : Answered) (e s c i r m : ℕ) (id : Stamp) → Case f g w a e s c id → Later g a e i r id → FinalLength f g w a.block r m
+    → ((d : ℕ) → e < d → d < i → g a.block d ≡ Some d → Begins f g w a.block d (length (w.written d)) → a.length ≤ length (w.written d)) → a.length ≤ m
+length-covers f g w a e s c i r m id k l (of_recovery is d b u) deeper = recovery-covers f g w a e s c i r m d b id k l is u
+length-covers f g w a e s c i r m id k l (of_session plain x) deeper = closed-covers f g w a e s c i r m id k l plain x deeper
 
 -- a later session begins with the answered bytes
-begins-cover : (from : Origins) (f : Ids) (g : Givens) (w : World) (a : Answered) (e s c fuel i n : ℕ) (id : Stamp) → Case from f g w a e s c id → i < fuel → e < i → i < id.0 → g a.block i ≡ Some i → Begins from f g w a.block i n → a.length ≤ n
-begins-cover from f g w a e s c zero i n id k less later lt own h = absurd (omega (arith, less))
-begins-cover from f g w a e s c (suc fuel) i n id k less later lt own (first_session h) = absurd (omega (arith, later, h a.stamp e k.answer))
-begins-cover from f g w a e s c (suc fuel) i n id k less later lt own (begins_behind m l le) =
-    omega (arith, le, length-covers from f g w a e s c i m id k later lt own l (λ d past below there h. begins-cover from f g w a e s c fuel d (length (w.written d)) id k (omega (arith, below, less)) past (omega (arith, below, lt)) there h))
+begins-cover : (f : Ids) (g : Givens) (w : World) (a : Answered) (e s c fuel i n : ℕ) (id : Stamp) → Case f g w a e s c id → i < fuel → e < i → i < id.0 → g a.block i ≡ Some i → Begins f g w a.block i n → a.length ≤ n
+begins-cover f g w a e s c zero i n id k less later lt own h = absurd (omega (arith, less))
+begins-cover f g w a e s c (suc fuel) i n id k less later lt own (first_session h) = absurd (omega (arith, later, h a.stamp e k.answer))
+begins-cover f g w a e s c (suc fuel) i n id k less later lt own (begins_behind r m before l le) =
+    omega (arith, le, length-covers f g w a e s c i r m id k (record { own = own; past = later; below = lt; before = before }) l
+    (λ d past below there h. begins-cover f g w a e s c fuel d (length (w.written d)) id k (omega (arith, below, less)) past (omega (arith, below, lt)) there h))
 
 -- what is told of an RBW replica of a later session
-pub later-keeps : (from : Origins) (f : Ids) (g : Givens) (w : World) (a : Answered) → Opening from f g w → Has w.answered a → LaterSessionsKeep g w a
-later-keeps from f g w a k h stamp c d id z t y e o =
+pub later-keeps : (f : Ids) (g : Givens) (w : World) (a : Answered) → Opening f g w → Has w.answered a → LaterSessionsKeep g w a
+later-keeps f g w a k h stamp c d id z t y e o =
     let s = k.seating in
     let x = open-promised g w d a.block id z s y e in
     let q = x.joins in
@@ -175,8 +185,8 @@ later-keeps from f g w a k h stamp c d id z t y e o =
     let v = is-named g w a.block z.1.0 o.session s.recorded o.given in
     let below : o.session < id.0 = omega (arith, v.first, fits.below) in
     let there : g (block_of q.fields) (new_stamp q.fields).0 ≡ Some o.session = ap (λ (i : ℕ). g (block_of q.fields) i) q.is ∙ ap (λ (b : ℕ). g b z.1.0) x.block ∙ o.given in
-    let begins : Begins from f g w a.block o.session (promised q.fields) = subst (λ (b : ℕ). Begins from f g w b o.session (promised q.fields)) x.block (k.opened.asked q.conn o.session q.fields q.pipe.asked there) in
-    let case : Case from f g w a t.joins.session stamp c id = record {
+    let begins : Begins f g w a.block o.session (promised q.fields) = subst (λ (b : ℕ). Begins f g w b o.session (promised q.fields)) x.block (k.opened.asked q.conn o.session q.fields q.pipe.asked there) in
+    let case : Case f g w a t.joins.session stamp c id = record {
       known = k;
       has = h;
       answer = t.joins.answer;
@@ -187,7 +197,7 @@ later-keeps from f g w a k h stamp c d id z t y e o =
       joins = t.joins.joins;
       earlier = t.earlier;
     } in
-    omega (arith, x.enough, begins-cover from f g w a t.joins.session stamp c (suc o.session) o.session (promised q.fields) id case (omega arith) (apart-less t.joins.session o.session rises apart) below v.own begins)
+    omega (arith, x.enough, begins-cover f g w a t.joins.session stamp c (suc o.session) o.session (promised q.fields) id case (omega arith) (apart-less t.joins.session o.session rises apart) below v.own begins)
   where
     apart-less : (m n : ℕ) → m ≤ n → (m ≡ n → ⊥) → m < n
     apart-less m n le differ = go (cases_lt m n)
