@@ -1,5 +1,5 @@
 -- What acks and answers say holds after every list of events.
-use Rattle.std.proofs.Common.{◌≡◌, ℕ, ◌<◌, ◌≤◌, Bool, true, false, List, [], ◌∷◌, slice_get, Option, Some, None, IfSome, refl, sym, ◌∙◌, ap, subst, arith, eqb-true, inl, inr}
+use Rattle.std.proofs.Common.{◌≡◌, ℕ, ◌<◌, ◌≤◌, Bool, true, false, List, [], ◌∷◌, slice_get, Option, Some, None, IfSome, refl, sym, ◌∙◌, ap, subst, arith, eqb-true, inl, inr, length}
 use Rattle.std.specs.Prelude.{◌==◌, ◌&&◌, ◌+◌, not, nat_lt, if◌then◌else◌}
 use Rattle.std.proofs.lemmas.Bool.Decides.{nat_tests}
 use Rattle.std.proofs.lemmas.Bool.{false≢true}
@@ -81,6 +81,7 @@ like-onward g t w v l = record {
   conns = omega (arith, ap (λ p. p.next_conn) l.past);
   dialled = λ c lt. ap (λ p. p.dialled c) l.past;
   joined = λ x h. subst (λ p. Has p.joined x) (sym l.past) h;
+  written = λ e. omega (arith, ap (λ p. length (p.written e)) l.past);
 }
 
 -- where breaks and lower ends are the same too, nodes that stand closed do so still
@@ -381,6 +382,7 @@ restart-onward g t w n list = record {
   conns = omega arith;
   dialled = λ c lt. refl;
   joined = λ x h. h;
+  written = λ e. omega arith;
 }
   where
     more : (m l : ℕ) (b : Bool) → (m == n) ≡ b → l ≤ w.lives m → l ≤ (if b then w.lives n + 1 else w.lives m)

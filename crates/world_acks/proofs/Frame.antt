@@ -8,6 +8,7 @@ use Rattle.world.specs.Parts.{Message, Lower}
 use Rattle.world.specs.Worlds.{World, Dial, Change, put, put_at, listed, dial_at, latest_with, past_after, apply}
 use Rattle.world.specs.Safe.{Has}
 use Rattle.world_laws.specs.Growing.{Begins}
+use Rattle.world_laws.proofs.Fronts.{front-length}
 use Rattle.world_laws.proofs.GrowthLaws.{apply-grows}
 use Rattle.world_laws.proofs.FactTables.{if-each, put-each, and-left, and-right}
 use Rattle.world_laws.specs.Stamping.{Givens, heard}
@@ -16,7 +17,7 @@ use Rattle.world_laws.specs.Joining.{joined_as}
 use Rattle.world_recoveries.specs.Recovering.{Recovering}
 use Rattle.world_recoveries.specs.Telling.{TellsFrom}
 use Rattle.world_acks.specs.Acking.{PacketEnd, Ends, UpTells, DownTells, UpperTells, LowerTells, Pends, Numbers, JoinSeat, Acked}
-use Rattle.world_acks.proofs.Seats.{has-left, Steps, seat-apply, Onward, Lasting, join-on, up-on, down-on, upper-on, lower-on, pends-on}
+use Rattle.world_acks.proofs.Seats.{apply-written, has-left, Steps, seat-apply, Onward, Lasting, join-on, up-on, down-on, upper-on, lower-on, pends-on}
 
 -- ONWARD
 
@@ -40,6 +41,7 @@ apply-onward g k t u w c st rec tells next full new given named =
       conns = y.conns;
       dialled = λ d lt. y.dialled d lt;
       joined = λ x h. has-left w.joined c.joined x h;
+      written = λ e. front-length (w.written e) ((past_after w c).written e) (apply-written w c e);
     }
 
 -- WHAT IS NEW

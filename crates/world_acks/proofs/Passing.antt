@@ -8,7 +8,6 @@ use Rattle.hd_base.specs.Results.{◌>>=◌}
 use Rattle.hd_base.specs.SumRules.{Rule}
 use Rattle.hd_base.specs.declared.numbers.ConnId.{ConnId}
 use Rattle.hd_base.specs.declared.numbers.Stamp.{Stamp}
-use Rattle.hd_base.specs.declared.states.ReplicaState.{ReplicaState}
 use Rattle.hd_base.specs.declared.states.ReplicaState.TheVariants as state
 use Rattle.op_headers.specs.declared.ops.Op.TheVariants as op
 use Rattle.op_headers.specs.declared.ops.RecoveryOp.{RecoveryOp}
@@ -32,7 +31,7 @@ use Rattle.replica_core.proofs.StepLemmas.{after_check, after_step, choice}
 use Rattle.replica_model.specs.declared.events.ReplicaEvent.{ReplicaEvent}
 use Rattle.replica_model.specs.Rows.{FullReplica, row, event_at}
 use Rattle.world.specs.Parts.{request, Place, Dialled, Updated}
-use Rattle.world.specs.Worlds.{Past, World, Change, put_at, past_after, apply}
+use Rattle.world.specs.Worlds.{Past, World, Change, past_after, apply}
 use Rattle.world.specs.Nodes.{block_of}
 use Rattle.world.specs.Safe.{Has}
 use Rattle.world_laws.specs.Stamping.{Givens}
@@ -42,7 +41,7 @@ use Rattle.world_laws.proofs.ByteRows.{reopen-stamp, setup-stamp, stream-stamp}
 use Rattle.world_laws.proofs.FactTables.{and-left, and-right}
 use Rattle.world_laws.proofs.GrowthLaws.{apply-grows}
 use Rattle.world_laws.proofs.SetupRising.{IsNoSetup}
-use Rattle.world_recoveries.specs.Recovering.{ReplicaTold, top_under, top_of, Informs, StillTrue, InfoFits, UpdateFits, WasSent, Recovering}
+use Rattle.world_recoveries.specs.Recovering.{ReplicaTold, top_under, top_of, Informs, StillTrue, UpdateFits, WasSent, Recovering}
 use Rattle.world_recoveries.specs.Telling.{TellsNow, TellsFrom}
 use Rattle.world_recoveries.proofs.Histories.{begins-get}
 use Rattle.world_recoveries.proofs.Telling.{told-below}

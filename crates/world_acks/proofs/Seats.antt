@@ -1,5 +1,5 @@
 -- Seats stay, whatever a change makes of the world, and what is said by them.
-use Rattle.std.proofs.Common.{◌≡◌, ℕ, ℤ, zero, suc, ◌<◌, ◌≤◌, ◌⊎◌, inl, inr, Bool, true, false, List, [], ◌∷◌, ◌++◌, take, slice_get, Option, Some, None, IfSome, refl, sym, ◌∙◌, ap, subst, arith, eqb-true}
+use Rattle.std.proofs.Common.{◌≡◌, ℕ, ℤ, zero, suc, ◌<◌, ◌≤◌, ◌⊎◌, inl, inr, Bool, true, false, List, [], ◌∷◌, ◌++◌, take, slice_get, Option, Some, None, IfSome, refl, sym, ◌∙◌, ap, subst, arith, eqb-true, length}
 use Rattle.std.specs.Prelude.{◌==◌, ◌&&◌, if◌then◌else◌}
 use Rattle.std.proofs.lemmas.Bool.{false≢true}
 use Rattle.std.proofs.lemmas.List.{take-take}
@@ -123,7 +123,7 @@ whole-before : (c d : Bool) → (c ≡ true → d ≡ true) → d ≡ false → 
 whole-before false d h e = refl
 whole-before true d h e = absurd (false≢true (sym e ∙ h refl))
 
-apply-written : (w : World) (k : Change) (e : ℕ) → IsFront (w.written e) ((past_after w k).written e)
+pub apply-written : (w : World) (k : Change) (e : ℕ) → IsFront (w.written e) ((past_after w k).written e)
 unfolding apply
 apply-written w k e = let b = (apply-grows w k).written e in (b.rest, b.joins)
 
@@ -226,6 +226,7 @@ pub record Onward (g k : Givens) (t u : Ends) (w v : World) : Type 0 where
   pub conns : w.next_conn ≤ v.next_conn
   pub dialled : (c : ℕ) → c < w.next_conn → v.dialled c ≡ w.dialled c
   pub joined : (x : Joined) → Has w.joined x → Has v.joined x
+  pub written : (e : ℕ) → length (w.written e) ≤ length (v.written e)
 
 -- The same, and nodes that stand closed stand so; no request comes to wait under a stamp under which none waits.
 pub record Lasting (g k : Givens) (t u : Ends) (w v : World) : Type 0 where

@@ -1,5 +1,5 @@
 -- What writers and readers make of sessions at their end.
-use Rattle.std.proofs.Common.{◌≡◌, ℕ, zero, suc, ◌<◌, ◌+◌, ◌⊎◌, inl, inr, Bool, true, false, List, [], ◌∷◌, length, slice_get, Option, Some, None, IfSome, Result, Ok, Err, refl, sym, ◌∙◌, ap, subst, eqb-true}
+use Rattle.std.proofs.Common.{◌≡◌, ℕ, zero, suc, ◌<◌, ◌+◌, ◌⊎◌, inl, inr, Bool, true, false, List, [], ◌∷◌, length, slice_get, Option, Some, None, IfSome, Result, Ok, Err, refl, sym, ◌∙◌, ap, subst, eqb-true, ◌≤◌, arith}
 use Rattle.std.specs.Prelude.{◌==◌, ◌&&◌, ◌++◌, is_none, not}
 use Rattle.std.proofs.lemmas.Option.{none-some, same_Some}
 use Rattle.hd_base.specs.declared.numbers.BlockId.{BlockId}
@@ -48,6 +48,7 @@ use Rattle.world_recoveries.specs.Recovering.{HasId}
 use Rattle.world_finals.specs.Finishing.{Ids, writes_no_more, EndsAt, WriteEnds, LastEnds, DownEnds, ReplicaEnds, BreakEnds, SetsNoId, WriterEnds, Finals}
 use Rattle.world_finals.proofs.Writers.{Follows, follows-same, follows-then, hears-follows, dialled-follows, SendsEnd, OwnEnds, opened-ends, completed-ends, own-step-ends, command-ends}
 use Rattle.world_finals.proofs.Frame.{Ends, replica-stays, break-stays, sets-grow, grown, News, stays-so}
+use Rattle.world_recoveries.specs.Naming.{IsBefore, IsPast}
 
 -- WHAT A CLIENT BRINGS
 
@@ -77,6 +78,7 @@ apart-news f g w k h a e x downs dials ends stamp =
       stamp = stamp;
       primary = λ id y. h.primaries k.primary_at id (subst (λ (z : Primary). HasId z id) x.primary y);
       below = λ t y. subst (λ (o : OfficeState). t < o.next.0) (sym x.office) (h.below t y);
+      earlier = h.earlier;
     }
 
 -- a writer that goes on, and sends nothing
@@ -198,10 +200,10 @@ close-kind setup.Append e = absurd (cc)
 close-kind setup.AppendRecovery e = absurd (cc)
 close-kind setup.StreamRecovery e = absurd (cc)
 
-dialled-brings : (f : Ids) (g : Givens) (w : World) (b : ℕ) (x : WriterRecord) (s : Setup) (t : Stamp) (to : NodeId) (n : ℕ) (ts : List NodeId) (answered : Bool) → Finals f g w → Facts g w → heard (w.writers b) ≡ x → x.phase ≡ phase.Stamped s t
+dialled-brings : (f : Ids) (g : Givens) (w : World) (b : ℕ) (x : WriterRecord) (s : Setup) (t : Stamp) (to : NodeId) (n : ℕ) (ts : List NodeId) (answered : Bool) → Finals f g w → Facts g w → IsPast (g b) (heard (w.writers b)).committed.0 → heard (w.writers b) ≡ x → x.phase ≡ phase.Stamped s t
     → Brings f g w (dialled_change w b x to (request_for x.block x.committed x.stream s t n ts) answered)
-dialled-brings f g w b x s t to n ts false h a e q = writer-brings f g w b (dialled x false) h a (subst (λ (z : WriterRecord). Follows z (dialled x false)) (sym e) (dialled-follows x false))
-dialled-brings f g w b x s t to n ts true h a e q = record {
+dialled-brings f g w b x s t to n ts false h a past e q = writer-brings f g w b (dialled x false) h a (subst (λ (z : WriterRecord). Follows z (dialled x false)) (sym e) (dialled-follows x false))
+dialled-brings f g w b x s t to n ts true h a past e q = record {
   ends = ends;
   news = λ c. apart-news f g w k h a ends (record { office = refl; replica = refl; broke = refl; primary = refl }) (λ d j m z. absurd (none-some m z)) (λ j d z. dial c j d z) (y.ends (h.writers b)) (y.stamps f (h.stamps b));
 }
@@ -243,6 +245,13 @@ dialled-brings f g w b x s t to n ts true h a e q = record {
     write : Carried g (apply w k) → WriteEnds f g (apply w k) r.fields
     write c = record {
       no_id = ap (λ (u : Stamp). f u.0) new ∙ no_id;
+      session = w.latest b;
+      given = ap (λ (u : ℕ). g u (new_stamp r.fields).0) at ∙ ap (λ (u : Stamp). g b u.0) new ∙ asks.given;
+      past = record {
+        each = λ v i j z lt.
+            let low : v ≤ (heard (w.writers b)).committed.0 = past.each v i (subst (λ (u : ℕ). g u i ≡ Some i) at j) (subst (λ (u : ℕ). IsBefore (g u) v i) at z) in
+            omega (arith, low, ap (λ (u : WriterRecord). u.committed.0) e, ap (λ (u : Stamp). u.0) r.named);
+      };
       closes = λ z.
           let m = close c (close-kind s (same_Some (kind_of s) kind.CloseRecovery (sym r.kind_is ∙ z))) in
           subst (λ (u : ℕ). EndsAt g (apply w k) u (new_stamp r.fields).0 r.fields.min) (sym at)
@@ -253,25 +262,25 @@ dialled-brings f g w b x s t to n ts true h a e q = record {
     dial c zero d z = subst (λ (u : Dial). DownEnds f g (apply w k) (w.next_conn + 0) u.request) (same_Some _ d z) (subst (λ (u : Op). DownEnds f g (apply w k) (w.next_conn + 0) (request u)) (sym r.is) (write c))
     dial c (suc j) d z = absurd (none-some d z)
 
-dialling-brings : (f : Ids) (g : Givens) (w : World) (b : ℕ) (x : WriterRecord) (s : Setup) (t : Stamp) (ms : List NodeId) (answered : Bool) → Finals f g w → Facts g w → heard (w.writers b) ≡ x → x.phase ≡ phase.Stamped s t
+dialling-brings : (f : Ids) (g : Givens) (w : World) (b : ℕ) (x : WriterRecord) (s : Setup) (t : Stamp) (ms : List NodeId) (answered : Bool) → Finals f g w → Facts g w → IsPast (g b) (heard (w.writers b)).committed.0 → heard (w.writers b) ≡ x → x.phase ≡ phase.Stamped s t
     → Brings f g w (dialling w b x (dial_step_as x s t ms).action answered)
-dialling-brings f g w b x s t [] answered h a e q = writer-brings f g w b x h a (subst (λ (z : WriterRecord). Follows (heard (w.writers b)) z) e (follows-same (heard (w.writers b))))
-dialling-brings f g w b x s t (m ∷ ms) answered h a e q = dialled-brings f g w b x s t m (length x.members) ms (answered && w.running m.0) h a e q
+dialling-brings f g w b x s t [] answered h a past e q = writer-brings f g w b x h a (subst (λ (z : WriterRecord). Follows (heard (w.writers b)) z) e (follows-same (heard (w.writers b))))
+dialling-brings f g w b x s t (m ∷ ms) answered h a past e q = dialled-brings f g w b x s t m (length x.members) ms (answered && w.running m.0) h a past e q
 
 -- THE WRITER'S STEP
 
-rest-brings : (p : Phase) (f : Ids) (g : Givens) (w : World) (b : ℕ) (x : WriterRecord) (answered : Bool) → Finals f g w → Facts g w → heard (w.writers b) ≡ x → x.phase ≡ p → On w b x → IfSome (rest_in p w b x answered) (Brings f g w)
-rest-brings phase.Closed f g w b x answered h a e q y = writer-brings f g w b x h a y
-rest-brings (phase.Wanted s) f g w b x answered h a e q y = writer-brings f g w b x h a y
-rest-brings (phase.Stamped s t) f g w b x answered h a e q y = dialling-brings f g w b x s t x.members answered h a e q
-rest-brings (phase.Requested s t) f g w b x answered h a e q y = writer-brings f g w b x h a y
-rest-brings (phase.Accepted s t) f g w b x answered h a e q y = writer-brings f g w b x h a y
-rest-brings phase.Opened f g w b x answered h a e q y = step-brings f g w b x.waiting x (open_step x) h a y (opened-ends x q)
-rest-brings (phase.Streaming sent) f g w b x answered h a e q y = writer-brings f g w b x h a y
-rest-brings phase.Closing f g w b x answered h a e q y = writer-brings f g w b x h a y
-rest-brings phase.Finished f g w b x answered h a e q y = writer-brings f g w b x h a y
-rest-brings phase.Completed f g w b x answered h a e q y = step-brings f g w b x.waiting x (completed_step x) h a y (completed-ends x q)
-rest-brings (phase.Failed d) f g w b x answered h a e q y = writer-brings f g w b x h a y
+rest-brings : (p : Phase) (f : Ids) (g : Givens) (w : World) (b : ℕ) (x : WriterRecord) (answered : Bool) → Finals f g w → Facts g w → IsPast (g b) (heard (w.writers b)).committed.0 → heard (w.writers b) ≡ x → x.phase ≡ p → On w b x → IfSome (rest_in p w b x answered) (Brings f g w)
+rest-brings phase.Closed f g w b x answered h a past e q y = writer-brings f g w b x h a y
+rest-brings (phase.Wanted s) f g w b x answered h a past e q y = writer-brings f g w b x h a y
+rest-brings (phase.Stamped s t) f g w b x answered h a past e q y = dialling-brings f g w b x s t x.members answered h a past e q
+rest-brings (phase.Requested s t) f g w b x answered h a past e q y = writer-brings f g w b x h a y
+rest-brings (phase.Accepted s t) f g w b x answered h a past e q y = writer-brings f g w b x h a y
+rest-brings phase.Opened f g w b x answered h a past e q y = step-brings f g w b x.waiting x (open_step x) h a y (opened-ends x q)
+rest-brings (phase.Streaming sent) f g w b x answered h a past e q y = writer-brings f g w b x h a y
+rest-brings phase.Closing f g w b x answered h a past e q y = writer-brings f g w b x h a y
+rest-brings phase.Finished f g w b x answered h a past e q y = writer-brings f g w b x h a y
+rest-brings phase.Completed f g w b x answered h a past e q y = step-brings f g w b x.waiting x (completed_step x) h a y (completed-ends x q)
+rest-brings (phase.Failed d) f g w b x answered h a past e q y = writer-brings f g w b x h a y
 
 -- a create brings the rule of the block's sums, to a writer that has sent nothing
 ruled-follows : (x : WriterRecord) (c : Command) (r : Rule) → Follows x (ruled x c r)
@@ -320,19 +329,19 @@ command-brings f g w b x t h a e =
     did-brings f g w b y.waiting s.action s.writer (command_bytes y t.command) h a (follows-then (heard (w.writers b)) y s.writer on k.follows)
     (λ m n. k.bytes_none ends (ap writes_no_more same.0 ∙ ap (λ (v : WriterRecord). writes_no_more v.phase) (sym e) ∙ n) m) (λ p m. absurd (k.sends p m))))
 
-writer-step-brings : (f : Ids) (g : Givens) (w : World) (b : ℕ) (o : Option Told) (takes : Option TakenCommand) (answered : Bool) → Finals f g w → Facts g w → (w.writers b).told ≡ o → IfSome (writer_step w b (w.writers b).known o takes answered) (Brings f g w)
-writer-step-brings f g w b (Some told) None answered h a e =
+writer-step-brings : (f : Ids) (g : Givens) (w : World) (b : ℕ) (o : Option Told) (takes : Option TakenCommand) (answered : Bool) → Finals f g w → Facts g w → IsPast (g b) (heard (w.writers b)).committed.0 → (w.writers b).told ≡ o → IfSome (writer_step w b (w.writers b).known o takes answered) (Brings f g w)
+writer-step-brings f g w b (Some told) None answered h a past e =
     let x = granted (w.writers b).known told in
-    rest-brings x.phase f g w b x answered h a (ap (λ (o : Option Told). known_heard (w.writers b).known o) e) refl (on-told w b (Some told) e)
-writer-step-brings f g w b (Some told) (Some t) answered h a e = tt
-writer-step-brings f g w b None None answered h a e =
+    rest-brings x.phase f g w b x answered h a past (ap (λ (o : Option Told). known_heard (w.writers b).known o) e) refl (on-told w b (Some told) e)
+writer-step-brings f g w b (Some told) (Some t) answered h a past e = tt
+writer-step-brings f g w b None None answered h a past e =
     let x = (w.writers b).known in
     let same : heard (w.writers b) ≡ x = ap (λ (o : Option Told). known_heard (w.writers b).known o) e in
     step-brings f g w b x.waiting x (own_step x) h a (on-told w b None e) (own-step-ends x (ap (λ (u : WriterRecord). u.queue) (sym same) ∙ (a.carried.writers b).queue))
-writer-step-brings f g w b None (Some t) answered h a e = command-brings f g w b (w.writers b).known t h a (ap (λ (o : Option Told). known_heard (w.writers b).known o) e)
+writer-step-brings f g w b None (Some t) answered h a past e = command-brings f g w b (w.writers b).known t h a (ap (λ (o : Option Told). known_heard (w.writers b).known o) e)
 
-pub own-writer-brings : (f : Ids) (g : Givens) (w : World) (b : ℕ) (takes : Option TakenCommand) (answered : Bool) → Finals f g w → Facts g w → IfSome (own_writer w b takes answered) (Brings f g w)
-own-writer-brings f g w b takes answered h a = writer-step-brings f g w b (w.writers b).told takes answered h a refl
+pub own-writer-brings : (f : Ids) (g : Givens) (w : World) (b : ℕ) (takes : Option TakenCommand) (answered : Bool) → Finals f g w → Facts g w → IsPast (g b) (heard (w.writers b)).committed.0 → IfSome (own_writer w b takes answered) (Brings f g w)
+own-writer-brings f g w b takes answered h a past = writer-step-brings f g w b (w.writers b).told takes answered h a past refl
 
 pub writer-up-brings : (f : Ids) (g : Givens) (w : World) (b c : ℕ) (x : Next) → Finals f g w → Facts g w → IfSome (writer_up w b c x) (Brings f g w)
 writer-up-brings f g w b c x h a =

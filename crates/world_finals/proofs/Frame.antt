@@ -1,5 +1,5 @@
 -- What a change leaves of the lengths of FINALIZED replicas, and what is needed of what is new in it.
-use Rattle.std.proofs.Common.{◌≡◌, ℕ, ◌<◌, ◌+◌, ◌⊎◌, inl, inr, true, List, [], length, slice_get, Option, Some, None, IfSome, refl, sym, ◌∙◌, ap, subst, arith, eqb-true}
+use Rattle.std.proofs.Common.{◌≡◌, ℕ, ◌<◌, ◌+◌, ◌⊎◌, inl, inr, true, List, [], length, slice_get, Option, Some, None, IfSome, refl, sym, ◌∙◌, ap, subst, arith, eqb-true, ◌≤◌}
 use Rattle.std.specs.Prelude.{◌==◌}
 use Rattle.hd_base.specs.declared.numbers.Stamp.{Stamp}
 use Rattle.op_headers.specs.declared.ops.Op.{Op}
@@ -21,7 +21,9 @@ use Rattle.world_laws.proofs.ByteWriting.{only-own}
 use Rattle.world_laws.proofs.SetupNodes.{put-at-split}
 use Rattle.world_recoveries.specs.Recovering.{Updates, HasId}
 use Rattle.world_recoveries.proofs.Histories.{begins-get, NewDown, was_sent, is_sent, is_dialled, new-down}
-use Rattle.world_finals.specs.Finishing.{Ids, writes_no_more, EndsAt, FinalLength, of_recovery, of_session, DownEnds, IsFinalOf, LastPending, ReplicaEnds, BreakEnds, SetsNoId, WriterEnds, Finals}
+use Rattle.world_finals.specs.Finishing.{Ids, writes_no_more, EndsAt, FinalLength, of_recovery, of_session, DownEnds, IsFinalOf, LastPending, ReplicaEnds, BreakEnds, SetsNoId, WriterEnds, Finals, Earlier}
+use Rattle.std.proofs.lemmas.Bool.{cases_lt}
+use Rattle.world_recoveries.specs.Naming.{IsBefore, NamesPast}
 
 -- WHAT STAYS
 
@@ -31,6 +33,8 @@ pub record Stays (f : Ids) (g : Givens) (w : World) (e : Ids) (l : Givens) (v : 
   pub below : (t : ℕ) → f t ≡ true → t < w.office.next.0
   pub given_below : (b t s : ℕ) → g b t ≡ Some s → t < w.office.next.0
   pub past : Grows w.past v.past
+  pub same : (b t s : ℕ) → g b t ≡ Some s → l b t ≡ Some s
+  pub back : (b t u s d : ℕ) → l b t ≡ Some s → g b u ≡ Some d → t ≤ u → g b t ≡ Some s
   pub ends : (b t n : ℕ) → EndsAt g w b t n → EndsAt l v b t n
 
 updates-later : (h p : Past) (c b : ℕ) (id : Stamp) (n : ℕ) → Grows h p → Updates h c b id n → Updates p c b id n
@@ -87,8 +91,24 @@ down-below g w c (response q) r y = tt
 down-below g w c (read_status q) r y = tt
 down-below g w c (recovery_answer a) r y = tt
 
+-- what names no stamp before the last one before a session does so still
+past-stays : (f : Ids) (g : Givens) (w : World) (e : Ids) (l : Givens) (v : World) (b named own session : ℕ) → Stays f g w e l v → g b own ≡ Some session → NamesPast (g b) named own → NamesPast (l b) named own
+past-stays f g w e l v b named own session s given h = record { each = λ c i x q lt. go c i x q lt (cases_lt own i) }
+  where
+    go : (c i : ℕ) → l b i ≡ Some i → IsBefore (l b) c i → c < own → (own < i) ⊎ (i ≤ own) → c ≤ named
+    go c i x q lt (inl z) = absurd (omega (arith, lt, q.last own session (s.same b own session given) z))
+    go c i x q lt (inr z) =
+        let old : g b i ≡ Some i = s.back b i own i session x given z in
+        h.each c i old (record { base = q.base; is = s.back b c i q.base i q.is old (omega (arith, q.less)); less = q.less; last = λ t d y le. q.last t d (s.same b t d y) le }) lt
+
 op-stays : (f : Ids) (g : Givens) (w : World) (e : Ids) (l : Givens) (v : World) (c : ℕ) (o : Op) → Stays f g w e l v → StampBelow w (request o) → DownEnds f g w c (request o) → DownEnds e l v c (request o)
-op-stays f g w e l v c (op.Write q) s y h = record { no_id = s.ids (new_stamp q).0 y ∙ h.no_id; closes = λ k. s.ends q.block.block.0 (new_stamp q).0 q.min (h.closes k) }
+op-stays f g w e l v c (op.Write q) s y h = record {
+  no_id = s.ids (new_stamp q).0 y ∙ h.no_id;
+  session = h.session;
+  given = s.same q.block.block.0 (new_stamp q).0 h.session h.given;
+  past = past-stays f g w e l v q.block.block.0 q.block.stamp.0 (new_stamp q).0 h.session s h.given h.past;
+  closes = λ k. s.ends q.block.block.0 (new_stamp q).0 q.min (h.closes k);
+}
 op-stays f g w e l v c (op.Recovery q) s y h = s.ids q.recovery.0 (s.below q.recovery.0 h) ∙ h
 op-stays f g w e l v c (op.Read r) s y h = tt
 op-stays f g w e l v c (op.Transfer r) s y h = tt
@@ -113,6 +133,7 @@ pub record News (f : Ids) (g : Givens) (w : World) (k : Change) : Type 0 where
   pub stamp : SetsNoId f (heard k.writer).phase
   pub primary : (id : Stamp) → HasId k.primary id → f id.0 ≡ true
   pub below : (t : ℕ) → f t ≡ true → t < k.office.next.0
+  pub earlier : Earlier f g
 
 pub sets-stays : (f : Ids) (g : Givens) (w : World) (e : Ids) (l : Givens) (v : World) (b n : ℕ) (c : Stamp) (x : StreamState) (p : Phase) → Stays f g w e l v → Asks (g b) w.past n c x p → SetsNoId f p → SetsNoId e p
 sets-stays f g w e l v b n c x (phase.Stamped way t) s a h = s.ids t.0 (s.given_below b t.0 n a.given) ∙ h
@@ -139,6 +160,7 @@ pub keeps : (f : Ids) (g : Givens) (w : World) (e : Ids) (l : Givens) (k : Chang
 unfolding apply
 keeps f g w e l k h a s n = record {
   below = n.below;
+  earlier = n.earlier;
   downs = keeps-downs f g w e l k h a s n;
   replicas = put-at-split (λ (m b : ℕ) (r : FullReplica). ReplicaEnds e l (apply w k) b r) w.replicas k.node k.block k.replica n.replica (λ m b _. replica-stays f g w e l (apply w k) b (w.replicas m b) s (h.replicas m b));
   breaks = put-at-split (λ (m b : ℕ) (o : Option Break). IfSome o (BreakEnds e l (apply w k) b)) w.breaks k.node k.block k.broke n.broke
@@ -198,4 +220,4 @@ unfolding apply
 grown w k = past-grows w k
 
 pub stays-so : (f : Ids) (g : Givens) (w : World) (k : Change) → Finals f g w → Facts g w → Ends w k → Stays f g w f g (apply w k)
-stays-so f g w k h a e = record { ids = λ t _. refl; below = h.below; given_below = a.recorded.below; past = grown w k; ends = ends-stay g w k a.recorded e }
+stays-so f g w k h a e = record { same = λ b t s x. x; back = λ b t u s d x _ _. x; ids = λ t _. refl; below = h.below; given_below = a.recorded.below; past = grown w k; ends = ends-stay g w k a.recorded e }

@@ -94,6 +94,7 @@ makes-news f g w k h a n =
       stamp = subst (λ (x : Writing). SetsNoId f (heard x).phase) (sym n.beside.writer) (h.stamps k.writer_at);
       primary = λ id x. h.primaries k.primary_at id (subst (λ (y : Primary). HasId y id) n.beside.primary x);
       below = λ t e. subst (λ (o : OfficeState). t < o.next.0) (sym n.beside.office) (h.below t e);
+      earlier = h.earlier;
     }
 
 -- what is known where a lower end takes something
@@ -335,7 +336,7 @@ mirror-ends f g w c q (Some d) None h lt on = no-dials f g w
 mirror-ends f g w c q (Some d) (Some n) h lt on = one
   where
     same : ((new_stamp d).0 < w.office.next.0) × WriteEnds f g w d
-    same = subst (λ (x : WriteFields). ((new_stamp x).0 < w.office.next.0) × WriteEnds f g w x) (sym (on d refl).is) (lt, record { no_id = h.no_id; closes = h.closes })
+    same = subst (λ (x : WriteFields). ((new_stamp x).0 < w.office.next.0) × WriteEnds f g w x) (sym (on d refl).is) (lt, record { no_id = h.no_id; session = h.session; given = h.given; past = h.past; closes = h.closes })
 
     one : DialEnds f g w (mirror_dial w c (Some d) (Some n))
     one zero y e x = subst (λ (z : Dial). StampBelow w z.request × DownEnds f g w x z.request) (same_Some _ y e) same

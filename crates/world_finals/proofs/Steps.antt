@@ -1,7 +1,7 @@
 -- What primaries and the office make of sessions at their end.
 use Rattle.std.proofs.Common.{◌≡◌, ℕ, ◌<◌, ◌≤◌, ◌+◌, ◌⊎◌, inl, inr, Bool, true, false, List, [], ◌∷◌, slice_get, length, Option, Some, None, IfSome, Ok, Err, refl, sym, ◌∙◌, ap, subst, arith, eqb-true}
 use Rattle.std.specs.Prelude.{◌==◌, ◌&&◌, is_none, if◌then◌else◌}
-use Rattle.std.proofs.lemmas.Bool.{eqb-false}
+use Rattle.std.proofs.lemmas.Bool.{eqb-false, false≢true}
 use Rattle.std.proofs.lemmas.Option.{none-some}
 use Rattle.hd_base.specs.declared.numbers.BlockId.{BlockId}
 use Rattle.hd_base.specs.declared.numbers.NodeId.{NodeId}
@@ -12,7 +12,7 @@ use Rattle.name_core.specs.declared.calls.OfficeAnswer.TheVariants as office
 use Rattle.name_core.specs.declared.calls.OfficeCall.{OfficeCall}
 use Rattle.name_core.specs.declared.calls.OfficeCall.TheVariants as call
 use Rattle.name_core.specs.declared.choice.Chosen.{Chosen}
-use Rattle.name_core.specs.Offices.{OfficeState, office_after, answer_to}
+use Rattle.name_core.specs.Offices.{OfficeState, office_after, answer_to, record_of}
 use Rattle.name_core.specs.Steps.{Step, reply}
 use Rattle.name_core.proofs.CaseLemmas.{each_case}
 use Rattle.op_headers.specs.declared.ops.Op.TheVariants as op
@@ -45,19 +45,21 @@ use Rattle.world.specs.Clients.{are_members}
 use Rattle.world.specs.Primaries.{primary_change, dials_answered, recovery_message, begins_with, begins_as, begins_at, own_recover, updates_change, ends_change, leads_step, commits_step, leads_told, own_primary_as, own_primary, heard_of, listens, hears_change, primary_up_as, primary_up, stamped_by, asks_writer, asks_primary, writer_asks, writer_asks_office, primary_commits, primary_asks}
 use Rattle.world_laws.proofs.FactTables.{if-each, when-each, and-left, some-weaker}
 use Rattle.world_laws.proofs.OfficeSteps.{block_in}
-use Rattle.world_laws.specs.Stamping.{Givens, given_with, known_heard, heard}
-use Rattle.world_laws.proofs.StampGivens.{put-here}
-use Rattle.world_laws.proofs.StampRecording.{gives, others-latest}
+use Rattle.world_laws.specs.Stamping.{Givens, given_with, known_heard, heard, HeldOf, Recorded}
+use Rattle.world_laws.proofs.StampGivens.{put-here, put-there}
+use Rattle.world_laws.proofs.StampRecording.{gives, others-latest, given-each}
 use Rattle.world_laws.proofs.StampWalking.{none-is}
 use Rattle.world_laws.proofs.ByteLeaves.{Facts, before-of}
 use Rattle.world_laws.proofs.ByteOffices.{office-extends, Answered, old-written}
 use Rattle.world_recoveries.specs.Recovering.{ToldId, HasId}
 use Rattle.world_recoveries.proofs.Choosing.{own-updates}
 use Rattle.world_recoveries.proofs.Leading.{chosen_op, updates-at, dial-of, heard-id}
-use Rattle.world_finals.specs.Finishing.{Ids, ids_with, writes_no_more, Sealed, EndsAt, DownEnds, ReplicaEnds, BreakEnds, SetsNoId, WriterEnds, Finals}
+use Rattle.world_finals.specs.Finishing.{Ids, ids_with, writes_no_more, Sealed, EndsAt, DownEnds, ReplicaEnds, BreakEnds, SetsNoId, WriterEnds, Finals, Earlier}
 use Rattle.world_finals.proofs.Writers.{BeginsSession, StampNoId, AnswerEnds, granted-ends}
 use Rattle.world_finals.proofs.Frame.{Stays, Ends, sets-stays, replica-stays, break-stays, grown, News, stays-so}
 use Rattle.world_finals.proofs.Clients.{Brings}
+use Rattle.world_recoveries.proofs.Naming.{keeps-by}
+use Rattle.name_core.specs.declared.records.BlockRecord.{BlockRecord}
 
 -- PRIMARIES
 
@@ -88,6 +90,7 @@ lead-brings f g w k h a x downs dials ids =
         stamp = subst (λ (u : Writing). SetsNoId f (heard u).phase) (sym x.writer) (h.stamps k.writer_at);
         primary = ids;
         below = λ t y. subst (λ (o : OfficeState). t < o.next.0) (sym x.office) (h.below t y);
+        earlier = h.earlier;
       };
     }
 
@@ -271,12 +274,13 @@ office-ends g w c k a x shut b t n y =
 office-stays : (f e : Ids) (g : Givens) (w : World) (c : OfficeCall) (k : Change) → Finals f g w → Facts g w → Answered w c k → ((t : ℕ) → t < w.office.next.0 → e t ≡ f t)
     → ((b s : ℕ) → s < w.office.next.0 → Sealed (w.latest b) (heard (w.writers b)) s → Sealed (latest_with w.latest (stamped_by w c (answer_to w.office c)) b) (heard (put w.writers k.writer_at k.writer b)) s)
     → Stays f g w e (given_with g (stamped_by w c (answer_to w.office c))) (apply w k)
-office-stays f e g w c k h a x ids shut = record { ids = ids; below = h.below; given_below = a.recorded.below; past = grown w k; ends = office-ends g w c k a x shut }
+office-stays f e g w c k h a x ids shut = record { same = (office-extends g w c a.recorded).given; back = λ b t u s d y z le. (office-extends g w c a.recorded).old b b t u s d y z le; ids = ids; below = h.below; given_below = a.recorded.below; past = grown w k; ends = office-ends g w c k a x shut }
 
 -- what is new where the office answers
 office-news : (f e : Ids) (g l : Givens) (w : World) (k : Change) → Finals f g w → Stays f g w e l (apply w k) → k.replica ≡ w.replicas k.node k.block → k.broke ≡ w.breaks k.node k.block → ((c : ℕ) → k.downs c ≡ []) → k.dials ≡ []
-    → WriterEnds (heard k.writer) → SetsNoId e (heard k.writer).phase → ((id : Stamp) → HasId k.primary id → e id.0 ≡ true) → ((t : ℕ) → e t ≡ true → t < k.office.next.0) → News e l w k
-office-news f e g l w k h s r b d ds ends stamp ids below = record {
+    → WriterEnds (heard k.writer) → SetsNoId e (heard k.writer).phase → ((id : Stamp) → HasId k.primary id → e id.0 ≡ true) → ((t : ℕ) → e t ≡ true → t < k.office.next.0) → Earlier e l → News e l w k
+office-news f e g l w k h s r b d ds ends stamp ids below earlier = record {
+  earlier = earlier;
   replica = subst (λ (x : FullReplica). ReplicaEnds e l (apply w k) k.block x) (sym r) (replica-stays f g w e l (apply w k) k.block (w.replicas k.node k.block) s (h.replicas k.node k.block));
   broke = subst (λ (o : Option Break). IfSome o (BreakEnds e l (apply w k) k.block)) (sym b)
       (some-weaker (BreakEnds f g w k.block) (BreakEnds e l (apply w k) k.block) (w.breaks k.node k.block) (λ y z. break-stays f g w e l (apply w k) k.block y s z) (h.breaks k.node k.block));
@@ -303,16 +307,53 @@ stamp-no-id f g w (Ok (office.Begun b)) h n = tt
 stamp-no-id f g w (Ok office.Nothing) h n = tt
 stamp-no-id f g w (Err e) h n = tt
 
+-- the session of a stamp that is given to a writer: the latest one of the block, or it begins now
+abbrev SessionGoes : World → Option Stamped → Type 0
+SessionGoes w o = IfSome o (λ z. (z.session ≡ w.latest z.block) ⊎ (z.session ≡ w.office.next.0))
+
+-- a session that has begun isn't later than the latest one
+begun-within : (g : Givens) (w : World) (b e : ℕ) → Recorded g w → g b e ≡ Some e → e ≤ w.latest b
+begun-within g w b e r q = go (record_of w.office (record { 0 = b })) (heard (w.writers b)) (r.blocks b)
+  where
+    go : (o : Option BlockRecord) (x : WriterRecord) → HeldOf (g b) (w.latest b) o x → e ≤ w.latest b
+    go None x h = absurd (none-some e (sym (h.1 e) ∙ q))
+    go (Some k) x h = h.office.within e e q
+
+-- with a stamp that is given to a writer
+earlier-writer : (f : Ids) (g : Givens) (w : World) (o : Option Stamped) (b m : ℕ) → Finals f g w → Recorded g w → IfSome o (λ x. (x.stamp ≡ w.office.next.0) × (x.block ≡ b) × (x.stamp < m)) → SessionGoes w o → Earlier f (given_with g o)
+earlier-writer f g w None b m h r fresh goes = h.earlier
+earlier-writer f g w (Some z) b m h r fresh goes = λ c t d e x y no lt.
+    given-each (λ (c t d : ℕ). (e : ℕ) → given_with g (Some z) c e ≡ Some e → f t ≡ false → d < e → t < e) g (Some z)
+    (λ e y _ lt. given-each (λ (c u v : ℕ). c ≡ z.block → u ≡ v → z.session < u → z.stamp < u) g (Some z) (λ _ q k. absurd (omega (arith, q, k))) (λ c u v q i same k. absurd (later c u v q i same k goes)) z.block e e y refl refl lt)
+    (λ c t d q e y no lt. given-each (λ (j u v : ℕ). j ≡ c → u ≡ v → d < u → t < u) g (Some z) (λ _ _ _. omega (arith, r.below c t d q, fresh.0))
+    (λ j u v k i same lt. h.earlier c t d u q (subst (λ (n : ℕ). g n u ≡ Some u) i (k ∙ ap (λ (n : ℕ). Some n) (sym same))) no lt) c e e y refl refl lt)
+    c t d x e y no lt
+  where
+    later : (c u v : ℕ) → g c u ≡ Some v → c ≡ z.block → u ≡ v → z.session < u → (z.session ≡ w.latest z.block) ⊎ (z.session ≡ w.office.next.0) → ⊥
+    later c u v q i same k (inl s) = omega (arith, k, s, begun-within g w c u r (q ∙ ap (λ (n : ℕ). Some n) (sym same)), ap w.latest i)
+    later c u v q i same k (inr s) = omega (arith, k, s, r.below c u v q)
+
+-- with the id of a recovery
+earlier-primary : (f : Ids) (g : Givens) (w : World) (o : Option Stamped) (b m : ℕ) → Finals f g w → Recorded g w → IfSome o (λ x. (x.stamp ≡ w.office.next.0) × (x.block ≡ b) × (x.stamp < m)) → IfSome o (λ z. z.session < z.stamp) → Earlier (ids_with f o) (given_with g o)
+earlier-primary f g w None b m h r fresh low = h.earlier
+earlier-primary f g w (Some z) b m h r fresh low = λ c t d e x y no lt.
+    given-each (λ (c t d : ℕ). (e : ℕ) → given_with g (Some z) c e ≡ Some e → ids_with f (Some z) t ≡ false → d < e → t < e) g (Some z)
+    (λ e y no lt. absurd (false≢true (sym no ∙ put-here f z.stamp true)))
+    (λ c t d q e y no lt. given-each (λ (j u v : ℕ). j ≡ c → u ≡ v → d < u → t < u) g (Some z) (λ _ _ _. omega (arith, r.below c t d q, fresh.0))
+    (λ j u v k i same lt. h.earlier c t d u q (subst (λ (n : ℕ). g n u ≡ Some u) i (k ∙ ap (λ (n : ℕ). Some n) (sym same))) (sym (put-there f z.stamp true t (λ n. omega (arith, n, r.below c t d q, fresh.0))) ∙ no) lt) c e e y refl refl lt)
+    c t d x e y no lt
+
 -- WRITERS THAT ASK
 
 -- a writer asks the office; where that begins a session, this is the latest one from then on
 asks-brings : (f : Ids) (g : Givens) (w : World) (b : ℕ) (c : OfficeCall) → Finals f g w → Facts g w → (w.writers b).told ≡ None → (block_in c).0 ≡ b
-    → (BeginsSession (w.writers b).known.phase (answer_to w.office c) → latest_with w.latest (stamped_by w c (answer_to w.office c)) b ≡ w.office.next.0)
+    → (BeginsSession (w.writers b).known.phase (answer_to w.office c) → latest_with w.latest (stamped_by w c (answer_to w.office c)) b ≡ w.office.next.0) → SessionGoes w (stamped_by w c (answer_to w.office c))
     → OfficeBrings f g w f (given_with g (stamped_by w c (answer_to w.office c))) (asks_writer w b c)
-asks-brings f g w b c h a none block begins = record {
+asks-brings f g w b c h a none block begins sessions = record {
   stays = s;
   news = office-news f f g (given_with g (stamped_by w c (answer_to w.office c))) w k h s refl refl (λ _. refl) refl (ends.ends (same-writer (λ (x : WriterRecord). WriterEnds x) (h.writers b)))
-      (ends.stamps f (stamp-no-id f g w (answer_to w.office c) h (gives-next w.office c)) (same-writer (λ (x : WriterRecord). SetsNoId f x.phase) (h.stamps b))) (h.primaries 0) (λ t q. omega (arith, h.below t q, (gives w c).rises));
+      (ends.stamps f (stamp-no-id f g w (answer_to w.office c) h (gives-next w.office c)) (same-writer (λ (x : WriterRecord). SetsNoId f x.phase) (h.stamps b))) (h.primaries 0) (λ t q. omega (arith, h.below t q, (gives w c).rises))
+      (earlier-writer f g w (stamped_by w c (answer_to w.office c)) (block_in c).0 (office_after w.office c).next.0 h a.recorded (gives w c).fresh sessions);
 }
   where
     k : Change
@@ -353,6 +394,13 @@ asks-brings f g w b c h a none block begins = record {
     s : Stays f g w f (given_with g (stamped_by w c (answer_to w.office c))) (apply w k)
     s = office-stays f f g w c k h a (record { office = refl; stamped = refl; session = refl; bytes = refl }) (λ t _. refl) shut
 
+again-session : (w : World) (b : BlockId) (t : Told) → SessionGoes w (stamped_by w (call.NewStamp b) t)
+again-session w b (Ok (office.Stamp s)) = inl refl
+again-session w b (Ok (office.Reopened r)) = tt
+again-session w b (Ok (office.Begun r)) = tt
+again-session w b (Ok office.Nothing) = tt
+again-session w b (Err e) = tt
+
 -- a session that begins is the latest one
 begins-latest : (w : World) (x : WriterRecord) (s : Setup) (t : Told) → GivesNext w.office t → BeginsSession (phase.Wanted s) t → latest_with w.latest (stamped_by w (stamp_call x s) t) x.block.0 ≡ w.office.next.0
 begins-latest w x setup.Create (Ok (office.Stamp s)) n b = put-here w.latest x.block.0 s.0 ∙ ap (λ (y : Stamp). y.0) n
@@ -368,6 +416,21 @@ begins-latest w x setup.Append (Err e) n b = absurd b
 begins-latest w x setup.AppendRecovery t n b = absurd b
 begins-latest w x setup.StreamRecovery t n b = absurd b
 begins-latest w x setup.CloseRecovery t n b = absurd b
+
+wanted-session : (w : World) (x : WriterRecord) (s : Setup) (t : Told) → GivesNext w.office t → SessionGoes w (stamped_by w (stamp_call x s) t)
+wanted-session w x setup.Create (Ok (office.Stamp s)) n = inr (ap (λ (y : Stamp). y.0) n)
+wanted-session w x setup.Create (Ok (office.Reopened r)) n = tt
+wanted-session w x setup.Create (Ok (office.Begun r)) n = tt
+wanted-session w x setup.Create (Ok office.Nothing) n = tt
+wanted-session w x setup.Create (Err e) n = tt
+wanted-session w x setup.Append (Ok (office.Reopened r)) n = inr (ap (λ (y : Stamp). y.0) n)
+wanted-session w x setup.Append (Ok (office.Stamp s)) n = tt
+wanted-session w x setup.Append (Ok (office.Begun r)) n = tt
+wanted-session w x setup.Append (Ok office.Nothing) n = tt
+wanted-session w x setup.Append (Err e) n = tt
+wanted-session w x setup.AppendRecovery t n = again-session w x.block t
+wanted-session w x setup.StreamRecovery t n = again-session w x.block t
+wanted-session w x setup.CloseRecovery t n = again-session w x.block t
 
 stamp-call-block : (x : WriterRecord) (s : Setup) → block_in (stamp_call x s) ≡ x.block
 stamp-call-block x setup.Create = refl
@@ -440,19 +503,19 @@ stream-quiet x sent (Some p) = tt
 stream-quiet x sent None = due-quiet x (due_now x)
 
 -- a call of a writer of this block that begins no session
-other-asks : (f : Ids) (g : Givens) (w : World) (b : ℕ) (c : OfficeCall) → Finals f g w → Facts g w → (w.writers b).told ≡ None → block_in c ≡ (w.writers b).known.block → ((t : Told) → BeginsSession (w.writers b).known.phase t → ⊥)
+other-asks : (f : Ids) (g : Givens) (w : World) (b : ℕ) (c : OfficeCall) → Finals f g w → Facts g w → (w.writers b).told ≡ None → block_in c ≡ (w.writers b).known.block → ((t : Told) → BeginsSession (w.writers b).known.phase t → ⊥) → SessionGoes w (stamped_by w c (answer_to w.office c))
     → OfficeBrings f g w f (given_with g (stamped_by w c (answer_to w.office c))) (asks_writer w b c)
-other-asks f g w b c h a none block never = asks-brings f g w b c h a none (own-block g w b c a none block) (λ e. absurd (never (answer_to w.office c) e))
+other-asks f g w b c h a none block never sessions = asks-brings f g w b c h a none (own-block g w b c a none block) (λ e. absurd (never (answer_to w.office c) e)) sessions
   where
     own-block : (g : Givens) (w : World) (b : ℕ) (c : OfficeCall) → Facts g w → (w.writers b).told ≡ None → block_in c ≡ (w.writers b).known.block → (block_in c).0 ≡ b
     own-block g w b c a none block = ap (λ (y : BlockId). y.0) (block ∙ ap (λ (o : Option Told). (known_heard (w.writers b).known o).block) (sym none) ∙ a.recorded.writers b)
 
 accepted-asks : (f : Ids) (g : Givens) (w : World) (b : ℕ) (s : Setup) (t : Stamp) → Finals f g w → Facts g w → (w.writers b).told ≡ None → (w.writers b).known.phase ≡ phase.Accepted s t → AsksBring f g w (writer_asks (accepted_step (w.writers b).known s t).action w b)
 accepted-asks f g w b setup.Create t h a none e = tt
-accepted-asks f g w b setup.Append t h a none e = other-asks f g w b _ h a none refl (λ z q. subst (λ (p : Phase). BeginsSession p z) e q)
-accepted-asks f g w b setup.AppendRecovery t h a none e = other-asks f g w b _ h a none refl (λ z q. subst (λ (p : Phase). BeginsSession p z) e q)
-accepted-asks f g w b setup.StreamRecovery t h a none e = other-asks f g w b _ h a none refl (λ z q. subst (λ (p : Phase). BeginsSession p z) e q)
-accepted-asks f g w b setup.CloseRecovery t h a none e = other-asks f g w b _ h a none refl (λ z q. subst (λ (p : Phase). BeginsSession p z) e q)
+accepted-asks f g w b setup.Append t h a none e = other-asks f g w b _ h a none refl (λ z q. subst (λ (p : Phase). BeginsSession p z) e q) tt
+accepted-asks f g w b setup.AppendRecovery t h a none e = other-asks f g w b _ h a none refl (λ z q. subst (λ (p : Phase). BeginsSession p z) e q) tt
+accepted-asks f g w b setup.StreamRecovery t h a none e = other-asks f g w b _ h a none refl (λ z q. subst (λ (p : Phase). BeginsSession p z) e q) tt
+accepted-asks f g w b setup.CloseRecovery t h a none e = other-asks f g w b _ h a none refl (λ z q. subst (λ (p : Phase). BeginsSession p z) e q) tt
 
 step-asks : (f : Ids) (g : Givens) (w : World) (b : ℕ) (p : Phase) → Finals f g w → Facts g w → (w.writers b).told ≡ None → (w.writers b).known.phase ≡ p → AsksBring f g w (writer_asks (step_in (w.writers b).known p).action w b)
 step-asks f g w b (phase.Wanted s) h a none e =
@@ -461,8 +524,9 @@ step-asks f g w b (phase.Wanted s) h a none e =
     let t = answer_to w.office (stamp_call x s) in
     asks-brings f g w b (stamp_call x s) h a none (ap (λ (y : BlockId). y.0) (stamp-call-block x s) ∙ own)
     (λ q. subst (λ (d : ℕ). latest_with w.latest (stamped_by w (stamp_call x s) t) d ≡ w.office.next.0) own (begins-latest w x s t (gives-next w.office (stamp_call x s)) (subst (λ (p : Phase). BeginsSession p t) e q)))
+    (wanted-session w x s t (gives-next w.office (stamp_call x s)))
 step-asks f g w b (phase.Accepted s t) h a none e = accepted-asks f g w b s t h a none e
-step-asks f g w b phase.Finished h a none e = other-asks f g w b _ h a none refl (λ z q. subst (λ (p : Phase). BeginsSession p z) e q)
+step-asks f g w b phase.Finished h a none e = other-asks f g w b _ h a none refl (λ z q. subst (λ (p : Phase). BeginsSession p z) e q) tt
 step-asks f g w b phase.Closed h a none e = quiet-asks f g w b _ (free-quiet (w.writers b).known (w.writers b).known.waiting)
 step-asks f g w b (phase.Stamped s t) h a none e = quiet-asks f g w b _ (dial-quiet (w.writers b).known s t (w.writers b).known.members)
 step-asks f g w b (phase.Requested s t) h a none e = quiet-asks f g w b _ (free-quiet (w.writers b).known (w.writers b).known.waiting)
@@ -503,10 +567,10 @@ kept-latest : (w : World) (o : Option Stamped) (d : ℕ) → Keeps w o → lates
 kept-latest w None d h = refl
 kept-latest w (Some s) d h = if-each (λ (n : ℕ). n ≡ w.latest d) (d == s.block) s.latest (w.latest d) (λ e. h ∙ ap w.latest (sym (eqb-true d s.block e))) (λ _. refl)
 
-primary-stays : (f : Ids) (g : Givens) (w : World) (i : ℕ) (c : OfficeCall) (p : Told → Primary) → Finals f g w → Facts g w → Keeps w (stamped_by w c (answer_to w.office c))
+primary-stays : (f : Ids) (g : Givens) (w : World) (i : ℕ) (c : OfficeCall) (p : Told → Primary) → Finals f g w → Facts g w → Keeps w (stamped_by w c (answer_to w.office c)) → IfSome (stamped_by w c (answer_to w.office c)) (λ z. z.session < z.stamp)
     → ((id : Stamp) → HasId (p (answer_to w.office c)) id → ids_with f (stamped_by w c (answer_to w.office c)) id.0 ≡ true)
     → OfficeBrings f g w (ids_with f (stamped_by w c (answer_to w.office c))) (given_with g (stamped_by w c (answer_to w.office c))) (asks_primary w i c p)
-primary-stays f g w i c p h a keep ids =
+primary-stays f g w i c p h a keep low ids =
     let k = asks_primary w i c p in
     let o = stamped_by w c (answer_to w.office c) in
     let e = ids_with f o in
@@ -516,7 +580,8 @@ primary-stays f g w i c p h a keep ids =
     record {
       stays = s;
       news = office-news f e g l w k h s refl refl (λ _. refl) refl (h.writers 0) (stamp s) ids
-          (λ t q. ids-below f g w o (block_in c).0 (office_after w.office c).next.0 t h (gives w c).rises (gives w c).fresh q);
+          (λ t q. ids-below f g w o (block_in c).0 (office_after w.office c).next.0 t h (gives w c).rises (gives w c).fresh q)
+          (earlier-primary f g w o (block_in c).0 (office_after w.office c).next.0 h a.recorded (gives w c).fresh low);
     }
   where
     shut : (b n : ℕ) → n < w.office.next.0 → Sealed (w.latest b) (heard (w.writers b)) n → Sealed (latest_with w.latest (stamped_by w c (answer_to w.office c)) b) (heard (put w.writers 0 (w.writers 0) b)) n
@@ -547,12 +612,12 @@ begun-id f w b (Err x) id e = absurd e
 commits-asked : (s : OwnStep) (f : Ids) (g : Givens) (w : World) (i : ℕ) (l : Leading) → Finals f g w → Facts g w → w.primaries i ≡ leads l → LeadsBring f g w (primary_commits s w i l)
 commits-asked own.Waits f g w i l h a e = tt
 commits-asked (own.Updates c) f g w i l h a e = tt
-commits-asked (own.Commits c) f g w i l h a e = primary-stays f g w i (sync_call l.state c) (λ told. leads (record l { told = Some told })) h a tt (λ id y. subst (λ (t : Stamp). f t.0 ≡ true) y (leads-id f g w i l h e))
+commits-asked (own.Commits c) f g w i l h a e = primary-stays f g w i (sync_call l.state c) (λ told. leads (record l { told = Some told })) h a tt tt (λ id y. subst (λ (t : Stamp). f t.0 ≡ true) y (leads-id f g w i l h e))
 commits-asked (own.Ends r) f g w i l h a e = tt
 
 pub primary-asks-brings : (x : Primary) (f : Ids) (g : Givens) (w : World) (i : ℕ) (b : BlockId) → Finals f g w → Facts g w → w.primaries i ≡ x → LeadsBring f g w (primary_asks x w i b)
 primary-asks-brings no_primary f g w i b h a e =
-    let t = answer_to w.office (call.BeginRecovery b) in primary-stays f g w i (call.BeginRecovery b) (was_told b) h a (begin-keeps w b t) (λ id y. begun-id f w b t id y)
+    let t = answer_to w.office (call.BeginRecovery b) in primary-stays f g w i (call.BeginRecovery b) (was_told b) h a (begin-keeps w b t) (keeps-by g w (call.BeginRecovery b) a.recorded tt) (λ id y. begun-id f w b t id y)
 primary-asks-brings (was_told c t) f g w i b h a e = tt
 primary-asks-brings (leads l) f g w i b h a e =
     when-each (λ k. OfficeBrings f g w (ids_with f k.stamped) (given_with g k.stamped) k) (is_alive w l.at && is_none l.told) _ (λ _. commits-asked (primary.own_step l.state).does f g w i l h a e)

@@ -33,6 +33,8 @@ pub record SameLeads (w v : World) : Type 0 where
 
 same-stays : (f : Ids) (g : Givens) (w v : World) → Finals f g w → Facts g w → SameLeads w v → Stays f g w f g v
 same-stays f g w v h a s = record {
+  same = λ b t d x. x;
+  back = λ b t u d e x _ _. x;
   ids = λ t _. refl;
   below = h.below;
   given_below = a.recorded.below;
@@ -49,6 +51,7 @@ pub same-finals : (f : Ids) (g : Givens) (w v : World) → Finals f g w → Fact
 same-finals f g w v h a s r k =
     let y = same-stays f g w v h a s in
     record {
+      earlier = h.earlier;
       below = λ t e. subst (λ (o : OfficeState). t < o.next.0) (sym s.office) (h.below t e);
       downs = λ c i m e.
           let x = subst (λ (p : Past). slice_get (p.downs c) i ≡ Some m) s.past e in

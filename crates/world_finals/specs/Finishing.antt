@@ -30,6 +30,7 @@ use Rattle.world.specs.Events.{happens, run}
 use Rattle.world_laws.specs.Stamping.{Givens, none_given, given_in, stamped_in, heard}
 use Rattle.world_laws.specs.Carrying.{new_stamp, Sets}
 use Rattle.world_recoveries.specs.Recovering.{Updates, HasId}
+use Rattle.world_recoveries.specs.Naming.{NamesPast}
 
 -- THE IDS OF RECOVERIES
 
@@ -93,8 +94,13 @@ pub data FinalLength (f : Ids) (g : Givens) (w : World) (b stamp n : ℕ) : Type
 
 -- MESSAGES
 
+-- A write request is of a stamp that was given for its block, which is no recovery's id; it names no stamp before the
+-- last one before a session, if its own is later than that; and the recovery of a close asks for all that was written.
 pub record WriteEnds (f : Ids) (g : Givens) (w : World) (q : WriteFields) : Type 0 where
   pub no_id : f (new_stamp q).0 ≡ false
+  pub session : ℕ
+  pub given : g q.block.block.0 (new_stamp q).0 ≡ Some session
+  pub past : NamesPast (g q.block.block.0) q.block.stamp.0 (new_stamp q).0
   pub closes : setup_with q.stage ≡ Some kind.CloseRecovery → EndsAt g w q.block.block.0 (new_stamp q).0 q.min
 
 -- the last packet ends where its session does
@@ -173,6 +179,12 @@ pub record WriterEnds (x : WriterRecord) : Type 0 where
   pub last : has_packets x.phase ≡ true → (i : ℕ) (p : Packet) → slice_get x.stream.unacked i ≡ Some p →
       p.last ≡ true → is_closing x.phase ≡ true
 
+-- STAMPS
+
+-- where a session has begun, the stamps of setups of earlier sessions are earlier
+abbrev pub Earlier : Ids → Givens → Type 0
+Earlier f g = (b t d e : ℕ) → g b t ≡ Some d → g b e ≡ Some e → f t ≡ false → d < e → t < e
+
 -- THE WORLD
 
 pub record Finals (f : Ids) (g : Givens) (w : World) : Type 0 where
@@ -183,6 +195,7 @@ pub record Finals (f : Ids) (g : Givens) (w : World) : Type 0 where
   pub writers : (b : ℕ) → WriterEnds (heard (w.writers b))
   pub stamps : (b : ℕ) → SetsNoId f (heard (w.writers b)).phase
   pub primaries : (i : ℕ) (id : Stamp) → HasId (w.primaries i) id → f id.0 ≡ true
+  pub earlier : Earlier f g
 
 -- So it is after every list of events, of the stamps and ids that are given in them.
 abbrev pub AllFinal : Type 0

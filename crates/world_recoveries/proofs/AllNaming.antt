@@ -856,7 +856,7 @@ outcome-carried : (g : Givens) (w : World) (e : Event) (o : Option World) → Ca
 outcome-carried g w e None c = tt
 outcome-carried g w e (Some v) k = record { downs = k.downs; ups = k.ups; replicas = k.replicas; breaks = k.breaks; lowers = k.lowers; writers = k.writers; entries = k.entries; primaries = k.primaries; led = k.led }
 
-happens-naming : (g : Givens) (w : World) (e : Event) → Facts g w → SetUps g w → Carried (given_by g w e) (happens w e) → Naming g w → Naming (given_by g w e) (happens w e)
+pub happens-naming : (g : Givens) (w : World) (e : Event) → Facts g w → SetUps g w → Carried (given_by g w e) (happens w e) → Naming g w → Naming (given_by g w e) (happens w e)
 unfolding happens
 happens-naming g w e f j c h = after-naming g w e (outcome w e) refl h (outcome-naming g w e f j h (outcome-carried (given_by g w e) w e (outcome w e) c))
 
@@ -869,7 +869,7 @@ run-naming g w (e ∷ events) r i c s h =
     let v = happens-carried g w e f a in
     run-naming (given_by g w e) (happens w e) events (reached-next w e r) j v (happens-set g w e f a j.one s) (happens-naming g w e f s v h)
 
-start-naming : (nodes : ℕ) → Naming none_given (start nodes)
+pub start-naming : (nodes : ℕ) → Naming none_given (start nodes)
 unfolding start
 start-naming nodes = record { closes = λ b. tt; knows = λ b. record { each = λ c e x q. absurd (none-some e x) }; behind = λ b. tt; asked = λ c i q e. absurd (none-some _ e); primaries = λ i. tt }
 

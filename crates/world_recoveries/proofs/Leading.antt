@@ -43,7 +43,7 @@ use Rattle.world_laws.proofs.ByteFrame.{past-grows}
 use Rattle.world_laws.proofs.ByteLeaves.{Facts}
 use Rattle.world_laws.proofs.ByteLeading.{conn-is}
 use Rattle.world_laws.proofs.ByteAsking.{first-dial}
-use Rattle.world_recoveries.specs.Recovering.{ReplicaTold, WasSent, Informs, Updates, ToldOpen, UpdateFits, NoUpdates, ToldId, HasId, ToldAt, LeadingFits, LeadFits, PhaseSends, ToldSends, SendsFits, IsPlacedIn, Recovering}
+use Rattle.world_recoveries.specs.Recovering.{ReplicaTold, Informs, Updates, ToldOpen, UpdateFits, NoUpdates, ToldId, HasId, ToldAt, LeadingFits, LeadFits, PhaseSends, ToldSends, SendsFits, IsPlacedIn, Recovering}
 use Rattle.world_recoveries.proofs.Histories.{agrees-later, update-later, leading-later, lead-later, sends-later, NewDown, was_sent, is_sent, is_dialled, new-down}
 use Rattle.world_recoveries.proofs.Holding.{Moves, moves-same}
 use Rattle.world_recoveries.proofs.Choosing.{OpenInfo, ChosenFrom, choice-from, ToldBy, infos-told, after_chosen, Choosing, own-updates}

@@ -36,7 +36,7 @@ use Rattle.world_laws.proofs.OfficeSteps.{AsksAs, IsPrimarys}
 use Rattle.world_laws.proofs.SetupNodes.{has-split}
 use Rattle.world_laws.proofs.StampGranting.{granted-create, granted-append, granted-again, granted-commit, granted-complete}
 use Rattle.world_laws.specs.Stamping.{Givens, InPhase, Fits, Entries, HeldOf, Recorded, heard}
-use Rattle.world_recoveries.specs.Naming.{known_stamp, IsBefore, IsPast, NamesPast, IsNamed, IsBehind, ToldNamed, PrimaryNamed, RequestNamed, Naming}
+use Rattle.world_recoveries.specs.Naming.{known_stamp, IsBefore, IsPast, IsNamed, IsBehind, ToldNamed, PrimaryNamed, RequestNamed, Naming}
 use Rattle.world_recoveries.proofs.Histories.{NewDown, was_sent, is_sent, is_dialled, new-down}
 
 -- A CHANGE

@@ -20,7 +20,7 @@ use Rattle.world_laws.proofs.ByteFrame.{Each, each-nil, each-one, each-cons, pas
 use Rattle.world_laws.proofs.ByteLeaves.{Facts, sent-if}
 use Rattle.world_laws.proofs.SetupNodes.{get-more}
 use Rattle.world.specs.Safe.{Has}
-use Rattle.world_recoveries.specs.Recovering.{WasSent, Updates, LeadFits, HasId, SendsFits, IsPlacedIn, Recovering}
+use Rattle.world_recoveries.specs.Recovering.{Updates, LeadFits, HasId, SendsFits, IsPlacedIn, Recovering}
 use Rattle.world_recoveries.proofs.Histories.{begins-get, was-sent-later, lead-later, sends-later, NewDown, was_sent, is_sent, is_dialled, new-down}
 use Rattle.world_recoveries.proofs.Holding.{Books, books-moves}
 use Rattle.world_recoveries.proofs.Frame.{IsUpdated, News}

@@ -25,7 +25,6 @@ use Rattle.world.specs.Events.{changed, own_change, down_as, down_event, ready_e
 use Rattle.world_laws.proofs.SessionAsides.{lower-down-aside, lower-ready-aside, mirror-up-aside, own-reader-aside, reader-up-aside, own-recover-aside, own-primary-aside, primary-up-aside}
 use Rattle.world_laws.specs.Stamping.{Givens, none_given, given_with, stamped_in, given_by, given_in, heard}
 use Rattle.world_laws.proofs.AllRecorded.{happens-recorded, Reached, reached-next, reached-agreed, start-recorded}
-use Rattle.world_laws.proofs.ByteLeaves.{Facts}
 use Rattle.world_laws.proofs.AllCarried.{happens-carried, reached-facts, at-start, start-carried}
 use Rattle.world_laws.proofs.AllSetUp.{happens-set, start-set}
 use Rattle.world_acks.specs.Acking.{Ends, Asked}

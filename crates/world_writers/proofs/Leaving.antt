@@ -1,5 +1,5 @@
 -- Why recoveries leave what was answered: by the order of their ids.
-use Rattle.std.proofs.Common.{◌≡◌, ℕ, zero, suc, ◌<◌, ◌≤◌, ◌⊎◌, inl, inr, Bool, true, false, Option, Some, refl, sym, ◌∙◌, ap, subst, arith, eqb-true}
+use Rattle.std.proofs.Common.{◌≡◌, ℕ, zero, suc, ◌<◌, ◌≤◌, ◌⊎◌, inl, inr, Bool, true, false, Some, refl, sym, ◌∙◌, ap, subst, arith, eqb-true}
 use Rattle.std.specs.Prelude.{◌==◌}
 use Rattle.std.proofs.lemmas.Bool.{eqb-false}
 use Rattle.std.proofs.lemmas.Option.{same_Some}
@@ -9,12 +9,11 @@ use Rattle.world.specs.Parts.{Place, Answered, Updated}
 use Rattle.world.specs.Worlds.{World}
 use Rattle.world.specs.Safe.{Has}
 use Rattle.world_laws.specs.Stamping.{Givens}
-use Rattle.world_laws.specs.Joining.{joined_as}
 use Rattle.world_laws.specs.Placing.{Placed}
-use Rattle.world_recoveries.specs.Recovering.{ReplicaTold, Informs, InfoFits, Updates, UpdateFits, WasSent, ToldOpen, Recovering}
+use Rattle.world_recoveries.specs.Recovering.{ReplicaTold, Informs, InfoFits, UpdateFits, WasSent, ToldOpen, Recovering}
 use Rattle.world_recoveries.specs.Naming.{NoneStale}
-use Rattle.world_acks.specs.Acking.{UpdatesLeave, EarlierLeave, TellsBytes, ToldBytes}
-use Rattle.world_writers.specs.Leaving.{JoinedSince, ToldSince, ToldLater, OtherSession, LaterSessionsKeep, UpdatesKeep}
+use Rattle.world_acks.specs.Acking.{EarlierLeave, TellsBytes}
+use Rattle.world_writers.specs.Leaving.{JoinedSince, ToldSince, LaterSessionsKeep, UpdatesKeep}
 
 -- what is known of the world
 pub record Leaving (g : Givens) (w : World) (a : Answered) : Type 0 where

@@ -1,5 +1,5 @@
 -- What writers have acked doesn't fall in a session, and what they answer is no more than that.
-use Rattle.std.proofs.Common.{◌≡◌, ℕ, ◌<◌, ◌≤◌, ◌⊎◌, inl, inr, Bool, true, false, List, [], ◌∷◌, Option, Some, None, IfSome, Ok, Err, refl, sym, ◌∙◌, ap, subst, arith, eqb-true}
+use Rattle.std.proofs.Common.{◌≡◌, ℕ, ◌<◌, ◌≤◌, ◌⊎◌, inl, inr, Bool, true, false, List, [], ◌∷◌, Option, Some, None, IfSome, Ok, Err, refl, sym, ◌∙◌, ap, subst, arith}
 use Rattle.std.specs.Prelude.{◌==◌, ◌&&◌, not, max, is_none}
 use Rattle.hd_base.specs.declared.numbers.BlockId.{BlockId}
 use Rattle.hd_base.specs.declared.numbers.NodeId.{NodeId}
@@ -39,14 +39,14 @@ use Rattle.world_writers.proofs.Moving.{created-acks}
 use Rattle.world_writers.proofs.Stepping.{queue-grows}
 use Rattle.world.specs.Connections.{Next, message, the_end}
 use Rattle.world.specs.Parts.{request, packet, ack, response, read_status, recovery_answer, Answered, Told, Writing}
-use Rattle.world.specs.Worlds.{World, Change, Stamped, put, latest_with}
+use Rattle.world.specs.Worlds.{World, Change, Stamped, latest_with}
 use Rattle.world.specs.Clients.{named_member, writer_hears, reached_answer}
 use Rattle.world.specs.Primaries.{stamp_of, stamped_by}
 use Rattle.world_laws.specs.Stamping.{known_heard, heard}
 use Rattle.world_laws.proofs.OfficeSteps.{AsksAs}
 use Rattle.world_laws.proofs.Sessions.{refused-stamp}
 use Rattle.world_laws.proofs.StampGivens.{put-here}
-use Rattle.world_laws.proofs.StampGranting.{granted-create, granted-append, granted-again, granted-commit, granted-complete}
+use Rattle.world_laws.proofs.StampGranting.{granted-again, granted-commit, granted-complete}
 use Rattle.world_acks.proofs.Granting.{put-own}
 use Rattle.world_writers.specs.Moving.{Reaches}
 use Rattle.world_writers.proofs.Reaching.{answers_in, own-step-says}

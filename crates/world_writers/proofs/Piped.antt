@@ -104,7 +104,7 @@ sit-on g k t u w v b s ms e n o h = record {
     asked = asked-on g k t u w v h.conn p.fields o (record { first = p.asked })
 
 pub answer-on : (g k : Givens) (t u : Ends) (w v : World) (a : Answered) → Onward g k t u w v → AnswerSits g w a → AnswerSits k v a
-answer-on g k t u w v a o h = record { session = h.session; given = o.given a.block a.stamp h.session h.given; sit = sit-on g k t u w v a.block (record { 0 = a.stamp }) a.members h.session a.length o h.sit }
+answer-on g k t u w v a o h = record { session = h.session; given = o.given a.block a.stamp h.session h.given; within = omega (arith, h.within, o.written h.session); sit = sit-on g k t u w v a.block (record { 0 = a.stamp }) a.members h.session a.length o h.sit }
 
 -- WRITERS
 

@@ -1,5 +1,5 @@
 -- What nodes that accepted a setup of an answer's session told of their replicas.
-use Rattle.std.proofs.Common.{◌≡◌, ℕ, zero, suc, ◌<◌, ◌≤◌, ◌⊎◌, inl, inr, List, [], ◌∷◌, slice_get, Option, Some, None, refl, sym, ◌∙◌, ap, subst, arith}
+use Rattle.std.proofs.Common.{◌≡◌, ℕ, zero, suc, ◌<◌, ◌≤◌, ◌⊎◌, inl, inr, List, [], ◌∷◌, slice_get, Some, refl, sym, ◌∙◌, ap, subst, arith}
 use Rattle.std.specs.Prelude.{map}
 use Rattle.std.proofs.lemmas.Bool.{cases_lt}
 use Rattle.std.proofs.lemmas.Option.{none-some, same_Some}
@@ -15,9 +15,9 @@ use Rattle.world_laws.specs.Stamping.{Givens, Recorded}
 use Rattle.world_laws.specs.Carrying.{new_stamp}
 use Rattle.world_laws.specs.Placing.{Placed}
 use Rattle.world_recoveries.specs.Recovering.{ReplicaTold, Informs, InfoFits, Recovering}
-use Rattle.world_acks.specs.Acking.{EarlierLeave, ToldBytes, Seat, Asked, Seated, promised, JoinSeat, Ends, Acked}
+use Rattle.world_acks.specs.Acking.{EarlierLeave, ToldBytes, Seat, Seated, promised, JoinSeat, Ends, Acked}
 use Rattle.world_writers.specs.Piping.{IsPipeline}
-use Rattle.world_writers.specs.Settling.{MembersSit, AnswerSits}
+use Rattle.world_writers.specs.Settling.{AnswerSits}
 use Rattle.world_writers.specs.Taking.{chain, Joins}
 use Rattle.world_recoveries.specs.Naming.{NoneStale}
 use Rattle.world_writers.specs.Leaving.{JoinedSince, ToldSince, RequestsCover, LaterSessionsKeep}

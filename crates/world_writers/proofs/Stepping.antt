@@ -182,6 +182,7 @@ own-sit g t w b x h v q st = λ i n s ms e by.
     record {
       session = w.latest b;
       given = ap (λ (c : Stamp). g b c.0) r.committed ∙ answers-latest (g b) (w.latest b) fits.0 x.committed x.waiting x.stream.unacked x.phase a fits.1;
+      within = omega (arith, r.acked, st.within);
       sit = sit-as w b x.committed s x.members ms (w.latest b) n x.stream.acked r.committed r.pipeline r.acked (members-sit g t w b x v q st a);
     }
 

@@ -3,7 +3,7 @@ use Rattle.std.specs.Prelude.{ℕ, ◌≡◌, ◌<◌, ◌≤◌, Some}
 use Rattle.hd_base.specs.declared.numbers.Stamp.{Stamp}
 use Rattle.hd_base.specs.declared.states.ReplicaState.TheVariants as state
 use Rattle.op_headers.specs.Values.{WriteFields}
-use Rattle.world.specs.Parts.{Place, Answered, Updated}
+use Rattle.world.specs.Parts.{Place, Answered}
 use Rattle.world.specs.Worlds.{World}
 use Rattle.world.specs.Nodes.{block_of}
 use Rattle.world.specs.Safe.{Has}

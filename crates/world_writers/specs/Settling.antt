@@ -1,5 +1,5 @@
 -- The seats of those members that answers name.
-use Rattle.std.specs.Prelude.{ℕ, ◌≡◌, List, Some}
+use Rattle.std.specs.Prelude.{ℕ, ◌≡◌, List, Some, ◌≤◌, length}
 use Rattle.hd_base.specs.declared.numbers.NodeId.{NodeId}
 use Rattle.hd_base.specs.declared.numbers.Stamp.{Stamp}
 use Rattle.op_headers.specs.Values.{WriteFields}
@@ -20,10 +20,12 @@ pub record MembersSit (w : World) (block : ℕ) (stamp : Stamp) (members : List 
   pub pipeline : IsPipeline w.past block stamp members conn
   pub seated : (f : WriteFields) → Asked w.past conn f → Seated w f (node_of w conn) session least
 
--- The stamp of an answer is of a session of its block, and its members have seats of the answered bytes.
+-- The stamp of an answer is of a session of its block, in which as many bytes are written, and its members have seats
+-- of the answered bytes.
 pub record AnswerSits (g : Givens) (w : World) (a : Answered) : Type 0 where
   pub session : ℕ
   pub given : g a.block a.stamp ≡ Some session
+  pub within : a.length ≤ length (w.written session)
   pub sit : MembersSit w a.block (record { 0 = a.stamp }) a.members session a.length
 
 -- So it is of each answer to a flush, a sync or a close after every list of events, of the stamps that are given in
