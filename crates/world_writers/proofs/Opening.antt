@@ -91,7 +91,7 @@ record Later (g : Givens) (a : Answered) (e i r : ℕ) (id : Stamp) : Type 0 whe
 
 -- the setup of the stamp was before that
 setup-before : (f : Ids) (g : Givens) (w : World) (a : Answered) (e s c i r : ℕ) (id : Stamp) → Case f g w a e s c id → Later g a e i r id → s ≤ r
-setup-before f g w a e s c i r id k l = l.before.last s e k.given (k.known.opened.plain a.block s e i k.given l.own k.plain l.past)
+setup-before f g w a e s c i r id k l = l.before.last s e k.given (k.known.finals.earlier a.block s e i k.given l.own k.plain l.past)
 
 -- the length with which a recovery closed the block before a session
 recovery-covers : (f : Ids) (g : Givens) (w : World) (a : Answered) (e s c i r m d b : ℕ) (id : Stamp) → Case f g w a e s c id → Later g a e i r id → f r ≡ true → Updates w.past d b (record { 0 = r }) m → a.length ≤ m
@@ -130,7 +130,7 @@ recovery-covers f g w a e s c i r m d b id k l is u = go ((told-passes g w a.blo
     go (by_setup v q asked y lo hi) = absurd (setup (cases_lt r (new_stamp q).0))
       where
         setup : (r < (new_stamp q).0) ⊎ ((new_stamp q).0 ≤ r) → ⊥
-        setup (inl z) = omega (arith, lo, names (block_of q) q.block.stamp.0 (new_stamp q).0 y (k.known.opened.writes v q (record { first = asked })) z)
+        setup (inl z) = omega (arith, lo, names (block_of q) q.block.stamp.0 (new_stamp q).0 y (k.known.finals.downs v 0 (request (op.Write q)) asked).past z)
         setup (inr z) =
             let same : r ≡ (new_stamp q).0 = omega (arith, hi, z) in
             false≢true (sym (ap f same ∙ (k.known.finals.downs v 0 (request (op.Write q)) asked).no_id) ∙ is)
@@ -150,13 +150,14 @@ closed-covers f g w a e s c i r m id k l plain x deeper = omega (arith, x.length
     -- the session that was closed isn't earlier
     least : (x.session < e) ⊎ (e ≤ x.session) → e ≤ x.session
     least (inr z) = z
-    least (inl z) = absurd (omega (arith, setup-before f g w a e s c i r id k l, own-session.first, k.known.opened.plain a.block r x.session e x.given own-session.own plain z))
+    least (inl z) = absurd (omega (arith, setup-before f g w a e s c i r id k l, own-session.first, k.known.finals.earlier a.block r x.session e x.given own-session.own plain z))
 
     whole : (e < x.session) ⊎ (x.session ≤ e) → a.length ≤ length (w.written x.session)
     whole (inl z) = deeper x.session z (omega (arith, there.first, l.before.less)) there.own (k.known.opened.sessions a.block x.session there.own)
     whole (inr z) =
         let same : x.session ≡ e = omega (arith, z, least (cases_lt x.session e)) in
-        k.known.opened.answered a x.session k.has (k.answer ∙ ap (λ (v : ℕ). Some v) (sym same))
+        let sits = k.known.seating.sits a k.has in
+        omega (arith, sits.within, ap (λ (v : ℕ). length (w.written v)) (same_Some sits.session x.session (sym sits.given ∙ k.answer ∙ ap (λ (v : ℕ). Some v) (sym same))))
 
 -- the length that the block was closed with before a later session
 length-covers : (f : Ids) (g : Givens) (w : World) (a : Answered) (e s c i r m : ℕ) (id : Stamp) → Case f g w a e s c id → Later g a e i r id → FinalLength f g w a.block r m

@@ -15,7 +15,7 @@ use Rattle.world_laws.specs.Stamping.{Givens, Recorded}
 use Rattle.world_laws.specs.Carrying.{new_stamp}
 use Rattle.world_laws.specs.Placing.{Placed}
 use Rattle.world_recoveries.specs.Recovering.{ReplicaTold, Informs, InfoFits, Recovering}
-use Rattle.world_acks.specs.Acking.{EarlierLeave, ToldBytes, Seat, Seated, promised, JoinSeat, Ends, Acked}
+use Rattle.world_acks.specs.Acking.{EarlierLeave, ToldBytes, Seat, Seated, promised, JoinSeat, Ends, Acked, Asked}
 use Rattle.world_writers.specs.Piping.{IsPipeline}
 use Rattle.world_writers.specs.Settling.{AnswerSits}
 use Rattle.world_writers.specs.Taking.{chain, Joins}
