@@ -6,17 +6,21 @@ use Rattle.world.specs.declared.events.Event.{Event}
 use Rattle.world.specs.Parts.{Place, Answered}
 use Rattle.world.specs.Worlds.{World, start}
 use Rattle.world.specs.Events.{run}
-use Rattle.world.specs.Safe.{Has, KeptAt, Steady}
+use Rattle.world.specs.Safe.{Has, Kept, KeptAt, Steady}
 use Rattle.world.specs.Nodes.{block_of}
 use Rattle.world_laws.specs.Carrying.{new_stamp}
 use Rattle.world_laws.specs.Stamping.{Givens, none_given, given_in, Recorded}
 use Rattle.world_writers.specs.Taking.{Joins}
 use Rattle.world_laws.proofs.PlacedLaws.{all-placed}
 use Rattle.world_recoveries.proofs.AllRecovering.{all-recovering}
-use Rattle.world_recoveries.proofs.AllNaming.{all-none-stale}
+use Rattle.world_recoveries.proofs.AllNaming.{all-naming, all-none-stale}
 use Rattle.world_acks.specs.Acking.{UpdatesLeave}
 use Rattle.world_writers.specs.Leaving.{JoinedSince, RequestsCover, LaterSessionsKeep}
+use Rattle.world_writers.specs.Opening.{Opened}
 use Rattle.world_writers.specs.Staying.{LatestStay}
+use Rattle.world_finals.specs.Finishing.{no_ids, ids_in}
+use Rattle.world_finals.proofs.AllFinal.{all-final}
+use Rattle.world_writers.proofs.Opening.{Opening, later-keeps}
 use Rattle.world_acks.proofs.AllAcked.{all-acked}
 use Rattle.world_laws.proofs.AllRecorded.{all-recorded}
 use Rattle.world_writers.proofs.AllJoin.{all-join}
@@ -91,6 +95,16 @@ answer-kept nodes events a m le h member s later = answered-stay nodes events le
 
     left : UpdatesLeave w a.block a.stamp m.0 (w.lives m.0) a.length
     left = updates-keep g w a (leaving nodes events a le h later) h a.stamp at ((all-placed nodes events).runs m.0 s.runs) since
+
+opened : (nodes : ℕ) (events : List Event) → nodes ≤ MAX_NODES → Opened (ids_in no_ids (start nodes) events) (given_in none_given (start nodes) events) (run (start nodes) events)
+opened nodes events le = ?
+
+opening : (nodes : ℕ) (events : List Event) → nodes ≤ MAX_NODES → Opening (ids_in no_ids (start nodes) events) (given_in none_given (start nodes) events) (run (start nodes) events)
+opening nodes events le = record { seating = seating nodes events le; naming = all-naming nodes events; opened = opened nodes events le; finals = all-final nodes events }
+
+pub kept : (nodes : ℕ) (events : List Event) → nodes ≤ MAX_NODES → Kept (run (start nodes) events)
+kept nodes events le a m h member s =
+    answer-kept nodes events a m le h member s (later-keeps (ids_in no_ids (start nodes) events) (given_in none_given (start nodes) events) (run (start nodes) events) a (opening nodes events le) h)
 
 pub latest-stay : (nodes : ℕ) (events : List Event) → nodes ≤ MAX_NODES → LatestStay (run (start nodes) events)
 latest-stay nodes events le a m h latest member s =

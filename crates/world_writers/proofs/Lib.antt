@@ -13,6 +13,7 @@ pub mod Lifting
 pub mod Links
 pub mod Meeting
 pub mod Moving
+pub mod Opening
 pub mod Piped
 pub mod Reaching
 pub mod Seating

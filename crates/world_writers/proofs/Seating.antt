@@ -15,7 +15,7 @@ use Rattle.world_laws.specs.Stamping.{Givens, Recorded}
 use Rattle.world_laws.specs.Carrying.{new_stamp}
 use Rattle.world_laws.specs.Placing.{Placed}
 use Rattle.world_recoveries.specs.Recovering.{ReplicaTold, Informs, InfoFits, Recovering}
-use Rattle.world_acks.specs.Acking.{EarlierLeave, ToldBytes, Seat, Seated, promised, JoinSeat, Ends, Acked}
+use Rattle.world_acks.specs.Acking.{EarlierLeave, ToldBytes, Seat, Seated, promised, JoinSeat, Ends, Acked, Asked}
 use Rattle.world_writers.specs.Piping.{IsPipeline}
 use Rattle.world_writers.specs.Settling.{AnswerSits}
 use Rattle.world_writers.specs.Taking.{chain, Joins}
@@ -56,12 +56,12 @@ seat-told : (w : World) (b stamp session n life least : ℕ) → Joins w → n <
 seat-told w b stamp session n life least j lt has s = subst (λ (l : ℕ). ToldBytes w.past b stamp n l least) (j.single stamp n s.life life lt s.joins has) s.told
 
 -- an RBW replica that a recovery was told of has the bytes that the setup of its stamp asked for
-record IsOpen (g : Givens) (w : World) (d b : ℕ) (k : ReplicaTold) : Type 0 where
+pub record IsOpen (g : Givens) (w : World) (d b : ℕ) (k : ReplicaTold) : Type 0 where
   pub joins : JoinSeat g w k.1.0 (w.dialled d).to.node (w.dialled d).to.life
   pub block : block_of joins.fields ≡ b
   pub enough : promised joins.fields ≤ k.2
 
-open-promised : (g : Givens) (w : World) (d b : ℕ) (id : Stamp) (k : ReplicaTold) → Seating g w → Informs w.past d b id k → k.0 ≡ state.Rbw → IsOpen g w d b k
+pub open-promised : (g : Givens) (w : World) (d b : ℕ) (id : Stamp) (k : ReplicaTold) → Seating g w → Informs w.past d b id k → k.0 ≡ state.Rbw → IsOpen g w d b k
 open-promised g w d b id k s y e =
     let fits : InfoFits g w.past d b y.asked.block.stamp id k = s.recovering.told d b id k y in
     let at = (w.dialled d).to in
@@ -80,21 +80,30 @@ open-promised g w d b id k s y e =
     place-of : (p : Place) (u : Updated) → u.node ≡ p.node → u.life ≡ p.life → p ≡ record { node = u.node; life = u.life }
     place-of p u n l = ap (λ (m : ℕ). record { node = m; life = p.life }) (sym n) ∙ ap (λ (m : ℕ). record { node = u.node; life = m }) (sym l)
 
+-- a setup whose stamp isn't before that of an answer is of no earlier session
+pub later-session : (g : Givens) (w : World) (a : Answered) (stamp d e c : ℕ) (f : WriteFields) → Seating g w → Has w.answered a → Asked w.past c f → block_of f ≡ a.block → (new_stamp f).0 ≡ stamp → g a.block a.stamp ≡ Some d → g a.block stamp ≡ Some e → a.stamp ≤ stamp → d ≤ e
+later-session g w a stamp d e c f s h q block is x y since =
+    let u = s.joins.answered a h in
+    let v = s.joins.given c f q in
+    let there : s.joins.setups a.block stamp ≡ Some v.0 = ap (λ (n : ℕ). s.joins.setups a.block n) (sym is) ∙ ap (λ (b : ℕ). s.joins.setups b (new_stamp f).0) (sym block) ∙ v.1 in
+    let rises : u.0 ≤ v.0 = s.joins.order a.block a.stamp stamp u.0 v.0 u.1 there since in
+    let one : d ≡ u.0 = sym (s.recorded.session a.block a.stamp d x) ∙ s.joins.sessions a.block a.stamp u.0 u.1 in
+    let two : e ≡ v.0 = sym (s.recorded.session a.block stamp e y) ∙ s.joins.sessions a.block stamp v.0 there in
+    omega (arith, rises, one, two)
+
 -- where an answer is of the latest session of its block, no RBW replica of a later one is told of
 pub latest-keeps : (g : Givens) (w : World) (a : Answered) → Seating g w → Has w.answered a → w.session_of a.stamp ≡ w.latest a.block → LaterSessionsKeep g w a
 latest-keeps g w a s h latest stamp c d id k t y e o =
     let z = open-promised g w d a.block id k s y e in
     let q = z.joins in
     let since : a.stamp ≤ k.1.0 = s.stale d a.block id k y a h refl (omega (arith, t.above, t.joins.since)) in
-    let x = s.joins.answered a h in
-    let v = s.joins.given q.conn q.fields q.pipe.asked in
-    let there : s.joins.setups a.block k.1.0 ≡ Some v.0 = ap (λ (n : ℕ). s.joins.setups a.block n) (sym q.is) ∙ ap (λ (b : ℕ). s.joins.setups b (new_stamp q.fields).0) (sym z.block) ∙ v.1 in
-    let rises : x.0 ≤ v.0 = s.joins.order a.block a.stamp k.1.0 x.0 v.0 x.1 there since in
-    let within : v.0 ≤ w.latest a.block = s.joins.within a.block k.1.0 v.0 there in
-    let own : x.0 ≡ w.latest a.block = sym (s.joins.sessions a.block a.stamp x.0 x.1) ∙ latest in
-    let same : o.session ≡ x.0 = omega (arith, sym (s.recorded.session a.block k.1.0 o.session o.given) ∙ s.joins.sessions a.block k.1.0 v.0 there, rises, within, own) in
-    let sits = s.sits a h in
-    absurd (o.apart (sits.given ∙ ap (λ (i : ℕ). Some i) (sym (s.recorded.session a.block a.stamp sits.session sits.given) ∙ s.joins.sessions a.block a.stamp x.0 x.1 ∙ sym same)))
+    let rises : t.joins.session ≤ o.session = later-session g w a k.1.0 t.joins.session o.session q.conn q.fields s h q.pipe.asked z.block q.is t.joins.answer o.given since in
+    let x = s.joins.given q.conn q.fields q.pipe.asked in
+    let there : s.joins.setups a.block k.1.0 ≡ Some x.0 = ap (λ (n : ℕ). s.joins.setups a.block n) (sym q.is) ∙ ap (λ (b : ℕ). s.joins.setups b (new_stamp q.fields).0) (sym z.block) ∙ x.1 in
+    let two : o.session ≡ x.0 = sym (s.recorded.session a.block k.1.0 o.session o.given) ∙ s.joins.sessions a.block k.1.0 x.0 there in
+    let own : t.joins.session ≡ w.latest a.block = sym (s.recorded.session a.block a.stamp t.joins.session t.joins.answer) ∙ latest in
+    let same : t.joins.session ≡ o.session = omega (arith, rises, two, own, s.joins.within a.block k.1.0 x.0 there) in
+    absurd (o.apart (t.joins.answer ∙ ap (λ (i : ℕ). Some i) same))
 
 -- under the stamp of the answer
 told-at : (g : Givens) (w : World) (a : Answered) (stamp : ℕ) (at : Place) → Seating g w → Has w.answered a → at.node < w.nodes → JoinedSince g w a stamp at → (x : JoinSeat g w stamp at.node at.life) → a.stamp ≡ stamp

@@ -1,4 +1,5 @@
 pub mod Leaving
+pub mod Opening
 pub mod Moving
 pub mod Piping
 pub mod Settling

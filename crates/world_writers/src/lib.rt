@@ -6,6 +6,7 @@ ghost use Rattle.std.specs.Prelude.{◌≤◌};
 ghost use Rattle.hd_base.specs.declared.roads.TheConstants.{MAX_NODES};
 ghost use Rattle.world.specs.Worlds.{start};
 ghost use Rattle.world.specs.Events.{run};
+ghost use Rattle.world.specs.Safe.{Kept};
 ghost use Rattle.world_writers.specs.Moving.{AllMove, AllReached};
 ghost use Rattle.world_writers.specs.Piping.{AllPiped};
 ghost use Rattle.world_writers.specs.Settling.{AllSit};
@@ -64,4 +65,12 @@ pub fn answered_bytes_stay(schedule: &Schedule)
 pub fn latest_answers_stay(schedule: &Schedule)
     requires few { schedule.now.nodes ≤ MAX_NODES }
     ensures { LatestStay (run (start schedule.now.nodes) schedule.now.events) }
+{}
+
+/// Part Kept of the headline: bytes for which an hflush, hsync or close was answered stay at each member that is steady
+/// since the stamp of the answer, and each later recovery that updated it in this life left it at least so many.
+pub fn kept_law(schedule: &Schedule)
+    requires low { 1 ≤ schedule.now.nodes }
+    requires high { schedule.now.nodes ≤ 16 }
+    ensures { Kept (run (start schedule.now.nodes) schedule.now.events) }
 {}
