@@ -108,11 +108,11 @@ fault-final f g w (delivery.Down c) h a r = down-final f g w c.0 false true h a 
 fault-final f g w (delivery.Ready c) h a r = ready-final f g w c.0 true h a
 fault-final f g w (delivery.Up c) h a r = up-final f g w c.0 true h a
 
-own-brings : (f : Ids) (g : Givens) (w : World) (s : OwnStep) → Finals f g w → Facts g w → Naming g w → IfSome (own_change w s) (Brings f g w)
-own-brings f g w (own.Writer b takes answered) h a n = own-writer-brings f g w b.0 takes answered h a (n.knows b.0)
-own-brings f g w (own.Reader i n r answered) h a named = own-reader-brings f g w i n.0 r answered h a
-own-brings f g w (own.Recover i n b members answers) h a named = own-recover-brings f g w i n.0 b members answers h a
-own-brings f g w (own.Primary i) h a named = own-primary-brings f g w i h a
+own-brings : (f : Ids) (g : Givens) (w : World) (s : OwnStep) → Finals f g w → Facts g w → Recovering g w → Naming g w → IfSome (own_change w s) (Brings f g w)
+own-brings f g w (own.Writer b takes answered) h a y n = own-writer-brings f g w b.0 takes answered h a (n.knows b.0)
+own-brings f g w (own.Reader i n r answered) h a y named = own-reader-brings f g w i n.0 r answered h a
+own-brings f g w (own.Recover i n b members answers) h a y named = own-recover-brings f g w i n.0 b members answers h a
+own-brings f g w (own.Primary i) h a y named = own-primary-brings f g w i h a y
 
 -- THE OFFICE
 
@@ -132,7 +132,7 @@ where-final f g false v h = tt
 
 outcome-final : (f : Ids) (g : Givens) (w : World) (e : Event) → Finals f g w → Facts g w → Recovering g w → Naming g w → Broken w → IfSome (outcome w e) (Finals (ids_by f w e) (given_by g w e))
 unfolding outcome
-outcome-final f g w (event.Own s) h a r named i = changed-final f g w (own_change w s) h a (changed-carried g w (own_change w s) (own-keeps g w s a)) (own-brings f g w s h a named)
+outcome-final f g w (event.Own s) h a r named i = changed-final f g w (own_change w s) h a (changed-carried g w (own_change w s) (own-keeps g w s a)) (own-brings f g w s h a r named)
 outcome-final f g w (event.Office c) h a r named i = office-final f g w c h a
 outcome-final f g w (event.Down c answered) h a r named i = down-final f g w c.0 answered false h a r
 outcome-final f g w (event.Ready c) h a r named i = ready-final f g w c.0 false h a
@@ -201,6 +201,8 @@ start-final nodes = record {
   writers = λ b. record { shut = λ e. absurd (none-some _ e); closing = λ e. absurd (false≢true e); closed = λ e. refl; last = λ e. absurd (false≢true e) };
   stamps = λ b. tt;
   primaries = λ i id x. absurd x;
+  sends = λ i. tt;
+  entries = λ b. tt;
 }
 
 pub all-final : (nodes : ℕ) (events : List Event) → Finals (ids_in no_ids (start nodes) events) (given_in none_given (start nodes) events) (run (start nodes) events)

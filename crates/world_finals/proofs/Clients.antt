@@ -47,7 +47,7 @@ use Rattle.world_laws.proofs.ByteWriting.{of-latest, Requested, requested}
 use Rattle.world_recoveries.specs.Recovering.{HasId}
 use Rattle.world_finals.specs.Finishing.{Ids, writes_no_more, EndsAt, WriteEnds, LastEnds, DownEnds, ReplicaEnds, BreakEnds, SetsNoId, WriterEnds, Finals}
 use Rattle.world_finals.proofs.Writers.{Follows, follows-same, follows-then, hears-follows, dialled-follows, SendsEnd, OwnEnds, opened-ends, completed-ends, own-step-ends, command-ends}
-use Rattle.world_finals.proofs.Frame.{Ends, replica-stays, break-stays, sets-grow, grown, News, stays-so}
+use Rattle.world_finals.proofs.Frame.{Ends, replica-stays, break-stays, sets-grow, leaves, grown, News, stays-so}
 use Rattle.world_recoveries.specs.Naming.{IsBefore, IsPast}
 
 -- WHAT A CLIENT BRINGS
@@ -68,6 +68,7 @@ pub apart-news : (f : Ids) (g : Givens) (w : World) (k : Change) → Finals f g 
 apart-news f g w k h a e x downs dials ends stamp =
     let s = stays-so f g w k h a e in
     let v = apply w k in
+    let o = leaves f g w k h s x.office x.primary in
     record {
       replica = subst (λ (r : FullReplica). ReplicaEnds f g v k.block r) (sym x.replica) (replica-stays f g w f g v k.block (w.replicas k.node k.block) s (h.replicas k.node k.block));
       broke = subst (λ (o : Option Break). IfSome o (BreakEnds f g v k.block)) (sym x.broke)
@@ -79,6 +80,8 @@ apart-news f g w k h a e x downs dials ends stamp =
       primary = λ id y. h.primaries k.primary_at id (subst (λ (z : Primary). HasId z id) x.primary y);
       below = λ t y. subst (λ (o : OfficeState). t < o.next.0) (sym x.office) (h.below t y);
       earlier = h.earlier;
+      sends = o.sends;
+      entries = o.entries;
     }
 
 -- a writer that goes on, and sends nothing

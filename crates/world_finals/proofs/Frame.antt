@@ -2,14 +2,19 @@
 use Rattle.std.proofs.Common.{◌≡◌, ℕ, ◌<◌, ◌+◌, ◌⊎◌, inl, inr, true, List, [], length, slice_get, Option, Some, None, IfSome, refl, sym, ◌∙◌, ap, subst, arith, eqb-true, ◌≤◌}
 use Rattle.std.specs.Prelude.{◌==◌}
 use Rattle.hd_base.specs.declared.numbers.Stamp.{Stamp}
+use Rattle.name_core.specs.declared.records.BlockRecord.{BlockRecord}
+use Rattle.name_core.specs.Offices.{OfficeState, record_of}
 use Rattle.op_headers.specs.declared.ops.Op.{Op}
 use Rattle.op_headers.specs.declared.ops.Op.TheVariants as op
 use Rattle.replica_core.specs.declared.info.ReplicaInfo.{ReplicaInfo}
 use Rattle.replica_model.specs.Rows.{FullReplica, row}
 use Rattle.packet_stream.specs.Streams.{StreamState, packet_end}
+use Rattle.recovery_core.specs.declared.primary.Phase.{Phase as LeadPhase}
+use Rattle.recovery_core.specs.declared.primary.Phase.TheVariants as lead_phase
+use Rattle.recovery_core.specs.declared.standings.Standing.{Standing}
 use Rattle.writer_core.specs.declared.phases.Phase.{Phase}
 use Rattle.writer_core.specs.declared.phases.Phase.TheVariants as phase
-use Rattle.world.specs.Parts.{Message, request, packet, ack, response, read_status, recovery_answer, Writing, Primary, Break}
+use Rattle.world.specs.Parts.{Message, request, packet, ack, response, read_status, recovery_answer, Writing, Primary, no_primary, was_told, leads, has_led, Break}
 use Rattle.world.specs.Worlds.{Past, World, Dial, Stamped, Change, put, past_after, latest_with, apply}
 use Rattle.world_laws.specs.Growing.{Grows}
 use Rattle.world_laws.proofs.FactTables.{if-each, put-each, some-weaker}
@@ -21,8 +26,9 @@ use Rattle.world_laws.proofs.ByteWriting.{only-own}
 use Rattle.world_laws.proofs.SetupNodes.{put-at-split}
 use Rattle.world_recoveries.specs.Recovering.{Updates, HasId}
 use Rattle.world_recoveries.proofs.Histories.{begins-get, NewDown, was_sent, is_sent, is_dialled, new-down}
-use Rattle.world_finals.specs.Finishing.{Ids, writes_no_more, EndsAt, FinalLength, of_recovery, of_session, DownEnds, IsFinalOf, LastPending, ReplicaEnds, BreakEnds, SetsNoId, WriterEnds, Finals, Earlier}
+use Rattle.world_finals.specs.Finishing.{Ids, writes_no_more, EndsAt, FinalLength, of_recovery, of_session, Completes, ClosedLength, by_recovery, by_writer, EntryEnds, PhaseSent, LeadSent, DownEnds, IsFinalOf, LastPending, ReplicaEnds, BreakEnds, SetsNoId, WriterEnds, Finals, Earlier}
 use Rattle.std.proofs.lemmas.Bool.{cases_lt}
+use Rattle.std.proofs.lemmas.Option.{same_Some}
 use Rattle.world_recoveries.specs.Naming.{IsBefore, NamesPast}
 
 -- WHAT STAYS
@@ -70,6 +76,38 @@ break-stays f g w e l v b x s h = record {
   after = some-weaker (IsFinalOf f g w b) (IsFinalOf e l v b) (row x.before x.event).known.info (λ i y. is-final-stays f g w e l v b i s y) h.after;
   keeps = h.keeps;
 }
+
+-- CLOSED BLOCKS
+
+pub closed-stays : (f : Ids) (g : Givens) (w : World) (e : Ids) (l : Givens) (v : World) (b t n : ℕ) → Stays f g w e l v → ClosedLength f g w b t n → ClosedLength e l v b t n
+closed-stays f g w e l v b t n s (by_recovery q c d u) = by_recovery (s.ids t (s.below t q) ∙ q) c d (updates-later w.past v.past c d (record { 0 = t }) n s.past u)
+closed-stays f g w e l v b t n s (by_writer x) = by_writer (record { ends = ends; last = last })
+  where
+    ends : EndsAt l v b t n
+    ends = s.ends b t n x.ends
+
+    last : (u d : ℕ) → l b u ≡ Some d → u ≤ t → d ≤ ends.session
+    last u d q le =
+        let same : x.ends.session ≡ ends.session = same_Some x.ends.session ends.session (sym (s.same b t x.ends.session x.ends.given) ∙ ends.given) in
+        omega (arith, x.last u d (s.back b u t d x.ends.session q x.ends.given le) le, same)
+
+-- records of blocks that stay
+pub entries-stay : (f : Ids) (g : Givens) (w : World) (e : Ids) (l : Givens) (v : World) (o : OfficeState) → Stays f g w e l v → o ≡ w.office → ((b : ℕ) → IfSome (record_of w.office (record { 0 = b })) (EntryEnds f g w b)) → (b : ℕ) → IfSome (record_of o (record { 0 = b })) (EntryEnds e l v b)
+entries-stay f g w e l v o s same h b =
+    subst (λ (q : OfficeState). IfSome (record_of q (record { 0 = b })) (EntryEnds e l v b)) (sym same)
+    (some-weaker (EntryEnds f g w b) (EntryEnds e l v b) (record_of w.office (record { 0 = b })) (λ r x. record { closed = λ q. closed-stays f g w e l v b r.committed.0 r.length s (x.closed q) }) (h b))
+
+-- what was sent of a recovery stays sent
+phase-sent : (h p : Past) (id : Stamp) (q : LeadPhase) (ss : List Standing) → Grows h p → PhaseSent h id q ss → PhaseSent p id q ss
+phase-sent h p id (lead_phase.Updating n) ss d x = λ i s e u. let y = x i s e u in record { conn = y.conn; block = y.block; sent = updates-later h p y.conn y.block id n d y.sent }
+phase-sent h p id lead_phase.Informing ss d x = tt
+phase-sent h p id lead_phase.Over ss d x = tt
+
+pub lead-sent : (h p : Past) (x : Primary) → Grows h p → LeadSent h x → LeadSent p x
+lead-sent h p no_primary d x = tt
+lead-sent h p (was_told b t) d x = tt
+lead-sent h p (leads l) d x = phase-sent h p l.state.begun.id l.state.phase l.state.standings d x
+lead-sent h p (has_led r) d x = tt
 
 -- the stamp of a write request was given
 abbrev pub StampBelow : World → Message → Type 0
@@ -134,6 +172,8 @@ pub record News (f : Ids) (g : Givens) (w : World) (k : Change) : Type 0 where
   pub primary : (id : Stamp) → HasId k.primary id → f id.0 ≡ true
   pub below : (t : ℕ) → f t ≡ true → t < k.office.next.0
   pub earlier : Earlier f g
+  pub sends : LeadSent (past_after w k) k.primary
+  pub entries : (b : ℕ) → IfSome (record_of k.office (record { 0 = b })) (EntryEnds f g (apply w k) b)
 
 pub sets-stays : (f : Ids) (g : Givens) (w : World) (e : Ids) (l : Givens) (v : World) (b n : ℕ) (c : Stamp) (x : StreamState) (p : Phase) → Stays f g w e l v → Asks (g b) w.past n c x p → SetsNoId f p → SetsNoId e p
 sets-stays f g w e l v b n c x (phase.Stamped way t) s a h = s.ids t.0 (s.given_below b t.0 n a.given) ∙ h
@@ -161,6 +201,8 @@ unfolding apply
 keeps f g w e l k h a s n = record {
   below = n.below;
   earlier = n.earlier;
+  entries = n.entries;
+  sends = put-each (λ (i : ℕ) (x : Primary). LeadSent (past_after w k) x) w.primaries k.primary_at k.primary n.sends (λ i. lead-sent w.past (past_after w k) (w.primaries i) (past-grows w k) (h.sends i));
   downs = keeps-downs f g w e l k h a s n;
   replicas = put-at-split (λ (m b : ℕ) (r : FullReplica). ReplicaEnds e l (apply w k) b r) w.replicas k.node k.block k.replica n.replica (λ m b _. replica-stays f g w e l (apply w k) b (w.replicas m b) s (h.replicas m b));
   breaks = put-at-split (λ (m b : ℕ) (o : Option Break). IfSome o (BreakEnds e l (apply w k) b)) w.breaks k.node k.block k.broke n.broke
@@ -214,6 +256,17 @@ ends-stay g w k r h b t n x = record {
     go (inl lt) = inl lt
     go (inr z) = inr (if-each (λ (y : Writing). writes_no_more (heard y).phase ≡ true) (b == k.writer_at) k.writer (w.writers b)
         (λ e. h.shuts (subst (λ (d : ℕ). writes_no_more (heard (w.writers d)).phase ≡ true) (eqb-true b k.writer_at e) z)) (λ _. z))
+
+-- the records and the primaries that a change leaves
+pub record Leaves (f : Ids) (g : Givens) (w : World) (k : Change) : Type 0 where
+  pub sends : LeadSent (past_after w k) k.primary
+  pub entries : (b : ℕ) → IfSome (record_of k.office (record { 0 = b })) (EntryEnds f g (apply w k) b)
+
+pub leaves : (f : Ids) (g : Givens) (w : World) (k : Change) → Finals f g w → Stays f g w f g (apply w k) → k.office ≡ w.office → k.primary ≡ w.primaries k.primary_at → Leaves f g w k
+leaves f g w k h s office primary = record {
+  sends = subst (λ (x : Primary). LeadSent (past_after w k) x) (sym primary) (lead-sent w.past (past_after w k) (w.primaries k.primary_at) (past-grows w k) (h.sends k.primary_at));
+  entries = entries-stay f g w f g (apply w k) k.office s office h.entries;
+}
 
 pub grown : (w : World) (k : Change) → Grows w.past (apply w k).past
 unfolding apply

@@ -63,7 +63,7 @@ use Rattle.world_recoveries.proofs.Laws.{keep-finalized}
 use Rattle.world_recoveries.proofs.Lowers.{SentDown}
 use Rattle.world_finals.specs.Finishing.{Ids, writes_no_more, EndsAt, WriteEnds, LastEnds, DownEnds, ReplicaEnds, BreakEnds, SetsNoId, WriterEnds, Finals}
 use Rattle.world_finals.proofs.Rows.{Ended, EventEnds, Before, Leaves, event-leaves}
-use Rattle.world_finals.proofs.Frame.{Ends, StampBelow, replica-stays, break-stays, down-stays, down-below, News, stays-so}
+use Rattle.world_finals.proofs.Frame.{Ends, StampBelow, replica-stays, break-stays, leaves, down-stays, down-below, News, stays-so}
 use Rattle.world_finals.proofs.Idle.{IsIdle, Idle, up-idle, ready-idle}
 
 -- WHAT A NODE'S CHANGE MAKES
@@ -85,6 +85,7 @@ pub makes-news : (f : Ids) (g : Givens) (w : World) (k : Change) → Finals f g 
 makes-news f g w k h a n =
     let s = stays-so f g w k h a (beside-ends w k n.beside) in
     let v = apply w k in
+    let o = leaves f g w k h s n.beside.office n.beside.primary in
     record {
       replica = replica-stays f g w f g v k.block k.replica s n.ends.replica;
       broke = some-weaker (BreakEnds f g w k.block) (BreakEnds f g v k.block) k.broke (λ x z. break-stays f g w f g v k.block x s z) n.ends.broke;
@@ -95,6 +96,8 @@ makes-news f g w k h a n =
       primary = λ id x. h.primaries k.primary_at id (subst (λ (y : Primary). HasId y id) n.beside.primary x);
       below = λ t e. subst (λ (o : OfficeState). t < o.next.0) (sym n.beside.office) (h.below t e);
       earlier = h.earlier;
+      sends = o.sends;
+      entries = o.entries;
     }
 
 -- what is known where a lower end takes something

@@ -23,6 +23,7 @@ use Rattle.recovery_core.specs.declared.standings.Standing.{Standing}
 use Rattle.recovery_core.specs.Primaries.{PrimaryState, begun_with, heard_at, office_refused, end_with, request_of, sync_call}
 use Rattle.recovery_core.specs.Primaries as primary
 use Rattle.packet_codec.specs.declared.packets.Packet.{Packet}
+use Rattle.packet_stream.specs.Streams.{written_in}
 use Rattle.replica_model.specs.Rows.{FullReplica}
 use Rattle.writer_core.specs.declared.actions.Action.{Action}
 use Rattle.writer_core.specs.declared.actions.Action.TheVariants as action
@@ -39,7 +40,7 @@ use Rattle.writer_core.specs.declared.phases.Waiting.{Waiting}
 use Rattle.writer_core.specs.declared.records.WriterRecord.{WriterRecord}
 use Rattle.writer_core.specs.Transitions.{take_first, free_step_as, failed_command, failed_first, failed_step_as, stamp_call, dial_step_as, accepted_step, form_step, reached_length, reach_step_as, due_now, due_step, stream_step_as, step_in, own_step, granted}
 use Rattle.world.specs.Parts.{Message, request, Place, Told, Writing, Leading, Primary, no_primary, was_told, leads, has_led, Break}
-use Rattle.world.specs.Worlds.{World, Dial, Stamped, Change, put, latest_with, apply}
+use Rattle.world.specs.Worlds.{World, Dial, Stamped, Change, put, past_after, latest_with, apply}
 use Rattle.world.specs.Connections.{Next, is_alive, place_of}
 use Rattle.world.specs.Clients.{are_members}
 use Rattle.world.specs.Primaries.{primary_change, dials_answered, recovery_message, begins_with, begins_as, begins_at, own_recover, updates_change, ends_change, leads_step, commits_step, leads_told, own_primary_as, own_primary, heard_of, listens, hears_change, primary_up_as, primary_up, stamped_by, asks_writer, asks_primary, writer_asks, writer_asks_office, primary_commits, primary_asks}
@@ -49,14 +50,17 @@ use Rattle.world_laws.specs.Stamping.{Givens, given_with, known_heard, heard, He
 use Rattle.world_laws.proofs.StampGivens.{put-here, put-there}
 use Rattle.world_laws.proofs.StampRecording.{gives, others-latest, given-each}
 use Rattle.world_laws.proofs.StampWalking.{none-is}
+use Rattle.world_laws.proofs.ByteFrame.{past-grows}
 use Rattle.world_laws.proofs.ByteLeaves.{Facts, before-of}
 use Rattle.world_laws.proofs.ByteOffices.{office-extends, Answered, old-written}
-use Rattle.world_recoveries.specs.Recovering.{ToldId, HasId}
+use Rattle.world_recoveries.specs.Recovering.{ToldId, HasId, LeadFits, Recovering}
 use Rattle.world_recoveries.proofs.Choosing.{own-updates}
 use Rattle.world_recoveries.proofs.Leading.{chosen_op, updates-at, dial-of, heard-id}
-use Rattle.world_finals.specs.Finishing.{Ids, ids_with, writes_no_more, Sealed, EndsAt, DownEnds, ReplicaEnds, BreakEnds, SetsNoId, WriterEnds, Finals, Earlier}
+use Rattle.world_finals.specs.Finishing.{Ids, ids_with, writes_no_more, Sealed, EndsAt, Completes, ClosedLength, by_recovery, by_writer, EntryEnds, PhaseSent, LeadSent, DownEnds, ReplicaEnds, BreakEnds, SetsNoId, WriterEnds, Finals, Earlier}
 use Rattle.world_finals.proofs.Writers.{BeginsSession, StampNoId, AnswerEnds, granted-ends}
-use Rattle.world_finals.proofs.Frame.{Stays, Ends, sets-stays, replica-stays, break-stays, grown, News, stays-so}
+use Rattle.world_finals.proofs.Frame.{Stays, Ends, sets-stays, replica-stays, break-stays, entries-stay, lead-sent, grown, News, stays-so}
+use Rattle.world_finals.proofs.Updating.{heard-sent, updates-sent, commits-sent}
+use Rattle.world_finals.proofs.Entries.{Closes, finished-completes, entries-by}
 use Rattle.world_finals.proofs.Clients.{Brings}
 use Rattle.world_recoveries.proofs.Naming.{keeps-by}
 use Rattle.name_core.specs.declared.records.BlockRecord.{BlockRecord}
@@ -73,8 +77,8 @@ record LeadsApart (w : World) (k : Change) : Type 0 where
   pub broke : k.broke ≡ w.breaks k.node k.block
 
 lead-brings : (f : Ids) (g : Givens) (w : World) (k : Change) → Finals f g w → Facts g w → LeadsApart w k → ((c j : ℕ) (m : Message) → slice_get (k.downs c) j ≡ Some m → DownEnds f g (apply w k) c m)
-    → ((j : ℕ) (d : Dial) → slice_get k.dials j ≡ Some d → DownEnds f g (apply w k) (w.next_conn + j) d.request) → ((id : Stamp) → HasId k.primary id → f id.0 ≡ true) → Brings f g w k
-lead-brings f g w k h a x downs dials ids =
+    → ((j : ℕ) (d : Dial) → slice_get k.dials j ≡ Some d → DownEnds f g (apply w k) (w.next_conn + j) d.request) → ((id : Stamp) → HasId k.primary id → f id.0 ≡ true) → LeadSent (past_after w k) k.primary → Brings f g w k
+lead-brings f g w k h a x downs dials ids sends =
     let e : Ends w k = record { stamped = x.stamped; shuts = λ z. ap (λ (u : Writing). writes_no_more (heard u).phase) x.writer ∙ z; bytes = inl x.bytes } in
     let s = stays-so f g w k h a e in
     let v = apply w k in
@@ -91,20 +95,22 @@ lead-brings f g w k h a x downs dials ids =
         primary = ids;
         below = λ t y. subst (λ (o : OfficeState). t < o.next.0) (sym x.office) (h.below t y);
         earlier = h.earlier;
+        sends = sends;
+        entries = entries-stay f g w f g v k.office s x.office h.entries;
       };
     }
 
 ended-brings : (f : Ids) (g : Givens) (w : World) (k : Change) (r : Recovered) → Finals f g w → Facts g w → LeadsApart w k → k.primary ≡ has_led r → ((c : ℕ) → k.downs c ≡ []) → k.dials ≡ [] → Brings f g w k
 ended-brings f g w k r h a x e d s =
     lead-brings f g w k h a x (λ c j m q. absurd (none-some m (sym (ap (λ (ms : List Message). slice_get ms j) (d c)) ∙ q))) (λ j z q. absurd (none-some z (sym (ap (λ (zs : List Dial). slice_get zs j) s) ∙ q)))
-    (λ id y. absurd (subst (λ (z : Primary). HasId z id) e y))
+    (λ id y. absurd (subst (λ (z : Primary). HasId z id) e y)) (subst (λ (z : Primary). LeadSent (past_after w k) z) (sym e) tt)
 
 begins-brings : (f : Ids) (g : Givens) (w : World) (i : ℕ) (at : Place) (b : BlockId) (begun : Begun) (ms : List NodeId) (bs : List Bool) → Finals f g w → Facts g w → w.primaries i ≡ was_told b (Ok (office.Begun begun))
     → Brings f g w (begins_with w i at b begun ms (dials_answered w ms bs))
 begins-brings f g w i at b begun ms bs h a e =
     lead-brings f g w k h a (record { office = refl; stamped = refl; bytes = refl; writer = refl; replica = refl; broke = refl }) (λ c j m q. absurd (none-some m q))
     (λ j d q. subst (λ (m : Message). DownEnds f g (apply w k) (w.next_conn + j) m) (sym (dial-of w i at first 0 w.next_conn ms (dials_answered w ms bs) j d q).is_first) is)
-    (λ id y. subst (λ (t : Stamp). f t.0 ≡ true) y is)
+    (λ id y. subst (λ (t : Stamp). f t.0 ≡ true) y is) tt
   where
     first : Message
     first = recovery_message (begun_with b begun ms (dials_answered w ms bs))
@@ -138,20 +144,25 @@ own-recover-brings f g w i n b ms bs h a = begins-at-brings (w.primaries i) f g 
 leads-id : (f : Ids) (g : Givens) (w : World) (i : ℕ) (l : Leading) → Finals f g w → w.primaries i ≡ leads l → f l.state.begun.id.0 ≡ true
 leads-id f g w i l h e = h.primaries i l.state.begun.id (subst (λ (z : Primary). HasId z l.state.begun.id) (sym e) refl)
 
-updates-brings : (f : Ids) (g : Givens) (w : World) (i : ℕ) (l : Leading) (c : Chosen) → Finals f g w → Facts g w → w.primaries i ≡ leads l → (primary.own_step l.state).does ≡ own.Updates c → Brings f g w (updates_change w i l (primary.own_step l.state).primary c)
-updates-brings f g w i l c h a e d =
+-- what was sent of a recovery whose primary leads
+sent-of : (f : Ids) (g : Givens) (w : World) (i : ℕ) (l : Leading) → Finals f g w → w.primaries i ≡ leads l → PhaseSent w.past l.state.begun.id l.state.phase l.state.standings
+sent-of f g w i l h e = subst (λ (x : Primary). LeadSent w.past x) e (h.sends i)
+
+updates-brings : (f : Ids) (g : Givens) (w : World) (i : ℕ) (l : Leading) (c : Chosen) → Finals f g w → Facts g w → Recovering g w → w.primaries i ≡ leads l → (primary.own_step l.state).does ≡ own.Updates c → Brings f g w (updates_change w i l (primary.own_step l.state).primary c)
+updates-brings f g w i l c h a r e d =
     lead-brings f g w k h a (record { office = refl; stamped = refl; bytes = refl; writer = refl; replica = refl; broke = refl })
     (λ v j m q. subst (λ (x : Message). DownEnds f g (apply w k) v x) (updates-at (request (op.Recovery (chosen_op l c))) c.members l.state.members l.conns v j m q).is (leads-id f g w i l h e)) (λ j x q. absurd (none-some x q))
     (λ id y. subst (λ (t : Stamp). f t.0 ≡ true) (sym (ap (λ (s : PrimaryState). s.begun.id) (own-updates l.state c d).primary) ∙ y) (leads-id f g w i l h e))
+    (updates-sent w i l c (subst (λ (x : Primary). LeadFits w.past x) e (r.primaries i)) d)
   where
     k : Change
     k = updates_change w i l (primary.own_step l.state).primary c
 
-leads-step-brings : (s : OwnStep) (f : Ids) (g : Givens) (w : World) (i : ℕ) (l : Leading) → Finals f g w → Facts g w → w.primaries i ≡ leads l → (primary.own_step l.state).does ≡ s → IfSome (leads_step s w i l (primary.own_step l.state).primary) (Brings f g w)
-leads-step-brings own.Waits f g w i l h a e d = tt
-leads-step-brings (own.Updates c) f g w i l h a e d = updates-brings f g w i l c h a e d
-leads-step-brings (own.Commits c) f g w i l h a e d = tt
-leads-step-brings (own.Ends r) f g w i l h a e d = ended-brings f g w (ends_change w i l r) r h a (record { office = refl; stamped = refl; bytes = refl; writer = refl; replica = refl; broke = refl }) refl (λ _. refl) refl
+leads-step-brings : (s : OwnStep) (f : Ids) (g : Givens) (w : World) (i : ℕ) (l : Leading) → Finals f g w → Facts g w → Recovering g w → w.primaries i ≡ leads l → (primary.own_step l.state).does ≡ s → IfSome (leads_step s w i l (primary.own_step l.state).primary) (Brings f g w)
+leads-step-brings own.Waits f g w i l h a r e d = tt
+leads-step-brings (own.Updates c) f g w i l h a r e d = updates-brings f g w i l c h a r e d
+leads-step-brings (own.Commits c) f g w i l h a r e d = tt
+leads-step-brings (own.Ends r) f g w i l h a y e d = ended-brings f g w (ends_change w i l r) r h a (record { office = refl; stamped = refl; bytes = refl; writer = refl; replica = refl; broke = refl }) refl (λ _. refl) refl
 
 commits-step-brings : (s : OwnStep) (f : Ids) (g : Givens) (w : World) (i : ℕ) (l : Leading) (t : Told) → Finals f g w → Facts g w → IfSome (commits_step s w i l t) (Brings f g w)
 commits-step-brings own.Waits f g w i l t h a = tt
@@ -159,25 +170,28 @@ commits-step-brings (own.Updates c) f g w i l t h a = tt
 commits-step-brings (own.Commits c) f g w i l t h a = ended-brings f g w (ends_change w i l (end_with l.state c t)) (end_with l.state c t) h a (record { office = refl; stamped = refl; bytes = refl; writer = refl; replica = refl; broke = refl }) refl (λ _. refl) refl
 commits-step-brings (own.Ends r) f g w i l t h a = tt
 
-leads-told-brings : (o : Option Told) (f : Ids) (g : Givens) (w : World) (i : ℕ) (l : Leading) → Finals f g w → Facts g w → w.primaries i ≡ leads l → IfSome (leads_told o w i l) (Brings f g w)
-leads-told-brings None f g w i l h a e = leads-step-brings (primary.own_step l.state).does f g w i l h a e refl
-leads-told-brings (Some t) f g w i l h a e = commits-step-brings (primary.own_step l.state).does f g w i l t h a
+leads-told-brings : (o : Option Told) (f : Ids) (g : Givens) (w : World) (i : ℕ) (l : Leading) → Finals f g w → Facts g w → Recovering g w → w.primaries i ≡ leads l → IfSome (leads_told o w i l) (Brings f g w)
+leads-told-brings None f g w i l h a r e = leads-step-brings (primary.own_step l.state).does f g w i l h a r e refl
+leads-told-brings (Some t) f g w i l h a r e = commits-step-brings (primary.own_step l.state).does f g w i l t h a
 
-own-primary-as : (x : Primary) (f : Ids) (g : Givens) (w : World) (i : ℕ) → Finals f g w → Facts g w → w.primaries i ≡ x → IfSome (own_primary_as x w i) (Brings f g w)
-own-primary-as no_primary f g w i h a e = tt
-own-primary-as (was_told b t) f g w i h a e = tt
-own-primary-as (leads l) f g w i h a e = when-each (Brings f g w) (is_alive w l.at) _ (λ _. leads-told-brings l.told f g w i l h a e)
-own-primary-as (has_led r) f g w i h a e = tt
+own-primary-as : (x : Primary) (f : Ids) (g : Givens) (w : World) (i : ℕ) → Finals f g w → Facts g w → Recovering g w → w.primaries i ≡ x → IfSome (own_primary_as x w i) (Brings f g w)
+own-primary-as no_primary f g w i h a y e = tt
+own-primary-as (was_told b t) f g w i h a y e = tt
+own-primary-as (leads l) f g w i h a y e = when-each (Brings f g w) (is_alive w l.at) _ (λ _. leads-told-brings l.told f g w i l h a y e)
+own-primary-as (has_led r) f g w i h a y e = tt
 
-pub own-primary-brings : (f : Ids) (g : Givens) (w : World) (i : ℕ) → Finals f g w → Facts g w → IfSome (own_primary w i) (Brings f g w)
-own-primary-brings f g w i h a = own-primary-as (w.primaries i) f g w i h a refl
+pub own-primary-brings : (f : Ids) (g : Givens) (w : World) (i : ℕ) → Finals f g w → Facts g w → Recovering g w → IfSome (own_primary w i) (Brings f g w)
+own-primary-brings f g w i h a y = own-primary-as (w.primaries i) f g w i h a y refl
 
 hears-brings : (f : Ids) (g : Givens) (w : World) (i : ℕ) (l : Leading) (place c : ℕ) (x : Next) (o : Option Standing) → Finals f g w → Facts g w → w.primaries i ≡ leads l → IfSome (hears_change w i l place c x o) (Brings f g w)
 hears-brings f g w i l place c x None h a e = tt
 hears-brings f g w i l place c x (Some s) h a e =
     when-each (Brings f g w) (listens l.state.phase s) _ (λ _.
     lead-brings f g w _ h a (record { office = refl; stamped = refl; bytes = refl; writer = refl; replica = refl; broke = refl }) (λ v j m q. absurd (none-some m q)) (λ j z q. absurd (none-some z q))
-    (λ id y. subst (λ (t : Stamp). f t.0 ≡ true) (sym (ap (λ (b : Begun). b.id) (heard-id l.state place (heard_of x) (slice_get l.state.standings place))) ∙ y) (leads-id f g w i l h e)))
+    (λ id y. subst (λ (t : Stamp). f t.0 ≡ true) (sym (ap (λ (b : Begun). b.id) (heard-id l.state place (heard_of x) (slice_get l.state.standings place))) ∙ y) (leads-id f g w i l h e))
+    (let m : Leading = record l { state = heard_at l.state place (heard_of x) } in
+    let k : Change = primary_change w i (leads m) in
+    lead-sent w.past (past_after w k) (leads m) (past-grows w k) (heard-sent w.past l.state place (heard_of x) (slice_get l.state.standings place) refl (sent-of f g w i l h e))))
 
 primary-up-as : (z : Primary) (f : Ids) (g : Givens) (w : World) (i place c : ℕ) (x : Next) → Finals f g w → Facts g w → w.primaries i ≡ z → IfSome (primary_up_as z w i place c x) (Brings f g w)
 primary-up-as no_primary f g w i place c x h a e = tt
@@ -278,9 +292,12 @@ office-stays f e g w c k h a x ids shut = record { same = (office-extends g w c 
 
 -- what is new where the office answers
 office-news : (f e : Ids) (g l : Givens) (w : World) (k : Change) → Finals f g w → Stays f g w e l (apply w k) → k.replica ≡ w.replicas k.node k.block → k.broke ≡ w.breaks k.node k.block → ((c : ℕ) → k.downs c ≡ []) → k.dials ≡ []
-    → WriterEnds (heard k.writer) → SetsNoId e (heard k.writer).phase → ((id : Stamp) → HasId k.primary id → e id.0 ≡ true) → ((t : ℕ) → e t ≡ true → t < k.office.next.0) → Earlier e l → News e l w k
-office-news f e g l w k h s r b d ds ends stamp ids below earlier = record {
+    → WriterEnds (heard k.writer) → SetsNoId e (heard k.writer).phase → ((id : Stamp) → HasId k.primary id → e id.0 ≡ true) → ((t : ℕ) → e t ≡ true → t < k.office.next.0) → Earlier e l → LeadSent w.past k.primary → ((b : ℕ) → IfSome (record_of k.office (record { 0 = b })) (EntryEnds e l (apply w k) b))
+    → News e l w k
+office-news f e g l w k h s r b d ds ends stamp ids below earlier sends entries = record {
   earlier = earlier;
+  sends = lead-sent w.past (past_after w k) k.primary (past-grows w k) sends;
+  entries = entries;
   replica = subst (λ (x : FullReplica). ReplicaEnds e l (apply w k) k.block x) (sym r) (replica-stays f g w e l (apply w k) k.block (w.replicas k.node k.block) s (h.replicas k.node k.block));
   broke = subst (λ (o : Option Break). IfSome o (BreakEnds e l (apply w k) k.block)) (sym b)
       (some-weaker (BreakEnds f g w k.block) (BreakEnds e l (apply w k) k.block) (w.breaks k.node k.block) (λ y z. break-stays f g w e l (apply w k) k.block y s z) (h.breaks k.node k.block));
@@ -347,13 +364,14 @@ earlier-primary f g w (Some z) b m h r fresh low = λ c t d e x y no lt.
 
 -- a writer asks the office; where that begins a session, this is the latest one from then on
 asks-brings : (f : Ids) (g : Givens) (w : World) (b : ℕ) (c : OfficeCall) → Finals f g w → Facts g w → (w.writers b).told ≡ None → (block_in c).0 ≡ b
-    → (BeginsSession (w.writers b).known.phase (answer_to w.office c) → latest_with w.latest (stamped_by w c (answer_to w.office c)) b ≡ w.office.next.0) → SessionGoes w (stamped_by w c (answer_to w.office c))
+    → (BeginsSession (w.writers b).known.phase (answer_to w.office c) → latest_with w.latest (stamped_by w c (answer_to w.office c)) b ≡ w.office.next.0) → SessionGoes w (stamped_by w c (answer_to w.office c)) → Closes f g w c
     → OfficeBrings f g w f (given_with g (stamped_by w c (answer_to w.office c))) (asks_writer w b c)
-asks-brings f g w b c h a none block begins sessions = record {
+asks-brings f g w b c h a none block begins sessions closes = record {
   stays = s;
   news = office-news f f g (given_with g (stamped_by w c (answer_to w.office c))) w k h s refl refl (λ _. refl) refl (ends.ends (same-writer (λ (x : WriterRecord). WriterEnds x) (h.writers b)))
       (ends.stamps f (stamp-no-id f g w (answer_to w.office c) h (gives-next w.office c)) (same-writer (λ (x : WriterRecord). SetsNoId f x.phase) (h.stamps b))) (h.primaries 0) (λ t q. omega (arith, h.below t q, (gives w c).rises))
-      (earlier-writer f g w (stamped_by w c (answer_to w.office c)) (block_in c).0 (office_after w.office c).next.0 h a.recorded (gives w c).fresh sessions);
+      (earlier-writer f g w (stamped_by w c (answer_to w.office c)) (block_in c).0 (office_after w.office c).next.0 h a.recorded (gives w c).fresh sessions) (h.sends 0)
+      (λ d. entries-by f g w f (given_with g (stamped_by w c (answer_to w.office c))) (apply w k) s h c closes (record { 0 = d }));
 }
   where
     k : Change
@@ -503,19 +521,40 @@ stream-quiet x sent (Some p) = tt
 stream-quiet x sent None = due-quiet x (due_now x)
 
 -- a call of a writer of this block that begins no session
-other-asks : (f : Ids) (g : Givens) (w : World) (b : ℕ) (c : OfficeCall) → Finals f g w → Facts g w → (w.writers b).told ≡ None → block_in c ≡ (w.writers b).known.block → ((t : Told) → BeginsSession (w.writers b).known.phase t → ⊥) → SessionGoes w (stamped_by w c (answer_to w.office c))
+other-asks : (f : Ids) (g : Givens) (w : World) (b : ℕ) (c : OfficeCall) → Finals f g w → Facts g w → (w.writers b).told ≡ None → block_in c ≡ (w.writers b).known.block → ((t : Told) → BeginsSession (w.writers b).known.phase t → ⊥) → SessionGoes w (stamped_by w c (answer_to w.office c)) → Closes f g w c
     → OfficeBrings f g w f (given_with g (stamped_by w c (answer_to w.office c))) (asks_writer w b c)
-other-asks f g w b c h a none block never sessions = asks-brings f g w b c h a none (own-block g w b c a none block) (λ e. absurd (never (answer_to w.office c) e)) sessions
+other-asks f g w b c h a none block never sessions closes = asks-brings f g w b c h a none (own-block g w b c a none block) (λ e. absurd (never (answer_to w.office c) e)) sessions closes
   where
     own-block : (g : Givens) (w : World) (b : ℕ) (c : OfficeCall) → Facts g w → (w.writers b).told ≡ None → block_in c ≡ (w.writers b).known.block → (block_in c).0 ≡ b
     own-block g w b c a none block = ap (λ (y : BlockId). y.0) (block ∙ ap (λ (o : Option Told). (known_heard (w.writers b).known o).block) (sym none) ∙ a.recorded.writers b)
 
 accepted-asks : (f : Ids) (g : Givens) (w : World) (b : ℕ) (s : Setup) (t : Stamp) → Finals f g w → Facts g w → (w.writers b).told ≡ None → (w.writers b).known.phase ≡ phase.Accepted s t → AsksBring f g w (writer_asks (accepted_step (w.writers b).known s t).action w b)
 accepted-asks f g w b setup.Create t h a none e = tt
-accepted-asks f g w b setup.Append t h a none e = other-asks f g w b _ h a none refl (λ z q. subst (λ (p : Phase). BeginsSession p z) e q) tt
-accepted-asks f g w b setup.AppendRecovery t h a none e = other-asks f g w b _ h a none refl (λ z q. subst (λ (p : Phase). BeginsSession p z) e q) tt
-accepted-asks f g w b setup.StreamRecovery t h a none e = other-asks f g w b _ h a none refl (λ z q. subst (λ (p : Phase). BeginsSession p z) e q) tt
-accepted-asks f g w b setup.CloseRecovery t h a none e = other-asks f g w b _ h a none refl (λ z q. subst (λ (p : Phase). BeginsSession p z) e q) tt
+accepted-asks f g w b setup.Append t h a none e = other-asks f g w b _ h a none refl (λ z q. subst (λ (p : Phase). BeginsSession p z) e q) tt tt
+accepted-asks f g w b setup.AppendRecovery t h a none e = other-asks f g w b _ h a none refl (λ z q. subst (λ (p : Phase). BeginsSession p z) e q) tt tt
+accepted-asks f g w b setup.StreamRecovery t h a none e = other-asks f g w b _ h a none refl (λ z q. subst (λ (p : Phase). BeginsSession p z) e q) tt tt
+accepted-asks f g w b setup.CloseRecovery t h a none e = other-asks f g w b _ h a none refl (λ z q. subst (λ (p : Phase). BeginsSession p z) e q) tt tt
+
+-- a stamp closes nothing
+wanted-closes : (f : Ids) (g : Givens) (w : World) (x : WriterRecord) (s : Setup) → Closes f g w (stamp_call x s)
+wanted-closes f g w x setup.Create = tt
+wanted-closes f g w x setup.Append = tt
+wanted-closes f g w x setup.AppendRecovery = tt
+wanted-closes f g w x setup.StreamRecovery = tt
+wanted-closes f g w x setup.CloseRecovery = tt
+
+-- a writer completes its block with what was written in the latest session
+finished-closes : (f : Ids) (g : Givens) (w : World) (b : ℕ) → Facts g w → (w.writers b).told ≡ None → (w.writers b).known.phase ≡ phase.Finished
+    → Closes f g w (call.Complete (w.writers b).known.block (w.writers b).known.committed (written_in (w.writers b).known.stream))
+finished-closes f g w b a none e =
+    subst (λ (q : BlockId). Closes f g w (call.Complete q (w.writers b).known.committed (written_in (w.writers b).known.stream))) (sym block)
+    (λ r is. by_writer (subst (λ (x : WriterRecord). Completes g w b r.committed.0 (written_in x.stream)) same (finished-completes g w b r a (ap (λ (x : WriterRecord). x.phase) same ∙ e) is)))
+  where
+    same : heard (w.writers b) ≡ (w.writers b).known
+    same = ap (λ (o : Option Told). known_heard (w.writers b).known o) none
+
+    block : (w.writers b).known.block ≡ record { 0 = b }
+    block = ap (λ (x : WriterRecord). x.block) (sym same) ∙ a.recorded.writers b
 
 step-asks : (f : Ids) (g : Givens) (w : World) (b : ℕ) (p : Phase) → Finals f g w → Facts g w → (w.writers b).told ≡ None → (w.writers b).known.phase ≡ p → AsksBring f g w (writer_asks (step_in (w.writers b).known p).action w b)
 step-asks f g w b (phase.Wanted s) h a none e =
@@ -524,9 +563,9 @@ step-asks f g w b (phase.Wanted s) h a none e =
     let t = answer_to w.office (stamp_call x s) in
     asks-brings f g w b (stamp_call x s) h a none (ap (λ (y : BlockId). y.0) (stamp-call-block x s) ∙ own)
     (λ q. subst (λ (d : ℕ). latest_with w.latest (stamped_by w (stamp_call x s) t) d ≡ w.office.next.0) own (begins-latest w x s t (gives-next w.office (stamp_call x s)) (subst (λ (p : Phase). BeginsSession p t) e q)))
-    (wanted-session w x s t (gives-next w.office (stamp_call x s)))
+    (wanted-session w x s t (gives-next w.office (stamp_call x s))) (wanted-closes f g w x s)
 step-asks f g w b (phase.Accepted s t) h a none e = accepted-asks f g w b s t h a none e
-step-asks f g w b phase.Finished h a none e = other-asks f g w b _ h a none refl (λ z q. subst (λ (p : Phase). BeginsSession p z) e q) tt
+step-asks f g w b phase.Finished h a none e = other-asks f g w b _ h a none refl (λ z q. subst (λ (p : Phase). BeginsSession p z) e q) tt (finished-closes f g w b a none e)
 step-asks f g w b phase.Closed h a none e = quiet-asks f g w b _ (free-quiet (w.writers b).known (w.writers b).known.waiting)
 step-asks f g w b (phase.Stamped s t) h a none e = quiet-asks f g w b _ (dial-quiet (w.writers b).known s t (w.writers b).known.members)
 step-asks f g w b (phase.Requested s t) h a none e = quiet-asks f g w b _ (free-quiet (w.writers b).known (w.writers b).known.waiting)
@@ -568,9 +607,9 @@ kept-latest w None d h = refl
 kept-latest w (Some s) d h = if-each (λ (n : ℕ). n ≡ w.latest d) (d == s.block) s.latest (w.latest d) (λ e. h ∙ ap w.latest (sym (eqb-true d s.block e))) (λ _. refl)
 
 primary-stays : (f : Ids) (g : Givens) (w : World) (i : ℕ) (c : OfficeCall) (p : Told → Primary) → Finals f g w → Facts g w → Keeps w (stamped_by w c (answer_to w.office c)) → IfSome (stamped_by w c (answer_to w.office c)) (λ z. z.session < z.stamp)
-    → ((id : Stamp) → HasId (p (answer_to w.office c)) id → ids_with f (stamped_by w c (answer_to w.office c)) id.0 ≡ true)
+    → ((id : Stamp) → HasId (p (answer_to w.office c)) id → ids_with f (stamped_by w c (answer_to w.office c)) id.0 ≡ true) → LeadSent w.past (p (answer_to w.office c)) → Closes f g w c
     → OfficeBrings f g w (ids_with f (stamped_by w c (answer_to w.office c))) (given_with g (stamped_by w c (answer_to w.office c))) (asks_primary w i c p)
-primary-stays f g w i c p h a keep low ids =
+primary-stays f g w i c p h a keep low ids sends closes =
     let k = asks_primary w i c p in
     let o = stamped_by w c (answer_to w.office c) in
     let e = ids_with f o in
@@ -581,7 +620,8 @@ primary-stays f g w i c p h a keep low ids =
       stays = s;
       news = office-news f e g l w k h s refl refl (λ _. refl) refl (h.writers 0) (stamp s) ids
           (λ t q. ids-below f g w o (block_in c).0 (office_after w.office c).next.0 t h (gives w c).rises (gives w c).fresh q)
-          (earlier-primary f g w o (block_in c).0 (office_after w.office c).next.0 h a.recorded (gives w c).fresh low);
+          (earlier-primary f g w o (block_in c).0 (office_after w.office c).next.0 h a.recorded (gives w c).fresh low) sends
+          (λ d. entries-by f g w e l (apply w k) s h c closes (record { 0 = d }));
     }
   where
     shut : (b n : ℕ) → n < w.office.next.0 → Sealed (w.latest b) (heard (w.writers b)) n → Sealed (latest_with w.latest (stamped_by w c (answer_to w.office c)) b) (heard (put w.writers 0 (w.writers 0) b)) n
@@ -609,16 +649,19 @@ begun-id f w b (Ok (office.Reopened r)) id e = absurd e
 begun-id f w b (Ok office.Nothing) id e = absurd e
 begun-id f w b (Err x) id e = absurd e
 
-commits-asked : (s : OwnStep) (f : Ids) (g : Givens) (w : World) (i : ℕ) (l : Leading) → Finals f g w → Facts g w → w.primaries i ≡ leads l → LeadsBring f g w (primary_commits s w i l)
-commits-asked own.Waits f g w i l h a e = tt
-commits-asked (own.Updates c) f g w i l h a e = tt
-commits-asked (own.Commits c) f g w i l h a e = primary-stays f g w i (sync_call l.state c) (λ told. leads (record l { told = Some told })) h a tt tt (λ id y. subst (λ (t : Stamp). f t.0 ≡ true) y (leads-id f g w i l h e))
-commits-asked (own.Ends r) f g w i l h a e = tt
+commits-asked : (s : OwnStep) (f : Ids) (g : Givens) (w : World) (i : ℕ) (l : Leading) → Finals f g w → Facts g w → w.primaries i ≡ leads l → (primary.own_step l.state).does ≡ s → LeadsBring f g w (primary_commits s w i l)
+commits-asked own.Waits f g w i l h a e d = tt
+commits-asked (own.Updates c) f g w i l h a e d = tt
+commits-asked (own.Commits c) f g w i l h a e d =
+    let sent = commits-sent w.past l.state c (sent-of f g w i l h e) d in
+    primary-stays f g w i (sync_call l.state c) (λ told. leads (record l { told = Some told })) h a tt tt (λ id y. subst (λ (t : Stamp). f t.0 ≡ true) y (leads-id f g w i l h e)) (sent-of f g w i l h e)
+    (by_recovery (leads-id f g w i l h e) sent.conn sent.block sent.sent)
+commits-asked (own.Ends r) f g w i l h a e d = tt
 
 pub primary-asks-brings : (x : Primary) (f : Ids) (g : Givens) (w : World) (i : ℕ) (b : BlockId) → Finals f g w → Facts g w → w.primaries i ≡ x → LeadsBring f g w (primary_asks x w i b)
 primary-asks-brings no_primary f g w i b h a e =
-    let t = answer_to w.office (call.BeginRecovery b) in primary-stays f g w i (call.BeginRecovery b) (was_told b) h a (begin-keeps w b t) (keeps-by g w (call.BeginRecovery b) a.recorded tt) (λ id y. begun-id f w b t id y)
+    let t = answer_to w.office (call.BeginRecovery b) in primary-stays f g w i (call.BeginRecovery b) (was_told b) h a (begin-keeps w b t) (keeps-by g w (call.BeginRecovery b) a.recorded tt) (λ id y. begun-id f w b t id y) tt tt
 primary-asks-brings (was_told c t) f g w i b h a e = tt
 primary-asks-brings (leads l) f g w i b h a e =
-    when-each (λ k. OfficeBrings f g w (ids_with f k.stamped) (given_with g k.stamped) k) (is_alive w l.at && is_none l.told) _ (λ _. commits-asked (primary.own_step l.state).does f g w i l h a e)
+    when-each (λ k. OfficeBrings f g w (ids_with f k.stamped) (given_with g k.stamped) k) (is_alive w l.at && is_none l.told) _ (λ _. commits-asked (primary.own_step l.state).does f g w i l h a e refl)
 primary-asks-brings (has_led r) f g w i b h a e = tt

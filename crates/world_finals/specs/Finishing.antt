@@ -20,11 +20,15 @@ use Rattle.writer_core.specs.declared.phases.Setup.{Setup}
 use Rattle.writer_core.specs.declared.phases.Setup.TheVariants as setup
 use Rattle.writer_core.specs.declared.phases.Waiting.TheVariants as waiting
 use Rattle.writer_core.specs.declared.records.WriterRecord.{WriterRecord}
+use Rattle.recovery_core.specs.declared.primary.Phase.{Phase as LeadPhase}
+use Rattle.recovery_core.specs.declared.primary.Phase.TheVariants as lead_phase
+use Rattle.recovery_core.specs.declared.standings.Standing.{Standing}
+use Rattle.recovery_core.specs.declared.standings.Standing.TheVariants as standing
 use Rattle.world.specs.declared.events.Caller.TheVariants as caller
 use Rattle.world.specs.declared.events.Event.{Event}
 use Rattle.world.specs.declared.events.Event.TheVariants as event
-use Rattle.world.specs.Parts.{Message, request, packet, Break}
-use Rattle.world.specs.Worlds.{World, Stamped, put, start}
+use Rattle.world.specs.Parts.{Message, request, packet, Primary, leads, Break}
+use Rattle.world.specs.Worlds.{Past, World, Stamped, put, start}
 use Rattle.world.specs.Primaries.{office_event}
 use Rattle.world.specs.Events.{happens, run}
 use Rattle.world_laws.specs.Stamping.{Givens, none_given, given_in, stamped_in, heard}
@@ -91,6 +95,24 @@ pub record EndsAt (g : Givens) (w : World) (b stamp n : ℕ) : Type 0 where
 pub data FinalLength (f : Ids) (g : Givens) (w : World) (b stamp n : ℕ) : Type 0 where
   of_recovery : f stamp ≡ true → (c d : ℕ) → Updates w.past c d (record { 0 = stamp }) n → FinalLength f g w b stamp n
   of_session : f stamp ≡ false → EndsAt g w b stamp n → FinalLength f g w b stamp n
+
+-- CLOSED BLOCKS
+
+-- A block's writer closed it under a stamp: with all that was written in the stamp's session, which is no earlier one
+-- than that of any stamp up to it.
+pub record Completes (g : Givens) (w : World) (b stamp n : ℕ) : Type 0 where
+  pub ends : EndsAt g w b stamp n
+  pub last : (t e : ℕ) → g b t ≡ Some e → t ≤ stamp → e ≤ ends.session
+
+-- The length that a block is closed with under a stamp: under a recovery's id the one that was sent as its length, or
+-- what its writer closed it with.
+pub data ClosedLength (f : Ids) (g : Givens) (w : World) (b stamp n : ℕ) : Type 0 where
+  by_recovery : f stamp ≡ true → (c d : ℕ) → Updates w.past c d (record { 0 = stamp }) n → ClosedLength f g w b stamp n
+  by_writer : Completes g w b stamp n → ClosedLength f g w b stamp n
+
+-- so it is of a closed block's committed stamp and length
+pub record EntryEnds (f : Ids) (g : Givens) (w : World) (b : ℕ) (r : BlockRecord) : Type 0 where
+  pub closed : r.is_open ≡ false → ClosedLength f g w b r.committed.0 r.length
 
 -- MESSAGES
 
@@ -179,6 +201,30 @@ pub record WriterEnds (x : WriterRecord) : Type 0 where
   pub last : has_packets x.phase ≡ true → (i : ℕ) (p : Packet) → slice_get x.stream.unacked i ≡ Some p →
       p.last ≡ true → is_closing x.phase ≡ true
 
+-- PRIMARIES
+
+-- a member that was sent the UPDATE, and didn't fail since
+abbrev pub IsUpdating : Standing → Type 0
+IsUpdating standing.Updating = Unit {0}
+IsUpdating standing.Updated = Unit {0}
+IsUpdating _ = ⊥
+
+-- some UPDATE to this length was sent, of the recovery with this id
+pub record SentLength (h : Past) (id : Stamp) (n : ℕ) : Type 0 where
+  pub conn : ℕ
+  pub block : ℕ
+  pub sent : Updates h conn block id n
+
+-- behind the choice such a member stands only where an UPDATE to the chosen length was sent
+abbrev pub PhaseSent : Past → Stamp → LeadPhase → List Standing → Type 0
+PhaseSent h id (lead_phase.Updating n) standings = (p : ℕ) (s : Standing) → slice_get standings p ≡ Some s →
+    IsUpdating s → SentLength h id n
+PhaseSent h id _ standings = Unit {0}
+
+abbrev pub LeadSent : Past → Primary → Type 0
+LeadSent h (leads l) = PhaseSent h l.state.begun.id l.state.phase l.state.standings
+LeadSent h _ = Unit {0}
+
 -- STAMPS
 
 -- where a session has begun, the stamps of setups of earlier sessions are earlier
@@ -196,6 +242,8 @@ pub record Finals (f : Ids) (g : Givens) (w : World) : Type 0 where
   pub stamps : (b : ℕ) → SetsNoId f (heard (w.writers b)).phase
   pub primaries : (i : ℕ) (id : Stamp) → HasId (w.primaries i) id → f id.0 ≡ true
   pub earlier : Earlier f g
+  pub sends : (i : ℕ) → LeadSent w.past (w.primaries i)
+  pub entries : (b : ℕ) → IfSome (record_of w.office (record { 0 = b })) (EntryEnds f g w b)
 
 -- So it is after every list of events, of the stamps and ids that are given in them.
 abbrev pub AllFinal : Type 0
