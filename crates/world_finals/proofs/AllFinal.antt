@@ -203,6 +203,7 @@ start-final nodes = record {
   primaries = λ i id x. absurd x;
   sends = λ i. tt;
   entries = λ b. tt;
+  sessions = λ b e q. absurd (none-some e q);
 }
 
 pub all-final : (nodes : ℕ) (events : List Event) → Finals (ids_in no_ids (start nodes) events) (given_in none_given (start nodes) events) (run (start nodes) events)

@@ -82,6 +82,7 @@ apart-news f g w k h a e x downs dials ends stamp =
       earlier = h.earlier;
       sends = o.sends;
       entries = o.entries;
+      sessions = o.sessions;
     }
 
 -- a writer that goes on, and sends nothing

@@ -1,5 +1,5 @@
 -- What a change leaves of the lengths of FINALIZED replicas, and what is needed of what is new in it.
-use Rattle.std.proofs.Common.{◌≡◌, ℕ, ◌<◌, ◌+◌, ◌⊎◌, inl, inr, true, List, [], length, slice_get, Option, Some, None, IfSome, refl, sym, ◌∙◌, ap, subst, arith, eqb-true, ◌≤◌}
+use Rattle.std.proofs.Common.{◌≡◌, ℕ, ◌<◌, ◌+◌, ◌⊎◌, inl, inr, true, List, [], length, length-append, slice_get, Option, Some, None, IfSome, refl, sym, ◌∙◌, ap, subst, arith, eqb-true, ◌≤◌}
 use Rattle.std.specs.Prelude.{◌==◌}
 use Rattle.hd_base.specs.declared.numbers.Stamp.{Stamp}
 use Rattle.name_core.specs.declared.records.BlockRecord.{BlockRecord}
@@ -26,7 +26,7 @@ use Rattle.world_laws.proofs.ByteWriting.{only-own}
 use Rattle.world_laws.proofs.SetupNodes.{put-at-split}
 use Rattle.world_recoveries.specs.Recovering.{Updates, HasId}
 use Rattle.world_recoveries.proofs.Histories.{begins-get, NewDown, was_sent, is_sent, is_dialled, new-down}
-use Rattle.world_finals.specs.Finishing.{Ids, writes_no_more, EndsAt, FinalLength, of_recovery, of_session, Completes, ClosedLength, by_recovery, by_writer, EntryEnds, PhaseSent, LeadSent, DownEnds, IsFinalOf, LastPending, ReplicaEnds, BreakEnds, SetsNoId, WriterEnds, Finals, Earlier}
+use Rattle.world_finals.specs.Finishing.{Ids, writes_no_more, EndsAt, FinalLength, of_recovery, of_session, Completes, ClosedLength, by_recovery, by_writer, EntryEnds, SessionBegins, first_session, begins_behind, PhaseSent, LeadSent, DownEnds, IsFinalOf, LastPending, ReplicaEnds, BreakEnds, SetsNoId, WriterEnds, Finals, Earlier}
 use Rattle.std.proofs.lemmas.Bool.{cases_lt}
 use Rattle.std.proofs.lemmas.Option.{same_Some}
 use Rattle.world_recoveries.specs.Naming.{IsBefore, NamesPast}
@@ -96,6 +96,28 @@ pub entries-stay : (f : Ids) (g : Givens) (w : World) (e : Ids) (l : Givens) (v 
 entries-stay f g w e l v o s same h b =
     subst (λ (q : OfficeState). IfSome (record_of q (record { 0 = b })) (EntryEnds e l v b)) (sym same)
     (some-weaker (EntryEnds f g w b) (EntryEnds e l v b) (record_of w.office (record { 0 = b })) (λ r x. record { closed = λ q. closed-stays f g w e l v b r.committed.0 r.length s (x.closed q) }) (h b))
+
+-- HOW SESSIONS BEGIN
+
+pub begins-stays : (f : Ids) (g : Givens) (w : World) (e : Ids) (l : Givens) (v : World) (b i n : ℕ) → Stays f g w e l v → g b i ≡ Some i → SessionBegins f g w b i n → SessionBegins e l v b i n
+begins-stays f g w e l v b i n s own (first_session h) = first_session (λ t d q. go t d q (cases_lt t i))
+  where
+    go : (t d : ℕ) → l b t ≡ Some d → (t < i) ⊎ (i ≤ t) → i ≤ t
+    go t d q (inl z) = h t d (s.back b t i d i q own (omega (arith, z)))
+    go t d q (inr z) = z
+begins-stays f g w e l v b i n s own (begins_behind c m x k le) =
+    begins_behind c m (record { base = x.base; is = s.same b c x.base x.is; less = x.less; last = λ t d q z. x.last t d (s.back b t i d i q own (omega (arith, z))) z }) (closed-stays f g w e l v b c m s k) le
+
+pub begins-more : (f : Ids) (g : Givens) (w : World) (b i n m : ℕ) → n ≤ m → SessionBegins f g w b i n → SessionBegins f g w b i m
+begins-more f g w b i n m le (first_session h) = first_session h
+begins-more f g w b i n m le (begins_behind c k x y z) = begins_behind c k x y (omega (arith, le, z))
+
+-- a session that had begun
+pub session-stays : (f : Ids) (g : Givens) (w : World) (e : Ids) (l : Givens) (v : World) (b i : ℕ) → Stays f g w e l v → Finals f g w → g b i ≡ Some i → SessionBegins e l v b i (length (v.written i))
+session-stays f g w e l v b i s h q =
+    let x = s.past.written i in
+    let more : length (w.written i) ≤ length (v.written i) = omega (arith, ap (λ (xs : List ℕ). length xs) x.joins, length-append (w.written i) x.rest) in
+    begins-more e l v b i (length (w.written i)) (length (v.written i)) more (begins-stays f g w e l v b i (length (w.written i)) s q (h.sessions b i q))
 
 -- what was sent of a recovery stays sent
 phase-sent : (h p : Past) (id : Stamp) (q : LeadPhase) (ss : List Standing) → Grows h p → PhaseSent h id q ss → PhaseSent p id q ss
@@ -174,6 +196,7 @@ pub record News (f : Ids) (g : Givens) (w : World) (k : Change) : Type 0 where
   pub earlier : Earlier f g
   pub sends : LeadSent (past_after w k) k.primary
   pub entries : (b : ℕ) → IfSome (record_of k.office (record { 0 = b })) (EntryEnds f g (apply w k) b)
+  pub sessions : (b i : ℕ) → g b i ≡ Some i → SessionBegins f g (apply w k) b i (length ((apply w k).written i))
 
 pub sets-stays : (f : Ids) (g : Givens) (w : World) (e : Ids) (l : Givens) (v : World) (b n : ℕ) (c : Stamp) (x : StreamState) (p : Phase) → Stays f g w e l v → Asks (g b) w.past n c x p → SetsNoId f p → SetsNoId e p
 sets-stays f g w e l v b n c x (phase.Stamped way t) s a h = s.ids t.0 (s.given_below b t.0 n a.given) ∙ h
@@ -202,6 +225,7 @@ keeps f g w e l k h a s n = record {
   below = n.below;
   earlier = n.earlier;
   entries = n.entries;
+  sessions = n.sessions;
   sends = put-each (λ (i : ℕ) (x : Primary). LeadSent (past_after w k) x) w.primaries k.primary_at k.primary n.sends (λ i. lead-sent w.past (past_after w k) (w.primaries i) (past-grows w k) (h.sends i));
   downs = keeps-downs f g w e l k h a s n;
   replicas = put-at-split (λ (m b : ℕ) (r : FullReplica). ReplicaEnds e l (apply w k) b r) w.replicas k.node k.block k.replica n.replica (λ m b _. replica-stays f g w e l (apply w k) b (w.replicas m b) s (h.replicas m b));
@@ -261,11 +285,13 @@ ends-stay g w k r h b t n x = record {
 pub record Leaves (f : Ids) (g : Givens) (w : World) (k : Change) : Type 0 where
   pub sends : LeadSent (past_after w k) k.primary
   pub entries : (b : ℕ) → IfSome (record_of k.office (record { 0 = b })) (EntryEnds f g (apply w k) b)
+  pub sessions : (b i : ℕ) → g b i ≡ Some i → SessionBegins f g (apply w k) b i (length ((apply w k).written i))
 
 pub leaves : (f : Ids) (g : Givens) (w : World) (k : Change) → Finals f g w → Stays f g w f g (apply w k) → k.office ≡ w.office → k.primary ≡ w.primaries k.primary_at → Leaves f g w k
 leaves f g w k h s office primary = record {
   sends = subst (λ (x : Primary). LeadSent (past_after w k) x) (sym primary) (lead-sent w.past (past_after w k) (w.primaries k.primary_at) (past-grows w k) (h.sends k.primary_at));
   entries = entries-stay f g w f g (apply w k) k.office s office h.entries;
+  sessions = λ b i q. session-stays f g w f g (apply w k) b i s h q;
 }
 
 pub grown : (w : World) (k : Change) → Grows w.past (apply w k).past

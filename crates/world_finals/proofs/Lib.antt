@@ -6,6 +6,7 @@ pub mod Nodes
 pub mod Clients
 pub mod Updating
 pub mod Entries
+pub mod Opening
 pub mod Steps
 pub mod Restarting
 pub mod Still

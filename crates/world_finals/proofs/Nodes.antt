@@ -98,6 +98,7 @@ makes-news f g w k h a n =
       earlier = h.earlier;
       sends = o.sends;
       entries = o.entries;
+      sessions = o.sessions;
     }
 
 -- what is known where a lower end takes something

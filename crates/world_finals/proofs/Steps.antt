@@ -12,7 +12,7 @@ use Rattle.name_core.specs.declared.calls.OfficeAnswer.TheVariants as office
 use Rattle.name_core.specs.declared.calls.OfficeCall.{OfficeCall}
 use Rattle.name_core.specs.declared.calls.OfficeCall.TheVariants as call
 use Rattle.name_core.specs.declared.choice.Chosen.{Chosen}
-use Rattle.name_core.specs.Offices.{OfficeState, office_after, answer_to, record_of}
+use Rattle.name_core.specs.Offices.{OfficeState, office_after, office_case, answer_to, record_of}
 use Rattle.name_core.specs.Steps.{Step, reply}
 use Rattle.name_core.proofs.CaseLemmas.{each_case}
 use Rattle.op_headers.specs.declared.ops.Op.TheVariants as op
@@ -45,7 +45,7 @@ use Rattle.world.specs.Connections.{Next, is_alive, place_of}
 use Rattle.world.specs.Clients.{are_members}
 use Rattle.world.specs.Primaries.{primary_change, dials_answered, recovery_message, begins_with, begins_as, begins_at, own_recover, updates_change, ends_change, leads_step, commits_step, leads_told, own_primary_as, own_primary, heard_of, listens, hears_change, primary_up_as, primary_up, stamped_by, asks_writer, asks_primary, writer_asks, writer_asks_office, primary_commits, primary_asks}
 use Rattle.world_laws.proofs.FactTables.{if-each, when-each, and-left, some-weaker}
-use Rattle.world_laws.proofs.OfficeSteps.{block_in}
+use Rattle.world_laws.proofs.OfficeSteps.{AsksAs, block_in}
 use Rattle.world_laws.specs.Stamping.{Givens, given_with, known_heard, heard, HeldOf, Recorded}
 use Rattle.world_laws.proofs.StampGivens.{put-here, put-there}
 use Rattle.world_laws.proofs.StampRecording.{gives, others-latest, given-each}
@@ -56,11 +56,12 @@ use Rattle.world_laws.proofs.ByteOffices.{office-extends, Answered, old-written}
 use Rattle.world_recoveries.specs.Recovering.{ToldId, HasId, LeadFits, Recovering}
 use Rattle.world_recoveries.proofs.Choosing.{own-updates}
 use Rattle.world_recoveries.proofs.Leading.{chosen_op, updates-at, dial-of, heard-id}
-use Rattle.world_finals.specs.Finishing.{Ids, ids_with, writes_no_more, Sealed, EndsAt, Completes, ClosedLength, by_recovery, by_writer, EntryEnds, PhaseSent, LeadSent, DownEnds, ReplicaEnds, BreakEnds, SetsNoId, WriterEnds, Finals, Earlier}
+use Rattle.world_finals.specs.Finishing.{Ids, ids_with, writes_no_more, Sealed, EndsAt, Completes, ClosedLength, by_recovery, by_writer, EntryEnds, SessionBegins, PhaseSent, LeadSent, DownEnds, ReplicaEnds, BreakEnds, SetsNoId, WriterEnds, Finals, Earlier}
 use Rattle.world_finals.proofs.Writers.{BeginsSession, StampNoId, AnswerEnds, granted-ends}
-use Rattle.world_finals.proofs.Frame.{Stays, Ends, sets-stays, replica-stays, break-stays, entries-stay, lead-sent, grown, News, stays-so}
+use Rattle.world_finals.proofs.Frame.{Stays, Ends, sets-stays, replica-stays, break-stays, entries-stay, begins-more, session-stays, lead-sent, grown, News, stays-so}
 use Rattle.world_finals.proofs.Updating.{heard-sent, updates-sent, commits-sent}
 use Rattle.world_finals.proofs.Entries.{Closes, finished-completes, entries-by}
+use Rattle.world_finals.proofs.Opening.{BegunAs, Wrote, begun-by}
 use Rattle.world_finals.proofs.Clients.{Brings}
 use Rattle.world_recoveries.proofs.Naming.{keeps-by}
 use Rattle.name_core.specs.declared.records.BlockRecord.{BlockRecord}
@@ -97,6 +98,7 @@ lead-brings f g w k h a x downs dials ids sends =
         earlier = h.earlier;
         sends = sends;
         entries = entries-stay f g w f g v k.office s x.office h.entries;
+        sessions = λ d i q. session-stays f g w f g v d i s h q;
       };
     }
 
@@ -293,11 +295,12 @@ office-stays f e g w c k h a x ids shut = record { same = (office-extends g w c 
 -- what is new where the office answers
 office-news : (f e : Ids) (g l : Givens) (w : World) (k : Change) → Finals f g w → Stays f g w e l (apply w k) → k.replica ≡ w.replicas k.node k.block → k.broke ≡ w.breaks k.node k.block → ((c : ℕ) → k.downs c ≡ []) → k.dials ≡ []
     → WriterEnds (heard k.writer) → SetsNoId e (heard k.writer).phase → ((id : Stamp) → HasId k.primary id → e id.0 ≡ true) → ((t : ℕ) → e t ≡ true → t < k.office.next.0) → Earlier e l → LeadSent w.past k.primary → ((b : ℕ) → IfSome (record_of k.office (record { 0 = b })) (EntryEnds e l (apply w k) b))
-    → News e l w k
-office-news f e g l w k h s r b d ds ends stamp ids below earlier sends entries = record {
+    → ((b i : ℕ) → l b i ≡ Some i → SessionBegins e l (apply w k) b i (length ((apply w k).written i))) → News e l w k
+office-news f e g l w k h s r b d ds ends stamp ids below earlier sends entries sessions = record {
   earlier = earlier;
   sends = lead-sent w.past (past_after w k) k.primary (past-grows w k) sends;
   entries = entries;
+  sessions = sessions;
   replica = subst (λ (x : FullReplica). ReplicaEnds e l (apply w k) k.block x) (sym r) (replica-stays f g w e l (apply w k) k.block (w.replicas k.node k.block) s (h.replicas k.node k.block));
   broke = subst (λ (o : Option Break). IfSome o (BreakEnds e l (apply w k) k.block)) (sym b)
       (some-weaker (BreakEnds f g w k.block) (BreakEnds e l (apply w k) k.block) (w.breaks k.node k.block) (λ y z. break-stays f g w e l (apply w k) k.block y s z) (h.breaks k.node k.block));
@@ -362,16 +365,21 @@ earlier-primary f g w (Some z) b m h r fresh low = λ c t d e x y no lt.
 
 -- WRITERS THAT ASK
 
+-- what is written after an answer to a writer
+wrote-so : (w : World) (b : ℕ) (c : OfficeCall) → Wrote w c (office_case w.office c) (apply w (asks_writer w b c))
+unfolding apply
+wrote-so w b c n = refl
+
 -- a writer asks the office; where that begins a session, this is the latest one from then on
 asks-brings : (f : Ids) (g : Givens) (w : World) (b : ℕ) (c : OfficeCall) → Finals f g w → Facts g w → (w.writers b).told ≡ None → (block_in c).0 ≡ b
-    → (BeginsSession (w.writers b).known.phase (answer_to w.office c) → latest_with w.latest (stamped_by w c (answer_to w.office c)) b ≡ w.office.next.0) → SessionGoes w (stamped_by w c (answer_to w.office c)) → Closes f g w c
+    → (BeginsSession (w.writers b).known.phase (answer_to w.office c) → latest_with w.latest (stamped_by w c (answer_to w.office c)) b ≡ w.office.next.0) → SessionGoes w (stamped_by w c (answer_to w.office c)) → Closes f g w c → AsksAs (w.writers b).known c
     → OfficeBrings f g w f (given_with g (stamped_by w c (answer_to w.office c))) (asks_writer w b c)
-asks-brings f g w b c h a none block begins sessions closes = record {
+asks-brings f g w b c h a none block begins sessions closes asks = record {
   stays = s;
   news = office-news f f g (given_with g (stamped_by w c (answer_to w.office c))) w k h s refl refl (λ _. refl) refl (ends.ends (same-writer (λ (x : WriterRecord). WriterEnds x) (h.writers b)))
       (ends.stamps f (stamp-no-id f g w (answer_to w.office c) h (gives-next w.office c)) (same-writer (λ (x : WriterRecord). SetsNoId f x.phase) (h.stamps b))) (h.primaries 0) (λ t q. omega (arith, h.below t q, (gives w c).rises))
       (earlier-writer f g w (stamped_by w c (answer_to w.office c)) (block_in c).0 (office_after w.office c).next.0 h a.recorded (gives w c).fresh sessions) (h.sends 0)
-      (λ d. entries-by f g w f (given_with g (stamped_by w c (answer_to w.office c))) (apply w k) s h c closes (record { 0 = d }));
+      (λ d. entries-by f g w f (given_with g (stamped_by w c (answer_to w.office c))) (apply w k) s h c closes (record { 0 = d })) new-sessions;
 }
   where
     k : Change
@@ -411,6 +419,18 @@ asks-brings f g w b c h a none block begins sessions closes = record {
 
     s : Stays f g w f (given_with g (stamped_by w c (answer_to w.office c))) (apply w k)
     s = office-stays f f g w c k h a (record { office = refl; stamped = refl; session = refl; bytes = refl }) (λ t _. refl) shut
+
+    new : IfSome (stamped_by w c (answer_to w.office c)) (BegunAs f (given_with g (stamped_by w c (answer_to w.office c))) (apply w k) (granted (w.writers b).known (answer_to w.office c)).stream.acked)
+    new = begun-by f g w (apply w k) h a c (w.writers b).known asks
+        (subst (λ (d : ℕ). HeldOf (g d) (w.latest d) (record_of w.office (record { 0 = d })) (w.writers b).known) (sym block) (same-writer (λ (x : WriterRecord). HeldOf (g b) (w.latest b) (record_of w.office (record { 0 = b })) x) (a.recorded.blocks b)))
+        s (wrote-so w b c)
+
+    new-sessions : (d i : ℕ) → given_with g (stamped_by w c (answer_to w.office c)) d i ≡ Some i → SessionBegins f (given_with g (stamped_by w c (answer_to w.office c))) (apply w k) d i (length ((apply w k).written i))
+    new-sessions d i q = given-each (λ (d t j : ℕ). t ≡ j → SessionBegins f (given_with g (stamped_by w c (answer_to w.office c))) (apply w k) d t (length ((apply w k).written t))) g (stamped_by w c (answer_to w.office c))
+        (some-weaker (BegunAs f (given_with g (stamped_by w c (answer_to w.office c))) (apply w k) (granted (w.writers b).known (answer_to w.office c)).stream.acked)
+        (λ z. z.stamp ≡ z.session → SessionBegins f (given_with g (stamped_by w c (answer_to w.office c))) (apply w k) z.block z.stamp (length ((apply w k).written z.stamp))) (stamped_by w c (answer_to w.office c))
+        (λ z x e. let y = x (sym e) in begins-more f (given_with g (stamped_by w c (answer_to w.office c))) (apply w k) z.block z.stamp y.least (length ((apply w k).written z.stamp)) y.written y.begins) new)
+        (λ d t j r e. session-stays f g w f (given_with g (stamped_by w c (answer_to w.office c))) (apply w k) d t s h (r ∙ ap (λ (n : ℕ). Some n) (sym e))) d i i q refl
 
 again-session : (w : World) (b : BlockId) (t : Told) → SessionGoes w (stamped_by w (call.NewStamp b) t)
 again-session w b (Ok (office.Stamp s)) = inl refl
@@ -521,19 +541,19 @@ stream-quiet x sent (Some p) = tt
 stream-quiet x sent None = due-quiet x (due_now x)
 
 -- a call of a writer of this block that begins no session
-other-asks : (f : Ids) (g : Givens) (w : World) (b : ℕ) (c : OfficeCall) → Finals f g w → Facts g w → (w.writers b).told ≡ None → block_in c ≡ (w.writers b).known.block → ((t : Told) → BeginsSession (w.writers b).known.phase t → ⊥) → SessionGoes w (stamped_by w c (answer_to w.office c)) → Closes f g w c
+other-asks : (f : Ids) (g : Givens) (w : World) (b : ℕ) (c : OfficeCall) → Finals f g w → Facts g w → (w.writers b).told ≡ None → block_in c ≡ (w.writers b).known.block → ((t : Told) → BeginsSession (w.writers b).known.phase t → ⊥) → SessionGoes w (stamped_by w c (answer_to w.office c)) → Closes f g w c → AsksAs (w.writers b).known c
     → OfficeBrings f g w f (given_with g (stamped_by w c (answer_to w.office c))) (asks_writer w b c)
-other-asks f g w b c h a none block never sessions closes = asks-brings f g w b c h a none (own-block g w b c a none block) (λ e. absurd (never (answer_to w.office c) e)) sessions closes
+other-asks f g w b c h a none block never sessions closes asks = asks-brings f g w b c h a none (own-block g w b c a none block) (λ e. absurd (never (answer_to w.office c) e)) sessions closes asks
   where
     own-block : (g : Givens) (w : World) (b : ℕ) (c : OfficeCall) → Facts g w → (w.writers b).told ≡ None → block_in c ≡ (w.writers b).known.block → (block_in c).0 ≡ b
     own-block g w b c a none block = ap (λ (y : BlockId). y.0) (block ∙ ap (λ (o : Option Told). (known_heard (w.writers b).known o).block) (sym none) ∙ a.recorded.writers b)
 
 accepted-asks : (f : Ids) (g : Givens) (w : World) (b : ℕ) (s : Setup) (t : Stamp) → Finals f g w → Facts g w → (w.writers b).told ≡ None → (w.writers b).known.phase ≡ phase.Accepted s t → AsksBring f g w (writer_asks (accepted_step (w.writers b).known s t).action w b)
 accepted-asks f g w b setup.Create t h a none e = tt
-accepted-asks f g w b setup.Append t h a none e = other-asks f g w b _ h a none refl (λ z q. subst (λ (p : Phase). BeginsSession p z) e q) tt tt
-accepted-asks f g w b setup.AppendRecovery t h a none e = other-asks f g w b _ h a none refl (λ z q. subst (λ (p : Phase). BeginsSession p z) e q) tt tt
-accepted-asks f g w b setup.StreamRecovery t h a none e = other-asks f g w b _ h a none refl (λ z q. subst (λ (p : Phase). BeginsSession p z) e q) tt tt
-accepted-asks f g w b setup.CloseRecovery t h a none e = other-asks f g w b _ h a none refl (λ z q. subst (λ (p : Phase). BeginsSession p z) e q) tt tt
+accepted-asks f g w b setup.Append t h a none e = other-asks f g w b _ h a none refl (λ z q. subst (λ (p : Phase). BeginsSession p z) e q) tt tt (record { way = setup.Append; at = e; later = tt; block = refl })
+accepted-asks f g w b setup.AppendRecovery t h a none e = other-asks f g w b _ h a none refl (λ z q. subst (λ (p : Phase). BeginsSession p z) e q) tt tt (record { way = setup.AppendRecovery; at = e; later = tt; block = refl })
+accepted-asks f g w b setup.StreamRecovery t h a none e = other-asks f g w b _ h a none refl (λ z q. subst (λ (p : Phase). BeginsSession p z) e q) tt tt (record { way = setup.StreamRecovery; at = e; later = tt; block = refl })
+accepted-asks f g w b setup.CloseRecovery t h a none e = other-asks f g w b _ h a none refl (λ z q. subst (λ (p : Phase). BeginsSession p z) e q) tt tt (record { way = setup.CloseRecovery; at = e; later = tt; block = refl })
 
 -- a stamp closes nothing
 wanted-closes : (f : Ids) (g : Givens) (w : World) (x : WriterRecord) (s : Setup) → Closes f g w (stamp_call x s)
@@ -542,6 +562,13 @@ wanted-closes f g w x setup.Append = tt
 wanted-closes f g w x setup.AppendRecovery = tt
 wanted-closes f g w x setup.StreamRecovery = tt
 wanted-closes f g w x setup.CloseRecovery = tt
+
+wanted-asks : (x : WriterRecord) (s : Setup) → x.phase ≡ phase.Wanted s → AsksAs x (stamp_call x s)
+wanted-asks x setup.Create e = record { at = e; block = refl }
+wanted-asks x setup.Append e = record { at = e; block = refl }
+wanted-asks x setup.AppendRecovery e = record { way = setup.AppendRecovery; at = e; again = tt; block = refl }
+wanted-asks x setup.StreamRecovery e = record { way = setup.StreamRecovery; at = e; again = tt; block = refl }
+wanted-asks x setup.CloseRecovery e = record { way = setup.CloseRecovery; at = e; again = tt; block = refl }
 
 -- a writer completes its block with what was written in the latest session
 finished-closes : (f : Ids) (g : Givens) (w : World) (b : ℕ) → Facts g w → (w.writers b).told ≡ None → (w.writers b).known.phase ≡ phase.Finished
@@ -563,9 +590,9 @@ step-asks f g w b (phase.Wanted s) h a none e =
     let t = answer_to w.office (stamp_call x s) in
     asks-brings f g w b (stamp_call x s) h a none (ap (λ (y : BlockId). y.0) (stamp-call-block x s) ∙ own)
     (λ q. subst (λ (d : ℕ). latest_with w.latest (stamped_by w (stamp_call x s) t) d ≡ w.office.next.0) own (begins-latest w x s t (gives-next w.office (stamp_call x s)) (subst (λ (p : Phase). BeginsSession p t) e q)))
-    (wanted-session w x s t (gives-next w.office (stamp_call x s))) (wanted-closes f g w x s)
+    (wanted-session w x s t (gives-next w.office (stamp_call x s))) (wanted-closes f g w x s) (wanted-asks x s e)
 step-asks f g w b (phase.Accepted s t) h a none e = accepted-asks f g w b s t h a none e
-step-asks f g w b phase.Finished h a none e = other-asks f g w b _ h a none refl (λ z q. subst (λ (p : Phase). BeginsSession p z) e q) tt (finished-closes f g w b a none e)
+step-asks f g w b phase.Finished h a none e = other-asks f g w b _ h a none refl (λ z q. subst (λ (p : Phase). BeginsSession p z) e q) tt (finished-closes f g w b a none e) (record { at = e; block = refl })
 step-asks f g w b phase.Closed h a none e = quiet-asks f g w b _ (free-quiet (w.writers b).known (w.writers b).known.waiting)
 step-asks f g w b (phase.Stamped s t) h a none e = quiet-asks f g w b _ (dial-quiet (w.writers b).known s t (w.writers b).known.members)
 step-asks f g w b (phase.Requested s t) h a none e = quiet-asks f g w b _ (free-quiet (w.writers b).known (w.writers b).known.waiting)
@@ -621,7 +648,9 @@ primary-stays f g w i c p h a keep low ids sends closes =
       news = office-news f e g l w k h s refl refl (λ _. refl) refl (h.writers 0) (stamp s) ids
           (λ t q. ids-below f g w o (block_in c).0 (office_after w.office c).next.0 t h (gives w c).rises (gives w c).fresh q)
           (earlier-primary f g w o (block_in c).0 (office_after w.office c).next.0 h a.recorded (gives w c).fresh low) sends
-          (λ d. entries-by f g w e l (apply w k) s h c closes (record { 0 = d }));
+          (λ d. entries-by f g w e l (apply w k) s h c closes (record { 0 = d }))
+          (λ d n q. given-each (λ (d t j : ℕ). t ≡ j → SessionBegins e l (apply w k) d t (length ((apply w k).written t))) g o (some-weaker (λ z. z.session < z.stamp) (λ z. z.stamp ≡ z.session → SessionBegins e l (apply w k) z.block z.stamp (length ((apply w k).written z.stamp))) o
+          (λ z lt same. absurd (omega (arith, lt, same))) low) (λ d t j r same. session-stays f g w e l (apply w k) d t s h (r ∙ ap (λ (m : ℕ). Some m) (sym same))) d n n q refl);
     }
   where
     shut : (b n : ℕ) → n < w.office.next.0 → Sealed (w.latest b) (heard (w.writers b)) n → Sealed (latest_with w.latest (stamped_by w c (answer_to w.office c)) b) (heard (put w.writers 0 (w.writers 0) b)) n

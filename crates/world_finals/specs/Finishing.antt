@@ -34,7 +34,7 @@ use Rattle.world.specs.Events.{happens, run}
 use Rattle.world_laws.specs.Stamping.{Givens, none_given, given_in, stamped_in, heard}
 use Rattle.world_laws.specs.Carrying.{new_stamp, Sets}
 use Rattle.world_recoveries.specs.Recovering.{Updates, HasId}
-use Rattle.world_recoveries.specs.Naming.{NamesPast}
+use Rattle.world_recoveries.specs.Naming.{IsBefore, NamesPast}
 
 -- THE IDS OF RECOVERIES
 
@@ -113,6 +113,14 @@ pub data ClosedLength (f : Ids) (g : Givens) (w : World) (b stamp n : ℕ) : Typ
 -- so it is of a closed block's committed stamp and length
 pub record EntryEnds (f : Ids) (g : Givens) (w : World) (b : ℕ) (r : BlockRecord) : Type 0 where
   pub closed : r.is_open ≡ false → ClosedLength f g w b r.committed.0 r.length
+
+-- HOW SESSIONS BEGIN
+
+-- A session is the first of its block; or it began with the length that the block was closed with under the last stamp
+-- before it, which is at most n.
+pub data SessionBegins (f : Ids) (g : Givens) (w : World) (b e n : ℕ) : Type 0 where
+  first_session : ((t d : ℕ) → g b t ≡ Some d → e ≤ t) → SessionBegins f g w b e n
+  begins_behind : (c m : ℕ) → IsBefore (g b) c e → ClosedLength f g w b c m → m ≤ n → SessionBegins f g w b e n
 
 -- MESSAGES
 
@@ -244,6 +252,7 @@ pub record Finals (f : Ids) (g : Givens) (w : World) : Type 0 where
   pub earlier : Earlier f g
   pub sends : (i : ℕ) → LeadSent w.past (w.primaries i)
   pub entries : (b : ℕ) → IfSome (record_of w.office (record { 0 = b })) (EntryEnds f g w b)
+  pub sessions : (b e : ℕ) → g b e ≡ Some e → SessionBegins f g w b e (length (w.written e))
 
 -- So it is after every list of events, of the stamps and ids that are given in them.
 abbrev pub AllFinal : Type 0
