@@ -204,6 +204,7 @@ start-final nodes = record {
   sends = λ i. tt;
   entries = λ b. tt;
   sessions = λ b e q. absurd (none-some e q);
+  acks = λ b. record { begins = λ e. absurd (false≢true e); first = λ t e. absurd (cc) };
 }
 
 pub all-final : (nodes : ℕ) (events : List Event) → Finals (ids_in no_ids (start nodes) events) (given_in none_given (start nodes) events) (run (start nodes) events)

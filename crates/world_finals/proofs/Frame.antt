@@ -6,6 +6,7 @@ use Rattle.name_core.specs.declared.records.BlockRecord.{BlockRecord}
 use Rattle.name_core.specs.Offices.{OfficeState, record_of}
 use Rattle.op_headers.specs.declared.ops.Op.{Op}
 use Rattle.op_headers.specs.declared.ops.Op.TheVariants as op
+use Rattle.member_core.specs.Requests.{setup_with}
 use Rattle.replica_core.specs.declared.info.ReplicaInfo.{ReplicaInfo}
 use Rattle.replica_model.specs.Rows.{FullReplica, row}
 use Rattle.packet_stream.specs.Streams.{StreamState, packet_end}
@@ -14,6 +15,7 @@ use Rattle.recovery_core.specs.declared.primary.Phase.TheVariants as lead_phase
 use Rattle.recovery_core.specs.declared.standings.Standing.{Standing}
 use Rattle.writer_core.specs.declared.phases.Phase.{Phase}
 use Rattle.writer_core.specs.declared.phases.Phase.TheVariants as phase
+use Rattle.writer_core.specs.declared.records.WriterRecord.{WriterRecord}
 use Rattle.world.specs.Parts.{Message, request, packet, ack, response, read_status, recovery_answer, Writing, Primary, no_primary, was_told, leads, has_led, Break}
 use Rattle.world.specs.Worlds.{Past, World, Dial, Stamped, Change, put, past_after, latest_with, apply}
 use Rattle.world_laws.specs.Growing.{Grows}
@@ -26,7 +28,7 @@ use Rattle.world_laws.proofs.ByteWriting.{only-own}
 use Rattle.world_laws.proofs.SetupNodes.{put-at-split}
 use Rattle.world_recoveries.specs.Recovering.{Updates, HasId}
 use Rattle.world_recoveries.proofs.Histories.{begins-get, NewDown, was_sent, is_sent, is_dialled, new-down}
-use Rattle.world_finals.specs.Finishing.{Ids, writes_no_more, EndsAt, FinalLength, of_recovery, of_session, Completes, ClosedLength, by_recovery, by_writer, EntryEnds, SessionBegins, first_session, begins_behind, PhaseSent, LeadSent, DownEnds, IsFinalOf, LastPending, ReplicaEnds, BreakEnds, SetsNoId, WriterEnds, Finals, Earlier}
+use Rattle.world_finals.specs.Finishing.{Ids, writes_no_more, EndsAt, FinalLength, of_recovery, of_session, Completes, ClosedLength, by_recovery, by_writer, EntryEnds, SessionBegins, first_session, begins_behind, least_asked, has_packets, AcksFrom, PhaseSent, LeadSent, DownEnds, IsFinalOf, LastPending, ReplicaEnds, BreakEnds, SetsNoId, WriterEnds, Finals, Earlier}
 use Rattle.std.proofs.lemmas.Bool.{cases_lt}
 use Rattle.std.proofs.lemmas.Option.{same_Some}
 use Rattle.world_recoveries.specs.Naming.{IsBefore, NamesPast}
@@ -119,6 +121,13 @@ session-stays f g w e l v b i s h q =
     let more : length (w.written i) ≤ length (v.written i) = omega (arith, ap (λ (xs : List ℕ). length xs) x.joins, length-append (w.written i) x.rest) in
     begins-more e l v b i (length (w.written i)) (length (v.written i)) more (begins-stays f g w e l v b i (length (w.written i)) s q (h.sessions b i q))
 
+-- what a writer has acked
+pub acks-stays : (f : Ids) (g : Givens) (w : World) (e : Ids) (l : Givens) (v : World) (b n : ℕ) (x : WriterRecord) → Stays f g w e l v → AcksFrom f g w b n x → AcksFrom e l v b n x
+acks-stays f g w e l v b n x s h = record {
+  begins = λ q. let y = h.begins q in (s.same b n n y.0, begins-stays f g w e l v b n x.stream.acked s y.0 y.1);
+  first = λ t q. begins-stays f g w e l v b n 0 s (h.begins (ap has_packets q)).0 (h.first t q);
+}
+
 -- what was sent of a recovery stays sent
 phase-sent : (h p : Past) (id : Stamp) (q : LeadPhase) (ss : List Standing) → Grows h p → PhaseSent h id q ss → PhaseSent p id q ss
 phase-sent h p id (lead_phase.Updating n) ss d x = λ i s e u. let y = x i s e u in record { conn = y.conn; block = y.block; sent = updates-later h p y.conn y.block id n d y.sent }
@@ -168,6 +177,8 @@ op-stays f g w e l v c (op.Write q) s y h = record {
   given = s.same q.block.block.0 (new_stamp q).0 h.session h.given;
   past = past-stays f g w e l v q.block.block.0 q.block.stamp.0 (new_stamp q).0 h.session s h.given h.past;
   closes = λ k. s.ends q.block.block.0 (new_stamp q).0 q.min (h.closes k);
+  own = s.same q.block.block.0 h.session h.session h.own;
+  opens = begins-stays f g w e l v q.block.block.0 h.session (least_asked (setup_with q.stage) q.min) s h.own h.opens;
 }
 op-stays f g w e l v c (op.Recovery q) s y h = s.ids q.recovery.0 (s.below q.recovery.0 h) ∙ h
 op-stays f g w e l v c (op.Read r) s y h = tt
@@ -197,6 +208,7 @@ pub record News (f : Ids) (g : Givens) (w : World) (k : Change) : Type 0 where
   pub sends : LeadSent (past_after w k) k.primary
   pub entries : (b : ℕ) → IfSome (record_of k.office (record { 0 = b })) (EntryEnds f g (apply w k) b)
   pub sessions : (b i : ℕ) → g b i ≡ Some i → SessionBegins f g (apply w k) b i (length ((apply w k).written i))
+  pub acks : (b : ℕ) → AcksFrom f g (apply w k) b (latest_with w.latest k.stamped b) (heard (put w.writers k.writer_at k.writer b))
 
 pub sets-stays : (f : Ids) (g : Givens) (w : World) (e : Ids) (l : Givens) (v : World) (b n : ℕ) (c : Stamp) (x : StreamState) (p : Phase) → Stays f g w e l v → Asks (g b) w.past n c x p → SetsNoId f p → SetsNoId e p
 sets-stays f g w e l v b n c x (phase.Stamped way t) s a h = s.ids t.0 (s.given_below b t.0 n a.given) ∙ h
@@ -226,6 +238,7 @@ keeps f g w e l k h a s n = record {
   earlier = n.earlier;
   entries = n.entries;
   sessions = n.sessions;
+  acks = n.acks;
   sends = put-each (λ (i : ℕ) (x : Primary). LeadSent (past_after w k) x) w.primaries k.primary_at k.primary n.sends (λ i. lead-sent w.past (past_after w k) (w.primaries i) (past-grows w k) (h.sends i));
   downs = keeps-downs f g w e l k h a s n;
   replicas = put-at-split (λ (m b : ℕ) (r : FullReplica). ReplicaEnds e l (apply w k) b r) w.replicas k.node k.block k.replica n.replica (λ m b _. replica-stays f g w e l (apply w k) b (w.replicas m b) s (h.replicas m b));
@@ -281,7 +294,14 @@ ends-stay g w k r h b t n x = record {
     go (inr z) = inr (if-each (λ (y : Writing). writes_no_more (heard y).phase ≡ true) (b == k.writer_at) k.writer (w.writers b)
         (λ e. h.shuts (subst (λ (d : ℕ). writes_no_more (heard (w.writers d)).phase ≡ true) (eqb-true b k.writer_at e) z)) (λ _. z))
 
--- the records and the primaries that a change leaves
+pub grown : (w : World) (k : Change) → Grows w.past (apply w k).past
+unfolding apply
+grown w k = past-grows w k
+
+pub stays-so : (f : Ids) (g : Givens) (w : World) (k : Change) → Finals f g w → Facts g w → Ends w k → Stays f g w f g (apply w k)
+stays-so f g w k h a e = record { same = λ b t s x. x; back = λ b t u s d x _ _. x; ids = λ t _. refl; below = h.below; given_below = a.recorded.below; past = grown w k; ends = ends-stay g w k a.recorded e }
+
+-- the records, the primaries and the sessions that a change leaves
 pub record Leaves (f : Ids) (g : Givens) (w : World) (k : Change) : Type 0 where
   pub sends : LeadSent (past_after w k) k.primary
   pub entries : (b : ℕ) → IfSome (record_of k.office (record { 0 = b })) (EntryEnds f g (apply w k) b)
@@ -294,9 +314,13 @@ leaves f g w k h s office primary = record {
   sessions = λ b i q. session-stays f g w f g (apply w k) b i s h q;
 }
 
-pub grown : (w : World) (k : Change) → Grows w.past (apply w k).past
-unfolding apply
-grown w k = past-grows w k
+-- what writers have acked where a change keeps the latest sessions
+pub acks-kept : (f : Ids) (g : Givens) (w : World) (e : Ids) (l : Givens) (k : Change) → Finals f g w → Stays f g w e l (apply w k) → ((b : ℕ) → latest_with w.latest k.stamped b ≡ w.latest b) → AcksFrom f g w k.writer_at (w.latest k.writer_at) (heard k.writer)
+    → (b : ℕ) → AcksFrom e l (apply w k) b (latest_with w.latest k.stamped b) (heard (put w.writers k.writer_at k.writer b))
+acks-kept f g w e l k h s same new b =
+    subst (λ (n : ℕ). AcksFrom e l (apply w k) b n (heard (put w.writers k.writer_at k.writer b))) (sym (same b))
+    (put-each (λ (d : ℕ) (x : Writing). AcksFrom e l (apply w k) d (w.latest d) (heard x)) w.writers k.writer_at k.writer (acks-stays f g w e l (apply w k) k.writer_at (w.latest k.writer_at) (heard k.writer) s new)
+    (λ d. acks-stays f g w e l (apply w k) d (w.latest d) (heard (w.writers d)) s (h.acks d)) b)
 
-pub stays-so : (f : Ids) (g : Givens) (w : World) (k : Change) → Finals f g w → Facts g w → Ends w k → Stays f g w f g (apply w k)
-stays-so f g w k h a e = record { same = λ b t s x. x; back = λ b t u s d x _ _. x; ids = λ t _. refl; below = h.below; given_below = a.recorded.below; past = grown w k; ends = ends-stay g w k a.recorded e }
+pub latest-stays : (w : World) (k : Change) → k.stamped ≡ None → (b : ℕ) → latest_with w.latest k.stamped b ≡ w.latest b
+latest-stays w k e b = latest-same w.latest k.stamped b e

@@ -61,9 +61,9 @@ use Rattle.world_laws.proofs.ByteAsking.{IsOn, mirror-on}
 use Rattle.world_recoveries.specs.Recovering.{Updates, HasId, Recovering}
 use Rattle.world_recoveries.proofs.Laws.{keep-finalized}
 use Rattle.world_recoveries.proofs.Lowers.{SentDown}
-use Rattle.world_finals.specs.Finishing.{Ids, writes_no_more, EndsAt, WriteEnds, LastEnds, DownEnds, ReplicaEnds, BreakEnds, SetsNoId, WriterEnds, Finals}
+use Rattle.world_finals.specs.Finishing.{Ids, writes_no_more, EndsAt, AcksFrom, WriteEnds, LastEnds, DownEnds, ReplicaEnds, BreakEnds, SetsNoId, WriterEnds, Finals}
 use Rattle.world_finals.proofs.Rows.{Ended, EventEnds, Before, Leaves, event-leaves}
-use Rattle.world_finals.proofs.Frame.{Ends, StampBelow, replica-stays, break-stays, leaves, down-stays, down-below, News, stays-so}
+use Rattle.world_finals.proofs.Frame.{Ends, StampBelow, replica-stays, break-stays, leaves, acks-kept, latest-stays, down-stays, down-below, News, stays-so}
 use Rattle.world_finals.proofs.Idle.{IsIdle, Idle, up-idle, ready-idle}
 
 -- WHAT A NODE'S CHANGE MAKES
@@ -99,6 +99,7 @@ makes-news f g w k h a n =
       sends = o.sends;
       entries = o.entries;
       sessions = o.sessions;
+      acks = acks-kept f g w f g k h s (latest-stays w k n.beside.stamped) (subst (λ (x : Writing). AcksFrom f g w k.writer_at (w.latest k.writer_at) (heard x)) (sym n.beside.writer) (h.acks k.writer_at));
     }
 
 -- what is known where a lower end takes something
@@ -340,7 +341,7 @@ mirror-ends f g w c q (Some d) None h lt on = no-dials f g w
 mirror-ends f g w c q (Some d) (Some n) h lt on = one
   where
     same : ((new_stamp d).0 < w.office.next.0) × WriteEnds f g w d
-    same = subst (λ (x : WriteFields). ((new_stamp x).0 < w.office.next.0) × WriteEnds f g w x) (sym (on d refl).is) (lt, record { no_id = h.no_id; session = h.session; given = h.given; past = h.past; closes = h.closes })
+    same = subst (λ (x : WriteFields). ((new_stamp x).0 < w.office.next.0) × WriteEnds f g w x) (sym (on d refl).is) (lt, record { no_id = h.no_id; session = h.session; given = h.given; past = h.past; closes = h.closes; own = h.own; opens = h.opens })
 
     one : DialEnds f g w (mirror_dial w c (Some d) (Some n))
     one zero y e x = subst (λ (z : Dial). StampBelow w z.request × DownEnds f g w x z.request) (same_Some _ y e) same

@@ -56,12 +56,12 @@ use Rattle.world_laws.proofs.ByteOffices.{office-extends, Answered, old-written}
 use Rattle.world_recoveries.specs.Recovering.{ToldId, HasId, LeadFits, Recovering}
 use Rattle.world_recoveries.proofs.Choosing.{own-updates}
 use Rattle.world_recoveries.proofs.Leading.{chosen_op, updates-at, dial-of, heard-id}
-use Rattle.world_finals.specs.Finishing.{Ids, ids_with, writes_no_more, Sealed, EndsAt, Completes, ClosedLength, by_recovery, by_writer, EntryEnds, SessionBegins, PhaseSent, LeadSent, DownEnds, ReplicaEnds, BreakEnds, SetsNoId, WriterEnds, Finals, Earlier}
+use Rattle.world_finals.specs.Finishing.{Ids, ids_with, writes_no_more, Sealed, EndsAt, Completes, ClosedLength, by_recovery, by_writer, EntryEnds, SessionBegins, AcksFrom, PhaseSent, LeadSent, DownEnds, ReplicaEnds, BreakEnds, SetsNoId, WriterEnds, Finals, Earlier}
 use Rattle.world_finals.proofs.Writers.{BeginsSession, StampNoId, AnswerEnds, granted-ends}
-use Rattle.world_finals.proofs.Frame.{Stays, Ends, sets-stays, replica-stays, break-stays, entries-stay, begins-more, session-stays, lead-sent, grown, News, stays-so}
+use Rattle.world_finals.proofs.Frame.{Stays, Ends, sets-stays, replica-stays, break-stays, entries-stay, begins-more, session-stays, acks-stays, acks-kept, latest-stays, lead-sent, grown, News, stays-so}
 use Rattle.world_finals.proofs.Updating.{heard-sent, updates-sent, commits-sent}
 use Rattle.world_finals.proofs.Entries.{Closes, finished-completes, entries-by}
-use Rattle.world_finals.proofs.Opening.{BegunAs, Wrote, begun-by}
+use Rattle.world_finals.proofs.Opening.{BegunAs, Wrote, begun-by, acks-by}
 use Rattle.world_finals.proofs.Clients.{Brings}
 use Rattle.world_recoveries.proofs.Naming.{keeps-by}
 use Rattle.name_core.specs.declared.records.BlockRecord.{BlockRecord}
@@ -99,6 +99,7 @@ lead-brings f g w k h a x downs dials ids sends =
         sends = sends;
         entries = entries-stay f g w f g v k.office s x.office h.entries;
         sessions = λ d i q. session-stays f g w f g v d i s h q;
+        acks = acks-kept f g w f g k h s (latest-stays w k x.stamped) (subst (λ (u : Writing). AcksFrom f g w k.writer_at (w.latest k.writer_at) (heard u)) (sym x.writer) (h.acks k.writer_at));
       };
     }
 
@@ -295,12 +296,14 @@ office-stays f e g w c k h a x ids shut = record { same = (office-extends g w c 
 -- what is new where the office answers
 office-news : (f e : Ids) (g l : Givens) (w : World) (k : Change) → Finals f g w → Stays f g w e l (apply w k) → k.replica ≡ w.replicas k.node k.block → k.broke ≡ w.breaks k.node k.block → ((c : ℕ) → k.downs c ≡ []) → k.dials ≡ []
     → WriterEnds (heard k.writer) → SetsNoId e (heard k.writer).phase → ((id : Stamp) → HasId k.primary id → e id.0 ≡ true) → ((t : ℕ) → e t ≡ true → t < k.office.next.0) → Earlier e l → LeadSent w.past k.primary → ((b : ℕ) → IfSome (record_of k.office (record { 0 = b })) (EntryEnds e l (apply w k) b))
-    → ((b i : ℕ) → l b i ≡ Some i → SessionBegins e l (apply w k) b i (length ((apply w k).written i))) → News e l w k
-office-news f e g l w k h s r b d ds ends stamp ids below earlier sends entries sessions = record {
+    → ((b i : ℕ) → l b i ≡ Some i → SessionBegins e l (apply w k) b i (length ((apply w k).written i)))
+    → ((b : ℕ) → AcksFrom e l (apply w k) b (latest_with w.latest k.stamped b) (heard (put w.writers k.writer_at k.writer b))) → News e l w k
+office-news f e g l w k h s r b d ds ends stamp ids below earlier sends entries sessions acks = record {
   earlier = earlier;
   sends = lead-sent w.past (past_after w k) k.primary (past-grows w k) sends;
   entries = entries;
   sessions = sessions;
+  acks = acks;
   replica = subst (λ (x : FullReplica). ReplicaEnds e l (apply w k) k.block x) (sym r) (replica-stays f g w e l (apply w k) k.block (w.replicas k.node k.block) s (h.replicas k.node k.block));
   broke = subst (λ (o : Option Break). IfSome o (BreakEnds e l (apply w k) k.block)) (sym b)
       (some-weaker (BreakEnds f g w k.block) (BreakEnds e l (apply w k) k.block) (w.breaks k.node k.block) (λ y z. break-stays f g w e l (apply w k) k.block y s z) (h.breaks k.node k.block));
@@ -379,7 +382,7 @@ asks-brings f g w b c h a none block begins sessions closes asks = record {
   news = office-news f f g (given_with g (stamped_by w c (answer_to w.office c))) w k h s refl refl (λ _. refl) refl (ends.ends (same-writer (λ (x : WriterRecord). WriterEnds x) (h.writers b)))
       (ends.stamps f (stamp-no-id f g w (answer_to w.office c) h (gives-next w.office c)) (same-writer (λ (x : WriterRecord). SetsNoId f x.phase) (h.stamps b))) (h.primaries 0) (λ t q. omega (arith, h.below t q, (gives w c).rises))
       (earlier-writer f g w (stamped_by w c (answer_to w.office c)) (block_in c).0 (office_after w.office c).next.0 h a.recorded (gives w c).fresh sessions) (h.sends 0)
-      (λ d. entries-by f g w f (given_with g (stamped_by w c (answer_to w.office c))) (apply w k) s h c closes (record { 0 = d })) new-sessions;
+      (λ d. entries-by f g w f (given_with g (stamped_by w c (answer_to w.office c))) (apply w k) s h c closes (record { 0 = d })) new-sessions new-acks;
 }
   where
     k : Change
@@ -424,6 +427,19 @@ asks-brings f g w b c h a none block begins sessions closes asks = record {
     new = begun-by f g w (apply w k) h a c (w.writers b).known asks
         (subst (λ (d : ℕ). HeldOf (g d) (w.latest d) (record_of w.office (record { 0 = d })) (w.writers b).known) (sym block) (same-writer (λ (x : WriterRecord). HeldOf (g b) (w.latest b) (record_of w.office (record { 0 = b })) x) (a.recorded.blocks b)))
         s (wrote-so w b c)
+
+    own-acks : AcksFrom f (given_with g (stamped_by w c (answer_to w.office c))) (apply w k) b (latest_with w.latest (stamped_by w c (answer_to w.office c)) b) (granted (w.writers b).known (answer_to w.office c))
+    own-acks = subst (λ (d : ℕ). AcksFrom f (given_with g (stamped_by w c (answer_to w.office c))) (apply w k) d (latest_with w.latest (stamped_by w c (answer_to w.office c)) d) (granted (w.writers b).known (answer_to w.office c))) block
+        (acks-by f g w (apply w k) c (w.writers b).known asks s new (subst (λ (d : ℕ). AcksFrom f g w d (w.latest d) (w.writers b).known) (sym block) (same-writer (λ (x : WriterRecord). AcksFrom f g w b (w.latest b) x) (h.acks b))))
+
+    new-acks : (d : ℕ) → AcksFrom f (given_with g (stamped_by w c (answer_to w.office c))) (apply w k) d (latest_with w.latest (stamped_by w c (answer_to w.office c)) d) (heard (put w.writers b k.writer d))
+    new-acks d = at (d == b) refl
+      where
+        at : (t : Bool) → (d == b) ≡ t → AcksFrom f (given_with g (stamped_by w c (answer_to w.office c))) (apply w k) d (latest_with w.latest (stamped_by w c (answer_to w.office c)) d) (heard (if t then k.writer else w.writers d))
+        at true e = subst (λ (v : ℕ). AcksFrom f (given_with g (stamped_by w c (answer_to w.office c))) (apply w k) v (latest_with w.latest (stamped_by w c (answer_to w.office c)) v) (heard k.writer)) (sym (eqb-true d b e)) own-acks
+        at false e = subst (λ (v : ℕ). AcksFrom f (given_with g (stamped_by w c (answer_to w.office c))) (apply w k) d v (heard (w.writers d)))
+            (sym (others-latest w.latest (stamped_by w c (answer_to w.office c)) (block_in c).0 d w.office.next.0 (office_after w.office c).next.0 (gives w c).fresh (λ q. eqb-false d b e (q ∙ block))))
+            (acks-stays f g w f (given_with g (stamped_by w c (answer_to w.office c))) (apply w k) d (w.latest d) (heard (w.writers d)) s (h.acks d))
 
     new-sessions : (d i : ℕ) → given_with g (stamped_by w c (answer_to w.office c)) d i ≡ Some i → SessionBegins f (given_with g (stamped_by w c (answer_to w.office c))) (apply w k) d i (length ((apply w k).written i))
     new-sessions d i q = given-each (λ (d t j : ℕ). t ≡ j → SessionBegins f (given_with g (stamped_by w c (answer_to w.office c))) (apply w k) d t (length ((apply w k).written t))) g (stamped_by w c (answer_to w.office c))
@@ -650,7 +666,8 @@ primary-stays f g w i c p h a keep low ids sends closes =
           (earlier-primary f g w o (block_in c).0 (office_after w.office c).next.0 h a.recorded (gives w c).fresh low) sends
           (λ d. entries-by f g w e l (apply w k) s h c closes (record { 0 = d }))
           (λ d n q. given-each (λ (d t j : ℕ). t ≡ j → SessionBegins e l (apply w k) d t (length ((apply w k).written t))) g o (some-weaker (λ z. z.session < z.stamp) (λ z. z.stamp ≡ z.session → SessionBegins e l (apply w k) z.block z.stamp (length ((apply w k).written z.stamp))) o
-          (λ z lt same. absurd (omega (arith, lt, same))) low) (λ d t j r same. session-stays f g w e l (apply w k) d t s h (r ∙ ap (λ (m : ℕ). Some m) (sym same))) d n n q refl);
+          (λ z lt same. absurd (omega (arith, lt, same))) low) (λ d t j r same. session-stays f g w e l (apply w k) d t s h (r ∙ ap (λ (m : ℕ). Some m) (sym same))) d n n q refl)
+          (acks-kept f g w e l k h s (λ d. kept-latest w o d keep) (h.acks 0));
     }
   where
     shut : (b n : ℕ) → n < w.office.next.0 → Sealed (w.latest b) (heard (w.writers b)) n → Sealed (latest_with w.latest (stamped_by w c (answer_to w.office c)) b) (heard (put w.writers 0 (w.writers 0) b)) n

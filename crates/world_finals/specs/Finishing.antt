@@ -11,6 +11,7 @@ use Rattle.packet_stream.specs.Streams.{packet_end}
 use Rattle.replica_core.specs.declared.ack_queue.PendingPacket.{PendingPacket}
 use Rattle.replica_core.specs.declared.info.ReplicaInfo.{ReplicaInfo}
 use Rattle.replica_model.specs.Rows.{FullReplica, row}
+use Rattle.member_core.specs.declared.requests.SetupKind.{SetupKind}
 use Rattle.member_core.specs.declared.requests.SetupKind.TheVariants as kind
 use Rattle.member_core.specs.Requests.{setup_with}
 use Rattle.writer_core.specs.Commands.{is_open}
@@ -124,14 +125,22 @@ pub data SessionBegins (f : Ids) (g : Givens) (w : World) (b e n : ℕ) : Type 0
 
 -- MESSAGES
 
+-- the least length that a setup asks for: a create's none
+abbrev pub least_asked : Option SetupKind → ℕ → ℕ
+least_asked (Some kind.Create) n = 0
+least_asked _ n = n
+
 -- A write request is of a stamp that was given for its block, which is no recovery's id; it names no stamp before the
--- last one before a session, if its own is later than that; and the recovery of a close asks for all that was written.
+-- last one before a session, if its own is later than that; the recovery of a close asks for all that was written; and
+-- each setup of a session asks for what the session began with.
 pub record WriteEnds (f : Ids) (g : Givens) (w : World) (q : WriteFields) : Type 0 where
   pub no_id : f (new_stamp q).0 ≡ false
   pub session : ℕ
   pub given : g q.block.block.0 (new_stamp q).0 ≡ Some session
   pub past : NamesPast (g q.block.block.0) q.block.stamp.0 (new_stamp q).0
   pub closes : setup_with q.stage ≡ Some kind.CloseRecovery → EndsAt g w q.block.block.0 (new_stamp q).0 q.min
+  pub own : g q.block.block.0 session ≡ Some session
+  pub opens : SessionBegins f g w q.block.block.0 session (least_asked (setup_with q.stage) q.min)
 
 -- the last packet ends where its session does
 pub record LastEnds (g : Givens) (w : World) (c : ℕ) (p : Packet) : Type 0 where
@@ -209,6 +218,13 @@ pub record WriterEnds (x : WriterRecord) : Type 0 where
   pub last : has_packets x.phase ≡ true → (i : ℕ) (p : Packet) → slice_get x.stream.unacked i ≡ Some p →
       p.last ≡ true → is_closing x.phase ≡ true
 
+-- In its session, until its last packet is acked, a writer has acked what the session began with; and a create makes
+-- the first one of the block.
+pub record AcksFrom (f : Ids) (g : Givens) (w : World) (b latest : ℕ) (x : WriterRecord) : Type 0 where
+  pub begins : has_packets x.phase ≡ true →
+      (g b latest ≡ Some latest) × SessionBegins f g w b latest x.stream.acked
+  pub first : (t : Stamp) → x.phase ≡ phase.Stamped setup.Create t → SessionBegins f g w b latest 0
+
 -- PRIMARIES
 
 -- a member that was sent the UPDATE, and didn't fail since
@@ -253,6 +269,7 @@ pub record Finals (f : Ids) (g : Givens) (w : World) : Type 0 where
   pub sends : (i : ℕ) → LeadSent w.past (w.primaries i)
   pub entries : (b : ℕ) → IfSome (record_of w.office (record { 0 = b })) (EntryEnds f g w b)
   pub sessions : (b e : ℕ) → g b e ≡ Some e → SessionBegins f g w b e (length (w.written e))
+  pub acks : (b : ℕ) → AcksFrom f g w b (w.latest b) (heard (w.writers b))
 
 -- So it is after every list of events, of the stamps and ids that are given in them.
 abbrev pub AllFinal : Type 0
