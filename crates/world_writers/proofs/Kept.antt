@@ -16,7 +16,6 @@ use Rattle.world_recoveries.proofs.AllRecovering.{all-recovering}
 use Rattle.world_recoveries.proofs.AllNaming.{all-naming, all-none-stale}
 use Rattle.world_acks.specs.Acking.{UpdatesLeave}
 use Rattle.world_writers.specs.Leaving.{JoinedSince, RequestsCover, LaterSessionsKeep}
-use Rattle.world_writers.specs.Opening.{Opened}
 use Rattle.world_writers.specs.Staying.{LatestStay}
 use Rattle.world_finals.specs.Finishing.{no_ids, ids_in}
 use Rattle.world_finals.proofs.AllFinal.{all-final}
@@ -96,11 +95,8 @@ answer-kept nodes events a m le h member s later = answered-stay nodes events le
     left : UpdatesLeave w a.block a.stamp m.0 (w.lives m.0) a.length
     left = updates-keep g w a (leaving nodes events a le h later) h a.stamp at ((all-placed nodes events).runs m.0 s.runs) since
 
-opened : (nodes : ℕ) (events : List Event) → nodes ≤ MAX_NODES → Opened (ids_in no_ids (start nodes) events) (given_in none_given (start nodes) events) (run (start nodes) events)
-opened nodes events le = ?
-
 opening : (nodes : ℕ) (events : List Event) → nodes ≤ MAX_NODES → Opening (ids_in no_ids (start nodes) events) (given_in none_given (start nodes) events) (run (start nodes) events)
-opening nodes events le = record { seating = seating nodes events le; naming = all-naming nodes events; opened = opened nodes events le; finals = all-final nodes events }
+opening nodes events le = record { seating = seating nodes events le; naming = all-naming nodes events; finals = all-final nodes events }
 
 pub kept : (nodes : ℕ) (events : List Event) → nodes ≤ MAX_NODES → Kept (run (start nodes) events)
 kept nodes events le a m h member s =

@@ -8,6 +8,9 @@ use Rattle.name_core.specs.declared.records.BlockRecord.{BlockRecord}
 use Rattle.name_core.specs.Offices.{record_of}
 use Rattle.op_headers.specs.declared.ops.Op.TheVariants as op
 use Rattle.op_headers.specs.Values.{WriteFields}
+use Rattle.member_core.specs.declared.requests.SetupKind.{SetupKind}
+use Rattle.member_core.specs.declared.requests.SetupKind.TheVariants as kind
+use Rattle.member_core.specs.Requests.{setup_with}
 use Rattle.writer_core.specs.declared.records.WriterRecord.{WriterRecord}
 use Rattle.world.specs.Parts.{request, Place, Answered, Updated}
 use Rattle.world.specs.Worlds.{World}
@@ -17,19 +20,17 @@ use Rattle.world_laws.specs.Stamping.{Givens, HeldOf, Recorded, heard}
 use Rattle.world_laws.specs.Carrying.{new_stamp}
 use Rattle.world_laws.specs.Joining.{joined_as}
 use Rattle.world_recoveries.specs.Recovering.{ReplicaTold, Informs, InfoFits, Updates, WasSent, Recovering}
-use Rattle.world_acks.specs.Acking.{Asked, EarlierLeave, JoinSeat, promised}
-use Rattle.world_finals.specs.Finishing.{Ids, EndsAt, FinalLength, of_recovery, of_session, Finals}
+use Rattle.world_acks.specs.Acking.{Asked, EarlierLeave, JoinSeat, least_of, promised}
+use Rattle.world_finals.specs.Finishing.{Ids, Completes, ClosedLength, by_recovery, by_writer, SessionBegins, first_session, begins_behind, least_asked, Finals}
 use Rattle.world_writers.specs.Leaving.{LaterSessionsKeep}
 use Rattle.world_recoveries.specs.Naming.{IsBefore, NamesPast, Naming}
 use Rattle.world_acks.specs.Passing.{GotPast, by_setup, by_update, by_recovery, Passes, PassesSince}
-use Rattle.world_writers.specs.Opening.{Begins, first_session, begins_behind, Opened}
 use Rattle.world_writers.proofs.Seating.{Seating, later-session, open-promised}
 
 -- what is known of the world
 pub record Opening (f : Ids) (g : Givens) (w : World) : Type 0 where
   pub seating : Seating g w
   pub naming : Naming g w
-  pub opened : Opened f g w
   pub finals : Finals f g w
 
 -- a session is named by a stamp that was given in it, no later than any other
@@ -137,41 +138,49 @@ recovery-covers f g w a e s c i r m d b id k l is u = go ((told-passes g w a.blo
     go (by_recovery v q sent y lo hi) = absurd (omega (arith, lo, names q.block.block.0 q.block.stamp.0 q.recovery.0 y (k.known.naming.asked v 0 q sent).past hi))
 
 -- all that was written in the session that was closed before a later one
-closed-covers : (f : Ids) (g : Givens) (w : World) (a : Answered) (e s c i r m : ℕ) (id : Stamp) → Case f g w a e s c id → Later g a e i r id → f r ≡ false → EndsAt g w a.block r m
-    → ((d : ℕ) → e < d → d < i → g a.block d ≡ Some d → Begins f g w a.block d (length (w.written d)) → a.length ≤ length (w.written d)) → a.length ≤ m
-closed-covers f g w a e s c i r m id k l plain x deeper = omega (arith, x.length, whole (cases_lt e x.session))
+closed-covers : (f : Ids) (g : Givens) (w : World) (a : Answered) (e s c i r m : ℕ) (id : Stamp) → Case f g w a e s c id → Later g a e i r id → Completes g w a.block r m
+    → ((d : ℕ) → e < d → d < i → g a.block d ≡ Some d → SessionBegins f g w a.block d (length (w.written d)) → a.length ≤ length (w.written d)) → a.length ≤ m
+closed-covers f g w a e s c i r m id k l x deeper = omega (arith, x.ends.length, whole (cases_lt e x.ends.session))
   where
-    own-session : IsNamed g a.block s e
-    own-session = is-named g w a.block s e k.known.seating.recorded k.given
-
-    there : IsNamed g a.block r x.session
-    there = is-named g w a.block r x.session k.known.seating.recorded x.given
+    there : IsNamed g a.block r x.ends.session
+    there = is-named g w a.block r x.ends.session k.known.seating.recorded x.ends.given
 
     -- the session that was closed isn't earlier
-    least : (x.session < e) ⊎ (e ≤ x.session) → e ≤ x.session
-    least (inr z) = z
-    least (inl z) = absurd (omega (arith, setup-before f g w a e s c i r id k l, own-session.first, k.known.finals.earlier a.block r x.session e x.given own-session.own plain z))
+    least : e ≤ x.ends.session
+    least = x.last s e k.given (setup-before f g w a e s c i r id k l)
 
-    whole : (e < x.session) ⊎ (x.session ≤ e) → a.length ≤ length (w.written x.session)
-    whole (inl z) = deeper x.session z (omega (arith, there.first, l.before.less)) there.own (k.known.opened.sessions a.block x.session there.own)
+    whole : (e < x.ends.session) ⊎ (x.ends.session ≤ e) → a.length ≤ length (w.written x.ends.session)
+    whole (inl z) = deeper x.ends.session z (omega (arith, there.first, l.before.less)) there.own (k.known.finals.sessions a.block x.ends.session there.own)
     whole (inr z) =
-        let same : x.session ≡ e = omega (arith, z, least (cases_lt x.session e)) in
+        let same : x.ends.session ≡ e = omega (arith, z, least) in
         let sits = k.known.seating.sits a k.has in
-        omega (arith, sits.within, ap (λ (v : ℕ). length (w.written v)) (same_Some sits.session x.session (sym sits.given ∙ k.answer ∙ ap (λ (v : ℕ). Some v) (sym same))))
+        omega (arith, sits.within, ap (λ (v : ℕ). length (w.written v)) (same_Some sits.session x.ends.session (sym sits.given ∙ k.answer ∙ ap (λ (v : ℕ). Some v) (sym same))))
 
 -- the length that the block was closed with before a later session
-length-covers : (f : Ids) (g : Givens) (w : World) (a : Answered) (e s c i r m : ℕ) (id : Stamp) → Case f g w a e s c id → Later g a e i r id → FinalLength f g w a.block r m
-    → ((d : ℕ) → e < d → d < i → g a.block d ≡ Some d → Begins f g w a.block d (length (w.written d)) → a.length ≤ length (w.written d)) → a.length ≤ m
-length-covers f g w a e s c i r m id k l (of_recovery is d b u) deeper = recovery-covers f g w a e s c i r m d b id k l is u
-length-covers f g w a e s c i r m id k l (of_session plain x) deeper = closed-covers f g w a e s c i r m id k l plain x deeper
+length-covers : (f : Ids) (g : Givens) (w : World) (a : Answered) (e s c i r m : ℕ) (id : Stamp) → Case f g w a e s c id → Later g a e i r id → ClosedLength f g w a.block r m
+    → ((d : ℕ) → e < d → d < i → g a.block d ≡ Some d → SessionBegins f g w a.block d (length (w.written d)) → a.length ≤ length (w.written d)) → a.length ≤ m
+length-covers f g w a e s c i r m id k l (by_recovery is d b u) deeper = recovery-covers f g w a e s c i r m d b id k l is u
+length-covers f g w a e s c i r m id k l (by_writer x) deeper = closed-covers f g w a e s c i r m id k l x deeper
 
 -- a later session begins with the answered bytes
-begins-cover : (f : Ids) (g : Givens) (w : World) (a : Answered) (e s c fuel i n : ℕ) (id : Stamp) → Case f g w a e s c id → i < fuel → e < i → i < id.0 → g a.block i ≡ Some i → Begins f g w a.block i n → a.length ≤ n
+begins-cover : (f : Ids) (g : Givens) (w : World) (a : Answered) (e s c fuel i n : ℕ) (id : Stamp) → Case f g w a e s c id → i < fuel → e < i → i < id.0 → g a.block i ≡ Some i → SessionBegins f g w a.block i n → a.length ≤ n
 begins-cover f g w a e s c zero i n id k less later lt own h = absurd (omega (arith, less))
-begins-cover f g w a e s c (suc fuel) i n id k less later lt own (first_session h) = absurd (omega (arith, later, h a.stamp e k.answer))
+begins-cover f g w a e s c (suc fuel) i n id k less later lt own (first_session h) = absurd (omega (arith, later, h e e (is-named g w a.block s e k.known.seating.recorded k.given).own))
 begins-cover f g w a e s c (suc fuel) i n id k less later lt own (begins_behind r m before l le) =
-    omega (arith, le, length-covers f g w a e s c i r m id k (record { own = own; past = later; below = lt; before = before }) l
-    (λ d past below there h. begins-cover f g w a e s c fuel d (length (w.written d)) id k (omega (arith, below, less)) past (omega (arith, below, lt)) there h))
+    omega (
+      arith,
+      le,
+      length-covers f g w a e s c i r m id k (record { own = own; past = later; below = lt; before = before }) l
+          (λ d past below there h. begins-cover f g w a e s c fuel d (length (w.written d)) id k (omega (arith, below, less)) past (omega (arith, below, lt)) there h),
+    )
+
+same-least : (o : Option SetupKind) (n : ℕ) → least_asked o n ≡ least_of o n
+same-least None n = refl
+same-least (Some kind.Create) n = refl
+same-least (Some kind.Append) n = refl
+same-least (Some kind.AppendRecovery) n = refl
+same-least (Some kind.StreamRecovery) n = refl
+same-least (Some kind.CloseRecovery) n = refl
 
 -- what is told of an RBW replica of a later session
 pub later-keeps : (f : Ids) (g : Givens) (w : World) (a : Answered) → Opening f g w → Has w.answered a → LaterSessionsKeep g w a
@@ -186,7 +195,11 @@ later-keeps f g w a k h stamp c d id z t y e o =
     let v = is-named g w a.block z.1.0 o.session s.recorded o.given in
     let below : o.session < id.0 = omega (arith, v.first, fits.below) in
     let there : g (block_of q.fields) (new_stamp q.fields).0 ≡ Some o.session = ap (λ (i : ℕ). g (block_of q.fields) i) q.is ∙ ap (λ (b : ℕ). g b z.1.0) x.block ∙ o.given in
-    let begins : Begins f g w a.block o.session (promised q.fields) = subst (λ (b : ℕ). Begins f g w b o.session (promised q.fields)) x.block (k.opened.asked q.conn o.session q.fields q.pipe.asked there) in
+    let ends = k.finals.downs q.conn 0 (request (op.Write q.fields)) q.pipe.asked.first in
+    let begins : SessionBegins f g w a.block o.session (promised q.fields) =
+    subst (λ (b : ℕ). SessionBegins f g w b o.session (promised q.fields)) x.block
+    (subst (λ (n : ℕ). SessionBegins f g w (block_of q.fields) o.session n) (same-least (setup_with q.fields.stage) q.fields.min)
+    (subst (λ (e : ℕ). SessionBegins f g w (block_of q.fields) e (least_asked (setup_with q.fields.stage) q.fields.min)) (same_Some ends.session o.session (sym ends.given ∙ there)) ends.opens)) in
     let case : Case f g w a t.joins.session stamp c id = record {
       known = k;
       has = h;

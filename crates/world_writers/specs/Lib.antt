@@ -1,5 +1,4 @@
 pub mod Leaving
-pub mod Opening
 pub mod Moving
 pub mod Piping
 pub mod Settling
