@@ -2,7 +2,6 @@
 use Rattle.std.proofs.Common.{◌≡◌, ℕ, ◌<◌, ◌+◌, ◌⊎◌, inl, inr, true, List, [], length, length-append, slice_get, Option, Some, None, IfSome, refl, sym, ◌∙◌, ap, subst, arith, eqb-true, ◌≤◌}
 use Rattle.std.specs.Prelude.{◌==◌}
 use Rattle.hd_base.specs.declared.numbers.Stamp.{Stamp}
-use Rattle.name_core.specs.declared.records.BlockRecord.{BlockRecord}
 use Rattle.name_core.specs.Offices.{OfficeState, record_of}
 use Rattle.op_headers.specs.declared.ops.Op.{Op}
 use Rattle.op_headers.specs.declared.ops.Op.TheVariants as op
@@ -28,7 +27,7 @@ use Rattle.world_laws.proofs.ByteWriting.{only-own}
 use Rattle.world_laws.proofs.SetupNodes.{put-at-split}
 use Rattle.world_recoveries.specs.Recovering.{Updates, HasId}
 use Rattle.world_recoveries.proofs.Histories.{begins-get, NewDown, was_sent, is_sent, is_dialled, new-down}
-use Rattle.world_finals.specs.Finishing.{Ids, writes_no_more, EndsAt, FinalLength, of_recovery, of_session, Completes, ClosedLength, by_recovery, by_writer, EntryEnds, SessionBegins, first_session, begins_behind, least_asked, has_packets, AcksFrom, PhaseSent, LeadSent, DownEnds, IsFinalOf, LastPending, ReplicaEnds, BreakEnds, SetsNoId, WriterEnds, Finals, Earlier}
+use Rattle.world_finals.specs.Finishing.{Ids, writes_no_more, EndsAt, FinalLength, of_recovery, of_session, ClosedLength, by_recovery, by_writer, EntryEnds, SessionBegins, first_session, begins_behind, least_asked, has_packets, AcksFrom, PhaseSent, LeadSent, DownEnds, IsFinalOf, LastPending, ReplicaEnds, BreakEnds, SetsNoId, WriterEnds, Finals, Earlier}
 use Rattle.std.proofs.lemmas.Bool.{cases_lt}
 use Rattle.std.proofs.lemmas.Option.{same_Some}
 use Rattle.world_recoveries.specs.Naming.{IsBefore, NamesPast}

@@ -56,7 +56,7 @@ use Rattle.world_laws.proofs.ByteOffices.{office-extends, Answered, old-written}
 use Rattle.world_recoveries.specs.Recovering.{ToldId, HasId, LeadFits, Recovering}
 use Rattle.world_recoveries.proofs.Choosing.{own-updates}
 use Rattle.world_recoveries.proofs.Leading.{chosen_op, updates-at, dial-of, heard-id}
-use Rattle.world_finals.specs.Finishing.{Ids, ids_with, writes_no_more, Sealed, EndsAt, Completes, ClosedLength, by_recovery, by_writer, EntryEnds, SessionBegins, AcksFrom, PhaseSent, LeadSent, DownEnds, ReplicaEnds, BreakEnds, SetsNoId, WriterEnds, Finals, Earlier}
+use Rattle.world_finals.specs.Finishing.{Ids, ids_with, writes_no_more, Sealed, EndsAt, Completes, by_recovery, by_writer, EntryEnds, SessionBegins, AcksFrom, PhaseSent, LeadSent, DownEnds, ReplicaEnds, BreakEnds, SetsNoId, WriterEnds, Finals, Earlier}
 use Rattle.world_finals.proofs.Writers.{BeginsSession, StampNoId, AnswerEnds, granted-ends}
 use Rattle.world_finals.proofs.Frame.{Stays, Ends, sets-stays, replica-stays, break-stays, entries-stay, begins-more, session-stays, acks-stays, acks-kept, latest-stays, lead-sent, grown, News, stays-so}
 use Rattle.world_finals.proofs.Updating.{heard-sent, updates-sent, commits-sent}

@@ -1,6 +1,6 @@
 -- Where a member stands as one that was sent the UPDATE, one was sent.
 use Rattle.std.proofs.Common.{◌≡◌, ℕ, zero, suc, ◌⊎◌, inl, inr, Bool, true, false, List, [], ◌∷◌, ◌++◌, slice_get, Option, Some, None, Result, Ok, Err, refl, sym, ◌∙◌, ap, subst}
-use Rattle.std.specs.Prelude.{◌==◌, ◌&&◌, zip, slice_set, option_map}
+use Rattle.std.specs.Prelude.{◌&&◌, zip, slice_set, option_map}
 use Rattle.std.proofs.lemmas.Bool.{false≢true, eq-eqb}
 use Rattle.std.proofs.lemmas.Option.{none-some, same_Some}
 use Rattle.hd_base.specs.declared.numbers.NodeId.{NodeId}
@@ -10,7 +10,6 @@ use Rattle.name_core.specs.declared.choice.ChooseFault.{ChooseFault}
 use Rattle.name_core.specs.declared.choice.Chosen.{Chosen}
 use Rattle.name_core.specs.Choice.{choice}
 use Rattle.op_headers.specs.declared.ops.Op.TheVariants as op
-use Rattle.op_headers.specs.declared.ops.RecoveryKind.TheVariants as kind
 use Rattle.recovery_core.specs.declared.primary.OwnStep.TheVariants as own
 use Rattle.recovery_core.specs.declared.primary.Phase.{Phase}
 use Rattle.recovery_core.specs.declared.primary.Phase.TheVariants as phase
@@ -18,7 +17,7 @@ use Rattle.recovery_core.specs.declared.standings.Heard.{Heard}
 use Rattle.recovery_core.specs.declared.standings.Heard.TheVariants as heard
 use Rattle.recovery_core.specs.declared.standings.Standing.{Standing}
 use Rattle.recovery_core.specs.declared.standings.Standing.TheVariants as standing
-use Rattle.recovery_core.specs.Primaries.{PrimaryState, told, is_success, after_heard, heard_as, waits, infos, updated_members, is_among, when_chosen, after_choice, all_after_choice, OwnTaken, taken, choosing, committing, own_at, own_step, request_of}
+use Rattle.recovery_core.specs.Primaries.{PrimaryState, told, is_success, after_heard, heard_as, waits, infos, updated_members, is_among, when_chosen, after_choice, all_after_choice, OwnTaken, taken, choosing, committing, own_at, own_step}
 use Rattle.world.specs.Parts.{Message, request, Leading}
 use Rattle.world.specs.Worlds.{Past, World, Dial, Change, dial_at, listed, past_after}
 use Rattle.world.specs.Connections.{is_conn}
@@ -26,7 +25,7 @@ use Rattle.world.specs.Primaries.{updates_on, updates_change}
 use Rattle.world_laws.proofs.FactTables.{if-each}
 use Rattle.world_laws.proofs.SetupNodes.{get-more}
 use Rattle.world_recoveries.specs.Recovering.{LeadingFits}
-use Rattle.world_recoveries.proofs.Choosing.{after_chosen, Choosing, own-updates}
+use Rattle.world_recoveries.proofs.Choosing.{own-updates}
 use Rattle.world_recoveries.proofs.Leading.{chosen_op}
 use Rattle.world_finals.specs.Finishing.{IsUpdating, SentLength, PhaseSent}
 

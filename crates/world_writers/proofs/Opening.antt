@@ -1,26 +1,24 @@
 -- Later sessions begin with the bytes that were answered before, by the order of sessions.
-use Rattle.std.proofs.Common.{◌≡◌, ℕ, zero, suc, ◌<◌, ◌≤◌, ◌⊎◌, inl, inr, Bool, true, false, List, length, slice_get, Option, Some, None, refl, sym, ◌∙◌, ap, subst, arith}
+use Rattle.std.proofs.Common.{◌≡◌, ℕ, zero, suc, ◌<◌, ◌≤◌, ◌⊎◌, inl, inr, true, false, length, Option, Some, None, refl, sym, ◌∙◌, ap, subst, arith}
 use Rattle.std.proofs.lemmas.Bool.{cases_lt, false≢true}
 use Rattle.std.proofs.lemmas.Option.{none-some, same_Some}
 use Rattle.hd_base.specs.declared.numbers.Stamp.{Stamp}
-use Rattle.hd_base.specs.declared.states.ReplicaState.TheVariants as state
 use Rattle.name_core.specs.declared.records.BlockRecord.{BlockRecord}
 use Rattle.name_core.specs.Offices.{record_of}
 use Rattle.op_headers.specs.declared.ops.Op.TheVariants as op
-use Rattle.op_headers.specs.Values.{WriteFields}
 use Rattle.member_core.specs.declared.requests.SetupKind.{SetupKind}
 use Rattle.member_core.specs.declared.requests.SetupKind.TheVariants as kind
 use Rattle.member_core.specs.Requests.{setup_with}
 use Rattle.writer_core.specs.declared.records.WriterRecord.{WriterRecord}
-use Rattle.world.specs.Parts.{request, Place, Answered, Updated}
+use Rattle.world.specs.Parts.{request, Place, Answered}
 use Rattle.world.specs.Worlds.{World}
 use Rattle.world.specs.Nodes.{block_of}
 use Rattle.world.specs.Safe.{Has}
 use Rattle.world_laws.specs.Stamping.{Givens, HeldOf, Recorded, heard}
 use Rattle.world_laws.specs.Carrying.{new_stamp}
 use Rattle.world_laws.specs.Joining.{joined_as}
-use Rattle.world_recoveries.specs.Recovering.{ReplicaTold, Informs, InfoFits, Updates, WasSent, Recovering}
-use Rattle.world_acks.specs.Acking.{Asked, EarlierLeave, JoinSeat, least_of, promised}
+use Rattle.world_recoveries.specs.Recovering.{ReplicaTold, Informs, Updates, WasSent}
+use Rattle.world_acks.specs.Acking.{EarlierLeave, JoinSeat, least_of, promised}
 use Rattle.world_finals.specs.Finishing.{Ids, Completes, ClosedLength, by_recovery, by_writer, SessionBegins, first_session, begins_behind, least_asked, Finals}
 use Rattle.world_writers.specs.Leaving.{LaterSessionsKeep}
 use Rattle.world_recoveries.specs.Naming.{IsBefore, NamesPast, Naming}
