@@ -11,8 +11,8 @@ ghost use Rattle.world_finals.specs.Finishing.{AllFinal, ClosedIsNewest};
 use world::Schedule;
 
 /// What is FINALIZED under a stamp has one length: all that was written in the session of a setup's stamp, or the
-/// length that the primary chose under a recovery's id; and no bytes join a session that has come to its end. A block is
-/// closed with such a length, a later session begins with it, and every setup of that session asks for as many bytes.
+/// length that the primary chose under a recovery's id; and no bytes join a session that has come to its end. A block
+/// is closed with such a length, a later session begins with it, and every setup of that session asks for as many.
 pub fn final_lengths_are_kept()
     ensures { AllFinal }
 {}
