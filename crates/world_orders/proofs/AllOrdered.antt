@@ -1,5 +1,5 @@
 -- The messages come in order after every list of events.
-use Rattle.std.proofs.Common.{◌≡◌, ℕ, zero, suc, ◌<◌, ◌≤◌, ◌+◌, ◌⊎◌, inl, inr, Bool, true, false, List, [], ◌∷◌, length, slice_get, Option, Some, None, IfSome, option_map, refl, sym, ap, ◌∙◌, subst, arith, eqb-true}
+use Rattle.std.proofs.Common.{◌≡◌, ℕ, ◌<◌, ◌≤◌, ◌⊎◌, inl, inr, Bool, true, false, List, [], ◌∷◌, slice_get, Option, Some, None, IfSome, option_map, refl, sym, ap, ◌∙◌, subst, arith, eqb-true}
 use Rattle.std.specs.Prelude.{◌==◌, ◌&&◌, not, nat_lt, if◌then◌else◌}
 use Rattle.std.proofs.lemmas.Bool.Decides.{nat_tests}
 use Rattle.std.proofs.lemmas.Option.{none-some, same_Some}
@@ -12,11 +12,10 @@ use Rattle.world.specs.declared.events.Event.TheVariants as event
 use Rattle.world.specs.declared.events.FoundReplica.{FoundReplica}
 use Rattle.world.specs.declared.events.OwnStep.{OwnStep}
 use Rattle.world.specs.declared.events.OwnStep.TheVariants as own
-use Rattle.world.specs.Parts.{Message, Upper, by_writer, by_member, by_reader, by_primary, Marks, new_marks, FullMember, Lower, idle, writes, serves, recovers, ended_below}
-use Rattle.world.specs.Worlds.{World, Change, put, start, apply}
-use Rattle.world.specs.Connections.{Next, message, the_end, ends_at, next_on, marks_taken, next_down, next_up, down_taken, up_taken, is_alive, is_served, stopped_marks, stopped_where, is_of_node, lost_marks}
+use Rattle.world.specs.Parts.{Message, Upper, by_writer, by_member, by_reader, by_primary, Marks, new_marks, FullMember, writes}
+use Rattle.world.specs.Worlds.{World, Change, put, start}
+use Rattle.world.specs.Connections.{Next, message, the_end, ends_at, next_on, marks_taken, next_down, next_up, down_taken, up_taken, is_alive, is_served, stopped_where, is_of_node, lost_marks}
 use Rattle.world.specs.Nodes.{lower_down, lower_ready}
-use Rattle.world.specs.Clients.{writer_up, reader_up}
 use Rattle.world.specs.Restarts.{all_found, restart}
 use Rattle.world.specs.Events.{changed, own_change, down_as, down_event, ready_event, unless_fails, upper_up, up_as, up_event, fault_event, lost, stop, where_so, outcome, after_event, happens, run}
 use Rattle.world_laws.specs.Placing.{IsUpper, Placed}
@@ -26,10 +25,10 @@ use Rattle.world_laws.proofs.LowerEnds.{lower-down-fits, lower-ready-fits, mirro
 use Rattle.world_laws.proofs.ClientEnds.{own-writer-fits, writer-up-fits, own-reader-fits, reader-up-fits}
 use Rattle.world_laws.proofs.PrimaryEnds.{own-recover-fits, own-primary-fits, primary-up-fits, office-fits}
 use Rattle.world_laws.proofs.PlacedLaws.{happens-placed, all-placed}
-use Rattle.world_orders.specs.Orders.{comes_down, comes_up, purpose_of, is_first, HasDialled, IsBelow, MirrorIs, WriterIs, InOrder, Ordered}
+use Rattle.world_orders.specs.Orders.{comes_up, purpose_of, HasDialled, IsBelow, Ordered}
 use Rattle.world_orders.proofs.Lists.{first-of}
-use Rattle.world_orders.proofs.Frame.{marked, Owes, ordered-after, mirror-same, writer-same, below-same}
-use Rattle.world_orders.proofs.Kept.{OnlyOf, OnlyAt, nobody, nowhere, eqb-itself}
+use Rattle.world_orders.proofs.Frame.{marked, Owes, ordered-after, mirror-same, writer-same}
+use Rattle.world_orders.proofs.Kept.{OnlyOf, nobody, nowhere, eqb-itself}
 use Rattle.world_orders.proofs.Clients.{TakenUp, own-writer-owes, own-reader-owes, writer-up-owes, reader-up-owes}
 use Rattle.world_orders.proofs.Nodes.{lower-down-owes, lower-ready-owes, mirror-up-owes}
 use Rattle.world_orders.proofs.Primaries.{own-recover-owes, own-primary-owes, primary-up-owes, office-owes}

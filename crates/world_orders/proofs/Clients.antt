@@ -1,7 +1,6 @@
 -- What writers and readers leave in order.
-use Rattle.std.proofs.Common.{◌≡◌, ℕ, zero, suc, ◌<◌, ◌≤◌, ◌+◌, ◌⊎◌, inl, inr, Bool, true, false, List, [], ◌∷◌, ◌++◌, length, slice_get, Option, Some, None, IfSome, Result, Ok, Err, refl, sym, ap, ◌∙◌, subst, arith, eqb-true}
+use Rattle.std.proofs.Common.{◌≡◌, ℕ, zero, suc, ◌<◌, Bool, true, false, List, [], ◌∷◌, slice_get, Option, Some, None, IfSome, Result, Ok, Err, refl, sym, ap, ◌∙◌, subst, arith, eqb-true}
 use Rattle.std.specs.Prelude.{◌==◌, ◌&&◌, not, is_none, if◌then◌else◌}
-use Rattle.std.proofs.lemmas.Bool.Decides.{nat_tests}
 use Rattle.std.proofs.lemmas.Option.{same_Some}
 use Rattle.hd_base.specs.declared.numbers.NodeId.{NodeId}
 use Rattle.hd_base.specs.declared.numbers.Stamp.{Stamp}
@@ -25,18 +24,18 @@ use Rattle.writer_core.specs.Transitions.{given, given_as, own_step, dial_step, 
 use Rattle.writer_core.specs.Transitions as writer
 use Rattle.read_core.specs.declared.reading.ReadTurn.{ReadTurn}
 use Rattle.read_core.specs.declared.reading.ReadTurn.TheVariants as turn
-use Rattle.read_core.specs.Readings.{ReadTaken, take_from, asked}
+use Rattle.read_core.specs.Readings.{ReadTaken, take_from}
 use Rattle.world.specs.declared.events.TakenCommand.{TakenCommand}
-use Rattle.world.specs.Parts.{Message, packet, ack, response, request, read_status, recovery_answer, Upper, by_writer, by_member, by_reader, Dialled, Marks, new_marks, Told, Writing, Reader, no_reader, reads, has_read}
-use Rattle.world.specs.Worlds.{World, Dial, Change, dialled_with, still}
-use Rattle.world.specs.Connections.{Next, message, the_end, is_conn, sent_on}
+use Rattle.world.specs.Parts.{Message, packet, ack, response, request, read_status, recovery_answer, Upper, by_writer, by_member, by_reader, Dialled, Marks, Told, Reader, no_reader, reads, has_read}
+use Rattle.world.specs.Worlds.{World, Dial, Change, dialled_with}
+use Rattle.world.specs.Connections.{Next, message, the_end, is_conn}
 use Rattle.world.specs.Clients.{writing_as, writer_change, did, dialled_change, dialling, rest_in, is_empty, is_formed, ruled, command_bytes, takes_step, takes_command, writer_step, own_writer, writer_hears, writer_up, named_member, reader_change, reader_dials, own_reader_as, own_reader, from_node_of, reader_turn, reader_up_as, reader_up}
 use Rattle.world_laws.specs.Placing.{Placed}
-use Rattle.world_laws.proofs.FactTables.{when-each, and-left, and-right}
-use Rattle.world_orders.specs.Orders.{comes_down, comes_up, purpose_of, is_first, is_response, has_members, HasTaken, IsWriterConn, WriterIs, ReaderIs, Ordered}
+use Rattle.world_laws.proofs.FactTables.{when-each, and-left}
+use Rattle.world_orders.specs.Orders.{comes_down, comes_up, purpose_of, is_response, has_members, HasTaken, IsWriterConn, WriterIs, ReaderIs, Ordered}
 use Rattle.world_orders.proofs.Lists.{no-element, dialled-before, dialled-here}
 use Rattle.world_orders.proofs.Frame.{marked, Owes}
-use Rattle.world_orders.proofs.Kept.{OnlyOf, OnlyAt, nobody, nowhere, apart, stays, SentAt, sent-at, kept-below, kept-mirror, kept-dialled, kept-writer, kept-reader, kept-primary}
+use Rattle.world_orders.proofs.Kept.{OnlyOf, nobody, nowhere, apart, stays, SentAt, sent-at, kept-below, kept-mirror, kept-dialled, kept-writer, kept-reader, kept-primary}
 use Rattle.world_orders.proofs.Writing.{is_requested, says, asked-none, streams-some, Follows, own-follows, granted-follows, ended-follows, acked-follows, answered-gone, dialled-gone, dialled-asks, dialled-keeps}
 
 -- WHAT A WRITER HAS TAKEN

@@ -1,15 +1,14 @@
 -- What a change owes so that the messages still come in order.
 use Rattle.std.proofs.Common.{◌≡◌, ℕ, zero, suc, ◌<◌, ◌≤◌, ◌+◌, ◌-◌, ◌⊎◌, inl, inr, Bool, true, false, List, [], ◌∷◌, ◌++◌, length, slice_get, Option, Some, None, IfSome, unwrap_or, option_map, refl, sym, ap, ◌∙◌, subst, arith, append-nil, eqb-true}
-use Rattle.std.specs.Prelude.{◌==◌, nat_le, if◌then◌else◌}
+use Rattle.std.specs.Prelude.{◌==◌, nat_le}
 use Rattle.std.proofs.lemmas.Bool.Decides.{nat_tests}
-use Rattle.std.proofs.lemmas.Option.{none-some, same_Some, slice_get_within}
-use Rattle.member_core.specs.Members.{MemberState}
-use Rattle.world.specs.Parts.{Message, Upper, by_writer, by_member, by_reader, by_primary, Dialled, Marks, new_marks, FullMember, Lower, idle, writes, serves, recovers, ended_below, Writing, Reader, no_reader, reads, has_read, Leading, Primary, no_primary, was_told, leads, has_led}
-use Rattle.world.specs.Worlds.{World, Dial, Change, put, dial_at, dialled_with, listed, downs_with, ups_with, shut_marks, marks_with, apply}
+use Rattle.std.proofs.lemmas.Option.{same_Some}
+use Rattle.world.specs.Parts.{Message, Upper, by_writer, by_member, by_reader, by_primary, Dialled, Marks, Lower, idle, writes, serves, recovers, ended_below, Writing, Reader, no_reader, reads, has_read, Primary, no_primary, was_told, leads, has_led}
+use Rattle.world.specs.Worlds.{World, Dial, Change, dial_at, dialled_with, listed, downs_with, ups_with, marks_with, apply}
 use Rattle.world_laws.specs.Placing.{IsConn, IsLower, IsReader, IsPrimary, Placed}
 use Rattle.world_laws.proofs.FactTables.{if-each, put-each}
 use Rattle.world_laws.proofs.PlaceFitting.{Fits, conns_after, dial-is, dial-within}
-use Rattle.world_orders.specs.Orders.{comes_down, comes_up, purpose_of, is_first, IsBelow, IsMember, IsMirror, MirrorIs, HasDialled, IsWriterConn, WriterIs, ReaderIs, PrimaryIs, InOrder, Ordered}
+use Rattle.world_orders.specs.Orders.{comes_down, comes_up, purpose_of, is_first, IsBelow, IsMirror, MirrorIs, HasDialled, IsWriterConn, WriterIs, ReaderIs, PrimaryIs, Ordered}
 use Rattle.world_orders.proofs.Lists.{Behind, get-append, no-element, not-first, dial-past, dialled-before}
 
 -- THE MARKS OF AN EVENT

@@ -1,16 +1,15 @@
 -- What a change leaves in order that doesn't touch it.
-use Rattle.std.proofs.Common.{◌≡◌, ℕ, ◌<◌, ◌+◌, ◌-◌, unwrap_or, option_map, ◌⊎◌, inl, inr, Bool, true, false, List, [], ◌∷◌, ◌++◌, length, slice_get, Option, Some, None, IfSome, refl, sym, ap, ◌∙◌, subst, arith, append-nil, eqb-true}
+use Rattle.std.proofs.Common.{◌≡◌, ℕ, ◌<◌, ◌-◌, unwrap_or, option_map, ◌⊎◌, inl, inr, Bool, true, false, List, [], ◌++◌, slice_get, Option, Some, None, refl, sym, ap, ◌∙◌, subst, arith, append-nil, eqb-true}
 use Rattle.std.specs.Prelude.{◌==◌, if◌then◌else◌}
-use Rattle.std.proofs.lemmas.Option.{none-some}
 use Rattle.std.proofs.lemmas.Bool.Decides.{nat_tests}
-use Rattle.world.specs.Parts.{Message, Upper, by_writer, by_member, Dialled, Marks}
+use Rattle.world.specs.Parts.{Message, Upper, by_writer, by_member, Marks}
 use Rattle.world.specs.Worlds.{World, Dial, Change, dial_at, dialled_with}
 use Rattle.world.specs.Connections.{sent_on}
 use Rattle.world_laws.specs.Placing.{Placed}
 use Rattle.world_laws.proofs.PlaceFitting.{conns_after, dial-is, dial-within}
-use Rattle.world_orders.specs.Orders.{comes_down, comes_up, purpose_of, IsBelow, MirrorIs, HasDialled, WriterIs, ReaderIs, PrimaryIs, Ordered}
+use Rattle.world_orders.specs.Orders.{IsBelow, MirrorIs, HasDialled, WriterIs, ReaderIs, PrimaryIs, Ordered}
 use Rattle.world_orders.proofs.Lists.{no-element, dialled-before}
-use Rattle.world_orders.proofs.Frame.{marked, IsActor, MarksStay, Sends, below-same, mirror-same, writer-same, reader-same, primary-same}
+use Rattle.world_orders.proofs.Frame.{marked, IsActor, MarksStay, below-same, mirror-same, writer-same, reader-same, primary-same}
 
 -- Messages were taken from no upper end but those of connections that this one dialled.
 abbrev pub OnlyOf : World → (ℕ → Marks) → Upper → Type 0

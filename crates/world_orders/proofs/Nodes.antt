@@ -1,36 +1,28 @@
 -- What the lower ends of connections leave in order.
-use Rattle.std.proofs.Common.{◌≡◌, ℕ, zero, suc, ◌<◌, ◌≤◌, ◌+◌, ◌-◌, unwrap_or, option_map, ◌⊎◌, inl, inr, Bool, true, false, List, [], ◌∷◌, ◌++◌, length, slice_get, Option, Some, None, IfSome, Result, Ok, Err, refl, sym, ap, ◌∙◌, subst, arith, append-nil}
-use Rattle.std.specs.Prelude.{◌==◌, ◌&&◌, if◌then◌else◌}
-use Rattle.std.proofs.lemmas.Bool.Decides.{nat_tests}
-use Rattle.std.proofs.lemmas.Option.{same_Some, none-some}
+use Rattle.std.proofs.Common.{◌≡◌, ℕ, zero, suc, ◌<◌, ◌≤◌, ◌+◌, ◌-◌, unwrap_or, option_map, Bool, true, false, List, [], ◌∷◌, ◌++◌, length, slice_get, Option, Some, None, IfSome, Result, Ok, Err, refl, sym, ap, ◌∙◌, subst, arith}
+use Rattle.std.specs.Prelude.{◌==◌, if◌then◌else◌}
+use Rattle.std.proofs.lemmas.Option.{same_Some}
 use Rattle.hd_base.specs.declared.numbers.ConnId.{ConnId}
-use Rattle.op_headers.specs.declared.ops.Op.{Op}
 use Rattle.op_headers.specs.declared.ops.Op.TheVariants as op
 use Rattle.op_headers.specs.declared.ops.ReadOp.{ReadOp}
 use Rattle.op_headers.specs.declared.ops.RecoveryOp.{RecoveryOp}
 use Rattle.op_headers.specs.Values.{WriteFields}
 use Rattle.packet_codec.specs.declared.packets.Packet.{Packet}
-use Rattle.node_refs.specs.NodeRefs.{ref_of}
 use Rattle.replica_core.specs.declared.events.Event.{Event}
 use Rattle.replica_core.specs.Views.{rule_in}
 use Rattle.replica_model.specs.declared.events.ReplicaEvent.{ReplicaEvent}
 use Rattle.replica_model.specs.declared.events.ReplicaEvent.TheVariants as replica_event
 use Rattle.replica_model.specs.Rows.{FullReplica, row, row_answer}
 use Rattle.request_refusals.specs.declared.refusals.RequestRefusal.{RequestRefusal}
-use Rattle.member_core.specs.declared.effects.Effect.{Effect}
 use Rattle.member_core.specs.declared.effects.Upward.{Upward}
 use Rattle.member_core.specs.declared.effects.Upward.TheVariants as upward
-use Rattle.member_core.specs.declared.inputs.FromAbove.{FromAbove}
-use Rattle.member_core.specs.declared.inputs.FromAbove.TheVariants as above
-use Rattle.member_core.specs.declared.inputs.FromBelow.{FromBelow}
-use Rattle.member_core.specs.declared.inputs.FromBelow.TheVariants as below
 use Rattle.member_core.specs.declared.member.Mirror.{Mirror}
 use Rattle.member_core.specs.declared.member.Mirror.TheVariants as mirror
 use Rattle.member_core.specs.declared.turns.Booked.{Booked}
 use Rattle.member_core.specs.declared.turns.Booked.TheVariants as booked
 use Rattle.member_core.specs.declared.turns.Turn.{Turn}
-use Rattle.member_core.specs.Members.{MemberState, is_waiting, is_heard, hears, settled, set_up, set_up_at, mirror_for, down_turn, up_turn, ready_turn, takes_messages}
-use Rattle.member_core.specs.Requests.{request_event, mirror_request}
+use Rattle.member_core.specs.Members.{MemberState, is_waiting, is_heard, hears, settled, set_up, set_up_at, down_turn, up_turn}
+use Rattle.member_core.specs.Requests.{request_event}
 use Rattle.member_core.specs.Steps.{Step, Setup, step, faulted_step, outcome_of, oldest_at, ready_turn_at, request_step, request_at, booked_request, refused_by, faulted_request}
 use Rattle.read_core.specs.Servings.{ServingState, faulted_read, faulted_piece, read_at, read_event, next_call, piece_at}
 use Rattle.recovery_core.specs.declared.members.RecoveryReply.{RecoveryReply}
@@ -38,16 +30,16 @@ use Rattle.recovery_core.specs.Members.{Served, answer_of, recovery_event, serve
 use Rattle.world.specs.Parts.{Message, request, packet, ack, response, read_status, recovery_answer, Upper, by_writer, by_member, by_reader, by_primary, Dialled, Marks, FullMember, Lower, idle, writes, serves, recovers, ended_below, Break}
 use Rattle.world.specs.Worlds.{World, Dial, Change, dial_at, dialled_with, still}
 use Rattle.world.specs.Connections.{Next, message, the_end, sent_on, is_alive}
-use Rattle.world.specs.Nodes.{replica_at, block_of, closing, unless_failing, above_of, below_of, upward_message, sent_up, passed, member_change, failing_turn, turn_change, takes_next, pending_at, member_down, member_up, ready_change, mirror_node, is_asked, mirror_dial, dials_of, member_dials, mirror_conn, lower_of, setup_change, failing_write, write_request, breaking, read_change, failing_read, read_request, piece_as, serve_change, recovery_change, failing_recovery, recovery_request, first_message, next_recovery, lower_down, lower_ready, mirror_up, broke_at}
+use Rattle.world.specs.Nodes.{replica_at, block_of, closing, unless_failing, above_of, below_of, upward_message, sent_up, passed, member_change, failing_turn, turn_change, takes_next, pending_at, member_up, ready_change, is_asked, mirror_dial, dials_of, member_dials, mirror_conn, lower_of, setup_change, failing_write, write_request, breaking, read_change, failing_read, read_request, piece_as, serve_change, recovery_change, failing_recovery, recovery_request, first_message, next_recovery, lower_down, lower_ready, mirror_up}
 use Rattle.world_laws.specs.Placing.{IsConn, IsLower, Placed}
 use Rattle.world_laws.proofs.FactTables.{when-each}
-use Rattle.world_laws.proofs.PlaceFitting.{Fits, conns_after, dial-is, dial-within}
+use Rattle.world_laws.proofs.PlaceFitting.{Fits, dial-is, dial-within}
 use Rattle.world_laws.proofs.PlaceSetups.{write-fits}
 use Rattle.world_orders.specs.Orders.{Purpose, pipeline, reading, recovering, comes_down, comes_up, purpose_of, is_first, is_empty, is_packet, IsBelow, IsMember, HasHeard, IsMirror, MirrorIs, HasDialled, WriterIs, Ordered}
 use Rattle.world_orders.proofs.Lists.{no-element, not-first, first-of, dial-past, dialled-before, dialled-here}
-use Rattle.world_orders.proofs.Frame.{marked, Sends, MarksStay, Owes}
+use Rattle.world_orders.proofs.Frame.{marked, MarksStay, Owes}
 use Rattle.world_orders.proofs.Kept.{OnlyOf, OnlyAt, apart, stays, SentAt, sent-at, sent-elsewhere, sent-here, kept-writer, kept-reader, kept-primary}
-use Rattle.world_orders.proofs.Turns.{Speaks, settled-speaks, down-speaks, ready-speaks, up-speaks, HearsStill, settled-still, down-keeps, ready-keeps, UpTurn, HearsOn, settled-on, settled-forwards, up-up}
+use Rattle.world_orders.proofs.Turns.{Speaks, settled-speaks, down-speaks, ready-speaks, up-speaks, settled-still, down-keeps, ready-keeps, UpTurn, HearsOn, settled-on, settled-forwards, up-up}
 
 -- what is sent up on one connection
 abbrev pub AnswersUp : World → ℕ → List Message → Type 0

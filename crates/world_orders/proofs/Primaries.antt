@@ -1,6 +1,6 @@
 -- What primaries and the office leave in order.
-use Rattle.std.proofs.Common.{◌≡◌, ℕ, zero, suc, ◌<◌, ◌≤◌, ◌+◌, ◌-◌, Bool, true, false, ◌||◌, List, [], ◌∷◌, length, slice_get, Option, Some, None, IfSome, Ok, Err, refl, sym, ap, ◌∙◌, subst, arith, eqb-true}
-use Rattle.std.specs.Prelude.{◌==◌, ◌&&◌, not, is_none, zip, if◌then◌else◌}
+use Rattle.std.proofs.Common.{◌≡◌, ℕ, zero, suc, ◌<◌, ◌+◌, Bool, true, false, List, [], ◌∷◌, length, slice_get, Option, Some, None, IfSome, Ok, Err, refl, sym, ap, ◌∙◌, subst, arith, eqb-true}
+use Rattle.std.specs.Prelude.{◌==◌, ◌&&◌, is_none, zip, if◌then◌else◌}
 use Rattle.std.proofs.lemmas.Option.{none-some, same_Some}
 use Rattle.hd_base.specs.declared.numbers.BlockId.{BlockId}
 use Rattle.hd_base.specs.declared.numbers.NodeId.{NodeId}
@@ -19,16 +19,16 @@ use Rattle.recovery_core.specs.declared.primary.OwnStep.{OwnStep}
 use Rattle.recovery_core.specs.declared.primary.OwnStep.TheVariants as own
 use Rattle.recovery_core.specs.declared.primary.Recovered.{Recovered}
 use Rattle.recovery_core.specs.declared.standings.Standing.{Standing}
-use Rattle.recovery_core.specs.Primaries.{PrimaryState, begun_with, own_step, sync_call, request_of, is_among, office_refused, heard_at, shuts_at}
+use Rattle.recovery_core.specs.Primaries.{PrimaryState, begun_with, own_step, sync_call, request_of, is_among, office_refused, heard_at}
 use Rattle.world.specs.declared.events.Caller.{Caller}
 use Rattle.world.specs.declared.events.Caller.TheVariants as caller
-use Rattle.world.specs.Parts.{Message, request, Place, Told, Upper, by_writer, by_member, by_reader, by_primary, Dialled, Marks, Leading, Primary, no_primary, was_told, leads, has_led}
+use Rattle.world.specs.Parts.{Message, request, Place, Told, Upper, by_writer, by_member, by_primary, Dialled, Marks, Leading, Primary, no_primary, was_told, leads, has_led}
 use Rattle.world.specs.Worlds.{World, Dial, Change, dialled_with}
 use Rattle.world.specs.Connections.{Next, is_conn, is_alive, place_of}
 use Rattle.world.specs.Clients.{are_members}
 use Rattle.world.specs.Primaries.{primary_change, dials_answered, numbered, primary_dials, recovery_message, begins_with, begins_as, begins_at, own_recover, updates_on, updates_change, ends_change, leads_step, commits_step, leads_told, own_primary_as, own_primary, heard_of, listens, hears_change, primary_up_as, primary_up, asks_writer, asks_primary, writer_asks, primary_commits, primary_asks, office_event}
-use Rattle.world_laws.specs.Placing.{IsLeading, IsPrimary, Placed}
-use Rattle.world_laws.proofs.FactTables.{if-each, when-each}
+use Rattle.world_laws.specs.Placing.{IsPrimary, Placed}
+use Rattle.world_laws.proofs.FactTables.{when-each}
 use Rattle.world_orders.specs.Orders.{comes_down, purpose_of, is_recovery, PrimaryIs, Ordered}
 use Rattle.world_orders.proofs.Lists.{no-element, dialled-before, dialled-here}
 use Rattle.world_orders.proofs.Frame.{marked, Owes}

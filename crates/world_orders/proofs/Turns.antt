@@ -1,10 +1,8 @@
 -- What members say, and whether they hear their mirror, from one turn to the next.
-use Rattle.std.proofs.Common.{◌≡◌, ℕ, Bool, true, false, List, [], ◌∷◌, Option, Some, None, IfSome, refl, sym, ap, ◌∙◌, subst}
+use Rattle.std.proofs.Common.{◌≡◌, Bool, true, false, [], ◌∷◌, Option, Some, None, IfSome, refl, sym, ap, ◌∙◌, subst}
 use Rattle.std.specs.Prelude.{ℤ, ◌==◌, ◌&&◌, if◌then◌else◌}
-use Rattle.hd_base.specs.declared.states.Status.{Status}
 use Rattle.hd_base.specs.declared.states.Status.TheVariants as status
 use Rattle.ack_codec.specs.declared.acks.Ack.{Ack}
-use Rattle.ack_codec.specs.declared.responses.Response.{Response}
 use Rattle.replica_core.specs.declared.ack_queue.PendingPacket.{PendingPacket}
 use Rattle.replica_core.specs.declared.refusals.Refusal.{Refusal}
 use Rattle.replica_core.specs.declared.refusals.Refusal.TheVariants as refusal
@@ -27,7 +25,7 @@ use Rattle.member_core.specs.declared.turns.Side.{Side}
 use Rattle.member_core.specs.declared.turns.Side.TheVariants as side
 use Rattle.member_core.specs.declared.turns.Turn.{Turn}
 use Rattle.member_core.specs.Acks.{is_success, failures, begins_with_bad_sum, is_read, with_own, ack_of}
-use Rattle.member_core.specs.Members.{MemberState, is_waiting, is_heard, hears, closed, closed_by, done, cut_off, bad_sum, kept_bad, refused_turn, settled, no_effect, down_turn, ready_at, ready_turn, quiet_turn, idle_turn, patient_turn, up_at, up_turn, setup_turn, answered_turn, stream_turn, ack_turn, pass_turn, failed_turn}
+use Rattle.member_core.specs.Members.{MemberState, is_waiting, is_heard, hears, closed, closed_by, done, cut_off, bad_sum, kept_bad, refused_turn, settled, no_effect, down_turn, ready_at, ready_turn, quiet_turn, idle_turn, patient_turn, up_at, up_turn, setup_turn, ack_turn}
 
 -- HOW A TURN ENDS
 

@@ -1,7 +1,6 @@
 -- Whether a writer awaits the answer to a request, from one call to the next.
-use Rattle.std.proofs.Common.{◌≡◌, ℕ, zero, suc, ◌<◌, ◌+◌, Bool, true, false, List, [], ◌∷◌, length, slice_get, Option, Some, None, Result, Ok, Err, refl, sym, ap, ◌∙◌, subst, arith}
+use Rattle.std.proofs.Common.{◌≡◌, ℕ, ◌<◌, Bool, true, false, List, [], ◌∷◌, length, slice_get, Option, Some, None, Result, Ok, Err, refl, sym, ap, ◌∙◌}
 use Rattle.std.specs.Prelude.{◌==◌, nat_le, if◌then◌else◌, position}
-use Rattle.std.proofs.lemmas.Bool.Decides.{nat_tests}
 use Rattle.std.proofs.lemmas.Option.{none-some, slice_get-get_or}
 use Rattle.std.proofs.lemmas.List.Quantifiers.{position-Some}
 use Rattle.hd_base.specs.declared.numbers.NodeId.{NodeId}
@@ -32,7 +31,7 @@ use Rattle.writer_core.specs.declared.records.WriterRecord.{WriterRecord}
 use Rattle.writer_core.specs.Phases.{remedy_in, remedy_at_ack, remedy_after, place_of, bad_place, without, is_success, ack_verdict}
 use Rattle.writer_core.specs.declared.phases.DuePacket.{DuePacket}
 use Rattle.writer_core.specs.declared.phases.DuePacket.TheVariants as due
-use Rattle.writer_core.specs.Transitions.{is_connected, begin_session, own_step, step_in, free_step, free_step_as, take_first, taken_as, failed_step_as, failed_first, failed_command, failed_step, dial_step_as, accepted_step, open_step, completed_step, due_now, due_step, form_step, reach_step_as, reached_length, stream_step_as, stream_step, granted, granted_as, granted_in, stamp_given, stamped, reopened, commit_given, committed_as, complete_given, refused, asks, ended, ended_as, fail_named, fail_at, fail_for, dropped, acked, acked_in, acked_as, acked_oldest, phase_acked, setup_answered, setup_answered_in, dialled, dialled_in}
+use Rattle.writer_core.specs.Transitions.{is_connected, begin_session, own_step, step_in, free_step_as, take_first, taken_as, failed_step_as, failed_first, failed_command, dial_step_as, accepted_step, open_step, completed_step, due_now, due_step, form_step, reach_step_as, reached_length, stream_step_as, granted, granted_in, stamp_given, stamped, reopened, commit_given, committed_as, complete_given, refused, asks, ended, ended_as, fail_named, dropped, acked, acked_in, acked_as, acked_oldest, phase_acked, setup_answered, setup_answered_in, dialled, dialled_in}
 use Rattle.world_orders.specs.Orders.{has_members, HasTaken}
 
 -- the answer to a request is awaited

@@ -1,5 +1,5 @@
 -- In which order messages come on each connection, and how far each end has come with them.
-use Rattle.std.specs.Prelude.{ℕ, zero, suc, ◌≡◌, ◌<◌, Bool, true, false, List, [], ◌∷◌, length, slice_get, Option, Some, None, IfSome}
+use Rattle.std.specs.Prelude.{ℕ, zero, suc, ◌≡◌, ◌<◌, Bool, true, false, List, [], ◌∷◌, length, slice_get, Some, IfSome}
 use Rattle.hd_base.specs.declared.numbers.NodeId.{NodeId}
 use Rattle.op_headers.specs.declared.ops.Op.TheVariants as op
 use Rattle.member_core.specs.declared.member.Mirror.{Mirror}
@@ -11,7 +11,6 @@ use Rattle.writer_core.specs.declared.records.WriterRecord.{WriterRecord}
 use Rattle.world.specs.declared.events.Event.{Event}
 use Rattle.world.specs.Parts.{Message, request, packet, ack, response, read_status, recovery_answer, Upper, by_writer, by_member, by_reader, by_primary, Dialled, Marks, Lower, idle, writes, serves, recovers, ended_below, Writing, Reader, reads, Primary, leads}
 use Rattle.world.specs.Worlds.{World, Past, start}
-use Rattle.world.specs.Connections.{Next, message, next_down, next_up}
 use Rattle.world.specs.Events.{run}
 
 -- KINDS OF MESSAGES
