@@ -24,7 +24,7 @@ echo "proving and building; this takes some minutes" >&2
 (cd "$work/crates/feed_bench" && rt run > "$work/build.txt" 2>&1) || { tail -n 20 "$work/build.txt" >&2; exit 1; }
 
 # The C library keeps memory that was freed, so that rounds after the first don't ask the system for fresh pages, whose cost is the system's alone.
-export MALLOC_MMAP_THRESHOLD_=33554432 MALLOC_TRIM_THRESHOLD_=1073741824 MALLOC_TOP_PAD_=67108864
+export MALLOC_MMAP_MAX_=0 MALLOC_TRIM_THRESHOLD_=1073741824 MALLOC_TOP_PAD_=67108864
 for ((run = 0; run < runs; run++)); do
   "$work/crates/feed_bench/out/feed_bench"
 done > "$work/lines.txt"
