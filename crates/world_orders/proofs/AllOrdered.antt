@@ -77,7 +77,7 @@ taken-same k (message m) e = cc
 taken-same k the_end e = refl
 
 -- what stands next stands at the place of what was taken
-next-found : (sent : List Message) (k : Marks) (m : Message) → next_on sent k ≡ Some (message m) → slice_get sent k.taken ≡ Some m
+pub next-found : (sent : List Message) (k : Marks) (m : Message) → next_on sent k ≡ Some (message m) → slice_get sent k.taken ≡ Some m
 next-found sent k m e = go k.over (ends_at k.end k.taken) e
   where
     found : (o : Option Message) → option_map message o ≡ Some (message m) → o ≡ Some m

@@ -32,11 +32,11 @@ use Rattle.world.specs.Connections.{Next, message, the_end, is_conn}
 use Rattle.world.specs.Clients.{writing_as, writer_change, did, dialled_change, dialling, rest_in, is_empty, is_formed, ruled, command_bytes, takes_step, takes_command, writer_step, own_writer, writer_hears, writer_up, named_member, reader_change, reader_dials, own_reader_as, own_reader, from_node_of, reader_turn, reader_up_as, reader_up}
 use Rattle.world_laws.specs.Placing.{Placed}
 use Rattle.world_laws.proofs.FactTables.{when-each, and-left}
-use Rattle.world_orders.specs.Orders.{comes_down, comes_up, purpose_of, is_response, has_members, HasTaken, IsWriterConn, WriterIs, ReaderIs, Ordered}
+use Rattle.world_orders.specs.Orders.{comes_down, comes_up, purpose_of, is_response, has_members, HasTaken, IsWriterConn, WriterIs, ReaderIs, Ordered, is_requested}
 use Rattle.world_orders.proofs.Lists.{no-element, dialled-before, dialled-here}
 use Rattle.world_orders.proofs.Frame.{marked, Owes}
 use Rattle.world_orders.proofs.Kept.{OnlyOf, nobody, nowhere, apart, stays, SentAt, sent-at, kept-below, kept-mirror, kept-dialled, kept-writer, kept-reader, kept-primary}
-use Rattle.world_orders.proofs.Writing.{is_requested, says, asked-none, streams-some, Follows, own-follows, granted-follows, ended-follows, acked-follows, answered-gone, dialled-gone, dialled-asks, dialled-keeps}
+use Rattle.world_orders.proofs.Writing.{says, asked-none, streams-some, Follows, own-follows, granted-follows, ended-follows, acked-follows, answered-gone, dialled-gone, dialled-asks, dialled-keeps}
 
 -- WHAT A WRITER HAS TAKEN
 

@@ -70,9 +70,9 @@ mirror-same f g p q conns at recovers k same taken h = tt
 mirror-same f g p q conns at ended_below k same taken h = tt
 mirror-same f g p q conns at (writes m) k same taken h = go m.mirror k h
   where
-    go : (o : Option ℕ) → IsConn conns o → IfSome o (λ c. IsMirror (f c) (p c).taken at m.state) → IfSome o (λ c. IsMirror (g c) (q c).taken at m.state)
+    go : (o : Option ℕ) → IsConn conns o → IfSome o (λ c. IsMirror (f c) (p c).taken at c m.state) → IfSome o (λ c. IsMirror (g c) (q c).taken at c m.state)
     go None i x = tt
-    go (Some c) i x = subst (λ (d : Dialled). IsMirror d (q c).taken at m.state) (same c i.below) (subst (λ (n : ℕ). IsMirror (f c) n at m.state) (taken c x.upper) x)
+    go (Some c) i x = subst (λ (d : Dialled). IsMirror d (q c).taken at c m.state) (same c i.below) (subst (λ (n : ℕ). IsMirror (f c) n at c m.state) (taken c x.upper) x)
 
 pub writer-same : (f g : ℕ → Dialled) (p q : ℕ → Marks) (conns b : ℕ) (x : Writing) → IsConn conns x.conn → ((c : ℕ) → c < conns → f c ≡ g c)
     → ((c : ℕ) → (f c).upper ≡ by_writer b → (p c).taken ≡ (q c).taken) → WriterIs f p b x → WriterIs g q b x

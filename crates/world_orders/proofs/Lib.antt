@@ -7,3 +7,4 @@ pub mod Clients
 pub mod Nodes
 pub mod Primaries
 pub mod AllOrdered
+pub mod Takes

@@ -393,13 +393,13 @@ module _ (w : World) (dm um : ℕ → Marks) (c : ℕ) (h : Ordered w) (p : Plac
 
       down : (d i : ℕ) (y : Message) → SentAt m.mirror (passed s.effect.forwards x) d i y → comes_down (purpose_of (w.dialled d).upper) false y ≡ true
       down d i y a =
-          let k : IsMirror (w.dialled d) (w.up_marks d).taken c m.state = subst (λ (z : Option ℕ). IfSome z (λ n. IsMirror (w.dialled n) (w.up_marks n).taken c m.state)) a.is mirror-was in
+          let k : IsMirror (w.dialled d) (w.up_marks d).taken c d m.state = subst (λ (z : Option ℕ). IfSome z (λ n. IsMirror (w.dialled n) (w.up_marks n).taken c n m.state)) a.is mirror-was in
           subst (λ (u : Upper). comes_down (purpose_of u) false y ≡ true) (sym k.upper) (passed-packet s.effect.forwards x o.forwards i y a.found)
 
-      mirrored : (z : Option ℕ) → m.mirror ≡ z → IsConn w.next_conn z → IfSome z (λ n. IsMirror (w.dialled n) (w.up_marks n).taken c m.state)
-          → IfSome z (λ n. IsMirror (dialled_with w (still (marked w dm um)) n) (um n).taken c s.member)
+      mirrored : (z : Option ℕ) → m.mirror ≡ z → IsConn w.next_conn z → IfSome z (λ n. IsMirror (w.dialled n) (w.up_marks n).taken c n m.state)
+          → IfSome z (λ n. IsMirror (dialled_with w (still (marked w dm um)) n) (um n).taken c n s.member)
       mirrored None e i y = tt
-      mirrored (Some n) e i y = record { upper = ap (λ (q : Dialled). q.upper) (dialled-before w (still (marked w dm um)) n i.below) ∙ y.upper; heard = o.heard n e }
+      mirrored (Some n) e i y = record { upper = ap (λ (q : Dialled). q.upper) (dialled-before w (still (marked w dm um)) n i.below) ∙ y.upper; later = y.later; heard = o.heard n e }
 
   turn-owes : (m : FullMember) (x : Next) (t : Turn) (fails : Bool) → w.lowers c ≡ writes m → ((b : Booked) (r : FullReplica) → StepOwes m x (record { member = (settled m.state t b).0; replica = r; effect = (settled m.state t b).1 }))
       → IfSome (turn_change (marked w dm um) c m x t fails) (Owes w dm um)
@@ -425,10 +425,10 @@ module _ (w : World) (dm um : ℕ → Marks) (c : ℕ) (h : Ordered w) (p : Plac
   setup-up-said fields None said is none says = said-up fields true false said is (ap is_empty none) says
   setup-up-said fields (Some m) said is none says = said-up fields true (is_waiting m.mirror) said is (ap is_empty none) says
 
-  setup-mirror : (fields : WriteFields) (s : Setup) (b : Option Break) → Fits (marked w dm um) (setup_change (marked w dm um) c fields s b) → (o : Option MemberState) → s.member ≡ o
+  setup-mirror : (fields : WriteFields) (s : Setup) (b : Option Break) → c < w.next_conn → Fits (marked w dm um) (setup_change (marked w dm um) c fields s b) → (o : Option MemberState) → s.member ≡ o
       → MirrorIs (dialled_with w (setup_change (marked w dm um) c fields s b)) um c (lower_of o fields w.next_conn)
-  setup-mirror fields s b f None e = tt
-  setup-mirror fields s b f (Some m) e = go m.mirror refl
+  setup-mirror fields s b lt f None e = tt
+  setup-mirror fields s b lt f (Some m) e = go m.mirror refl
     where
       k : Change
       k = setup_change (marked w dm um) c fields s b
@@ -436,7 +436,7 @@ module _ (w : World) (dm um : ℕ → Marks) (c : ℕ) (h : Ordered w) (p : Plac
       below-is : m.mirror ≡ mirror.Asked → w.next_conn < w.next_conn + length k.dials
       below-is a = (subst (λ (z : Option ℕ). IsConn (w.next_conn + length k.dials) z) (ap (λ (q : Mirror). mirror_conn q w.next_conn) a) (subst (λ (z : Option MemberState). IsLower (w.next_conn + length k.dials) (lower_of z fields w.next_conn)) e f.lower)).below
 
-      go : (q : Mirror) → m.mirror ≡ q → IfSome (mirror_conn q w.next_conn) (λ n. IsMirror (dialled_with w k n) (um n).taken c m)
+      go : (q : Mirror) → m.mirror ≡ q → IfSome (mirror_conn q w.next_conn) (λ n. IsMirror (dialled_with w k n) (um n).taken c n m)
       go mirror.Nobody a = tt
       go mirror.Unreachable a = tt
       go mirror.Open a = tt
@@ -445,6 +445,7 @@ module _ (w : World) (dm um : ℕ → Marks) (c : ℕ) (h : Ordered w) (p : Plac
           let x = head-there k.dials (omega (arith, below-is a)) in
           record {
             upper = ap (λ (d : Dialled). d.upper) (dialled-here w k w.next_conn 0 x.dial (omega arith) x.found) ∙ (dials-are (marked w dm um) c fields s.member 0 x.dial x.found).upper;
+            later = lt;
             heard = λ hears. subst (λ (z : Mirror). HasHeard z (um w.next_conn).taken) (sym a) (ap (λ (y : Marks). y.taken) ((p.undialled w.next_conn (omega arith)).up_marks));
           }
 
@@ -463,9 +464,9 @@ module _ (w : World) (dm um : ℕ → Marks) (c : ℕ) (h : Ordered w) (p : Plac
           let a : m.mirror ≡ mirror.Asked = subst LowerAsked e x.asked in
           ap (λ (q : Mirror). mirror_conn q w.next_conn) a ∙ ap Some (omega (arith, x.first, dial-past w.next_conn d ds y is))
 
-  setup-owes : (fields : WriteFields) (s : Setup) (b : Option Break) → w.lowers c ≡ idle → purpose_of (w.dialled c).upper ≡ pipeline → w.ups c ≡ [] → 0 < (dm c).taken
+  setup-owes : (fields : WriteFields) (s : Setup) (b : Option Break) → c < w.next_conn → w.lowers c ≡ idle → purpose_of (w.dialled c).upper ≡ pipeline → w.ups c ≡ [] → 0 < (dm c).taken
       → SaysAs s.member s.effect.sends → Fits (marked w dm um) (setup_change (marked w dm um) c fields s b) → Owes w dm um (setup_change (marked w dm um) c fields s b)
-  setup-owes fields s b l is none asked says f =
+  setup-owes fields s b lt l is none asked says f =
       let k = setup_change (marked w dm um) c fields s b in
       record {
         sends = record {
@@ -477,24 +478,24 @@ module _ (w : World) (dm um : ℕ → Marks) (c : ℕ) (h : Ordered w) (p : Plac
         };
         stay = stay-here;
         below = setup-below fields s.member s.effect.sends is none asked says;
-        mirror = setup-mirror fields s b f s.member refl;
+        mirror = setup-mirror fields s b lt f s.member refl;
         dialled = setup-dialled fields s b l s.member refl;
         writer = writer-here k;
         reader = kept-reader w dm um h p k 0;
         primary = kept-primary w dm um h p k 0;
       }
 
-  failing-write-owes : (fields : WriteFields) (e : Result Event RequestRefusal) → w.lowers c ≡ idle → purpose_of (w.dialled c).upper ≡ pipeline → w.ups c ≡ [] → 0 < (dm c).taken
+  failing-write-owes : (fields : WriteFields) (e : Result Event RequestRefusal) → c < w.next_conn → w.lowers c ≡ idle → purpose_of (w.dialled c).upper ≡ pipeline → w.ups c ≡ [] → 0 < (dm c).taken
       → IfSome (failing_write (marked w dm um) c fields e) (Fits (marked w dm um)) → IfSome (failing_write (marked w dm um) c fields e) (Owes w dm um)
-  failing-write-owes fields (Err refused) l is none asked f = tt
-  failing-write-owes fields (Ok e) l is none asked f = setup-owes fields (faulted_request (replica_at (marked w dm um) c (block_of fields))) _ l is none asked tt f
+  failing-write-owes fields (Err refused) lt l is none asked f = tt
+  failing-write-owes fields (Ok e) lt l is none asked f = setup-owes fields (faulted_request (replica_at (marked w dm um) c (block_of fields))) _ lt l is none asked tt f
 
   write-owes : (fields : WriteFields) (answered fails : Bool) → c < w.next_conn → w.lowers c ≡ idle → purpose_of (w.dialled c).upper ≡ pipeline → w.ups c ≡ [] → 0 < (dm c).taken
       → IfSome (write_request (marked w dm um) c fields answered fails) (Owes w dm um)
   write-owes fields answered true lt l is none asked =
-      failing-write-owes fields (request_event (record { 0 = c }) fields (rule_in (replica_at (marked w dm um) c (block_of fields)).known)) l is none asked (write-fits (marked w dm um) c fields answered true p lt)
+      failing-write-owes fields (request_event (record { 0 = c }) fields (rule_in (replica_at (marked w dm um) c (block_of fields)).known)) lt l is none asked (write-fits (marked w dm um) c fields answered true p lt)
   write-owes fields answered false lt l is none asked =
-      setup-owes fields (request_step (record { 0 = c }) fields (is_asked (marked w dm um) c fields answered) (replica_at (marked w dm um) c (block_of fields))) _ l is none asked
+      setup-owes fields (request_step (record { 0 = c }) fields (is_asked (marked w dm um) c fields answered) (replica_at (marked w dm um) c (block_of fields))) _ lt l is none asked
       (request-says (record { 0 = c }) fields (is_asked (marked w dm um) c fields answered) (replica_at (marked w dm um) c (block_of fields)) (request_event (record { 0 = c }) fields (rule_in (replica_at (marked w dm um) c (block_of fields)).known)))
       (write-fits (marked w dm um) c fields answered false p lt)
 
@@ -529,7 +530,7 @@ module _ (w : World) (dm um : ℕ → Marks) (c : ℕ) (h : Ordered w) (p : Plac
         forwards = λ f y e. packets y e;
         speaks = settled-speaks m.state t b says;
         heard = λ d e g.
-            let i : IsMirror (w.dialled d) (w.up_marks d).taken c m.state = subst (λ (z : Option ℕ). IfSome z (λ n. IsMirror (w.dialled n) (w.up_marks n).taken c m.state)) e was in
+            let i : IsMirror (w.dialled d) (w.up_marks d).taken c d m.state = subst (λ (z : Option ℕ). IfSome z (λ n. IsMirror (w.dialled n) (w.up_marks n).taken c n m.state)) e was in
             subst (λ (n : ℕ). HasHeard (settled m.state t b).0.mirror n) (sym (same d)) (subst (λ (q : Mirror). HasHeard q (w.up_marks d).taken) (sym (k.mirror_same g)) (i.heard (k.heard g)));
       }
 

@@ -32,12 +32,7 @@ use Rattle.writer_core.specs.Phases.{remedy_in, remedy_at_ack, remedy_after, pla
 use Rattle.writer_core.specs.declared.phases.DuePacket.{DuePacket}
 use Rattle.writer_core.specs.declared.phases.DuePacket.TheVariants as due
 use Rattle.writer_core.specs.Transitions.{is_connected, begin_session, own_step, step_in, free_step_as, take_first, taken_as, failed_step_as, failed_first, failed_command, dial_step_as, accepted_step, open_step, completed_step, due_now, due_step, form_step, reach_step_as, reached_length, stream_step_as, granted, granted_in, stamp_given, stamped, reopened, commit_given, committed_as, complete_given, refused, asks, ended, ended_as, fail_named, dropped, acked, acked_in, acked_as, acked_oldest, phase_acked, setup_answered, setup_answered_in, dialled, dialled_in}
-use Rattle.world_orders.specs.Orders.{has_members, HasTaken}
-
--- the answer to a request is awaited
-abbrev pub is_requested : Phase → Bool
-is_requested (phase.Requested s stamp) = true
-is_requested other = false
+use Rattle.world_orders.specs.Orders.{has_members, HasTaken, is_requested}
 
 -- WHAT A PHASE SAYS
 

@@ -108,13 +108,14 @@ HasHeard mirror.Asked taken = taken ≡ 0
 HasHeard mirror.Open taken = 0 < taken
 HasHeard other taken = Unit {0}
 
--- The member whose request came on a connection dialled the one to its mirror.
-pub record IsMirror (d : Dialled) (taken conn : ℕ) (m : MemberState) : Type 0 where
+-- The member whose request came on a connection dialled the one to its mirror, later.
+pub record IsMirror (d : Dialled) (taken conn mirror_conn : ℕ) (m : MemberState) : Type 0 where
   pub upper : d.upper ≡ by_member conn
+  pub later : conn < mirror_conn
   pub heard : hears m ≡ true → HasHeard m.mirror taken
 
 abbrev pub MirrorIs : (ℕ → Dialled) → (ℕ → Marks) → ℕ → Lower → Type 0
-MirrorIs dialled marks conn (writes m) = IfSome m.mirror (λ c. IsMirror (dialled c) (marks c).taken conn m.state)
+MirrorIs dialled marks conn (writes m) = IfSome m.mirror (λ c. IsMirror (dialled c) (marks c).taken conn c m.state)
 MirrorIs dialled marks conn other = Unit {0}
 
 -- A connection that a member dialled is the one to its mirror.
@@ -126,6 +127,11 @@ HasDialled c other = ⊥
 abbrev pub has_members : List NodeId → Bool
 has_members [] = false
 has_members (n ∷ ns) = true
+
+-- the answer to a writer's request is awaited
+abbrev pub is_requested : Phase → Bool
+is_requested (phase.Requested s stamp) = true
+is_requested other = false
 
 -- A writer that is connected has taken something just where its request isn't awaited to be answered.
 abbrev pub HasTaken : Phase → List NodeId → ℕ → Type 0
