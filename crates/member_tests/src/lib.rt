@@ -1,8 +1,16 @@
-//! Tests of the running member of a pipeline.
+//! Tests of the running member of a pipeline, and of a pipeline's setup.
 #![tactic(auto)]
 
 #[cfg(test)]
+mod alone;
+#[cfg(test)]
 mod helpers;
+#[cfg(test)]
+mod nodes;
+#[cfg(test)]
+mod pieces;
+#[cfg(test)]
+mod rebuilding;
 #[cfg(test)]
 mod receiving;
 #[cfg(test)]
