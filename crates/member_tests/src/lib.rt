@@ -4,6 +4,8 @@
 #[cfg(test)]
 mod alone;
 #[cfg(test)]
+mod chains;
+#[cfg(test)]
 mod helpers;
 #[cfg(test)]
 mod nodes;
