@@ -16,4 +16,6 @@ mod rebuilding;
 #[cfg(test)]
 mod receiving;
 #[cfg(test)]
+mod refusing;
+#[cfg(test)]
 mod responding;

@@ -5,7 +5,7 @@ ghost use Rattle.hd_base.specs.Ends.{IsKnown};
 ghost use Rattle.pipe_recovery.specs.Dialling.{LinkIsKnown};
 
 use crate::helpers::BLOCK;
-use crate::nodes::{accepted, received};
+use crate::nodes::{accepted, received, sent};
 use hd_base::{ConnId, Members, NodeId, Roads, SumKind, SumRule};
 use mem_ports::{MemIn, MemOut, MemRoads};
 use name_core::OfficeBook;
@@ -15,6 +15,9 @@ use std::mem;
 use std::process::Abort;
 use std::sync::Wait;
 use writer_core::{Action, Command, Writer};
+
+/// The answer SUCCESS with an empty first bad link, as the public protocol spells it.
+const SUCCESS: &[u8] = b"\x04\x08\x00\x12\x00";
 
 /// A setup, its writer, the office and the roads.
 #[derive(Drop)]
@@ -76,9 +79,31 @@ fn step(rt: &impl Abort, alloc: Global, scene: &mut Scene) -> RebuildStep<MemIn,
     )
 }
 
+/// The setup's connection is exchanged, and takes where it is named.
+fn pass(rt: &impl Abort, alloc: Global, scene: &mut Scene, take: Option<ConnId>) {
+    assert!(rt; knows(&scene.roads, &scene.setup));
+    scene
+        .setup
+        .exchange(alloc, &mut scene.roads, take)
+        .expect(rt, "an exchange");
+}
+
 /// The node listens: its port.
 fn listen(rt: &impl Abort, alloc: Global, scene: &mut Scene) -> u16 {
     scene.roads.listen(alloc, NodeId(1)).expect(rt, "a port")
+}
+
+/// The node accepts the dial at this port, and answers SUCCESS.
+fn accept(rt: &impl Abort, alloc: Global, roads: &mut MemRoads, port: u16) {
+    let mut end = accepted(rt, alloc, roads, port);
+    sent(rt, alloc, roads, &mut end, SUCCESS);
+}
+
+/// The connection is exchanged, the node answers, and its answer is given.
+fn answer(rt: &impl Abort, alloc: Global, scene: &mut Scene, port: u16) {
+    pass(rt, alloc, scene, None);
+    accept(rt, alloc, &mut scene.roads, port);
+    pass(rt, alloc, scene, Some(ConnId(0)));
 }
 
 /// The setup brings its connection back.
@@ -106,12 +131,53 @@ fn run(rt: &(impl Abort + Wait), alloc: Global, scene: &mut Scene) -> Rebuilt<Me
     )
 }
 
+/// Whether the writer has its connection.
+fn is_connected(scene: &Scene) -> bool {
+    scene.writer.connected()
+}
+
+/// Whether the pipeline stands, on this connection.
+fn streams(step: &RebuildStep<MemIn, MemOut>, conn: ConnId) -> bool {
+    match step {
+        RebuildStep::Ended(Rebuilt::Streaming(end, _)) => end.id.0 == conn.0,
+        _ => false,
+    }
+}
+
 /// Whether the block was abandoned for this member.
 fn is_abandoned(rebuilt: &Rebuilt<MemIn, MemOut>, node: NodeId) -> bool {
     match rebuilt {
         Rebuilt::Abandoned { member } => member.0 == node.0,
         _ => false,
     }
+}
+
+/// After a step the setup waits.
+fn waits(rt: &impl Abort, alloc: Global, scene: &mut Scene) {
+    let step = step(rt, alloc, scene);
+    assert!(rt; matches!(step, RebuildStep::Waiting));
+}
+
+/// After a step the pipeline stands.
+fn stands(rt: &impl Abort, alloc: Global, scene: &mut Scene) {
+    let step = step(rt, alloc, scene);
+    assert!(rt; streams(&step, ConnId(0)));
+    assert!(rt; is_connected(scene));
+}
+
+/// The request waits for its answer, and then the pipeline stands.
+fn streams_once_answered(rt: &impl Abort, alloc: Global, scene: &mut Scene) {
+    let port = listen(rt, alloc, scene);
+    waits(rt, alloc, scene);
+    answer(rt, alloc, scene, port);
+    stands(rt, alloc, scene);
+}
+
+#[test]
+fn a_create_streams_once_it_is_answered(rt: HostRuntime) {
+    let alloc = rt.alloc();
+    let mut scene = begun(&rt, alloc);
+    streams_once_answered(&rt, alloc, &mut scene);
 }
 
 /// What was sent before reaches the node.
