@@ -6,6 +6,8 @@ mod alone;
 #[cfg(test)]
 mod chains;
 #[cfg(test)]
+mod failing;
+#[cfg(test)]
 mod helpers;
 #[cfg(test)]
 mod nodes;
