@@ -1,5 +1,5 @@
 -- The turns of a member's rules: of a packet nothing goes up, and it goes on to a mirror; the others book an ack, the end or nothing. None gives the member a mirror that it hasn't, or takes it.
-use Rattle.std.proofs.Common.{◌≡◌, ◌==◌, ◌<◌, ℕ, ℤ, Bool, true, false, if◌then◌else◌, List, Option, Some, None, IsSome, option_map, refl, subst, arith}
+use Rattle.std.proofs.Common.{◌≡◌, ◌==◌, ◌<◌, ℕ, ℤ, Bool, true, false, if◌then◌else◌, List, Option, Some, None, IsSome, refl, subst, arith}
 use Rattle.hd_base.specs.declared.ends.Conn.{Conn}
 use Rattle.hd_base.specs.declared.states.Status.{Status}
 use Rattle.replica_core.specs.declared.ack_queue.PendingPacket.{PendingPacket}
@@ -23,8 +23,8 @@ use Rattle.member_core.specs.declared.turns.Booked.TheVariants as booked
 use Rattle.member_core.specs.declared.turns.Side.{Side}
 use Rattle.member_core.specs.declared.turns.Side.TheVariants as side
 use Rattle.member_core.specs.declared.turns.Turn.{Turn}
-use Rattle.member_core.specs.Acks.{is_success, failures, begins_with_bad_sum, is_read, with_own}
-use Rattle.member_core.specs.Members.{MemberState, has_mirror, closed, closed_by, settled, refused_turn, bad_sum, down_turn, setup_turn, pass_turn, failed_turn, ack_turn, stream_turn, up_at, up_turn, idle_turn, quiet_turn, patient_turn, ready_at, ready_turn_by}
+use Rattle.member_core.specs.Acks.{is_success, failures, begins_with_bad_sum, is_read}
+use Rattle.member_core.specs.Members.{MemberState, has_mirror, closed, closed_by, settled, refused_turn, bad_sum, down_turn, setup_turn, pass_turn, ack_turn, stream_turn, up_at, up_turn, idle_turn, quiet_turn, patient_turn, ready_at, ready_turn_by}
 use Rattle.pipe_turns.specs.Turning.{CanBook}
 use Rattle.pipe_member.specs.Stepping.{IsOfRules}
 

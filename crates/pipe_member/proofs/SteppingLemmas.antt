@@ -1,5 +1,5 @@
 -- Each turn that found memory is the step of the member's rules.
-use Rattle.std.proofs.Common.{◌≡◌, ◌≢◌, ◌⊎◌, inl, inr, ◌≤◌, ◌+◌, ◌^◌, ◌-◌, ℕ, ℤ, Bool, true, false, if◌then◌else◌, List, Option, Some, None, slice_get, negsuc, option_map, Result, Ok, Err, IsOk, IsSome, refl, sym, ap, ◌∙◌, subst, min, arith}
+use Rattle.std.proofs.Common.{◌≡◌, ◌≢◌, inl, inr, ◌≤◌, ◌+◌, ◌^◌, ◌-◌, ℕ, ℤ, Bool, true, false, if◌then◌else◌, List, Option, Some, None, slice_get, negsuc, Result, Ok, Err, IsOk, IsSome, refl, sym, ap, ◌∙◌, subst, min, arith}
 use Rattle.hd_base.specs.Faults.{FaultsIncreased}
 use Rattle.hd_base.specs.Results.{◌>>=◌}
 use Rattle.hd_base.specs.declared.ends.Conn.{Conn}
@@ -7,17 +7,14 @@ use Rattle.hd_base.specs.declared.numbers.ConnId.{ConnId}
 use Rattle.hd_base.specs.declared.numbers.Receipt.{Receipt}
 use Rattle.hd_base.specs.declared.files.Files as files
 use Rattle.hd_base.specs.declared.links.LinkOut as link_out
-use Rattle.link_pieces.specs.Pieces.{SendsNothing, SendsPiece, FailsToSend}
 use Rattle.packet_codec.specs.declared.packets.Packet.{Packet}
-use Rattle.packet_codec.specs.Packets.{packet_text}
 use Rattle.op_headers.specs.Values.{WriteFields}
-use Rattle.replica_core.specs.declared.ack_queue.PendingPacket.{PendingPacket}
 use Rattle.replica_core.specs.declared.events.Event.{Event}
 use Rattle.replica_core.specs.declared.events.Event.TheVariants as event
 use Rattle.replica_core.specs.declared.records.ReplicaRecord.{ReplicaRecord}
 use Rattle.replica_core.specs.declared.refusals.Refusal.{Refusal}
 use Rattle.replica_core.specs.declared.refusals.Refusal.TheVariants as refusal
-use Rattle.replica_core.specs.Transitions.{Outcome, transition, extent_transition, packet_transition, ack_transition, present, stream_by, oldest_of, done as taken_with, acknowledge, enqueue, extend, reply, answer_of}
+use Rattle.replica_core.specs.Transitions.{Outcome, transition, extent_transition, packet_transition, present, stream_by, oldest_of, done as taken_with, acknowledge, enqueue, extend, reply, answer_of}
 use Rattle.replica_core.specs.declared.extents.PacketExtent.{PacketExtent}
 use Rattle.replica_core.specs.Refusals.{check}
 use Rattle.replica_core.specs.Info.{state_of, is_writable}
@@ -29,7 +26,7 @@ use Rattle.replica_model.specs.Rows.{FullReplica, event_at, row, row_answer, bro
 use Rattle.replica_files.specs.declared.book_state.BookState.{BookState}
 use Rattle.replica_files.specs.declared.faults.BookFault.{BookFault}
 use Rattle.replica_files.specs.declared.faults.BookFault.TheVariants as fault
-use Rattle.replica_files.specs.Books.{IsBookOf, Takes, replica_of}
+use Rattle.replica_files.specs.Books.{replica_of}
 use Rattle.replica_files.specs.Endings.{BookEnds}
 use Rattle.replica_files.proofs.BookLemmas.{noted}
 use Rattle.block_receiver.specs.declared.packets.Taken.{Taken}
@@ -49,16 +46,13 @@ use Rattle.member_core.specs.declared.turns.Side.{Side}
 use Rattle.member_core.specs.declared.turns.Turn.{Turn}
 use Rattle.member_core.specs.Members.{MemberState, settled, refused_turn, turn_of}
 use Rattle.member_core.specs.Steps.{Step, step, faulted_step, with_replica, booked_as, outcome_of, replica_after}
-use Rattle.pipe_turns.specs.Turning.{CanBook, Performs, PerformsAlone, PerformsPacket, PerformsEvent, PassesEnd, SendsText, SendsAlone, packet_done, sending_done}
-use Rattle.pipe_turns.specs.Acting.{Acts, FollowsAs, ShutsEnd, ShutsMirror, booked_of, texts_of, shuts_up, shuts_below, with_half}
+use Rattle.pipe_turns.specs.Turning.{Performs, PerformsAlone, PassesEnd, SendsText, SendsAlone, packet_done, sending_done}
+use Rattle.pipe_turns.specs.Acting.{FollowsAs, ShutsEnd, ShutsMirror, booked_of, texts_of, shuts_up, shuts_below, with_half}
 use Rattle.pipe_turns.specs.declared.turning.Done.{Done}
 use Rattle.pipe_turns.specs.declared.turning.Done.TheVariants as done
-use Rattle.pipe_member.specs.declared.member.Member.{Member}
-use Rattle.pipe_member.specs.declared.stages.Took.{Took}
 use Rattle.pipe_member.specs.declared.stepped.Stepped.{Stepped}
 use Rattle.pipe_member.specs.declared.stepped.Stepped.TheVariants as stepped
 use Rattle.pipe_member.specs.Steps.{stepped_of, stage_after, loses_upstream, loses_mirror}
-use Rattle.pipe_member.specs.Turns.{Turns}
 use Rattle.pipe_member.specs.Stepping.{HasSent, Tells, TellsMirror, passed_text, IsOfRules, IsStep, step_by, TurnsAreSteps}
 
 -- ---- an event that a replica takes isn't refused
