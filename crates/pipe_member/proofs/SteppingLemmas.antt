@@ -1,5 +1,5 @@
 -- Each turn that found memory is the step of the member's rules.
-use Rattle.std.proofs.Common.{◌≡◌, ◌≢◌, inl, inr, ◌≤◌, ◌+◌, ◌^◌, ◌-◌, ℕ, ℤ, Bool, true, false, if◌then◌else◌, List, Option, Some, None, slice_get, negsuc, Result, Ok, Err, IsOk, IsSome, refl, sym, ap, ◌∙◌, subst, min, arith}
+use Rattle.std.proofs.Common.{◌≡◌, ◌≢◌, ◌⊎◌, inl, inr, ◌≤◌, ◌+◌, ◌^◌, ◌-◌, ℕ, ℤ, Bool, true, false, if◌then◌else◌, List, Option, Some, None, slice_get, negsuc, option_map, Result, Ok, Err, IsOk, IsSome, refl, sym, ap, ◌∙◌, subst, min, arith}
 use Rattle.hd_base.specs.Faults.{FaultsIncreased}
 use Rattle.hd_base.specs.Results.{◌>>=◌}
 use Rattle.hd_base.specs.declared.ends.Conn.{Conn}
@@ -7,14 +7,17 @@ use Rattle.hd_base.specs.declared.numbers.ConnId.{ConnId}
 use Rattle.hd_base.specs.declared.numbers.Receipt.{Receipt}
 use Rattle.hd_base.specs.declared.files.Files as files
 use Rattle.hd_base.specs.declared.links.LinkOut as link_out
+use Rattle.link_pieces.specs.Pieces.{SendsNothing, SendsPiece, FailsToSend}
 use Rattle.packet_codec.specs.declared.packets.Packet.{Packet}
+use Rattle.packet_codec.specs.Packets.{packet_text}
 use Rattle.op_headers.specs.Values.{WriteFields}
+use Rattle.replica_core.specs.declared.ack_queue.PendingPacket.{PendingPacket}
 use Rattle.replica_core.specs.declared.events.Event.{Event}
 use Rattle.replica_core.specs.declared.events.Event.TheVariants as event
 use Rattle.replica_core.specs.declared.records.ReplicaRecord.{ReplicaRecord}
 use Rattle.replica_core.specs.declared.refusals.Refusal.{Refusal}
 use Rattle.replica_core.specs.declared.refusals.Refusal.TheVariants as refusal
-use Rattle.replica_core.specs.Transitions.{Outcome, transition, extent_transition, packet_transition, present, stream_by, oldest_of, done as taken_with, acknowledge, enqueue, extend, reply, answer_of}
+use Rattle.replica_core.specs.Transitions.{Outcome, transition, extent_transition, packet_transition, ack_transition, present, stream_by, oldest_of, done as taken_with, acknowledge, enqueue, extend, reply, answer_of}
 use Rattle.replica_core.specs.declared.extents.PacketExtent.{PacketExtent}
 use Rattle.replica_core.specs.Refusals.{check}
 use Rattle.replica_core.specs.Info.{state_of, is_writable}
@@ -26,7 +29,7 @@ use Rattle.replica_model.specs.Rows.{FullReplica, event_at, row, row_answer, bro
 use Rattle.replica_files.specs.declared.book_state.BookState.{BookState}
 use Rattle.replica_files.specs.declared.faults.BookFault.{BookFault}
 use Rattle.replica_files.specs.declared.faults.BookFault.TheVariants as fault
-use Rattle.replica_files.specs.Books.{replica_of}
+use Rattle.replica_files.specs.Books.{IsBookOf, Takes, replica_of}
 use Rattle.replica_files.specs.Endings.{BookEnds}
 use Rattle.replica_files.proofs.BookLemmas.{noted}
 use Rattle.block_receiver.specs.declared.packets.Taken.{Taken}
@@ -46,13 +49,16 @@ use Rattle.member_core.specs.declared.turns.Side.{Side}
 use Rattle.member_core.specs.declared.turns.Turn.{Turn}
 use Rattle.member_core.specs.Members.{MemberState, settled, refused_turn, turn_of}
 use Rattle.member_core.specs.Steps.{Step, step, faulted_step, with_replica, booked_as, outcome_of, replica_after}
-use Rattle.pipe_turns.specs.Turning.{Performs, PerformsAlone, PassesEnd, SendsText, SendsAlone, packet_done, sending_done}
-use Rattle.pipe_turns.specs.Acting.{FollowsAs, ShutsEnd, ShutsMirror, booked_of, texts_of, shuts_up, shuts_below, with_half}
+use Rattle.pipe_turns.specs.Turning.{CanBook, Performs, PerformsAlone, PerformsPacket, PerformsEvent, PassesEnd, SendsText, SendsAlone, packet_done, sending_done}
+use Rattle.pipe_turns.specs.Acting.{Acts, FollowsAs, ShutsEnd, ShutsMirror, booked_of, texts_of, shuts_up, shuts_below, with_half}
 use Rattle.pipe_turns.specs.declared.turning.Done.{Done}
 use Rattle.pipe_turns.specs.declared.turning.Done.TheVariants as done
+use Rattle.pipe_member.specs.declared.member.Member.{Member}
+use Rattle.pipe_member.specs.declared.stages.Took.{Took}
 use Rattle.pipe_member.specs.declared.stepped.Stepped.{Stepped}
 use Rattle.pipe_member.specs.declared.stepped.Stepped.TheVariants as stepped
 use Rattle.pipe_member.specs.Steps.{stepped_of, stage_after, loses_upstream, loses_mirror}
+use Rattle.pipe_member.specs.Turns.{Turns}
 use Rattle.pipe_member.specs.Stepping.{HasSent, Tells, TellsMirror, passed_text, IsOfRules, IsStep, step_by, TurnsAreSteps}
 
 -- ---- an event that a replica takes isn't refused
@@ -193,7 +199,7 @@ module _ {I O : Type 0} (o : link_out.Ghosts O) where
 -- ---- what is sent
 
 -- nothing is sent after a call that the book didn't take
-silent : (m : MemberState) (t : Turn) (b : Booked) → b ≢ booked.Taken → ((settled m t b).1.sends ≡ None) × ((settled m t b).1.forwards ≡ false)
+pub silent : (m : MemberState) (t : Turn) (b : Booked) → b ≢ booked.Taken → ((settled m t b).1.sends ≡ None) × ((settled m t b).1.forwards ≡ false)
 silent m t booked.Taken never = absurd (never refl)
 silent m t booked.Failed never = (refl, refl)
 silent m t (booked.Refused why) never = refused_silent m t.call t why
@@ -208,7 +214,7 @@ silent m t (booked.Refused why) never = refused_silent m t.call t why
     refused_silent m call t why = (refl, refl)
 
 -- the step of a turn whose call ended so
-abbrev step_done : Done → MemberState → FullReplica → Turn → Step
+abbrev pub step_done : Done → MemberState → FullReplica → Turn → Step
 step_done (done.File receipt) m r t = faulted_step m r t
 step_done other m r t = step m r t
 
@@ -432,7 +438,7 @@ module _ {F I O : Type 0} (f : files.Ghosts F) (o : link_out.Ghosts O) (op : Wri
       }
   event_made at mi e x sending.Memory book book' up sent below passed is never b says same = absurd (never refl)
 
-  made : (at : Side) (call : Option ReplicaEvent) (mi : Mirror) (e : Effect) (d : Done) (book book' : BookState F) (up sent : O) (below passed : Option (Conn I O)) → IsOfRules call e below → d ≢ done.Memory
+  pub made : (at : Side) (call : Option ReplicaEvent) (mi : Mirror) (e : Effect) (d : Done) (book book' : BookState F) (up sent : O) (below passed : Option (Conn I O)) → IsOfRules call e below → d ≢ done.Memory
       → Performs f o call (texts_of op e.sends) book book' up sent below passed d → Made o op m (turn_of at call mi e) d book book' up sent below passed
   made at None mi e d book book' up sent below passed rules never p = made_alone at mi e d book book' up sent below passed never p
   made at (Some (replica_event.Packet conn x)) mi e d book book' up sent below passed rules never p =
@@ -444,14 +450,14 @@ module _ {F I O : Type 0} (f : files.Ghosts F) (o : link_out.Ghosts O) (op : Wri
 
 -- ---- the whole turn
 
-no_memory : (d : Done) (s : Shuts) → stepped_of d s ≢ stepped.Memory → d ≢ done.Memory
+pub no_memory : (d : Done) (s : Shuts) → stepped_of d s ≢ stepped.Memory → d ≢ done.Memory
 no_memory d s never is = never (ap (λ (x : Done). stepped_of x s) is)
 
 -- what follows as the rules are told
-abbrev IsSettled : {I O : Type 0} → link_out.Ghosts O → MemberState → Turn → MemberState → Shuts → Conn I O → Conn I O → Option (Conn I O) → Option (Conn I O) → Booked → Type 0
+abbrev pub IsSettled : {I O : Type 0} → link_out.Ghosts O → MemberState → Turn → MemberState → Shuts → Conn I O → Conn I O → Option (Conn I O) → Option (Conn I O) → Booked → Type 0
 IsSettled o m t m' s up up' below below' b = (m' ≡ (settled m t b).0) × (s ≡ (settled m t b).1.shuts) × ShutsEnd o (shuts_up s) up up' × ShutsMirror o (shuts_below s) below below'
 
-settled_as : {I O : Type 0} (o : link_out.Ghosts O) (m : MemberState) (t : Turn) (m' : MemberState) (s : Shuts) (up up' : Conn I O) (below below' : Option (Conn I O)) (known : Option Booked) (b : Booked)
+pub settled_as : {I O : Type 0} (o : link_out.Ghosts O) (m : MemberState) (t : Turn) (m' : MemberState) (s : Shuts) (up up' : Conn I O) (below below' : Option (Conn I O)) (known : Option Booked) (b : Booked)
     → known ≡ Some b → FollowsAs o t m m' up up' below below' s known → IsSettled o m t m' s up up' below below' b
 settled_as o m t m' s up up' below below' known b is h = subst (λ (k : Option Booked). FollowsAs o t m m' up up' below below' s k) is h
 
