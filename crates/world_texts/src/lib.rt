@@ -1,0 +1,11 @@
+//! Each message on the connections of the world is spelled by its text: whoever reads the bytes reads what was sent. Each
+//! function has an empty body; its clauses say what holds after every list of events.
+#![tactic(auto)]
+
+ghost use Rattle.world_texts.specs.Texts.{AllWritten};
+
+/// Each message that was sent on a connection is spelled by the bytes as which it is written, as long as the blocks of
+/// the writers have numbers of 64 bits, the requests of readers can be written, and the office has stamps left.
+pub fn messages_are_written()
+    ensures { AllWritten }
+{}
