@@ -9,20 +9,18 @@ use Rattle.name_core.specs.declared.calls.OfficeAnswer.TheVariants as office
 use Rattle.member_core.specs.Members.{MemberState}
 use Rattle.packet_codec.specs.declared.packets.Packet.{Packet}
 use Rattle.packet_stream.specs.declared.extents.TheConstants.{BLOCK_LIMIT}
+use Rattle.packet_stream.specs.Streams.{packet_end}
 use Rattle.replica_core.specs.declared.ack_queue.PendingPacket.{PendingPacket}
 use Rattle.replica_model.specs.Rows.{FullReplica}
 use Rattle.writer_core.specs.declared.records.WriterRecord.{WriterRecord}
 use Rattle.world.specs.Parts.{Message, FullMember, Lower, idle, writes, serves, recovers, ended_below, Told, Writing, Leading, Primary, no_primary, was_told, leads, has_led}
 use Rattle.world.specs.Worlds.{Past, World, Dial, Change, apply, put, put_at, listed, dial_at, downs_with, ups_with}
 use Rattle.world_laws.specs.Stamping.{heard}
+use Rattle.world_laws.proofs.ByteFrame.{Each, each-nil, each-one, each-append}
 use Rattle.world_laws.proofs.FactTables.{if-each, put-each}
 use Rattle.world_texts.proofs.Spelling.{PacketFits, WriteFits, MessageFits}
 
 -- WHAT FITS
-
--- each element of a list
-abbrev pub Each : {X : Type 0} → (X → Type 0) → List X → Type 0
-Each {X} P xs = (i : ℕ) (x : X) → slice_get xs i ≡ Some x → P x
 
 -- A member has few members below, and the number of a packet with a wrong sum fits.
 pub record StateFits (m : MemberState) : Type 0 where
@@ -46,11 +44,16 @@ PendingFits e = SFits w64 e.seqno
 pub record ReplicaFits (r : FullReplica) : Type 0 where
   pub pending : Each PendingFits r.known.pending
 
+-- a packet that isn't acked: it ends within the limit of a block
+pub record UnackedFits (p : Packet) : Type 0 where
+  pub fits : PacketFits p
+  pub end : packet_end p ≤ BLOCK_LIMIT
+
 -- A writer has few members, its packets fit, and so do the stamp that it knows as committed and what is acked.
 pub record RecordFits (x : WriterRecord) : Type 0 where
   pub few : length x.members ≤ 16
   pub acked : x.stream.acked ≤ BLOCK_LIMIT
-  pub packets : Each PacketFits x.stream.unacked
+  pub packets : Each UnackedFits x.stream.unacked
   pub committed : x.committed.0 < 2 ^ 64
 
 abbrev pub WriterFits : Writing → Type 0
@@ -63,7 +66,7 @@ ToldFits _ = Unit {0}
 abbrev pub PrimaryFits : Primary → Type 0
 PrimaryFits no_primary = Unit {0}
 PrimaryFits (was_told b told) = ToldFits told
-PrimaryFits (leads l) = l.state.begun.committed.0 < 2 ^ 64
+PrimaryFits (leads l) = (l.state.block.0 < 2 ^ 64) × (l.state.begun.committed.0 < 2 ^ 64)
 PrimaryFits (has_led r) = Unit {0}
 
 -- all of these, in a world
@@ -86,23 +89,6 @@ pub record Brings (k : Change) : Type 0 where
   pub writer : WriterFits k.writer
   pub primary : PrimaryFits k.primary
 
--- LISTS
-
-pub each-nil : {X : Type 0} (P : X → Type 0) → Each P []
-each-nil P i x e = absurd (none-some x e)
-
-pub each-one : {X : Type 0} (P : X → Type 0) (x : X) → P x → Each P (x ∷ [])
-each-one P x h zero y e = subst P (same_Some x y e) h
-each-one P x h (suc i) y e = absurd (none-some y e)
-
-pub each-append : {X : Type 0} (P : X → Type 0) (xs ys : List X) → Each P xs → Each P ys → Each P (xs ++ ys)
-each-append P [] ys a b i x e = b i x e
-each-append P (z ∷ xs) ys a b zero x e = a 0 x e
-each-append P (z ∷ xs) ys a b (suc i) x e = each-append P xs ys (λ j y f. a (suc j) y f) b i x e
-
-pub each-tail : {X : Type 0} (P : X → Type 0) (x : X) (xs : List X) → Each P (x ∷ xs) → Each P xs
-each-tail P x xs h i y e = h (suc i) y e
-
 -- THE WORLD AFTER A CHANGE
 
 dialled-fits : (n c : ℕ) (ds : List Dial) → Each (λ (d : Dial). MessageFits d.request) ds → (o : Option Dial) → dial_at n ds c ≡ o → Each MessageFits (listed (option_map (λ (d : Dial). d.request) o))
@@ -110,7 +96,7 @@ dialled-fits n c ds h None e = each-nil MessageFits
 dialled-fits n c ds h (Some d) e = each-one MessageFits d.request (found (nat_le n c) e)
   where
     found : (b : Bool) → (if b then slice_get ds (c - n) else None) ≡ Some d → MessageFits d.request
-    found true f = h (c - n) d f
+    found true f = h.at (c - n) d f
     found false f = absurd (none-some d f)
 
 put-at-each : {A : Type 0} (P : A → Type 0) (f : ℕ → ℕ → A) (i k : ℕ) (x : A) → P x → ((j l : ℕ) → P (f j l)) → (j l : ℕ) → P (put_at f i k x j l)

@@ -4,3 +4,6 @@ pub mod Rows
 pub mod Refusals
 pub mod Turns
 pub mod Nodes
+pub mod Sums
+pub mod Serving
+pub mod Writers

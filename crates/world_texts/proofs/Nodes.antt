@@ -1,12 +1,13 @@
 -- What the lower ends of connections bring.
 use Rattle.std.proofs.Common.{◌≡◌, ℕ, zero, suc, ◌+◌, ◌-◌, ◌<◌, ◌≤◌, ◌^◌, Bool, true, false, List, [], ◌∷◌, ◌++◌, length, slice_get, Option, Some, None, IfSome, Result, Ok, Err, refl, sym, ap, ◌∙◌, subst, arith}
-use Rattle.std.specs.Prelude.{◌==◌, nat_le, if◌then◌else◌, IfOk, IfErr, min}
+use Rattle.std.specs.Prelude.{◌==◌, nat_le, if◌then◌else◌, IfOk}
 use Rattle.std.specs.Int.{w128, to_be_bytes}
 use Rattle.std.proofs.lemmas.Bool.Decides.{nat_tests}
-use Rattle.std.proofs.lemmas.Option.{none-some, same_Some}
+use Rattle.std.proofs.Math.Nat.{min-le_right}
 use Rattle.uuid.proofs.TextLemmas.{by_index_length}
 use Rattle.hd_base.specs.declared.numbers.ConnId.{ConnId}
 use Rattle.hd_base.specs.declared.numbers.NodeId.{NodeId}
+use Rattle.hd_base.specs.declared.roads.TheConstants.{FIRST_PORT}
 use Rattle.hd_base.specs.Results.{◌>>=◌}
 use Rattle.hd_base.specs.SumRules.{Rule, IsChunkSize}
 use Rattle.op_headers.specs.declared.nodes.NodeRef.{NodeRef}
@@ -14,7 +15,7 @@ use Rattle.op_headers.specs.declared.ops.Op.TheVariants as op
 use Rattle.op_headers.specs.declared.ops.ReadOp.{ReadOp}
 use Rattle.op_headers.specs.declared.ops.RecoveryOp.{RecoveryOp}
 use Rattle.op_headers.specs.Values.{WriteFields}
-use Rattle.node_refs.specs.NodeRefs.{ref_of}
+use Rattle.node_refs.specs.NodeRefs.{uuid_of, port_of, ref_of}
 use Rattle.replica_core.specs.declared.ack_queue.PendingPacket.{PendingPacket}
 use Rattle.replica_core.specs.declared.events.Answer.{Answer}
 use Rattle.replica_core.specs.declared.events.Answer.TheVariants as answer
@@ -38,6 +39,7 @@ use Rattle.member_core.specs.declared.member.Mirror.TheVariants as mirror
 use Rattle.member_core.specs.declared.requests.SetupKind.{SetupKind}
 use Rattle.member_core.specs.declared.requests.SetupKind.TheVariants as setup
 use Rattle.member_core.specs.declared.requests.TheConstants.{MAX_BELOW, MAX_PORT}
+use Rattle.member_core.specs.declared.turns.Booked.TheVariants as booked
 use Rattle.member_core.specs.declared.turns.Turn.{Turn}
 use Rattle.member_core.specs.Members.{MemberState, set_up, set_up_at, mirror_for, down_turn, up_turn, takes_messages, hears, settled}
 use Rattle.member_core.specs.Requests.{setup_with, rule_for, named_setup, named_rule, setup_event, request_event, request_from, request_to, mirror_request}
@@ -46,10 +48,11 @@ use Rattle.world.specs.Parts.{Message, request, packet, ack, response, read_stat
 use Rattle.world.specs.Worlds.{World, Dial, Change, still}
 use Rattle.world.specs.Connections.{Next, message, the_end, sent_on, is_alive}
 use Rattle.world.specs.Nodes.{replica_at, node_of, broke_at, block_of, closing, unless_failing, above_of, below_of, sent_up, passed, member_change, failing_turn, turn_change, takes_next, pending_at, member_down, member_up, ready_change, member_ready, is_asked, mirror_dial, mirror_node, dials_of, member_dials, mirror_conn, lower_of, setup_change, failing_write, write_request}
+use Rattle.world_laws.proofs.ByteFrame.{Each, each-nil, each-one}
 use Rattle.world_laws.proofs.FactTables.{if-each, when-each}
 use Rattle.world_laws.proofs.Lawful.{request-other}
 use Rattle.world_texts.proofs.Spelling.{ResponseFits, NodeFits, NodesFit, WriteFits, MessageFits}
-use Rattle.world_texts.proofs.Frame.{Each, each-nil, each-one, each-tail, StateFits, MemberFits, LowerFits, PendingFits, ReplicaFits, Formed, Brings}
+use Rattle.world_texts.proofs.Frame.{StateFits, MemberFits, LowerFits, PendingFits, ReplicaFits, Formed, Brings}
 use Rattle.world_texts.proofs.Rows.{CallFits, row-fits, broken-fits}
 use Rattle.world_texts.proofs.Refusals.{IsNumber, RefusalFits, RequestRefusalFits, InfoNumbers, EventNumbers, AnswerNumbers, answer-numbers}
 use Rattle.world_texts.proofs.Turns.{UpFits, TurnFits, AboveFits, BelowFits, SettledFits, down-turn-fits, up-turn-fits, ready-turn-fits, settled-fits, answer-fits}
@@ -105,7 +108,7 @@ oldest-fits r h = go (slice_get r.known.pending 0) refl
   where
     go : (o : Option PendingPacket) → slice_get r.known.pending 0 ≡ o → IfSome o PendingFits
     go None e = tt
-    go (Some x) e = h.pending 0 x e
+    go (Some x) e = h.pending.at 0 x e
 
 after-fits : (r : FullReplica) (o : Option ReplicaEvent) → ReplicaFits r → IfSome o CallFits → ReplicaFits (replica_after r o)
 after-fits r None h f = h
@@ -113,10 +116,16 @@ after-fits r (Some e) h f = row-fits r e h f
 
 -- NODES
 
+uuid-length : (n : NodeId) → length (uuid_of n) ≡ 36
+uuid-length n = by_index_length 36 _
+
+port-fits : (n : NodeId) → port_of n < 2 ^ 32
+port-fits n = omega (arith, min-le_right (FIRST_PORT + n.0) (2 ^ 32 - 1))
+
 pub ref-fits : (n : NodeId) → NodeFits (ref_of n)
 ref-fits n = record {
-  texts = omega (arith, by_index_length 36 (let f : ℕ → ℕ = ? in f));
-  xfer = ?;
+  texts = omega (arith, uuid-length n);
+  xfer = port-fits n;
   info = omega arith;
   ipc = omega arith;
 }
@@ -217,7 +226,7 @@ pub record At (r : FullReplica) : Type 0 where
   pub fits : ReplicaFits r
   pub full : IsFull r
 
-answer-of-row : (r : FullReplica) (e : Event) → At r → EventNumbers e → AnswerNumbers (row_answer r (replica_event.Other e))
+pub answer-of-row : (r : FullReplica) (e : Event) → At r → EventNumbers e → AnswerNumbers (row_answer r (replica_event.Other e))
 answer-of-row r e h n = answer-numbers r.known e h.numbers n
 
 event-setup : (f : WriteFields) (conn : ConnId) (asked : Bool) (r : FullReplica) (e : Result Event RequestRefusal) → WriteFits f → At r → Comes f e → IfOk e IsOther → SetupFits f (request_at conn f asked r e)

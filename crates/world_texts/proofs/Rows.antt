@@ -34,8 +34,9 @@ use Rattle.replica_core.specs.Info.{reopen, recover_setup, recover_stream, begin
 use Rattle.replica_model.specs.declared.events.ReplicaEvent.{ReplicaEvent}
 use Rattle.replica_model.specs.declared.events.ReplicaEvent.TheVariants as replica_event
 use Rattle.replica_model.specs.Rows.{FullReplica, IsOther, IsWithBytes, record_event, event_at, row, broken}
+use Rattle.world_laws.proofs.ByteFrame.{Each, each-nil, each-one, each-tail, each-append}
 use Rattle.world_laws.proofs.FactTables.{if-each}
-use Rattle.world_texts.proofs.Frame.{Each, each-nil, each-one, each-append, PendingFits, ReplicaFits}
+use Rattle.world_texts.proofs.Frame.{PendingFits, ReplicaFits}
 
 -- STEPS THAT MAY BE REFUSED
 
@@ -59,7 +60,7 @@ Pends t = Each PendingFits t.replica.pending
 
 each-drop : {X : Type 0} (P : X → Type 0) (xs : List X) → Each P xs → Each P (drop 1 xs)
 each-drop P [] h = h
-each-drop P (x ∷ xs) h = λ i y e. h (suc i) y e
+each-drop P (x ∷ xs) h = each-tail P x xs h
 
 -- the number of a packet that an event brings
 abbrev SeqnoFits : Event → Type 0

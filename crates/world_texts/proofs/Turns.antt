@@ -3,6 +3,7 @@ use Rattle.std.proofs.Common.{◌≡◌, ℕ, zero, suc, ◌+◌, ◌<◌, ◌�
 use Rattle.std.specs.Prelude.{All, ◌==◌, ◌&&◌, ◌||◌, nat_lt, if◌then◌else◌, decimal, IsSome}
 use Rattle.std.specs.Int.{w64}
 use Rattle.std.specs.Ordering.{int_eq}
+use Rattle.std.proofs.lemmas.Bool.{false≢true}
 use Rattle.std.proofs.lemmas.Bool.Decides.{nat_tests}
 use Rattle.std.proofs.lemmas.Fmt.{length-decimal-le}
 use Rattle.std.proofs.lemmas.List.Elements.{All-cons, All-nil}
@@ -49,9 +50,9 @@ use Rattle.world_texts.proofs.Refusals.{RequestRefusalFits, refusal-few}
 
 -- RESPONSES
 
-plain-fits : (s : Status) (first_bad message : List ℕ) → IsStatus s → status_number s < 2 ^ 32 → length first_bad + length message ≤ 65000
+pub plain-fits : (s : Status) (first_bad message : List ℕ) → IsStatus s → status_number s < 2 ^ 32 → length first_bad + length message ≤ 65000
     → ResponseFits (record { status = s; first_bad = first_bad; sums_from = None; message = message })
-plain-fits s first_bad message listed low few = record { listed = listed; low = low; no_link = λ some. absurd some; kind = tt; widths = tt; few = few }
+plain-fits s first_bad message listed low few = record { listed = listed; low = low; no_link = λ some. absurd (false≢true some); kind = tt; widths = tt; few = few }
 
 pub failing-fits : (first_bad message : List ℕ) → length first_bad + length message ≤ 65000 → ResponseFits (failing first_bad message)
 failing-fits first_bad message few = plain-fits status.Error first_bad message tt (omega arith) few

@@ -4,6 +4,8 @@ use Rattle.world_texts.proofs.Rows.{row-fits}
 use Rattle.world_texts.proofs.Refusals.{refusal-few}
 use Rattle.world_texts.proofs.Turns.{settled-fits}
 use Rattle.world_texts.proofs.Nodes.{write-brings}
+use Rattle.world_texts.proofs.Serving.{lower-down-brings}
+use Rattle.world_texts.proofs.Writers.{granted-fits}
 use Rattle.world_texts.proofs.messages_are_written.Goals as goal
 
 pub returns : goal.returns
