@@ -12,6 +12,8 @@ use Rattle.packet_stream.specs.declared.extents.TheConstants.{BLOCK_LIMIT}
 use Rattle.packet_stream.specs.Streams.{packet_end}
 use Rattle.replica_core.specs.declared.ack_queue.PendingPacket.{PendingPacket}
 use Rattle.replica_model.specs.Rows.{FullReplica}
+use Rattle.writer_core.specs.declared.phases.Phase.{Phase}
+use Rattle.writer_core.specs.declared.phases.Phase.TheVariants as phase
 use Rattle.writer_core.specs.declared.records.WriterRecord.{WriterRecord}
 use Rattle.world.specs.Parts.{Message, FullMember, Lower, idle, writes, serves, recovers, ended_below, Told, Writing, Leading, Primary, no_primary, was_told, leads, has_led}
 use Rattle.world.specs.Worlds.{Past, World, Dial, Change, apply, put, put_at, listed, dial_at, downs_with, ups_with}
@@ -49,12 +51,20 @@ pub record UnackedFits (p : Packet) : Type 0 where
   pub fits : PacketFits p
   pub end : packet_end p ≤ BLOCK_LIMIT
 
--- A writer has few members, its packets fit, and so do the stamp that it knows as committed and what is acked.
+-- the stamp of a setup fits
+abbrev pub SetupStampFits : Phase → Type 0
+SetupStampFits (phase.Stamped s stamp) = stamp.0 < 2 ^ 64
+SetupStampFits (phase.Requested s stamp) = stamp.0 < 2 ^ 64
+SetupStampFits (phase.Accepted s stamp) = stamp.0 < 2 ^ 64
+SetupStampFits _ = Unit {0}
+
+-- A writer has few members, its packets fit, and so do its stamps and what is acked.
 pub record RecordFits (x : WriterRecord) : Type 0 where
   pub few : length x.members ≤ 16
   pub acked : x.stream.acked ≤ BLOCK_LIMIT
   pub packets : Each UnackedFits x.stream.unacked
   pub committed : x.committed.0 < 2 ^ 64
+  pub setup : SetupStampFits x.phase
 
 abbrev pub WriterFits : Writing → Type 0
 WriterFits x = RecordFits (heard x)

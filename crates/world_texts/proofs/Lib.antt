@@ -7,3 +7,5 @@ pub mod Nodes
 pub mod Sums
 pub mod Serving
 pub mod Writers
+pub mod Ranges
+pub mod Clients

@@ -55,12 +55,12 @@ use Rattle.writer_core.specs.Commands.{admitted}
 use Rattle.writer_core.specs.Phases.{remedy_after, remedy_in, remedy_at_ack, is_success, ack_verdict, bad_place, without}
 use Rattle.writer_core.specs.Requests.{client_name, stage_of, min_length, max_length, latest_stamp, request_for}
 use Rattle.writer_core.specs.Sound.{Sound}
-use Rattle.writer_core.specs.Transitions.{Step, given_as, given, taken_as, take_first, free_step_as, free_step, failed_command, failed_first, failed_step_as, failed_step, dial_step_as, dial_step, open_step, accepted_step, reached, completed_step, is_flushing, empty_due, data_due, due_in, due_now, form_step, reached_length, reach_step_as, reach_step, due_step, stream_step_as, stream_step, step_in, own_step, dropped, fail_for, fail_named, fail_at, ended_as, ended, acked_oldest, acked_as, acked_in, acked, setup_answered_in, setup_answered, dialled_in, dialled, refused, stamped, reopened, stamp_given, committed_as, commit_given, complete_given, granted_in, granted_as, granted, asks}
+use Rattle.writer_core.specs.Transitions.{Step, given_as, given, taken_as, take_first, free_step_as, free_step, failed_command, failed_first, failed_step_as, failed_step, dial_step_as, dial_step, open_step, accepted_step, reached, completed_step, is_flushing, empty_due, data_due, due_in, due_now, form_step, reached_length, reach_step_as, reach_step, due_step, stream_step_as, stream_step, step_in, own_step, dropped, fail_for, fail_named, fail_at, ended_as, ended, phase_acked, acked_oldest, acked_as, acked_in, acked, setup_answered_in, setup_answered, dialled_in, dialled, refused, stamped, reopened, stamp_given, committed_as, commit_given, complete_given, granted_in, granted_as, granted, asks}
 use Rattle.world_laws.proofs.ByteFrame.{Each, each-nil, each-one, each-tail, each-append}
 use Rattle.world_laws.proofs.FactTables.{if-each}
 use Rattle.world_texts.proofs.Spelling.{PacketFits, NodeFits, NodesFit, WriteFits}
 use Rattle.world_texts.proofs.Sums.{SumsFit, sums-fit, limit-few, pos-fits}
-use Rattle.world_texts.proofs.Frame.{UnackedFits, RecordFits}
+use Rattle.world_texts.proofs.Frame.{UnackedFits, SetupStampFits, RecordFits}
 use Rattle.world_texts.proofs.Nodes.{ref-fits}
 
 -- PACKETS
@@ -128,23 +128,25 @@ pub record StepFits (s : Step) : Type 0 where
   pub writer : RecordFits s.writer
 
 -- the same writer but for what isn't said of here
-alike : (x y : WriterRecord) → y.members ≡ x.members → y.stream ≡ x.stream → y.committed ≡ x.committed → RecordFits x → RecordFits y
-alike x y m s c h = record {
+alike : (x y : WriterRecord) → y.members ≡ x.members → y.stream ≡ x.stream → y.committed ≡ x.committed → SetupStampFits y.phase → RecordFits x → RecordFits y
+alike x y m s c p h = record {
+  setup = p;
   few = subst (λ (ns : List NodeId). length ns ≤ 16) (sym m) h.few;
   acked = subst (λ (z : StreamState). z.acked ≤ BLOCK_LIMIT) (sym s) h.acked;
   packets = subst (λ (z : StreamState). Each UnackedFits z.unacked) (sym s) h.packets;
   committed = subst (λ (z : Stamp). z.0 < 2 ^ 64) (sym c) h.committed;
 }
 
-plain : (a : Action) (x y : WriterRecord) → ActionFits a → y.members ≡ x.members → y.stream ≡ x.stream → y.committed ≡ x.committed → RecordFits x → StepFits (record { action = a; writer = y })
-plain a x y f m s c h = record { action = f; writer = alike x y m s c h }
+plain : (a : Action) (x y : WriterRecord) → ActionFits a → y.members ≡ x.members → y.stream ≡ x.stream → y.committed ≡ x.committed → SetupStampFits y.phase → RecordFits x → StepFits (record { action = a; writer = y })
+plain a x y f m s c p h = record { action = f; writer = alike x y m s c p h }
 
-opened-as : (x y : WriterRecord) (members : List NodeId) → length members ≤ 16 → y.members ≡ members → y.stream ≡ x.stream → y.committed ≡ x.committed → RecordFits x → RecordFits y
-opened-as x y members few m s c h =
-    record { few = subst (λ (ns : List NodeId). length ns ≤ 16) (sym m) few; acked = subst (λ (z : StreamState). z.acked ≤ BLOCK_LIMIT) (sym s) h.acked; packets = subst (λ (z : StreamState). Each UnackedFits z.unacked) (sym s) h.packets; committed = subst (λ (z : Stamp). z.0 < 2 ^ 64) (sym c) h.committed }
+opened-as : (x y : WriterRecord) (members : List NodeId) → length members ≤ 16 → y.members ≡ members → y.stream ≡ x.stream → y.committed ≡ x.committed → SetupStampFits y.phase → RecordFits x → RecordFits y
+opened-as x y members few m s c p h =
+    record { setup = p; few = subst (λ (ns : List NodeId). length ns ≤ 16) (sym m) few; acked = subst (λ (z : StreamState). z.acked ≤ BLOCK_LIMIT) (sym s) h.acked; packets = subst (λ (z : StreamState). Each UnackedFits z.unacked) (sym s) h.packets; committed = subst (λ (z : Stamp). z.0 < 2 ^ 64) (sym c) h.committed }
 
-wrote-fits : (x y : WriterRecord) → y.members ≡ x.members → y.stream.acked ≡ x.stream.acked → y.stream.unacked ≡ x.stream.unacked → y.committed ≡ x.committed → RecordFits x → RecordFits y
-wrote-fits x y m a u c h = record {
+wrote-fits : (x y : WriterRecord) → y.members ≡ x.members → y.stream.acked ≡ x.stream.acked → y.stream.unacked ≡ x.stream.unacked → y.committed ≡ x.committed → SetupStampFits y.phase → RecordFits x → RecordFits y
+wrote-fits x y m a u c p h = record {
+  setup = p;
   few = subst (λ (ns : List NodeId). length ns ≤ 16) (sym m) h.few;
   acked = omega (arith, a, h.acked);
   packets = subst (Each UnackedFits) (sym u) h.packets;
@@ -152,49 +154,50 @@ wrote-fits x y m a u c h = record {
 }
 
 taken-fits : (x : WriterRecord) (c : Command) → CommandFits c → RecordFits x → RecordFits (taken_as x c)
-taken-fits x (command.Create members) f h = opened-as x _ members f refl refl refl h
-taken-fits x (command.Append members) f h = opened-as x _ members f refl refl refl h
-taken-fits x (command.Write bytes) f h = wrote-fits x _ refl refl refl refl h
-taken-fits x (command.Fill count) f h = wrote-fits x _ refl refl refl refl h
-taken-fits x command.Hflush f h = alike x _ refl refl refl h
-taken-fits x command.Hsync f h = alike x _ refl refl refl h
-taken-fits x command.Close f h = alike x _ refl refl refl h
+taken-fits x (command.Create members) f h = opened-as x _ members f refl refl refl tt h
+taken-fits x (command.Append members) f h = opened-as x _ members f refl refl refl tt h
+taken-fits x (command.Write bytes) f h = wrote-fits x _ refl refl refl refl h.setup h
+taken-fits x (command.Fill count) f h = wrote-fits x _ refl refl refl refl h.setup h
+taken-fits x command.Hflush f h = alike x _ refl refl refl h.setup h
+taken-fits x command.Hsync f h = alike x _ refl refl refl h.setup h
+taken-fits x command.Close f h = alike x _ refl refl refl h.setup h
 
 first-of : (q : List Command) → Each CommandFits q → IfSome (slice_get q 0) CommandFits
 first-of [] h = tt
 first-of (c ∷ cs) h = h.at 0 c refl
 
 take-fits : (x : WriterRecord) (o : Option Command) → IfSome o CommandFits → RecordFits x → StepFits (take_first x o)
-take-fits x None f h = plain action.Wait x x tt refl refl refl h
+take-fits x None f h = plain action.Wait x x tt refl refl refl h.setup h
 take-fits x (Some c) f h = record { action = tt; writer = taken-fits x c f h }
 
 free-as-fits : (x : WriterRecord) (o : Option Waiting) → Each CommandFits x.queue → RecordFits x → StepFits (free_step_as x o)
 free-as-fits x None q h = take-fits x (slice_get x.queue 0) (first-of x.queue q) h
-free-as-fits x (Some z) q h = plain action.Wait x x tt refl refl refl h
+free-as-fits x (Some z) q h = plain action.Wait x x tt refl refl refl h.setup h
 
 free-fits : (x : WriterRecord) → Each CommandFits x.queue → RecordFits x → StepFits (free_step x)
 free-fits x q h = free-as-fits x x.waiting q h
 
 failed-command-fits : (x : WriterRecord) (f : Failure) (c : Command) → CommandFits c → RecordFits x → StepFits (failed_command x f c)
-failed-command-fits x f (command.Append members) k h = record { action = tt; writer = opened-as x _ members k refl refl refl h }
-failed-command-fits x f (command.Create members) k h = plain _ x _ tt refl refl refl h
-failed-command-fits x f (command.Write bytes) k h = plain _ x _ tt refl refl refl h
-failed-command-fits x f (command.Fill count) k h = plain _ x _ tt refl refl refl h
-failed-command-fits x f command.Hflush k h = plain _ x _ tt refl refl refl h
-failed-command-fits x f command.Hsync k h = plain _ x _ tt refl refl refl h
-failed-command-fits x f command.Close k h = plain _ x _ tt refl refl refl h
+failed-command-fits x f (command.Append members) k h = record { action = tt; writer = opened-as x _ members k refl refl refl tt h }
+failed-command-fits x f (command.Create members) k h = plain _ x _ tt refl refl refl h.setup h
+failed-command-fits x f (command.Write bytes) k h = plain _ x _ tt refl refl refl h.setup h
+failed-command-fits x f (command.Fill count) k h = plain _ x _ tt refl refl refl h.setup h
+failed-command-fits x f command.Hflush k h = plain _ x _ tt refl refl refl h.setup h
+failed-command-fits x f command.Hsync k h = plain _ x _ tt refl refl refl h.setup h
+failed-command-fits x f command.Close k h = plain _ x _ tt refl refl refl h.setup h
 
 failed-first-fits : (x : WriterRecord) (f : Failure) (o : Option Command) → IfSome o CommandFits → RecordFits x → StepFits (failed_first x f o)
-failed-first-fits x f None k h = plain action.Wait x x tt refl refl refl h
+failed-first-fits x f None k h = plain action.Wait x x tt refl refl refl h.setup h
 failed-first-fits x f (Some c) k h = failed-command-fits x f c k h
 
 failed-as-fits : (x : WriterRecord) (f : Failure) (o : Option Waiting) → Each CommandFits x.queue → RecordFits x → StepFits (failed_step_as x f o)
 failed-as-fits x f None q h = failed-first-fits x f (slice_get x.queue 0) (first-of x.queue q) h
-failed-as-fits x f (Some z) q h = plain _ x _ tt refl refl refl h
+failed-as-fits x f (Some z) q h = plain _ x _ tt refl refl refl h.setup h
 
 -- a packet more that isn't acked
-more-fits : (x y : WriterRecord) (p : Packet) → UnackedFits p → y.members ≡ x.members → y.stream.acked ≡ x.stream.acked → y.stream.unacked ≡ x.stream.unacked ++ p ∷ [] → y.committed ≡ x.committed → RecordFits x → RecordFits y
-more-fits x y p f m a u c h = record {
+more-fits : (x y : WriterRecord) (p : Packet) → UnackedFits p → y.members ≡ x.members → y.stream.acked ≡ x.stream.acked → y.stream.unacked ≡ x.stream.unacked ++ p ∷ [] → y.committed ≡ x.committed → SetupStampFits y.phase → RecordFits x → RecordFits y
+more-fits x y p f m a u c q h = record {
+  setup = q;
   few = subst (λ (ns : List NodeId). length ns ≤ 16) (sym m) h.few;
   acked = omega (arith, a, h.acked);
   packets = subst (Each UnackedFits) (sym u) (each-append UnackedFits x.stream.unacked (p ∷ []) h.packets (each-one UnackedFits p f));
@@ -203,16 +206,16 @@ more-fits x y p f m a u c h = record {
 
 form-fits : (x : WriterRecord) (d : DuePacket) → Sound x → NearEnd x.stream d → RecordFits x → StepFits (form_step x d)
 form-fits x (due.Data end is_sync) s n h =
-    let p = next-fits x.stream end is_sync s.stream n.0 n.1 in record { action = p.fits; writer = more-fits x _ (next_packet x.stream end is_sync) p refl refl refl refl h }
+    let p = next-fits x.stream end is_sync s.stream n.0 n.1 in record { action = p.fits; writer = more-fits x _ (next_packet x.stream end is_sync) p refl refl refl refl tt h }
 form-fits x due.Sync s n h =
     let p = empty-fits x.stream.sent x.stream.seqno false true (omega (arith, s.stream.sent, s.stream.within)) s.stream.number in
-    record { action = p.fits; writer = more-fits x _ (sync_packet x.stream) p refl refl refl refl h }
+    record { action = p.fits; writer = more-fits x _ (sync_packet x.stream) p refl refl refl refl tt h }
 form-fits x due.Last s n h =
     let p = empty-fits (written_in x.stream) x.stream.seqno true x.had_sync s.stream.within s.stream.number in
-    record { action = p.fits; writer = more-fits x _ (last_packet x.stream x.had_sync) p refl refl refl refl h }
+    record { action = p.fits; writer = more-fits x _ (last_packet x.stream x.had_sync) p refl refl refl refl tt h }
 
 reach-fits : (x : WriterRecord) (o : Option ℕ) → Each CommandFits x.queue → RecordFits x → StepFits (reach_step_as x o)
-reach-fits x (Some n) q h = plain _ x _ tt refl refl refl h
+reach-fits x (Some n) q h = plain _ x _ tt refl refl refl h.setup h
 reach-fits x None q h = free-fits x q h
 
 due-fits : (x : WriterRecord) (o : Option DuePacket) → Sound x → IfSome o (NearEnd x.stream) → Each CommandFits x.queue → RecordFits x → StepFits (due_step x o)
@@ -220,7 +223,7 @@ due-fits x (Some d) s n q h = form-fits x d s n h
 due-fits x None s n q h = reach-fits x (reached_length x.waiting x.stream) q h
 
 stream-fits : (x : WriterRecord) (sent : ℕ) (o : Option Packet) → Sound x → IfSome o PacketFits → Each CommandFits x.queue → RecordFits x → StepFits (stream_step_as x sent o)
-stream-fits x sent (Some p) s f q h = plain (action.Send p) x _ f refl refl refl h
+stream-fits x sent (Some p) s f q h = plain (action.Send p) x _ f refl refl refl tt h
 stream-fits x sent None s f q h = due-fits x (due_now x) s (now-near x) q h
 
 unacked-fits : (ps : List Packet) (i : ℕ) → Each UnackedFits ps → IfSome (slice_get ps i) PacketFits
@@ -229,27 +232,27 @@ unacked-fits (p ∷ ps) zero h = (h.at 0 p refl).fits
 unacked-fits (p ∷ ps) (suc i) h = unacked-fits ps i (each-tail UnackedFits p ps h)
 
 dial-as-fits : (x : WriterRecord) (s : Setup) (stamp : Stamp) (ns : List NodeId) → RecordFits x → StepFits (dial_step_as x s stamp ns)
-dial-as-fits x s stamp [] h = plain action.Wait x x tt refl refl refl h
-dial-as-fits x s stamp (n ∷ ns) h = plain _ x x tt refl refl refl h
+dial-as-fits x s stamp [] h = plain action.Wait x x tt refl refl refl h.setup h
+dial-as-fits x s stamp (n ∷ ns) h = plain _ x x tt refl refl refl h.setup h
 
 accepted-fits : (x : WriterRecord) (s : Setup) (stamp : Stamp) → RecordFits x → StepFits (accepted_step x s stamp)
-accepted-fits x setup.Create stamp h = plain _ x _ tt refl refl refl h
-accepted-fits x setup.Append stamp h = plain _ x _ tt refl refl refl h
-accepted-fits x setup.AppendRecovery stamp h = plain _ x _ tt refl refl refl h
-accepted-fits x setup.StreamRecovery stamp h = plain _ x _ tt refl refl refl h
-accepted-fits x setup.CloseRecovery stamp h = plain _ x _ tt refl refl refl h
+accepted-fits x setup.Create stamp h = plain _ x _ tt refl refl refl tt h
+accepted-fits x setup.Append stamp h = plain _ x _ tt refl refl refl h.setup h
+accepted-fits x setup.AppendRecovery stamp h = plain _ x _ tt refl refl refl h.setup h
+accepted-fits x setup.StreamRecovery stamp h = plain _ x _ tt refl refl refl h.setup h
+accepted-fits x setup.CloseRecovery stamp h = plain _ x _ tt refl refl refl h.setup h
 
 step-fits : (x : WriterRecord) (p : Phase) → Sound x → Each CommandFits x.queue → RecordFits x → StepFits (step_in x p)
 step-fits x phase.Closed s q h = free-fits x q h
-step-fits x (phase.Wanted k) s q h = plain _ x x tt refl refl refl h
+step-fits x (phase.Wanted k) s q h = plain _ x x tt refl refl refl h.setup h
 step-fits x (phase.Stamped k stamp) s q h = dial-as-fits x k stamp x.members h
 step-fits x (phase.Requested k stamp) s q h = free-fits x q h
 step-fits x (phase.Accepted k stamp) s q h = accepted-fits x k stamp h
-step-fits x phase.Opened s q h = plain _ x _ tt refl refl refl h
+step-fits x phase.Opened s q h = plain _ x _ tt refl refl refl tt h
 step-fits x (phase.Streaming sent) s q h = stream-fits x sent (slice_get x.stream.unacked sent) s (unacked-fits x.stream.unacked sent h.packets) q h
 step-fits x phase.Closing s q h = free-fits x q h
-step-fits x phase.Finished s q h = plain _ x x tt refl refl refl h
-step-fits x phase.Completed s q h = plain _ x _ tt refl refl refl h
+step-fits x phase.Finished s q h = plain _ x x tt refl refl refl h.setup h
+step-fits x phase.Completed s q h = plain _ x _ tt refl refl refl tt h
 step-fits x (phase.Failed f) s q h = failed-as-fits x f x.waiting q h
 
 pub own-step-fits : (x : WriterRecord) → Sound x → Each CommandFits x.queue → RecordFits x → StepFits (own_step x)
@@ -257,10 +260,10 @@ unfolding own_step
 own-step-fits x s q h = step-fits x x.phase s q h
 
 pub open-fits : (x : WriterRecord) → RecordFits x → StepFits (open_step x)
-open-fits x h = plain _ x _ tt refl refl refl h
+open-fits x h = plain _ x _ tt refl refl refl tt h
 
 pub completed-fits : (x : WriterRecord) → RecordFits x → StepFits (completed_step x)
-completed-fits x h = plain _ x _ tt refl refl refl h
+completed-fits x h = plain _ x _ tt refl refl refl tt h
 
 -- WHAT IS GIVEN
 
@@ -268,7 +271,7 @@ pub given-fits : (x : WriterRecord) (c : Command) → RecordFits x → RecordFit
 given-fits x c h = go (admitted x.intake c)
   where
     go : (r : Result Intake CommandFault) → RecordFits (given_as x c r)
-    go (Ok i) = alike x _ refl refl refl h
+    go (Ok i) = alike x _ refl refl refl h.setup h
     go (Err e) = h
 
 pub given-queue : (x : WriterRecord) (c : Command) → Each CommandFits x.queue → CommandFits c → Each CommandFits (given x c).queue
@@ -360,11 +363,11 @@ without-few (n ∷ ns) bad = go (not (n.0 == bad.0)) (without-few ns bad)
     go false h = omega (arith, h)
 
 dropped-fits : (x : WriterRecord) (s : Setup) (bad : NodeId) (ms : List NodeId) → length ms ≤ 16 → RecordFits x → RecordFits (dropped x s bad ms)
-dropped-fits x s bad [] few h = opened-as x _ [] (omega arith) refl refl refl h
-dropped-fits x s bad (m ∷ ms) few h = opened-as x _ (m ∷ ms) few refl refl refl h
+dropped-fits x s bad [] few h = opened-as x _ [] (omega arith) refl refl refl tt h
+dropped-fits x s bad (m ∷ ms) few h = opened-as x _ (m ∷ ms) few refl refl refl tt h
 
 fail-for-fits : (x : WriterRecord) (r : Remedy) (bad : NodeId) → RecordFits x → RecordFits (fail_for x r bad)
-fail-for-fits x remedy.Abandon bad h = alike x _ refl refl refl h
+fail-for-fits x remedy.Abandon bad h = alike x _ refl refl refl tt h
 fail-for-fits x (remedy.Recover s) bad h = dropped-fits x s bad (without x.members bad) (omega (arith, without-few x.members bad, h.few)) h
 
 fail-fits : (x : WriterRecord) (r : Remedy) (place : ℕ) → RecordFits x → RecordFits (fail_at x r place)
@@ -390,12 +393,26 @@ acked-packet-fits x (Some p) e h = (max-le h.acked (h.packets.at 0 p e).end, dro
     dropped-one [] g = g
     dropped-one (q ∷ qs) g = each-tail UnackedFits q qs g
 
+phase-fits : (b : Bool) (p : Phase) → SetupStampFits p → SetupStampFits (phase_acked b p)
+phase-fits true p h = tt
+phase-fits false (phase.Streaming sent) h = tt
+phase-fits false phase.Closed h = h
+phase-fits false (phase.Wanted s) h = h
+phase-fits false (phase.Stamped s stamp) h = h
+phase-fits false (phase.Requested s stamp) h = h
+phase-fits false (phase.Accepted s stamp) h = h
+phase-fits false phase.Opened h = h
+phase-fits false phase.Closing h = h
+phase-fits false phase.Finished h = h
+phase-fits false phase.Completed h = h
+phase-fits false (phase.Failed f) h = h
+
 pub acked-fits : (x : WriterRecord) (a : Ack) → RecordFits x → RecordFits (acked x a)
 unfolding acked
 acked-fits x a h = go (remedy_at_ack x.phase)
   where
     oldest : RecordFits (acked_oldest x)
-    oldest = let p = acked-packet-fits x (slice_get x.stream.unacked 0) refl h in record { few = h.few; acked = p.0; packets = p.1; committed = h.committed }
+    oldest = let p = acked-packet-fits x (slice_get x.stream.unacked 0) refl h in record { few = h.few; acked = p.0; packets = p.1; committed = h.committed; setup = phase-fits (oldest_is_last x.stream) x.phase h.setup }
 
     says : (r : Remedy) (v : Verdict) → RecordFits (acked_as x r v)
     says r verdict.Good = oldest
@@ -405,59 +422,55 @@ acked-fits x a h = go (remedy_at_ack x.phase)
     go None = h
     go (Some r) = says r (ack_verdict (oldest_seqno x.stream) (length x.members) a)
 
-setup-in-fits : (x : WriterRecord) (p : Phase) (good : Bool) (bad : Option NodeId) → RecordFits x → RecordFits (setup_answered_in x p good bad)
-setup-in-fits x (phase.Requested s stamp) true bad h = alike x _ refl refl refl h
-setup-in-fits x (phase.Requested s stamp) false bad h = fail-fits x (remedy_after s) (bad_place x.members bad) h
-setup-in-fits x phase.Closed good bad h = h
-setup-in-fits x (phase.Wanted s) good bad h = h
-setup-in-fits x (phase.Stamped s stamp) good bad h = h
-setup-in-fits x (phase.Accepted s stamp) good bad h = h
-setup-in-fits x phase.Opened good bad h = h
-setup-in-fits x (phase.Streaming sent) good bad h = h
-setup-in-fits x phase.Closing good bad h = h
-setup-in-fits x phase.Finished good bad h = h
-setup-in-fits x phase.Completed good bad h = h
-setup-in-fits x (phase.Failed f) good bad h = h
+setup-in-fits : (x : WriterRecord) (p : Phase) (good : Bool) (bad : Option NodeId) → SetupStampFits p → RecordFits x → RecordFits (setup_answered_in x p good bad)
+setup-in-fits x (phase.Requested s stamp) true bad r h = alike x _ refl refl refl r h
+setup-in-fits x (phase.Requested s stamp) false bad r h = fail-fits x (remedy_after s) (bad_place x.members bad) h
+setup-in-fits x phase.Closed good bad r h = h
+setup-in-fits x (phase.Wanted s) good bad r h = h
+setup-in-fits x (phase.Stamped s stamp) good bad r h = h
+setup-in-fits x (phase.Accepted s stamp) good bad r h = h
+setup-in-fits x phase.Opened good bad r h = h
+setup-in-fits x (phase.Streaming sent) good bad r h = h
+setup-in-fits x phase.Closing good bad r h = h
+setup-in-fits x phase.Finished good bad r h = h
+setup-in-fits x phase.Completed good bad r h = h
+setup-in-fits x (phase.Failed f) good bad r h = h
 
 pub setup-answered-fits : (x : WriterRecord) (r : Response) (bad : Option NodeId) → RecordFits x → RecordFits (setup_answered x r bad)
 unfolding setup_answered
-setup-answered-fits x r bad h = setup-in-fits x x.phase (is_success r.status) bad h
+setup-answered-fits x r bad h = setup-in-fits x x.phase (is_success r.status) bad h.setup h
 
-dialled-in-fits : (x : WriterRecord) (p : Phase) (b : Bool) → RecordFits x → RecordFits (dialled_in x p b)
-dialled-in-fits x (phase.Stamped s stamp) true h = alike x _ refl refl refl h
-dialled-in-fits x (phase.Stamped s stamp) false h = fail-fits x (remedy_after s) 0 h
-dialled-in-fits x (phase.Requested s stamp) b h = h
-dialled-in-fits x phase.Closed b h = h
-dialled-in-fits x (phase.Wanted s) b h = h
-dialled-in-fits x (phase.Accepted s stamp) b h = h
-dialled-in-fits x phase.Opened b h = h
-dialled-in-fits x (phase.Streaming sent) b h = h
-dialled-in-fits x phase.Closing b h = h
-dialled-in-fits x phase.Finished b h = h
-dialled-in-fits x phase.Completed b h = h
-dialled-in-fits x (phase.Failed f) b h = h
+dialled-in-fits : (x : WriterRecord) (p : Phase) (b : Bool) → SetupStampFits p → RecordFits x → RecordFits (dialled_in x p b)
+dialled-in-fits x (phase.Stamped s stamp) true r h = alike x _ refl refl refl r h
+dialled-in-fits x (phase.Stamped s stamp) false r h = fail-fits x (remedy_after s) 0 h
+dialled-in-fits x (phase.Requested s stamp) b r h = h
+dialled-in-fits x phase.Closed b r h = h
+dialled-in-fits x (phase.Wanted s) b r h = h
+dialled-in-fits x (phase.Accepted s stamp) b r h = h
+dialled-in-fits x phase.Opened b r h = h
+dialled-in-fits x (phase.Streaming sent) b r h = h
+dialled-in-fits x phase.Closing b r h = h
+dialled-in-fits x phase.Finished b r h = h
+dialled-in-fits x phase.Completed b r h = h
+dialled-in-fits x (phase.Failed f) b r h = h
 
 pub dialled-fits : (x : WriterRecord) (b : Bool) → RecordFits x → RecordFits (dialled x b)
 unfolding dialled
-dialled-fits x b h = dialled-in-fits x x.phase b h
+dialled-fits x b h = dialled-in-fits x x.phase b h.setup h
 
 -- WHAT THE OFFICE ANSWERS
 
 -- the stamps of an answer fit
 abbrev pub AnswerStamps : Result OfficeAnswer OfficeFault → Type 0
 AnswerStamps (Ok (office.Stamp s)) = s.0 < 2 ^ 64
-AnswerStamps (Ok (office.Reopened r)) = r.committed.0 < 2 ^ 64
+AnswerStamps (Ok (office.Reopened r)) = (r.committed.0 < 2 ^ 64) × (r.new.0 < 2 ^ 64)
 AnswerStamps (Ok (office.Begun b)) = b.committed.0 < 2 ^ 64
 AnswerStamps (Ok office.Nothing) = Unit {0}
 AnswerStamps (Err e) = Unit {0}
 
--- the stamp of a setup that was accepted fits
-abbrev pub PhaseStamps : Phase → Type 0
-PhaseStamps (phase.Accepted s stamp) = stamp.0 < 2 ^ 64
-PhaseStamps _ = Unit {0}
-
-begun-fits : (x y : WriterRecord) (base : ℕ) → base ≤ BLOCK_LIMIT → y.members ≡ x.members → y.stream.acked ≡ base → y.stream.unacked ≡ [] → y.committed.0 < 2 ^ 64 → RecordFits x → RecordFits y
-begun-fits x y base b m a u c h = record {
+begun-fits : (x y : WriterRecord) (base : ℕ) → base ≤ BLOCK_LIMIT → y.members ≡ x.members → y.stream.acked ≡ base → y.stream.unacked ≡ [] → y.committed.0 < 2 ^ 64 → SetupStampFits y.phase → RecordFits x → RecordFits y
+begun-fits x y base b m a u c p h = record {
+  setup = p;
   few = subst (λ (ns : List NodeId). length ns ≤ 16) (sym m) h.few;
   acked = omega (arith, a, b);
   packets = subst (Each UnackedFits) (sym u) (each-nil UnackedFits);
@@ -465,15 +478,15 @@ begun-fits x y base b m a u c h = record {
 }
 
 stamped-fits : (x : WriterRecord) (s : Setup) (stamp : Stamp) → stamp.0 < 2 ^ 64 → RecordFits x → RecordFits (stamped x s stamp)
-stamped-fits x setup.Create stamp f h = begun-fits x _ 0 (omega arith) refl refl refl f h
+stamped-fits x setup.Create stamp f h = begun-fits x _ 0 (omega arith) refl refl refl f f h
 stamped-fits x setup.Append stamp f h = h
-stamped-fits x setup.AppendRecovery stamp f h = alike x _ refl refl refl h
-stamped-fits x setup.StreamRecovery stamp f h = alike x _ refl refl refl h
-stamped-fits x setup.CloseRecovery stamp f h = alike x _ refl refl refl h
+stamped-fits x setup.AppendRecovery stamp f h = alike x _ refl refl refl f h
+stamped-fits x setup.StreamRecovery stamp f h = alike x _ refl refl refl f h
+stamped-fits x setup.CloseRecovery stamp f h = alike x _ refl refl refl f h
 
-reopened-fits : (x : WriterRecord) (s : Setup) (r : Reopened) → r.committed.0 < 2 ^ 64 → RecordFits x → RecordFits (reopened x s r)
+reopened-fits : (x : WriterRecord) (s : Setup) (r : Reopened) → (r.committed.0 < 2 ^ 64) × (r.new.0 < 2 ^ 64) → RecordFits x → RecordFits (reopened x s r)
 reopened-fits x setup.Append r f h =
-    if-each RecordFits (nat_le r.length MAX_APPEND_LENGTH) _ x (λ e. begun-fits x _ r.length (grind (arith, nat_tests, e)) refl refl refl f h) (λ _. h)
+    if-each RecordFits (nat_le r.length MAX_APPEND_LENGTH) _ x (λ e. begun-fits x _ r.length (grind (arith, nat_tests, e)) refl refl refl f.0 f.1 h) (λ _. h)
 reopened-fits x setup.Create r f h = h
 reopened-fits x setup.AppendRecovery r f h = h
 reopened-fits x setup.StreamRecovery r f h = h
@@ -487,10 +500,10 @@ given-stamp-fits x s office.Nothing f h = h
 
 committed-fits : (x : WriterRecord) (s : Setup) (stamp : Stamp) → stamp.0 < 2 ^ 64 → RecordFits x → RecordFits (committed_as x s stamp)
 committed-fits x setup.Create stamp f h = h
-committed-fits x setup.Append stamp f h = record { few = h.few; acked = h.acked; packets = h.packets; committed = f }
-committed-fits x setup.AppendRecovery stamp f h = record { few = h.few; acked = h.acked; packets = h.packets; committed = f }
-committed-fits x setup.StreamRecovery stamp f h = record { few = h.few; acked = h.acked; packets = h.packets; committed = f }
-committed-fits x setup.CloseRecovery stamp f h = record { few = h.few; acked = h.acked; packets = h.packets; committed = f }
+committed-fits x setup.Append stamp f h = record { few = h.few; acked = h.acked; packets = h.packets; committed = f; setup = tt }
+committed-fits x setup.AppendRecovery stamp f h = record { few = h.few; acked = h.acked; packets = h.packets; committed = f; setup = tt }
+committed-fits x setup.StreamRecovery stamp f h = record { few = h.few; acked = h.acked; packets = h.packets; committed = f; setup = tt }
+committed-fits x setup.CloseRecovery stamp f h = record { few = h.few; acked = h.acked; packets = h.packets; committed = f; setup = tt }
 
 commit-given-fits : (x : WriterRecord) (s : Setup) (stamp : Stamp) (a : OfficeAnswer) → stamp.0 < 2 ^ 64 → RecordFits x → RecordFits (commit_given x s stamp a)
 commit-given-fits x s stamp office.Nothing f h = committed-fits x s stamp f h
@@ -499,12 +512,12 @@ commit-given-fits x s stamp (office.Reopened r) f h = h
 commit-given-fits x s stamp (office.Begun b) f h = h
 
 complete-given-fits : (x : WriterRecord) (a : OfficeAnswer) → RecordFits x → RecordFits (complete_given x a)
-complete-given-fits x office.Nothing h = alike x _ refl refl refl h
+complete-given-fits x office.Nothing h = alike x _ refl refl refl tt h
 complete-given-fits x (office.Stamp t) h = h
 complete-given-fits x (office.Reopened r) h = h
 complete-given-fits x (office.Begun b) h = h
 
-granted-in-fits : (x : WriterRecord) (p : Phase) (a : OfficeAnswer) → AnswerStamps (Ok a) → PhaseStamps p → RecordFits x → RecordFits (granted_in x p a)
+granted-in-fits : (x : WriterRecord) (p : Phase) (a : OfficeAnswer) → AnswerStamps (Ok a) → SetupStampFits p → RecordFits x → RecordFits (granted_in x p a)
 granted-in-fits x (phase.Wanted s) a f g h = given-stamp-fits x s a f h
 granted-in-fits x (phase.Accepted s stamp) a f g h = commit-given-fits x s stamp a g h
 granted-in-fits x phase.Finished a f g h = complete-given-fits x a h
@@ -519,16 +532,16 @@ granted-in-fits x (phase.Failed e) a f g h = h
 
 refused-fits : (x : WriterRecord) (e : OfficeFault) → RecordFits x → RecordFits (refused x e)
 refused-fits x fault.Memory h = h
-refused-fits x (fault.LeaseLost recovery) h = alike x _ refl refl refl h
-refused-fits x fault.Known h = alike x _ refl refl refl h
-refused-fits x fault.Unknown h = alike x _ refl refl refl h
-refused-fits x fault.NotOpen h = alike x _ refl refl refl h
-refused-fits x fault.NotClosed h = alike x _ refl refl refl h
-refused-fits x (fault.OldStamp c) h = alike x _ refl refl refl h
-refused-fits x (fault.OldRecovery l) h = alike x _ refl refl refl h
-refused-fits x (fault.TooLong n) h = alike x _ refl refl refl h
+refused-fits x (fault.LeaseLost recovery) h = alike x _ refl refl refl tt h
+refused-fits x fault.Known h = alike x _ refl refl refl tt h
+refused-fits x fault.Unknown h = alike x _ refl refl refl tt h
+refused-fits x fault.NotOpen h = alike x _ refl refl refl tt h
+refused-fits x fault.NotClosed h = alike x _ refl refl refl tt h
+refused-fits x (fault.OldStamp c) h = alike x _ refl refl refl tt h
+refused-fits x (fault.OldRecovery l) h = alike x _ refl refl refl tt h
+refused-fits x (fault.TooLong n) h = alike x _ refl refl refl tt h
 
-pub granted-fits : (x : WriterRecord) (r : Result OfficeAnswer OfficeFault) → AnswerStamps r → PhaseStamps x.phase → RecordFits x → RecordFits (granted x r)
+pub granted-fits : (x : WriterRecord) (r : Result OfficeAnswer OfficeFault) → AnswerStamps r → RecordFits x → RecordFits (granted x r)
 unfolding granted
-granted-fits x (Ok a) f g h = granted-in-fits x x.phase a f g h
-granted-fits x (Err e) f g h = if-each RecordFits (asks x.phase) (refused x e) x (λ _. refused-fits x e h) (λ _. h)
+granted-fits x (Ok a) f h = granted-in-fits x x.phase a f h.setup h
+granted-fits x (Err e) f h = if-each RecordFits (asks x.phase) (refused x e) x (λ _. refused-fits x e h) (λ _. h)
