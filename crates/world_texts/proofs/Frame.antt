@@ -1,5 +1,5 @@
 -- What fits in a world, what a change brings, and that a change which brings what fits leaves all fitting.
-use Rattle.std.proofs.Common.{◌≡◌, ℕ, zero, suc, ◌-◌, ◌<◌, ◌≤◌, ◌^◌, ◌⊎◌, inl, inr, Bool, true, false, List, [], ◌∷◌, ◌++◌, length, slice_get, Option, Some, None, IfSome, option_map, Ok, Err, refl, sym, ap, ◌∙◌, subst, arith}
+use Rattle.std.proofs.Common.{◌≡◌, ℕ, ◌+◌, ◌-◌, ◌<◌, ◌≤◌, ◌^◌, ◌⊎◌, inl, inr, Bool, true, false, List, [], ◌∷◌, ◌++◌, length, slice_get, Option, Some, None, IfSome, option_map, Ok, Err, refl, sym, ap, ◌∙◌, subst, arith}
 use Rattle.std.specs.Prelude.{◌==◌, ◌&&◌, nat_le, if◌then◌else◌}
 use Rattle.std.specs.Int.{w64}
 use Rattle.std.proofs.lemmas.Option.{none-some, same_Some}
@@ -58,16 +58,24 @@ SetupStampFits (phase.Requested s stamp) = stamp.0 < 2 ^ 64
 SetupStampFits (phase.Accepted s stamp) = stamp.0 < 2 ^ 64
 SetupStampFits _ = Unit {0}
 
--- A writer has few members, its packets fit, and so do its stamps and what is acked.
-pub record RecordFits (x : WriterRecord) : Type 0 where
+-- A writer has few members, its packets fit, and so do its stamps and what is acked; it was given at least so many bytes.
+pub record RecordFits (n : ℕ) (x : WriterRecord) : Type 0 where
   pub few : length x.members ≤ 16
   pub acked : x.stream.acked ≤ BLOCK_LIMIT
   pub packets : Each UnackedFits x.stream.unacked
   pub committed : x.committed.0 < 2 ^ 64
   pub setup : SetupStampFits x.phase
+  pub intake : n ≤ x.intake.bytes
 
-abbrev pub WriterFits : Writing → Type 0
-WriterFits x = RecordFits (heard x)
+abbrev pub WriterFits : ℕ → Writing → Type 0
+WriterFits n x = RecordFits n (heard x)
+
+pub less-fits : (m n : ℕ) (x : WriterRecord) → m ≤ n → RecordFits n x → RecordFits m x
+less-fits m n x le h = record { few = h.few; acked = h.acked; packets = h.packets; committed = h.committed; setup = h.setup; intake = omega (arith, le, h.intake) }
+
+-- so many bytes were given to the writer of a block
+abbrev pub given_to : World → ℕ → ℕ
+given_to w b = (heard (w.writers b)).intake.bytes
 
 abbrev pub ToldFits : Told → Type 0
 ToldFits (Ok (office.Begun begun)) = begun.committed.0 < 2 ^ 64
@@ -85,18 +93,20 @@ pub record Formed (w : World) : Type 0 where
   pub ups : (c : ℕ) → Each MessageFits (w.ups c)
   pub lowers : (c : ℕ) → LowerFits (w.lowers c)
   pub replicas : (n b : ℕ) → ReplicaFits (w.replicas n b)
-  pub writers : (b : ℕ) → WriterFits (w.writers b)
+  pub writers : (b : ℕ) → WriterFits 0 (w.writers b)
   pub primaries : (i : ℕ) → PrimaryFits (w.primaries i)
 
 -- WHAT A CHANGE BRINGS
 
-pub record Brings (k : Change) : Type 0 where
+-- What a change brings fits; and bytes go only to the latest session of the writer's block, which was given them.
+pub record Brings (w : World) (k : Change) : Type 0 where
   pub dials : Each (λ (d : Dial). MessageFits d.request) k.dials
   pub downs : (c : ℕ) → Each MessageFits (k.downs c)
   pub ups : (c : ℕ) → Each MessageFits (k.ups c)
   pub lower : LowerFits k.lower
   pub replica : ReplicaFits k.replica
-  pub writer : WriterFits k.writer
+  pub writer : WriterFits (given_to w k.writer_at + length k.bytes) k.writer
+  pub spends : (k.bytes ≡ []) ⊎ (k.session ≡ w.latest k.writer_at)
   pub primary : PrimaryFits k.primary
 
 -- THE WORLD AFTER A CHANGE
@@ -112,14 +122,41 @@ dialled-fits n c ds h (Some d) e = each-one MessageFits d.request (found (nat_le
 put-at-each : {A : Type 0} (P : A → Type 0) (f : ℕ → ℕ → A) (i k : ℕ) (x : A) → P x → ((j l : ℕ) → P (f j l)) → (j l : ℕ) → P (put_at f i k x j l)
 put-at-each P f i k x h g j l = if-each P (j == i && l == k) x (f j l) (λ e. h) (λ e. g j l)
 
-module _ (w : World) (k : Change) (h : Formed w) (n : Brings k) where
-  pub formed-after : Formed (apply w k)
-  unfolding apply
-  formed-after = record {
-    downs = λ c. each-append MessageFits _ _ (each-append MessageFits (w.downs c) (k.downs c) (h.downs c) (n.downs c)) (dialled-fits w.next_conn c k.dials n.dials _ refl);
-    ups = λ c. each-append MessageFits (w.ups c) (k.ups c) (h.ups c) (n.ups c);
-    lowers = put-each (λ (c : ℕ) (x : Lower). LowerFits x) w.lowers k.lower_at k.lower n.lower h.lowers;
-    replicas = put-at-each ReplicaFits w.replicas k.node k.block k.replica n.replica h.replicas;
-    writers = put-each (λ (b : ℕ) (x : Writing). WriterFits x) w.writers k.writer_at k.writer n.writer h.writers;
-    primaries = put-each (λ (i : ℕ) (x : Primary). PrimaryFits x) w.primaries k.primary_at k.primary n.primary h.primaries;
-  }
+-- what a change brings, but for what its writer was given
+pub record News (k : Change) : Type 0 where
+  pub dials : Each (λ (d : Dial). MessageFits d.request) k.dials
+  pub downs : (c : ℕ) → Each MessageFits (k.downs c)
+  pub ups : (c : ℕ) → Each MessageFits (k.ups c)
+  pub lower : LowerFits k.lower
+  pub replica : ReplicaFits k.replica
+  pub writer : WriterFits 0 k.writer
+  pub primary : PrimaryFits k.primary
+
+pub formed-after : (w : World) (k : Change) → Formed w → News k → Formed (apply w k)
+unfolding apply
+formed-after w k h n = record {
+  downs = λ c. each-append MessageFits _ _ (each-append MessageFits (w.downs c) (k.downs c) (h.downs c) (n.downs c)) (dialled-fits w.next_conn c k.dials n.dials _ refl);
+  ups = λ c. each-append MessageFits (w.ups c) (k.ups c) (h.ups c) (n.ups c);
+  lowers = put-each (λ (c : ℕ) (x : Lower). LowerFits x) w.lowers k.lower_at k.lower n.lower h.lowers;
+  replicas = put-at-each ReplicaFits w.replicas k.node k.block k.replica n.replica h.replicas;
+  writers = put-each (λ (b : ℕ) (x : Writing). WriterFits 0 x) w.writers k.writer_at k.writer n.writer h.writers;
+  primaries = put-each (λ (i : ℕ) (x : Primary). PrimaryFits x) w.primaries k.primary_at k.primary n.primary h.primaries;
+}
+
+pub news-of : (w : World) (k : Change) → Brings w k → News k
+news-of w k n = record {
+  dials = n.dials;
+  downs = n.downs;
+  ups = n.ups;
+  lower = n.lower;
+  replica = n.replica;
+  writer = less-fits 0 _ (heard k.writer) (omega arith) n.writer;
+  primary = n.primary;
+}
+
+-- a writer that stays as it is
+pub as-given : (x : WriterRecord) → RecordFits 0 x → RecordFits (x.intake.bytes + 0) x
+as-given x h = record { few = h.few; acked = h.acked; packets = h.packets; committed = h.committed; setup = h.setup; intake = omega arith }
+
+pub kept-writer : (w : World) → Formed w → (b : ℕ) → WriterFits (given_to w b + 0) (w.writers b)
+kept-writer w h b = as-given (heard (w.writers b)) (h.writers b)

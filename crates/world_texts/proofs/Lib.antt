@@ -9,3 +9,6 @@ pub mod Serving
 pub mod Writers
 pub mod Ranges
 pub mod Clients
+pub mod Primaries
+pub mod Sessions
+pub mod AllWritten

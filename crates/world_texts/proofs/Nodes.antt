@@ -1,5 +1,5 @@
 -- What the lower ends of connections bring.
-use Rattle.std.proofs.Common.{◌≡◌, ℕ, zero, suc, ◌+◌, ◌-◌, ◌<◌, ◌≤◌, ◌^◌, Bool, true, false, List, [], ◌∷◌, ◌++◌, length, slice_get, Option, Some, None, IfSome, Result, Ok, Err, refl, sym, ap, ◌∙◌, subst, arith}
+use Rattle.std.proofs.Common.{◌≡◌, ℕ, zero, suc, ◌+◌, ◌-◌, ◌<◌, ◌≤◌, ◌^◌, Bool, true, false, List, [], ◌∷◌, ◌++◌, length, slice_get, ◌⊎◌, inl, Option, Some, None, IfSome, Result, Ok, Err, refl, sym, ap, ◌∙◌, subst, arith}
 use Rattle.std.specs.Prelude.{◌==◌, nat_le, if◌then◌else◌, IfOk}
 use Rattle.std.specs.Int.{w128, to_be_bytes}
 use Rattle.std.proofs.lemmas.Bool.Decides.{nat_tests}
@@ -52,7 +52,7 @@ use Rattle.world_laws.proofs.ByteFrame.{Each, each-nil, each-one}
 use Rattle.world_laws.proofs.FactTables.{if-each, when-each}
 use Rattle.world_laws.proofs.Lawful.{request-other}
 use Rattle.world_texts.proofs.Spelling.{ResponseFits, NodeFits, NodesFit, WriteFits, MessageFits}
-use Rattle.world_texts.proofs.Frame.{StateFits, MemberFits, LowerFits, PendingFits, ReplicaFits, Formed, Brings}
+use Rattle.world_texts.proofs.Frame.{StateFits, MemberFits, LowerFits, PendingFits, ReplicaFits, Formed, Brings, kept-writer}
 use Rattle.world_texts.proofs.Rows.{CallFits, row-fits, broken-fits}
 use Rattle.world_texts.proofs.Refusals.{IsNumber, RefusalFits, RequestRefusalFits, InfoNumbers, EventNumbers, AnswerNumbers, answer-numbers}
 use Rattle.world_texts.proofs.Turns.{UpFits, TurnFits, AboveFits, BelowFits, SettledFits, down-turn-fits, up-turn-fits, ready-turn-fits, settled-fits, answer-fits}
@@ -241,60 +241,62 @@ module _ (w : World) (h : Formed w) (q : Holding w) where
   pub here : (n b : ℕ) → At (w.replicas n b)
   here n b = record { numbers = q.infos n b; fits = h.replicas n b; full = q.full n b }
 
-  pub closing-brings : (c : ℕ) → Brings (closing w c)
+  pub closing-brings : (c : ℕ) → Brings w (closing w c)
   closing-brings c = record {
     dials = each-nil (λ (d : Dial). MessageFits d.request);
     downs = λ d. each-nil MessageFits;
     ups = λ d. each-nil MessageFits;
     lower = tt;
     replica = h.replicas 0 0;
-    writer = h.writers 0;
+    writer = kept-writer w h 0;
+    spends = inl refl;
     primary = h.primaries 0;
   }
 
-  pub unless-brings : (c : ℕ) (fails : Bool) → IfSome (unless_failing fails (closing w c)) Brings
+  pub unless-brings : (c : ℕ) (fails : Bool) → IfSome (unless_failing fails (closing w c)) (Brings w)
   unless-brings c true = tt
   unless-brings c false = closing-brings c
 
   -- MEMBERS
 
-  member-brings : (c : ℕ) (m : FullMember) (x : Next) (s : Step) (b : Option Break) → MemberFits m → NextFits x → ReplicaFits s.replica → StateFits s.member → UpFits m.fields s.effect.sends → Brings (member_change w c m x s b)
+  member-brings : (c : ℕ) (m : FullMember) (x : Next) (s : Step) (b : Option Break) → MemberFits m → NextFits x → ReplicaFits s.replica → StateFits s.member → UpFits m.fields s.effect.sends → Brings w (member_change w c m x s b)
   member-brings c m x s b f n r t u = record {
     dials = each-nil (λ (d : Dial). MessageFits d.request);
     downs = sent-fits m.mirror (passed s.effect.forwards x) (passed-fits s.effect.forwards x n);
     ups = sent-fits (Some c) (sent_up m.fields s.effect.sends) (up-sent m.fields s.effect.sends u);
     lower = record { fields = f.fields; state = t };
     replica = r;
-    writer = h.writers 0;
+    writer = kept-writer w h 0;
+    spends = inl refl;
     primary = h.primaries 0;
   }
 
-  failing-brings : (c : ℕ) (m : FullMember) (x : Next) (t : Turn) (o : Option ReplicaEvent) → MemberFits m → NextFits x → TurnFits m.fields t → IfSome (failing_turn w c m x t o) Brings
+  failing-brings : (c : ℕ) (m : FullMember) (x : Next) (t : Turn) (o : Option ReplicaEvent) → MemberFits m → NextFits x → TurnFits m.fields t → IfSome (failing_turn w c m x t o) (Brings w)
   failing-brings c m x t None f n u = tt
   failing-brings c m x t (Some e) f n u =
       let s = settled-fits m.fields f.fields m.state t booked.Failed f.state u in
       member-brings c m x (faulted_step m.state (replica_at w c (block_of m.fields)) t) _ f n (broken-fits _ (h.replicas (node_of w c) (block_of m.fields))) s.state s.sends
 
-  turn-brings : (c : ℕ) (m : FullMember) (x : Next) (t : Turn) (fails : Bool) → MemberFits m → NextFits x → TurnFits m.fields t → IfSome (turn_change w c m x t fails) Brings
+  turn-brings : (c : ℕ) (m : FullMember) (x : Next) (t : Turn) (fails : Bool) → MemberFits m → NextFits x → TurnFits m.fields t → IfSome (turn_change w c m x t fails) (Brings w)
   turn-brings c m x t true f n u = failing-brings c m x t t.call f n u
   turn-brings c m x t false f n u =
       let r : FullReplica = replica_at w c (block_of m.fields) in
       let s = settled-fits m.fields f.fields m.state t (outcome_of r t.call) f.state u in
       member-brings c m x (step m.state r t) _ f n (after-fits r t.call (h.replicas (node_of w c) (block_of m.fields)) u.call) s.state s.sends
 
-  pub member-down-brings : (c : ℕ) (m : FullMember) (x : Next) (fails : Bool) → MemberFits m → NextFits x → IfSome (member_down w c m x fails) Brings
-  member-down-brings c m x fails f n = when-each Brings (takes_next m.state (pending_at w c m) x) _
+  pub member-down-brings : (c : ℕ) (m : FullMember) (x : Next) (fails : Bool) → MemberFits m → NextFits x → IfSome (member_down w c m x fails) (Brings w)
+  member-down-brings c m x fails f n = when-each (Brings w) w (takes_next m.state (pending_at w c m) x) _
       (λ _. turn-brings c m x (down_turn m.state (above_of x)) fails f n (down-turn-fits m.fields f.fields m.state (above_of x) (above-fits x n)))
 
-  pub member-up-brings : (c : ℕ) (m : FullMember) (x : Next) (fails : Bool) → MemberFits m → NextFits x → IfSome (member_up w c m x fails) Brings
-  member-up-brings c m x fails f n = when-each Brings (hears m.state) _
+  pub member-up-brings : (c : ℕ) (m : FullMember) (x : Next) (fails : Bool) → MemberFits m → NextFits x → IfSome (member_up w c m x fails) (Brings w)
+  member-up-brings c m x fails f n = when-each (Brings w) w (hears m.state) _
       (λ _. turn-brings c m x _ fails f n (up-turn-fits m.fields f.fields m.state _ (below_of x) f.state (oldest-fits _ (h.replicas (node_of w c) (block_of m.fields))) (below-fits x n)))
 
-  ready-brings : (c : ℕ) (m : FullMember) (o : Option Turn) (fails : Bool) → MemberFits m → IfSome o (TurnFits m.fields) → IfSome (ready_change w c m o fails) Brings
+  ready-brings : (c : ℕ) (m : FullMember) (o : Option Turn) (fails : Bool) → MemberFits m → IfSome o (TurnFits m.fields) → IfSome (ready_change w c m o fails) (Brings w)
   ready-brings c m None fails f u = tt
   ready-brings c m (Some t) fails f u = turn-brings c m the_end t fails f tt u
 
-  pub member-ready-brings : (c : ℕ) (m : FullMember) (fails : Bool) → MemberFits m → IfSome (member_ready w c m fails) Brings
+  pub member-ready-brings : (c : ℕ) (m : FullMember) (fails : Bool) → MemberFits m → IfSome (member_ready w c m fails) (Brings w)
   member-ready-brings c m fails f =
       let r : FullReplica = replica_at w c (block_of m.fields) in
       ready-brings c m (ready_turn_at m.state r) fails f (ready-turn-fits m.fields f.fields m.state _ _ f.state (oldest-fits r (h.replicas (node_of w c) (block_of m.fields))))
@@ -321,22 +323,23 @@ module _ (w : World) (h : Formed w) (q : Holding w) where
   lower-of-fits None f next g s = tt
   lower-of-fits (Some m) f next g s = record { fields = g; state = s }
 
-  setup-brings : (c : ℕ) (f : WriteFields) (s : Setup) (b : Option Break) → WriteFits f → SetupFits f s → Brings (setup_change w c f s b)
+  setup-brings : (c : ℕ) (f : WriteFields) (s : Setup) (b : Option Break) → WriteFits f → SetupFits f s → Brings w (setup_change w c f s b)
   setup-brings c f s b g k = record {
     dials = member-dials-fit c f s.member g;
     downs = λ d. each-nil MessageFits;
     ups = sent-fits (Some c) (sent_up f s.effect.sends) (up-sent f s.effect.sends k.sends);
     lower = lower-of-fits s.member f w.next_conn g k.member;
     replica = k.replica;
-    writer = h.writers 0;
+    writer = kept-writer w h 0;
+    spends = inl refl;
     primary = h.primaries 0;
   }
 
-  failing-write-brings : (c : ℕ) (f : WriteFields) (e : Result Event RequestRefusal) → WriteFits f → IfSome (failing_write w c f e) Brings
+  failing-write-brings : (c : ℕ) (f : WriteFields) (e : Result Event RequestRefusal) → WriteFits f → IfSome (failing_write w c f e) (Brings w)
   failing-write-brings c f (Err e) g = tt
   failing-write-brings c f (Ok e) g =
       setup-brings c f (faulted_request (replica_at w c (block_of f))) _ g (refused-setup f _ refusal.File g (broken-fits _ (h.replicas (node_of w c) (block_of f))) tt)
 
-  pub write-brings : (c : ℕ) (f : WriteFields) (answered fails : Bool) → WriteFits f → IfSome (write_request w c f answered fails) Brings
+  pub write-brings : (c : ℕ) (f : WriteFields) (answered fails : Bool) → WriteFits f → IfSome (write_request w c f answered fails) (Brings w)
   write-brings c f answered true g = failing-write-brings c f (request_event (record { 0 = c }) f (rule_in (replica_at w c (block_of f)).known)) g
   write-brings c f answered false g = setup-brings c f _ _ g (request-setup f (record { 0 = c }) (is_asked w c f answered) (replica_at w c (block_of f)) g (here (node_of w c) (block_of f)))

@@ -1,5 +1,5 @@
 -- What reads that are served and members of recoveries bring, and each lower end.
-use Rattle.std.proofs.Common.{◌≡◌, ℕ, zero, suc, ◌+◌, ◌-◌, ◌*◌, ◌/◌, ◌<◌, ◌≤◌, ◌^◌, Bool, true, false, List, [], ◌∷◌, length, take, drop, Option, Some, None, IfSome, Result, Ok, Err, refl, sym, ap, ◌∙◌, subst, arith}
+use Rattle.std.proofs.Common.{◌≡◌, ℕ, zero, suc, ◌+◌, ◌-◌, ◌*◌, ◌/◌, ◌<◌, ◌≤◌, ◌^◌, Bool, true, false, List, [], ◌∷◌, length, take, drop, ◌⊎◌, inl, Option, Some, None, IfSome, Result, Ok, Err, refl, sym, ap, ◌∙◌, subst, arith}
 use Rattle.std.specs.Prelude.{◌==◌, if◌then◌else◌, min, max, option_map, IfOk}
 use Rattle.std.specs.Int.{w64, cast_signed}
 use Rattle.std.proofs.Math.Nat.{min-le_right}
@@ -46,7 +46,7 @@ use Rattle.world_laws.proofs.Lawful.{recovery-other}
 use Rattle.world_texts.specs.Texts.{CanBeAsked}
 use Rattle.world_texts.proofs.Spelling.{ResponseFits, PacketFits, RecoveryFits, AnswerFits, MessageFits}
 use Rattle.world_texts.proofs.Sums.{SumsFit, sums-fit, most-few, cast-fits}
-use Rattle.world_texts.proofs.Frame.{MemberFits, LowerFits, ReplicaFits, Formed, Brings}
+use Rattle.world_texts.proofs.Frame.{MemberFits, LowerFits, ReplicaFits, Formed, Brings, kept-writer}
 use Rattle.world_texts.proofs.Rows.{row-fits, broken-fits}
 use Rattle.world_texts.proofs.Refusals.{IsNumber, RequestRefusalFits, EventNumbers, AnswerNumbers, refusal-few}
 use Rattle.world_texts.proofs.Turns.{plain-fits, failing-fits}
@@ -181,76 +181,80 @@ record ServedFits (s : Served) : Type 0 where
 module _ (w : World) (h : Formed w) (q : Holding w) where
   -- READS
 
-  breaking-brings : (c b : ℕ) (r : FullReplica) (e : ReplicaEvent) (ms : List Message) → ReplicaFits r → Each MessageFits ms → Brings (breaking w c b r e ms)
+  breaking-brings : (c b : ℕ) (r : FullReplica) (e : ReplicaEvent) (ms : List Message) → ReplicaFits r → Each MessageFits ms → Brings w (breaking w c b r e ms)
   breaking-brings c b r e ms f m = record {
     dials = each-nil (λ (d : Dial). MessageFits d.request);
     downs = λ d. each-nil MessageFits;
     ups = sent-fits (Some c) ms m;
     lower = tt;
     replica = f;
-    writer = h.writers 0;
+    writer = kept-writer w h 0;
+    spends = inl refl;
     primary = h.primaries 0;
   }
 
   broken-at : (n b : ℕ) → ReplicaFits (faulted_read (w.replicas n b)).0
   broken-at n b = broken-fits (w.replicas n b) (h.replicas n b)
 
-  serving-brings : (c b : ℕ) (s : ServingState) (m : Message) → IsChunkSize s.rule.chunk → MessageFits m → Brings (record (still w) { lower_at = c; lower = serves b s; ups = sent_on (Some c) (m ∷ []) })
+  serving-brings : (c b : ℕ) (s : ServingState) (m : Message) → IsChunkSize s.rule.chunk → MessageFits m → Brings w (record (still w) { lower_at = c; lower = serves b s; ups = sent_on (Some c) (m ∷ []) })
   serving-brings c b s m f k = record {
     dials = each-nil (λ (d : Dial). MessageFits d.request);
     downs = λ d. each-nil MessageFits;
     ups = sent-fits (Some c) (m ∷ []) (each-one MessageFits m k);
     lower = f;
     replica = h.replicas 0 0;
-    writer = h.writers 0;
+    writer = kept-writer w h 0;
+    spends = inl refl;
     primary = h.primaries 0;
   }
 
-  answering-brings : (c : ℕ) (m : Message) → MessageFits m → Brings (record (closing w c) { ups = sent_on (Some c) (m ∷ []) })
+  answering-brings : (c : ℕ) (m : Message) → MessageFits m → Brings w (record (closing w c) { ups = sent_on (Some c) (m ∷ []) })
   answering-brings c m k = record {
     dials = each-nil (λ (d : Dial). MessageFits d.request);
     downs = λ d. each-nil MessageFits;
     ups = sent-fits (Some c) (m ∷ []) (each-one MessageFits m k);
     lower = tt;
     replica = h.replicas 0 0;
-    writer = h.writers 0;
+    writer = kept-writer w h 0;
+    spends = inl refl;
     primary = h.primaries 0;
   }
 
-  read-brings : (c b : ℕ) (o : Result ServingState RequestRefusal) → ReadFits o → Brings (read_change w c b o)
+  read-brings : (c b : ℕ) (o : Result ServingState RequestRefusal) → ReadFits o → Brings w (read_change w c b o)
   read-brings c b (Ok s) f = serving-brings c b s (response (accepting s)) f.0 (accepting-fits s f)
   read-brings c b (Err r) f = answering-brings c (response (refusing r)) (refusing-fits r f)
 
-  failing-read-brings : (c b : ℕ) (e : Result Event RequestRefusal) → IfSome (failing_read w c b e) Brings
+  failing-read-brings : (c b : ℕ) (e : Result Event RequestRefusal) → IfSome (failing_read w c b e) (Brings w)
   failing-read-brings c b (Err r) = tt
   failing-read-brings c b (Ok e) =
       breaking-brings c b _ (replica_event.Other e) (response (refusing refusal.File) ∷ []) (broken-at (node_of w c) b) (each-one MessageFits (response (refusing refusal.File)) (refusing-fits refusal.File tt))
 
-  read-request-brings : (c : ℕ) (r : ReadOp) (fails : Bool) → CanBeAsked r → IfSome (read_request w c r fails) Brings
+  read-request-brings : (c : ℕ) (r : ReadOp) (fails : Bool) → CanBeAsked r → IfSome (read_request w c r fails) (Brings w)
   read-request-brings c r true a = failing-read-brings c r.block.block.0 (read_event r)
   read-request-brings c r false a = read-brings c r.block.block.0 (read_at r (replica_at w c r.block.block.0)) (read-at-fits r _ a (here w h q (node_of w c) r.block.block.0))
 
-  pieces-bring : (c b : ℕ) (s : ServingState) (r : FullReplica) (a : Answer) → IsChunkSize s.rule.chunk → Brings (nodes.piece_change w c b (piece_as s r a))
+  pieces-bring : (c b : ℕ) (s : ServingState) (r : FullReplica) (a : Answer) → IsChunkSize s.rule.chunk → Brings w (nodes.piece_change w c b (piece_as s r a))
   pieces-bring c b s r (answer.Visible n) f = serving-brings c b (sent s) (packet (packet_of s (piece_of r s))) (gone-fits s.phase s f) (piece-fits s (piece_of r s) f (taken-few s r))
   pieces-bring c b s r (answer.Refused e) f = closing-brings w h q c
   pieces-bring c b s r answer.Done f = closing-brings w h q c
   pieces-bring c b s r (answer.Info x stamp n) f = closing-brings w h q c
 
-  serve-brings : (c b : ℕ) (s : ServingState) (o : Option Event) (fails : Bool) → IsChunkSize s.rule.chunk → IfSome (serve_change w c b s o fails) Brings
+  serve-brings : (c b : ℕ) (s : ServingState) (o : Option Event) (fails : Bool) → IsChunkSize s.rule.chunk → IfSome (serve_change w c b s o fails) (Brings w)
   serve-brings c b s None fails f = tt
   serve-brings c b s (Some e) true f = breaking-brings c b _ (replica_event.Other e) [] (broken-at (node_of w c) b) (each-nil MessageFits)
   serve-brings c b s (Some e) false f = pieces-bring c b s (replica_at w c b) (row_answer (replica_at w c b) (replica_event.Other (piece_event s))) f
 
   -- RECOVERIES
 
-  recovery-brings : (c : ℕ) (r : RecoveryOp) (s : Served) (b : Option Break) → ServedFits s → Brings (recovery_change w c r s b)
+  recovery-brings : (c : ℕ) (r : RecoveryOp) (s : Served) (b : Option Break) → ServedFits s → Brings w (recovery_change w c r s b)
   recovery-brings c r s b f = record {
     dials = each-nil (λ (d : Dial). MessageFits d.request);
     downs = λ d. each-nil MessageFits;
     ups = sent-fits (Some c) (recovery_answer (answer_of s.reply) ∷ []) (each-one MessageFits (recovery_answer (answer_of s.reply)) (reply-spelled s.reply f.reply));
     lower = tt;
     replica = f.replica;
-    writer = h.writers 0;
+    writer = kept-writer w h 0;
+    spends = inl refl;
     primary = h.primaries 0;
   }
 
@@ -261,18 +265,18 @@ module _ (w : World) (h : Formed w) (q : Holding w) where
       go (Err said) s k = record { replica = a.fits; reply = s }
       go (Ok e) s k = record { replica = row-fits r (replica_event.Other e) a.fits k; reply = to-fits (row_answer r (replica_event.Other e)) (answer-of-row r e a s) }
 
-  failing-recovery-brings : (c : ℕ) (r : RecoveryOp) (e : Result Event RecoveryReply) → IfSome (failing_recovery w c r e) Brings
+  failing-recovery-brings : (c : ℕ) (r : RecoveryOp) (e : Result Event RecoveryReply) → IfSome (failing_recovery w c r e) (Brings w)
   failing-recovery-brings c r (Err said) = tt
   failing-recovery-brings c r (Ok e) =
       recovery-brings c r (serve_faulted (replica_at w c r.block.block.0)) _ (record { replica = broken-fits _ (h.replicas (node_of w c) r.block.block.0); reply = tt })
 
-  recovery-request-brings : (c : ℕ) (r : RecoveryOp) (fails : Bool) → RecoveryFits r → IfSome (recovery_request w c r fails) Brings
+  recovery-request-brings : (c : ℕ) (r : RecoveryOp) (fails : Bool) → RecoveryFits r → IfSome (recovery_request w c r fails) (Brings w)
   recovery-request-brings c r true f = failing-recovery-brings c r (recovery_event r)
   recovery-request-brings c r false f = recovery-brings c r (serve (replica_at w c r.block.block.0) r) _ (served-fits (replica_at w c r.block.block.0) r (here w h q (node_of w c) r.block.block.0) f)
 
   -- THE LOWER END
 
-  first-brings : (c : ℕ) (m : Message) (answered fails : Bool) → MessageFits m → IfSome (first_message w c m answered fails) Brings
+  first-brings : (c : ℕ) (m : Message) (answered fails : Bool) → MessageFits m → IfSome (first_message w c m answered fails) (Brings w)
   first-brings c (request (op.Write f)) answered fails k = write-brings w h q c f answered fails k
   first-brings c (request (op.Read r)) answered fails k = read-request-brings c r fails k
   first-brings c (request (op.Recovery r)) answered fails k = recovery-request-brings c r fails k
@@ -284,7 +288,7 @@ module _ (w : World) (h : Formed w) (q : Holding w) where
   first-brings c (read_status s) answered fails k = unless-brings w h q c fails
   first-brings c (recovery_answer a) answered fails k = unless-brings w h q c fails
 
-  next-brings : (c : ℕ) (x : Next) (fails : Bool) → NextFits x → IfSome (next_recovery w c x fails) Brings
+  next-brings : (c : ℕ) (x : Next) (fails : Bool) → NextFits x → IfSome (next_recovery w c x fails) (Brings w)
   next-brings c (message (request (op.Recovery r))) fails k = recovery-request-brings c r fails k
   next-brings c (message (request (op.Write f))) fails k = unless-brings w h q c fails
   next-brings c (message (request (op.Read r))) fails k = unless-brings w h q c fails
@@ -297,7 +301,7 @@ module _ (w : World) (h : Formed w) (q : Holding w) where
   next-brings c (message (recovery_answer a)) fails k = unless-brings w h q c fails
   next-brings c the_end fails k = unless-brings w h q c fails
 
-  pub lower-down-brings : (l : Lower) (c : ℕ) (x : Next) (answered fails : Bool) → LowerFits l → NextFits x → IfSome (lower_down l w c x answered fails) Brings
+  pub lower-down-brings : (l : Lower) (c : ℕ) (x : Next) (answered fails : Bool) → LowerFits l → NextFits x → IfSome (lower_down l w c x answered fails) (Brings w)
   lower-down-brings idle c (message m) answered fails f k = first-brings c m answered fails k
   lower-down-brings idle c the_end answered fails f k = unless-brings w h q c fails
   lower-down-brings (writes m) c x answered fails f k = member-down-brings w h q c m x fails f k
@@ -305,16 +309,16 @@ module _ (w : World) (h : Formed w) (q : Holding w) where
   lower-down-brings recovers c x answered fails f k = next-brings c x fails k
   lower-down-brings ended_below c x answered fails f k = tt
 
-  pub lower-ready-brings : (l : Lower) (c : ℕ) (fails : Bool) → LowerFits l → IfSome (lower_ready l w c fails) Brings
+  pub lower-ready-brings : (l : Lower) (c : ℕ) (fails : Bool) → LowerFits l → IfSome (lower_ready l w c fails) (Brings w)
   lower-ready-brings idle c fails f = tt
   lower-ready-brings (writes m) c fails f = member-ready-brings w h q c m fails f
   lower-ready-brings (serves b s) c fails f = serve-brings c b s (next_call s) fails f
   lower-ready-brings recovers c fails f = tt
   lower-ready-brings ended_below c fails f = tt
 
-  pub mirror-up-brings : (l : Lower) (d : ℕ) (x : Next) (fails : Bool) → LowerFits l → NextFits x → IfSome (mirror_up l w d x fails) Brings
+  pub mirror-up-brings : (l : Lower) (d : ℕ) (x : Next) (fails : Bool) → LowerFits l → NextFits x → IfSome (mirror_up l w d x fails) (Brings w)
   mirror-up-brings idle d x fails f k = tt
-  mirror-up-brings (writes m) d x fails f k = when-each Brings (is_alive w (w.dialled d).to) _ (λ _. member-up-brings w h q d m x fails f k)
+  mirror-up-brings (writes m) d x fails f k = when-each (Brings w) w (is_alive w (w.dialled d).to) _ (λ _. member-up-brings w h q d m x fails f k)
   mirror-up-brings (serves b s) d x fails f k = tt
   mirror-up-brings recovers d x fails f k = tt
   mirror-up-brings ended_below d x fails f k = tt

@@ -31,10 +31,11 @@ pub record CanBeAsked (r : ReadOp) : Type 0 where
   pub fits : OpFits (op.Read r)
   pub encodable : IsEncodable (op.Read r)
 
--- A writer's block has a number of 64 bits, and what a reader asks for can be asked.
+-- The block of a writer or a primary that acts has a number of 64 bits, and what a reader asks for can be asked.
 abbrev pub EventFits : Event → Type 0
 EventFits (event.Own (own.Writer b takes answered)) = b.0 < 2 ^ 64
 EventFits (event.Own (own.Reader i n r answered)) = CanBeAsked r
+EventFits (event.Own (own.Recover i n b members answers)) = b.0 < 2 ^ 64
 EventFits _ = Unit {0}
 
 abbrev pub AllFit : List Event → Type 0
