@@ -58,33 +58,33 @@ in-range g w k = ranged g w k.facts k.fine.bounded k.left
 
 -- MARKS
 
-down-taken-known : (g : Givens) (w : World) (c : ℕ) (x : Next) → Known g w → Known g (down_taken w c x)
-down-taken-known g w c x k = record { facts = down-taken-facts g w c x k.facts; fine = fine; left = left }
-  where
-    fine : Fine g (down_taken w c x)
-    unfolding down_taken
-    fine = record {
-      formed = record { downs = k.fine.formed.downs; ups = k.fine.formed.ups; lowers = k.fine.formed.lowers; replicas = k.fine.formed.replicas; writers = k.fine.formed.writers; primaries = k.fine.formed.primaries };
-      bounded = record { most = k.fine.bounded.most };
-    }
+down-taken-fine : (g : Givens) (w : World) (c : ℕ) (x : Next) → Fine g w → Fine g (down_taken w c x)
+unfolding down_taken
+down-taken-fine g w c x h = record {
+  formed = record { downs = h.formed.downs; ups = h.formed.ups; lowers = h.formed.lowers; replicas = h.formed.replicas; writers = h.formed.writers; primaries = h.formed.primaries };
+  bounded = record { most = h.bounded.most };
+}
 
-    left : (down_taken w c x).office.next.0 ≤ 2 ^ 64
-    unfolding down_taken
-    left = k.left
+down-taken-left : (w : World) (c : ℕ) (x : Next) → w.office.next.0 ≤ 2 ^ 64 → (down_taken w c x).office.next.0 ≤ 2 ^ 64
+unfolding down_taken
+down-taken-left w c x left = left
+
+down-taken-known : (g : Givens) (w : World) (c : ℕ) (x : Next) → Known g w → Known g (down_taken w c x)
+down-taken-known g w c x k = record { facts = down-taken-facts g w c x k.facts; fine = down-taken-fine g w c x k.fine; left = down-taken-left w c x k.left }
+
+up-taken-fine : (g : Givens) (w : World) (c : ℕ) (x : Next) → Fine g w → Fine g (up_taken w c x)
+unfolding up_taken
+up-taken-fine g w c x h = record {
+  formed = record { downs = h.formed.downs; ups = h.formed.ups; lowers = h.formed.lowers; replicas = h.formed.replicas; writers = h.formed.writers; primaries = h.formed.primaries };
+  bounded = record { most = h.bounded.most };
+}
+
+up-taken-left : (w : World) (c : ℕ) (x : Next) → w.office.next.0 ≤ 2 ^ 64 → (up_taken w c x).office.next.0 ≤ 2 ^ 64
+unfolding up_taken
+up-taken-left w c x left = left
 
 up-taken-known : (g : Givens) (w : World) (c : ℕ) (x : Next) → Known g w → Known g (up_taken w c x)
-up-taken-known g w c x k = record { facts = up-taken-facts g w c x k.facts; fine = fine; left = left }
-  where
-    fine : Fine g (up_taken w c x)
-    unfolding up_taken
-    fine = record {
-      formed = record { downs = k.fine.formed.downs; ups = k.fine.formed.ups; lowers = k.fine.formed.lowers; replicas = k.fine.formed.replicas; writers = k.fine.formed.writers; primaries = k.fine.formed.primaries };
-      bounded = record { most = k.fine.bounded.most };
-    }
-
-    left : (up_taken w c x).office.next.0 ≤ 2 ^ 64
-    unfolding up_taken
-    left = k.left
+up-taken-known g w c x k = record { facts = up-taken-facts g w c x k.facts; fine = up-taken-fine g w c x k.fine; left = up-taken-left w c x k.left }
 
 -- CHANGES
 
@@ -112,6 +112,7 @@ up-fits w c (message m) h e = (h.ups c).at (w.up_marks c).taken m (next-sent (w.
 up-fits w c the_end h e = tt
 
 down-as-fine : (g : Givens) (w : World) (c : ℕ) (answered fails : Bool) (o : Option Next) → Known g w → next_down w c ≡ o → IfSome (down_as w c answered fails o) (Fine g)
+unfolding down_taken
 down-as-fine g w c answered fails None k e = tt
 down-as-fine g w c answered fails (Some x) k e =
     let v = down_taken w c x in
@@ -137,6 +138,7 @@ upper-brings g (by_reader i) w c x fails k n = unless-brings w fails _ (reader-u
 upper-brings g (by_primary i place) w c x fails k n = unless-brings w fails _ (primary-up-brings g w k.fine.formed k.facts (in-range g w k) i place c x)
 
 up-as-fine : (g : Givens) (w : World) (c : ℕ) (fails : Bool) (o : Option Next) → Known g w → next_up w c ≡ o → IfSome (up_as w c fails o) (Fine g)
+unfolding up_taken
 up-as-fine g w c fails None k e = tt
 up-as-fine g w c fails (Some x) k e =
     let v = up_taken w c x in

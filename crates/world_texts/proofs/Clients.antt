@@ -325,7 +325,7 @@ module _ (w : World) (h : Formed w) where
 
   reader-up-as-brings : (x : Reader) (i c : ℕ) (n : Next) → IfSome (reader_up_as x w i c n) (Brings w)
   reader-up-as-brings no_reader i c n = tt
-  reader-up-as-brings (reads d s) i c n = when-each (Brings w) w (d == c) _ (λ _. reader-turn-brings i c (take_from s (from_node_of n)) _)
+  reader-up-as-brings (reads d s) i c n = when-each (Brings w) (d == c) _ (λ _. reader-turn-brings i c (take_from s (from_node_of n)) _)
   reader-up-as-brings (has_read x) i c n = tt
 
   pub reader-up-brings : (i c : ℕ) (n : Next) → IfSome (reader_up w i c n) (Brings w)

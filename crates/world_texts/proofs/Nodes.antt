@@ -285,11 +285,11 @@ module _ (w : World) (h : Formed w) (q : Holding w) where
       member-brings c m x (step m.state r t) _ f n (after-fits r t.call (h.replicas (node_of w c) (block_of m.fields)) u.call) s.state s.sends
 
   pub member-down-brings : (c : ℕ) (m : FullMember) (x : Next) (fails : Bool) → MemberFits m → NextFits x → IfSome (member_down w c m x fails) (Brings w)
-  member-down-brings c m x fails f n = when-each (Brings w) w (takes_next m.state (pending_at w c m) x) _
+  member-down-brings c m x fails f n = when-each (Brings w) (takes_next m.state (pending_at w c m) x) _
       (λ _. turn-brings c m x (down_turn m.state (above_of x)) fails f n (down-turn-fits m.fields f.fields m.state (above_of x) (above-fits x n)))
 
   pub member-up-brings : (c : ℕ) (m : FullMember) (x : Next) (fails : Bool) → MemberFits m → NextFits x → IfSome (member_up w c m x fails) (Brings w)
-  member-up-brings c m x fails f n = when-each (Brings w) w (hears m.state) _
+  member-up-brings c m x fails f n = when-each (Brings w) (hears m.state) _
       (λ _. turn-brings c m x _ fails f n (up-turn-fits m.fields f.fields m.state _ (below_of x) f.state (oldest-fits _ (h.replicas (node_of w c) (block_of m.fields))) (below-fits x n)))
 
   ready-brings : (c : ℕ) (m : FullMember) (o : Option Turn) (fails : Bool) → MemberFits m → IfSome o (TurnFits m.fields) → IfSome (ready_change w c m o fails) (Brings w)

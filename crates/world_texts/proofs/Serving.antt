@@ -318,7 +318,7 @@ module _ (w : World) (h : Formed w) (q : Holding w) where
 
   pub mirror-up-brings : (l : Lower) (d : ℕ) (x : Next) (fails : Bool) → LowerFits l → NextFits x → IfSome (mirror_up l w d x fails) (Brings w)
   mirror-up-brings idle d x fails f k = tt
-  mirror-up-brings (writes m) d x fails f k = when-each (Brings w) w (is_alive w (w.dialled d).to) _ (λ _. member-up-brings w h q d m x fails f k)
+  mirror-up-brings (writes m) d x fails f k = when-each (Brings w) (is_alive w (w.dialled d).to) _ (λ _. member-up-brings w h q d m x fails f k)
   mirror-up-brings (serves b s) d x fails f k = tt
   mirror-up-brings recovers d x fails f k = tt
   mirror-up-brings ended_below d x fails f k = tt

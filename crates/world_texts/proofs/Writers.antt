@@ -508,7 +508,7 @@ module _ (n : ℕ) where
 
   reopened-fits : (x : WriterRecord) (s : Setup) (r : Reopened) → (r.committed.0 < 2 ^ 64) × (r.new.0 < 2 ^ 64) → RecordFits n x → RecordFits n (reopened x s r)
   reopened-fits x setup.Append r f h =
-      if-each (RecordFits n) n (nat_le r.length MAX_APPEND_LENGTH) _ x (λ e. begun-fits x _ r.length (grind (arith, nat_tests, e)) refl refl refl f.0 f.1 refl h) (λ _. h)
+      if-each (RecordFits n) (nat_le r.length MAX_APPEND_LENGTH) _ x (λ e. begun-fits x _ r.length (grind (arith, nat_tests, e)) refl refl refl f.0 f.1 refl h) (λ _. h)
   reopened-fits x setup.Create r f h = h
   reopened-fits x setup.AppendRecovery r f h = h
   reopened-fits x setup.StreamRecovery r f h = h
@@ -566,4 +566,4 @@ module _ (n : ℕ) where
   pub granted-fits : (x : WriterRecord) (r : Result OfficeAnswer OfficeFault) → AnswerStamps r → RecordFits n x → RecordFits n (granted x r)
   unfolding granted
   granted-fits x (Ok a) f h = granted-in-fits x x.phase a f h.setup h
-  granted-fits x (Err e) f h = if-each (RecordFits n) n (asks x.phase) (refused x e) x (λ _. refused-fits x e h) (λ _. h)
+  granted-fits x (Err e) f h = if-each (RecordFits n) (asks x.phase) (refused x e) x (λ _. refused-fits x e h) (λ _. h)

@@ -35,7 +35,7 @@ pub record CanBeAsked (r : ReadOp) : Type 0 where
 abbrev pub EventFits : Event → Type 0
 EventFits (event.Own (own.Writer b takes answered)) = b.0 < 2 ^ 64
 EventFits (event.Own (own.Reader i n r answered)) = CanBeAsked r
-EventFits (event.Own (own.Recover i n b members answers)) = b.0 < 2 ^ 64
+EventFits (event.Own (own.Recover i n b members dialled)) = b.0 < 2 ^ 64
 EventFits _ = Unit {0}
 
 abbrev pub AllFit : List Event → Type 0
