@@ -1,13 +1,9 @@
 -- Each message is spelled by its text after every list of events.
-use Rattle.std.proofs.Common.{◌≡◌, ℕ, ◌<◌, ◌≤◌, ◌^◌, Bool, true, false, List, [], ◌∷◌, slice_get, Option, Some, None, IfSome, refl, sym, ap, ◌∙◌, subst, arith}
+use Rattle.std.proofs.Common.{◌≡◌, ℕ, ◌≤◌, ◌^◌, Bool, true, false, List, [], ◌∷◌, Option, Some, None, IfSome, refl, sym, subst, arith}
 use Rattle.std.specs.Prelude.{◌&&◌, not, nat_lt, if◌then◌else◌}
 use Rattle.std.proofs.lemmas.Option.{none-some}
-use Rattle.hd_base.specs.SumRules.{default_rule}
-use Rattle.name_core.specs.Offices.{OfficeState}
 use Rattle.replica_model.specs.Rows.{FullReplica}
 use Rattle.replica_model.specs.Found.{Found}
-use Rattle.world.specs.declared.events.Caller.{Caller}
-use Rattle.world.specs.declared.events.Caller.TheVariants as caller
 use Rattle.world.specs.declared.events.Delivery.{Delivery}
 use Rattle.world.specs.declared.events.Delivery.TheVariants as delivery
 use Rattle.world.specs.declared.events.Direction.{Direction}
@@ -17,29 +13,29 @@ use Rattle.world.specs.declared.events.Event.TheVariants as event
 use Rattle.world.specs.declared.events.FoundReplica.{FoundReplica}
 use Rattle.world.specs.declared.events.OwnStep.{OwnStep}
 use Rattle.world.specs.declared.events.OwnStep.TheVariants as own
-use Rattle.world.specs.Parts.{Message, Upper, by_writer, by_member, by_reader, by_primary, Break}
-use Rattle.world.specs.Worlds.{World, Change, apply, put, start}
+use Rattle.world.specs.Parts.{Upper, by_writer, by_member, by_reader, by_primary, Break}
+use Rattle.world.specs.Worlds.{World, Change, apply, start}
 use Rattle.world.specs.Connections.{Next, message, the_end, next_down, next_up, down_taken, up_taken, is_served}
 use Rattle.world.specs.Nodes.{lower_down, lower_ready}
 use Rattle.world.specs.Primaries.{office_event}
 use Rattle.world.specs.Restarts.{may_find, whole_found, replica_found, restarted, all_found, restart, found_in}
 use Rattle.world.specs.Events.{changed, own_change, down_as, down_event, ready_event, unless_fails, upper_up, up_as, up_event, fault_event, lost, stop, where_so, outcome, after_event, happens, run}
-use Rattle.world_laws.specs.Stamping.{Givens, none_given, given_with, stamped_in, given_by, given_in, heard, Recorded}
+use Rattle.world_laws.specs.Stamping.{Givens, none_given, given_with, stamped_in, given_by, heard, Recorded}
 use Rattle.world_laws.specs.Carrying.{Carried}
 use Rattle.world_laws.proofs.AllCarried.{down-taken-facts, up-taken-facts, next-sent, happens-carried, reached-facts, start-carried, at-start}
 use Rattle.world_laws.proofs.AllRecorded.{happens-recorded, Reached, reached-next, reached-agreed, start-recorded}
-use Rattle.world_laws.proofs.ByteFrame.{Each, each-nil}
+use Rattle.world_laws.proofs.ByteFrame.{each-nil}
 use Rattle.world_laws.proofs.ByteLeaves.{Facts}
-use Rattle.world_laws.proofs.FactTables.{if-each, when-each, put-each}
+use Rattle.world_laws.proofs.FactTables.{when-each, put-each}
 use Rattle.world_laws.proofs.Sessions.{run-later}
 use Rattle.world_texts.specs.Texts.{Written, EventFits, AllFit}
 use Rattle.world_texts.proofs.Spelling.{MessageFits, message-spelled}
-use Rattle.world_texts.proofs.Frame.{PendingFits, ReplicaFits, RecordFits, Formed, Brings, formed-after, news-of, given_to}
+use Rattle.world_texts.proofs.Frame.{PendingFits, ReplicaFits, Formed, Brings, formed-after, news-of}
 use Rattle.world_texts.proofs.Nodes.{NextFits}
 use Rattle.world_texts.proofs.Serving.{lower-down-brings, lower-ready-brings, mirror-up-brings}
 use Rattle.world_texts.proofs.Ranges.{Ranged, holding}
 use Rattle.world_texts.proofs.Clients.{Acts, own-writer-brings, writer-up-brings, own-reader-brings, reader-up-brings}
-use Rattle.world_texts.proofs.Primaries.{Answers, WhileLeft, own-recover-brings, own-primary-brings, primary-up-brings, office-brings}
+use Rattle.world_texts.proofs.Primaries.{WhileLeft, own-recover-brings, own-primary-brings, primary-up-brings, office-brings}
 use Rattle.world_texts.proofs.Sessions.{Bounded, ranged, bounded-after, answered-bounded}
 
 -- what fits, and how many bytes there are

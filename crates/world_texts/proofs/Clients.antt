@@ -1,6 +1,6 @@
 -- What writers and readers bring.
-use Rattle.std.proofs.Common.{◌≡◌, ℕ, zero, suc, ◌+◌, ◌<◌, ◌≤◌, ◌^◌, ◌⊎◌, inl, inr, Bool, true, false, List, [], ◌∷◌, ◌++◌, length, slice_get, Option, Some, None, IfSome, Result, Ok, Err, refl, sym, ap, ◌∙◌, subst, arith}
-use Rattle.std.specs.Prelude.{◌==◌, ◌&&◌, not, nat_le, is_none, if◌then◌else◌}
+use Rattle.std.proofs.Common.{◌≡◌, ℕ, ◌+◌, ◌<◌, ◌≤◌, ◌^◌, inl, inr, Bool, true, false, List, [], ◌∷◌, length, Option, Some, None, IfSome, Result, Ok, Err, refl, sym, ◌∙◌, subst, arith}
+use Rattle.std.specs.Prelude.{◌==◌, ◌&&◌, not, nat_le, is_none}
 use Rattle.std.proofs.lemmas.Bool.{false≢true}
 use Rattle.std.proofs.lemmas.Bool.Decides.{nat_tests}
 use Rattle.hd_base.specs.declared.numbers.BlockId.{BlockId}
@@ -12,7 +12,6 @@ use Rattle.hd_base.specs.SumRules.{Rule, IsChunkSize}
 use Rattle.op_headers.specs.declared.ops.Op.{Op}
 use Rattle.op_headers.specs.declared.ops.Op.TheVariants as op
 use Rattle.op_headers.specs.declared.ops.ReadOp.{ReadOp}
-use Rattle.packet_codec.specs.declared.packets.Packet.{Packet}
 use Rattle.packet_stream.specs.Streams.{begun, written_in}
 use Rattle.packet_stream.proofs.StreamLemmas.{begun_is, begun_written, fill_length}
 use Rattle.writer_core.specs.declared.actions.Action.{Action}
@@ -27,25 +26,24 @@ use Rattle.writer_core.specs.declared.records.WriterRecord.{WriterRecord}
 use Rattle.writer_core.specs.Commands.{command_length, admitted}
 use Rattle.writer_core.specs.declared.commands.CommandFault.{CommandFault}
 use Rattle.writer_core.specs.declared.intake.Intake.{Intake}
-use Rattle.writer_core.specs.Requests.{request_for}
 use Rattle.writer_core.specs.Sound.{Sound}
-use Rattle.writer_core.specs.Transitions.{Step, given_as, given, own_step, dial_step_as, dial_step, open_step, completed_step, dialled}
+use Rattle.writer_core.specs.Transitions.{Step, given_as, given, own_step, dial_step_as, open_step, completed_step, dialled}
 use Rattle.writer_core.proofs.SoundLemmas.{given_sound}
 use Rattle.read_core.specs.declared.reading.ReadTurn.{ReadTurn}
 use Rattle.read_core.specs.declared.reading.ReadTurn.TheVariants as turn
 use Rattle.read_core.specs.Readings.{ReadTaken, take_from}
 use Rattle.world.specs.declared.events.TakenCommand.{TakenCommand}
-use Rattle.world.specs.Parts.{Message, request, packet, ack, response, read_status, recovery_answer, Told, Writing, Reader, no_reader, reads, has_read}
-use Rattle.world.specs.Worlds.{World, Dial, Change, still}
-use Rattle.world.specs.Connections.{Next, message, the_end, is_conn, sent_on}
-use Rattle.world.specs.Clients.{writer_change, did, did_step, dialled_change, dialling, rest_in, rest_change, are_distinct, are_members, is_formed, ruled, command_bytes, is_empty, takes_step, takes_given, takes_command, writer_step, own_writer, named_member, writer_hears, writer_up, reader_change, reader_dials, own_reader_as, own_reader, from_node_of, reader_turn, reader_takes, reader_up_as, reader_up}
-use Rattle.world_laws.specs.Stamping.{Givens, known_heard, heard}
+use Rattle.world.specs.Parts.{request, packet, ack, response, read_status, recovery_answer, Told, Reader, no_reader, reads, has_read}
+use Rattle.world.specs.Worlds.{World, Dial}
+use Rattle.world.specs.Connections.{Next, message, the_end, is_conn}
+use Rattle.world.specs.Clients.{writer_change, did, did_step, dialled_change, dialling, rest_in, are_distinct, are_members, is_formed, ruled, command_bytes, is_empty, takes_given, takes_command, writer_step, own_writer, named_member, writer_hears, writer_up, reader_change, reader_dials, own_reader_as, own_reader, from_node_of, reader_turn, reader_up_as, reader_up}
+use Rattle.world_laws.specs.Stamping.{known_heard, heard}
 use Rattle.world_laws.proofs.ByteFrame.{Each, each-nil, each-one}
 use Rattle.world_laws.proofs.FactTables.{when-each, and-left, and-right}
 use Rattle.world_texts.specs.Texts.{CanBeAsked}
-use Rattle.world_texts.proofs.Spelling.{PacketFits, OpValuesFit, MessageFits}
-use Rattle.world_texts.proofs.Frame.{UnackedFits, SetupStampFits, RecordFits, WriterFits, Formed, Brings, given_to, less-fits, kept-writer}
-use Rattle.world_texts.proofs.Nodes.{NextFits, sent-fits}
+use Rattle.world_texts.proofs.Spelling.{OpValuesFit, MessageFits}
+use Rattle.world_texts.proofs.Frame.{UnackedFits, SetupStampFits, RecordFits, Formed, Brings, given_to, less-fits, kept-writer}
+use Rattle.world_texts.proofs.Nodes.{sent-fits}
 use Rattle.world_texts.proofs.Writers.{CommandFits, ActionFits, StepFits, own-step-fits, open-fits, completed-fits, given-fits, given-queue, IsWriteFits, request-fits, ended-fits, acked-fits, setup-answered-fits, dialled-fits}
 
 -- WRITERS

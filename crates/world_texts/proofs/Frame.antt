@@ -1,8 +1,8 @@
 -- What fits in a world, what a change brings, and that a change which brings what fits leaves all fitting.
-use Rattle.std.proofs.Common.{◌≡◌, ℕ, ◌+◌, ◌-◌, ◌<◌, ◌≤◌, ◌^◌, ◌⊎◌, inl, inr, Bool, true, false, List, [], ◌∷◌, ◌++◌, length, slice_get, Option, Some, None, IfSome, option_map, Ok, Err, refl, sym, ap, ◌∙◌, subst, arith}
+use Rattle.std.proofs.Common.{◌≡◌, ℕ, ◌+◌, ◌-◌, ◌<◌, ◌≤◌, ◌^◌, ◌⊎◌, Bool, true, false, List, [], length, slice_get, Option, Some, None, IfSome, option_map, Ok, refl, arith}
 use Rattle.std.specs.Prelude.{◌==◌, ◌&&◌, nat_le, if◌then◌else◌}
 use Rattle.std.specs.Int.{w64}
-use Rattle.std.proofs.lemmas.Option.{none-some, same_Some}
+use Rattle.std.proofs.lemmas.Option.{none-some}
 use mir.Val.{SFits}
 use Rattle.hd_base.specs.SumRules.{IsChunkSize}
 use Rattle.name_core.specs.declared.calls.OfficeAnswer.TheVariants as office
@@ -15,8 +15,8 @@ use Rattle.replica_model.specs.Rows.{FullReplica}
 use Rattle.writer_core.specs.declared.phases.Phase.{Phase}
 use Rattle.writer_core.specs.declared.phases.Phase.TheVariants as phase
 use Rattle.writer_core.specs.declared.records.WriterRecord.{WriterRecord}
-use Rattle.world.specs.Parts.{Message, FullMember, Lower, idle, writes, serves, recovers, ended_below, Told, Writing, Leading, Primary, no_primary, was_told, leads, has_led}
-use Rattle.world.specs.Worlds.{Past, World, Dial, Change, apply, put, put_at, listed, dial_at, downs_with, ups_with}
+use Rattle.world.specs.Parts.{FullMember, Lower, writes, serves, Told, Writing, Primary, no_primary, was_told, leads, has_led}
+use Rattle.world.specs.Worlds.{World, Dial, Change, apply, put_at, listed, dial_at}
 use Rattle.world_laws.specs.Stamping.{heard}
 use Rattle.world_laws.proofs.ByteFrame.{Each, each-nil, each-one, each-append}
 use Rattle.world_laws.proofs.FactTables.{if-each, put-each}

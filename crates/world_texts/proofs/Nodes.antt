@@ -1,7 +1,6 @@
 -- What the lower ends of connections bring.
-use Rattle.std.proofs.Common.{◌≡◌, ℕ, zero, suc, ◌+◌, ◌-◌, ◌<◌, ◌≤◌, ◌^◌, Bool, true, false, List, [], ◌∷◌, ◌++◌, length, slice_get, ◌⊎◌, inl, Option, Some, None, IfSome, Result, Ok, Err, refl, sym, ap, ◌∙◌, subst, arith}
+use Rattle.std.proofs.Common.{◌≡◌, ℕ, ◌+◌, ◌-◌, ◌<◌, ◌≤◌, ◌^◌, Bool, true, false, List, [], ◌∷◌, length, slice_get, inl, Option, Some, None, IfSome, Result, Ok, Err, refl, ap, subst, arith}
 use Rattle.std.specs.Prelude.{◌==◌, nat_le, if◌then◌else◌, IfOk}
-use Rattle.std.specs.Int.{w128, to_be_bytes}
 use Rattle.std.proofs.lemmas.Bool.Decides.{nat_tests}
 use Rattle.std.proofs.Math.Nat.{min-le_right}
 use Rattle.uuid.proofs.TextLemmas.{by_index_length}
@@ -9,31 +8,23 @@ use Rattle.hd_base.specs.declared.numbers.ConnId.{ConnId}
 use Rattle.hd_base.specs.declared.numbers.NodeId.{NodeId}
 use Rattle.hd_base.specs.declared.roads.TheConstants.{FIRST_PORT}
 use Rattle.hd_base.specs.Results.{◌>>=◌}
-use Rattle.hd_base.specs.SumRules.{Rule, IsChunkSize}
+use Rattle.hd_base.specs.SumRules.{Rule}
 use Rattle.op_headers.specs.declared.nodes.NodeRef.{NodeRef}
-use Rattle.op_headers.specs.declared.ops.Op.TheVariants as op
-use Rattle.op_headers.specs.declared.ops.ReadOp.{ReadOp}
-use Rattle.op_headers.specs.declared.ops.RecoveryOp.{RecoveryOp}
 use Rattle.op_headers.specs.Values.{WriteFields}
 use Rattle.node_refs.specs.NodeRefs.{uuid_of, port_of, ref_of}
 use Rattle.replica_core.specs.declared.ack_queue.PendingPacket.{PendingPacket}
 use Rattle.replica_core.specs.declared.events.Answer.{Answer}
 use Rattle.replica_core.specs.declared.events.Answer.TheVariants as answer
 use Rattle.replica_core.specs.declared.events.Event.{Event}
-use Rattle.replica_core.specs.declared.events.Event.TheVariants as event
-use Rattle.replica_core.specs.Transitions.{Outcome, reply, answer_of, answer_to, transition}
 use Rattle.replica_core.specs.Views.{rule_in}
 use Rattle.replica_model.specs.declared.events.ReplicaEvent.{ReplicaEvent}
 use Rattle.replica_model.specs.declared.events.ReplicaEvent.TheVariants as replica_event
-use Rattle.replica_model.specs.Rows.{FullReplica, IsFull, IsOther, row, row_answer, broken}
+use Rattle.replica_model.specs.Rows.{FullReplica, IsFull, IsOther, row, row_answer}
 use Rattle.request_refusals.specs.declared.refusals.RequestRefusal.{RequestRefusal}
 use Rattle.request_refusals.specs.declared.refusals.RequestRefusal.TheVariants as refusal
 use Rattle.request_refusals.specs.Pools.{is_in_pool}
 use Rattle.member_core.specs.declared.effects.Upward.{Upward}
-use Rattle.member_core.specs.declared.effects.Upward.TheVariants as upward
 use Rattle.member_core.specs.declared.effects.SetupAnswer.TheVariants as setup_answer
-use Rattle.member_core.specs.declared.inputs.FromAbove.{FromAbove}
-use Rattle.member_core.specs.declared.inputs.FromBelow.{FromBelow}
 use Rattle.member_core.specs.declared.member.Mirror.{Mirror}
 use Rattle.member_core.specs.declared.member.Mirror.TheVariants as mirror
 use Rattle.member_core.specs.declared.requests.SetupKind.{SetupKind}
@@ -41,21 +32,21 @@ use Rattle.member_core.specs.declared.requests.SetupKind.TheVariants as setup
 use Rattle.member_core.specs.declared.requests.TheConstants.{MAX_BELOW, MAX_PORT}
 use Rattle.member_core.specs.declared.turns.Booked.TheVariants as booked
 use Rattle.member_core.specs.declared.turns.Turn.{Turn}
-use Rattle.member_core.specs.Members.{MemberState, set_up, set_up_at, mirror_for, down_turn, up_turn, takes_messages, hears, settled}
+use Rattle.member_core.specs.Members.{MemberState, set_up, set_up_at, mirror_for, down_turn, hears}
 use Rattle.member_core.specs.Requests.{setup_with, rule_for, named_setup, named_rule, setup_event, request_event, request_from, request_to, mirror_request}
 use Rattle.member_core.specs.Steps.{Step, Setup, step, faulted_step, outcome_of, oldest_at, ready_turn_at, replica_after, refused_by, refused_request, booked_request, request_at, request_step, faulted_request}
-use Rattle.world.specs.Parts.{Message, request, packet, ack, response, read_status, recovery_answer, FullMember, Lower, idle, writes, serves, recovers, ended_below, Break}
-use Rattle.world.specs.Worlds.{World, Dial, Change, still}
-use Rattle.world.specs.Connections.{Next, message, the_end, sent_on, is_alive}
-use Rattle.world.specs.Nodes.{replica_at, node_of, broke_at, block_of, closing, unless_failing, above_of, below_of, sent_up, passed, member_change, failing_turn, turn_change, takes_next, pending_at, member_down, member_up, ready_change, member_ready, is_asked, mirror_dial, mirror_node, dials_of, member_dials, mirror_conn, lower_of, setup_change, failing_write, write_request}
+use Rattle.world.specs.Parts.{Message, request, packet, ack, response, read_status, recovery_answer, FullMember, Break}
+use Rattle.world.specs.Worlds.{World, Dial}
+use Rattle.world.specs.Connections.{Next, message, the_end, sent_on}
+use Rattle.world.specs.Nodes.{replica_at, node_of, block_of, closing, unless_failing, above_of, below_of, sent_up, passed, member_change, failing_turn, turn_change, takes_next, pending_at, member_down, member_up, ready_change, member_ready, is_asked, mirror_dial, mirror_node, dials_of, member_dials, lower_of, setup_change, failing_write, write_request}
 use Rattle.world_laws.proofs.ByteFrame.{Each, each-nil, each-one}
 use Rattle.world_laws.proofs.FactTables.{if-each, when-each}
 use Rattle.world_laws.proofs.Lawful.{request-other}
-use Rattle.world_texts.proofs.Spelling.{ResponseFits, NodeFits, NodesFit, WriteFits, MessageFits}
+use Rattle.world_texts.proofs.Spelling.{NodeFits, NodesFit, WriteFits, MessageFits}
 use Rattle.world_texts.proofs.Frame.{StateFits, MemberFits, LowerFits, PendingFits, ReplicaFits, Formed, Brings, kept-writer}
 use Rattle.world_texts.proofs.Rows.{CallFits, row-fits, broken-fits}
-use Rattle.world_texts.proofs.Refusals.{IsNumber, RefusalFits, RequestRefusalFits, InfoNumbers, EventNumbers, AnswerNumbers, answer-numbers}
-use Rattle.world_texts.proofs.Turns.{UpFits, TurnFits, AboveFits, BelowFits, SettledFits, down-turn-fits, up-turn-fits, ready-turn-fits, settled-fits, answer-fits}
+use Rattle.world_texts.proofs.Refusals.{RequestRefusalFits, InfoNumbers, EventNumbers, AnswerNumbers, answer-numbers}
+use Rattle.world_texts.proofs.Turns.{UpFits, TurnFits, AboveFits, BelowFits, down-turn-fits, up-turn-fits, ready-turn-fits, settled-fits, answer-fits}
 
 -- WHAT REPLICAS HOLD
 
@@ -63,7 +54,6 @@ use Rattle.world_texts.proofs.Turns.{UpFits, TurnFits, AboveFits, BelowFits, Set
 pub record Holding (w : World) : Type 0 where
   pub infos : (n b : ℕ) → IfSome (w.replicas n b).known.info InfoNumbers
   pub full : (n b : ℕ) → IsFull (w.replicas n b)
-
 
 -- WHAT IS TAKEN AND SENT
 

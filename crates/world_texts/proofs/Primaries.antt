@@ -1,10 +1,8 @@
 -- What primaries bring, and what the office answers.
-use Rattle.std.proofs.Common.{◌≡◌, ℕ, zero, suc, ◌+◌, ◌<◌, ◌≤◌, ◌^◌, ◌⊎◌, inl, inr, Bool, true, false, List, [], ◌∷◌, length, slice_get, Option, Some, None, IfSome, Result, Ok, Err, refl, sym, ap, ◌∙◌, subst, arith}
+use Rattle.std.proofs.Common.{◌≡◌, ℕ, ◌+◌, ◌<◌, ◌≤◌, ◌^◌, inl, Bool, true, false, List, [], ◌∷◌, length, slice_get, Option, Some, None, IfSome, Result, Ok, Err, refl, sym, ap, subst, arith}
 use Rattle.std.specs.Prelude.{◌==◌, ◌&&◌, is_none, zip, if◌then◌else◌}
-use Rattle.std.proofs.lemmas.Bool.{false≢true}
 use Rattle.hd_base.specs.declared.numbers.BlockId.{BlockId}
 use Rattle.hd_base.specs.declared.numbers.NodeId.{NodeId}
-use Rattle.hd_base.specs.declared.numbers.Stamp.{Stamp}
 use Rattle.name_core.specs.declared.calls.Begun.{Begun}
 use Rattle.name_core.specs.declared.calls.OfficeAnswer.{OfficeAnswer}
 use Rattle.name_core.specs.declared.calls.OfficeAnswer.TheVariants as office
@@ -12,10 +10,9 @@ use Rattle.name_core.specs.declared.calls.OfficeCall.{OfficeCall}
 use Rattle.name_core.specs.declared.calls.OfficeCall.TheVariants as call
 use Rattle.name_core.specs.declared.choice.ChooseFault.{ChooseFault}
 use Rattle.name_core.specs.declared.choice.Chosen.{Chosen}
-use Rattle.name_core.specs.declared.faults.OfficeFault.{OfficeFault}
 use Rattle.name_core.specs.declared.records.BlockRecord.{BlockRecord}
 use Rattle.name_core.specs.Choice.{choice}
-use Rattle.name_core.specs.Offices.{OfficeState, record_of, office_after, answer_to, office_case}
+use Rattle.name_core.specs.Offices.{OfficeState, record_of, answer_to, office_case}
 use Rattle.name_core.specs.Steps.{Step, state_after, reply}
 use Rattle.name_core.proofs.CaseLemmas.{each_case}
 use Rattle.op_headers.specs.declared.nodes.NodeRef.{NodeRef}
@@ -29,31 +26,30 @@ use Rattle.recovery_core.specs.declared.primary.Phase.{Phase}
 use Rattle.recovery_core.specs.declared.primary.Phase.TheVariants as phase
 use Rattle.recovery_core.specs.declared.standings.Heard.{Heard}
 use Rattle.recovery_core.specs.declared.standings.Standing.{Standing}
-use Rattle.recovery_core.specs.Primaries.{PrimaryState, OwnTaken, taken, begun_with, infos, updated_members, choosing, committing, own_at, own_step, waits, request_of, heard_as, heard_at, is_among, shuts_at}
+use Rattle.recovery_core.specs.Primaries.{PrimaryState, OwnTaken, taken, begun_with, infos, updated_members, choosing, committing, own_at, own_step, waits, request_of, heard_as, heard_at, is_among}
 use Rattle.writer_core.specs.declared.actions.Action.{Action}
 use Rattle.writer_core.specs.declared.actions.Action.TheVariants as action
 use Rattle.writer_core.specs.Transitions as writer
 use Rattle.world.specs.declared.events.Caller.{Caller}
 use Rattle.world.specs.declared.events.Caller.TheVariants as caller
-use Rattle.world.specs.Parts.{Message, request, Place, Told, Writing, Leading, Primary, no_primary, was_told, leads, has_led}
-use Rattle.world.specs.Worlds.{Past, World, Dial, Change, put, past_after, apply}
+use Rattle.world.specs.Parts.{Message, request, Place, Told, Leading, Primary, no_primary, was_told, leads, has_led}
+use Rattle.world.specs.Worlds.{World, Dial, Change, put, past_after, apply}
 use Rattle.world.specs.Connections.{Next, is_alive, is_conn, place_of}
 use Rattle.world.specs.Clients.{are_members}
-use Rattle.world.specs.Primaries.{primary_change, dials_answered, primary_dials, recovery_message, begins_with, begins_as, begins_at, own_recover, updates_on, updates_change, ends_change, leads_step, commits_step, leads_told, own_primary_as, own_primary, heard_of, listens, hears_change, primary_up_as, primary_up, office_change, asks_writer, asks_primary, writer_asks, writer_asks_office, primary_commits, primary_asks, office_event}
-use Rattle.world_laws.specs.Stamping.{Givens, known_heard, heard, Recorded}
+use Rattle.world.specs.Primaries.{primary_change, dials_answered, primary_dials, begins_with, begins_as, begins_at, own_recover, updates_on, updates_change, leads_step, commits_step, leads_told, own_primary_as, own_primary, heard_of, listens, hears_change, primary_up_as, primary_up, asks_writer, asks_primary, writer_asks, primary_commits, primary_asks, office_event}
+use Rattle.world_laws.specs.Stamping.{Givens, known_heard, heard}
 use Rattle.world_laws.specs.Carrying.{PrimarySays, LeadingSays, PhaseSays, LiesIn}
 use Rattle.world_laws.proofs.ByteAsking.{Keeps}
 use Rattle.world_laws.proofs.ByteFrame.{Each, each-nil, each-one, each-cons, unwritten}
 use Rattle.world_laws.proofs.ByteLeading.{own-primary-keeps}
 use Rattle.world_laws.proofs.ByteLeaves.{Facts}
 use Rattle.world_laws.proofs.ByteOffices.{Answered}
-use Rattle.world_laws.proofs.FactTables.{if-each, when-each, and-left, and-right}
+use Rattle.world_laws.proofs.FactTables.{if-each, when-each}
 use Rattle.world_laws.proofs.StampGivens.{put-here}
 use Rattle.world_laws.proofs.StampRecording.{known-of}
 use Rattle.world_texts.proofs.Spelling.{RecoveryFits, MessageFits}
 use Rattle.world_texts.proofs.Frame.{ToldFits, PrimaryFits, RecordFits, Formed, Brings, News, given_to, less-fits, kept-writer}
-use Rattle.world_texts.proofs.Refusals.{IsNumber}
-use Rattle.world_texts.proofs.Ranges.{Ranged, given-number, lies-number}
+use Rattle.world_texts.proofs.Ranges.{Ranged, given-number}
 use Rattle.world_texts.proofs.Writers.{AnswerStamps, granted-fits}
 use Rattle.world_texts.proofs.Clients.{none-told}
 
@@ -283,7 +279,7 @@ module _ (g : Givens) (w : World) (h : Formed w) (f : Facts g w) (r : Ranged g w
   asks-writer-brings : (b : ℕ) (c : OfficeCall) → (w.writers b).told ≡ None → WhileLeft (asks_writer w b c)
   asks-writer-brings b c none left =
       let same : RecordFits (given_to w b) (w.writers b).known =
-          subst (λ (o : Option Told). RecordFits (given_to w b) (known_heard (w.writers b).known o)) none (less-fits (given_to w b) (given_to w b + 0) (heard (w.writers b)) (omega arith) (kept-writer w h b)) in
+      subst (λ (o : Option Told). RecordFits (given_to w b) (known_heard (w.writers b).known o)) none (less-fits (given_to w b) (given_to w b + 0) (heard (w.writers b)) (omega arith) (kept-writer w h b)) in
       let after = granted-fits (given_to w b) (w.writers b).known (answer_to w.office c) (answer-stamps c left) same in
       record {
         asked = c;

@@ -1,14 +1,14 @@
 -- The numbers of what a world holds, where the stamps and the sessions' lengths have 64 bits.
-use Rattle.std.proofs.Common.{◌≡◌, ℕ, ◌<◌, ◌≤◌, ◌^◌, List, length, Option, Some, None, IfSome, refl, sym, ap, ◌∙◌, subst, arith}
+use Rattle.std.proofs.Common.{◌≡◌, ℕ, ◌≤◌, ◌^◌, List, length, Option, Some, None, IfSome, refl, arith}
 use Rattle.hd_base.specs.declared.numbers.Stamp.{Stamp}
 use Rattle.packet_stream.specs.declared.extents.TheConstants.{BLOCK_LIMIT}
 use Rattle.replica_core.specs.declared.info.ReplicaInfo.{ReplicaInfo}
 use Rattle.replica_core.specs.Sound.{IsConsistent}
 use Rattle.replica_core.specs.Views.{written_at}
-use Rattle.replica_model.specs.Rows.{FullReplica, IsFull}
-use Rattle.world.specs.Worlds.{Past, World}
+use Rattle.replica_model.specs.Rows.{FullReplica}
+use Rattle.world.specs.Worlds.{World}
 use Rattle.world_laws.specs.Stamping.{Givens}
-use Rattle.world_laws.specs.Carrying.{LiesIn, Under, Holds}
+use Rattle.world_laws.specs.Carrying.{Under, Holds}
 use Rattle.world_laws.proofs.ByteLeaves.{Facts}
 use Rattle.world_laws.proofs.Fronts.{front-length}
 use Rattle.world_texts.proofs.Refusals.{IsNumber, InfoNumbers}
@@ -22,9 +22,6 @@ pub record Ranged (g : Givens) (w : World) : Type 0 where
 module _ (g : Givens) (w : World) (h : Facts g w) (r : Ranged g w) where
   pub given-number : (b t e : ℕ) → g b t ≡ Some e → IsNumber t
   given-number b t e q = omega (arith, h.recorded.below b t e q, r.stamps)
-
-  pub lies-number : (id : Stamp) (n : ℕ) → LiesIn g w.past id n → IsNumber n
-  lies-number id n l = omega (arith, l.within, r.lengths l.block id.0 l.session l.given)
 
   under-length : (b : ℕ) (t : Stamp) (v : List ℕ) → Under g w.past b t v → IsNumber (length v)
   under-length b t v u = omega (arith, front-length v (w.written u.session) u.front, r.lengths b t.0 u.session u.given)

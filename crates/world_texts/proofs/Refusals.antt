@@ -1,13 +1,12 @@
 -- The texts of refusals are short.
-use Rattle.std.proofs.Common.{◌≡◌, ℕ, zero, suc, ◌+◌, ◌-◌, ◌<◌, ◌≤◌, ◌^◌, Bool, true, false, List, [], ◌∷◌, ◌++◌, length, slice_get, Option, Some, None, IfSome, Result, Ok, Err, ℤ, refl, sym, ap, ◌∙◌, subst, arith, length-append}
-use Rattle.std.specs.Prelude.{◌==◌, ◌&&◌, ◌||◌, not, nat_le, nat_lt, is_none, if◌then◌else◌, decimal, IfErr, IfOk}
+use Rattle.std.proofs.Common.{ℕ, ◌+◌, ◌-◌, ◌<◌, ◌≤◌, ◌^◌, Bool, true, false, List, ◌++◌, length, Option, Some, None, IfSome, Result, Ok, Err, arith, length-append}
+use Rattle.std.specs.Prelude.{◌==◌, ◌&&◌, ◌||◌, not, nat_le, nat_lt, is_none, decimal}
 use Rattle.std.proofs.lemmas.Fmt.{length-decimal-le}
 use Rattle.hd_base.specs.declared.numbers.ConnId.{ConnId}
 use Rattle.hd_base.specs.declared.numbers.Stamp.{Stamp}
 use Rattle.hd_base.specs.declared.states.ReplicaState.{ReplicaState}
 use Rattle.hd_base.specs.declared.states.ReplicaState.TheVariants as state
 use Rattle.hd_base.specs.Results.{◌>>=◌}
-use Rattle.hd_base.specs.SumRules.{Rule}
 use Rattle.hd_base.specs.Wire.{state_number}
 use Rattle.replica_core.specs.declared.records.ReplicaRecord.{ReplicaRecord}
 use Rattle.replica_core.specs.declared.events.Answer.{Answer}
@@ -18,8 +17,8 @@ use Rattle.replica_core.specs.declared.info.ReplicaInfo.{ReplicaInfo}
 use Rattle.replica_core.specs.declared.refusals.Refusal.{Refusal}
 use Rattle.replica_core.specs.declared.refusals.Refusal.TheVariants as refusal
 use Rattle.replica_core.specs.Refusals.{check, refusal_number}
-use Rattle.replica_core.specs.Transitions.{Taken, Outcome, done, reply, answer_of, answer_to, there, present, set_writer, with_writer, new_transition, transition}
-use Rattle.replica_core.specs.Info.{is_finalized, is_rbw, is_temporary, state_of, is_within, reopen, recover_setup, recover_stream, settled_at, cut_to_acked, begin_recovery, end_recovery, within, readable, visible_under, visible_of, is_free_for, holder}
+use Rattle.replica_core.specs.Transitions.{Taken, Outcome, done, reply, answer_of, answer_to, there, present, set_writer, with_writer, transition}
+use Rattle.replica_core.specs.Info.{is_finalized, is_rbw, is_temporary, state_of, is_within, reopen, recover_setup, recover_stream, settled_at, cut_to_acked, begin_recovery, end_recovery, readable, visible_under, visible_of, is_free_for, holder}
 use Rattle.request_refusals.specs.declared.refusals.RequestRefusal.{RequestRefusal}
 use Rattle.request_refusals.specs.declared.refusals.RequestRefusal.TheVariants as request
 use Rattle.request_refusals.specs.Texts.{request_refusal_number, spaced, kept_text, values_text, refusal_text}
@@ -116,8 +115,12 @@ number-few (request.TooMany targets) = omega arith
 
 pub refusal-few : (r : RequestRefusal) → RequestRefusalFits r → length (refusal_text r) ≤ 200
 refusal-few r h =
-    omega (arith, length-append (decimal (request_refusal_number r)) (values_text r), values-few r h,
-    length-decimal-le 20 (request_refusal_number r) (omega arith) (omega (arith, number-few r)) (omega (arith, number-few r)))
+    omega (
+      arith,
+      length-append (decimal (request_refusal_number r)) (values_text r),
+      values-few r h,
+      length-decimal-le 20 (request_refusal_number r) (omega arith) (omega (arith, number-few r)) (omega (arith, number-few r)),
+    )
 
 -- WHAT A REPLICA REFUSES
 

@@ -1,39 +1,29 @@
 -- What events leave pending at a replica, and the texts of refusals.
-use Rattle.std.proofs.Common.{◌≡◌, ℕ, zero, suc, ◌+◌, ◌<◌, ◌≤◌, ◌^◌, Bool, true, false, List, [], ◌∷◌, ◌++◌, length, drop, slice_get, Option, Some, None, IfSome, option_map, Result, Ok, Err, ℤ, refl, sym, ap, ◌∙◌, subst, arith, length-append}
-use Rattle.std.specs.Prelude.{◌==◌, ◌&&◌, ◌||◌, not, nat_le, nat_lt, is_none, if◌then◌else◌, decimal, negsuc, IfOk, IfErr}
+use Rattle.std.proofs.Common.{ℕ, Bool, true, false, List, [], ◌∷◌, drop, slice_get, Option, Some, None, Result, Ok, Err}
+use Rattle.std.specs.Prelude.{◌==◌, ◌&&◌, not, is_none, negsuc, IfOk}
 use Rattle.std.specs.Int.{w64}
 use Rattle.std.specs.Ordering.{int_eq}
-use Rattle.std.proofs.lemmas.Fmt.{length-decimal-le}
-use Rattle.std.proofs.lemmas.Option.{none-some, same_Some}
 use mir.Val.{SFits}
 use Rattle.hd_base.specs.declared.numbers.ConnId.{ConnId}
-use Rattle.hd_base.specs.declared.numbers.Stamp.{Stamp}
-use Rattle.hd_base.specs.declared.states.ReplicaState.{ReplicaState}
 use Rattle.hd_base.specs.declared.states.ReplicaState.TheVariants as state
 use Rattle.hd_base.specs.Results.{◌>>=◌}
-use Rattle.hd_base.specs.Wire.{state_number}
 use Rattle.hd_base.specs.SumRules.{Rule}
-use Rattle.packet_codec.specs.declared.packets.Packet.{Packet}
 use Rattle.replica_core.specs.declared.records.ReplicaRecord.{ReplicaRecord}
 use Rattle.replica_core.specs.declared.ack_queue.PendingPacket.{PendingPacket}
-use Rattle.replica_core.specs.declared.events.Answer.{Answer}
-use Rattle.replica_core.specs.declared.events.Answer.TheVariants as answer
 use Rattle.replica_core.specs.declared.events.Event.{Event}
 use Rattle.replica_core.specs.declared.events.Event.TheVariants as event
 use Rattle.replica_core.specs.declared.info.ReplicaInfo.{ReplicaInfo}
 use Rattle.replica_core.specs.declared.extents.PacketExtent.{PacketExtent}
 use Rattle.replica_core.specs.declared.refusals.Refusal.{Refusal}
-use Rattle.replica_core.specs.declared.refusals.Refusal.TheVariants as refusal
-use Rattle.replica_core.specs.declared.refusals.PieceRule.TheVariants as rule
 use Rattle.replica_core.specs.declared.streams.Stream.{Stream}
-use Rattle.replica_core.specs.Refusals.{check, refusal_number}
+use Rattle.replica_core.specs.Refusals.{check}
 use Rattle.replica_core.specs.Views.{rule_in}
-use Rattle.replica_core.specs.Extents.{heartbeat_of, stream_after, start_of, place_check, unless_bad, packet_at, pending_of, sum_count, chunk_start}
-use Rattle.replica_core.specs.Transitions.{Taken, Outcome, done, record_after, present, set_writer, with_writer, new_transition, append_transition, append_recovery_transition, stream_recovery_transition, close_recovery_transition, stream_by, enqueue, extend, extent_transition, packet_transition, acknowledge, oldest_of, ack_transition, is_written_by, end_connection, init_transition, update_transition, read_transition, give_transition, mark_broken, transition}
+use Rattle.replica_core.specs.Extents.{heartbeat_of, stream_after, start_of, place_check, unless_bad, packet_at, pending_of, sum_count}
+use Rattle.replica_core.specs.Transitions.{Taken, Outcome, record_after, present, with_writer, stream_by, enqueue, extent_transition, acknowledge, oldest_of, is_written_by, transition}
 use Rattle.replica_core.specs.Info.{reopen, recover_setup, recover_stream, begin_recovery, end_recovery, readable, visible_of, given}
 use Rattle.replica_model.specs.declared.events.ReplicaEvent.{ReplicaEvent}
 use Rattle.replica_model.specs.declared.events.ReplicaEvent.TheVariants as replica_event
-use Rattle.replica_model.specs.Rows.{FullReplica, IsOther, IsWithBytes, record_event, event_at, row, broken}
+use Rattle.replica_model.specs.Rows.{FullReplica, IsOther, record_event, event_at, row, broken}
 use Rattle.world_laws.proofs.ByteFrame.{Each, each-nil, each-one, each-tail, each-append}
 use Rattle.world_laws.proofs.FactTables.{if-each}
 use Rattle.world_texts.proofs.Frame.{PendingFits, ReplicaFits}

@@ -1,16 +1,12 @@
 -- What reads that are served and members of recoveries bring, and each lower end.
-use Rattle.std.proofs.Common.{◌≡◌, ℕ, zero, suc, ◌+◌, ◌-◌, ◌*◌, ◌/◌, ◌<◌, ◌≤◌, ◌^◌, Bool, true, false, List, [], ◌∷◌, length, take, drop, ◌⊎◌, inl, Option, Some, None, IfSome, Result, Ok, Err, refl, sym, ap, ◌∙◌, subst, arith}
-use Rattle.std.specs.Prelude.{◌==◌, if◌then◌else◌, min, max, option_map, IfOk}
-use Rattle.std.specs.Int.{w64, cast_signed}
+use Rattle.std.proofs.Common.{ℕ, ◌-◌, ◌*◌, ◌/◌, ◌≤◌, Bool, true, false, List, [], ◌∷◌, length, drop, inl, Option, Some, None, IfSome, Result, Ok, Err, refl, arith}
+use Rattle.std.specs.Prelude.{◌==◌, if◌then◌else◌, max, option_map, IfOk}
 use Rattle.std.proofs.Math.Nat.{min-le_right}
 use Rattle.std.proofs.lemmas.List.{length-take}
-use Rattle.hd_base.specs.declared.numbers.Stamp.{Stamp}
-use Rattle.hd_base.specs.declared.states.ReplicaState.{ReplicaState}
 use Rattle.hd_base.specs.declared.states.Status.TheVariants as status
 use Rattle.hd_base.specs.declared.sum_rule.SumKind.{SumKind}
 use Rattle.hd_base.specs.declared.sum_rule.SumKind.TheVariants as sum_kind
 use Rattle.hd_base.specs.SumRules.{Rule, IsChunkSize, kind_number}
-use Rattle.packet_codec.specs.declared.packets.Packet.{Packet}
 use Rattle.op_headers.specs.declared.ops.Op.TheVariants as op
 use Rattle.op_headers.specs.declared.ops.ReadOp.{ReadOp}
 use Rattle.op_headers.specs.declared.ops.RecoveryKind.{RecoveryKind}
@@ -25,18 +21,18 @@ use Rattle.replica_core.specs.declared.info.ReplicaInfo.{ReplicaInfo}
 use Rattle.replica_core.specs.Views.{rule_in}
 use Rattle.replica_model.specs.declared.events.ReplicaEvent.{ReplicaEvent}
 use Rattle.replica_model.specs.declared.events.ReplicaEvent.TheVariants as replica_event
-use Rattle.replica_model.specs.Rows.{FullReplica, IsFull, IsOther, row, row_answer}
+use Rattle.replica_model.specs.Rows.{FullReplica, IsFull, IsOther, row_answer}
 use Rattle.request_refusals.specs.declared.refusals.RequestRefusal.{RequestRefusal}
 use Rattle.request_refusals.specs.declared.refusals.RequestRefusal.TheVariants as refusal
 use Rattle.request_refusals.specs.Pools.{is_in_pool}
 use Rattle.read_core.specs.declared.serving.ServePhase.{ServePhase}
 use Rattle.read_core.specs.declared.serving.ServePhase.TheVariants as phase
-use Rattle.read_core.specs.Servings.{ServingState, Piece, chunk_start, most_bytes, read_event, begun, piece_len, sent_before, piece_event, next_call, packet_of, piece_of, gone_on, sent_in, sent, over, accepting, refusing, begun_as, begun_at, read_at, faulted_read, early_end, piece_as, piece_at}
+use Rattle.read_core.specs.Servings.{ServingState, most_bytes, read_event, begun, piece_len, sent_before, piece_event, next_call, packet_of, piece_of, gone_on, sent_in, sent, accepting, refusing, begun_as, begun_at, read_at, faulted_read, piece_as}
 use Rattle.recovery_core.specs.declared.members.RecoveryReply.{RecoveryReply}
 use Rattle.recovery_core.specs.declared.members.RecoveryReply.TheVariants as reply
-use Rattle.recovery_core.specs.Members.{Served, init_event, step_event, recovery_event, reply_to, answer_of, served_as, serve, serve_faulted}
-use Rattle.world.specs.Parts.{Message, request, packet, ack, response, read_status, recovery_answer, FullMember, Lower, idle, writes, serves, recovers, ended_below, Break}
-use Rattle.world.specs.Worlds.{World, Dial, Change, still}
+use Rattle.recovery_core.specs.Members.{Served, step_event, recovery_event, reply_to, answer_of, served_as, serve, serve_faulted}
+use Rattle.world.specs.Parts.{Message, request, packet, ack, response, read_status, recovery_answer, Lower, idle, writes, serves, recovers, ended_below, Break}
+use Rattle.world.specs.Worlds.{World, Dial, still}
 use Rattle.world.specs.Connections.{Next, message, the_end, is_alive, sent_on}
 use Rattle.world.specs.Nodes.{node_of, replica_at, closing, unless_failing, breaking, read_change, failing_read, read_request, serve_change, recovery_change, failing_recovery, recovery_request, first_message, next_recovery, lower_down, lower_ready, mirror_up}
 use Rattle.world.specs.Nodes as nodes
@@ -46,10 +42,10 @@ use Rattle.world_laws.proofs.Lawful.{recovery-other}
 use Rattle.world_texts.specs.Texts.{CanBeAsked}
 use Rattle.world_texts.proofs.Spelling.{ResponseFits, PacketFits, RecoveryFits, AnswerFits, MessageFits}
 use Rattle.world_texts.proofs.Sums.{SumsFit, sums-fit, most-few, cast-fits}
-use Rattle.world_texts.proofs.Frame.{MemberFits, LowerFits, ReplicaFits, Formed, Brings, kept-writer}
+use Rattle.world_texts.proofs.Frame.{LowerFits, ReplicaFits, Formed, Brings, kept-writer}
 use Rattle.world_texts.proofs.Rows.{row-fits, broken-fits}
 use Rattle.world_texts.proofs.Refusals.{IsNumber, RequestRefusalFits, EventNumbers, AnswerNumbers, refusal-few}
-use Rattle.world_texts.proofs.Turns.{plain-fits, failing-fits}
+use Rattle.world_texts.proofs.Turns.{plain-fits}
 use Rattle.world_texts.proofs.Nodes.{Holding, NextFits, At, here, answer-of-row, sent-fits, closing-brings, unless-brings, member-down-brings, member-up-brings, member-ready-brings, write-brings}
 
 -- READS

@@ -1,6 +1,6 @@
 -- No session has more bytes than the writer of its block was given.
-use Rattle.std.proofs.Common.{◌≡◌, ℕ, zero, suc, ◌+◌, ◌<◌, ◌≤◌, ◌^◌, ◌⊎◌, inl, inr, Bool, true, false, List, [], ◌∷◌, ◌++◌, length, take, Option, Some, None, IfSome, Ok, Err, refl, sym, ap, ◌∙◌, subst, arith, length-append, eqb-true}
-use Rattle.std.specs.Prelude.{◌==◌, if◌then◌else◌}
+use Rattle.std.proofs.Common.{◌≡◌, ℕ, ◌+◌, ◌<◌, ◌≤◌, ◌^◌, ◌⊎◌, inl, inr, Bool, true, false, List, [], ◌++◌, length, Option, Some, None, IfSome, Err, sym, ap, ◌∙◌, subst, arith, length-append, eqb-true}
+use Rattle.std.specs.Prelude.{◌==◌}
 use Rattle.std.proofs.lemmas.List.{length-take}
 use Rattle.std.proofs.lemmas.Bool.Decides.{nat_tests}
 use Rattle.std.proofs.lemmas.Option.{none-some}
@@ -8,13 +8,12 @@ use Rattle.hd_base.specs.declared.numbers.BlockId.{BlockId}
 use Rattle.name_core.specs.declared.calls.OfficeAnswer.{OfficeAnswer}
 use Rattle.name_core.specs.declared.calls.OfficeCall.{OfficeCall}
 use Rattle.name_core.specs.declared.records.BlockRecord.{BlockRecord}
-use Rattle.name_core.specs.Offices.{OfficeState, record_of, answer_to, office_case}
+use Rattle.name_core.specs.Offices.{OfficeState, record_of, office_case}
 use Rattle.name_core.specs.Steps.{Step, reply}
 use Rattle.name_core.proofs.CaseLemmas.{each_case}
-use Rattle.packet_stream.specs.declared.extents.TheConstants.{BLOCK_LIMIT}
 use Rattle.writer_core.specs.declared.records.WriterRecord.{WriterRecord}
 use Rattle.world.specs.Parts.{Writing}
-use Rattle.world.specs.Worlds.{World, Stamped, Change, put, add, past_after, apply}
+use Rattle.world.specs.Worlds.{World, Stamped, Change, put, add, apply}
 use Rattle.world.specs.Primaries.{stamped_by, base_of, session_begun}
 use Rattle.world_laws.specs.Stamping.{Givens, given_with, heard, Entries, HeldOf, Recorded}
 use Rattle.world_laws.proofs.ByteLeaves.{Facts, before-of}

@@ -1,11 +1,10 @@
 -- Messages whose values fit are spelled by their texts.
-use Rattle.std.proofs.Common.{◌≡◌, ℕ, zero, suc, ◌+◌, ◌*◌, ◌%◌, ◌^◌, ◌<◌, ◌≤◌, List, [], ◌∷◌, ◌++◌, length, Option, Some, None, IfSome, IsSome, Ok, ℤ, pos, negsuc, refl, sym, ap, ◌∙◌, subst, arith, append-nil, length-append}
+use Rattle.std.proofs.Common.{◌≡◌, ℕ, suc, ◌+◌, ◌*◌, ◌%◌, ◌^◌, ◌<◌, ◌≤◌, List, [], ◌∷◌, length, Option, Some, None, IfSome, IsSome, Ok, ℤ, pos, negsuc, refl, sym, ap, subst, arith, append-nil, length-append}
 use Rattle.std.specs.Prelude.{All, Bool, true, false}
 use Rattle.std.specs.List.{flat_map}
 use Rattle.std.specs.Int.{w64}
 use mir.Val.{SFits}
 use Rattle.hd_base.specs.declared.states.Status.{Status}
-use Rattle.hd_base.specs.declared.states.Status.TheVariants as status
 use Rattle.hd_base.specs.Wire.{IsStatus, status_number}
 use Rattle.ack_codec.specs.declared.acks.Ack.{Ack}
 use Rattle.ack_codec.specs.declared.responses.Response.{Response}
@@ -25,7 +24,7 @@ use Rattle.op_headers.specs.declared.ops.Op.{Op}
 use Rattle.op_headers.specs.declared.ops.Op.TheVariants as op
 use Rattle.op_headers.specs.Values.{WriteFields}
 use Rattle.op_headers.specs.Tables.{EachFits}
-use Rattle.op_headers.specs.Formats.{block_format, node_format}
+use Rattle.op_headers.specs.Formats.{node_format}
 use Rattle.op_headers.specs.Requests.{SpellsOp, OpFits, IsLawfulStep, op_message, op_text}
 use Rattle.op_headers.specs.Room.{nodes_room, source_room}
 use Rattle.op_headers.proofs.FormatLemmas.{node_fits, block_fits, WriteNumbersFit, write_fits, recovery_fits}
@@ -66,8 +65,12 @@ replies-few : (rs : List Status) → All (λ s. status_number s < 2 ^ 32) rs →
 unfolding reply_text
 replies-few [] low = omega arith
 replies-few (s ∷ rs) low =
-    omega (arith, length-append (reply_text s) (flat_map reply_text rs), varint_field_few 2 (status_number s) (omega arith) (low 0 s (omega arith)),
-    replies-few rs (λ k d h. low (suc k) d (omega arith)))
+    omega (
+      arith,
+      length-append (reply_text s) (flat_map reply_text rs),
+      varint_field_few 2 (status_number s) (omega arith) (low 0 s (omega arith)),
+      replies-few rs (λ k d h. low (suc k) d (omega arith)),
+    )
 
 message-few : (a : Ack) → AckFits a → length (ack_message a) ≤ 107
 unfolding ack_message

@@ -1,6 +1,6 @@
 -- What members say in their turns fits, and so do members afterwards.
-use Rattle.std.proofs.Common.{◌≡◌, ℕ, zero, suc, ◌+◌, ◌<◌, ◌≤◌, ◌^◌, Bool, true, false, List, [], ◌∷◌, ◌++◌, length, Option, Some, None, IfSome, ℤ, refl, sym, ap, ◌∙◌, subst, arith, length-append}
-use Rattle.std.specs.Prelude.{All, ◌==◌, ◌&&◌, ◌||◌, nat_lt, if◌then◌else◌, decimal, IsSome}
+use Rattle.std.proofs.Common.{◌≡◌, ℕ, suc, ◌+◌, ◌<◌, ◌≤◌, ◌^◌, Bool, true, false, List, [], ◌∷◌, ◌++◌, length, Option, Some, None, IfSome, ℤ, arith, length-append}
+use Rattle.std.specs.Prelude.{All, ◌==◌, decimal}
 use Rattle.std.specs.Int.{w64}
 use Rattle.std.specs.Ordering.{int_eq}
 use Rattle.std.proofs.lemmas.Bool.{false≢true}
@@ -26,7 +26,6 @@ use Rattle.member_core.specs.declared.effects.SetupAnswer.TheVariants as answer
 use Rattle.member_core.specs.declared.effects.Shuts.{Shuts}
 use Rattle.member_core.specs.declared.effects.Shuts.TheVariants as shuts
 use Rattle.member_core.specs.declared.effects.Upward.{Upward}
-use Rattle.member_core.specs.declared.effects.Upward.TheVariants as upward
 use Rattle.member_core.specs.declared.inputs.FromAbove.{FromAbove}
 use Rattle.member_core.specs.declared.inputs.FromAbove.TheVariants as above
 use Rattle.member_core.specs.declared.inputs.FromBelow.{FromBelow}
@@ -39,11 +38,11 @@ use Rattle.member_core.specs.declared.turns.Side.{Side}
 use Rattle.member_core.specs.declared.turns.Side.TheVariants as side
 use Rattle.member_core.specs.declared.turns.Turn.{Turn}
 use Rattle.member_core.specs.Acks.{is_success, failures, begins_with_bad_sum, are_replies, is_read, with_own, ack_of}
-use Rattle.member_core.specs.Members.{MemberState, down_turn, up_turn, up_at, setup_turn, answered_turn, accept_turn, fail_turn, stream_turn, ack_turn, pass_turn, failed_turn, good_turn, partial_turn, spoiled_turn, give_up_turn, named_bad, bad_turn, ready_turn, ready_at, quiet_turn, idle_turn, patient_turn, closed, closed_by, kept_bad, done, cut_off, bad_sum, refused_turn, settled}
+use Rattle.member_core.specs.Members.{MemberState, down_turn, up_turn, up_at, setup_turn, answered_turn, accept_turn, fail_turn, stream_turn, ack_turn, pass_turn, failed_turn, good_turn, partial_turn, spoiled_turn, give_up_turn, named_bad, bad_turn, ready_turn, ready_at, quiet_turn, idle_turn, patient_turn, closed, closed_by, kept_bad, bad_sum, refused_turn, settled}
 use Rattle.member_core.specs.Requests.{first_address, failing, response_of}
 use Rattle.world.specs.Nodes.{upward_message}
 use Rattle.world_laws.proofs.FactTables.{if-each, and-right}
-use Rattle.world_texts.proofs.Spelling.{AckFits, ResponseFits, PacketFits, NodeFits, NodesFit, WriteFits, MessageFits}
+use Rattle.world_texts.proofs.Spelling.{AckFits, ResponseFits, PacketFits, NodesFit, WriteFits, MessageFits}
 use Rattle.world_texts.proofs.Frame.{StateFits, PendingFits}
 use Rattle.world_texts.proofs.Rows.{CallFits}
 use Rattle.world_texts.proofs.Refusals.{RequestRefusalFits, refusal-few}

@@ -1,6 +1,6 @@
 -- What writers send fits, and so do writers afterwards.
-use Rattle.std.proofs.Common.{◌≡◌, ℕ, zero, suc, ◌+◌, ◌-◌, ◌*◌, ◌/◌, ◌<◌, ◌≤◌, ◌^◌, Bool, true, false, List, [], ◌∷◌, ◌++◌, length, map, take, drop, slice_get, Option, Some, None, IfSome, Result, Ok, Err, ℤ, pos, refl, sym, ap, ◌∙◌, subst, arith, length-append}
-use Rattle.std.specs.Prelude.{◌==◌, ◌&&◌, not, nat_lt, nat_le, if◌then◌else◌, max, codes, decimal}
+use Rattle.std.proofs.Common.{◌≡◌, ℕ, zero, suc, ◌+◌, ◌-◌, ◌<◌, ◌≤◌, ◌^◌, Bool, true, false, List, [], ◌∷◌, ◌++◌, length, map, take, drop, slice_get, Option, Some, None, IfSome, Result, Ok, Err, pos, refl, sym, ap, subst, arith, length-append}
+use Rattle.std.specs.Prelude.{◌==◌, ◌&&◌, not, nat_lt, nat_le, if◌then◌else◌, codes, decimal}
 use Rattle.std.specs.List.{filter}
 use Rattle.std.proofs.lemmas.Bool.{false≢true}
 use Rattle.std.proofs.lemmas.Bool.Decides.{nat_tests}
@@ -12,7 +12,7 @@ use Rattle.hd_base.specs.declared.numbers.NodeId.{NodeId}
 use Rattle.hd_base.specs.declared.numbers.Stamp.{Stamp}
 use Rattle.hd_base.specs.declared.sum_rule.SumKind.{SumKind}
 use Rattle.hd_base.specs.declared.sum_rule.SumKind.TheVariants as sum_kind
-use Rattle.hd_base.specs.SumRules.{Rule, IsChunkSize, kind_number}
+use Rattle.hd_base.specs.SumRules.{kind_number}
 use Rattle.ack_codec.specs.declared.acks.Ack.{Ack}
 use Rattle.ack_codec.specs.declared.responses.Response.{Response}
 use Rattle.name_core.specs.declared.calls.OfficeAnswer.{OfficeAnswer}
@@ -23,14 +23,13 @@ use Rattle.name_core.specs.declared.faults.OfficeFault.TheVariants as fault
 use Rattle.name_core.specs.declared.records.TheConstants.{MAX_APPEND_LENGTH}
 use Rattle.op_headers.specs.declared.ops.Op.{Op}
 use Rattle.op_headers.specs.declared.ops.Op.TheVariants as op
-use Rattle.op_headers.specs.declared.stages.Stage.{Stage}
 use Rattle.op_headers.specs.Stages.{stage_number}
 use Rattle.node_refs.specs.NodeRefs.{ref_of}
 use Rattle.packet_codec.specs.declared.packets.Packet.{Packet}
 use Rattle.packet_stream.specs.declared.extents.TheConstants.{BLOCK_LIMIT}
-use Rattle.packet_stream.specs.Extents.{greatest_end, packet_limit, chunk_rest}
-use Rattle.packet_stream.specs.Streams.{StreamState, IsStream, start_in, written_in, packet_end, with_bytes, fill_bytes, next_packet, formed, sync_packet, sync_formed, last_packet, last_formed, acked_packet, oldest_acked, oldest_is_last, oldest_seqno}
-use Rattle.packet_stream.proofs.CarryLemmas.{next_is_short, start_near}
+use Rattle.packet_stream.specs.Extents.{greatest_end, chunk_rest}
+use Rattle.packet_stream.specs.Streams.{StreamState, IsStream, start_in, written_in, next_packet, sync_packet, last_packet, acked_packet, oldest_is_last, oldest_seqno}
+use Rattle.packet_stream.proofs.CarryLemmas.{next_is_short}
 use Rattle.writer_core.specs.declared.actions.Action.{Action}
 use Rattle.writer_core.specs.declared.actions.Action.TheVariants as action
 use Rattle.writer_core.specs.declared.commands.Command.{Command}
@@ -55,13 +54,13 @@ use Rattle.writer_core.specs.declared.phases.Waiting.TheVariants as waiting
 use Rattle.writer_core.specs.declared.records.WriterRecord.{WriterRecord}
 use Rattle.writer_core.specs.Commands.{command_length, fits, is_too_much, intake_after, admitted}
 use Rattle.writer_core.specs.Phases.{remedy_after, remedy_in, remedy_at_ack, is_success, ack_verdict, bad_place, without}
-use Rattle.writer_core.specs.Requests.{client_name, stage_of, min_length, max_length, latest_stamp, request_for}
+use Rattle.writer_core.specs.Requests.{stage_of, min_length, max_length, latest_stamp, request_for}
 use Rattle.writer_core.specs.Sound.{Sound}
-use Rattle.writer_core.specs.Transitions.{Step, given_as, given, taken_as, take_first, free_step_as, free_step, failed_command, failed_first, failed_step_as, failed_step, dial_step_as, dial_step, open_step, accepted_step, reached, completed_step, is_flushing, empty_due, data_due, due_in, due_now, form_step, reached_length, reach_step_as, reach_step, due_step, stream_step_as, stream_step, step_in, own_step, dropped, fail_for, fail_named, fail_at, ended_as, ended, phase_acked, acked_oldest, acked_as, acked_in, acked, setup_answered_in, setup_answered, dialled_in, dialled, refused, stamped, reopened, stamp_given, committed_as, commit_given, complete_given, granted_in, granted_as, granted, asks}
+use Rattle.writer_core.specs.Transitions.{Step, given_as, given, taken_as, take_first, free_step_as, free_step, failed_command, failed_first, failed_step_as, dial_step_as, open_step, accepted_step, completed_step, is_flushing, empty_due, due_in, due_now, form_step, reached_length, reach_step_as, due_step, stream_step_as, step_in, own_step, dropped, fail_for, fail_named, fail_at, ended_as, ended, phase_acked, acked_oldest, acked_as, acked_in, acked, setup_answered_in, setup_answered, dialled_in, dialled, refused, stamped, reopened, stamp_given, committed_as, commit_given, complete_given, granted_in, granted, asks}
 use Rattle.world.specs.Clients.{is_empty}
 use Rattle.world_laws.proofs.ByteFrame.{Each, each-nil, each-one, each-tail, each-append}
 use Rattle.world_laws.proofs.FactTables.{if-each}
-use Rattle.world_texts.proofs.Spelling.{PacketFits, NodeFits, NodesFit, WriteFits}
+use Rattle.world_texts.proofs.Spelling.{PacketFits, NodesFit, WriteFits}
 use Rattle.world_texts.proofs.Sums.{SumsFit, sums-fit, limit-few, pos-fits}
 use Rattle.world_texts.proofs.Frame.{UnackedFits, SetupStampFits, RecordFits}
 use Rattle.world_texts.proofs.Nodes.{ref-fits}
