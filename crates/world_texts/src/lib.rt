@@ -1,5 +1,5 @@
-//! Each message on the connections of the world is spelled by its text: whoever reads the bytes reads what was sent. Each
-//! function has an empty body; its clauses say what holds after every list of events.
+//! Each message on the connections of the world is spelled by its text: whoever reads the bytes reads what was sent.
+//! Each function has an empty body; its clauses say what holds after every list of events.
 #![tactic(auto)]
 
 ghost use Rattle.world_texts.specs.Texts.{AllWritten};
