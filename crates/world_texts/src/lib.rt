@@ -5,7 +5,8 @@
 ghost use Rattle.world_texts.specs.Texts.{AllWritten};
 
 /// Each message that was sent on a connection is spelled by the bytes as which it is written, as long as the blocks of
-/// the writers have numbers of 64 bits, the requests of readers can be written, and the office has stamps left.
+/// writers and primaries have numbers of 64 bits, the requests of readers can be written, and the office has given only
+/// stamps of 64 bits.
 pub fn messages_are_written()
     ensures { AllWritten }
 {}
