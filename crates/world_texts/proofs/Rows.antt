@@ -1,4 +1,4 @@
--- What events leave pending at a replica, and the texts of refusals.
+-- What events leave pending at a replica.
 use Rattle.std.proofs.Common.{ℕ, Bool, true, false, List, [], ◌∷◌, drop, slice_get, Option, Some, None, Result, Ok, Err}
 use Rattle.std.specs.Prelude.{◌==◌, ◌&&◌, not, is_none, negsuc, IfOk}
 use Rattle.std.specs.Int.{w64}

@@ -4,9 +4,7 @@ use Rattle.std.specs.Prelude.{◌==◌, if◌then◌else◌, max, option_map, If
 use Rattle.std.proofs.Math.Nat.{min-le_right}
 use Rattle.std.proofs.lemmas.List.{length-take}
 use Rattle.hd_base.specs.declared.states.Status.TheVariants as status
-use Rattle.hd_base.specs.declared.sum_rule.SumKind.{SumKind}
-use Rattle.hd_base.specs.declared.sum_rule.SumKind.TheVariants as sum_kind
-use Rattle.hd_base.specs.SumRules.{Rule, IsChunkSize, kind_number}
+use Rattle.hd_base.specs.SumRules.{Rule, IsChunkSize}
 use Rattle.op_headers.specs.declared.ops.Op.TheVariants as op
 use Rattle.op_headers.specs.declared.ops.ReadOp.{ReadOp}
 use Rattle.op_headers.specs.declared.ops.RecoveryKind.{RecoveryKind}
@@ -41,7 +39,7 @@ use Rattle.world_laws.proofs.FactTables.{if-each, when-each}
 use Rattle.world_laws.proofs.Lawful.{recovery-other}
 use Rattle.world_texts.specs.Texts.{CanBeAsked}
 use Rattle.world_texts.proofs.Spelling.{ResponseFits, PacketFits, RecoveryFits, AnswerFits, MessageFits}
-use Rattle.world_texts.proofs.Sums.{SumsFit, sums-fit, most-few, cast-fits}
+use Rattle.world_texts.proofs.Sums.{kind-few, SumsFit, sums-fit, most-few, cast-fits}
 use Rattle.world_texts.proofs.Frame.{LowerFits, ReplicaFits, Formed, Brings, kept-writer}
 use Rattle.world_texts.proofs.Rows.{row-fits, broken-fits}
 use Rattle.world_texts.proofs.Refusals.{IsNumber, RequestRefusalFits, EventNumbers, AnswerNumbers, refusal-few}
@@ -58,11 +56,6 @@ record ReadNumbers (r : ReadOp) : Type 0 where
 read-numbers : (r : ReadOp) → CanBeAsked r → ReadNumbers r
 unfolding read_format client_format base_format block_format
 read-numbers r h = record { stamp = h.fits.rows.0.rows.0.rows.0.rows.1.0.small; offset = h.fits.rows.1.0.small }
-
-kind-few : (k : SumKind) → kind_number k ≤ 2
-kind-few sum_kind.Null = omega arith
-kind-few sum_kind.Crc32 = omega arith
-kind-few sum_kind.Crc32c = omega arith
 
 -- a read that is served, or why it is refused
 abbrev ReadFits : Result ServingState RequestRefusal → Type 0

@@ -1,4 +1,4 @@
--- How many sums packets have, and that these are whole.
+-- Kinds of sums, how many sums packets have, and that these are whole.
 use Rattle.std.proofs.Common.{◌≡◌, ℕ, zero, suc, ◌-◌, ◌*◌, ◌/◌, ◌%◌, ◌<◌, ◌≤◌, ◌^◌, Bool, true, false, List, [], ◌∷◌, length, map, drop, pos, negsuc, refl, sym, ap, ◌∙◌, subst, arith}
 use Rattle.std.specs.Prelude.{max, nat_lt}
 use Rattle.std.specs.Int.{w64, cast_signed}
@@ -8,9 +8,15 @@ use Rattle.std.proofs.Math.Nat.{mul-div-le}
 use mir.Val.{SFits, sel}
 use Rattle.hd_base.specs.declared.sum_rule.SumKind.{SumKind}
 use Rattle.hd_base.specs.declared.sum_rule.SumKind.TheVariants as kind
+use Rattle.hd_base.specs.SumRules.{kind_number}
 use Rattle.chunk_sums.specs.Crc.{sum_of}
 use Rattle.chunk_sums.specs.Chunks.{cut, summed_chunks, sums_of}
 use Rattle.chunk_sums.proofs.ChunkLemmas.{length-flat_sums}
+
+pub kind-few : (k : SumKind) → kind_number k ≤ 2
+kind-few kind.Null = omega arith
+kind-few kind.Crc32 = omega arith
+kind-few kind.Crc32c = omega arith
 
 cut-few : (n first size : ℕ) (body : List ℕ) → length (cut n first size body) ≤ n
 unfolding cut

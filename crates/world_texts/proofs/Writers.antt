@@ -10,9 +10,6 @@ use Rattle.std.proofs.Math.Nat.{max-le}
 use Rattle.hd_base.specs.declared.numbers.BlockId.{BlockId}
 use Rattle.hd_base.specs.declared.numbers.NodeId.{NodeId}
 use Rattle.hd_base.specs.declared.numbers.Stamp.{Stamp}
-use Rattle.hd_base.specs.declared.sum_rule.SumKind.{SumKind}
-use Rattle.hd_base.specs.declared.sum_rule.SumKind.TheVariants as sum_kind
-use Rattle.hd_base.specs.SumRules.{kind_number}
 use Rattle.ack_codec.specs.declared.acks.Ack.{Ack}
 use Rattle.ack_codec.specs.declared.responses.Response.{Response}
 use Rattle.name_core.specs.declared.calls.OfficeAnswer.{OfficeAnswer}
@@ -61,7 +58,7 @@ use Rattle.world.specs.Clients.{is_empty}
 use Rattle.world_laws.proofs.ByteFrame.{Each, each-nil, each-one, each-tail, each-append}
 use Rattle.world_laws.proofs.FactTables.{if-each}
 use Rattle.world_texts.proofs.Spelling.{PacketFits, NodesFit, WriteFits}
-use Rattle.world_texts.proofs.Sums.{SumsFit, sums-fit, limit-few, pos-fits}
+use Rattle.world_texts.proofs.Sums.{kind-few, SumsFit, sums-fit, limit-few, pos-fits}
 use Rattle.world_texts.proofs.Frame.{UnackedFits, SetupStampFits, RecordFits}
 use Rattle.world_texts.proofs.Nodes.{ref-fits}
 
@@ -172,11 +169,6 @@ refs-fit (n ∷ ns) = (ref-fits n, refs-fit ns)
 refs-few : (ns : List NodeId) → length (map ref_of ns) ≡ length ns
 refs-few [] = refl
 refs-few (n ∷ ns) = omega (arith, refs-few ns)
-
-kind-few : (k : SumKind) → kind_number k ≤ 2
-kind-few sum_kind.Null = omega arith
-kind-few sum_kind.Crc32 = omega arith
-kind-few sum_kind.Crc32c = omega arith
 
 stage-few : (s : Setup) → stage_number (stage_of s) ≤ 8
 stage-few setup.Create = omega arith
