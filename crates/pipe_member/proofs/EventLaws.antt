@@ -15,7 +15,7 @@ use Rattle.pipe_member.specs.declared.stepped.Stepped.{Stepped}
 use Rattle.pipe_member.specs.Above.{AboveState, LooksAbove}
 use Rattle.pipe_member.specs.Below.{BelowState, LooksBelow}
 use Rattle.pipe_member.specs.Steps.{is_failed, is_asked, finds_no_memory}
-use Rattle.pipe_member.specs.Events.{GoesDown, GoesDownBy, LooksUp, TakesDown, GoesUp, GoesUpIf, GoesUpBy, LooksDown, TakesUp}
+use Rattle.pipe_member.specs.Events.{GoesDown, GoesDownBy, LooksUp, TakesDown, GoesUp, GoesUpIf, GoesUpBy, LooksDown, LooksDownAt, TakesUp}
 
 module _ {I O : Type 0} (i : link_in.Ghosts I) (o : link_out.Ghosts O) where
   pub looked_up : (old : Member I O) (above : AboveState) (inward : I) (upper : Conn I O) (found : Looked) (shuts : Bool) → shuts ≡ is_failed found
@@ -44,6 +44,12 @@ module _ {I O : Type 0} (i : link_in.Ghosts I) (o : link_out.Ghosts O) where
     above = refl;
     stage = refl;
   }
+
+  pub looks_open : (m : MemberState) (old new : Member I O) (found : Looked) → old.stage ≡ stage.Open m → LooksDown i o m old new found → LooksDownAt i o old.stage old new found
+  looks_open m old new found here looks = subst (λ (st : Stage). LooksDownAt i o st old new found) (sym here) looks
+
+  pub looked_at : (m : MemberState) (old new : Member I O) (found : Looked) → old.stage ≡ stage.Open m → LooksDownAt i o old.stage old new found → LooksDown i o m old new found
+  looked_at m old new found here looks = subst (λ (st : Stage). LooksDownAt i o st old new found) here looks
 
 module _ {F I O : Type 0} (f : files.Ghosts F) (i : link_in.Ghosts I) (o : link_out.Ghosts O) where
   pub goes_down : (m : MemberState) (old seen new : Member I O) (found : Looked) (out : Bool) (book book' : BookState F) (result : Stepped) → old.stage ≡ stage.Open m → finds_no_memory found ≡ out

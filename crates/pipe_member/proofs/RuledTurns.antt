@@ -37,10 +37,11 @@ pub record IsRuled {I O : Type 0} (m : MemberState) (end : Option (Conn I O)) (t
   pub rules : IsOfRules t.call t.effect end
   pub keeps : Has m.mirror → Has t.mirror
 
--- A turn that books no packet.
-record IsQuiet (m : MemberState) (t : Turn) : Type 0 where
-  can : (n : ℕ) → CanBook n t.call
-  keeps : Has m.mirror → Has t.mirror
+-- A turn that books no packet, and sends none on.
+pub record IsQuiet (m : MemberState) (t : Turn) : Type 0 where
+  pub can : (n : ℕ) → CanBook n t.call
+  pub still : t.effect.forwards ≡ false
+  pub keeps : Has m.mirror → Has t.mirror
 
 less_self : (n : ℕ) → n < n → ⊥
 less_self n h = omega arith
@@ -68,31 +69,31 @@ either m false x y h k = k
 
 passes : (m : MemberState) (e : PendingPacket) (replies : List Status) → IsQuiet m (pass_turn m e replies)
 passes m e replies =
-    either m (failures replies == 0) _ _ (record { can = λ n. tt; keeps = λ k. k })
-    (either m (begins_with_bad_sum replies) _ _ (record { can = λ n. tt; keeps = λ k. k }) (record { can = λ n. tt; keeps = λ k. k }))
+    either m (failures replies == 0) _ _ (record { can = λ n. tt; still = refl; keeps = λ k. k })
+    (either m (begins_with_bad_sum replies) _ _ (record { can = λ n. tt; still = refl; keeps = λ k. k }) (record { can = λ n. tt; still = refl; keeps = λ k. k }))
 
 acks : (m : MemberState) (e : PendingPacket) (taken : FromBelow) → IsQuiet m (ack_turn m e taken)
-acks m e (below.Ack a) = either m (is_read m.below e.seqno a) _ _ (passes m e a.replies) (record { can = λ n. tt; keeps = λ k. refl })
-acks m e (below.Response r) = record { can = λ n. tt; keeps = λ k. refl }
-acks m e below.Unreadable = record { can = λ n. tt; keeps = λ k. refl }
-acks m e below.End = record { can = λ n. tt; keeps = λ k. refl }
+acks m e (below.Ack a) = either m (is_read m.below e.seqno a) _ _ (passes m e a.replies) (record { can = λ n. tt; still = refl; keeps = λ k. refl })
+acks m e (below.Response r) = record { can = λ n. tt; still = refl; keeps = λ k. refl }
+acks m e below.Unreadable = record { can = λ n. tt; still = refl; keeps = λ k. refl }
+acks m e below.End = record { can = λ n. tt; still = refl; keeps = λ k. refl }
 
 sets_up : (m : MemberState) (taken : FromBelow) → IsQuiet m (setup_turn m taken)
-sets_up m (below.Response r) = either m (is_success r.status) _ _ (record { can = λ n. tt; keeps = λ k. refl }) (record { can = λ n. tt; keeps = λ k. refl })
-sets_up m (below.Ack a) = record { can = λ n. tt; keeps = λ k. refl }
-sets_up m below.Unreadable = record { can = λ n. tt; keeps = λ k. refl }
-sets_up m below.End = record { can = λ n. tt; keeps = λ k. refl }
+sets_up m (below.Response r) = either m (is_success r.status) _ _ (record { can = λ n. tt; still = refl; keeps = λ k. refl }) (record { can = λ n. tt; still = refl; keeps = λ k. refl })
+sets_up m (below.Ack a) = record { can = λ n. tt; still = refl; keeps = λ k. refl }
+sets_up m below.Unreadable = record { can = λ n. tt; still = refl; keeps = λ k. refl }
+sets_up m below.End = record { can = λ n. tt; still = refl; keeps = λ k. refl }
 
 streams : (m : MemberState) (oldest : Option PendingPacket) (taken : FromBelow) → IsQuiet m (stream_turn m oldest taken)
-streams m None taken = record { can = λ n. tt; keeps = λ k. refl }
+streams m None taken = record { can = λ n. tt; still = refl; keeps = λ k. refl }
 streams m (Some e) taken = acks m e taken
 
-ups : (mi : Mirror) (m : MemberState) (oldest : Option PendingPacket) (taken : FromBelow) → IsQuiet m (up_at mi m oldest taken)
+pub ups : (mi : Mirror) (m : MemberState) (oldest : Option PendingPacket) (taken : FromBelow) → IsQuiet m (up_at mi m oldest taken)
 ups mirror.Asked m oldest taken = sets_up m taken
 ups mirror.Open m oldest taken = streams m oldest taken
-ups mirror.Nobody m oldest taken = record { can = λ n. tt; keeps = λ k. k }
-ups mirror.Unreachable m oldest taken = record { can = λ n. tt; keeps = λ k. k }
-ups mirror.Ended m oldest taken = record { can = λ n. tt; keeps = λ k. k }
+ups mirror.Nobody m oldest taken = record { can = λ n. tt; still = refl; keeps = λ k. k }
+ups mirror.Unreachable m oldest taken = record { can = λ n. tt; still = refl; keeps = λ k. k }
+ups mirror.Ended m oldest taken = record { can = λ n. tt; still = refl; keeps = λ k. k }
 
 pub up_ruled : {I O : Type 0} (m : MemberState) (end : Option (Conn I O)) (oldest : Option PendingPacket) (taken : FromBelow) → IsRuled m end (up_turn m oldest taken)
 up_ruled m end oldest taken = ruled m end (up_turn m oldest taken) (ups m.mirror m oldest taken)
@@ -107,27 +108,27 @@ here m x t q is = subst (IsQuiet m) (some_turn x t is) q
 
 idles : (m : MemberState) (writes : Bool) (t : Turn) → idle_turn m writes ≡ Some t → IsQuiet m t
 idles m true t is = cc
-idles m false t is = here m _ t (record { can = λ n. tt; keeps = λ k. k }) is
+idles m false t is = here m _ t (record { can = λ n. tt; still = refl; keeps = λ k. k }) is
 
 quiets : (m : MemberState) (kept : Option ℤ) (writes : Bool) (t : Turn) → quiet_turn m kept writes ≡ Some t → IsQuiet m t
-quiets m (Some seqno) writes t is = here m _ t (record { can = λ n. tt; keeps = λ k. k }) is
+quiets m (Some seqno) writes t is = here m _ t (record { can = λ n. tt; still = refl; keeps = λ k. k }) is
 quiets m None writes t is = idles m writes t is
 
 patients : (m : MemberState) (kept : Option ℤ) (t : Turn) → patient_turn m kept ≡ Some t → IsQuiet m t
-patients m (Some seqno) t is = here m _ t (record { can = λ n. tt; keeps = λ k. k }) is
+patients m (Some seqno) t is = here m _ t (record { can = λ n. tt; still = refl; keeps = λ k. k }) is
 patients m None t is = cc
 
-readies : (mi : Mirror) (m : MemberState) (oldest : Option PendingPacket) (writes : Bool) (t : Turn) → ready_at mi m oldest writes ≡ Some t → IsQuiet m t
+pub readies : (mi : Mirror) (m : MemberState) (oldest : Option PendingPacket) (writes : Bool) (t : Turn) → ready_at mi m oldest writes ≡ Some t → IsQuiet m t
 readies mirror.Asked m oldest writes t is = cc
-readies mirror.Unreachable m oldest writes t is = here m _ t (record { can = λ n. tt; keeps = λ k. refl }) is
-readies mirror.Nobody m (Some e) writes t is = here m _ t (record { can = λ n. tt; keeps = λ k. k }) is
+readies mirror.Unreachable m oldest writes t is = here m _ t (record { can = λ n. tt; still = refl; keeps = λ k. refl }) is
+readies mirror.Nobody m (Some e) writes t is = here m _ t (record { can = λ n. tt; still = refl; keeps = λ k. k }) is
 readies mirror.Nobody m None writes t is = quiets m m.bad writes t is
 readies mirror.Open m (Some e) writes t is = cc
 readies mirror.Open m None writes t is = patients m m.bad t is
-readies mirror.Ended m (Some e) writes t is = here m _ t (record { can = λ n. tt; keeps = λ k. refl }) is
+readies mirror.Ended m (Some e) writes t is = here m _ t (record { can = λ n. tt; still = refl; keeps = λ k. refl }) is
 readies mirror.Ended m None writes t is = quiets m m.bad writes t is
 
-acting : (b : Bool) (x : Option Turn) (t : Turn) → (if b then x else None) ≡ Some t → x ≡ Some t
+pub acting : (b : Bool) (x : Option Turn) (t : Turn) → (if b then x else None) ≡ Some t → x ≡ Some t
 acting true x t is = is
 acting false x t is = cc
 

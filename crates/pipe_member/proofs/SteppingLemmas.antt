@@ -199,7 +199,7 @@ module _ {I O : Type 0} (o : link_out.Ghosts O) where
 -- ---- what is sent
 
 -- nothing is sent after a call that the book didn't take
-silent : (m : MemberState) (t : Turn) (b : Booked) → b ≢ booked.Taken → ((settled m t b).1.sends ≡ None) × ((settled m t b).1.forwards ≡ false)
+pub silent : (m : MemberState) (t : Turn) (b : Booked) → b ≢ booked.Taken → ((settled m t b).1.sends ≡ None) × ((settled m t b).1.forwards ≡ false)
 silent m t booked.Taken never = absurd (never refl)
 silent m t booked.Failed never = (refl, refl)
 silent m t (booked.Refused why) never = refused_silent m t.call t why
@@ -214,7 +214,7 @@ silent m t (booked.Refused why) never = refused_silent m t.call t why
     refused_silent m call t why = (refl, refl)
 
 -- the step of a turn whose call ended so
-abbrev step_done : Done → MemberState → FullReplica → Turn → Step
+abbrev pub step_done : Done → MemberState → FullReplica → Turn → Step
 step_done (done.File receipt) m r t = faulted_step m r t
 step_done other m r t = step m r t
 
@@ -438,7 +438,7 @@ module _ {F I O : Type 0} (f : files.Ghosts F) (o : link_out.Ghosts O) (op : Wri
       }
   event_made at mi e x sending.Memory book book' up sent below passed is never b says same = absurd (never refl)
 
-  made : (at : Side) (call : Option ReplicaEvent) (mi : Mirror) (e : Effect) (d : Done) (book book' : BookState F) (up sent : O) (below passed : Option (Conn I O)) → IsOfRules call e below → d ≢ done.Memory
+  pub made : (at : Side) (call : Option ReplicaEvent) (mi : Mirror) (e : Effect) (d : Done) (book book' : BookState F) (up sent : O) (below passed : Option (Conn I O)) → IsOfRules call e below → d ≢ done.Memory
       → Performs f o call (texts_of op e.sends) book book' up sent below passed d → Made o op m (turn_of at call mi e) d book book' up sent below passed
   made at None mi e d book book' up sent below passed rules never p = made_alone at mi e d book book' up sent below passed never p
   made at (Some (replica_event.Packet conn x)) mi e d book book' up sent below passed rules never p =
@@ -450,14 +450,14 @@ module _ {F I O : Type 0} (f : files.Ghosts F) (o : link_out.Ghosts O) (op : Wri
 
 -- ---- the whole turn
 
-no_memory : (d : Done) (s : Shuts) → stepped_of d s ≢ stepped.Memory → d ≢ done.Memory
+pub no_memory : (d : Done) (s : Shuts) → stepped_of d s ≢ stepped.Memory → d ≢ done.Memory
 no_memory d s never is = never (ap (λ (x : Done). stepped_of x s) is)
 
 -- what follows as the rules are told
-abbrev IsSettled : {I O : Type 0} → link_out.Ghosts O → MemberState → Turn → MemberState → Shuts → Conn I O → Conn I O → Option (Conn I O) → Option (Conn I O) → Booked → Type 0
+abbrev pub IsSettled : {I O : Type 0} → link_out.Ghosts O → MemberState → Turn → MemberState → Shuts → Conn I O → Conn I O → Option (Conn I O) → Option (Conn I O) → Booked → Type 0
 IsSettled o m t m' s up up' below below' b = (m' ≡ (settled m t b).0) × (s ≡ (settled m t b).1.shuts) × ShutsEnd o (shuts_up s) up up' × ShutsMirror o (shuts_below s) below below'
 
-settled_as : {I O : Type 0} (o : link_out.Ghosts O) (m : MemberState) (t : Turn) (m' : MemberState) (s : Shuts) (up up' : Conn I O) (below below' : Option (Conn I O)) (known : Option Booked) (b : Booked)
+pub settled_as : {I O : Type 0} (o : link_out.Ghosts O) (m : MemberState) (t : Turn) (m' : MemberState) (s : Shuts) (up up' : Conn I O) (below below' : Option (Conn I O)) (known : Option Booked) (b : Booked)
     → known ≡ Some b → FollowsAs o t m m' up up' below below' s known → IsSettled o m t m' s up up' below below' b
 settled_as o m t m' s up up' below below' known b is h = subst (λ (k : Option Booked). FollowsAs o t m m' up up' below below' s k) is h
 

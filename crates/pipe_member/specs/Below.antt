@@ -101,3 +101,8 @@ below_after t done.Memory b = b
 below_after t (done.MirrorFailed receipt) b = record b { next = Some from_below.End }
 below_after took.Below other b = record b { next = None }
 below_after t other b = b
+
+-- the end stands next
+abbrev pub stands_end : Option FromBelow → Bool
+stands_end (Some from_below.End) = true
+stands_end other = false

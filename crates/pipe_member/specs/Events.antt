@@ -10,6 +10,7 @@ use Rattle.member_core.specs.Members.{MemberState, down_turn, up_turn, ready_tur
 use Rattle.pipe_turns.specs.Acting.{ShutsEnd, ShutsMirror}
 use Rattle.pipe_member.specs.declared.member.Member.{Member}
 use Rattle.pipe_member.specs.declared.stages.Looked.{Looked}
+use Rattle.pipe_member.specs.declared.stages.Looked.TheVariants as looked
 use Rattle.pipe_member.specs.declared.stages.Stage.{Stage}
 use Rattle.pipe_member.specs.declared.stages.Stage.TheVariants as stage
 use Rattle.pipe_member.specs.declared.stages.Took.{Took}
@@ -110,6 +111,12 @@ pub record LooksDown {I O : Type 0} (i : link_in.Ghosts I) (o : link_out.Ghosts 
   pub upstream : new.upstream ≡ old.upstream
   pub above : new.above ≡ old.above
   pub stage : new.stage ≡ old.stage
+
+-- An open member looks; any other stays.
+abbrev pub LooksDownAt : {I O : Type 0} → link_in.Ghosts I → link_out.Ghosts O → Stage → Member I O → Member I O →
+    Looked → Type 0
+LooksDownAt i o (stage.Open m) old new found = LooksDown i o m old new found
+LooksDownAt i o other old new found = (new ≡ old) × (found ≡ looked.Known)
 
 abbrev pub TakesUp : {F I O : Type 0} → files.Ghosts F → link_out.Ghosts O → MemberState → Bool → Member I O →
     Member I O → BookState F → BookState F → Stepped → Type 0

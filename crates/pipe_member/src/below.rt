@@ -13,6 +13,7 @@ ghost use Rattle.pipe_member.specs.Below.{
   answer_of,
   ack_of,
   below_after,
+  stands_end,
 };
 
 use crate::stages::{Looked, Took, looked_of};
@@ -135,6 +136,13 @@ impl Below {
                 Ok(Some(FromBelow::Response(answer.duplicate()?)))
             }
         }
+    }
+
+    /// Whether the end stands next.
+    pub(crate) fn knows_end(&self) -> bool
+        ensures { result ≡ stands_end self.now.next }
+    {
+        matches!(self.next, Some(FromBelow::End))
     }
 
     /// What stands next after a turn: what was taken no longer does, and after a failed link the end does.

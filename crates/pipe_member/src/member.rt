@@ -5,7 +5,8 @@ ghost use Rattle.pipe_turns.specs.Acting.{ShutsEnd, ShutsMirror};
 ghost use Rattle.pipe_turns.specs.Turning.{CanBook, IsListed, IsSpelled};
 ghost use Rattle.pipe_member.specs.Steps.{is_failed, finds_no_memory, is_asked};
 ghost use Rattle.pipe_member.specs.Turns.{Turns, Follows, IsNew};
-ghost use Rattle.pipe_member.specs.Events.{GoesDown, GoesUp, IsReady, TakesAbove, TakesBelow};
+ghost use Rattle.pipe_member.specs.Below.{stands_end};
+ghost use Rattle.pipe_member.specs.Events.{GoesDown, GoesUp, IsReady, LooksDownAt, TakesAbove, TakesBelow};
 
 use crate::above::{Above, DueAbove};
 use crate::below::Below;
@@ -124,12 +125,33 @@ impl<I: LinkIn, O: LinkOut> Member<I, O> {
         if !core.hears() {
             return Stepped::NotReady;
         }
-        let looked = self.below.look(is_asked(&core), &mut self.mirror);
-        shut_mirror(is_failed(looked), &mut self.mirror);
+        let looked = self.look_down();
         if finds_no_memory(looked) {
             return Stepped::Memory;
         }
         self.take_below(alloc, book, core)
+    }
+
+    /// Looks for what stands next from the mirror, where the member is open, and keeps it for `up`. Where the link failed,
+    /// the member's end is shut, and the end stands next.
+    pub fn look_down(&mut self) -> Looked
+        ensures { LooksDownAt I.LinkIn O.LinkOut self.old.stage self.old self.new result }
+    {
+        let Stage::Open(core) = &self.stage else {
+            return Looked::Known;
+        };
+        let core = *core;
+        let looked = self.below.look(is_asked(&core), &mut self.mirror);
+        shut_mirror(is_failed(looked), &mut self.mirror);
+        looked
+    }
+
+    /// Whether the end is known to stand next from the mirror: it was found there and not yet taken, or the link to the
+    /// mirror failed while something was sent on it.
+    pub fn knows_mirror_end(&self) -> bool
+        ensures { result ≡ stands_end self.now.below.next }
+    {
+        self.below.knows_end()
     }
 
     /// Takes what stands next from above, where it may.

@@ -37,7 +37,7 @@ one-first : (b : Bool) (f : Flush) (sent : List Message) (shut : Bool) (r : Row)
 one-first false f sent shut r d h = refl
 one-first true f sent shut r d h = rw ((h refl).0, (h refl).1) (one-here f.lower f.shut d f.messages r)
 
-abbrev rows_after : Rows → List Flush → Rows
+abbrev pub rows_after : Rows → List Flush → Rows
 rows_after rows [] = rows
 rows_after rows (f ∷ fs) = rows_after (rows_flushed rows f.conn f.lower f.shut f.messages) fs
 
@@ -47,7 +47,7 @@ after-are rows traffic (f ∷ fs) are =
     after-are (rows_flushed rows f.conn f.lower f.shut f.messages) (after_flush traffic f.conn f.lower f.shut (map text_of f.messages)) fs
     (flushed rows traffic f.conn f.lower f.shut f.messages are)
 
-after-is : (rows : Rows) (fs : List Flush) (c : ℕ) (d : Bool) → AreApart fs → rows_after rows fs c d ≡ rows_changed rows (sent_by fs) (shut_by fs) c d
+pub after-is : (rows : Rows) (fs : List Flush) (c : ℕ) (d : Bool) → AreApart fs → rows_after rows fs c d ≡ rows_changed rows (sent_by fs) (shut_by fs) c d
 after-is rows [] c d apart = ap (λ (s : List Message). record (rows c d) { sent = s }) (sym (append-nil (rows c d).sent))
 after-is rows (f ∷ fs) c d apart =
     after-is (rows_flushed rows f.conn f.lower f.shut f.messages) fs c d apart.1

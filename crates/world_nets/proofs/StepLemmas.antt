@@ -58,7 +58,7 @@ over-kept w c d = record { changed = λ k. changed-over w k c d; taken = λ conn
 -- CHANGES
 
 -- What a change makes of the rows is what these flushes make of them.
-rows-by : (w : World) (k : Change) (fs : List Flush) → ChangesBy w k fs → (c : ℕ) (d : Bool) → rows_changed (rows_of w) (sent_by fs) (shut_by fs) c d ≡ rows_of (apply w k) c d
+pub rows-by : (w : World) (k : Change) (fs : List Flush) → ChangesBy w k fs → (c : ℕ) (d : Bool) → rows_changed (rows_of w) (sent_by fs) (shut_by fs) c d ≡ rows_of (apply w k) c d
 rows-by w k fs by c d =
     (λ j. shuts_if (sym (by.shuts c) j) (sends (sym (by.sends c d) j) (rows_of w c d))) ∙ sym (changed_so w k c d)
 
