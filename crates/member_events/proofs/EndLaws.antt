@@ -69,12 +69,12 @@ module _ {I O : Type 0} (i : link_in.Ghosts I) (o : link_out.Ghosts O) where
 
   shut_id : (shut : Bool) (old new : Conn I O) → ShutsEnd o shut old new → (new.id ≡ old.id) × (new.lower ≡ old.lower)
   shut_id true old new h = (h.id, h.lower)
-  shut_id false old new h = (ap Conn.id h, ap Conn.lower h)
+  shut_id false old new h = (ap (λ (e : Conn I O). e.id) h, ap (λ (e : Conn I O). e.lower) h)
 
   pub end_sends : (net : Net) (inbox : Inbox) (conn : ℕ) (lower : Bool) (text : Option (List ℕ)) (shut : Bool) (old new : Conn I O) → EndSends o text shut old new → HeldAt i o net false [] inbox conn lower old → HeldAt i o net shut (listed text) inbox conn lower new
   end_sends net inbox conn lower text shut old new s k =
       let same = shut_id shut s.middle new s.shuts in record {
-        id = ap ConnId.0 (same.0 ∙ s.keeps.id) ∙ k.id;
+        id = ap (λ (y : ConnId). y.0) (same.0 ∙ s.keeps.id) ∙ k.id;
         side = same.1 ∙ (s.keeps.lower ∙ k.side);
         within = k.within;
         is = shuts_so net.traffic (listed text) inbox shut s.middle new s.shuts (said net.traffic inbox text old s.middle s.keeps s.says k.is);
@@ -148,7 +148,7 @@ module _ {R I O : Type 0} (r : roads.Ghosts R I O) (i : link_in.Ghosts I) (o : l
       record {
         roads_at = record { sane = sane-exchanged net e.id.0 e.lower takes shut extra within at.sane; shows = b.road_shows };
         held = record {
-          id = ap ConnId.0 k.kept.id;
+          id = ap (λ (y : ConnId). y.0) k.kept.id;
           side = k.kept.lower;
           within = conns_in net e.id.0 e.lower takes shut extra e.id.0 within;
           is = b.end_is;

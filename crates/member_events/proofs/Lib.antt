@@ -3,6 +3,13 @@ pub mod EndLaws
 pub mod NetLaws
 pub mod StepLaws
 pub mod WorldLaws
-pub mod MemberLaws
 pub mod TakeLaws
+pub mod KnownLaws
+pub mod CauseLaws
+pub mod MemberLaws
 pub mod ReadyLaws
+pub mod EventEndLemmas
+pub mod FaultEvents
+pub mod ReadyEvents
+pub mod DownEvents
+pub mod UpEvents

@@ -56,12 +56,15 @@ pub record HasStepped {F I O : Type 0} (i : link_in.Ghosts I) (o : link_out.Ghos
   pub below_next : m.below.next ≡ None
   pub below : down ≡ false → m.below.received ≡ nothing_received
 
-never_named : {I O : Type 0} (mirror : Option (Conn I O)) → IfSome mirror (λ e. names None e.id ≡ false)
+pub never_named : {I O : Type 0} (mirror : Option (Conn I O)) → IfSome mirror (λ e. names None e.id ≡ false)
 never_named None = tt
 never_named (Some e) = refl
 
-never : {P : Type 0} → false ≡ true → P
-never h = cc
+false_true : false ≡ true → ⊥
+false_true h = cc
+
+pub never : {P : Type 0} → false ≡ true → P
+never h = absurd (false_true h)
 
 module _ {I O : Type 0} (i : link_in.Ghosts I) (o : link_out.Ghosts O) where
   mirror_shows : (v : World) (net : Net) (over : Bool) (mirror : Option ℕ) (e : Option (Conn I O)) → IfSome mirror (λ d. is_over v d false ≡ over) → MirrorAt i o net false [] (held_by over) mirror e → MirrorShows i o v net mirror e
@@ -70,7 +73,7 @@ module _ {I O : Type 0} (i : link_in.Ghosts I) (o : link_out.Ghosts O) where
   mirror_shows v net over (Some c) None is k = k
   mirror_shows v net over (Some c) (Some e) is k = end_from i o v net c false over e is k
 
-  kept_inbox : (net : Net) (shut : Bool) (ms : List (List ℕ)) (over : Bool) (mirror : Option ℕ) (made : Net) (e : Option (Conn I O))
+  pub kept_inbox : (net : Net) (shut : Bool) (ms : List (List ℕ)) (over : Bool) (mirror : Option ℕ) (made : Net) (e : Option (Conn I O))
       → MirrorAt i o made false [] (mirror_inbox net false shut ms (held_by over) mirror) mirror e → MirrorAt i o made false [] (held_by over) mirror e
   kept_inbox net shut ms over None made e k = k
   kept_inbox net shut ms over (Some c) made e k = k
@@ -83,7 +86,7 @@ none_left : (v : World) (mirror : Option ℕ) (over : Bool) (received : Incoming
 none_left v None over received is h = tt
 none_left v (Some d) over received is h = λ z. h (sym is ∙ z)
 
-holds_like : {I O : Type 0} (i : link_in.Ghosts I) (o : link_out.Ghosts O) (st : Stage) (net made : Net) (s1 : Bool) (m1 : List (List ℕ)) (i1 i2 : Inbox) (d : Option ℕ) (old new : Option (Conn I O))
+pub holds_like : {I O : Type 0} (i : link_in.Ghosts I) (o : link_out.Ghosts O) (st : Stage) (net made : Net) (s1 : Bool) (m1 : List (List ℕ)) (i1 i2 : Inbox) (d : Option ℕ) (old new : Option (Conn I O))
     → MirrorAt i o net s1 m1 i1 d old → MirrorAt i o made false [] i2 d new → HoldsMirror st old → HoldsMirror st new
 holds_like i o st net made s1 m1 i1 i2 None None None a b h = h
 holds_like i o st net made s1 m1 i1 i2 None None (Some new) a b h = absurd b
@@ -111,7 +114,7 @@ module _ {F R I O : Type 0} (r : roads.Ghosts R I O) (i : link_in.Ghosts I) (o :
       let a = member_after w w1 c full x s broke e out in
       let made : Net = mirror_net (exchanged_net net c true false s1 (map text_of m1)) false s2 (map text_of m2) full.mirror in
       let n = passed_net w1 net k c full.mirror s1 s2 m1 m2 is_net (member-sends w1 c full x s broke apart) in
-      let p = both_pass r i o None false false s1 s2 (map text_of m1) (map text_of m2) (held_by up) (held_by down) net c full.mirror road road' m new at h.upper h.lower refl (never_named m.mirror) never never ex in
+      let p = both_pass r i o None false false s1 s2 (map text_of m1) (map text_of m2) (held_by up) (held_by down) net c full.mirror road road' m new at h.upper h.lower refl (never_named m.mirror) (λ z. never z) (λ z. never z) ex in
       let low : MirrorAt i o made false [] (held_by down) full.mirror new.mirror = kept_inbox i o (exchanged_net net c true false s1 (map text_of m1)) s2 (map text_of m2) down full.mirror made new.mirror p.lower in
       let same : (d : ℕ) (b : Bool) → is_over v d b ≡ is_over w1 d b = λ d b. f.over d b ∙ changed-over w1 k d b in
       record {

@@ -1,9 +1,10 @@
 -- The connections once both ends of a member were exchanged or brought back are those of the world after its step; and the other ends stay.
-use Rattle.std.proofs.Common.{◌≡◌, ◌≢◌, ◌<◌, ℕ, Bool, true, false, List, [], ◌∷◌, map, Option, Some, None, IfSome, refl, sym, ap, ◌∙◌, subst}
+use Rattle.std.proofs.Common.{◌≡◌, ◌≢◌, ◌<◌, ◌+◌, ℕ, Bool, true, false, List, [], ◌∷◌, map, Option, Some, None, IfSome, refl, sym, ap, ◌∙◌, subst}
 use Rattle.hd_base.specs.declared.ends.Conn.{Conn}
 use Rattle.hd_base.specs.declared.links.LinkIn as link_in
 use Rattle.hd_base.specs.declared.links.LinkOut as link_out
 use Rattle.hd_base.specs.declared.roads.Roads as roads
+use Rattle.hd_base.specs.declared.roads.TheConstants.{FIRST_PORT}
 use Rattle.road_traffic.specs.Showing.{Net, exchanged_net, flushed_net}
 use Rattle.road_traffic.specs.Laws.{left_net}
 use Rattle.world.specs.Parts.{Message}
@@ -73,7 +74,7 @@ brought_net w net k c mirror s1 s2 m1 m2 is by =
     let same = both_same net c mirror s1 s2 (map text_of m1) (map text_of m2) in
     record {
       conns = same.conns ∙ n.conns;
-      listens = λ node. same.listens _ ∙ n.listens node;
+      listens = λ node. same.listens (FIRST_PORT + node) ∙ n.listens node;
       waiting = λ port. same.waiting port ∙ n.waiting port;
       rows_are = λ a d. subst (λ (x : Row). IsRow x ((mirror_left (left_net s1 net c true (map text_of m1)) s2 (map text_of m2) mirror).traffic a d))
           (after-is (rows_of w) fs a d by.changes.apart ∙ rows-by w k fs by.changes a d) (both_rows (rows_of w) net c mirror s1 s2 m1 m2 is.rows_are a d);

@@ -109,18 +109,6 @@ has_stepped f i o w net c full x t at up down old new book book' ended ready tur
       below = took.below;
     }
 
--- ---- how the step ended
-
-not_moved : (s : Shuts) (receipt r : Option Receipt) → done_step s receipt ≡ stepped.Moved r → s ≡ shuts.Nothing
-not_moved shuts.Nothing receipt r h = refl
-not_moved shuts.Mirror receipt r h = cc
-not_moved shuts.Both receipt r h = cc
-
-not_shut : (s : Shuts) (receipt r : Option Receipt) → done_step s receipt ≡ stepped.Shut r → s ≢ shuts.Nothing
-not_shut shuts.Nothing receipt r h = λ e. cc
-not_shut shuts.Mirror receipt r h = λ e. cc
-not_shut shuts.Both receipt r h = λ e. cc
-
 module _ {F R I O : Type 0} (r : roads.Ghosts R I O) (i : link_in.Ghosts I) (o : link_out.Ghosts O) where
   place_by : (w w1 : World) (first net : Net) (e : Event) (c : ℕ) (full : FullMember) (x : Next) (t : Turn) (was : FullReplica) (broke : Option Break) (up down : Bool) (book : BookState F) (m : Member I O) (left : Option (Member I O)) (road road' : R) (sh : Shuts) (receipt : Option Receipt)
       → outcome w e ≡ Some (apply w1 (member_change w1 c full x (step full.state was t) broke)) → full.mirror ≢ Some c → OthersStay i o w first w1 net c full.mirror → IsNetOf w1 net → RoadsAt r net road

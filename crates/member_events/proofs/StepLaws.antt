@@ -8,6 +8,7 @@ use Rattle.proto_fields.specs.Frames.{limit}
 use Rattle.proto_fields.specs.Framed.{FramesSome}
 use Rattle.proto_fields.proofs.VarintLemmas.{read_varint_again, least_varint_spells}
 use Rattle.ack_codec.specs.declared.responses.Response.{Response}
+use Rattle.ack_codec.specs.Responses.{SaysResponse}
 use Rattle.ack_codec.specs.ResponseTexts.{response_message, response_text}
 use Rattle.op_headers.specs.Values.{WriteFields}
 use Rattle.replica_core.specs.declared.ack_queue.TheConstants.{MAX_PENDING}
@@ -60,7 +61,7 @@ fits_within message P f =
     omega arith
 
 response_within : (r : Response) → SpellsText (response r) → length (response_message r) ≤ limit
-response_within r h = spelled_within (response_message r) _ h (fits_within (response_message r) _ h)
+response_within r h = spelled_within (response_message r) (SaysResponse r) h (fits_within (response_message r) (SaysResponse r) h)
 
 sized : (r : Response) → length (response_message r) ≤ limit → listed (sized_response r) ≡ response_text r ∷ []
 sized r h = let test : nat_le (length (response_message r)) limit ≡ true = grind (arith, nat_tests) in rw test refl

@@ -12,6 +12,16 @@ use Rattle.pipe_member.specs.declared.stages.Looked.{Looked}
 use Rattle.pipe_member.specs.declared.stages.Looked.TheVariants as looked
 use Rattle.pipe_member.specs.Looks.{looked_of}
 
+-- these bytes are held, and no end
+abbrev pub text_inbox : List ℕ → Inbox
+text_inbox text = record { bytes = text; ended = false }
+
+some_none : (a : Inbox) → Some a ≡ None → ⊥
+some_none a h = cc
+
+none_some : (a : Inbox) → None ≡ Some a → ⊥
+none_some a h = cc
+
 nil_of : {A : Type 0} (xs : List A) → length xs ≡ 0 → xs ≡ []
 nil_of [] h = refl
 nil_of (x ∷ xs) h = absurd (omega arith)
@@ -60,16 +70,16 @@ left_none new ended h none over =
 
 given_none : {M : Type 0} (kind : Kind M) → IsSound kind → (m : M) (text : List ℕ) (new : IncomingState) (held : Option Inbox) → kind.spells m text
     → GivesOne kind m nothing_received new (Some (record { bytes = text; ended = false })) held → NoneLeft new false held
-given_none kind sound m text new None s g = let h = g.front in cc
+given_none kind sound m text new None s g = absurd (some_none (text_inbox text) g.front)
 given_none kind sound m text new (Some h) s g =
-    let e : record { bytes = text; ended = false } ≡ in_front g.text (in_front (new.rest ++ new.unpushed) h) = inside _ _ g.front in
-    left_none new false h (spelled_once kind sound m text g.text _ s g.spelled (ap Inbox.bytes e)) (sym (ap Inbox.ended e))
+    let e : text_inbox text ≡ in_front g.text (in_front (new.rest ++ new.unpushed) h) = inside (text_inbox text) (in_front g.text (in_front (new.rest ++ new.unpushed) h)) g.front in
+    left_none new false h (spelled_once kind sound m text g.text ((new.rest ++ new.unpushed) ++ h.bytes) s g.spelled (ap (λ (x : Inbox). x.bytes) e)) (sym (ap (λ (x : Inbox). x.ended) e))
 
 over_none : (new : IncomingState) (held : Option Inbox) → coming new held ≡ coming nothing_received (Some (record { bytes = []; ended = true })) → NoneLeft new true held
-over_none new None e = cc
+over_none new None e = absurd (none_some (record { bytes = []; ended = true }) e)
 over_none new (Some h) e =
-    let k : in_front (new.rest ++ new.unpushed) h ≡ record { bytes = []; ended = true } = inside _ _ e in
-    left_none new true h (ap Inbox.bytes k) (ap Inbox.ended k)
+    let k = inside (in_front (new.rest ++ new.unpushed) h) (record { bytes = []; ended = true }) e in
+    left_none new true h (ap (λ (x : Inbox). x.bytes) k) (ap (λ (x : Inbox). x.ended) k)
 
 module _ {M I : Type 0} (kind : Kind M) (i : link_in.Ghosts I) where
   came_as : (m : M) (r : Next M) → Finds m r → looked_of r ≡ looked.Known → r ≡ came.Message m
@@ -95,7 +105,7 @@ module _ {M I : Type 0} (kind : Kind M) (i : link_in.Ghosts I) where
   pub message_came : IsSound kind → (m : M) (text : List ℕ) (new : IncomingState) (half half' : I) (r : Next M) → kind.spells m text → i.held half ≡ Some (record { bytes = text; ended = false })
       → NextEnds kind i nothing_received new half half' r → looked_of r ≡ looked.Known → MessageCame i m new half' r
   message_came sound m text new half half' r s held ends known =
-      let there : coming nothing_received (i.held half) ≡ Some (record { bytes = text ++ []; ended = false }) = ap (coming nothing_received) held ∙ (λ j. Some (record { bytes = sym (append-nil text) j; ended = false })) in
+      let there : coming nothing_received (i.held half) ≡ Some (record { bytes = text ++ []; ended = false }) = ap (coming nothing_received) held ∙ ap (λ (b : List ℕ). Some (text_inbox b)) (sym (append-nil text)) in
       let is = came_as m r (ends.finds refl m text [] false s there) known in
       let g : GivesOne kind m nothing_received new (i.held half) (i.held half') = subst (λ (x : Next M). Comes kind i nothing_received new half half' x) is ends.comes in
       let n = given_none kind sound m text new (i.held half') s (subst (λ (x : Option Inbox). GivesOne kind m nothing_received new x (i.held half')) held g) in

@@ -56,7 +56,7 @@ IsFine (done.Taken receipt) = Unit {0}
 IsFine (done.Refused why receipt) = Unit {0}
 IsFine other = ⊥
 
-fine : (d : Done) (s : Shuts) → IsDone (stepped_of d s) → loses_mirror d ≡ false → IsFine d
+pub fine : (d : Done) (s : Shuts) → IsDone (stepped_of d s) → loses_mirror d ≡ false → IsFine d
 fine (done.Taken r) s h k = tt
 fine (done.Refused why r) s h k = tt
 fine (done.LinkFailed r) s h k = h

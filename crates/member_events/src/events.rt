@@ -21,6 +21,7 @@ pub fn member_ready<F: Files, I: LinkIn, O: LinkOut, R: Roads<Inward = I, Outwar
     ensures { ReadyShows F.Files R.Roads I.LinkIn O.LinkOut member book.old book.new roads.old roads.new result }
 {
     let mut member = member;
+    let _kept = book.replica();
     let stepped = member.ready(alloc, book);
     placed(alloc, roads, member, stepped)
 }
@@ -36,6 +37,7 @@ pub fn member_down<F: Files, I: LinkIn, O: LinkOut, R: Roads<Inward = I, Outward
     ensures { DownShows F.Files R.Roads I.LinkIn O.LinkOut member book.old book.new roads.old roads.new result }
 {
     let conn = member.conn();
+    let _kept = book.replica();
     let mut member = exchanged(alloc, roads, member, Some(conn))?;
     let stepped = member.down(alloc, book);
     if member.knows_mirror_end() {
@@ -55,6 +57,7 @@ pub fn mirror_up<F: Files, I: LinkIn, O: LinkOut, R: Roads<Inward = I, Outward =
     requires { AreKnown (R.plain roads.old) member }
     ensures { UpShows F.Files R.Roads I.LinkIn O.LinkOut conn member book.old book.new roads.old roads.new result }
 {
+    let _kept = book.replica();
     let mut member = exchanged(alloc, roads, member, Some(conn))?;
     match member.look_down() {
         Looked::Failed => return Err(lost(alloc, roads, member)),
