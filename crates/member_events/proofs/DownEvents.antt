@@ -1,5 +1,5 @@
 -- A member that takes what stands next from above.
-use Rattle.std.proofs.Common.{◌≡◌, ◌≢◌, ◌<◌, ℕ, Bool, true, false, if◌then◌else◌, List, [], map, length, Option, Some, None, IsSome, IfSome, Result, Ok, option_map, refl, sym, ap, ◌∙◌, subst, arith}
+use Rattle.std.proofs.Common.{◌≡◌, ◌≢◌, ◌<◌, ℕ, Bool, true, false, if◌then◌else◌, List, [], map, length, Option, Some, None, IsSome, IfSome, Result, Ok, Err, option_map, refl, sym, ap, ◌∙◌, subst, arith}
 use Rattle.std.specs.Prelude.{◌==◌}
 use Rattle.hd_base.specs.Links.{Inbox}
 use Rattle.hd_base.specs.declared.ends.Conn.{Conn}
@@ -42,7 +42,7 @@ use Rattle.pipe_member.specs.Above.{AboveState, nothing_above, LooksAbove, Recei
 use Rattle.pipe_member.specs.Below.{BelowState, stands_end}
 use Rattle.pipe_member.specs.EventSteps.{HoldsMirror, IsOfHistory}
 use Rattle.pipe_member.specs.Events.{TurnsIf, TakesAbove, TakesDown, LooksUp, GoesDown, GoesDownBy}
-use Rattle.pipe_member.specs.Exchanges.{ExchangesBoth}
+use Rattle.pipe_member.specs.Exchanges.{KeepsRest, ExchangesBoth}
 use Rattle.pipe_member.specs.Stepping.{IsStep}
 use Rattle.pipe_member.specs.Steps.{is_failed, finds_no_memory}
 use Rattle.pipe_member.specs.Turns.{Turns}
@@ -65,10 +65,15 @@ use Rattle.world_nets.specs.Steps.{taken_net, is_end}
 use Rattle.world_nets.proofs.DrawnLemmas.{down-makes}
 use Rattle.world_nets.proofs.FlushingLemmas.{other-number}
 use Rattle.world_nets.proofs.StepLemmas.{taken-net, taken-over, idle-net}
-use Rattle.member_events.specs.Events.{CanDown}
+use Rattle.member_events.specs.declared.faults.MemberFault.{MemberFault}
+use Rattle.member_events.specs.Events.{CanDown, DownShows}
+use Rattle.member_events.specs.Faults.{IsRoadFault}
 use Rattle.member_events.specs.Texts.{IsPacketNext}
 use Rattle.member_events.specs.Showing.{IsLater, MemberStands, MemberLeft}
-use Rattle.member_events.specs.Steps.{IsPlaced}
+use Rattle.member_events.specs.Steps.{IsLost, IsPlaced}
+use Rattle.member_events.proofs.FaultEvents.{lost_caused, exchange_caused, placed_caused, exchange_never, risen_below}
+use Rattle.member_events.proofs.KnownLaws.{SameMirror, same_on, exchanged_same, down_same}
+use Rattle.member_events.proofs.LostLaws.{down_lost, down_link, down_file}
 use Rattle.member_events.proofs.TurnEnds.{IsDone, turn_fine, turn_sends}
 use Rattle.member_events.proofs.EndLaws.{HeldAt, MirrorAt, RoadsAt, mirror_net, both_pass, end_held}
 use Rattle.member_events.proofs.NetLaws.{other_passed}
@@ -257,3 +262,34 @@ module _ {F R I O : Type 0} (f : files.Ghosts F) (r : roads.Ghosts R I O) (i : l
       placed_left r i o f w w1 net n2 (event.Down conn answered) c full x t took.Above broke (is_end x) over g.seen new book book' ended left middle road'
       out (apart_of c full.mirror stands.later) (λ d b z none k. other_passed r i o w w1 net c full.mirror true false false false [] [] d b z none (taken-over w d b c true x none.0) k) is_net p.roads_at
       ready turned texts taken placed
+
+  -- WHAT IT LEAVES, OR WHY IT FAILED
+
+  -- the exchange failed
+  pub down_unmade : (old : Member I O) (book : BookState F) (why : MemberFault) (road road' : R) → IsRoadFault (r.faults road) (r.faults road') why → DownShows f r i o old book book road road' (Err why)
+  down_unmade old book why road road' fault = λ w net conn answered full x stands can. exchange_caused f r i o conn.0 full.mirror book book road road' why fault
+
+  goes_by : (old held new : Member I O) (book book' : BookState F) (ended : Stepped) (road : R) → KeepsRest old held → GoesDown f i o held.stage held new book book' ended → (w : World) (net : Net) (c : ℕ) (full : FullMember) → MemberStands r i o w net c full book old road → GoesDownBy f i o full.state held new book book' ended
+  goes_by old held new book book' ended road rest goes w net c full stands = subst (λ (st : Stage). GoesDown f i o st held new book book' ended) (rest.stage ∙ stands.shows.stage_is) goes
+
+  -- the mirror's link failed
+  pub down_lost_shows : (old held new : Member I O) (book book' : BookState F) (ended : Stepped) (why : MemberFault) (road middle road' : R) → ExchangesBoth r i o (Some old.upstream.id) old held road middle (Ok tt) → GoesDown f i o held.stage held new book book' ended → stands_end new.below.next ≡ true → IsLost r i o new middle road' why
+      → DownShows f r i o old book book' road road' (Err why)
+  down_lost_shows old held new book book' ended why road middle road' ex goes lost h = λ w net conn answered full x stands can.
+      let g = goes_by old held new book book' ended road ex.rest goes w net conn.0 full stands in
+      let failed = down_lost f i o full.state held new book book' ended (ap (λ (b : BelowState). b.next) ex.rest.below ∙ stands.shows.below_next) lost g in
+      let low0 = mirror_held i o w net full.mirror old.mirror stands.shows.mirror in
+      let same : SameMirror old.mirror new.mirror = (same_on old held new (exchanged_same r i o (Some old.upstream.id) old held road middle ex) (down_same f i o held.stage held new book book' ended goes)).lower in
+      lost_caused f r i o conn.0 full.mirror book book' road middle road' new why
+      (λ b. risen_below r i o conn.0 full.mirror net false [] (held_by (mirror_over w full.mirror)) new old.mirror new.mirror middle road' low0 same refl failed b) h
+
+  pub down_shows : (old held new : Member I O) (book book' : BookState F) (ended : Stepped) (result : Result (Option (Member I O)) MemberFault) (road middle road' : R) → ExchangesBoth r i o (Some old.upstream.id) old held road middle (Ok tt) → GoesDown f i o held.stage held new book book' ended → stands_end new.below.next ≡ false → IsOfHistory book
+      → IsPlaced r i o ended new middle road' result → DownShows f r i o old book book' road road' result
+  down_shows old held new book book' ended (Ok left) road middle road' ex goes lost history placed = down_left old held new book book' ended left road middle road' ex goes lost history placed
+  down_shows old held new book book' ended (Err why) road middle road' ex goes lost history placed = λ w net conn answered full x stands can.
+      let g = goes_by old held new book book' ended road ex.rest goes w net conn.0 full stands in
+      let same = same_on old held new (exchanged_same r i o (Some old.upstream.id) old held road middle ex) (down_same f i o held.stage held new book book' ended goes) in
+      placed_caused f r i o conn.0 full.mirror book book' road middle road' new ended why (exchange_never r i o (Some old.upstream.id) old held road middle ex) (ap (λ (y : ConnId). y.0) same.upper ∙ stands.shows.upstream.id)
+      (λ receipt is. down_link f i o full.state held new book book' receipt (ex.rest.above ∙ stands.shows.above) (subst (λ (y : Stepped). GoesDownBy f i o full.state held new book book' y) is g))
+      (λ receipt is. down_file f i o full.state held new book book' receipt (subst (λ (y : Stepped). GoesDownBy f i o full.state held new book book' y) is g))
+      placed

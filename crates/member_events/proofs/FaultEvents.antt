@@ -1,6 +1,7 @@
 -- Each fault of a member's event has its cause.
 use Rattle.std.proofs.Common.{◌≡◌, ◌≢◌, ◌⊎◌, inl, inr, ◌≤◌, ◌+◌, ◌-◌, ◌^◌, ℕ, Bool, true, false, List, Option, Some, None, IfSome, IsErrOf, Result, Ok, Err, option_map, min, length, slice_get, refl, sym, ap, ◌∙◌, subst, arith}
 use Rattle.hd_base.specs.Faults.{FaultsIncreased}
+use Rattle.hd_base.specs.Links.{Inbox}
 use Rattle.hd_base.specs.Ends.{has_failed}
 use Rattle.hd_base.specs.declared.ends.Conn.{Conn}
 use Rattle.hd_base.specs.declared.ends.RoadError.{RoadError}
@@ -17,11 +18,15 @@ use Rattle.pipe_member.specs.declared.member.Member.{Member}
 use Rattle.pipe_member.specs.declared.stepped.Stepped.{Stepped}
 use Rattle.pipe_member.specs.declared.stepped.Stepped.TheVariants as stepped
 use Rattle.pipe_member.specs.Exchanges.{ExchangesMirror, ExchangesBoth, BringsBoth}
+use Rattle.road_traffic.specs.Showing.{Net}
 use Rattle.member_events.specs.declared.faults.MemberFault.{MemberFault}
 use Rattle.member_events.specs.declared.faults.MemberFault.TheVariants as fault
 use Rattle.member_events.specs.Faults.{road_fault, IsRoadFault, HasRisen, IsCaused}
 use Rattle.member_events.specs.Steps.{IsLost, IsPlaced}
-use Rattle.member_events.proofs.CauseLaws.{upper_risen}
+use Rattle.member_events.proofs.CauseLaws.{upper_risen, mirror_risen}
+use Rattle.member_events.proofs.EndLaws.{MirrorAt}
+use Rattle.member_events.proofs.KnownLaws.{SameMirror}
+use Rattle.member_events.proofs.LostLaws.{MirrorFailed}
 
 -- EXCHANGES THAT FAILED
 
@@ -116,3 +121,13 @@ module _ {F R I O : Type 0} (f : files.Ghosts F) (r : roads.Ghosts R I O) (i : l
   placed_caused first road road' m (stepped.Shut receipt) why h id link file p = memory_caused first road' why p
   placed_caused first road road' m (stepped.Moved receipt) why h id link file p = road_caused first road road' why h p
   placed_caused first road road' m stepped.NotReady why h id link file p = road_caused first road road' why h p
+
+-- a mirror's connection counts as one that failed
+module _ {R I O : Type 0} (r : roads.Ghosts R I O) (i : link_in.Ghosts I) (o : link_out.Ghosts O) where
+  pub risen_below : (c : ℕ) (mirror : Option ℕ) (net : Net) (shut : Bool) (extra : List (List ℕ)) (inbox : Inbox) (m : Member I O) (old e : Option (Conn I O)) (road road' : R) → MirrorAt i o net shut extra inbox mirror old → SameMirror old e → m.mirror ≡ e → MirrorFailed i o e → BringsBoth r i o m road road' (Ok tt) → HasRisen (r.risen road') c mirror
+  risen_below c mirror net shut extra inbox m old None road road' at same is failed b = absurd failed
+  risen_below c None net shut extra inbox m None (Some e) road road' at same is failed b = absurd same
+  risen_below c None net shut extra inbox m (Some old) (Some e) road road' at same is failed b = absurd at
+  risen_below c (Some d) net shut extra inbox m None (Some e) road road' at same is failed b = absurd at
+  risen_below c (Some d) net shut extra inbox m (Some old) (Some e) road road' at same is failed b =
+      inr (subst (λ (n : ℕ). r.risen road' n ≡ true) (ap (λ (y : ConnId). y.0) same ∙ at.id) (mirror_risen r i o m e road road' is b failed))

@@ -196,24 +196,32 @@ known_on (Some p) None c h k = tt
 known_on (Some p) (Some q) c h k = subst (λ (n : ℕ). c < n) (sym h.dialled) k
 
 module _ {R I O : Type 0} (r : roads.Ghosts R I O) (i : link_in.Ghosts I) (o : link_out.Ghosts O) where
-  mirror_passed : (take : Option ConnId) (old new : Option (Conn I O)) (road road' : R) → ExchangesMirror r i o take old new road road' (Ok tt) (Ok tt) → (c : ℕ) → IsKnown (r.plain road) c → IsKnown (r.plain road') c × SameMirror old new
-  mirror_passed take None None road road' h c k = (subst (λ (x : R). IsKnown (r.plain x) c) (sym h.0) k, tt)
-  mirror_passed take None (Some new) road road' h c k = absurd h
-  mirror_passed take (Some old) None road road' h c k = absurd h
-  mirror_passed take (Some old) (Some new) road road' h c k = (known_on (r.plain road) (r.plain road') c h.connections k, h.kept.id)
+  lower_same : (take : Option ConnId) (old new : Option (Conn I O)) (middle road' : R) (first : Result (Unit {0}) RoadError) → ExchangesMirror r i o take old new middle road' first (Ok tt) → SameMirror old new
+  lower_same take old new middle road' (Err why) x = mirror_same old new x.0
+  lower_same take None None middle road' (Ok u) x = tt
+  lower_same take None (Some new) middle road' (Ok u) x = absurd x
+  lower_same take (Some old) None middle road' (Ok u) x = absurd x
+  lower_same take (Some old) (Some new) middle road' (Ok u) x = x.kept.id
 
-  mirror_still : (road : R) (road' : R) (e : Option (Conn I O)) → ((c : ℕ) → IsKnown (r.plain road) c → IsKnown (r.plain road') c) → IfSome e (λ x. IsKnown (r.plain road) x.id.0) → IfSome e (λ x. IsKnown (r.plain road') x.id.0)
-  mirror_still road road' None on h = tt
-  mirror_still road road' (Some e) on h = on e.id.0 h
+  pub exchanged_same : (take : Option ConnId) (old new : Member I O) (road road' : R) → ExchangesBoth r i o take old new road road' (Ok tt) → SameIds old new
+  exchanged_same take old new road road' x = record { upper = x.upper.kept.id; lower = lower_same take old.mirror new.mirror x.middle road' x.first x.lower }
 
-  both_known : (take : Option ConnId) (old new : Member I O) (road middle road' : R) (first : Result (Unit {0}) RoadError) (x : ExchangesBoth r i o take old new road road' (Ok tt)) → x.middle ≡ middle → x.first ≡ first → AreKnown (r.plain road) old → AreKnown (r.plain road') new
-  both_known take old new road middle road' (Err why) x at is k = cc ((subst (λ (y : Result (Unit {0}) RoadError). ExchangesMirror r i o take old.mirror new.mirror x.middle road' y (Ok tt)) is x.lower).2)
-  both_known take old new road middle road' (Ok u) x at is k =
-      let low : ExchangesMirror r i o take old.mirror new.mirror x.middle road' (Ok tt) (Ok tt) = subst (λ (y : Result (Unit {0}) RoadError). ExchangesMirror r i o take old.mirror new.mirror x.middle road' y (Ok tt)) is x.lower in
-      let one : (c : ℕ) → IsKnown (r.plain road) c → IsKnown (r.plain x.middle) c = λ c h. known_on (r.plain road) (r.plain x.middle) c x.upper.connections h in
-      let two : (c : ℕ) → IsKnown (r.plain x.middle) c → IsKnown (r.plain road') c = λ c h. (mirror_passed take old.mirror new.mirror x.middle road' low c h).0 in
-      let same : SameIds old new = record { upper = x.upper.kept.id; lower = (mirror_passed take old.mirror new.mirror x.middle road' low old.upstream.id.0 (one old.upstream.id.0 k.0)).1 } in
-      known_same (r.plain road') old new same (two old.upstream.id.0 (one old.upstream.id.0 k.0), mirror_still road road' old.mirror (λ c h. two c (one c h)) k.1)
+  -- roads that know a connection know it after an exchange of both ends
+  lower_known : (take : Option ConnId) (old new : Option (Conn I O)) (middle road' : R) (first : Result (Unit {0}) RoadError) (c : ℕ) → ExchangesMirror r i o take old new middle road' first (Ok tt) → IsKnown (r.plain middle) c → IsKnown (r.plain road') c
+  lower_known take old new middle road' (Err why) c x k = subst (λ (y : R). IsKnown (r.plain y) c) (sym x.1) k
+  lower_known take None None middle road' (Ok u) c x k = subst (λ (y : R). IsKnown (r.plain y) c) (sym x.0) k
+  lower_known take None (Some new) middle road' (Ok u) c x k = absurd x
+  lower_known take (Some old) None middle road' (Ok u) c x k = absurd x
+  lower_known take (Some old) (Some new) middle road' (Ok u) c x k = known_on (r.plain middle) (r.plain road') c x.connections k
+
+  one_known : (take : Option ConnId) (old new : Member I O) (road road' : R) (c : ℕ) → ExchangesBoth r i o take old new road road' (Ok tt) → IsKnown (r.plain road) c → IsKnown (r.plain road') c
+  one_known take old new road road' c x k = lower_known take old.mirror new.mirror x.middle road' x.first c x.lower (known_on (r.plain road) (r.plain x.middle) c x.upper.connections k)
+
+  mirror_on_roads : (road road' : R) (e : Option (Conn I O)) → ((c : ℕ) → IsKnown (r.plain road) c → IsKnown (r.plain road') c) → IfSome e (λ x. IsKnown (r.plain road) x.id.0) → IfSome e (λ x. IsKnown (r.plain road') x.id.0)
+  mirror_on_roads road road' None on h = tt
+  mirror_on_roads road road' (Some e) on h = on e.id.0 h
 
   pub exchanged_known : (take : Option ConnId) (old new : Member I O) (road road' : R) → ExchangesBoth r i o take old new road road' (Ok tt) → AreKnown (r.plain road) old → AreKnown (r.plain road') new
-  exchanged_known take old new road road' x k = both_known take old new road x.middle road' x.first x refl refl k
+  exchanged_known take old new road road' x k =
+      known_same (r.plain road') old new (exchanged_same take old new road road' x)
+      (one_known take old new road road' old.upstream.id.0 x k.0, mirror_on_roads road road' old.mirror (λ c h. one_known take old new road road' c x h) k.1)

@@ -6,6 +6,7 @@ pub mod WorldLaws
 pub mod TakeLaws
 pub mod KnownLaws
 pub mod CauseLaws
+pub mod LostLaws
 pub mod MemberLaws
 pub mod ReadyLaws
 pub mod EventEndLemmas

@@ -1,5 +1,5 @@
 -- A member that takes what stands next from its mirror.
-use Rattle.std.proofs.Common.{◌≡◌, ◌≢◌, ◌<◌, ℕ, Bool, true, false, List, [], map, slice_get, Option, Some, None, IfSome, Result, Ok, option_map, refl, sym, ap, ◌∙◌, subst, arith}
+use Rattle.std.proofs.Common.{◌≡◌, ◌≢◌, ◌<◌, ℕ, Bool, true, false, List, [], map, slice_get, Option, Some, None, IfSome, Result, Ok, Err, option_map, refl, sym, ap, ◌∙◌, subst, arith}
 use Rattle.std.specs.Prelude.{◌==◌}
 use Rattle.hd_base.specs.Links.{Inbox}
 use Rattle.hd_base.specs.declared.ends.Conn.{Conn}
@@ -36,7 +36,7 @@ use Rattle.pipe_member.specs.Above.{AboveState}
 use Rattle.pipe_member.specs.Below.{BelowState, LooksBelow, LooksAt, ReceivesAt, ReceivesBelow, answer_of, ack_of}
 use Rattle.pipe_member.specs.EventSteps.{HoldsMirror, IsOfHistory}
 use Rattle.pipe_member.specs.Events.{TurnsIf, TakesBelow, TakesUp, LooksDown, LooksDownAt, GoesUp, GoesUpIf, GoesUpBy}
-use Rattle.pipe_member.specs.Exchanges.{ExchangesBoth}
+use Rattle.pipe_member.specs.Exchanges.{KeepsRest, ExchangesBoth}
 use Rattle.pipe_member.specs.Stepping.{IsStep}
 use Rattle.pipe_member.specs.Steps.{is_asked, is_failed, finds_no_memory}
 use Rattle.pipe_member.specs.Turns.{IsSameMember, Turns}
@@ -60,9 +60,15 @@ use Rattle.world_nets.proofs.DrawnLemmas.{up-makes}
 use Rattle.world_nets.proofs.EndLemmas.{exchanged-over}
 use Rattle.world_nets.proofs.FlushingLemmas.{other-number}
 use Rattle.world_nets.proofs.StepLemmas.{taken-net, taken-over, idle-net}
-use Rattle.member_events.specs.Events.{CanUp, IsMirrorNext}
+use Rattle.member_events.specs.declared.faults.MemberFault.{MemberFault}
+use Rattle.member_events.specs.declared.faults.MemberFault.TheVariants as fault
+use Rattle.member_events.specs.Events.{CanUp, IsMirrorNext, UpShows}
+use Rattle.member_events.specs.Faults.{IsRoadFault}
 use Rattle.member_events.specs.Showing.{IsNoneOf, OthersStay, NoneReceived, MemberStands, MemberLeft}
-use Rattle.member_events.specs.Steps.{IsPlaced}
+use Rattle.member_events.specs.Steps.{IsLost, IsPlaced}
+use Rattle.member_events.proofs.FaultEvents.{lost_caused, exchange_caused, placed_caused, exchange_never, risen_below}
+use Rattle.member_events.proofs.KnownLaws.{SameMirror, same_on, exchanged_same, look_same, up_same}
+use Rattle.member_events.proofs.LostLaws.{look_lost, up_link, up_file}
 use Rattle.member_events.proofs.TurnEnds.{IsDone, fine, turn_sends}
 use Rattle.member_events.proofs.EndLaws.{HeldAt, MirrorAt, RoadsAt, BothPassed, mirror_net, both_pass, end_held}
 use Rattle.member_events.proofs.NetLaws.{other_passed}
@@ -258,3 +264,40 @@ module _ {F R I O : Type 0} (f : files.Ghosts F) (r : roads.Ghosts R I O) (i : l
       placed_left r i o f w w1 net n2 (event.Up mirror) c full x t took.Below broke (is_over w c true) (is_end x) g.seen new book book' ended left middle road'
       out apart (other_taken w net c full.mirror d x n2 can.of_mirror refl) takes.is_net p.roads_at
       ready turned texts taken placed
+
+  -- WHAT IT LEAVES, OR WHY IT FAILED
+
+  -- the exchange failed
+  pub up_unmade : (mirror : ConnId) (old : Member I O) (book : BookState F) (why : MemberFault) (road road' : R) → IsRoadFault (r.faults road) (r.faults road') why → UpShows f r i o mirror old book book road road' (Err why)
+  up_unmade mirror old book why road road' fault = λ w net c full x stands can. exchange_caused f r i o c full.mirror book book road road' why fault
+
+  -- memory ran out
+  pub up_memory : (mirror : ConnId) (old : Member I O) (book : BookState F) (road road' : R) → UpShows f r i o mirror old book book road road' (Err fault.Memory)
+  up_memory mirror old book road road' = λ w net c full x stands can. tt
+
+  looks_by : (old held look : Member I O) (book : BookState F) (found : Looked) (road : R) → KeepsRest old held → LooksDownAt i o held.stage held look found → (w : World) (net : Net) (c : ℕ) (full : FullMember) → MemberStands r i o w net c full book old road → LooksDown i o full.state held look found
+  looks_by old held look book found road rest looks w net c full stands = subst (λ (st : Stage). LooksDownAt i o st held look found) (rest.stage ∙ stands.shows.stage_is) looks
+
+  -- the mirror's link failed
+  pub up_lost_shows : (mirror : ConnId) (old held look : Member I O) (book : BookState F) (why : MemberFault) (road middle road' : R) → ExchangesBoth r i o (Some mirror) old held road middle (Ok tt) → LooksDownAt i o held.stage held look looked.Failed → IsLost r i o look middle road' why
+      → UpShows f r i o mirror old book book road road' (Err why)
+  up_lost_shows mirror old held look book why road middle road' ex looks h = λ w net c full x stands can.
+      let lk = looks_by old held look book looked.Failed road ex.rest looks w net c full stands in
+      let failed = look_lost i o full.state held look (ap (λ (b : BelowState). b.next) ex.rest.below ∙ stands.shows.below_next) lk in
+      let low0 = mirror_held i o w net full.mirror old.mirror stands.shows.mirror in
+      let same : SameMirror old.mirror look.mirror = (same_on old held look (exchanged_same r i o (Some mirror) old held road middle ex) (look_same f i o held.stage held look looked.Failed looks)).lower in
+      lost_caused f r i o c full.mirror book book road middle road' look why
+      (λ b. risen_below r i o c full.mirror net false [] (held_by (mirror_over w full.mirror)) look old.mirror look.mirror middle road' low0 same refl failed b) h
+
+  pub up_shows : (mirror : ConnId) (old held look new : Member I O) (book book' : BookState F) (ended : Stepped) (result : Result (Option (Member I O)) MemberFault) (road middle road' : R) → ExchangesBoth r i o (Some mirror) old held road middle (Ok tt) → LooksDownAt i o held.stage held look looked.Known → GoesUp f i o look.stage look new book book' ended → IsOfHistory book
+      → IsPlaced r i o ended new middle road' result → UpShows f r i o mirror old book book' road road' result
+  up_shows mirror old held look new book book' ended (Ok left) road middle road' ex looks goes history placed = up_left mirror old held look new book book' ended left road middle road' ex looks goes history placed
+  up_shows mirror old held look new book book' ended (Err why) road middle road' ex looks goes history placed = λ w net c full x stands can.
+      let lk = looks_by old held look book looked.Known road ex.rest looks w net c full stands in
+      let g : GoesUpBy f i o full.state look new book book' ended = subst (λ (b : Bool). GoesUpIf f i o full.state b look new book book' ended) can.heard.hears
+          (subst (λ (st : Stage). GoesUp f i o st look new book book' ended) (lk.stage ∙ (ex.rest.stage ∙ stands.shows.stage_is)) goes) in
+      let same = same_on old look new (same_on old held look (exchanged_same r i o (Some mirror) old held road middle ex) (look_same f i o held.stage held look looked.Known looks)) (up_same f i o look.stage look new book book' ended goes) in
+      placed_caused f r i o c full.mirror book book' road middle road' new ended why (exchange_never r i o (Some mirror) old held road middle ex) (ap (λ (y : ConnId). y.0) same.upper ∙ stands.shows.upstream.id)
+      (λ receipt is. up_link f i o full.state look new book book' receipt (subst (λ (y : Stepped). GoesUpBy f i o full.state look new book book' y) is g))
+      (λ receipt is. up_file f i o full.state look new book book' receipt (subst (λ (y : Stepped). GoesUpBy f i o full.state look new book book' y) is g))
+      placed

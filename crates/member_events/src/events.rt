@@ -52,13 +52,13 @@ pub fn mirror_up<F: Files, I: LinkIn, O: LinkOut, R: Roads<Inward = I, Outward =
     roads: &mut R,
     book: &mut ReplicaBook<F>,
     member: Member<I, O>,
-    conn: ConnId,
+    mirror: ConnId,
 ) -> Result<Option<Member<I, O>>, MemberFault>
     requires { AreKnown (R.plain roads.old) member }
-    ensures { UpShows F.Files R.Roads I.LinkIn O.LinkOut conn member book.old book.new roads.old roads.new result }
+    ensures { UpShows F.Files R.Roads I.LinkIn O.LinkOut mirror member book.old book.new roads.old roads.new result }
 {
     let _kept = book.replica();
-    let mut member = exchanged(alloc, roads, member, Some(conn))?;
+    let mut member = exchanged(alloc, roads, member, Some(mirror))?;
     match member.look_down() {
         Looked::Failed => return Err(lost(alloc, roads, member)),
         Looked::Memory => return Err(MemberFault::Memory),
