@@ -159,6 +159,27 @@ module _ {O : Type 0} (o : link_out.Ghosts O) where
   event_rose text (sending.File x) receipt up sent is h = cc
   event_rose text sending.Memory receipt up sent is h = cc
 
+file_book : {F : Type 0} (f : files.Ghosts F) (e : ReplicaEvent) (book book' : BookState F) (answered : Result Receipt BookFault) → BookEnds f book book' e answered → (receipt : Receipt) → answered ≡ Err (fault.File receipt) → FaultsIncreased (f.faults book.drawer) (f.faults book'.drawer)
+file_book f e book book' answered b receipt is = (subst (λ (x : Result Receipt BookFault). BookEnds f book book' e x) is b).rose
+
+packet_file : (x : Taken) (receipt : Receipt) → packet_done x ≡ done.File receipt → receiving.booked_as x ≡ Err (fault.File receipt)
+packet_file (taken.File r) receipt h = let e : r ≡ receipt = cc in ap (λ (y : Receipt). Err (fault.File y)) e
+packet_file (taken.Booked r) receipt h = cc
+packet_file (taken.MirrorFailed r) receipt h = cc
+packet_file (taken.Refused why r) receipt h = cc
+packet_file taken.Memory receipt h = cc
+
+sending_file : (s : Sending) (receipt : Receipt) → sending_done s ≡ done.File receipt → responding.booked_in s ≡ Err (fault.File receipt)
+sending_file (sending.File r) receipt h = let e : r ≡ receipt = cc in ap (λ (y : Receipt). Err (fault.File y)) e
+sending_file (sending.Done r) receipt h = cc
+sending_file (sending.LinkFailed r) receipt h = cc
+sending_file (sending.Refused why r) receipt h = cc
+sending_file sending.Memory receipt h = cc
+
+alone_file : {O : Type 0} (o : link_out.Ghosts O) (text : Option (List ℕ)) (d : Done) (receipt : Receipt) (up sent : O) → d ≡ done.File receipt → SendsAlone o text d up sent → ⊥
+alone_file o None d receipt up sent is h = subst (λ (x : Done). SendsAlone o None x up sent) is h
+alone_file o (Some text) d receipt up sent is h = subst (λ (x : Done). SendsAlone o (Some text) x up sent) is h
+
 module _ {F I O : Type 0} (f : files.Ghosts F) (o : link_out.Ghosts O) where
   link_rose : (call : Option ReplicaEvent) (text : Option (List ℕ)) (book book' : BookState F) (up sent : O) (below passed : Option (Conn I O)) (d : Done) (receipt : Option Receipt) → d ≡ done.LinkFailed receipt
       → Performs f o call text book book' up sent below passed d → FaultsIncreased (o.faults up) (o.faults sent)
@@ -184,32 +205,11 @@ module _ {F I O : Type 0} (f : files.Ghosts F) (o : link_out.Ghosts O) where
       let two = shut_later _ turns.upstream new.upstream turns.follows.upper in
       out_failed i o (o.faults old.upstream.outward) new.upstream (still_risen _ _ _ rose (less_through (o.faults a.sent) (o.faults turns.upstream.outward) (o.faults new.upstream.outward) one two))
 
-  file_book : (e : ReplicaEvent) (book book' : BookState F) (answered : Result Receipt BookFault) → BookEnds f book book' e answered → (receipt : Receipt) → answered ≡ Err (fault.File receipt) → FaultsIncreased (f.faults book.drawer) (f.faults book'.drawer)
-  file_book e book book' answered b receipt is = (subst (BookEnds f book book' e) is b).rose
-
-  packet_file : (x : Taken) (receipt : Receipt) → packet_done x ≡ done.File receipt → receiving.booked_as x ≡ Err (fault.File receipt)
-  packet_file (taken.File r) receipt h = let e : r ≡ receipt = cc in ap (λ (y : Receipt). Err (fault.File y)) e
-  packet_file (taken.Booked r) receipt h = cc
-  packet_file (taken.MirrorFailed r) receipt h = cc
-  packet_file (taken.Refused why r) receipt h = cc
-  packet_file taken.Memory receipt h = cc
-
-  sending_file : (s : Sending) (receipt : Receipt) → sending_done s ≡ done.File receipt → responding.booked_in s ≡ Err (fault.File receipt)
-  sending_file (sending.File r) receipt h = let e : r ≡ receipt = cc in ap (λ (y : Receipt). Err (fault.File y)) e
-  sending_file (sending.Done r) receipt h = cc
-  sending_file (sending.LinkFailed r) receipt h = cc
-  sending_file (sending.Refused why r) receipt h = cc
-  sending_file sending.Memory receipt h = cc
-
-  alone_file : (text : Option (List ℕ)) (d : Done) (receipt : Receipt) (up sent : O) → d ≡ done.File receipt → SendsAlone o text d up sent → ⊥
-  alone_file None d receipt up sent is h = subst (λ (x : Done). SendsAlone o None x up sent) is h
-  alone_file (Some text) d receipt up sent is h = subst (λ (x : Done). SendsAlone o (Some text) x up sent) is h
-
   file_rose : (call : Option ReplicaEvent) (text : Option (List ℕ)) (book book' : BookState F) (up sent : O) (below passed : Option (Conn I O)) (d : Done) (receipt : Receipt) → d ≡ done.File receipt
       → Performs f o call text book book' up sent below passed d → FaultsIncreased (f.faults book.drawer) (f.faults book'.drawer)
-  file_rose None text book book' up sent below passed d receipt is p = absurd (alone_file text d receipt up sent is p.sends)
-  file_rose (Some (replica_event.Packet conn x)) text book book' up sent below passed d receipt is p = file_book (replica_event.Packet conn x) book book' _ p.booked receipt (packet_file p.taken receipt (sym p.is ∙ is))
-  file_rose (Some (replica_event.Other x)) text book book' up sent below passed d receipt is p = file_book (replica_event.Other x) book book' _ p.booked receipt (sending_file p.sending receipt (sym p.is ∙ is))
+  file_rose None text book book' up sent below passed d receipt is p = absurd (alone_file o text d receipt up sent is p.sends)
+  file_rose (Some (replica_event.Packet conn x)) text book book' up sent below passed d receipt is p = file_book f (replica_event.Packet conn x) book book' _ p.booked receipt (packet_file p.taken receipt (sym p.is ∙ is))
+  file_rose (Some (replica_event.Other x)) text book book' up sent below passed d receipt is p = file_book f (replica_event.Other x) book book' _ p.booked receipt (sending_file p.sending receipt (sym p.is ∙ is))
 
   -- Where a turn ends by a failed call on files, the drawer's count rose.
   pub turn_file : (m : MemberState) (t : Turn) (at : Took) (old new : Member I O) (book book' : BookState F) (receipt : Receipt) → Turns f o m t at old new book book' (stepped.File receipt) → FaultsIncreased (f.faults book.drawer) (f.faults book'.drawer)

@@ -50,7 +50,7 @@ true_false h = cc
 
 -- a turn in which the mirror's link didn't fail
 not_lost : (d : Done) (receipt : Receipt) → loses_mirror d ≡ false → d ≡ done.MirrorFailed receipt → ⊥
-not_lost d receipt no is = true_false (sym (ap loses_mirror is) ∙ no)
+not_lost d receipt kept is = true_false (sym (ap loses_mirror is) ∙ kept)
 
 link_ready : (receipt : Option Receipt) → stepped.LinkFailed receipt ≡ stepped.NotReady → ⊥
 link_ready receipt h = cc

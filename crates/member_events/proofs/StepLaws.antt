@@ -44,18 +44,18 @@ use Rattle.member_events.specs.Texts.{SpellsText, SpellUp, IsPacketNext}
 -- WHAT GOES UP
 
 -- a response that is spelled as it is written is within the limit
-spelled_within : (message : List ℕ) (P : List ℕ → Type 0) → FramesSome P (least_varint (length message) ++ message) → length message < 2 ^ 64 → length message ≤ limit
-spelled_within message P f fits =
-    let one : varint_at (least_varint (length message) ++ message) ≡ Ok (length message, message) = read_varint_again (least_varint (length message)) (length message) message (least_varint_spells (length message) fits) in
-    let two : varint_at (least_varint (length message) ++ message) ≡ Ok (length f.message, f.message) = ap varint_at f.parts ∙ read_varint_again f.prefix (length f.message) f.message f.spelled in
-    let pair : (length message, message) ≡ (length f.message, f.message) = cc (one, two) in
-    let same : length message ≡ length f.message = ap (λ (x : ℕ × List ℕ). x.0) pair in
+spelled_within : (bytes : List ℕ) (P : List ℕ → Type 0) → FramesSome P (least_varint (length bytes) ++ bytes) → length bytes < 2 ^ 64 → length bytes ≤ limit
+spelled_within bytes P f fits =
+    let one : varint_at (least_varint (length bytes) ++ bytes) ≡ Ok (length bytes, bytes) = read_varint_again (least_varint (length bytes)) (length bytes) bytes (least_varint_spells (length bytes) fits) in
+    let two : varint_at (least_varint (length bytes) ++ bytes) ≡ Ok (length f.message, f.message) = ap varint_at f.parts ∙ read_varint_again f.prefix (length f.message) f.message f.spelled in
+    let pair : (length bytes, bytes) ≡ (length f.message, f.message) = cc (one, two) in
+    let same : length bytes ≡ length f.message = ap (λ (x : ℕ × List ℕ). x.0) pair in
     let few : length f.message ≤ limit = f.few in
     omega arith
 
-fits_within : (message : List ℕ) (P : List ℕ → Type 0) → FramesSome P (least_varint (length message) ++ message) → length message < 2 ^ 64
-fits_within message P f =
-    let parts : length (least_varint (length message)) + length message ≡ length f.prefix + length f.message = sym (length-append (least_varint (length message)) message) ∙ (ap length f.parts ∙ length-append f.prefix f.message) in
+fits_within : (bytes : List ℕ) (P : List ℕ → Type 0) → FramesSome P (least_varint (length bytes) ++ bytes) → length bytes < 2 ^ 64
+fits_within bytes P f =
+    let parts : length (least_varint (length bytes)) + length bytes ≡ length f.prefix + length f.message = sym (length-append (least_varint (length bytes)) bytes) ∙ (ap length f.parts ∙ length-append f.prefix f.message) in
     let few : length f.message ≤ limit = f.few in
     let short : length f.prefix ≤ 10 = f.spelled.short in
     omega arith
