@@ -203,7 +203,7 @@ module _ {F R I O : Type 0} (f : files.Ghosts F) (r : roads.Ghosts R I O) (i : l
       let takes = taken-net w net c true x stands.roads_are.is_net stands.shows.upstream.within stands.shows.upstream.taking can.comes.next in
       let later : IsLater old.upstream.id.0 full.mirror = subst (λ (n : ℕ). IsLater n full.mirror) (sym stands.shows.upstream.id) stands.later in
       let p = both_pass r i o (Some old.upstream.id) true false false false [] [] (held_by (is_over w c true)) (held_by over) net c full.mirror road middle old held at up0 low0
-          (same-itself old.upstream.id.0) (other_named i o net (held_by over) old.upstream.id full.mirror old.mirror later low0) (λ z. ap held_by takes.before) (λ z. never z) ex in
+      (same-itself old.upstream.id.0) (other_named i o net (held_by over) old.upstream.id full.mirror old.mirror later low0) (λ z. ap held_by takes.before) (λ z. never z) ex in
       let n1 : Net = taken_net net c true in
       let n2 : Net = mirror_net n1 false false [] full.mirror in
       let is_net : IsNetOf w1 n2 = mirror_idle w1 n1 full.mirror takes.is_net in
@@ -214,7 +214,7 @@ module _ {F R I O : Type 0} (f : files.Ghosts F) (r : roads.Ghosts R I O) (i : l
       let good = placed_good r i o ended new middle road' left placed in
       let fd = found_down f o m g.found g.seen new book book' ended g.takes good in
       let rc : ReceivesAbove i nothing_above g.seen.above held.upstream.inward g.looks.inward g.found =
-          subst (λ (a : AboveState). LooksAbove i a.next a g.seen.above held.upstream.inward g.looks.inward g.found) (ex.rest.above ∙ stands.shows.above) g.looks.looks in
+      subst (λ (a : AboveState). LooksAbove i a.next a g.seen.above held.upstream.inward g.looks.inward g.found) (ex.rest.above ∙ stands.shows.above) g.looks.looks in
       let came = came_down i x g.seen.above held.upstream.inward g.looks.inward g.found can.packets up1.is.held rc fd.known in
       let open_end : g.seen.upstream ≡ record { id = held.upstream.id; lower = held.upstream.lower; inward = g.looks.inward; outward = held.upstream.outward } = not_failed o g.found _ g.seen.upstream fd.known g.looks.shuts in
       let taken_end : Took i (held_by (is_end x)) held.upstream g.seen.upstream = subst (λ (z : Conn I O). Took i (held_by (is_end x)) held.upstream z) (sym open_end) (record { id = refl; lower = refl; outward = refl; shut = rc.comes.shut; holds = came.holds }) in
@@ -222,7 +222,7 @@ module _ {F R I O : Type 0} (f : files.Ghosts F) (r : roads.Ghosts R I O) (i : l
       let pending : length book.replica.pending ≡ pending_at w c full = ap (λ (z : ReplicaRecord). length z.pending) (history ∙ ap (λ (z : FullReplica). z.known) stands.replica) in
       let may : may_take m (length book.replica.pending) y ≡ true = ap (λ (n : ℕ). may_take m n y) pending ∙ may_is m (pending_at w c full) x can.packets can.takes in
       let turns : Turns f o m t took.Above g.seen new book book' ended =
-          subst (λ (z : Option Turn). TurnsIf f o m z took.Above g.seen new book book' ended) (due_is m (length book.replica.pending) g.seen.above.next y came.next may) fd.takes in
+      subst (λ (z : Option Turn). TurnsIf f o m z took.Above g.seen new book book' ended) (due_is m (length book.replica.pending) g.seen.above.next y came.next may) fd.takes in
       let well = good_done turns.done turns.shuts ended turns.follows.answer good in
       let ok = turn_fine f o m t took.Above g.seen new book book' ended turns well lost in
       let holds0 : HoldsMirror held.stage held.mirror = subst (λ (st : Stage). HoldsMirror st held.mirror) (sym ex.rest.stage) (holds_like i o old.stage net n2 false [] (held_by over) (held_by over) full.mirror old.mirror held.mirror low0 low1 stands.shows.holds) in

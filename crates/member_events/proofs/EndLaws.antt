@@ -143,8 +143,8 @@ module _ {R I O : Type 0} (r : roads.Ghosts R I O) (i : link_in.Ghosts I) (o : l
       → EndIs i o net.traffic shut extra inbox e → (takes ≡ true → inbox ≡ no_inbox) → ExchangesEnd r i o takes e e' road road' (Ok tt) → Passed r i o net takes shut extra inbox e.id.0 e.lower road' e'
   own_passes net takes shut extra inbox road road' e e' at within taking is empty k =
       let b : BothShow r i o (exchanged_net net e.id.0 e.lower takes shut extra) false [] (exchanged_inbox net e.id.0 e.lower takes shut extra inbox) road' e' =
-          exchange-shows r i o takes e e' road road' (Ok tt) k.flushed k.carried k.plain k.taken k.untaken k.kept k.err_plain k.err_carried k.err_held k.err_flushed
-          net shut extra inbox at.sane (record { road_shows = at.shows; end_is = is }) (λ h. (empty h, taking)) in
+      exchange-shows r i o takes e e' road road' (Ok tt) k.flushed k.carried k.plain k.taken k.untaken k.kept k.err_plain k.err_carried k.err_held k.err_flushed
+      net shut extra inbox at.sane (record { road_shows = at.shows; end_is = is }) (λ h. (empty h, taking)) in
       record {
         roads_at = record { sane = sane-exchanged net e.id.0 e.lower takes shut extra within at.sane; shows = b.road_shows };
         held = record {

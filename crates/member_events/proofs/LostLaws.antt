@@ -75,7 +75,6 @@ no_alone : {O : Type 0} (o : link_out.Ghosts O) (text : Option (List ℕ)) (d : 
 no_alone o None d receipt up sent is h = subst (λ (x : Done). SendsAlone o None x up sent) is h
 no_alone o (Some text) d receipt up sent is h = subst (λ (x : Done). SendsAlone o (Some text) x up sent) is h
 
-
 -- AN END WHOSE COUNT ROSE
 
 -- an outward half's count has risen, or an inward one's
@@ -226,7 +225,7 @@ module _ {F I O : Type 0} (f : files.Ghosts F) (i : link_in.Ghosts I) (o : link_
   pub down_link : (m : MemberState) (old new : Member I O) (book book' : BookState F) (receipt : Option Receipt) → old.above ≡ nothing_above → GoesDownBy f i o m old new book book' (stepped.LinkFailed receipt) → has_failed i o new.upstream ≡ true
   down_link m old new book book' receipt none g =
       let rc : ReceivesAbove i nothing_above g.seen.above old.upstream.inward g.looks.inward g.found =
-          subst (λ (a : AboveState). LooksAbove i a.next a g.seen.above old.upstream.inward g.looks.inward g.found) none g.looks.looks in
+      subst (λ (a : AboveState). LooksAbove i a.next a g.seen.above old.upstream.inward g.looks.inward g.found) none g.looks.looks in
       link_found m g.found old.upstream.inward g.seen new book book' receipt
       (λ is. subst (λ (y : I). FaultsIncreased (i.faults old.upstream.inward) (i.faults y)) (sym (end_inward (is_failed g.found) _ g.seen.upstream g.looks.shuts))
       (failed_above g.seen.above old.upstream.inward g.looks.inward (subst (λ (x : Looked). ReceivesAbove i nothing_above g.seen.above old.upstream.inward g.looks.inward x) is rc))) g.takes

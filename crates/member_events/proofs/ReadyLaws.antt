@@ -91,9 +91,9 @@ has_stepped f i o w net c full x t at up down old new book book' ended ready tur
     let s : Step = step full.state (replica_of book) t in
     let same = turned.turns.follows.same in
     let upper : HeldAt i o net (shuts_above s.effect.shuts) (listed (texts_of old.op s.effect.sends)) (held_by up) c true new.upstream =
-        end_sends i o net (held_by up) c true (texts_of old.op s.effect.sends) (shuts_above s.effect.shuts) old.upstream new.upstream turned.sends.upper ready.upper in
+    end_sends i o net (held_by up) c true (texts_of old.op s.effect.sends) (shuts_above s.effect.shuts) old.upstream new.upstream turned.sends.upper ready.upper in
     let lower : MirrorAt i o net (shuts_below s.effect.shuts) (listed (passed_text t.call s.effect.forwards)) (held_by down) full.mirror new.mirror =
-        mirror_sends i o net (held_by down) full.mirror (passed_text t.call s.effect.forwards) (shuts_below s.effect.shuts) old.mirror new.mirror turned.sends.lower ready.lower in
+    mirror_sends i o net (held_by down) full.mirror (passed_text t.call s.effect.forwards) (shuts_below s.effect.shuts) old.mirror new.mirror turned.sends.lower ready.lower in
     record {
       node = ap (λ (y : NodeId). y.0) same.node ∙ ready.node;
       op = same.op ∙ ready.op;

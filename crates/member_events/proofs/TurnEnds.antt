@@ -308,7 +308,7 @@ module _ {F I O : Type 0} (f : files.Ghosts F) (o : link_out.Ghosts O) where
       let k = settled_as o m t turns.settled turns.shuts (with_half old.upstream a.sent) turns.upstream a.passed turns.mirror (booked_of d) y.outcome y.known a.followed in
       let same : x.outcome ≡ y.outcome = cc (x.known, y.known) in
       let leads : step m (replica_of book) t ≡ with_replica (replica_of book') (settled m t y.outcome) =
-          sym (step_fine d m (replica_of book) t ok) ∙ (x.leads ∙ ap (λ (b : Booked). with_replica (replica_of book') (settled m t b)) same) in
+      sym (step_fine d m (replica_of book) t ok) ∙ (x.leads ∙ ap (λ (b : Booked). with_replica (replica_of book') (settled m t b)) same) in
       let upper : EndSends o (texts_of old.op (settled m t y.outcome).1.sends) (flushing.shuts_above (settled m t y.outcome).1.shuts) old.upstream new.upstream = record {
         middle = with_half old.upstream a.sent;
         keeps = record { id = refl; lower = refl; inward = refl };
@@ -318,9 +318,9 @@ module _ {F I O : Type 0} (f : files.Ghosts F) (o : link_out.Ghosts O) where
       } in
       let lost : loses_mirror d ≡ false = fine_mirror d ok in
       let lower : MirrorSends o (passed_text t.call (settled m t y.outcome).1.forwards) (flushing.shuts_below (settled m t y.outcome).1.shuts) old.mirror new.mirror =
-          mirror_sends o _ _ old.mirror a.passed turns.mirror new.mirror y.passes
-          (subst (λ (b : Bool). ShutsMirror o b a.passed turns.mirror) (ap shuts_below k.1 ∙ below_same (settled m t y.outcome).1.shuts) k.3)
-          (subst (λ (b : Bool). ShutsMirror o b turns.mirror new.mirror) lost turns.follows.lower) in
+      mirror_sends o _ _ old.mirror a.passed turns.mirror new.mirror y.passes
+      (subst (λ (b : Bool). ShutsMirror o b a.passed turns.mirror) (ap shuts_below k.1 ∙ below_same (settled m t y.outcome).1.shuts) k.3)
+      (subst (λ (b : Bool). ShutsMirror o b turns.mirror new.mirror) lost turns.follows.lower) in
       subst (λ (s : Step). TurnSends o t s.effect old new result) (sym leads) (record {
         upper = upper;
         lower = lower;

@@ -209,7 +209,7 @@ module _ {F R I O : Type 0} (f : files.Ghosts F) (r : roads.Ghosts R I O) (i : l
       let apart = apart_of c full.mirror stands.later in
       let named : names (Some mirror) old.upstream.id ≡ false = other-number d old.upstream.id.0 (λ z. apart (can.of_mirror ∙ ap Some (z ∙ stands.shows.upstream.id))) in
       let p = both_pass r i o (Some mirror) false true false false [] [] (held_by (is_over w c true)) (held_by (is_over w d false)) net c (Some d) road middle old held at up0 low0
-          named (all_named i o net (held_by (is_over w d false)) mirror old.mirror low0) (λ z. never z) (λ z. ap held_by takes.before) ex in
+      named (all_named i o net (held_by (is_over w d false)) mirror old.mirror low0) (λ z. never z) (λ z. ap held_by takes.before) ex in
       let n2 : Net = taken_net n1 d false in
       let up1 : HeldAt i o n2 false [] (held_by (is_over w c true)) c true held.upstream = p.upper in
       let low1 : MirrorAt i o n2 false [] (inbox_for x) (Some d) held.mirror = subst (λ (b : Inbox). MirrorAt i o n2 false [] b (Some d) held.mirror) takes.holds p.lower in
@@ -223,7 +223,7 @@ module _ {F R I O : Type 0} (f : files.Ghosts F) (r : roads.Ghosts R I O) (i : l
       let fa = again f i o m y look new book book' ended g fu.next in
       let known : slice_get book.replica.pending 0 ≡ oldest = ap (λ (z : ReplicaRecord). slice_get z.pending 0) history in
       let turns : Turns f o m t took.Below g.seen new book book' ended =
-          subst (λ (z : Option Turn). TurnsIf f o m z took.Below g.seen new book book' ended) (ap (λ (q : Option PendingPacket). option_map (up_turn m q) g.seen.below.next) known ∙ taken_turn m oldest g.seen.below.next y (ap (λ (b : BelowState). b.next) fa.below ∙ fu.next)) fa.takes in
+      subst (λ (z : Option Turn). TurnsIf f o m z took.Below g.seen new book book' ended) (ap (λ (q : Option PendingPacket). option_map (up_turn m q) g.seen.below.next) known ∙ taken_turn m oldest g.seen.below.next y (ap (λ (b : BelowState). b.next) fa.below ∙ fu.next)) fa.takes in
       let good = placed_good r i o ended new middle road' left placed in
       let well = good_done turns.done turns.shuts ended turns.follows.answer good in
       let quiet : IsQuiet m t = ups m.mirror m oldest y in
@@ -295,7 +295,7 @@ module _ {F R I O : Type 0} (f : files.Ghosts F) (r : roads.Ghosts R I O) (i : l
   up_shows mirror old held look new book book' ended (Err why) road middle road' ex looks goes history placed = λ w net c full x stands can.
       let lk = looks_by old held look book looked.Known road ex.rest looks w net c full stands in
       let g : GoesUpBy f i o full.state look new book book' ended = subst (λ (b : Bool). GoesUpIf f i o full.state b look new book book' ended) can.heard.hears
-          (subst (λ (st : Stage). GoesUp f i o st look new book book' ended) (lk.stage ∙ (ex.rest.stage ∙ stands.shows.stage_is)) goes) in
+      (subst (λ (st : Stage). GoesUp f i o st look new book book' ended) (lk.stage ∙ (ex.rest.stage ∙ stands.shows.stage_is)) goes) in
       let same = same_on old look new (same_on old held look (exchanged_same r i o (Some mirror) old held road middle ex) (look_same f i o held.stage held look looked.Known looks)) (up_same f i o look.stage look new book book' ended goes) in
       placed_caused f r i o c full.mirror book book' road middle road' new ended why (exchange_never r i o (Some mirror) old held road middle ex) (ap (λ (y : ConnId). y.0) same.upper ∙ stands.shows.upstream.id)
       (λ receipt is. up_link f i o full.state look new book book' receipt (subst (λ (y : Stepped). GoesUpBy f i o full.state look new book book' y) is g))
