@@ -81,7 +81,7 @@ done_step_by (stepped.LinkFailed receipt) m r t h = refl
 done_step_by (stepped.File receipt) m r t h = absurd h
 done_step_by stepped.Memory m r t h = refl
 
-failed_bad : (s : Stepped) → IsGood (as_failure s) → ⊥
+pub failed_bad : (s : Stepped) → IsGood (as_failure s) → ⊥
 failed_bad (stepped.Moved receipt) h = h
 failed_bad (stepped.Shut receipt) h = h
 failed_bad stepped.NotReady h = h

@@ -3,7 +3,6 @@ use Rattle.std.proofs.Common.{◌≡◌, ◌≢◌, ◌+◌, ℕ, Bool, true, fa
 use Rattle.std.proofs.lemmas.List.{append-nil, length-append}
 use Rattle.hd_base.specs.Links.{Inbox, in_front}
 use Rattle.hd_base.specs.declared.links.LinkIn as link_in
-use Rattle.frame_feed.specs.declared.faults.NoMessage.{NoMessage}
 use Rattle.frame_feed.specs.Kinds.{Kind, IsSound}
 use Rattle.link_messages.specs.declared.incoming.Next.{Next}
 use Rattle.link_messages.specs.declared.incoming.Next.TheVariants as came
@@ -30,8 +29,8 @@ both_nil : {A : Type 0} (xs ys : List A) → xs ++ ys ≡ [] → (xs ≡ []) × 
 both_nil [] ys h = (refl, h)
 both_nil (x ∷ xs) ys h = cc
 
-sizes : {M : Type 0} (r : Result (M × ℕ) NoMessage) (m : M) (a b : ℕ) → r ≡ Ok (m, a) → r ≡ Ok (m, b) → a ≡ b
-sizes {M} r m a b p q = let pair : (m, a) ≡ (m, b) = cc in ap (λ (x : M × ℕ). x.1) pair
+sizes : {M E : Type 0} (r : Result (M × ℕ) E) (m : M) (a b : ℕ) → r ≡ Ok (m, a) → r ≡ Ok (m, b) → a ≡ b
+sizes {M} {E} r m a b p q = let pair : (m, a) ≡ (m, b) = cc in ap (λ (x : M × ℕ). x.1) pair
 
 -- one message alone stands in the bytes that spell it
 spelled_once : {M : Type 0} (kind : Kind M) → IsSound kind → (m : M) (text front rest : List ℕ) → kind.spells m text → kind.spells m front → text ≡ front ++ rest → rest ≡ []
