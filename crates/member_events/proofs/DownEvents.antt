@@ -266,8 +266,11 @@ module _ {F R I O : Type 0} (f : files.Ghosts F) (r : roads.Ghosts R I O) (i : l
   -- WHAT IT LEAVES, OR WHY IT FAILED
 
   -- the exchange failed
-  pub down_unmade : (old : Member I O) (book : BookState F) (why : MemberFault) (road road' : R) → IsRoadFault (r.faults road) (r.faults road') why → DownShows f r i o old book book road road' (Err why)
+  down_unmade : (old : Member I O) (book : BookState F) (why : MemberFault) (road road' : R) → IsRoadFault (r.faults road) (r.faults road') why → DownShows f r i o old book book road road' (Err why)
   down_unmade old book why road road' fault = λ w net conn answered full x stands can. exchange_caused f r i o conn.0 full.mirror book book road road' why fault
+
+  pub down_failed : (old : Member I O) (book : BookState F) (result : Result (Option (Member I O)) MemberFault) (why : MemberFault) (road road' : R) → result ≡ Err why → IsRoadFault (r.faults road) (r.faults road') why → DownShows f r i o old book book road road' result
+  down_failed old book result why road road' is fault = subst (λ (x : Result (Option (Member I O)) MemberFault). DownShows f r i o old book book road road' x) (sym is) (down_unmade old book why road road' fault)
 
   goes_by : (old held new : Member I O) (book book' : BookState F) (ended : Stepped) (road : R) → KeepsRest old held → GoesDown f i o held.stage held new book book' ended → (w : World) (net : Net) (c : ℕ) (full : FullMember) → MemberStands r i o w net c full book old road → GoesDownBy f i o full.state held new book book' ended
   goes_by old held new book book' ended road rest goes w net c full stands = subst (λ (st : Stage). GoesDown f i o st held new book book' ended) (rest.stage ∙ stands.shows.stage_is) goes

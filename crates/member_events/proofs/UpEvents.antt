@@ -120,7 +120,7 @@ found_up : {I O : Type 0} (i : link_in.Ghosts I) (o : link_out.Ghosts O) (net : 
 found_up i o net d awaits x old b None middle mirror' spelled at none looks same = absurd at
 found_up i o net d awaits x old b (Some e) None mirror' spelled at none looks same = absurd looks
 found_up i o net d awaits x old b (Some e) (Some m) None spelled at none looks same = absurd same
-found_up i o net d awaits x old b (Some e) (Some m) (Some n) spelled at none looks same =
+found_up {I = I} {O = O} i o net d awaits x old b (Some e) (Some m) (Some n) spelled at none looks same =
     let c = came_up i awaits x old b e.inward m.inward spelled at.is.held none looks.receives in
     let t : Took i (held_by (is_end x)) e m = record { id = looks.id; lower = looks.lower; outward = looks.outward; shut = shut_kept i awaits old b e.inward m.inward looks.receives; holds = c.holds } in
     record {
@@ -268,8 +268,11 @@ module _ {F R I O : Type 0} (f : files.Ghosts F) (r : roads.Ghosts R I O) (i : l
   -- WHAT IT LEAVES, OR WHY IT FAILED
 
   -- the exchange failed
-  pub up_unmade : (mirror : ConnId) (old : Member I O) (book : BookState F) (why : MemberFault) (road road' : R) → IsRoadFault (r.faults road) (r.faults road') why → UpShows f r i o mirror old book book road road' (Err why)
+  up_unmade : (mirror : ConnId) (old : Member I O) (book : BookState F) (why : MemberFault) (road road' : R) → IsRoadFault (r.faults road) (r.faults road') why → UpShows f r i o mirror old book book road road' (Err why)
   up_unmade mirror old book why road road' fault = λ w net c full x stands can. exchange_caused f r i o c full.mirror book book road road' why fault
+
+  pub up_failed : (mirror : ConnId) (old : Member I O) (book : BookState F) (result : Result (Option (Member I O)) MemberFault) (why : MemberFault) (road road' : R) → result ≡ Err why → IsRoadFault (r.faults road) (r.faults road') why → UpShows f r i o mirror old book book road road' result
+  up_failed mirror old book result why road road' is fault = subst (λ (x : Result (Option (Member I O)) MemberFault). UpShows f r i o mirror old book book road road' x) (sym is) (up_unmade mirror old book why road road' fault)
 
   -- memory ran out
   pub up_memory : (mirror : ConnId) (old : Member I O) (book : BookState F) (road road' : R) → UpShows f r i o mirror old book book road road' (Err fault.Memory)
