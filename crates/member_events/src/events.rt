@@ -11,7 +11,7 @@ use replica_files::ReplicaBook;
 use std::alloc::Global;
 
 /// A member acts without a message. The member is handed back, unless it has shut.
-pub fn member_ready<F: Files, I: LinkIn, O: LinkOut, R: Roads<Inward = I, Outward = O>>(
+pub fn member_ready<I: LinkIn, O: LinkOut, R: Roads<Inward = I, Outward = O>, F: Files>(
     alloc: Global,
     roads: &mut R,
     book: &mut ReplicaBook<F>,
@@ -27,7 +27,7 @@ pub fn member_ready<F: Files, I: LinkIn, O: LinkOut, R: Roads<Inward = I, Outwar
 }
 
 /// A member takes what stands next from above.
-pub fn member_down<F: Files, I: LinkIn, O: LinkOut, R: Roads<Inward = I, Outward = O>>(
+pub fn member_down<I: LinkIn, O: LinkOut, R: Roads<Inward = I, Outward = O>, F: Files>(
     alloc: Global,
     roads: &mut R,
     book: &mut ReplicaBook<F>,
@@ -47,7 +47,7 @@ pub fn member_down<F: Files, I: LinkIn, O: LinkOut, R: Roads<Inward = I, Outward
 }
 
 /// A member takes what stands next on this connection, the one to its mirror.
-pub fn mirror_up<F: Files, I: LinkIn, O: LinkOut, R: Roads<Inward = I, Outward = O>>(
+pub fn mirror_up<I: LinkIn, O: LinkOut, R: Roads<Inward = I, Outward = O>, F: Files>(
     alloc: Global,
     roads: &mut R,
     book: &mut ReplicaBook<F>,

@@ -14,14 +14,14 @@ lost-requires g c =
     let k : AreKnown (g.R.Roads.plain c.exchanged.new.roads) c.down-stepped.new.self = known_same (g.R.Roads.plain c.exchanged.new.roads) c.in_ok-member.member c.down-stepped.new.self
         (down_same g.F.Files g.I.LinkIn g.O.LinkOut c.in_ok-member.member.stage c.in_ok-member.member c.down-stepped.new.self c.args.book.now c.down-stepped.new.book c.down-stepped.result c.down-stepped.ensures)
         (exchanged_known g.R.Roads g.I.LinkIn g.O.LinkOut (Some c.conn-conn.result) c.args.member c.in_ok-member.member c.args.roads.now c.exchanged.new.roads c.in_ok-member.ensures c.requires) in
-    first_of (assumption (c.type_bounds.send-I, c.type_bounds.send-O, k), search (rules, c.type_bounds.send-I, c.type_bounds.send-O, k.0, k.1), search (rules, k))
+    (first_of (assumption c.type_bounds.send-I, search rules), (first_of (assumption c.type_bounds.send-O, search rules), k))
 
 pub placed-requires : goal.placed-requires
 placed-requires g c =
     let k : AreKnown (g.R.Roads.plain c.exchanged.new.roads) c.down-stepped.new.self = known_same (g.R.Roads.plain c.exchanged.new.roads) c.in_ok-member.member c.down-stepped.new.self
         (down_same g.F.Files g.I.LinkIn g.O.LinkOut c.in_ok-member.member.stage c.in_ok-member.member c.down-stepped.new.self c.args.book.now c.down-stepped.new.book c.down-stepped.result c.down-stepped.ensures)
         (exchanged_known g.R.Roads g.I.LinkIn g.O.LinkOut (Some c.conn-conn.result) c.args.member c.in_ok-member.member c.args.roads.now c.exchanged.new.roads c.in_ok-member.ensures c.requires) in
-    first_of (assumption (c.type_bounds.send-I, c.type_bounds.send-O, k), search (rules, c.type_bounds.send-I, c.type_bounds.send-O, k.0, k.1), search (rules, k))
+    (first_of (assumption c.type_bounds.send-I, search rules), (first_of (assumption c.type_bounds.send-O, search rules), k))
 
 pub returns-then-knows_mirror_end : goal.returns-then-knows_mirror_end
 returns-then-knows_mirror_end g c =
