@@ -1,0 +1,16 @@
+pub mod TurnEnds
+pub mod EndLaws
+pub mod NetLaws
+pub mod StepLaws
+pub mod WorldLaws
+pub mod TakeLaws
+pub mod KnownLaws
+pub mod CauseLaws
+pub mod LostLaws
+pub mod MemberLaws
+pub mod ReadyLaws
+pub mod EventEndLemmas
+pub mod FaultEvents
+pub mod ReadyEvents
+pub mod DownEvents
+pub mod UpEvents

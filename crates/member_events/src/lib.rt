@@ -1,0 +1,10 @@
+//! The events of members in a play: each takes a member whose ends and book show a world, on roads that show it, to what
+//! shows the world after the event.
+#![tactic(auto)]
+
+mod events;
+mod faults;
+mod steps;
+
+pub use events::{member_down, member_ready, mirror_up};
+pub use faults::MemberFault;

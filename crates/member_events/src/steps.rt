@@ -1,0 +1,84 @@
+//! What follows a step of a member.
+
+ghost use Rattle.pipe_member.specs.Exchanges.{AreKnown};
+ghost use Rattle.member_events.specs.Steps.{IsExchanged, IsRetired, IsLost, IsPlaced};
+
+use crate::faults::{MemberFault, road_fault};
+use hd_base::{ConnId, LinkIn, LinkOut, Roads};
+use pipe_member::{Member, Stepped};
+use std::alloc::Global;
+
+/// A member whose ends were exchanged, with `take` for the one of this connection.
+pub(crate) fn exchanged<I: LinkIn, O: LinkOut, R: Roads<Inward = I, Outward = O>>(
+    alloc: Global,
+    roads: &mut R,
+    member: Member<I, O>,
+    take: Option<ConnId>,
+) -> Result<Member<I, O>, MemberFault>
+    requires { AreKnown (R.plain roads.old) member }
+    ensures { IsExchanged R.Roads I.LinkIn O.LinkOut take member roads.old roads.new result }
+{
+    let mut member = member;
+    match member.exchange(alloc, roads, take) {
+        Ok(()) => Ok(member),
+        Err(error) => Err(road_fault(error)),
+    }
+}
+
+/// Brings both ends of a member back that has shut.
+pub(crate) fn retired<I: LinkIn, O: LinkOut, R: Roads<Inward = I, Outward = O>>(
+    alloc: Global,
+    roads: &mut R,
+    member: Member<I, O>,
+) -> Result<(), MemberFault>
+    requires { AreKnown (R.plain roads.old) member }
+    ensures { IsRetired R.Roads I.LinkIn O.LinkOut member roads.old roads.new result }
+{
+    match member.retire(alloc, roads) {
+        Ok(()) => Ok(()),
+        Err(_) => Err(MemberFault::Memory),
+    }
+}
+
+/// Brings both ends of a member back of which a link failed.
+pub(crate) fn lost<I: LinkIn, O: LinkOut, R: Roads<Inward = I, Outward = O>>(
+    alloc: Global,
+    roads: &mut R,
+    member: Member<I, O>,
+) -> MemberFault
+    requires { AreKnown (R.plain roads.old) member }
+    ensures { IsLost R.Roads I.LinkIn O.LinkOut member roads.old roads.new result }
+{
+    match retired(alloc, roads, member) {
+        Ok(()) => MemberFault::LinkFailed,
+        Err(_) => MemberFault::Memory,
+    }
+}
+
+/// What follows a step that ended so: a member that goes on is exchanged and handed back, one that has shut, or of which a
+/// link failed, is brought back.
+pub(crate) fn placed<I: LinkIn, O: LinkOut, R: Roads<Inward = I, Outward = O>>(
+    alloc: Global,
+    roads: &mut R,
+    member: Member<I, O>,
+    stepped: Stepped,
+) -> Result<Option<Member<I, O>>, MemberFault>
+    requires { AreKnown (R.plain roads.old) member }
+    ensures { IsPlaced R.Roads I.LinkIn O.LinkOut stepped member roads.old roads.new result }
+{
+    match stepped {
+        Stepped::LinkFailed { .. } => Err(lost(alloc, roads, member)),
+        Stepped::File(_) => Err(MemberFault::FilesFailed),
+        Stepped::Memory => Err(MemberFault::Memory),
+        Stepped::Shut { .. } => match retired(alloc, roads, member) {
+            Ok(()) => Ok(None),
+            Err(fault) => Err(fault),
+        },
+        Stepped::Moved { .. } | Stepped::NotReady => {
+            match exchanged(alloc, roads, member, None) {
+                Ok(member) => Ok(Some(member)),
+                Err(fault) => Err(fault),
+            }
+        }
+    }
+}
