@@ -1,0 +1,10 @@
+pub mod Sums
+pub mod Ways
+pub mod Frame
+pub mod Outer
+pub mod Rows
+pub mod Taking
+pub mod Begun
+pub mod Clients
+pub mod Members
+pub mod Deliveries

@@ -1,0 +1,14 @@
+//! Deliveries come to an end. Each function has an empty body; its clause says what holds of the world.
+#![tactic(auto)]
+
+ghost use Rattle.world_settling.specs.Traffic.{DeliveriesLower, OuterKeep};
+
+/// An answer of the office, a loss, a stop or a restart makes no more to be delivered.
+pub fn outer_events_keep()
+    ensures { OuterKeep }
+{}
+
+/// Each delivery that is enabled makes less to be delivered.
+pub fn deliveries_lower()
+    ensures { DeliveriesLower }
+{}
