@@ -10,6 +10,8 @@ use Rattle.world_settling.proofs.Taking.{up-taken-falls, down-taken-falls}
 use Rattle.world_settling.proofs.Begun.{AllBegun, all-begun}
 use Rattle.world_settling.proofs.Clients.{writer-falls, reader-falls, primary-falls}
 use Rattle.world_settling.proofs.Members.{member-frame}
+use Rattle.world_settling.proofs.MemberEnds.{ready-falls, up-falls}
+use Rattle.world_settling.proofs.Nodes.{node-frame, gone-lighter, ending}
 
 pub deliveries-lower : (nodes : ℕ) (events : List Event) (e : Event) → is_delivery e ≡ true → is_enabled (run (start nodes) events) e ≡ true
     → traffic (happens (run (start nodes) events) e) < traffic (run (start nodes) events)

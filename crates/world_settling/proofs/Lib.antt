@@ -7,4 +7,7 @@ pub mod Taking
 pub mod Begun
 pub mod Clients
 pub mod Members
+pub mod Turns
+pub mod MemberEnds
+pub mod Nodes
 pub mod Deliveries

@@ -8,6 +8,8 @@ use Rattle.std.specs.Ordering.{int_eq}
 use Rattle.hd_base.specs.Results.{◌>>=◌}
 use Rattle.hd_base.specs.declared.numbers.ConnId.{ConnId}
 use Rattle.replica_core.specs.declared.ack_queue.PendingPacket.{PendingPacket}
+use Rattle.replica_core.specs.declared.events.Answer.{Answer}
+use Rattle.replica_core.specs.declared.events.Answer.TheVariants as answer
 use Rattle.replica_core.specs.declared.events.Event.{Event}
 use Rattle.replica_core.specs.declared.events.Event.TheVariants as event
 use Rattle.replica_core.specs.declared.extents.PacketExtent.{PacketExtent}
@@ -17,9 +19,9 @@ use Rattle.replica_core.specs.declared.refusals.Refusal.{Refusal}
 use Rattle.replica_core.specs.declared.refusals.Refusal.TheVariants as refusal
 use Rattle.replica_core.specs.declared.streams.Stream.{Stream}
 use Rattle.replica_core.specs.Extents.{stream_after, heartbeat_of, pending_of}
-use Rattle.replica_core.specs.Info.{close_stream, advance_acked}
+use Rattle.replica_core.specs.Info.{close_stream, advance_acked, is_writable, state_of}
 use Rattle.replica_core.specs.Refusals.{check}
-use Rattle.replica_core.specs.Transitions.{Taken, Outcome, done, record_after, set_writer, with_writer, new_transition, stream_by, enqueue, extend, extent_transition, packet_transition, acknowledge, oldest_of, ack_transition, is_written_by, end_connection, mark_broken, transition, state_after, answer_of, answer_to, reply}
+use Rattle.replica_core.specs.Transitions.{Taken, Outcome, done, present, record_after, set_writer, with_writer, new_transition, stream_by, enqueue, extend, extent_transition, packet_transition, acknowledge, oldest_of, ack_transition, is_written_by, end_connection, mark_broken, transition, state_after, answer_of, answer_to, reply}
 use Rattle.member_core.specs.declared.turns.Booked.TheVariants as booked
 use Rattle.member_core.specs.Steps.{booked_as}
 use Rattle.world_settling.specs.Traffic.{entries_by}
@@ -49,6 +51,9 @@ set-calm i c h w = record { is = nothing-held (is_written_by (set_writer c h w).
 with-calm : (i : ℕ) (c : ReplicaRecord) (w : Option ConnId) (o : Result ReplicaInfo Refusal) → Calm i c (with_writer c w o)
 with-calm i c w o = bind-calm i c o _ (λ h. set-calm i c h w)
 
+same-calm : (i : ℕ) (c : ReplicaRecord) (a : Answer) → Calm i c (Ok (record { replica = c; answer = a }))
+same-calm i c a = record { is = omega arith }
+
 fewer : (b : Bool) (xs : List PendingPacket) → (if b then 3 * length (drop 1 xs) else 0) ≤ (if b then 3 * length xs else 0)
 fewer true xs = omega (arith, length-drop 1 xs)
 fewer false xs = omega arith
@@ -57,8 +62,8 @@ acknowledge-calm : (i : ℕ) (c : ReplicaRecord) (h : ReplicaInfo) (e : PendingP
 acknowledge-calm i c h e false = record { is = fewer (is_written_by c.stream (record { 0 = i })) c.pending }
 acknowledge-calm i c h e true = at e.last
   where
-    at : (b : Bool) → Calm i c (done (if b then set_writer c _ None else record c { info = _; pending = drop 1 c.pending }))
-    at true = set-calm i c _ None
+    at : (b : Bool) → Calm i c (done (if b then set_writer c (close_stream (advance_acked h e.end)) None else record c { info = Some (advance_acked h e.end); pending = drop 1 c.pending }))
+    at true = set-calm i c (close_stream (advance_acked h e.end)) None
     at false = record { is = fewer (is_written_by c.stream (record { 0 = i })) c.pending }
 
 ended-calm : (i : ℕ) (c : ReplicaRecord) (b : Bool) → Calm i c (done (if b then record c { stream = None; pending = [] } else c))
@@ -83,8 +88,8 @@ transition-calm i c (event.Ack conn seqno good) n = bind-calm i c _ _ (λ h. bin
 transition-calm i c (event.Ended conn) n = ended-calm i c (is_written_by c.stream conn)
 transition-calm i c (event.Init named recovery) n = bind-calm i c _ _ (λ h. bind-calm i c _ _ (λ k. record { is = (set-calm i c k None).is }))
 transition-calm i c (event.Update recovery bytes) n = bind-calm i c _ _ (λ h. with-calm i c _ _)
-transition-calm i c (event.Read named offset bytes) n = bind-calm i c _ _ (λ h. bind-calm i c _ _ (λ v. record { is = omega arith }))
-transition-calm i c (event.Give named offset bytes) n = bind-calm i c _ _ (λ h. bind-calm i c _ _ (λ v. record { is = omega arith }))
+transition-calm i c (event.Read named offset bytes) n = bind-calm i c _ _ (λ h. bind-calm i c _ _ (λ v. same-calm i c (answer.Visible v)))
+transition-calm i c (event.Give named offset bytes) n = bind-calm i c _ _ (λ h. bind-calm i c _ _ (λ v. same-calm i c (answer.Visible v)))
 transition-calm i c event.FileFault n = record { is = omega arith }
 
 pub other-calm : (i : ℕ) (c : ReplicaRecord) (e : Event) → IsPacket e ≡ false → entries_by i (state_after c e) ≤ entries_by i c
@@ -120,11 +125,11 @@ record Writes (o : Option Stream) (conn : ConnId) (s : Stream) : Type 0 where
 err-ok : {A : Type 0} (x : Refusal) (s : A) → Err x ≡ Ok s → ⊥
 err-ok x s q = cc
 
+ok-same : {A : Type 0} (y z : A) → ◌≡◌ {A = Result A Refusal} (Ok y) (Ok z) → y ≡ z
+ok-same y z q = cc
+
 checked-is : {A : Type 0} (b : Bool) (x : Refusal) (s t : A) → check b x (Ok t) ≡ Ok s → (b ≡ true) × (t ≡ s)
 checked-is true x s t e = (refl, ok-same t s e)
-  where
-    ok-same : {A : Type 0} (y z : A) → Ok {A = A} {E = Refusal} y ≡ Ok z → y ≡ z
-    ok-same y z q = cc
 checked-is false x s t e = absurd (err-ok x s e)
 
 writes-of : (o : Option Stream) (conn : ConnId) (s : Stream) → stream_by o conn ≡ Ok s → Writes o conn s
@@ -152,11 +157,17 @@ extent-more conn i c h s p w = at (int_eq p.seqno (negsuc 0))
     at true = bind-more conn.0 i c (heartbeat_of p) _ (λ e q. held-more conn i c s s (enqueue c e) e w w.is refl refl)
     at false = bind-more conn.0 i c (stream_after s p) _ (λ t q. bind-more conn.0 i c (pending_of h.sums p h.written) _ (λ e r. held-more conn i c s t (extend c h t e) e w refl (after-conn s t p q) refl))
 
+packet-more : (i : ℕ) (c : ReplicaRecord) (conn : ConnId) (p : PacketExtent) → OneMore conn.0 i c (packet_transition c conn p)
+packet-more i c conn p =
+    bind-more conn.0 i c (present c) (λ h. check (is_writable (state_of h)) refusal.NotWriter (stream_by c.stream conn >>= (λ s. extent_transition c h s p)))
+    (λ h q. check-more conn.0 i c (is_writable (state_of h)) refusal.NotWriter (stream_by c.stream conn >>= (λ s. extent_transition c h s p))
+    (bind-more conn.0 i c (stream_by c.stream conn) (λ s. extent_transition c h s p) (λ s r. extent-more conn i c h s p (writes-of c.stream conn s r))))
+
 transition-more : (i : ℕ) (c : ReplicaRecord) (conn : ConnId) (seqno offset : ℤ) (bytes sums : ℕ) (last sync : Bool) (bad : Option ℕ)
     → OneMore conn.0 i c (transition c (event.Packet conn seqno offset bytes sums last sync bad))
 unfolding transition
 transition-more i c conn seqno offset bytes sums last sync bad =
-    bind-more conn.0 i c _ _ (λ h q. check-more conn.0 i c _ _ _ (bind-more conn.0 i c _ _ (λ s r. extent-more conn i c h s _ (writes-of c.stream conn s r))))
+    packet-more i c conn (record { seqno = seqno; offset = offset; length = bytes; sums = sums; last = last; sync = sync; bad = bad })
 
 pub packet-most : (i : ℕ) (c : ReplicaRecord) (conn : ConnId) (seqno offset : ℤ) (bytes sums : ℕ) (last sync : Bool) (bad : Option ℕ)
     → entries_by i (state_after c (event.Packet conn seqno offset bytes sums last sync bad)) ≤ entries_by i c + 3
@@ -209,8 +220,10 @@ acknowledge-pays conn c h s e good w q = record { is = λ a r. by-good good }
 ack-transition : (c : ReplicaRecord) (conn : ConnId) (seqno : ℤ) (good : Bool) → Pays conn.0 c (transition c (event.Ack conn seqno good))
 unfolding transition
 ack-transition c conn seqno good =
-    bind-pays conn.0 c _ _ (λ h p. bind-pays conn.0 c _ _ (λ s r. bind-pays conn.0 c _ _ (λ e q.
-    acknowledge-pays conn c h s e good (writes-of c.stream conn s r) (oldest-is (slice_get c.pending 0) seqno e q))))
+    bind-pays conn.0 c (present c) (λ h. stream_by c.stream conn >>= (λ s. oldest_of (slice_get c.pending 0) seqno >>= (λ e. done (acknowledge c h e good))))
+    (λ h p. bind-pays conn.0 c (stream_by c.stream conn) (λ s. oldest_of (slice_get c.pending 0) seqno >>= (λ e. done (acknowledge c h e good)))
+    (λ s r. bind-pays conn.0 c (oldest_of (slice_get c.pending 0) seqno) (λ e. done (acknowledge c h e good))
+    (λ e q. acknowledge-pays conn c h s e good (writes-of c.stream conn s r) (oldest-is (slice_get c.pending 0) seqno e q))))
 
 pub ack-pays : (c : ReplicaRecord) (conn : ConnId) (seqno : ℤ) (good : Bool) → booked_as (answer_to c (event.Ack conn seqno good)) ≡ booked.Taken
     → entries_by conn.0 (state_after c (event.Ack conn seqno good)) + 3 ≤ entries_by conn.0 c

@@ -24,7 +24,7 @@ cut-append f [] ys t = le-add (sum_by f (drop t ys)) (sum_by f (drop t [])) (sum
 cut-append f (x ∷ xs) ys zero = omega (arith, cut-append f xs ys zero, sum_by-cons f x xs, sum_by-cons f x (xs ++ ys))
 cut-append f (x ∷ xs) ys (suc t) = cut-append f xs ys t
 
-take-none : (e : ℕ) → take e ([] {A = Message}) ≡ []
+take-none : (e : ℕ) → ◌≡◌ {A = List Message} (take e []) []
 take-none zero = refl
 take-none (suc e) = refl
 

@@ -1,0 +1,80 @@
+-- What lower ends that are no members change, and reads that are served.
+use Rattle.std.proofs.Common.{◌≡◌, ℕ, ◌<◌, ◌≤◌, ◌+◌, ◌-◌, ◌*◌, Bool, true, false, List, [], ◌∷◌, Option, Some, None, IfSome, min, refl, sym, ap, ◌∙◌, subst, arith}
+use Rattle.std.specs.Prelude.{sum_by, ◌==◌, if◌then◌else◌}
+use Rattle.std.proofs.lemmas.Bool.Decides.{nat_tests}
+use Rattle.replica_core.specs.declared.events.Answer.{Answer}
+use Rattle.replica_core.specs.declared.events.Answer.TheVariants as answer
+use Rattle.replica_core.specs.declared.events.Event.{Event}
+use Rattle.replica_core.specs.declared.events.Event.TheVariants as event
+use Rattle.replica_model.specs.declared.events.ReplicaEvent.TheVariants as replica_event
+use Rattle.replica_model.specs.Rows.{FullReplica, row_answer, broken}
+use Rattle.read_core.specs.declared.serving.ServePhase.{ServePhase}
+use Rattle.read_core.specs.declared.serving.ServePhase.TheVariants as phase
+use Rattle.read_core.specs.Servings.{ServingState, most_bytes, piece_len, piece_event, next_call, call_at, phase_behind, gone_on, sent, sent_in, piece_as, piece_at, faulted_piece}
+use Rattle.world.specs.Parts.{Message, packet, Lower, idle, writes, serves, recovers, ended_below}
+use Rattle.world.specs.Worlds.{World, Change, apply}
+use Rattle.world.specs.Connections.{sent_on}
+use Rattle.world.specs.Nodes.{replica_at, breaking, piece_change, serve_change}
+use Rattle.world.specs.Nodes as nodes
+use Rattle.world_settling.specs.Traffic.{sum_to, down_way, up_way, up_weight, sides, lower_weight, serving_weight, entries, entries_of, entries_by, traffic}
+use Rattle.world_settling.proofs.Sums.{sum-le, sum-at}
+use Rattle.world_settling.proofs.Frame.{Eases, entries-each, downs-quiet, ups-sent, sides-same}
+use Rattle.world_settling.proofs.Outer.{conns-stay}
+use Rattle.world_settling.proofs.Rows.{other-calm}
+use Rattle.world_settling.proofs.Clients.{Falls}
+use Rattle.world_settling.proofs.Members.{lower-other, lower-here}
+
+-- A change of one lower end, which sends only up, and behind which nothing is pending there.
+pub record AtNode (w : World) (k : Change) (us : List Message) : Type 0 where
+  pub known : k.lower_at < w.next_conn
+  pub dials : k.dials ≡ []
+  pub downs : (c : ℕ) → k.downs c ≡ []
+  pub ups : (c : ℕ) → k.ups c ≡ sent_on (Some k.lower_at) us c
+  pub eases : (i : ℕ) → Eases w k i
+  pub free : entries_of k.lower (apply w k) k.lower_at ≡ 0
+
+pub node-frame : (w : World) (k : Change) (us : List Message) → AtNode w k us
+    → traffic (apply w k) + lower_weight (w.lowers k.lower_at) ≤ traffic w + sum_by up_weight us + lower_weight k.lower
+unfolding traffic
+node-frame w k us h =
+    let v : World = apply w k in
+    let c : ℕ = k.lower_at in
+    let n = conns-stay w k h.dials in
+    let lowers : sum_to (λ i. lower_weight (v.lowers i)) w.next_conn + lower_weight (w.lowers c) ≤ sum_to (λ i. lower_weight (w.lowers i)) w.next_conn + lower_weight (v.lowers c) =
+        sum-at (λ i. lower_weight (w.lowers i)) (λ i. lower_weight (v.lowers i)) w.next_conn c (λ i l ne. let e = ap lower_weight (lower-other w k i ne) in omega (arith, e)) h.known in
+    let held : sum_to (entries v) w.next_conn + entries w c ≤ sum_to (entries w) w.next_conn + entries v c =
+        sum-at (entries w) (entries v) w.next_conn c
+        (λ i l ne. let e = ap (λ (y : Lower). entries_of y v i) (lower-other w k i ne) in omega (arith, e, entries-each w k i (w.lowers i) l (h.eases i))) h.known in
+    let new-weight = ap lower_weight (lower-here w k) in
+    let new-held = ap (λ (y : Lower). entries_of y v c) (lower-here w k) in
+    omega (arith, downs-quiet w k h.downs, ups-sent w k c us h.ups, sides-same w k, lowers, held, new-weight, new-held, h.free, ap (sum_to (down_way v)) n, ap (sum_to (up_way v)) n,
+    ap (sum_to (sides v)) n, ap (sum_to (λ i. lower_weight (v.lowers i))) n, ap (sum_to (entries v)) n)
+
+sent-none : (d c : ℕ) → sent_on (Some d) [] c ≡ []
+sent-none d c = at (c == d)
+  where
+    at : (b : Bool) → ◌≡◌ {A = List Message} (if b then [] else []) []
+    at true = refl
+    at false = refl
+
+-- READS
+
+-- a packet of a read lowers what is still to be sent by more than it weighs
+gone-lighter : (s : ServingState) → s.phase ≡ phase.Sending → serving_weight (gone_on s).phase (gone_on s) + 3 ≤ serving_weight phase.Sending s
+unfolding gone_on piece_len
+gone-lighter s e = at (min (s.end - s.at) (most_bytes s.rule.chunk)) refl
+  where
+    at : (n : ℕ) → min (s.end - s.at) (most_bytes s.rule.chunk) ≡ n
+        → serving_weight (phase_behind n) (record s { at = s.at + n; phase = phase_behind n }) + 3 ≤ 3 * (s.end - s.at) + 3
+    at n q = by-none (n == 0) refl
+      where
+        by-none : (b : Bool) → (n == 0) ≡ b → serving_weight (if b then phase.Awaiting else phase.Sending) (record s { at = s.at + n; phase = if b then phase.Awaiting else phase.Sending }) + 3 ≤ 3 * (s.end - s.at) + 3
+        by-none true z = omega arith
+        by-none false z = let some : 1 ≤ n = grind (arith, nat_tests, z) in omega (arith, q, some)
+
+ending : (w : World) (c b : ℕ) (s : ServingState) → c < w.next_conn → w.lowers c ≡ serves b s → s.phase ≡ phase.Sending → Falls w 0 (nodes.closing w c)
+ending w c b s lt l p =
+    let frame = node-frame w (nodes.closing w c) [] (record { known = lt; dials = refl; downs = λ d. refl; ups = λ d. sym (sent-none c d); eases = λ i. omega arith; free = refl }) in
+    let weight : lower_weight (w.lowers c) ≡ serving_weight s.phase s = ap lower_weight l in
+    let sends : serving_weight s.phase s ≡ serving_weight phase.Sending s = ap (λ (x : ServePhase). serving_weight x s) p in
+    record { is = omega (arith, frame, weight, sends) }
