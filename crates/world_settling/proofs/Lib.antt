@@ -10,4 +10,5 @@ pub mod Members
 pub mod Turns
 pub mod MemberEnds
 pub mod Nodes
+pub mod Receiving
 pub mod Deliveries

@@ -36,11 +36,11 @@ onward-sent : (w : World) (k : Change) (o : Option ℕ) (ms : List Message) → 
 onward-sent w k None ms h b = omega (arith, downs-quiet w k h)
 onward-sent w k (Some d) ms h b = downs-sent w k d ms h b
 
-lower-other : (w : World) (k : Change) (i : ℕ) → (i ≡ k.lower_at → ⊥) → (apply w k).lowers i ≡ w.lowers i
+pub lower-other : (w : World) (k : Change) (i : ℕ) → (i ≡ k.lower_at → ⊥) → (apply w k).lowers i ≡ w.lowers i
 unfolding apply
 lower-other w k i ne = put-other w.lowers k.lower_at i k.lower ne
 
-lower-here : (w : World) (k : Change) → (apply w k).lowers k.lower_at ≡ k.lower
+pub lower-here : (w : World) (k : Change) → (apply w k).lowers k.lower_at ≡ k.lower
 unfolding apply
 lower-here w k = put-here w.lowers k.lower_at k.lower
 

@@ -1,5 +1,5 @@
 -- What lower ends that are no members change, and reads that are served.
-use Rattle.std.proofs.Common.{◌≡◌, ℕ, ◌<◌, ◌≤◌, ◌+◌, ◌-◌, ◌*◌, Bool, true, false, List, [], ◌∷◌, Option, Some, None, IfSome, min, refl, sym, ap, ◌∙◌, subst, arith}
+use Rattle.std.proofs.Common.{◌≡◌, ℕ, ◌<◌, ◌≤◌, ◌+◌, ◌-◌, ◌*◌, Bool, true, false, List, [], ◌∷◌, Option, Some, None, IfSome, min, Result, Ok, Err, refl, sym, ap, ◌∙◌, subst, arith}
 use Rattle.std.specs.Prelude.{sum_by, ◌==◌, if◌then◌else◌}
 use Rattle.std.proofs.lemmas.Bool.Decides.{nat_tests}
 use Rattle.replica_core.specs.declared.events.Answer.{Answer}
@@ -8,13 +8,21 @@ use Rattle.replica_core.specs.declared.events.Event.{Event}
 use Rattle.replica_core.specs.declared.events.Event.TheVariants as event
 use Rattle.replica_model.specs.declared.events.ReplicaEvent.TheVariants as replica_event
 use Rattle.replica_model.specs.Rows.{FullReplica, row_answer, broken}
+use Rattle.op_headers.specs.declared.ops.RecoveryKind.{RecoveryKind}
+use Rattle.op_headers.specs.declared.ops.RecoveryKind.TheVariants as kind
+use Rattle.op_headers.specs.declared.ops.RecoveryOp.{RecoveryOp}
+use Rattle.request_refusals.specs.declared.refusals.RequestRefusal.TheVariants as request_refusal
+use Rattle.request_refusals.specs.Pools.{is_in_pool}
+use Rattle.recovery_core.specs.declared.members.RecoveryReply.{RecoveryReply}
+use Rattle.recovery_core.specs.declared.members.RecoveryReply.TheVariants as reply
+use Rattle.recovery_core.specs.Members.{Served, no_recovery, step_event, recovery_event, answer_of, served_as, serve, serve_faulted}
 use Rattle.read_core.specs.declared.serving.ServePhase.{ServePhase}
 use Rattle.read_core.specs.declared.serving.ServePhase.TheVariants as phase
-use Rattle.read_core.specs.Servings.{ServingState, most_bytes, piece_len, piece_event, next_call, call_at, phase_behind, gone_on, sent, sent_in, piece_as, piece_at, faulted_piece}
-use Rattle.world.specs.Parts.{Message, packet, Lower, idle, writes, serves, recovers, ended_below}
+use Rattle.read_core.specs.Servings.{ServingState, most_bytes, piece_len, packet_of, piece_of, piece_event, next_call, call_at, phase_behind, gone_on, sent, sent_in, piece_as, piece_at, faulted_piece}
+use Rattle.world.specs.Parts.{Message, packet, recovery_answer, Break, Lower, idle, writes, serves, recovers, ended_below}
 use Rattle.world.specs.Worlds.{World, Change, apply}
 use Rattle.world.specs.Connections.{sent_on}
-use Rattle.world.specs.Nodes.{replica_at, breaking, piece_change, serve_change}
+use Rattle.world.specs.Nodes.{replica_at, breaking, piece_change, serve_change, recovery_change, failing_recovery, recovery_request}
 use Rattle.world.specs.Nodes as nodes
 use Rattle.world_settling.specs.Traffic.{sum_to, down_way, up_way, up_weight, sides, lower_weight, serving_weight, entries, entries_of, entries_by, traffic}
 use Rattle.world_settling.proofs.Sums.{sum-le, sum-at}
@@ -78,3 +86,76 @@ ending w c b s lt l p =
     let weight : lower_weight (w.lowers c) ≡ serving_weight s.phase s = ap lower_weight l in
     let sends : serving_weight s.phase s ≡ serving_weight phase.Sending s = ap (λ (x : ServePhase). serving_weight x s) p in
     record { is = omega (arith, frame, weight, sends) }
+
+-- a read that ends early, or is over
+serve-as : (w : World) (c b : ℕ) (s : ServingState) (a : Answer) → c < w.next_conn → w.lowers c ≡ serves b s → s.phase ≡ phase.Sending
+    → Falls w 0 (piece_change w c b (piece_as s (replica_at w c b) a))
+serve-as w c b s (answer.Visible n) lt l p =
+    let k : Change = piece_change w c b (piece_as s (replica_at w c b) (answer.Visible n)) in
+    let frame = node-frame w k (packet (packet_of s (piece_of (replica_at w c b) s)) ∷ []) (record { known = lt; dials = refl; downs = λ d. refl; ups = λ d. refl; eases = λ i. omega arith; free = refl }) in
+    let weight : lower_weight (w.lowers c) ≡ serving_weight s.phase s = ap lower_weight l in
+    let sends : serving_weight s.phase s ≡ serving_weight phase.Sending s = ap (λ (x : ServePhase). serving_weight x s) p in
+    let goes : sent s ≡ gone_on s = ap (λ (x : ServePhase). sent_in x s) p in
+    let after = ap (λ (t : ServingState). serving_weight t.phase t) goes in
+    record { is = omega (arith, frame, weight, sends, after, gone-lighter s p) }
+serve-as w c b s answer.Done lt l p = ending w c b s lt l p
+serve-as w c b s (answer.Info x y z) lt l p = ending w c b s lt l p
+serve-as w c b s (answer.Refused r) lt l p = ending w c b s lt l p
+
+broken-read : (w : World) (c b : ℕ) (s : ServingState) (e : Event) → c < w.next_conn → w.lowers c ≡ serves b s → s.phase ≡ phase.Sending
+    → Falls w 0 (breaking w c b (faulted_piece s (replica_at w c b)).0 (replica_event.Other e) [])
+broken-read w c b s e lt l p =
+    let frame = node-frame w (breaking w c b (faulted_piece s (replica_at w c b)).0 (replica_event.Other e) []) []
+        (record { known = lt; dials = refl; downs = λ d. refl; ups = λ d. refl; eases = λ i. other-calm i (replica_at w c b).known event.FileFault refl; free = refl }) in
+    let weight : lower_weight (w.lowers c) ≡ serving_weight s.phase s = ap lower_weight l in
+    let sends : serving_weight s.phase s ≡ serving_weight phase.Sending s = ap (λ (x : ServePhase). serving_weight x s) p in
+    record { is = omega (arith, frame, weight, sends) }
+
+pub serve-falls : (w : World) (c b : ℕ) (s : ServingState) (fails : Bool) → c < w.next_conn → w.lowers c ≡ serves b s → IfSome (serve_change w c b s (next_call s) fails) (Falls w 0)
+serve-falls w c b s fails lt l = at s.phase refl fails
+  where
+    at : (x : ServePhase) → s.phase ≡ x → (f : Bool) → IfSome (serve_change w c b s (call_at x s) f) (Falls w 0)
+    at phase.Sending p true = broken-read w c b s (piece_event s) lt l p
+    at phase.Sending p false = serve-as w c b s (row_answer (replica_at w c b) (replica_event.Other (piece_event s))) lt l p
+    at phase.Awaiting p f = tt
+    at phase.Over p f = tt
+
+-- WHAT IS TAKEN FROM ABOVE BY OTHERS THAN MEMBERS
+
+pub closing-falls : (w : World) (c paid : ℕ) → c < w.next_conn → 1 ≤ paid → Falls w paid (nodes.closing w c)
+closing-falls w c paid lt p =
+    let frame = node-frame w (nodes.closing w c) [] (record { known = lt; dials = refl; downs = λ d. refl; ups = λ d. sym (sent-none c d); eases = λ i. omega arith; free = refl }) in
+    record { is = omega (arith, frame, p) }
+
+pub recovery-falls : (w : World) (c paid : ℕ) (r : RecoveryOp) (s : Served) (b : Option Break) → c < w.next_conn → 3 ≤ paid
+    → ((i : ℕ) → entries_by i s.replica.known ≤ entries_by i (replica_at w c r.block.block.0).known) → Falls w paid (recovery_change w c r s b)
+recovery-falls w c paid r s b lt p calm =
+    let frame = node-frame w (recovery_change w c r s b) (recovery_answer (answer_of s.reply) ∷ []) (record { known = lt; dials = refl; downs = λ d. refl; ups = λ d. refl; eases = calm; free = refl }) in
+    record { is = omega (arith, frame, p) }
+
+-- an event of a block recovery makes nothing pending
+served-calm : (i : ℕ) (r : FullReplica) (op : RecoveryOp) → entries_by i (serve r op).replica.known ≤ entries_by i r.known
+unfolding recovery_event
+served-calm i r op = at (is_in_pool op.block)
+  where
+    by-init : (t : Bool) → entries_by i (served_as r (if t then Err no_recovery else Ok (event.Init op.block.stamp op.recovery))).replica.known ≤ entries_by i r.known
+    by-init true = omega arith
+    by-init false = other-calm i r.known (event.Init op.block.stamp op.recovery) refl
+
+    by-kind : (k : RecoveryKind) → entries_by i (served_as r (step_event k op)).replica.known ≤ entries_by i r.known
+    by-kind kind.Begin = omega arith
+    by-kind kind.Init = by-init (op.recovery.0 == 0)
+    by-kind kind.Update = other-calm i r.known (event.Update op.recovery op.new_length) refl
+
+    at : (t : Bool) → entries_by i (served_as r (if t then step_event op.kind op else Err (reply.Refused request_refusal.Pool))).replica.known ≤ entries_by i r.known
+    at true = by-kind op.kind
+    at false = omega arith
+
+failing-recovery-falls : (w : World) (c paid : ℕ) (r : RecoveryOp) (e : Result Event RecoveryReply) → c < w.next_conn → 3 ≤ paid → IfSome (failing_recovery w c r e) (Falls w paid)
+failing-recovery-falls w c paid r (Err said) lt p = tt
+failing-recovery-falls w c paid r (Ok e) lt p = recovery-falls w c paid r (serve_faulted (replica_at w c r.block.block.0)) _ lt p (λ i. other-calm i (replica_at w c r.block.block.0).known event.FileFault refl)
+
+pub recovery-request-falls : (w : World) (c paid : ℕ) (r : RecoveryOp) (fails : Bool) → c < w.next_conn → 3 ≤ paid → IfSome (recovery_request w c r fails) (Falls w paid)
+recovery-request-falls w c paid r true lt p = failing-recovery-falls w c paid r (recovery_event r) lt p
+recovery-request-falls w c paid r false lt p =
+    recovery-falls w c paid r (serve (replica_at w c r.block.block.0) r) _ lt p (λ i. served-calm i (replica_at w c r.block.block.0) r)

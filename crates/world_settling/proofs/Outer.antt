@@ -192,7 +192,7 @@ where-keeps : (w v : World) (test : Bool) → traffic v ≤ traffic w → IfSome
 where-keeps w v true h = h
 where-keeps w v false h = tt
 
-named-keeps : (v : World) (e : Event) → traffic (record v { last = Some e }) ≤ traffic v
+pub named-keeps : (v : World) (e : Event) → traffic (record v { last = Some e }) ≤ traffic v
 unfolding traffic
 named-keeps v e =
     let u : World = record v { last = Some e } in

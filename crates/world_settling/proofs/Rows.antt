@@ -1,12 +1,16 @@
 -- What book calls make of the entries that are pending at a replica.
 use Rattle.std.proofs.Common.{◌≡◌, ℕ, ℤ, negsuc, ◌<◌, ◌≤◌, ◌+◌, ◌*◌, Bool, true, false, List, [], ◌∷◌, ◌++◌, length, drop, slice_get, Option, Some, None, option_map, Result, Ok, Err, length-append, length-drop, refl, sym, ap, ◌∙◌, subst, arith, eqb-true}
-use Rattle.std.specs.Prelude.{◌==◌, ◌-◌, if◌then◌else◌}
+use Rattle.std.specs.Prelude.{◌==◌, ◌-◌, not, is_none, if◌then◌else◌}
 use Rattle.std.proofs.lemmas.Bool.Decides.{nat_tests}
 use Rattle.std.proofs.lemmas.Bool.{ne_eqb, false≢true}
 use Rattle.std.proofs.lemmas.Option.{none-some, same_Some}
 use Rattle.std.specs.Ordering.{int_eq}
 use Rattle.hd_base.specs.Results.{◌>>=◌}
 use Rattle.hd_base.specs.declared.numbers.ConnId.{ConnId}
+use Rattle.hd_base.specs.declared.numbers.Stamp.{Stamp}
+use Rattle.hd_base.specs.declared.states.ReplicaState.{ReplicaState}
+use Rattle.hd_base.specs.declared.states.ReplicaState.TheVariants as state
+use Rattle.hd_base.specs.SumRules.{Rule}
 use Rattle.replica_core.specs.declared.ack_queue.PendingPacket.{PendingPacket}
 use Rattle.replica_core.specs.declared.events.Answer.{Answer}
 use Rattle.replica_core.specs.declared.events.Answer.TheVariants as answer
@@ -19,9 +23,9 @@ use Rattle.replica_core.specs.declared.refusals.Refusal.{Refusal}
 use Rattle.replica_core.specs.declared.refusals.Refusal.TheVariants as refusal
 use Rattle.replica_core.specs.declared.streams.Stream.{Stream}
 use Rattle.replica_core.specs.Extents.{stream_after, heartbeat_of, pending_of}
-use Rattle.replica_core.specs.Info.{close_stream, advance_acked, is_writable, state_of}
+use Rattle.replica_core.specs.Info.{close_stream, advance_acked, is_writable, state_of, settled_at, reopen, recover_setup, recover_stream, begin_recovery, end_recovery, readable, visible_of, given}
 use Rattle.replica_core.specs.Refusals.{check}
-use Rattle.replica_core.specs.Transitions.{Taken, Outcome, done, present, record_after, set_writer, with_writer, new_transition, stream_by, enqueue, extend, extent_transition, packet_transition, acknowledge, oldest_of, ack_transition, is_written_by, end_connection, mark_broken, transition, state_after, answer_of, answer_to, reply}
+use Rattle.replica_core.specs.Transitions.{Taken, Outcome, done, present, record_after, set_writer, with_writer, new_transition, init_transition, stream_by, enqueue, extend, extent_transition, packet_transition, acknowledge, oldest_of, ack_transition, is_written_by, end_connection, mark_broken, transition, state_after, answer_of, answer_to, reply}
 use Rattle.member_core.specs.declared.turns.Booked.TheVariants as booked
 use Rattle.member_core.specs.Steps.{booked_as}
 use Rattle.world_settling.specs.Traffic.{entries_by}
@@ -75,21 +79,47 @@ abbrev pub IsPacket : Event → Bool
 IsPacket (event.Packet conn seqno offset bytes sums last sync bad) = true
 IsPacket _ = false
 
+new-calm : (i : ℕ) (c : ReplicaRecord) (original : ReplicaState) (conn : ConnId) (stamp : Stamp) (sums : Rule) → Calm i c (new_transition c original conn stamp sums)
+new-calm i c original conn stamp sums =
+    let o : Outcome = done (set_writer c (settled_at original stamp sums 0) (Some conn)) in
+    check-calm i c (not c.is_broken) refusal.Broken (check (is_none c.info) refusal.Exists o)
+    (check-calm i c (is_none c.info) refusal.Exists o (set-calm i c (settled_at original stamp sums 0) (Some conn)))
+
+present-calm : (i : ℕ) (c : ReplicaRecord) (w : Option ConnId) (g : ReplicaInfo → Result ReplicaInfo Refusal) → Calm i c (present c >>= (λ h. with_writer c w (g h)))
+present-calm i c w g = bind-calm i c (present c) (λ h. with_writer c w (g h)) (λ h. with-calm i c w (g h))
+
+seen-calm : (i : ℕ) (c : ReplicaRecord) (g : ReplicaInfo → Result ℕ Refusal) → Calm i c (present c >>= (λ h. g h >>= (λ v. Ok (record { replica = c; answer = answer.Visible v }))))
+seen-calm i c g =
+    bind-calm i c (present c) (λ h. g h >>= (λ v. Ok (record { replica = c; answer = answer.Visible v })))
+    (λ h. bind-calm i c (g h) (λ v. Ok (record { replica = c; answer = answer.Visible v })) (λ v. same-calm i c (answer.Visible v)))
+
+init-calm : (i : ℕ) (c : ReplicaRecord) (named recovery : Stamp) → Calm i c (init_transition c named recovery)
+init-calm i c named recovery =
+    bind-calm i c (present c) (λ h. begin_recovery h named recovery >>= (λ k. Ok (record { replica = set_writer c k None; answer = answer.Info h.original h.stamp h.written })))
+    (λ h. bind-calm i c (begin_recovery h named recovery) (λ k. Ok (record { replica = set_writer c k None; answer = answer.Info h.original h.stamp h.written }))
+    (λ k. record { is = (set-calm i c k None).is }))
+
+ack-calm : (i : ℕ) (c : ReplicaRecord) (conn : ConnId) (seqno : ℤ) (good : Bool) → Calm i c (ack_transition c conn seqno good)
+ack-calm i c conn seqno good =
+    bind-calm i c (present c) (λ h. stream_by c.stream conn >>= (λ s. oldest_of (slice_get c.pending 0) seqno >>= (λ e. done (acknowledge c h e good))))
+    (λ h. bind-calm i c (stream_by c.stream conn) (λ s. oldest_of (slice_get c.pending 0) seqno >>= (λ e. done (acknowledge c h e good)))
+    (λ s. bind-calm i c (oldest_of (slice_get c.pending 0) seqno) (λ e. done (acknowledge c h e good)) (λ e. acknowledge-calm i c h e good)))
+
 transition-calm : (i : ℕ) (c : ReplicaRecord) (e : Event) → IsPacket e ≡ false → Calm i c (transition c e)
 unfolding transition
-transition-calm i c (event.Create conn stamp sums) n = check-calm i c _ _ _ (check-calm i c _ _ _ (set-calm i c _ _))
-transition-calm i c (event.Temporary conn stamp sums) n = check-calm i c _ _ _ (check-calm i c _ _ _ (set-calm i c _ _))
-transition-calm i c (event.Append conn named new bytes) n = bind-calm i c _ _ (λ h. with-calm i c _ _)
-transition-calm i c (event.AppendRecovery conn named new bytes) n = bind-calm i c _ _ (λ h. with-calm i c _ _)
-transition-calm i c (event.StreamRecovery conn named new low high) n = bind-calm i c _ _ (λ h. with-calm i c _ _)
-transition-calm i c (event.CloseRecovery named new bytes) n = bind-calm i c _ _ (λ h. with-calm i c _ _)
+transition-calm i c (event.Create conn stamp sums) n = new-calm i c state.Rbw conn stamp sums
+transition-calm i c (event.Temporary conn stamp sums) n = new-calm i c state.Temporary conn stamp sums
+transition-calm i c (event.Append conn named new bytes) n = present-calm i c (Some conn) (λ h. reopen h named new bytes)
+transition-calm i c (event.AppendRecovery conn named new bytes) n = present-calm i c (Some conn) (λ h. recover_setup h named new bytes state.Rbw)
+transition-calm i c (event.StreamRecovery conn named new low high) n = present-calm i c (Some conn) (λ h. recover_stream h named new low high)
+transition-calm i c (event.CloseRecovery named new bytes) n = present-calm i c None (λ h. recover_setup h named new bytes state.Finalized)
 transition-calm i c (event.Packet conn seqno offset bytes sums last sync bad) n = absurd (false≢true (sym n))
-transition-calm i c (event.Ack conn seqno good) n = bind-calm i c _ _ (λ h. bind-calm i c _ _ (λ s. bind-calm i c _ _ (λ e. acknowledge-calm i c h e good)))
+transition-calm i c (event.Ack conn seqno good) n = ack-calm i c conn seqno good
 transition-calm i c (event.Ended conn) n = ended-calm i c (is_written_by c.stream conn)
-transition-calm i c (event.Init named recovery) n = bind-calm i c _ _ (λ h. bind-calm i c _ _ (λ k. record { is = (set-calm i c k None).is }))
-transition-calm i c (event.Update recovery bytes) n = bind-calm i c _ _ (λ h. with-calm i c _ _)
-transition-calm i c (event.Read named offset bytes) n = bind-calm i c _ _ (λ h. bind-calm i c _ _ (λ v. same-calm i c (answer.Visible v)))
-transition-calm i c (event.Give named offset bytes) n = bind-calm i c _ _ (λ h. bind-calm i c _ _ (λ v. same-calm i c (answer.Visible v)))
+transition-calm i c (event.Init named recovery) n = init-calm i c named recovery
+transition-calm i c (event.Update recovery bytes) n = present-calm i c None (λ h. end_recovery h h.recovery recovery bytes)
+transition-calm i c (event.Read named offset bytes) n = seen-calm i c (λ h. readable h (visible_of h) named offset bytes)
+transition-calm i c (event.Give named offset bytes) n = seen-calm i c (λ h. given h named offset bytes)
 transition-calm i c event.FileFault n = record { is = omega arith }
 
 pub other-calm : (i : ℕ) (c : ReplicaRecord) (e : Event) → IsPacket e ≡ false → entries_by i (state_after c e) ≤ entries_by i c

@@ -32,6 +32,7 @@ use Rattle.member_core.specs.declared.effects.Upward.{Upward}
 use Rattle.member_core.specs.declared.member.Mirror.{Mirror}
 use Rattle.member_core.specs.declared.turns.Booked.{Booked}
 use Rattle.member_core.specs.declared.turns.Booked.TheVariants as booked
+use Rattle.member_core.specs.declared.turns.Side.{Side}
 use Rattle.member_core.specs.declared.turns.Side.TheVariants as side
 use Rattle.member_core.specs.declared.turns.Turn.{Turn}
 use Rattle.member_core.specs.Members.{MemberState, is_waiting, turn_of, no_effect, sending, shut_both, closed_by, cut_off, refused_turn, settled, ended_call, bad_turn, partial_turn, fail_turn, good_turn, give_up_turn, idle_turn, quiet_turn, patient_turn, ready_at, ready_turn, accept_turn, setup_turn, ack_turn, pass_turn, failed_turn, spoiled_turn, stream_turn, up_at, up_turn, answered_turn, named_bad, hears}
@@ -65,21 +66,21 @@ closed-quieter true m x l = omega arith
 closed-quieter false m x l = quieter m x l
 
 -- a book call that isn't a packet and is refused cuts the member off
-refused-cut : (m : MemberState) (e : Event) (x : Mirror) (f : Effect) (y : Refusal)
-    → refused_turn m (turn_of side.Responder (Some (replica_event.Other e)) x f) y ≡ cut_off m (turn_of side.Responder (Some (replica_event.Other e)) x f)
-refused-cut m e x f refusal.NoReplica = refl
-refused-cut m e x f refusal.Exists = refl
-refused-cut m e x f (refusal.WrongState a) = refl
-refused-cut m e x f (refusal.Stale a b c) = refl
-refused-cut m e x f (refusal.LengthOut a b c d) = refl
-refused-cut m e x f refusal.NotWriter = refl
-refused-cut m e x f (refusal.Gap a b) = refl
-refused-cut m e x f (refusal.BadSum a) = refl
-refused-cut m e x f (refusal.Piece a) = refl
-refused-cut m e x f refusal.Broken = refl
-refused-cut m e x f (refusal.RecoveryHeld a) = refl
-refused-cut m e x f (refusal.Seqno a b) = refl
-refused-cut m e x f (refusal.OutOfRange a) = refl
+pub refused-cut : (m : MemberState) (a : Side) (e : Event) (x : Mirror) (f : Effect) (y : Refusal)
+    → refused_turn m (turn_of a (Some (replica_event.Other e)) x f) y ≡ cut_off m (turn_of a (Some (replica_event.Other e)) x f)
+refused-cut m z e x f refusal.NoReplica = refl
+refused-cut m z e x f refusal.Exists = refl
+refused-cut m z e x f (refusal.WrongState a) = refl
+refused-cut m z e x f (refusal.Stale a b c) = refl
+refused-cut m z e x f (refusal.LengthOut a b c d) = refl
+refused-cut m z e x f refusal.NotWriter = refl
+refused-cut m z e x f (refusal.Gap a b) = refl
+refused-cut m z e x f (refusal.BadSum a) = refl
+refused-cut m z e x f (refusal.Piece a) = refl
+refused-cut m z e x f refusal.Broken = refl
+refused-cut m z e x f (refusal.RecoveryHeld a) = refl
+refused-cut m z e x f (refusal.Seqno a b) = refl
+refused-cut m z e x f (refusal.OutOfRange a) = refl
 
 -- ACKS
 
@@ -101,7 +102,7 @@ ack-balances c m r q g x u over paid responds is l = by-booked (booked_as (row_a
     by-booked : (b : Booked) → (b ≡ booked.Taken → entries_by c (row r (replica_event.Other (event.Ack m.state.conn q g))).known + 3 ≤ entries_by c r.known)
         → Balances c m r (with_replica (row r (replica_event.Other (event.Ack m.state.conn q g))) (settled m.state (turn_of side.Responder (Some (replica_event.Other (event.Ack m.state.conn q g))) x (sending u over)) b)) paid
     by-booked booked.Taken p = record { is = omega (arith, p refl, closed-quieter over m.state x l); forwards = refl }
-    by-booked (booked.Refused y) p = rw (refused-cut m.state (event.Ack m.state.conn q g) x (sending u over) y) cut
+    by-booked (booked.Refused y) p = rw (refused-cut m.state side.Responder (event.Ack m.state.conn q g) x (sending u over) y) cut
     by-booked booked.Failed p = cut
 
 -- SHUTS
@@ -118,7 +119,7 @@ telling-balances c m r x u paid responds l = by-booked (booked_as (row_answer r 
     by-booked : (b : Booked) → Balances c m r (with_replica (row r (replica_event.Other (event.Ended m.state.conn)))
         (settled m.state (turn_of side.Responder (Some (replica_event.Other (event.Ended m.state.conn))) x (sending u true)) b)) paid
     by-booked booked.Taken = record { is = omega (arith, calm, l, weighs m.state responds); forwards = refl }
-    by-booked (booked.Refused y) = rw (refused-cut m.state (event.Ended m.state.conn) x (sending u true) y) (record { is = omega (arith, calm, weighs m.state responds); forwards = refl })
+    by-booked (booked.Refused y) = rw (refused-cut m.state side.Responder (event.Ended m.state.conn) x (sending u true) y) (record { is = omega (arith, calm, weighs m.state responds); forwards = refl })
     by-booked booked.Failed = record { is = omega (arith, calm, weighs m.state responds); forwards = refl }
 
 -- A turn without a book call that sends nothing and shuts.
@@ -140,7 +141,7 @@ ended-balances c m r x paid responds = by-booked (booked_as (row_answer r (repli
     by-booked : (b : Booked) → Balances c m r (with_replica (row r (replica_event.Other (event.Ended m.state.conn)))
         (settled m.state (turn_of side.Responder (Some (replica_event.Other (event.Ended m.state.conn))) x shut_both) b)) paid
     by-booked booked.Taken = shut shut_both
-    by-booked (booked.Refused y) = rw (refused-cut m.state (event.Ended m.state.conn) x shut_both y) cut
+    by-booked (booked.Refused y) = rw (refused-cut m.state side.Responder (event.Ended m.state.conn) x shut_both y) cut
     by-booked booked.Failed = cut
 
 -- The setup is answered: the answer was owed.
