@@ -3,10 +3,12 @@ use Rattle.std.proofs.Common.{◌≡◌, ℕ, ◌<◌, ◌≤◌, ◌+◌, Bool,
 use Rattle.std.specs.Prelude.{is_some, nat_lt, ◌&&◌, if◌then◌else◌}
 use Rattle.std.proofs.lemmas.Bool.Decides.{nat_tests}
 use Rattle.std.proofs.lemmas.Bool.{false≢true}
+use Rattle.hd_base.specs.SumRules.{Rule, IsChunkSize}
 use Rattle.op_headers.specs.declared.ops.Op.{Op}
 use Rattle.op_headers.specs.declared.ops.Op.TheVariants as op
 use Rattle.op_headers.specs.declared.ops.ReadOp.{ReadOp}
 use Rattle.op_headers.specs.Values.{WriteFields}
+use Rattle.replica_core.specs.Views.{rule_in}
 use Rattle.read_core.specs.Servings.{ServingState, next_call}
 use Rattle.world.specs.declared.events.Delivery.{Delivery}
 use Rattle.world.specs.declared.events.Delivery.TheVariants as delivery
@@ -15,7 +17,7 @@ use Rattle.world.specs.declared.events.Event.TheVariants as event
 use Rattle.world.specs.Parts.{Message, request, packet, ack, response, read_status, recovery_answer, Upper, by_writer, by_member, by_reader, by_primary, FullMember, Lower, idle, writes, serves, recovers, ended_below}
 use Rattle.world.specs.Worlds.{World, Change, start, apply}
 use Rattle.world.specs.Connections.{Next, message, the_end, next_down, next_up, down_taken, up_taken, is_alive, is_served}
-use Rattle.world.specs.Nodes.{closing, unless_failing, write_request, read_request, first_message, next_recovery, lower_down, lower_ready, mirror_up}
+use Rattle.world.specs.Nodes.{node_of, closing, unless_failing, write_request, read_request, first_message, next_recovery, lower_down, lower_ready, mirror_up}
 use Rattle.world.specs.Clients.{writer_up, reader_up}
 use Rattle.world.specs.Primaries.{primary_up}
 use Rattle.world.specs.Events.{changed, down_as, down_event, ready_event, unless_fails, upper_up, up_as, up_event, fault_event, outcome, after_event, is_enabled, happens, run}
@@ -28,6 +30,8 @@ use Rattle.world_settling.proofs.Clients.{Falls, writer-falls, reader-falls, pri
 use Rattle.world_settling.proofs.Members.{Stands}
 use Rattle.world_settling.proofs.MemberEnds.{ready-falls, up-falls}
 use Rattle.world_settling.proofs.Receiving.{down-pays, member-down-falls}
+use Rattle.world_settling.proofs.Requests.{IsNew, write-falls}
+use Rattle.world_settling.proofs.Reads.{read-falls}
 use Rattle.world_settling.proofs.Nodes.{serve-falls, closing-falls, recovery-request-falls}
 
 -- WHAT IS USED OF THE WORLD
@@ -40,6 +44,8 @@ pub record IsMember (w : World) (c : ℕ) (m : FullMember) : Type 0 where
 
 pub record Chained (w : World) : Type 0 where
   pub first : (c : ℕ) → c < w.next_conn → HasFirst (w.downs c)
+  pub new : IsNew w
+  pub rules : (n b : ℕ) → IfSome (rule_in (w.replicas n b).known) (λ (r : Rule). IsChunkSize r.chunk)
   pub uppers : (c d : ℕ) → c < w.next_conn → (w.dialled c).upper ≡ by_member d → d < w.next_conn
   pub members : (c : ℕ) (m : FullMember) → w.lowers c ≡ writes m → IsMember w c m
 
@@ -47,6 +53,8 @@ taken-up : (w : World) (c : ℕ) (x : Next) → Chained w → Chained (up_taken 
 unfolding up_taken
 taken-up w c x h = record {
   first = h.first;
+  new = record { downs = h.new.downs; ups = h.new.ups; lower = h.new.lower };
+  rules = h.rules;
   uppers = h.uppers;
   members = λ d m e. let k = h.members d m e in record { conn = k.conn; dialled = k.dialled; fewer = k.fewer };
 }
@@ -55,6 +63,8 @@ taken-down : (w : World) (c : ℕ) (x : Next) → Chained w → Chained (down_ta
 unfolding down_taken
 taken-down w c x h = record {
   first = h.first;
+  new = record { downs = h.new.downs; ups = h.new.ups; lower = h.new.lower };
+  rules = h.rules;
   uppers = h.uppers;
   members = λ d m e. let k = h.members d m e in record { conn = k.conn; dialled = k.dialled; fewer = k.fewer };
 }
@@ -124,21 +134,13 @@ ready-lower w c fails h =
 
 -- DOWN
 
--- a write request
-write-falls : (w : World) (c : ℕ) (f : WriteFields) (answered fails : Bool) → Chained w → c < w.next_conn → IfSome (write_request w c f answered fails) (Falls w (request_weight (op.Write f)))
-write-falls w c f answered fails h lt = ?
-
--- a read request
-read-falls : (w : World) (c : ℕ) (r : ReadOp) (fails : Bool) → Chained w → c < w.next_conn → IfSome (read_request w c r fails) (Falls w (request_weight (op.Read r)))
-read-falls w c r fails h lt = ?
-
 closes-unless : (w : World) (c paid : ℕ) (fails : Bool) → c < w.next_conn → 1 ≤ paid → IfSome (unless_failing fails (closing w c)) (Falls w paid)
 closes-unless w c paid true lt p = tt
 closes-unless w c paid false lt p = closing-falls w c paid lt p
 
 first-falls : (w : World) (c : ℕ) (m : Message) (answered fails : Bool) → Chained w → c < w.next_conn → IfSome (first_message w c m answered fails) (Falls w (down_paid (hops w c) (message m)))
-first-falls w c (request (op.Write f)) answered fails h lt = write-falls w c f answered fails h lt
-first-falls w c (request (op.Read r)) answered fails h lt = read-falls w c r fails h lt
+first-falls w c (request (op.Write f)) answered fails h lt = write-falls w c f answered fails h.new lt
+first-falls w c (request (op.Read r)) answered fails h lt = read-falls w c r fails lt (h.rules (node_of w c) r.block.block.0)
 first-falls w c (request (op.Recovery r)) answered fails h lt = recovery-request-falls w c 3 r fails lt (omega arith)
 first-falls w c (request (op.Transfer r)) answered fails h lt = closes-unless w c 3 fails lt (omega arith)
 first-falls w c (request (op.Checksum r)) answered fails h lt = closes-unless w c 3 fails lt (omega arith)

@@ -138,7 +138,7 @@ pub record HasFirst (xs : List Message) : Type 0 where
   pub message : Message
   pub is : slice_get xs 0 ≡ Some message
 
-sent-else : (d c : ℕ) (ms : List Message) → (c ≡ d → ⊥) → sent_on (Some d) ms c ≡ []
+pub sent-else : (d c : ℕ) (ms : List Message) → (c ≡ d → ⊥) → sent_on (Some d) ms c ≡ []
 sent-else d c ms ne = rw (ne_eqb c d ne) refl
 
 sent-here : (d : ℕ) (ms : List Message) → sent_on (Some d) ms d ≡ ms

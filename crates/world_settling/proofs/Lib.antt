@@ -11,4 +11,6 @@ pub mod Turns
 pub mod MemberEnds
 pub mod Nodes
 pub mod Receiving
+pub mod Requests
+pub mod Reads
 pub mod Deliveries

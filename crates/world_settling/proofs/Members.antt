@@ -21,7 +21,7 @@ itself n = grind (arith, nat_tests)
 here-put : (w : World) (k : Change) (n b : ℕ) → k.node ≡ n → k.block ≡ b → put_at w.replicas k.node k.block k.replica n b ≡ k.replica
 here-put w k n b p q = rw p (rw q (rw (itself n) (rw (itself b) refl)))
 
-here-replica : (w : World) (k : Change) (c b : ℕ) → c < w.next_conn → k.node ≡ node_of w c → k.block ≡ b → replica_at (apply w k) c b ≡ k.replica
+pub here-replica : (w : World) (k : Change) (c b : ℕ) → c < w.next_conn → k.node ≡ node_of w c → k.block ≡ b → replica_at (apply w k) c b ≡ k.replica
 unfolding apply
 here-replica w k c b lt n l =
     subst (λ (d : Dialled). put_at w.replicas k.node k.block k.replica d.to.node b ≡ k.replica) (sym (old-dialled w k c lt)) (here-put w k (w.dialled c).to.node b n l)

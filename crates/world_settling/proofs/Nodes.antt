@@ -58,7 +58,7 @@ node-frame w k us h =
     omega (arith, downs-quiet w k h.downs, ups-sent w k c us h.ups, sides-same w k, lowers, held, new-weight, new-held, h.free, ap (sum_to (down_way v)) n, ap (sum_to (up_way v)) n,
     ap (sum_to (sides v)) n, ap (sum_to (λ i. lower_weight (v.lowers i))) n, ap (sum_to (entries v)) n)
 
-sent-none : (d c : ℕ) → sent_on (Some d) [] c ≡ []
+pub sent-none : (d c : ℕ) → sent_on (Some d) [] c ≡ []
 sent-none d c = at (c == d)
   where
     at : (b : Bool) → ◌≡◌ {A = List Message} (if b then [] else []) []

@@ -16,7 +16,7 @@ use Rattle.member_core.specs.declared.effects.Shuts.TheVariants as shuts
 use Rattle.member_core.specs.declared.turns.Side.TheVariants as side
 use Rattle.member_core.specs.declared.turns.Booked.{Booked}
 use Rattle.member_core.specs.declared.turns.Booked.TheVariants as booked
-use Rattle.member_core.specs.Members.{MemberState, is_waiting, no_effect, has_mirror, kept_bad, settled, down_turn}
+use Rattle.member_core.specs.Members.{MemberState, is_waiting, no_effect, cut_off, has_mirror, kept_bad, settled, down_turn}
 use Rattle.member_core.specs.Steps.{Step, step, faulted_step, with_replica, booked_as}
 use Rattle.member_core.specs.declared.inputs.FromAbove.TheVariants as above
 use Rattle.world.specs.Parts.{Message, request, packet, ack, response, read_status, recovery_answer, FullMember, Break}
@@ -146,22 +146,35 @@ unreadable-down w c m x true paid st p = tt
 unreadable-down w c m x false paid st p =
     plain-falls w c m x (step m.state (replica_at w c (block_of m.fields)) (down_turn m.state above.Unreadable)) _ paid st refl refl refl (λ i. omega arith) p
 
+-- what follows the booking of the end
+end-at : (w : World) (c : ℕ) (m : FullMember) (x : Next) (paid : ℕ) → Stands w c m → 1 ≤ paid → (b : Booked)
+    → Falls w paid (member_change w c m x (with_replica (row (replica_at w c (block_of m.fields)) (replica_event.Other (event.Ended m.state.conn))) (settled m.state (down_turn m.state above.End) b))
+        (w.breaks (node_of w c) (block_of m.fields)))
+end-at w c m x paid st p booked.Taken =
+    let r : FullReplica = replica_at w c (block_of m.fields) in
+    let e : ReplicaEvent = replica_event.Other (event.Ended m.state.conn) in
+    plain-falls w c m x (with_replica (row r e) (settled m.state (down_turn m.state above.End) booked.Taken)) (w.breaks (node_of w c) (block_of m.fields)) paid st refl refl refl
+    (λ i. other-calm i r.known (event.Ended m.state.conn) refl) p
+end-at w c m x paid st p booked.Failed =
+    let r : FullReplica = replica_at w c (block_of m.fields) in
+    let e : ReplicaEvent = replica_event.Other (event.Ended m.state.conn) in
+    plain-falls w c m x (with_replica (row r e) (settled m.state (down_turn m.state above.End) booked.Failed)) (w.breaks (node_of w c) (block_of m.fields)) paid st refl refl refl
+    (λ i. other-calm i r.known (event.Ended m.state.conn) refl) p
+end-at w c m x paid st p (booked.Refused y) =
+    let r : FullReplica = replica_at w c (block_of m.fields) in
+    let e : ReplicaEvent = replica_event.Other (event.Ended m.state.conn) in
+    let cut : Falls w paid (member_change w c m x (with_replica (row r e) (cut_off m.state (down_turn m.state above.End))) (w.breaks (node_of w c) (block_of m.fields))) =
+        plain-falls w c m x (with_replica (row r e) (cut_off m.state (down_turn m.state above.End))) (w.breaks (node_of w c) (block_of m.fields)) paid st refl refl refl
+        (λ i. other-calm i r.known (event.Ended m.state.conn) refl) p in
+    let same = refused-cut m.state side.Receiver (event.Ended m.state.conn) m.state.mirror (record no_effect { shuts = shuts.Mirror }) y in
+    subst (λ (z : MemberState × Effect). Falls w paid (member_change w c m x (with_replica (row r e) z) (w.breaks (node_of w c) (block_of m.fields)))) (sym same) cut
+
 end-down : (w : World) (c : ℕ) (m : FullMember) (x : Next) (fails : Bool) (paid : ℕ) → Stands w c m → 1 ≤ paid
     → IfSome (turn_change w c m x (down_turn m.state above.End) fails) (Falls w paid)
 end-down w c m x true paid st p =
     let r : FullReplica = replica_at w c (block_of m.fields) in
     plain-falls w c m x (faulted_step m.state r (down_turn m.state above.End)) _ paid st refl refl refl (λ i. other-calm i r.known event.FileFault refl) p
-end-down w c m x false paid st p = at (booked_as (row_answer (replica_at w c (block_of m.fields)) (replica_event.Other (event.Ended m.state.conn))))
-  where
-    calm : (i : ℕ) → entries_by i (row (replica_at w c (block_of m.fields)) (replica_event.Other (event.Ended m.state.conn))).known ≤ entries_by i (replica_at w c (block_of m.fields)).known
-    calm i = other-calm i (replica_at w c (block_of m.fields)).known (event.Ended m.state.conn) refl
-
-    at : (b : Booked) → Falls w paid (member_change w c m x (with_replica (row (replica_at w c (block_of m.fields)) (replica_event.Other (event.Ended m.state.conn))) (settled m.state (down_turn m.state above.End) b))
-        (w.breaks (node_of w c) (block_of m.fields)))
-    at booked.Taken = plain-falls w c m x _ _ paid st refl refl refl calm p
-    at booked.Failed = plain-falls w c m x _ _ paid st refl refl refl calm p
-    at (booked.Refused y) =
-        rw (refused-cut m.state side.Receiver (event.Ended m.state.conn) m.state.mirror (record no_effect { shuts = shuts.Mirror }) y) (plain-falls w c m x _ _ paid st refl refl refl calm p)
+end-down w c m x false paid st p = end-at w c m x paid st p (booked_as (row_answer (replica_at w c (block_of m.fields)) (replica_event.Other (event.Ended m.state.conn))))
 
 take-down : (w : World) (c : ℕ) (m : FullMember) (x : Next) (fails : Bool) → Stands w c m → m.state.conn.0 ≡ c → IfSome m.mirror (λ d. hops w d + 1 ≤ hops w c)
     → IfSome (turn_change w c m x (down_turn m.state (above_of x)) fails) (Falls w (down_paid (hops w c) x))

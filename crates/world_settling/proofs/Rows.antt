@@ -27,7 +27,8 @@ use Rattle.replica_core.specs.Info.{close_stream, advance_acked, is_writable, st
 use Rattle.replica_core.specs.Refusals.{check}
 use Rattle.replica_core.specs.Transitions.{Taken, Outcome, done, present, record_after, set_writer, with_writer, new_transition, init_transition, stream_by, enqueue, extend, extent_transition, packet_transition, acknowledge, oldest_of, ack_transition, is_written_by, end_connection, mark_broken, transition, state_after, answer_of, answer_to, reply}
 use Rattle.member_core.specs.declared.turns.Booked.TheVariants as booked
-use Rattle.member_core.specs.Steps.{booked_as}
+use Rattle.member_core.specs.Steps.{booked_as, refused_by}
+use Rattle.request_refusals.specs.declared.refusals.RequestRefusal.TheVariants as request_refusal
 use Rattle.world_settling.specs.Traffic.{entries_by}
 
 -- of this connection nothing more is pending
@@ -265,3 +266,81 @@ ack-pays c conn seqno good e = at (transition c (event.Ack conn seqno good)) (ac
       where
         other : booked.Refused x ≡ booked.Taken → ⊥
         other z = cc
+
+-- SETUPS
+
+abbrev pub IsSetup : Event → Bool
+IsSetup (event.Create conn stamp sums) = true
+IsSetup (event.Append conn named new bytes) = true
+IsSetup (event.AppendRecovery conn named new bytes) = true
+IsSetup (event.StreamRecovery conn named new low high) = true
+IsSetup (event.CloseRecovery named new bytes) = true
+IsSetup _ = false
+
+pub setup-calm : (i : ℕ) (c : ReplicaRecord) (e : Event) → IsSetup e ≡ true → entries_by i (state_after c e) ≤ entries_by i c
+setup-calm i c (event.Create conn stamp sums) s = other-calm i c (event.Create conn stamp sums) refl
+setup-calm i c (event.Append conn named new bytes) s = other-calm i c (event.Append conn named new bytes) refl
+setup-calm i c (event.AppendRecovery conn named new bytes) s = other-calm i c (event.AppendRecovery conn named new bytes) refl
+setup-calm i c (event.StreamRecovery conn named new low high) s = other-calm i c (event.StreamRecovery conn named new low high) refl
+setup-calm i c (event.CloseRecovery named new bytes) s = other-calm i c (event.CloseRecovery named new bytes) refl
+setup-calm i c (event.Temporary conn stamp sums) s = absurd (false≢true s)
+setup-calm i c (event.Packet conn seqno offset bytes sums last sync bad) s = absurd (false≢true s)
+setup-calm i c (event.Ack conn seqno good) s = absurd (false≢true s)
+setup-calm i c (event.Ended conn) s = absurd (false≢true s)
+setup-calm i c (event.Init named recovery) s = absurd (false≢true s)
+setup-calm i c (event.Update recovery bytes) s = absurd (false≢true s)
+setup-calm i c (event.Read named offset bytes) s = absurd (false≢true s)
+setup-calm i c (event.Give named offset bytes) s = absurd (false≢true s)
+setup-calm i c event.FileFault s = absurd (false≢true s)
+
+-- behind a setup that is taken nothing is pending
+record Clear (i : ℕ) (c : ReplicaRecord) (o : Outcome) : Type 0 where
+  is : (a : Taken) → o ≡ Ok a → entries_by i (record_after c o) ≡ 0
+
+zero-either : (b : Bool) → (if b then 3 * 0 else 0) ≡ 0
+zero-either true = refl
+zero-either false = refl
+
+set-clear : (i : ℕ) (c : ReplicaRecord) (h : ReplicaInfo) (w : Option ConnId) → Clear i c (done (set_writer c h w))
+set-clear i c h w = record { is = λ a e. zero-either (is_written_by (set_writer c h w).stream (record { 0 = i })) }
+
+bind-clear : {A : Type 0} (i : ℕ) (c : ReplicaRecord) (o : Result A Refusal) (f : A → Outcome) → ((x : A) → Clear i c (f x)) → Clear i c (o >>= f)
+bind-clear i c (Ok x) f h = h x
+bind-clear i c (Err e) f h = record { is = λ a q. absurd (err-ok e a q) }
+
+check-clear : (i : ℕ) (c : ReplicaRecord) (b : Bool) (x : Refusal) (o : Outcome) → Clear i c o → Clear i c (check b x o)
+check-clear i c true x o h = h
+check-clear i c false x o h = record { is = λ a q. absurd (err-ok x a q) }
+
+present-clear : (i : ℕ) (c : ReplicaRecord) (w : Option ConnId) (g : ReplicaInfo → Result ReplicaInfo Refusal) → Clear i c (present c >>= (λ h. with_writer c w (g h)))
+present-clear i c w g = bind-clear i c (present c) (λ h. with_writer c w (g h)) (λ h. bind-clear i c (g h) (λ x. done (set_writer c x w)) (λ x. set-clear i c x w))
+
+new-clear : (i : ℕ) (c : ReplicaRecord) (original : ReplicaState) (conn : ConnId) (stamp : Stamp) (sums : Rule) → Clear i c (new_transition c original conn stamp sums)
+new-clear i c original conn stamp sums =
+    let o : Outcome = done (set_writer c (settled_at original stamp sums 0) (Some conn)) in
+    check-clear i c (not c.is_broken) refusal.Broken (check (is_none c.info) refusal.Exists o)
+    (check-clear i c (is_none c.info) refusal.Exists o (set-clear i c (settled_at original stamp sums 0) (Some conn)))
+
+transition-clear : (i : ℕ) (c : ReplicaRecord) (e : Event) → IsSetup e ≡ true → Clear i c (transition c e)
+unfolding transition
+transition-clear i c (event.Create conn stamp sums) s = new-clear i c state.Rbw conn stamp sums
+transition-clear i c (event.Append conn named new bytes) s = present-clear i c (Some conn) (λ h. reopen h named new bytes)
+transition-clear i c (event.AppendRecovery conn named new bytes) s = present-clear i c (Some conn) (λ h. recover_setup h named new bytes state.Rbw)
+transition-clear i c (event.StreamRecovery conn named new low high) s = present-clear i c (Some conn) (λ h. recover_stream h named new low high)
+transition-clear i c (event.CloseRecovery named new bytes) s = present-clear i c None (λ h. recover_setup h named new bytes state.Finalized)
+transition-clear i c (event.Temporary conn stamp sums) s = absurd (false≢true s)
+transition-clear i c (event.Packet conn seqno offset bytes sums last sync bad) s = absurd (false≢true s)
+transition-clear i c (event.Ack conn seqno good) s = absurd (false≢true s)
+transition-clear i c (event.Ended conn) s = absurd (false≢true s)
+transition-clear i c (event.Init named recovery) s = absurd (false≢true s)
+transition-clear i c (event.Update recovery bytes) s = absurd (false≢true s)
+transition-clear i c (event.Read named offset bytes) s = absurd (false≢true s)
+transition-clear i c (event.Give named offset bytes) s = absurd (false≢true s)
+transition-clear i c event.FileFault s = absurd (false≢true s)
+
+pub setup-none : (i : ℕ) (c : ReplicaRecord) (e : Event) → IsSetup e ≡ true → refused_by (answer_to c e) ≡ None → entries_by i (state_after c e) ≡ 0
+setup-none i c e s q = at (transition c e) (transition-clear i c e s) q
+  where
+    at : (o : Outcome) → Clear i c o → refused_by (answer_of (reply o)) ≡ None → entries_by i (record_after c o) ≡ 0
+    at (Ok a) h z = h.is a refl
+    at (Err x) h z = absurd (none-some (request_refusal.Core x) (sym z))

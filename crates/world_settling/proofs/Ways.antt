@@ -123,3 +123,11 @@ taken-way f xs k m e = by-end k.end (got k.over k.end e)
         → sum_by f (drop (k.taken + 1) (before_end o xs)) + f m ≤ sum_by f (drop k.taken (before_end o xs))
     by-end None h = cut-taken f xs k.taken m h.1
     by-end (Some n) h = cut-taken f (take n xs) k.taken m (take-get xs k.taken n m (grind (arith, nat_tests, h.0)) h.1)
+
+-- no more is on its way than was sent
+pub whole-way : (f : Message → ℕ) (k : Marks) (xs : List Message) → sum_by f (on_way k xs) ≤ sum_by f xs
+whole-way f k xs = by-end k.end
+  where
+    by-end : (o : Option ℕ) → sum_by f (drop k.taken (before_end o xs)) ≤ sum_by f xs
+    by-end None = cut f k.taken xs
+    by-end (Some e) = omega (arith, cut f k.taken (take e xs), sum_by-take-le f xs e)
