@@ -12,5 +12,9 @@ pub mod MemberEnds
 pub mod Nodes
 pub mod Receiving
 pub mod Requests
-pub mod Reads
+pub mod ReadRequests
+pub mod LowerUntouching
+pub mod Chains
+pub mod ChainLaws
+pub mod ChainSetups
 pub mod Deliveries

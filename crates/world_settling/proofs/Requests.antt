@@ -128,11 +128,11 @@ record Dials (w : World) (k : Change) (d : Dial) (us : List Message) : Type 0 wh
   free : entries_of k.lower (apply w k) k.lower_at ≡ 0
   new : IsNew w
 
-one-more : (w : World) (k : Change) (d : Dial) → k.dials ≡ d ∷ [] → (apply w k).next_conn ≡ w.next_conn + 1
+pub one-more : (w : World) (k : Change) (d : Dial) → k.dials ≡ d ∷ [] → (apply w k).next_conn ≡ w.next_conn + 1
 unfolding apply
 one-more w k d e = rw e refl
 
-here-dial : (n : ℕ) (d : Dial) → dial_at n (d ∷ []) n ≡ Some d
+pub here-dial : (n : ℕ) (d : Dial) → dial_at n (d ∷ []) n ≡ Some d
 here-dial n d = rw (within n) (rw (none n) refl)
   where
     within : (i : ℕ) → nat_le i i ≡ true
@@ -190,7 +190,7 @@ dial-frame w k d us cost h weighs =
 -- TAKEN, WITH A DIAL
 
 -- the request that goes on has fewer targets
-goes-fewer : (source : NodeRef) (f : WriteFields) → IfSome (mirror_request source f) (λ g. length g.targets + 1 ≤ length f.targets)
+pub goes-fewer : (source : NodeRef) (f : WriteFields) → IfSome (mirror_request source f) (λ g. length g.targets + 1 ≤ length f.targets)
 unfolding mirror_request
 goes-fewer source f = at f.targets
   where
