@@ -49,11 +49,11 @@ hops-later w k c b lt =
     let f = b.first c lt in
     ap (λ (xs : List Message). hops_of (slice_get xs 0)) (old-downs w k c lt) ∙ ap hops_of (first-kept (w.downs c) (k.downs c) f.message f.is)
 
-conns-later : (w : World) (k : Change) → w.next_conn ≤ (apply w k).next_conn
+pub conns-later : (w : World) (k : Change) → w.next_conn ≤ (apply w k).next_conn
 unfolding apply
 conns-later w k = omega arith
 
-linked-later : (w : World) (k : Change) (c : ℕ) (m : FullMember) → AllBegun w → Linked w c m → Linked (apply w k) c m
+pub linked-later : (w : World) (k : Change) (c : ℕ) (m : FullMember) → AllBegun w → Linked w c m → Linked (apply w k) c m
 linked-later w k c m b h = record { here = omega (arith, h.here, conns-later w k); conn = h.conn; known = at m.mirror h.known; fewer = less m.mirror h.known h.fewer }
   where
     at : (o : Option ℕ) → IfSome o (λ d. d < w.next_conn) → IfSome o (λ d. d < (apply w k).next_conn)

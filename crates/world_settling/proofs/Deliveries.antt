@@ -35,6 +35,7 @@ use Rattle.world_settling.proofs.ReadRequests.{read-falls}
 use Rattle.world_settling.proofs.Chains.{AllLinked, untouched-linked}
 use Rattle.world_settling.proofs.ChainLaws.{down-keeps, up-keeps, ready-keeps}
 use Rattle.world_settling.proofs.ChainSetups.{Asks, write-keeps}
+use Rattle.world_settling.proofs.AllChained.{happens-linked}
 use Rattle.world_settling.proofs.LowerUntouching.{own-writer-untouched, own-reader-untouched, own-recover-untouched, own-primary-untouched, office-untouched, writer-up-untouched, reader-up-untouched, primary-up-untouched}
 use Rattle.world_settling.proofs.Nodes.{serve-falls, closing-falls, recovery-request-falls}
 

@@ -17,4 +17,5 @@ pub mod LowerUntouching
 pub mod Chains
 pub mod ChainLaws
 pub mod ChainSetups
+pub mod AllChained
 pub mod Deliveries

@@ -1,5 +1,5 @@
 -- A write request that is taken makes less than it weighs.
-use Rattle.std.proofs.Common.{◌≡◌, ℕ, zero, suc, ◌<◌, ◌≤◌, ◌+◌, ◌*◌, Bool, true, false, List, [], ◌∷◌, ◌++◌, length, Option, Some, None, option_map, IfSome, Result, Ok, Err, append-nil, refl, sym, ap, ◌∙◌, subst, arith}
+use Rattle.std.proofs.Common.{◌≡◌, ℕ, ◌<◌, ◌≤◌, ◌+◌, ◌*◌, Bool, true, false, List, [], ◌∷◌, ◌++◌, length, Option, Some, None, option_map, IfSome, Result, Ok, Err, append-nil, refl, sym, ap, ◌∙◌, subst, arith}
 use Rattle.std.specs.Prelude.{sum_by, nat_le, ◌-◌, not, is_some, ◌==◌, if◌then◌else◌}
 use Rattle.std.proofs.lemmas.Bool.Decides.{nat_tests}
 use Rattle.std.proofs.lemmas.Option.{none-some, same_Some}
@@ -95,18 +95,18 @@ new-weighs f conn mirror.Ended = omega arith
 nobody-falls : (w : World) (c : ℕ) (f : WriteFields) (conn : ConnId) (r : FullReplica) (b : Option Break) → c < w.next_conn
     → ((i : ℕ) → entries_by i r.known ≤ entries_by i (replica_at w c (block_of f)).known) → entries_by c r.known ≡ 0
     → Falls w (6 * (length f.targets + 1)) (setup_change w c f (taken_request r (set_up_at mirror.Nobody f conn)) b)
-nobody-falls w c f conn r b lt calm zero =
+nobody-falls w c f conn r b lt calm none =
     let k : Change = setup_change w c f (taken_request r (set_up_at mirror.Nobody f conn)) b in
-    let free = ap (λ (y : FullReplica). entries_by c y.known) (here-replica w k c (block_of f) lt refl refl) ∙ zero in
+    let free = ap (λ (y : FullReplica). entries_by c y.known) (here-replica w k c (block_of f) lt refl refl) ∙ none in
     let frame = node-frame w k (sent_up f (Some (upward.Answer answer.Success))) (record { known = lt; dials = refl; downs = λ d. refl; ups = λ d. refl; eases = calm; free = free }) in
     record { is = omega (arith, frame, new-weighs f conn mirror.Nobody) }
 
 unreachable-falls : (w : World) (c : ℕ) (f : WriteFields) (conn : ConnId) (r : FullReplica) (b : Option Break) → c < w.next_conn
     → ((i : ℕ) → entries_by i r.known ≤ entries_by i (replica_at w c (block_of f)).known) → entries_by c r.known ≡ 0
     → Falls w (6 * (length f.targets + 1)) (setup_change w c f (taken_request r (set_up_at mirror.Unreachable f conn)) b)
-unreachable-falls w c f conn r b lt calm zero =
+unreachable-falls w c f conn r b lt calm none =
     let k : Change = setup_change w c f (taken_request r (set_up_at mirror.Unreachable f conn)) b in
-    let free = ap (λ (y : FullReplica). entries_by c y.known) (here-replica w k c (block_of f) lt refl refl) ∙ zero in
+    let free = ap (λ (y : FullReplica). entries_by c y.known) (here-replica w k c (block_of f) lt refl refl) ∙ none in
     let frame = node-frame w k [] (record { known = lt; dials = refl; downs = λ d. refl; ups = λ d. refl; eases = calm; free = free }) in
     record { is = omega (arith, frame, new-weighs f conn mirror.Unreachable) }
 
@@ -133,13 +133,13 @@ unfolding apply
 one-more w k d e = rw e refl
 
 pub here-dial : (n : ℕ) (d : Dial) → dial_at n (d ∷ []) n ≡ Some d
-here-dial n d = rw (within n) (rw (none n) refl)
+here-dial n d = rw (within n) (rw (minus n) refl)
   where
     within : (i : ℕ) → nat_le i i ≡ true
     within i = grind (arith, nat_tests)
 
-    none : (i : ℕ) → i - i ≡ 0
-    none i = omega arith
+    minus : (i : ℕ) → i - i ≡ 0
+    minus i = omega arith
 
 new-downs : (w : World) (k : Change) (d : Dial) (us : List Message) → Dials w k d us → (apply w k).downs w.next_conn ≡ d.request ∷ []
 unfolding apply
@@ -210,20 +210,20 @@ asked-as : (w : World) (c : ℕ) (f : WriteFields) (conn : ConnId) (r : FullRepl
     → ((i : ℕ) → entries_by i r.known ≤ entries_by i (replica_at w c (block_of f)).known) → entries_by c r.known ≡ 0
     → (setup_change w c f (taken_request r (set_up_at mirror.Asked f conn)) b).dials ≡ mirror_dial w c o p → IfSome o (λ g. length g.targets + 1 ≤ length f.targets)
     → Falls w (6 * (length f.targets + 1)) (setup_change w c f (taken_request r (set_up_at mirror.Asked f conn)) b)
-asked-as w c f conn r b (Some g) (Some n) new lt calm zero e fewer =
+asked-as w c f conn r b (Some g) (Some n) new lt calm none e fewer =
     let k : Change = setup_change w c f (taken_request r (set_up_at mirror.Asked f conn)) b in
     let d : Dial = record { dialled = record { upper = by_member c; from = Some (w.dialled c).to; to = place_of w n }; request = request (op.Write g) } in
-    let free = ap (λ (y : FullReplica). entries_by c y.known) (here-replica w k c (block_of f) lt refl refl) ∙ zero in
+    let free = ap (λ (y : FullReplica). entries_by c y.known) (here-replica w k c (block_of f) lt refl refl) ∙ none in
     let frame = dial-frame w k d [] (6 * (length g.targets + 1)) (record { known = lt; dials = e; downs = λ i. refl; ups = λ i. refl; eases = calm; free = free; new = new }) (λ h. refl) in
     record { is = omega (arith, frame, new-weighs f conn mirror.Asked, fewer) }
-asked-as w c f conn r b (Some g) None new lt calm zero e fewer =
+asked-as w c f conn r b (Some g) None new lt calm none e fewer =
     let k : Change = setup_change w c f (taken_request r (set_up_at mirror.Asked f conn)) b in
-    let free = ap (λ (y : FullReplica). entries_by c y.known) (here-replica w k c (block_of f) lt refl refl) ∙ zero in
+    let free = ap (λ (y : FullReplica). entries_by c y.known) (here-replica w k c (block_of f) lt refl refl) ∙ none in
     let frame = node-frame w k [] (record { known = lt; dials = e; downs = λ d. refl; ups = λ d. refl; eases = calm; free = free }) in
     record { is = omega (arith, frame, new-weighs f conn mirror.Asked) }
-asked-as w c f conn r b None p new lt calm zero e fewer =
+asked-as w c f conn r b None p new lt calm none e fewer =
     let k : Change = setup_change w c f (taken_request r (set_up_at mirror.Asked f conn)) b in
-    let free = ap (λ (y : FullReplica). entries_by c y.known) (here-replica w k c (block_of f) lt refl refl) ∙ zero in
+    let free = ap (λ (y : FullReplica). entries_by c y.known) (here-replica w k c (block_of f) lt refl refl) ∙ none in
     let frame = node-frame w k [] (record { known = lt; dials = e; downs = λ d. refl; ups = λ d. refl; eases = calm; free = free }) in
     record { is = omega (arith, frame, new-weighs f conn mirror.Asked) }
 
@@ -231,13 +231,13 @@ taken-falls : (w : World) (c : ℕ) (f : WriteFields) (conn : ConnId) (asked : B
     → ((i : ℕ) → entries_by i r.known ≤ entries_by i (replica_at w c (block_of f)).known) → entries_by c r.known ≡ 0
     → Falls w (6 * (length f.targets + 1)) (setup_change w c f (taken_request r (set_up conn f asked)) b)
 unfolding set_up
-taken-falls w c f conn asked r b new lt calm zero = at (length f.targets == 0) asked
+taken-falls w c f conn asked r b new lt calm none = at (length f.targets == 0) asked
   where
     at : (t a : Bool) → Falls w (6 * (length f.targets + 1)) (setup_change w c f (taken_request r (set_up_at (if t then mirror.Nobody else (if a then mirror.Asked else mirror.Unreachable)) f conn)) b)
-    at true a = nobody-falls w c f conn r b lt calm zero
+    at true a = nobody-falls w c f conn r b lt calm none
     at false true =
-        asked-as w c f conn r b (mirror_request (ref_of (record { 0 = node_of w c })) f) (mirror_node f.targets) new lt calm zero refl (goes-fewer (ref_of (record { 0 = node_of w c })) f)
-    at false false = unreachable-falls w c f conn r b lt calm zero
+        asked-as w c f conn r b (mirror_request (ref_of (record { 0 = node_of w c })) f) (mirror_node f.targets) new lt calm none refl (goes-fewer (ref_of (record { 0 = node_of w c })) f)
+    at false false = unreachable-falls w c f conn r b lt calm none
 
 -- THE REQUEST
 

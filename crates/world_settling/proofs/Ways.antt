@@ -131,3 +131,25 @@ whole-way f k xs = by-end k.end
     by-end : (o : Option ℕ) → sum_by f (drop k.taken (before_end o xs)) ≤ sum_by f xs
     by-end None = cut f k.taken xs
     by-end (Some e) = omega (arith, cut f k.taken (take e xs), sum_by-take-le f xs e)
+
+-- a message that stands next was sent
+pub next-message : (xs : List Message) (k : Marks) (m : Message) → next_on xs k ≡ Some (message m) → slice_get xs k.taken ≡ Some m
+next-message xs k m e = by-over k.over e
+  where
+    is : (o : Option Message) → option_map message o ≡ Some (message m) → o ≡ Some m
+    is None h = absurd (none-some (message m) h)
+    is (Some y) h = ap (λ (z : Message). Some z) (inner (same_Some (message y) (message m) h))
+      where
+        inner : message y ≡ message m → y ≡ m
+        inner q = cc
+
+    by-end : (b : Bool) → (if b then Some the_end else option_map message (slice_get xs k.taken)) ≡ Some (message m) → slice_get xs k.taken ≡ Some m
+    by-end true q = absurd (other (same_Some the_end (message m) q))
+      where
+        other : the_end ≡ message m → ⊥
+        other z = cc
+    by-end false q = is (slice_get xs k.taken) q
+
+    by-over : (b : Bool) → (if b then None else (if ends_at k.end k.taken then Some the_end else option_map message (slice_get xs k.taken))) ≡ Some (message m) → slice_get xs k.taken ≡ Some m
+    by-over true q = absurd (none-some (message m) q)
+    by-over false q = by-end (ends_at k.end k.taken) q
