@@ -281,6 +281,6 @@ pub happens-linked : (w : World) (e : Event) → Ordered w → AllLinked w → A
 unfolding happens
 happens-linked w e o h = after-linked w e (outcome w e) h (outcome-linked w e o h)
 
-start-linked : (nodes : ℕ) → AllLinked (start nodes)
+pub start-linked : (nodes : ℕ) → AllLinked (start nodes)
 unfolding start
 start-linked nodes = record { lowers = λ c. tt }

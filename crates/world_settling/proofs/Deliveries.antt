@@ -1,5 +1,5 @@
 -- Each delivery lowers what is to be delivered.
-use Rattle.std.proofs.Common.{◌≡◌, ℕ, ◌<◌, ◌≤◌, ◌+◌, Bool, true, false, List, [], ◌∷◌, Option, Some, None, IfSome, refl, sym, ap, subst, arith}
+use Rattle.std.proofs.Common.{◌≡◌, ℕ, ◌<◌, ◌≤◌, ◌+◌, Bool, true, false, List, [], ◌∷◌, Option, Some, None, IfSome, option_map, ◌++◌, refl, sym, ap, subst, arith}
 use Rattle.std.specs.Prelude.{is_some, nat_lt, ◌&&◌, if◌then◌else◌}
 use Rattle.std.proofs.lemmas.Bool.Decides.{nat_tests}
 use Rattle.std.proofs.lemmas.Bool.{false≢true}
@@ -21,6 +21,12 @@ use Rattle.world.specs.Nodes.{node_of, closing, unless_failing, write_request, r
 use Rattle.world.specs.Clients.{writer_up, reader_up}
 use Rattle.world.specs.Primaries.{primary_up}
 use Rattle.world.specs.Events.{changed, down_as, down_event, ready_event, unless_fails, upper_up, up_as, up_event, fault_event, outcome, after_event, is_enabled, happens, run}
+use Rattle.replica_core.specs.declared.info.ReplicaInfo.{ReplicaInfo}
+use Rattle.world_laws.specs.Placing.{IsUpper}
+use Rattle.world_laws.proofs.PlacedLaws.{all-placed}
+use Rattle.world_laws.proofs.AllCarried.{all-carried}
+use Rattle.world_laws.proofs.FilledLaws.{all-filled}
+use Rattle.world_laws.proofs.RunLaws.{runs-end}
 use Rattle.world_settling.specs.Traffic.{hops, request_weight, traffic, is_delivery}
 use Rattle.world_settling.proofs.Frame.{HasFirst}
 use Rattle.world_settling.proofs.Outer.{when-each, named-keeps}
@@ -32,10 +38,10 @@ use Rattle.world_settling.proofs.MemberEnds.{ready-falls, up-falls}
 use Rattle.world_settling.proofs.Receiving.{down-pays, member-down-falls}
 use Rattle.world_settling.proofs.Requests.{IsNew, write-falls}
 use Rattle.world_settling.proofs.ReadRequests.{read-falls}
-use Rattle.world_settling.proofs.Chains.{AllLinked, untouched-linked}
+use Rattle.world_settling.proofs.Chains.{Linked, LinkedAt, AllLinked, untouched-linked}
 use Rattle.world_settling.proofs.ChainLaws.{down-keeps, up-keeps, ready-keeps}
 use Rattle.world_settling.proofs.ChainSetups.{Asks, write-keeps}
-use Rattle.world_settling.proofs.AllChained.{happens-linked}
+use Rattle.world_settling.proofs.AllChained.{Ordered, happens-linked, start-linked}
 use Rattle.world_settling.proofs.LowerUntouching.{own-writer-untouched, own-reader-untouched, own-recover-untouched, own-primary-untouched, office-untouched, writer-up-untouched, reader-up-untouched, primary-up-untouched}
 use Rattle.world_settling.proofs.Nodes.{serve-falls, closing-falls, recovery-request-falls}
 
@@ -216,8 +222,50 @@ happens-lower : (w : World) (e : Event) → Chained w → is_delivery e ≡ true
 unfolding happens
 happens-lower w e h d s = after-lower w e (outcome w e) (outcome-lower w e h d) s
 
+-- ALL WORLDS
+
+ordered : (nodes : ℕ) (events : List Event) → Ordered (run (start nodes) events)
+ordered nodes events =
+    let p = (all-placed nodes events).undialled (run (start nodes) events).next_conn (omega arith) in
+    record {
+      begun = all-begun nodes events;
+      new = record { downs = p.downs; ups = p.ups; lower = p.lower };
+      first = λ c i f e. ((all-carried nodes events).downs c i (request (op.Write f)) e).first;
+    }
+
+linked-from : (nodes : ℕ) (before events : List Event) → AllLinked (run (start nodes) before) → AllLinked (run (run (start nodes) before) events)
+linked-from nodes before [] h = h
+linked-from nodes before (e ∷ events) h =
+    let on = runs-end (start nodes) before e in
+    let next : AllLinked (run (start nodes) (before ++ e ∷ [])) =
+        subst (λ (v : World). AllLinked v) (sym on) (happens-linked (run (start nodes) before) e (ordered nodes before) h) in
+    subst (λ (v : World). AllLinked (run v events)) on (linked-from nodes (before ++ e ∷ []) events next)
+
+all-linked : (nodes : ℕ) (events : List Event) → AllLinked (run (start nodes) events)
+all-linked nodes events = linked-from nodes [] events (start-linked nodes)
+
+member-of : (w : World) (c : ℕ) (m : FullMember) → AllBegun w → Linked w c m → IsMember w c m
+member-of w c m b h = record { conn = h.conn; dialled = at m.mirror h.known; fewer = h.fewer }
+  where
+    at : (o : Option ℕ) → IfSome o (λ d. d < w.next_conn) → IfSome o (λ d. HasFirst (w.downs d))
+    at None l = tt
+    at (Some d) l = b.first d l
+
+rule-of : (o : Option ReplicaInfo) → IfSome o (λ (h : ReplicaInfo). IsChunkSize h.sums.chunk) → IfSome (option_map (λ (h : ReplicaInfo). h.sums) o) (λ (r : Rule). IsChunkSize r.chunk)
+rule-of None h = tt
+rule-of (Some x) h = h
+
 all-chained : (nodes : ℕ) (events : List Event) → Chained (run (start nodes) events)
-all-chained nodes events = ?
+all-chained nodes events =
+    let w : World = run (start nodes) events in
+    let o = ordered nodes events in
+    record {
+      first = o.begun.first;
+      new = o.new;
+      rules = λ n b. rule-of (w.replicas n b).known.info ((all-filled nodes events).replicas n b).full.rule;
+      uppers = λ c d lt e. subst (λ (u : Upper). IsUpper w.next_conn u) e ((all-placed nodes events).dialled c lt).upper;
+      members = λ c m e. member-of w c m o.begun (subst (λ (l : Lower). LinkedAt w c l) e ((all-linked nodes events).lowers c));
+    }
 
 pub deliveries-lower : (nodes : ℕ) (events : List Event) (e : Event) → is_delivery e ≡ true → is_enabled (run (start nodes) events) e ≡ true
     → traffic (happens (run (start nodes) events) e) < traffic (run (start nodes) events)
