@@ -68,7 +68,8 @@ ack_from found = do
   replies ← with_cause fault.Wire found.replies
   flags ← with_cause fault.Wire found.flags
   seqno ← required fault.Missing 1 found.seqno
-  if nat_lt 16 replies.count then Err (fault.Replies replies.count) else Ok (record { seqno = unzigzag seqno; replies = replies.kept })
+  if nat_lt 16 replies.count then Err (fault.Replies replies.count)
+      else Ok (record { seqno = unzigzag seqno; replies = replies.kept })
 
 -- what the fields of a message have
 abbrev pub found_in : List ℕ → List (ℕ × Wire) → FoundAck
@@ -88,7 +89,8 @@ ack_at bytes = framed_at ack_frame_cause ack_of bytes
 
 -- The read status at the front of the bytes, and how many bytes it has.
 abbrev pub read_status_of : List ℕ → Result Status AckFault
-read_status_of message = with_cause fault.Wire (fields_at message) >>= λ fs. with_value decoded_status (required fault.Missing 1 (last_varint 1 fs))
+read_status_of message = with_cause fault.Wire (fields_at message) >>=
+    λ fs. with_value decoded_status (required fault.Missing 1 (last_varint 1 fs))
 
 abbrev pub read_status_at : List ℕ → Result (Status × ℕ) AckFault
 read_status_at bytes = framed_at ack_frame_cause read_status_of bytes

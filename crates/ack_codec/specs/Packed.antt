@@ -16,7 +16,8 @@ use Rattle.proto_fields.specs.declared.reading.WireFault.TheVariants as fault
 -- The bytes of a packed list spell the numbers.
 abbrev pub SpellsNumbers : List ℕ → List ℕ → Type 0
 SpellsNumbers [] bytes = bytes ≡ []
-SpellsNumbers (n ∷ ns) bytes = (text : List ℕ) × (rest : List ℕ) × (bytes ≡ text ++ rest) × SpellsVarint text n × SpellsNumbers ns rest
+SpellsNumbers (n ∷ ns) bytes = (text : List ℕ) × (rest : List ℕ) × (bytes ≡ text ++ rest) × SpellsVarint text n ×
+    SpellsNumbers ns rest
 
 -- The bytes begin with a varint that is cut off or too long, as the fault says.
 abbrev pub HasVarintFault : WireFault → List ℕ → Type 0
@@ -48,7 +49,8 @@ RepeatsAt number bytes f ns = MatchBool (f.0 == number) (GivesNumbers bytes f.1 
 -- The fields of the message have these numbers under the field number, in order.
 abbrev pub Repeats : ℕ → List ℕ → List (ℕ × Wire) → List ℕ → Type 0
 Repeats number bytes [] ns = ns ≡ []
-Repeats number bytes (f ∷ fs) ns = (here : List ℕ) × (later : List ℕ) × (ns ≡ here ++ later) × RepeatsAt number bytes f here × Repeats number bytes fs later
+Repeats number bytes (f ∷ fs) ns = (here : List ℕ) × (later : List ℕ) × (ns ≡ here ++ later) ×
+    RepeatsAt number bytes f here × Repeats number bytes fs later
 
 -- The first packed list under the field number that does not spell numbers has this fault, whose place counts from the list's first byte.
 pub record FirstPackedFault (number : ℕ) (bytes : List ℕ) (fs : List (ℕ × Wire)) (e : WireFault) : Type 0 where
@@ -95,4 +97,5 @@ given_under number bytes f = if f.0 == number then given bytes f.1 else Ok []
 -- the numbers that the fields have under the field number
 abbrev pub repeated : ℕ → List ℕ → List (ℕ × Wire) → Result (List ℕ) WireFault
 repeated number bytes [] = Ok []
-repeated number bytes (f ∷ fs) = given_under number bytes f >>= λ here. with_value (λ later. here ++ later) (repeated number bytes fs)
+repeated number bytes (f ∷ fs) = given_under number bytes f >>=
+    λ here. with_value (λ later. here ++ later) (repeated number bytes fs)

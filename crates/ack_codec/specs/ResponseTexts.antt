@@ -26,7 +26,8 @@ reason_text [] = []
 reason_text (b ∷ bs) = bytes_field 5 (b ∷ bs)
 
 unfoldable pub response_message : Response → List ℕ
-response_message r = varint_field 1 (status_number r.status) ++ (body_text r.sums_from r.first_bad ++ reason_text r.message)
+response_message r = varint_field 1 (status_number r.status) ++
+    (body_text r.sums_from r.first_bad ++ reason_text r.message)
 
 -- The kind of sums is one of the three.
 abbrev pub HasListedKind : Option (ℕ × ℕ × ℕ) → Type 0
@@ -51,4 +52,5 @@ response_text r = least_varint (length (response_message r)) ++ response_message
 
 -- Where the old bytes end the response is read, whatever follows the new bytes.
 abbrev pub ReadsResponse : List ℕ → List ℕ → Response → Type 0
-ReadsResponse old new r = (rest : List ℕ) → response_at (drop (length old) (new ++ rest)) ≡ Ok (r, length (response_text r))
+ReadsResponse old new r = (rest : List ℕ) →
+    response_at (drop (length old) (new ++ rest)) ≡ Ok (r, length (response_text r))

@@ -152,7 +152,8 @@ found_response_at message = fields_at message >>= found_from message
 
 -- what is left to do once the fields are found
 abbrev pub decoded_response : List ℕ → FoundResponse → Result Response ResponseFault
-decoded_response message found = with_value (response_with message found) (with_cause fault.Missing (decoded_parts found))
+decoded_response message found =
+    with_value (response_with message found) (with_cause fault.Missing (decoded_parts found))
 
 -- The response that a message says.
 unfoldable pub response_of : List ℕ → Result Response ResponseFault

@@ -13,8 +13,10 @@ CallsPlaceFiles = (block : ℕ) (calls : List BlockCall) (p : Placement) → blo
 
 -- The same of those that were made where one of them failed.
 abbrev pub StoppedCallsPlaceFiles : Type 0
-StoppedCallsPlaceFiles = (block : ℕ) (calls : List BlockCall) (p : Placement) (k n : ℕ) → block < 2 ^ 64 → AreAble p calls →
-    run (file_call.stopped k n (calls_of block calls p)) (files_of block p) ≡ files_of block (all_placed (stopped k n calls) p)
+StoppedCallsPlaceFiles = (block : ℕ) (calls : List BlockCall) (p : Placement) (k n : ℕ) → block < 2 ^ 64 →
+    AreAble p calls →
+    run (file_call.stopped k n (calls_of block calls p)) (files_of block p) ≡
+    files_of block (all_placed (stopped k n calls) p)
 
 -- Each of the calls finds its file by its name.
 abbrev pub CallsFindFiles : Type 0

@@ -72,5 +72,6 @@ goes_on other = false
 
 -- A packet goes on just where the member's turn forwards it, once the book's answer is settled.
 abbrev pub FollowsMember : Type 0
-FollowsMember = (m : MemberState) (p : Packet) (t : Taken) (b : Booked) → has_mirror m.mirror ≡ true → outcome_of t ≡ Some b
+FollowsMember = (m : MemberState) (p : Packet) (t : Taken) (b : Booked) → has_mirror m.mirror ≡ true →
+    outcome_of t ≡ Some b
     → (settled m (down_turn m (above.Packet p)) b).1.forwards ≡ goes_on t

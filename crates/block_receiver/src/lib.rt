@@ -3,6 +3,7 @@
 
 mod laws;
 mod packets;
+mod spellings;
 
 pub use laws::packets_follow_the_member;
 pub use packets::{Taken, pass_packet, take_packet, taken_as};

@@ -1,13 +1,13 @@
 //! Taking a packet.
 
-ghost use Rattle.std.specs.Prelude.{◌≡◌, ◌<◌, length, IfOk};
-ghost use Rattle.packet_codec.specs.Packets.{IsEncodable, packet_text};
-ghost use Rattle.link_pieces.specs.Pieces.{SendsNothing};
+ghost use Rattle.std.specs.Prelude.{◌≡◌, ◌<◌, length, IfOk, IfSome};
+ghost use Rattle.packet_codec.specs.Packets.{IsEncodable, SpellsPacket, packet_text};
 ghost use Rattle.replica_core.specs.declared.ack_queue.TheConstants.{MAX_PENDING};
 ghost use Rattle.replica_model.specs.declared.events.ReplicaEvent.TheVariants as ReplicaEvent;
 ghost use Rattle.replica_files.specs.Endings.{BookEnds};
 ghost use Rattle.block_receiver.specs.Packets.{booked_as, taken_as, PassesOn, PassesTo};
 
+use crate::spellings::as_written;
 use hd_base::{ConnId, Files, LinkOut, Receipt};
 use link_pieces::{send_piece, take_room};
 use packet_codec::{Packet, encode_packet};
@@ -48,50 +48,73 @@ pub fn take_packet<F: Files, O: LinkOut>(
     let Some(mirror) = mirror else {
         return taken_as(book.packet(conn, packet));
     };
-    pass_packet(alloc, book, conn, packet, mirror)
+    pass_packet(alloc, book, conn, packet, None, mirror)
 }
 
-/// Books a packet, and sends it to this mirror where the book took it, as `take_packet` does where there is one.
+/// Books a packet, and sends it to this mirror where the book took it, as `take_packet` does where there is one. The bytes
+/// in which it came, where they are given, spell it; they go on without a copy where they are its written spelling.
 pub fn pass_packet<F: Files, O: LinkOut>(
     alloc: Global,
     book: &mut ReplicaBook<F>,
     conn: ConnId,
     packet: &Packet,
+    came: Option<&[u8]>,
     mirror: &mut O,
 ) -> Taken
     requires place { length book.old.replica.pending < MAX_PENDING }
     requires encodable { IsEncodable packet.now }
+    requires came { IfSome came (λ text. SpellsPacket packet.now text.now) }
     ensures booked { BookEnds F.Files book.old book.new (ReplicaEvent.Packet conn packet.now) (booked_as result) }
     ensures sent { PassesTo O.LinkOut packet.now result mirror.old mirror.new }
 {
-    let Ok(text) = prepare(alloc, packet, mirror) else {
+    let Ok(came) = as_written(alloc, packet, came) else {
         return Taken::Memory;
     };
+    if let Some(text) = came {
+        return pass_text(alloc, book, conn, packet, text, mirror);
+    }
+    let Ok(text) = written(alloc, packet) else {
+        return Taken::Memory;
+    };
+    pass_text(alloc, book, conn, packet, &text, mirror)
+}
+
+/// The packet in its written spelling.
+fn written(alloc: Global, packet: &Packet) -> Result<Vec<u8>, AllocError>
+    requires { IsEncodable packet.now }
+    ensures { IfOk result (λ text. text.items ≡ packet_text packet.now) }
+{
+    let mut text = Vec::new(alloc);
+    encode_packet(packet, &mut text)?;
+    Ok(text)
+}
+
+/// Books a packet, and sends this to the mirror, its written spelling, where the book took it.
+fn pass_text<F: Files, O: LinkOut>(
+    alloc: Global,
+    book: &mut ReplicaBook<F>,
+    conn: ConnId,
+    packet: &Packet,
+    text: &[u8],
+    mirror: &mut O,
+) -> Taken
+    requires place { length book.old.replica.pending < MAX_PENDING }
+    requires encodable { IsEncodable packet.now }
+    requires written { text.now ≡ packet_text packet.now }
+    ensures booked { BookEnds F.Files book.old book.new (ReplicaEvent.Packet conn packet.now) (booked_as result) }
+    ensures sent { PassesTo O.LinkOut packet.now result mirror.old mirror.new }
+{
+    if take_room(alloc, mirror, text.len()).is_err() {
+        return Taken::Memory;
+    }
     let receipt = match book.packet(conn, packet) {
         Ok(receipt) => receipt,
         Err(fault) => return taken_as(Err(fault)),
     };
-    match send_piece(mirror, &text) {
+    match send_piece(mirror, text) {
         Ok(_) => Taken::Booked(receipt),
         Err(_) => Taken::MirrorFailed(receipt),
     }
-}
-
-/// The packet in its written spelling, for which the mirror has room then.
-fn prepare<O: LinkOut>(
-    alloc: Global,
-    packet: &Packet,
-    mirror: &mut O,
-) -> Result<Vec<u8>, AllocError>
-    requires encodable { IsEncodable packet.now }
-    ensures written { IfOk result (λ text. text.items ≡ packet_text packet.now) }
-    ensures covers { IfOk result (λ text. length text.items < O.room mirror.new) }
-    ensures quiet { SendsNothing O.LinkOut mirror.old mirror.new }
-{
-    let mut text = Vec::new(alloc);
-    encode_packet(packet, &mut text)?;
-    take_room(alloc, mirror, text.len())?;
-    Ok(text)
 }
 
 /// How a packet was taken that goes to no mirror, or no further, by what the book answered.

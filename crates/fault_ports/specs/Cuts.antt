@@ -13,7 +13,8 @@ cut_channel pieces channel = record { pieces = take pieces channel.pieces; ended
 
 -- the channels after one connection was cut behind so many pieces down, and up
 abbrev pub cut_channels : Channels → ℕ → ℕ → ℕ → Channels
-cut_channels channels conn down up = λ c d. cond (conn == c) (cut_channel (cond d down up) (channels c d)) (channels c d)
+cut_channels channels conn down up =
+    λ c d. cond (conn == c) (cut_channel (cond d down up) (channels c d)) (channels c d)
 
 -- what roads hold after one connection was cut
 abbrev pub with_cut : Plain → ℕ → ℕ → ℕ → Plain

@@ -11,7 +11,11 @@ behind (Some byte) bytes = byte ∷ bytes
 -- what is held where a byte was received in advance, and the end stands behind nothing
 abbrev pub inbox_behind : Option ℕ → Bool → Inbox → Inbox
 inbox_behind first ended inbox =
-    record { bytes = behind first inbox.bytes; ended = inbox.ended || (ended && (length (behind first inbox.bytes) == 0)) }
+    record {
+      bytes = behind first inbox.bytes;
+      ended = inbox.ended ||
+          (ended && (length (behind first inbox.bytes) == 0));
+    }
 
 -- the same, where observable
 abbrev pub held_behind : {I : Type 0} → (I → Option Inbox) → Option I → Option ℕ → Bool → Option Inbox
@@ -28,4 +32,5 @@ test_of f half = unwrap_or (option_map f half) false
 -- The number of the pieces that an outward half has still to hand on, where its sends are observable.
 abbrev pub PendingIs : ℕ → Option (List (List ℕ)) → ℕ → ℕ → Bool → Type 0
 PendingIs pending sent flushed lost shut =
-    IfSome sent (λ pieces. (pending ≡ length (unflushed pieces flushed lost)) × (flushed ≤ length pieces) × (shut ≡ false → lost ≡ 0))
+    IfSome sent (λ pieces. (pending ≡ length (unflushed pieces flushed lost)) × (flushed ≤ length pieces) ×
+    (shut ≡ false → lost ≡ 0))

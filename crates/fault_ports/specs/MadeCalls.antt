@@ -22,5 +22,6 @@ abbrev pub calls_of : List MadeCall → List Call
 calls_of made = map call_of made
 
 -- The files that readers see are what the calls made of those at the start.
-pub made_by : (disk : Disk) (start : FileMap) (calls : List Call) → disk ≡ disk_of start calls → Some (files_on disk) ≡ Some (run calls start)
+pub made_by : (disk : Disk) (start : FileMap) (calls : List Call) → disk ≡ disk_of start calls →
+    Some (files_on disk) ≡ Some (run calls start)
 made_by disk start calls kept = ap (λ d. Some (files_on d)) kept ∙ ap Some (files_on-disk_of start calls)

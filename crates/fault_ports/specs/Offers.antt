@@ -32,7 +32,8 @@ count_given offer.End count = count
 abbrev pub OffersNext : Offer → Bool → Bool → Standing → Option ℕ → Type 0
 OffersNext offer.Nothing take hungry next left = (take && hungry) ≡ false
 OffersNext offer.Rest take hungry next left = (take ≡ true) × (left ≡ None) × (next ≢ standing.Piece)
-OffersNext offer.Piece take hungry next left = (take ≡ true) × (hungry ≡ true) × (left ≢ Some 0) × (next ≡ standing.Piece)
+OffersNext offer.Piece take hungry next left = (take ≡ true) × (hungry ≡ true) × (left ≢ Some 0) ×
+    (next ≡ standing.Piece)
 OffersNext offer.End take hungry next left = (take ≡ true) × IsSome left × ((left ≡ Some 0) ⊎ (next ≢ standing.Piece))
 
 -- a piece, or else the end of a cut

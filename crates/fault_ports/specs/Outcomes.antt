@@ -11,7 +11,8 @@ Pairs P [] [] = Unit {0}
 Pairs P [] (entry ∷ rest) = ⊥
 Pairs P (entry ∷ rest) [] = ⊥
 Pairs P (entry ∷ disk) (left ∷ rest) =
-    (entry.name ≡ left.name) × P (option_map disk_file_of entry.file) (option_map (λ v. v.items) left.bytes) × Pairs P disk rest
+    (entry.name ≡ left.name) × P (option_map disk_file_of entry.file) (option_map (λ v. v.items) left.bytes) ×
+    Pairs P disk rest
 
 -- The file is wholly on the disk.
 abbrev pub IsSyncedAs : Option DiskFile → Option (List ℕ) → Type 0

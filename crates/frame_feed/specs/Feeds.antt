@@ -32,7 +32,8 @@ abbrev pub refusing : FeedFault → List ℕ → FeedState
 refusing e rest = record { rest = rest; refused = Some e; wanted = 0 }
 
 -- This is answered and left, or memory ran out and nothing changed.
-abbrev pub Answers : {M : Type 0} → FeedState → Result (Option M) FeedFault → FeedState → Result (Option M) FeedFault → FeedState → Type 0
+abbrev pub Answers : {M : Type 0} → FeedState → Result (Option M) FeedFault → FeedState → Result (Option M) FeedFault →
+    FeedState → Type 0
 Answers old r new answer left = ((r ≡ Err feed.Memory) × (new ≡ old)) ⊎ ((r ≡ answer) × (new ≡ left))
 
 -- What is taken is spelled at the front, and the bytes behind it stay.
@@ -47,21 +48,27 @@ pub record TakesOne {M : Type 0} (kind : Kind M) (m : M) (old new : FeedState) :
 pub record Wants {M : Type 0} (kind : Kind M) (s : FeedState) : Type 0 where
   pub some : 0 < s.wanted
   pub within : (m : M) (text more : List ℕ) → kind.spells m text → s.rest ++ more ≡ text → s.wanted ≤ length more
-  pub whole : (size : ℕ) (m : M) (text more : List ℕ) → size_at kind.framing s.rest ≡ Some size → kind.spells m text → s.rest ++ more ≡ text → s.wanted ≡ length more
+  pub whole : (size : ℕ) (m : M) (text more : List ℕ) → size_at kind.framing s.rest ≡ Some size → kind.spells m text →
+      s.rest ++ more ≡ text → s.wanted ≡ length more
   pub bounded : length s.rest + s.wanted ≤ 16777218
 
 -- What a call answers that asks for the next message of a kind, and what it leaves.
-pub record TakesNext {M : Type 0} (kind : Kind M) (old : FeedState) (r : Result (Option M) FeedFault) (new : FeedState) : Type 0 where
+pub record TakesNext {M : Type 0} (kind : Kind M) (old : FeedState) (r : Result (Option M) FeedFault) (new : FeedState)
+    : Type 0 where
   -- What is taken is spelled at the front, and what is spelled there is taken, whatever follows.
   pub found : (m : M) → r ≡ Ok (Some m) → TakesOne kind m old new
-  pub only : old.refused ≡ None → (m : M) (text rest : List ℕ) → kind.spells m text → old.rest ≡ text ++ rest → Answers old r new (Ok (Some m)) (holding rest)
+  pub only : old.refused ≡ None → (m : M) (text rest : List ℕ) → kind.spells m text → old.rest ≡ text ++ rest →
+      Answers old r new (Ok (Some m)) (holding rest)
   -- None comes exactly where the message is cut off.
   pub none : r ≡ Ok None → IsCut kind.framing old.rest
-  pub short : old.refused ≡ None → IsCut kind.framing old.rest → Answers old r new (Ok None) (waiting kind.framing old.rest)
+  pub short : old.refused ≡ None → IsCut kind.framing old.rest →
+      Answers old r new (Ok None) (waiting kind.framing old.rest)
   pub wants : r ≡ Ok None → Wants kind new
   -- A fault comes exactly where it stands at the front, and from then on it is answered for good.
-  pub fails : (e : FeedFault) → r ≡ Err e → (e ≡ feed.Memory) ⊎ ((old.refused ≡ Some e) ⊎ kind.stops (Refused e) old.rest)
-  pub refuses : (e : FeedFault) → old.refused ≡ None → kind.stops (Refused e) old.rest → Answers old r new (Err e) (refusing e old.rest)
+  pub fails : (e : FeedFault) → r ≡ Err e → (e ≡ feed.Memory) ⊎
+      ((old.refused ≡ Some e) ⊎ kind.stops (Refused e) old.rest)
+  pub refuses : (e : FeedFault) → old.refused ≡ None → kind.stops (Refused e) old.rest →
+      Answers old r new (Err e) (refusing e old.rest)
   pub again : (e : FeedFault) → old.refused ≡ Some e → (r ≡ Err e) × (new ≡ old)
   -- Where nothing is taken, the bytes stay.
   pub stays : ((m : M) → r ≡ Ok (Some m) → ⊥) → new.rest ≡ old.rest
@@ -83,7 +90,8 @@ state_after f old (Err (Refused e)) = refusing e old.rest
 
 -- An answer by what reading the bytes gives, or memory ran out.
 abbrev pub AnswersAsRead : {M : Type 0} → Kind M → FeedState → Result (Option M) FeedFault → FeedState → Type 0
-AnswersAsRead kind old r new = Answers old r new (answer_of (kind.reads old.rest)) (state_after kind.framing old (kind.reads old.rest))
+AnswersAsRead kind old r new = Answers old r new (answer_of (kind.reads old.rest))
+    (state_after kind.framing old (kind.reads old.rest))
 
 -- ---- what a feed keeps
 

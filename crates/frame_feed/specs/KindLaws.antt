@@ -14,6 +14,7 @@ use Rattle.packet_codec.specs.Refusals.{AreLawful, IsWholeFrame as IsWholePacket
 use Rattle.std.specs.Int.{w16, w32, from_be_bytes}
 use Rattle.std.specs.Prelude.{IsSome}
 use Rattle.std.proofs.lemmas.List.{take-append-le, drop-append-le}
+use Rattle.std.proofs.Math.Seq.{take-append_seam}
 use Rattle.proto_fields.specs.Frames.{IsCutFrame}
 use Rattle.proto_fields.specs.Varint.{BeginsWithVarint}
 use Rattle.op_headers.specs.Requests.{IsCutRequest}
@@ -52,9 +53,10 @@ use Rattle.op_headers.proofs.AnswerLemmas as answer_laws
 use Rattle.frame_feed.specs.declared.faults.FeedFault.{FeedFault}
 use Rattle.frame_feed.specs.declared.faults.FeedFault.TheVariants as feed
 use Rattle.frame_feed.specs.declared.faults.NoMessage.{NoMessage}
+use Rattle.frame_feed.specs.declared.packet_frames.PacketFrame.{PacketFrame}
 use Rattle.frame_feed.specs.declared.faults.NoMessage.TheVariants.{Short, Memory, Refused}
 use Rattle.frame_feed.specs.Faults.{no_op, no_packet, no_ack, no_response, no_answer, StandsThere, IsOfStream}
-use Rattle.frame_feed.specs.Kinds.{IsSound, requests, packets, acks, responses, answers, read_statuses}
+use Rattle.frame_feed.specs.Kinds.{IsSound, requests, packets, packet_frames, with_text, SpellsFrame, acks, responses, answers, read_statuses}
 
 -- ---- a decoder's result
 
@@ -70,7 +72,9 @@ exactly memory (Err e) s never (inr is) = is
 
 -- ---- reading wants no memory
 
-framed_never : {X E : Type 0} (cause : FrameFault → E) (read : List ℕ → Result X E) (memory : E) (bytes : List ℕ) → ((f : FrameFault) → cause f ≡ memory → ⊥) → ((m : List ℕ) → read m ≡ Err memory → ⊥) → framed_at cause read bytes ≡ Err memory → ⊥
+framed_never : {X E : Type 0} (cause : FrameFault → E) (read : List ℕ → Result X E) (memory : E) (bytes : List ℕ) →
+    ((f : FrameFault) → cause f ≡ memory → ⊥) → ((m : List ℕ) → read m ≡ Err memory → ⊥) →
+    framed_at cause read bytes ≡ Err memory → ⊥
 unfolding framed_at
 framed_never {X = X} {E = E} cause read memory bytes outside inside e =
     elim (bind_err (with_cause cause (frame_at bytes)) _ memory e) [
@@ -97,12 +101,14 @@ answer_of_never : (message : List ℕ) → answer_of message ≡ Err answer.Memo
 unfolding answer_of
 answer_of_never message e =
     elim (bind_err (with_cause answer.Wire (answer_format.read message)) (with_cause missing_field) answer.Memory e) [
-      | inl one ↦ let d = with_cause_err answer.Wire (answer_format.read message) answer.Memory one in let is : answer.Wire d.0 ≡ answer.Memory = d.1.1 in cc
+      | inl one ↦ let d = with_cause_err answer.Wire (answer_format.read message) answer.Memory one in
+          let is : answer.Wire d.0 ≡ answer.Memory = d.1.1 in cc
       | inr later ↦ let d = with_cause_err missing_field later.0 answer.Memory later.1.1 in missing_never d.0 d.1.1
     ]
 
 answer_never : (bytes : List ℕ) → answer_at bytes ≡ Err answer.Memory → ⊥
-answer_never bytes e = framed_never answer_frame_cause answer_of answer.Memory bytes answer_cause_never answer_of_never e
+answer_never bytes e = framed_never answer_frame_cause answer_of answer.Memory bytes answer_cause_never answer_of_never
+    e
 
 response_cause_never : (f : FrameFault) → response_frame_cause f ≡ response.Memory → ⊥
 response_cause_never frame.Short e = cc
@@ -112,15 +118,20 @@ response_cause_never frame.LongPrefix e = cc
 response_of_never : (message : List ℕ) → response_of message ≡ Err response.Memory → ⊥
 unfolding response_of
 response_of_never message e =
-    elim (bind_err (with_cause response.Wire (found_response_at message)) (decoded_response message) response.Memory e) [
-      | inl one ↦ let d = with_cause_err response.Wire (found_response_at message) response.Memory one in let is : response.Wire d.0 ≡ response.Memory = d.1.1 in cc
+    elim (bind_err (with_cause response.Wire (found_response_at message)) (decoded_response message) response.Memory
+    e) [
+      | inl one ↦ let d = with_cause_err response.Wire (found_response_at message) response.Memory one in
+          let is : response.Wire d.0 ≡ response.Memory = d.1.1 in cc
       | inr later ↦
-          let d = with_cause_err response.Missing (decoded_parts later.0) response.Memory (with_value_err (response_with message later.0) (with_cause response.Missing (decoded_parts later.0)) response.Memory later.1.1) in
+          let d = with_cause_err response.Missing (decoded_parts later.0) response.Memory
+          (with_value_err (response_with message later.0) (with_cause response.Missing (decoded_parts later.0))
+          response.Memory later.1.1) in
           let is : response.Missing d.0 ≡ response.Memory = d.1.1 in cc
     ]
 
 response_never : (bytes : List ℕ) → response_at bytes ≡ Err response.Memory → ⊥
-response_never bytes e = framed_never response_frame_cause response_of response.Memory bytes response_cause_never response_of_never e
+response_never bytes e = framed_never response_frame_cause response_of response.Memory bytes response_cause_never
+    response_of_never e
 
 op_cause_never : (f : FrameFault) → op_frame_cause f ≡ op.Memory → ⊥
 op_cause_never frame.Short e = cc
@@ -144,12 +155,14 @@ head_never (high ∷ []) e = cc
 head_never (high ∷ low ∷ []) e =
     elim (chosen (256 * high + low == 28) _ _ _ e) [
       | inl t ↦ let is : op.Short ≡ op.Memory = err_value op.Short op.Memory t.1 in cc
-      | inr t ↦ let is : op.Version (256 * high + low) ≡ op.Memory = err_value (op.Version (256 * high + low)) op.Memory t.1 in cc
+      | inr t ↦ let is : op.Version (256 * high + low) ≡ op.Memory =
+          err_value (op.Version (256 * high + low)) op.Memory t.1 in cc
     ]
 head_never (high ∷ low ∷ number ∷ rest) e =
     elim (chosen (256 * high + low == 28) _ _ _ e) [
       | inl t ↦ opcode_never number rest (opcode_with number) t.1
-      | inr t ↦ let is : op.Version (256 * high + low) ≡ op.Memory = err_value (op.Version (256 * high + low)) op.Memory t.1 in cc
+      | inr t ↦ let is : op.Version (256 * high + low) ≡ op.Memory =
+          err_value (op.Version (256 * high + low)) op.Memory t.1 in cc
     ]
 
 op_never : (bytes : List ℕ) → request_at bytes ≡ Err op.Memory → ⊥
@@ -174,13 +187,15 @@ packet_never bytes fits e = packet_laws.packet_refused bytes packet.Memory fits 
 
 prefixed_sized : (P : List ℕ → Type 0) (text : List ℕ) → FramesSome P text → prefixed_size text ≡ Some (length text)
 prefixed_sized P text f =
-    let read : varint_at text ≡ Ok (length f.message, f.message) = ap varint_at f.parts ∙ read_varint_again f.prefix (length f.message) f.message f.spelled in
+    let read : varint_at text ≡ Ok (length f.message, f.message) = ap varint_at f.parts ∙
+    read_varint_again f.prefix (length f.message) f.message f.spelled in
     ap (behind_varint (length text)) read ∙ ap Some (omega (arith, ap length f.parts, length-append f.prefix f.message))
 
 request_sized : (request : Op) (text : List ℕ) → SpellsOp request text → request_size text ≡ Some (length text)
 request_sized request text s =
     let size : length text ≡ 3 + length s.rest = omega (arith, ap length s.parts) in
-    let told : prefixed_size (drop 3 text) ≡ Some (length s.rest) = ap prefixed_size (ap (drop 3) s.parts) ∙ prefixed_sized _ s.rest s.holds in
+    let told : prefixed_size (drop 3 text) ≡ Some (length s.rest) = ap prefixed_size (ap (drop 3) s.parts) ∙
+    prefixed_sized _ s.rest s.holds in
     rw (le-ltb (length text) 3 (omega arith)) (ap (option_map (λ k. 3 + k)) told ∙ ap Some (sym size))
 
 packet_sized : (m : Packet) (text : List ℕ) → SpellsPacket m text → packet_size text ≡ Some (length text)
@@ -191,7 +206,8 @@ packet_sized m text s =
 
 -- ---- the front of a message
 
-prefixed_front : (P : List ℕ → Type 0) (text bytes more : List ℕ) → FramesSome P text → bytes ++ more ≡ text → 0 < length more → IsCutFrame bytes
+prefixed_front : (P : List ℕ → Type 0) (text bytes more : List ℕ) → FramesSome P text → bytes ++ more ≡ text →
+    0 < length more → IsCutFrame bytes
 prefixed_front P text bytes more f parts some = record {
   missing = more;
   some = some;
@@ -201,9 +217,15 @@ prefixed_front P text bytes more f parts some = record {
   where
     few : (n : ℕ) (rest : List ℕ) → BeginsWithVarint bytes n rest → n ≤ 65536
     few n rest b =
-        let whole : text ≡ b.text ++ (rest ++ more) = sym parts ∙ (ap (λ l. l ++ more) b.parts ∙ append_assoc b.text rest more) in
-        let one = read_varint_begins text n (rest ++ more) (record { text = b.text; parts = whole; spelled = b.spelled }) in
-        let two = read_varint_begins text (length f.message) f.message (record { text = f.prefix; parts = f.parts; spelled = f.spelled }) in
+        let whole : text ≡ b.text ++ (rest ++ more) = sym parts ∙
+        (ap (λ l. l ++ more) b.parts ∙ append_assoc b.text rest more) in
+        let one = read_varint_begins text n (rest ++
+        more) (record { text = b.text; parts = whole; spelled = b.spelled }) in
+        let two = read_varint_begins text (length f.message) f.message (record {
+          text = f.prefix;
+          parts = f.parts;
+          spelled = f.spelled;
+        }) in
         let same = ok_pair n (length f.message) (rest ++ more) f.message (sym one ∙ two) in
         omega (arith, same.0, f.few)
 
@@ -215,14 +237,19 @@ head_some : (number : ℕ) (rest : List ℕ) (x : _) → head_at (0 ∷ 28 ∷ n
 unfolding head_at
 head_some number rest x e = opcode_some number rest (opcode_with number) x e
 
-request_listed : (request : Op) (text : List ℕ) (s : SpellsOp request text) → IsSome (opcode_with (opcode_number s.code))
+request_listed : (request : Op) (text : List ℕ) (s : SpellsOp request text) →
+    IsSome (opcode_with (opcode_number s.code))
 unfolding request_at
 request_listed request text s =
-    let read : request_at text ≡ Ok (request, length text) = exactly op.Memory (request_at text) (Ok (request, length text)) (op_never text) (request_laws.request_only text (request_at text) request text [] (gives_itself op.Memory (request_at text)) s (sym (append-nil text))) in
+    let read : request_at text ≡ Ok (request, length text) =
+    exactly op.Memory (request_at text) (Ok (request, length text)) (op_never text)
+    (request_laws.request_only text (request_at text) request text [] (gives_itself op.Memory (request_at text)) s
+    (sym (append-nil text))) in
     let head = bind_ok (head_at text) _ (request, length text) read in
     head_some (opcode_number s.code) s.rest head.0 (ap head_at (sym s.parts) ∙ head.1.0)
 
-request_front : (request : Op) (text bytes more : List ℕ) → SpellsOp request text → bytes ++ more ≡ text → 0 < length more → IsCutRequest bytes
+request_front : (request : Op) (text bytes more : List ℕ) → SpellsOp request text → bytes ++ more ≡ text →
+    0 < length more → IsCutRequest bytes
 request_front request text bytes more s parts some = record {
   missing = more;
   some = some;
@@ -231,24 +258,35 @@ request_front request text bytes more s parts some = record {
     rest = s.rest;
     parts = parts ∙ s.parts;
     three = refl;
-    framed = record { prefix = s.holds.prefix; message = s.holds.message; parts = s.holds.parts; spelled = s.holds.spelled };
+    framed = record {
+      prefix = s.holds.prefix;
+      message = s.holds.message;
+      parts = s.holds.parts;
+      spelled = s.holds.spelled;
+    };
   };
   version = λ high low rest e.
-      let same : high ∷ low ∷ (rest ++ more) ≡ 0 ∷ 28 ∷ opcode_number s.code ∷ s.rest = ap (λ l. l ++ more) (sym e) ∙ (parts ∙ s.parts) in
+      let same : high ∷ low ∷ (rest ++ more) ≡ 0 ∷ 28 ∷ opcode_number s.code ∷ s.rest = ap (λ l. l ++ more) (sym e) ∙
+      (parts ∙ s.parts) in
       let a : high ≡ 0 = cc in let b : low ≡ 28 = cc in omega arith;
   code = λ high low number rest e.
-      let same : high ∷ low ∷ number ∷ (rest ++ more) ≡ 0 ∷ 28 ∷ opcode_number s.code ∷ s.rest = ap (λ l. l ++ more) (sym e) ∙ (parts ∙ s.parts) in
-      let a : opcode_number s.code ≡ number = cc in subst (λ (k : ℕ). IsSome (opcode_with k)) a (request_listed request text s);
+      let same : high ∷ low ∷ number ∷ (rest ++ more) ≡ 0 ∷ 28 ∷ opcode_number s.code ∷ s.rest =
+      ap (λ l. l ++ more) (sym e) ∙ (parts ∙ s.parts) in
+      let a : opcode_number s.code ≡ number = cc in
+      subst (λ (k : ℕ). IsSome (opcode_with k)) a (request_listed request text s);
   lawful = λ high low number rest e n behind begins.
-      let same : high ∷ low ∷ number ∷ (rest ++ more) ≡ 0 ∷ 28 ∷ opcode_number s.code ∷ s.rest = ap (λ l. l ++ more) (sym e) ∙ (parts ∙ s.parts) in
+      let same : high ∷ low ∷ number ∷ (rest ++ more) ≡ 0 ∷ 28 ∷ opcode_number s.code ∷ s.rest =
+      ap (λ l. l ++ more) (sym e) ∙ (parts ∙ s.parts) in
       let a : rest ++ more ≡ s.rest = cc in (prefixed_front _ s.rest rest more s.holds a some).lawful n behind begins;
 }
 
-packet_front : (m : Packet) (text bytes more : List ℕ) → SpellsPacket m text → bytes ++ more ≡ text → 0 < length more → IsCutPacket bytes
+packet_front : (m : Packet) (text bytes more : List ℕ) → SpellsPacket m text → bytes ++ more ≡ text → 0 < length more →
+    IsCutPacket bytes
 packet_front m text bytes more s parts some =
     let read = read_steps text m (length text) (ap packet_at (sym (append-nil text)) ∙ packet_again m text [] s) in
     let passes = frame_passes text read.frame read.framed in
-    let size : length text ≡ frame_len (payload_of text) (header_len_of text) = sym (ap Frame.size passes.1 ∙ read.size) in
+    let size : length text ≡ frame_len (payload_of text) (header_len_of text) =
+    sym (ap Frame.size passes.1 ∙ read.size) in
     record {
       missing = more;
       some = some;
@@ -256,10 +294,14 @@ packet_front m text bytes more s parts some =
       lawful = λ six. lengths six passes.0.low passes.0.high;
     }
   where
-    lengths : 6 ≤ length bytes → 4 ≤ payload_of text → payload_of text + header_len_of text ≤ 16777216 → AreLawful (payload_of bytes) (header_len_of bytes)
+    lengths : 6 ≤ length bytes → 4 ≤ payload_of text → payload_of text + header_len_of text ≤ 16777216 →
+        AreLawful (payload_of bytes) (header_len_of bytes)
     lengths six low high =
-        let payload : payload_of text ≡ payload_of bytes = ap payload_of (sym parts) ∙ ap (from_be_bytes w32) (take-append-le 4 bytes more (omega arith)) in
-        let header : header_len_of text ≡ header_len_of bytes = ap header_len_of (sym parts) ∙ ap (from_be_bytes w16) (ap (take 2) (drop-append-le 4 bytes more (omega arith)) ∙ take-append-le 2 (drop 4 bytes) more (omega (arith, length-drop 4 bytes))) in
+        let payload : payload_of text ≡ payload_of bytes = ap payload_of (sym parts) ∙
+        ap (from_be_bytes w32) (take-append-le 4 bytes more (omega arith)) in
+        let header : header_len_of text ≡ header_len_of bytes = ap header_len_of (sym parts) ∙
+        ap (from_be_bytes w16) (ap (take 2) (drop-append-le 4 bytes more (omega arith)) ∙
+        take-append-le 2 (drop 4 bytes) more (omega (arith, length-drop 4 bytes))) in
         record { low = omega (arith, payload, low); high = omega (arith, payload, header, high) }
 
 -- ---- requests
@@ -293,10 +335,14 @@ op_refused op.Memory f is = cc
 
 pub requests_sound : IsSound requests
 requests_sound = record {
-  found = λ m k bytes fits e. request_laws.request_found bytes (Ok (m, k)) fits (sym (with_cause_ok no_op (request_at bytes) (m, k) e));
-  within = λ m k bytes fits e. request_laws.request_within bytes (Ok (m, k)) fits (sym (with_cause_ok no_op (request_at bytes) (m, k) e));
+  found = λ m k bytes fits e. request_laws.request_found bytes (Ok (m, k)) fits
+      (sym (with_cause_ok no_op (request_at bytes) (m, k) e));
+  within = λ m k bytes fits e. request_laws.request_within bytes (Ok (m, k)) fits
+      (sym (with_cause_ok no_op (request_at bytes) (m, k) e));
   listed = λ m k bytes fits e. tt;
-  only = λ m text rest s. ap (with_cause no_op) (exactly op.Memory (request_at (text ++ rest)) (Ok (m, length text)) (op_never (text ++ rest)) (request_laws.request_only (text ++ rest) (request_at (text ++ rest)) m text rest (gives_itself op.Memory (request_at (text ++ rest))) s refl));
+  only = λ m text rest s. ap (with_cause no_op) (exactly op.Memory (request_at (text ++ rest)) (Ok (m, length text))
+      (op_never (text ++ rest)) (request_laws.request_only (text ++
+      rest) (request_at (text ++ rest)) m text rest (gives_itself op.Memory (request_at (text ++ rest))) s refl));
   fails = λ why bytes fits e. requests_fails why bytes fits (with_cause_err no_op (request_at bytes) why e);
   stopped = λ why bytes fits s. ap (with_cause no_op) (request_laws.request_refuses bytes s.0 fits s.2) ∙ ap Err s.1;
   is_cut = λ bytes s. subst (λ (e : OpFault). IsRefusedOp e bytes) (op_short s.0 s.1) s.2;
@@ -307,7 +353,8 @@ requests_sound = record {
   of_stream = λ e bytes s. op_refused s.0 e s.1;
 }
   where
-    requests_fails : (why : NoMessage) (bytes : List ℕ) → IsBytes bytes → (d : OpFault) × ((request_at bytes ≡ Err d) × (no_op d ≡ why)) → StandsThere no_op IsRefusedOp why bytes
+    requests_fails : (why : NoMessage) (bytes : List ℕ) → IsBytes bytes → (d : OpFault) ×
+        ((request_at bytes ≡ Err d) × (no_op d ≡ why)) → StandsThere no_op IsRefusedOp why bytes
     requests_fails why bytes fits d =
         elim (request_laws.request_refused bytes (Err d.0) fits (inr (sym d.1.0))) [
           | inl is ↦ absurd (op_never bytes (d.1.0 ∙ ap Err is))
@@ -332,15 +379,20 @@ packet_memory packet.Memory h = refl
 
 packet_refused : (fault : PacketFault) (e : FeedFault) → no_packet fault ≡ Refused e → IsOfStream e
 packet_refused packet.Short f is = cc
-packet_refused (packet.Length a b) f is = let same : feed.Packet (packet.Length a b) ≡ f = cc in subst IsOfStream same (λ h. cc, λ h. cc)
-packet_refused (packet.Header c) f is = let same : feed.Packet (packet.Header c) ≡ f = cc in subst IsOfStream same (λ h. cc, λ h. cc)
-packet_refused (packet.SumCount z) f is = let same : feed.Packet (packet.SumCount z) ≡ f = cc in subst IsOfStream same (λ h. cc, λ h. cc)
+packet_refused (packet.Length a b) f is = let same : feed.Packet (packet.Length a b) ≡ f = cc in
+    subst IsOfStream same (λ h. cc, λ h. cc)
+packet_refused (packet.Header c) f is = let same : feed.Packet (packet.Header c) ≡ f = cc in
+    subst IsOfStream same (λ h. cc, λ h. cc)
+packet_refused (packet.SumCount z) f is = let same : feed.Packet (packet.SumCount z) ≡ f = cc in
+    subst IsOfStream same (λ h. cc, λ h. cc)
 packet_refused packet.Memory f is = cc
 
 pub packets_sound : IsSound packets
 packets_sound = record {
-  found = λ m k bytes fits e. packet_laws.read_found bytes (Ok (m, k)) fits (sym (with_cause_ok no_packet (packet_at bytes) (m, k) e));
-  within = λ m k bytes fits e. packet_laws.read_within bytes (Ok (m, k)) fits (sym (with_cause_ok no_packet (packet_at bytes) (m, k) e));
+  found = λ m k bytes fits e. packet_laws.read_found bytes (Ok (m, k)) fits
+      (sym (with_cause_ok no_packet (packet_at bytes) (m, k) e));
+  within = λ m k bytes fits e. packet_laws.read_within bytes (Ok (m, k)) fits
+      (sym (with_cause_ok no_packet (packet_at bytes) (m, k) e));
   listed = λ m k bytes fits e. tt;
   only = λ m text rest s. ap (with_cause no_packet) (packet_again m text rest s);
   fails = λ why bytes fits e. packets_fails why bytes fits (with_cause_err no_packet (packet_at bytes) why e);
@@ -353,8 +405,59 @@ packets_sound = record {
   of_stream = λ e bytes s. packet_refused s.0 e s.1;
 }
   where
-    packets_fails : (why : NoMessage) (bytes : List ℕ) → IsBytes bytes → (d : PacketFault) × ((packet_at bytes ≡ Err d) × (no_packet d ≡ why)) → StandsThere no_packet IsRefused why bytes
+    packets_fails : (why : NoMessage) (bytes : List ℕ) → IsBytes bytes → (d : PacketFault) ×
+        ((packet_at bytes ≡ Err d) × (no_packet d ≡ why)) → StandsThere no_packet IsRefused why bytes
     packets_fails why bytes fits d = (d.0, d.1.1, packet_laws.packet_refused bytes d.0 fits d.1.0)
+
+-- ---- packets with their bytes
+
+ok_parts : (x : Packet × ℕ) (p : Packet) (k : ℕ) → x.0 ≡ p → x.1 ≡ k → x ≡ (p, k)
+ok_parts x p k one two = ap (λ (q : Packet). (q, x.1)) one ∙ ap (λ (n : ℕ). (p, n)) two
+
+-- a packet with these bytes
+abbrev framed : Packet → List ℕ → PacketFrame
+framed p text = record { packet = p; text = text }
+
+text_read : (bytes : List ℕ) (r : Result (Packet × ℕ) NoMessage) (m : PacketFrame) (k : ℕ) →
+    with_text bytes r ≡ Ok (m, k) → (r ≡ Ok (m.packet, k)) × (m.text ≡ take k bytes)
+text_read bytes (Ok x) m k e =
+    let same : ◌≡◌ {A = PacketFrame × ℕ} (framed x.0 (take x.1 bytes), x.1) (m, k) = cc in
+    let size : x.1 ≡ k = ap (λ p. p.1) same in (
+      ap Ok (ok_parts x m.packet k (ap (λ p. p.0.packet) same) size),
+      sym (ap (λ p. p.0.text) same) ∙
+          ap (λ n. take n bytes) size,
+    )
+text_read bytes (Err why) m k e = cc
+
+text_unread : (bytes : List ℕ) (r : Result (Packet × ℕ) NoMessage) (why : NoMessage) → with_text bytes r ≡ Err why →
+    r ≡ Err why
+text_unread bytes (Ok x) why e = cc
+text_unread bytes (Err other) why e = cc
+
+pub packet_frames_sound : IsSound packet_frames
+packet_frames_sound = record {
+  found = λ m k bytes fits e. let d = text_read bytes (packets.reads bytes) m k e in
+      (packets_sound.found m.packet k bytes fits d.0, d.1);
+  within = λ m k bytes fits e. packets_sound.within m.packet k bytes fits
+      (text_read bytes (packets.reads bytes) m k e).0;
+  listed = λ m k bytes fits e. tt;
+  only = λ m text rest s. frame_only m text rest s;
+  fails = λ why bytes fits e. packets_sound.fails why bytes fits (text_unread bytes (packets.reads bytes) why e);
+  stopped = λ why bytes fits s. ap (with_text bytes) (packets_sound.stopped why bytes fits s);
+  is_cut = packets_sound.is_cut;
+  cut = packets_sound.cut;
+  front = λ m text bytes more s parts some. packets_sound.front m.packet text bytes more s.0 parts some;
+  no_memory = packets_sound.no_memory;
+  sized = λ m text s. packets_sound.sized m.packet text s.0;
+  of_stream = packets_sound.of_stream;
+}
+  where
+    frame_only : (m : PacketFrame) (text rest : List ℕ) → SpellsFrame m text →
+        with_text (text ++ rest) (packets.reads (text ++ rest)) ≡ Ok (m, length text)
+    frame_only m text rest s =
+        let kept : m.text ≡ take (length text) (text ++ rest) = s.1 ∙ sym (take-append_seam text rest) in
+        ap (with_text (text ++ rest)) (packets_sound.only m.packet text rest s.0) ∙
+        ap (λ (t : List ℕ). Ok (framed m.packet t, length text)) (sym kept)
 
 -- ---- responses
 
@@ -374,19 +477,32 @@ response_memory response.Memory h = refl
 
 response_refused : (fault : ResponseFault) (e : FeedFault) → no_response fault ≡ Refused e → IsOfStream e
 response_refused response.Short f is = cc
-response_refused (response.TooLong n) f is = let same : feed.Response (response.TooLong n) ≡ f = cc in subst IsOfStream same (λ h. cc, λ h. cc)
-response_refused (response.Wire e) f is = let same : feed.Response (response.Wire e) ≡ f = cc in subst IsOfStream same (λ h. cc, λ h. cc)
-response_refused (response.Missing n) f is = let same : feed.Response (response.Missing n) ≡ f = cc in subst IsOfStream same (λ h. cc, λ h. cc)
+response_refused (response.TooLong n) f is = let same : feed.Response (response.TooLong n) ≡ f = cc in
+    subst IsOfStream same (λ h. cc, λ h. cc)
+response_refused (response.Wire e) f is = let same : feed.Response (response.Wire e) ≡ f = cc in
+    subst IsOfStream same (λ h. cc, λ h. cc)
+response_refused (response.Missing n) f is = let same : feed.Response (response.Missing n) ≡ f = cc in
+    subst IsOfStream same (λ h. cc, λ h. cc)
 response_refused response.Memory f is = cc
 
 pub responses_sound : IsSound responses
 responses_sound = record {
-  found = λ m k bytes fits e. response_laws.read_found bytes (Ok (m, k)) fits (sym (with_cause_ok no_response (response_at bytes) (m, k) e));
-  within = λ m k bytes fits e. response_laws.read_within bytes (Ok (m, k)) fits (sym (with_cause_ok no_response (response_at bytes) (m, k) e));
-  listed = λ m k bytes fits e. response_laws.read_listed bytes (Ok (m, k)) fits (sym (with_cause_ok no_response (response_at bytes) (m, k) e));
-  only = λ m text rest s. ap (with_cause no_response) (exactly response.Memory (response_at (text ++ rest)) (Ok (m, length text)) (response_never (text ++ rest)) (response_laws.read_only (text ++ rest) (response_at (text ++ rest)) m text rest (gives_itself response.Memory (response_at (text ++ rest))) s refl));
+  found = λ m k bytes fits e. response_laws.read_found bytes (Ok (m, k)) fits
+      (sym (with_cause_ok no_response (response_at bytes) (m, k) e));
+  within = λ m k bytes fits e. response_laws.read_within bytes (Ok (m, k)) fits
+      (sym (with_cause_ok no_response (response_at bytes) (m, k) e));
+  listed = λ m k bytes fits e. response_laws.read_listed bytes (Ok (m, k)) fits
+      (sym (with_cause_ok no_response (response_at bytes) (m, k) e));
+  only = λ m text rest s. ap (with_cause no_response)
+      (exactly response.Memory (response_at (text ++ rest)) (Ok (m, length text)) (response_never (text ++ rest))
+      (response_laws.read_only (text ++
+      rest) (response_at (text ++ rest)) m text rest (gives_itself response.Memory (response_at (text ++ rest))) s
+      refl));
   fails = λ why bytes fits e. responses_fails why bytes fits (with_cause_err no_response (response_at bytes) why e);
-  stopped = λ why bytes fits s. ap (with_cause no_response) (exactly response.Memory (response_at bytes) (Err s.0) (response_never bytes) (response_laws.read_refuses bytes (response_at bytes) s.0 fits (gives_itself response.Memory (response_at bytes)) s.2)) ∙ ap Err s.1;
+  stopped = λ why bytes fits s. ap (with_cause no_response)
+      (exactly response.Memory (response_at bytes) (Err s.0) (response_never bytes)
+      (response_laws.read_refuses bytes (response_at bytes) s.0 fits (gives_itself response.Memory (response_at bytes))
+      s.2)) ∙ ap Err s.1;
   is_cut = λ bytes s. subst (λ (e : ResponseFault). IsRefusedResponse e bytes) (response_short s.0 s.1) s.2;
   cut = λ bytes c. (response.Short, refl, c);
   front = λ m text bytes more s parts some. prefixed_front (SaysResponse m) text bytes more s parts some;
@@ -395,7 +511,8 @@ responses_sound = record {
   of_stream = λ e bytes s. response_refused s.0 e s.1;
 }
   where
-    responses_fails : (why : NoMessage) (bytes : List ℕ) → IsBytes bytes → (d : ResponseFault) × ((response_at bytes ≡ Err d) × (no_response d ≡ why)) → StandsThere no_response IsRefusedResponse why bytes
+    responses_fails : (why : NoMessage) (bytes : List ℕ) → IsBytes bytes → (d : ResponseFault) ×
+        ((response_at bytes ≡ Err d) × (no_response d ≡ why)) → StandsThere no_response IsRefusedResponse why bytes
     responses_fails why bytes fits d =
         elim (response_laws.read_refused bytes (Err d.0) fits (inr (sym d.1.0))) [
           | inl is ↦ absurd (response_never bytes (d.1.0 ∙ ap Err is))
@@ -420,28 +537,39 @@ answer_memory answer.Memory h = refl
 
 answer_refused : (fault : AnswerFault) (e : FeedFault) → no_answer fault ≡ Refused e → IsOfStream e
 answer_refused answer.Short f is = cc
-answer_refused (answer.TooLong n) f is = let same : feed.Recovery (answer.TooLong n) ≡ f = cc in subst IsOfStream same (λ h. cc, λ h. cc)
-answer_refused (answer.Wire e) f is = let same : feed.Recovery (answer.Wire e) ≡ f = cc in subst IsOfStream same (λ h. cc, λ h. cc)
-answer_refused (answer.Missing n) f is = let same : feed.Recovery (answer.Missing n) ≡ f = cc in subst IsOfStream same (λ h. cc, λ h. cc)
+answer_refused (answer.TooLong n) f is = let same : feed.Recovery (answer.TooLong n) ≡ f = cc in
+    subst IsOfStream same (λ h. cc, λ h. cc)
+answer_refused (answer.Wire e) f is = let same : feed.Recovery (answer.Wire e) ≡ f = cc in
+    subst IsOfStream same (λ h. cc, λ h. cc)
+answer_refused (answer.Missing n) f is = let same : feed.Recovery (answer.Missing n) ≡ f = cc in
+    subst IsOfStream same (λ h. cc, λ h. cc)
 answer_refused answer.Memory f is = cc
 
 pub answers_sound : IsSound answers
 answers_sound = record {
-  found = λ m k bytes fits e. answer_laws.answer_found bytes (Ok (m, k)) fits (sym (with_cause_ok no_answer (answer_at bytes) (m, k) e));
-  within = λ m k bytes fits e. answer_laws.answer_within bytes (Ok (m, k)) fits (sym (with_cause_ok no_answer (answer_at bytes) (m, k) e));
-  listed = λ m k bytes fits e. answer_laws.answer_listed bytes (Ok (m, k)) fits (sym (with_cause_ok no_answer (answer_at bytes) (m, k) e));
-  only = λ m text rest s. ap (with_cause no_answer) (exactly answer.Memory (answer_at (text ++ rest)) (Ok (m, length text)) (answer_never (text ++ rest)) (answer_laws.answer_only (text ++ rest) (answer_at (text ++ rest)) m text rest (gives_itself answer.Memory (answer_at (text ++ rest))) s refl));
+  found = λ m k bytes fits e. answer_laws.answer_found bytes (Ok (m, k)) fits
+      (sym (with_cause_ok no_answer (answer_at bytes) (m, k) e));
+  within = λ m k bytes fits e. answer_laws.answer_within bytes (Ok (m, k)) fits
+      (sym (with_cause_ok no_answer (answer_at bytes) (m, k) e));
+  listed = λ m k bytes fits e. answer_laws.answer_listed bytes (Ok (m, k)) fits
+      (sym (with_cause_ok no_answer (answer_at bytes) (m, k) e));
+  only = λ m text rest s. ap (with_cause no_answer)
+      (exactly answer.Memory (answer_at (text ++ rest)) (Ok (m, length text)) (answer_never (text ++ rest))
+      (answer_laws.answer_only (text ++
+      rest) (answer_at (text ++ rest)) m text rest (gives_itself answer.Memory (answer_at (text ++ rest))) s refl));
   fails = λ why bytes fits e. answers_fails why bytes fits (with_cause_err no_answer (answer_at bytes) why e);
   stopped = λ why bytes fits s. ap (with_cause no_answer) (answer_laws.answer_refuses bytes s.0 fits s.2) ∙ ap Err s.1;
   is_cut = λ bytes s. subst (λ (e : AnswerFault). IsRefusedAnswer e bytes) (answer_short s.0 s.1) s.2;
   cut = λ bytes c. (answer.Short, refl, c);
-  front = λ m text bytes more s parts some. prefixed_front (λ message. answer_format.says message (Ok m)) text bytes more s parts some;
+  front = λ m text bytes more s parts some. prefixed_front (λ message. answer_format.says message (Ok m)) text bytes
+      more s parts some;
   no_memory = λ bytes s. subst (λ (e : AnswerFault). IsRefusedAnswer e bytes) (answer_memory s.0 s.1) s.2;
   sized = λ m text s. prefixed_sized (λ message. answer_format.says message (Ok m)) text s;
   of_stream = λ e bytes s. answer_refused s.0 e s.1;
 }
   where
-    answers_fails : (why : NoMessage) (bytes : List ℕ) → IsBytes bytes → (d : AnswerFault) × ((answer_at bytes ≡ Err d) × (no_answer d ≡ why)) → StandsThere no_answer IsRefusedAnswer why bytes
+    answers_fails : (why : NoMessage) (bytes : List ℕ) → IsBytes bytes → (d : AnswerFault) ×
+        ((answer_at bytes ≡ Err d) × (no_answer d ≡ why)) → StandsThere no_answer IsRefusedAnswer why bytes
     answers_fails why bytes fits d =
         elim (answer_laws.answer_refused bytes (Err d.0) fits (inr (sym d.1.0))) [
           | inl is ↦ absurd (answer_never bytes (d.1.0 ∙ ap Err is))
@@ -473,9 +601,12 @@ ack_refused (ack.Replies n) f is = let same : feed.Ack (ack.Replies n) ≡ f = c
 
 pub acks_sound : IsSound acks
 acks_sound = record {
-  found = λ m k bytes fits e. ack_laws.ack_found bytes (Ok (m, k)) fits (sym (with_cause_ok no_ack (ack_at bytes) (m, k) e));
-  within = λ m k bytes fits e. ack_laws.ack_within bytes (Ok (m, k)) fits (sym (with_cause_ok no_ack (ack_at bytes) (m, k) e));
-  listed = λ m k bytes fits e. ack_laws.ack_listed bytes (Ok (m, k)) fits (sym (with_cause_ok no_ack (ack_at bytes) (m, k) e));
+  found = λ m k bytes fits e. ack_laws.ack_found bytes (Ok (m, k)) fits
+      (sym (with_cause_ok no_ack (ack_at bytes) (m, k) e));
+  within = λ m k bytes fits e. ack_laws.ack_within bytes (Ok (m, k)) fits
+      (sym (with_cause_ok no_ack (ack_at bytes) (m, k) e));
+  listed = λ m k bytes fits e. ack_laws.ack_listed bytes (Ok (m, k)) fits
+      (sym (with_cause_ok no_ack (ack_at bytes) (m, k) e));
   only = λ m text rest s. ap (with_cause no_ack) (ack_laws.ack_again m text rest s);
   fails = λ why bytes fits e. acks_fails why bytes fits (with_cause_err no_ack (ack_at bytes) why e);
   stopped = λ why bytes fits s. ap (with_cause no_ack) (ack_laws.refuses_ack bytes s.0 fits s.2) ∙ ap Err s.1;
@@ -487,14 +618,18 @@ acks_sound = record {
   of_stream = λ e bytes s. ack_refused s.0 e s.1;
 }
   where
-    acks_fails : (why : NoMessage) (bytes : List ℕ) → IsBytes bytes → (d : AckFault) × ((ack_at bytes ≡ Err d) × (no_ack d ≡ why)) → StandsThere no_ack IsRefusedAck why bytes
+    acks_fails : (why : NoMessage) (bytes : List ℕ) → IsBytes bytes → (d : AckFault) ×
+        ((ack_at bytes ≡ Err d) × (no_ack d ≡ why)) → StandsThere no_ack IsRefusedAck why bytes
     acks_fails why bytes fits d = (d.0, d.1.1, ack_laws.ack_refused bytes (Err d.0) fits (sym d.1.0))
 
 pub read_statuses_sound : IsSound read_statuses
 read_statuses_sound = record {
-  found = λ m k bytes fits e. ack_laws.read_status_found bytes (Ok (m, k)) fits (sym (with_cause_ok no_ack (read_status_at bytes) (m, k) e));
-  within = λ m k bytes fits e. ack_laws.read_status_within bytes (Ok (m, k)) fits (sym (with_cause_ok no_ack (read_status_at bytes) (m, k) e));
-  listed = λ m k bytes fits e. ack_laws.read_status_listed bytes (Ok (m, k)) fits (sym (with_cause_ok no_ack (read_status_at bytes) (m, k) e));
+  found = λ m k bytes fits e. ack_laws.read_status_found bytes (Ok (m, k)) fits
+      (sym (with_cause_ok no_ack (read_status_at bytes) (m, k) e));
+  within = λ m k bytes fits e. ack_laws.read_status_within bytes (Ok (m, k)) fits
+      (sym (with_cause_ok no_ack (read_status_at bytes) (m, k) e));
+  listed = λ m k bytes fits e. ack_laws.read_status_listed bytes (Ok (m, k)) fits
+      (sym (with_cause_ok no_ack (read_status_at bytes) (m, k) e));
   only = λ m text rest s. ap (with_cause no_ack) (ack_laws.read_status_again m text rest s);
   fails = λ why bytes fits e. read_statuses_fails why bytes fits (with_cause_err no_ack (read_status_at bytes) why e);
   stopped = λ why bytes fits s. ap (with_cause no_ack) (ack_laws.refuses_read_status bytes s.0 fits s.2) ∙ ap Err s.1;
@@ -506,5 +641,6 @@ read_statuses_sound = record {
   of_stream = λ e bytes s. ack_refused s.0 e s.1;
 }
   where
-    read_statuses_fails : (why : NoMessage) (bytes : List ℕ) → IsBytes bytes → (d : AckFault) × ((read_status_at bytes ≡ Err d) × (no_ack d ≡ why)) → StandsThere no_ack IsRefusedReadStatus why bytes
+    read_statuses_fails : (why : NoMessage) (bytes : List ℕ) → IsBytes bytes → (d : AckFault) ×
+        ((read_status_at bytes ≡ Err d) × (no_ack d ≡ why)) → StandsThere no_ack IsRefusedReadStatus why bytes
     read_statuses_fails why bytes fits d = (d.0, d.1.1, ack_laws.read_status_refused bytes (Err d.0) fits (sym d.1.0))

@@ -21,6 +21,7 @@ use Rattle.frame_feed.specs.declared.faults.FeedFault.{FeedFault}
 use Rattle.frame_feed.specs.declared.faults.NoMessage.{NoMessage}
 use Rattle.frame_feed.specs.declared.faults.NoMessage.TheVariants.{Short, Memory, Refused}
 use Rattle.frame_feed.specs.declared.framing.Framing.{Framing}
+use Rattle.frame_feed.specs.declared.packet_frames.PacketFrame.{PacketFrame}
 use Rattle.frame_feed.specs.declared.framing.Framing.TheVariants as framing
 use Rattle.frame_feed.specs.Faults.{no_op, no_packet, no_ack, no_response, no_answer, StandsThere, IsOfStream}
 use Rattle.frame_feed.specs.Framings.{IsCut, size_at}
@@ -49,6 +50,24 @@ packets = record {
   listed = λ _. Unit {0};
   framing = framing.Packet;
   reads = λ bytes. with_cause no_packet (packet_at bytes);
+}
+
+-- a packet that was read off the front of the bytes, with those that spell it
+abbrev pub with_text : List ℕ → Result (Packet × ℕ) NoMessage → Result (PacketFrame × ℕ) NoMessage
+with_text bytes (Ok x) = Ok (record { packet = x.0; text = take x.1 bytes }, x.1)
+with_text bytes (Err why) = Err why
+
+-- The bytes spell the packet, and are those that are kept with it.
+abbrev pub SpellsFrame : PacketFrame → List ℕ → Type 0
+SpellsFrame f text = SpellsPacket f.packet text × (f.text ≡ text)
+
+abbrev pub packet_frames : Kind PacketFrame
+packet_frames = record {
+  spells = SpellsFrame;
+  stops = packets.stops;
+  listed = λ _. Unit {0};
+  framing = framing.Packet;
+  reads = λ bytes. with_text bytes (packets.reads bytes);
 }
 
 abbrev pub acks : Kind Ack
@@ -89,7 +108,8 @@ read_statuses = record {
 
 -- What holds of each kind: reading gives what is spelled at the front, or why nothing is; Short is that the message is cut off, as each front of one is; and a message's front tells its size.
 pub record IsSound {M : Type 0} (kind : Kind M) : Type 0 where
-  pub found : (m : M) (k : ℕ) (bytes : List ℕ) → IsBytes bytes → kind.reads bytes ≡ Ok (m, k) → kind.spells m (take k bytes)
+  pub found : (m : M) (k : ℕ) (bytes : List ℕ) → IsBytes bytes → kind.reads bytes ≡ Ok (m, k) →
+      kind.spells m (take k bytes)
   pub within : (m : M) (k : ℕ) (bytes : List ℕ) → IsBytes bytes → kind.reads bytes ≡ Ok (m, k) → k ≤ length bytes
   pub listed : (m : M) (k : ℕ) (bytes : List ℕ) → IsBytes bytes → kind.reads bytes ≡ Ok (m, k) → kind.listed m
   pub only : (m : M) (text rest : List ℕ) → kind.spells m text → kind.reads (text ++ rest) ≡ Ok (m, length text)
@@ -97,7 +117,8 @@ pub record IsSound {M : Type 0} (kind : Kind M) : Type 0 where
   pub stopped : (why : NoMessage) (bytes : List ℕ) → IsBytes bytes → kind.stops why bytes → kind.reads bytes ≡ Err why
   pub is_cut : (bytes : List ℕ) → kind.stops Short bytes → IsCut kind.framing bytes
   pub cut : (bytes : List ℕ) → IsCut kind.framing bytes → kind.stops Short bytes
-  pub front : (m : M) (text bytes more : List ℕ) → kind.spells m text → bytes ++ more ≡ text → 0 < length more → IsCut kind.framing bytes
+  pub front : (m : M) (text bytes more : List ℕ) → kind.spells m text → bytes ++ more ≡ text → 0 < length more →
+      IsCut kind.framing bytes
   pub no_memory : (bytes : List ℕ) → kind.stops Memory bytes → ⊥
   pub sized : (m : M) (text : List ℕ) → kind.spells m text → size_at kind.framing text ≡ Some (length text)
   pub of_stream : (e : FeedFault) (bytes : List ℕ) → kind.stops (Refused e) bytes → IsOfStream e

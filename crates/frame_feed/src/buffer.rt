@@ -88,35 +88,44 @@ impl Buffer {
         self.bytes.advance(count);
     }
 
-    /// Takes `size` bytes off the front, and gives those from `from` on in two shares: the first
-    /// `count` of them, and the others. Nothing is copied. Want of memory leaves the bytes as they
-    /// were.
+    /// Takes `size` bytes off the front, and gives a share of them all, one of the first `count` of
+    /// those from `from` on, and one of the others. Nothing is copied. Want of memory leaves the
+    /// bytes as they were.
     pub fn cut(
         &mut self,
         size: usize,
         from: usize,
         count: usize,
-    ) -> Result<(Bytes, Bytes), AllocError>
+    ) -> Result<(Bytes, Bytes, Bytes), AllocError>
         requires joined { self.old.front ≡ [] }
         requires parts { from + count ≤ size }
         requires within { size ≤ length (held self.old) }
-        ensures first { IfOk result (λ shares. shares.0 ≡ take count (drop from (take size (held self.old)))) }
-        ensures second { IfOk result (λ shares. shares.1 ≡ drop count (drop from (take size (held self.old)))) }
+        ensures whole { IfOk result (λ shares. shares.0 ≡ take size (held self.old)) }
+        ensures first { IfOk result (λ shares. shares.1 ≡ take count (drop from (take size (held self.old)))) }
+        ensures second { IfOk result (λ shares. shares.2 ≡ drop count (drop from (take size (held self.old)))) }
         ensures rest { OnOk result (held self.new ≡ drop size (held self.old)) }
         ensures err { OnErr result (held self.new ≡ held self.old) }
     {
-        let mut message = self.bytes.freeze_to(size)?;
-        match message.slice(from..from + count) {
-            Ok(first) => {
-                message.advance(from + count);
-                Ok((first, message))
-            }
+        let message = self.bytes.freeze_to(size)?;
+        match shares(&message, from, count) {
+            Ok((first, second)) => Ok((message, first, second)),
             Err(error) => {
                 self.front = message;
                 Err(error)
             }
         }
     }
+}
+
+/// The bytes from `from` on in two shares: the first `count` of them, and the others.
+fn shares(message: &Bytes, from: usize, count: usize) -> Result<(Bytes, Bytes), AllocError>
+    requires { from + count ≤ length message.now }
+    ensures first { IfOk result (λ shares. shares.0 ≡ take count (drop from message.now)) }
+    ensures second { IfOk result (λ shares. shares.1 ≡ drop count (drop from message.now)) }
+{
+    let mut second = message.slice(from..)?;
+    let first = second.split_to(count)?;
+    Ok((first, second))
 }
 
 /// How many bytes there are.

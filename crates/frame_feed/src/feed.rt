@@ -4,13 +4,14 @@ ghost use Rattle.std.specs.Prelude.{◌≡◌, ◌≤◌, [], IfOk, IfErr, IfSom
 ghost use Rattle.hd_base.specs.Bytes.{IsBytes};
 ghost use Rattle.frame_feed.specs.Faults.{IsOfStream, IsAnswer};
 ghost use Rattle.frame_feed.specs.Framings.{IsCut, missing, missing_of as missing_in};
-ghost use Rattle.frame_feed.specs.Kinds.{requests, packets, acks, responses, answers, read_statuses};
+ghost use Rattle.frame_feed.specs.Kinds.{requests, packets, packet_frames, acks, responses, answers, read_statuses};
 ghost use Rattle.frame_feed.specs.Feeds.{holding, with_piece, TakesNext, AnswersAsRead};
 
 use crate::buffer::Buffer;
 use crate::faults::{FeedFault, NoMessage};
 use crate::framing::Framing;
 use crate::kinds::Kind;
+use crate::packet_frames::PacketFrame;
 use ack_codec::{Ack, Response};
 use hd_base::Status;
 use op_headers::{Op, RecoveryAnswer};
@@ -86,6 +87,14 @@ impl Feed {
     /// The packet at the front. Its sums and its body share the bytes that were pushed.
     pub fn next_packet(&mut self) -> Result<Option<Packet>, FeedFault>
         ensures takes { TakesNext packets self.old result self.new }
+        ensures of_stream { IfErr result IsAnswer }
+    {
+        self.next()
+    }
+
+    /// The packet at the front, with the bytes that spell it. They, its sums and its body share the bytes that were pushed.
+    pub fn next_packet_frame(&mut self) -> Result<Option<PacketFrame>, FeedFault>
+        ensures takes { TakesNext packet_frames self.old result self.new }
         ensures of_stream { IfErr result IsAnswer }
     {
         self.next()

@@ -3,6 +3,7 @@
 use crate::buffer::Buffer;
 use crate::faults::NoMessage;
 use crate::framing::Framing;
+use crate::packet_frames::PacketFrame;
 use ack_codec::{Ack, Response, decode_ack, decode_read_status, decode_response};
 use hd_base::Status;
 use op_headers::{Op, RecoveryAnswer, decode_answer, decode_op};
@@ -66,8 +67,28 @@ impl Kind for Packet {
 
     fn take(from: &mut Buffer) -> Result<Packet, NoMessage> {
         let parts = packet_parts(from.as_slice())?;
-        let (sums, body) = from.cut(parts.size, parts.data_at, parts.sums)?;
+        let (_, sums, body) = from.cut(parts.size, parts.data_at, parts.sums)?;
         Ok(Packet::from_parts(parts.header, sums, body))
+    }
+}
+
+impl Kind for PacketFrame {
+    ghost use Rattle.frame_feed.specs.Kinds.{packet_frames};
+    ghost use Rattle.frame_feed.specs.KindLaws.{packet_frames_sound};
+
+    ghost kind = { packet_frames };
+
+    ghost sound = { packet_frames_sound };
+
+    fn framing() -> Framing {
+        Framing::Packet
+    }
+
+    fn take(from: &mut Buffer) -> Result<PacketFrame, NoMessage> {
+        let parts = packet_parts(from.as_slice())?;
+        let (text, sums, body) = from.cut(parts.size, parts.data_at, parts.sums)?;
+        let packet = Packet::from_parts(parts.header, sums, body);
+        Ok(PacketFrame { packet, text })
     }
 }
 

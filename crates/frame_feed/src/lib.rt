@@ -8,8 +8,10 @@ mod framing;
 mod kinds;
 mod laws;
 mod notes;
+mod packet_frames;
 
 pub use faults::FeedFault;
 pub use feed::Feed;
 pub use laws::pieces_do_not_matter;
 pub use notes::{Message, Note, NoteList, Notes, SentList, Took};
+pub use packet_frames::PacketFrame;

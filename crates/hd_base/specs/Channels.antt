@@ -28,7 +28,8 @@ gathered carried share = λ c d. carried c d ++ share c d
 -- Where observable, the roads now carried what the end had sent past the pieces that it had handed on, and nothing else.
 abbrev pub Carries : Option Carried → Option Carried → ℕ → Bool → ℕ → Option (List (List ℕ)) → Type 0
 Carries old new conn down flushed sent =
-    new ≡ option_and_then (λ carried. option_map (λ pieces. carry carried conn down (joined (drop flushed pieces))) sent) old
+    new ≡ option_and_then (λ carried. option_map (λ pieces. carry carried conn down (joined (drop flushed pieces)))
+    sent) old
 
 -- what stands on one direction of a connection over plain memory: pieces not yet taken, and whether the end stands behind them
 pub record Channel : Type 0 where
@@ -57,7 +58,10 @@ with_listening plain port on = record plain { listening = λ p. cond (p == port)
 -- one more dial, under the next number, waits at the port
 abbrev pub with_dial : Plain → ℕ → Plain
 with_dial plain port =
-    record plain { waiting = λ p. cond (p == port) (plain.waiting p ++ plain.dialled ∷ []) (plain.waiting p); dialled = plain.dialled + 1 }
+    record plain {
+      waiting = λ p. cond (p == port) (plain.waiting p ++ plain.dialled ∷ []) (plain.waiting p);
+      dialled = plain.dialled + 1;
+    }
 
 -- the oldest dial no longer waits at the port
 abbrev pub with_accept : Plain → ℕ → Plain
@@ -65,7 +69,8 @@ with_accept plain port = record plain { waiting = λ p. cond (p == port) (drop 1
 
 -- a channel with more pieces behind those that stand, and then perhaps the end: behind the end all is lost
 abbrev pub extended_channel : Channel → List (List ℕ) → Bool → Channel
-extended_channel channel pieces shut = if channel.ended then channel else record { pieces = channel.pieces ++ pieces; ended = shut }
+extended_channel channel pieces shut = if channel.ended then channel
+    else record { pieces = channel.pieces ++ pieces; ended = shut }
 
 -- a channel that ends behind what stands, where a shut was made
 abbrev pub closed_channel : Channel → Bool → Channel
@@ -74,12 +79,16 @@ closed_channel channel shut = record channel { ended = channel.ended || shut }
 -- the channels after an end gave its pieces, and perhaps a shut, which ends both directions
 abbrev pub with_given : Channels → ℕ → Bool → List (List ℕ) → Bool → Channels
 with_given channels conn down pieces shut =
-    λ c d. cond (conn == c) (cond (same_direction down d) (extended_channel (channels c d) pieces shut) (closed_channel (channels c d) shut)) (channels c d)
+    λ c d. cond (conn == c) (cond (same_direction down d) (extended_channel (channels c d) pieces shut)
+    (closed_channel (channels c d) shut)) (channels c d)
 
 -- the channels after an end took the next piece of one
 abbrev pub with_taken : Channels → ℕ → Bool → Channels
 with_taken channels conn down =
-    λ c d. cond ((conn == c) && same_direction down d) (record { pieces = drop 1 (channels c d).pieces; ended = (channels c d).ended }) (channels c d)
+    λ c d. cond ((conn == c) && same_direction down d) (record {
+      pieces = drop 1 (channels c d).pieces;
+      ended = (channels c d).ended;
+    }) (channels c d)
 
 -- an inbox that holds nothing, and no end, takes what stands next
 abbrev pub is_hungry : Inbox → Bool
@@ -100,11 +109,15 @@ unflushed sent flushed lost = drop flushed (take (length sent - lost) sent)
 
 -- the channels after an end's pieces, and perhaps its shut, were flushed: the end that dialled sends down
 abbrev pub with_flushed : Plain → ℕ → Bool → List (List ℕ) → Bool → Plain
-with_flushed plain conn lower pieces shut = record plain { channels = with_given plain.channels conn (not lower) pieces shut }
+with_flushed plain conn lower pieces shut =
+    record plain { channels = with_given plain.channels conn (not lower) pieces shut }
 
 -- the channels after an end whose inbox is hungry, or not, was offered the next piece
 abbrev pub with_offer : Plain → ℕ → Bool → Bool → Plain
-with_offer plain conn lower hungry = record plain { channels = if hungry then with_taken plain.channels conn lower else plain.channels }
+with_offer plain conn lower hungry = record plain {
+  channels = if hungry then with_taken plain.channels conn lower
+      else plain.channels;
+}
 
 -- a piece, or the end behind the last piece, or nothing
 abbrev pub next_standing : List (List ℕ) → Bool → Standing

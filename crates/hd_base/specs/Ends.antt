@@ -24,7 +24,8 @@ pub record IsObservable {I O : Type 0} (i : link_in.Ghosts I) (o : link_out.Ghos
   pub sent : IsSome (o.sent end.outward)
 
 -- Both halves of an end fail at the calls of this schedule.
-pub record FailBy {I O : Type 0} (i : link_in.Ghosts I) (o : link_out.Ghosts O) (end : Conn I O) (schedule : Option FaultSchedule) : Type 0 where
+pub record FailBy {I O : Type 0} (i : link_in.Ghosts I) (o : link_out.Ghosts O) (end : Conn I O)
+    (schedule : Option FaultSchedule) : Type 0 where
   pub inward : i.schedule end.inward ≡ schedule
   pub outward : o.schedule end.outward ≡ schedule
 
@@ -51,9 +52,11 @@ pub record KeepsEnd {I O : Type 0} (i : link_in.Ghosts I) (o : link_out.Ghosts O
   pub out_faults : o.faults new.outward ≡ o.faults old.outward
 
 -- Roads over plain memory with what an end has sent and not yet flushed, and perhaps its shut, where its sends are observable.
-abbrev pub after_flush : {I O : Type 0} → link_in.Ghosts I → link_out.Ghosts O → Conn I O → List (List ℕ) → Plain → Plain
+abbrev pub after_flush : {I O : Type 0} → link_in.Ghosts I → link_out.Ghosts O → Conn I O → List (List ℕ) → Plain →
+    Plain
 after_flush i o end sent plain =
-    with_flushed plain end.id.0 end.lower (unflushed sent (o.flushed end.outward) (o.lost end.outward)) (is_shut i o end)
+    with_flushed plain end.id.0 end.lower (unflushed sent (o.flushed end.outward) (o.lost end.outward))
+    (is_shut i o end)
 
 -- What the roads carried now is what they had carried and what the end had sent and not yet flushed.
 abbrev pub CarriesOf : {I O : Type 0} → link_out.Ghosts O → Conn I O → Option Carried → Option Carried → Type 0
@@ -67,23 +70,27 @@ FlushesAll o old new plain =
     (λ _. IfSome (o.sent old.outward) (λ sent. o.flushed new.outward ≡ length sent))
 
 -- Roads over plain memory carry what an end flushes; others carry by their links alone.
-abbrev pub CarriesFlushed : {I O : Type 0} → link_out.Ghosts O → Conn I O → Option Plain → Option Carried → Option Carried → Type 0
+abbrev pub CarriesFlushed : {I O : Type 0} → link_out.Ghosts O → Conn I O → Option Plain → Option Carried →
+    Option Carried → Type 0
 CarriesFlushed o end plain old new = MatchOption plain (new ≡ old) (λ _. CarriesOf o end old new)
 
 -- Roads over plain memory after an exchange: what was not yet flushed stands there, and what stands next was given to a hungry half that takes.
-abbrev pub Exchanges : {I O : Type 0} → link_in.Ghosts I → link_out.Ghosts O → Conn I O → Bool → Option Plain → Option Plain → Type 0
+abbrev pub Exchanges : {I O : Type 0} → link_in.Ghosts I → link_out.Ghosts O → Conn I O → Bool → Option Plain →
+    Option Plain → Type 0
 Exchanges i o end take old new =
     IfSome old (λ p. IfSome (o.sent end.outward) (λ sent. IfSome (i.held end.inward) (λ inbox.
     new ≡ Some (with_offer (after_flush i o end sent p) end.id.0 end.lower (take && is_hungry inbox)))))
 
 -- What an inward half holds after an exchange that takes, over plain memory.
-abbrev pub TakesNext : {I O : Type 0} → link_in.Ghosts I → link_out.Ghosts O → Conn I O → Conn I O → Bool → Option Plain → Type 0
+abbrev pub TakesNext : {I O : Type 0} → link_in.Ghosts I → link_out.Ghosts O → Conn I O → Conn I O → Bool →
+    Option Plain → Type 0
 TakesNext i o old new take plain =
     IfSome plain (λ p. IfSome (o.sent old.outward) (λ sent. IfSome (i.held old.inward) (λ inbox.
     take ≡ true → i.held new.inward ≡ Some (filled inbox ((after_flush i o old sent p).channels old.id.0 old.lower)))))
 
 -- Roads over plain memory after an end was brought back: what was not yet flushed stands there.
-abbrev pub Flushes : {I O : Type 0} → link_in.Ghosts I → link_out.Ghosts O → Conn I O → Option Plain → Option Plain → Type 0
+abbrev pub Flushes : {I O : Type 0} → link_in.Ghosts I → link_out.Ghosts O → Conn I O → Option Plain → Option Plain →
+    Type 0
 Flushes i o end old new =
     IfSome old (λ p. IfSome (o.sent end.outward) (λ sent. new ≡ Some (after_flush i o end sent p)))
 

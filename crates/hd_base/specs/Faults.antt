@@ -24,7 +24,8 @@ abbrev pub after_one_call : FaultSchedule → FaultSchedule
 after_one_call schedule = λ k. schedule (k + 1)
 
 -- Where the faults to come are observable, the call is the next one of the schedule: the count rises by one exactly where it is to fail, and then it doesn't succeed.
-pub record FollowsSchedule {T E : Type 0} (old new : Option FaultSchedule) (before now : ℕ) (result : Result T E) : Type 0 where
+pub record FollowsSchedule {T E : Type 0} (old new : Option FaultSchedule) (before now : ℕ) (result : Result T E) :
+    Type 0 where
   pub goes_on : new ≡ option_map after_one_call old
   pub counts : IfSome old (λ schedule. now ≡ before + (if schedule 0 then 1 else 0))
   pub fails : IfSome old (λ schedule. schedule 0 ≡ true → IsErr result)

@@ -6,7 +6,8 @@ use Rattle.hd_base.specs.declared.files.FileError.{FileError}
 use Rattle.hd_base.specs.declared.files.FileError.TheVariants.{Absent, Failed, Memory}
 
 -- A call that looks for a file: Failed only where the count rose; Absent exactly where the file isn't there, where observable, and else only where the count rose; never Memory.
-pub record FileCause {T : Type 0} (files : Option FileMap) (name : List ℕ) (before now : ℕ) (result : Result T FileError) : Type 0 where
+pub record FileCause {T : Type 0} (files : Option FileMap) (name : List ℕ) (before now : ℕ)
+    (result : Result T FileError) : Type 0 where
   pub never_falls : before ≤ now
   pub failed : IsErrOf result Failed → FaultsIncreased before now
   pub absent : IsErrOf result Absent → MatchOption files (FaultsIncreased before now) (λ m. m name ≡ None)

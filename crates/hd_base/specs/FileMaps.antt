@@ -60,7 +60,8 @@ HasLength files name len = IfSome files (λ m. option_map (λ bytes. length byte
 
 -- Where observable, the file is there, and these are its bytes from a place on, so many at the most.
 abbrev pub HasBytesAt : Option FileMap → List ℕ → ℕ → ℕ → List ℕ → Type 0
-HasBytesAt files name place most bytes = IfSome files (λ m. option_map (λ b. take most (drop place b)) (m name) ≡ Some bytes)
+HasBytesAt files name place most bytes =
+    IfSome files (λ m. option_map (λ b. take most (drop place b)) (m name) ≡ Some bytes)
 
 -- Where observable and there, the place is within the file.
 abbrev pub IsPlaceIn : Option FileMap → List ℕ → ℕ → Type 0

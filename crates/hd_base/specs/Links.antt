@@ -21,7 +21,8 @@ IsEmptyInbox ended held = held ≡ option_map (λ _. record { bytes = []; ended 
 
 -- What a receipt takes from what is held, where observable: some bytes from the front, or nothing, which comes exactly where nothing is held.
 abbrev pub Receives : Got → Option Inbox → Option Inbox → List ℕ → Type 0
-Receives (got.Bytes n) old new buffer = (0 < n) × (n ≤ length buffer) × (old ≡ option_map (in_front (take n buffer)) new)
+Receives (got.Bytes n) old new buffer = (0 < n) × (n ≤ length buffer) ×
+    (old ≡ option_map (in_front (take n buffer)) new)
 Receives got.End old new buffer = (new ≡ old) × IsEmptyInbox true old
 Receives got.NotYet old new buffer = (new ≡ old) × IsEmptyInbox false old
 

@@ -20,4 +20,5 @@ joined (xs ∷ rest) = xs ++ joined rest
 -- The iterator gives references to the elements of this list, in order.
 abbrev pub IteratesOver : {X : Type 0} → List X → Iter X → Type 0
 IteratesOver {X} xs it =
-    (iter_rest it ≡ xs) × (length (iter_rest it) < 2 ^ 64) × EveryRun (iter_steps {A = X}) (λ p. ItemsMapTo p (λ x. x.now) (iter_rest p.from))
+    (iter_rest it ≡ xs) × (length (iter_rest it) < 2 ^ 64) ×
+    EveryRun (iter_steps {A = X}) (λ p. ItemsMapTo p (λ x. x.now) (iter_rest p.from))

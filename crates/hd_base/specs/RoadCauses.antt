@@ -13,12 +13,13 @@ pub record RoadCause {T : Type 0} (before now : ℕ) (result : Result T RoadErro
   pub no_dial : IsErrOf result NotListening → ⊥
 
 -- A dial: Failed only where the count rose, Memory only where it didn't; NotListening exactly where the ports are observable and nobody listens on this one.
-pub record DialCause {T : Type 0} (plain : Option Plain) (port before now : ℕ) (result : Result T RoadError) : Type 0 where
-  pub never_falls : before ≤ now
-  pub failed : IsErrOf result Failed → FaultsIncreased before now
-  pub out_of_memory : IsErrOf result Memory → now ≡ before
-  pub nobody : IfSome plain (λ p. p.listening port ≡ false → IsErrOf result NotListening)
-  pub not_listening : IsErrOf result NotListening → IfSome plain (λ p. p.listening port ≡ false)
+pub record DialCause {T : Type 0} (plain : Option Plain) (port before now : ℕ) (result : Result T RoadError) : Type 0
+  where
+    pub never_falls : before ≤ now
+    pub failed : IsErrOf result Failed → FaultsIncreased before now
+    pub out_of_memory : IsErrOf result Memory → now ≡ before
+    pub nobody : IfSome plain (λ p. p.listening port ≡ false → IsErrOf result NotListening)
+    pub not_listening : IsErrOf result NotListening → IfSome plain (λ p. p.listening port ≡ false)
 
 -- A call whose only error is want of memory, which leaves the count.
 pub record OnlyMemory {T : Type 0} (before now : ℕ) (result : Result T RoadError) : Type 0 where

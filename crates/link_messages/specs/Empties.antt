@@ -4,7 +4,7 @@ use Rattle.std.proofs.Common.{arith}
 use Rattle.proto_fields.specs.Varint.{SpellsVarint}
 use Rattle.proto_fields.specs.Frames.{limit, IsCutFrame}
 use Rattle.frame_feed.specs.Framings.{IsCut}
-use Rattle.frame_feed.specs.Kinds.{packets, acks, responses}
+use Rattle.frame_feed.specs.Kinds.{requests, packets, acks, responses}
 
 pub packets_empty : IsCut packets.framing []
 packets_empty = record {
@@ -22,7 +22,12 @@ prefixed_empty : IsCutFrame []
 prefixed_empty = record {
   missing = 0 ∷ [];
   some = omega arith;
-  whole = record { prefix = 0 ∷ []; message = []; parts = refl; spelled = record { shape = omega arith; short = omega arith; value = refl } };
+  whole = record {
+    prefix = 0 ∷ [];
+    message = [];
+    parts = refl;
+    spelled = record { shape = omega arith; short = omega arith; value = refl };
+  };
   lawful = λ n rest b. no_varint b.text rest n b.parts b.spelled;
 }
 
@@ -31,3 +36,14 @@ acks_empty = prefixed_empty
 
 pub responses_empty : IsCut responses.framing []
 responses_empty = prefixed_empty
+
+pub requests_empty : IsCut requests.framing []
+unfolding prefixed_empty
+requests_empty = record {
+  missing = 0 ∷ 28 ∷ 80 ∷ 0 ∷ [];
+  some = omega arith;
+  whole = record { head = 0 ∷ 28 ∷ 80 ∷ []; rest = 0 ∷ []; parts = refl; three = refl; framed = prefixed_empty.whole };
+  version = λ high low rest parts. cc;
+  code = λ high low number rest parts. cc;
+  lawful = λ high low number rest parts. cc;
+}

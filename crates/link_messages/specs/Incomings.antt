@@ -31,12 +31,13 @@ abbrev pub coming : IncomingState → Option Inbox → Option Inbox
 coming s held = option_map (in_front (s.rest ++ s.unpushed)) held
 
 -- A message was taken: it is spelled at the front of what was to be taken.
-pub record GivesOne {M : Type 0} (kind : Kind M) (m : M) (old new : IncomingState) (held held' : Option Inbox) : Type 0 where
-  pub text : List ℕ
-  pub spelled : kind.spells m text
-  pub listed : kind.listed m
-  pub front : coming old held ≡ option_map (in_front text) (coming new held')
-  pub reads_on : new.refused ≡ None
+pub record GivesOne {M : Type 0} (kind : Kind M) (m : M) (old new : IncomingState) (held held' : Option Inbox) : Type 0
+  where
+    pub text : List ℕ
+    pub spelled : kind.spells m text
+    pub listed : kind.listed m
+    pub front : coming old held ≡ option_map (in_front text) (coming new held')
+    pub reads_on : new.refused ≡ None
 
 -- The message at the front of these bytes is none of the kind, however they go on.
 abbrev pub IsNone : {M : Type 0} → Kind M → List ℕ → Type 0
@@ -57,10 +58,14 @@ pub record IsOver {M : Type 0} (kind : Kind M) (ended : Bool) (new : IncomingSta
 -- What came next: a message off the front, or nothing, and then what is to be taken stays.
 abbrev pub Comes : {M I : Type 0} → Kind M → link_in.Ghosts I → IncomingState → IncomingState → I → I → Next M → Type 0
 Comes kind i old new half half' (next.Message m) = GivesOne kind m old new (i.held half) (i.held half')
-Comes kind i old new half half' next.Unreadable = IsUnreadable kind old new × (coming new (i.held half') ≡ coming old (i.held half))
-Comes kind i old new half half' next.End = IsOver kind true new (i.held half') × (coming new (i.held half') ≡ coming old (i.held half))
-Comes kind i old new half half' next.NotYet = IsOver kind false new (i.held half') × (coming new (i.held half') ≡ coming old (i.held half))
-Comes kind i old new half half' next.Failed = FaultsIncreased (i.faults half) (i.faults half') × (coming new (i.held half') ≡ coming old (i.held half))
+Comes kind i old new half half' next.Unreadable = IsUnreadable kind old new ×
+    (coming new (i.held half') ≡ coming old (i.held half))
+Comes kind i old new half half' next.End = IsOver kind true new (i.held half') ×
+    (coming new (i.held half') ≡ coming old (i.held half))
+Comes kind i old new half half' next.NotYet = IsOver kind false new (i.held half') ×
+    (coming new (i.held half') ≡ coming old (i.held half))
+Comes kind i old new half half' next.Failed = FaultsIncreased (i.faults half) (i.faults half') ×
+    (coming new (i.held half') ≡ coming old (i.held half))
 Comes kind i old new half half' next.Memory = coming new (i.held half') ≡ coming old (i.held half)
 
 -- It is this message, unless the link failed or memory ran out.
@@ -79,13 +84,15 @@ FindsNone ended next.Memory = Unit {0}
 FindsNone ended other = ⊥
 
 -- What comes next, and what is left.
-pub record NextEnds {M I : Type 0} (kind : Kind M) (i : link_in.Ghosts I) (old new : IncomingState) (half half' : I) (r : Next M) : Type 0 where
+pub record NextEnds {M I : Type 0} (kind : Kind M) (i : link_in.Ghosts I) (old new : IncomingState) (half half' : I)
+    (r : Next M) : Type 0 where
   pub comes : Comes kind i old new half half' r
   -- A message that stands whole at the front is taken.
   pub finds : old.refused ≡ None → (m : M) (text behind : List ℕ) (ended : Bool) → kind.spells m text
       → coming old (i.held half) ≡ Some (record { bytes = text ++ behind; ended = ended }) → Finds m r
   -- Where nothing is to be taken, the end is, or nothing yet.
-  pub none : old.refused ≡ None → (ended : Bool) → coming old (i.held half) ≡ Some (record { bytes = []; ended = ended }) → FindsNone ended r
+  pub none : old.refused ≡ None → (ended : Bool) →
+      coming old (i.held half) ≡ Some (record { bytes = []; ended = ended }) → FindsNone ended r
   pub shut : i.shut half' ≡ i.shut half
   pub never_falls : i.faults half ≤ i.faults half'
 
@@ -142,7 +149,8 @@ AsksMore other = ⊥
 
 pub record AsksEnds {M : Type 0} (kind : Kind M) (old new : IncomingState) (r : Option (Next M)) : Type 0 where
   pub asks : Asks kind old new r
-  pub whole : old.refused ≡ None → (m : M) (text behind : List ℕ) → kind.spells m text → old.rest ≡ text ++ behind → AsksFor m r
+  pub whole : old.refused ≡ None → (m : M) (text behind : List ℕ) → kind.spells m text → old.rest ≡ text ++ behind →
+      AsksFor m r
   pub part : old.refused ≡ None → IsCut kind.framing old.rest → AsksMore r
 
 -- What the link gives, where all that was received before has reached the feed.
@@ -153,7 +161,8 @@ Receives i old new half half' received.NotYet = (new ≡ old) × IsEmptyInbox fa
 Receives i old new half half' received.Failed = FaultsIncreased (i.faults half) (i.faults half')
 Receives i old new half half' received.Memory = Unit {0}
 
-pub record ReceiveEnds {I : Type 0} (i : link_in.Ghosts I) (old new : IncomingState) (half half' : I) (r : Received) : Type 0 where
+pub record ReceiveEnds {I : Type 0} (i : link_in.Ghosts I) (old new : IncomingState) (half half' : I) (r : Received) :
+    Type 0 where
   pub receives : Receives i old new half half' r
   pub stays : coming new (i.held half') ≡ coming old (i.held half)
   pub refused : new.refused ≡ old.refused

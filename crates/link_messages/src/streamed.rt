@@ -1,7 +1,8 @@
 //! The kinds of messages that are taken.
 
 use ack_codec::{Ack, Response};
-use frame_feed::{Feed, FeedFault};
+use frame_feed::{Feed, FeedFault, PacketFrame};
+use op_headers::Op;
 use packet_codec::Packet;
 
 /// A message of a stream.
@@ -27,6 +28,22 @@ pub trait Streamed: Sized + Drop {
     ghost empty: { IsCut kind.framing [] };
 }
 
+impl Streamed for Op {
+    ghost use Rattle.frame_feed.specs.Kinds.{requests};
+    ghost use Rattle.frame_feed.specs.KindLaws.{requests_sound};
+    ghost use Rattle.link_messages.specs.Empties.{requests_empty};
+
+    ghost kind = { requests };
+
+    ghost sound = { requests_sound };
+
+    ghost empty = { requests_empty };
+
+    fn take(feed: &mut Feed) -> Result<Option<Op>, FeedFault> {
+        feed.next_op()
+    }
+}
+
 impl Streamed for Packet {
     ghost use Rattle.frame_feed.specs.Kinds.{packets};
     ghost use Rattle.frame_feed.specs.KindLaws.{packets_sound};
@@ -40,6 +57,22 @@ impl Streamed for Packet {
 
     fn take(feed: &mut Feed) -> Result<Option<Packet>, FeedFault> {
         feed.next_packet()
+    }
+}
+
+impl Streamed for PacketFrame {
+    ghost use Rattle.frame_feed.specs.Kinds.{packet_frames};
+    ghost use Rattle.frame_feed.specs.KindLaws.{packet_frames_sound};
+    ghost use Rattle.link_messages.specs.Empties.{packets_empty};
+
+    ghost kind = { packet_frames };
+
+    ghost sound = { packet_frames_sound };
+
+    ghost empty = { packets_empty };
+
+    fn take(feed: &mut Feed) -> Result<Option<PacketFrame>, FeedFault> {
+        feed.next_packet_frame()
     }
 }
 

@@ -43,13 +43,16 @@ abbrev pub TakesAll : List ℕ → Result ℕ LinkError → Type 0
 TakesAll piece result = IfOk result (λ n. n ≡ length piece)
 
 -- The same, that the link took all of it, and that it is one call of the schedule, where sends are observable.
-pub record PieceEnds {O : Type 0} (o : link_out.Ghosts O) (piece : List ℕ) (old new : O) (result : Result ℕ LinkError) : Type 0 where
+pub record PieceEnds {O : Type 0} (o : link_out.Ghosts O) (piece : List ℕ) (old new : O) (result : Result ℕ LinkError)
+    : Type 0 where
   pub ends : IsSending o piece old new result
   pub whole : TakesAll piece result
-  pub schedule : IfSome (o.sent old) (λ _. FollowsSchedule (o.schedule old) (o.schedule new) (o.faults old) (o.faults new) result)
+  pub schedule : IfSome (o.sent old) (λ _. FollowsSchedule (o.schedule old) (o.schedule new) (o.faults old)
+      (o.faults new) result)
 
 -- How the sending of what a link left of a piece ends, of which nothing is observable.
-pub record RestEnds {O : Type 0} (o : link_out.Ghosts O) (piece : List ℕ) (old new : O) (result : Result ℕ LinkError) : Type 0 where
+pub record RestEnds {O : Type 0} (o : link_out.Ghosts O) (piece : List ℕ) (old new : O) (result : Result ℕ LinkError) :
+    Type 0 where
   pub whole : TakesAll piece result
   pub hidden : o.sent old ≡ None → o.sent new ≡ None
   pub kept : KeepsHalf o old new

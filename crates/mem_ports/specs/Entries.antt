@@ -46,9 +46,11 @@ of_block block entries = filter (λ entry. is_of_block block entry.name) entries
 -- an entry after a file got another name: the two names change places, and the second has no file
 abbrev pub renamed : List ℕ → List ℕ → Entry → Entry
 renamed from to entry =
-    cond (bytes_eq entry.name from) (record entry { name = to }) (cond (bytes_eq entry.name to) (record entry { name = from; there = false }) entry)
+    cond (bytes_eq entry.name from) (record entry { name = to })
+    (cond (bytes_eq entry.name to) (record entry { name = from; there = false }) entry)
 
-fits_shown : (entry : Entry) (there : Bool) → IfSome (cond there (Some entry.bytes.items) None) (λ b. length b < vec_capacity entry.bytes + 1)
+fits_shown : (entry : Entry) (there : Bool) →
+    IfSome (cond there (Some entry.bytes.items) None) (λ b. length b < vec_capacity entry.bytes + 1)
 fits_shown entry true = omega (arith, entry.bytes.ok)
 fits_shown entry false = tt
 
@@ -56,7 +58,9 @@ fits_shown entry false = tt
 pub look-fits : (entries : List Entry) (name : List ℕ) → IfSome (look entries name) (λ b. length b < space entries name)
 look-fits [] name = tt
 look-fits (entry ∷ rest) name =
-    elim (bytes_eq entry.name name) as (λ here. IfSome (cond here (shown entry) (look rest name)) (λ b. length b < cond here (vec_capacity entry.bytes + 1) (space rest name))) [
+    elim (bytes_eq entry.name name) as
+    (λ here. IfSome (cond here (shown entry) (look rest name))
+    (λ b. length b < cond here (vec_capacity entry.bytes + 1) (space rest name))) [
       | true ↦ fits_shown entry entry.there
       | false ↦ look-fits rest name
     ]

@@ -9,7 +9,8 @@ use Rattle.mem_ports.specs.declared.slots.Slot.{Slot}
 -- the files: a name's block gives its slot
 abbrev pub files_of : List Slot → FileMap
 files_of [] name = None
-files_of (slot ∷ rest) name = cond (is_of_block slot.block.0 name) (look slot.table.entries.items name) (files_of rest name)
+files_of (slot ∷ rest) name = cond (is_of_block slot.block.0 name) (look slot.table.entries.items name)
+    (files_of rest name)
 
 -- which blocks are lent
 abbrev pub lent_of : List Slot → ℕ → Bool

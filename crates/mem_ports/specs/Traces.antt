@@ -8,7 +8,8 @@ use Rattle.mem_ports.specs.declared.trace.TraceEntry.{TraceEntry}
 
 -- the bytes of one trace entry, where it is of this connection's direction
 abbrev pub entry_bytes : TraceEntry → ℕ → Bool → List ℕ
-entry_bytes entry conn down = cond ((entry.conn.0 == conn) && same_direction entry.down down) (joined (pieces_of entry.pieces.items)) []
+entry_bytes entry conn down = cond ((entry.conn.0 == conn) &&
+    same_direction entry.down down) (joined (pieces_of entry.pieces.items)) []
 
 -- the bytes carried by connection and direction
 abbrev pub carried_of : List TraceEntry → Carried

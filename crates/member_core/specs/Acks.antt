@@ -21,7 +21,8 @@ begins_with_bad_sum _ = false
 -- As many replies as there are members below, or fewer of which one isn't SUCCESS, but at least one.
 abbrev pub are_replies : ℕ → List Status → Bool
 are_replies below replies =
-    nat_lt 0 (length replies) && (length replies == below || (nat_lt (length replies) below && nat_lt 0 (failures replies)))
+    nat_lt 0 (length replies) && (length replies == below ||
+    (nat_lt (length replies) below && nat_lt 0 (failures replies)))
 
 -- An ack from below that counts as read: it is of the oldest pending packet, and has replies of the members below.
 abbrev pub is_read : ℕ → ℤ → Ack → Bool

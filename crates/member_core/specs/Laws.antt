@@ -31,7 +31,8 @@ SuccessFromBelow = (m : MemberState) (oldest : Option PendingPacket) (taken : Fr
 -- An ack that a member sends by itself has SUCCESS alone only where it has no mirror, and the book is told so.
 abbrev pub SuccessAtTheEnd : Type 0
 SuccessAtTheEnd = (m : MemberState) (oldest : Option PendingPacket) (writes : Bool) (a : Ack) →
-    IfSome (ready_at m.mirror m oldest writes) (λ t. SendsSuccess t a → (m.mirror ≡ mirror.Nobody) × BooksGood m oldest t)
+    IfSome (ready_at m.mirror m oldest writes) (λ t. SendsSuccess t a → (m.mirror ≡ mirror.Nobody) ×
+    BooksGood m oldest t)
 
 -- nothing goes up or down
 pub record IsSilent (effect : Effect) : Type 0 where

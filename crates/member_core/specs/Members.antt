@@ -59,7 +59,12 @@ shut_both = record { forwards = false; sends = None; shuts = shuts.Both }
 
 -- this is sent up, and both connections are shut where the test holds
 abbrev pub sending : Upward → Bool → Effect
-sending message over = record { forwards = false; sends = Some message; shuts = if over then shuts.Both else shuts.Nothing }
+sending message over = record {
+  forwards = false;
+  sends = Some message;
+  shuts = if over then shuts.Both
+      else shuts.Nothing;
+}
 
 -- SETUP
 
@@ -81,7 +86,8 @@ new_member conn op m acts = record {
 
 -- the last member answers at once, any other once its mirror did
 abbrev pub set_up_at : Mirror → WriteFields → ConnId → MemberState × Effect
-set_up_at mirror.Nobody op conn = (new_member conn op mirror.Nobody (not (closes op)), sending (upward.Answer answer.Success) (closes op))
+set_up_at mirror.Nobody op conn =
+    (new_member conn op mirror.Nobody (not (closes op)), sending (upward.Answer answer.Success) (closes op))
 set_up_at m op conn = (new_member conn op m true, no_effect)
 
 -- a member whose request the replica took, by whether the request to its mirror could be sent
@@ -113,7 +119,8 @@ has_mirror _ = true
 -- What is taken from above: a packet is booked and sent to the mirror; what can't be read shuts; the end is booked and the mirror shut.
 abbrev pub down_turn : MemberState → FromAbove → Turn
 down_turn m (above.Packet p) =
-    turn_of side.Receiver (Some (replica_event.Packet m.conn p)) m.mirror (record no_effect { forwards = has_mirror m.mirror })
+    turn_of side.Receiver (Some (replica_event.Packet m.conn p)) m.mirror
+    (record no_effect { forwards = has_mirror m.mirror })
 down_turn m above.Unreadable = turn_of side.Receiver None m.mirror shut_both
 down_turn m above.End = turn_of side.Receiver (ended_call m) m.mirror (record no_effect { shuts = shuts.Mirror })
 
@@ -140,7 +147,8 @@ setup_turn m _ = fail_turn m answer.Unreached
 
 -- the ack of a packet is booked as good, and these replies go up; after the last packet's both connections are shut
 abbrev pub good_turn : MemberState → PendingPacket → List Status → Turn
-good_turn m e replies = turn_of side.Responder (ack_call m e true) m.mirror (sending (upward.Ack (ack_of e.seqno replies)) e.last)
+good_turn m e replies = turn_of side.Responder (ack_call m e true) m.mirror
+    (sending (upward.Ack (ack_of e.seqno replies)) e.last)
 
 -- the mirror is given up: its packet is answered with an error of the mirror, and both connections are shut
 abbrev pub give_up_turn : MemberState → PendingPacket → Turn
@@ -154,7 +162,8 @@ spoiled_turn m = turn_of side.Responder (ended_call m) m.mirror shut_both
 
 -- the ack of a packet is booked as not good, and these replies go up
 abbrev pub partial_turn : MemberState → PendingPacket → List Status → Turn
-partial_turn m e replies = turn_of side.Responder (ack_call m e false) m.mirror (sending (upward.Ack (ack_of e.seqno replies)) false)
+partial_turn m e replies = turn_of side.Responder (ack_call m e false) m.mirror
+    (sending (upward.Ack (ack_of e.seqno replies)) false)
 
 -- an ack that was read, of which a reply isn't SUCCESS
 abbrev pub failed_turn : MemberState → PendingPacket → List Status → Turn
@@ -184,7 +193,8 @@ up_turn m oldest taken = up_at m.mirror m oldest taken
 
 -- the packet with the wrong sum is told of, the end booked, and both connections are shut
 abbrev pub bad_turn : MemberState → ℤ → Turn
-bad_turn m seqno = turn_of side.Responder (ended_call m) m.mirror (sending (upward.Ack (ack_of seqno (status.ErrorChecksum ∷ []))) true)
+bad_turn m seqno = turn_of side.Responder (ended_call m) m.mirror
+    (sending (upward.Ack (ack_of seqno (status.ErrorChecksum ∷ []))) true)
 
 -- a member without a mirror that could still answer, and with nothing pending, shuts where its connection no longer writes
 abbrev pub idle_turn : MemberState → Bool → Option Turn

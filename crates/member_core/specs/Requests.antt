@@ -39,7 +39,8 @@ setup_with number =
 -- this rule, where the replica has none or the same
 abbrev pub unless_other : Option Rule → Rule → Option Rule
 unless_other None rule = Some rule
-unless_other (Some held) rule = if kind_number held.kind == kind_number rule.kind && held.chunk == rule.chunk then Some rule else None
+unless_other (Some held) rule = if kind_number held.kind == kind_number rule.kind && held.chunk == rule.chunk
+    then Some rule else None
 
 abbrev pub fitting : Option Rule → Option Rule → Option Rule
 fitting held None = None

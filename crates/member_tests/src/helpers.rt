@@ -3,11 +3,14 @@
 ghost use Rattle.std.specs.Prelude.{IfOk};
 ghost use Rattle.hd_base.specs.Ends.{IsKnown};
 
-use hd_base::{BlockId, Conn, ConnId, NodeId, Receipt, Roads, Shelf, Stamp, SumKind, SumRule};
+use hd_base::{
+    BlockId, Conn, ConnId, FileError, NodeId, Receipt, Roads, Shelf, Stamp, SumKind, SumRule,
+};
 use mem_ports::{MemDrawer, MemIn, MemOut, MemRoads, MemShelf};
 use replica_core::Event;
 use replica_files::ReplicaBook;
 use std::alloc::Global;
+use std::process::Abort;
 use std::test::Fail;
 
 /// The block.
@@ -30,25 +33,37 @@ pub(crate) fn receipt(index: u64) -> Receipt {
     }
 }
 
-/// The book of the block, as a create on the connection makes it, with sums of chunks of this size.
-pub(crate) fn created(alloc: Global, chunk: u32) -> Result<Book, Fail> {
-    let mut shelf = MemShelf::new(alloc, &[])?;
+/// The book of the block, of which there is no replica, on a shelf that fails at these calls.
+pub(crate) fn absent(alloc: Global, failing: &[u64]) -> Result<Book, FileError> {
+    let mut shelf = MemShelf::new(alloc, failing)?;
     let drawer = shelf.lend(alloc, BLOCK)?;
-    let mut book = ReplicaBook::new(alloc, BLOCK, drawer).ok().ok_or("a book")?;
-    let create = Event::Create {
-        conn: CONN,
-        stamp: Stamp(1001),
-        sums: SumRule::new(SumKind::Crc32c, chunk).ok_or("a rule")?,
-    };
-    book.setup(&create)?;
-    Ok(book)
+    Ok(
+        ReplicaBook::new(alloc, BLOCK, drawer)
+            .ok()
+            .ok_or(FileError::Memory)?,
+    )
 }
 
-/// Roads, and an end of a connection to node 1.
-pub(crate) fn dialled(alloc: Global) -> Result<(MemRoads, End), Fail>
+/// The book of the block, as a create of this stamp on this connection makes it, with sums of chunks of this size.
+pub(crate) fn created(
+    rt: &impl Abort,
+    alloc: Global,
+    conn: ConnId,
+    stamp: Stamp,
+    chunk: u32,
+) -> Book {
+    let mut book = absent(alloc, &[]).expect(rt, "a book");
+    let sums = SumRule::new(SumKind::Crc32c, chunk).expect(rt, "a rule");
+    book.setup(&Event::Create { conn, stamp, sums })
+        .expect(rt, "a create");
+    book
+}
+
+/// Roads, and an end of a connection to node 1, which fail at these calls.
+pub(crate) fn dialled(alloc: Global, failing: &[u64]) -> Result<(MemRoads, End), Fail>
     ensures { IfOk result (λ pair. IsKnown (⟦<MemRoads as Roads>⟧.plain pair.0) pair.1.id.0) }
 {
-    let mut roads = MemRoads::new(alloc, &[])?;
+    let mut roads = MemRoads::new(alloc, failing)?;
     let port = roads.listen(alloc, NodeId(1))?;
     let end = roads.dial(alloc, port)?;
     Ok((roads, end))

@@ -1,9 +1,23 @@
-//! Tests of the running member of a pipeline.
+//! Tests of the running member of a pipeline, and of a pipeline's setup.
 #![tactic(auto)]
 
 #[cfg(test)]
+mod alone;
+#[cfg(test)]
+mod chains;
+#[cfg(test)]
+mod failing;
+#[cfg(test)]
 mod helpers;
 #[cfg(test)]
+mod nodes;
+#[cfg(test)]
+mod pieces;
+#[cfg(test)]
+mod rebuilding;
+#[cfg(test)]
 mod receiving;
+#[cfg(test)]
+mod refusing;
 #[cfg(test)]
 mod responding;

@@ -3,6 +3,7 @@
 use crate::helpers::{Book, CONN, carried, created, dialled, receipt};
 use block_receiver::{Taken, take_packet};
 use bytes::Bytes;
+use hd_base::Stamp;
 use mem_ports::MemOut;
 use packet_codec::Packet;
 use replica_core::Refusal;
@@ -49,8 +50,8 @@ fn take(
 #[test]
 fn a_packet_goes_on_unless_a_sum_differs(rt: HostRuntime) -> Result<(), Fail> {
     let alloc = rt.alloc();
-    let mut book = created(alloc, 32)?;
-    let (roads, mut end) = dialled(alloc)?;
+    let mut book = created(&rt, alloc, CONN, Stamp(1001), 32);
+    let (roads, mut end) = dialled(alloc, &[])?;
     let taken = take(alloc, &mut book, &packet(alloc, WRONG)?, &mut end.outward)?;
     let refusal = Refusal::BadSum { chunk: 3 };
     assert_eq!(rt; taken, Taken::Refused(refusal, receipt(1)));
@@ -60,5 +61,17 @@ fn a_packet_goes_on_unless_a_sum_differs(rt: HostRuntime) -> Result<(), Fail> {
     let carried = carried(alloc, roads, end)?;
     assert_eq!(rt; carried.len(), 211);
     assert!(rt; carried.starts_with(FRONT));
+    Ok(())
+}
+
+/// The packet can't go on to the mirror, and stays booked.
+#[test]
+fn a_packet_is_booked_where_the_mirror_fails(rt: HostRuntime) -> Result<(), Fail> {
+    let alloc = rt.alloc();
+    let mut book = created(&rt, alloc, CONN, Stamp(1001), 32);
+    let (_roads, mut end) = dialled(alloc, &[3])?;
+    let taken = take(alloc, &mut book, &packet(alloc, SUMS)?, &mut end.outward)?;
+    assert_eq!(rt; taken, Taken::MirrorFailed(receipt(1)));
+    assert_eq!(rt; book.replica().written(), 160);
     Ok(())
 }

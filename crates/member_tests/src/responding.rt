@@ -6,7 +6,7 @@ ghost use Rattle.hd_base.specs.Wire.{IsStatus};
 use crate::helpers::{Book, CONN, carried, created, dialled, receipt};
 use ack_codec::{Ack, Replies};
 use bytes::Bytes;
-use hd_base::Status;
+use hd_base::{Stamp, Status};
 use mem_ports::MemOut;
 use packet_codec::Packet;
 use packet_responder::{FromBelow, Passed, take_ack};
@@ -72,10 +72,10 @@ fn tell(alloc: Global, book: &mut Book, upstream: &mut MemOut) -> Result<Passed,
 #[test]
 fn acks_are_booked_and_go_up(rt: HostRuntime) -> Result<(), Fail> {
     let alloc = rt.alloc();
-    let mut book = created(alloc, 512)?;
+    let mut book = created(&rt, alloc, CONN, Stamp(1001), 512);
     put(alloc, &mut book, false)?;
     put(alloc, &mut book, true)?;
-    let (roads, mut end) = dialled(alloc)?;
+    let (roads, mut end) = dialled(alloc, &[])?;
     let passed = take(alloc, &mut book, ack(0, false), &mut end.outward);
     assert_eq!(rt; passed, Passed::Sent(receipt(3)));
     let passed = take(alloc, &mut book, ack(1, true), &mut end.outward);
@@ -90,11 +90,24 @@ fn acks_are_booked_and_go_up(rt: HostRuntime) -> Result<(), Fail> {
 #[test]
 fn a_wrong_sum_is_told_of(rt: HostRuntime) -> Result<(), Fail> {
     let alloc = rt.alloc();
-    let mut book = created(alloc, 512)?;
-    let (roads, mut end) = dialled(alloc)?;
+    let mut book = created(&rt, alloc, CONN, Stamp(1001), 512);
+    let (roads, mut end) = dialled(alloc, &[])?;
     let passed = tell(alloc, &mut book, &mut end.outward)?;
     assert_eq!(rt; passed, Passed::Closed(receipt(1)));
     let carried = carried(alloc, roads, end)?;
     assert_eq!(rt; carried.as_slice(), b"\x04\x08\0\x10\x02".as_slice());
+    Ok(())
+}
+
+/// The ack can't go up, and stays booked.
+#[test]
+fn an_ack_is_booked_where_the_link_fails(rt: HostRuntime) -> Result<(), Fail> {
+    let alloc = rt.alloc();
+    let mut book = created(&rt, alloc, CONN, Stamp(1001), 512);
+    put(alloc, &mut book, false)?;
+    let (_roads, mut end) = dialled(alloc, &[3])?;
+    let passed = take(alloc, &mut book, ack(0, false), &mut end.outward);
+    assert_eq!(rt; passed, Passed::LinkFailed(receipt(2)));
+    assert_eq!(rt; book.replica().acked(), 9);
     Ok(())
 }

@@ -89,12 +89,14 @@ stamp_of (Some (stamp, rest)) = if bytes_eq rest (codes ".meta") then Some stamp
 abbrev pub named_by : Folder → ℕ → List ℕ → Option Named
 named_by folder block [] = Some (Body (record { 0 = block }) folder)
 named_by folder block (c ∷ rest) =
-    if c == 95 then option_map (λ stamp. Sums (record { 0 = block }) (record { 0 = stamp }) folder) (stamp_of (number_at rest)) else None
+    if c == 95 then option_map (λ stamp. Sums (record { 0 = block }) (record { 0 = stamp }) folder)
+    (stamp_of (number_at rest)) else None
 
 -- what the last part of a path says, in a folder
 unfoldable pub named_in : Folder → List ℕ → Option Named
 named_in folder base =
-    if starts_with nat_eq base (codes "blk_") then option_and_then (λ x. named_by folder x.0 x.1) (number_at (drop 4 base)) else None
+    if starts_with nat_eq base (codes "blk_")
+    then option_and_then (λ x. named_by folder x.0 x.1) (number_at (drop 4 base)) else None
 
 -- what a name says in the folders of layout -57, if any replica file's name is like it
 unfoldable pub candidate_of : List ℕ → Option Named

@@ -60,11 +60,13 @@ kept_lengths block_stamp k infos = map (λ i. i.length) (kept_infos block_stamp 
 
 -- this length at the nodes of these candidates
 abbrev pub chosen : ℕ → Stamp → Kept → List Info → Chosen
-chosen bytes block_stamp k infos = record { length = bytes; members = map (λ i. i.node) (kept_infos block_stamp k infos) }
+chosen bytes block_stamp k infos =
+    record { length = bytes; members = map (λ i. i.node) (kept_infos block_stamp k infos) }
 
 -- the candidates kept so, at their least length; None where there are none
 abbrev pub shortest : Stamp → Kept → List Info → Option Chosen
-shortest block_stamp k infos = option_map (λ bytes. chosen bytes block_stamp k infos) (least (kept_lengths block_stamp k infos))
+shortest block_stamp k infos = option_map (λ bytes. chosen bytes block_stamp k infos)
+    (least (kept_lengths block_stamp k infos))
 
 -- Where a finalized candidate of another length stands, the two lengths; else the candidates with this length.
 abbrev pub unless_other : Option Info → ℕ → Stamp → List Info → Result (Option Chosen) ChooseFault
@@ -77,7 +79,8 @@ other_length bytes block_stamp infos = find (λ i. is_finalized_candidate block_
 
 abbrev pub finalized_by : Option Info → Stamp → List Info → Result (Option Chosen) ChooseFault
 finalized_by None block_stamp infos = Ok None
-finalized_by (Some first) block_stamp infos = unless_other (other_length first.length block_stamp infos) first.length block_stamp infos
+finalized_by (Some first) block_stamp infos =
+    unless_other (other_length first.length block_stamp infos) first.length block_stamp infos
 
 -- the choice where a candidate is finalized, None where none is
 abbrev pub finalized_choice : Stamp → List Info → Result (Option Chosen) ChooseFault
@@ -92,4 +95,5 @@ first_of None None None = Err fault.Nothing
 
 -- the choice: finalized candidates with RBW ones of their length, else RBW ones, else RWR ones
 unfoldable pub choice : Stamp → List Info → Result Chosen ChooseFault
-choice block_stamp infos = finalized_choice block_stamp infos >>= (λ found. first_of found (shortest block_stamp kept.Rbw infos) (shortest block_stamp kept.Rwr infos))
+choice block_stamp infos = finalized_choice block_stamp infos >>=
+    (λ found. first_of found (shortest block_stamp kept.Rbw infos) (shortest block_stamp kept.Rwr infos))

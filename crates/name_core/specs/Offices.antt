@@ -68,10 +68,12 @@ known (Some r) = Ok r
 
 -- a step of a block that is known
 abbrev pub on_block : {A : Type 0} → OfficeState → BlockId → (BlockRecord → Step BlockRecord A) → Step OfficeState A
-on_block o block step = known (record_of o block) >>= (λ r. step r >>= (λ g. grant (with_record o block g.state) g.answer))
+on_block o block step = known (record_of o block) >>=
+    (λ r. step r >>= (λ g. grant (with_record o block g.state) g.answer))
 
 -- a step of a block that is known, which is given the next stamp
-abbrev pub with_stamp : {A : Type 0} → OfficeState → BlockId → (BlockRecord → Stamp → Step BlockRecord A) → Step OfficeState A
+abbrev pub with_stamp : {A : Type 0} → OfficeState → BlockId → (BlockRecord → Stamp → Step BlockRecord A) →
+    Step OfficeState A
 with_stamp o block step = on_block (stamp_given o) block (λ r. step r o.next)
 
 abbrev pub create_case : OfficeState → BlockId → List NodeId → Step OfficeState Stamp
@@ -109,7 +111,8 @@ office_case o (call.NewStamp block) = answering answer.Stamp (new_stamp_case o b
 office_case o (call.Commit block stamp members) = answering (λ _. answer.Nothing) (commit_case o block stamp members)
 office_case o (call.Complete block stamp bytes) = answering (λ _. answer.Nothing) (complete_case o block stamp bytes)
 office_case o (call.BeginRecovery block) = answering answer.Begun (begin_case o block)
-office_case o (call.CommitSync block id bytes members) = answering (λ _. answer.Nothing) (sync_case o block id bytes members)
+office_case o (call.CommitSync block id bytes members) =
+    answering (λ _. answer.Nothing) (sync_case o block id bytes members)
 
 -- a call that gives a stamp where it is granted
 abbrev pub GivesStamp : OfficeCall → Type 0

@@ -29,7 +29,11 @@ abbrev pub append_step : BlockRecord → Stamp → Step BlockRecord Reopened
 append_step r new =
     check (not r.is_open) fault.NotClosed
     (check (nat_le r.length MAX_APPEND_LENGTH) (fault.TooLong r.length)
-    (grant (record r { is_open = true; recovery = None }) (record { committed = r.committed; length = r.length; new = new })))
+    (grant (record r { is_open = true; recovery = None }) (record {
+      committed = r.committed;
+      length = r.length;
+      new = new;
+    })))
 
 -- the writer's new stamp
 abbrev pub new_stamp_step : BlockRecord → Stamp → Step BlockRecord Stamp

@@ -16,4 +16,11 @@ abbrev pub port_of : NodeId → ℕ
 port_of node = min (FIRST_PORT + node.0) (2 ^ 32 - 1)
 
 abbrev pub ref_of : NodeId → NodeRef
-ref_of node = record { ip = codes "127.0.0.1"; host = codes "localhost"; uuid = uuid_of node; xfer = port_of node; info = 0; ipc = 0 }
+ref_of node = record {
+  ip = codes "127.0.0.1";
+  host = codes "localhost";
+  uuid = uuid_of node;
+  xfer = port_of node;
+  info = 0;
+  ipc = 0;
+}

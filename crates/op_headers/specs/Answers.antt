@@ -21,7 +21,8 @@ use Rattle.op_headers.specs.Tables.{if_there, Uint64, Below, uint32, Required, D
 
 -- RecoveryAnswerProto: status, message, state (0 to 4), stamp, length
 abbrev pub answer_table : Table
-answer_table = Number 1 uint32 Required (Text 2 (Default []) (Number 3 (Below 5) Optional (Number 4 Uint64 Optional (Number 5 Uint64 Optional End))))
+answer_table = Number 1 uint32 Required
+    (Text 2 (Default []) (Number 3 (Below 5) Optional (Number 4 Uint64 Optional (Number 5 Uint64 Optional End))))
 
 -- the state with this number, the last from 4 on
 abbrev pub state_with : ℕ → ReplicaState
@@ -58,11 +59,21 @@ answer_length_to_encode None = None
 answer_length_to_encode (Some i) = Some i.2
 
 abbrev pub answer_to_encode : RecoveryAnswer → FieldsToEncode answer_table
-answer_to_encode a = (status_number a.status, (message_to_encode a.message, (state_to_encode a.info, (stamp_to_encode a.info, (answer_length_to_encode a.info, tt)))))
+answer_to_encode a = (
+  status_number a.status,
+  (
+    message_to_encode a.message,
+    (
+      state_to_encode a.info,
+      (stamp_to_encode a.info, (answer_length_to_encode a.info, tt)),
+    ),
+  ),
+)
 
 -- state, stamp and length, where they are there
 abbrev pub info_text : Option (ReplicaState × Stamp × ℕ) → List ℕ
-info_text info = if_there (varint_field 3) (state_to_encode info) ++ (if_there (varint_field 4) (stamp_to_encode info) ++ if_there (varint_field 5) (answer_length_to_encode info))
+info_text info = if_there (varint_field 3) (state_to_encode info) ++
+    (if_there (varint_field 4) (stamp_to_encode info) ++ if_there (varint_field 5) (answer_length_to_encode info))
 
 unfoldable pub answer_format : Format RecoveryAnswer
 answer_format = by_table answer_table answer_from answer_to_encode
@@ -82,7 +93,8 @@ pub record LacksAnswerField (field : ℕ) (message : List ℕ) : Type 0 where
 abbrev pub IsRefusedAnswer : AnswerFault → List ℕ → Type 0
 IsRefusedAnswer fault.Short bytes = IsCutFrame bytes
 IsRefusedAnswer (fault.TooLong n) bytes = IsTooLong n bytes
-IsRefusedAnswer (fault.Wire e) bytes = IsLongPrefix 0 e bytes ⊎ HasSome (λ message. answer_format.faulty message e) bytes
+IsRefusedAnswer (fault.Wire e) bytes = IsLongPrefix 0 e bytes ⊎
+    HasSome (λ message. answer_format.faulty message e) bytes
 IsRefusedAnswer (fault.Missing field) bytes = HasSome (LacksAnswerField field) bytes
 IsRefusedAnswer fault.Memory bytes = ⊥
 
@@ -114,4 +126,5 @@ pub record IsEncodable (answer : RecoveryAnswer) : Type 0 where
 
 -- Where the old bytes end the answer is read, whatever follows the new bytes.
 abbrev pub ReadsAnswer : List ℕ → List ℕ → RecoveryAnswer → Type 0
-ReadsAnswer old new answer = (rest : List ℕ) → answer_at (drop (length old) (new ++ rest)) ≡ Ok (answer, length (answer_text answer))
+ReadsAnswer old new answer = (rest : List ℕ) →
+    answer_at (drop (length old) (new ++ rest)) ≡ Ok (answer, length (answer_text answer))

@@ -30,10 +30,21 @@ block_format = by_table block_table block_from block_to_encode
 
 -- DatanodeIDProto: ipAddr, hostName, datanodeUuid, xferPort, infoPort, ipcPort
 abbrev pub identity_table : Table
-identity_table = Text 1 Required (Text 2 Required (Text 3 Required (Number 4 uint32 Required (Number 5 uint32 Required (Number 6 uint32 Required End)))))
+identity_table = Text 1 Required
+    (Text 2 Required (Text 3 Required
+    (Number 4 uint32 Required (Number 5 uint32 Required (Number 6 uint32 Required End)))))
 
 abbrev pub identity_from : DecodedFields identity_table → Identity
-identity_from v = record { node = record { ip = v.0; host = v.1.0; uuid = v.1.1.0; xfer = v.1.1.1.0; info = v.1.1.1.1.0; ipc = v.1.1.1.1.1.0 } }
+identity_from v = record {
+  node = record {
+    ip = v.0;
+    host = v.1.0;
+    uuid = v.1.1.0;
+    xfer = v.1.1.1.0;
+    info = v.1.1.1.1.0;
+    ipc = v.1.1.1.1.1.0;
+  };
+}
 
 abbrev pub identity_to_encode : Identity → FieldsToEncode identity_table
 identity_to_encode i = (i.node.ip, (i.node.host, (i.node.uuid, (i.node.xfer, (i.node.info, (i.node.ipc, tt))))))
@@ -96,8 +107,10 @@ checksum_format = by_table checksum_table checksum_from checksum_to_encode
 -- OpWriteBlockProto: header, targets, source, stage (0 to 8), pipelineSize, minBytesRcvd, maxBytesRcvd, latestGenerationStamp, requestedChecksum
 abbrev pub write_table : Table
 write_table =
-    Message 1 client_format Required (Messages 2 node_format (Message 3 node_format Optional (Number 4 (Below 9) Required (Number 5 uint32 Required
-    (Number 6 Uint64 Required (Number 7 Uint64 Required (Number 8 Uint64 Required (Message 9 checksum_format Required End))))))))
+    Message 1 client_format Required
+    (Messages 2 node_format (Message 3 node_format Optional (Number 4 (Below 9) Required (Number 5 uint32 Required
+    (Number 6 Uint64 Required (Number 7 Uint64 Required
+    (Number 8 Uint64 Required (Message 9 checksum_format Required End))))))))
 
 abbrev pub write_from : DecodedFields write_table → WriteFields
 write_from v = record {
@@ -117,7 +130,16 @@ write_from v = record {
 abbrev pub write_to_encode : WriteFields → FieldsToEncode write_table
 write_to_encode w = (
   record { block = w.block; client = w.client },
-  (w.targets, (w.source, (w.stage, (w.pipeline, (w.min, (w.max, (w.latest.0, (record { kind = w.kind; chunk = w.chunk }, tt)))))))),
+  (
+    w.targets,
+    (
+      w.source,
+      (
+        w.stage,
+        (w.pipeline, (w.min, (w.max, (w.latest.0, (record { kind = w.kind; chunk = w.chunk }, tt))))),
+      ),
+    ),
+  ),
 )
 
 unfoldable pub write_format : Format WriteFields
@@ -125,7 +147,8 @@ write_format = by_table write_table write_from write_to_encode
 
 -- OpReadBlockProto: header, offset, len, and sendChecksums, which is read and not decoded_field, and never written
 abbrev pub read_table : Table
-read_table = Message 1 client_format Required (Number 2 Uint64 Required (Number 3 Uint64 Required (Number 4 Bool32 (Default 1) End)))
+read_table = Message 1 client_format Required
+    (Number 2 Uint64 Required (Number 3 Uint64 Required (Number 4 Bool32 (Default 1) End)))
 
 abbrev pub read_from : DecodedFields read_table → ReadOp
 read_from v = record { block = v.0.block; client = v.0.client; offset = v.1.0; len = v.1.1.0 }
@@ -164,17 +187,28 @@ checksum_op_format = by_table checksum_op_table checksum_op_from checksum_op_to_
 
 -- RecoveryOpProto: kind (BEGIN 0, INIT 1, UPDATE 2), block, recoveryId, newLength, which is written in UPDATE, and targets
 abbrev pub recovery_table : Table
-recovery_table = Number 1 (Below 3) Required (Message 2 block_format Required (Number 3 Uint64 Required (Number 4 Uint64 (Default 0) (Messages 5 node_format End))))
+recovery_table = Number 1 (Below 3) Required
+    (Message 2 block_format Required
+    (Number 3 Uint64 Required (Number 4 Uint64 (Default 0) (Messages 5 node_format End))))
 
 abbrev pub recovery_from : DecodedFields recovery_table → RecoveryOp
-recovery_from v = record { kind = kind_with v.0; block = v.1.0; recovery = record { 0 = v.1.1.0 }; new_length = v.1.1.1.0; targets = v.1.1.1.1.0 }
+recovery_from v = record {
+  kind = kind_with v.0;
+  block = v.1.0;
+  recovery = record { 0 = v.1.1.0 };
+  new_length = v.1.1.1.0;
+  targets = v.1.1.1.1.0;
+}
 
 abbrev pub length_to_encode : RecoveryKind → ℕ → Option ℕ
 length_to_encode kind.Update n = Some n
 length_to_encode _ n = None
 
 abbrev pub recovery_to_encode : RecoveryOp → FieldsToEncode recovery_table
-recovery_to_encode r = (kind_number r.kind, (r.block, (r.recovery.0, (length_to_encode r.kind r.new_length, (r.targets, tt)))))
+recovery_to_encode r = (
+  kind_number r.kind,
+  (r.block, (r.recovery.0, (length_to_encode r.kind r.new_length, (r.targets, tt)))),
+)
 
 unfoldable pub recovery_format : Format RecoveryOp
 recovery_format = by_table recovery_table recovery_from recovery_to_encode

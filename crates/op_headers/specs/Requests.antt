@@ -21,7 +21,8 @@ use Rattle.op_headers.specs.Formats.{write_format, read_format, transfer_format,
 -- ---- what a message says
 
 -- The message says a value of this format, as a request.
-pub record SaysAs {X : Type 0} (wrap : X → Op) (format : Format X) (message : List ℕ) (r : Result Op Path) : Type 0 where
+pub record SaysAs {X : Type 0} (wrap : X →
+    Op) (format : Format X) (message : List ℕ) (r : Result Op Path) : Type 0 where
   pub decoded : Result X Path
   pub says : format.says message decoded
   pub op_is : r ≡ with_value wrap decoded
@@ -70,7 +71,8 @@ pub record IsCutRequest (bytes : List ℕ) : Type 0 where
   pub whole : IsWholeRequest (bytes ++ missing)
   pub version : (high low : ℕ) (rest : List ℕ) → bytes ≡ high ∷ low ∷ rest → 256 * high + low ≡ 28
   pub code : (high low number : ℕ) (rest : List ℕ) → bytes ≡ high ∷ low ∷ number ∷ rest → IsSome (opcode_with number)
-  pub lawful : (high low number : ℕ) (rest : List ℕ) → bytes ≡ high ∷ low ∷ number ∷ rest → (n : ℕ) (behind : List ℕ) → BeginsWithVarint rest n behind → n ≤ limit
+  pub lawful : (high low number : ℕ) (rest : List ℕ) → bytes ≡ high ∷ low ∷ number ∷ rest → (n : ℕ) (behind : List ℕ) →
+      BeginsWithVarint rest n behind → n ≤ limit
 
 -- The bytes begin with this version, which isn't 28.
 pub record HasVersion (got : ℕ) (bytes : List ℕ) : Type 0 where
@@ -99,7 +101,8 @@ IsRefusedOp (fault.Version got) bytes = HasVersion got bytes
 IsRefusedOp (fault.Opcode got) bytes = HasOpcode got bytes
 IsRefusedOp (fault.TooLong n) bytes = BehindHead (λ code rest. IsTooLong n rest) bytes
 IsRefusedOp (fault.Wire e) bytes = BehindHead (IsFaultyBehind e) bytes
-IsRefusedOp (fault.Missing path) bytes = BehindHead (λ code rest. HasSome (λ message. OpSays code message (Err path)) rest) bytes
+IsRefusedOp (fault.Missing path) bytes =
+    BehindHead (λ code rest. HasSome (λ message. OpSays code message (Err path)) rest) bytes
 IsRefusedOp fault.Memory bytes = ⊥
 
 -- ---- reading
@@ -127,7 +130,8 @@ behind_version (number ∷ rest) = opcode_step number rest (opcode_with number)
 unfoldable pub head_at : List ℕ → Result (Opcode × List ℕ) OpFault
 head_at [] = Err fault.Short
 head_at (high ∷ []) = Err fault.Short
-head_at (high ∷ low ∷ rest) = if 256 * high + low == 28 then behind_version rest else Err (fault.Version (256 * high + low))
+head_at (high ∷ low ∷ rest) = if 256 * high + low == 28 then behind_version rest
+    else Err (fault.Version (256 * high + low))
 
 -- the fault of a request's frame, whose length stands behind three bytes
 abbrev pub op_frame_cause : FrameFault → OpFault
@@ -162,7 +166,8 @@ op_message (op.Recovery r) = recovery_format.text r
 
 -- the written request
 abbrev pub op_text : Op → List ℕ
-op_text request = (0 ∷ 28 ∷ opcode_number (op_code request) ∷ []) ++ (least_varint (length (op_message request)) ++ op_message request)
+op_text request = (0 ∷ 28 ∷ opcode_number (op_code request) ∷ []) ++
+    (least_varint (length (op_message request)) ++ op_message request)
 
 -- The numbers have their widths, so the written message says the request.
 abbrev pub OpFits : Op → Type 0
@@ -184,4 +189,5 @@ pub record IsEncodable (request : Op) : Type 0 where
 
 -- Where the old bytes end the request is read, whatever follows the new bytes.
 abbrev pub ReadsOp : List ℕ → List ℕ → Op → Type 0
-ReadsOp old new request = (rest : List ℕ) → request_at (drop (length old) (new ++ rest)) ≡ Ok (request, length (op_text request))
+ReadsOp old new request = (rest : List ℕ) →
+    request_at (drop (length old) (new ++ rest)) ≡ Ok (request, length (op_text request))

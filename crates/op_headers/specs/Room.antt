@@ -18,7 +18,8 @@ source_room (Some n) = node_room n
 
 -- what a request's message takes at most
 abbrev pub op_room : Op → ℕ
-op_room (op.Write w) = length w.block.pool + length w.client + 160 + (nodes_room w.targets + (source_room w.source + (20 + (20 + (20 + (20 + (20 + (60 + 0))))))))
+op_room (op.Write w) = length w.block.pool + length w.client + 160 +
+    (nodes_room w.targets + (source_room w.source + (20 + (20 + (20 + (20 + (20 + (60 + 0))))))))
 op_room (op.Read r) = length r.block.pool + length r.client + 160 + (20 + (20 + (0 + 0)))
 op_room (op.Transfer t) = length t.block.pool + length t.client + 160 + (nodes_room t.targets + 0)
 op_room (op.Checksum c) = length c.block.pool + 120 + 0

@@ -88,7 +88,8 @@ decoded_field (Default d) number o = Ok (unwrap_or o d)
 decoded_field Optional number o = Ok o
 
 -- the same of a message, which may itself miss a field
-abbrev pub decoded_message : {X : Type 0} (presence : Presence X) → ℕ → Option (Result X Path) → Result (DecodedField presence) Path
+abbrev pub decoded_message : {X : Type 0} (presence : Presence X) → ℕ → Option (Result X Path) →
+    Result (DecodedField presence) Path
 decoded_message presence number None = decoded_field presence number None
 decoded_message presence number (Some (Ok x)) = decoded_field presence number (Some x)
 decoded_message presence number (Some (Err p)) = Err (below number p)
@@ -104,21 +105,26 @@ then_one decoded x = with_value (λ p. p.0 ++ p.1 ∷ []) (both decoded x)
 -- What each of several messages says.
 abbrev pub EachSays : {X : Type 0} → (List ℕ → Result X Path → Type 0) → List (List ℕ) → Result (List X) Path → Type 0
 EachSays {X} says [] decoded = decoded ≡ Ok []
-EachSays {X} says (b ∷ bs) decoded = (x : Result X Path) × says b x × (later : Result (List X) Path) × EachSays says bs later × (decoded ≡ more x later)
+EachSays {X} says (b ∷ bs) decoded = (x : Result X Path) × says b x × (later : Result (List X) Path) ×
+    EachSays says bs later × (decoded ≡ more x later)
 
 -- What the rows of a table make of these fields of the bytes: of a singular number the last value, of a singular message all parts joined.
 abbrev pub RowsSay : (t : Table) → List ℕ → List (ℕ × Wire) → Result (DecodedFields t) Path → Type 0
 RowsSay End bytes fs decoded = decoded ≡ Ok tt
 RowsSay (Number number kind presence rest) bytes fs decoded =
-    (later : Result (DecodedFields rest) Path) × RowsSay rest bytes fs later × (decoded ≡ both (decoded_field presence number (last_of (number_of kind) number fs)) later)
+    (later : Result (DecodedFields rest) Path) × RowsSay rest bytes fs later ×
+    (decoded ≡ both (decoded_field presence number (last_of (number_of kind) number fs)) later)
 RowsSay (Text number presence rest) bytes fs decoded =
-    (later : Result (DecodedFields rest) Path) × RowsSay rest bytes fs later × (decoded ≡ both (decoded_field presence number (text_under number bytes fs)) later)
+    (later : Result (DecodedFields rest) Path) × RowsSay rest bytes fs later ×
+    (decoded ≡ both (decoded_field presence number (text_under number bytes fs)) later)
 RowsSay (Message {X} number format presence rest) bytes fs decoded =
     (x : Option (Result X Path)) × FindsInner format.says (joined number bytes fs) x
-    × (later : Result (DecodedFields rest) Path) × RowsSay rest bytes fs later × (decoded ≡ both (decoded_message presence number x) later)
+    × (later : Result (DecodedFields rest) Path) × RowsSay rest bytes fs later ×
+    (decoded ≡ both (decoded_message presence number x) later)
 RowsSay (Messages {X} number format rest) bytes fs decoded =
     (xs : Result (List X) Path) × EachSays format.says (texts_under number bytes fs) xs
-    × (later : Result (DecodedFields rest) Path) × RowsSay rest bytes fs later × (decoded ≡ both (with_cause (below number) xs) later)
+    × (later : Result (DecodedFields rest) Path) × RowsSay rest bytes fs later ×
+    (decoded ≡ both (with_cause (below number) xs) later)
 
 -- The message says this by its table.
 pub record Says (t : Table) (bytes : List ℕ) (decoded : Result (DecodedFields t) Path) : Type 0 where
@@ -157,7 +163,8 @@ IsFaulty t bytes e = FirstFault bytes e ⊎ HasFaultWithin t bytes e
 
 -- ---- reading
 
-abbrev pub each_at : {X : Type 0} → (List ℕ → Result (Result X Path) WireFault) → List (List ℕ) → Result (Result (List X) Path) WireFault
+abbrev pub each_at : {X : Type 0} → (List ℕ → Result (Result X Path) WireFault) → List (List ℕ) →
+    Result (Result (List X) Path) WireFault
 each_at read [] = Ok (Ok [])
 each_at read (b ∷ bs) = do
   x ← read b
@@ -165,8 +172,10 @@ each_at read (b ∷ bs) = do
 
 abbrev pub rows_at : (t : Table) → List ℕ → List (ℕ × Wire) → Result (Result (DecodedFields t) Path) WireFault
 rows_at End bytes fs = Ok (Ok tt)
-rows_at (Number number kind presence rest) bytes fs = with_value (both (decoded_field presence number (last_of (number_of kind) number fs))) (rows_at rest bytes fs)
-rows_at (Text number presence rest) bytes fs = with_value (both (decoded_field presence number (text_under number bytes fs))) (rows_at rest bytes fs)
+rows_at (Number number kind presence rest) bytes fs =
+    with_value (both (decoded_field presence number (last_of (number_of kind) number fs))) (rows_at rest bytes fs)
+rows_at (Text number presence rest) bytes fs =
+    with_value (both (decoded_field presence number (text_under number bytes fs))) (rows_at rest bytes fs)
 rows_at (Message number format presence rest) bytes fs = do
   x ← inner format.read (joined number bytes fs)
   with_value (both (decoded_message presence number x)) (rows_at rest bytes fs)
@@ -210,7 +219,8 @@ abbrev pub decoded_fields : (t : Table) → FieldsToEncode t → DecodedFields t
 decoded_fields End given = tt
 decoded_fields (Number number kind presence rest) given = (decoded_again presence given.0, decoded_fields rest given.1)
 decoded_fields (Text number presence rest) given = (decoded_again presence given.0, decoded_fields rest given.1)
-decoded_fields (Message number format presence rest) given = (decoded_again presence given.0, decoded_fields rest given.1)
+decoded_fields (Message number format presence rest) given =
+    (decoded_again presence given.0, decoded_fields rest given.1)
 decoded_fields (Messages number format rest) given = (given.0, decoded_fields rest given.1)
 
 -- the text of a field, where it is given
@@ -225,9 +235,12 @@ message_field number format x = bytes_field number (format.text x)
 -- The fields in ascending number, each varint in its least spelling.
 abbrev pub rows_text : (t : Table) → FieldsToEncode t → List ℕ
 rows_text End given = []
-rows_text (Number number kind presence rest) given = if_there (varint_field number) (field_to_encode presence given.0) ++ rows_text rest given.1
-rows_text (Text number presence rest) given = if_there (bytes_field number) (field_to_encode presence given.0) ++ rows_text rest given.1
-rows_text (Message number format presence rest) given = if_there (message_field number format) (field_to_encode presence given.0) ++ rows_text rest given.1
+rows_text (Number number kind presence rest) given =
+    if_there (varint_field number) (field_to_encode presence given.0) ++ rows_text rest given.1
+rows_text (Text number presence rest) given = if_there (bytes_field number) (field_to_encode presence given.0) ++
+    rows_text rest given.1
+rows_text (Message number format presence rest) given =
+    if_there (message_field number format) (field_to_encode presence given.0) ++ rows_text rest given.1
 rows_text (Messages number format rest) given = flat_map (message_field number format) given.0 ++ rows_text rest given.1
 
 -- The number is one that its varint tells again.
@@ -241,21 +254,25 @@ EachFits fits (x ∷ xs) = fits x × EachFits fits xs
 
 abbrev pub RowsFit : (t : Table) → FieldsToEncode t → Type 0
 RowsFit End given = Unit {0}
-RowsFit (Number number kind presence rest) given = IfSome (field_to_encode presence given.0) (FitsKind kind) × RowsFit rest given.1
+RowsFit (Number number kind presence rest) given = IfSome (field_to_encode presence given.0) (FitsKind kind) ×
+    RowsFit rest given.1
 RowsFit (Text number presence rest) given = RowsFit rest given.1
-RowsFit (Message number format presence rest) given = IfSome (field_to_encode presence given.0) format.fits × RowsFit rest given.1
+RowsFit (Message number format presence rest) given = IfSome (field_to_encode presence given.0) format.fits ×
+    RowsFit rest given.1
 RowsFit (Messages number format rest) given = EachFits format.fits given.0 × RowsFit rest given.1
 
 -- ---- a type of message, by its table
 
 -- The message says a value, decoded by what its table tells, or misses a field.
-pub record SaysBy {X : Type 0} (t : Table) (from : DecodedFields t → X) (bytes : List ℕ) (r : Result X Path) : Type 0 where
+pub record SaysBy {X : Type 0} (t : Table) (from : DecodedFields t →
+    X) (bytes : List ℕ) (r : Result X Path) : Type 0 where
   pub decoded : Result (DecodedFields t) Path
   pub says : Says t bytes decoded
   pub value_is : r ≡ with_value from decoded
 
 -- The value is what is read of the fields that it is given as.
-pub record FitsBy {X : Type 0} (t : Table) (from : DecodedFields t → X) (given : X → FieldsToEncode t) (x : X) : Type 0 where
+pub record FitsBy {X : Type 0} (t : Table) (from : DecodedFields t → X) (given : X →
+    FieldsToEncode t) (x : X) : Type 0 where
   pub rows : RowsFit t (given x)
   pub same : from (decoded_fields t (given x)) ≡ x
 

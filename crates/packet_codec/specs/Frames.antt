@@ -38,7 +38,8 @@ frame_with payload header bytes = record {
 unfoldable pub frame_at : List ℕ → Result Frame PacketFault
 frame_at bytes =
     if nat_lt (length bytes) 6 then Err fault.Short
-    else if nat_lt (payload_of bytes) 4 || nat_lt limit (payload_of bytes + header_len_of bytes) then Err (fault.Length (payload_of bytes) (header_len_of bytes))
+    else if nat_lt (payload_of bytes) 4 || nat_lt limit (payload_of bytes + header_len_of bytes)
+    then Err (fault.Length (payload_of bytes) (header_len_of bytes))
     else if nat_lt (length bytes) (frame_len (payload_of bytes) (header_len_of bytes)) then Err fault.Short
     else Ok (frame_with (payload_of bytes) (header_len_of bytes) bytes)
 
@@ -46,7 +47,8 @@ frame_at bytes =
 unfoldable pub length_at : List ℕ → Result ℕ PacketFault
 length_at bytes =
     if nat_lt (length bytes) 6 then Err fault.Short
-    else if nat_lt (payload_of bytes) 4 || nat_lt limit (payload_of bytes + header_len_of bytes) then Err (fault.Length (payload_of bytes) (header_len_of bytes))
+    else if nat_lt (payload_of bytes) 4 || nat_lt limit (payload_of bytes + header_len_of bytes)
+    then Err (fault.Length (payload_of bytes) (header_len_of bytes))
     else Ok (frame_len (payload_of bytes) (header_len_of bytes))
 
 -- a frame as its parts are returned

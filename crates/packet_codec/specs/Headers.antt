@@ -95,4 +95,5 @@ marks_text last data_len sync = varint_field 3 (flag last) ++ (fixed32_field 4 d
 
 -- The written spelling of a header: 25 bytes, or 27 where syncBlock is there, which is written only where it is true.
 unfoldable pub header_text : Header → List ℕ
-header_text h = places_text (cast_unsigned w64 h.offset) (cast_unsigned w64 h.seqno) ++ marks_text h.last (cast_unsigned w32 h.data_len) h.sync
+header_text h = places_text (cast_unsigned w64 h.offset) (cast_unsigned w64 h.seqno) ++
+    marks_text h.last (cast_unsigned w32 h.data_len) h.sync

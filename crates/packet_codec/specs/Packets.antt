@@ -13,7 +13,13 @@ use Rattle.packet_codec.specs.declared.faults.PacketFault.TheVariants as fault
 
 -- what a packet's header says of it
 abbrev pub header_for : Packet → Header
-header_for m = record { offset = m.offset; seqno = m.seqno; last = m.last; sync = m.sync; data_len = pos (length m.body) }
+header_for m = record {
+  offset = m.offset;
+  seqno = m.seqno;
+  last = m.last;
+  sync = m.sync;
+  data_len = pos (length m.body);
+}
 
 -- the payload's length: its own four bytes, the sums and the body
 abbrev pub payload_for : Packet → ℕ
@@ -37,7 +43,8 @@ pub record SpellsPacket (m : Packet) (bytes : List ℕ) : Type 0 where
   pub spelled : Spells fields header
   pub decoded : header_of fields ≡ Ok (header_for m)
   pub writable : IsWritable m (length header)
-  pub parts : bytes ≡ to_be_bytes w32 (payload_for m) ++ (to_be_bytes w16 (length header) ++ (header ++ (m.sums ++ m.body)))
+  pub parts : bytes ≡ to_be_bytes w32 (payload_for m) ++
+      (to_be_bytes w16 (length header) ++ (header ++ (m.sums ++ m.body)))
 
 -- the two lengths as they are written
 unfoldable pub lengths_text : ℕ → ℕ → List ℕ
@@ -60,7 +67,14 @@ sums_within available (negsuc n) = Err (fault.SumCount (pos available -ℤ negsu
 
 -- the packet of a header, its sums and its body
 abbrev pub packet_with : Header → List ℕ → List ℕ → Packet
-packet_with h sums body = record { offset = h.offset; seqno = h.seqno; last = h.last; sync = h.sync; sums = sums; body = body }
+packet_with h sums body = record {
+  offset = h.offset;
+  seqno = h.seqno;
+  last = h.last;
+  sync = h.sync;
+  sums = sums;
+  body = body;
+}
 
 -- the packet of a header and its data, cut behind the sums
 abbrev pub packet_of : Header → List ℕ → ℕ → Packet

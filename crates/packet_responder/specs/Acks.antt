@@ -64,7 +64,8 @@ pub record IsIdle {F O : Type 0} (book book' : BookState F) (up up' : O) (result
   pub up_same : up' ≡ up
 
 -- How what comes from below is taken: by its turn, if there is one.
-abbrev pub TakesAck : {F O : Type 0} → files.Ghosts F → link_out.Ghosts O → Option Turn → BookState F → BookState F → O → O → Passed → Type 0
+abbrev pub TakesAck : {F O : Type 0} → files.Ghosts F → link_out.Ghosts O → Option Turn → BookState F → BookState F →
+    O → O → Passed → Type 0
 TakesAck f o None book book' up up' result = IsIdle book book' up up' result
 TakesAck f o (Some t) book book' up up' result = PassEnds f o t book book' up up' result
 
@@ -72,11 +73,18 @@ TakesAck f o (Some t) book book' up up' result = PassEnds f o t book book' up up
 
 -- What is taken from a mirror that may still answer, or what is due without one, is the turn of the member.
 pub record FollowsMember (m : MemberState) : Type 0 where
-  pub acks : m.mirror ≡ mirror.Open → (e : PendingPacket) (a : Ack) → up_turn m (Some e) (below.Ack a) ≡ pending_turn m (given.Ack a) e
+  pub acks : m.mirror ≡ mirror.Open → (e : PendingPacket) (a : Ack) →
+      up_turn m (Some e) (below.Ack a) ≡ pending_turn m (given.Ack a) e
   pub ends : m.mirror ≡ mirror.Open → (e : PendingPacket) → up_turn m (Some e) below.End ≡ pending_turn m given.Ended e
-  pub unread : m.mirror ≡ mirror.Open → (e : PendingPacket) → up_turn m (Some e) below.Unreadable ≡ pending_turn m given.Ended e
-  pub ended : (e : PendingPacket) (writes : Bool) → ready_at mirror.Ended m (Some e) writes ≡ Some (pending_turn m given.Ended e)
-  pub last : (e : PendingPacket) (writes : Bool) → ready_at mirror.Nobody m (Some e) writes ≡ Some (pending_turn m given.Ready e)
-  pub open_bad : (seqno : ℤ) (writes : Bool) → m.bad ≡ Some seqno → ready_at mirror.Open m None writes ≡ idle_turn m (given.Bad seqno)
-  pub ended_bad : (seqno : ℤ) (writes : Bool) → m.bad ≡ Some seqno → ready_at mirror.Ended m None writes ≡ idle_turn m (given.Bad seqno)
-  pub last_bad : (seqno : ℤ) (writes : Bool) → m.bad ≡ Some seqno → ready_at mirror.Nobody m None writes ≡ idle_turn m (given.Bad seqno)
+  pub unread : m.mirror ≡ mirror.Open → (e : PendingPacket) →
+      up_turn m (Some e) below.Unreadable ≡ pending_turn m given.Ended e
+  pub ended : (e : PendingPacket) (writes : Bool) →
+      ready_at mirror.Ended m (Some e) writes ≡ Some (pending_turn m given.Ended e)
+  pub last : (e : PendingPacket) (writes : Bool) →
+      ready_at mirror.Nobody m (Some e) writes ≡ Some (pending_turn m given.Ready e)
+  pub open_bad : (seqno : ℤ) (writes : Bool) → m.bad ≡ Some seqno →
+      ready_at mirror.Open m None writes ≡ idle_turn m (given.Bad seqno)
+  pub ended_bad : (seqno : ℤ) (writes : Bool) → m.bad ≡ Some seqno →
+      ready_at mirror.Ended m None writes ≡ idle_turn m (given.Bad seqno)
+  pub last_bad : (seqno : ℤ) (writes : Bool) → m.bad ≡ Some seqno →
+      ready_at mirror.Nobody m None writes ≡ idle_turn m (given.Bad seqno)

@@ -65,7 +65,8 @@ SendsTurn o (Some (upward.Ack a)) s old new = SendsUp o (ack_text a) s old new
 SendsTurn o (Some (upward.Answer a)) s old new = ⊥
 
 -- How a turn ends: the book is called for its event, its ack goes up where the book took it, and the answer is what became of the two.
-pub record PassEnds {F O : Type 0} (f : files.Ghosts F) (o : link_out.Ghosts O) (t : Turn) (book book' : BookState F) (up up' : O) (result : Passed) : Type 0 where
+pub record PassEnds {F O : Type 0} (f : files.Ghosts F) (o : link_out.Ghosts O) (t : Turn) (book book' : BookState F)
+    (up up' : O) (result : Passed) : Type 0 where
   pub event : Event
   pub sending : Sending
   pub call : t.call ≡ Some (replica_event.Other event)

@@ -65,11 +65,25 @@ sums_from r start body = sums_of r.kind (summed_chunks r.kind (chunk_rest r.chun
 -- the packet of these bytes
 abbrev pub data_packet : Rule → ℕ → ℕ → Bool → List ℕ → Packet
 data_packet r start seqno sync body =
-    record { offset = pos start; seqno = pos seqno; last = false; sync = sync; sums = sums_from r start body; body = body }
+    record {
+      offset = pos start;
+      seqno = pos seqno;
+      last = false;
+      sync = sync;
+      sums = sums_from r start body;
+      body = body;
+    }
 
 -- a packet without bytes
 abbrev pub empty_packet : ℕ → ℕ → Bool → Bool → Packet
-empty_packet at seqno last sync = record { offset = pos at; seqno = pos seqno; last = last; sync = sync; sums = []; body = [] }
+empty_packet at seqno last sync = record {
+  offset = pos at;
+  seqno = pos seqno;
+  last = last;
+  sync = sync;
+  sums = [];
+  body = [];
+}
 
 -- the next packet, where it ends here
 abbrev pub next_packet : StreamState → ℕ → Bool → Packet

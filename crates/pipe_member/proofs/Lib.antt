@@ -1,5 +1,10 @@
+pub mod EventLaws
+pub mod EventStepLemmas
+pub mod KnownLemmas
+pub mod RuledTurns
+pub mod SetupLaws
+pub mod SetupStepLemmas
 pub mod SizeLemmas
+pub mod SteppingLemmas
 pub mod TakeLemmas
 pub mod TurnLaws
-pub mod EventLaws
-pub mod SetupLaws

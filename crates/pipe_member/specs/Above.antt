@@ -1,8 +1,9 @@
 -- What comes from above.
-use Rattle.std.specs.Prelude.{◌≡◌, ℕ, if◌then◌else◌, Bool, Option, Some, None}
+use Rattle.std.specs.Prelude.{◌≡◌, ℕ, if◌then◌else◌, Bool, List, [], Option, Some, None}
 use Rattle.hd_base.specs.declared.links.LinkIn as link_in
 use Rattle.packet_codec.specs.declared.packets.Packet.{Packet}
-use Rattle.packet_codec.specs.Packets.{IsEncodable}
+use Rattle.packet_codec.specs.Packets.{SpellsPacket}
+use Rattle.frame_feed.specs.declared.packet_frames.PacketFrame.{PacketFrame}
 use Rattle.frame_feed.specs.Kinds.{packets}
 use Rattle.link_messages.specs.declared.incoming.Next.{Next}
 use Rattle.link_messages.specs.declared.incoming.Next.TheVariants as came
@@ -26,10 +27,23 @@ pub record AboveState : Type 0 where
 abbrev pub nothing_above : AboveState
 nothing_above = record { received = nothing_received; next = None }
 
--- A packet can be written, as it goes to the mirror.
-abbrev pub IsForwardable : Option FromAbove → Type 0
-IsForwardable (Some (from_above.Packet p)) = IsEncodable p
-IsForwardable other = Unit {0}
+-- The bytes spell the packet, where one stands next.
+abbrev pub IsSpelledBy : Option FromAbove → List ℕ → Type 0
+IsSpelledBy (Some (from_above.Packet p)) text = SpellsPacket p text
+IsSpelledBy other text = Unit {0}
+
+-- a packet that came with its bytes, and those
+abbrev pub without_text : Next PacketFrame → Next Packet
+without_text (came.Message f) = came.Message f.packet
+without_text came.Unreadable = came.Unreadable
+without_text came.End = came.End
+without_text came.Failed = came.Failed
+without_text came.NotYet = came.NotYet
+without_text came.Memory = came.Memory
+
+abbrev pub text_of : Next PacketFrame → List ℕ
+text_of (came.Message f) = f.text
+text_of other = []
 
 -- what stands next where this came
 abbrev pub above_of : Next Packet → Option FromAbove
@@ -41,14 +55,16 @@ above_of came.NotYet = None
 above_of came.Memory = None
 
 -- What comes next of the link is what stands next then.
-pub record ReceivesAbove {I : Type 0} (i : link_in.Ghosts I) (old new : AboveState) (half half' : I) (found : Looked) : Type 0 where
+pub record ReceivesAbove {I : Type 0} (i : link_in.Ghosts I) (old new : AboveState) (half half' : I) (found : Looked) :
+    Type 0 where
   pub came : Next Packet
   pub comes : NextEnds packets i old.received new.received half half' came
   pub stands : new.next ≡ above_of came
   pub is : found ≡ looked_of came
 
 -- Nothing is received where it is known what stands next.
-abbrev pub LooksAbove : {I : Type 0} → link_in.Ghosts I → Option FromAbove → AboveState → AboveState → I → I → Looked → Type 0
+abbrev pub LooksAbove : {I : Type 0} → link_in.Ghosts I → Option FromAbove → AboveState → AboveState → I → I → Looked →
+    Type 0
 LooksAbove i None old new half half' found = ReceivesAbove i old new half half' found
 LooksAbove i (Some x) old new half half' found = (new ≡ old) × (half' ≡ half) × (found ≡ looked.Known)
 

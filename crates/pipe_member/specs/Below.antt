@@ -51,14 +51,16 @@ ack_of came.NotYet = None
 ack_of came.Memory = None
 
 -- What comes next of the link for the answer to the request is what stands next then.
-pub record ReceivesAnswer {I : Type 0} (i : link_in.Ghosts I) (old new : BelowState) (half half' : I) (found : Looked) : Type 0 where
+pub record ReceivesAnswer {I : Type 0} (i : link_in.Ghosts I) (old new : BelowState) (half half' : I) (found : Looked)
+    : Type 0 where
   pub came : Next Response
   pub comes : NextEnds responses i old.received new.received half half' came
   pub stands : new.next ≡ answer_of came
   pub is : found ≡ looked_of came
 
 -- What comes next of the link for an ack is what stands next then.
-pub record ReceivesAck {I : Type 0} (i : link_in.Ghosts I) (old new : BelowState) (half half' : I) (found : Looked) : Type 0 where
+pub record ReceivesAck {I : Type 0} (i : link_in.Ghosts I) (old new : BelowState) (half half' : I) (found : Looked) :
+    Type 0 where
   pub came : Next Ack
   pub comes : NextEnds acks i old.received new.received half half' came
   pub stands : new.next ≡ ack_of came
@@ -69,7 +71,8 @@ ReceivesBelow i true old new half half' found = ReceivesAnswer i old new half ha
 ReceivesBelow i false old new half half' found = ReceivesAck i old new half half' found
 
 -- It is received by the inward half of the end.
-pub record ReceivesAt {I O : Type 0} (i : link_in.Ghosts I) (awaits : Bool) (old new : BelowState) (end end' : Conn I O) (found : Looked) : Type 0 where
+pub record ReceivesAt {I O : Type 0} (i : link_in.Ghosts I) (awaits : Bool) (old new : BelowState)
+    (end end' : Conn I O) (found : Looked) : Type 0 where
   pub id : end'.id ≡ end.id
   pub lower : end'.lower ≡ end.lower
   pub outward : end'.outward ≡ end.outward
@@ -80,13 +83,15 @@ pub record IsGone (old new : BelowState) (found : Looked) : Type 0 where
   pub stands : new ≡ record old { next = Some from_below.End }
   pub is : found ≡ looked.Known
 
-abbrev pub LooksAt : {I O : Type 0} → link_in.Ghosts I → Bool → BelowState → BelowState → Option (Conn I O) → Option (Conn I O) → Looked → Type 0
+abbrev pub LooksAt : {I O : Type 0} → link_in.Ghosts I → Bool → BelowState → BelowState → Option (Conn I O) →
+    Option (Conn I O) → Looked → Type 0
 LooksAt i awaits old new None None found = IsGone old new found
 LooksAt i awaits old new (Some end) (Some end') found = ReceivesAt i awaits old new end end' found
 LooksAt i awaits old new mirror mirror' found = ⊥
 
 -- Nothing is received where it is known what stands next.
-abbrev pub LooksBelow : {I O : Type 0} → link_in.Ghosts I → Bool → Option FromBelow → BelowState → BelowState → Option (Conn I O) → Option (Conn I O) → Looked → Type 0
+abbrev pub LooksBelow : {I O : Type 0} → link_in.Ghosts I → Bool → Option FromBelow → BelowState → BelowState →
+    Option (Conn I O) → Option (Conn I O) → Looked → Type 0
 LooksBelow i awaits None old new mirror mirror' found = LooksAt i awaits old new mirror mirror' found
 LooksBelow i awaits (Some x) old new mirror mirror' found = (new ≡ old) × (mirror' ≡ mirror) × (found ≡ looked.Known)
 

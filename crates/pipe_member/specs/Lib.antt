@@ -3,7 +3,11 @@ pub mod Above
 pub mod Below
 pub mod Steps
 pub mod Turns
+pub mod Enabled
 pub mod Events
 pub mod Refusing
 pub mod Setups
 pub mod Exchanges
+pub mod Stepping
+pub mod EventSteps
+pub mod SetupSteps

@@ -92,7 +92,8 @@ Says o None receipt old new d = (d ≡ done.Taken (Some receipt)) × (new ≡ ol
 Says o (Some text) receipt old new d = SaysText o text receipt old new d
 
 -- The member says this, shuts or not, and is here then.
-pub record Opens {I O : Type 0} (o : link_out.Ghosts O) (text : Option (List ℕ)) (receipt : Receipt) (st : Stage) (s : Shuts) (old new : Member I O) (result : Stepped) : Type 0 where
+pub record Opens {I O : Type 0} (o : link_out.Ghosts O) (text : Option (List ℕ)) (receipt : Receipt) (st : Stage)
+    (s : Shuts) (old new : Member I O) (result : Stepped) : Type 0 where
   pub done : Done
   pub half : O
   pub upper : Conn I O
@@ -101,8 +102,11 @@ pub record Opens {I O : Type 0} (o : link_out.Ghosts O) (text : Option (List ℕ
   pub follows : Follows o st took.Nothing done s upper old.mirror old new result
 
 -- The member is open, and has said nothing yet.
-abbrev pub Waits : {I O : Type 0} → link_out.Ghosts O → Receipt → MemberState → Member I O → Member I O → Stepped → Type 0
-Waits o receipt m old new result = Follows o (stage.Open m) took.Nothing (done.Taken (Some receipt)) shuts.Nothing old.upstream old.mirror old new result
+abbrev pub Waits : {I O : Type 0} → link_out.Ghosts O → Receipt → MemberState → Member I O → Member I O → Stepped →
+    Type 0
+Waits o receipt m old new result =
+    Follows o (stage.Open m) took.Nothing (done.Taken (Some receipt)) shuts.Nothing old.upstream old.mirror old new
+    result
 
 -- with this end to its mirror
 abbrev pub with_mirror : {I O : Type 0} → Member I O → Conn I O → Member I O
@@ -113,14 +117,17 @@ abbrev pub with_outward : {I O : Type 0} → Member I O → O → Member I O
 with_outward m half = record m { upstream = with_half m.upstream half }
 
 -- A call on files failed: the member says so, and is shut.
-pub record FailsFiles {I O : Type 0} (o : link_out.Ghosts O) (text : Option (List ℕ)) (receipt : Receipt) (old new : Member I O) (result : Stepped) : Type 0 where
+pub record FailsFiles {I O : Type 0} (o : link_out.Ghosts O) (text : Option (List ℕ)) (receipt : Receipt)
+    (old new : Member I O) (result : Stepped) : Type 0 where
   pub answer : Stepped
   pub says : Opens o text receipt stage.Shut shuts.Both old new answer
   pub is : result ≡ stepped.File receipt
 
 -- The replica refused: the member says why, and is shut.
-abbrev pub RefusesAs : {I O : Type 0} → link_out.Ghosts O → Option (List ℕ) → SetupRefusal → Member I O → Member I O → Stepped → Type 0
-RefusesAs o text (setup_refusal.Core why receipt) old new result = Opens o text receipt stage.Shut shuts.Both old new result
+abbrev pub RefusesAs : {I O : Type 0} → link_out.Ghosts O → Option (List ℕ) → SetupRefusal → Member I O → Member I O →
+    Stepped → Type 0
+RefusesAs o text (setup_refusal.Core why receipt) old new result =
+    Opens o text receipt stage.Shut shuts.Both old new result
 RefusesAs o text other old new result = ⊥
 
 abbrev pub asked_if : Opened → Bool → MemberState
@@ -133,25 +140,33 @@ IsAsked (setup.Refused why) = ⊥
 IsAsked other = Unit {0}
 
 -- What follows a setup. The answer goes up at once of a member without a mirror, of one whose replica refused, and where a call on files failed.
-abbrev pub FollowsSetup : {I O : Type 0} → link_out.Ghosts O → Opened → Setup I O → Member I O → Member I O → Stepped → Type 0
-FollowsSetup o x (setup.Last receipt) old new result = Opens o x.answer receipt (stage_after x.unasked x.shuts) x.shuts old new result
+abbrev pub FollowsSetup : {I O : Type 0} → link_out.Ghosts O → Opened → Setup I O → Member I O → Member I O → Stepped →
+    Type 0
+FollowsSetup o x (setup.Last receipt) old new result =
+    Opens o x.answer receipt (stage_after x.unasked x.shuts) x.shuts old new result
 FollowsSetup o x (setup.Mirrored receipt end) old new result = Waits o receipt x.asked (with_mirror old end) new result
-FollowsSetup o x (setup.MirrorDown receipt answered) old new result = Waits o receipt (asked_if x answered) old new result
+FollowsSetup o x (setup.MirrorDown receipt answered) old new result =
+    Waits o receipt (asked_if x answered) old new result
 FollowsSetup o x (setup.Refused why) old new result = RefusesAs o x.answer why old new result
 FollowsSetup o x (setup.File receipt) old new result = FailsFiles o x.fault receipt old new result
 FollowsSetup o x (setup.Memory None) old new result = (new ≡ old) × (result ≡ stepped.Memory)
-FollowsSetup o x (setup.Memory (Some receipt)) old new result = (new ≡ record old { stage = stage.Booked receipt x.asked x.unasked }) × (result ≡ stepped.Memory)
+FollowsSetup o x (setup.Memory (Some receipt)) old new result =
+    (new ≡ record old { stage = stage.Booked receipt x.asked x.unasked }) × (result ≡ stepped.Memory)
 
 -- Room for the answer is taken, the request is this event of the replica, and what follows its setup.
-pub record SetsUpWith {F R I O : Type 0} (f : files.Ghosts F) (r : roads.Ghosts R I O) (i : link_in.Ghosts I) (o : link_out.Ghosts O) (e : Event) (old new : Member I O) (book book' : BookState F) (roads roads' : R) (result : Stepped) : Type 0 where
+pub record SetsUpWith {F R I O : Type 0} (f : files.Ghosts F) (r : roads.Ghosts R I O) (i : link_in.Ghosts I)
+    (o : link_out.Ghosts O) (e : Event) (old new : Member I O) (book book' : BookState F) (roads roads' : R)
+    (result : Stepped) : Type 0 where
   pub half : O
   pub quiet : SendsNothing o old.upstream.outward half
   pub ended : Setup I O
   pub sets_up : SetsUpBy f r i o old.node old.op e book book' roads roads' ended
-  pub follows : FollowsSetup o (opened old.upstream.id old.op (transition book.replica e)) ended (with_outward old half) new result
+  pub follows : FollowsSetup o (opened old.upstream.id old.op (transition book.replica e)) ended
+      (with_outward old half) new result
 
 -- How a refusal ends that goes up, or for which there is no memory.
-pub record IsShutBy {I O : Type 0} (o : link_out.Ghosts O) (d : Done) (old new : Member I O) (result : Stepped) : Type 0 where
+pub record IsShutBy {I O : Type 0} (o : link_out.Ghosts O) (d : Done) (old new : Member I O) (result : Stepped) : Type
+    0 where
   pub upper : Conn I O
   pub shut : ShutsEnd o true old.upstream upper
   pub follows : Follows o stage.Shut took.Nothing d shuts.Both upper old.mirror old new result
@@ -166,39 +181,55 @@ RefusalEnds o true d old new result = (new ≡ old) × (result ≡ stepped.Memor
 RefusalEnds o false d old new result = IsShutBy o d old new result
 
 -- The request is refused before the replica is asked.
-pub record Refuses {I O : Type 0} (o : link_out.Ghosts O) (text : Option (List ℕ)) (old new : Member I O) (result : Stepped) : Type 0 where
+pub record Refuses {I O : Type 0} (o : link_out.Ghosts O) (text : Option (List ℕ)) (old new : Member I O)
+    (result : Stepped) : Type 0 where
   pub done : Done
   pub half : O
   pub says : SendsAlone o text done old.upstream.outward half
   pub ends : RefusalEnds o (is_memory done) done (with_outward old half) new result
 
 -- What follows where a request that was booked goes on with the dial.
-abbrev pub FollowsDial : {I O : Type 0} → link_out.Ghosts O → Opened → Setup I O → Member I O → Member I O → Stepped → Type 0
+abbrev pub FollowsDial : {I O : Type 0} → link_out.Ghosts O → Opened → Setup I O → Member I O → Member I O → Stepped →
+    Type 0
 FollowsDial o x (setup.Mirrored receipt end) old new result = Waits o receipt x.asked (with_mirror old end) new result
-FollowsDial o x (setup.MirrorDown receipt answered) old new result = Waits o receipt (asked_if x answered) old new result
+FollowsDial o x (setup.MirrorDown receipt answered) old new result =
+    Waits o receipt (asked_if x answered) old new result
 FollowsDial o x (setup.Last receipt) old new result = Waits o receipt x.unasked old new result
 FollowsDial o x other old new result = (new ≡ old) × (result ≡ stepped.Memory)
 
-pub record GoesOnWith {R I O : Type 0} (r : roads.Ghosts R I O) (i : link_in.Ghosts I) (o : link_out.Ghosts O) (receipt : Receipt) (asked unasked : MemberState) (old new : Member I O) (roads roads' : R) (result : Stepped) : Type 0 where
+pub record GoesOnWith {R I O : Type 0} (r : roads.Ghosts R I O) (i : link_in.Ghosts I) (o : link_out.Ghosts O)
+    (receipt : Receipt) (asked unasked : MemberState) (old new : Member I O) (roads roads' : R) (result : Stepped) :
+    Type 0 where
   pub ended : Setup I O
   pub booked : booked_in ended ≡ Some (Ok receipt)
   pub goes_on : GoesOn r i o old.node old.op roads roads' ended
-  pub follows : FollowsDial o (record { asked = asked; unasked = unasked; shuts = shuts.Nothing; answer = None; fault = None }) ended old new result
+  pub follows : FollowsDial o (record {
+    asked = asked;
+    unasked = unasked;
+    shuts = shuts.Nothing;
+    answer = None;
+    fault = None;
+  }) ended old new result
 
 -- The roads are as they were.
 abbrev pub Leaves : {R : Type 0} → R → R → Type 0 → Type 0
 Leaves old new follows = (new ≡ old) × follows
 
-abbrev pub Begins : {F R I O : Type 0} → files.Ghosts F → roads.Ghosts R I O → link_in.Ghosts I → link_out.Ghosts O → Result Event RequestRefusal → Member I O → Member I O → BookState F → BookState F → R → R → Stepped → Type 0
-Begins f r i o (Ok e) old new book book' roads roads' result = SetsUpWith f r i o e old new book book' roads roads' result
+abbrev pub Begins : {F R I O : Type 0} → files.Ghosts F → roads.Ghosts R I O → link_in.Ghosts I → link_out.Ghosts O →
+    Result Event RequestRefusal → Member I O → Member I O → BookState F → BookState F → R → R → Stepped → Type 0
+Begins f r i o (Ok e) old new book book' roads roads' result =
+    SetsUpWith f r i o e old new book book' roads roads' result
 Begins f r i o (Err why) old new book book' roads roads' result =
     Leaves roads roads' (Leaves book book' (Refuses o (texts_of old.op (refused_setup why).sends) old new result))
 
 -- A member is set up once: its request is refused or booked, and one that was booked may go on later with the dial.
-abbrev pub SetsUp : {F R I O : Type 0} → files.Ghosts F → roads.Ghosts R I O → link_in.Ghosts I → link_out.Ghosts O → Stage → Member I O → Member I O → BookState F → BookState F → R → R → Stepped → Type 0
+abbrev pub SetsUp : {F R I O : Type 0} → files.Ghosts F → roads.Ghosts R I O → link_in.Ghosts I → link_out.Ghosts O →
+    Stage → Member I O → Member I O → BookState F → BookState F → R → R → Stepped → Type 0
 SetsUp f r i o stage.New old new book book' roads roads' result =
     Begins f r i o (request_event old.upstream.id old.op (rule_in book.replica)) old new book book' roads roads' result
 SetsUp f r i o (stage.Booked receipt asked unasked) old new book book' roads roads' result =
     Leaves book book' (GoesOnWith r i o receipt asked unasked old new roads roads' result)
-SetsUp f r i o (stage.Open m) old new book book' roads roads' result = Leaves roads roads' (Stays old new book book' result stepped.NotReady)
-SetsUp f r i o stage.Shut old new book book' roads roads' result = Leaves roads roads' (Stays old new book book' result (stepped.Shut None))
+SetsUp f r i o (stage.Open m) old new book book' roads roads' result =
+    Leaves roads roads' (Stays old new book book' result stepped.NotReady)
+SetsUp f r i o stage.Shut old new book book' roads roads' result =
+    Leaves roads roads' (Stays old new book book' result (stepped.Shut None))

@@ -36,7 +36,8 @@ pub record IsSameMember {I O : Type 0} (old new : Member I O) : Type 0 where
   pub op : new.op ≡ old.op
 
 -- What follows a turn after which the two ends stand so, and the member is here: what was taken is gone, and a link that failed is shut and its end stands next.
-pub record Follows {I O : Type 0} (o : link_out.Ghosts O) (st : Stage) (t : Took) (d : Done) (s : Shuts) (upstream : Conn I O) (mirror : Option (Conn I O)) (old new : Member I O) (result : Stepped) : Type 0 where
+pub record Follows {I O : Type 0} (o : link_out.Ghosts O) (st : Stage) (t : Took) (d : Done) (s : Shuts)
+    (upstream : Conn I O) (mirror : Option (Conn I O)) (old new : Member I O) (result : Stepped) : Type 0 where
   pub same : IsSameMember old new
   pub stage : new.stage ≡ st
   pub above : new.above ≡ above_after t d old.above
@@ -46,7 +47,8 @@ pub record Follows {I O : Type 0} (o : link_out.Ghosts O) (st : Stage) (t : Took
   pub answer : result ≡ stepped_of d s
 
 -- A turn of a member with these rules, who takes something in it or not: it is done over the book and the two ends, and what follows it.
-pub record Turns {F I O : Type 0} (f : files.Ghosts F) (o : link_out.Ghosts O) (m : MemberState) (t : Turn) (took : Took) (old new : Member I O) (book book' : BookState F) (result : Stepped) : Type 0 where
+pub record Turns {F I O : Type 0} (f : files.Ghosts F) (o : link_out.Ghosts O) (m : MemberState) (t : Turn)
+    (took : Took) (old new : Member I O) (book book' : BookState F) (result : Stepped) : Type 0 where
   pub settled : MemberState
   pub upstream : Conn I O
   pub mirror : Option (Conn I O)

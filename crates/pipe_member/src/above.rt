@@ -1,17 +1,23 @@
 //! What comes from above.
 
-ghost use Rattle.std.specs.Prelude.{◌≡◌, if◌then◌else◌, true, length, IsSome, IfOk, OnErr};
+ghost use Rattle.std.specs.Prelude.{◌≡◌, if◌then◌else◌, true, [], length, option_map, IsSome, IfSome, IfOk, OnErr};
+ghost use Rattle.frame_feed.specs.Kinds.{packets};
+ghost use Rattle.link_messages.specs.Incomings.{NextEnds};
 ghost use Rattle.pipe_member.specs.Above.{
   nothing_above,
-  IsForwardable,
+  IsSpelledBy,
   LooksAbove,
   ReceivesAbove,
   above_of,
+  without_text,
+  text_of,
   due_above,
   above_after,
 };
 
 use crate::stages::{Looked, Took, looked_of};
+use bytes::Bytes;
+use frame_feed::PacketFrame;
 use hd_base::LinkIn;
 use link_messages::{Incoming, Next};
 use member_core::{FromAbove, Member as Core};
@@ -26,16 +32,18 @@ use std::marker::Model;
 pub struct Above {
     incoming: Incoming,
     next: Option<FromAbove>,
+    /// The bytes that spell the packet that stands next, or that stood there last.
+    text: Bytes,
 }
 
 impl Model for Above {
-    ghost use Rattle.pipe_member.specs.Above.{AboveState, IsForwardable};
+    ghost use Rattle.pipe_member.specs.Above.{AboveState, IsSpelledBy};
 
     ghost Value = { AboveState };
 
     ghost view = { λ a. record { received = a.incoming; next = a.next } };
 
-    ghost invariant = { λ a. IsForwardable a.next };
+    ghost invariant = { λ a. IsSpelledBy a.next a.text };
 }
 
 impl Above {
@@ -46,6 +54,7 @@ impl Above {
         Ok(Above {
             incoming: Incoming::new(alloc)?,
             next: None,
+            text: Bytes::new(),
         })
     }
 
@@ -63,28 +72,28 @@ impl Above {
     fn receive<I: LinkIn>(&mut self, inward: &mut I) -> Looked
         ensures { ReceivesAbove I.LinkIn self.old self.new inward.old inward.new result }
     {
-        let came = self.incoming.next::<Packet, I>(inward);
+        let (came, text) = next_packet(&mut self.incoming, inward);
         let looked = looked_of(&came);
         self.next = above_of(came);
+        self.text = text;
         looked
     }
 
     /// What the member may take now of what stands next, if something does. Its only error is that a copy of it finds no
     /// memory.
-    pub(crate) fn due(
-        &self,
-        core: &Core,
-        replica: &Replica,
-    ) -> Result<Option<FromAbove>, AllocError>
-        ensures due { IfOk result (λ due. due ≡ due_above core.now (length replica.now.pending) self.now.next) }
+    pub(crate) fn due(&self, core: &Core, replica: &Replica) -> Result<Option<DueAbove>, AllocError>
+        ensures due { IfOk result (λ due. option_map (λ d. d.taken) due
+            ≡ due_above core.now (length replica.now.pending) self.now.next) }
         ensures memory { OnErr result (IsSome (due_above core.now (length replica.now.pending) self.now.next)) }
-        ensures forwardable { IfOk result IsForwardable }
+        ensures spelled { IfOk result (λ due. IfSome due (λ d. IsSpelledBy (Some d.taken) d.text)) }
     {
         match &self.next {
             None => Ok(None),
             Some(FromAbove::End) => Ok(end_if(core.takes_end())),
             Some(FromAbove::Unreadable) => Ok(unreadable_if(core.takes_messages(replica))),
-            Some(FromAbove::Packet(packet)) => packet_if(core.takes_messages(replica), packet),
+            Some(FromAbove::Packet(packet)) => {
+                packet_if(core.takes_messages(replica), packet, &self.text)
+            }
         }
     }
 
@@ -101,29 +110,72 @@ impl Above {
     }
 }
 
+/// What the member may take now from above.
+#[derive(Drop)]
+pub(crate) struct DueAbove {
+    /// What may be taken.
+    pub taken: FromAbove,
+    /// The bytes that spell it, where it is a packet, or none.
+    pub text: Bytes,
+}
+
 /// The end, where it may be taken.
-fn end_if(takes: bool) -> Option<FromAbove>
-    ensures { result ≡ (if takes then Some FromAbove.End else None) }
+fn end_if(takes: bool) -> Option<DueAbove>
+    ensures { result ≡ (if takes then Some (record { taken = FromAbove.End; text = [] }) else None) }
 {
-    takes.then_some(FromAbove::End)
+    takes.then_some(DueAbove {
+        taken: FromAbove::End,
+        text: Bytes::new(),
+    })
 }
 
 /// What is no packet, where it may be taken.
-fn unreadable_if(takes: bool) -> Option<FromAbove>
-    ensures { result ≡ (if takes then Some FromAbove.Unreadable else None) }
+fn unreadable_if(takes: bool) -> Option<DueAbove>
+    ensures { result ≡ (if takes then Some (record { taken = FromAbove.Unreadable; text = [] }) else None) }
 {
-    takes.then_some(FromAbove::Unreadable)
+    takes.then_some(DueAbove {
+        taken: FromAbove::Unreadable,
+        text: Bytes::new(),
+    })
 }
 
-/// A copy of the packet, where it may be taken.
-fn packet_if(takes: bool, packet: &Packet) -> Result<Option<FromAbove>, AllocError>
-    ensures copy { IfOk result (λ due. due ≡ (if takes then Some (FromAbove.Packet packet.now) else None)) }
+/// The packet and the bytes that spell it, where it may be taken. Both are shares of what came.
+fn packet_if(takes: bool, packet: &Packet, text: &Bytes) -> Result<Option<DueAbove>, AllocError>
+    ensures copy { IfOk result (λ due. due
+        ≡ (if takes then Some (record { taken = FromAbove.Packet packet.now; text = text.now }) else None)) }
     ensures memory { OnErr result (takes ≡ true) }
 {
     if !takes {
         return Ok(None);
     }
-    Ok(Some(FromAbove::Packet(packet.clone()?)))
+    Ok(Some(DueAbove {
+        taken: FromAbove::Packet(packet.clone()?),
+        text: text.clone()?,
+    }))
+}
+
+/// The packet that comes next, and the bytes that spell it.
+fn next_packet<I: LinkIn>(incoming: &mut Incoming, inward: &mut I) -> (Next<Packet>, Bytes)
+    ensures comes { NextEnds packets I.LinkIn incoming.old incoming.new inward.old inward.new result.0 }
+    ensures spelled { IsSpelledBy (above_of result.0) result.1 }
+{
+    let came = incoming.next::<PacketFrame, I>(inward);
+    apart(came)
+}
+
+/// What came, and the bytes that spell it where it is a packet.
+fn apart(came: Next<PacketFrame>) -> (Next<Packet>, Bytes)
+    ensures bare { result.0 ≡ without_text came }
+    ensures text { result.1 ≡ text_of came }
+{
+    match came {
+        Next::Message(frame) => (Next::Message(frame.packet), frame.text),
+        Next::Unreadable => (Next::Unreadable, Bytes::new()),
+        Next::End => (Next::End, Bytes::new()),
+        Next::Failed => (Next::Failed, Bytes::new()),
+        Next::NotYet => (Next::NotYet, Bytes::new()),
+        Next::Memory => (Next::Memory, Bytes::new()),
+    }
 }
 
 /// What stands next where this came.

@@ -4,8 +4,6 @@ ghost use Rattle.std.specs.Prelude.{◌≡◌, IfSome, Ok};
 ghost use Rattle.hd_base.specs.Ends.{IsKnown};
 ghost use Rattle.pipe_member.specs.Exchanges.{
   AreKnown,
-  names,
-  ExchangesEnd,
   ExchangesMirror,
   ExchangesBoth,
   BringsMirror,
@@ -14,6 +12,7 @@ ghost use Rattle.pipe_member.specs.Exchanges.{
 
 use crate::member::Member;
 use hd_base::{Conn, ConnId, LinkIn, LinkOut, RoadError, Roads};
+use link_pieces::exchange_end;
 use std::alloc::Global;
 
 impl<I: LinkIn, O: LinkOut> Member<I, O> {
@@ -43,21 +42,6 @@ impl<I: LinkIn, O: LinkOut> Member<I, O> {
         roads.bring(alloc, self.upstream)?;
         bring_mirror(alloc, roads, self.mirror)
     }
-}
-
-/// Exchanges an end, which takes where it is named.
-fn exchange_end<R: Roads>(
-    alloc: Global,
-    roads: &mut R,
-    end: &mut Conn<R::Inward, R::Outward>,
-    take: Option<ConnId>,
-) -> Result<(), RoadError>
-    requires { IsKnown (R.plain roads.old) end.old.id.0 }
-    ensures { ExchangesEnd R.Roads R.Inward.LinkIn R.Outward.LinkOut (names take end.old.id)
-        end.old end.new roads.old roads.new result }
-{
-    let takes = names(take, end.id);
-    roads.exchange(alloc, end, takes)
 }
 
 /// Exchanges the end to the mirror, if there is one.
@@ -90,14 +74,4 @@ fn bring_mirror<R: Roads>(
         return Ok(());
     };
     roads.bring(alloc, end)
-}
-
-/// Whether this names the connection.
-fn names(take: Option<ConnId>, conn: ConnId) -> bool
-    ensures { result ≡ names take conn }
-{
-    match take {
-        Some(named) => named.0 == conn.0,
-        None => false,
-    }
 }

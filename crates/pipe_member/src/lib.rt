@@ -4,7 +4,9 @@
 
 mod above;
 mod below;
+mod enabled;
 mod exchanging;
+mod laws;
 mod member;
 mod predicting;
 mod setting_up;
@@ -13,6 +15,10 @@ mod stepped;
 
 pub use above::Above;
 pub use below::Below;
+pub use laws::{
+    downs_are_steps, readies_are_steps, refusals_are_steps, setups_are_steps, turns_are_steps,
+    ups_are_steps,
+};
 pub use member::Member;
 pub use stages::{Looked, Stage, Took};
 pub use stepped::Stepped;

@@ -2,19 +2,19 @@
 
 ghost use Rattle.std.specs.Prelude.{◌≡◌, length, option_map, IfOk, IfErr};
 ghost use Rattle.pipe_turns.specs.Acting.{ShutsEnd, ShutsMirror};
-ghost use Rattle.pipe_turns.specs.Turning.{CanBook, IsListed};
+ghost use Rattle.pipe_turns.specs.Turning.{CanBook, IsListed, IsSpelled};
 ghost use Rattle.pipe_member.specs.Steps.{is_failed, finds_no_memory, is_asked};
 ghost use Rattle.pipe_member.specs.Turns.{Turns, Follows, IsNew};
 ghost use Rattle.pipe_member.specs.Events.{GoesDown, GoesUp, IsReady, TakesAbove, TakesBelow};
 
-use crate::above::Above;
+use crate::above::{Above, DueAbove};
 use crate::below::Below;
 use crate::stages::{Looked, Stage, Took, stage_after};
 use crate::stepped::{Stepped, after_failure, closed_step, stepped_of};
 use hd_base::{Conn, ConnId, Files, LinkIn, LinkOut, NodeId};
-use member_core::{FromBelow, Member as Core, Shuts, Turn};
+use member_core::{FromBelow, Member as Core, Shuts};
 use op_headers::WriteOp;
-use pipe_turns::{Done, act};
+use pipe_turns::{Done, SpelledTurn, act};
 use replica_files::ReplicaBook;
 use std::alloc::{AllocError, Global};
 
@@ -105,7 +105,11 @@ impl<I: LinkIn, O: LinkOut> Member<I, O> {
         let Some(turn) = core.ready(book.replica()) else {
             return Stepped::NotReady;
         };
-        self.turn(alloc, book, core, turn, Took::Nothing)
+        let due = SpelledTurn {
+            turn,
+            spelling: None,
+        };
+        self.turn(alloc, book, core, due, Took::Nothing)
     }
 
     /// Takes what stands next from the mirror: its answer to the request, an ack, what is neither, or the end. Where the
@@ -141,10 +145,14 @@ impl<I: LinkIn, O: LinkOut> Member<I, O> {
         let Ok(due) = self.above.due(&core, book.replica()) else {
             return Stepped::Memory;
         };
-        let Some(taken) = due else {
+        let Some(DueAbove { taken, text }) = due else {
             return Stepped::NotReady;
         };
-        self.turn(alloc, book, core, core.down(taken), Took::Above)
+        let turn = SpelledTurn {
+            turn: core.down(taken),
+            spelling: Some(text),
+        };
+        self.turn(alloc, book, core, turn, Took::Above)
     }
 
     /// Takes what stands next from the mirror, if something does.
@@ -164,7 +172,11 @@ impl<I: LinkIn, O: LinkOut> Member<I, O> {
             return Stepped::NotReady;
         };
         let turn = core.up(book.replica().oldest(), taken);
-        self.turn(alloc, book, core, turn, Took::Below)
+        let due = SpelledTurn {
+            turn,
+            spelling: None,
+        };
+        self.turn(alloc, book, core, due, Took::Below)
     }
 
     /// Does a turn: its call on the book, what is sent then, and what follows.
@@ -173,12 +185,13 @@ impl<I: LinkIn, O: LinkOut> Member<I, O> {
         alloc: Global,
         book: &mut ReplicaBook<F>,
         core: Core,
-        turn: Turn,
+        due: SpelledTurn,
         took: Took,
     ) -> Stepped
-        requires book { CanBook (length book.old.replica.pending) turn.call }
-        requires listed { IsListed turn.effect.sends }
-        ensures { Turns F.Files O.LinkOut core turn took self.old self.new book.old book.new result }
+        requires book { CanBook (length book.old.replica.pending) due.turn.call }
+        requires listed { IsListed due.turn.effect.sends }
+        requires spelled { IsSpelled due.turn.call due.spelling }
+        ensures { Turns F.Files O.LinkOut core due.turn took self.old self.new book.old book.new result }
     {
         let mut settled = core;
         let (done, shuts) = act(
@@ -186,7 +199,7 @@ impl<I: LinkIn, O: LinkOut> Member<I, O> {
             book,
             &self.op,
             &mut settled,
-            turn,
+            due,
             &mut self.upstream,
             &mut self.mirror,
         );

@@ -1,8 +1,6 @@
 -- How the mirror is reached, by what the parts of it say.
 use Rattle.std.proofs.Common.{◌≡◌, ◌==◌, ◌≤◌, ℕ, nat_le, List, [], ◌∷◌, length, Bool, true, false, if◌then◌else◌, Some, None, Result, Ok, Err, OnOk, OnErr, inr, refl, ◌∙◌, arith}
 use Rattle.std.proofs.lemmas.Bool.Decides.{nat_tests}
-use Rattle.hd_base.specs.Ends.{CarriesOf, Flushes}
-use Rattle.hd_base.specs.declared.ends.Conn.{Conn}
 use Rattle.hd_base.specs.declared.links.LinkError.{LinkError}
 use Rattle.hd_base.specs.declared.links.LinkError.TheVariants as link_error
 use Rattle.link_pieces.specs.Pieces.{SendsNothing, SendsPiece, FailsToSend, IsSending}
@@ -10,7 +8,6 @@ use Rattle.member_core.specs.declared.requests.TheConstants.{MAX_PORT}
 use Rattle.member_core.specs.Requests.{request_to, mirror_request}
 use Rattle.node_refs.specs.NodeRefs.{ref_of}
 use Rattle.op_headers.specs.declared.nodes.NodeRef.{NodeRef}
-use Rattle.hd_base.specs.declared.ends.RoadError.{RoadError}
 use Rattle.hd_base.specs.declared.numbers.NodeId.{NodeId}
 use Rattle.hd_base.specs.declared.links.LinkIn as link_in
 use Rattle.hd_base.specs.declared.links.LinkOut as link_out
@@ -19,18 +16,9 @@ use Rattle.op_headers.specs.Values.{WriteFields}
 use Rattle.pipe_setup.specs.Requests.{request_text, first_port, written}
 use Rattle.pipe_setup.specs.declared.reaching.Reached.{Reached}
 use Rattle.pipe_setup.specs.declared.reaching.Reached.TheVariants as reached
-use Rattle.pipe_setup.specs.Reaching.{KeepsInward, GivesUp, brought, dropped, Reaches, ReachesPort}
+use Rattle.pipe_setup.specs.Reaching.{Reaches, ReachesPort}
 
 module _ {R I O : Type 0} (r : roads.Ghosts R I O) (i : link_in.Ghosts I) (o : link_out.Ghosts O) where
-  -- An end was brought back, or no memory was found for that.
-  pub given_up : (end shut : Conn I O) (old new : R) (result : Result (Unit {0}) RoadError) → KeepsInward end shut → o.shut shut.outward ≡ true → o.sent shut.outward ≡ o.sent end.outward
-      → OnOk result (CarriesOf o shut (r.carried old) (r.carried new)) → OnOk result (Flushes i o shut (r.plain old) (r.plain new))
-      → OnErr result (r.carried new ≡ r.carried old) → OnErr result (r.plain new ≡ r.plain old) → OnErr result (r.risen new ≡ r.risen old) → r.faults old ≤ r.faults new
-      → GivesUp r i o end old new
-  given_up end shut old new (Ok u) kept is sent carries flushes carried plain risen falls = brought shut kept is sent carries flushes
-  given_up end shut old new (Err e) kept is sent carries flushes carried plain risen falls =
-      dropped (record { plain = plain; carried = carried; risen = risen; never_falls = falls })
-
   -- A port was reached with the request to the mirror.
   pub reaches_with : (node : NodeId) (w : WriteFields) (text : List ℕ) (old new : R) (result : Reached I O) → request_text node w ≡ Some text
       → ReachesPort r i o text (first_port w.targets) old new result → Reaches r i o node w old new result

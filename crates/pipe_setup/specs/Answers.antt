@@ -19,6 +19,7 @@ answer_above (Some r) = answer_after r
 
 -- It is what the member's turn sends up.
 pub record FollowsMember (m : MemberState) : Type 0 where
-  pub answered : (r : Response) → (setup_turn m (below.Response r)).effect.sends ≡ Some (upward.Answer (answer_above (Some r)))
+  pub answered : (r : Response) →
+      (setup_turn m (below.Response r)).effect.sends ≡ Some (upward.Answer (answer_above (Some r)))
   pub ended : (setup_turn m below.End).effect.sends ≡ Some (upward.Answer (answer_above None))
   pub unread : (setup_turn m below.Unreadable).effect.sends ≡ Some (upward.Answer (answer_above None))

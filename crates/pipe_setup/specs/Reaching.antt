@@ -1,86 +1,51 @@
 -- How a member reaches its mirror.
-use Rattle.std.specs.Prelude.{◌≡◌, ◌⊎◌, ℕ, ◌≤◌, Bool, true, false, List, [], Some, None, option_map, IfSome}
-use Rattle.hd_base.specs.Channels.{empty_channel, with_dial}
-use Rattle.hd_base.specs.Ends.{IsFresh, IsObservable, FailBy, CarriesOf, Flushes}
-use Rattle.hd_base.specs.Faults.{FaultsIncreased}
+use Rattle.std.specs.Prelude.{◌≡◌, ◌⊎◌, ℕ, List, Some, None}
 use Rattle.hd_base.specs.declared.ends.Conn.{Conn}
 use Rattle.hd_base.specs.declared.numbers.NodeId.{NodeId}
 use Rattle.hd_base.specs.declared.links.LinkIn as link_in
 use Rattle.hd_base.specs.declared.links.LinkOut as link_out
 use Rattle.hd_base.specs.declared.roads.Roads as roads
 use Rattle.link_pieces.specs.Pieces.{SendsPiece, FailsToSend, SendsNothing}
+use Rattle.link_pieces.specs.Roads.{KeepsRoads, IsDialled, IsUnanswered, KeepsInward, GivesUp}
 use Rattle.op_headers.specs.Values.{WriteFields}
 use Rattle.pipe_setup.specs.Requests.{request_text, first_port}
 use Rattle.pipe_setup.specs.declared.reaching.Reached.{Reached}
 use Rattle.pipe_setup.specs.declared.reaching.Reached.TheVariants as reached
 
--- The roads hold and have carried what they had before.
-pub record KeepsRoads {R I O : Type 0} (r : roads.Ghosts R I O) (old new : R) : Type 0 where
-  pub plain : r.plain new ≡ r.plain old
-  pub carried : r.carried new ≡ r.carried old
-  pub risen : r.risen new ≡ r.risen old
-  pub never_falls : r.faults old ≤ r.faults new
-
--- A dial of this port was answered, by this end.
-pub record IsDialled {R I O : Type 0} (r : roads.Ghosts R I O) (i : link_in.Ghosts I) (o : link_out.Ghosts O) (port : ℕ) (old new : R) (end : Conn I O) : Type 0 where
-  pub upper : end.lower ≡ false
-  pub number : IfSome (r.plain old) (λ p. end.id.0 ≡ p.dialled)
-  pub fresh : IsFresh i o end
-  pub observable : IfSome (r.plain old) (λ _. IsObservable i o end)
-  pub fail_by : FailBy i o end (r.schedule new)
-  pub unused : IfSome (r.carried old) (λ k. (d : Bool) → k end.id.0 d ≡ [])
-  pub empty : IfSome (r.plain old) (λ p. (d : Bool) → p.channels end.id.0 d ≡ empty_channel)
-  pub plain : r.plain new ≡ option_map (λ p. with_dial p port) (r.plain old)
-  pub carried : r.carried new ≡ r.carried old
-  pub risen : r.risen new ≡ r.risen old
-  pub never_falls : r.faults old ≤ r.faults new
-
--- All but the outward half is as it was.
-pub record KeepsInward {I O : Type 0} (old new : Conn I O) : Type 0 where
-  pub id : new.id ≡ old.id
-  pub lower : new.lower ≡ old.lower
-  pub inward : new.inward ≡ old.inward
-
 -- The request was sent on the end of a dial.
-pub record IsAsked {R I O : Type 0} (r : roads.Ghosts R I O) (i : link_in.Ghosts I) (o : link_out.Ghosts O) (text : List ℕ) (port : ℕ) (old new : R) (end : Conn I O) : Type 0 where
+pub record IsAsked {R I O : Type 0} (r : roads.Ghosts R I O) (i : link_in.Ghosts I) (o : link_out.Ghosts O)
+    (text : List ℕ) (port : ℕ) (old new : R) (end : Conn I O) : Type 0 where
   pub fresh : Conn I O
   pub dialled : IsDialled r i o port old new fresh
   pub kept : KeepsInward fresh end
   pub sent : SendsPiece o text fresh.outward end.outward
 
 -- The dial was answered, and the link failed before the request was sent.
-pub record IsUnsent {R I O : Type 0} (r : roads.Ghosts R I O) (i : link_in.Ghosts I) (o : link_out.Ghosts O) (port : ℕ) (old new : R) (end : Conn I O) : Type 0 where
+pub record IsUnsent {R I O : Type 0} (r : roads.Ghosts R I O) (i : link_in.Ghosts I) (o : link_out.Ghosts O) (port : ℕ)
+    (old new : R) (end : Conn I O) : Type 0 where
   pub fresh : Conn I O
   pub dialled : IsDialled r i o port old new fresh
   pub kept : KeepsInward fresh end
   pub failed : FailsToSend o fresh.outward end.outward
 
--- The dial wasn't answered: nobody listens there, or the roads' count of faults rose.
-pub record IsUnanswered {R I O : Type 0} (r : roads.Ghosts R I O) (port : ℕ) (old new : R) : Type 0 where
-  pub kept : KeepsRoads r old new
-  pub cause : IfSome (r.plain old) (λ p. p.listening port ≡ false) ⊎ FaultsIncreased (r.faults old) (r.faults new)
-
--- An end that was shut is brought back; where that finds no memory, the roads stay.
-pub data GivesUp {R I O : Type 0} (r : roads.Ghosts R I O) (i : link_in.Ghosts I) (o : link_out.Ghosts O) (end : Conn I O) (old new : R) : Type 0 where
-  brought : (shut : Conn I O) → KeepsInward end shut → o.shut shut.outward ≡ true → o.sent shut.outward ≡ o.sent end.outward
-      → CarriesOf o shut (r.carried old) (r.carried new) → Flushes i o shut (r.plain old) (r.plain new) → GivesUp r i o end old new
-  dropped : KeepsRoads r old new → GivesUp r i o end old new
-
 -- Memory ran out before the dial or in it, and the roads stay; or for the request on the end of the dial, which is given up.
-pub data FindsNoMemory {R I O : Type 0} (r : roads.Ghosts R I O) (i : link_in.Ghosts I) (o : link_out.Ghosts O) (port : ℕ) (old new : R) : Type 0 where
+pub data FindsNoMemory {R I O : Type 0} (r : roads.Ghosts R I O) (i : link_in.Ghosts I) (o : link_out.Ghosts O)
+    (port : ℕ) (old new : R) : Type 0 where
   before : KeepsRoads r old new → FindsNoMemory r i o port old new
   after : (middle : R) (fresh end : Conn I O) → IsDialled r i o port old middle fresh → KeepsInward fresh end
       → SendsNothing o fresh.outward end.outward → GivesUp r i o end middle new → FindsNoMemory r i o port old new
 
 -- How a port is reached with a request.
-abbrev pub ReachesPort : {R I O : Type 0} → roads.Ghosts R I O → link_in.Ghosts I → link_out.Ghosts O → List ℕ → ℕ → R → R → Reached I O → Type 0
+abbrev pub ReachesPort : {R I O : Type 0} → roads.Ghosts R I O → link_in.Ghosts I → link_out.Ghosts O → List ℕ → ℕ →
+    R → R → Reached I O → Type 0
 ReachesPort r i o text port old new (reached.Asked end) = IsAsked r i o text port old new end
 ReachesPort r i o text port old new (reached.Unsent end) = IsUnsent r i o port old new end
 ReachesPort r i o text port old new reached.NotDialled = IsUnanswered r port old new
 ReachesPort r i o text port old new reached.Memory = FindsNoMemory r i o port old new
 
 -- The request to the mirror, as it is written, was sent.
-pub record IsAskedBy {R I O : Type 0} (r : roads.Ghosts R I O) (i : link_in.Ghosts I) (o : link_out.Ghosts O) (node : NodeId) (w : WriteFields) (old new : R) (end : Conn I O) : Type 0 where
+pub record IsAskedBy {R I O : Type 0} (r : roads.Ghosts R I O) (i : link_in.Ghosts I) (o : link_out.Ghosts O)
+    (node : NodeId) (w : WriteFields) (old new : R) (end : Conn I O) : Type 0 where
   pub text : List ℕ
   pub is : request_text node w ≡ Some text
   pub asked : IsAsked r i o text (first_port w.targets) old new end
@@ -91,8 +56,10 @@ pub record IsUnwritten {R : Type 0} (node : NodeId) (w : WriteFields) (old new :
   pub same : new ≡ old
 
 -- How the mirror of a request is reached.
-abbrev pub Reaches : {R I O : Type 0} → roads.Ghosts R I O → link_in.Ghosts I → link_out.Ghosts O → NodeId → WriteFields → R → R → Reached I O → Type 0
+abbrev pub Reaches : {R I O : Type 0} → roads.Ghosts R I O → link_in.Ghosts I → link_out.Ghosts O → NodeId →
+    WriteFields → R → R → Reached I O → Type 0
 Reaches r i o node w old new (reached.Asked end) = IsAskedBy r i o node w old new end
 Reaches r i o node w old new (reached.Unsent end) = IsUnsent r i o (first_port w.targets) old new end
-Reaches r i o node w old new reached.NotDialled = IsUnwritten node w old new ⊎ IsUnanswered r (first_port w.targets) old new
+Reaches r i o node w old new reached.NotDialled = IsUnwritten node w old new ⊎
+    IsUnanswered r (first_port w.targets) old new
 Reaches r i o node w old new reached.Memory = FindsNoMemory r i o (first_port w.targets) old new

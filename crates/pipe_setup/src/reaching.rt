@@ -4,11 +4,12 @@ ghost use Rattle.std.specs.Prelude.{◌≡◌, ◌≤◌};
 ghost use Rattle.hd_base.specs.Ends.{IsKnown};
 ghost use Rattle.member_core.specs.declared.requests.TheConstants.{MAX_PORT};
 ghost use Rattle.pipe_setup.specs.Requests.{first_port};
-ghost use Rattle.pipe_setup.specs.Reaching.{Reaches, ReachesPort, IsDialled, GivesUp};
+ghost use Rattle.link_pieces.specs.Roads.{IsDialled};
+ghost use Rattle.pipe_setup.specs.Reaching.{Reaches, ReachesPort};
 
 use crate::requests::request_text;
-use hd_base::{Conn, LinkOut, NodeId, RoadError, Roads};
-use link_pieces::{send_piece, take_room};
+use hd_base::{Conn, NodeId, RoadError, Roads};
+use link_pieces::{give_up, send_piece, take_room};
 use member_core::MAX_PORT;
 use op_headers::WriteOp;
 use std::alloc::Global;
@@ -91,13 +92,4 @@ fn ask_mirror<R: Roads>(
         Ok(_) => Reached::Asked(end),
         Err(_) => Reached::Unsent(end),
     }
-}
-
-/// Gives up an end: shuts it, and brings it back. Where that finds no memory, the end is lost.
-pub(crate) fn give_up<R: Roads>(alloc: Global, roads: &mut R, mut end: Conn<R::Inward, R::Outward>)
-    requires { IsKnown (R.plain roads.old) end.id.0 }
-    ensures { GivesUp R.Roads R.Inward.LinkIn R.Outward.LinkOut end roads.old roads.new }
-{
-    end.outward.shut();
-    let _ = roads.bring(alloc, end);
 }

@@ -7,9 +7,10 @@ ghost use Rattle.member_core.specs.Requests.{request_event};
 ghost use Rattle.pipe_setup.specs.Refusals.{refusal_of, IsUnbooked, IsBefore};
 ghost use Rattle.pipe_setup.specs.Setups.{SetsUp, SetsUpBy, GoesOn, booked_in};
 
-use crate::reaching::{Reached, give_up, reach_mirror};
+use crate::reaching::{Reached, reach_mirror};
 use crate::refusals::SetupRefusal;
 use hd_base::{Conn, ConnId, Files, NodeId, Receipt, Roads};
+use link_pieces::give_up;
 use member_core::request_event;
 use op_headers::WriteOp;
 use replica_core::Event;

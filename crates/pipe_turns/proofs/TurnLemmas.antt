@@ -5,6 +5,8 @@ use Rattle.hd_base.specs.declared.states.Status.{Status}
 use Rattle.hd_base.specs.declared.states.Status.TheVariants as status
 use Rattle.replica_core.specs.declared.ack_queue.PendingPacket.{PendingPacket}
 use Rattle.replica_core.specs.declared.records.ReplicaRecord.{ReplicaRecord}
+use Rattle.replica_model.specs.declared.events.ReplicaEvent.{ReplicaEvent}
+use Rattle.replica_model.specs.declared.events.ReplicaEvent.TheVariants as replica_event
 use Rattle.member_core.specs.declared.effects.SetupAnswer.{SetupAnswer}
 use Rattle.member_core.specs.declared.inputs.FromBelow.{FromBelow}
 use Rattle.member_core.specs.declared.inputs.FromBelow.TheVariants as below
@@ -13,7 +15,7 @@ use Rattle.member_core.specs.declared.member.Mirror.TheVariants as mirror
 use Rattle.member_core.specs.declared.turns.Turn.{Turn}
 use Rattle.member_core.specs.Acks.{is_success, failures, begins_with_bad_sum, is_read, with_own}
 use Rattle.member_core.specs.Members.{MemberState, accept_turn, fail_turn, named_bad, setup_turn, good_turn, give_up_turn, spoiled_turn, partial_turn, pass_turn, ack_turn, stream_turn, up_at, up_turn, bad_turn, idle_turn, quiet_turn, patient_turn, ready_at, ready_turn_by}
-use Rattle.pipe_turns.specs.Turning.{CanBook, IsListed}
+use Rattle.pipe_turns.specs.Turning.{CanBook, IsListed, IsSpelled}
 use Rattle.pipe_turns.specs.Taking.{IsListedBelow}
 
 pub record IsDoable (t : Turn) : Type 0 where
@@ -123,3 +125,11 @@ acting false x t is = cc
 
 pub ready_doable : (m : MemberState) (r : ReplicaRecord) (t : Turn) → ready_turn_by m r ≡ Some t → IsDoable t
 ready_doable m r t is = readies m.mirror m _ _ t (acting m.responds _ t is)
+
+-- ---- spellings
+
+-- a turn of which no spelling of a packet is given
+pub unspelled : (call : Option ReplicaEvent) → IsSpelled call None
+unspelled None = tt
+unspelled (Some (replica_event.Packet conn p)) = tt
+unspelled (Some (replica_event.Other e)) = tt

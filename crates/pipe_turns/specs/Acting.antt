@@ -92,13 +92,17 @@ abbrev pub with_half : {I O : Type 0} → Conn I O → O → Conn I O
 with_half end half = record { id = end.id; lower = end.lower; inward = end.inward; outward = half }
 
 -- What follows: the member settles the turn, and shuts what that says; where memory ran out nothing does.
-abbrev pub FollowsAs : {I O : Type 0} → link_out.Ghosts O → Turn → MemberState → MemberState → Conn I O → Conn I O → Option (Conn I O) → Option (Conn I O) → Shuts → Option Booked → Type 0
+abbrev pub FollowsAs : {I O : Type 0} → link_out.Ghosts O → Turn → MemberState → MemberState → Conn I O → Conn I O →
+    Option (Conn I O) → Option (Conn I O) → Shuts → Option Booked → Type 0
 FollowsAs o t m m' up up' below below' s None = (m' ≡ m) × (up' ≡ up) × (below' ≡ below) × (s ≡ shuts.Nothing)
 FollowsAs o t m m' up up' below below' s (Some b) =
-    (m' ≡ (settled m t b).0) × (s ≡ (settled m t b).1.shuts) × ShutsEnd o (shuts_up s) up up' × ShutsMirror o (shuts_below s) below below'
+    (m' ≡ (settled m t b).0) × (s ≡ (settled m t b).1.shuts) × ShutsEnd o (shuts_up s) up up' ×
+    ShutsMirror o (shuts_below s) below below'
 
 -- What a turn does: its call on the book and what is sent then, and what follows.
-pub record Acts {F I O : Type 0} (f : files.Ghosts F) (o : link_out.Ghosts O) (op : WriteFields) (t : Turn) (m m' : MemberState) (book book' : BookState F) (up up' : Conn I O) (below below' : Option (Conn I O)) (result : Done × Shuts) : Type 0 where
+pub record Acts {F I O : Type 0} (f : files.Ghosts F) (o : link_out.Ghosts O) (op : WriteFields) (t : Turn)
+    (m m' : MemberState) (book book' : BookState F) (up up' : Conn I O) (below below' : Option (Conn I O))
+    (result : Done × Shuts) : Type 0 where
   pub sent : O
   pub passed : Option (Conn I O)
   pub performed : Performs f o t.call (texts_of op t.effect.sends) book book' up.outward sent below passed result.0

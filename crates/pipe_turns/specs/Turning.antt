@@ -1,12 +1,12 @@
 -- Doing a turn: its call on the book, and what is sent then.
-use Rattle.std.specs.Prelude.{◌≡◌, ◌<◌, ℕ, List, All, Option, Some, None}
+use Rattle.std.specs.Prelude.{◌≡◌, ◌<◌, ℕ, List, All, Option, Some, None, IfSome}
 use Rattle.hd_base.specs.Wire.{IsStatus}
 use Rattle.hd_base.specs.declared.ends.Conn.{Conn}
 use Rattle.hd_base.specs.declared.files.Files as files
 use Rattle.hd_base.specs.declared.links.LinkOut as link_out
 use Rattle.link_pieces.specs.Pieces.{SendsNothing, SendsPiece, FailsToSend}
 use Rattle.packet_codec.specs.declared.packets.Packet.{Packet}
-use Rattle.packet_codec.specs.Packets.{IsEncodable}
+use Rattle.packet_codec.specs.Packets.{IsEncodable, SpellsPacket}
 use Rattle.replica_core.specs.declared.ack_queue.TheConstants.{MAX_PENDING}
 use Rattle.replica_model.specs.declared.events.ReplicaEvent.{ReplicaEvent}
 use Rattle.replica_model.specs.declared.events.ReplicaEvent.TheVariants as replica_event
@@ -34,6 +34,11 @@ CanBook pending None = Unit {0}
 CanBook pending (Some (replica_event.Packet conn p)) = (pending < MAX_PENDING) × IsEncodable p
 CanBook pending (Some (replica_event.Other e)) = IsAnswering e
 
+-- Bytes that are given spell the packet of the call.
+abbrev pub IsSpelled : Option ReplicaEvent → Option (List ℕ) → Type 0
+IsSpelled (Some (replica_event.Packet conn p)) spelling = IfSome spelling (SpellsPacket p)
+IsSpelled other spelling = Unit {0}
+
 -- how a packet was taken
 abbrev pub packet_done : Taken → Done
 packet_done (taken.Booked receipt) = done.Taken (Some receipt)
@@ -51,9 +56,11 @@ sending_done (sending.File receipt) = done.File receipt
 sending_done sending.Memory = done.Memory
 
 -- What goes to the mirror, if there is one.
-abbrev pub PassesEnd : {I O : Type 0} → link_out.Ghosts O → Packet → Taken → Option (Conn I O) → Option (Conn I O) → Type 0
+abbrev pub PassesEnd : {I O : Type 0} → link_out.Ghosts O → Packet → Taken → Option (Conn I O) → Option (Conn I O) →
+    Type 0
 PassesEnd o p t None None = IsAlone t
-PassesEnd o p t (Some old) (Some new) = (new.id ≡ old.id) × (new.lower ≡ old.lower) × (new.inward ≡ old.inward) × PassesTo o p t old.outward new.outward
+PassesEnd o p t (Some old) (Some new) = (new.id ≡ old.id) × (new.lower ≡ old.lower) × (new.inward ≡ old.inward) ×
+    PassesTo o p t old.outward new.outward
 PassesEnd o p t old new = ⊥
 
 -- where nothing is sent no link fails
@@ -75,7 +82,8 @@ SendsAlone o text done.Memory old new = SendsNothing o old new
 SendsAlone o text other old new = ⊥
 
 -- A packet is booked, and goes to the mirror.
-pub record PerformsPacket {F I O : Type 0} (f : files.Ghosts F) (o : link_out.Ghosts O) (call : ReplicaEvent) (p : Packet) (book book' : BookState F) (up up' : O) (below below' : Option (Conn I O)) (d : Done) : Type 0 where
+pub record PerformsPacket {F I O : Type 0} (f : files.Ghosts F) (o : link_out.Ghosts O) (call : ReplicaEvent)
+    (p : Packet) (book book' : BookState F) (up up' : O) (below below' : Option (Conn I O)) (d : Done) : Type 0 where
   pub taken : Taken
   pub is : d ≡ packet_done taken
   pub booked : BookEnds f book book' call (booked_as taken)
@@ -83,7 +91,9 @@ pub record PerformsPacket {F I O : Type 0} (f : files.Ghosts F) (o : link_out.Gh
   pub passes : PassesEnd o p taken below below'
 
 -- An ack or the end is booked, and told upstream.
-pub record PerformsEvent {F I O : Type 0} (f : files.Ghosts F) (o : link_out.Ghosts O) (call : ReplicaEvent) (text : Option (List ℕ)) (book book' : BookState F) (up up' : O) (below below' : Option (Conn I O)) (d : Done) : Type 0 where
+pub record PerformsEvent {F I O : Type 0} (f : files.Ghosts F) (o : link_out.Ghosts O) (call : ReplicaEvent)
+    (text : Option (List ℕ)) (book book' : BookState F) (up up' : O) (below below' : Option (Conn I O)) (d : Done) :
+    Type 0 where
   pub sending : Sending
   pub is : d ≡ sending_done sending
   pub booked : BookEnds f book book' call (booked_in sending)
@@ -91,13 +101,17 @@ pub record PerformsEvent {F I O : Type 0} (f : files.Ghosts F) (o : link_out.Gho
   pub below_same : below' ≡ below
 
 -- Nothing is booked.
-pub record PerformsAlone {F I O : Type 0} (o : link_out.Ghosts O) (text : Option (List ℕ)) (book book' : BookState F) (up up' : O) (below below' : Option (Conn I O)) (d : Done) : Type 0 where
+pub record PerformsAlone {F I O : Type 0} (o : link_out.Ghosts O) (text : Option (List ℕ)) (book book' : BookState F)
+    (up up' : O) (below below' : Option (Conn I O)) (d : Done) : Type 0 where
   pub sends : SendsAlone o text d up up'
   pub book_same : book' ≡ book
   pub below_same : below' ≡ below
 
 -- How the call of a turn and what is sent then end.
-abbrev pub Performs : {F I O : Type 0} → files.Ghosts F → link_out.Ghosts O → Option ReplicaEvent → Option (List ℕ) → BookState F → BookState F → O → O → Option (Conn I O) → Option (Conn I O) → Done → Type 0
+abbrev pub Performs : {F I O : Type 0} → files.Ghosts F → link_out.Ghosts O → Option ReplicaEvent → Option (List ℕ) →
+    BookState F → BookState F → O → O → Option (Conn I O) → Option (Conn I O) → Done → Type 0
 Performs f o None text book book' up up' below below' d = PerformsAlone o text book book' up up' below below' d
-Performs f o (Some (replica_event.Packet conn p)) text book book' up up' below below' d = PerformsPacket f o (replica_event.Packet conn p) p book book' up up' below below' d
-Performs f o (Some (replica_event.Other e)) text book book' up up' below below' d = PerformsEvent f o (replica_event.Other e) text book book' up up' below below' d
+Performs f o (Some (replica_event.Packet conn p)) text book book' up up' below below' d =
+    PerformsPacket f o (replica_event.Packet conn p) p book book' up up' below below' d
+Performs f o (Some (replica_event.Other e)) text book book' up up' below below' d =
+    PerformsEvent f o (replica_event.Other e) text book book' up up' below below' d

@@ -2,7 +2,7 @@
 
 ghost use Rattle.std.specs.Prelude.{◌≡◌, length, option_map, Some, IfOk};
 ghost use Rattle.ack_codec.specs.AckTexts.{ack_text};
-ghost use Rattle.pipe_turns.specs.Turning.{CanBook, IsListed};
+ghost use Rattle.pipe_turns.specs.Turning.{CanBook, IsListed, IsSpelled};
 ghost use Rattle.pipe_turns.specs.Acting.{
   Acts,
   ShutsEnd,
@@ -18,11 +18,22 @@ ghost use Rattle.pipe_turns.specs.Acting.{
 
 use crate::turning::{Done, perform};
 use ack_codec::{Ack, AckBytes, Response, encode_ack, encode_response};
+use bytes::Bytes;
 use hd_base::{Conn, Files, LinkOut};
 use member_core::{Booked, Member as Core, SetupAnswer, Shuts, Turn, Upward, response};
 use op_headers::WriteOp;
 use replica_files::ReplicaBook;
 use std::alloc::{AllocError, Global};
+
+/// A turn that is to be done. Where it books a packet and the bytes are known in which that came, they are kept with it:
+/// then the packet can go on as it came.
+#[derive(Debug, Drop)]
+pub struct SpelledTurn {
+    /// The turn.
+    pub turn: Turn,
+    /// The bytes that spell its packet.
+    pub spelling: Option<Bytes>,
+}
 
 /// Does a turn of a member: its call on the book, what is sent then, what follows of it for the member, and what is shut.
 pub fn act<F: Files, I: Drop, O: LinkOut>(
@@ -30,15 +41,17 @@ pub fn act<F: Files, I: Drop, O: LinkOut>(
     book: &mut ReplicaBook<F>,
     op: &WriteOp,
     core: &mut Core,
-    turn: Turn,
+    due: SpelledTurn,
     upstream: &mut Conn<I, O>,
     mirror: &mut Option<Conn<I, O>>,
 ) -> (Done, Shuts)
-    requires book { CanBook (length book.old.replica.pending) turn.call }
-    requires listed { IsListed turn.effect.sends }
-    ensures { Acts F.Files O.LinkOut op.now turn core.old core.new book.old book.new
+    requires book { CanBook (length book.old.replica.pending) due.turn.call }
+    requires listed { IsListed due.turn.effect.sends }
+    requires spelled { IsSpelled due.turn.call due.spelling }
+    ensures { Acts F.Files O.LinkOut op.now due.turn core.old core.new book.old book.new
         upstream.old upstream.new mirror.old mirror.new result }
 {
+    let SpelledTurn { turn, spelling } = due;
     let Ok(text) = upward_text(alloc, op, &turn.effect.sends) else {
         return (Done::Memory, Shuts::Nothing);
     };
@@ -46,6 +59,7 @@ pub fn act<F: Files, I: Drop, O: LinkOut>(
         alloc,
         book,
         &turn.call,
+        &spelling,
         &text,
         &mut upstream.outward,
         mirror,

@@ -5,5 +5,5 @@
 mod acting;
 mod turning;
 
-pub use acting::{act, upward_text};
+pub use acting::{SpelledTurn, act, upward_text};
 pub use turning::{Done, send_alone};

@@ -1,7 +1,7 @@
 //! Doing a turn: its call on the book, and what is sent then.
 
-ghost use Rattle.std.specs.Prelude.{◌≡◌, ◌<◌, Some, length, option_map};
-ghost use Rattle.packet_codec.specs.Packets.{IsEncodable};
+ghost use Rattle.std.specs.Prelude.{◌≡◌, ◌<◌, Some, IfSome, length, option_map};
+ghost use Rattle.packet_codec.specs.Packets.{IsEncodable, SpellsPacket};
 ghost use Rattle.replica_core.specs.declared.ack_queue.TheConstants.{MAX_PENDING};
 ghost use Rattle.replica_model.specs.declared.events.ReplicaEvent.TheVariants as ReplicaEvent;
 ghost use Rattle.replica_files.specs.Endings.{BookEnds};
@@ -9,6 +9,7 @@ ghost use Rattle.block_receiver.specs.Packets.{booked_as};
 ghost use Rattle.packet_responder.specs.Sendings.{IsAnswering, booked_in};
 ghost use Rattle.pipe_turns.specs.Turning.{
   CanBook,
+  IsSpelled,
   Performs,
   PassesEnd,
   SendsText,
@@ -18,6 +19,7 @@ ghost use Rattle.pipe_turns.specs.Turning.{
 };
 
 use block_receiver::{Taken, pass_packet, taken_as};
+use bytes::Bytes;
 use hd_base::{Conn, ConnId, Files, LinkOut, Receipt};
 use link_pieces::{send_piece, take_room};
 use packet_codec::Packet;
@@ -45,16 +47,18 @@ pub enum Done {
 }
 
 /// Makes a turn's call on the book and, where the book took it, sends what goes down and up. Memory for what is sent is
-/// taken before the book is touched.
+/// taken before the book is touched. A packet whose spelling is given goes on in it, where that is the written one.
 pub(crate) fn perform<F: Files, I: Drop, O: LinkOut>(
     alloc: Global,
     book: &mut ReplicaBook<F>,
     call: &Option<ReplicaEvent>,
+    spelling: &Option<Bytes>,
     text: &Option<Vec<u8>>,
     upstream: &mut O,
     mirror: &mut Option<Conn<I, O>>,
 ) -> Done
-    requires { CanBook (length book.old.replica.pending) call.now }
+    requires book { CanBook (length book.old.replica.pending) call.now }
+    requires spelled { IsSpelled call.now spelling.now }
     ensures { Performs F.Files O.LinkOut call.now (option_map (λ t. t.items) text.now)
         book.old book.new upstream.old upstream.new mirror.old mirror.new result }
 {
@@ -63,7 +67,7 @@ pub(crate) fn perform<F: Files, I: Drop, O: LinkOut>(
     };
     match call {
         ReplicaEvent::Packet { conn, packet } => {
-            packet_done(book_packet(alloc, book, *conn, packet, mirror))
+            packet_done(book_packet(alloc, book, *conn, packet, spelling, mirror))
         }
         ReplicaEvent::Other(event) => {
             sending_done(tell_event(alloc, book, event, text, upstream))
@@ -77,17 +81,19 @@ fn book_packet<F: Files, I: Drop, O: LinkOut>(
     book: &mut ReplicaBook<F>,
     conn: ConnId,
     packet: &Packet,
+    spelling: &Option<Bytes>,
     mirror: &mut Option<Conn<I, O>>,
 ) -> Taken
     requires place { length book.old.replica.pending < MAX_PENDING }
     requires encodable { IsEncodable packet.now }
+    requires spelled { IfSome spelling.now (SpellsPacket packet.now) }
     ensures booked { BookEnds F.Files book.old book.new (ReplicaEvent.Packet conn packet.now) (booked_as result) }
     ensures passes { PassesEnd O.LinkOut packet.now result mirror.old mirror.new }
 {
     let Some(end) = mirror else {
         return taken_as(book.packet(conn, packet));
     };
-    pass_end(alloc, book, conn, packet, end)
+    pass_end(alloc, book, conn, packet, spelling, end)
 }
 
 /// Books a packet, and sends it to the mirror at this end.
@@ -96,14 +102,27 @@ fn pass_end<F: Files, I: Drop, O: LinkOut>(
     book: &mut ReplicaBook<F>,
     conn: ConnId,
     packet: &Packet,
+    spelling: &Option<Bytes>,
     end: &mut Conn<I, O>,
 ) -> Taken
     requires place { length book.old.replica.pending < MAX_PENDING }
     requires encodable { IsEncodable packet.now }
+    requires spelled { IfSome spelling.now (SpellsPacket packet.now) }
     ensures booked { BookEnds F.Files book.old book.new (ReplicaEvent.Packet conn packet.now) (booked_as result) }
     ensures passes { PassesEnd O.LinkOut packet.now result (Some end.old) (Some end.new) }
 {
-    pass_packet(alloc, book, conn, packet, &mut end.outward)
+    let came = came_in(spelling);
+    pass_packet(alloc, book, conn, packet, came, &mut end.outward)
+}
+
+/// The bytes in which a packet came, where they are known.
+fn came_in(spelling: &Option<Bytes>) -> Option<&[u8]>
+    ensures { option_map (λ text. text.now) result ≡ spelling.now }
+{
+    match spelling {
+        Some(text) => Some(text.as_slice()),
+        None => None,
+    }
 }
 
 /// Books an ack or the end of the connection, and sends the text up where the book took it.

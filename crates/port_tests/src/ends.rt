@@ -1,8 +1,8 @@
 //! Ends that roads in memory gave, exchanged and given up.
 
 use hd_base::{Conn, Got, LinkIn, LinkOut, NodeId, Roads};
+use link_pieces::{exchange_end, give_up};
 use mem_ports::MemRoads;
-use road_traffic::{give_up, pass};
 use std::alloc::Global;
 use std::test::Fail;
 
@@ -33,7 +33,7 @@ fn exchanged(alloc: Global, roads: &mut MemRoads, end: &mut End, take: bool) -> 
     if !roads.knows(end.id) {
         return Err(Fail::new("an end of other roads"));
     }
-    pass(alloc, roads, end, take)
+    exchange_end(alloc, roads, end, take.then_some(end.id))
         .ok()
         .ok_or("an exchange")
         .map_err(Fail::from)
@@ -44,10 +44,8 @@ fn given_up(alloc: Global, roads: &mut MemRoads, end: End) -> Result<(), Fail> {
     if !roads.knows(end.id) {
         return Err(Fail::new("an end of other roads"));
     }
-    give_up(alloc, roads, end)
-        .ok()
-        .ok_or("brought back")
-        .map_err(Fail::from)
+    give_up(alloc, roads, end);
+    Ok(())
 }
 
 /// Sends three bytes.

@@ -66,7 +66,8 @@ pub record SpellsField (at : ℕ) (field : ℕ × Wire) (text : List ℕ) : Type
 -- The bytes, which begin at `at`, spell the fields one after the other.
 abbrev pub SpellsFrom : ℕ → List (ℕ × Wire) → List ℕ → Type 0
 SpellsFrom at [] bytes = bytes ≡ []
-SpellsFrom at (f ∷ fs) bytes = (text : List ℕ) × (rest : List ℕ) × (bytes ≡ text ++ rest) × SpellsField at f text × SpellsFrom (at + length text) fs rest
+SpellsFrom at (f ∷ fs) bytes = (text : List ℕ) × (rest : List ℕ) × (bytes ≡ text ++ rest) × SpellsField at f text ×
+    SpellsFrom (at + length text) fs rest
 
 -- The bytes of a message spell its fields.
 abbrev pub Spells : List (ℕ × Wire) → List ℕ → Type 0
@@ -123,9 +124,12 @@ pub record IsRefusedCode (code : ℕ) : Type 0 where
 
 -- The fault of bytes that are not empty and begin with no field.
 abbrev pub HasFault : Cause → List ℕ → Type 0
-HasFault cause.Short bytes = IsCutVarint bytes ⊎ ((type : WireType) × (rest : List ℕ) × BeginsWithLawfulTag type bytes rest × IsCutValue type rest)
-HasFault cause.LongVarint bytes = IsLongVarint bytes ⊎ ((type : WireType) × (rest : List ℕ) × BeginsWithLawfulTag type bytes rest × IsLongValue type rest)
-HasFault cause.Kind bytes = (number : ℕ) × (code : ℕ) × (rest : List ℕ) × BeginsWithTag number code bytes rest × IsRefusedCode code
+HasFault cause.Short bytes = IsCutVarint bytes ⊎
+    ((type : WireType) × (rest : List ℕ) × BeginsWithLawfulTag type bytes rest × IsCutValue type rest)
+HasFault cause.LongVarint bytes = IsLongVarint bytes ⊎
+    ((type : WireType) × (rest : List ℕ) × BeginsWithLawfulTag type bytes rest × IsLongValue type rest)
+HasFault cause.Kind bytes = (number : ℕ) × (code : ℕ) × (rest : List ℕ) × BeginsWithTag number code bytes rest ×
+    IsRefusedCode code
 HasFault cause.FieldZero bytes = (type : WireType) × (rest : List ℕ) × BeginsWithTag 0 (code_of type) bytes rest
 
 -- the cause of a fault, and its place
@@ -185,14 +189,16 @@ tag_at bytes = do
 unfoldable pub part_at : ℕ → List ℕ → Result (Wire × List ℕ) Cause
 part_at end bytes = do
   len ← with_cause varint_cause (varint_at bytes)
-  if nat_lt (length len.1) len.0 then Err cause.Short else Ok (wire.Part (end - length len.1) (end - length len.1 + len.0), drop len.0 len.1)
+  if nat_lt (length len.1) len.0 then Err cause.Short
+      else Ok (wire.Part (end - length len.1) (end - length len.1 + len.0), drop len.0 len.1)
 
 unfoldable pub value_at : ℕ → WireType → List ℕ → Result (Wire × List ℕ) Cause
 value_at end wire_type.Varint bytes = do
   n ← with_cause varint_cause (varint_at bytes)
   Ok (wire.Varint n.0, n.1)
 value_at end wire_type.Fixed64 bytes =
-    if nat_lt (length bytes) 8 then Err cause.Short else Ok (wire.Eight (from_le_bytes w64 (take 8 bytes)), drop 8 bytes)
+    if nat_lt (length bytes) 8 then Err cause.Short
+    else Ok (wire.Eight (from_le_bytes w64 (take 8 bytes)), drop 8 bytes)
 value_at end wire_type.LengthDelimited bytes = part_at end bytes
 value_at end wire_type.Fixed32 bytes =
     if nat_lt (length bytes) 4 then Err cause.Short else Ok (wire.Four (from_le_bytes w32 (take 4 bytes)), drop 4 bytes)
@@ -208,10 +214,12 @@ field_at end bytes = do
 unfoldable pub next_at : List ℕ → ℕ → Result (Option (ℕ × Wire × ℕ)) WireFault
 next_at bytes at =
     if length (drop at bytes) == 0 then Ok None
-    else with_cause (fault_at at) (with_value (λ f. Some (f.0.0, f.0.1, length bytes - length f.1)) (field_at (length bytes) (drop at bytes)))
+    else with_cause (fault_at at) (with_value (λ f. Some (f.0.0, f.0.1, length bytes - length f.1))
+    (field_at (length bytes) (drop at bytes)))
 
 -- The fields that are left once the next one is known, where `rest` gives those from a place on.
-abbrev pub then_fields : (ℕ → Result (List (ℕ × Wire)) WireFault) → Option (ℕ × Wire × ℕ) → Result (List (ℕ × Wire)) WireFault
+abbrev pub then_fields : (ℕ → Result (List (ℕ × Wire)) WireFault) → Option (ℕ × Wire × ℕ) →
+    Result (List (ℕ × Wire)) WireFault
 then_fields rest None = Ok []
 then_fields rest (Some f) = with_value (λ fs. (f.0, f.1) ∷ fs) (rest f.2)
 

@@ -5,11 +5,13 @@ use Rattle.hd_base.specs.Options.{◌>>=◌}
 
 -- The unsigned number of this width at the front, its lowest byte first, and the bytes behind it; nothing where the bytes end before.
 unfoldable pub le_number_at : Width → List ℕ → Option (ℕ × List ℕ)
-le_number_at w bytes = if nat_lt (length bytes) (byte_len w) then None else Some (from_le_bytes w (take (byte_len w) bytes), drop (byte_len w) bytes)
+le_number_at w bytes = if nat_lt (length bytes) (byte_len w) then None
+    else Some (from_le_bytes w (take (byte_len w) bytes), drop (byte_len w) bytes)
 
 -- The same with the highest byte first.
 unfoldable pub be_number_at : Width → List ℕ → Option (ℕ × List ℕ)
-be_number_at w bytes = if nat_lt (length bytes) (byte_len w) then None else Some (from_be_bytes w (take (byte_len w) bytes), drop (byte_len w) bytes)
+be_number_at w bytes = if nat_lt (length bytes) (byte_len w) then None
+    else Some (from_be_bytes w (take (byte_len w) bytes), drop (byte_len w) bytes)
 
 -- The signed number of this width at the front, in two's complement.
 unfoldable pub le_signed_at : Width → List ℕ → Option (ℤ × List ℕ)

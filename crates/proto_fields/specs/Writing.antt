@@ -33,4 +33,5 @@ ReadsVarint old new n = (rest : List ℕ) → varint_at (drop (length old) (new 
 
 -- Where the old bytes end this field is read, and the new bytes end behind it, whatever follows them.
 abbrev pub ReadsField : List ℕ → List ℕ → ℕ → Wire → Type 0
-ReadsField old new number value = (rest : List ℕ) → next_at (new ++ rest) (length old) ≡ Ok (Some (number, value, length new))
+ReadsField old new number value = (rest : List ℕ) →
+    next_at (new ++ rest) (length old) ≡ Ok (Some (number, value, length new))

@@ -131,7 +131,8 @@ kept s at p = record s { bytes = s.bytes ++ wanted s at p }
 -- a packet that was verified
 abbrev pub verified : ReadingState → Rule → ℕ → ℕ → Packet → ReadTaken
 verified s rule at seqno p =
-    with_phase (kept s at p) (phase_behind p.last (phase.Receiving rule (at + length p.body) (seqno + 1))) (turn_behind p.last)
+    with_phase (kept s at p) (phase_behind p.last (phase.Receiving rule (at + length p.body) (seqno + 1)))
+    (turn_behind p.last)
 
 abbrev pub received_as : ReadingState → Rule → ℕ → ℕ → Packet → Result (Unit {0}) ReadFault → ReadTaken
 received_as s rule at seqno p (Ok u) = verified s rule at seqno p

@@ -69,7 +69,10 @@ pub record Served : Type 0 where
 
 abbrev pub served_as : FullReplica → Result Event RecoveryReply → Served
 served_as r (Err said) = record { replica = r; reply = said }
-served_as r (Ok e) = record { replica = row r (replica_event.Other e); reply = reply_to (row_answer r (replica_event.Other e)) }
+served_as r (Ok e) = record {
+  replica = row r (replica_event.Other e);
+  reply = reply_to (row_answer r (replica_event.Other e));
+}
 
 -- one step of a block recovery at a replica
 abbrev pub serve : FullReplica → RecoveryOp → Served

@@ -117,7 +117,8 @@ begun_with block begun members answered =
 
 -- what a member told
 abbrev pub info_of : NodeId → Standing → Option Info
-info_of node (standing.Told state stamp bytes ended) = Some (record { node = node; state = state; stamp = stamp; length = bytes })
+info_of node (standing.Told state stamp bytes ended) =
+    Some (record { node = node; state = state; stamp = stamp; length = bytes })
 info_of node _ = None
 
 -- what the members told, in their order
@@ -168,13 +169,15 @@ unchosen (choose_fault.Unequal a b) = recovered.Unequal a b
 -- UPDATE is sent to the chosen members
 abbrev pub choosing : PrimaryState → Result Chosen ChooseFault → OwnTaken
 choosing p (Ok c) =
-    taken (record p { phase = phase.Updating c.length; standings = all_after_choice c.members p.members p.standings }) (own.Updates c)
+    taken (record p { phase = phase.Updating c.length; standings = all_after_choice c.members p.members p.standings })
+    (own.Updates c)
 choosing p (Err fault) = over p (unchosen fault)
 
 -- the members that were updated are committed, if there are any
 abbrev pub committing : PrimaryState → ℕ → List NodeId → OwnTaken
 committing p bytes [] = over p recovered.NoneUpdated
-committing p bytes (node ∷ nodes) = taken (record p { phase = phase.Over }) (own.Commits (record { length = bytes; members = node ∷ nodes }))
+committing p bytes (node ∷ nodes) =
+    taken (record p { phase = phase.Over }) (own.Commits (record { length = bytes; members = node ∷ nodes }))
 
 -- once every answer or end was taken: the choice among what was told, and then the commit
 abbrev pub own_at : Phase → PrimaryState → OwnTaken

@@ -26,7 +26,8 @@ PacketsFollowPlans = (block : ℕ) (h : ReplicaInfo) (bytes more : List ℕ) (sy
 -- The calls of another event by which what is held becomes this, where the sum is that of the bytes that are left.
 abbrev pub SettlingFollowsPlans : Type 0
 SettlingFollowsPlans = (block : ℕ) (e : Event) (h k : ReplicaInfo) (bytes : List ℕ) (last_sum : ℕ) →
-    1 ≤ h.sums.chunk → length bytes ≡ h.written → k.written ≤ h.written → IsLastSum h.sums last_sum (take k.written bytes) →
+    1 ≤ h.sums.chunk → length bytes ≡ h.written → k.written ≤ h.written →
+    IsLastSum h.sums last_sum (take k.written bytes) →
     calls_of block (taken_calls (replica_event.Other e) (Some h) (Some k) bytes) (placed_info h bytes)
     ≡ settle_list (names_of block h) (names_of block k) h k last_sum
 

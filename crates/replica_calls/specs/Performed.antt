@@ -15,7 +15,8 @@ pub record IsReady {F : Type 0} (f : files.Ghosts F) (at : F) (calls : List Call
   pub enough : HasRoom (f.room at) calls
 
 -- These calls were made, or one of them failed, which then was the last one: so the files are, where observable, and so the log. What stands behind them keeps its room.
-pub record Performs {F T : Type 0} (f : files.Ghosts F) (old new : F) (calls : List Call) (result : Result T FileError) : Type 0 where
+pub record Performs {F T : Type 0} (f : files.Ghosts F) (old new : F) (calls : List Call) (result : Result T FileError)
+    : Type 0 where
   pub done : OnOk result (MakesCalls (f.files old) (f.files new) (f.log old) (f.log new) calls)
   pub stopped : OnErr result (StopsWithin (f.files old) (f.files new) (f.log old) (f.log new) calls)
   pub cause : HasCause (f.faults old) (f.faults new) result

@@ -25,7 +25,8 @@ IsPacket _ = ⊥
 
 -- what a packet says
 abbrev pub IsExtentOf : Event → PacketExtent → Type 0
-IsExtentOf (event.Packet conn seqno offset bytes sums last sync bad) p = p ≡ record { seqno = seqno; offset = offset; length = bytes; sums = sums; last = last; sync = sync; bad = bad }
+IsExtentOf (event.Packet conn seqno offset bytes sums last sync bad) p =
+    p ≡ record { seqno = seqno; offset = offset; length = bytes; sums = sums; last = last; sync = sync; bad = bad }
 IsExtentOf _ p = ⊥
 
 -- so many sums, but none under Null
@@ -105,7 +106,8 @@ unless_bad size offset (Some bad) next = Err (refusal.BadSum (offset / size + ba
 -- differs.
 unfoldable pub packet_at : Rule → PacketExtent → ℕ → Result PendingPacket Refusal
 packet_at r p offset =
-    check (offset % r.chunk == 0 || nat_le (offset + p.length) (chunk_start r.chunk offset + r.chunk)) (refusal.Piece rule.MidChunk)
+    check (offset % r.chunk == 0 || nat_le (offset + p.length) (chunk_start r.chunk offset + r.chunk))
+    (refusal.Piece rule.MidChunk)
     (check (p.sums == sum_count r offset p.length) (refusal.Piece rule.Sums)
     (unless_bad r.chunk offset p.bad
     (Ok (record { seqno = p.seqno; end = offset + p.length; last = p.last; sync = p.sync }))))

@@ -101,7 +101,8 @@ holder (Some id) other = id
 unfoldable pub begin_recovery : ReplicaInfo → Stamp → Stamp → Result ReplicaInfo Refusal
 begin_recovery h named recovery =
     check (not (is_temporary (state_of h))) (refusal.WrongState (state_of h))
-    (check (nat_le named.0 h.stamp.0 && nat_lt h.stamp.0 recovery.0) (refusal.Stale h.stamp named (record { 0 = recovery.0 - 1 }))
+    (check (nat_le named.0 h.stamp.0 &&
+    nat_lt h.stamp.0 recovery.0) (refusal.Stale h.stamp named (record { 0 = recovery.0 - 1 }))
     (check (is_free_for h.recovery recovery) (refusal.RecoveryHeld (holder h.recovery recovery))
     (Ok (record h { recovery = Some recovery }))))
 
@@ -121,7 +122,8 @@ within visible offset bytes = check (nat_le (offset + bytes) visible) (refusal.O
 unfoldable pub readable : ReplicaInfo → Option ℕ → Stamp → ℕ → ℕ → Result ℕ Refusal
 readable h None named offset bytes = Err (refusal.WrongState (state_of h))
 readable h (Some visible) named offset bytes =
-    check (nat_le named.0 h.stamp.0) (refusal.Stale h.stamp named (record { 0 = 2 ^ 64 - 1 })) (within visible offset bytes)
+    check (nat_le named.0 h.stamp.0) (refusal.Stale h.stamp named (record { 0 = 2 ^ 64 - 1 }))
+    (within visible offset bytes)
 
 -- What a transfer is given: RBW under just the named stamp, and all that is asked for is acked. What is answered is the acked length.
 unfoldable pub given : ReplicaInfo → Stamp → ℕ → ℕ → Result ℕ Refusal

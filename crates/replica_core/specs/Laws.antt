@@ -22,7 +22,8 @@ pub record Adjoins (before after : ℕ) (offset : ℤ) (bytes : ℕ) : Type 0 wh
 -- A packet that was taken, and is no heartbeat, leaves no gap.
 abbrev pub LeavesNoGap : ReplicaRecord → Event → Type 0
 LeavesNoGap c (event.Packet conn seqno offset bytes sums last sync bad) =
-    seqno ≢ negsuc 0 → IfOk (transition c (event.Packet conn seqno offset bytes sums last sync bad)) (λ t. Adjoins (written_in c) (written_in t.replica) offset bytes)
+    seqno ≢ negsuc 0 → IfOk (transition c (event.Packet conn seqno offset bytes sums last sync bad))
+    (λ t. Adjoins (written_in c) (written_in t.replica) offset bytes)
 LeavesNoGap c _ = Unit {0}
 
 -- the connection on whose stream an event comes

@@ -78,13 +78,16 @@ abbrev pub append_transition : ReplicaRecord → ConnId → Stamp → Stamp → 
 append_transition c conn named new bytes = present c >>= (λ h. with_writer c (Some conn) (reopen h named new bytes))
 
 abbrev pub append_recovery_transition : ReplicaRecord → ConnId → Stamp → Stamp → ℕ → Outcome
-append_recovery_transition c conn named new bytes = present c >>= (λ h. with_writer c (Some conn) (recover_setup h named new bytes state.Rbw))
+append_recovery_transition c conn named new bytes = present c >>=
+    (λ h. with_writer c (Some conn) (recover_setup h named new bytes state.Rbw))
 
 abbrev pub stream_recovery_transition : ReplicaRecord → ConnId → Stamp → Stamp → ℕ → ℕ → Outcome
-stream_recovery_transition c conn named new low high = present c >>= (λ h. with_writer c (Some conn) (recover_stream h named new low high))
+stream_recovery_transition c conn named new low high = present c >>=
+    (λ h. with_writer c (Some conn) (recover_stream h named new low high))
 
 abbrev pub close_recovery_transition : ReplicaRecord → Stamp → Stamp → ℕ → Outcome
-close_recovery_transition c named new bytes = present c >>= (λ h. with_writer c None (recover_setup h named new bytes state.Finalized))
+close_recovery_transition c named new bytes = present c >>=
+    (λ h. with_writer c None (recover_setup h named new bytes state.Finalized))
 
 -- the stream, where this connection writes
 abbrev pub stream_by : Option Stream → ConnId → Result Stream Refusal
@@ -108,7 +111,8 @@ extent_transition c h s p =
 
 abbrev pub packet_transition : ReplicaRecord → ConnId → PacketExtent → Outcome
 packet_transition c conn p =
-    present c >>= (λ h. check (is_writable (state_of h)) refusal.NotWriter (stream_by c.stream conn >>= (λ s. extent_transition c h s p)))
+    present c >>= (λ h. check (is_writable (state_of h)) refusal.NotWriter (stream_by c.stream conn >>=
+    (λ s. extent_transition c h s p)))
 
 -- A replica whose oldest pending packet was acked. A good ack raises what is acked; after that of the last packet nobody writes, a TEMPORARY replica is RBW and an RBW one FINALIZED.
 abbrev pub acknowledge : ReplicaRecord → ReplicaInfo → PendingPacket → Bool → ReplicaRecord
@@ -124,7 +128,9 @@ oldest_of None seqno = Err (refusal.Seqno None seqno)
 oldest_of (Some e) seqno = check (int_eq e.seqno seqno) (refusal.Seqno (Some e.seqno) seqno) (Ok e)
 
 abbrev pub ack_transition : ReplicaRecord → ConnId → ℤ → Bool → Outcome
-ack_transition c conn seqno good = present c >>= (λ h. stream_by c.stream conn >>= (λ s. oldest_of (slice_get c.pending 0) seqno >>= (λ e. done (acknowledge c h e good))))
+ack_transition c conn seqno good = present c >>=
+    (λ h. stream_by c.stream conn >>=
+    (λ s. oldest_of (slice_get c.pending 0) seqno >>= (λ e. done (acknowledge c h e good))))
 
 -- this connection writes
 abbrev pub is_written_by : Option Stream → ConnId → Bool
@@ -138,18 +144,21 @@ end_connection c conn = if is_written_by c.stream conn then record c { stream = 
 -- the recovery that begins learns the original state, the stamp and the length
 abbrev pub init_transition : ReplicaRecord → Stamp → Stamp → Outcome
 init_transition c named recovery =
-    present c >>= (λ h. begin_recovery h named recovery >>= (λ k. Ok (record { replica = set_writer c k None; answer = answer.Info h.original h.stamp h.written })))
+    present c >>= (λ h. begin_recovery h named recovery >>=
+    (λ k. Ok (record { replica = set_writer c k None; answer = answer.Info h.original h.stamp h.written })))
 
 abbrev pub update_transition : ReplicaRecord → Stamp → ℕ → Outcome
 update_transition c recovery bytes = present c >>= (λ h. with_writer c None (end_recovery h h.recovery recovery bytes))
 
 abbrev pub read_transition : ReplicaRecord → Stamp → ℕ → ℕ → Outcome
 read_transition c named offset bytes =
-    present c >>= (λ h. readable h (visible_of h) named offset bytes >>= (λ visible. Ok (record { replica = c; answer = answer.Visible visible })))
+    present c >>= (λ h. readable h (visible_of h) named offset bytes >>=
+    (λ visible. Ok (record { replica = c; answer = answer.Visible visible })))
 
 abbrev pub give_transition : ReplicaRecord → Stamp → ℕ → ℕ → Outcome
 give_transition c named offset bytes =
-    present c >>= (λ h. given h named offset bytes >>= (λ visible. Ok (record { replica = c; answer = answer.Visible visible })))
+    present c >>= (λ h. given h named offset bytes >>=
+    (λ visible. Ok (record { replica = c; answer = answer.Visible visible })))
 
 -- broken, and nobody writes
 abbrev pub mark_broken : ReplicaRecord → ReplicaRecord
@@ -164,7 +173,15 @@ transition c (event.AppendRecovery conn named new bytes) = append_recovery_trans
 transition c (event.StreamRecovery conn named new low high) = stream_recovery_transition c conn named new low high
 transition c (event.CloseRecovery named new bytes) = close_recovery_transition c named new bytes
 transition c (event.Packet conn seqno offset bytes sums last sync bad) =
-    packet_transition c conn (record { seqno = seqno; offset = offset; length = bytes; sums = sums; last = last; sync = sync; bad = bad })
+    packet_transition c conn (record {
+      seqno = seqno;
+      offset = offset;
+      length = bytes;
+      sums = sums;
+      last = last;
+      sync = sync;
+      bad = bad;
+    })
 transition c (event.Ack conn seqno good) = ack_transition c conn seqno good
 transition c (event.Ended conn) = done (end_connection c conn)
 transition c (event.Init named recovery) = init_transition c named recovery

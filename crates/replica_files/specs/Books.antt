@@ -25,14 +25,15 @@ abbrev pub HasLastSum : ℕ → FullReplica → Type 0
 HasLastSum sum r = r.known.is_broken ≡ false → IfSome r.known.info (λ h. IsLastSum h.sums sum r.bytes)
 
 -- The replica is of this block, and the files hold it; where they are observable, all are of its block, and the kept sum is that of its last chunk.
-pub record IsHeld {F : Type 0} (f : files.Ghosts F) (drawer : F) (block : BlockId) (sum : ℕ) (r : FullReplica) : Type 0 where
-  pub fits : block.0 < 2 ^ 64
-  pub of_block : r.known.block ≡ block
-  pub full : IsFull r
-  pub are_bytes : IsBytes r.bytes
-  pub holds : Holds (f.files drawer) r
-  pub only : OnlyOf block.0 (f.files drawer)
-  pub last : IfSome (f.files drawer) (λ _. HasLastSum sum r)
+pub record IsHeld {F : Type 0} (f : files.Ghosts F) (drawer : F) (block : BlockId) (sum : ℕ) (r : FullReplica) : Type 0
+  where
+    pub fits : block.0 < 2 ^ 64
+    pub of_block : r.known.block ≡ block
+    pub full : IsFull r
+    pub are_bytes : IsBytes r.bytes
+    pub holds : Holds (f.files drawer) r
+    pub only : OnlyOf block.0 (f.files drawer)
+    pub last : IfSome (f.files drawer) (λ _. HasLastSum sum r)
 
 -- The replica is the one that the history leads to, and the files hold it.
 pub record IsBookOf {F : Type 0} (f : files.Ghosts F) (s : BookState F) : Type 0 where
@@ -54,13 +55,15 @@ AreStrays files None None strays = strays ≡ []
 AreStrays files (Some h) next strays = strays ≡ []
 
 -- The calls of an event were made.
-pub record MakesEvent {F : Type 0} (f : files.Ghosts F) (old new : F) (r : FullReplica) (e : ReplicaEvent) : Type 0 where
-  pub strays : List (List ℕ)
-  pub are : AreStrays (f.files old) r.known.info (row r e).known.info strays
-  pub made : MakesCalls (f.files old) (f.files new) (f.log old) (f.log new) (event_calls r e strays)
+pub record MakesEvent {F : Type 0} (f : files.Ghosts F) (old new : F) (r : FullReplica) (e : ReplicaEvent) : Type 0
+  where
+    pub strays : List (List ℕ)
+    pub are : AreStrays (f.files old) r.known.info (row r e).known.info strays
+    pub made : MakesCalls (f.files old) (f.files new) (f.log old) (f.log new) (event_calls r e strays)
 
 -- One of the calls of an event failed, or something before the first of them.
 pub data StopsEvent {F : Type 0} (f : files.Ghosts F) (old new : F) (r : FullReplica) (e : ReplicaEvent) : Type 0 where
   before_all : IsUnchanged (f.files old) (f.files new) (f.log old) (f.log new) → StopsEvent f old new r e
   amid : (strays : List (List ℕ)) → AreStrays (f.files old) r.known.info (row r e).known.info strays
-      → StopsWithin (f.files old) (f.files new) (f.log old) (f.log new) (event_calls r e strays) → StopsEvent f old new r e
+      → StopsWithin (f.files old) (f.files new) (f.log old) (f.log new) (event_calls r e strays) →
+      StopsEvent f old new r e

@@ -19,14 +19,17 @@ use Rattle.replica_files.specs.declared.book_state.BookState.{BookState}
 
 -- The files hold such a replica with these bytes.
 abbrev pub HoldsBytes : FileMap → BlockId → ReplicaState → Stamp → Rule → List ℕ → Type 0
-HoldsBytes m block state stamp rule bytes = m ≡ files_of block.0 (placed_info (settled_at state stamp rule (length bytes)) bytes)
+HoldsBytes m block state stamp rule bytes =
+    m ≡ files_of block.0 (placed_info (settled_at state stamp rule (length bytes)) bytes)
 
 -- Where observable, the files hold such a replica.
 abbrev pub HoldsFound : Option FileMap → BlockId → ReplicaState → Stamp → Rule → Type 0
-HoldsFound files block state stamp rule = IfSome files (λ m. (bytes : List ℕ) × HoldsBytes m block state stamp rule bytes)
+HoldsFound files block state stamp rule = IfSome files (λ m. (bytes : List ℕ) ×
+    HoldsBytes m block state stamp rule bytes)
 
 -- The book of such a replica without entries; where files are observable, its bytes are those of the files.
-pub record IsFound {F : Type 0} (f : files.Ghosts F) (s : BookState F) (block : BlockId) (state : ReplicaState) (stamp : Stamp) (rule : Rule) (drawer : F) : Type 0 where
+pub record IsFound {F : Type 0} (f : files.Ghosts F) (s : BookState F) (block : BlockId) (state : ReplicaState)
+    (stamp : Stamp) (rule : Rule) (drawer : F) : Type 0 where
   pub bytes : List ℕ
   pub of_block : s.block ≡ block
   pub start : s.history.start ≡ start.Found state stamp rule bytes

@@ -40,7 +40,8 @@ pub record EndsNoRecovery (entry : Entry) : Type 0 where
 
 -- Any entries but the ends of block recoveries keep what is acked.
 abbrev pub HistoriesKeepAcked : Type 0
-HistoriesKeepAcked = (r : FullReplica) (entries : List Entry) → IsFull r → AllByRecursion EndsNoRecovery entries → KeepsAcked r (replay r entries)
+HistoriesKeepAcked = (r : FullReplica) (entries : List Entry) → IsFull r → AllByRecursion EndsNoRecovery entries →
+    KeepsAcked r (replay r entries)
 
 -- The end of a block recovery leaves a front of the bytes.
 abbrev pub CutsLeaveFronts : Type 0
@@ -61,4 +62,5 @@ pub record IsWhole (r : FullReplica) : Type 0 where
 -- Two books of one block with the same history have the same files.
 abbrev pub HistoriesDetermineFiles : {F G : Type 0} → files.Ghosts F → files.Ghosts G → Type 0
 HistoriesDetermineFiles {F} {G} f g = (s : BookState F) (t : BookState G) →
-    IsBookOf f s → IsBookOf g t → s.block ≡ t.block → IsSame s.history t.history → IsWhole (replica_of s) → AreSameFiles (f.files s.drawer) (g.files t.drawer)
+    IsBookOf f s → IsBookOf g t → s.block ≡ t.block → IsSame s.history t.history → IsWhole (replica_of s) →
+    AreSameFiles (f.files s.drawer) (g.files t.drawer)

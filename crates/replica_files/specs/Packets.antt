@@ -25,13 +25,16 @@ abbrev pub brought_by : ℕ → Packet → List ℕ
 brought_by written p = drop (written - nat_abs p.offset) p.body
 
 -- What was prepared of a packet: its bytes, their sums, and room for both, unless they pass every length.
-pub record FitsGrowth {F : Type 0} (f : files.Ghosts F) (drawer : F) (block : BlockId) (sum : ℕ) (h : ReplicaInfo) (p : Packet) (g : Growth) : Type 0 where
+pub record FitsGrowth {F : Type 0} (f : files.Ghosts F) (drawer : F) (block : BlockId) (sum : ℕ) (h : ReplicaInfo)
+    (p : Packet) (g : Growth) : Type 0 where
   pub are_bytes : IsBytes p.body
   pub bytes : drop g.from p.body ≡ brought_by h.written p
   pub within : g.from ≤ length p.body
   pub room : h.written + length (brought_by h.written p) < 2 ^ 64
-      → Covers (f.room drawer) (names_of block.0 h) (h.written + length (brought_by h.written p)) (sum_place h.sums h.written + length g.sums.sums.items)
-  pub sums_are : (bytes : List ℕ) → IsGrowing h.sums h.written sum bytes → AreSumsOf h.sums bytes (brought_by h.written p) g.sums
+      → Covers (f.room drawer) (names_of block.0 h) (h.written + length (brought_by h.written p))
+      (sum_place h.sums h.written + length g.sums.sums.items)
+  pub sums_are : (bytes : List ℕ) → IsGrowing h.sums h.written sum bytes →
+      AreSumsOf h.sums bytes (brought_by h.written p) g.sums
 
 -- It was prepared.
 abbrev pub IsReadyWith : {F : Type 0} → files.Ghosts F → F → BlockId → ℕ → ReplicaInfo → Packet → Option Growth → Type 0
@@ -39,11 +42,14 @@ IsReadyWith f drawer block sum h p None = ⊥
 IsReadyWith f drawer block sum h p (Some g) = FitsGrowth f drawer block sum h p g
 
 -- Where the replica is there, the packet was prepared.
-abbrev pub IsReadyToGrow : {F : Type 0} → files.Ghosts F → BookState F → Option ReplicaInfo → Packet → Option Growth → Type 0
-IsReadyToGrow f s info p growth = (h : ReplicaInfo) → info ≡ Some h → IsReadyWith f s.drawer s.block s.last_sum h p growth
+abbrev pub IsReadyToGrow : {F : Type 0} → files.Ghosts F → BookState F → Option ReplicaInfo → Packet → Option Growth →
+    Type 0
+IsReadyToGrow f s info p growth = (h : ReplicaInfo) → info ≡ Some h →
+    IsReadyWith f s.drawer s.block s.last_sum h p growth
 
 -- A replica has taken a packet.
-pub record IsAmidGrowing {F : Type 0} (f : files.Ghosts F) (drawer : F) (block : BlockId) (prior : Prior) (p : Packet) (growth : Option Growth) (sum : ℕ) : Type 0 where
+pub record IsAmidGrowing {F : Type 0} (f : files.Ghosts F) (drawer : F) (block : BlockId) (prior : Prior) (p : Packet)
+    (growth : Option Growth) (sum : ℕ) : Type 0 where
   pub r : FullReplica
   pub conn : ConnId
   pub held : IsHeld f drawer block sum r
@@ -52,7 +58,8 @@ pub record IsAmidGrowing {F : Type 0} (f : files.Ghosts F) (drawer : F) (block :
   pub ready : (h : ReplicaInfo) → prior.info ≡ Some h → IsReadyWith f drawer block sum h p growth
 
 -- The replica of a book has taken a packet, and no call on the files is made yet.
-pub record IsAmidPacket {F : Type 0} (f : files.Ghosts F) (s : BookState F) (e : ReplicaEvent) (prior : Prior) (answer : Answer) (p : Packet) (growth : Option Growth) : Type 0 where
+pub record IsAmidPacket {F : Type 0} (f : files.Ghosts F) (s : BookState F) (e : ReplicaEvent) (prior : Prior)
+    (answer : Answer) (p : Packet) (growth : Option Growth) : Type 0 where
   pub conn : ConnId
   pub is : e ≡ replica_event.Packet conn p
   pub takes : Takes (replica_of s) e

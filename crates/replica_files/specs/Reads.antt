@@ -27,7 +27,8 @@ abbrev pub ReadsBytes : Option FileMap → FullReplica → ℕ → ℕ → List 
 ReadsBytes files r offset count bytes = IfSome files (λ _. bytes ≡ take count (drop offset r.bytes))
 
 -- A replica has taken an event that asks for bytes, and a buffer has room for as many as there are.
-pub record IsAmidReading {F : Type 0} (f : files.Ghosts F) (drawer : F) (block : BlockId) (prior : Prior) (sum offset room : ℕ) : Type 0 where
+pub record IsAmidReading {F : Type 0} (f : files.Ghosts F) (drawer : F) (block : BlockId) (prior : Prior)
+    (sum offset room : ℕ) : Type 0 where
   pub r : FullReplica
   pub e : Event
   pub count : ℕ
@@ -39,12 +40,14 @@ pub record IsAmidReading {F : Type 0} (f : files.Ghosts F) (drawer : F) (block :
   pub enough : room ≡ min count (written_at prior.info)
 
 -- The bytes were read, or the call failed.
-pub record ReadsOut {F : Type 0} (f : files.Ghosts F) (old new : F) (block : BlockId) (r : FullReplica) (e : Event) (offset count : ℕ) (bytes : List ℕ) (result : Result ℕ FileError) : Type 0 where
+pub record ReadsOut {F : Type 0} (f : files.Ghosts F) (old new : F) (block : BlockId) (r : FullReplica) (e : Event)
+    (offset count : ℕ) (bytes : List ℕ) (result : Result ℕ FileError) : Type 0 where
   pub carried : CarriesOut f old new block r (replica_event.Other e) result
   pub bytes_are : IfOk result (λ _. ReadsBytes (f.files old) r offset count bytes)
 
 -- The replica of a book has taken an event that asks for bytes, which aren't read yet.
-pub record IsAmidRead {F : Type 0} (f : files.Ghosts F) (s : BookState F) (e : ReplicaEvent) (prior : Prior) (answer : Answer) (offset room : ℕ) : Type 0 where
+pub record IsAmidRead {F : Type 0} (f : files.Ghosts F) (s : BookState F) (e : ReplicaEvent) (prior : Prior)
+    (answer : Answer) (offset room : ℕ) : Type 0 where
   pub asked : Event
   pub count : ℕ
   pub is : e ≡ replica_event.Other asked

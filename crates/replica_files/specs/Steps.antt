@@ -59,13 +59,15 @@ pub record KeepsBook {F : Type 0} (old new : BookState F) : Type 0 where
   pub history : new.history ≡ old.history
 
 -- The replica has met an event that has no entry yet, and this is its answer.
-pub record IsStepped {F : Type 0} (old new : BookState F) (e : ReplicaEvent) (result : Result Answer Refusal) : Type 0 where
-  pub kept : KeepsBook old new
-  pub known : new.replica ≡ (row (replica_of old) e).known
-  pub answered : result ≡ reply (transition (replica_of old).known (event_at (replica_of old) e))
+pub record IsStepped {F : Type 0} (old new : BookState F) (e : ReplicaEvent) (result : Result Answer Refusal) : Type 0
+  where
+    pub kept : KeepsBook old new
+    pub known : new.replica ≡ (row (replica_of old) e).known
+    pub answered : result ≡ reply (transition (replica_of old).known (event_at (replica_of old) e))
 
 -- An event that was taken has no entry yet; its calls on the files were made, with the sum of the last chunk then, or one of them failed. `before` is what was held before the event.
-pub record IsToNote {F : Type 0} (f : files.Ghosts F) (s : BookState F) (e : ReplicaEvent) (before : Option ReplicaInfo) (made : Result ℕ FileError) : Type 0 where
+pub record IsToNote {F : Type 0} (f : files.Ghosts F) (s : BookState F) (e : ReplicaEvent)
+    (before : Option ReplicaInfo) (made : Result ℕ FileError) : Type 0 where
   pub known : s.replica ≡ (row (replica_of s) e).known
   pub of_block : s.replica.block ≡ s.block
   pub before_is : before ≡ (replica_of s).known.info
@@ -73,7 +75,8 @@ pub record IsToNote {F : Type 0} (f : files.Ghosts F) (s : BookState F) (e : Rep
   pub failed : IsErr made → IsHeld f s.drawer s.block s.last_sum (broken (replica_of s))
 
 -- The replica has taken an event that settles what it held, and no call on the files is made yet.
-pub record IsAmid {F : Type 0} (f : files.Ghosts F) (s : BookState F) (e : ReplicaEvent) (prior : Prior) (answer : Answer) (buffer : ℕ) : Type 0 where
+pub record IsAmid {F : Type 0} (f : files.Ghosts F) (s : BookState F) (e : ReplicaEvent) (prior : Prior)
+    (answer : Answer) (buffer : ℕ) : Type 0 where
   pub settled : Event
   pub is : e ≡ replica_event.Other settled
   pub settling : IsSettling settled
@@ -86,7 +89,8 @@ pub record IsAmid {F : Type 0} (f : files.Ghosts F) (s : BookState F) (e : Repli
   pub room : HasRoomFor (f.room s.drawer) s.block settled prior.info buffer
 
 -- The replica has taken an event that makes it, and no call on the files is made yet.
-pub record IsAmidMaking {F : Type 0} (f : files.Ghosts F) (s : BookState F) (e : ReplicaEvent) (prior : Prior) (answer : Answer) (k : ReplicaInfo) (strays : List (List ℕ)) : Type 0 where
+pub record IsAmidMaking {F : Type 0} (f : files.Ghosts F) (s : BookState F) (e : ReplicaEvent) (prior : Prior)
+    (answer : Answer) (k : ReplicaInfo) (strays : List (List ℕ)) : Type 0 where
   pub making : Event
   pub is : e ≡ replica_event.Other making
   pub made_by : IsMadeBy making k

@@ -27,7 +27,8 @@ IsFront front bytes = (rest : List ℕ) × (front ++ rest ≡ bytes)
 
 -- RWR under this stamp, with a front of these bytes
 abbrev pub IsWaiting : Option Found → Stamp → Rule → List ℕ → Type 0
-IsWaiting found stamp sums bytes = (front : List ℕ) × (found ≡ found_as state.Rwr stamp sums front) × IsFront front bytes
+IsWaiting found stamp sums bytes = (front : List ℕ) × (found ≡ found_as state.Rwr stamp sums front) ×
+    IsFront front bytes
 
 -- FINALIZED stays FINALIZED, and all else that isn't TEMPORARY becomes RWR
 abbrev pub settled_state : ReplicaState → ReplicaState
@@ -41,18 +42,22 @@ found_whole (Some h) bytes =
     if is_temporary h.original then None else found_as (settled_state h.original) h.stamp h.sums bytes
 
 -- A replica that broke amid the change from what is held to what the event makes of it.
-pub data MayFindBetween (h : ReplicaInfo) (before : List ℕ) (k : ReplicaInfo) (after : List ℕ) (found : Option Found) : Type 0 where
+pub data MayFindBetween (h : ReplicaInfo) (before : List ℕ) (k : ReplicaInfo) (after : List ℕ) (found : Option Found) :
+    Type 0 where
   -- RWR under the old stamp or the new, with a front of the bytes before or after
   waits_old_before : IsWaiting found h.stamp h.sums before → MayFindBetween h before k after found
   waits_old_after : IsWaiting found h.stamp h.sums after → MayFindBetween h before k after found
   waits_new_before : IsWaiting found k.stamp h.sums before → MayFindBetween h before k after found
   waits_new_after : IsWaiting found k.stamp h.sums after → MayFindBetween h before k after found
   -- FINALIZED as before, if it was
-  stays_final : is_finalized h.original ≡ true → found ≡ found_as state.Finalized h.stamp h.sums before → MayFindBetween h before k after found
+  stays_final : is_finalized h.original ≡ true → found ≡ found_as state.Finalized h.stamp h.sums before →
+      MayFindBetween h before k after found
   -- FINALIZED as the event makes it, if it does
-  becomes_final : is_finalized k.original ≡ true → found ≡ found_as state.Finalized k.stamp h.sums after → MayFindBetween h before k after found
+  becomes_final : is_finalized k.original ≡ true → found ≡ found_as state.Finalized k.stamp h.sums after →
+      MayFindBetween h before k after found
   -- FINALIZED under the old stamp with the bytes of an Update, if it was FINALIZED
-  cut_final : is_finalized h.original ≡ true → is_finalized k.original ≡ true → found ≡ found_as state.Finalized h.stamp h.sums after → MayFindBetween h before k after found
+  cut_final : is_finalized h.original ≡ true → is_finalized k.original ≡ true →
+      found ≡ found_as state.Finalized h.stamp h.sums after → MayFindBetween h before k after found
 
 -- A replica that broke in an event that makes a new one: it is absent, or RWR under its stamp without bytes; a TEMPORARY one is absent.
 abbrev pub MayFindNew : ReplicaInfo → Option Found → Type 0
@@ -74,7 +79,8 @@ abbrev pub MayFindAmid : Option ReplicaInfo → List ℕ → Option ReplicaInfo 
 MayFindAmid None before None after found = found ≡ None
 MayFindAmid None before (Some k) after found = MayFindNew k found
 MayFindAmid (Some h) before None after found = found ≡ found_whole (Some h) before
-MayFindAmid (Some h) before (Some k) after found = MayFindChanged (is_temporary h.original) (is_temporary k.original) h before k after found
+MayFindAmid (Some h) before (Some k) after found =
+    MayFindChanged (is_temporary h.original) (is_temporary k.original) h before k after found
 
 -- A replica that broke in an event, by whether the event changes files.
 abbrev pub MayFindWithin : Bool → FullReplica → FullReplica → Option Found → Type 0

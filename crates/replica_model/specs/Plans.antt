@@ -60,7 +60,8 @@ has_sums kind.Crc32c = true
 -- bytes are written behind those that are there, and the sums from the first chunk that grew, in one piece
 abbrev pub grow_calls : Rule → List ℕ → List ℕ → List BlockCall
 grow_calls r bytes more =
-    WriteData (length bytes) more ∷ when (has_sums r.kind) (WriteMeta (sum_place r (length bytes)) (sums r (tail r bytes ++ more)) ∷ [])
+    WriteData (length bytes) more ∷
+    when (has_sums r.kind) (WriteMeta (sum_place r (length bytes)) (sums r (tail r bytes ++ more)) ∷ [])
 
 -- both files are synced, the data file first
 abbrev pub sync_calls : List BlockCall
@@ -73,13 +74,15 @@ packet_calls r bytes more sync = when (nat_lt 0 (length more)) (grow_calls r byt
 -- the sum of the last chunk is written, if it is short
 abbrev pub last_sum_calls : Rule → List ℕ → List BlockCall
 last_sum_calls r bytes =
-    when (has_sums r.kind && not (length bytes % r.chunk == 0)) (WriteMeta (sum_place r (length bytes)) (sums r (tail r bytes)) ∷ [])
+    when (has_sums r.kind && not (length bytes % r.chunk == 0))
+    (WriteMeta (sum_place r (length bytes)) (sums r (tail r bytes)) ∷ [])
 
 -- Bytes past a length are cut off: the data, then the sum of the last chunk is written if it is short, then the metadata is cut.
 abbrev pub cut_calls : Rule → List ℕ → ℕ → List BlockCall
 cut_calls r bytes n =
     when (nat_lt n (length bytes))
-    (CutData n ∷ (last_sum_calls r (take n bytes) ++ when (nat_lt (meta_len r n) (meta_len r (length bytes))) (CutMeta (meta_len r n) ∷ [])))
+    (CutData n ∷ (last_sum_calls r (take n bytes) ++
+    when (nat_lt (meta_len r n) (meta_len r (length bytes))) (CutMeta (meta_len r n) ∷ [])))
 
 abbrev pub same_folder : Folder → Folder → Bool
 same_folder Rbw Rbw = true
@@ -115,7 +118,8 @@ taken_calls e None (Some k) bytes = create_calls k
 taken_calls e (Some h) None bytes = []
 taken_calls (replica_event.Packet conn p) (Some h) (Some k) bytes =
     packet_calls h.sums bytes (brought (length bytes) (replica_event.Packet conn p)) p.sync
-taken_calls (replica_event.Other e) (Some h) (Some k) bytes = when (leaves_temporary h k) sync_calls ++ settle_calls h k bytes
+taken_calls (replica_event.Other e) (Some h) (Some k) bytes = when (leaves_temporary h k) sync_calls ++
+    settle_calls h k bytes
 
 abbrev pub outcome_calls : ReplicaEvent → Option ReplicaInfo → List ℕ → Outcome → List BlockCall
 outcome_calls e info bytes (Ok taken) = taken_calls e info taken.replica.info bytes

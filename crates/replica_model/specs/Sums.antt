@@ -15,7 +15,8 @@ first_len r offset = r.chunk - offset % r.chunk
 unfoldable pub first_wrong : SumKind → List (List ℕ) → List ℕ → Option ℕ
 first_wrong kind [] stored = None
 first_wrong kind (c ∷ cs) stored =
-    if sum_of kind c == from_be_bytes w32 (take 4 stored) then option_map suc (first_wrong kind cs (drop 4 stored)) else Some 0
+    if sum_of kind c == from_be_bytes w32 (take 4 stored) then option_map suc (first_wrong kind cs (drop 4 stored))
+    else Some 0
 
 -- The least chunk, counting from 0, of a body whose first chunk has so many bytes, whose sum differs. Where there aren't as many sums as chunks, none is looked at.
 unfoldable pub bad_from : Rule → ℕ → List ℕ → List ℕ → Option ℕ

@@ -17,7 +17,8 @@ kind_with number =
 abbrev pub rule_of_kind : Option SumKind → ℕ → Option Rule
 rule_of_kind None chunk = None
 rule_of_kind (Some k) chunk =
-    if nat_le MIN_CHUNK_SIZE chunk && nat_le chunk MAX_CHUNK_SIZE then Some (record { kind = k; chunk = chunk }) else None
+    if nat_le MIN_CHUNK_SIZE chunk && nat_le chunk MAX_CHUNK_SIZE then Some (record { kind = k; chunk = chunk })
+    else None
 
 -- The rule of the kind with this number and of this chunk size, if there is one.
 unfoldable pub rule_with : ℕ → ℕ → Option Rule

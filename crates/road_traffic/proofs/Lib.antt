@@ -1,2 +1,3 @@
 pub mod TrafficLemmas
 pub mod ShowingLemmas
+pub mod CallLemmas

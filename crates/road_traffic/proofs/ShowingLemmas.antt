@@ -1,21 +1,24 @@
 -- What an exchange, and what giving back, make of roads and ends that show a traffic.
 use Rattle.std.proofs.Common.{◌≡◌, ℕ, ◌+◌, ◌-◌, ◌≤◌, ◌<◌, Bool, true, false, List, [], ◌∷◌, ◌++◌, length, drop, Option, Some, None, refl, sym, ap, ◌∙◌, subst, arith}
-use Rattle.std.specs.Prelude.{◌==◌, ◌||◌, ◌&&◌, not, cond, option_map, IsSome, OnOk, OnErr, Result, Ok, Err}
+use Rattle.std.specs.Prelude.{◌==◌, ◌||◌, ◌&&◌, not, cond, option_map, slice_get, ◌↔◌, IsSome, IsNone, IfSome, MatchOption, IfOk, OnOk, OnErr, Result, Ok, Err}
 use Rattle.std.proofs.Math.Seq.{take-length, drop-append_seam}
 use Rattle.std.proofs.lemmas.List.{append-nil}
 use Rattle.std.proofs.lemmas.Option.{same_Some}
 use Rattle.std.proofs.lemmas.Bool.Decides.{nat_tests}
 use Rattle.hd_base.specs.Links.{Inbox, IsEmptyInbox, SentNothing}
 use Rattle.hd_base.specs.Lists.{joined}
-use Rattle.hd_base.specs.Channels.{Carried, Carries, carry, Channel, Plain, filled, is_hungry, unflushed, with_offer, with_dial, with_accept, with_listening}
+use Rattle.hd_base.specs.Channels.{Carried, Carries, carry, Channel, Plain, filled, is_hungry, unflushed, with_offer, standing_of, with_dial, with_accept, with_listening}
 use Rattle.hd_base.specs.Ends.{is_shut, has_failed, IsFresh, IsObservable, KeepsEnd, after_flush as flushed_plain, CarriesOf, FlushesAll, CarriesFlushed, Exchanges, TakesNext, Flushes}
 use Rattle.hd_base.specs.declared.ends.Conn.{Conn}
 use Rattle.hd_base.specs.declared.ends.RoadError.{RoadError}
+use Rattle.hd_base.specs.declared.ends.Standing.{Standing}
+use Rattle.hd_base.specs.declared.ends.Standing.TheVariants as standing
 use Rattle.hd_base.specs.declared.links.LinkIn as link_in
 use Rattle.hd_base.specs.declared.links.LinkOut as link_out
 use Rattle.hd_base.specs.declared.roads.Roads as roads
+use Rattle.hd_base.specs.declared.roads.TheConstants.{FIRST_PORT}
 use Rattle.road_traffic.specs.Traffic.{Traffic, Traffics, no_traffic, channel_of, carried_of, Fits, changed, one_way, draws, flushes, after_flush, after_draw, after_loss, given_up}
-use Rattle.road_traffic.specs.Showing.{Net, IsSane, PlainShows, RoadsShow, IsShutOr, EndIs, no_inbox, with_traffic, flushed_net, drawn_if, exchanged_net, exchanged_inbox, lost_net, dialled_net, accepted_net, listened_net, Remembers, ShowsExchange, ShowsLoss}
+use Rattle.road_traffic.specs.Showing.{Net, IsSane, PlainShows, RoadsShow, IsShutOr, EndIs, no_inbox, with_traffic, flushed_net, drawn_if, exchanged_net, exchanged_inbox, lost_net, dialled_net, accepted_net, listened_net, ShowsAccept, ShowsListen, ShowsStanding, ShowsExchange, ShowsLoss}
 use Rattle.road_traffic.proofs.TrafficLemmas.{changed-at, changed-other, each-traffic, given-shows, taken-shows, flushed-carried, fits-flushes, fits-drawn, fits-given_up, over-flushes, same-itself}
 
 -- THE TRAFFIC OF AN END THAT WAS EXCHANGED
@@ -118,21 +121,9 @@ lost-carried traffic conn lower ms =
     (λ d. ap (λ (t : Traffic). joined t.sent) (changed-at traffic conn (flushes lower true ms) d) ∙ ap joined (lost-sent lower d ms (traffic conn d)))
     (λ c d other. ap (λ (t : Traffic). joined t.sent) (changed-other traffic conn c (flushes lower true ms) d other))
 
-or-false : (b : Bool) → (b || false) ≡ b
-or-false true = refl
-or-false false = refl
-
 or-true : (b : Bool) → (b || true) ≡ true
 or-true true = refl
 or-true false = refl
-
--- What the roads remember of an end whose half was shut before it was brought back: a count falls never.
-pub brought-remembers : (failed late : Bool) (conn : ℕ) (old new : ℕ → Bool) → (failed ≡ true → late ≡ true) → ((c : ℕ) → new c ≡ (old c || ((conn == c) && late))) → Remembers failed conn old new
-brought-remembers failed late conn old new never_falls risen = record {
-  this = λ h. rw (risen conn, same-itself conn, never_falls h) (or-true (old conn));
-  kept = λ c h. rw (risen c, h);
-  others = λ c h. rw (risen c, h) (or-false (old c));
-}
 
 module _ {R I O : Type 0} (r : roads.Ghosts R I O) (i : link_in.Ghosts I) (o : link_out.Ghosts O) where
   -- Roads over plain memory after an end flushed.
@@ -323,11 +314,10 @@ module _ {R I O : Type 0} (r : roads.Ghosts R I O) (i : link_in.Ghosts I) (o : l
   sent-nothing None h e = cc
   sent-nothing (Some l) h e = e
 
-  -- A new end, of a connection without traffic.
-  pub end-new : (traffic : Traffics) (e : Conn I O) → ((d : Bool) → traffic e.id.0 d ≡ no_traffic) → IsFresh i o e → IsObservable i o e → EndIs i o traffic false [] no_inbox e
-  end-new traffic e none f k =
+  -- A new end whose side has sent nothing.
+  end-silent : (traffic : Traffics) (e : Conn I O) → (traffic e.id.0 (not e.lower)).sent ≡ [] → IsFresh i o e → IsObservable i o e → EndIs i o traffic false [] no_inbox e
+  end-silent traffic e nothing f k =
       let unshut : IsShutOr i o false e = record { shut_is = λ j. f.in_open j || f.out_open j; none_lost = f.none_lost } in
-      let nothing : (traffic e.id.0 (not e.lower)).sent ≡ [] = ap (λ (t : Traffic). t.sent) (none (not e.lower)) in
       record {
         sent = sent-nothing _ k.sent f.sent_nothing ∙ ap (λ (l : List (List ℕ)). Some (l ++ [])) (sym nothing);
         flushed = f.none_flushed ∙ ap length (sym nothing);
@@ -335,6 +325,10 @@ module _ {R I O : Type 0} (r : roads.Ghosts R I O) (i : link_in.Ghosts I) (o : l
         outward = λ h. unshut;
         inward = λ h. unshut;
       }
+
+  -- A new end, of a connection without traffic.
+  pub end-new : (traffic : Traffics) (e : Conn I O) → ((d : Bool) → traffic e.id.0 d ≡ no_traffic) → IsFresh i o e → IsObservable i o e → EndIs i o traffic false [] no_inbox e
+  end-new traffic e none = end-silent traffic e (ap (λ (t : Traffic). t.sent) (none (not e.lower)))
 
   -- An end of which all that is observable stays.
   pub end-same : (traffic : Traffics) (shut : Bool) (extra : List (List ℕ)) (inbox : Inbox) (e e' : Conn I O) → KeepsEnd i o e e' → i.held e'.inward ≡ i.held e.inward → o.flushed e'.outward ≡ o.flushed e.outward → EndIs i o traffic shut extra inbox e → EndIs i o traffic shut extra inbox e'
@@ -364,7 +358,7 @@ module _ {R I O : Type 0} (r : roads.Ghosts R I O) (i : link_in.Ghosts I) (o : l
   }
 
   -- An end was shut.
-  end-shut : (traffic : Traffics) (shut : Bool) (extra : List (List ℕ)) (inbox : Inbox) (e : Conn I O) (half : O) → o.shut half ≡ true → o.sent half ≡ o.sent e.outward → o.flushed half ≡ o.flushed e.outward → o.lost half ≡ o.lost e.outward → EndIs i o traffic shut extra inbox e → EndIs i o traffic true extra inbox (record e { outward = half })
+  pub end-shut : (traffic : Traffics) (shut : Bool) (extra : List (List ℕ)) (inbox : Inbox) (e : Conn I O) (half : O) → o.shut half ≡ true → o.sent half ≡ o.sent e.outward → o.flushed half ≡ o.flushed e.outward → o.lost half ≡ o.lost e.outward → EndIs i o traffic shut extra inbox e → EndIs i o traffic true extra inbox (record e { outward = half })
   end-shut traffic shut extra inbox e half is sent flushed lost k =
       let now : IsShutOr i o shut e → IsShutOr i o true (record e { outward = half }) = λ x. record { shut_is = ap (λ b. i.shut e.inward || b) is ∙ or-true (i.shut e.inward); none_lost = lost ∙ x.none_lost } in
       record {
@@ -382,10 +376,41 @@ module _ {R I O : Type 0} (r : roads.Ghosts R I O) (i : link_in.Ghosts I) (o : l
       (roads-brought net road road' true extra inbox (record e { outward = half }) sane b.road_shows (end-shut net.traffic shut extra inbox e half is sent flushed lost b.end_is) plain carries)
   loss-shows e half road road' (Err why) is sent flushed lost plain carries = λ net shut extra inbox sane b. tt
 
-  -- A count that has risen stays so.
-  pub failed-stays : (e : Conn I O) (half : O) → o.faults e.outward ≤ o.faults half → has_failed i o e ≡ true → has_failed i o (record e { outward = half }) ≡ true
-  failed-stays e half never_falls h = grind (arith, nat_tests)
+  -- The oldest dial is accepted, by what the roads' call says.
+  pub accept-shows : (port : ℕ) (road road' : R) (result : Result (Option (Conn I O)) RoadError) →
+      IfOk result (λ found. IfSome (r.plain road) (λ p. IsNone found ↔ (p.waiting port ≡ []))) →
+      IfOk result (λ found. IfSome found (λ c. c.lower ≡ true)) →
+      IfOk result (λ found. IfSome found (λ c. IfSome (r.plain road) (λ p. slice_get (p.waiting port) 0 ≡ Some c.id.0))) →
+      IfOk result (λ found. IfSome found (λ c. IsFresh i o c)) →
+      IfOk result (λ found. IfSome found (λ c. IfSome (r.plain road) (λ _. IsObservable i o c))) →
+      IfOk result (λ found. MatchOption found (r.plain road' ≡ r.plain road) (λ _. r.plain road' ≡ option_map (λ p. with_accept p port) (r.plain road))) →
+      r.carried road' ≡ r.carried road → OnErr result (r.plain road' ≡ r.plain road) →
+      ShowsAccept r i o port road road' result
+  accept-shows port road road' (Ok (Some e)) none lower number fresh observable plain carried err = λ net s. record {
+    number = sym (ap (λ l. slice_get l 0) (s.holds.waiting port)) ∙ (rw s.is at number);
+    side = lower;
+    road_shows = roads-accepted net road road' port s plain carried;
+    end_is = λ nothing. end-silent net.traffic e (ap (λ b. (net.traffic e.id.0 (not b)).sent) lower ∙ nothing) fresh (rw s.is at observable);
+  }
+  accept-shows port road road' (Ok None) none lower number fresh observable plain carried err = λ net s. record {
+    none = sym (s.holds.waiting port) ∙ ((rw s.is at none).0 refl);
+    road_shows = roads-same net road road' s plain carried;
+  }
+  accept-shows port road road' (Err why) none lower number fresh observable plain carried err = λ net s. roads-same net road road' s err carried
 
-  pub loss-remembers : (e : Conn I O) (half : O) (road road' : R) (result : Result (Unit {0}) RoadError) → o.faults e.outward ≤ o.faults half → OnOk result ((c : ℕ) → r.risen road' c ≡ (r.risen road c || ((e.id.0 == c) && has_failed i o (record e { outward = half })))) → OnOk result (Remembers (has_failed i o e) e.id.0 (r.risen road) (r.risen road'))
-  loss-remembers e half road road' (Ok u) never_falls risen = brought-remembers _ _ e.id.0 _ _ (failed-stays e half never_falls) risen
-  loss-remembers e half road road' (Err why) never_falls risen = tt
+  -- A port is listened on.
+  pub listen-shows : (node : ℕ) (road road' : R) (result : Result ℕ RoadError) →
+      OnOk result (r.plain road' ≡ option_map (λ p. with_listening p (FIRST_PORT + node) true) (r.plain road)) →
+      r.carried road' ≡ r.carried road → OnErr result (r.plain road' ≡ r.plain road) → ShowsListen r node road road' result
+  listen-shows node road road' (Ok port) plain carried err = λ net s. roads-listened net road road' (FIRST_PORT + node) true s plain carried
+  listen-shows node road road' (Err why) plain carried err = λ net s. roads-same net road road' s err carried
+
+  -- What stands next.
+  pub standing-shows : (conn : ℕ) (down : Bool) (road road' : R) (result : Standing) →
+      MatchOption (r.plain road) (result ≡ standing.Nothing) (λ p. result ≡ standing_of (p.channels conn down)) →
+      r.plain road' ≡ r.plain road → r.carried road' ≡ r.carried road → (net : Net) → RoadsShow r net road →
+      ShowsStanding r net conn down road' result
+  standing-shows conn down road road' result next plain carried net s = record {
+    road_shows = roads-same net road road' s plain carried;
+    is = λ h. (rw s.is at next) ∙ ap standing_of (s.holds.channels conn down h);
+  }

@@ -1,2 +1,3 @@
 pub mod Traffic
 pub mod Showing
+pub mod Laws

@@ -1,14 +1,15 @@
 -- Roads and the ends of connections show a traffic: what they hold and have carried is what the traffic says.
-use Rattle.std.specs.Prelude.{◌≡◌, ℕ, ◌+◌, ◌≤◌, ◌==◌, not, Bool, true, false, cond, List, [], ◌∷◌, ◌++◌, length, drop, Some, None, is_some, option_map, OnOk, Result, Ok, Err}
+use Rattle.std.specs.Prelude.{◌≡◌, ℕ, ◌+◌, ◌≤◌, ◌==◌, not, Bool, true, false, cond, List, [], ◌∷◌, ◌++◌, length, drop, slice_get, Option, Some, None, is_some, option_map, OnOk, Result, Ok, Err}
 use Rattle.hd_base.specs.Links.{Inbox}
-use Rattle.hd_base.specs.Channels.{Plain, next_inbox}
+use Rattle.hd_base.specs.Channels.{Plain, next_inbox, standing_of}
 use Rattle.hd_base.specs.Ends.{is_shut}
 use Rattle.hd_base.specs.declared.ends.Conn.{Conn}
 use Rattle.hd_base.specs.declared.ends.RoadError.{RoadError}
-use Rattle.hd_base.specs.declared.ends.RoadError.TheVariants as road_error
+use Rattle.hd_base.specs.declared.ends.Standing.{Standing}
 use Rattle.hd_base.specs.declared.links.LinkIn as link_in
 use Rattle.hd_base.specs.declared.links.LinkOut as link_out
 use Rattle.hd_base.specs.declared.roads.Roads as roads
+use Rattle.hd_base.specs.declared.roads.TheConstants.{FIRST_PORT}
 use Rattle.road_traffic.specs.Traffic.{Traffic, Traffics, no_traffic, on_way, channel_of, carried_of, Fits, after_flush, after_draw, after_loss}
 
 -- All connections: how many were dialled, the ports that are listened on, the dials that wait by port, and the traffic.
@@ -38,13 +39,15 @@ pub record RoadsShow {R I O : Type 0} (r : roads.Ghosts R I O) (net : Net) (road
   pub carried : r.carried road ≡ option_map (λ _. carried_of net.traffic) (r.carried road)
 
 -- An end is shut or not, and nothing that it sent is lost.
-pub record IsShutOr {I O : Type 0} (i : link_in.Ghosts I) (o : link_out.Ghosts O) (shut : Bool) (end : Conn I O) : Type 0 where
+pub record IsShutOr {I O : Type 0} (i : link_in.Ghosts I) (o : link_out.Ghosts O) (shut : Bool) (end : Conn I O) : Type
+    0 where
   pub shut_is : is_shut i o end ≡ shut
   pub none_lost : o.lost end.outward ≡ 0
 
 -- An end in the middle of an event: it has sent these messages past those of the traffic, was shut since or not, and holds this. Where the end of
 -- a direction stands already nothing is said of shuts and losses.
-pub record EndIs {I O : Type 0} (i : link_in.Ghosts I) (o : link_out.Ghosts O) (traffic : Traffics) (shut : Bool) (extra : List (List ℕ)) (inbox : Inbox) (at_end : Conn I O) : Type 0 where
+pub record EndIs {I O : Type 0} (i : link_in.Ghosts I) (o : link_out.Ghosts O) (traffic : Traffics) (shut : Bool)
+    (extra : List (List ℕ)) (inbox : Inbox) (at_end : Conn I O) : Type 0 where
   pub sent : o.sent at_end.outward ≡ Some ((traffic at_end.id.0 (not at_end.lower)).sent ++ extra)
   pub flushed : o.flushed at_end.outward ≡ length (traffic at_end.id.0 (not at_end.lower)).sent
   pub held : i.held at_end.inward ≡ Some inbox
@@ -115,45 +118,66 @@ abbrev pub MayTake : Net → Bool → Inbox → ℕ → Bool → Type 0
 MayTake net takes inbox conn lower = takes ≡ true → (inbox ≡ no_inbox) × ((net.traffic conn lower).over ≡ false)
 
 -- The roads and this end of theirs show the connections.
-pub record BothShow {R I O : Type 0} (r : roads.Ghosts R I O) (i : link_in.Ghosts I) (o : link_out.Ghosts O) (net : Net) (shut : Bool) (extra : List (List ℕ)) (inbox : Inbox) (road : R) (at_end : Conn I O) : Type 0 where
+pub record BothShow {R I O : Type 0} (r : roads.Ghosts R I O) (i : link_in.Ghosts I) (o : link_out.Ghosts O)
+    (net : Net) (shut : Bool) (extra : List (List ℕ)) (inbox : Inbox) (road : R) (at_end : Conn I O) : Type 0 where
   pub road_shows : RoadsShow r net road
   pub end_is : EndIs i o net.traffic shut extra inbox at_end
 
 -- Whatever connections roads and end show: after an exchange they show them with what was flushed and taken, and after one that failed they show
 -- what they did.
-abbrev pub ShowsExchange : {R I O : Type 0} → roads.Ghosts R I O → link_in.Ghosts I → link_out.Ghosts O → Bool → Conn I O → Conn I O → R → R → Result (Unit {0}) RoadError → Type 0
+abbrev pub ShowsExchange : {R I O : Type 0} → roads.Ghosts R I O → link_in.Ghosts I → link_out.Ghosts O → Bool →
+    Conn I O → Conn I O → R → R → Result (Unit {0}) RoadError → Type 0
 ShowsExchange r i o takes old new road road' result =
-    (net : Net) (shut : Bool) (extra : List (List ℕ)) (inbox : Inbox) → IsSane net → BothShow r i o net shut extra inbox road old
+    (net : Net) (shut : Bool) (extra : List (List ℕ)) (inbox : Inbox) → IsSane net →
+    BothShow r i o net shut extra inbox road old
     → MayTake net takes inbox old.id.0 old.lower
     → ResultIs result
-    (BothShow r i o (exchanged_net net old.id.0 old.lower takes shut extra) false [] (exchanged_inbox net old.id.0 old.lower takes shut extra inbox) road' new)
+    (BothShow r i o (exchanged_net net old.id.0 old.lower takes shut extra) false []
+    (exchanged_inbox net old.id.0 old.lower takes shut extra inbox) road' new)
     (BothShow r i o net shut extra inbox road' new)
 
 -- Whatever connections roads and end show: once the end was given up, the roads show that.
-abbrev pub ShowsLoss : {R I O : Type 0} → roads.Ghosts R I O → link_in.Ghosts I → link_out.Ghosts O → Conn I O → R → R → Result (Unit {0}) RoadError → Type 0
+abbrev pub ShowsLoss : {R I O : Type 0} → roads.Ghosts R I O → link_in.Ghosts I → link_out.Ghosts O → Conn I O → R →
+    R → Result (Unit {0}) RoadError → Type 0
 ShowsLoss r i o end road road' result =
-    (net : Net) (shut : Bool) (extra : List (List ℕ)) (inbox : Inbox) → IsSane net → BothShow r i o net shut extra inbox road end
+    (net : Net) (shut : Bool) (extra : List (List ℕ)) (inbox : Inbox) → IsSane net →
+    BothShow r i o net shut extra inbox road end
     → OnOk result (RoadsShow r (lost_net net end.id.0 end.lower extra) road')
 
--- The roads remember of the connection of an end that was brought back whether a count of it had risen, and of all others what they did.
-pub record Remembers (failed : Bool) (conn : ℕ) (old new : ℕ → Bool) : Type 0 where
-  pub this : failed ≡ true → new conn ≡ true
-  pub kept : (c : ℕ) → old c ≡ true → new c ≡ true
-  pub others : (c : ℕ) → (conn == c) ≡ false → new c ≡ old c
+-- WHAT CALLS MAKE OF ROADS ALONE
 
--- How a dial went.
-pub record ShowsDialled {R I O : Type 0} (r : roads.Ghosts R I O) (i : link_in.Ghosts I) (o : link_out.Ghosts O) (net : Net) (port : ℕ) (road : R) (at_end : Conn I O) : Type 0 where
-  pub number : at_end.id.0 ≡ net.conns
-  pub upper : at_end.lower ≡ false
-  pub listened : net.listens port ≡ true
-  pub both : BothShow r i o (dialled_net net port) false [] no_inbox road at_end
+-- The lower end of the oldest dial that waits at a port. It shows a connection on which its side has sent nothing.
+pub record ShowsAccepted {R I O : Type 0} (r : roads.Ghosts R I O) (i : link_in.Ghosts I) (o : link_out.Ghosts O)
+    (net : Net) (port : ℕ) (road : R) (at_end : Conn I O) : Type 0 where
+  pub number : slice_get (net.waiting port) 0 ≡ Some at_end.id.0
+  pub side : at_end.lower ≡ true
+  pub road_shows : RoadsShow r (accepted_net net port) road
+  pub end_is : (net.traffic at_end.id.0 false).sent ≡ [] → EndIs i o net.traffic false [] no_inbox at_end
 
--- The roads show what they did, and nobody listens on the port, or their count of faults rose, or memory ran out.
-pub record ShowsUndialled {R I O : Type 0} (r : roads.Ghosts R I O) (net : Net) (port : ℕ) (why : RoadError) (old new : R) : Type 0 where
-  pub road_shows : RoadsShow r net new
-  pub cause : why ≡ road_error.NotListening → net.listens port ≡ false
+-- No dial waits at the port.
+pub record ShowsNobody {R I O : Type 0} (r : roads.Ghosts R I O) (net : Net) (port : ℕ) (road : R) : Type 0 where
+  pub none : net.waiting port ≡ []
+  pub road_shows : RoadsShow r net road
 
--- Whatever connections the roads show: a dial that is answered is the next one, and waits at its port; one that isn't changes nothing.
-abbrev pub ShowsDial : {R I O : Type 0} → roads.Ghosts R I O → link_in.Ghosts I → link_out.Ghosts O → ℕ → R → R → Result (Conn I O) RoadError → Type 0
-ShowsDial r i o port old new (Ok end) = (net : Net) → IsSane net → RoadsShow r net old → ShowsDialled r i o net port new end
-ShowsDial r i o port old new (Err why) = (net : Net) → IsSane net → RoadsShow r net old → ShowsUndialled r net port why old new
+-- Whatever connections the roads show: the oldest dial that waits is accepted, if one does.
+abbrev pub ShowsAccept : {R I O : Type 0} → roads.Ghosts R I O → link_in.Ghosts I → link_out.Ghosts O → ℕ → R → R →
+    Result (Option (Conn I O)) RoadError → Type 0
+ShowsAccept r i o port old new (Ok (Some end)) = (net : Net) → RoadsShow r net old →
+    ShowsAccepted r i o net port new end
+ShowsAccept r i o port old new (Ok None) = (net : Net) → RoadsShow r net old → ShowsNobody r net port new
+ShowsAccept r i o port old new (Err why) = (net : Net) → RoadsShow r net old → RoadsShow r net new
+
+-- Whatever connections the roads show: a node's port is listened on.
+abbrev pub ShowsListen : {R I O : Type 0} → roads.Ghosts R I O → ℕ → R → R → Result ℕ RoadError → Type 0
+ShowsListen r node old new result = (net : Net) → RoadsShow r net old →
+    ResultIs result (RoadsShow r (listened_net net (FIRST_PORT + node) true) new) (RoadsShow r net new)
+
+-- what stands next on a direction
+abbrev pub standing_on : Traffic → Standing
+standing_on t = standing_of (channel_of t)
+
+-- Whatever connections the roads show: what stands next, where the direction's taker hasn't gone.
+pub record ShowsStanding {R I O : Type 0} (r : roads.Ghosts R I O) (net : Net) (conn : ℕ) (down : Bool) (road : R)
+    (result : Standing) : Type 0 where
+  pub road_shows : RoadsShow r net road
+  pub is : (net.traffic conn down).over ≡ false → result ≡ standing_on (net.traffic conn down)

@@ -3,5 +3,10 @@
 #![tactic(auto)]
 
 mod ends;
+mod laws;
 
-pub use ends::{dial, give_up, pass};
+pub use ends::{accept, listen, standing};
+pub use laws::{
+    brings_show, dials_show, exchanges_show, kept_show, losses_show, quiet_show, sends_show,
+    shuts_show, takes_show,
+};

@@ -28,7 +28,15 @@ pub record Before : Type 0 where
 
 -- before the first line
 abbrev pub start : Before
-start = record { head = head.Nodes; nodes = 0; stopped = λ node. false; stage = λ block. None; created = 0; written = 0; read = 0 }
+start = record {
+  head = head.Nodes;
+  nodes = 0;
+  stopped = λ node. false;
+  stage = λ block. None;
+  created = 0;
+  written = 0;
+  read = 0;
+}
 
 -- a block that was created and isn't closed
 abbrev pub is_open : Option Stage → Bool
@@ -62,14 +70,18 @@ block_rule test before block = (kind.Block, test (before.stage block.0))
 -- of a block but `expect` behind its create; `stop` of a running node and `start` of a stopped one; and the sums of lengths.
 abbrev pub fit_rules : Before → Instruction → List (BadKind × Bool)
 fit_rules before (says.Sums block rule) = block_rule is_none before block ∷ []
-fit_rules before (says.Create block members) = (kind.Block, not (is_created (before.stage block.0)) && nat_lt before.created most_blocks) ∷ []
+fit_rules before (says.Create block members) =
+    (kind.Block, not (is_created (before.stage block.0)) && nat_lt before.created most_blocks) ∷ []
 fit_rules before (says.Append block members) = block_rule is_closed before block ∷ []
-fit_rules before (says.Write block bytes) = block_rule is_open before block ∷ (kind.TooMuch, nat_le (before.written + length bytes) most_bytes) ∷ []
-fit_rules before (says.Fill block count) = block_rule is_open before block ∷ (kind.TooMuch, nat_le (before.written + count) most_bytes) ∷ []
+fit_rules before (says.Write block bytes) = block_rule is_open before block ∷
+    (kind.TooMuch, nat_le (before.written + length bytes) most_bytes) ∷ []
+fit_rules before (says.Fill block count) = block_rule is_open before block ∷
+    (kind.TooMuch, nat_le (before.written + count) most_bytes) ∷ []
 fit_rules before (says.Hflush block) = block_rule is_open before block ∷ []
 fit_rules before (says.Hsync block) = block_rule is_open before block ∷ []
 fit_rules before (says.Close block) = block_rule is_open before block ∷ []
-fit_rules before (says.Read block node offset count) = block_rule is_created before block ∷ (kind.TooMuch, nat_le (before.read + count) most_bytes) ∷ []
+fit_rules before (says.Read block node offset count) = block_rule is_created before block ∷
+    (kind.TooMuch, nat_le (before.read + count) most_bytes) ∷ []
 fit_rules before (says.Recover block node members) = block_rule is_created before block ∷ []
 fit_rules before (says.Cut block connection down up) = block_rule is_created before block ∷ []
 fit_rules before (says.Step block event) = block_rule is_created before block ∷ []
@@ -114,11 +126,13 @@ created_now before block =
 -- so many bytes written to a block, and so many read of it
 abbrev pub wrote : Before → BlockId → ℕ → Result Before BadKind
 wrote before block count =
-    by_rules (block_rule is_open before block ∷ (kind.TooMuch, nat_le (before.written + count) most_bytes) ∷ []) (record before { written = before.written + count })
+    by_rules (block_rule is_open before block ∷ (kind.TooMuch, nat_le (before.written + count) most_bytes) ∷ [])
+    (record before { written = before.written + count })
 
 abbrev pub has_read : Before → BlockId → ℕ → Result Before BadKind
 has_read before block count =
-    by_rules (block_rule is_created before block ∷ (kind.TooMuch, nat_le (before.read + count) most_bytes) ∷ []) (record before { read = before.read + count })
+    by_rules (block_rule is_created before block ∷ (kind.TooMuch, nat_le (before.read + count) most_bytes) ∷ [])
+    (record before { read = before.read + count })
 
 -- a node that stops, and one that starts
 abbrev pub stopped_now : Before → NodeId → Result Before BadKind

@@ -25,7 +25,8 @@ abbrev pub AreGood : ℕ → ℕ → Before → List (List ℕ) → List ScriptL
 AreGood shelves number before [] said = (said ≡ []) × (head_is_there before.head ≡ true)
 AreGood shelves number before (line ∷ lines) said =
     ((line_said shelves number before line ≡ Ok None) × AreGood shelves (number + 1) before lines said)
-    ⊎ ((i : Instruction) × (rest : List ScriptLine) × (line_said shelves number before line ≡ Ok (Some i)) × AllKept (fit_rules before i)
+    ⊎ ((i : Instruction) × (rest : List ScriptLine) × (line_said shelves number before line ≡ Ok (Some i)) ×
+    AllKept (fit_rules before i)
     × (said ≡ numbered number i ∷ rest) × AreGood shelves (number + 1) (after before i) lines rest)
 
 -- A text is a script of these lines.

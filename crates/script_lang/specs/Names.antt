@@ -39,8 +39,10 @@ keyword_name keyword.Expect = codes "expect"
 
 abbrev pub keywords : List Keyword
 keywords =
-    keyword.Sums ∷ keyword.Create ∷ keyword.Append ∷ keyword.Write ∷ keyword.Fill ∷ keyword.Hflush ∷ keyword.Hsync ∷ keyword.Close ∷ keyword.Read ∷ keyword.Recover
-    ∷ keyword.Cut ∷ keyword.Fault ∷ keyword.Stop ∷ keyword.Start ∷ keyword.Run ∷ keyword.Settle ∷ keyword.Step ∷ keyword.Expect ∷ []
+    keyword.Sums ∷ keyword.Create ∷ keyword.Append ∷ keyword.Write ∷ keyword.Fill ∷ keyword.Hflush ∷ keyword.Hsync ∷
+    keyword.Close ∷ keyword.Read ∷ keyword.Recover
+    ∷ keyword.Cut ∷ keyword.Fault ∷ keyword.Stop ∷ keyword.Start ∷ keyword.Run ∷ keyword.Settle ∷ keyword.Step ∷
+    keyword.Expect ∷ []
 
 -- a kind of sums
 unfoldable pub sum_name : SumKind → List ℕ

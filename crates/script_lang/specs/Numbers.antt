@@ -16,7 +16,8 @@ value_of word = read_on 0 word
 -- The number of further digits behind those of n, as far as each number on the way has 64 bits.
 abbrev pub digits_on : ℕ → List ℕ → Result ℕ BadKind
 digits_on n [] = Ok n
-digits_on n (c ∷ cs) = if is_digit c && nat_lt (n * 10 + (c - 48)) (2 ^ 64) then digits_on (n * 10 + (c - 48)) cs else Err kind.Number
+digits_on n (c ∷ cs) = if is_digit c && nat_lt (n * 10 + (c - 48)) (2 ^ 64) then digits_on (n * 10 + (c - 48)) cs
+    else Err kind.Number
 
 -- whether a word is a decimal number of 64 bits
 abbrev pub is_number : List ℕ → Bool
@@ -57,7 +58,8 @@ numbers_of word = map value_of (items_of word)
 
 -- whether the items are members of a pipeline: at most 16 distinct nodes
 abbrev pub are_members : ℕ → List ℕ → Bool
-are_members nodes word = list_all (is_member nodes) (items_of word) && nat_le (length (items_of word)) 16 && are_distinct (numbers_of word)
+are_members nodes word = list_all (is_member nodes) (items_of word) && nat_le (length (items_of word)) 16 &&
+    are_distinct (numbers_of word)
 
 -- the node of a number
 abbrev pub node : ℕ → NodeId

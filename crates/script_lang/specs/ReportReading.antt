@@ -78,12 +78,14 @@ result_name word.NoneUpdated = codes "noneupdated"
 
 abbrev pub results : List ResultWord
 results =
-    word.Ok ∷ word.Abandoned ∷ word.AllBad ∷ word.Lost ∷ word.Refused ∷ word.Waiting ∷ word.BadSum ∷ word.Malformed ∷ word.Ended ∷ word.Nothing ∷ word.Unequal
+    word.Ok ∷ word.Abandoned ∷ word.AllBad ∷ word.Lost ∷ word.Refused ∷ word.Waiting ∷ word.BadSum ∷ word.Malformed ∷
+    word.Ended ∷ word.Nothing ∷ word.Unequal
     ∷ word.NoneUpdated ∷ []
 
 abbrev pub refusals : List OfficeRefusal
 refusals =
-    refusal.Known ∷ refusal.Unknown ∷ refusal.NotOpen ∷ refusal.NotClosed ∷ refusal.LeaseLost ∷ refusal.OldStamp ∷ refusal.OldRecovery ∷ refusal.TooLong
+    refusal.Known ∷ refusal.Unknown ∷ refusal.NotOpen ∷ refusal.NotClosed ∷ refusal.LeaseLost ∷ refusal.OldStamp ∷
+    refusal.OldRecovery ∷ refusal.TooLong
     ∷ refusal.Memory ∷ []
 
 -- what a word names among these
@@ -344,7 +346,8 @@ HoldsRecovery _ = Unit {0}
 -- The numbers of a line have the bits of their types, and its members are some.
 abbrev pub Holds : ReportLine → Type 0
 Holds (line.Replica n block state stamp written acked sum) =
-    (n.0 < 2 ^ 32) × (block.0 < 2 ^ 64) × (stamp.0 < 2 ^ 64) × (written < 2 ^ 64) × (acked < 2 ^ 64) × IfSome sum (λ s. s < 2 ^ 32)
+    (n.0 < 2 ^ 32) × (block.0 < 2 ^ 64) × (stamp.0 < 2 ^ 64) × (written < 2 ^ 64) × (acked < 2 ^ 64) ×
+    IfSome sum (λ s. s < 2 ^ 32)
 Holds (line.Down n) = n.0 < 2 ^ 32
 Holds (line.Answer block ordinal result) = (block.0 < 2 ^ 64) × (ordinal < 2 ^ 64) × HoldsAnswer result
 Holds (line.Read number result) = (number < 2 ^ 64) × HoldsRead result

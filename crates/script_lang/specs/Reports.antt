@@ -110,7 +110,8 @@ recovery_words recovery.Ended = codes "ended" ∷ []
 
 abbrev pub line_words : ReportLine → List (List ℕ)
 line_words (line.Replica node block state stamp written acked sum) =
-    codes "replica" ∷ decimal node.0 ∷ decimal block.0 ∷ state_name state ∷ decimal stamp.0 ∷ decimal written ∷ decimal acked ∷ sum_words sum
+    codes "replica" ∷ decimal node.0 ∷ decimal block.0 ∷ state_name state ∷ decimal stamp.0 ∷ decimal written ∷
+    decimal acked ∷ sum_words sum
 line_words (line.Down node) = codes "down" ∷ decimal node.0 ∷ []
 line_words (line.Answer block ordinal result) = codes "answer" ∷ decimal block.0 ∷ decimal ordinal ∷ answer_words result
 line_words (line.Read number result) = codes "read" ∷ decimal number ∷ read_words result

@@ -72,11 +72,15 @@ node_rule nodes word = (kind.Node, nat_lt (value_of word) nodes)
 
 -- the rule of sums that a kind and a word make
 abbrev pub rule_said : SumKind → List ℕ → Result Rule BadKind
-rule_said sum_kind chunk = by_rules ((kind.Number, is_number_within 16 65536 chunk) ∷ []) (record { kind = sum_kind; chunk = value_of chunk })
+rule_said sum_kind chunk = by_rules ((kind.Number, is_number_within 16 65536 chunk) ∷ []) (record {
+  kind = sum_kind;
+  chunk = value_of chunk;
+})
 
 -- the members that a word names
 abbrev pub members_said : ℕ → List ℕ → Result (List NodeId) BadKind
-members_said nodes word = by_rules ((kind.Number, are_items word) ∷ (kind.Member, are_members nodes word) ∷ []) (members_of word)
+members_said nodes word = by_rules ((kind.Number, are_items word) ∷
+    (kind.Member, are_members nodes word) ∷ []) (members_of word)
 
 -- ---- the head
 
@@ -84,7 +88,8 @@ members_said nodes word = by_rules ((kind.Number, are_items word) ∷ (kind.Memb
 unfoldable pub nodes_said : ℕ → List (List ℕ) → Result Instruction BadKind
 nodes_said shelves words = do
   count ← one_of words
-  by_rules ((kind.Number, is_number_within 1 16 count) ∷ (kind.TooManyNodes, nat_le (value_of count) shelves) ∷ []) (says.Nodes (value_of count))
+  by_rules ((kind.Number, is_number_within 1 16 count) ∷ (kind.TooManyNodes, nat_le (value_of count) shelves) ∷ [])
+      (says.Nodes (value_of count))
 
 -- `seed S`
 unfoldable pub seed_said : List (List ℕ) → Result Instruction BadKind
@@ -106,7 +111,8 @@ sums_said words = do
 
 -- `create B MEMBERS`, `append B MEMBERS`
 abbrev pub members_rules : ℕ → List ℕ → List ℕ → List (BadKind × Bool)
-members_rules nodes block members = (kind.Number, is_number block && are_items members) ∷ (kind.Member, are_members nodes members) ∷ []
+members_rules nodes block members = (kind.Number, is_number block && are_items members) ∷
+    (kind.Member, are_members nodes members) ∷ []
 
 unfoldable pub create_said : ℕ → List (List ℕ) → Result Instruction BadKind
 create_said nodes words = do
@@ -128,7 +134,8 @@ write_said words = do
 unfoldable pub fill_said : List (List ℕ) → Result Instruction BadKind
 fill_said words = do
   w ← two_of words
-  by_rules ((kind.Number, is_number w.0 && is_number_within 1 (2 ^ 64 - 1) w.1) ∷ []) (says.Fill (block_of w.0) (value_of w.1))
+  by_rules ((kind.Number, is_number w.0 && is_number_within 1 (2 ^ 64 - 1) w.1) ∷ [])
+      (says.Fill (block_of w.0) (value_of w.1))
 
 -- `hflush B`, `hsync B`, `close B`: a block alone
 unfoldable pub block_said : List (List ℕ) → Result BlockId BadKind
@@ -140,26 +147,30 @@ block_said words = do
 unfoldable pub read_said : ℕ → List (List ℕ) → Result Instruction BadKind
 read_said nodes words = do
   w ← four_of words
-  by_rules (numbers_rule (w.0 ∷ w.1 ∷ w.2 ∷ w.3 ∷ []) ∷ node_rule nodes w.1 ∷ []) (says.Read (block_of w.0) (node_of w.1) (value_of w.2) (value_of w.3))
+  by_rules (numbers_rule (w.0 ∷ w.1 ∷ w.2 ∷ w.3 ∷ []) ∷
+      node_rule nodes w.1 ∷ []) (says.Read (block_of w.0) (node_of w.1) (value_of w.2) (value_of w.3))
 
 -- `recover B NODE MEMBERS`
 unfoldable pub recover_said : ℕ → List (List ℕ) → Result Instruction BadKind
 recover_said nodes words = do
   w ← three_of words
-  by_rules ((kind.Number, is_number w.0 && is_number w.1 && are_items w.2) ∷ (kind.Member, are_members nodes w.2) ∷ node_rule nodes w.1 ∷ [])
+  by_rules ((kind.Number, is_number w.0 && is_number w.1 && are_items w.2) ∷ (kind.Member, are_members nodes w.2) ∷
+      node_rule nodes w.1 ∷ [])
       (says.Recover (block_of w.0) (node_of w.1) (members_of w.2))
 
 -- `cut B K DOWN UP`
 unfoldable pub cut_said : List (List ℕ) → Result Instruction BadKind
 cut_said words = do
   w ← four_of words
-  by_rules (numbers_rule (w.0 ∷ w.1 ∷ w.2 ∷ w.3 ∷ []) ∷ []) (says.Cut (block_of w.0) (value_of w.1) (value_of w.2) (value_of w.3))
+  by_rules (numbers_rule (w.0 ∷ w.1 ∷ w.2 ∷ w.3 ∷ []) ∷ [])
+      (says.Cut (block_of w.0) (value_of w.1) (value_of w.2) (value_of w.3))
 
 -- `fault NODE NTH`
 unfoldable pub fault_said : ℕ → List (List ℕ) → Result Instruction BadKind
 fault_said nodes words = do
   w ← two_of words
-  by_rules ((kind.Number, is_number w.0 && is_number_within 1 (2 ^ 64 - 1) w.1) ∷ node_rule nodes w.0 ∷ []) (says.Fault (node_of w.0) (value_of w.1))
+  by_rules ((kind.Number, is_number w.0 && is_number_within 1 (2 ^ 64 - 1) w.1) ∷
+      node_rule nodes w.0 ∷ []) (says.Fault (node_of w.0) (value_of w.1))
 
 -- `stop NODE`, `start NODE`: a node alone
 unfoldable pub node_said : ℕ → List (List ℕ) → Result NodeId BadKind

@@ -37,7 +37,8 @@ some_said (Err kind) = Err kind
 
 unfoldable pub words_said : ℕ → Before → List (List ℕ) → Result (Option Instruction) BadKind
 words_said shelves before [] = Ok None
-words_said shelves before (word ∷ words) = if is_comment word then Ok None else some_said (command_said before.head shelves before.nodes word words)
+words_said shelves before (word ∷ words) = if is_comment word then Ok None
+    else some_said (command_said before.head shelves before.nodes word words)
 
 -- the most lines of a script, and the most bytes
 abbrev pub most_lines : ℕ
@@ -58,7 +59,8 @@ line_said shelves number before line =
 -- what the lines up to this one tell, and the lines that said something
 abbrev pub told : ℕ → Before → List ScriptLine → Option Instruction → Result (Before × List ScriptLine) BadKind
 told number before said None = Ok (before, said)
-told number before said (Some line) = taken before line >>= (λ next. Ok (next, said ++ record { number = number; instruction = line } ∷ []))
+told number before said (Some line) = taken before line >>=
+    (λ next. Ok (next, said ++ record { number = number; instruction = line } ∷ []))
 
 unfoldable pub line_told : ℕ → ℕ → Before → List ScriptLine → List ℕ → Result (Before × List ScriptLine) BadKind
 line_told shelves number before said line = line_said shelves number before line >>= told number before said
@@ -71,11 +73,13 @@ head_is_there _ = false
 unfoldable pub script_from : ℕ → ℕ → Before → List ScriptLine → List (List ℕ) → Result (List ScriptLine) (ℕ × BadKind)
 script_from shelves number before said [] = if head_is_there before.head then Ok said else Err (number, kind.Head)
 script_from shelves number before said (line ∷ lines) =
-    with_cause (λ kind. (number, kind)) (line_told shelves number before said line) >>= (λ next. script_from shelves (number + 1) next.0 next.1 lines)
+    with_cause (λ kind. (number, kind)) (line_told shelves number before said line) >>=
+    (λ next. script_from shelves (number + 1) next.0 next.1 lines)
 
 -- The script that a text is, or its first bad line and the first rule that this breaks.
 unfoldable pub script_of : ℕ → List ℕ → Result (List ScriptLine) (ℕ × BadKind)
-script_of shelves text = if nat_le (length text) most_size then script_from shelves 1 start [] (lines_of text) else Err (0, kind.TooLong)
+script_of shelves text = if nat_le (length text) most_size then script_from shelves 1 start [] (lines_of text)
+    else Err (0, kind.TooLong)
 
 -- The result is what was said, or memory ran out.
 abbrev pub Reads : {A : Type 0} → Result A ScriptError → Result A (ℕ × BadKind) → Type 0

@@ -55,7 +55,8 @@ words_of (c ∷ cs) =
 -- The parts of a text: what stands between these bytes, which may be nothing.
 abbrev pub parts_of : ℕ → List ℕ → List (List ℕ)
 parts_of separator [] = [] ∷ []
-parts_of separator (c ∷ cs) = if c == separator then [] ∷ parts_of separator cs else into_first c (parts_of separator cs)
+parts_of separator (c ∷ cs) = if c == separator then [] ∷ parts_of separator cs
+    else into_first c (parts_of separator cs)
 
 -- the first part of a text, and what stands behind its separator, or nothing where it is the last
 abbrev pub IsFirstPart : ℕ → List ℕ → List ℕ → Option (Bor (List ℕ)) → Type 0

@@ -70,9 +70,13 @@ reached_answer b waits _ = None
 -- What a writer has done in its own step: it took a command, with these bytes, sent a packet, or answered. A step that waits or asks is none.
 abbrev pub did : World → ℕ → Option Waiting → Action → WriterRecord → List ℕ → Option Change
 did w b waits action.Took x bytes = Some (record (writer_change w b x) { session = w.latest b; bytes = bytes })
-did w b waits (action.Send p) x bytes = Some (record (writer_change w b x) { downs = sent_on (w.writers b).conn (packet p ∷ []) })
+did w b waits (action.Send p) x bytes =
+    Some (record (writer_change w b x) { downs = sent_on (w.writers b).conn (packet p ∷ []) })
 did w b waits (action.Answered n a) x bytes =
-    Some (record (writer_change w b x) { said = record { ordinal = n; answer = a } ∷ []; answered = reached_answer b waits a })
+    Some (record (writer_change w b x) {
+      said = record { ordinal = n; answer = a } ∷ [];
+      answered = reached_answer b waits a;
+    })
 did w b waits _ x bytes = None
 
 abbrev pub did_step : World → ℕ → Option Waiting → writer.Step → List ℕ → Option Change
@@ -83,7 +87,10 @@ abbrev pub dialled_change : World → ℕ → WriterRecord → NodeId → Op →
 dialled_change w b x to r true = record (still w) {
   writer_at = b;
   writer = record { known = dialled x true; conn = Some w.next_conn; told = None };
-  dials = record { dialled = record { upper = by_writer b; from = None; to = place_of w to.0 }; request = request r } ∷ [];
+  dials = record {
+    dialled = record { upper = by_writer b; from = None; to = place_of w to.0 };
+    request = request r;
+  } ∷ [];
 }
 dialled_change w b x to r false = writer_change w b (dialled x false)
 
@@ -113,7 +120,8 @@ are_members nodes = nat_le (length nodes) MAX_MEMBERS && are_distinct nodes
 
 -- what a command's type keeps: members that are at most 16 and distinct, and a rule with a chunk size
 abbrev pub is_formed : Command → Rule → Bool
-is_formed (command.Create members) rule = are_members members && nat_le MIN_CHUNK_SIZE rule.chunk && nat_le rule.chunk MAX_CHUNK_SIZE
+is_formed (command.Create members) rule = are_members members && nat_le MIN_CHUNK_SIZE rule.chunk &&
+    nat_le rule.chunk MAX_CHUNK_SIZE
 is_formed (command.Append members) rule = are_members members
 is_formed _ rule = true
 
@@ -142,7 +150,8 @@ takes_given w b x c = takes_step w b x.waiting (own_step (given x c)) (command_b
 -- A writer takes a command that is formed as commands are and fits those before it.
 abbrev pub takes_command : World → ℕ → WriterRecord → TakenCommand → Option Change
 takes_command w b x t =
-    if is_formed t.command t.rule && not (is_empty (given x t.command).queue) then takes_given w b (ruled x t.command t.rule) t.command else None
+    if is_formed t.command t.rule && not (is_empty (given x t.command).queue)
+    then takes_given w b (ruled x t.command t.rule) t.command else None
 
 -- A writer that has an answer of the office goes on with its step, and takes no command in it.
 abbrev pub writer_step : World → ℕ → WriterRecord → Option Told → Option TakenCommand → Bool → Option Change
@@ -170,7 +179,8 @@ writer_hears x the_end = ended x
 -- A writer takes only from the connection that it has, and nothing while an answer of the office waits for it.
 abbrev pub writer_up : World → ℕ → ℕ → Next → Option Change
 writer_up w b c x =
-    if is_conn (w.writers b).conn c && is_none (w.writers b).told then Some (writer_change w b (writer_hears (w.writers b).known x)) else None
+    if is_conn (w.writers b).conn c && is_none (w.writers b).told
+    then Some (writer_change w b (writer_hears (w.writers b).known x)) else None
 
 -- READERS
 
@@ -180,7 +190,10 @@ reader_change w i r = record (still w) { reader_at = i; reader = r }
 -- a new reader dials a node, answered or not
 abbrev pub reader_dials : World → ℕ → ℕ → ReadOp → Bool → Change
 reader_dials w i n r true = record (reader_change w i (reads w.next_conn (asked r))) {
-  dials = record { dialled = record { upper = by_reader i; from = None; to = place_of w n }; request = request (op.Read r) } ∷ [];
+  dials = record {
+    dialled = record { upper = by_reader i; from = None; to = place_of w n };
+    request = request (op.Read r);
+  } ∷ [];
 }
 reader_dials w i n r false = reader_change w i (has_read (Err read_fault.Ended))
 

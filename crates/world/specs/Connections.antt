@@ -15,7 +15,8 @@ ends_at (Some e) n = nat_le e n
 
 -- What stands next in a direction, if something does: once the end was taken, nothing does.
 abbrev pub next_on : List Message → Marks → Option Next
-next_on sent k = if k.over then None else (if ends_at k.end k.taken then Some the_end else option_map message (slice_get sent k.taken))
+next_on sent k = if k.over then None
+    else (if ends_at k.end k.taken then Some the_end else option_map message (slice_get sent k.taken))
 
 -- the marks once this was taken
 abbrev pub marks_taken : Marks → Next → Marks

@@ -64,7 +64,8 @@ listens_at p None = false
 listens_at p (Some s) = listens p s
 
 abbrev pub leads_from : Primary → World → ℕ → Bool
-leads_from (leads l) w place = is_alive w l.at && is_none l.told && listens_at l.state.phase (slice_get l.state.standings place)
+leads_from (leads l) w place = is_alive w l.at && is_none l.told &&
+    listens_at l.state.phase (slice_get l.state.standings place)
 leads_from _ w place = false
 
 abbrev pub takes_above : Upper → World → ℕ → Bool

@@ -73,7 +73,10 @@ fault_event w (delivery.Up c) = up_event w c.0 true
 abbrev pub lost : World → ℕ → Direction → ℕ → World
 lost w c direction.Down more =
     record w { down_marks = put w.down_marks c (lost_marks (w.downs c) more (w.down_marks c)); last_answer = None }
-lost w c direction.Up more = record w { up_marks = put w.up_marks c (lost_marks (w.ups c) more (w.up_marks c)); last_answer = None }
+lost w c direction.Up more = record w {
+  up_marks = put w.up_marks c (lost_marks (w.ups c) more (w.up_marks c));
+  last_answer = None;
+}
 
 abbrev pub stop : World → ℕ → World
 stop w n = record w {
@@ -99,7 +102,8 @@ outcome w (event.Up c) = up_event w c.0 false
 outcome w (event.Lost c way more) = where_so (nat_lt c.0 w.next_conn) (lost w c.0 way more)
 outcome w (event.Fault d) = fault_event w d
 outcome w (event.Stop n) = where_so (w.running n.0) (stop w n.0)
-outcome w (event.Restart n list) = where_so (nat_lt n.0 w.nodes && not (w.running n.0) && all_found w n.0 list) (restart w n.0 list)
+outcome w (event.Restart n list) =
+    where_so (nat_lt n.0 w.nodes && not (w.running n.0) && all_found w n.0 list) (restart w n.0 list)
 
 -- the event is enabled
 abbrev pub is_enabled : World → Event → Bool

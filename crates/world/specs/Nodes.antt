@@ -116,13 +116,15 @@ member_change w c m x s b = record (still w) {
 abbrev pub failing_turn : World → ℕ → FullMember → Next → Turn → Option ReplicaEvent → Option Change
 failing_turn w c m x t None = None
 failing_turn w c m x t (Some e) =
-    Some (member_change w c m x (faulted_step m.state (replica_at w c (block_of m.fields)) t) (broke_at w c (block_of m.fields) e))
+    Some (member_change w c m x (faulted_step m.state (replica_at w c (block_of m.fields)) t)
+    (broke_at w c (block_of m.fields) e))
 
 -- a turn of a member, whose book call fails or not
 abbrev pub turn_change : World → ℕ → FullMember → Next → Turn → Bool → Option Change
 turn_change w c m x t true = failing_turn w c m x t t.call
 turn_change w c m x t false =
-    Some (member_change w c m x (step m.state (replica_at w c (block_of m.fields)) t) (w.breaks (node_of w c) (block_of m.fields)))
+    Some (member_change w c m x (step m.state (replica_at w c (block_of m.fields)) t)
+    (w.breaks (node_of w c) (block_of m.fields)))
 
 -- how many packets are pending at a member's replica
 abbrev pub pending_at : World → ℕ → FullMember → ℕ
@@ -169,7 +171,8 @@ runs_there w (Some n) = w.running n
 -- The request could be sent to the mirror: there is one to send, and the dial is answered, which one to a node that doesn't run never is.
 abbrev pub is_asked : World → ℕ → WriteFields → Bool → Bool
 is_asked w c fields answered =
-    answered && is_some (mirror_request (ref_of (record { 0 = node_of w c })) fields) && runs_there w (mirror_node fields.targets)
+    answered && is_some (mirror_request (ref_of (record { 0 = node_of w c })) fields) &&
+    runs_there w (mirror_node fields.targets)
 
 -- the dial of a mirror, with its request
 abbrev pub mirror_dial : World → ℕ → Option WriteFields → Option ℕ → List Dial
@@ -182,7 +185,8 @@ mirror_dial w c _ _ = []
 
 -- the dials of a new member: that of its mirror, where it has asked it
 abbrev pub dials_of : Mirror → World → ℕ → WriteFields → List Dial
-dials_of mirror.Asked w c fields = mirror_dial w c (mirror_request (ref_of (record { 0 = node_of w c })) fields) (mirror_node fields.targets)
+dials_of mirror.Asked w c fields =
+    mirror_dial w c (mirror_request (ref_of (record { 0 = node_of w c })) fields) (mirror_node fields.targets)
 dials_of _ w c fields = []
 
 abbrev pub member_dials : Option MemberState → World → ℕ → WriteFields → List Dial
@@ -226,11 +230,13 @@ setup_change w c fields s b = record (still w) {
 abbrev pub failing_write : World → ℕ → WriteFields → Result Event RequestRefusal → Option Change
 failing_write w c fields (Err refused) = None
 failing_write w c fields (Ok e) =
-    Some (setup_change w c fields (faulted_request (replica_at w c (block_of fields))) (broke_at w c (block_of fields) (replica_event.Other e)))
+    Some (setup_change w c fields (faulted_request (replica_at w c (block_of fields)))
+    (broke_at w c (block_of fields) (replica_event.Other e)))
 
 abbrev pub write_request : World → ℕ → WriteFields → Bool → Bool → Option Change
 write_request w c fields answered true =
-    failing_write w c fields (request_event (record { 0 = c }) fields (rule_in (replica_at w c (block_of fields)).known))
+    failing_write w c fields (request_event (record { 0 = c }) fields
+    (rule_in (replica_at w c (block_of fields)).known))
 write_request w c fields answered false =
     Some (setup_change w c fields
     (request_step (record { 0 = c }) fields (is_asked w c fields answered) (replica_at w c (block_of fields)))
@@ -250,13 +256,18 @@ breaking w c b r e answers = record (closing w c) {
 
 -- a read that is served, or refused
 abbrev pub read_change : World → ℕ → ℕ → Result ServingState RequestRefusal → Change
-read_change w c b (Ok s) = record (still w) { lower_at = c; lower = serves b s; ups = sent_on (Some c) (response (accepting s) ∷ []) }
+read_change w c b (Ok s) = record (still w) {
+  lower_at = c;
+  lower = serves b s;
+  ups = sent_on (Some c) (response (accepting s) ∷ []);
+}
 read_change w c b (Err r) = record (closing w c) { ups = sent_on (Some c) (response (refusing r) ∷ []) }
 
 abbrev pub failing_read : World → ℕ → ℕ → Result Event RequestRefusal → Option Change
 failing_read w c b (Err refused) = None
 failing_read w c b (Ok e) =
-    let x = faulted_read (replica_at w c b) in Some (breaking w c b x.0 (replica_event.Other e) (response (refusing x.1) ∷ []))
+    let x = faulted_read (replica_at w c b) in
+    Some (breaking w c b x.0 (replica_event.Other e) (response (refusing x.1) ∷ []))
 
 abbrev pub read_request : World → ℕ → ReadOp → Bool → Option Change
 read_request w c r true = failing_read w c r.block.block.0 (read_event r)
@@ -265,14 +276,19 @@ read_request w c r false = Some (read_change w c r.block.block.0 (read_at r (rep
 -- the next packet of a read, or its early end
 abbrev pub piece_as : World → ℕ → ℕ → ServingState → Option Packet → Change
 piece_as w c b s None = closing w c
-piece_as w c b s (Some p) = record (still w) { lower_at = c; lower = serves b s; ups = sent_on (Some c) (packet p ∷ []) }
+piece_as w c b s (Some p) = record (still w) {
+  lower_at = c;
+  lower = serves b s;
+  ups = sent_on (Some c) (packet p ∷ []);
+}
 
 abbrev pub piece_change : World → ℕ → ℕ → Piece → Change
 piece_change w c b p = piece_as w c b p.serving p.packet
 
 abbrev pub serve_change : World → ℕ → ℕ → ServingState → Option Event → Bool → Option Change
 serve_change w c b s None fails = None
-serve_change w c b s (Some e) true = Some (breaking w c b (faulted_piece s (replica_at w c b)).0 (replica_event.Other e) [])
+serve_change w c b s (Some e) true =
+    Some (breaking w c b (faulted_piece s (replica_at w c b)).0 (replica_event.Other e) [])
 serve_change w c b s (Some e) false = Some (piece_change w c b (piece_at s (replica_at w c b)))
 
 -- BLOCK RECOVERIES
@@ -280,7 +296,13 @@ serve_change w c b s (Some e) false = Some (piece_change w c b (piece_at s (repl
 -- an UPDATE that was done
 abbrev pub updated_by : RecoveryReply → Place → RecoveryOp → List Updated
 updated_by reply.Updated p r =
-    record { node = p.node; life = p.life; block = r.block.block.0; recovery = r.recovery.0; length = r.new_length } ∷ []
+    record {
+      node = p.node;
+      life = p.life;
+      block = r.block.block.0;
+      recovery = r.recovery.0;
+      length = r.new_length;
+    } ∷ []
 updated_by _ p r = []
 
 abbrev pub recovery_change : World → ℕ → RecoveryOp → Served → Option Break → Change
@@ -298,7 +320,8 @@ recovery_change w c r s b = record (still w) {
 abbrev pub failing_recovery : World → ℕ → RecoveryOp → Result Event RecoveryReply → Option Change
 failing_recovery w c r (Err said) = None
 failing_recovery w c r (Ok e) =
-    Some (recovery_change w c r (serve_faulted (replica_at w c r.block.block.0)) (broke_at w c r.block.block.0 (replica_event.Other e)))
+    Some (recovery_change w c r (serve_faulted (replica_at w c r.block.block.0))
+    (broke_at w c r.block.block.0 (replica_event.Other e)))
 
 abbrev pub recovery_request : World → ℕ → RecoveryOp → Bool → Option Change
 recovery_request w c r true = failing_recovery w c r (recovery_event r)

@@ -71,7 +71,8 @@ leading at p conns = record { at = at; state = p; conns = conns; told = None }
 -- the primary that begins with these dials
 abbrev pub begins_with : World → ℕ → Place → BlockId → Begun → List NodeId → List Bool → Change
 begins_with w i at b begun members answers =
-    record (primary_change w i (leads (leading at (begun_with b begun members answers) (numbered w.next_conn answers)))) {
+    record (primary_change w i (leads
+    (leading at (begun_with b begun members answers) (numbered w.next_conn answers)))) {
       dials = primary_dials w i at (recovery_message (begun_with b begun members answers)) 0 members answers;
     }
 
@@ -85,7 +86,8 @@ begins_as (Err fault) w i at b members answers = Some (primary_change w i (has_l
 -- Its first step, at a node that runs, of the block for which the office has answered.
 abbrev pub begins_at : Primary → World → ℕ → ℕ → BlockId → List NodeId → List Bool → Option Change
 begins_at (was_told asked told) w i n b members answers =
-    if asked.0 == b.0 && w.running n && are_members members then begins_as told w i (place_of w n) b members answers else None
+    if asked.0 == b.0 && w.running n && are_members members then begins_as told w i (place_of w n) b members answers
+    else None
 begins_at _ w i n b members answers = None
 
 abbrev pub own_recover : World → ℕ → ℕ → BlockId → List NodeId → List Bool → Option Change
@@ -106,7 +108,8 @@ is_done_with standings c = list_any (λ x. not (is_awaited x.0) && is_conn x.1 c
 -- The chosen members are sent UPDATE; the connections of the others are shut, and those that have ended.
 abbrev pub updates_change : World → ℕ → Leading → PrimaryState → Chosen → Change
 updates_change w i l p c = record (primary_change w i (leads (record l { state = p }))) {
-  downs = updates_on (request (op.Recovery (request_of l.state kind.Update c.length))) c.members (zip l.state.members l.conns);
+  downs = updates_on (request (op.Recovery (request_of l.state kind.Update c.length))) c.members
+      (zip l.state.members l.conns);
   shuts = is_done_with (zip p.standings l.conns);
 }
 
@@ -179,7 +182,8 @@ abbrev pub stamped_by : World → OfficeCall → Told → Option Stamped
 stamped_by w (call.Create b members) (Ok (office.Stamp s)) = stamp_of b.0 s.0 s.0 s.0
 stamped_by w (call.Append b) (Ok (office.Reopened r)) = stamp_of b.0 r.new.0 r.new.0 r.new.0
 stamped_by w (call.NewStamp b) (Ok (office.Stamp s)) = stamp_of b.0 s.0 (w.latest b.0) (w.latest b.0)
-stamped_by w (call.BeginRecovery b) (Ok (office.Begun g)) = stamp_of b.0 g.id.0 (w.session_of g.committed.0) (w.latest b.0)
+stamped_by w (call.BeginRecovery b) (Ok (office.Begun g)) =
+    stamp_of b.0 g.id.0 (w.session_of g.committed.0) (w.latest b.0)
 stamped_by w c told = None
 
 -- the session that an append begins has the bytes up to the block's length, of the session of the committed stamp
@@ -209,7 +213,10 @@ asks_writer w b c = record (office_change w c (answer_to w.office c)) {
 
 -- the answer waits for a primary
 abbrev pub asks_primary : World → ℕ → OfficeCall → (Told → Primary) → Change
-asks_primary w i c p = record (office_change w c (answer_to w.office c)) { primary_at = i; primary = p (answer_to w.office c) }
+asks_primary w i c p = record (office_change w c (answer_to w.office c)) {
+  primary_at = i;
+  primary = p (answer_to w.office c);
+}
 
 -- a writer's own step asks the office
 abbrev pub writer_asks : Action → World → ℕ → Option Change
@@ -217,17 +224,20 @@ writer_asks (action.Ask c) w b = Some (asks_writer w b c)
 writer_asks _ w b = None
 
 abbrev pub writer_asks_office : World → ℕ → Option Change
-writer_asks_office w b = if is_none (w.writers b).told then writer_asks (writer.own_step (w.writers b).known).action w b else None
+writer_asks_office w b = if is_none (w.writers b).told
+    then writer_asks (writer.own_step (w.writers b).known).action w b else None
 
 -- a primary's own step commits
 abbrev pub primary_commits : OwnStep → World → ℕ → Leading → Option Change
-primary_commits (own.Commits c) w i l = Some (asks_primary w i (sync_call l.state c) (λ told. leads (record l { told = Some told })))
+primary_commits (own.Commits c) w i l =
+    Some (asks_primary w i (sync_call l.state c) (λ told. leads (record l { told = Some told })))
 primary_commits _ w i l = None
 
 -- a new primary asks to begin a recovery of a block, and one that has begun to commit
 abbrev pub primary_asks : Primary → World → ℕ → BlockId → Option Change
 primary_asks no_primary w i b = Some (asks_primary w i (call.BeginRecovery b) (was_told b))
-primary_asks (leads l) w i b = if is_alive w l.at && is_none l.told then primary_commits (own_step l.state).does w i l else None
+primary_asks (leads l) w i b = if is_alive w l.at && is_none l.told then primary_commits (own_step l.state).does w i l
+    else None
 primary_asks _ w i b = None
 
 abbrev pub office_event : World → Caller → Option Change

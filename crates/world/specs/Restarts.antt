@@ -26,13 +26,15 @@ same_rule a b = kind_number a.kind == kind_number b.kind && a.chunk == b.chunk
 abbrev pub is_found : Option Found → ReplicaState → Stamp → Rule → List ℕ → Bool
 is_found None at stamp sums bytes = false
 is_found (Some f) at stamp sums bytes =
-    state_number f.state == state_number at && f.stamp.0 == stamp.0 && same_rule f.sums sums && pointwise ◌==◌ f.bytes bytes
+    state_number f.state == state_number at && f.stamp.0 == stamp.0 && same_rule f.sums sums &&
+    pointwise ◌==◌ f.bytes bytes
 
 -- RWR under this stamp is found, with a front of these bytes
 abbrev pub is_waiting : Option Found → Stamp → Rule → List ℕ → Bool
 is_waiting None stamp sums bytes = false
 is_waiting (Some f) stamp sums bytes =
-    state_number f.state == state_number state.Rwr && f.stamp.0 == stamp.0 && same_rule f.sums sums && starts_with ◌==◌ bytes f.bytes
+    state_number f.state == state_number state.Rwr && f.stamp.0 == stamp.0 && same_rule f.sums sums &&
+    starts_with ◌==◌ bytes f.bytes
 
 -- the same as what is found where the files are whole
 abbrev pub is_whole_as : Option Found → Option Found → Bool
@@ -44,7 +46,8 @@ is_whole info bytes f = is_whole_as (found_whole info bytes) f
 
 abbrev pub waits_between : ReplicaInfo → List ℕ → ReplicaInfo → List ℕ → Option Found → Bool
 waits_between h before k after f =
-    is_waiting f h.stamp h.sums before || is_waiting f h.stamp h.sums after || is_waiting f k.stamp h.sums before || is_waiting f k.stamp h.sums after
+    is_waiting f h.stamp h.sums before || is_waiting f h.stamp h.sums after || is_waiting f k.stamp h.sums before ||
+    is_waiting f k.stamp h.sums after
 
 abbrev pub final_between : ReplicaInfo → List ℕ → ReplicaInfo → List ℕ → Option Found → Bool
 final_between h before k after f =
@@ -64,7 +67,8 @@ abbrev pub is_found_amid : Option ReplicaInfo → List ℕ → Option ReplicaInf
 is_found_amid None before None after f = is_none f
 is_found_amid None before (Some k) after f = is_found_new k f
 is_found_amid (Some h) before None after f = is_whole (Some h) before f
-is_found_amid (Some h) before (Some k) after f = is_found_changed (is_temporary h.original) (is_temporary k.original) h before k after f
+is_found_amid (Some h) before (Some k) after f =
+    is_found_changed (is_temporary h.original) (is_temporary k.original) h before k after f
 
 abbrev pub is_found_within : Bool → FullReplica → FullReplica → Option Found → Bool
 is_found_within true before after f = is_found_amid before.known.info before.bytes after.known.info after.bytes f
@@ -101,7 +105,8 @@ restarted b r broke f = replica_found b (if may_find r broke f then f else whole
 
 -- of each block that the office knows, this may be found
 abbrev pub all_found : World → ℕ → List FoundReplica → Bool
-all_found w n list = list_all (λ x. may_find (w.replicas n x.0.0) (w.breaks n x.0.0) (found_in list x.0.0)) w.office.blocks
+all_found w n list = list_all (λ x. may_find (w.replicas n x.0.0) (w.breaks n x.0.0) (found_in list x.0.0))
+    w.office.blocks
 
 -- the node runs in its next life, with what is found of its replicas
 unfoldable pub restart : World → ℕ → List FoundReplica → World

@@ -45,12 +45,14 @@ pub record KeptAt (w : World) (a : Answered) (node : ℕ) : Type 0 where
   pub there : (w.replicas node a.block).known.info ≡ None → ⊥
   pub bytes : take a.length (w.replicas node a.block).bytes ≡ take a.length (written_under w a.stamp)
   pub enough : a.length ≤ length (w.replicas node a.block).bytes
-  pub updates : (u : Updated) → Has w.updated u → u.node ≡ node → u.life ≡ w.lives node → u.block ≡ a.block → a.stamp < u.recovery →
+  pub updates : (u : Updated) → Has w.updated u → u.node ≡ node → u.life ≡ w.lives node → u.block ≡ a.block →
+      a.stamp < u.recovery →
       a.length ≤ u.length
 
 -- Bytes for which an hflush, hsync or close was answered stay at each member that is steady since the stamp of the answer.
 abbrev pub Kept : World → Type 0
-Kept w = (a : Answered) (m : NodeId) → Has w.answered a → Has a.members m → Steady w a.block a.stamp m.0 → KeptAt w a m.0
+Kept w = (a : Answered) (m : NodeId) → Has w.answered a → Has a.members m → Steady w a.block a.stamp m.0 →
+    KeptAt w a m.0
 
 -- AGREE
 

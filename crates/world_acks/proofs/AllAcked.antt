@@ -1,5 +1,5 @@
 -- What acks and answers say holds after every list of events.
-use Rattle.std.proofs.Common.{◌≡◌, ℕ, ◌<◌, ◌≤◌, Bool, true, false, List, [], ◌∷◌, slice_get, Option, Some, None, IfSome, refl, sym, ◌∙◌, ap, subst, arith, eqb-true, inl, inr}
+use Rattle.std.proofs.Common.{◌≡◌, ℕ, ◌<◌, ◌≤◌, Bool, true, false, List, [], ◌∷◌, slice_get, Option, Some, None, IfSome, refl, sym, ◌∙◌, ap, subst, arith, eqb-true, inl, inr, length}
 use Rattle.std.specs.Prelude.{◌==◌, ◌&&◌, ◌+◌, not, nat_lt, if◌then◌else◌}
 use Rattle.std.proofs.lemmas.Bool.Decides.{nat_tests}
 use Rattle.std.proofs.lemmas.Bool.{false≢true}
@@ -31,13 +31,16 @@ use Rattle.world_laws.proofs.ByteLeaves.{Facts}
 use Rattle.world_laws.proofs.AllCarried.{down-taken-facts, up-taken-facts, happens-carried, reached-facts, at-start, start-carried}
 use Rattle.world_laws.specs.Joining.{joined_as, SetUps}
 use Rattle.world_laws.proofs.AllSetUp.{happens-set, start-set}
-use Rattle.world_acks.specs.Acking.{Shown, Seat, UpdatesLeave, Ends, Pends, UpperTells, Acked, AllAcked}
+use Rattle.world_recoveries.proofs.AllRecovering.{Coming, down-taken-fits, up-taken-fits, outcome-coming, happens-fits, start-fits}
+use Rattle.world_acks.specs.Acking.{Shown, ToldBytes, Seat, UpdatesLeave, Ends, Pends, UpperTells, Acked, AllAcked}
 use Rattle.world_acks.specs.Closing.{FinalUnder, BrokeFinal, HasClosed, StandsClosed}
 use Rattle.world_acks.specs.Waiting.{Requests, IsQuiet, AllWaiting}
 use Rattle.world_acks.proofs.Requests.{Requesting, quiet-apply, requests-apply, same-quiet, same-requests}
 use Rattle.world_acks.proofs.ClosedLaws.{GoesOn, stands-on}
-use Rattle.world_acks.proofs.Seats.{Onward, Lasting, up-on, down-on, upper-on, lower-on}
+use Rattle.world_acks.proofs.Seats.{Onward, Lasting, join-on, up-on, down-on, upper-on, lower-on}
 use Rattle.world_acks.proofs.ClosedMoves.{Moved, moves-on, untouched-moved, lower-ready-moved, down-moves, upper-moved, own-moved, restart-on, next-sent}
+use Rattle.world_acks.specs.Passing.{PassesTo}
+use Rattle.world_acks.proofs.Passing.{passes-like}
 use Rattle.world_acks.proofs.Frame.{apply-onward, keeps}
 use Rattle.world_acks.proofs.Turning.{Known, HeardTells}
 use Rattle.world_acks.proofs.Lowers.{Leaf, after-at}
@@ -69,6 +72,8 @@ like-onward g t w v l = record {
     shows = λ r a q i le u.
         subst (λ (x : FullReplica). Shown x s i (v.written e)) (sym (l.replicas n b)) (subst (λ p. Shown (w.replicas n b) s i (p.written e)) (sym l.past)
         (h.shows (l.runs n r) (sym (l.lives n) ∙ a) (ap (λ (x : FullReplica). x.known.is_broken) (sym (l.replicas n b)) ∙ q) i le (record { each = λ x y. u.each x (subst (λ p. Has p.updated x) (sym l.past) y) })));
+    told = subst (λ p. ToldBytes p b s n h.life j) (sym l.past) h.told;
+    passes = passes-like w v b s n h.life l.past (l.lives n) (l.replicas n b) h.passes;
   };
   given = λ b s e q. q;
   named = λ e x q n. n;
@@ -76,6 +81,7 @@ like-onward g t w v l = record {
   conns = omega (arith, ap (λ p. p.next_conn) l.past);
   dialled = λ c lt. ap (λ p. p.dialled c) l.past;
   joined = λ x h. subst (λ p. Has p.joined x) (sym l.past) h;
+  written = λ e. omega (arith, ap (λ p. length (p.written e)) l.past);
 }
 
 -- where breaks and lower ends are the same too, nodes that stand closed do so still
@@ -100,6 +106,7 @@ down-taken-acked g t w c x h =
     let on = like-lasting g t w v (record { past = refl; runs = λ n e. e; lives = λ n. refl; replicas = λ n b. refl }) (λ m b. refl) (λ d. refl) in
     record {
       lives = h.lives;
+      joins = λ a n l x. join-on g g t t w v a n l on.on (h.joins a n l x);
       begun = h.begun;
       ups = λ d i m e. up-on g g t t w v d m on (h.ups d i m e);
       downs = λ d i m e. down-on g g t t w v d m on.on (h.downs d i m e);
@@ -116,6 +123,7 @@ up-taken-acked g t w c x h =
     let on = like-lasting g t w v (record { past = refl; runs = λ n e. e; lives = λ n. refl; replicas = λ n b. refl }) (λ m b. refl) (λ d. refl) in
     record {
       lives = h.lives;
+      joins = λ a n l x. join-on g g t t w v a n l on.on (h.joins a n l x);
       begun = h.begun;
       ups = λ d i m e. up-on g g t t w v d m on (h.ups d i m e);
       downs = λ d i m e. down-on g g t t w v d m on.on (h.downs d i m e);
@@ -142,12 +150,28 @@ unfolding up_taken
 up-taken-requests w c x h = same-requests w (up_taken w c x) refl (λ d. refl) (λ b. refl) h
 
 pub down-known : (g : Givens) (t : Ends) (w : World) (c : ℕ) (x : Next) → Known g t w → Known g t (down_taken w c x)
-down-known g t w c x h = record { facts = down-taken-facts g w c x h.facts; sets = down-taken-set g w c x h.sets; requests = down-taken-requests w c x h.requests; acked = down-taken-acked g t w c x h.acked }
+down-known g t w c x h = record { facts = down-taken-facts g w c x h.facts; sets = down-taken-set g w c x h.sets; requests = down-taken-requests w c x h.requests; acked = down-taken-acked g t w c x h.acked; recovering = down-taken-fits g w c x h.recovering }
 
 pub up-known : (g : Givens) (t : Ends) (w : World) (c : ℕ) (x : Next) → Known g t w → Known g t (up_taken w c x)
-up-known g t w c x h = record { facts = up-taken-facts g w c x h.facts; sets = up-taken-set g w c x h.sets; requests = up-taken-requests w c x h.requests; acked = up-taken-acked g t w c x h.acked }
+up-known g t w c x h = record { facts = up-taken-facts g w c x h.facts; sets = up-taken-set g w c x h.sets; requests = up-taken-requests w c x h.requests; acked = up-taken-acked g t w c x h.acked; recovering = up-taken-fits g w c x h.recovering }
 
 -- CHANGES
+
+-- what holds of a world that comes after another
+pub record Follows (g : Givens) (w v : World) : Type 0 where
+  pub facts : Facts g v
+  pub coming : Coming g w v
+
+-- the same where marks moved on before
+pub down-follows : (g : Givens) (w : World) (c : ℕ) (x : Next) (o : Option World) → IfSome o (Follows g w) → IfSome o (Follows g (down_taken w c x))
+unfolding down_taken
+down-follows g w c x o h =
+    some-weaker (Follows g w) (Follows g (down_taken w c x)) o (λ u k. record { facts = k.facts; coming = record { recovering = k.coming.recovering; tells = record { each = k.coming.tells.each } } }) h
+
+pub up-follows : (g : Givens) (w : World) (c : ℕ) (x : Next) (o : Option World) → IfSome o (Follows g w) → IfSome o (Follows g (up_taken w c x))
+unfolding up_taken
+up-follows g w c x o h =
+    some-weaker (Follows g w) (Follows g (up_taken w c x)) o (λ u k. record { facts = k.facts; coming = record { recovering = k.coming.recovering; tells = record { each = k.coming.tells.each } } }) h
 
 -- of a world after another: it has some ends of packets, and nodes that stood closed stand so
 pub record Told (f : Givens) (u : World) (g : Givens) (w : World) : Type 0 where
@@ -163,22 +187,22 @@ apply-lasting g l t u w k h m r f on =
     let goes : GoesOn g l w (apply w k) = record { given = on.given; went = moves-on w k m; carried = f.carried; full = h.facts.full; plain = h.sets.plain; quiet = quiet } in
     record { on = on; closed = λ b s n x. stands-on g l w (apply w k) b s n goes x; quiet = quiet }
 
-changed-told : (g : Givens) (t : Ends) (w : World) (o : Option Change) → Known g t w → IfSome o (Moved w) → IfSome o (Leads g g t w) → IfSome (changed w o) (Facts g) → IfSome (changed w o) (Told g w g)
+changed-told : (g : Givens) (t : Ends) (w : World) (o : Option Change) → Known g t w → IfSome o (Moved w) → IfSome o (Leads g g t w) → IfSome (changed w o) (Follows g w) → IfSome (changed w o) (Told g w g)
 changed-told g t w None h m l f = tt
 changed-told g t w (Some k) h m l f =
-    let new = subst (λ (r : FullReplica). IsFull r) (after-at w k) (f.full k.node k.block) in
-    let on = apply-onward g g t l.ends w k l.steps h.facts.full new (λ b s e q. q) l.named in
-    let lasts = apply-lasting g g t l.ends w k h m l.requests f on in
-    record { ends = l.ends; acked = keeps g g t l.ends w k h.acked lasts (l.news lasts f); requests = requests-apply g g w k h.requests l.requests h.facts f; closed = lasts.closed }
+    let new = subst (λ (r : FullReplica). IsFull r) (after-at w k) (f.facts.full k.node k.block) in
+    let on = apply-onward g g t l.ends w k l.steps h.recovering f.coming.tells f.coming.recovering h.facts.full new (λ b s e q. q) l.named in
+    let lasts = apply-lasting g g t l.ends w k h m l.requests f.facts on in
+    record { ends = l.ends; acked = keeps g g t l.ends w k h.acked lasts (l.news lasts f.facts f.coming.recovering); requests = requests-apply g g w k h.requests l.requests h.facts f.facts; closed = lasts.closed }
 
-office-told : (g : Givens) (t : Ends) (w : World) (o : Option Change) → Known g t w → IfSome o (Moved w) → IfSome o (OfficeLeads g t w) → IfSome (changed w o) (Facts (given_with g (stamped_in o))) → IfSome (changed w o) (Told g w (given_with g (stamped_in o)))
+office-told : (g : Givens) (t : Ends) (w : World) (o : Option Change) → Known g t w → IfSome o (Moved w) → IfSome o (OfficeLeads g t w) → IfSome (changed w o) (Follows (given_with g (stamped_in o)) w) → IfSome (changed w o) (Told g w (given_with g (stamped_in o)))
 office-told g t w None h m l f = tt
 office-told g t w (Some k) h m x f =
     let l = x.leads in
-    let new = subst (λ (r : FullReplica). IsFull r) (after-at w k) (f.full k.node k.block) in
-    let on = apply-onward g (given_with g k.stamped) t l.ends w k l.steps h.facts.full new (fresh-given g t w k.stamped h x.fresh) l.named in
-    let lasts = apply-lasting g (given_with g k.stamped) t l.ends w k h m l.requests f on in
-    record { ends = l.ends; acked = keeps g (given_with g k.stamped) t l.ends w k h.acked lasts (l.news lasts f); requests = requests-apply g (given_with g k.stamped) w k h.requests l.requests h.facts f; closed = lasts.closed }
+    let new = subst (λ (r : FullReplica). IsFull r) (after-at w k) (f.facts.full k.node k.block) in
+    let on = apply-onward g (given_with g k.stamped) t l.ends w k l.steps h.recovering f.coming.tells f.coming.recovering h.facts.full new (fresh-given g t w k.stamped h x.fresh) l.named in
+    let lasts = apply-lasting g (given_with g k.stamped) t l.ends w k h m l.requests f.facts on in
+    record { ends = l.ends; acked = keeps g (given_with g k.stamped) t l.ends w k h.acked lasts (l.news lasts f.facts f.coming.recovering); requests = requests-apply g (given_with g k.stamped) w k h.requests l.requests h.facts f.facts; closed = lasts.closed }
 
 -- the same of what came before marks moved on
 told-before : (g : Givens) (w v : World) (o : Option World) → ((b s n : ℕ) → StandsClosed g w b s n → StandsClosed g v b s n) → IfSome o (Told g v g) → IfSome o (Told g w g)
@@ -235,21 +259,21 @@ pub lower-taken : (g : Givens) (t : Ends) (w : World) (c : ℕ) (x : Next) (answ
 unfolding down_taken
 lower-taken g t w c x answered fails h lt alive n = lower-down-leaf (w.lowers c) g t (down_taken w c x) c x answered fails h refl lt alive n
 
-down-as-told : (g : Givens) (t : Ends) (w : World) (c : ℕ) (answered fails : Bool) (o : Option Next) → Known g t w → c < w.next_conn → w.lives (node_of w c) ≡ (w.dialled c).to.life → next_down w c ≡ o → IfSome (down_as w c answered fails o) (Facts g)
+down-as-told : (g : Givens) (t : Ends) (w : World) (c : ℕ) (answered fails : Bool) (o : Option Next) → Known g t w → c < w.next_conn → w.lives (node_of w c) ≡ (w.dialled c).to.life → next_down w c ≡ o → IfSome (down_as w c answered fails o) (Follows g w)
     → IfSome (down_as w c answered fails o) (Told g w g)
 down-as-told g t w c answered fails None h lt alive e f = tt
 down-as-told g t w c answered fails (Some x) h lt alive e f =
     let v = down_taken w c x in
     told-before g w v _ (down-closed g w c x)
     (changed-told g t v (lower_down (w.lowers c) v c x answered fails) (down-known g t w c x h) (down-moves g w c x answered fails h.facts.carried e)
-    (leads-of g t v (lower_down (w.lowers c) v c x answered fails) (lower-taken g t w c x answered fails (down-known g t w c x h) lt alive (taken-tells g t w c x x (next-tells g t w c x h e)))) f)
+    (leads-of g t v (lower_down (w.lowers c) v c x answered fails) (lower-taken g t w c x answered fails (down-known g t w c x h) lt alive (taken-tells g t w c x x (next-tells g t w c x h e)))) (down-follows g w c x _ f))
 
-down-told : (g : Givens) (t : Ends) (w : World) (c : ℕ) (answered fails : Bool) → Known g t w → IfSome (down_event w c answered fails) (Facts g) → IfSome (down_event w c answered fails) (Told g w g)
-down-told g t w c answered fails h f = when-two (Facts g) (Told g w g) (is_served w c) _ f (λ e q. down-as-told g t w c answered fails (next_down w c) h (served-known w c e) (served-life w c e) refl q)
+down-told : (g : Givens) (t : Ends) (w : World) (c : ℕ) (answered fails : Bool) → Known g t w → IfSome (down_event w c answered fails) (Follows g w) → IfSome (down_event w c answered fails) (Told g w g)
+down-told g t w c answered fails h f = when-two (Follows g w) (Told g w g) (is_served w c) _ f (λ e q. down-as-told g t w c answered fails (next_down w c) h (served-known w c e) (served-life w c e) refl q)
 
-ready-told : (g : Givens) (t : Ends) (w : World) (c : ℕ) (fails : Bool) → Known g t w → IfSome (ready_event w c fails) (Facts g) → IfSome (ready_event w c fails) (Told g w g)
+ready-told : (g : Givens) (t : Ends) (w : World) (c : ℕ) (fails : Bool) → Known g t w → IfSome (ready_event w c fails) (Follows g w) → IfSome (ready_event w c fails) (Told g w g)
 ready-told g t w c fails h f =
-    when-two (Facts g) (Told g w g) (is_served w c) _ f (λ e q. changed-told g t w (lower_ready (w.lowers c) w c fails) h (lower-ready-moved (w.lowers c) w c fails) (leads-of g t w (lower_ready (w.lowers c) w c fails) (lower-ready-leaf (w.lowers c) g t w c fails h refl (served-life w c e))) q)
+    when-two (Follows g w) (Told g w g) (is_served w c) _ f (λ e q. changed-told g t w (lower_ready (w.lowers c) w c fails) h (lower-ready-moved (w.lowers c) w c fails) (leads-of g t w (lower_ready (w.lowers c) w c fails) (lower-ready-leaf (w.lowers c) g t w c fails h refl (served-life w c e))) q)
 
 unless-leads : (g : Givens) (t : Ends) (w : World) (fails : Bool) (o : Option Change) → IfSome o (Leads g g t w) → IfSome (unless_fails fails o) (Leads g g t w)
 unless-leads g t w true o l = tt
@@ -266,17 +290,17 @@ pub upper-taken : (g : Givens) (t : Ends) (w : World) (c : ℕ) (x : Next) (fail
 unfolding up_taken
 upper-taken g t w c x fails h lt n = upper-leads (w.dialled c).upper g t (up_taken w c x) c x fails h refl lt n
 
-up-as-told : (g : Givens) (t : Ends) (w : World) (c : ℕ) (fails : Bool) (o : Option Next) → Known g t w → c < w.next_conn → next_up w c ≡ o → IfSome (up_as w c fails o) (Facts g) → IfSome (up_as w c fails o) (Told g w g)
+up-as-told : (g : Givens) (t : Ends) (w : World) (c : ℕ) (fails : Bool) (o : Option Next) → Known g t w → c < w.next_conn → next_up w c ≡ o → IfSome (up_as w c fails o) (Follows g w) → IfSome (up_as w c fails o) (Told g w g)
 up-as-told g t w c fails None h lt e f = tt
 up-as-told g t w c fails (Some x) h lt e f =
     let v = up_taken w c x in
     told-before g w v _ (up-closed g w c x)
-    (changed-told g t v (upper_up (w.dialled c).upper v c x fails) (up-known g t w c x h) (upper-moved (w.dialled c).upper v c x fails) (upper-taken g t w c x fails (up-known g t w c x h) lt (heard-tells g t w c x h e)) f)
+    (changed-told g t v (upper_up (w.dialled c).upper v c x fails) (up-known g t w c x h) (upper-moved (w.dialled c).upper v c x fails) (upper-taken g t w c x fails (up-known g t w c x h) lt (heard-tells g t w c x h e)) (up-follows g w c x _ f))
 
-up-told : (g : Givens) (t : Ends) (w : World) (c : ℕ) (fails : Bool) → Known g t w → IfSome (up_event w c fails) (Facts g) → IfSome (up_event w c fails) (Told g w g)
-up-told g t w c fails h f = when-two (Facts g) (Told g w g) (nat_lt c w.next_conn) _ f (λ e q. up-as-told g t w c fails (next_up w c) h (lt-true c w.next_conn e) refl q)
+up-told : (g : Givens) (t : Ends) (w : World) (c : ℕ) (fails : Bool) → Known g t w → IfSome (up_event w c fails) (Follows g w) → IfSome (up_event w c fails) (Told g w g)
+up-told g t w c fails h f = when-two (Follows g w) (Told g w g) (nat_lt c w.next_conn) _ f (λ e q. up-as-told g t w c fails (next_up w c) h (lt-true c w.next_conn e) refl q)
 
-fault-told : (g : Givens) (t : Ends) (w : World) (d : Delivery) → Known g t w → IfSome (fault_event w d) (Facts g) → IfSome (fault_event w d) (Told g w g)
+fault-told : (g : Givens) (t : Ends) (w : World) (d : Delivery) → Known g t w → IfSome (fault_event w d) (Follows g w) → IfSome (fault_event w d) (Told g w g)
 fault-told g t w (delivery.Down c) h f = down-told g t w c.0 false true h f
 fault-told g t w (delivery.Ready c) h f = ready-told g t w c.0 true h f
 fault-told g t w (delivery.Up c) h f = up-told g t w c.0 true h f
@@ -307,6 +331,7 @@ stop-acked g t w n h =
     let on = stop-lasting g t w n in
     record {
       lives = h.lives;
+      joins = λ a n l x. join-on g g t t w v a n l on.on (h.joins a n l x);
       begun = h.begun;
       ups = λ d i m e. up-on g g t t w v d m on (h.ups d i m e);
       downs = λ d i m e. down-on g g t t w v d m on.on (h.downs d i m e);
@@ -322,6 +347,7 @@ lost-acked g t w c direction.Down more h =
     let on = lost-lasting g t w c direction.Down more in
     record {
       lives = h.lives;
+      joins = λ a n l x. join-on g g t t w v a n l on.on (h.joins a n l x);
       begun = h.begun;
       ups = λ d i m e. up-on g g t t w v d m on (h.ups d i m e);
       downs = λ d i m e. down-on g g t t w v d m on.on (h.downs d i m e);
@@ -335,6 +361,7 @@ lost-acked g t w c direction.Up more h =
     let on = lost-lasting g t w c direction.Up more in
     record {
       lives = h.lives;
+      joins = λ a n l x. join-on g g t t w v a n l on.on (h.joins a n l x);
       begun = h.begun;
       ups = λ d i m e. up-on g g t t w v d m on (h.ups d i m e);
       downs = λ d i m e. down-on g g t t w v d m on.on (h.downs d i m e);
@@ -355,6 +382,7 @@ restart-onward g t w n list = record {
   conns = omega arith;
   dialled = λ c lt. refl;
   joined = λ x h. h;
+  written = λ e. omega arith;
 }
   where
     more : (m l : ℕ) (b : Bool) → (m == n) ≡ b → l ≤ w.lives m → l ≤ (if b then w.lives n + 1 else w.lives m)
@@ -367,8 +395,15 @@ restart-onward g t w n list = record {
       joins = h.joins;
       born = more m h.life (m == n) refl h.born;
       shows = λ r a z i le u. at (m == n) refl r a z i le u;
+      told = h.told;
+      passes = record { now = λ a. now (m == n) refl a; told = h.passes.told };
     }
       where
+        now : (c : Bool) → (m == n) ≡ c → (if c then w.lives n + 1 else w.lives m) ≡ h.life
+            → PassesTo w.past b s (record { node = m; life = h.life }) ((if c then (λ d. restarted d (w.replicas n d) (w.breaks n d) (found_in list d)) else w.replicas m) b).known.info
+        now true z a = absurd (omega (arith, a, h.born, ap (λ (i : ℕ). w.lives i) (eqb-true m n z)))
+        now false z a = h.passes.now a
+
         at : (c : Bool) → (m == n) ≡ c → (if c then true else w.running m) ≡ true → (if c then w.lives n + 1 else w.lives m) ≡ h.life
             → ((if c then (λ d. restarted d (w.replicas n d) (w.breaks n d) (found_in list d)) else w.replicas m) b).known.is_broken ≡ false → (i : ℕ) → i ≤ j → UpdatesLeave (restart w n list) b s m h.life i
             → Shown ((if c then (λ d. restarted d (w.replicas n d) (w.breaks n d) (found_in list d)) else w.replicas m) b) s i (w.written e)
@@ -401,6 +436,7 @@ restart-acked g t w n list k f =
     let on = restart-lasting g t w n list k f in
     record {
       lives = λ s m l j. more m l (m == n) refl (h.lives s m l j);
+      joins = λ s m l j. join-on g g t t w v s m l on.on (h.joins s m l j);
       begun = h.begun;
       ups = λ d i m e. up-on g g t t w v d m on (h.ups d i m e);
       downs = λ d i m e. down-on g g t t w v d m on.on (h.downs d i m e);
@@ -421,8 +457,8 @@ restart-acked g t w n list k f =
 
 -- ALL EVENTS
 
-where-told : (g : Givens) (t : Ends) (w : World) (test : Bool) (v : World) → (Facts g v → Acked g t v) → (Facts g v → Lasting g g t t w v) → Requests v → IfSome (where_so test v) (Facts g) → IfSome (where_so test v) (Told g w g)
-where-told g t w true v h l r f = record { ends = t; acked = h f; requests = r; closed = (l f).closed }
+where-told : (g : Givens) (t : Ends) (w : World) (test : Bool) (v : World) → (Facts g v → Acked g t v) → (Facts g v → Lasting g g t t w v) → Requests v → IfSome (where_so test v) (Follows g w) → IfSome (where_so test v) (Told g w g)
+where-told g t w true v h l r f = record { ends = t; acked = h f.facts; requests = r; closed = (l f.facts).closed }
 where-told g t w false v h l r f = tt
 
 lost-requests : (w : World) (c : ℕ) (way : Direction) (more : ℕ) → Requests w → Requests (lost w c way more)
@@ -433,7 +469,7 @@ restart-requests : (w : World) (n : ℕ) (list : List FoundReplica) → Requests
 unfolding restart
 restart-requests w n list h = same-requests w (restart w n list) refl (λ d. refl) (λ b. refl) h
 
-outcome-told : (g : Givens) (t : Ends) (w : World) (e : Event) → Known g t w → IfSome (outcome w e) (Facts (given_by g w e)) → IfSome (outcome w e) (Told g w (given_by g w e))
+outcome-told : (g : Givens) (t : Ends) (w : World) (e : Event) → Known g t w → IfSome (outcome w e) (Follows (given_by g w e) w) → IfSome (outcome w e) (Told g w (given_by g w e))
 unfolding outcome
 outcome-told g t w (event.Own s) h f = changed-told g t w (own_change w s) h (own-moved w s) (own-leads g t w s h) f
 outcome-told g t w (event.Office c) h f = office-told g t w (office_event w c) h (untouched-moved w (office_event w c) (office-untouched w c)) (office-event-leads g t w c h) f
@@ -468,6 +504,7 @@ last-acked g t w e h =
     let on = like-lasting g t w v (record { past = refl; runs = λ m q. q; lives = λ m. refl; replicas = λ m b. refl }) (λ m b. refl) (λ d. refl) in
     record {
       lives = h.lives;
+      joins = λ a n l x. join-on g g t t w v a n l on.on (h.joins a n l x);
       begun = h.begun;
       ups = λ d i m q. up-on g g t t w v d m on (h.ups d i m q);
       downs = λ d i m q. down-on g g t t w v d m on.on (h.downs d i m q);
@@ -521,9 +558,13 @@ after-told : (g : Givens) (t : Ends) (w : World) (e : Event) (o : Option World) 
 after-told g t w e None i h k = record { ends = t; acked = idle-acked g t w e i h.acked; requests = h.requests; closed = λ b s n x. idle-closed g w e i b s n x }
 after-told g t w e (Some v) i h k = record { ends = k.ends; acked = last-acked (given_by g w e) k.ends v e k.acked; requests = last-requests v e k.requests; closed = λ b s n x. last-closed (given_by g w e) v e b s n (k.closed b s n x) }
 
-pub happens-told : (g : Givens) (t : Ends) (w : World) (e : Event) → Known g t w → Facts (given_by g w e) (happens w e) → Told g w (given_by g w e) (happens w e)
+pub outcome-follows : (g : Givens) (w : World) (e : Event) (o : Option World) → Follows g w (after_event w e o) → IfSome o (Follows g w)
+outcome-follows g w e None f = tt
+outcome-follows g w e (Some v) f = record { facts = outcome-facts g w e (Some v) f.facts; coming = outcome-coming g w e (Some v) f.coming }
+
+pub happens-told : (g : Givens) (t : Ends) (w : World) (e : Event) → Known g t w → Follows (given_by g w e) w (happens w e) → Told g w (given_by g w e) (happens w e)
 unfolding happens
-happens-told g t w e h f = after-told g t w e (outcome w e) refl h (outcome-told g t w e h (outcome-facts (given_by g w e) w e (outcome w e) f))
+happens-told g t w e h f = after-told g t w e (outcome w e) refl h (outcome-told g t w e h (outcome-follows (given_by g w e) w e (outcome w e) f))
 
 run-told : (g : Givens) (t : Ends) (w : World) (events : List Event) → Reached w → Known g t w → (x : Ends) × Known (given_in g w events) x (run w events)
 run-told g t w [] r h = (t, h)
@@ -534,13 +575,15 @@ run-told g t w (e ∷ events) r h =
     let s = happens-set g w e h.facts a j.one h.sets in
     let n = reached-next w e r in
     let f = reached-facts (given_by g w e) (happens w e) n j c in
-    let k = happens-told g t w e h f in
-    run-told (given_by g w e) k.ends (happens w e) events n (record { facts = f; sets = s; requests = k.requests; acked = k.acked })
+    let m = happens-fits g w e h.facts a h.recovering h.sets.writes in
+    let k = happens-told g t w e h (record { facts = f; coming = m }) in
+    run-told (given_by g w e) k.ends (happens w e) events n (record { facts = f; sets = s; requests = k.requests; acked = k.acked; recovering = m.recovering })
 
 pub start-acked : (nodes : ℕ) → Acked none_given no_ends (start nodes)
 unfolding start no_ends
 start-acked nodes = record {
   lives = λ s n l j. absurd (none-some _ j.there);
+  joins = λ s n l j. absurd (none-some _ j.there);
   begun = λ e k q z. absurd (none-some k z);
   ups = λ c i m e. absurd (none-some m e);
   downs = λ c i m e. absurd (none-some m e);
@@ -563,7 +606,7 @@ all-known nodes events =
     let c = start-carried nodes in
     let r = start-recorded nodes in
     run-told none_given no_ends (start nodes) events (at-start nodes)
-    (record { facts = reached-facts none_given (start nodes) (at-start nodes) r c; sets = start-set nodes; requests = start-requests nodes; acked = start-acked nodes })
+    (record { facts = reached-facts none_given (start nodes) (at-start nodes) r c; sets = start-set nodes; requests = start-requests nodes; acked = start-acked nodes; recovering = start-fits nodes })
 
 pub all-acked : AllAcked
 all-acked nodes events = let k = all-known nodes events in (k.0, k.1.acked)

@@ -34,6 +34,7 @@ use Rattle.world_laws.specs.Carrying.{ConnSays, WriteSays, new_stamp, AsksFor, A
 use Rattle.world_laws.proofs.ByteAsking.{first-dial, only-one}
 use Rattle.world_laws.proofs.ByteFrame.{Each, each-nil, each-one}
 use Rattle.world_laws.proofs.ByteLeaves.{Facts, one-session, sent-if}
+use Rattle.world_recoveries.specs.Recovering.{Recovering}
 use Rattle.world_acks.specs.Acking.{PacketEnd, end_of, Ends, Numbered, PacketTells, UpTells, DownTells, UpperTells, LowerTells, IsPipe, Pends, reach_of, Numbers, Acked}
 use Rattle.world_acks.proofs.Seats.{Steps, steps-same, lower-on, pends-on, pipe-on, Lasting}
 use Rattle.world_acks.proofs.Frame.{News}
@@ -55,7 +56,7 @@ pub record Leads (g k : Givens) (t : Ends) (w : World) (c : Change) : Type 0 whe
   pub named : (e : ℕ) (x : PacketEnd) (q : ℤ) → t e q ≡ Some x → ends e q ≡ Some x
   pub steps : Steps w c
   pub requests : Requesting w c
-  pub news : Lasting g k t ends w (apply w c) → Facts k (apply w c) → News k ends w c
+  pub news : Lasting g k t ends w (apply w c) → Facts k (apply w c) → Recovering k (apply w c) → News k ends w c
 
 pub leaf-leads : (g : Givens) (t : Ends) (w : World) (k : Change) → Leaf g t w k → Leads g g t w k
 leaf-leads g t w k l = record { ends = t; named = λ e x q n. n; steps = l.steps; requests = l.requests; news = l.news }
@@ -101,7 +102,7 @@ client-leads g t w c h a r o downs dials writers = record {
   named = λ e x q n. n;
   steps = steps-same w c a.replica;
   requests = r;
-  news = λ on facts. client-news g g t t w c h a on (λ b s e q. q) (downs on) dials writers (aside-begun g t w c h.acked o);
+  news = λ on facts recovers. client-news g g t t w c h a on (λ b s e q. q) (downs on) dials writers (aside-begun g t w c h.acked o);
 }
 
 -- THE REQUEST OF A DIAL
@@ -214,7 +215,7 @@ formed-leads g t w b p x y h n f =
       named = named;
       steps = steps-same w (Sends w b p y) refl;
       requests = client-requests w (Sends w b p y) refl refl (out-unasked w.past y.phase f.unstamped);
-      news = λ on facts. client-news g g t u w (Sends w b p y) h (sends-is w b p y) on (λ a s d q. q) (sends-down g t u w (apply w (Sends w b p y)) b p h on new) (none-dials g u w (Sends w b p y) refl)
+      news = λ on facts recovers. client-news g g t u w (Sends w b p y) h (sends-is w b p y) on (λ a s d q. q) (sends-down g t u w (apply w (Sends w b p y)) b p h on new) (none-dials g u w (Sends w b p y) refl)
           (own-numbers g t u w b (Sends w b p y).writer h.acked (mine u new named own) (λ d apart. other d apart own named))
           (λ d k q z. begun d k q own (end-either t e p.seqno (end_of p) d q k z));
     }

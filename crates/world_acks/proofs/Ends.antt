@@ -47,6 +47,7 @@ use Rattle.world_laws.proofs.ByteRows.{update-held}
 use Rattle.world_laws.specs.Joining.{IsPlain}
 use Rattle.world_laws.proofs.SetupRising.{event-broken}
 use Rattle.world_acks.specs.Acking.{Shown, AsksToRead, Ends, UpTells, DownTells, Mirrors, LowerTells, Pends}
+use Rattle.world_acks.proofs.Passing.{StampSteps, gets_update, stamps-keep}
 use Rattle.world_acks.proofs.Seats.{has-one, IsCut, Steps, steps-same, Lasting, reads-on}
 use Rattle.world_acks.proofs.Turning.{Known, Acts, HeardTells, from-mirror}
 use Rattle.world_acks.proofs.Lowers.{Leaf, TakenTells, still-numbers, aside-begun, row-steps, row-pends, same-pends, down-leaf, up-leaf, ready-leaf}
@@ -71,7 +72,7 @@ pub beside-leaf : (g : Givens) (t : Ends) (w : World) (k : Change) → Known g t
 beside-leaf g t w k h a steps pends ups = record {
   steps = steps;
   requests = still-requests w k h.requests a.writer a.dials (λ e. absurd (a.busy e));
-  news = λ on facts. record {
+  news = λ on facts recovers. record {
     ups = ups (apply w k) on;
     downs = λ c. subst (λ (ms : List Message). Each (DownTells g t (apply w k) c) ms) (sym (a.downs c)) (each-nil (DownTells g t (apply w k) c));
     dials = λ i d e. absurd (none-some d (sym (ap (λ xs. slice_get xs i) a.dials) ∙ e));
@@ -216,14 +217,23 @@ updated-shown r q i id k s n v is bytes low le x = record {
 
 update-steps : (g : Givens) (t : Ends) (w : World) (c : ℕ) (q : RecoveryOp) (id : Stamp) (k : ℕ) (o : Outcome) → Known g t w → w.lives (node_of w c) ≡ (w.dialled c).to.life → id ≡ q.recovery → k ≡ q.new_length
     → HeldOr (replica_at w c q.block.block.0).known id k o → ((replica_at w c q.block.block.0).known.is_broken ≡ true → (record_after (replica_at w c q.block.block.0).known o).is_broken ≡ true) → Steps w (Serves w c q (Told (replica_at w c q.block.block.0) o))
-update-steps g t w c q id k (Err x) h alive e size held b = record { broken = b; shown = λ f _ s n v y. inl (refused-shown (replica_at w c q.block.block.0) x s n v f y) }
-update-steps g t w c q id k (Ok u) h alive e size held b = record { broken = b; shown = λ f _ s n v y. go s n v y (cases_lt k n) }
+update-steps g t w c q id k (Err x) h alive e size held b = record { stamps = stamps-keep w (Serves w c q (Told (replica_at w c q.block.block.0) (Err x))) (λ i z. record { info = i; is = z; stamp = refl }); broken = b; shown = λ f _ s n v y. inl (refused-shown (replica_at w c q.block.block.0) x s n v f y) }
+update-steps g t w c q id k (Ok u) h alive e size held b = record { stamps = stamps; broken = b; shown = λ f _ s n v y. go s n v y (cases_lt k n) }
   where
     r : FullReplica
     r = replica_at w c q.block.block.0
 
     last : Updated
     last = record { node = node_of w c; life = (w.dialled c).to.life; block = q.block.block.0; recovery = q.recovery.0; length = q.new_length }
+
+    has : Has (Serves w c q (Told r (Ok u))).updated last
+    has = subst (λ (a : RecoveryReply). Has (updated_by a (w.dialled c).to q) last) (sym (ap reply_to held.1)) (has-one _)
+
+    -- the replica, which the recovery held, gets its id
+    stamps : StampSteps w (Serves w c q (Told r (Ok u)))
+    stamps i z =
+        let holder : i.recovery ≡ Some q.recovery = ap (λ (y : ReplicaInfo). y.recovery) (same_Some i held.0.info (sym z ∙ held.0.is)) ∙ held.0.holder ∙ ap (λ (y : Stamp). Some y) e in
+        record { info = settled_at state.Finalized id held.0.info.sums k; is = held.0.after; gets = gets_update last has refl (sym alive) refl holder (ap (λ (y : Stamp). y.0) e) }
 
     above : (s : ℕ) {n : ℕ} {v : List ℕ} → Shown r s n v → s < q.recovery.0
     above s y =
@@ -239,7 +249,7 @@ update-steps g t w c q id k (Ok u) h alive e size held b = record { broken = b; 
     go s n v y (inr le) = inl (updated-shown r (after r (Ok u)) held.0.info id k s n v held.0.after bytes (omega (arith, above s y, ap (λ (z : Stamp). z.0) e)) le y)
     go s n v y (inl lt) = inr (record {
       entry = last;
-      has = subst (λ (a : RecoveryReply). Has (updated_by a (w.dialled c).to q) last) (sym (ap reply_to held.1)) (has-one _);
+      has = has;
       node = refl;
       life = sym alive;
       block = refl;

@@ -8,13 +8,16 @@ use Rattle.world.specs.Parts.{Message, Lower}
 use Rattle.world.specs.Worlds.{World, Dial, Change, put, put_at, listed, dial_at, latest_with, past_after, apply}
 use Rattle.world.specs.Safe.{Has}
 use Rattle.world_laws.specs.Growing.{Begins}
+use Rattle.world_laws.proofs.Fronts.{front-length}
 use Rattle.world_laws.proofs.GrowthLaws.{apply-grows}
 use Rattle.world_laws.proofs.FactTables.{if-each, put-each, and-left, and-right}
 use Rattle.world_laws.specs.Stamping.{Givens, heard}
 use Rattle.world_laws.proofs.ByteFrame.{Each, each-nil, each-one, each-append}
 use Rattle.world_laws.specs.Joining.{joined_as}
-use Rattle.world_acks.specs.Acking.{PacketEnd, Ends, UpTells, DownTells, UpperTells, LowerTells, Pends, Numbers, Acked}
-use Rattle.world_acks.proofs.Seats.{has-left, Steps, seat-apply, Onward, Lasting, up-on, down-on, upper-on, lower-on, pends-on}
+use Rattle.world_recoveries.specs.Recovering.{Recovering}
+use Rattle.world_recoveries.specs.Telling.{TellsFrom}
+use Rattle.world_acks.specs.Acking.{PacketEnd, Ends, UpTells, DownTells, UpperTells, LowerTells, Pends, Numbers, JoinSeat, Acked}
+use Rattle.world_acks.proofs.Seats.{apply-written, has-left, Steps, seat-apply, Onward, Lasting, join-on, up-on, down-on, upper-on, lower-on, pends-on}
 
 -- ONWARD
 
@@ -25,19 +28,20 @@ first-more (x ∷ xs) ys m e = e
 pub begins-first : (xs ys : List Message) (m : Message) → Begins xs ys → slice_get xs 0 ≡ Some m → slice_get ys 0 ≡ Some m
 begins-first xs ys m b e = subst (λ (zs : List Message). slice_get zs 0 ≡ Some m) b.joins (first-more xs b.rest m e)
 
-pub apply-onward : (g k : Givens) (t u : Ends) (w : World) (c : Change) → Steps w c → ((n b : ℕ) → IsFull (w.replicas n b)) → IsFull c.replica
+pub apply-onward : (g k : Givens) (t u : Ends) (w : World) (c : Change) → Steps w c → Recovering g w → TellsFrom w (apply w c) → Recovering k (apply w c) → ((n b : ℕ) → IsFull (w.replicas n b)) → IsFull c.replica
     → ((b s e : ℕ) → g b s ≡ Some e → k b s ≡ Some e) → ((e : ℕ) (x : PacketEnd) (q : ℤ) → t e q ≡ Some x → u e q ≡ Some x) → Onward g k t u w (apply w c)
 unfolding apply
-apply-onward g k t u w c st full new given named =
+apply-onward g k t u w c st rec tells next full new given named =
     let y = apply-grows w c in
     record {
-      seats = λ b s e n j h. seat-apply w c b s e n j st (full c.node c.block) new h;
+      seats = λ b s e n j h. seat-apply g k w c b s e n j st rec tells next full new h;
       given = given;
       named = named;
       first = λ d m e. begins-first (w.downs d) ((past_after w c).downs d) m (y.downs d) e;
       conns = y.conns;
       dialled = λ d lt. y.dialled d lt;
       joined = λ x h. has-left w.joined c.joined x h;
+      written = λ e. front-length (w.written e) ((past_after w c).written e) (apply-written w c e);
     }
 
 -- WHAT IS NEW
@@ -49,7 +53,7 @@ pub record News (g : Givens) (t : Ends) (w : World) (k : Change) : Type 0 where
   pub uppers : (i : ℕ) (d : Dial) → slice_get k.dials i ≡ Some d → UpperTells (past_after w k) (w.next_conn + i) d.dialled.upper
   pub lower : LowerTells g (apply w k) k.lower_at k.lower
   pub replica : IfSome k.replica.known.info (Pends g t k.block k.replica.known)
-  pub joined : (s n l : ℕ) → Has k.joined (joined_as s n l) → l ≤ w.lives n
+  pub joined : (s n l : ℕ) → Has k.joined (joined_as s n l) → (l ≤ w.lives n) × JoinSeat g (apply w k) s n l
   pub writers : (b : ℕ) → Numbers (g b) t (latest_with w.latest k.stamped b) (heard (put w.writers k.writer_at k.writer b))
   pub begun : (e : ℕ) (x : PacketEnd) (q : ℤ) → t e q ≡ Some x → e < k.office.next.0
 
@@ -115,7 +119,14 @@ lives-of g t w k h n s m l q = go (has-either w.joined k.joined (joined_as s m l
   where
     go : Has w.joined (joined_as s m l) ⊎ Has k.joined (joined_as s m l) → l ≤ w.lives m
     go (inl x) = h s m l x
-    go (inr x) = n.joined s m l x
+    go (inr x) = (n.joined s m l x).0
+
+joins-of : (l g : Givens) (s t : Ends) (w : World) (k : Change) → Acked l s w → Onward l g s t w (apply w k) → News g t w k → (a n b : ℕ) → Has (w.joined ++ k.joined) (joined_as a n b) → JoinSeat g (apply w k) a n b
+joins-of l g s t w k h on news a n b q = go (has-either w.joined k.joined (joined_as a n b) q)
+  where
+    go : Has w.joined (joined_as a n b) ⊎ Has k.joined (joined_as a n b) → JoinSeat g (apply w k) a n b
+    go (inl x) = join-on l g s t w (apply w k) a n b on (h.joins a n b x)
+    go (inr x) = (news.joined a n b x).1
 
 pub keeps : (l g : Givens) (s t : Ends) (w : World) (k : Change) → Acked l s w → Lasting l g s t w (apply w k) → News g t w k → Acked g t (apply w k)
 unfolding apply
@@ -123,6 +134,7 @@ keeps l g s t w k h y n =
     let v = apply w k in
     record {
       lives = lives-of g t w k h.lives n;
+      joins = joins-of l g s t w k h y.on n;
       begun = n.begun;
       ups = λ c. (each-append (UpTells g t v c) (w.ups c) (k.ups c) (record { at = λ i m e. up-on l g s t w v c m y (h.ups c i m e) }) (n.ups c)).at;
       downs = λ c. (each-append (DownTells g t v c) (w.downs c ++ k.downs c) _

@@ -244,7 +244,7 @@ office-leads g t w k h a n downs dials u writers = record {
     named = λ e x q z. z;
     steps = steps-same w k a.replica;
     requests = client-requests w k a.lower dials u;
-    news = λ on facts. client-news g (By g k) t t w k h a on (fresh-given g t w k.stamped h n.fresh) (none-downs (By g k) t (apply w k) k downs) (none-dials (By g k) t w k dials) writers (λ e x q z. omega (arith, h.acked.begun e x q z, n.rises));
+    news = λ on facts recovers. client-news g (By g k) t t w k h a on (fresh-given g t w k.stamped h n.fresh) (none-downs (By g k) t (apply w k) k downs) (none-dials (By g k) t w k dials) writers (λ e x q z. omega (arith, h.acked.begun e x q z, n.rises));
   };
 }
 

@@ -4,6 +4,7 @@ pub mod ClosedMoves
 pub mod ClosedLaws
 pub mod Seats
 pub mod Frame
+pub mod Passing
 pub mod Pending
 pub mod Turning
 pub mod Lowers

@@ -43,8 +43,10 @@ use Rattle.world_laws.proofs.ByteLeaves.{Facts, one-session, sent-each, sent-if}
 use Rattle.world_laws.proofs.ByteRows.{Allows}
 use Rattle.world_laws.proofs.ByteTurns.{Idles, up-idles, ready-idles, follows}
 use Rattle.world_laws.proofs.SetupRising.{IsNoSetup, event-goes, lasting-of, event-broken}
+use Rattle.world_recoveries.specs.Recovering.{Recovering}
 use Rattle.world_acks.specs.Acking.{PacketEnd, Ends, UpTells, PacketTells, DownTells, IsPipe, MemberTells, PendingTells, Pends, Numbers, Acked}
 use Rattle.world_acks.proofs.Shows.{IsNoUpdate}
+use Rattle.world_acks.proofs.Passing.{stamps-row}
 use Rattle.world_acks.proofs.Seats.{Steps, steps-same, steps-row, Lasting, member-on, numbered-on, pipe-on}
 use Rattle.world_acks.proofs.Frame.{News}
 use Rattle.world_acks.proofs.ClosedMoves.{put-self}
@@ -62,7 +64,7 @@ writes-busy m e = cc
 pub record Leaf (g : Givens) (t : Ends) (w : World) (k : Change) : Type 0 where
   pub steps : Steps w k
   pub requests : Requesting w k
-  pub news : Lasting g g t t w (apply w k) → Facts g (apply w k) → News g t w k
+  pub news : Lasting g g t t w (apply w k) → Facts g (apply w k) → Recovering g (apply w k) → News g t w k
 
 -- the office and the writers stay
 pub record Aside (w : World) (k : Change) : Type 0 where
@@ -97,7 +99,7 @@ pub row-steps : (g : Givens) (t : Ends) (w : World) (k : Change) (e : ReplicaEve
     → IsNoSetup (event_at (w.replicas k.node k.block) e) → Steps w k
 row-steps g t w k e h q u n =
     let r = w.replicas k.node k.block in
-    steps-row w k e (λ b. ap (λ (x : FullReplica). x.known.is_broken) q ∙ event-broken r.known (event_at r e) b) q u (event-goes r.known (event_at r e) (lasting-of (event_at r e) n) (h.sets.plain k.node k.block))
+    steps-row w k e (λ b. ap (λ (x : FullReplica). x.known.is_broken) q ∙ event-broken r.known (event_at r e) b) q u (event-goes r.known (event_at r e) (lasting-of (event_at r e) n) (h.sets.plain k.node k.block)) (stamps-row w k e q u n)
 
 -- pending packets of a replica that stays
 pub same-pends : (g : Givens) (t : Ends) (w : World) (k : Change) → Known g t w → k.replica.known ≡ (w.replicas k.node k.block).known → IfSome k.replica.known.info (Pends g t k.block k.replica.known)
@@ -170,11 +172,11 @@ member-leaf g t w c m x turn s b out a low tells em ef took passes steps pends =
     record {
       steps = steps;
       requests = still-requests w k a.known.requests refl refl (λ e. absurd (writes-busy (record m { state = s.member }) e));
-      news = λ on facts.
+      news = λ on facts recovers.
           let old : MemberTells g v c m = member-on g g t t w v c m on a.tells in
           record {
             ups = sent-each (UpTells g t v) c (sent_up m.fields s.effect.sends) (sent-tells g t v c m.fields s.effect.sends
-                (subst (λ (y : Effect). IfSome y.sends (λ u. UpTells g t v c (upward_message m.fields u))) (sym ef) (up v on facts (after-at w k) (after-breaks w k) (after-lives w k (node_of w c)) z.sends)));
+                (subst (λ (y : Effect). IfSome y.sends (λ u. UpTells g t v c (upward_message m.fields u))) (sym ef) (up v on facts recovers (after-at w k) (after-breaks w k) (after-lives w k (node_of w c)) z.sends)));
             downs = sent-if (DownTells g t v) m.mirror (passed s.effect.forwards x) (some-weaker (λ d. Sets w.past d (new_stamp m.fields)) (λ d. Each (DownTells g t v d) (passed s.effect.forwards x)) m.mirror
                 (λ d q. passes v on facts d q s.effect.forwards (λ e. (follows m.state turn out).forwards (ap (λ (y : Effect). y.forwards) (sym ef) ∙ e))) low.mirror);
             dials = λ i d e. absurd (none-some d e);
@@ -199,12 +201,12 @@ member-leaf g t w c m x turn s b out a low tells em ef took passes steps pends =
     alone (inl e) = tells.mirror e
     alone (inr e) = e
 
-    up : (v : World) → Lasting g g t t w v → Facts g v → v.replicas (node_of w c) (block_of m.fields) ≡ s.replica → v.breaks (node_of w c) (block_of m.fields) ≡ b → v.lives (node_of w c) ≡ w.lives (node_of w c)
+    up : (v : World) → Lasting g g t t w v → Facts g v → Recovering g v → v.replicas (node_of w c) (block_of m.fields) ≡ s.replica → v.breaks (node_of w c) (block_of m.fields) ≡ b → v.lives (node_of w c) ≡ w.lives (node_of w c)
         → ((settled m.state turn out).1.sends ≡ None) ⊎ ((out ≡ booked.Taken) × ((settled m.state turn out).1.sends ≡ turn.effect.sends)) → IfSome (settled m.state turn out).1.sends (λ u. UpTells g t v c (upward_message m.fields u))
-    up v on facts at broke live (inl e) = subst (λ (o : Option Upward). IfSome o (λ u. UpTells g t v c (upward_message m.fields u))) (sym e) tt
-    up v on facts at broke live (inr y) =
+    up v on facts recovers at broke live (inl e) = subst (λ (o : Option Upward). IfSome o (λ u. UpTells g t v c (upward_message m.fields u))) (sym e) tt
+    up v on facts recovers at broke live (inr y) =
         let q = took y.0 in
-        subst (λ (o : Option Upward). IfSome o (λ u. UpTells g t v c (upward_message m.fields u))) (sym y.1) (tells.sends v (record { on = on; facts = facts; at = at ∙ q.replica; breaks = broke ∙ q.broke; lives = live }) q.taken)
+        subst (λ (o : Option Upward). IfSome o (λ u. UpTells g t v c (upward_message m.fields u))) (sym y.1) (tells.sends v (record { on = on; facts = facts; recovering = recovers; at = at ∙ q.replica; breaks = broke ∙ q.broke; lives = live }) q.taken)
 
 -- what a turn books brings nothing that isn't known
 abbrev Brings : Givens → Ends → World → ℕ → FullMember → Option ReplicaEvent → Type 0

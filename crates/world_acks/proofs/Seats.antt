@@ -1,19 +1,25 @@
 -- Seats stay, whatever a change makes of the world, and what is said by them.
-use Rattle.std.proofs.Common.{◌≡◌, ℕ, ℤ, zero, suc, ◌<◌, ◌≤◌, ◌⊎◌, inl, inr, Bool, true, false, List, [], ◌∷◌, ◌++◌, take, slice_get, Some, IfSome, refl, sym, ◌∙◌, ap, subst, arith, eqb-true}
+use Rattle.std.proofs.Common.{◌≡◌, ℕ, ℤ, zero, suc, ◌<◌, ◌≤◌, ◌⊎◌, inl, inr, Bool, true, false, List, [], ◌∷◌, ◌++◌, take, slice_get, Option, Some, None, IfSome, refl, sym, ◌∙◌, ap, subst, arith, eqb-true, length}
 use Rattle.std.specs.Prelude.{◌==◌, ◌&&◌, if◌then◌else◌}
 use Rattle.std.proofs.lemmas.Bool.{false≢true}
 use Rattle.std.proofs.lemmas.List.{take-take}
-use Rattle.std.proofs.lemmas.Option.{none-some}
+use Rattle.std.proofs.lemmas.Option.{none-some, same_Some}
+use Rattle.hd_base.specs.declared.numbers.Stamp.{Stamp}
+use Rattle.hd_base.specs.declared.states.ReplicaState.{ReplicaState}
+use Rattle.hd_base.specs.declared.states.ReplicaState.TheVariants as state
 use Rattle.op_headers.specs.declared.ops.Op.{Op}
 use Rattle.op_headers.specs.declared.ops.Op.TheVariants as op
 use Rattle.op_headers.specs.Values.{WriteFields}
 use Rattle.packet_codec.specs.declared.packets.Packet.{Packet}
+use Rattle.replica_core.specs.declared.info.ReplicaInfo.{ReplicaInfo}
+use Rattle.replica_core.specs.Info.{visible_under}
+use Rattle.replica_core.specs.Sound.{IsConsistent}
 use Rattle.replica_core.specs.declared.records.ReplicaRecord.{ReplicaRecord}
 use Rattle.replica_model.specs.declared.events.ReplicaEvent.{ReplicaEvent}
 use Rattle.replica_model.specs.Rows.{FullReplica, IsFull, row, event_at}
 use Rattle.replica_model.specs.Found.{IsFront}
 use Rattle.member_core.specs.Requests.{request_from}
-use Rattle.world.specs.Parts.{Message, request, packet, ack, response, read_status, recovery_answer, Dialled, Upper, by_writer, by_member, by_reader, by_primary, FullMember, Lower, idle, writes, serves, recovers, ended_below, Joined, Updated}
+use Rattle.world.specs.Parts.{Message, request, packet, ack, response, read_status, recovery_answer, Place, Dialled, Upper, by_writer, by_member, by_reader, by_primary, FullMember, Lower, idle, writes, serves, recovers, ended_below, Joined, Updated}
 use Rattle.world.specs.Worlds.{World, Change, past_after, apply}
 use Rattle.world.specs.Nodes.{node_of, block_of}
 use Rattle.world.specs.Safe.{Has}
@@ -24,9 +30,13 @@ use Rattle.world_laws.specs.Carrying.{new_stamp}
 use Rattle.world_laws.proofs.Fronts.{front-takes, front-length}
 use Rattle.world_laws.specs.Joining.{joined_as}
 use Rattle.world_laws.proofs.SetupRising.{Goes}
+use Rattle.world_recoveries.specs.Recovering.{ReplicaTold, Informs, top_under, top_of, Recovering}
+use Rattle.world_recoveries.specs.Telling.{IsOf, TellsNow, TellsFrom}
+use Rattle.world_recoveries.proofs.Telling.{told-below, updated-below}
 use Rattle.world_acks.specs.Closing.{StandsClosed, AllClosed}
 use Rattle.world_acks.specs.Waiting.{IsQuiet}
-use Rattle.world_acks.specs.Acking.{PacketEnd, pending_end, Shown, UpdatesLeave, Seat, Asked, AsksToRead, Seated, IsPipe, promised, SetUpFrom, Ends, AckedFrom, UpTells, Numbered, PacketTells, DownTells, Mirrors, UpperTells, MemberTells, LowerTells, Pends}
+use Rattle.world_acks.specs.Acking.{PacketEnd, pending_end, Shown, UpdatesLeave, EarlierLeave, TellsBytes, ToldBytes, Seat, Asked, AsksToRead, Seated, IsPipe, promised, JoinSeat, SetUpFrom, Ends, AckedFrom, UpTells, Numbered, PacketTells, DownTells, Mirrors, UpperTells, MemberTells, LowerTells, Pends}
+use Rattle.world_acks.proofs.Passing.{StampSteps, stamps-same, passes-apply}
 use Rattle.world_acks.proofs.Shows.{IsNoUpdate, row-shows}
 
 -- LISTS
@@ -61,17 +71,20 @@ pub record IsCut (w : World) (k : Change) (stamp least : ℕ) : Type 0 where
 -- what the replica showed it shows still, unless a recovery has left it fewer bytes
 pub record Steps (w : World) (k : Change) : Type 0 where
   pub broken : (w.replicas k.node k.block).known.is_broken ≡ true → k.replica.known.is_broken ≡ true
+  pub stamps : StampSteps w k
   pub shown : IsFull (w.replicas k.node k.block) → IsFull k.replica → (s n : ℕ) (v : List ℕ) → Shown (w.replicas k.node k.block) s n v → Shown k.replica s n v ⊎ IsCut w k s n
 
 pub steps-same : (w : World) (k : Change) → k.replica ≡ w.replicas k.node k.block → Steps w k
 steps-same w k e = record {
+  stamps = stamps-same w k e;
   broken = λ b. ap (λ (r : FullReplica). r.known.is_broken) e ∙ b;
   shown = λ _ _ s n v x. inl (subst (λ (r : FullReplica). Shown r s n v) (sym e) x);
 }
 
 pub steps-row : (w : World) (k : Change) (e : ReplicaEvent) → ((w.replicas k.node k.block).known.is_broken ≡ true → k.replica.known.is_broken ≡ true) → k.replica ≡ row (w.replicas k.node k.block) e
-    → IsNoUpdate (event_at (w.replicas k.node k.block) e) → Goes (w.replicas k.node k.block).known.info (row (w.replicas k.node k.block) e).known.info → Steps w k
-steps-row w k e b q u g = record {
+    → IsNoUpdate (event_at (w.replicas k.node k.block) e) → Goes (w.replicas k.node k.block).known.info (row (w.replicas k.node k.block) e).known.info → StampSteps w k → Steps w k
+steps-row w k e b q u g st = record {
+  stamps = st;
   broken = b;
   shown = λ f h s n v x. inl (subst (λ (r : FullReplica). Shown r s n v) (sym q)
       (row-shows (w.replicas k.node k.block) e f (subst (λ (r : FullReplica). IsFull r) q h) u g s n v x));
@@ -110,19 +123,68 @@ whole-before : (c d : Bool) → (c ≡ true → d ≡ true) → d ≡ false → 
 whole-before false d h e = refl
 whole-before true d h e = absurd (false≢true (sym e ∙ h refl))
 
-apply-written : (w : World) (k : Change) (e : ℕ) → IsFront (w.written e) ((past_after w k).written e)
+pub apply-written : (w : World) (k : Change) (e : ℕ) → IsFront (w.written e) ((past_after w k).written e)
 unfolding apply
 apply-written w k e = let b = (apply-grows w k).written e in (b.rest, b.joins)
 
-pub seat-apply : (w : World) (k : Change) (b s e n j : ℕ) → Steps w k → IsFull (w.replicas k.node k.block) → IsFull k.replica → Seat w b s e n j → Seat (apply w k) b s e n j
+-- what a replica in this state shows it tells
+sees-told : (o : ReplicaState) (stamp : Stamp) (written acked m v : ℕ) → visible_under o written acked ≡ Some v → m ≤ v → acked ≤ written → TellsBytes (o, stamp, written) m
+sees-told state.Finalized stamp written acked m v e le a = record { is = inr refl; enough = omega (arith, le, same_Some written v e) }
+sees-told state.Rbw stamp written acked m v e le a = record { is = inl refl; enough = omega (arith, le, a, same_Some acked v e) }
+sees-told state.Rwr stamp written acked m v e le a = absurd (none-some v e)
+sees-told state.Rur stamp written acked m v e le a = absurd (none-some v e)
+sees-told state.Temporary stamp written acked m v e le a = absurd (none-some v e)
+
+shown-told : (r : FullReplica) (s m : ℕ) (v : List ℕ) (id : Stamp) (i : ReplicaTold) → IsFull r → IsOf r id i → Shown r s m v → TellsBytes i m
+shown-told r s m v id i full z x =
+    let good : IsConsistent x.info = subst (λ (o : Option ReplicaInfo). IfSome o IsConsistent) x.is full.sound.info in
+    let t = sees-told x.info.original x.info.stamp x.info.written x.info.acked m x.visible x.sees x.enough (omega (arith, good.acked)) in
+    subst (λ (y : ReplicaTold). TellsBytes y m) (sym z.told) (subst (λ (y : ReplicaInfo). TellsBytes (y.original, y.stamp, y.written) m) (same_Some x.info z.info (sym x.is ∙ z.is)) t)
+
+-- what is told now is of the bytes that the replica shows
+told-now : (g : Givens) (w : World) (b s n life m : ℕ) (v : List ℕ) (id : Stamp) (i : ReplicaTold) → Recovering g w → IsFull (w.replicas n b) → TellsNow w.running w.lives w.replicas (record { node = n; life = life }) b id i
+    → (w.running n ≡ true → w.lives n ≡ life → (w.replicas n b).known.is_broken ≡ false → UpdatesLeave w b s n life m → Shown (w.replicas n b) s m v) → EarlierLeave w.past b s id.0 n life m → TellsBytes i m
+told-now g w b s n life m v id i rec full z shows left =
+    shown-told (w.replicas n b) s m v id i full z.replica
+    (shows z.runs (sym z.life) z.replica.sound (record { each = λ u q a d f y. left.each u q a d f y (omega (arith, z.replica.below, below u q a d f)) }))
+  where
+    below : (u : Updated) → Has w.updated u → u.node ≡ n → u.life ≡ life → u.block ≡ b → u.recovery ≤ top_of z.replica.info
+    below u q a d f =
+        updated-below g w u z.replica.info rec q (d ∙ z.life ∙ ap (λ (x : ℕ). w.lives x) (sym a))
+        (ap (λ (x : ℕ). (w.replicas x u.block).known.info) a ∙ ap (λ (y : ℕ). (w.replicas n y).known.info) f ∙ z.replica.is)
+
+-- no recovery with a later id was told of a replica that none holds, under this stamp or an earlier one
+pub told-none : (g : Givens) (v : World) (b stamp n life least : ℕ) (info : ReplicaInfo) → Recovering g v → (v.replicas n b).known.info ≡ Some info → info.recovery ≡ None → info.stamp.0 ≤ stamp → life ≡ v.lives n
+    → ToldBytes v.past b stamp n life least
+told-none g v b stamp n life least info h is free le alive = record {
+  each = λ c id i x at above j lt left.
+      absurd (omega (arith, told-below g v c b id i (record { node = n; life = life }) info h x at alive is, above, le, ap (λ (o : Option Stamp). top_under o info.stamp) free));
+}
+
+pub seat-apply : (g l : Givens) (w : World) (k : Change) (b s e n j : ℕ) → Steps w k → Recovering g w → TellsFrom w (apply w k) → Recovering l (apply w k) → ((m d : ℕ) → IsFull (w.replicas m d)) → IsFull k.replica → Seat w b s e n j → Seat (apply w k) b s e n j
 unfolding apply
-seat-apply w k b s e n j st old new h = record {
+seat-apply g l w k b s e n j st rec tells next full new h = record {
+  passes = passes-apply g l w k b s n h.life st.stamps rec tells next h.passes;
   life = h.life;
   joins = has-left w.joined k.joined (joined_as s n h.life) h.joins;
   born = h.born;
   shows = λ runs alive sound m le left. at runs alive m le left (n == k.node && b == k.block) refl sound;
+  told = record { each = λ c id i x to above m le left. told c id i to above m le left (tells.each c b id i x) };
 }
   where
+    old : IsFull (w.replicas k.node k.block)
+    old = full k.node k.block
+
+    earlier : (id m : ℕ) → EarlierLeave (past_after w k) b s id n h.life m → EarlierLeave w.past b s id n h.life m
+    earlier id m left = record { each = λ u q a d f y z. left.each u (has-left w.updated k.updated u q) a d f y z }
+
+    told : (c : ℕ) (id : Stamp) (i : ReplicaTold) → ((past_after w k).dialled c).to ≡ record { node = n; life = h.life } → s < id.0 → (m : ℕ) → m ≤ j → EarlierLeave (past_after w k) b s id.0 n h.life m
+        → Informs w.past c b id i ⊎ TellsNow w.running w.lives w.replicas ((past_after w k).dialled c).to b id i → TellsBytes i m
+    told c id i to above m le left (inl x) =
+        h.told.each c id i x (ap (λ (d : Dialled). d.to) (sym ((apply-grows w k).dialled c (rec.told c b id i x).known)) ∙ to) above m le (earlier id.0 m left)
+    told c id i to above m le left (inr z) =
+        told-now g w b s n h.life m (w.written e) id i rec (full n b) (subst (λ (p : Place). TellsNow w.running w.lives w.replicas p b id i) to z) (λ runs alive sound u. h.shows runs alive sound m le u) (earlier id.0 m left)
+
     left-before : (m : ℕ) → UpdatesLeave (apply w k) b s n h.life m → UpdatesLeave w b s n h.life m
     left-before m u = record { each = λ x q a c d i. u.each x (has-left w.updated k.updated x q) a c d i }
 
@@ -164,6 +226,7 @@ pub record Onward (g k : Givens) (t u : Ends) (w v : World) : Type 0 where
   pub conns : w.next_conn ≤ v.next_conn
   pub dialled : (c : ℕ) → c < w.next_conn → v.dialled c ≡ w.dialled c
   pub joined : (x : Joined) → Has w.joined x → Has v.joined x
+  pub written : (e : ℕ) → length (w.written e) ≤ length (v.written e)
 
 -- The same, and nodes that stand closed stand so; no request comes to wait under a stamp under which none waits.
 pub record Lasting (g k : Givens) (t u : Ends) (w v : World) : Type 0 where
@@ -186,6 +249,17 @@ seated-on g k t u w v f n e j o h = record {
 
 pub pipe-on : (g k : Givens) (t u : Ends) (w v : World) (c : ℕ) (f : WriteFields) (e : ℕ) → Onward g k t u w v → IsPipe g w c f e → IsPipe k v c f e
 pipe-on g k t u w v c f e o h = record { known = omega (arith, h.known, o.conns); asked = asked-on g k t u w v c f o h.asked; given = o.given (block_of f) (new_stamp f).0 e h.given }
+
+pub join-on : (g k : Givens) (t u : Ends) (w v : World) (s n l : ℕ) → Onward g k t u w v → JoinSeat g w s n l → JoinSeat k v s n l
+join-on g k t u w v s n l o h = record {
+  conn = h.conn;
+  fields = h.fields;
+  session = h.session;
+  pipe = pipe-on g k t u w v h.conn h.fields h.session o h.pipe;
+  is = h.is;
+  to = ap (λ (d : Dialled). d.to) (o.dialled h.conn h.pipe.known) ∙ h.to;
+  seat = o.seats (block_of h.fields) s h.session n (promised h.fields) h.seat;
+}
 
 pub node-on : (g k : Givens) (t u : Ends) (w v : World) (c : ℕ) → Onward g k t u w v → c < w.next_conn → node_of w c ≡ node_of v c
 node-on g k t u w v c o lt = sym (ap (λ (d : Dialled). d.to.node) (o.dialled c lt))

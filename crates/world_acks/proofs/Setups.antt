@@ -42,7 +42,7 @@ use Rattle.member_core.specs.declared.requests.TheConstants.{MAX_BELOW, MAX_PORT
 use Rattle.member_core.specs.Members.{MemberState, set_up, set_up_at}
 use Rattle.member_core.specs.Requests.{setup_with, rule_for, named_setup, named_rule, setup_event, request_event, request_from, request_to, mirror_request, response_of}
 use Rattle.member_core.specs.Steps.{Setup, request_at, refused_request, booked_request, refused_by, faulted_request}
-use Rattle.world.specs.Parts.{Message, request, response, Dialled, by_member, idle, ended_below, Break}
+use Rattle.world.specs.Parts.{Message, request, response, Dialled, by_member, idle, ended_below, Break, Joined}
 use Rattle.world.specs.Worlds.{World, Dial, Change, dial_at, past_after, apply}
 use Rattle.world.specs.Nodes.{node_of, node_on, replica_at, block_of, broke_at, joined_at, sent_up, mirror_node, is_asked, mirror_dial, dials_of, setup_change, failing_write, write_request}
 use Rattle.world.specs.Safe.{Has}
@@ -54,12 +54,14 @@ use Rattle.world_laws.proofs.ByteFrame.{Each, each-nil, each-one}
 use Rattle.world_laws.proofs.ByteLeaves.{Facts, sent-each}
 use Rattle.world_laws.specs.Joining.{joined_as}
 use Rattle.world_laws.proofs.SetupRising.{event-goes, event-broken}
-use Rattle.world_acks.specs.Acking.{Shown, Seat, Asked, IsPipe, least_of, promised, Ends, UpTells, DownTells, UpperTells, Pends}
+use Rattle.world_recoveries.specs.Recovering.{Recovering}
+use Rattle.world_acks.specs.Acking.{Shown, Seat, Asked, IsPipe, least_of, promised, JoinSeat, Ends, UpTells, DownTells, UpperTells, Pends}
 use Rattle.world_acks.proofs.Shows.{stream-open}
 use Rattle.world_acks.specs.Closing.{FinalUnder, BrokeFinal, StandsClosed}
 use Rattle.world_acks.specs.Waiting.{Waits, IsQuiet}
 use Rattle.world_acks.proofs.Requests.{NewRequest, of_member, Requesting, still-requests, quiet-taken, lower-there}
-use Rattle.world_acks.proofs.Seats.{has-right, has-one, shown-less, Steps, steps-row, steps-same}
+use Rattle.world_acks.proofs.Passing.{StampSteps, stamps-setup, passes-none}
+use Rattle.world_acks.proofs.Seats.{has-right, has-one, shown-less, told-none, Steps, steps-row, steps-same}
 use Rattle.world_acks.proofs.Turning.{Known, shown-says, no-break, lone-closed}
 use Rattle.world_acks.proofs.Lowers.{Leaf, still-numbers, aside-begun, after-at, after-breaks, writes-busy, same-pends, row-pends, row-steps}
 
@@ -102,6 +104,7 @@ pub record Set (s : SetupKind) (c : ReplicaRecord) (stamp : Stamp) (n : ℕ) : T
   pub enough : n ≤ visible
   pub within : visible ≤ info.written
   pub final : s ≡ kind.CloseRecovery → info.original ≡ state.Finalized
+  pub free : info.recovery ≡ None
 
 -- a setup that was taken, at a replica that wasn't broken
 pub record WasSet (s : SetupKind) (stamp : Stamp) (n : ℕ) (t : Taken) (broken : Bool) : Type 0 where
@@ -129,7 +132,7 @@ IsClose s at = s ≡ kind.CloseRecovery → at ≡ state.Finalized
 
 -- settled at such a length
 settled-set : (s : SetupKind) (c : ReplicaRecord) (writer : Option ConnId) (at : ReplicaState) (t : Stamp) (r : Rule) (k n : ℕ) → visible_of (settled_at at t r k) ≡ Some k → n ≤ k → IsClose s at → Set s (set_writer c (settled_at at t r k) writer) t n
-settled-set s c writer at t r k n sees le final = record { info = settled_at at t r k; is = refl; under = refl; visible = k; sees = sees; enough = le; within = omega arith; final = final }
+settled-set s c writer at t r k n sees le final = record { info = settled_at at t r k; is = refl; under = refl; visible = k; sees = sees; enough = le; within = omega arith; final = final; free = refl }
 
 writer-set : (s : SetupKind) (c : ReplicaRecord) (writer : Option ConnId) (next : Result ReplicaInfo Refusal) (at : ReplicaState) (t : Stamp) (n : ℕ) → c.is_broken ≡ false → IsClose s at → ((r : Rule) (k : ℕ) → visible_of (settled_at at t r k) ≡ Some k)
     → ((j : ReplicaInfo) → next ≡ Ok j → (r : Rule) × (k : ℕ) × (j ≡ settled_at at t r k) × (n ≤ k)) → SetOr s t n c.is_broken (with_writer c writer next)
@@ -182,12 +185,12 @@ request-set c conn f e q =
 
 -- REPLICAS
 
-goes-steps : (g : Givens) (t : Ends) (w : World) (k : Change) (conn : ConnId) (f : WriteFields) (r : Rule) (s : SetupKind) → Known g t w → k.replica ≡ row (w.replicas k.node k.block) (replica_event.Other (setup_event conn f r s)) → Steps w k
-goes-steps g t w k conn f r kind.Create h q = let o = (w.replicas k.node k.block).known in steps-row w k (replica_event.Other (setup_event conn f r kind.Create)) (λ b. ap (λ (x : FullReplica). x.known.is_broken) q ∙ event-broken o (setup_event conn f r kind.Create) b) q tt (event-goes o (setup_event conn f r kind.Create) tt (h.sets.plain k.node k.block))
-goes-steps g t w k conn f r kind.Append h q = let o = (w.replicas k.node k.block).known in steps-row w k (replica_event.Other (setup_event conn f r kind.Append)) (λ b. ap (λ (x : FullReplica). x.known.is_broken) q ∙ event-broken o (setup_event conn f r kind.Append) b) q tt (event-goes o (setup_event conn f r kind.Append) tt (h.sets.plain k.node k.block))
-goes-steps g t w k conn f r kind.AppendRecovery h q = let o = (w.replicas k.node k.block).known in steps-row w k (replica_event.Other (setup_event conn f r kind.AppendRecovery)) (λ b. ap (λ (x : FullReplica). x.known.is_broken) q ∙ event-broken o (setup_event conn f r kind.AppendRecovery) b) q tt (event-goes o (setup_event conn f r kind.AppendRecovery) tt (h.sets.plain k.node k.block))
-goes-steps g t w k conn f r kind.StreamRecovery h q = let o = (w.replicas k.node k.block).known in steps-row w k (replica_event.Other (setup_event conn f r kind.StreamRecovery)) (λ b. ap (λ (x : FullReplica). x.known.is_broken) q ∙ event-broken o (setup_event conn f r kind.StreamRecovery) b) q tt (event-goes o (setup_event conn f r kind.StreamRecovery) tt (h.sets.plain k.node k.block))
-goes-steps g t w k conn f r kind.CloseRecovery h q = let o = (w.replicas k.node k.block).known in steps-row w k (replica_event.Other (setup_event conn f r kind.CloseRecovery)) (λ b. ap (λ (x : FullReplica). x.known.is_broken) q ∙ event-broken o (setup_event conn f r kind.CloseRecovery) b) q tt (event-goes o (setup_event conn f r kind.CloseRecovery) tt (h.sets.plain k.node k.block))
+goes-steps : (g : Givens) (t : Ends) (w : World) (k : Change) (conn : ConnId) (f : WriteFields) (r : Rule) (s : SetupKind) → Known g t w → k.replica ≡ row (w.replicas k.node k.block) (replica_event.Other (setup_event conn f r s)) → StampSteps w k → Steps w k
+goes-steps g t w k conn f r kind.Create h q st = let o = (w.replicas k.node k.block).known in steps-row w k (replica_event.Other (setup_event conn f r kind.Create)) (λ b. ap (λ (x : FullReplica). x.known.is_broken) q ∙ event-broken o (setup_event conn f r kind.Create) b) q tt (event-goes o (setup_event conn f r kind.Create) tt (h.sets.plain k.node k.block)) st
+goes-steps g t w k conn f r kind.Append h q st = let o = (w.replicas k.node k.block).known in steps-row w k (replica_event.Other (setup_event conn f r kind.Append)) (λ b. ap (λ (x : FullReplica). x.known.is_broken) q ∙ event-broken o (setup_event conn f r kind.Append) b) q tt (event-goes o (setup_event conn f r kind.Append) tt (h.sets.plain k.node k.block)) st
+goes-steps g t w k conn f r kind.AppendRecovery h q st = let o = (w.replicas k.node k.block).known in steps-row w k (replica_event.Other (setup_event conn f r kind.AppendRecovery)) (λ b. ap (λ (x : FullReplica). x.known.is_broken) q ∙ event-broken o (setup_event conn f r kind.AppendRecovery) b) q tt (event-goes o (setup_event conn f r kind.AppendRecovery) tt (h.sets.plain k.node k.block)) st
+goes-steps g t w k conn f r kind.StreamRecovery h q st = let o = (w.replicas k.node k.block).known in steps-row w k (replica_event.Other (setup_event conn f r kind.StreamRecovery)) (λ b. ap (λ (x : FullReplica). x.known.is_broken) q ∙ event-broken o (setup_event conn f r kind.StreamRecovery) b) q tt (event-goes o (setup_event conn f r kind.StreamRecovery) tt (h.sets.plain k.node k.block)) st
+goes-steps g t w k conn f r kind.CloseRecovery h q st = let o = (w.replicas k.node k.block).known in steps-row w k (replica_event.Other (setup_event conn f r kind.CloseRecovery)) (λ b. ap (λ (x : FullReplica). x.known.is_broken) q ∙ event-broken o (setup_event conn f r kind.CloseRecovery) b) q tt (event-goes o (setup_event conn f r kind.CloseRecovery) tt (h.sets.plain k.node k.block)) st
 
 goes-pends : (g : Givens) (t : Ends) (w : World) (k : Change) (conn : ConnId) (f : WriteFields) (r : Rule) (s : SetupKind) → Known g t w → k.replica ≡ row (w.replicas k.node k.block) (replica_event.Other (setup_event conn f r s))
     → IfSome k.replica.known.info (Pends g t k.block k.replica.known)
@@ -197,8 +200,11 @@ goes-pends g t w k conn f r kind.AppendRecovery h q = row-pends g t w k (replica
 goes-pends g t w k conn f r kind.StreamRecovery h q = row-pends g t w k (replica_event.Other (setup_event conn f r kind.StreamRecovery)) h q tt
 goes-pends g t w k conn f r kind.CloseRecovery h q = row-pends g t w k (replica_event.Other (setup_event conn f r kind.CloseRecovery)) h q tt
 
-request-steps : (g : Givens) (t : Ends) (w : World) (k : Change) (conn : ConnId) (f : WriteFields) (e : Event) → Known g t w → IsRequest conn f e → k.replica ≡ row (w.replicas k.node k.block) (replica_event.Other e) → Steps w k
-request-steps g t w k conn f e h q r = goes-steps g t w k conn f q.sums q.kind_of h (r ∙ ap (λ (x : Event). row (w.replicas k.node k.block) (replica_event.Other x)) q.is)
+request-steps : (g : Givens) (t : Ends) (w : World) (k : Change) (c : ℕ) (conn : ConnId) (f : WriteFields) (e : Event) → Known g t w → IsRequest conn f e → k.replica ≡ row (w.replicas k.node k.block) (replica_event.Other e)
+    → slice_get (w.downs c) 0 ≡ Some (request (op.Write f)) → block_of f ≡ k.block → Steps w k
+request-steps g t w k c conn f e h q r asked block =
+    let is = r ∙ ap (λ (x : Event). row (w.replicas k.node k.block) (replica_event.Other x)) q.is in
+    goes-steps g t w k conn f q.sums q.kind_of h is (stamps-setup w k c conn f q.sums q.kind_of asked block q.stage (ap (λ (x : FullReplica). x.known) is))
 
 request-pends : (g : Givens) (t : Ends) (w : World) (k : Change) (conn : ConnId) (f : WriteFields) (e : Event) → Known g t w → IsRequest conn f e → k.replica ≡ row (w.replicas k.node k.block) (replica_event.Other e)
     → IfSome k.replica.known.info (Pends g t k.block k.replica.known)
@@ -221,7 +227,7 @@ refused-leaf g t w c f r q b h steps pends =
     record {
       steps = steps;
       requests = still-requests w k h.requests refl refl (λ e. absurd (ended-busy e));
-      news = λ on facts. record {
+      news = λ on facts recovers. record {
         ups = sent-each (UpTells g t v) c _ (each-one (UpTells g t v c) (response (response_of f (answer.Refused q))) (λ e. absurd (false≢true e)));
         downs = λ d. each-nil (DownTells g t v d);
         dials = λ i d e. absurd (none-some d e);
@@ -363,12 +369,14 @@ abbrev Asks : World → ℕ → WriteFields → Setup → Change
 Asks w c f s = setup_change w c f s (w.breaks (node_of w c) (block_of f))
 
 -- a replica that was set up has a seat
-new-seat : (g : Givens) (v : World) (b n life e k : ℕ) (stamp : Stamp) (r : FullReplica) → Facts g v → v.replicas n b ≡ r → {s : SetupKind} → Set s r.known stamp k → g b stamp.0 ≡ Some e → Has v.joined (joined_as stamp.0 n life) → life ≤ v.lives n
+new-seat : (g : Givens) (v : World) (b n life e k : ℕ) (stamp : Stamp) (r : FullReplica) → Facts g v → Recovering g v → v.replicas n b ≡ r → {s : SetupKind} → Set s r.known stamp k → g b stamp.0 ≡ Some e → Has v.joined (joined_as stamp.0 n life) → life ≡ v.lives n
     → Seat v b stamp.0 e n k
-new-seat g v b n life e k stamp r facts at x given joins born = record {
+new-seat g v b n life e k stamp r facts recovers at x given joins alive = record {
   life = life;
   joins = joins;
-  born = born;
+  born = omega (arith, alive);
+  told = told-none g v b stamp.0 n life k x.info recovers (ap (λ (q : FullReplica). q.known.info) at ∙ x.is) x.free (omega (arith, ap (λ (s : Stamp). s.0) x.under)) alive;
+  passes = passes-none g v b stamp.0 n life x.info recovers (ap (λ (q : FullReplica). q.known.info) at ∙ x.is) x.free (ap (λ (s : Stamp). s.0) x.under) alive;
   shows = λ _ _ _ i le _. shown-less (v.replicas n b) stamp.0 i k (v.written e) le (subst (λ (s : Stamp). Shown (v.replicas n b) s.0 k (v.written e)) x.under
       (shown-says g v b (v.replicas n b) x.info e x.visible k (facts.carried.replicas n b) (facts.full n b) (ap (λ (q : FullReplica). q.known.info) at ∙ x.is) (ap (λ (s : Stamp). g b s.0) x.under ∙ given) x.sees x.within x.enough));
 }
@@ -391,13 +399,13 @@ taken-leaf g t w c f asked r h says low lt alive s stage x sound steps pends =
     record {
       steps = steps;
       requests = asks;
-      news = λ on facts.
+      news = λ on facts recovers.
           let pipe : IsPipe g v c f says.session = record { known = omega (arith, lt, on.conns); asked = record { first = on.first c (request (op.Write f)) says.first }; given = says.given } in
           let same : (v.dialled c) ≡ (w.dialled c) = on.dialled c lt in
           let joins : Has v.joined (joined_as (new_stamp f).0 n (w.dialled c).to.life) =
           has-right w.joined k.joined (joined_as (new_stamp f).0 n (w.dialled c).to.life) (subst (λ xs. Has xs (joined_as (new_stamp f).0 n (w.dialled c).to.life)) (sym (joined x)) (has-one (joined_as (new_stamp f).0 n (w.dialled c).to.life))) in
           let seat : Seat v (block_of f) (new_stamp f).0 says.session n (promised f) =
-          new-seat g v (block_of f) n (w.dialled c).to.life says.session (promised f) (new_stamp f) r facts (after-at w k) x says.given joins (omega (arith, alive)) in
+          new-seat g v (block_of f) n (w.dialled c).to.life says.session (promised f) (new_stamp f) r facts recovers (after-at w k) x says.given joins (sym alive) in
           let quiet : (k.dials ≡ []) ⊎ (setup_with f.stage ≡ Some kind.AppendRecovery → ⊥) → IsQuiet v (new_stamp f).0 =
           λ either. quiet-taken g g w k f h.requests asks h.facts facts waits (λ e. writes-busy _ (sym (lower-there w k c refl) ∙ e)) either in
           let closes : setup_with f.stage ≡ Some kind.CloseRecovery → StandsClosed g v (block_of f) (new_stamp f).0 (node_of v c) =
@@ -425,7 +433,9 @@ taken-leaf g t w c f asked r h says low lt alive s stage x sound steps pends =
               closes = closes;
             };
             replica = pends;
-            joined = λ p m l j. lives p m l (subst (λ xs. Has xs (joined_as p m l)) (joined x) j);
+            joined = λ p m l j.
+                let here : Has (joined_as (new_stamp f).0 n (w.dialled c).to.life ∷ []) (joined_as p m l) = subst (λ xs. Has xs (joined_as p m l)) (joined x) j in
+                (lives p m l here, join-here v pipe seat (ap (λ (y : Dialled). y.to) same) p m l here);
             writers = still-numbers g t w k h.acked refl refl;
             begun = aside-begun g t w k h.acked refl;
           };
@@ -454,6 +464,26 @@ taken-leaf g t w c f asked r h says low lt alive s stage x sound steps pends =
     joined y =
         ap (λ (o : Option ReplicaInfo). joined_at (w.dialled c).to (option_map (λ (i : ReplicaInfo). i.stamp) o)) y.is
         ∙ ap (λ (s : Stamp). joined_as s.0 (node_of w c) (w.dialled c).to.life ∷ []) y.under
+
+    -- the setup that was accepted is that of the request
+    join-here : (v : World) → IsPipe g v c f says.session → Seat v (block_of f) (new_stamp f).0 says.session (node_of w c) (promised f) → (v.dialled c).to ≡ (w.dialled c).to
+        → (p m l : ℕ) → Has (joined_as (new_stamp f).0 (node_of w c) (w.dialled c).to.life ∷ []) (joined_as p m l) → JoinSeat g v p m l
+    join-here v pipe seat same p m l j = at j.place j.there
+      where
+        at : (i : ℕ) → slice_get (joined_as (new_stamp f).0 (node_of w c) (w.dialled c).to.life ∷ []) i ≡ Some (joined_as p m l) → JoinSeat g v p m l
+        at zero e =
+            let y = same_Some (joined_as (new_stamp f).0 (node_of w c) (w.dialled c).to.life) (joined_as p m l) e in
+            let stamp : (new_stamp f).0 ≡ p = ap (λ z. z.stamp) y in
+            record {
+              conn = c;
+              fields = f;
+              session = says.session;
+              pipe = pipe;
+              is = stamp;
+              to = same ∙ ap (λ (z : Joined). record { node = z.node; life = z.life }) y;
+              seat = subst (λ (q : ℕ). Seat v (block_of f) p says.session q (promised f)) (ap (λ z. z.node) y) (subst (λ (q : ℕ). Seat v (block_of f) q says.session (node_of w c) (promised f)) stamp seat);
+            }
+        at (suc i) e = absurd (none-some _ e)
 
     lives : (p m l : ℕ) → Has (joined_as (new_stamp f).0 (node_of w c) (w.dialled c).to.life ∷ []) (joined_as p m l) → l ≤ w.lives m
     lives p m l j = at j.place j.there
@@ -497,7 +527,7 @@ requested-leaf g t w c f asked (Ok e) h says low lt alive q =
     let conn : ConnId = record { 0 = c } in
     let r = replica_at w c (block_of f) in
     outcome-leaf g t w c f asked (transition r.known e) h says low lt alive q.kind_of q.stage (request-set r.known conn f e q)
-    (λ k n b z. request-steps g t w k conn f e h q (z ∙ ap (λ (y : FullReplica). row y (replica_event.Other e)) (sym (ap (λ (x : ℕ). w.replicas x k.block) n ∙ ap (λ (y : ℕ). w.replicas (node_of w c) y) b))))
+    (λ k n b z. request-steps g t w k c conn f e h q (z ∙ ap (λ (y : FullReplica). row y (replica_event.Other e)) (sym (ap (λ (x : ℕ). w.replicas x k.block) n ∙ ap (λ (y : ℕ). w.replicas (node_of w c) y) b))) says.first (sym b))
     (request-pends g t w (Asks w c f (refused_request (row r (replica_event.Other e)) refusal.Pool)) conn f e h q refl)
 
 failing-leaf : (g : Givens) (t : Ends) (w : World) (c : ℕ) (f : WriteFields) (e : Result Event RequestRefusal) → Known g t w → IfSome (failing_write w c f e) (Leaf g t w)

@@ -57,11 +57,13 @@ use Rattle.world_laws.proofs.Fronts.{front-takes, front-length}
 use Rattle.world_laws.proofs.ByteLeaves.{Facts}
 use Rattle.world_laws.proofs.ByteRows.{sets-once}
 use Rattle.world_laws.specs.Joining.{joined_as, IsPlain, BreakReached, SetUps}
+use Rattle.world_recoveries.specs.Recovering.{Recovering}
 use Rattle.world_acks.specs.Acking.{PacketEnd, pending_end, Shown, Seat, Asked, AsksToRead, Seated, IsPipe, promised, SetUpFrom, Ends, AckedFrom, UpTells, Mirrors, MemberTells, PendingTells, Pends, Acked}
 use Rattle.world_acks.specs.Closing.{FinalUnder, BrokeFinal, IsClosed, StandsClosed, AllClosed}
 use Rattle.world_acks.specs.Waiting.{Requests}
 use Rattle.world_acks.proofs.Requests.{first-once}
-use Rattle.world_acks.proofs.Seats.{shown-less, Lasting, all-closed-on, seated-on, pipe-on, node-on}
+use Rattle.world_acks.proofs.Passing.{passes-none}
+use Rattle.world_acks.proofs.Seats.{shown-less, told-none, Lasting, all-closed-on, seated-on, pipe-on, node-on}
 
 -- WHAT IS KNOWN
 
@@ -70,11 +72,13 @@ pub record Known (g : Givens) (t : Ends) (w : World) : Type 0 where
   pub sets : SetUps g w
   pub requests : Requests w
   pub acked : Acked g t w
+  pub recovering : Recovering g w
 
 -- a later world in which a node's replica of a block is this one
 pub record Then (g : Givens) (t : Ends) (w v : World) (n b : ℕ) (r : FullReplica) : Type 0 where
   pub on : Lasting g g t t w v
   pub facts : Facts g v
+  pub recovering : Recovering g v
   pub at : v.replicas n b ≡ r
   pub breaks : v.breaks n b ≡ w.breaks n b
   pub lives : v.lives n ≡ w.lives n
@@ -118,6 +122,7 @@ record Shows (d : ReplicaRecord) (i : ReplicaInfo) (p : PendingPacket) : Type 0 
   pub after : ReplicaInfo
   pub is : d.info ≡ Some after
   pub stamp : after.stamp ≡ i.stamp
+  pub free : i.recovery ≡ None → after.recovery ≡ None
   pub visible : ℕ
   pub sees : visible_of after ≡ Some visible
   pub enough : IsConsistent after → p.end ≤ visible
@@ -131,6 +136,7 @@ acknowledged c i p e =
       after = close_stream (advance_acked i p.end);
       is = refl;
       stamp = refl;
+      free = λ _. refl;
       visible = i.written;
       sees = subst (λ (s : ReplicaState). visible_of (close_stream (record (advance_acked i p.end) { original = s })) ≡ Some i.written) (sym e) refl;
       enough = λ h. omega (arith, h.acked);
@@ -141,12 +147,17 @@ acknowledged c i p e =
       after = advance_acked i p.end;
       is = refl;
       stamp = refl;
+      free = λ e. e;
       visible = max i.acked p.end;
       sees = subst (λ (s : ReplicaState). visible_of (record (advance_acked i p.end) { original = s }) ≡ Some (max i.acked p.end)) (sym e) refl;
       enough = λ h. omega arith;
       within = λ h. omega (arith, h.acked);
       final = λ l. absurd (false≢true (sym q ∙ l));
     })
+
+none-of : (o : Option Stamp) (s : ReplicaState) → is_writable (state_under o s) ≡ true → o ≡ None
+none-of None s e = refl
+none-of (Some id) s e = absurd (false≢true e)
 
 rbw-of : (o : Option Stamp) (s : ReplicaState) → is_writable (state_under o s) ≡ true → (s ≡ state.Temporary → ⊥) → s ≡ state.Rbw
 rbw-of (Some id) s e l = absurd (false≢true e)
@@ -161,6 +172,7 @@ record GoodAck (r : FullReplica) (conn : ConnId) (seqno : ℤ) : Type 0 where
   pub oldest : slice_get r.known.pending 0 ≡ Some entry
   pub info : ReplicaInfo
   pub was : r.known.info ≡ Some info
+  pub free : info.recovery ≡ None
   pub stream : Stream
   pub writes : r.known.stream ≡ Some stream
   pub by : stream.conn.0 ≡ conn.0
@@ -187,6 +199,7 @@ good-ack r conn seqno full plain taken = go (ok-of (transition r.known (event.Ac
           oldest = oldest_is (slice_get c.pending 0) seqno e old;
           info = h;
           was = is;
+          free = none-of h.recovery h.original state;
           stream = s;
           writes = writes.0;
           by = writes.1;
@@ -284,6 +297,9 @@ books g t w v c m e a old y taken =
         shows = λ _ _ _ i le _. shown-less (v.replicas n b) (new_stamp m.fields).0 i e.end (v.written a.tells.session) le (subst (λ (z : FullReplica). Shown z (new_stamp m.fields).0 e.end (v.written a.tells.session)) (sym y.at)
             (subst (λ (z : PendingPacket). Shown q (new_stamp m.fields).0 z.end (v.written a.tells.session)) same
             (subst (λ (z : Stamp). Shown q z.0 x.entry.end (v.written a.tells.session)) after shown)));
+        told = told-none g v b (new_stamp m.fields).0 n (w.dialled c).to.life e.end k.after y.recovering (ap (λ (z : FullReplica). z.known.info) y.at ∙ k.is) (k.free x.free)
+            (omega (arith, ap (λ (z : Stamp). z.0) after)) (sym (y.lives ∙ a.alive));
+        passes = passes-none g v b (new_stamp m.fields).0 n (w.dialled c).to.life k.after y.recovering (ap (λ (z : FullReplica). z.known.info) y.at ∙ k.is) (k.free x.free) (ap (λ (z : Stamp). z.0) after) (sym (y.lives ∙ a.alive));
       };
     }
 

@@ -1,6 +1,7 @@
 -- What answers to setups and acks say of the replicas below them.
 use Rattle.std.specs.Prelude.{ℕ, ℤ, pos, ◌≡◌, ◌<◌, ◌≤◌, ◌⊎◌, Bool, true, false, List, [], ◌∷◌, length, take, slice_get, Option, Some, IfSome}
 use Rattle.hd_base.specs.declared.numbers.Stamp.{Stamp}
+use Rattle.hd_base.specs.declared.states.ReplicaState.TheVariants as state
 use Rattle.op_headers.specs.declared.nodes.NodeRef.{NodeRef}
 use Rattle.op_headers.specs.declared.ops.Op.TheVariants as op
 use Rattle.op_headers.specs.declared.ops.ReadOp.{ReadOp}
@@ -31,6 +32,8 @@ use Rattle.world.specs.Safe.{Has}
 use Rattle.world_laws.specs.Stamping.{Givens, none_given, given_in, heard}
 use Rattle.world_laws.specs.Carrying.{new_stamp}
 use Rattle.world_laws.specs.Joining.{joined_as}
+use Rattle.world_recoveries.specs.Recovering.{ReplicaTold, Informs}
+use Rattle.world_acks.specs.Passing.{PassesSince}
 use Rattle.world_acks.specs.Closing.{StandsClosed, AllClosed}
 use Rattle.world_acks.specs.Waiting.{IsQuiet}
 
@@ -47,18 +50,40 @@ pub record Shown (r : FullReplica) (stamp n : ℕ) (v : List ℕ) : Type 0 where
   pub bytes : take n r.bytes ≡ take n v
   pub within : n ≤ length v
 
--- each recovery with an id above this stamp that updated the block's replica at a node in this life left it at least so many bytes
+-- each recovery with an id above this stamp that updated the block's replica at a node in this life left it at least
+-- so many bytes
 pub record UpdatesLeave (w : World) (b stamp n life least : ℕ) : Type 0 where
-  pub each : (u : Updated) → Has w.updated u → u.node ≡ n → u.life ≡ life → u.block ≡ b → stamp < u.recovery → least ≤ u.length
+  pub each : (u : Updated) → Has w.updated u → u.node ≡ n → u.life ≡ life → u.block ≡ b → stamp < u.recovery →
+      least ≤ u.length
 
--- A node accepted the setup of a stamp of a session, in a life that isn't later than its present one. Of so many bytes of the session it shows, as
--- long as it runs in that life and its replica isn't broken, as many as each later recovery left that has updated it.
+-- the same of those with an id below another
+pub record EarlierLeave (h : Past) (b stamp id n life least : ℕ) : Type 0 where
+  pub each : (u : Updated) → Has h.updated u → u.node ≡ n → u.life ≡ life → u.block ≡ b → stamp < u.recovery →
+      u.recovery < id → least ≤ u.length
+
+-- A replica was told of as RBW or FINALIZED, with at least so many bytes written.
+pub record TellsBytes (i : ReplicaTold) (n : ℕ) : Type 0 where
+  pub is : (i.0 ≡ state.Rbw) ⊎ (i.0 ≡ state.Finalized)
+  pub enough : n ≤ i.2
+
+-- What a node told in this life of its replica to a recovery with an id above this stamp is of so many bytes, as many
+-- of them as each earlier recovery left that has updated it.
+pub record ToldBytes (h : Past) (b stamp n life least : ℕ) : Type 0 where
+  pub each : (c : ℕ) (id : Stamp) (i : ReplicaTold) → Informs h c b id i →
+      (h.dialled c).to ≡ record { node = n; life = life } → stamp < id.0 → (j : ℕ) → j ≤ least →
+      EarlierLeave h b stamp id.0 n life j → TellsBytes i j
+
+-- A node accepted the setup of a stamp of a session, in a life that isn't later than its present one. Of so many
+-- bytes of the session it shows, as long as it runs in that life and its replica isn't broken, as many as each later
+-- recovery left that has updated it; it told no recovery of fewer; and its replica got past all later stamps since.
 pub record Seat (w : World) (b stamp session n least : ℕ) : Type 0 where
   pub life : ℕ
   pub joins : Has w.joined (joined_as stamp n life)
   pub born : life ≤ w.lives n
   pub shows : w.running n ≡ true → w.lives n ≡ life → (w.replicas n b).known.is_broken ≡ false → (j : ℕ) → j ≤ least →
       UpdatesLeave w b stamp n life j → Shown (w.replicas n b) stamp j (w.written session)
+  pub told : ToldBytes w.past b stamp n life least
+  pub passes : PassesSince w b stamp n life
 
 -- CONNECTIONS
 
@@ -91,13 +116,25 @@ least_of _ n = n
 abbrev pub promised : WriteFields → ℕ
 promised f = least_of (setup_with f.stage) f.min
 
--- All members from a connection's lower end on accepted the setup, with the least length of its request; where it recovers a close, they have closed.
+-- All members from a connection's lower end on accepted the setup, with the least length of its request; where it
+-- recovers a close, they have closed.
 pub record SetUpFrom (g : Givens) (w : World) (c : ℕ) : Type 0 where
   pub fields : WriteFields
   pub session : ℕ
   pub pipe : IsPipe g w c fields session
   pub seated : Seated w fields (node_of w c) session (promised fields)
   pub closed : setup_with fields.stage ≡ Some kind.CloseRecovery → AllClosed g w fields (node_of w c)
+
+-- A node that accepted a setup was asked to over a connection to it, in that life, and has a seat of the least length
+-- of the request.
+pub record JoinSeat (g : Givens) (w : World) (stamp n life : ℕ) : Type 0 where
+  pub conn : ℕ
+  pub fields : WriteFields
+  pub session : ℕ
+  pub pipe : IsPipe g w conn fields session
+  pub is : (new_stamp fields).0 ≡ stamp
+  pub to : (w.dialled conn).to ≡ record { node = n; life = life }
+  pub seat : Seat w (block_of fields) stamp session n (promised fields)
 
 -- where a packet ends, and whether it is the last one of its block
 pub record PacketEnd : Type 0 where
@@ -114,7 +151,8 @@ pending_end e = record { at = e.end; last = e.last }
 abbrev pub Ends : Type 0
 Ends = ℕ → ℤ → Option PacketEnd
 
--- All members from a connection's lower end on show what the packet of this number ends; where it is the last one, they have closed.
+-- All members from a connection's lower end on show what the packet of this number ends; where it is the last one,
+-- they have closed.
 pub record AckedFrom (g : Givens) (t : Ends) (w : World) (c : ℕ) (seqno : ℤ) : Type 0 where
   pub fields : WriteFields
   pub session : ℕ
@@ -165,8 +203,9 @@ UpperTells h c _ = Unit {0}
 
 -- LOWER ENDS
 
--- A member took the setup of its connection in the life of its connection, and has a seat of the least length. Without a mirror it has no targets,
--- and no request waits under its stamp that recovers an append; where it took the recovery of a close it has closed.
+-- A member took the setup of its connection in the life of its connection, and has a seat of the least length.
+-- Without a mirror it has no targets, and no request waits under its stamp that recovers an append; where it took the
+-- recovery of a close it has closed.
 pub record MemberTells (g : Givens) (w : World) (c : ℕ) (m : FullMember) : Type 0 where
   pub session : ℕ
   pub pipe : IsPipe g w c m.fields session
@@ -215,17 +254,19 @@ reach_of phase.Finished = 1
 reach_of phase.Completed = 1
 reach_of (phase.Failed e) = 0
 
--- In its session, which is named by a stamp of its block, a writer's packets have numbers; they lie below the next one until the last packet was
--- formed.
+-- In its session, which is named by a stamp of its block, a writer's packets have numbers; they lie below the next
+-- one until the last packet was formed.
 pub record Numbers (f : ℕ → Option ℕ) (t : Ends) (session : ℕ) (x : WriterRecord) : Type 0 where
   pub known : 1 ≤ reach_of x.phase → f session ≡ Some session
-  pub packets : 1 ≤ reach_of x.phase → (i : ℕ) (p : Packet) → slice_get x.stream.unacked i ≡ Some p → Numbered t session p
+  pub packets : 1 ≤ reach_of x.phase → (i : ℕ) (p : Packet) → slice_get x.stream.unacked i ≡ Some p →
+      Numbered t session p
   pub below : 2 ≤ reach_of x.phase → (q : ℕ) (k : PacketEnd) → t session (pos q) ≡ Some k → q < x.stream.seqno
 
 -- THE WORLD
 
 pub record Acked (g : Givens) (t : Ends) (w : World) : Type 0 where
   pub lives : (s n l : ℕ) → Has w.joined (joined_as s n l) → l ≤ w.lives n
+  pub joins : (s n l : ℕ) → Has w.joined (joined_as s n l) → JoinSeat g w s n l
   pub begun : (e : ℕ) (k : PacketEnd) (q : ℤ) → t e q ≡ Some k → e < w.office.next.0
   pub ups : (c i : ℕ) (m : Message) → slice_get (w.ups c) i ≡ Some m → UpTells g t w c m
   pub downs : (c i : ℕ) (m : Message) → slice_get (w.downs c) i ≡ Some m → DownTells g t w c m

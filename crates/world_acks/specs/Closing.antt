@@ -60,8 +60,10 @@ pub data Closing (g : Givens) (w v : World) (b stamp n : ℕ) : Type 0 where
 
 -- So it is with every event that follows a list of events, of the stamps that are given in them.
 abbrev pub StaysClosed : Type 0
-StaysClosed = (nodes : ℕ) (events : List Event) (e : Event) (b stamp n : ℕ) → IsClosed (run (start nodes) events) b stamp n →
-    Closing (given_by (given_in none_given (start nodes) events) (run (start nodes) events) e) (run (start nodes) events)
+StaysClosed = (nodes : ℕ) (events : List Event) (e : Event) (b stamp n : ℕ) →
+    IsClosed (run (start nodes) events) b stamp n →
+    Closing (given_by (given_in none_given (start nodes) events) (run (start nodes) events) e)
+    (run (start nodes) events)
     (happens (run (start nodes) events) e) b stamp n
 
 -- THE MEMBERS OF A PIPELINE

@@ -1,3 +1,4 @@
+pub mod Passing
 pub mod Closing
 pub mod Waiting
 pub mod Acking

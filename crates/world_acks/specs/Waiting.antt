@@ -28,7 +28,8 @@ abbrev pub Unasked : Past → Phase → Type 0
 Unasked h (phase.Stamped s stamp) = (c : ℕ) → Sets h c stamp → ⊥
 Unasked h _ = Unit {0}
 
--- Each connection begins with a message; of one stamp at most one request waits; and a writer hasn't asked under a stamp that it is to dial under.
+-- Each connection begins with a message; of one stamp at most one request waits; and a writer hasn't asked under a
+-- stamp that it is to dial under.
 pub record Requests (w : World) : Type 0 where
   pub begun : (c : ℕ) → c < w.next_conn → HasFirst w.past c
   pub once : (c d : ℕ) (f k : WriteFields) → Waits w c f → Waits w d k → new_stamp f ≡ new_stamp k → c ≡ d
@@ -38,7 +39,8 @@ pub record Requests (w : World) : Type 0 where
 pub record IsQuiet (w : World) (stamp : ℕ) : Type 0 where
   pub conn : ℕ
   pub asked : Sets w.past conn (record { 0 = stamp })
-  pub none : (c : ℕ) (f : WriteFields) → Waits w c f → (new_stamp f).0 ≡ stamp → setup_with f.stage ≡ Some kind.AppendRecovery → ⊥
+  pub none : (c : ℕ) (f : WriteFields) → Waits w c f → (new_stamp f).0 ≡ stamp →
+      setup_with f.stage ≡ Some kind.AppendRecovery → ⊥
 
 -- So it is after every list of events.
 abbrev pub AllWaiting : Type 0

@@ -13,7 +13,8 @@ abbrev pub file_fault_events : List Event
 file_fault_events =
     takes 1 default_rule (command.Create (node 0 ∷ node 1 ∷ [])) ∷ asks 1 ∷ acts 1 ∷ down 0 ∷ down 1 ∷ up 1 ∷ up 0
     ∷ acts 1
-    ∷ takes 1 default_rule (command.Write (0 ∷ 0 ∷ 0 ∷ 0 ∷ 0 ∷ 0 ∷ 0 ∷ 0 ∷ 0 ∷ 0 ∷ 0 ∷ 0 ∷ 0 ∷ 0 ∷ 0 ∷ 0 ∷ 0 ∷ 0 ∷ 0 ∷ 0 ∷ 0 ∷ 0 ∷ 0 ∷ 0 ∷ 0 ∷ 0 ∷ 0 ∷ 0 ∷ 0 ∷ 0 ∷ 0 ∷ 0 ∷ []))
+    ∷ takes 1 default_rule (command.Write (0 ∷ 0 ∷ 0 ∷ 0 ∷ 0 ∷ 0 ∷ 0 ∷ 0 ∷ 0 ∷ 0 ∷ 0 ∷ 0 ∷ 0 ∷ 0 ∷ 0 ∷ 0 ∷ 0 ∷ 0 ∷ 0 ∷
+    0 ∷ 0 ∷ 0 ∷ 0 ∷ 0 ∷ 0 ∷ 0 ∷ 0 ∷ 0 ∷ 0 ∷ 0 ∷ 0 ∷ 0 ∷ []))
     ∷ takes 1 default_rule command.Hflush ∷ acts 1 ∷ down 0 ∷ fails 1 ∷ up 1 ∷ up 0 ∷ asks 1 ∷ acts 1 ∷ down 2 ∷ up 2
     ∷ asks 1 ∷ acts 1 ∷ acts 1 ∷ down 2 ∷ ready 2 ∷ up 2 ∷ acts 1 ∷ takes 1 default_rule command.Close ∷ acts 1
     ∷ down 2 ∷ ready 2 ∷ up 2 ∷ asks 1 ∷ acts 1 ∷ []

@@ -26,7 +26,8 @@ abbrev pub hsync_ends : Ends
 hsync_ends = record {
   replicas = line state.Finalized 1001 9 9 (Some 0xe3069283) ∷ [];
   said = says 0 (answer.Granted (stamp 1001)) ∷ says 2 (answer.Reached 9 (stamp 1001) (node 0 ∷ []))
-      ∷ says 3 (answer.Reached 9 (stamp 1001) (node 0 ∷ [])) ∷ says 4 (answer.Reached 9 (stamp 1001) (node 0 ∷ [])) ∷ [];
+      ∷ says 3 (answer.Reached 9 (stamp 1001) (node 0 ∷ [])) ∷
+      says 4 (answer.Reached 9 (stamp 1001) (node 0 ∷ [])) ∷ [];
   downs =
       (writing 1001 6 0 0 0 [] ∷ piece 0 9 0 false true ∷ piece 9 9 1 false true ∷ piece 9 9 2 true true ∷ [])
       ∷ [];

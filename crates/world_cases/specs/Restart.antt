@@ -15,7 +15,13 @@ use Rattle.world_cases.specs.Shown.{node, block, stamp, takes, acts, asks, asks_
 
 -- what the restart finds: the bytes that were written, which wait for a recovery
 abbrev pub found_one : FoundReplica
-found_one = record { block = block 1; state = state.Rwr; stamp = stamp 1001; sums = default_rule; bytes = fill_bytes (block 1) 0 1300 }
+found_one = record {
+  block = block 1;
+  state = state.Rwr;
+  stamp = stamp 1001;
+  sums = default_rule;
+  bytes = fill_bytes (block 1) 0 1300;
+}
 
 abbrev pub restart_events : List Event
 restart_events =

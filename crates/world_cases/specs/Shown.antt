@@ -154,7 +154,8 @@ line at s written acked sum = Some (record { state = at; stamp = s; written = wr
 
 abbrev pub line_as : Option ReplicaInfo → Bool → List ℕ → Option Line
 line_as None broken bytes = None
-line_as (Some h) broken bytes = line (state_of h) h.stamp.0 h.written h.acked (if broken then None else Some (sum_of kind.Crc32c bytes))
+line_as (Some h) broken bytes = line (state_of h) h.stamp.0 h.written h.acked (if broken then None
+    else Some (sum_of kind.Crc32c bytes))
 
 abbrev pub line_of : FullReplica → Option Line
 line_of r = line_as r.known.info r.known.is_broken r.bytes

@@ -16,8 +16,9 @@ use Rattle.world.specs.Nodes.{node_on, lower_down, lower_ready}
 use Rattle.world.specs.Primaries.{office_event}
 use Rattle.world.specs.Restarts.{all_found, restart}
 use Rattle.world.specs.Events.{changed, own_change, down_as, upper_up, up_as, fault_event, lost, stop, where_so, outcome, after_event, happens, run}
-use Rattle.world.specs.Safe.{Closed}
+use Rattle.world.specs.Safe.{Closed, Safe}
 use Rattle.world_laws.specs.Growing.{Grows}
+use Rattle.world_laws.proofs.ByteLaws.{prefix}
 use Rattle.world_laws.proofs.FactTables.{when-each}
 use Rattle.world_laws.proofs.GrowthLaws.{run-grows}
 use Rattle.world_laws.proofs.RunLaws.{runs-end}
@@ -25,13 +26,16 @@ use Rattle.world_laws.proofs.PlacedLaws.{all-placed}
 use Rattle.world_laws.proofs.Agreements.{office-and-writer-agree}
 use Rattle.world_laws.specs.Stamping.{Givens, none_given, given_by, given_in, heard}
 use Rattle.world_laws.proofs.ByteLeaves.{Facts}
+use Rattle.world_recoveries.proofs.AllRecovering.{happens-fits}
 use Rattle.world_acks.specs.Closing.{HasClosed, StandsClosed}
 use Rattle.world_acks.specs.Acking.{Ends}
 use Rattle.world_acks.proofs.Turning.{Known}
 use Rattle.world_acks.proofs.AllAcked.{Told, happens-told, last-closed, all-known}
 use Rattle.world_writers.proofs.AllPiped.{all-piped}
+use Rattle.world_writers.proofs.Kept.{kept}
 use Rattle.world_finals.specs.Finishing.{no_ids, ids_in}
 use Rattle.world_finals.proofs.AllFinal.{all-final}
+use Rattle.world_finals.proofs.Laws.{all-agree}
 use Rattle.world_closings.specs.Answering.{Closes, AllClose}
 use Rattle.world_closings.proofs.Completing.{known-of}
 use Rattle.world_closings.proofs.Answers.{RunsNamed, happens-closed}
@@ -70,7 +74,7 @@ happens-closes : (g : Givens) (t : Ends) (w : World) (e : Event) → Before g t 
 unfolding happens
 happens-closes g t w e h f =
     let l = given_by g w e in
-    let k : Told g w l (happens w e) = happens-told g t w e h.known f in
+    let k : Told g w l (happens w e) = happens-told g t w e h.known (record { facts = f; coming = happens-fits g w e h.known.facts h.agreed h.known.recovering h.known.sets.writes }) in
     after-closes g l t w e (outcome w e) h k.closed (grows-by w e) (λ y. outcome-closes g l t w e h y)
 
 -- THE NUMBER OF NODES
@@ -203,3 +207,8 @@ all-close nodes events = (all-hold nodes events).closes
 
 pub all-closed : (nodes : ℕ) (events : List Event) → nodes ≤ MAX_NODES → Closed (run (start nodes) events)
 all-closed nodes events le = (all-hold nodes events).closed le
+
+-- THE HEADLINE
+
+pub all-safe : (nodes : ℕ) (events : List Event) → nodes ≤ MAX_NODES → Safe (run (start nodes) events)
+all-safe nodes events le = record { prefix = prefix nodes events; kept = kept nodes events le; agree = all-agree nodes events; closed = all-closed nodes events le }

@@ -24,7 +24,8 @@ use Rattle.world_laws.specs.Stamping.{Givens, none_given, given_in, heard}
 use Rattle.world_laws.specs.Carrying.{Sets}
 use Rattle.world_acks.specs.Closing.{StandsClosed}
 
--- These members have closed under the stamp of a setup that was asked, and stay so: each whose port in requests is that of its node.
+-- These members have closed under the stamp of a setup that was asked, and stay so: each whose port in requests is
+-- that of its node.
 pub record MembersClosed (g : Givens) (w : World) (b : ℕ) (stamp : Stamp) (members : List NodeId) : Type 0 where
   pub conn : ℕ
   pub asked : Sets w.past conn stamp
@@ -48,10 +49,16 @@ pub record IsCompleted (w : World) (b : ℕ) (stamp : Stamp) : Type 0 where
 -- the answer of a writer in this state to a close, once its block is completed
 pub record AnswersClose (b : ℕ) (x : WriterRecord) (a : Answered) : Type 0 where
   pub phase_is : x.phase ≡ phase.Completed
-  pub is : a ≡ record { block = b; command = by_close; length = written_in x.stream; stamp = x.committed.0; members = x.members }
+  pub is : a ≡ record {
+    block = b;
+    command = by_close;
+    length = written_in x.stream;
+    stamp = x.committed.0;
+    members = x.members;
+  }
 
--- From the good ack of the last packet on, and from the answer to the recovery of a close on, all members have closed; once the block is
--- completed, the office has closed it.
+-- From the good ack of the last packet on, and from the answer to the recovery of a close on, all members have
+-- closed; once the block is completed, the office has closed it.
 abbrev pub ClosesIn : Givens → World → ℕ → Option ℕ → WriterRecord → Phase → Type 0
 ClosesIn g w b conn x (phase.Requested setup.CloseRecovery stamp) = AsksToClose w.past conn
 ClosesIn g w b conn x (phase.Accepted setup.CloseRecovery stamp) = MembersClosed g w b stamp x.members
@@ -67,4 +74,5 @@ pub record Closes (g : Givens) (w : World) : Type 0 where
 
 -- So it is after every list of events, of the stamps that are given in them.
 abbrev pub AllClose : Type 0
-AllClose = (nodes : ℕ) (events : List Event) → Closes (given_in none_given (start nodes) events) (run (start nodes) events)
+AllClose = (nodes : ℕ) (events : List Event) →
+    Closes (given_in none_given (start nodes) events) (run (start nodes) events)

@@ -1,10 +1,11 @@
-//! Closes in the world. Each function has an empty body; its clause says what holds after every list of events.
+//! Closes in the world, and the headline. Each function has an empty body; its clause says what holds after every list
+//! of events.
 #![tactic(auto)]
 
 ghost use Rattle.std.specs.Prelude.{◌≤◌};
 ghost use Rattle.world.specs.Worlds.{start};
 ghost use Rattle.world.specs.Events.{run};
-ghost use Rattle.world.specs.Safe.{Closed};
+ghost use Rattle.world.specs.Safe.{Closed, Safe};
 ghost use Rattle.world_closings.specs.Answering.{AllClose};
 
 use world::Schedule;
@@ -21,4 +22,13 @@ pub fn closed_law(schedule: &Schedule)
     requires low { 1 ≤ schedule.now.nodes }
     requires high { schedule.now.nodes ≤ 16 }
     ensures { Closed (run (start schedule.now.nodes) schedule.now.events) }
+{}
+
+/// The headline: whatever happens, replicas hold fronts of what was written, answered bytes stay, FINALIZED replicas
+/// agree, and a close that was answered has closed its members. The four parts of `Safe` hold together after every list
+/// of events.
+pub fn safe_law(schedule: &Schedule)
+    requires low { 1 ≤ schedule.now.nodes }
+    requires high { schedule.now.nodes ≤ 16 }
+    ensures { Safe (run (start schedule.now.nodes) schedule.now.events) }
 {}

@@ -32,6 +32,10 @@ use Rattle.world_laws.proofs.AllCarried.{down-taken-facts, up-taken-facts, chang
 use Rattle.world_laws.proofs.AllSetUp.{served-life}
 use Rattle.world_recoveries.specs.Recovering.{Recovering}
 use Rattle.world_recoveries.proofs.AllRecovering.{sent-down, down-taken-fits, happens-fits, reached-writes, start-fits}
+use Rattle.world_laws.specs.Joining.{SetUps}
+use Rattle.world_laws.proofs.AllSetUp.{happens-set, start-set}
+use Rattle.world_recoveries.specs.Naming.{Naming}
+use Rattle.world_recoveries.proofs.AllNaming.{happens-naming, start-naming}
 use Rattle.world_finals.specs.Finishing.{Ids, no_ids, ids_with, ids_by, ids_in, Finals}
 use Rattle.world_finals.proofs.Frame.{keeps, stays-so}
 use Rattle.world_finals.proofs.Nodes.{Makes, beside-ends, makes-news, lower-down-makes, lower-ready-makes, mirror-up-makes}
@@ -104,11 +108,11 @@ fault-final f g w (delivery.Down c) h a r = down-final f g w c.0 false true h a 
 fault-final f g w (delivery.Ready c) h a r = ready-final f g w c.0 true h a
 fault-final f g w (delivery.Up c) h a r = up-final f g w c.0 true h a
 
-own-brings : (f : Ids) (g : Givens) (w : World) (s : OwnStep) → Finals f g w → Facts g w → IfSome (own_change w s) (Brings f g w)
-own-brings f g w (own.Writer b takes answered) h a = own-writer-brings f g w b.0 takes answered h a
-own-brings f g w (own.Reader i n r answered) h a = own-reader-brings f g w i n.0 r answered h a
-own-brings f g w (own.Recover i n b members answers) h a = own-recover-brings f g w i n.0 b members answers h a
-own-brings f g w (own.Primary i) h a = own-primary-brings f g w i h a
+own-brings : (f : Ids) (g : Givens) (w : World) (s : OwnStep) → Finals f g w → Facts g w → Recovering g w → Naming g w → IfSome (own_change w s) (Brings f g w)
+own-brings f g w (own.Writer b takes answered) h a y n = own-writer-brings f g w b.0 takes answered h a (n.knows b.0)
+own-brings f g w (own.Reader i n r answered) h a y named = own-reader-brings f g w i n.0 r answered h a
+own-brings f g w (own.Recover i n b members answers) h a y named = own-recover-brings f g w i n.0 b members answers h a
+own-brings f g w (own.Primary i) h a y named = own-primary-brings f g w i h a y
 
 -- THE OFFICE
 
@@ -126,17 +130,17 @@ where-final : (f : Ids) (g : Givens) (test : Bool) (v : World) → Finals f g v 
 where-final f g true v h = h
 where-final f g false v h = tt
 
-outcome-final : (f : Ids) (g : Givens) (w : World) (e : Event) → Finals f g w → Facts g w → Recovering g w → Broken w → IfSome (outcome w e) (Finals (ids_by f w e) (given_by g w e))
+outcome-final : (f : Ids) (g : Givens) (w : World) (e : Event) → Finals f g w → Facts g w → Recovering g w → Naming g w → Broken w → IfSome (outcome w e) (Finals (ids_by f w e) (given_by g w e))
 unfolding outcome
-outcome-final f g w (event.Own s) h a r i = changed-final f g w (own_change w s) h a (changed-carried g w (own_change w s) (own-keeps g w s a)) (own-brings f g w s h a)
-outcome-final f g w (event.Office c) h a r i = office-final f g w c h a
-outcome-final f g w (event.Down c answered) h a r i = down-final f g w c.0 answered false h a r
-outcome-final f g w (event.Ready c) h a r i = ready-final f g w c.0 false h a
-outcome-final f g w (event.Up c) h a r i = up-final f g w c.0 false h a
-outcome-final f g w (event.Lost c way more) h a r i = where-final f g (nat_lt c.0 w.next_conn) (lost w c.0 way more) (lost-final f g w c.0 way more h a)
-outcome-final f g w (event.Fault d) h a r i = fault-final f g w d h a r
-outcome-final f g w (event.Stop n) h a r i = where-final f g (w.running n.0) (stop w n.0) (stop-final f g w n.0 h a)
-outcome-final f g w (event.Restart n list) h a r i =
+outcome-final f g w (event.Own s) h a r named i = changed-final f g w (own_change w s) h a (changed-carried g w (own_change w s) (own-keeps g w s a)) (own-brings f g w s h a r named)
+outcome-final f g w (event.Office c) h a r named i = office-final f g w c h a
+outcome-final f g w (event.Down c answered) h a r named i = down-final f g w c.0 answered false h a r
+outcome-final f g w (event.Ready c) h a r named i = ready-final f g w c.0 false h a
+outcome-final f g w (event.Up c) h a r named i = up-final f g w c.0 false h a
+outcome-final f g w (event.Lost c way more) h a r named i = where-final f g (nat_lt c.0 w.next_conn) (lost w c.0 way more) (lost-final f g w c.0 way more h a)
+outcome-final f g w (event.Fault d) h a r named i = fault-final f g w d h a r
+outcome-final f g w (event.Stop n) h a r named i = where-final f g (w.running n.0) (stop w n.0) (stop-final f g w n.0 h a)
+outcome-final f g w (event.Restart n list) h a r named i =
     where-final f g (nat_lt n.0 w.nodes && not (w.running n.0) && all_found w n.0 list) (restart w n.0 list) (restart-final f g w n.0 list h a i)
 
 -- an event that isn't enabled gives no stamp
@@ -168,27 +172,28 @@ after-final : (f : Ids) (g : Givens) (w : World) (e : Event) (o : Option World) 
 after-final f g w e None i h k a = idle-final f g w e i h
 after-final f g w e (Some v) i h k a = named-final (ids_by f w e) (given_by g w e) v e k (record { carried = record { downs = a.carried.downs; ups = a.carried.ups; replicas = a.carried.replicas; breaks = a.carried.breaks; lowers = a.carried.lowers; writers = a.carried.writers; entries = a.carried.entries; primaries = a.carried.primaries; led = a.carried.led }; fresh = a.fresh; full = a.full; unused = a.unused; recorded = record { below = a.recorded.below; above = a.recorded.above; session = a.recorded.session; one = a.recorded.one; first = a.recorded.first; writers = a.recorded.writers; blocks = a.recorded.blocks } })
 
-happens-final : (f : Ids) (g : Givens) (w : World) (e : Event) → Finals f g w → Facts g w → Recovering g w → Broken w → Facts (given_by g w e) (happens w e) → Finals (ids_by f w e) (given_by g w e) (happens w e)
+happens-final : (f : Ids) (g : Givens) (w : World) (e : Event) → Finals f g w → Facts g w → Recovering g w → Naming g w → Broken w → Facts (given_by g w e) (happens w e) → Finals (ids_by f w e) (given_by g w e) (happens w e)
 unfolding happens
-happens-final f g w e h a r i b = after-final f g w e (outcome w e) refl h (outcome-final f g w e h a r i) b
+happens-final f g w e h a r n i b = after-final f g w e (outcome w e) refl h (outcome-final f g w e h a r n i) b
 
 reached-broken : (w : World) → Reached w → (n b : ℕ) → IfSome (w.breaks n b) IsBreak
 reached-broken w r = subst (λ (v : World). (n b : ℕ) → IfSome (v.breaks n b) IsBreak) r.is (all-filled r.nodes r.events).breaks
 
-run-final : (f : Ids) (g : Givens) (w : World) (events : List Event) → Reached w → Recorded g w → Carried g w → Recovering g w → Finals f g w → Finals (ids_in f w events) (given_in g w events) (run w events)
-run-final f g w [] r i c y h = h
-run-final f g w (e ∷ events) r i c y h =
+run-final : (f : Ids) (g : Givens) (w : World) (events : List Event) → Reached w → Recorded g w → Carried g w → Recovering g w → SetUps g w → Naming g w → Finals f g w → Finals (ids_in f w events) (given_in g w events) (run w events)
+run-final f g w [] r i c y s n h = h
+run-final f g w (e ∷ events) r i c y s n h =
     let a = reached-agreed w r in
     let x = reached-facts g w r i c in
     let j = happens-recorded g w e i a in
     let d = happens-carried g w e x a in
     let next = reached-next w e r in
-    run-final (ids_by f w e) (given_by g w e) (happens w e) events next j d (happens-fits g w e x a y (reached-writes w r))
-    (happens-final f g w e h x y (reached-broken w r) (reached-facts (given_by g w e) (happens w e) next j d))
+    run-final (ids_by f w e) (given_by g w e) (happens w e) events next j d (happens-fits g w e x a y (reached-writes w r)).recovering
+    (happens-set g w e x a j.one s) (happens-naming g w e x s d n) (happens-final f g w e h x y n (reached-broken w r) (reached-facts (given_by g w e) (happens w e) next j d))
 
 start-final : (nodes : ℕ) → Finals no_ids none_given (start nodes)
 unfolding start
 start-final nodes = record {
+  earlier = λ b t d e x. absurd (none-some d x);
   below = λ t e. absurd (false≢true e);
   downs = λ c i m e. absurd (none-some m e);
   replicas = λ n b. record { final = tt; last = tt };
@@ -196,7 +201,11 @@ start-final nodes = record {
   writers = λ b. record { shut = λ e. absurd (none-some _ e); closing = λ e. absurd (false≢true e); closed = λ e. refl; last = λ e. absurd (false≢true e) };
   stamps = λ b. tt;
   primaries = λ i id x. absurd x;
+  sends = λ i. tt;
+  entries = λ b. tt;
+  sessions = λ b e q. absurd (none-some e q);
+  acks = λ b. record { begins = λ e. absurd (false≢true e); first = λ t e. absurd (cc) };
 }
 
 pub all-final : (nodes : ℕ) (events : List Event) → Finals (ids_in no_ids (start nodes) events) (given_in none_given (start nodes) events) (run (start nodes) events)
-all-final nodes events = run-final no_ids none_given (start nodes) events (at-start nodes) (start-recorded nodes) (start-carried nodes) (start-fits nodes) (start-final nodes)
+all-final nodes events = run-final no_ids none_given (start nodes) events (at-start nodes) (start-recorded nodes) (start-carried nodes) (start-fits nodes) (start-set nodes) (start-naming nodes) (start-final nodes)

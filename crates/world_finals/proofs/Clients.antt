@@ -1,6 +1,7 @@
 -- What writers and readers make of sessions at their end.
-use Rattle.std.proofs.Common.{◌≡◌, ℕ, zero, suc, ◌<◌, ◌+◌, ◌⊎◌, inl, inr, Bool, true, false, List, [], ◌∷◌, length, slice_get, Option, Some, None, IfSome, Result, Ok, Err, refl, sym, ◌∙◌, ap, subst, eqb-true}
+use Rattle.std.proofs.Common.{◌≡◌, ℕ, zero, suc, ◌<◌, ◌+◌, ◌⊎◌, inl, inr, Bool, true, false, List, [], ◌∷◌, length, slice_get, Option, Some, None, IfSome, Result, Ok, Err, refl, sym, ◌∙◌, ap, subst, eqb-true, ◌≤◌, arith}
 use Rattle.std.specs.Prelude.{◌==◌, ◌&&◌, ◌++◌, is_none, not}
+use Rattle.std.proofs.lemmas.Bool.{false≢true}
 use Rattle.std.proofs.lemmas.Option.{none-some, same_Some}
 use Rattle.hd_base.specs.declared.numbers.BlockId.{BlockId}
 use Rattle.hd_base.specs.declared.numbers.NodeId.{NodeId}
@@ -12,7 +13,9 @@ use Rattle.op_headers.specs.declared.ops.ReadOp.{ReadOp}
 use Rattle.packet_codec.specs.declared.packets.Packet.{Packet}
 use Rattle.packet_stream.specs.Streams.{StreamState, packet_end, written_in}
 use Rattle.replica_model.specs.Rows.{FullReplica}
+use Rattle.member_core.specs.declared.requests.SetupKind.{SetupKind}
 use Rattle.member_core.specs.declared.requests.SetupKind.TheVariants as kind
+use Rattle.member_core.specs.Requests.{setup_with}
 use Rattle.read_core.specs.Readings.{ReadTaken, take_from}
 use Rattle.read_core.specs.declared.reading.ReadTurn.{ReadTurn}
 use Rattle.read_core.specs.declared.reading.ReadTurn.TheVariants as turn
@@ -45,9 +48,10 @@ use Rattle.world_laws.specs.Carrying.{new_stamp, ConnSays, StreamOf, Streams, ki
 use Rattle.world_laws.proofs.ByteLeaves.{Facts}
 use Rattle.world_laws.proofs.ByteWriting.{of-latest, Requested, requested}
 use Rattle.world_recoveries.specs.Recovering.{HasId}
-use Rattle.world_finals.specs.Finishing.{Ids, writes_no_more, EndsAt, WriteEnds, LastEnds, DownEnds, ReplicaEnds, BreakEnds, SetsNoId, WriterEnds, Finals}
-use Rattle.world_finals.proofs.Writers.{Follows, follows-same, follows-then, hears-follows, dialled-follows, SendsEnd, OwnEnds, opened-ends, completed-ends, own-step-ends, command-ends}
-use Rattle.world_finals.proofs.Frame.{Ends, replica-stays, break-stays, sets-grow, grown, News, stays-so}
+use Rattle.world_finals.specs.Finishing.{Ids, writes_no_more, EndsAt, SessionBegins, least_asked, WriteEnds, LastEnds, DownEnds, ReplicaEnds, BreakEnds, SetsNoId, has_packets, WriterEnds, AcksFrom, Finals}
+use Rattle.world_finals.proofs.Writers.{Follows, follows-same, follows-then, hears-follows, dialled-follows, SendsEnd, OwnEnds, opened-ends, completed-ends, own-step-ends, command-ends, taken-packets}
+use Rattle.world_finals.proofs.Frame.{Ends, replica-stays, break-stays, begins-stays, begins-more, sets-grow, leaves, acks-kept, latest-stays, grown, News, stays-so}
+use Rattle.world_recoveries.specs.Naming.{IsBefore, IsPast}
 
 -- WHAT A CLIENT BRINGS
 
@@ -63,10 +67,11 @@ pub record Apart (w : World) (k : Change) : Type 0 where
   pub primary : k.primary ≡ w.primaries k.primary_at
 
 pub apart-news : (f : Ids) (g : Givens) (w : World) (k : Change) → Finals f g w → Facts g w → Ends w k → Apart w k → ((c j : ℕ) (m : Message) → slice_get (k.downs c) j ≡ Some m → DownEnds f g (apply w k) c m)
-    → ((j : ℕ) (d : Dial) → slice_get k.dials j ≡ Some d → DownEnds f g (apply w k) (w.next_conn + j) d.request) → WriterEnds (heard k.writer) → SetsNoId f (heard k.writer).phase → News f g w k
-apart-news f g w k h a e x downs dials ends stamp =
+    → ((j : ℕ) (d : Dial) → slice_get k.dials j ≡ Some d → DownEnds f g (apply w k) (w.next_conn + j) d.request) → WriterEnds (heard k.writer) → SetsNoId f (heard k.writer).phase → AcksFrom f g w k.writer_at (w.latest k.writer_at) (heard k.writer) → News f g w k
+apart-news f g w k h a e x downs dials ends stamp acks =
     let s = stays-so f g w k h a e in
     let v = apply w k in
+    let o = leaves f g w k h s x.office x.primary in
     record {
       replica = subst (λ (r : FullReplica). ReplicaEnds f g v k.block r) (sym x.replica) (replica-stays f g w f g v k.block (w.replicas k.node k.block) s (h.replicas k.node k.block));
       broke = subst (λ (o : Option Break). IfSome o (BreakEnds f g v k.block)) (sym x.broke)
@@ -77,7 +82,19 @@ apart-news f g w k h a e x downs dials ends stamp =
       stamp = stamp;
       primary = λ id y. h.primaries k.primary_at id (subst (λ (z : Primary). HasId z id) x.primary y);
       below = λ t y. subst (λ (o : OfficeState). t < o.next.0) (sym x.office) (h.below t y);
+      earlier = h.earlier;
+      sends = o.sends;
+      entries = o.entries;
+      sessions = o.sessions;
+      acks = acks-kept f g w f g k h s (latest-stays w k e.stamped) acks;
     }
+
+-- a writer that goes on has acked no less
+follows-acks : (f : Ids) (g : Givens) (w : World) (b n : ℕ) (x y : WriterRecord) → Follows x y → AcksFrom f g w b n x → AcksFrom f g w b n y
+follows-acks f g w b n x y k h = record {
+  begins = λ q. let u = k.acks q in let v = h.begins u.0 in (v.0, begins-more f g w b n x.stream.acked y.stream.acked u.1 v.1);
+  first = λ t q. h.first t (k.creates t q);
+}
 
 -- a writer that goes on, and sends nothing
 goes-on : (f : Ids) (g : Givens) (w : World) (k : Change) → Finals f g w → Facts g w → Apart w k → k.stamped ≡ None → ((k.bytes ≡ []) ⊎ ((k.session ≡ w.latest k.writer_at) × (writes_no_more (heard (w.writers k.writer_at)).phase ≡ true → k.bytes ≡ [])))
@@ -87,7 +104,7 @@ goes-on f g w k h a x s b d ds y =
     record {
       ends = e;
       news = λ _. apart-news f g w k h a e x (λ c j m q. absurd (none-some m (sym (ap (λ (ms : List Message). slice_get ms j) (d c)) ∙ q)))
-          (λ j z q. absurd (none-some z (sym (ap (λ (zs : List Dial). slice_get zs j) ds) ∙ q))) (y.ends (h.writers k.writer_at)) (y.stamps f (h.stamps k.writer_at));
+          (λ j z q. absurd (none-some z (sym (ap (λ (zs : List Dial). slice_get zs j) ds) ∙ q))) (y.ends (h.writers k.writer_at)) (y.stamps f (h.stamps k.writer_at)) (follows-acks f g w k.writer_at (w.latest k.writer_at) (heard (w.writers k.writer_at)) (heard k.writer) y (h.acks k.writer_at));
     }
 
 -- the writer that has heard, or one that goes on from it
@@ -141,7 +158,7 @@ send-brings : (f : Ids) (g : Givens) (w : World) (b : ℕ) (p : Packet) (x : Wri
 send-brings f g w b p x h a y l = record {
   ends = e;
   news = λ c. apart-news f g w k h a e (record { office = refl; replica = refl; broke = refl; primary = refl }) (λ d j m q. sent c d j m (sent-at (w.writers b).conn (packet p ∷ []) d j m q))
-      (λ j z q. absurd (none-some z q)) (y.ends (h.writers b)) (y.stamps f (h.stamps b));
+      (λ j z q. absurd (none-some z q)) (y.ends (h.writers b)) (y.stamps f (h.stamps b)) (follows-acks f g w b (w.latest b) (heard (w.writers b)) _ y (h.acks b));
 }
   where
     k : Change
@@ -198,12 +215,12 @@ close-kind setup.Append e = absurd (cc)
 close-kind setup.AppendRecovery e = absurd (cc)
 close-kind setup.StreamRecovery e = absurd (cc)
 
-dialled-brings : (f : Ids) (g : Givens) (w : World) (b : ℕ) (x : WriterRecord) (s : Setup) (t : Stamp) (to : NodeId) (n : ℕ) (ts : List NodeId) (answered : Bool) → Finals f g w → Facts g w → heard (w.writers b) ≡ x → x.phase ≡ phase.Stamped s t
+dialled-brings : (f : Ids) (g : Givens) (w : World) (b : ℕ) (x : WriterRecord) (s : Setup) (t : Stamp) (to : NodeId) (n : ℕ) (ts : List NodeId) (answered : Bool) → Finals f g w → Facts g w → IsPast (g b) (heard (w.writers b)).committed.0 → heard (w.writers b) ≡ x → x.phase ≡ phase.Stamped s t
     → Brings f g w (dialled_change w b x to (request_for x.block x.committed x.stream s t n ts) answered)
-dialled-brings f g w b x s t to n ts false h a e q = writer-brings f g w b (dialled x false) h a (subst (λ (z : WriterRecord). Follows z (dialled x false)) (sym e) (dialled-follows x false))
-dialled-brings f g w b x s t to n ts true h a e q = record {
+dialled-brings f g w b x s t to n ts false h a past e q = writer-brings f g w b (dialled x false) h a (subst (λ (z : WriterRecord). Follows z (dialled x false)) (sym e) (dialled-follows x false))
+dialled-brings f g w b x s t to n ts true h a past e q = record {
   ends = ends;
-  news = λ c. apart-news f g w k h a ends (record { office = refl; replica = refl; broke = refl; primary = refl }) (λ d j m z. absurd (none-some m z)) (λ j d z. dial c j d z) (y.ends (h.writers b)) (y.stamps f (h.stamps b));
+  news = λ c. apart-news f g w k h a ends (record { office = refl; replica = refl; broke = refl; primary = refl }) (λ d j m z. absurd (none-some m z)) (λ j d z. dial c j d z) (y.ends (h.writers b)) (y.stamps f (h.stamps b)) (follows-acks f g w b (w.latest b) (heard (w.writers b)) _ y (h.acks b));
 }
   where
     o : Op
@@ -240,52 +257,96 @@ dialled-brings f g w b x s t to n ts true h a e q = record {
         (λ v u. subst (λ (i : WriterRecord). Streams v i.stream i.phase → StreamOf v i.stream) (sym is) (λ j. j) u)
         (ap (λ (u : Setup). min_length u x.stream) z ∙ sym (ap (λ (u : WriterRecord). written_in u.stream) is))
 
+    acks : AcksFrom f g w b (w.latest b) x
+    acks = subst (λ (z : WriterRecord). AcksFrom f g w b (w.latest b) z) e (h.acks b)
+
+    own : g b (w.latest b) ≡ Some (w.latest b)
+    own = (acks.begins (ap has_packets q)).0
+
+    -- all that is written in the latest session
+    whole : SessionBegins f g w b (w.latest b) (written_in x.stream)
+    whole =
+        let says = a.carried.writers b in
+        let u : StreamOf says.own x.stream = subst (λ (p : Phase). Streams says.own x.stream p) q (subst (λ (z : WriterRecord). Streams says.own z.stream z.phase) e says.streams) in
+        subst (λ (m : ℕ). SessionBegins f g w b (w.latest b) m) (sym (sym u.carries.whole ∙ ap (λ (v : List ℕ). length v) (says.are own))) (h.sessions b (w.latest b) own)
+
+    opens : (z : Setup) → x.phase ≡ phase.Stamped z t → SessionBegins f g w b (w.latest b) (least_asked (Some (kind_of z)) (min_length z x.stream))
+    opens setup.Create u = acks.first t u
+    opens setup.Append u = whole
+    opens setup.AppendRecovery u = whole
+    opens setup.StreamRecovery u = (acks.begins (ap has_packets u)).1
+    opens setup.CloseRecovery u = whole
+
     write : Carried g (apply w k) → WriteEnds f g (apply w k) r.fields
     write c = record {
       no_id = ap (λ (u : Stamp). f u.0) new ∙ no_id;
+      session = w.latest b;
+      given = ap (λ (u : ℕ). g u (new_stamp r.fields).0) at ∙ ap (λ (u : Stamp). g b u.0) new ∙ asks.given;
+      past = record {
+        each = λ v i j z lt.
+            let low : v ≤ (heard (w.writers b)).committed.0 = past.each v i (subst (λ (u : ℕ). g u i ≡ Some i) at j) (subst (λ (u : ℕ). IsBefore (g u) v i) at z) in
+            omega (arith, low, ap (λ (u : WriterRecord). u.committed.0) e, ap (λ (u : Stamp). u.0) r.named);
+      };
       closes = λ z.
           let m = close c (close-kind s (same_Some (kind_of s) kind.CloseRecovery (sym r.kind_is ∙ z))) in
           subst (λ (u : ℕ). EndsAt g (apply w k) u (new_stamp r.fields).0 r.fields.min) (sym at)
           (subst (λ (u : Stamp). EndsAt g (apply w k) b u.0 r.fields.min) (sym new) (subst (λ (u : ℕ). EndsAt g (apply w k) b t.0 u) (sym r.least) m));
+      own = subst (λ (d : ℕ). g d (w.latest b) ≡ Some (w.latest b)) (sym at) own;
+      opens = subst (λ (d : ℕ). SessionBegins f g (apply w k) d (w.latest b) (least_asked (setup_with r.fields.stage) r.fields.min)) (sym at)
+          (subst (λ (i : Option SetupKind). SessionBegins f g (apply w k) b (w.latest b) (least_asked i r.fields.min)) (sym r.kind_is)
+          (subst (λ (m : ℕ). SessionBegins f g (apply w k) b (w.latest b) (least_asked (Some (kind_of s)) m)) (sym r.least)
+          (begins-stays f g w f g (apply w k) b (w.latest b) (least_asked (Some (kind_of s)) (min_length s x.stream)) (stays-so f g w k h a ends) own (opens s q))));
     }
 
     dial : Carried g (apply w k) → (j : ℕ) (d : Dial) → slice_get k.dials j ≡ Some d → DownEnds f g (apply w k) (w.next_conn + j) d.request
     dial c zero d z = subst (λ (u : Dial). DownEnds f g (apply w k) (w.next_conn + 0) u.request) (same_Some _ d z) (subst (λ (u : Op). DownEnds f g (apply w k) (w.next_conn + 0) (request u)) (sym r.is) (write c))
     dial c (suc j) d z = absurd (none-some d z)
 
-dialling-brings : (f : Ids) (g : Givens) (w : World) (b : ℕ) (x : WriterRecord) (s : Setup) (t : Stamp) (ms : List NodeId) (answered : Bool) → Finals f g w → Facts g w → heard (w.writers b) ≡ x → x.phase ≡ phase.Stamped s t
+dialling-brings : (f : Ids) (g : Givens) (w : World) (b : ℕ) (x : WriterRecord) (s : Setup) (t : Stamp) (ms : List NodeId) (answered : Bool) → Finals f g w → Facts g w → IsPast (g b) (heard (w.writers b)).committed.0 → heard (w.writers b) ≡ x → x.phase ≡ phase.Stamped s t
     → Brings f g w (dialling w b x (dial_step_as x s t ms).action answered)
-dialling-brings f g w b x s t [] answered h a e q = writer-brings f g w b x h a (subst (λ (z : WriterRecord). Follows (heard (w.writers b)) z) e (follows-same (heard (w.writers b))))
-dialling-brings f g w b x s t (m ∷ ms) answered h a e q = dialled-brings f g w b x s t m (length x.members) ms (answered && w.running m.0) h a e q
+dialling-brings f g w b x s t [] answered h a past e q = writer-brings f g w b x h a (subst (λ (z : WriterRecord). Follows (heard (w.writers b)) z) e (follows-same (heard (w.writers b))))
+dialling-brings f g w b x s t (m ∷ ms) answered h a past e q = dialled-brings f g w b x s t m (length x.members) ms (answered && w.running m.0) h a past e q
 
 -- THE WRITER'S STEP
 
-rest-brings : (p : Phase) (f : Ids) (g : Givens) (w : World) (b : ℕ) (x : WriterRecord) (answered : Bool) → Finals f g w → Facts g w → heard (w.writers b) ≡ x → x.phase ≡ p → On w b x → IfSome (rest_in p w b x answered) (Brings f g w)
-rest-brings phase.Closed f g w b x answered h a e q y = writer-brings f g w b x h a y
-rest-brings (phase.Wanted s) f g w b x answered h a e q y = writer-brings f g w b x h a y
-rest-brings (phase.Stamped s t) f g w b x answered h a e q y = dialling-brings f g w b x s t x.members answered h a e q
-rest-brings (phase.Requested s t) f g w b x answered h a e q y = writer-brings f g w b x h a y
-rest-brings (phase.Accepted s t) f g w b x answered h a e q y = writer-brings f g w b x h a y
-rest-brings phase.Opened f g w b x answered h a e q y = step-brings f g w b x.waiting x (open_step x) h a y (opened-ends x q)
-rest-brings (phase.Streaming sent) f g w b x answered h a e q y = writer-brings f g w b x h a y
-rest-brings phase.Closing f g w b x answered h a e q y = writer-brings f g w b x h a y
-rest-brings phase.Finished f g w b x answered h a e q y = writer-brings f g w b x h a y
-rest-brings phase.Completed f g w b x answered h a e q y = step-brings f g w b x.waiting x (completed_step x) h a y (completed-ends x q)
-rest-brings (phase.Failed d) f g w b x answered h a e q y = writer-brings f g w b x h a y
+rest-brings : (p : Phase) (f : Ids) (g : Givens) (w : World) (b : ℕ) (x : WriterRecord) (answered : Bool) → Finals f g w → Facts g w → IsPast (g b) (heard (w.writers b)).committed.0 → heard (w.writers b) ≡ x → x.phase ≡ p → On w b x → IfSome (rest_in p w b x answered) (Brings f g w)
+rest-brings phase.Closed f g w b x answered h a past e q y = writer-brings f g w b x h a y
+rest-brings (phase.Wanted s) f g w b x answered h a past e q y = writer-brings f g w b x h a y
+rest-brings (phase.Stamped s t) f g w b x answered h a past e q y = dialling-brings f g w b x s t x.members answered h a past e q
+rest-brings (phase.Requested s t) f g w b x answered h a past e q y = writer-brings f g w b x h a y
+rest-brings (phase.Accepted s t) f g w b x answered h a past e q y = writer-brings f g w b x h a y
+rest-brings phase.Opened f g w b x answered h a past e q y = step-brings f g w b x.waiting x (open_step x) h a y (opened-ends x q)
+rest-brings (phase.Streaming sent) f g w b x answered h a past e q y = writer-brings f g w b x h a y
+rest-brings phase.Closing f g w b x answered h a past e q y = writer-brings f g w b x h a y
+rest-brings phase.Finished f g w b x answered h a past e q y = writer-brings f g w b x h a y
+rest-brings phase.Completed f g w b x answered h a past e q y = step-brings f g w b x.waiting x (completed_step x) h a y (completed-ends x q)
+rest-brings (phase.Failed d) f g w b x answered h a past e q y = writer-brings f g w b x h a y
 
 -- a create brings the rule of the block's sums, to a writer that has sent nothing
-ruled-follows : (x : WriterRecord) (c : Command) (r : Rule) → Follows x (ruled x c r)
-ruled-follows x (command.Create ms) r = record {
-  ends = λ h. record { shut = h.shut; closing = h.closing; closed = h.closed; last = λ _ i p q _. absurd (none-some p q) };
-  shuts = λ h e. e;
-  stamps = λ f s. s;
+ruled-ends : (x : WriterRecord) (c : Command) (r : Rule) → WriterEnds x → WriterEnds (ruled x c r)
+ruled-ends x (command.Create ms) r h = record { shut = h.shut; closing = h.closing; closed = h.closed; last = λ _ i p q _. absurd (none-some p q) }
+ruled-ends x (command.Append ms) r h = h
+ruled-ends x (command.Write v) r h = h
+ruled-ends x (command.Fill n) r h = h
+ruled-ends x command.Hflush r h = h
+ruled-ends x command.Hsync r h = h
+ruled-ends x command.Close r h = h
+
+-- a writer that took a command, by the rule that this brings
+ruled-follows : (x : WriterRecord) (c : Command) (r : Rule) (y : WriterRecord) → Follows (ruled x c r) y → ((ms : List NodeId) → c ≡ command.Create ms → has_packets y.phase ≡ false) → Follows x y
+ruled-follows x (command.Create ms) r y k n = record {
+  ends = λ h. k.ends (ruled-ends x (command.Create ms) r h);
+  shuts = λ h e. k.shuts (ruled-ends x (command.Create ms) r h) e;
+  stamps = k.stamps;
+  acks = λ q. absurd (false≢true (sym (n ms refl) ∙ q));
+  creates = λ t q. absurd (false≢true (sym (n ms refl) ∙ ap has_packets q));
 }
-ruled-follows x (command.Append ms) r = follows-same x
-ruled-follows x (command.Write v) r = follows-same x
-ruled-follows x (command.Fill n) r = follows-same x
-ruled-follows x command.Hflush r = follows-same x
-ruled-follows x command.Hsync r = follows-same x
-ruled-follows x command.Close r = follows-same x
+ruled-follows x (command.Append ms) r y k n = k
+ruled-follows x (command.Write v) r y k n = k
+ruled-follows x (command.Fill m) r y k n = k
+ruled-follows x command.Hflush r y k n = k
+ruled-follows x command.Hsync r y k n = k
+ruled-follows x command.Close r y k n = k
 
 -- the same intake, queue and phase
 ruled-phase : (x : WriterRecord) (c : Command) (r : Rule) → ((ruled x c r).phase ≡ x.phase) × ((ruled x c r).queue ≡ x.queue) × ((ruled x c r).intake ≡ x.intake)
@@ -310,29 +371,28 @@ command-brings f g w b x t h a e =
     let z = given y t.command in
     let s = own_step z in
     let same = ruled-phase x t.command t.rule in
-    let on : Follows (heard (w.writers b)) y = subst (λ (u : WriterRecord). Follows u y) (sym e) (ruled-follows x t.command t.rule) in
     let queue : y.queue ≡ [] = same.1 ∙ ap (λ (u : WriterRecord). u.queue) (sym e) ∙ (a.carried.writers b).queue in
     when-each (Brings f g w) (is_formed t.command t.rule && not (is_empty (given x t.command).queue)) _ (λ q.
     when-each (Brings f g w) (is_empty s.writer.queue) _ (λ u.
     let there = same-given x y t.command same.1 same.2 (and-right (is_formed t.command t.rule) (not (is_empty (given x t.command).queue)) q) in
-    let ends = on.ends (h.writers b) in
+    let ends : WriterEnds y = ruled-ends x t.command t.rule (subst (λ (v : WriterRecord). WriterEnds v) e (h.writers b)) in
     let k = command-ends y t.command queue ends there u in
-    did-brings f g w b y.waiting s.action s.writer (command_bytes y t.command) h a (follows-then (heard (w.writers b)) y s.writer on k.follows)
+    did-brings f g w b y.waiting s.action s.writer (command_bytes y t.command) h a (subst (λ (v : WriterRecord). Follows v s.writer) (sym e) (ruled-follows x t.command t.rule s.writer k.follows (taken-packets y t.command queue there u)))
     (λ m n. k.bytes_none ends (ap writes_no_more same.0 ∙ ap (λ (v : WriterRecord). writes_no_more v.phase) (sym e) ∙ n) m) (λ p m. absurd (k.sends p m))))
 
-writer-step-brings : (f : Ids) (g : Givens) (w : World) (b : ℕ) (o : Option Told) (takes : Option TakenCommand) (answered : Bool) → Finals f g w → Facts g w → (w.writers b).told ≡ o → IfSome (writer_step w b (w.writers b).known o takes answered) (Brings f g w)
-writer-step-brings f g w b (Some told) None answered h a e =
+writer-step-brings : (f : Ids) (g : Givens) (w : World) (b : ℕ) (o : Option Told) (takes : Option TakenCommand) (answered : Bool) → Finals f g w → Facts g w → IsPast (g b) (heard (w.writers b)).committed.0 → (w.writers b).told ≡ o → IfSome (writer_step w b (w.writers b).known o takes answered) (Brings f g w)
+writer-step-brings f g w b (Some told) None answered h a past e =
     let x = granted (w.writers b).known told in
-    rest-brings x.phase f g w b x answered h a (ap (λ (o : Option Told). known_heard (w.writers b).known o) e) refl (on-told w b (Some told) e)
-writer-step-brings f g w b (Some told) (Some t) answered h a e = tt
-writer-step-brings f g w b None None answered h a e =
+    rest-brings x.phase f g w b x answered h a past (ap (λ (o : Option Told). known_heard (w.writers b).known o) e) refl (on-told w b (Some told) e)
+writer-step-brings f g w b (Some told) (Some t) answered h a past e = tt
+writer-step-brings f g w b None None answered h a past e =
     let x = (w.writers b).known in
     let same : heard (w.writers b) ≡ x = ap (λ (o : Option Told). known_heard (w.writers b).known o) e in
     step-brings f g w b x.waiting x (own_step x) h a (on-told w b None e) (own-step-ends x (ap (λ (u : WriterRecord). u.queue) (sym same) ∙ (a.carried.writers b).queue))
-writer-step-brings f g w b None (Some t) answered h a e = command-brings f g w b (w.writers b).known t h a (ap (λ (o : Option Told). known_heard (w.writers b).known o) e)
+writer-step-brings f g w b None (Some t) answered h a past e = command-brings f g w b (w.writers b).known t h a (ap (λ (o : Option Told). known_heard (w.writers b).known o) e)
 
-pub own-writer-brings : (f : Ids) (g : Givens) (w : World) (b : ℕ) (takes : Option TakenCommand) (answered : Bool) → Finals f g w → Facts g w → IfSome (own_writer w b takes answered) (Brings f g w)
-own-writer-brings f g w b takes answered h a = writer-step-brings f g w b (w.writers b).told takes answered h a refl
+pub own-writer-brings : (f : Ids) (g : Givens) (w : World) (b : ℕ) (takes : Option TakenCommand) (answered : Bool) → Finals f g w → Facts g w → IsPast (g b) (heard (w.writers b)).committed.0 → IfSome (own_writer w b takes answered) (Brings f g w)
+own-writer-brings f g w b takes answered h a past = writer-step-brings f g w b (w.writers b).told takes answered h a past refl
 
 pub writer-up-brings : (f : Ids) (g : Givens) (w : World) (b c : ℕ) (x : Next) → Finals f g w → Facts g w → IfSome (writer_up w b c x) (Brings f g w)
 writer-up-brings f g w b c x h a =
@@ -350,7 +410,8 @@ still-brings f g w k h a x s b q downs dials =
     let e : Ends w k = record { stamped = s; shuts = λ z. ap (λ (u : Writing). writes_no_more (heard u).phase) q ∙ z; bytes = inl b } in
     record {
       ends = e;
-      news = λ _. apart-news f g w k h a e x downs dials (subst (λ (u : Writing). WriterEnds (heard u)) (sym q) (h.writers k.writer_at)) (subst (λ (u : Writing). SetsNoId f (heard u).phase) (sym q) (h.stamps k.writer_at));
+      news = λ _. apart-news f g w k h a e x downs dials (subst (λ (u : Writing). WriterEnds (heard u)) (sym q) (h.writers k.writer_at)) (subst (λ (u : Writing). SetsNoId f (heard u).phase) (sym q) (h.stamps k.writer_at))
+          (subst (λ (u : Writing). AcksFrom f g w k.writer_at (w.latest k.writer_at) (heard u)) (sym q) (h.acks k.writer_at));
     }
 
 reader-dials-brings : (f : Ids) (g : Givens) (w : World) (i n : ℕ) (r : ReadOp) (answered : Bool) → Finals f g w → Facts g w → Brings f g w (reader_dials w i n r answered)

@@ -4,6 +4,9 @@ pub mod Frame
 pub mod Idle
 pub mod Nodes
 pub mod Clients
+pub mod Updating
+pub mod Entries
+pub mod Opening
 pub mod Steps
 pub mod Restarting
 pub mod Still

@@ -61,9 +61,9 @@ use Rattle.world_laws.proofs.ByteAsking.{IsOn, mirror-on}
 use Rattle.world_recoveries.specs.Recovering.{Updates, HasId, Recovering}
 use Rattle.world_recoveries.proofs.Laws.{keep-finalized}
 use Rattle.world_recoveries.proofs.Lowers.{SentDown}
-use Rattle.world_finals.specs.Finishing.{Ids, writes_no_more, EndsAt, WriteEnds, LastEnds, DownEnds, ReplicaEnds, BreakEnds, SetsNoId, WriterEnds, Finals}
+use Rattle.world_finals.specs.Finishing.{Ids, writes_no_more, EndsAt, AcksFrom, WriteEnds, LastEnds, DownEnds, ReplicaEnds, BreakEnds, SetsNoId, WriterEnds, Finals}
 use Rattle.world_finals.proofs.Rows.{Ended, EventEnds, Before, Leaves, event-leaves}
-use Rattle.world_finals.proofs.Frame.{Ends, StampBelow, replica-stays, break-stays, down-stays, down-below, News, stays-so}
+use Rattle.world_finals.proofs.Frame.{Ends, StampBelow, replica-stays, break-stays, leaves, acks-kept, latest-stays, down-stays, down-below, News, stays-so}
 use Rattle.world_finals.proofs.Idle.{IsIdle, Idle, up-idle, ready-idle}
 
 -- WHAT A NODE'S CHANGE MAKES
@@ -85,6 +85,7 @@ pub makes-news : (f : Ids) (g : Givens) (w : World) (k : Change) → Finals f g 
 makes-news f g w k h a n =
     let s = stays-so f g w k h a (beside-ends w k n.beside) in
     let v = apply w k in
+    let o = leaves f g w k h s n.beside.office n.beside.primary in
     record {
       replica = replica-stays f g w f g v k.block k.replica s n.ends.replica;
       broke = some-weaker (BreakEnds f g w k.block) (BreakEnds f g v k.block) k.broke (λ x z. break-stays f g w f g v k.block x s z) n.ends.broke;
@@ -94,6 +95,11 @@ makes-news f g w k h a n =
       stamp = subst (λ (x : Writing). SetsNoId f (heard x).phase) (sym n.beside.writer) (h.stamps k.writer_at);
       primary = λ id x. h.primaries k.primary_at id (subst (λ (y : Primary). HasId y id) n.beside.primary x);
       below = λ t e. subst (λ (o : OfficeState). t < o.next.0) (sym n.beside.office) (h.below t e);
+      earlier = h.earlier;
+      sends = o.sends;
+      entries = o.entries;
+      sessions = o.sessions;
+      acks = acks-kept f g w f g k h s (latest-stays w k n.beside.stamped) (subst (λ (x : Writing). AcksFrom f g w k.writer_at (w.latest k.writer_at) (heard x)) (sym n.beside.writer) (h.acks k.writer_at));
     }
 
 -- what is known where a lower end takes something
@@ -335,7 +341,7 @@ mirror-ends f g w c q (Some d) None h lt on = no-dials f g w
 mirror-ends f g w c q (Some d) (Some n) h lt on = one
   where
     same : ((new_stamp d).0 < w.office.next.0) × WriteEnds f g w d
-    same = subst (λ (x : WriteFields). ((new_stamp x).0 < w.office.next.0) × WriteEnds f g w x) (sym (on d refl).is) (lt, record { no_id = h.no_id; closes = h.closes })
+    same = subst (λ (x : WriteFields). ((new_stamp x).0 < w.office.next.0) × WriteEnds f g w x) (sym (on d refl).is) (lt, record { no_id = h.no_id; session = h.session; given = h.given; past = h.past; closes = h.closes; own = h.own; opens = h.opens })
 
     one : DialEnds f g w (mirror_dial w c (Some d) (Some n))
     one zero y e x = subst (λ (z : Dial). StampBelow w z.request × DownEnds f g w x z.request) (same_Some _ y e) same

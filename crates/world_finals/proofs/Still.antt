@@ -19,8 +19,8 @@ use Rattle.world_laws.specs.Filling.{IsBreak}
 use Rattle.world_laws.specs.Stamping.{Givens, heard}
 use Rattle.world_laws.proofs.ByteLeaves.{Facts}
 use Rattle.world_recoveries.specs.Recovering.{HasId}
-use Rattle.world_finals.specs.Finishing.{Ids, Sealed, ReplicaEnds, BreakEnds, SetsNoId, WriterEnds, Finals}
-use Rattle.world_finals.proofs.Frame.{Stays, replica-stays, break-stays, down-below, down-stays}
+use Rattle.world_finals.specs.Finishing.{Ids, Sealed, AcksFrom, LeadSent, ReplicaEnds, BreakEnds, SetsNoId, WriterEnds, Finals}
+use Rattle.world_finals.proofs.Frame.{Stays, replica-stays, break-stays, entries-stay, session-stays, acks-stays, down-below, down-stays}
 use Rattle.world_finals.proofs.Restarting.{restarted-ends}
 
 -- worlds with the same past, office, sessions, writers and primaries
@@ -33,6 +33,8 @@ pub record SameLeads (w v : World) : Type 0 where
 
 same-stays : (f : Ids) (g : Givens) (w v : World) → Finals f g w → Facts g w → SameLeads w v → Stays f g w f g v
 same-stays f g w v h a s = record {
+  same = λ b t d x. x;
+  back = λ b t u d e x _ _. x;
   ids = λ t _. refl;
   below = h.below;
   given_below = a.recorded.below;
@@ -49,6 +51,11 @@ pub same-finals : (f : Ids) (g : Givens) (w v : World) → Finals f g w → Fact
 same-finals f g w v h a s r k =
     let y = same-stays f g w v h a s in
     record {
+      earlier = h.earlier;
+      entries = entries-stay f g w f g v v.office y s.office h.entries;
+      sessions = λ b i q. session-stays f g w f g v b i y h q;
+      acks = λ b. subst (λ (ws : ℕ → Writing). AcksFrom f g v b (v.latest b) (heard (ws b))) (sym s.writers) (subst (λ (l : ℕ → ℕ). AcksFrom f g v b (l b) (heard (w.writers b))) (sym s.latest) (acks-stays f g w f g v b (w.latest b) (heard (w.writers b)) y (h.acks b)));
+      sends = subst (λ (p : Past). (i : ℕ) → LeadSent p (v.primaries i)) (sym s.past) (subst (λ (ps : ℕ → Primary). (i : ℕ) → LeadSent w.past (ps i)) (sym s.primaries) h.sends);
       below = λ t e. subst (λ (o : OfficeState). t < o.next.0) (sym s.office) (h.below t e);
       downs = λ c i m e.
           let x = subst (λ (p : Past). slice_get (p.downs c) i ≡ Some m) s.past e in

@@ -1,6 +1,6 @@
 -- What a writer does keeps a session at its end.
-use Rattle.std.proofs.Common.{◌≡◌, ℕ, zero, suc, ◌⊎◌, inl, inr, Bool, true, false, List, [], ◌∷◌, ◌++◌, drop, slice_get, Option, Some, None, Result, Ok, Err, refl, sym, ◌∙◌, ap, subst, arith}
-use Rattle.std.specs.Prelude.{◌&&◌, ◌||◌, not, nat_le, nat_lt, if◌then◌else◌, pos, ℤ, length}
+use Rattle.std.proofs.Common.{◌≡◌, ℕ, zero, suc, ◌≤◌, ◌⊎◌, inl, inr, Bool, true, false, List, [], ◌∷◌, ◌++◌, drop, slice_get, Option, Some, None, Result, Ok, Err, refl, sym, ◌∙◌, ap, subst, arith}
+use Rattle.std.specs.Prelude.{◌&&◌, ◌||◌, not, nat_le, nat_lt, if◌then◌else◌, max, pos, ℤ, length}
 use Rattle.std.proofs.lemmas.Bool.{false≢true}
 use Rattle.std.proofs.lemmas.Option.{none-some, same_Some}
 use Rattle.hd_base.specs.declared.numbers.NodeId.{NodeId}
@@ -60,25 +60,38 @@ pub record PhaseGoes (p q : Phase) : Type 0 where
   pub ends : has_packets q ≡ true → is_closing p ≡ true → is_closing q ≡ true
   pub shuts : writes_no_more p ≡ true → writes_no_more q ≡ true
   pub stamps : (f : Ids) → SetsNoId f p → SetsNoId f q
+  pub creates : (t : Stamp) → q ≡ phase.Stamped setup.Create t → p ≡ phase.Stamped setup.Create t
 
--- one writer after another
+-- one writer after another, which has acked no less in its session
 pub record Follows (x y : WriterRecord) : Type 0 where
   pub ends : WriterEnds x → WriterEnds y
   pub shuts : WriterEnds x → writes_no_more x.phase ≡ true → writes_no_more y.phase ≡ true
   pub stamps : (f : Ids) → SetsNoId f x.phase → SetsNoId f y.phase
+  pub acks : has_packets y.phase ≡ true → (has_packets x.phase ≡ true) × (x.stream.acked ≤ y.stream.acked)
+  pub creates : (t : Stamp) → y.phase ≡ phase.Stamped setup.Create t → x.phase ≡ phase.Stamped setup.Create t
+
+-- as much is acked
+same-acked : (x : WriterRecord) → x.stream.acked ≤ x.stream.acked
+same-acked x = omega arith
 
 pub follows-same : (x : WriterRecord) → Follows x x
-follows-same x = record { ends = λ h. h; shuts = λ h e. e; stamps = λ f s. s }
+follows-same x = record { ends = λ h. h; shuts = λ h e. e; stamps = λ f s. s; acks = λ q. (q, same-acked x); creates = λ t q. q }
 
 pub follows-then : (x y z : WriterRecord) → Follows x y → Follows y z → Follows x z
-follows-then x y z a b = record { ends = λ h. b.ends (a.ends h); shuts = λ h e. b.shuts (a.ends h) (a.shuts h e); stamps = λ f s. b.stamps f (a.stamps f s) }
+follows-then x y z a b = record {
+  ends = λ h. b.ends (a.ends h);
+  shuts = λ h e. b.shuts (a.ends h) (a.shuts h e);
+  stamps = λ f s. b.stamps f (a.stamps f s);
+  acks = λ q. let u = b.acks q in let v = a.acks u.0 in (v.0, omega (arith, u.1, v.1));
+  creates = λ t q. a.creates t (b.creates t q);
+}
 
 -- no packets but those that it had
 abbrev FewPackets : WriterRecord → WriterRecord → Type 0
 FewPackets x y = (i : ℕ) (p : Packet) → slice_get y.stream.unacked i ≡ Some p → (j : ℕ) × (slice_get x.stream.unacked j ≡ Some p)
 
-by-phase : (x y : WriterRecord) → y.waiting ≡ x.waiting → y.intake ≡ x.intake → FewPackets x y → PhaseGoes x.phase y.phase → Follows x y
-by-phase x y w i few g = record {
+by-phase : (x y : WriterRecord) → y.waiting ≡ x.waiting → y.intake ≡ x.intake → FewPackets x y → x.stream.acked ≤ y.stream.acked → PhaseGoes x.phase y.phase → Follows x y
+by-phase x y w i few le g = record {
   ends = λ h. record {
     shut = λ e. ap (λ (t : Intake). is_open t.stand) i ∙ h.shut (sym w ∙ e);
     closing = λ e. w ∙ h.closing (g.closing e);
@@ -87,13 +100,15 @@ by-phase x y w i few g = record {
   };
   shuts = λ h e. g.shuts e;
   stamps = g.stamps;
+  acks = λ q. (g.packets q, le);
+  creates = g.creates;
 }
 
 same-packets : (x y : WriterRecord) → y.stream ≡ x.stream → FewPackets x y
 same-packets x y e i p q = (i, ap (λ (s : StreamState). slice_get s.unacked i) (sym e) ∙ q)
 
 phase-failed : (p : Phase) (e : Failure) → PhaseGoes p (phase.Failed e)
-phase-failed p e = record { closing = λ q. absurd (false≢true q); closed = λ q. absurd (cc); packets = λ q. absurd (false≢true q); ends = λ q. absurd (false≢true q); shuts = λ _. refl; stamps = λ f s. tt }
+phase-failed p e = record { closing = λ q. absurd (false≢true q); closed = λ q. absurd (cc); packets = λ q. absurd (false≢true q); ends = λ q. absurd (false≢true q); shuts = λ _. refl; stamps = λ f s. tt; creates = λ v q. absurd (cc) }
 
 -- FAILURES
 
@@ -102,15 +117,15 @@ abbrev Wants : Phase → Setup → Type 0
 Wants p s = PhaseGoes p (phase.Wanted s)
 
 dropped-follows : (x : WriterRecord) (s : Setup) (bad : NodeId) (ms : List NodeId) → Wants x.phase s → Follows x (dropped x s bad ms)
-dropped-follows x s bad [] g = by-phase x (dropped x s bad []) refl refl (same-packets x (dropped x s bad []) refl) (phase-failed x.phase _)
-dropped-follows x s bad (m ∷ ms) g = by-phase x (dropped x s bad (m ∷ ms)) refl refl (same-packets x (dropped x s bad (m ∷ ms)) refl) g
+dropped-follows x s bad [] g = by-phase x (dropped x s bad []) refl refl (same-packets x (dropped x s bad []) refl) (same-acked x) (phase-failed x.phase _)
+dropped-follows x s bad (m ∷ ms) g = by-phase x (dropped x s bad (m ∷ ms)) refl refl (same-packets x (dropped x s bad (m ∷ ms)) refl) (same-acked x) g
 
 abbrev Mends : Phase → Remedy → Type 0
 Mends p remedy.Abandon = Unit {0}
 Mends p (remedy.Recover s) = Wants p s
 
 for-follows : (x : WriterRecord) (r : Remedy) (bad : NodeId) → Mends x.phase r → Follows x (fail_for x r bad)
-for-follows x remedy.Abandon bad g = by-phase x (fail_for x remedy.Abandon bad) refl refl (same-packets x (fail_for x remedy.Abandon bad) refl) (phase-failed x.phase _)
+for-follows x remedy.Abandon bad g = by-phase x (fail_for x remedy.Abandon bad) refl refl (same-packets x (fail_for x remedy.Abandon bad) refl) (same-acked x) (phase-failed x.phase _)
 for-follows x (remedy.Recover s) bad g = dropped-follows x s bad (without x.members bad) g
 
 named-follows : (x : WriterRecord) (r : Remedy) (o : Option NodeId) → Mends x.phase r → Follows x (fail_named x r o)
@@ -123,13 +138,13 @@ fail-follows x r place g = named-follows x r (slice_get x.members place) g
 -- from the phases of a setup
 from-setup : (p : Phase) (s t : Setup) → is_closing p ≡ ends_setup s → writes_no_more p ≡ ends_setup s → has_packets p ≡ true → remedy_after s ≡ remedy.Recover t → Wants p t
 from-setup p setup.Create t a b c e = absurd (cc)
-from-setup p setup.Append t a b c e = subst (λ (r : Remedy). Mends p r) e (record { closing = λ q. absurd (false≢true q); closed = λ q. absurd (cc); packets = λ _. c; ends = λ _ q. a' q; shuts = λ q. absurd (false≢true (sym b ∙ q)); stamps = λ f s. tt })
+from-setup p setup.Append t a b c e = subst (λ (r : Remedy). Mends p r) e (record { closing = λ q. absurd (false≢true q); closed = λ q. absurd (cc); packets = λ _. c; ends = λ _ q. a' q; shuts = λ q. absurd (false≢true (sym b ∙ q)); stamps = λ f s. tt; creates = λ v q. absurd (cc) })
   where
     a' : is_closing p ≡ true → false ≡ true
     a' q = sym a ∙ q
-from-setup p setup.AppendRecovery t a b c e = subst (λ (r : Remedy). Mends p r) e (record { closing = λ q. absurd (false≢true q); closed = λ q. absurd (cc); packets = λ _. c; ends = λ _ q. sym a ∙ q; shuts = λ q. absurd (false≢true (sym b ∙ q)); stamps = λ f s. tt })
-from-setup p setup.StreamRecovery t a b c e = subst (λ (r : Remedy). Mends p r) e (record { closing = λ q. absurd (false≢true q); closed = λ q. absurd (cc); packets = λ _. c; ends = λ _ q. sym a ∙ q; shuts = λ q. absurd (false≢true (sym b ∙ q)); stamps = λ f s. tt })
-from-setup p setup.CloseRecovery t a b c e = subst (λ (r : Remedy). Mends p r) e (record { closing = λ _. a; closed = λ q. absurd (cc); packets = λ _. c; ends = λ _ _. refl; shuts = λ _. refl; stamps = λ f s. tt })
+from-setup p setup.AppendRecovery t a b c e = subst (λ (r : Remedy). Mends p r) e (record { closing = λ q. absurd (false≢true q); closed = λ q. absurd (cc); packets = λ _. c; ends = λ _ q. sym a ∙ q; shuts = λ q. absurd (false≢true (sym b ∙ q)); stamps = λ f s. tt; creates = λ v q. absurd (cc) })
+from-setup p setup.StreamRecovery t a b c e = subst (λ (r : Remedy). Mends p r) e (record { closing = λ q. absurd (false≢true q); closed = λ q. absurd (cc); packets = λ _. c; ends = λ _ q. sym a ∙ q; shuts = λ q. absurd (false≢true (sym b ∙ q)); stamps = λ f s. tt; creates = λ v q. absurd (cc) })
+from-setup p setup.CloseRecovery t a b c e = subst (λ (r : Remedy). Mends p r) e (record { closing = λ _. a; closed = λ q. absurd (cc); packets = λ _. c; ends = λ _ _. refl; shuts = λ _. refl; stamps = λ f s. tt; creates = λ v q. absurd (cc) })
 
 setup-mends : (p : Phase) (s : Setup) → is_closing p ≡ ends_setup s → writes_no_more p ≡ ends_setup s → has_packets p ≡ true → Mends p (remedy_after s)
 setup-mends p setup.Create a b c = tt
@@ -175,7 +190,7 @@ pub record AckPhase (p : Phase) : Type 0 where
   pub goes : (r : Remedy) → remedy_at_ack p ≡ Some r → PhaseGoes p (phase_acked false p)
 
 stays-phase : (p : Phase) → PhaseGoes p p
-stays-phase p = record { closing = λ q. q; closed = λ q. q; packets = λ q. q; ends = λ _ q. q; shuts = λ q. q; stamps = λ f s. s }
+stays-phase p = record { closing = λ q. q; closed = λ q. q; packets = λ q. q; ends = λ _ q. q; shuts = λ q. q; stamps = λ f s. s; creates = λ v q. q }
 
 ack-phase : (p : Phase) → AckPhase p
 ack-phase (phase.Requested s t) = record { remedies = λ r e. absurd (none-some r e); packets = λ r e. refl; goes = λ r e. stays-phase (phase.Requested s t) }
@@ -184,7 +199,7 @@ ack-phase phase.Opened = record { remedies = λ r e. e; packets = λ r e. refl; 
 ack-phase (phase.Streaming sent) = record {
   remedies = λ r e. e;
   packets = λ r e. refl;
-  goes = λ r e. record { closing = λ q. q; closed = λ q. absurd (cc); packets = λ _. refl; ends = λ _ q. q; shuts = λ q. q; stamps = λ f s. s };
+  goes = λ r e. record { closing = λ q. q; closed = λ q. absurd (cc); packets = λ _. refl; ends = λ _ q. q; shuts = λ q. q; stamps = λ f s. s; creates = λ v q. absurd (cc) };
 }
 ack-phase phase.Closing = record { remedies = λ r e. e; packets = λ r e. refl; goes = λ r e. stays-phase phase.Closing }
 ack-phase phase.Closed = record { remedies = λ r e. e; packets = λ r e. absurd (none-some r e); goes = λ r e. stays-phase phase.Closed }
@@ -202,6 +217,13 @@ acked-few : (s : StreamState) (o : Option Packet) (i : ℕ) (p : Packet) → sli
 acked-few s None i p e = (i, e)
 acked-few s (Some q) i p e = drop-few s.unacked i p e
 
+max-above : (a b : ℕ) → a ≤ max a b
+max-above a b = omega arith
+
+acked-rises : (s : StreamState) (o : Option Packet) → s.acked ≤ (acked_packet s o).acked
+acked-rises s None = omega arith
+acked-rises s (Some p) = max-above s.acked (packet_end p)
+
 -- the oldest packet is acked
 oldest-follows : (x : WriterRecord) (r : Remedy) → remedy_at_ack x.phase ≡ Some r → Follows x (acked_oldest x)
 oldest-follows x r e = by (oldest_is_last x.stream) refl
@@ -214,7 +236,7 @@ oldest-follows x r e = by (oldest_is_last x.stream) refl
     found (Some p) q l h = h.last ((ack-phase x.phase).packets r e) 0 p q l
 
     by : (b : Bool) → oldest_is_last x.stream ≡ b → Follows x (record x { stream = oldest_acked x.stream; phase = phase_acked b x.phase })
-    by false q = by-phase x (record x { stream = oldest_acked x.stream; phase = phase_acked false x.phase }) refl refl few ((ack-phase x.phase).goes r e)
+    by false q = by-phase x (record x { stream = oldest_acked x.stream; phase = phase_acked false x.phase }) refl refl few (acked-rises x.stream (slice_get x.stream.unacked 0)) ((ack-phase x.phase).goes r e)
     by true q = record {
       ends = λ h. record {
         shut = h.shut;
@@ -224,6 +246,8 @@ oldest-follows x r e = by (oldest_is_last x.stream) refl
       };
       shuts = λ h t. refl;
       stamps = λ f s. tt;
+      acks = λ t. absurd (false≢true t);
+      creates = λ v t. absurd (cc);
     }
 
 verdict-follows : (x : WriterRecord) (r : Remedy) (v : Verdict) → remedy_at_ack x.phase ≡ Some r → Follows x (acked_as x r v)
@@ -240,8 +264,8 @@ acked-follows x a = acked-in x a (remedy_at_ack x.phase) refl
 
 setup-in : (x : WriterRecord) (p : Phase) (good : Bool) (bad : Option NodeId) → x.phase ≡ p → Follows x (setup_answered_in x p good bad)
 setup-in x (phase.Requested s t) true bad e =
-    by-phase x (record x { phase = phase.Accepted s t }) refl refl (same-packets x (record x { phase = phase.Accepted s t }) refl)
-    (subst (λ (p : Phase). PhaseGoes p (phase.Accepted s t)) (sym e) (record { closing = λ q. q; closed = λ q. absurd (cc); packets = λ _. refl; ends = λ _ q. q; shuts = λ q. q; stamps = λ f k. tt }))
+    by-phase x (record x { phase = phase.Accepted s t }) refl refl (same-packets x (record x { phase = phase.Accepted s t }) refl) (same-acked x)
+    (subst (λ (p : Phase). PhaseGoes p (phase.Accepted s t)) (sym e) (record { closing = λ q. q; closed = λ q. absurd (cc); packets = λ _. refl; ends = λ _ q. q; shuts = λ q. q; stamps = λ f k. tt; creates = λ v q. absurd (cc) }))
 setup-in x (phase.Requested s t) false bad e = fail-follows x (remedy_after s) _ (subst (λ (p : Phase). Mends p (remedy_after s)) (sym e) (setup-mends (phase.Requested s t) s refl refl refl))
 setup-in x phase.Closed good bad e = follows-same x
 setup-in x (phase.Wanted s) good bad e = follows-same x
@@ -269,8 +293,8 @@ hears-follows x the_end = ended-follows x
 
 dialled-in-follows : (x : WriterRecord) (p : Phase) (b : Bool) → x.phase ≡ p → Follows x (dialled_in x p b)
 dialled-in-follows x (phase.Stamped s t) true e =
-    by-phase x (record x { phase = phase.Requested s t }) refl refl (same-packets x (record x { phase = phase.Requested s t }) refl)
-    (subst (λ (p : Phase). PhaseGoes p (phase.Requested s t)) (sym e) (record { closing = λ q. q; closed = λ q. absurd (cc); packets = λ _. refl; ends = λ _ q. q; shuts = λ q. q; stamps = λ f k. tt }))
+    by-phase x (record x { phase = phase.Requested s t }) refl refl (same-packets x (record x { phase = phase.Requested s t }) refl) (same-acked x)
+    (subst (λ (p : Phase). PhaseGoes p (phase.Requested s t)) (sym e) (record { closing = λ q. q; closed = λ q. absurd (cc); packets = λ _. refl; ends = λ _ q. q; shuts = λ q. q; stamps = λ f k. tt; creates = λ v q. absurd (cc) }))
 dialled-in-follows x (phase.Stamped s t) false e = fail-follows x (remedy_after s) 0 (subst (λ (p : Phase). Mends p (remedy_after s)) (sym e) (setup-mends (phase.Stamped s t) s refl refl refl))
 dialled-in-follows x phase.Closed b e = follows-same x
 dialled-in-follows x (phase.Wanted s) b e = follows-same x
@@ -311,6 +335,8 @@ open-ends x a b c = record {
     ends = λ h. record { shut = λ e. absurd (none-some _ e); closing = λ e. absurd (false≢true e); closed = λ e. absurd (cc); last = λ _ i p q l. absurd (false≢true (sym b ∙ h.last a i p q l)) };
     shuts = λ h e. absurd (false≢true (sym c ∙ e));
     stamps = λ f s. tt;
+    acks = λ _. (a, same-acked x);
+    creates = λ t q. absurd (cc);
   };
   sends = λ h. tt;
 }
@@ -324,6 +350,8 @@ completed-ends x e = record {
     ends = λ h. record { shut = λ q. absurd (none-some _ q); closing = λ q. absurd (false≢true q); closed = λ _. h.shut (h.closing (ap is_closing e)); last = λ q. absurd (false≢true q) };
     shuts = λ h q. refl;
     stamps = λ f s. tt;
+    acks = λ q. absurd (false≢true q);
+    creates = λ t q. absurd (cc);
   };
   sends = λ h. tt;
 }
@@ -334,8 +362,8 @@ record IsStreaming (x : WriterRecord) : Type 0 where
   pub is : x.phase ≡ phase.Streaming sent
 
 streams-on : (x y : WriterRecord) (n : ℕ) → IsStreaming x → y.phase ≡ phase.Streaming n → (WriterEnds x → y.waiting ≡ Some waiting.Close → is_open y.intake.stand ≡ false)
-    → (WriterEnds x → (i : ℕ) (p : Packet) → slice_get y.stream.unacked i ≡ Some p → p.last ≡ true → ⊥) → Follows x y
-streams-on x y n s e w few = record {
+    → (WriterEnds x → (i : ℕ) (p : Packet) → slice_get y.stream.unacked i ≡ Some p → p.last ≡ true → ⊥) → x.stream.acked ≤ y.stream.acked → Follows x y
+streams-on x y n s e w few le = record {
   ends = λ h. record {
     shut = w h;
     closing = λ q. absurd (false≢true (sym (ap is_closing e) ∙ q));
@@ -344,10 +372,15 @@ streams-on x y n s e w few = record {
   };
   shuts = λ h q. absurd (false≢true (sym (ap writes_no_more s.is) ∙ q));
   stamps = λ f k. subst (λ (p : Phase). SetsNoId f p) (sym e) tt;
+  acks = λ _. (ap has_packets s.is, le);
+  creates = λ t q. absurd (unlike t (sym e ∙ q));
 }
   where
     apart : phase.Streaming n ≡ phase.Closed → ⊥
     apart q = cc
+
+    unlike : (t : Stamp) → phase.Streaming n ≡ phase.Stamped setup.Create t → ⊥
+    unlike t q = cc
 
 -- a streaming writer has formed no last packet
 no-last : (x : WriterRecord) → IsStreaming x → WriterEnds x → (i : ℕ) (p : Packet) → slice_get x.stream.unacked i ≡ Some p → p.last ≡ true → ⊥
@@ -370,11 +403,11 @@ close-formed false n o e = e
 
 form-ends : (x : WriterRecord) (d : DuePacket) → IsStreaming x → (d ≡ due.Last → x.waiting ≡ Some waiting.Close) → StepEnds x (form_step x d)
 form-ends x (due.Data end is_sync) s l = record {
-  follows = streams-on x _ _ s refl (λ h e. h.shut (close-formed is_sync (pos x.stream.seqno) x.waiting e)) (λ h. push-none x.stream.unacked (next_packet x.stream end is_sync) (no-last x s h) refl);
+  follows = streams-on x _ _ s refl (λ h e. h.shut (close-formed is_sync (pos x.stream.seqno) x.waiting e)) (λ h. push-none x.stream.unacked (next_packet x.stream end is_sync) (no-last x s h) refl) (same-acked x);
   sends = λ h e. absurd (false≢true e);
 }
 form-ends x due.Sync s l = record {
-  follows = streams-on x _ _ s refl (λ h e. h.shut (close-formed true (pos x.stream.seqno) x.waiting e)) (λ h. push-none x.stream.unacked (sync_packet x.stream) (no-last x s h) refl);
+  follows = streams-on x _ _ s refl (λ h e. h.shut (close-formed true (pos x.stream.seqno) x.waiting e)) (λ h. push-none x.stream.unacked (sync_packet x.stream) (no-last x s h) refl) (same-acked x);
   sends = λ h e. absurd (false≢true e);
 }
 form-ends x due.Last s l = record {
@@ -382,6 +415,8 @@ form-ends x due.Last s l = record {
     ends = λ h. record { shut = h.shut; closing = λ _. l refl; closed = λ q. absurd (cc); last = λ _ i p q t. refl };
     shuts = λ h q. refl;
     stamps = λ f k. tt;
+    acks = λ q. (ap has_packets s.is, same-acked x);
+    creates = λ t q. absurd (cc);
   };
   sends = λ h e. (refl, omega arith, refl);
 }
@@ -412,7 +447,7 @@ now-last x =
 
 -- a length is reached, and no command waits
 reached-ends : (x : WriterRecord) (n : ℕ) → IsStreaming x → StepEnds x (reach_step_as x (Some n))
-reached-ends x n s = record { follows = streams-on x _ s.sent s s.is (λ h e. absurd (none-some _ e)) (λ h. no-last x s h); sends = λ h. tt }
+reached-ends x n s = record { follows = streams-on x _ s.sent s s.is (λ h e. absurd (none-some _ e)) (λ h. no-last x s h) (same-acked x); sends = λ h. tt }
 
 -- where no command is given the writer stays
 free-ends : (x : WriterRecord) (o : Option Waiting) → x.queue ≡ [] → StepEnds x (free_step_as x o)
@@ -429,7 +464,7 @@ due-ends x None q s e = reach-ends x (reached_length x.waiting x.stream) s e
 
 stream-ends : (x : WriterRecord) (sent : ℕ) (o : Option Packet) → x.phase ≡ phase.Streaming sent → slice_get x.stream.unacked sent ≡ o → x.queue ≡ [] → StepEnds x (stream_step_as x sent o)
 stream-ends x sent (Some p) e q k = record {
-  follows = streams-on x _ _ (record { sent = sent; is = e }) refl (λ h. h.shut) (λ h. no-last x (record { sent = sent; is = e }) h);
+  follows = streams-on x _ _ (record { sent = sent; is = e }) refl (λ h. h.shut) (λ h. no-last x (record { sent = sent; is = e }) h) (same-acked x);
   sends = λ h l. absurd (no-last x (record { sent = sent; is = e }) h sent p q l);
 }
 stream-ends x sent None e q k = due-ends x (due_now x) refl (record { sent = sent; is = e }) k
@@ -457,6 +492,8 @@ failed-ends x d (Some c) e q = record {
     ends = λ h. record { shut = λ t. absurd (none-some _ t); closing = λ t. absurd (false≢true (sym (ap is_closing e) ∙ t)); closed = h.closed; last = h.last };
     shuts = λ h t. t;
     stamps = λ f s. s;
+    acks = λ t. (t, same-acked x);
+    creates = λ v t. t;
   };
   sends = λ h. tt;
 }
@@ -536,6 +573,8 @@ opens x z y s bytes b n w e k = record {
     };
     shuts = λ h q. ap writes_no_more e ∙ b;
     stamps = λ f t. subst (λ (p : Phase). SetsNoId f p) (sym e) tt;
+    acks = λ q. absurd (false≢true (sym (ap has_packets e ∙ ap (λ (t : Bool). not t || ends_setup s) b ∙ n) ∙ q));
+    creates = λ t q. absurd (unlike t (sym e ∙ q));
   };
   bytes_none = λ h q r. k;
   sends = λ p q. absurd (cc);
@@ -547,10 +586,13 @@ opens x z y s bytes b n w e k = record {
     differ : phase.Wanted s ≡ phase.Closed → ⊥
     differ q = cc
 
+    unlike : (t : Stamp) → phase.Wanted s ≡ phase.Stamped setup.Create t → ⊥
+    unlike t q = cc
+
 -- a command that waits from now on, or writes, in a phase that isn't one of an end
 goes-on : (x z y : WriterRecord) (c : Command) (bytes : List ℕ) → IsGiven x z c → (WriterEnds x → writes_no_more x.phase ≡ true → ⊥) → (WriterEnds x → is_closing x.phase ≡ true → ⊥) → y.phase ≡ x.phase → y.stream.unacked ≡ x.stream.unacked
-    → (WriterEnds x → y.waiting ≡ Some waiting.Close → is_open y.intake.stand ≡ false) → TakenEnds x action.Took y bytes
-goes-on x z y c bytes g more open_yet e few w = record {
+    → (WriterEnds x → y.waiting ≡ Some waiting.Close → is_open y.intake.stand ≡ false) → z.stream.acked ≤ y.stream.acked → TakenEnds x action.Took y bytes
+goes-on x z y c bytes g more open_yet e few w le = record {
   follows = record {
     ends = λ h. record {
       shut = w h;
@@ -560,6 +602,8 @@ goes-on x z y c bytes g more open_yet e few w = record {
     };
     shuts = λ h q. absurd (more h q);
     stamps = λ f t. subst (λ (p : Phase). SetsNoId f p) (sym e) t;
+    acks = λ q. (sym (ap has_packets e) ∙ q, omega (arith, ap (λ (v : StreamState). v.acked) g.stream_is, le));
+    creates = λ t q. sym e ∙ q;
   };
   bytes_none = λ h q r. absurd (more h q);
   sends = λ p q. absurd (cc);
@@ -574,25 +618,25 @@ taken-ends x z (command.Create ms) g n free = opens x z (taken_as z (command.Cre
 taken-ends x z (command.Append ms) g n free = opens x z (taken_as z (command.Append ms)) setup.Append [] refl refl refl refl refl
 taken-ends x z (command.Write v) g n free =
     let k = free g.fits_so in
-    goes-on x z (taken_as z (command.Write v)) (command.Write v) v g k.0 k.1 g.phase_is (ap (λ (s : StreamState). s.unacked) g.stream_is) (λ h e. absurd (none-some _ (sym (g.waiting_is ∙ n) ∙ e)))
+    goes-on x z (taken_as z (command.Write v)) (command.Write v) v g k.0 k.1 g.phase_is (ap (λ (s : StreamState). s.unacked) g.stream_is) (λ h e. absurd (none-some _ (sym (g.waiting_is ∙ n) ∙ e))) (same-acked z)
 taken-ends x z (command.Fill m) g n free =
     let k = free g.fits_so in
-    goes-on x z (taken_as z (command.Fill m)) (command.Fill m) _ g k.0 k.1 g.phase_is (ap (λ (s : StreamState). s.unacked) g.stream_is) (λ h e. absurd (none-some _ (sym (g.waiting_is ∙ n) ∙ e)))
+    goes-on x z (taken_as z (command.Fill m)) (command.Fill m) _ g k.0 k.1 g.phase_is (ap (λ (s : StreamState). s.unacked) g.stream_is) (λ h e. absurd (none-some _ (sym (g.waiting_is ∙ n) ∙ e))) (same-acked z)
 taken-ends x z command.Hflush g n free =
     let k = free g.fits_so in
-    goes-on x z (taken_as z command.Hflush) command.Hflush _ g k.0 k.1 g.phase_is (ap (λ (s : StreamState). s.unacked) g.stream_is) (λ h e. absurd (apart _ e))
+    goes-on x z (taken_as z command.Hflush) command.Hflush _ g k.0 k.1 g.phase_is (ap (λ (s : StreamState). s.unacked) g.stream_is) (λ h e. absurd (apart _ e)) (same-acked z)
   where
     apart : (m : ℕ) → Some (waiting.Flush m) ≡ Some waiting.Close → ⊥
     apart m e = cc
 taken-ends x z command.Hsync g n free =
     let k = free g.fits_so in
-    goes-on x z (taken_as z command.Hsync) command.Hsync _ g k.0 k.1 g.phase_is (ap (λ (s : StreamState). s.unacked) g.stream_is) (λ h e. absurd (apart _ _ e))
+    goes-on x z (taken_as z command.Hsync) command.Hsync _ g k.0 k.1 g.phase_is (ap (λ (s : StreamState). s.unacked) g.stream_is) (λ h e. absurd (apart _ _ e)) (same-acked z)
   where
     apart : (m : ℕ) (q : SyncPacket) → Some (waiting.Sync m q) ≡ Some waiting.Close → ⊥
     apart m q e = cc
 taken-ends x z command.Close g n free =
     let k = free g.fits_so in
-    goes-on x z (taken_as z command.Close) command.Close _ g k.0 k.1 g.phase_is (ap (λ (s : StreamState). s.unacked) g.stream_is) (λ h e. ap is_open g.stand_is)
+    goes-on x z (taken_as z command.Close) command.Close _ g k.0 k.1 g.phase_is (ap (λ (s : StreamState). s.unacked) g.stream_is) (λ h e. ap is_open g.stand_is) (same-acked z)
 
 first-takes : (x z : WriterRecord) (c : Command) (o : Option Command) → IsGiven x z c → slice_get z.queue 0 ≡ o → x.waiting ≡ None → ((is_open x.intake.stand ≡ true) → Free x) → Takes x c (take_first z o)
 first-takes x z c None g e n free t = absurd (not-taken z.queue c g.queue t)
@@ -615,6 +659,8 @@ failed-answer x z d c a bytes g n e k s = record {
     };
     shuts = λ h q. ap writes_no_more (g.phase_is ∙ e);
     stamps = λ f t. subst (λ (p : Phase). SetsNoId f p) (sym (g.phase_is ∙ e)) tt;
+    acks = λ q. absurd (false≢true (sym (ap has_packets (g.phase_is ∙ e)) ∙ q));
+    creates = λ t q. absurd (unlike t (sym (g.phase_is ∙ e) ∙ q));
   };
   bytes_none = λ h q r. absurd (k r);
   sends = s;
@@ -622,6 +668,9 @@ failed-answer x z d c a bytes g n e k s = record {
   where
     differ : phase.Failed d ≡ phase.Closed → ⊥
     differ q = cc
+
+    unlike : (t : Stamp) → phase.Failed d ≡ phase.Stamped setup.Create t → ⊥
+    unlike t q = cc
 
 answers-not : (n : ℕ) (a : ClientAnswer) → (action.Answered n a ≡ action.Took → ⊥) × ((p : Packet) → action.Answered n a ≡ action.Send p → ⊥)
 answers-not n a = (λ e. cc, λ p e. cc)
@@ -700,6 +749,84 @@ unfolding own_step
 command-ends x c q h t u =
     let g = given-is x c q t in
     step-takes x (given x c) c (given x c).phase g (sym g.phase_is) h u
+
+-- a step by which a create is taken: the writer has no packets then
+abbrev Creates : Step → Type 0
+Creates s = is_empty s.writer.queue ≡ true → has_packets s.writer.phase ≡ false
+
+untaken : (z : WriterRecord) (c : Command) (s : Step) → z.queue ≡ c ∷ [] → s.writer.queue ≡ z.queue → Creates s
+untaken z c s q e t = absurd (not-taken s.writer.queue c (e ∙ q) t)
+
+first-creates : (z : WriterRecord) (ms : List NodeId) (o : Option Command) → z.queue ≡ command.Create ms ∷ [] → slice_get z.queue 0 ≡ o → Creates (take_first z o)
+first-creates z ms None q e = untaken z (command.Create ms) (take_first z None) q refl
+first-creates z ms (Some d) q e = subst (λ (c : Command). Creates (take_first z (Some c))) (same_Some (command.Create ms) d (sym (ap (λ (cs : List Command). slice_get cs 0) q) ∙ e)) (λ _. refl)
+
+free-creates : (z : WriterRecord) (ms : List NodeId) (o : Option Waiting) → z.queue ≡ command.Create ms ∷ [] → Creates (free_step_as z o)
+free-creates z ms None q = first-creates z ms (slice_get z.queue 0) q refl
+free-creates z ms (Some c) q = untaken z (command.Create ms) (free_step_as z (Some c)) q refl
+
+failed-first-creates : (z : WriterRecord) (d : Failure) (ms : List NodeId) (o : Option Command) → z.queue ≡ command.Create ms ∷ [] → slice_get z.queue 0 ≡ o → z.phase ≡ phase.Failed d → Creates (failed_first z d o)
+failed-first-creates z d ms None q e p = untaken z (command.Create ms) (failed_first z d None) q refl
+failed-first-creates z d ms (Some k) q e p = subst (λ (c : Command). Creates (failed_first z d (Some c))) (same_Some (command.Create ms) k (sym (ap (λ (cs : List Command). slice_get cs 0) q) ∙ e)) (λ _. ap has_packets p)
+
+failed-creates : (z : WriterRecord) (d : Failure) (ms : List NodeId) (o : Option Waiting) → z.queue ≡ command.Create ms ∷ [] → z.phase ≡ phase.Failed d → Creates (failed_step_as z d o)
+failed-creates z d ms None q p = failed-first-creates z d ms (slice_get z.queue 0) q refl p
+failed-creates z d ms (Some c) q p = untaken z (command.Create ms) (failed_step_as z d (Some c)) q refl
+
+dial-creates : (z : WriterRecord) (ms : List NodeId) (s : Setup) (t : Stamp) (ns : List NodeId) → z.queue ≡ command.Create ms ∷ [] → Creates (dial_step_as z s t ns)
+dial-creates z ms s t [] q = untaken z (command.Create ms) (dial_step_as z s t []) q refl
+dial-creates z ms s t (n ∷ ns) q = untaken z (command.Create ms) (dial_step_as z s t (n ∷ ns)) q refl
+
+accepted-creates : (z : WriterRecord) (ms : List NodeId) (s : Setup) (t : Stamp) → z.queue ≡ command.Create ms ∷ [] → Creates (accepted_step z s t)
+accepted-creates z ms setup.Create t q = untaken z (command.Create ms) (accepted_step z setup.Create t) q refl
+accepted-creates z ms setup.Append t q = untaken z (command.Create ms) (accepted_step z setup.Append t) q refl
+accepted-creates z ms setup.AppendRecovery t q = untaken z (command.Create ms) (accepted_step z setup.AppendRecovery t) q refl
+accepted-creates z ms setup.StreamRecovery t q = untaken z (command.Create ms) (accepted_step z setup.StreamRecovery t) q refl
+accepted-creates z ms setup.CloseRecovery t q = untaken z (command.Create ms) (accepted_step z setup.CloseRecovery t) q refl
+
+form-creates : (z : WriterRecord) (ms : List NodeId) (d : DuePacket) → z.queue ≡ command.Create ms ∷ [] → Creates (form_step z d)
+form-creates z ms (due.Data end is_sync) q = untaken z (command.Create ms) (form_step z (due.Data end is_sync)) q refl
+form-creates z ms due.Sync q = untaken z (command.Create ms) (form_step z due.Sync) q refl
+form-creates z ms due.Last q = untaken z (command.Create ms) (form_step z due.Last) q refl
+
+reach-creates : (z : WriterRecord) (ms : List NodeId) (o : Option ℕ) → z.queue ≡ command.Create ms ∷ [] → Creates (reach_step_as z o)
+reach-creates z ms (Some n) q = untaken z (command.Create ms) (reach_step_as z (Some n)) q refl
+reach-creates z ms None q = free-creates z ms z.waiting q
+
+due-creates : (z : WriterRecord) (ms : List NodeId) (o : Option DuePacket) → z.queue ≡ command.Create ms ∷ [] → Creates (due_step z o)
+due-creates z ms (Some d) q = form-creates z ms d q
+due-creates z ms None q = reach-creates z ms (reached_length z.waiting z.stream) q
+
+stream-creates : (z : WriterRecord) (ms : List NodeId) (sent : ℕ) (o : Option Packet) → z.queue ≡ command.Create ms ∷ [] → Creates (stream_step_as z sent o)
+stream-creates z ms sent (Some p) q = untaken z (command.Create ms) (stream_step_as z sent (Some p)) q refl
+stream-creates z ms sent None q = due-creates z ms (due_now z) q
+
+step-creates : (z : WriterRecord) (ms : List NodeId) (p : Phase) → z.queue ≡ command.Create ms ∷ [] → z.phase ≡ p → Creates (step_in z p)
+step-creates z ms phase.Closed q e = free-creates z ms z.waiting q
+step-creates z ms (phase.Wanted s) q e = untaken z (command.Create ms) (step_in z (phase.Wanted s)) q refl
+step-creates z ms (phase.Stamped s t) q e = dial-creates z ms s t z.members q
+step-creates z ms (phase.Requested s t) q e = free-creates z ms z.waiting q
+step-creates z ms (phase.Accepted s t) q e = accepted-creates z ms s t q
+step-creates z ms phase.Opened q e = untaken z (command.Create ms) (step_in z phase.Opened) q refl
+step-creates z ms (phase.Streaming sent) q e = stream-creates z ms sent (slice_get z.stream.unacked sent) q
+step-creates z ms phase.Closing q e = free-creates z ms z.waiting q
+step-creates z ms phase.Finished q e = untaken z (command.Create ms) (step_in z phase.Finished) q refl
+step-creates z ms phase.Completed q e = untaken z (command.Create ms) (step_in z phase.Completed) q refl
+step-creates z ms (phase.Failed d) q e = failed-creates z d ms z.waiting q e
+
+create-packets : (x : WriterRecord) (ms : List NodeId) → x.queue ≡ [] → not (is_empty (given x (command.Create ms)).queue) ≡ true → Creates (own_step (given x (command.Create ms)))
+unfolding own_step
+create-packets x ms q t = let z = given x (command.Create ms) in step-creates z ms z.phase (given-is x (command.Create ms) q t).queue refl
+
+-- a writer that took a create has no packets
+pub taken-packets : (x : WriterRecord) (c : Command) → x.queue ≡ [] → not (is_empty (given x c).queue) ≡ true → is_empty (own_step (given x c)).writer.queue ≡ true → (ms : List NodeId) → c ≡ command.Create ms → has_packets (own_step (given x c)).writer.phase ≡ false
+taken-packets x (command.Create ns) q t u ms e = create-packets x ns q t u
+taken-packets x (command.Append ns) q t u ms e = absurd (cc)
+taken-packets x (command.Write v) q t u ms e = absurd (cc)
+taken-packets x (command.Fill n) q t u ms e = absurd (cc)
+taken-packets x command.Hflush q t u ms e = absurd (cc)
+taken-packets x command.Hsync q t u ms e = absurd (cc)
+taken-packets x command.Close q t u ms e = absurd (cc)
 
 -- WHAT THE OFFICE ANSWERS
 

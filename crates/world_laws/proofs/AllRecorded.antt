@@ -33,7 +33,7 @@ quietly : (w : World) (o : Option Change) → IfSome o (Quiet w) → IfSome o (M
 quietly w None q m = tt
 quietly w (Some k) q m = record { office = q.office; stamped = q.stamped; moved = m }
 
-aside-quietly : (w : World) (o : Option Change) → IfSome o (Aside w) → IfSome o (Quietly w)
+pub aside-quietly : (w : World) (o : Option Change) → IfSome o (Aside w) → IfSome o (Quietly w)
 aside-quietly w o a = quietly w o (asides-quiet w o a) (asides-moved w o a)
 
 pub changed-quietly : (f : Givens) (w : World) (o : Option Change) → Recorded f w → IfSome o (Quietly w) → IfSome (changed w o) (Recorded f)

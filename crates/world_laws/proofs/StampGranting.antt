@@ -91,7 +91,7 @@ refusal-fits f l r x e h = refused-as-fits f l r x e (asks x.phase) h
 -- WRITERS THAT ASKED
 
 -- what is in a phase
-at-phase : (f : ℕ → Option ℕ) (l : ℕ) (r : Option Stamp) (x : WriterRecord) (p : Phase) → x.phase ≡ p → Fits f l r x → InPhase f l r x.committed x.waiting x.stream.unacked p
+pub at-phase : (f : ℕ → Option ℕ) (l : ℕ) (r : Option Stamp) (x : WriterRecord) (p : Phase) → x.phase ≡ p → Fits f l r x → InPhase f l r x.committed x.waiting x.stream.unacked p
 at-phase f l r x p e h = subst (λ (q : Phase). InPhase f l r x.committed x.waiting x.stream.unacked q) e h
 
 pub created-held : (f : ℕ → Option ℕ) (n : ℕ) (members : List NodeId) (x : WriterRecord) → ((t : ℕ) → f t ≡ None) → x.phase ≡ phase.Wanted setup.Create
@@ -132,7 +132,7 @@ appended-held f n latest r x b shut short e h =
     })
 
 -- the setup that follows what was wanted
-again-setting : (f g : ℕ → Option ℕ) (l : ℕ) (x : WriterRecord) (t : Stamp) (way : Setup) → IsAgain way → ((s : Stamp) → IsOfLatest f l s → IsOfLatest g l s)
+pub again-setting : (f g : ℕ → Option ℕ) (l : ℕ) (x : WriterRecord) (t : Stamp) (way : Setup) → IsAgain way → ((s : Stamp) → IsOfLatest f l s → IsOfLatest g l s)
     → Wanting f l x.committed x.waiting x.stream.unacked way → Setting g l x.committed x.waiting x.stream.unacked t way
 again-setting f g l x t setup.Create a old h = absurd a
 again-setting f g l x t setup.Append a old h = absurd a
@@ -161,7 +161,7 @@ stamped-held f n latest r x way b w same e a h =
     })
 
 -- where a writer is whose setup was committed
-committed-fits : (f : ℕ → Option ℕ) (l : ℕ) (r : Option Stamp) (x : WriterRecord) (t : Stamp) (way : Setup) → IsLater way
+pub committed-fits : (f : ℕ → Option ℕ) (l : ℕ) (r : Option Stamp) (x : WriterRecord) (t : Stamp) (way : Setup) → IsLater way
     → InPhase f l r x.committed x.waiting x.stream.unacked (phase.Accepted way t) → InPhase f l r t x.waiting x.stream.unacked (phase_committed way)
 committed-fits f l r x t setup.Create a k = absurd a
 committed-fits f l r x t setup.Append a k = (k.0, k.1.0, k.1.1)

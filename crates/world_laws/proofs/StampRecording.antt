@@ -219,7 +219,7 @@ given-each P f (Some s) new old b t e =
     (λ i. subst (λ (d : ℕ). put (f s.block) s.stamp (Some s.session) t ≡ Some e → P d t e) (sym (eqb-true b s.block i)) (put-new (P s.block) (f s.block) s.stamp s.session new (old s.block) t e))
     (λ _. old b t e)
 
-given-sessions : (f : ℕ → ℕ) (s : Option Stamped) (n : ℕ) (b m : ℕ) → IfSome s (λ x. (x.stamp ≡ n) × (x.block ≡ b) × (x.stamp < m)) → (t : ℕ) → t < n → sessions_with f s t ≡ f t
+pub given-sessions : (f : ℕ → ℕ) (s : Option Stamped) (n : ℕ) (b m : ℕ) → IfSome s (λ x. (x.stamp ≡ n) × (x.block ≡ b) × (x.stamp < m)) → (t : ℕ) → t < n → sessions_with f s t ≡ f t
 given-sessions f None n b m g t lt = refl
 given-sessions f (Some s) n b m g t lt = put-there f s.stamp s.session t (λ e. omega (arith, g.0, e, lt))
 

@@ -72,7 +72,8 @@ pub record WriteSays (g : Givens) (h : Past) (c : ℕ) (f : WriteFields) : Type 
   pub first : slice_get (h.downs c) 0 ≡ Some (request (op.Write f))
   pub session : ℕ
   pub given : g f.block.block.0 (new_stamp f).0 ≡ Some session
-  pub passes : (t e : ℕ) → g f.block.block.0 t ≡ Some e → f.block.stamp.0 ≤ t → t ≤ (new_stamp f).0 → Passing (setup_with f.stage) h e session f.min
+  pub passes : (t e : ℕ) → g f.block.block.0 t ≡ Some e → f.block.stamp.0 ≤ t → t ≤ (new_stamp f).0 →
+      Passing (setup_with f.stage) h e session f.min
 
 -- RECOVERIES
 
@@ -199,10 +200,12 @@ kind_of setup.StreamRecovery = kind.StreamRecovery
 kind_of setup.CloseRecovery = kind.CloseRecovery
 
 -- what stands under a stamp from the committed one to that of the setup may pass to the latest session; a create commits its stamp at once
-pub record AsksFor (f : ℕ → Option ℕ) (h : Past) (latest : ℕ) (committed : Stamp) (s : StreamState) (way : Setup) (stamp : Stamp) : Type 0 where
+pub record AsksFor (f : ℕ → Option ℕ) (h : Past) (latest : ℕ) (committed : Stamp) (s : StreamState) (way : Setup)
+    (stamp : Stamp) : Type 0 where
   pub given : f stamp.0 ≡ Some latest
   pub created : way ≡ setup.Create → committed ≡ stamp
-  pub passes : (t e : ℕ) → f t ≡ Some e → committed.0 ≤ t → t ≤ stamp.0 → Passing (Some (kind_of way)) h e latest (min_length way s)
+  pub passes : (t e : ℕ) → f t ≡ Some e → committed.0 ≤ t → t ≤ stamp.0 →
+      Passing (Some (kind_of way)) h e latest (min_length way s)
 
 abbrev pub Asks : (ℕ → Option ℕ) → Past → ℕ → Stamp → StreamState → Phase → Type 0
 Asks f h latest committed s (phase.Stamped way stamp) = AsksFor f h latest committed s way stamp
@@ -271,8 +274,10 @@ pub record Carried (g : Givens) (w : World) : Type 0 where
   pub writers : (b : ℕ) → WriterSays g w.past b (w.latest b) (w.writers b)
   pub entries : (b : ℕ) → IfSome (record_of w.office (record { 0 = b })) (EntrySays (g b) w.past (w.latest b))
   pub primaries : (i : ℕ) → PrimarySays g w.past (w.primaries i)
-  pub led : (c i place : ℕ) → c < w.next_conn → (w.dialled c).upper ≡ by_primary i place → LedBy w.past c (w.primaries i)
+  pub led : (c i place : ℕ) → c < w.next_conn → (w.dialled c).upper ≡ by_primary i place →
+      LedBy w.past c (w.primaries i)
 
 -- So it is after every list of events, of the stamps that are given in them.
 abbrev pub AllCarried : Type 0
-AllCarried = (nodes : ℕ) (events : List Event) → Carried (given_in none_given (start nodes) events) (run (start nodes) events)
+AllCarried = (nodes : ℕ) (events : List Event) →
+    Carried (given_in none_given (start nodes) events) (run (start nodes) events)

@@ -22,4 +22,5 @@ FindsExactly = (r : FullReplica) (b : Option Break) (f : Option Found) → (may_
 
 -- Each replica becomes one that may be found, whatever a restart is said to find.
 abbrev pub FindsWhatMayBe : Type 0
-FindsWhatMayBe = (block : ℕ) (r : FullReplica) (b : Option Break) (f : Option Found) → IsFoundAt block r b (restarted block r b f)
+FindsWhatMayBe = (block : ℕ) (r : FullReplica) (b : Option Break) (f : Option Found) →
+    IsFoundAt block r b (restarted block r b f)

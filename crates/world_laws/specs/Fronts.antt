@@ -18,7 +18,8 @@ use Rattle.world_laws.specs.Carrying.{new_stamp}
 abbrev pub AllHoldFronts : Type 0
 AllHoldFronts = (nodes : ℕ) (events : List Event) (node block : ℕ) →
     IfSome ((run (start nodes) events).replicas node block).known.info
-    (λ h. IsFront ((run (start nodes) events).replicas node block).bytes (written_under (run (start nodes) events) h.stamp.0))
+    (λ h. IsFront ((run (start nodes) events).replicas node block).bytes
+    (written_under (run (start nodes) events) h.stamp.0))
 
 -- Each packet that was ever sent on a connection of a setup is a piece of what was written in the session of that setup's stamp.
 abbrev pub PacketsArePieces : Type 0

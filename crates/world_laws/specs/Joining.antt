@@ -37,7 +37,8 @@ pub record HasReached (g : Givens) (joined : List Joined) (n b : ℕ) (o : Optio
 
 -- an RBW replica that isn't broken, of a node that runs, was set up under its stamp in this life
 pub record IsSetUp (joined : List Joined) (life : ℕ) (runs : Bool) (n : ℕ) (r : FullReplica) : Type 0 where
-  pub joins : runs ≡ true → r.known.is_broken ≡ false → IfSome r.known.info (λ i. i.original ≡ state.Rbw → Has joined (joined_as i.stamp.0 n life))
+  pub joins : runs ≡ true → r.known.is_broken ≡ false →
+      IfSome r.known.info (λ i. i.original ≡ state.Rbw → Has joined (joined_as i.stamp.0 n life))
 
 -- the same of the replica that broke, whose event doesn't let its stamp fall
 pub record BreakReached (g : Givens) (joined : List Joined) (n b : ℕ) (r : FullReplica) (x : Break) : Type 0 where
@@ -66,8 +67,10 @@ pub record SetUps (g : Givens) (w : World) : Type 0 where
 
 -- So it is after every list of events, of the stamps that are given in them.
 abbrev pub AllSetUp : Type 0
-AllSetUp = (nodes : ℕ) (events : List Event) → SetUps (given_in none_given (start nodes) events) (run (start nodes) events)
+AllSetUp = (nodes : ℕ) (events : List Event) →
+    SetUps (given_in none_given (start nodes) events) (run (start nodes) events)
 
 -- A node that is steady since the stamp of a length that was answered has a replica of at least that stamp.
 abbrev pub AnsweredReach : World → Type 0
-AnsweredReach w = (a : Answered) (n : ℕ) → Has w.answered a → Steady w a.block a.stamp n → AtLeast (w.replicas n a.block).known.info a.stamp
+AnsweredReach w = (a : Answered) (n : ℕ) → Has w.answered a → Steady w a.block a.stamp n →
+    AtLeast (w.replicas n a.block).known.info a.stamp

@@ -27,11 +27,13 @@ IsCommitted o block stamp = (r : BlockRecord) → record_of o block ≡ Some r �
 -- the block's writer knows.
 abbrev pub OfficeAndWriterAgree : Type 0
 OfficeAndWriterAgree = (nodes : ℕ) (events : List Event) (b : ℕ) →
-    IsCommitted (run (start nodes) events).office (record { 0 = b }) (stamp_heard ((run (start nodes) events).writers b))
+    IsCommitted (run (start nodes) events).office (record { 0 = b })
+    (stamp_heard ((run (start nodes) events).writers b))
 
 -- A stamp that was given has one session: whatever happens later, it stays in the session in which it was given.
 abbrev pub StampsKeepSessions : Type 0
-StampsKeepSessions = (nodes : ℕ) (events others : List Event) (stamp : ℕ) → stamp < (run (start nodes) events).office.next.0 →
+StampsKeepSessions = (nodes : ℕ) (events others : List Event) (stamp : ℕ) →
+    stamp < (run (start nodes) events).office.next.0 →
     (run (start nodes) (events ++ others)).session_of stamp ≡ (run (start nodes) events).session_of stamp
 
 -- A session that hasn't begun has no bytes: sessions are named by stamps, and none of that number was given.

@@ -126,10 +126,14 @@ Setting f latest known waits unacked stamp setup.CloseRecovery = IsOfLatest f la
 abbrev pub InPhase : (ℕ → Option ℕ) → ℕ → Option Stamp → Stamp → Option Waiting → List Packet → Phase → Type 0
 InPhase f latest recovery known waits unacked phase.Closed = IsOfLatest f latest known
 InPhase f latest recovery known waits unacked (phase.Wanted s) = Wanting f latest known waits unacked s
-InPhase f latest recovery known waits unacked (phase.Stamped s stamp) = IsSetup f latest recovery stamp × Setting f latest known waits unacked stamp s
-InPhase f latest recovery known waits unacked (phase.Requested s stamp) = IsSetup f latest recovery stamp × Setting f latest known waits unacked stamp s
-InPhase f latest recovery known waits unacked (phase.Accepted s stamp) = IsSetup f latest recovery stamp × Setting f latest known waits unacked stamp s
-InPhase f latest recovery known waits unacked phase.Opened = IsSetup f latest recovery known × Waits waits × NoLast unacked
+InPhase f latest recovery known waits unacked (phase.Stamped s stamp) = IsSetup f latest recovery stamp ×
+    Setting f latest known waits unacked stamp s
+InPhase f latest recovery known waits unacked (phase.Requested s stamp) = IsSetup f latest recovery stamp ×
+    Setting f latest known waits unacked stamp s
+InPhase f latest recovery known waits unacked (phase.Accepted s stamp) = IsSetup f latest recovery stamp ×
+    Setting f latest known waits unacked stamp s
+InPhase f latest recovery known waits unacked phase.Opened = IsSetup f latest recovery known × Waits waits ×
+    NoLast unacked
 InPhase f latest recovery known waits unacked (phase.Streaming sent) = IsSetup f latest recovery known × NoLast unacked
 InPhase f latest recovery known waits unacked phase.Closing = IsSetup f latest recovery known
 InPhase f latest recovery known waits unacked phase.Finished = IsSetup f latest recovery known
@@ -169,4 +173,5 @@ pub record Recorded (given : Givens) (w : World) : Type 0 where
 
 -- So it is after every list of events, of the stamps that are given in them.
 abbrev pub AllRecorded : Type 0
-AllRecorded = (nodes : ℕ) (events : List Event) → Recorded (given_in none_given (start nodes) events) (run (start nodes) events)
+AllRecorded = (nodes : ℕ) (events : List Event) →
+    Recorded (given_in none_given (start nodes) events) (run (start nodes) events)

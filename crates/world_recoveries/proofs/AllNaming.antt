@@ -88,22 +88,23 @@ use Rattle.world.specs.Safe.{Has}
 use Rattle.world_laws.specs.Sessions.{told_stamp, stamp_heard}
 use Rattle.world_laws.proofs.FactTables.{if-each}
 use Rattle.world_laws.proofs.Agreements as agreements
-use Rattle.world_laws.proofs.StampRecording.{other-block}
+use Rattle.world_laws.proofs.StampRecording.{other-block, given-each, gives}
+use Rattle.world_laws.proofs.ByteOffices.{office-extends}
 use Rattle.world_laws.proofs.OfficeSteps.{AsksAs, Asking, own-step-asking, block_in, keeps-other, asks-block, IsPrimarys}
 use Rattle.world_laws.proofs.SessionAsides.{Aside, lower-down-aside, lower-ready-aside, mirror-up-aside, own-reader-aside, reader-up-aside}
 use Rattle.world_laws.proofs.StampGivens.{put-here, put-there}
 use Rattle.world_laws.proofs.StampWalking.{none-is}
-use Rattle.world_laws.specs.Stamping.{HeldOf, known_heard, heard}
+use Rattle.world_laws.specs.Stamping.{Entries, HeldOf, known_heard, heard}
 use Rattle.world_laws.specs.Carrying.{LowerSays}
 use Rattle.world_laws.proofs.AllSetUp.{happens-set, start-set}
 use Rattle.world_laws.specs.Joining.{SetUps}
 use Rattle.world_recoveries.specs.Recovering.{Recovering}
-use Rattle.world_recoveries.specs.Naming.{NoneStale, known_stamp, IsNamed, IsBehind, ToldNamed, PrimaryNamed, RequestNamed, Naming, AllNaming}
+use Rattle.world_recoveries.specs.Naming.{NoneStale, known_stamp, IsBefore, IsPast, IsNamed, IsBehind, ToldNamed, PrimaryNamed, RequestNamed, Naming, AllNaming}
 use Rattle.world_recoveries.proofs.AllRecovering.{all-recovering}
 use Rattle.world_recoveries.proofs.Choosing.{own-updates}
 use Rattle.world_recoveries.proofs.Leading.{updates-at}
 use Rattle.world_recoveries.proofs.Lowers.{write-quiet, read-quiet, unless-quiet, down-quiet}
-use Rattle.world_recoveries.proofs.Naming.{Newest, Behind, Stamps, Names, named-after, primary-named, naming-apply, IsGranted, granted-by, raises-by}
+use Rattle.world_recoveries.proofs.Naming.{Newest, Behind, Opens, Stamps, Names, before-back, past-after, opens-by, keeps-by, named-after, primary-named, naming-apply, IsGranted, granted-by, raises-by}
 use Rattle.world_recoveries.proofs.Quiet.{none-asked}
 
 -- STAMPS
@@ -124,7 +125,7 @@ quiet-leaves : (w : World) (k : Change) → agreements.Quiet w k → Leaves w k
 quiet-leaves w k q = record { office = q.office; heard_same = sym (heard-stamp k.writer) ∙ q.heard ∙ heard-stamp (w.writers k.writer_at) }
 
 leaves-stamps : (g : Givens) (w : World) (k : Change) → Leaves w k → IfSome k.answered (λ a. a.stamp ≡ known_stamp w a.block) → Stamps g g w k
-leaves-stamps g w k q a = record { given = λ b t e x. (e, x); writer = inl q.heard_same; answers = a }
+leaves-stamps g w k q a = record { same = λ b t e x. x; back = λ b t u s e x _ _. x; only = λ b t s x. inl x; opens = λ b e x. inl x; given = λ b t e x. (e, x); writer = inl q.heard_same; answers = a }
 
 leaves-office : (g : Givens) (w : World) (k : Change) → Naming g w → Leaves w k → (b : ℕ) → IfSome (record_of k.office (record { 0 = b })) (Behind w k b)
 leaves-office g w k h q b = subst (λ (o : OfficeState). IfSome (record_of o (record { 0 = b })) (Behind w k b)) (sym q.office) (some-weaker (IsBehind w b) (Behind w k b) (record_of w.office (record { 0 = b })) (λ r x. record {
@@ -133,6 +134,9 @@ leaves-office g w k h q b = subst (λ (o : OfficeState). IfSome (record_of o (re
   before = x.known;
   answered = x.answered;
 }) (h.behind b))
+
+leaves-closes : (g : Givens) (w : World) (k : Change) → Naming g w → Leaves w k → (b : ℕ) → IfSome (record_of k.office (record { 0 = b })) (λ r. IsPast (g b) r.committed.0)
+leaves-closes g w k h q b = subst (λ (o : OfficeState). IfSome (record_of o (record { 0 = b })) (λ r. IsPast (g b) r.committed.0)) (sym q.office) (h.closes b)
 
 -- a change that sends no request of a recovery, and leaves the primaries
 record NoAsks (w : World) (k : Change) : Type 0 where
@@ -197,6 +201,7 @@ quiet-names : (g : Givens) (w : World) (k : Change) → Naming g w → Leaves w 
 quiet-names g w k h q a r c = record {
   stamps = leaves-stamps g w k q a;
   office = leaves-office g w k h q;
+  closes = leaves-closes g w k h q;
   sent = λ d j m e. absurd (r.sent g c d j m e);
   dials = λ j d m e s. absurd (r.dials j d m e s);
   primary = subst (λ (p : Primary). PrimaryNamed g (apply w k) p) (sym r.primary) (primary-named g g w k (w.primaries k.primary_at) (leaves-stamps g w k q a) (h.primaries k.primary_at));
@@ -306,7 +311,7 @@ primary-names : (g : Givens) (w : World) (k : Change) → Naming g w → Aside w
 primary-names g w k h a t sent dials p =
     let l : Leaves w k = record { office = a.office; heard_same = ap (λ (z : Writing). (heard z).committed) a.writer } in
     let s = leaves-stamps g w k l t in
-    record { names = λ _. record { stamps = s; office = leaves-office g w k h l; sent = sent; dials = dials; primary = primary-named g g w k k.primary s p } }
+    record { names = λ _. record { stamps = s; office = leaves-office g w k h l; closes = leaves-closes g w k h l; sent = sent; dials = dials; primary = primary-named g g w k k.primary s p } }
 
 leads-named : (g : Givens) (w : World) (i : ℕ) (l : Leading) → Naming g w → w.primaries i ≡ leads l → IsNamed g w l.state.block.0 l.state.begun.committed l.state.begun.id
 leads-named g w i l h e = subst (λ (p : Primary). PrimaryNamed g w p) e (h.primaries i)
@@ -406,15 +411,40 @@ call-office g w i c p h r a b =
       answered = λ y q e. omega (arith, x.2, old.answered y q e);
     }) (raises-by g w c r a (record { 0 = b }))
 
-call-stamps : (g : Givens) (w : World) (i : ℕ) (c : OfficeCall) (p : Told → Primary) → ((b t e : ℕ) → g b t ≡ Some e → (d : ℕ) × (By g (asks_primary w i c p) b t ≡ Some d)) → Stamps g (By g (asks_primary w i c p)) w (asks_primary w i c p)
-call-stamps g w i c p s = record { given = s; writer = inl refl; answers = tt }
+call-stamps : (g : Givens) (w : World) (i : ℕ) (c : OfficeCall) (p : Told → Primary) → Recorded g w → IsPrimarys c → Stamps g (By g (asks_primary w i c p)) w (asks_primary w i c p)
+call-stamps g w i c p r a =
+    let k = asks_primary w i c p in
+    let x = office-extends g w c r in
+    record {
+      same = x.given;
+      back = λ b t u s e q j le. x.old b b t u s e q j le;
+      only = given-each (λ (b t s : ℕ). (g b t ≡ Some s) ⊎ (t ≡ w.office.next.0)) g k.stamped (some-weaker _ (λ z. (g z.block z.stamp ≡ Some z.session) ⊎ (z.stamp ≡ w.office.next.0)) k.stamped (λ z v. inr v.0) (gives w c).fresh) (λ b t s q. inl q);
+      opens = λ b e q. given-each (λ (d t s : ℕ). t ≡ s → (g d t ≡ Some s) ⊎ Opens g w k d) g k.stamped
+          (some-weaker _ (λ z. z.stamp ≡ z.session → (g z.block z.stamp ≡ Some z.session) ⊎ Opens g w k z.block) k.stamped (λ z v. λ same. absurd (omega (arith, v, same))) (keeps-by g w c r a)) (λ d t s j _. inl j) b e e q refl;
+      given = λ b t e q. given-stays g k.stamped b t e q;
+      writer = inl refl;
+      answers = tt;
+    }
 
-call-names : (g : Givens) (w : World) (i : ℕ) (c : OfficeCall) (p : Told → Primary) → Naming g w → Recorded g w → IsPrimarys c → ((b t e : ℕ) → g b t ≡ Some e → (d : ℕ) × (By g (asks_primary w i c p) b t ≡ Some d))
+-- no committed stamp falls
+call-closes : (g : Givens) (w : World) (i : ℕ) (c : OfficeCall) (p : Told → Primary) → Naming g w → Recorded g w → IsPrimarys c → (b : ℕ) → IfSome (record_of (asks_primary w i c p).office (record { 0 = b })) (λ r. IsPast (By g (asks_primary w i c p) b) r.committed.0)
+call-closes g w i c p h r a b = go (record_of k.office (record { 0 = b })) refl (raises-by g w c r a (record { 0 = b }))
+  where
+    k : Change
+    k = asks_primary w i c p
+
+    go : (o : Option BlockRecord) → record_of k.office (record { 0 = b }) ≡ o → IfSome o (λ z. (j : BlockRecord) × (record_of w.office (record { 0 = b }) ≡ Some j) × (j.committed.0 ≤ z.committed.0)) → IfSome o (λ z. IsPast (By g k b) z.committed.0)
+    go None e x = tt
+    go (Some z) e x = past-after g (By g k) w k b x.0.committed.0 z.committed.0 (call-stamps g w i c p r a) (subst (λ (o : Option BlockRecord). IfSome o (λ j. IsPast (g b) j.committed.0)) x.1 (h.closes b)) (λ v s q le. omega (arith, le, x.2))
+        (λ y t s q. subst (λ (o : Option BlockRecord). IfSome o (λ j. t ≤ j.committed.0)) e (y.office t s q))
+
+call-names : (g : Givens) (w : World) (i : ℕ) (c : OfficeCall) (p : Told → Primary) → Naming g w → Recorded g w → IsPrimarys c
     → PrimaryNamed (By g (asks_primary w i c p)) (apply w (asks_primary w i c p)) (p (answer_to w.office c)) → Naming-of g (By g (asks_primary w i c p)) w (asks_primary w i c p)
-call-names g w i c p h r a s n = record {
+call-names g w i c p h r a n = record {
   names = λ _. record {
-    stamps = call-stamps g w i c p s;
+    stamps = call-stamps g w i c p r a;
     office = call-office g w i c p h r a;
+    closes = call-closes g w i c p h r a;
     sent = λ d j q e. absurd (none-some _ e);
     dials = λ j d q e z. absurd (none-some d e);
     primary = n;
@@ -425,6 +455,9 @@ call-names g w i c p h r a s n = record {
 record IsBegun (g : Givens) (w : World) (b : ℕ) (o : Option Stamped) (begun : Begun) : Type 0 where
   pub session : ℕ
   pub given : given_with g o b begun.id.0 ≡ Some session
+  pub id_is : begun.id ≡ w.office.next
+  pub earlier : session < begun.id.0
+  pub past : IsPast (g b) begun.committed.0
   pub known : known_stamp w b ≤ begun.committed.0
   pub answered : (a : Answered) → Has w.answered a → a.block ≡ b → a.stamp ≤ begun.committed.0
 
@@ -439,8 +472,8 @@ given-new g b t e l = ap (λ (f : ℕ → Option ℕ). f t) (put-here g b (put (
 abbrev BegunBy : Givens → World → ℕ → OfficeCall → Step OfficeState OfficeAnswer → Type 0
 BegunBy g w b c s = c ≡ call.BeginRecovery (record { 0 = b }) → ToldIs g w b (stamped_by w c (reply s)) (reply s)
 
-begun-by : (g : Givens) (w : World) (b : ℕ) (c : OfficeCall) → Naming g w → BegunBy g w b c (office_case w.office c)
-begun-by g w b c h = each_case w.office (BegunBy g w b) (record {
+begun-by : (g : Givens) (w : World) (b : ℕ) (c : OfficeCall) → Naming g w → Recorded g w → BegunBy g w b c (office_case w.office c)
+begun-by g w b c h rec = each_case w.office (BegunBy g w b) (record {
   refused = λ d e. λ q. tt;
   created = λ block members none. λ q. tt;
   appended = λ block r is shut short. λ q. tt;
@@ -457,26 +490,42 @@ begun-by g w b c h = each_case w.office (BegunBy g w b) (record {
     begins : (block : BlockId) (r : BlockRecord) → record_of w.office block ≡ Some r → block ≡ record { 0 = b } → IsBegun g w b (stamp_of block.0 w.office.next.0 (w.session_of r.committed.0) (w.latest block.0)) (record { id = w.office.next; committed = r.committed })
     begins block r is e =
         let old = subst (λ (o : Option BlockRecord). IfSome o (IsBehind w b)) (ap (λ (z : BlockId). record_of w.office z) (sym e) ∙ is) (h.behind b) in
-        record { session = w.session_of r.committed.0; given = subst (λ (z : BlockId). given_with g (stamp_of z.0 w.office.next.0 (w.session_of r.committed.0) (w.latest z.0)) b w.office.next.0 ≡ Some (w.session_of r.committed.0)) (sym e) (given-new g b w.office.next.0 (w.session_of r.committed.0) (w.latest b)); known = old.known; answered = old.answered }
+        let held : Entries (g b) (w.latest b) r (heard (w.writers b)) = subst (λ (o : Option BlockRecord). HeldOf (g b) (w.latest b) o (heard (w.writers b))) (ap (λ (z : BlockId). record_of w.office z) (sym e) ∙ is) (rec.blocks b) in
+        let early : w.session_of r.committed.0 < w.office.next.0 =
+        omega (arith, rec.session b r.committed.0 held.base held.office.committed, held.office.before r.committed.0 held.base held.office.committed, rec.below b r.committed.0 held.base held.office.committed) in
+        let past : IsPast (g b) r.committed.0 = subst (λ (o : Option BlockRecord). IfSome o (λ k. IsPast (g b) k.committed.0)) (ap (λ (z : BlockId). record_of w.office z) (sym e) ∙ is) (h.closes b) in
+        record { session = w.session_of r.committed.0; id_is = refl; earlier = early; past = past; given = subst (λ (z : BlockId). given_with g (stamp_of z.0 w.office.next.0 (w.session_of r.committed.0) (w.latest z.0)) b w.office.next.0 ≡ Some (w.session_of r.committed.0)) (sym e) (given-new g b w.office.next.0 (w.session_of r.committed.0) (w.latest b)); known = old.known; answered = old.answered }
 
-told-begun : (g : Givens) (w : World) (i : ℕ) (c : OfficeCall) (p : Told → Primary) (b : ℕ) (t : Told) → ToldIs g w b (asks_primary w i c p).stamped t → ToldNamed (By g (asks_primary w i c p)) (apply w (asks_primary w i c p)) (record { 0 = b }) t
+told-begun : (g : Givens) (w : World) (i : ℕ) (c : OfficeCall) (p : Told → Primary) (b : ℕ) (t : Told) → Recorded g w → IsPrimarys c → ToldIs g w b (asks_primary w i c p).stamped t → ToldNamed (By g (asks_primary w i c p)) (apply w (asks_primary w i c p)) (record { 0 = b }) t
 unfolding apply
-told-begun g w i c p b (Ok (office.Begun begun)) x = record {
+told-begun g w i c p b (Ok (office.Begun begun)) r a x = record {
+  past = record { each = λ v e j q lt. passes v e j q (s.only b e e j) };
   session = x.session;
   given = x.given;
   known = λ _. if-each (λ (y : Writing). (heard y).committed.0 ≤ begun.committed.0) (b == 0) (w.writers 0) (w.writers b) (λ e. omega (arith, x.known, ap (λ (v : ℕ). known_stamp w v) (eqb-true b 0 e))) (λ _. x.known);
   answered = λ a h e _. x.answered a (subst (λ (ys : List Answered). Has ys a) (append-nil w.answered) h) e;
 }
-told-begun g w i c p b (Ok (office.Stamp s)) x = tt
-told-begun g w i c p b (Ok (office.Reopened r)) x = tt
-told-begun g w i c p b (Ok office.Nothing) x = tt
-told-begun g w i c p b (Err e) x = tt
+  where
+    k : Change
+    k = asks_primary w i c p
+
+    s : Stamps g (By g k) w k
+    s = call-stamps g w i c p r a
+
+    passes : (v e : ℕ) → By g k b e ≡ Some e → IsBefore (By g k b) v e → (g b e ≡ Some e) ⊎ (e ≡ w.office.next.0) → v ≤ begun.committed.0
+    passes v e j q (inl old) = x.past.each v e old (before-back g (By g k) w k b v e s old q)
+    passes v e j q (inr new) =
+        let same : e ≡ begun.id.0 = omega (arith, new, ap (λ (z : Stamp). z.0) x.id_is) in
+        absurd (omega (arith, x.earlier, same, same_Some e x.session (sym j ∙ ap (λ (n : ℕ). By g k b n) same ∙ x.given)))
+told-begun g w i c p b (Ok (office.Stamp s)) r a x = tt
+told-begun g w i c p b (Ok (office.Reopened y)) r a x = tt
+told-begun g w i c p b (Ok office.Nothing) r a x = tt
+told-begun g w i c p b (Err e) r a x = tt
 
 asked-named : (g : Givens) (w : World) (i : ℕ) (b : BlockId) → Naming g w → Recorded g w → Naming-of g (By g (asks_primary w i (call.BeginRecovery b) (was_told b))) w (asks_primary w i (call.BeginRecovery b) (was_told b))
 asked-named g w i b h r =
     let c = call.BeginRecovery b in
-    call-names g w i c (was_told b) h r tt (λ d t e q. given-stays g (asks_primary w i c (was_told b)).stamped d t e q)
-    (told-begun g w i c (was_told b) b.0 (answer_to w.office c) (begun-by g w b.0 c h refl))
+    call-names g w i c (was_told b) h r tt (told-begun g w i c (was_told b) b.0 (answer_to w.office c) r tt (begun-by g w b.0 c h r refl))
 
 commits-named : (s : LeadStep) (g : Givens) (w : World) (i : ℕ) (l : Leading) → Naming g w → Recorded g w → w.primaries i ≡ leads l → IfSome (primary_commits s w i l) (λ k. Naming-of g (By g k) w k)
 commits-named lead.Waits g w i l h r e = tt
@@ -484,9 +533,8 @@ commits-named (lead.Updates c) g w i l h r e = tt
 commits-named (lead.Commits c) g w i l h r e =
     let p : Told → Primary = λ told. leads (record l { told = Some told }) in
     let k = asks_primary w i (sync_call l.state c) p in
-    let s : (b t v : ℕ) → g b t ≡ Some v → (d : ℕ) × (By g k b t ≡ Some d) = λ d t v q. given-stays g k.stamped d t v q in
-    call-names g w i (sync_call l.state c) p h r tt s
-    (named-after g (By g k) w k l.state.block.0 l.state.begun.committed l.state.begun.id (call-stamps g w i (sync_call l.state c) p s) (leads-named g w i l h e))
+    call-names g w i (sync_call l.state c) p h r tt
+    (named-after g (By g k) w k l.state.block.0 l.state.begun.committed l.state.begun.id (call-stamps g w i (sync_call l.state c) p r tt) (leads-named g w i l h e))
 commits-named (lead.Ends c) g w i l h r e = tt
 
 primary-asks-named : (x : Primary) (g : Givens) (w : World) (i : ℕ) (b : BlockId) → Naming g w → Recorded g w → w.primaries i ≡ x → IfSome (primary_asks x w i b) (λ k. Naming-of g (By g k) w k)
@@ -499,11 +547,12 @@ primary-asks-named (has_led z) g w i b h r e = tt
 grant-names : (g : Givens) (w : World) (b : ℕ) (c : OfficeCall) → Naming g w → Recorded g w → SetUps g w → (w.writers b).told ≡ None → AsksAs (w.writers b).known c → Naming-of g (By g (asks_writer w b c)) w (asks_writer w b c)
 grant-names g w b c h r s none a = record {
   names = λ _. record {
-    stamps = record { given = λ d t e q. given-stays g k.stamped d t e q; writer = subst (λ (z : WriterRecord). Newest (g b) z y) (sym is) granted-so.newest; answers = tt };
+    stamps = stamps;
     office = office-of;
+    closes = λ d. closes d (record_of k.office (record { 0 = d })) refl;
     sent = λ d j q e. absurd (none-some _ e);
     dials = λ j d q e z. absurd (none-some d e);
-    primary = primary-named g (By g k) w k (w.primaries 0) (record { given = λ d t e q. given-stays g k.stamped d t e q; writer = subst (λ (z : WriterRecord). Newest (g b) z y) (sym is) granted-so.newest; answers = tt }) (h.primaries 0);
+    primary = primary-named g (By g k) w k (w.primaries 0) stamps (h.primaries 0);
   };
 }
   where
@@ -531,6 +580,59 @@ grant-names g w b c h r s none a = record {
 
     granted-so : IsGranted (g b) w.office x (office_after w.office c) y
     granted-so = granted-by (g b) (w.latest b) w.office c x a held low
+
+    at-block : (block_in c).0 ≡ b
+    at-block = ap (λ (q : BlockId). q.0) (asks-block x c a ∙ block)
+
+    begins : IfSome k.stamped (λ z. z.session ≡ z.stamp → (t e : ℕ) → g b t ≡ Some e → (t ≤ y.committed.0) × IfSome (record_of k.office x.block) (λ z. t ≤ z.committed.0))
+    begins = opens-by w (g b) (w.latest b) c x a held (r.below b) (ap (λ (q : BlockId). w.latest q.0) (sym block))
+
+    opened : (z : Stamped) → z.block ≡ (block_in c).0 → ((t e : ℕ) → g b t ≡ Some e → (t ≤ y.committed.0) × IfSome (record_of k.office x.block) (λ z. t ≤ z.committed.0)) → Opens g w k z.block
+    opened z e f = subst (λ (d : ℕ). Opens g w k d) (sym (e ∙ at-block)) (record {
+      known = λ t v q. subst (λ (u : Writing). t ≤ (heard u).committed.0) (sym (put-here w.writers b k.writer)) (f t v q).0;
+      office = λ t v q. subst (λ (q : BlockId). IfSome (record_of k.office q) (λ z. t ≤ z.committed.0)) block (f t v q).1;
+    })
+
+    both : (o : Option Stamped) → IfSome o (λ z. (z.stamp ≡ w.office.next.0) × (z.block ≡ (block_in c).0) × (z.stamp < k.office.next.0)) → IfSome o (λ z. z.session ≡ z.stamp → (t e : ℕ) → g b t ≡ Some e → (t ≤ y.committed.0) × IfSome (record_of k.office x.block) (λ z. t ≤ z.committed.0))
+        → IfSome o (λ z. z.stamp ≡ z.session → (g z.block z.stamp ≡ Some z.session) ⊎ Opens g w k z.block)
+    both None u v = tt
+    both (Some z) u v = λ e. inr (opened z u.1 (v (sym e)))
+
+    stamps : Stamps g (By g k) w k
+    stamps =
+        let x = office-extends g w c r in
+        record {
+          same = x.given;
+          back = λ d t u s e q j le. x.old d d t u s e q j le;
+          only = given-each (λ (d t s : ℕ). (g d t ≡ Some s) ⊎ (t ≡ w.office.next.0)) g k.stamped (some-weaker _ (λ z. (g z.block z.stamp ≡ Some z.session) ⊎ (z.stamp ≡ w.office.next.0)) k.stamped (λ z v. inr v.0) (gives w c).fresh) (λ d t s q. inl q);
+          opens = λ d e q. given-each (λ (v t s : ℕ). t ≡ s → (g v t ≡ Some s) ⊎ Opens g w k v) g k.stamped (both k.stamped (gives w c).fresh begins) (λ v t s j _. inl j) d e e q refl;
+          given = λ d t e q. given-stays g k.stamped d t e q;
+          writer = subst (λ (z : WriterRecord). Newest (g b) z y) (sym is) granted-so.newest;
+          answers = tt;
+        }
+
+    -- the last stamp before a session isn't above the committed one, which doesn't fall
+    closes : (d : ℕ) (o : Option BlockRecord) → record_of k.office (record { 0 = d }) ≡ o → IfSome o (λ z. IsPast (By g k d) z.committed.0)
+    closes d None e = tt
+    closes d (Some z) e = from (record_of w.office (record { 0 = d })) refl
+      where
+        grown : (v : BlockRecord) → record_of w.office (record { 0 = d }) ≡ Some v → (t : Bool) → (d == b) ≡ t → v.committed.0 ≤ z.committed.0
+        grown v f true q =
+            let own : (o : OfficeState) (j : BlockRecord) → record_of o (record { 0 = d }) ≡ Some j → record_of o x.block ≡ Some j = λ o j u. ap (λ (i : BlockId). record_of o i) (block ∙ ap (λ (n : ℕ). record { 0 = n }) (sym (eqb-true d b q))) ∙ u in
+            subst (λ (u : Option BlockRecord). IfSome u (λ i. v.committed.0 ≤ i.committed.0)) (own k.office z e) (subst (λ (u : Option BlockRecord). IfSome u (λ i. IfSome (record_of k.office x.block) (λ j. i.committed.0 ≤ j.committed.0))) (own w.office v f) granted-so.before)
+        grown v f false q =
+            let apart = eqb-false d b q in
+            let other : is_at (block_order (record { 0 = d })) (block_in c) ≡ false = other-block (block_in c) (record { 0 = d }) (λ u. apart (u ∙ at-block)) in
+            omega (arith, ap (λ (j : BlockRecord). j.committed.0) (same_Some v z (sym f ∙ sym (keeps-other w.office c (record { 0 = d }) other) ∙ e)))
+
+        from : (o : Option BlockRecord) → record_of w.office (record { 0 = d }) ≡ o → IsPast (By g k d) z.committed.0
+        from (Some v) f = past-after g (By g k) w k d v.committed.0 z.committed.0 stamps (subst (λ (o : Option BlockRecord). IfSome o (λ j. IsPast (g d) j.committed.0)) f (h.closes d)) (λ n s q le. omega (arith, le, grown v f (d == b) refl))
+            (λ u t s q. subst (λ (o : Option BlockRecord). IfSome o (λ j. t ≤ j.committed.0)) e (u.office t s q))
+        from None f = past-after g (By g k) w k d 0 z.committed.0 stamps (record { each = λ n e j q. absurd (none-some e (sym (gone.1 e) ∙ j)) }) (λ n s q le. absurd (none-some s (sym (gone.1 n) ∙ q)))
+            (λ u t s q. subst (λ (o : Option BlockRecord). IfSome o (λ j. t ≤ j.committed.0)) e (u.office t s q))
+          where
+            gone : HeldOf (g d) (w.latest d) None (heard (w.writers d))
+            gone = subst (λ (o : Option BlockRecord). HeldOf (g d) (w.latest d) o (heard (w.writers d))) f (r.blocks d)
 
     -- a length that was answered before the block was known is of no stamp
     unknown : (a : Answered) → Has w.answered a → a.block ≡ b → record_of w.office (record { 0 = b }) ≡ None → a.stamp ≡ 0
@@ -595,6 +697,7 @@ like-named g w v b named id p q h = record {
   given = h.given;
   known = subst (λ (f : ℕ → Writing). (heard (f b)).committed.0 < id.0 → (heard (f b)).committed.0 ≤ named.0) (sym q) h.known;
   answered = subst (λ (x : Past). (a : Answered) → Has x.answered a → a.block ≡ b → a.stamp < id.0 → a.stamp ≤ named.0) (sym p) h.answered;
+  past = h.past;
 }
 
 like-told : (g : Givens) (w v : World) (b : BlockId) (t : Told) → v.past ≡ w.past → v.writers ≡ w.writers → ToldNamed g w b t → ToldNamed g v b t
@@ -616,6 +719,8 @@ like-naming g w v p o q r h = record {
     known = subst (λ (f : ℕ → Writing). (heard (f b)).committed.0 ≤ k.committed.0) (sym q) x.known;
     answered = subst (λ (y : Past). (a : Answered) → Has y.answered a → a.block ≡ b → a.stamp ≤ k.committed.0) (sym p) x.answered;
   }) (h.behind b));
+  closes = λ b. subst (λ (z : OfficeState). IfSome (record_of z (record { 0 = b })) (λ k. IsPast (g b) k.committed.0)) (sym o) (h.closes b);
+  knows = λ b. subst (λ (f : ℕ → Writing). IsPast (g b) (heard (f b)).committed.0) (sym q) (h.knows b);
   asked = λ c i m e. like-named g w v m.block.block.0 m.block.stamp m.recovery p q (h.asked c i m (subst (λ (y : Past). slice_get (y.downs c) i ≡ Some (request (op.Recovery m))) p e));
   primaries = λ i. subst (λ (f : ℕ → Primary). PrimaryNamed g v (f i)) (sym r) (like-primary g w v (w.primaries i) p q (h.primaries i));
 }
@@ -751,7 +856,7 @@ outcome-carried : (g : Givens) (w : World) (e : Event) (o : Option World) → Ca
 outcome-carried g w e None c = tt
 outcome-carried g w e (Some v) k = record { downs = k.downs; ups = k.ups; replicas = k.replicas; breaks = k.breaks; lowers = k.lowers; writers = k.writers; entries = k.entries; primaries = k.primaries; led = k.led }
 
-happens-naming : (g : Givens) (w : World) (e : Event) → Facts g w → SetUps g w → Carried (given_by g w e) (happens w e) → Naming g w → Naming (given_by g w e) (happens w e)
+pub happens-naming : (g : Givens) (w : World) (e : Event) → Facts g w → SetUps g w → Carried (given_by g w e) (happens w e) → Naming g w → Naming (given_by g w e) (happens w e)
 unfolding happens
 happens-naming g w e f j c h = after-naming g w e (outcome w e) refl h (outcome-naming g w e f j h (outcome-carried (given_by g w e) w e (outcome w e) c))
 
@@ -764,9 +869,9 @@ run-naming g w (e ∷ events) r i c s h =
     let v = happens-carried g w e f a in
     run-naming (given_by g w e) (happens w e) events (reached-next w e r) j v (happens-set g w e f a j.one s) (happens-naming g w e f s v h)
 
-start-naming : (nodes : ℕ) → Naming none_given (start nodes)
+pub start-naming : (nodes : ℕ) → Naming none_given (start nodes)
 unfolding start
-start-naming nodes = record { behind = λ b. tt; asked = λ c i q e. absurd (none-some _ e); primaries = λ i. tt }
+start-naming nodes = record { closes = λ b. tt; knows = λ b. record { each = λ c e x q. absurd (none-some e x) }; behind = λ b. tt; asked = λ c i q e. absurd (none-some _ e); primaries = λ i. tt }
 
 pub all-naming : AllNaming
 all-naming nodes events = run-naming none_given (start nodes) events (at-start nodes) (start-recorded nodes) (start-carried nodes) (start-set nodes) (start-naming nodes)

@@ -1,5 +1,5 @@
 -- Recoveries fit after every list of events.
-use Rattle.std.proofs.Common.{◌≡◌, ℕ, ◌<◌, ◌≤◌, ◌+◌, Bool, true, false, List, [], ◌∷◌, Option, Some, None, IfSome, refl, sym, ap, subst, arith, eqb-true}
+use Rattle.std.proofs.Common.{◌≡◌, ℕ, ◌<◌, ◌≤◌, ◌+◌, inl, Bool, true, false, List, [], ◌∷◌, Option, Some, None, IfSome, refl, sym, ap, subst, arith, eqb-true}
 use Rattle.std.specs.Prelude.{◌==◌, ◌&&◌, not, nat_lt, if◌then◌else◌}
 use Rattle.std.proofs.lemmas.Bool.Decides.{nat_tests}
 use Rattle.std.proofs.lemmas.Option.{none-some}
@@ -16,8 +16,8 @@ use Rattle.world.specs.declared.events.Event.TheVariants as event
 use Rattle.world.specs.declared.events.FoundReplica.{FoundReplica}
 use Rattle.world.specs.declared.events.OwnStep.{OwnStep}
 use Rattle.world.specs.declared.events.OwnStep.TheVariants as own
-use Rattle.world.specs.Parts.{Upper, by_writer, by_member, by_reader, by_primary}
-use Rattle.world.specs.Worlds.{World, Change, Stamped, apply, start}
+use Rattle.world.specs.Parts.{Place, Updated, Upper, by_writer, by_member, by_reader, by_primary}
+use Rattle.world.specs.Worlds.{Past, World, Change, Stamped, apply, start}
 use Rattle.world.specs.Connections.{Next, message, the_end, next_down, next_up, down_taken, up_taken, is_alive, is_served}
 use Rattle.world.specs.Nodes.{node_of, lower_down, lower_ready}
 use Rattle.world.specs.Clients.{own_writer, own_reader, writer_up, reader_up}
@@ -33,10 +33,12 @@ use Rattle.world_laws.proofs.ByteLeaves.{Facts}
 use Rattle.world_laws.proofs.ByteEnds.{lower-ready-keeps}
 use Rattle.world_laws.proofs.ByteOffices.{office-event-keeps}
 use Rattle.world_laws.proofs.AllCarried.{next-sent, down-taken-facts, up-taken-facts, changed-carried, down-as-carried, up-as-carried, own-keeps, office-carried, happens-carried, reached-facts, at-start, start-carried}
-use Rattle.world_laws.specs.Joining.{IsSetUp}
+use Rattle.world.specs.Safe.{Has}
+use Rattle.world_laws.specs.Joining.{AtLeast, IsSetUp}
 use Rattle.world_laws.proofs.AllSetUp.{served-life, given-stays, all-set}
 use Rattle.world_recoveries.specs.Recovering.{ReplicaTold, Informs, InfoFits, StillTrue, Recovering}
-use Rattle.world_recoveries.proofs.Frame.{keeps}
+use Rattle.world_recoveries.specs.Telling.{TellsFrom}
+use Rattle.world_recoveries.proofs.Frame.{keeps, keeps-tells}
 use Rattle.world_recoveries.proofs.Leading.{SentUp}
 use Rattle.world_recoveries.proofs.Quiet.{Quiet, Brings, quiet-news, quiet-brings}
 use Rattle.world_recoveries.proofs.Clients.{own-writer-quiet, writer-up-quiet, writer-asks-quiet, own-reader-quiet, reader-up-quiet}
@@ -44,14 +46,32 @@ use Rattle.world_recoveries.proofs.Lowers.{SentDown, lower-down-brings, lower-re
 use Rattle.world_recoveries.proofs.Steps.{own-recover-brings, own-primary-brings, primary-up-brings, primary-asks-brings}
 
 -- RBW replicas were set up in the life of their nodes
-abbrev Writes : World → Type 0
+abbrev pub Writes : World → Type 0
 Writes w = (n b : ℕ) → IsSetUp w.joined (w.lives n) (w.running n) n (w.replicas n b)
 
 -- CHANGES
 
-changed-fits : (g l : Givens) (w : World) (o : Option Change) → Carried g w → Recovering l w → IfSome (changed w o) (Carried l) → IfSome o (Brings l w) → IfSome (changed w o) (Recovering l)
+-- what a world is that comes after another
+pub record Coming (g : Givens) (w v : World) : Type 0 where
+  pub recovering : Recovering g v
+  pub tells : TellsFrom w v
+
+-- nothing is told anew
+same-tells : (w v : World) → v.past ≡ w.past → TellsFrom w v
+same-tells w v e = record { each = λ c b id i x. inl (subst (λ (p : Past). Informs p c b id i) e x) }
+
+changed-fits : (g l : Givens) (w : World) (o : Option Change) → Carried g w → Recovering l w → IfSome (changed w o) (Carried l) → IfSome o (Brings l w) → IfSome (changed w o) (Coming l w)
 changed-fits g l w None a h c n = tt
-changed-fits g l w (Some k) a h c n = keeps g l w k a h (n.news c)
+changed-fits g l w (Some k) a h c n = record { recovering = keeps g l w k a h (n.news c); tells = keeps-tells g l w k a (n.news c) }
+
+-- the same of what came before marks moved on
+down-coming : (g : Givens) (w : World) (c : ℕ) (x : Next) (o : Option World) → IfSome o (Coming g (down_taken w c x)) → IfSome o (Coming g w)
+unfolding down_taken
+down-coming g w c x o h = some-weaker (Coming g (down_taken w c x)) (Coming g w) o (λ u k. record { recovering = k.recovering; tells = record { each = k.tells.each } }) h
+
+up-coming : (g : Givens) (w : World) (c : ℕ) (x : Next) (o : Option World) → IfSome o (Coming g (up_taken w c x)) → IfSome o (Coming g w)
+unfolding up_taken
+up-coming g w c x o h = some-weaker (Coming g (up_taken w c x)) (Coming g w) o (λ u k. record { recovering = k.recovering; tells = record { each = k.tells.each } }) h
 
 unless-brings : (g : Givens) (w : World) (fails : Bool) (o : Option Change) → IfSome o (Brings g w) → IfSome (unless_fails fails o) (Brings g w)
 unless-brings g w true o n = tt
@@ -61,11 +81,11 @@ unless-brings g w false o n = n
 
 pub down-taken-fits : (g : Givens) (w : World) (c : ℕ) (x : Next) → Recovering g w → Recovering g (down_taken w c x)
 unfolding down_taken
-down-taken-fits g w c x h = record { lives = h.lives; asks = h.asks; told = h.told; still = h.still; updates = h.updates; updated = h.updated; one_length = h.one_length; primaries = h.primaries; sends = h.sends; one_primary = h.one_primary; placed = h.placed }
+down-taken-fits g w c x h = record { lives = h.lives; asks = h.asks; told = h.told; still = h.still; updates = h.updates; updated = h.updated; settled = h.settled; earlier = h.earlier; one_length = h.one_length; primaries = h.primaries; sends = h.sends; one_primary = h.one_primary; placed = h.placed }
 
-up-taken-fits : (g : Givens) (w : World) (c : ℕ) (x : Next) → Recovering g w → Recovering g (up_taken w c x)
+pub up-taken-fits : (g : Givens) (w : World) (c : ℕ) (x : Next) → Recovering g w → Recovering g (up_taken w c x)
 unfolding up_taken
-up-taken-fits g w c x h = record { lives = h.lives; asks = h.asks; told = h.told; still = h.still; updates = h.updates; updated = h.updated; one_length = h.one_length; primaries = h.primaries; sends = h.sends; one_primary = h.one_primary; placed = h.placed }
+up-taken-fits g w c x h = record { lives = h.lives; asks = h.asks; told = h.told; still = h.still; updates = h.updates; updated = h.updated; settled = h.settled; earlier = h.earlier; one_length = h.one_length; primaries = h.primaries; sends = h.sends; one_primary = h.one_primary; placed = h.placed }
 
 below-of : (w : World) (c : ℕ) → is_served w c ≡ true → c < w.next_conn
 below-of w c e = lt-true c w.next_conn (and-left (nat_lt c w.next_conn) (is_alive w (w.dialled c).to) e)
@@ -84,22 +104,22 @@ sent-up : (w : World) (c : ℕ) (x : Next) → next_up w c ≡ Some x → SentUp
 sent-up w c (message m) e = ((w.up_marks c).taken, next-sent (w.ups c) (w.up_marks c) m e)
 sent-up w c the_end e = tt
 
-down-as-fits : (g : Givens) (w : World) (c : ℕ) (answered fails : Bool) (o : Option Next) → Facts g w → Recovering g w → Writes w → is_served w c ≡ true → next_down w c ≡ o → IfSome (down_as w c answered fails o) (Recovering g)
+down-as-fits : (g : Givens) (w : World) (c : ℕ) (answered fails : Bool) (o : Option Next) → Facts g w → Recovering g w → Writes w → is_served w c ≡ true → next_down w c ≡ o → IfSome (down_as w c answered fails o) (Coming g w)
 unfolding down_taken
 down-as-fits g w c answered fails None f h s alive e = tt
 down-as-fits g w c answered fails (Some x) f h s alive e =
     let v = down_taken w c x in
     let d = down-taken-facts g w c x f in
     let i = down-taken-fits g w c x h in
-    changed-fits g g v (lower_down (w.lowers c) v c x answered fails) d.carried i (down-as-carried g w c answered fails (Some x) f e)
-    (lower-down-brings (w.lowers c) g v c x answered fails (record { facts = d; recovering = i; writes = s; known = below-of w c alive; runs = runs-of w c alive; life = served-life w c alive }) (f.carried.lowers c) (sent-down w c x e))
+    down-coming g w c x _ (changed-fits g g v (lower_down (w.lowers c) v c x answered fails) d.carried i (down-as-carried g w c answered fails (Some x) f e)
+    (lower-down-brings (w.lowers c) g v c x answered fails (record { facts = d; recovering = i; writes = s; known = below-of w c alive; runs = runs-of w c alive; life = served-life w c alive }) (f.carried.lowers c) (sent-down w c x e)))
 
-down-fits : (g : Givens) (w : World) (c : ℕ) (answered fails : Bool) → Facts g w → Recovering g w → Writes w → IfSome (down_event w c answered fails) (Recovering g)
-down-fits g w c answered fails f h s = when-each (Recovering g) (is_served w c) _ (λ e. down-as-fits g w c answered fails (next_down w c) f h s e refl)
+down-fits : (g : Givens) (w : World) (c : ℕ) (answered fails : Bool) → Facts g w → Recovering g w → Writes w → IfSome (down_event w c answered fails) (Coming g w)
+down-fits g w c answered fails f h s = when-each (Coming g w) (is_served w c) _ (λ e. down-as-fits g w c answered fails (next_down w c) f h s e refl)
 
-ready-fits : (g : Givens) (w : World) (c : ℕ) (fails : Bool) → Facts g w → Recovering g w → IfSome (ready_event w c fails) (Recovering g)
+ready-fits : (g : Givens) (w : World) (c : ℕ) (fails : Bool) → Facts g w → Recovering g w → IfSome (ready_event w c fails) (Coming g w)
 ready-fits g w c fails f h =
-    when-each (Recovering g) (is_served w c) _ (λ _.
+    when-each (Coming g w) (is_served w c) _ (λ _.
     let k = lower_ready (w.lowers c) w c fails in
     changed-fits g g w k f.carried h (changed-carried g w k (lower-ready-keeps (w.lowers c) g w c fails f (f.carried.lowers c))) (quiet-brings g w k f h (lower-ready-quiet (w.lowers c) w c fails (f.carried.lowers c))))
 
@@ -109,22 +129,22 @@ upper-brings (by_member d) g w c x fails f h lt e s = quiet-brings g w (upper_up
 upper-brings (by_reader i) g w c x fails f h lt e s = unless-brings g w fails (reader_up w i c x) (quiet-brings g w (reader_up w i c x) f h (reader-up-quiet w i c x))
 upper-brings (by_primary i p) g w c x fails f h lt e s = unless-brings g w fails (primary_up w i p c x) (primary-up-brings g w i p c x h lt e s)
 
-up-as-fits : (g : Givens) (w : World) (c : ℕ) (fails : Bool) (o : Option Next) → Facts g w → Recovering g w → c < w.next_conn → next_up w c ≡ o → IfSome (up_as w c fails o) (Recovering g)
+up-as-fits : (g : Givens) (w : World) (c : ℕ) (fails : Bool) (o : Option Next) → Facts g w → Recovering g w → c < w.next_conn → next_up w c ≡ o → IfSome (up_as w c fails o) (Coming g w)
 unfolding up_taken
 up-as-fits g w c fails None f h lt e = tt
 up-as-fits g w c fails (Some x) f h lt e =
     let v = up_taken w c x in
     let d = up-taken-facts g w c x f in
     let i = up-taken-fits g w c x h in
-    changed-fits g g v (upper_up (w.dialled c).upper v c x fails) d.carried i (up-as-carried g w c fails (Some x) f lt e) (upper-brings (w.dialled c).upper g v c x fails d i lt refl (sent-up w c x e))
+    up-coming g w c x _ (changed-fits g g v (upper_up (w.dialled c).upper v c x fails) d.carried i (up-as-carried g w c fails (Some x) f lt e) (upper-brings (w.dialled c).upper g v c x fails d i lt refl (sent-up w c x e)))
 
-up-fits : (g : Givens) (w : World) (c : ℕ) (fails : Bool) → Facts g w → Recovering g w → IfSome (up_event w c fails) (Recovering g)
-up-fits g w c fails f h = when-each (Recovering g) (nat_lt c w.next_conn) _ (λ e. up-as-fits g w c fails (next_up w c) f h (lt-true c w.next_conn e) refl)
+up-fits : (g : Givens) (w : World) (c : ℕ) (fails : Bool) → Facts g w → Recovering g w → IfSome (up_event w c fails) (Coming g w)
+up-fits g w c fails f h = when-each (Coming g w) (nat_lt c w.next_conn) _ (λ e. up-as-fits g w c fails (next_up w c) f h (lt-true c w.next_conn e) refl)
   where
     lt-true : (a b : ℕ) → nat_lt a b ≡ true → a < b
     lt-true a b e = grind (arith, nat_tests, e)
 
-fault-fits : (g : Givens) (w : World) (d : Delivery) → Facts g w → Recovering g w → Writes w → IfSome (fault_event w d) (Recovering g)
+fault-fits : (g : Givens) (w : World) (d : Delivery) → Facts g w → Recovering g w → Writes w → IfSome (fault_event w d) (Coming g w)
 fault-fits g w (delivery.Down c) f h s = down-fits g w c.0 false true f h s
 fault-fits g w (delivery.Ready c) f h s = ready-fits g w c.0 true f h
 fault-fits g w (delivery.Up c) f h s = up-fits g w c.0 true f h
@@ -151,6 +171,8 @@ later-fits g s w h = record {
   still = h.still;
   updates = h.updates;
   updated = h.updated;
+  settled = h.settled;
+  earlier = h.earlier;
   one_length = h.one_length;
   primaries = h.primaries;
   sends = h.sends;
@@ -166,7 +188,7 @@ office-brings g l w (caller.Writer b) f h = asks-brings g l w (writer_asks_offic
 office-brings g l w (caller.Primary i b) f h = primary-asks-brings (w.primaries i) g l w i b f h refl
 
 office-fits : (g : Givens) (w : World) (c : Caller) → Facts g w → Recovering g w → IfSome (changed w (office_event w c)) (Carried (given_with g (stamped_in (office_event w c))))
-    → IfSome (changed w (office_event w c)) (Recovering (given_with g (stamped_in (office_event w c))))
+    → IfSome (changed w (office_event w c)) (Coming (given_with g (stamped_in (office_event w c))) w)
 office-fits g w c f h a =
     let l = given_with g (stamped_in (office_event w c)) in
     let i = later-fits g (stamped_in (office_event w c)) w h in
@@ -183,6 +205,8 @@ restart-fits g w n list h = record {
   still = λ c b id i x. at-still c b id i x ((w.dialled c).to.node == n) refl;
   updates = h.updates;
   updated = h.updated;
+  settled = λ u x life. at-settled u x (u.node == n) refl life;
+  earlier = h.earlier;
   one_length = h.one_length;
   primaries = h.primaries;
   sends = h.sends;
@@ -197,6 +221,14 @@ restart-fits g w n list h = record {
     New : ℕ → FullReplica
     New b = restarted b (w.replicas n b) (w.breaks n b) (found_in list b)
 
+    -- no update was of a later life
+    born : (u : Updated) → Has w.updated u → u.life ≤ w.lives u.node
+    born u x = let s = h.updated u x in subst (λ (p : Place). p.life ≤ w.lives p.node) s.to (h.lives s.conn s.known)
+
+    at-settled : (u : Updated) → Has w.updated u → (t : Bool) → (u.node == n) ≡ t → u.life ≡ (if t then w.lives n + 1 else w.lives u.node) → AtLeast ((if t then New else w.replicas u.node) u.block).known.info u.recovery
+    at-settled u x true e life = absurd (omega (arith, life, born u x, ap w.lives (eqb-true u.node n e)))
+    at-settled u x false e life = h.settled u x life
+
     at-still : (c b : ℕ) (id : Stamp) (i : ReplicaTold) → Informs w.past c b id i → (t : Bool) → ((w.dialled c).to.node == n) ≡ t → (w.dialled c).to.life ≡ (if t then w.lives n + 1 else w.lives (w.dialled c).to.node)
         → StillTrue id i ((if t then New else w.replicas (w.dialled c).to.node) b).known.info
     at-still c b id i x true e life = absurd (omega (arith, life, h.lives c (h.told c b id i x).known, ap w.lives (eqb-true (w.dialled c).to.node n e)))
@@ -204,29 +236,37 @@ restart-fits g w n list h = record {
 
 -- ALL EVENTS
 
-where-fits : (g : Givens) (test : Bool) (v : World) → Recovering g v → IfSome (where_so test v) (Recovering g)
-where-fits g true v h = h
-where-fits g false v h = tt
+where-fits : (g : Givens) (w : World) (test : Bool) (v : World) → v.past ≡ w.past → Recovering g v → IfSome (where_so test v) (Coming g w)
+where-fits g w true v e h = record { recovering = h; tells = same-tells w v e }
+where-fits g w false v e h = tt
 
 stop-fits : (g : Givens) (w : World) (n : ℕ) → Recovering g w → Recovering g (stop w n)
-stop-fits g w n h = record { lives = h.lives; asks = h.asks; told = h.told; still = h.still; updates = h.updates; updated = h.updated; one_length = h.one_length; primaries = h.primaries; sends = h.sends; one_primary = h.one_primary; placed = h.placed }
+stop-fits g w n h = record { lives = h.lives; asks = h.asks; told = h.told; still = h.still; updates = h.updates; updated = h.updated; settled = h.settled; earlier = h.earlier; one_length = h.one_length; primaries = h.primaries; sends = h.sends; one_primary = h.one_primary; placed = h.placed }
 
 lost-fits : (g : Givens) (w : World) (c : ℕ) (way : Direction) (more : ℕ) → Recovering g w → Recovering g (lost w c way more)
-lost-fits g w c direction.Down more h = record { lives = h.lives; asks = h.asks; told = h.told; still = h.still; updates = h.updates; updated = h.updated; one_length = h.one_length; primaries = h.primaries; sends = h.sends; one_primary = h.one_primary; placed = h.placed }
-lost-fits g w c direction.Up more h = record { lives = h.lives; asks = h.asks; told = h.told; still = h.still; updates = h.updates; updated = h.updated; one_length = h.one_length; primaries = h.primaries; sends = h.sends; one_primary = h.one_primary; placed = h.placed }
+lost-fits g w c direction.Down more h = record { lives = h.lives; asks = h.asks; told = h.told; still = h.still; updates = h.updates; updated = h.updated; settled = h.settled; earlier = h.earlier; one_length = h.one_length; primaries = h.primaries; sends = h.sends; one_primary = h.one_primary; placed = h.placed }
+lost-fits g w c direction.Up more h = record { lives = h.lives; asks = h.asks; told = h.told; still = h.still; updates = h.updates; updated = h.updated; settled = h.settled; earlier = h.earlier; one_length = h.one_length; primaries = h.primaries; sends = h.sends; one_primary = h.one_primary; placed = h.placed }
 
-outcome-fits : (g : Givens) (w : World) (e : Event) → Facts g w → Agreed w → Recovering g w → Writes w → IfSome (outcome w e) (Recovering (given_by g w e))
+lost-past : (w : World) (c : ℕ) (way : Direction) (more : ℕ) → (lost w c way more).past ≡ w.past
+lost-past w c direction.Down more = refl
+lost-past w c direction.Up more = refl
+
+restart-past : (w : World) (n : ℕ) (list : List FoundReplica) → (restart w n list).past ≡ w.past
+unfolding restart
+restart-past w n list = refl
+
+outcome-fits : (g : Givens) (w : World) (e : Event) → Facts g w → Agreed w → Recovering g w → Writes w → IfSome (outcome w e) (Coming (given_by g w e) w)
 unfolding outcome
 outcome-fits g w (event.Own s) f a h j = changed-fits g g w (own_change w s) f.carried h (changed-carried g w (own_change w s) (own-keeps g w s f)) (own-brings g w s f h)
 outcome-fits g w (event.Office c) f a h j = office-fits g w c f h (office-carried g w (office_event w c) (office-event-keeps g w c f a))
 outcome-fits g w (event.Down c answered) f a h j = down-fits g w c.0 answered false f h j
 outcome-fits g w (event.Ready c) f a h j = ready-fits g w c.0 false f h
 outcome-fits g w (event.Up c) f a h j = up-fits g w c.0 false f h
-outcome-fits g w (event.Lost c way more) f a h j = where-fits g (nat_lt c.0 w.next_conn) (lost w c.0 way more) (lost-fits g w c.0 way more h)
+outcome-fits g w (event.Lost c way more) f a h j = where-fits g w (nat_lt c.0 w.next_conn) (lost w c.0 way more) (lost-past w c.0 way more) (lost-fits g w c.0 way more h)
 outcome-fits g w (event.Fault d) f a h j = fault-fits g w d f h j
-outcome-fits g w (event.Stop n) f a h j = where-fits g (w.running n.0) (stop w n.0) (stop-fits g w n.0 h)
+outcome-fits g w (event.Stop n) f a h j = where-fits g w (w.running n.0) (stop w n.0) refl (stop-fits g w n.0 h)
 outcome-fits g w (event.Restart n list) f a h j =
-    where-fits g (nat_lt n.0 w.nodes && not (w.running n.0) && all_found w n.0 list) (restart w n.0 list) (restart-fits g w n.0 list h)
+    where-fits g w (nat_lt n.0 w.nodes && not (w.running n.0) && all_found w n.0 list) (restart w n.0 list) (restart-past w n.0 list) (restart-fits g w n.0 list h)
 
 -- an event that isn't enabled gives no stamp
 idle-office : (g : Givens) (w : World) (o : Option Change) → changed w o ≡ None → Recovering g w → Recovering (given_with g (stamped_in o)) w
@@ -245,11 +285,25 @@ idle-fits g w (event.Fault d) i h = h
 idle-fits g w (event.Stop n) i h = h
 idle-fits g w (event.Restart n list) i h = h
 
-after-fits : (g : Givens) (w : World) (e : Event) (o : Option World) → outcome w e ≡ o → Recovering g w → IfSome o (Recovering (given_by g w e)) → Recovering (given_by g w e) (after_event w e o)
-after-fits g w e None i h k = idle-fits g w e i h
-after-fits g w e (Some v) i h k = record { lives = k.lives; asks = k.asks; told = k.told; still = k.still; updates = k.updates; updated = k.updated; one_length = k.one_length; primaries = k.primaries; sends = k.sends; one_primary = k.one_primary; placed = k.placed }
+last-fits : (g : Givens) (v : World) (e : Event) → Recovering g v → Recovering g (record v { last = Some e })
+last-fits g v e k = record { lives = k.lives; asks = k.asks; told = k.told; still = k.still; updates = k.updates; updated = k.updated; settled = k.settled; earlier = k.earlier; one_length = k.one_length; primaries = k.primaries; sends = k.sends; one_primary = k.one_primary; placed = k.placed }
 
-pub happens-fits : (g : Givens) (w : World) (e : Event) → Facts g w → Agreed w → Recovering g w → Writes w → Recovering (given_by g w e) (happens w e)
+back-fits : (g : Givens) (w v : World) (e : Event) → Coming g w (record v { last = Some e }) → Coming g w v
+back-fits g w v e c = let k = c.recovering in record {
+  recovering = record { lives = k.lives; asks = k.asks; told = k.told; still = k.still; updates = k.updates; updated = k.updated; settled = k.settled; earlier = k.earlier; one_length = k.one_length; primaries = k.primaries; sends = k.sends; one_primary = k.one_primary; placed = k.placed };
+  tells = record { each = c.tells.each };
+}
+
+-- what is known of the world after an event is known of its outcome
+pub outcome-coming : (g : Givens) (w : World) (e : Event) (o : Option World) → Coming g w (after_event w e o) → IfSome o (Coming g w)
+outcome-coming g w e None c = tt
+outcome-coming g w e (Some v) c = back-fits g w v e c
+
+after-fits : (g : Givens) (w : World) (e : Event) (o : Option World) → outcome w e ≡ o → Recovering g w → IfSome o (Coming (given_by g w e) w) → Coming (given_by g w e) w (after_event w e o)
+after-fits g w e None i h k = record { recovering = idle-fits g w e i h; tells = same-tells w w refl }
+after-fits g w e (Some v) i h k = record { recovering = last-fits (given_by g w e) v e k.recovering; tells = record { each = k.tells.each } }
+
+pub happens-fits : (g : Givens) (w : World) (e : Event) → Facts g w → Agreed w → Recovering g w → Writes w → Coming (given_by g w e) w (happens w e)
 unfolding happens
 happens-fits g w e f a h j = after-fits g w e (outcome w e) refl h (outcome-fits g w e f a h j)
 
@@ -261,7 +315,7 @@ run-fits g w [] r i c h = h
 run-fits g w (e ∷ events) r i c h =
     let a = reached-agreed w r in
     let f = reached-facts g w r i c in
-    run-fits (given_by g w e) (happens w e) events (reached-next w e r) (happens-recorded g w e i a) (happens-carried g w e f a) (happens-fits g w e f a h (reached-writes w r))
+    run-fits (given_by g w e) (happens w e) events (reached-next w e r) (happens-recorded g w e i a) (happens-carried g w e f a) (happens-fits g w e f a h (reached-writes w r)).recovering
 
 pub start-fits : (nodes : ℕ) → Recovering none_given (start nodes)
 unfolding start
@@ -276,6 +330,8 @@ start-fits nodes = record {
   sends = λ i. tt;
   one_primary = λ i j id a b. absurd a;
   updated = λ u x. absurd (none-some u x.there);
+  settled = λ u x life. absurd (none-some u x.there);
+  earlier = λ c b id i x. absurd (none-some _ x.there);
   placed = λ c i place lt u. absurd (omega (arith, lt));
 }
 

@@ -1,24 +1,28 @@
 -- What a change leaves of what is known of recoveries, and what is needed of what is new in it.
-use Rattle.std.proofs.Common.{◌≡◌, ◌++◌, ℕ, ◌<◌, ◌≤◌, ◌+◌, ◌-◌, ◌⊎◌, inl, inr, false, length, slice_get, Option, Some, None, IfSome, refl, sym, ◌∙◌, ap, subst, arith, eqb-true}
+use Rattle.std.proofs.Common.{◌≡◌, ◌++◌, ℕ, ◌<◌, ◌≤◌, ◌+◌, ◌-◌, ◌⊎◌, inl, inr, false, List, [], length, slice_get, Option, Some, None, IfSome, refl, sym, ◌∙◌, ap, subst, arith, eqb-true}
 use Rattle.std.specs.Prelude.{◌==◌, option_map, unwrap_or}
 use Rattle.std.proofs.lemmas.Bool.{eqb-false}
+use Rattle.std.proofs.lemmas.Option.{none-some, same_Some}
 use Rattle.hd_base.specs.declared.numbers.Stamp.{Stamp}
 use Rattle.op_headers.specs.declared.answers.RecoveryAnswer.{RecoveryAnswer}
 use Rattle.op_headers.specs.declared.ops.Op.TheVariants as op
 use Rattle.op_headers.specs.declared.ops.RecoveryOp.{RecoveryOp}
 use Rattle.op_headers.specs.declared.ops.RecoveryKind.TheVariants as kind
 use Rattle.replica_model.specs.Rows.{FullReplica}
-use Rattle.world.specs.Parts.{request, recovery_answer, by_primary, Dialled, Primary, Updated}
+use Rattle.replica_core.specs.declared.info.ReplicaInfo.{ReplicaInfo}
+use Rattle.world.specs.Parts.{request, recovery_answer, by_primary, Place, Dialled, Primary, Updated}
 use Rattle.world.specs.Worlds.{Past, World, Dial, Change, put, put_at, dial_at, dialled_with, past_after, apply}
 use Rattle.world_laws.proofs.FactTables.{if-each, put-each}
 use Rattle.world_laws.specs.Stamping.{Givens}
 use Rattle.world_laws.specs.Carrying.{InfoSays, Carried}
 use Rattle.world_laws.proofs.ByteFrame.{past-grows, dial-place, dial-none}
+use Rattle.world_laws.specs.Joining.{AtLeast}
 use Rattle.world_laws.proofs.SetupNodes.{put-at-split}
 use Rattle.world.specs.Safe.{Has}
-use Rattle.world_recoveries.specs.Recovering.{ReplicaTold, WasSent, Informs, Updates, Agrees, StillTrue, InfoFits, UpdateFits, NoUpdates, HasId, LeadFits, SendsFits, IsPlacedIn, Recovering}
+use Rattle.world_recoveries.specs.Recovering.{ReplicaTold, top_of, WasSent, Informs, Updates, Agrees, StillTrue, InfoFits, UpdateFits, NoUpdates, HasId, LeadFits, SendsFits, IsPlacedIn, Recovering}
+use Rattle.world_recoveries.specs.Telling.{TellsNow, TellsFrom}
 use Rattle.world_recoveries.proofs.Histories.{split-get, begins-get, first-once, agrees-later, info-later, update-later, was-sent-later, lead-later, sends-later, NewDown, was_sent, is_sent, is_dialled, new-down}
-use Rattle.world_recoveries.proofs.Holding.{Moves, still-moves}
+use Rattle.world_recoveries.proofs.Holding.{AtTop, Tops, Moves, still-moves}
 
 -- WHAT IS NEW
 
@@ -31,6 +35,19 @@ pub record NewInfo (g : Givens) (w : World) (k : Change) (c : ℕ) (i : ReplicaT
   pub block : asked.block.block.0 ≡ k.block
   pub fits : InfoFits g (past_after w k) c k.block asked.block.stamp asked.recovery i
   pub still : StillTrue asked.recovery i k.replica.known.info
+  pub now : TellsNow w.running w.lives w.replicas (w.dialled c).to k.block asked.recovery i
+  pub none : k.updated ≡ []
+
+-- a replica that is updated: that was sent, and its recovery held it
+pub record IsUpdated (w : World) (k : Change) (h : Past) (u : Updated) : Type 0 where
+  pub sent : WasSent h u
+  pub node : u.node ≡ k.node
+  pub block : u.block ≡ k.block
+  pub life : u.life ≡ w.lives k.node
+  pub was : ReplicaInfo
+  pub is : (w.replicas k.node k.block).known.info ≡ Some was
+  pub held : top_of was ≡ u.recovery
+  pub now : AtLeast k.replica.known.info u.recovery
 
 -- an UPDATE of this length that the primary sends, which has sent none before
 pub record NewUpdate (w : World) (k : Change) (length c : ℕ) (q : RecoveryOp) : Type 0 where
@@ -59,7 +76,7 @@ pub record News (g : Givens) (w : World) (k : Change) : Type 0 where
   pub sends : SendsFits (past_after w k) k.primary
   pub ids : (id : Stamp) → HasId k.primary id → HasId (w.primaries k.primary_at) id ⊎ ((j : ℕ) → HasId (w.primaries j) id → ⊥)
   pub placed : (c place : ℕ) → c < w.next_conn → (w.dialled c).upper ≡ by_primary k.primary_at place → IsPlacedIn c place k.primary
-  pub updated : (u : Updated) → Has k.updated u → WasSent (past_after w k) u
+  pub updated : (u : Updated) → Has k.updated u → IsUpdated w k (past_after w k) u
 
 -- CONNECTIONS
 
@@ -93,12 +110,14 @@ old-informs g w k c b id i x j h e =
     }
 
 -- what is told now, of the recovery that the connection is of
-record IsNews (g : Givens) (w : World) (k : Change) (c b : ℕ) (id : Stamp) (asked : RecoveryOp) (i : ReplicaTold) : Type 0 where
+pub record IsNews (g : Givens) (w : World) (k : Change) (c b : ℕ) (id : Stamp) (asked : RecoveryOp) (i : ReplicaTold) : Type 0 where
   pub known : c < w.next_conn
   pub node : (w.dialled c).to.node ≡ k.node
   pub block : b ≡ k.block
   pub fits : InfoFits g (past_after w k) c b asked.block.stamp id i
   pub still : StillTrue id i k.replica.known.info
+  pub now : TellsNow w.running w.lives w.replicas (w.dialled c).to b id i
+  pub none : k.updated ≡ []
 
 new-informs : (g : Givens) (w : World) (k : Change) (c b : ℕ) (id : Stamp) (i : ReplicaTold) (x : Informs (past_after w k) c b id i) → NewInfo g w k c i → IsNews g w k c b id x.asked i
 new-informs g w k c b id i x n =
@@ -114,9 +133,12 @@ new-informs g w k c b id i x n =
           (subst (λ (s : Stamp). InfoFits g p c k.block x.asked.block.stamp s i) is
           (subst (λ (s : Stamp). InfoFits g p c k.block s n.asked.recovery i) (ap (λ (q : RecoveryOp). q.block.stamp) same) n.fits));
       still = subst (λ (s : Stamp). StillTrue s i k.replica.known.info) is n.still;
+      now = subst (λ (y : ℕ). TellsNow w.running w.lives w.replicas (w.dialled c).to y id i) at
+          (subst (λ (s : Stamp). TellsNow w.running w.lives w.replicas (w.dialled c).to k.block s i) is n.now);
+      none = n.none;
     }
 
-informs-either : (g l : Givens) (w : World) (k : Change) (c b : ℕ) (id : Stamp) (i : ReplicaTold) → Carried g w → News l w k → (x : Informs (past_after w k) c b id i) → Informs w.past c b id i ⊎ IsNews l w k c b id x.asked i
+pub informs-either : (g l : Givens) (w : World) (k : Change) (c b : ℕ) (id : Stamp) (i : ReplicaTold) → Carried g w → News l w k → (x : Informs (past_after w k) c b id i) → Informs w.past c b id i ⊎ IsNews l w k c b id x.asked i
 informs-either g l w k c b id i h n x = go (split-get (w.ups c) (k.ups c) x.place (recovery_answer x.answer) x.there)
   where
     go : ((j : ℕ) × (slice_get (w.ups c) j ≡ Some (recovery_answer x.answer))) ⊎ ((j : ℕ) × (slice_get (k.ups c) j ≡ Some (recovery_answer x.answer))) → Informs w.past c b id i ⊎ IsNews l w k c b id x.asked i
@@ -219,7 +241,93 @@ keeps-updated g w k h n u x = go (split-get w.updated k.updated x.place u x.ther
   where
     go : ((j : ℕ) × (slice_get w.updated j ≡ Some u)) ⊎ ((j : ℕ) × (slice_get k.updated j ≡ Some u)) → WasSent (past_after w k) u
     go (inl y) = was-sent-later w.past (past_after w k) u (past-grows w k) (h.updated u (record { place = y.0; there = y.1 }))
-    go (inr y) = n.updated u (record { place = y.0; there = y.1 })
+    go (inr y) = (n.updated u (record { place = y.0; there = y.1 })).sent
+
+split-updated : (w : World) (k : Change) (u : Updated) → Has (w.updated ++ k.updated) u → Has w.updated u ⊎ Has k.updated u
+split-updated w k u x = go (split-get w.updated k.updated x.place u x.there)
+  where
+    go : ((j : ℕ) × (slice_get w.updated j ≡ Some u)) ⊎ ((j : ℕ) × (slice_get k.updated j ≡ Some u)) → Has w.updated u ⊎ Has k.updated u
+    go (inl y) = inl (record { place = y.0; there = y.1 })
+    go (inr y) = inr (record { place = y.0; there = y.1 })
+
+-- a recovery that updated a replica in this life isn't above its top
+updated-top : (g : Givens) (w : World) (u : Updated) (i : ReplicaInfo) → Recovering g w → Has w.updated u → u.life ≡ w.lives u.node → (w.replicas u.node u.block).known.info ≡ Some i → u.recovery ≤ top_of i
+updated-top g w u i h has life is =
+    let s = h.updated u has in
+    let f = h.updates s.conn u.block (record { 0 = u.recovery }) u.length s.sent in
+    let to : (w.dialled f.conn).to ≡ record { node = u.node; life = u.life } = f.to ∙ s.to in
+    let t : StillTrue (record { 0 = u.recovery }) f.told (w.replicas u.node u.block).known.info =
+    subst (λ (p : Place). StillTrue (record { 0 = u.recovery }) f.told (w.replicas p.node u.block).known.info) to
+    (h.still f.conn u.block (record { 0 = u.recovery }) f.told f.informs (subst (λ (p : Place). p.life ≡ w.lives p.node) (sym to) life)) in
+    omega (arith, t.above, ap (λ (z : ReplicaInfo). top_of z) (same_Some t.info i (sym t.is ∙ is)))
+
+-- a replica that changes is settled still
+settled-moves : (o p : Option ReplicaInfo) (n : ℕ) → Moves o p → (x : AtLeast o n) → n ≤ top_of x.info → AtLeast p n
+settled-moves o p n m x le = at x.is m.tops
+  where
+    at : o ≡ Some x.info → Tops o p → AtLeast p n
+    at e h = there (subst (λ (q : Option ReplicaInfo). Tops q p) e h)
+      where
+        there : AtTop p (top_of x.info) → AtLeast p n
+        there a = record { info = a.info; is = a.is; least = go (m.stamps x.info a.info x.is a.is) }
+          where
+            go : (x.info.stamp.0 ≤ a.info.stamp.0) ⊎ (top_of x.info ≤ a.info.stamp.0) → n ≤ a.info.stamp.0
+            go (inl z) = omega (arith, z, x.least)
+            go (inr z) = omega (arith, z, le)
+
+keeps-settled : (g : Givens) (w : World) (k : Change) → Recovering g w → News g w k → (u : Updated) → Has (w.updated ++ k.updated) u → u.life ≡ w.lives u.node → AtLeast (put_at w.replicas k.node k.block k.replica u.node u.block).known.info u.recovery
+keeps-settled g w k h n u x life = go (split-updated w k u x)
+  where
+    old : Has w.updated u → AtLeast (put_at w.replicas k.node k.block k.replica u.node u.block).known.info u.recovery
+    old q =
+        let s = h.settled u q life in
+        put-at-split (λ (v e : ℕ) (r : FullReplica). v ≡ u.node → e ≡ u.block → AtLeast r.known.info u.recovery) w.replicas k.node k.block k.replica
+        (λ a b.
+        let there : (w.replicas k.node k.block).known.info ≡ Some s.info = ap (λ (v : ℕ). (w.replicas v k.block).known.info) a ∙ ap (λ (e : ℕ). (w.replicas u.node e).known.info) b ∙ s.is in
+        settled-moves (w.replicas k.node k.block).known.info k.replica.known.info u.recovery n.moves (record { info = s.info; is = there; least = s.least }) (updated-top g w u s.info h q life s.is))
+        (λ v e apart a b. subst (λ (y : ℕ). AtLeast (w.replicas y e).known.info u.recovery) (sym a) (subst (λ (y : ℕ). AtLeast (w.replicas u.node y).known.info u.recovery) (sym b) s))
+        u.node u.block refl refl
+
+    new : IsUpdated w k (past_after w k) u → AtLeast (put_at w.replicas k.node k.block k.replica u.node u.block).known.info u.recovery
+    new z =
+        put-at-split (λ (v e : ℕ) (r : FullReplica). v ≡ u.node → e ≡ u.block → AtLeast r.known.info u.recovery) w.replicas k.node k.block k.replica
+        (λ a b. z.now) (λ v e apart a b. absurd (apart (a ∙ z.node) (b ∙ z.block))) u.node u.block refl refl
+
+    go : Has w.updated u ⊎ Has k.updated u → AtLeast (put_at w.replicas k.node k.block k.replica u.node u.block).known.info u.recovery
+    go (inl q) = old q
+    go (inr q) = new (n.updated u q)
+
+keeps-earlier : (g l : Givens) (w : World) (k : Change) → Carried g w → Recovering l w → News l w k → (c b : ℕ) (id : Stamp) (i : ReplicaTold) → Informs (past_after w k) c b id i → (u : Updated) → Has (w.updated ++ k.updated) u
+    → (dialled_with w k c).to ≡ record { node = u.node; life = u.life } → u.block ≡ b → u.recovery < id.0 → u.recovery ≤ i.1.0
+keeps-earlier g l w k a h n c b id i x u q to block below = go (informs-either g l w k c b id i a n x) (split-updated w k u q)
+  where
+    known : c < w.next_conn → (w.dialled c).to ≡ record { node = u.node; life = u.life }
+    known lt = ap (λ (d : Dialled). d.to) (sym ((past-grows w k).dialled c lt)) ∙ to
+
+    -- the recovery that updates the replica now isn't below one that was told of it
+    new : (y : Informs w.past c b id i) → IsUpdated w k (past_after w k) u → u.recovery ≤ i.1.0
+    new y z =
+        let at = known (h.told c b id i y).known in
+        let life : u.life ≡ w.lives u.node = z.life ∙ ap (λ (v : ℕ). w.lives v) (sym z.node) in
+        let s : StillTrue id i (w.replicas u.node b).known.info =
+        subst (λ (p : Place). StillTrue id i (w.replicas p.node b).known.info) at (h.still c b id i y (subst (λ (p : Place). p.life ≡ w.lives p.node) (sym at) life)) in
+        let there : (w.replicas u.node b).known.info ≡ Some z.was = ap (λ (v : ℕ). (w.replicas v b).known.info) z.node ∙ ap (λ (e : ℕ). (w.replicas k.node e).known.info) (sym block ∙ z.block) ∙ z.is in
+        absurd (omega (arith, below, s.above, z.held, ap (λ (v : ReplicaInfo). top_of v) (same_Some s.info z.was (sym s.is ∙ there))))
+
+    told : IsNews l w k c b id x.asked i → Has w.updated u → u.recovery ≤ i.1.0
+    told z y =
+        let at = known z.known in
+        let r = z.now.replica in
+        let life : u.life ≡ w.lives u.node = subst (λ (p : Place). p.life ≡ w.lives p.node) at z.now.life in
+        let s = h.settled u y life in
+        let there : (w.replicas u.node u.block).known.info ≡ Some r.info = ap (λ (p : Place). (w.replicas p.node u.block).known.info) (sym at) ∙ ap (λ (e : ℕ). (w.replicas (w.dialled c).to.node e).known.info) block ∙ r.is in
+        omega (arith, s.least, ap (λ (v : ReplicaInfo). v.stamp.0) (same_Some s.info r.info (sym s.is ∙ there)), ap (λ (v : ReplicaTold). v.1.0) r.told)
+
+    go : Informs w.past c b id i ⊎ IsNews l w k c b id x.asked i → Has w.updated u ⊎ Has k.updated u → u.recovery ≤ i.1.0
+    go (inl y) (inl z) = h.earlier c b id i y u z (known (h.told c b id i y).known) block below
+    go (inl y) (inr z) = new y (n.updated u z)
+    go (inr y) (inl z) = told y z
+    go (inr y) (inr z) = absurd (none-some u (sym (ap (λ (us : List Updated). slice_get us z.place) y.none) ∙ z.there))
 
 -- PRIMARIES
 
@@ -272,6 +380,15 @@ keeps-asks g w k h n c i q e = go (new-down w k c i (request (op.Recovery q)) e)
     go (is_sent j r) = (n.asks c j q r).agrees
     go (is_dialled j d r s t) = subst (λ (v : ℕ). Agrees (past_after w k) v q) t ((n.dials j d r).agrees q s)
 
+-- what is told anew is told of a replica as it was
+pub keeps-tells : (g l : Givens) (w : World) (k : Change) → Carried g w → News l w k → TellsFrom w (apply w k)
+unfolding apply
+keeps-tells g l w k a n = record { each = λ c b id i x. go c b id i x (informs-either g l w k c b id i a n x) }
+  where
+    go : (c b : ℕ) (id : Stamp) (i : ReplicaTold) (x : Informs (past_after w k) c b id i) → Informs w.past c b id i ⊎ IsNews l w k c b id x.asked i → Informs w.past c b id i ⊎ TellsNow w.running w.lives w.replicas (dialled_with w k c).to b id i
+    go c b id i x (inl y) = inl y
+    go c b id i x (inr z) = inr (subst (λ (d : Dialled). TellsNow w.running w.lives w.replicas d.to b id i) (sym ((past-grows w k).dialled c z.known)) z.now)
+
 pub keeps : (g l : Givens) (w : World) (k : Change) → Carried g w → Recovering l w → News l w k → Recovering l (apply w k)
 unfolding apply
 keeps g l w k a h n = record {
@@ -281,6 +398,8 @@ keeps g l w k a h n = record {
   still = keeps-still g l w k a h n;
   updates = keeps-updates l w k h n;
   updated = keeps-updated l w k h n;
+  settled = keeps-settled l w k h n;
+  earlier = keeps-earlier g l w k a h n;
   one_length = keeps-one-length l w k h n;
   primaries = put-each (λ (i : ℕ) (x : Primary). LeadFits (past_after w k) x) w.primaries k.primary_at k.primary n.primary (λ i. lead-later w.past (past_after w k) (w.primaries i) (past-grows w k) (h.primaries i));
   sends = keeps-sends l w k h n;

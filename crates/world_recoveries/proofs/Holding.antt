@@ -1,5 +1,5 @@
 -- What an event leaves of a replica that a recovery holds.
-use Rattle.std.proofs.Common.{◌≡◌, ℕ, ◌<◌, ◌≤◌, ◌||◌, Bool, true, false, slice_get, Option, Some, None, IfSome, Result, Ok, refl, sym, ◌∙◌, ap, subst, arith}
+use Rattle.std.proofs.Common.{◌≡◌, ℕ, ◌<◌, ◌≤◌, ◌||◌, ◌⊎◌, inl, inr, Bool, true, false, slice_get, Option, Some, None, IfSome, Result, Ok, refl, sym, ◌∙◌, ap, subst, arith}
 use Rattle.std.specs.Prelude.{not, is_none, negsuc, option_map}
 use Rattle.std.specs.Ordering.{int_eq}
 use Rattle.std.proofs.lemmas.Bool.{false≢true}
@@ -50,18 +50,25 @@ pub record Stays (i k : ReplicaInfo) : Type 0 where
 pub record Moves (o p : Option ReplicaInfo) : Type 0 where
   pub tops : Tops o p
   pub stays : (i k : ReplicaInfo) → o ≡ Some i → p ≡ Some k → Stays i k
+  pub stamps : (i k : ReplicaInfo) → o ≡ Some i → p ≡ Some k → (i.stamp.0 ≤ k.stamp.0) ⊎ (top_of i ≤ k.stamp.0)
 
 tops-same : (o : Option ReplicaInfo) → Tops o o
 tops-same None = tt
 tops-same (Some i) = record { info = i; is = refl; least = omega arith }
 
 pub moves-same : (o : Option ReplicaInfo) → Moves o o
-moves-same o = record { tops = tops-same o; stays = λ i k e q. subst (λ (x : ReplicaInfo). Stays i x) (same_Some i k (sym e ∙ q)) (record { held = λ id r le. (r, refl, refl, refl) }) }
+moves-same o = record {
+  tops = tops-same o;
+  stays = λ i k e q. subst (λ (x : ReplicaInfo). Stays i x) (same_Some i k (sym e ∙ q)) (record { held = λ id r le. (r, refl, refl, refl) });
+  stamps = λ i k e q. inl (omega (arith, ap (λ (x : ReplicaInfo). x.stamp.0) (same_Some i k (sym e ∙ q))));
+}
 
-moves-to : (o : Option ReplicaInfo) (i k : ReplicaInfo) → o ≡ Some i → top_of i ≤ top_of k → Stays i k → Moves o (Some k)
-moves-to o i k e le s = subst (λ (q : Option ReplicaInfo). Moves q (Some k)) (sym e) (record {
+moves-to : (o : Option ReplicaInfo) (i k : ReplicaInfo) → o ≡ Some i → top_of i ≤ top_of k → (i.stamp.0 ≤ k.stamp.0) ⊎ (top_of i ≤ k.stamp.0) → Stays i k → Moves o (Some k)
+moves-to o i k e le rise s = subst (λ (q : Option ReplicaInfo). Moves q (Some k)) (sym e) (record {
   tops = record { info = k; is = refl; least = le };
   stays = λ j x p q. subst (λ (z : ReplicaInfo). Stays j z) (same_Some k x q) (subst (λ (z : ReplicaInfo). Stays z k) (same_Some i j p) s);
+  stamps = λ j x p q. subst (λ (z : ReplicaInfo). (j.stamp.0 ≤ z.stamp.0) ⊎ (top_of j ≤ z.stamp.0)) (same_Some k x q)
+      (subst (λ (z : ReplicaInfo). (z.stamp.0 ≤ k.stamp.0) ⊎ (top_of z ≤ k.stamp.0)) (same_Some i j p) rise);
 })
 
 -- what no recovery holds
@@ -133,7 +140,7 @@ by-writer : (c : ReplicaRecord) (i : ReplicaInfo) (writer : Option ConnId) (next
 by-writer c i writer next at t r e k =
     after_step (Next c) c next (λ j. done (set_writer c j writer)) (moves-same c.info) (λ j q.
     let x = k j q in
-    subst (λ (z : ReplicaInfo). Moves c.info (Some z)) (sym x.1) (moves-to c.info i (settled_at at t r x.0) e x.2 (stays-free i (settled_at at t r x.0) refl)))
+    subst (λ (z : ReplicaInfo). Moves c.info (Some z)) (sym x.1) (moves-to c.info i (settled_at at t r x.0) e x.2 (inr x.2) (stays-free i (settled_at at t r x.0) refl)))
 
 -- from a stamp of a replica that no recovery holds
 from-stamp : (i : ReplicaInfo) (t : Stamp) → i.recovery ≡ None → i.stamp.0 ≤ t.0 → top_of i ≤ t.0
@@ -145,7 +152,7 @@ create-moves c at conn t r =
     after_check (Next c) c (is_none c.info) refusal.Exists _ (moves-same c.info) (λ none. from c.info none))
   where
     from : (o : Option ReplicaInfo) → is_none o ≡ true → Moves o (Some (settled_at at t r 0))
-    from None e = record { tops = tt; stays = λ i k q _. absurd (none-some i q) }
+    from None e = record { tops = tt; stays = λ i k q _. absurd (none-some i q); stamps = λ i k q _. absurd (none-some i q) }
     from (Some i) e = absurd (false≢true e)
 
 -- a replica that a connection writes isn't held
@@ -163,8 +170,8 @@ acknowledge-moves : (c : ReplicaRecord) (i : ReplicaInfo) (p : PendingPacket) (g
 acknowledge-moves c i p false e free = moves-same c.info
 acknowledge-moves c i p true e free =
     choice (Next c) p.last _ _
-    (λ _. moves-to c.info i (close_stream (advance_acked i p.end)) e (from-stamp i i.stamp free (omega arith)) (stays-free i (close_stream (advance_acked i p.end)) refl))
-    (λ _. moves-to c.info i (advance_acked i p.end) e (omega arith) (stays-as i (advance_acked i p.end) refl refl refl refl))
+    (λ _. moves-to c.info i (close_stream (advance_acked i p.end)) e (from-stamp i i.stamp free (omega arith)) (inl (omega arith)) (stays-free i (close_stream (advance_acked i p.end)) refl))
+    (λ _. moves-to c.info i (advance_acked i p.end) e (omega arith) (inl (omega arith)) (stays-as i (advance_acked i p.end) refl refl refl refl))
 
 packet-moves : (c : ReplicaRecord) (conn : ConnId) (q : PacketExtent) → Next c (record_after c (packet_transition c conn q))
 unfolding extent_transition
@@ -174,7 +181,7 @@ packet-moves c conn q =
     choice (λ (o : Outcome). Next c (record_after c o)) (int_eq q.seqno (negsuc 0)) _ _
     (λ _. after_step (Next c) c (heartbeat_of q) _ stay (λ e _. stay))
     (λ _. after_step (Next c) c (stream_after s q) _ stay (λ t _. after_step (Next c) c (pending_of i.sums q i.written) _ stay (λ e _.
-    moves-to c.info i (extend_written i e.end) is (omega arith) (stays-free i (extend_written i e.end) (writable-free i.recovery i.original open_))))))))
+    moves-to c.info i (extend_written i e.end) is (omega arith) (inl (omega arith)) (stays-free i (extend_written i e.end) (writable-free i.recovery i.original open_))))))))
   where
     stay : Next c c
     stay = moves-same c.info
@@ -205,7 +212,7 @@ event-moves c (event.Init named id) h =
     by-there c _ (λ i is. after_step (Next c) c (begin_recovery i named id) _ (moves-same c.info) (λ j e.
     let lt = begin-top i j named id e in
     subst (λ (y : ReplicaInfo). Moves c.info (Some y)) (sym (begin_recovery_is i j named id e))
-    (moves-to c.info i (record i { recovery = Some id }) is (omega (arith, lt)) (record { held = λ t q le. absurd (omega (arith, le, lt, ap (λ (y : Stamp). y.0) (same_Some id t q))) }))))
+    (moves-to c.info i (record i { recovery = Some id }) is (omega (arith, lt)) (inl (omega arith)) (record { held = λ t q le. absurd (omega (arith, le, lt, ap (λ (y : Stamp). y.0) (same_Some id t q))) }))))
 event-moves c (event.Update id n) h =
     by-there c _ (λ i is. by-writer c i None (end_recovery i i.recovery id n) state.Finalized id i.sums is (λ j e.
     (n, (end_recovery_is i j i.recovery id n e).0, omega (arith, top-held i.recovery i.stamp id (update-held i j i.recovery id n e)))))

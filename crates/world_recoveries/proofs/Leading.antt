@@ -43,11 +43,11 @@ use Rattle.world_laws.proofs.ByteFrame.{past-grows}
 use Rattle.world_laws.proofs.ByteLeaves.{Facts}
 use Rattle.world_laws.proofs.ByteLeading.{conn-is}
 use Rattle.world_laws.proofs.ByteAsking.{first-dial}
-use Rattle.world_recoveries.specs.Recovering.{ReplicaTold, WasSent, Informs, Updates, ToldOpen, UpdateFits, NoUpdates, ToldId, HasId, ToldAt, LeadingFits, LeadFits, PhaseSends, ToldSends, SendsFits, IsPlacedIn, Recovering}
+use Rattle.world_recoveries.specs.Recovering.{ReplicaTold, Informs, Updates, ToldOpen, UpdateFits, NoUpdates, ToldId, HasId, ToldAt, LeadingFits, LeadFits, PhaseSends, ToldSends, SendsFits, IsPlacedIn, Recovering}
 use Rattle.world_recoveries.proofs.Histories.{agrees-later, update-later, leading-later, lead-later, sends-later, NewDown, was_sent, is_sent, is_dialled, new-down}
 use Rattle.world_recoveries.proofs.Holding.{Moves, moves-same}
 use Rattle.world_recoveries.proofs.Choosing.{OpenInfo, ChosenFrom, choice-from, ToldBy, infos-told, after_chosen, Choosing, own-updates}
-use Rattle.world_recoveries.proofs.Frame.{NewInfo, NewAsk, NewDial, News}
+use Rattle.world_recoveries.proofs.Frame.{NewInfo, IsUpdated, NewAsk, NewDial, News}
 
 -- PRIMARIES AS THEY STAND
 
@@ -75,7 +75,7 @@ same-sends g w k x d s h = sends-later w.past (past_after w k) x (λ id a. recor
 
 -- a change that sends nothing down and leaves the primaries
 pub still-news : (g : Givens) (w : World) (k : Change) → Recovering g w → k.primary ≡ w.primaries k.primary_at → ((c : ℕ) → k.downs c ≡ []) → k.dials ≡ [] → Moves (w.replicas k.node k.block).known.info k.replica.known.info
-    → ((c j : ℕ) (a : RecoveryAnswer) (i : ReplicaTold) → slice_get (k.ups c) j ≡ Some (recovery_answer a) → a.info ≡ Some i → NewInfo g w k c i) → ((u : Updated) → Has k.updated u → WasSent (past_after w k) u) → News g w k
+    → ((c j : ℕ) (a : RecoveryAnswer) (i : ReplicaTold) → slice_get (k.ups c) j ≡ Some (recovery_answer a) → a.info ≡ Some i → NewInfo g w k c i) → ((u : Updated) → Has k.updated u → IsUpdated w k (past_after w k) u) → News g w k
 still-news g w k h same d s m infos sent =
     let p = past_after w k in
     record {

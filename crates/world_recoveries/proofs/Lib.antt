@@ -11,3 +11,4 @@ pub mod AllRecovering
 pub mod Laws
 pub mod AllNaming
 pub mod Naming
+pub mod Telling

@@ -1,6 +1,7 @@
 -- What lower ends tell in recoveries.
 use Rattle.std.proofs.Common.{◌≡◌, ℕ, zero, suc, ◌<◌, ◌≤◌, Bool, true, false, List, [], ◌∷◌, ◌++◌, take, slice_get, Option, Some, None, IfSome, Result, Ok, Err, IfOk, refl, sym, ◌∙◌, ap, subst, arith, eqb-true}
 use Rattle.std.specs.Prelude.{◌==◌, if◌then◌else◌}
+use Rattle.std.proofs.lemmas.Bool.Decides.{nat_tests}
 use Rattle.std.proofs.lemmas.Option.{none-some, same_Some}
 use Rattle.hd_base.specs.declared.numbers.BlockId.{BlockId}
 use Rattle.hd_base.specs.declared.numbers.ConnId.{ConnId}
@@ -23,11 +24,11 @@ use Rattle.replica_core.specs.declared.events.Event.{Event}
 use Rattle.replica_core.specs.declared.events.Event.TheVariants as event
 use Rattle.replica_core.specs.declared.info.ReplicaInfo.{ReplicaInfo}
 use Rattle.replica_core.specs.declared.records.ReplicaRecord.{ReplicaRecord}
-use Rattle.replica_core.specs.Info.{begin_recovery, end_recovery}
+use Rattle.replica_core.specs.Info.{begin_recovery, end_recovery, is_free_for}
 use Rattle.replica_core.specs.Transitions.{Outcome, Taken, record_after, transition, present, with_writer, set_writer, done}
 use Rattle.replica_core.specs.Transitions as core
 use Rattle.replica_core.specs.Views.{rule_in, written_in}
-use Rattle.replica_core.proofs.InfoLemmas.{present_is, begin_recovery_is}
+use Rattle.replica_core.proofs.InfoLemmas.{present_is, begin_recovery_is, end_recovery_is}
 use Rattle.replica_core.proofs.StepLemmas.{if_step}
 use Rattle.replica_model.specs.declared.events.ReplicaEvent.{ReplicaEvent}
 use Rattle.replica_model.specs.declared.events.ReplicaEvent.TheVariants as replica_event
@@ -55,12 +56,12 @@ use Rattle.world_laws.specs.Stamping.{Givens}
 use Rattle.world_laws.specs.Carrying.{new_stamp, Sets, MemberSays, LowerSays, Holds}
 use Rattle.world_laws.proofs.ByteFrame.{Each, each-nil, each-one, past-grows}
 use Rattle.world_laws.proofs.ByteLeaves.{Facts, sent-if}
-use Rattle.world_laws.proofs.ByteRows.{begin-stamp}
-use Rattle.world_laws.specs.Joining.{joined_as, IsSetUp}
-use Rattle.world_recoveries.specs.Recovering.{ReplicaTold, WasSent, Agrees, Recovering}
+use Rattle.world_laws.proofs.ByteRows.{begin-stamp, update-held}
+use Rattle.world_laws.specs.Joining.{joined_as, AtLeast, IsSetUp}
+use Rattle.world_recoveries.specs.Recovering.{ReplicaTold, top_under, top_of, WasSent, Agrees, Recovering}
 use Rattle.world_recoveries.proofs.Histories.{begins-get, has-later}
 use Rattle.world_recoveries.proofs.Holding.{Moves, Books, as_before, books, event-moves}
-use Rattle.world_recoveries.proofs.Frame.{NewInfo, News}
+use Rattle.world_recoveries.proofs.Frame.{NewInfo, IsUpdated, News}
 use Rattle.world_recoveries.proofs.Leading.{still-news}
 use Rattle.world_recoveries.proofs.Quiet.{Untold, OfSetup, QuietDial, Quiet, each-sent, upward-untold, each-of-setup, Brings, quiet-brings}
 use Rattle.world_recoveries.proofs.Clients.{still-quiet}
@@ -166,7 +167,7 @@ unless-quiet w true c = tt
 unless-quiet w false c = closing-quiet w c
 
 -- a change of a lower end that tells this
-telling : (w : World) (c : ℕ) (k : Change) (ms : List Message) → ((d : ℕ) → k.ups d ≡ sent_on (Some c) ms d) → ((d : ℕ) → k.downs d ≡ []) → k.dials ≡ [] → k.primary ≡ w.primaries k.primary_at → Each Untold ms → Books (w.replicas k.node k.block) k.replica → ((y : Updated) → Has k.updated y → WasSent w.past y) → Quiet w k
+telling : (w : World) (c : ℕ) (k : Change) (ms : List Message) → ((d : ℕ) → k.ups d ≡ sent_on (Some c) ms d) → ((d : ℕ) → k.downs d ≡ []) → k.dials ≡ [] → k.primary ≡ w.primaries k.primary_at → Each Untold ms → Books (w.replicas k.node k.block) k.replica → ((y : Updated) → Has k.updated y → IsUpdated w k w.past y) → Quiet w k
 telling w c k ms u d s p e b sent = record {
   ups = λ x. subst (λ (ys : List Message). Each Untold ys) (sym (u x)) (each-sent (λ _ y. Untold y) (Some c) ms (λ _. e) x);
   downs = λ x. subst (λ (ys : List Message). Each (OfSetup w.past x) ys) (sym (d x)) (each-nil (OfSetup w.past x));
@@ -207,7 +208,7 @@ SentDown h c the_end = Unit {0}
 -- what a step of a recovery is: an INIT or an UPDATE of the request's, or a refusal, which tells nothing
 abbrev IsStep : RecoveryOp → Event → Type 0
 IsStep q (event.Init named id) = (named ≡ q.block.stamp) × (id ≡ q.recovery)
-IsStep q (event.Update id n) = q.kind ≡ kind.Update
+IsStep q (event.Update id n) = (q.kind ≡ kind.Update) × (q.recovery ≡ id)
 IsStep q _ = ⊥
 
 abbrev StepSays : RecoveryOp → Result Event RecoveryReply → Type 0
@@ -223,7 +224,7 @@ event-says : (k : RecoveryKind) (q : RecoveryOp) → q.kind ≡ k → StepSays q
 unfolding answer_of
 event-says kind.Begin q e = (refl, λ p. refl)
 event-says kind.Init q e = init-says q (q.recovery.0 == 0)
-event-says kind.Update q e = e
+event-says kind.Update q e = (e, refl)
 
 pool-says : (q : RecoveryOp) (b : Bool) (r : Result Event RecoveryReply) → StepSays q r → StepSays q (if b then r else Err (reply.Refused request_refusal.Pool))
 unfolding answer_of
@@ -243,18 +244,42 @@ record InitTaken (c : ReplicaRecord) (named id : Stamp) (t : Taken) : Type 0 whe
   pub told : t.answer ≡ answer.Info info.original info.stamp info.written
   pub least : named.0 ≤ info.stamp.0
   pub below : info.stamp.0 < id.0
+  pub later : top_of info < id.0
+
+-- an INIT that was taken is of a later recovery than any that held the replica
+begins-later : (o : Option Stamp) (s id : Stamp) → s.0 < id.0 → is_free_for o id ≡ true → top_under o s < id.0
+begins-later None s id lt e = lt
+begins-later (Some held) s id lt e = grind (arith, nat_tests, e)
+
+begin-free : (i k : ReplicaInfo) (named id : Stamp) → begin_recovery i named id ≡ Ok k → is_free_for i.recovery id ≡ true
+unfolding begin_recovery
+begin-free i k named id e = grind (arith, nat_tests)
 
 init-taken : (c : ReplicaRecord) (named id : Stamp) → IfOk (transition c (event.Init named id)) (InitTaken c named id)
 unfolding transition
 init-taken c named id = if_step (InitTaken c named id) (present c) _ (λ h e. if_step (InitTaken c named id) (begin_recovery h named id) _ (λ k f.
     let p = present_is c h e in
     let s = begin-stamp h k named id f in
-    record { info = h; is = p.1; whole = p.0; held = ap (λ (x : ReplicaInfo). Some x) (begin_recovery_is h k named id f); told = refl; least = s.0; below = s.1 }))
+    record { info = h; is = p.1; whole = p.0; held = ap (λ (x : ReplicaInfo). Some x) (begin_recovery_is h k named id f); told = refl; least = s.0; below = s.1; later = begins-later h.recovery h.stamp id s.1 (begin-free h k named id f) }))
 
--- an UPDATE that was taken tells nothing
-update-taken : (c : ReplicaRecord) (id : Stamp) (n : ℕ) → IfOk (transition c (event.Update id n)) (λ t. t.answer ≡ answer.Done)
+-- an UPDATE that was taken tells nothing; its recovery held the replica, which is under its id then
+record UpdateTaken (c : ReplicaRecord) (id : Stamp) (t : Taken) : Type 0 where
+  pub done : t.answer ≡ answer.Done
+  pub was : ReplicaInfo
+  pub is : c.info ≡ Some was
+  pub held : top_of was ≡ id.0
+  pub now : AtLeast t.replica.info id.0
+
+update-taken : (c : ReplicaRecord) (id : Stamp) (n : ℕ) → IfOk (transition c (event.Update id n)) (UpdateTaken c id)
 unfolding transition
-update-taken c id n = if_step (λ (t : Taken). t.answer ≡ answer.Done) (present c) _ (λ h e. if_step (λ (t : Taken). t.answer ≡ answer.Done) (end_recovery h h.recovery id n) _ (λ k f. refl))
+update-taken c id n = if_step (UpdateTaken c id) (present c) _ (λ h e. if_step (UpdateTaken c id) (end_recovery h h.recovery id n) _ (λ k f.
+    record {
+      done = refl;
+      was = h;
+      is = (present_is c h e).1;
+      held = ap (λ (o : Option Stamp). top_under o h.stamp) (update-held h k h.recovery id n f);
+      now = record { info = k; is = refl; least = omega (arith, ap (λ (z : ReplicaInfo). z.stamp.0) (end_recovery_is h k h.recovery id n f).0) };
+    }))
 
 abbrev after : FullReplica → Outcome → FullReplica
 after r o = record { known = record_after r.known o; bytes = take (written_in (record_after r.known o)) (r.bytes ++ []) }
@@ -263,7 +288,7 @@ abbrev Does : World → ℕ → RecoveryOp → FullReplica → Answer → Change
 Does w c q r a = recovery_change w c q (record { replica = r; reply = reply_to a }) (w.breaks (node_of w c) q.block.block.0)
 
 -- an answer that tells nothing
-untold-change : (w : World) (c : ℕ) (q : RecoveryOp) (s : Served) (b : Option Break) → (answer_of s.reply).info ≡ None → Books (replica_at w c q.block.block.0) s.replica → ((u : Updated) → Has (updated_by s.reply (w.dialled c).to q) u → WasSent w.past u) → Quiet w (recovery_change w c q s b)
+untold-change : (w : World) (c : ℕ) (q : RecoveryOp) (s : Served) (b : Option Break) → (answer_of s.reply).info ≡ None → Books (replica_at w c q.block.block.0) s.replica → ((u : Updated) → Has (updated_by s.reply (w.dialled c).to q) u → IsUpdated w (recovery_change w c q s b) w.past u) → Quiet w (recovery_change w c q s b)
 untold-change w c q s b e k sent = telling w c (recovery_change w c q s b) (recovery_answer (answer_of s.reply) ∷ []) (λ _. refl) (λ _. refl) refl refl (each-one Untold _ e) k sent
 
 refused-untold : (x : RequestRefusal) → (answer_of (reply.Refused x)).info ≡ None
@@ -349,6 +374,12 @@ init-news g w c q r named id t h a ne ie x same m = still-news g w k h.recoverin
         above = omega (arith, ap (λ (s : Stamp). s.0) ie, ap (λ (s : Stamp). s.0) a.recovery);
         same = λ _. (refl, refl, refl);
       };
+      none = refl;
+      now = record {
+        runs = h.runs;
+        life = sym h.life;
+        replica = record { info = x.info; is = x.is; sound = x.whole; told = refl; below = omega (arith, x.later, ap (λ (s : Stamp). s.0) ie, ap (λ (s : Stamp). s.0) a.recovery) };
+      };
     }
 
     infos : (v j : ℕ) (y : RecoveryAnswer) (z : ReplicaTold) → slice_get (k.ups v) j ≡ Some (recovery_answer y) → y.info ≡ Some z → NewInfo g w k v z
@@ -377,23 +408,24 @@ init-brings g w c q named id (Ok t) h a ne ie n m k = record {
 abbrev update_of : Place → RecoveryOp → Updated
 update_of p q = record { node = p.node; life = p.life; block = q.block.block.0; recovery = q.recovery.0; length = q.new_length }
 
-only-update : {h : Past} (p : Place) (q : RecoveryOp) (u : Updated) → WasSent h (update_of p q) → (i : ℕ) → slice_get (update_of p q ∷ []) i ≡ Some u → WasSent h u
-only-update {h} p q u s zero e = subst (λ (x : Updated). WasSent h x) (same_Some (update_of p q) u e) s
+only-update : {w : World} {k : Change} {h : Past} (p : Place) (q : RecoveryOp) (u : Updated) → IsUpdated w k h (update_of p q) → (i : ℕ) → slice_get (update_of p q ∷ []) i ≡ Some u → IsUpdated w k h u
+only-update {w} {k} {h} p q u s zero e = subst (λ (x : Updated). IsUpdated w k h x) (same_Some (update_of p q) u e) s
 only-update p q u s (suc i) e = absurd (none-some u e)
 
 -- an UPDATE that was sent on the connection
 update-sent : (g : Givens) (w : World) (c : ℕ) (q : RecoveryOp) → Taking g w c → q.kind ≡ kind.Update → SentDown w.past c (message (request (op.Recovery q))) → WasSent w.past (update_of (w.dialled c).to q)
 update-sent g w c q h e s = record { conn = c; known = h.known; to = refl; sent = record { asked = q; place = s.0; there = s.1; is_update = e; block = refl; recovery = refl; length = refl } }
 
-update-brings : (g : Givens) (w : World) (c : ℕ) (q : RecoveryOp) (o : Outcome) → Taking g w c → WasSent w.past (update_of (w.dialled c).to q) → IfOk o (λ t. t.answer ≡ answer.Done)
+update-brings : (g : Givens) (w : World) (c : ℕ) (q : RecoveryOp) (o : Outcome) → Taking g w c → WasSent w.past (update_of (w.dialled c).to q) → IfOk o (UpdateTaken (replica_at w c q.block.block.0).known q.recovery)
     → Books (replica_at w c q.block.block.0) (after (replica_at w c q.block.block.0) o) → Brings g w (Does w c q (after (replica_at w c q.block.block.0) o) (core.answer_of (core.reply o)))
 update-brings g w c q (Err x) h sent n k =
     let r = after (replica_at w c q.block.block.0) (Err x) in
     one-brings g w (Does w c q r (answer.Refused x)) c h (untold-change w c q (record { replica = r; reply = reply_to (answer.Refused x) }) (w.breaks (node_of w c) q.block.block.0) (refused-untold (request_refusal.Core x)) k (λ u z. absurd (none-some u z.there)))
 update-brings g w c q (Ok t) h sent n k =
     let r = after (replica_at w c q.block.block.0) (Ok t) in
-    subst (λ (y : Answer). Brings g w (Does w c q r y)) (sym n)
-    (one-brings g w (Does w c q r answer.Done) c h (untold-change w c q (record { replica = r; reply = reply_to answer.Done }) (w.breaks (node_of w c) q.block.block.0) updated-untold k (λ u z. only-update (w.dialled c).to q u sent z.place z.there)))
+    let z : IsUpdated w (Does w c q r answer.Done) w.past (update_of (w.dialled c).to q) = record { sent = sent; node = refl; block = refl; life = sym h.life; was = n.was; is = n.is; held = n.held; now = n.now } in
+    subst (λ (y : Answer). Brings g w (Does w c q r y)) (sym n.done)
+    (one-brings g w (Does w c q r answer.Done) c h (untold-change w c q (record { replica = r; reply = reply_to answer.Done }) (w.breaks (node_of w c) q.block.block.0) updated-untold k (λ u y. only-update (w.dialled c).to q u z y.place y.there)))
 
 served-brings : (g : Givens) (w : World) (c : ℕ) (q : RecoveryOp) (e : Result Event RecoveryReply) → Taking g w c → Agrees w.past c q → SentDown w.past c (message (request (op.Recovery q))) → StepSays q e
     → Brings g w (recovery_change w c q (served_as (replica_at w c q.block.block.0) e) (w.breaks (node_of w c) q.block.block.0))
@@ -407,7 +439,7 @@ served-brings g w c q (Ok (event.Init named id)) h a d s =
     (event-moves r.known (event.Init named id) (h.facts.full (node_of w c) q.block.block.0).sound) (books (replica_event.Other (event.Init named id)) refl)
 served-brings g w c q (Ok (event.Update id n)) h a d s =
     let r = replica_at w c q.block.block.0 in
-    update-brings g w c q (transition r.known (event.Update id n)) h (update-sent g w c q h s d) (update-taken r.known id n) (books (replica_event.Other (event.Update id n)) refl)
+    update-brings g w c q (transition r.known (event.Update id n)) h (update-sent g w c q h s.0 d) (subst (λ (t : Stamp). IfOk (transition r.known (event.Update id n)) (UpdateTaken r.known t)) (sym s.1) (update-taken r.known id n)) (books (replica_event.Other (event.Update id n)) refl)
 served-brings g w c q (Ok (event.Create conn t r)) h a d s = absurd s
 served-brings g w c q (Ok (event.Temporary conn t r)) h a d s = absurd s
 served-brings g w c q (Ok (event.Append conn named new n)) h a d s = absurd s

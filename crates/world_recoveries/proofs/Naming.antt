@@ -1,7 +1,7 @@
 -- What a change leaves of what recoveries name, and what the office's answers make of it.
 use Rattle.std.proofs.Common.{◌≡◌, ℕ, ◌<◌, ◌≤◌, ◌⊎◌, inl, inr, true, false, List, ◌++◌, append-nil, slice_get, Option, Some, None, IfSome, Ok, Err, refl, sym, ◌∙◌, ap, subst, arith, eqb-true}
 use Rattle.std.specs.Prelude.{◌==◌, nat_lt}
-use Rattle.std.proofs.lemmas.Bool.{false≢true}
+use Rattle.std.proofs.lemmas.Bool.{false≢true, cases_lt}
 use Rattle.std.proofs.lemmas.Bool.Decides.{nat_tests}
 use Rattle.std.proofs.lemmas.Option.{none-some}
 use Rattle.std.specs.BTreeMap.{is_at}
@@ -27,14 +27,16 @@ use Rattle.writer_core.specs.Laws.{Grants, IsGiven}
 use Rattle.writer_core.specs.Transitions.{granted}
 use Rattle.writer_core.proofs.StampLemmas.{only_the_office_commits}
 use Rattle.world.specs.Parts.{request, Answered, Told, Writing, Primary, no_primary, was_told, leads, has_led}
-use Rattle.world.specs.Worlds.{World, Dial, Change, put, listed, apply}
+use Rattle.world.specs.Worlds.{World, Dial, Change, Stamped, put, listed, apply}
+use Rattle.world.specs.Primaries.{stamped_by}
+use Rattle.world_laws.proofs.Sessions.{refused-stamp}
 use Rattle.world.specs.Safe.{Has}
 use Rattle.world_laws.proofs.FactTables.{if-each, put-each, some-weaker}
 use Rattle.world_laws.proofs.OfficeSteps.{AsksAs, IsPrimarys}
 use Rattle.world_laws.proofs.SetupNodes.{has-split}
 use Rattle.world_laws.proofs.StampGranting.{granted-create, granted-append, granted-again, granted-commit, granted-complete}
 use Rattle.world_laws.specs.Stamping.{Givens, InPhase, Fits, Entries, HeldOf, Recorded, heard}
-use Rattle.world_recoveries.specs.Naming.{known_stamp, IsNamed, IsBehind, ToldNamed, PrimaryNamed, RequestNamed, Naming}
+use Rattle.world_recoveries.specs.Naming.{known_stamp, IsBefore, IsPast, IsNamed, IsBehind, ToldNamed, PrimaryNamed, RequestNamed, Naming}
 use Rattle.world_recoveries.proofs.Histories.{NewDown, was_sent, is_sent, is_dialled, new-down}
 
 -- A CHANGE
@@ -49,8 +51,17 @@ pub record Behind (w : World) (k : Change) (b : ℕ) (r : BlockRecord) : Type 0 
   pub before : known_stamp w b ≤ r.committed.0
   pub answered : (a : Answered) → Has w.answered a → a.block ≡ b → a.stamp ≤ r.committed.0
 
+-- A session begins: no stamp that was given before is later than what its writer knows then, or the office has.
+pub record Opens (g : Givens) (w : World) (k : Change) (b : ℕ) : Type 0 where
+  pub known : (t e : ℕ) → g b t ≡ Some e → t ≤ (heard (put w.writers k.writer_at k.writer b)).committed.0
+  pub office : (t e : ℕ) → g b t ≡ Some e → IfSome (record_of k.office (record { 0 = b })) (λ r. t ≤ r.committed.0)
+
 -- what a change makes of the stamps that are known as committed and answered
 pub record Stamps (g l : Givens) (w : World) (k : Change) : Type 0 where
+  pub same : (b t e : ℕ) → g b t ≡ Some e → l b t ≡ Some e
+  pub back : (b t u s e : ℕ) → l b t ≡ Some s → g b u ≡ Some e → t ≤ u → g b t ≡ Some s
+  pub only : (b t s : ℕ) → l b t ≡ Some s → (g b t ≡ Some s) ⊎ (t ≡ w.office.next.0)
+  pub opens : (b e : ℕ) → l b e ≡ Some e → (g b e ≡ Some e) ⊎ Opens g w k b
   pub given : (b t e : ℕ) → g b t ≡ Some e → (d : ℕ) × (l b t ≡ Some d)
   pub writer : Newest (g k.writer_at) (heard (w.writers k.writer_at)) (heard k.writer)
   pub answers : IfSome k.answered (λ a. a.stamp ≡ known_stamp w a.block)
@@ -58,6 +69,7 @@ pub record Stamps (g l : Givens) (w : World) (k : Change) : Type 0 where
 pub record Names (g l : Givens) (w : World) (k : Change) : Type 0 where
   pub stamps : Stamps g l w k
   pub office : (b : ℕ) → IfSome (record_of k.office (record { 0 = b })) (Behind w k b)
+  pub closes : (b : ℕ) → IfSome (record_of k.office (record { 0 = b })) (λ r. IsPast (l b) r.committed.0)
   pub sent : (c j : ℕ) (q : RecoveryOp) → slice_get (k.downs c) j ≡ Some (request (op.Recovery q)) → RequestNamed g w q
   pub dials : (j : ℕ) (d : Dial) (q : RecoveryOp) → slice_get k.dials j ≡ Some d → d.request ≡ request (op.Recovery q) → RequestNamed g w q
   pub primary : PrimaryNamed l (apply w k) k.primary
@@ -70,6 +82,19 @@ answers-more P xs (Some x) h n a q = go (has-split xs x a q)
     go (inl j) = h a j
     go (inr e) = subst P e n
 
+-- the last stamp before a session that had begun was the last one
+pub before-back : (g l : Givens) (w : World) (k : Change) (b c e : ℕ) → Stamps g l w k → g b e ≡ Some e → IsBefore (l b) c e → IsBefore (g b) c e
+before-back g l w k b c e n old q = record { base = q.base; is = n.back b c e q.base e q.is old (omega (arith, q.less)); less = q.less; last = λ t d x lt. q.last t d (n.same b t d x) lt }
+
+pub past-after : (g l : Givens) (w : World) (k : Change) (b m o : ℕ) → Stamps g l w k → IsPast (g b) m → ((c s : ℕ) → g b c ≡ Some s → c ≤ m → c ≤ o) → (Opens g w k b → (t s : ℕ) → g b t ≡ Some s → t ≤ o) → IsPast (l b) o
+past-after g l w k b m o n h up new = record { each = λ c e x q. go c e q (n.only b c q.base q.is) (n.only b e e x) (n.opens b e x) }
+  where
+    go : (c e : ℕ) (q : IsBefore (l b) c e) → (g b c ≡ Some q.base) ⊎ (c ≡ w.office.next.0) → (g b e ≡ Some e) ⊎ (e ≡ w.office.next.0) → (g b e ≡ Some e) ⊎ Opens g w k b → c ≤ o
+    go c e q x y (inl old) = let z = before-back g l w k b c e n old q in up c z.base z.is (h.each c e old z)
+    go c e q (inl x) y (inr z) = new z c q.base x
+    go c e q (inr x) (inl old) (inr z) = new z c q.base (n.back b c e q.base e q.is old (omega (arith, q.less)))
+    go c e q (inr x) (inr y) (inr z) = absurd (omega (arith, x, y, q.less))
+
 -- what a recovery names holds after the change
 pub named-after : (g l : Givens) (w : World) (k : Change) (b : ℕ) (named id : Stamp) → Stamps g l w k → IsNamed g w b named id → IsNamed l (apply w k) b named id
 unfolding apply
@@ -79,8 +104,14 @@ named-after g l w k b named id n h = record {
   known = if-each (λ (x : Writing). (heard x).committed.0 < id.0 → (heard x).committed.0 ≤ named.0) (b == k.writer_at) k.writer (w.writers b) (λ e. here (eqb-true b k.writer_at e)) (λ _. h.known);
   answered = answers-more (λ a. a.block ≡ b → a.stamp < id.0 → a.stamp ≤ named.0) w.answered k.answered h.answered
       (some-weaker (λ a. a.stamp ≡ known_stamp w a.block) (λ a. a.block ≡ b → a.stamp < id.0 → a.stamp ≤ named.0) k.answered (λ a e at lt. told a e at lt) n.answers);
+  past = record { each = λ c e x q lt. passes c e x q lt (cases_lt id.0 e) };
 }
   where
+    -- a session that begins now has all stamps that were given behind it
+    passes : (c e : ℕ) → l b e ≡ Some e → IsBefore (l b) c e → c < id.0 → (id.0 < e) ⊎ (e ≤ id.0) → c ≤ named.0
+    passes c e x q lt (inl z) = absurd (omega (arith, lt, q.last id.0 h.session (n.same b id.0 h.session h.given) z))
+    passes c e x q lt (inr z) = let old = n.back b e id.0 e h.session x h.given z in h.past.each c e old (before-back g l w k b c e n old q) lt
+
     here : b ≡ k.writer_at → (heard k.writer).committed.0 < id.0 → (heard k.writer).committed.0 ≤ named.0
     here e lt = go n.writer
       where
@@ -121,8 +152,16 @@ primary-named g l w k (has_led r) n h = tt
 
 pub naming-apply : (g l : Givens) (w : World) (k : Change) → Naming g w → Names g l w k → Naming l (apply w k)
 unfolding apply
-naming-apply g l w k h n = record { behind = behind; asked = asked; primaries = primaries }
+naming-apply g l w k h n = record { behind = behind; closes = n.closes; knows = knows; asked = asked; primaries = primaries }
   where
+    knows : (b : ℕ) → IsPast (l b) ((heard (put w.writers k.writer_at k.writer b)).committed.0)
+    knows b = past-after g l w k b (known_stamp w b) ((heard (put w.writers k.writer_at k.writer b)).committed.0) n.stamps (h.knows b)
+        (λ c s x le. if-each (λ (y : Writing). c ≤ (heard y).committed.0) (b == k.writer_at) k.writer (w.writers b) (λ e. here c s (eqb-true b k.writer_at e) x le n.stamps.writer) (λ _. le)) (λ o t s x. o.known t s x)
+      where
+        here : (c s : ℕ) → b ≡ k.writer_at → g b c ≡ Some s → c ≤ known_stamp w b → Newest (g k.writer_at) (heard (w.writers k.writer_at)) (heard k.writer) → c ≤ (heard k.writer).committed.0
+        here c s e x le (inl q) = omega (arith, le, ap (λ (z : Stamp). z.0) q, ap (λ (i : ℕ). known_stamp w i) e)
+        here c s e x le (inr q) = q c s (subst (λ (i : ℕ). g i c ≡ Some s) e x)
+
     behind : (b : ℕ) → IfSome (record_of (apply w k).office (record { 0 = b })) (IsBehind (apply w k) b)
     behind b = some-weaker (Behind w k b) (IsBehind (apply w k) b) (record_of k.office (record { 0 = b })) (λ r x. behind-after g l w k b r n.stamps x) (n.office b)
 
@@ -271,4 +310,51 @@ raises-by g w c h = each_case w.office (RaisesBy w) (record {
   begun = λ block r is is_open. λ p q. with-raises w.office (stamp_given w.office) block q r (record r { recovery = Some w.office.next }) is is (λ _. refl) (omega arith);
   synced = λ block id bytes members r is is_open latest. λ p q.
       with-raises w.office w.office block q r (record r { is_open = false; committed = id; members = members; length = bytes }) is is (λ _. refl) (held-last (g block.0) (w.latest block.0) r (heard (w.writers block.0)) id (held-record (g block.0) (w.latest block.0) (record_of w.office (record { 0 = block.0 })) r (heard (w.writers block.0)) is (h.blocks block.0)) is_open latest);
+}) c
+
+-- what an answer to a writer makes of the stamps that were given, where it begins a session
+abbrev pub OpensBy : World → (ℕ → Option ℕ) → ℕ → OfficeCall → Step OfficeState OfficeAnswer → Type 0
+OpensBy w f l c s = (x : WriterRecord) → AsksAs x c → HeldOf f l (record_of w.office x.block) x → ((t e : ℕ) → f t ≡ Some e → t < w.office.next.0) → l ≡ w.latest x.block.0 →
+    IfSome (stamped_by w c (reply s)) (λ z. z.session ≡ z.stamp → (t e : ℕ) → f t ≡ Some e → (t ≤ (granted x (reply s)).committed.0) × IfSome (record_of (state_after w.office s) x.block) (λ k. t ≤ k.committed.0))
+
+pub opens-by : (w : World) (f : ℕ → Option ℕ) (l : ℕ) (c : OfficeCall) → OpensBy w f l c (office_case w.office c)
+opens-by w f l c = each_case w.office (OpensBy w f l) (record {
+  refused = λ d e. λ x a h low at.
+      subst (λ (o : Option Stamped). IfSome o (λ z. z.session ≡ z.stamp → (t v : ℕ) → f t ≡ Some v → (t ≤ (granted x (Err e)).committed.0) × IfSome (record_of w.office x.block) (λ k. t ≤ k.committed.0))) (sym (refused-stamp w d e)) tt;
+  created = λ block members none. λ x a h low at. λ _ t e q.
+      let gone : HeldOf f l None x = subst (λ (z : Option BlockRecord). HeldOf f l z x) (at-block w.office block x.block None a.block none) h in
+      absurd (none-some e (sym (gone.1 t) ∙ q));
+  appended = λ block r is shut short. λ x a h low at. λ _ t e q.
+      let k : BlockRecord = record r { is_open = true; recovery = None } in
+      let p = with_record (stamp_given w.office) block k in
+      let i = held-record f l (record_of w.office x.block) r x (at-block w.office block x.block (Some r) a.block is) h in
+      let le : t ≤ r.committed.0 = i.office.closed shut t e q in (
+        subst (λ (y : WriterRecord). t ≤ y.committed.0) (sym (granted-append x (record { committed = r.committed; length = r.length; new = w.office.next }) a.at short)) le,
+        subst (λ (z : Option BlockRecord). IfSome z (λ j. t ≤ j.committed.0)) (sym (at-block p block x.block (Some k) a.block (record_of-with_record_same (stamp_given w.office) block r k is))) le,
+      );
+  stamped = λ block r is writers. λ x a h low at. λ same t e q.
+      let i = held-record f l (record_of w.office x.block) r x (at-block w.office block x.block (Some r) a.block is) h in
+      absurd (omega (arith, low l l i.office.begins, same, at, ap (λ (z : BlockId). w.latest z.0) a.block));
+  committed = λ block stamp members r is writers new. λ x a h low at. tt;
+  completed = λ block stamp bytes r is writers new. λ x a h low at. tt;
+  begun = λ block r is is_open. λ x a h low at. absurd a;
+  synced = λ block id bytes members r is is_open latest. λ x a h low at. absurd a;
+}) c
+
+-- a primary's call begins no session
+abbrev pub KeepsBy : World → OfficeCall → Step OfficeState OfficeAnswer → Type 0
+KeepsBy w c s = IsPrimarys c → IfSome (stamped_by w c (reply s)) (λ z. z.session < z.stamp)
+
+pub keeps-by : (g : Givens) (w : World) (c : OfficeCall) → Recorded g w → KeepsBy w c (office_case w.office c)
+keeps-by g w c h = each_case w.office (KeepsBy w) (record {
+  refused = λ d e. λ p. subst (λ (o : Option Stamped). IfSome o (λ z. z.session < z.stamp)) (sym (refused-stamp w d e)) tt;
+  created = λ block members none. λ p. absurd p;
+  appended = λ block r is shut short. λ p. absurd p;
+  stamped = λ block r is writers. λ p. absurd p;
+  committed = λ block stamp members r is writers new. λ p. absurd p;
+  completed = λ block stamp bytes r is writers new. λ p. absurd p;
+  begun = λ block r is is_open. λ p.
+      let i = held-record (g block.0) (w.latest block.0) (record_of w.office (record { 0 = block.0 })) r (heard (w.writers block.0)) is (h.blocks block.0) in
+      omega (arith, h.session block.0 r.committed.0 i.base i.office.committed, i.office.before r.committed.0 i.base i.office.committed, h.below block.0 r.committed.0 i.base i.office.committed);
+  synced = λ block id bytes members r is is_open latest. λ p. tt;
 }) c

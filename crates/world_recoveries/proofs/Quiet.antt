@@ -20,10 +20,10 @@ use Rattle.world_laws.proofs.ByteFrame.{Each, each-nil, each-one, each-cons, pas
 use Rattle.world_laws.proofs.ByteLeaves.{Facts, sent-if}
 use Rattle.world_laws.proofs.SetupNodes.{get-more}
 use Rattle.world.specs.Safe.{Has}
-use Rattle.world_recoveries.specs.Recovering.{WasSent, Updates, LeadFits, HasId, SendsFits, IsPlacedIn, Recovering}
+use Rattle.world_recoveries.specs.Recovering.{Updates, LeadFits, HasId, SendsFits, IsPlacedIn, Recovering}
 use Rattle.world_recoveries.proofs.Histories.{begins-get, was-sent-later, lead-later, sends-later, NewDown, was_sent, is_sent, is_dialled, new-down}
 use Rattle.world_recoveries.proofs.Holding.{Books, books-moves}
-use Rattle.world_recoveries.proofs.Frame.{News}
+use Rattle.world_recoveries.proofs.Frame.{IsUpdated, News}
 
 -- a message that tells nothing of a replica
 abbrev pub Untold : Message → Type 0
@@ -47,7 +47,7 @@ pub record Quiet (w : World) (k : Change) : Type 0 where
   pub dials : Each (QuietDial w) k.dials
   pub primary : k.primary ≡ w.primaries k.primary_at
   pub books : Books (w.replicas k.node k.block) k.replica
-  pub updated : (u : Updated) → Has k.updated u → WasSent w.past u
+  pub updated : (u : Updated) → Has k.updated u → IsUpdated w k w.past u
 
 -- what is sent on a connection
 pub each-sent : (P : ℕ → Message → Type 0) (o : Option ℕ) (ms : List Message) → ((c : ℕ) → Each (P c) ms) → (d : ℕ) → Each (P d) (sent_on o ms d)
@@ -128,7 +128,7 @@ quiet-news g l w k f h a q =
       sends = subst (λ (x : Primary). SendsFits p x) (sym q.primary) (sends-later w.past p (w.primaries k.primary_at) (λ id _. record { back = λ c b n u. quiet-updates l w k c b id n a q u }) (h.sends k.primary_at));
       ids = λ id x. inl (subst (λ (y : Primary). HasId y id) q.primary x);
       placed = λ c place lt u. subst (λ (x : Primary). IsPlacedIn c place x) (sym q.primary) (h.placed c k.primary_at place lt u);
-      updated = λ u x. was-sent-later w.past p u (past-grows w k) (q.updated u x);
+      updated = λ u x. let y = q.updated u x in record { sent = was-sent-later w.past p u (past-grows w k) y.sent; node = y.node; block = y.block; life = y.life; was = y.was; is = y.is; held = y.held; now = y.now };
     }
 
 pub quiet-brings : (g : Givens) (w : World) (o : Option Change) → Facts g w → Recovering g w → IfSome o (Quiet w) → IfSome o (Brings g w)

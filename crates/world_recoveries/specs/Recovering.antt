@@ -20,7 +20,7 @@ use Rattle.world.specs.Worlds.{Past, World, start}
 use Rattle.world.specs.Events.{run}
 use Rattle.world.specs.Safe.{Has}
 use Rattle.world_laws.specs.Stamping.{Givens, none_given, given_in}
-use Rattle.world_laws.specs.Joining.{joined_as}
+use Rattle.world_laws.specs.Joining.{joined_as, AtLeast}
 
 -- WHAT WAS TOLD AND SENT
 
@@ -67,16 +67,16 @@ top_under (Some id) stamp = id.0
 abbrev pub top_of : ReplicaInfo → ℕ
 top_of i = top_under i.recovery i.stamp
 
--- A replica of which a member told is there, held by this recovery or a later one, or under its id or a later stamp; while this recovery holds it, it
--- has the state, the stamp and the length that were told.
+-- A replica of which a member told is there, held by this recovery or a later one, or under its id or a later stamp;
+-- while this recovery holds it, it has the state, the stamp and the length that were told.
 pub record StillTrue (id : Stamp) (i : ReplicaTold) (o : Option ReplicaInfo) : Type 0 where
   pub info : ReplicaInfo
   pub is : o ≡ Some info
   pub above : id.0 ≤ top_of info
   pub same : info.recovery ≡ Some id → (info.original ≡ i.0) × (info.stamp ≡ i.1) × (info.written ≡ i.2)
 
--- What was told is of a stamp that was given for the block, from the one that the recovery names to below its id; and what is told as RBW is of a
--- node that accepted the setup of that stamp in that life.
+-- What was told is of a stamp that was given for the block, from the one that the recovery names to below its id; and
+-- what is told as RBW is of a node that accepted the setup of that stamp in that life.
 pub record InfoFits (g : Givens) (h : Past) (c b : ℕ) (named id : Stamp) (i : ReplicaTold) : Type 0 where
   pub known : c < h.next_conn
   pub named_below : named.0 ≤ i.1.0
@@ -95,8 +95,8 @@ pub record ToldOpen (h : Past) (b : ℕ) (id : Stamp) (n : ℕ) : Type 0 where
   pub is_open : told.0 ≡ state.Rbw
   pub length : told.2 ≡ n
 
--- An UPDATE goes to a node that told of its replica in that life: a FINALIZED replica keeps its length, no replica gets more bytes than it has,
--- and that of an RBW one is the length of some RBW replica that was told of.
+-- An UPDATE goes to a node that told of its replica in that life: a FINALIZED replica keeps its length, no replica
+-- gets more bytes than it has, and that of an RBW one is the length of some RBW replica that was told of.
 pub record UpdateFits (h : Past) (c b : ℕ) (id : Stamp) (n : ℕ) : Type 0 where
   pub conn : ℕ
   pub told : ReplicaTold
@@ -138,7 +138,8 @@ pub record ToldAt (h : Past) (l : Leading) (place : ℕ) (i : ReplicaTold) : Typ
   pub there : slice_get l.conns place ≡ Some (Some conn)
   pub informs : Informs h conn l.state.block.0 l.state.begun.id i
 
--- a primary's connections are those to its members, each in the life that it had when the recovery began, and what stands of a member was told
+-- a primary's connections are those to its members, each in the life that it had when the recovery began, and what
+-- stands of a member was told
 pub record LeadingFits (h : Past) (l : Leading) : Type 0 where
   pub life_of : ℕ → ℕ
   pub known : (p c : ℕ) → slice_get l.conns p ≡ Some (Some c) → c < h.next_conn
@@ -182,23 +183,34 @@ pub record Recovering (g : Givens) (w : World) : Type 0 where
   -- no connection is of a later life of its lower end's node
   pub lives : (c : ℕ) → c < w.next_conn → (w.dialled c).to.life ≤ w.lives (w.dialled c).to.node
   pub asks : (c i : ℕ) (q : RecoveryOp) → slice_get (w.downs c) i ≡ Some (request (op.Recovery q)) → Agrees w.past c q
-  pub told : (c b : ℕ) (id : Stamp) (i : ReplicaTold) (x : Informs w.past c b id i) → InfoFits g w.past c b x.asked.block.stamp id i
+  pub told : (c b : ℕ) (id : Stamp) (i : ReplicaTold) (x : Informs w.past c b id i) →
+      InfoFits g w.past c b x.asked.block.stamp id i
   -- what a node told in the life that it is in is still true of its replica, in broken ones and stopped nodes too
   pub still : (c b : ℕ) (id : Stamp) (i : ReplicaTold) → Informs w.past c b id i →
-      (w.dialled c).to.life ≡ w.lives (w.dialled c).to.node → StillTrue id i (w.replicas (w.dialled c).to.node b).known.info
+      (w.dialled c).to.life ≡ w.lives (w.dialled c).to.node →
+      StillTrue id i (w.replicas (w.dialled c).to.node b).known.info
   pub updates : (c b : ℕ) (id : Stamp) (n : ℕ) → Updates w.past c b id n → UpdateFits w.past c b id n
   pub updated : (u : Updated) → Has w.updated u → WasSent w.past u
+  -- a replica that was updated in the life that its node is in is under that recovery's id or a later stamp
+  pub settled : (u : Updated) → Has w.updated u → u.life ≡ w.lives u.node →
+      AtLeast (w.replicas u.node u.block).known.info u.recovery
+  -- what was told is of a stamp that no earlier recovery is above that updated the replica in that life
+  pub earlier : (c b : ℕ) (id : Stamp) (i : ReplicaTold) → Informs w.past c b id i → (u : Updated) → Has w.updated u →
+      (w.dialled c).to ≡ record { node = u.node; life = u.life } →
+      u.block ≡ b → u.recovery < id.0 → u.recovery ≤ i.1.0
   -- a recovery has one length
   pub one_length : (c d a b : ℕ) (id : Stamp) (n m : ℕ) → Updates w.past c a id n → Updates w.past d b id m → n ≡ m
   pub primaries : (i : ℕ) → LeadFits w.past (w.primaries i)
   pub sends : (i : ℕ) → SendsFits w.past (w.primaries i)
   -- a recovery has one primary
   pub one_primary : (i j : ℕ) (id : Stamp) → HasId (w.primaries i) id → HasId (w.primaries j) id → i ≡ j
-  pub placed : (c i place : ℕ) → c < w.next_conn → (w.dialled c).upper ≡ by_primary i place → IsPlacedIn c place (w.primaries i)
+  pub placed : (c i place : ℕ) → c < w.next_conn → (w.dialled c).upper ≡ by_primary i place →
+      IsPlacedIn c place (w.primaries i)
 
 -- So it is after every list of events, of the stamps that are given in them.
 abbrev pub AllRecovering : Type 0
-AllRecovering = (nodes : ℕ) (events : List Event) → Recovering (given_in none_given (start nodes) events) (run (start nodes) events)
+AllRecovering = (nodes : ℕ) (events : List Event) →
+    Recovering (given_in none_given (start nodes) events) (run (start nodes) events)
 
 -- LAWS
 
@@ -206,11 +218,12 @@ AllRecovering = (nodes : ℕ) (events : List Event) → Recovering (given_in non
 abbrev pub OneLength : World → Type 0
 OneLength w = (c d a b : ℕ) (id : Stamp) (n m : ℕ) → Updates w.past c a id n → Updates w.past d b id m → n ≡ m
 
--- An UPDATE that was sent to a node in the life that it is in, of the recovery that holds its replica, gives it no more bytes than it has, and just
--- those that it has where it was FINALIZED.
+-- An UPDATE that was sent to a node in the life that it is in, of the recovery that holds its replica, gives it no
+-- more bytes than it has, and just those that it has where it was FINALIZED.
 abbrev pub Shortens : ReplicaInfo → Stamp → ℕ → Type 0
 Shortens i id n = i.recovery ≡ Some id → (n ≤ i.written) × (i.original ≡ state.Finalized → n ≡ i.written)
 
 abbrev pub UpdatesKeepFinalized : World → Type 0
 UpdatesKeepFinalized w = (c b : ℕ) (id : Stamp) (n : ℕ) (i : ReplicaInfo) → Updates w.past c b id n →
-    (w.dialled c).to.life ≡ w.lives (w.dialled c).to.node → (w.replicas (w.dialled c).to.node b).known.info ≡ Some i → Shortens i id n
+    (w.dialled c).to.life ≡ w.lives (w.dialled c).to.node → (w.replicas (w.dialled c).to.node b).known.info ≡ Some i →
+    Shortens i id n

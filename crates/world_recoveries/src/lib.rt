@@ -1,4 +1,5 @@
-//! Block recoveries in the world. Each function has an empty body; its clauses say what holds after every list of events.
+//! Block recoveries in the world. Each function has an empty body; its clauses say what holds after every list of
+//! events.
 #![tactic(auto)]
 
 ghost use Rattle.world.specs.Worlds.{start};
@@ -8,8 +9,9 @@ ghost use Rattle.world_recoveries.specs.Recovering.{AllRecovering, OneLength, Up
 
 use world::Schedule;
 
-/// A recovery has one primary, and one length; what a member told of its replica stays true of it while that recovery holds
-/// it in that life; and an UPDATE goes only to nodes that told of their replicas, with a length that fits what was told.
+/// A recovery has one primary, and one length; what a member told of its replica stays true of it while that recovery
+/// holds it in that life; and an UPDATE goes only to nodes that told of their replicas, with a length that fits what
+/// was told.
 pub fn recoveries_fit()
     ensures { AllRecovering }
 {}
@@ -24,14 +26,14 @@ pub fn updates_keep_finalized(schedule: &Schedule)
     ensures { UpdatesKeepFinalized (run (start schedule.now.nodes) schedule.now.events) }
 {}
 
-/// Nothing is committed under a recovery: below its id no later stamp than the one that it names is known to the block's
-/// writer as committed, and none was answered.
+/// Nothing is committed under a recovery: below its id no later stamp than the one that it names is known to the
+/// block's writer as committed, and none was answered.
 pub fn recoveries_name_what_is_committed()
     ensures { AllNaming }
 {}
 
-/// No stale replica takes part in a recovery: what its members tell is of no earlier stamp than any below its id that a length
-/// was answered under.
+/// No stale replica takes part in a recovery: what its members tell is of no earlier stamp than any below its id that
+/// a length was answered under.
 pub fn recoveries_hear_of_no_stale_replica(schedule: &Schedule)
     ensures { NoneStale (run (start schedule.now.nodes) schedule.now.events) }
 {}

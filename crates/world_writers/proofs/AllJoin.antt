@@ -1,6 +1,6 @@
 -- Nodes accept the setup of a stamp once, after every list of events.
-use Rattle.std.proofs.Common.{◌≡◌, ℕ, zero, suc, ◌<◌, ◌≤◌, ◌+◌, ◌++◌, length, slice_get, Bool, true, false, List, [], ◌∷◌, Option, Some, None, IfSome, Result, Ok, Err, refl, sym, ◌∙◌, ap, subst, arith}
-use Rattle.std.specs.Prelude.{◌==◌, ◌&&◌, ◌-◌, ◌^◌, not, map, min, nat_le, nat_lt, is_none}
+use Rattle.std.proofs.Common.{inl, inr, ◌≡◌, ℕ, zero, suc, ◌<◌, ◌≤◌, ◌+◌, ◌++◌, length, slice_get, Bool, true, false, List, [], ◌∷◌, Option, Some, None, IfSome, Result, Ok, Err, refl, sym, ◌∙◌, ap, subst, arith, eqb-true}
+use Rattle.std.specs.Prelude.{if◌then◌else◌, ◌==◌, ◌&&◌, ◌-◌, ◌^◌, not, map, min, nat_le, nat_lt, is_none}
 use Rattle.hd_base.specs.declared.numbers.BlockId.{BlockId}
 use Rattle.hd_base.specs.declared.numbers.NodeId.{NodeId}
 use Rattle.hd_base.specs.declared.numbers.Stamp.{Stamp}
@@ -61,22 +61,36 @@ use Rattle.world.specs.declared.events.OwnStep as step
 use Rattle.world.specs.declared.events.OwnStep.TheVariants as own
 use Rattle.world.specs.declared.events.TakenCommand.{TakenCommand}
 use Rattle.world.specs.Parts.{request, packet, ack, response, read_status, recovery_answer, Place, idle, Upper, by_writer, by_member, by_reader, by_primary, Told, Writing, Reader, no_reader, reads, has_read, Leading, Primary, no_primary, was_told, leads, has_led}
-use Rattle.world.specs.Worlds.{World, Dial, Change, start}
+use Rattle.world.specs.Worlds.{World, Dial, Change, Stamped, put, sessions_with, latest_with, start}
 use Rattle.world.specs.Connections.{Next, message, the_end, next_down, next_up, down_taken, up_taken, place_of, is_served, is_conn, is_alive, sent_on}
-use Rattle.world.specs.Nodes.{node_on, lower_down, lower_ready, mirror_up}
+use Rattle.world.specs.Nodes.{node_on, block_of, lower_down, lower_ready, mirror_up}
 use Rattle.world.specs.Clients.{are_distinct, are_members, writer_change, did, reached_answer, dialled_change, dialling, rest_in, is_empty, is_formed, ruled, command_bytes, takes_command, writer_step, writer_hears, writer_up, reader_dials, own_reader_as, own_reader, from_node_of, reader_turn, reader_up_as, reader_up}
-use Rattle.world.specs.Primaries.{primary_dials, dials_answered, begins_with, begins_as, begins_at, own_recover, leads_step, commits_step, leads_told, own_primary_as, own_primary, listens, hears_change, primary_up_as, primary_up, asks_writer, asks_primary, writer_asks, primary_commits, primary_asks, office_event}
+use Rattle.world.specs.Primaries.{primary_dials, dials_answered, begins_with, begins_as, begins_at, own_recover, leads_step, commits_step, leads_told, own_primary_as, own_primary, listens, hears_change, primary_up_as, primary_up, asks_writer, asks_primary, writer_asks, primary_commits, primary_asks, office_event, stamped_by}
 use Rattle.world.specs.Restarts.{all_found, restart}
 use Rattle.world.specs.Events.{changed, own_change, down_as, down_event, ready_event, unless_fails, upper_up, up_as, up_event, fault_event, lost, stop, where_so, outcome, after_event, happens, run}
-use Rattle.world_laws.proofs.FactTables.{if-each, when-each, and-left, and-right}
-use Rattle.world_laws.proofs.OfficeSteps.{AsksAs, Asking, own-step-asking}
+use Rattle.world_laws.proofs.FactTables.{if-each, when-each, and-left, and-right, put-each, some-weaker}
+use Rattle.world_laws.proofs.OfficeSteps.{AsksAs, Asking, own-step-asking, block_in, asks-block, IsPrimarys}
+use Rattle.world_laws.proofs.StampRecording.{Quietly, given-sessions, none-heard, gives, given-each, others-given, others-latest}
+use Rattle.world_laws.proofs.Sessions.{refused-stamp}
+use Rattle.world_laws.proofs.StampGivens.{put-here}
+use Rattle.world_laws.proofs.AllRecorded.{aside-quietly, own-quietly, upper-quietly, start-recorded}
+use Rattle.world_acks.proofs.Granting.{latest-by}
+use Rattle.name_core.specs.Offices.{answer_to}
+use Rattle.world_acks.proofs.Granting.{given-mono}
+use Rattle.world_writers.specs.Moving.{Makes, Reaches}
+use Rattle.world_writers.proofs.AllMove.{all-move, all-reached}
+use Rattle.world_writers.proofs.Lifting.{Lifts, Begun as Goes, begun-by, session-by, late-with, Lifted, step-lifted, writer-up-lifted, asides-lifted}
+use Rattle.writer_core.specs.Requests.{min_length}
+use Rattle.world_acks.specs.Acking.{promised}
+use Rattle.world_writers.proofs.Stepping.{Ready, ready-of}
+use Rattle.world_writers.proofs.Giving.{Sets, quiet-sets, settles-by}
 use Rattle.world_laws.proofs.StampGranting.{granted-create, granted-append, granted-again, granted-commit, granted-complete}
 use Rattle.world_laws.proofs.ByteLeaves.{Facts}
 use Rattle.world_laws.proofs.ByteWriting.{Requested, requested}
 use Rattle.world_laws.specs.Carrying.{new_stamp, AsksFor, Asks}
 use Rattle.world_laws.specs.Joining.{SetUps}
 use Rattle.world_laws.proofs.SessionAsides.{Aside, lower-down-aside, lower-ready-aside, mirror-up-aside, own-reader-aside, reader-up-aside, own-recover-aside, own-primary-aside, primary-up-aside}
-use Rattle.world_laws.specs.Stamping.{Givens, none_given, given_in, known_heard, heard}
+use Rattle.world_laws.specs.Stamping.{Givens, none_given, given_in, given_with, Fits, known_heard, heard}
 use Rattle.world_laws.proofs.AllRecorded.{Reached, reached-next}
 use Rattle.world_laws.proofs.StampWalking.{none-is}
 use Rattle.world_laws.proofs.AllCarried.{at-start}
@@ -84,7 +98,7 @@ use Rattle.world_acks.specs.Acking.{Ends}
 use Rattle.world_acks.proofs.Turning.{Known}
 use Rattle.world_acks.proofs.Ends.{NextTells}
 use Rattle.world_acks.proofs.AllAcked.{down-known, up-known, when-two, next-tells, outcome-facts}
-use Rattle.std.proofs.lemmas.Bool.{false≢true}
+use Rattle.std.proofs.lemmas.Bool.{eqb-false, false≢true}
 use Rattle.std.proofs.lemmas.Bool.Decides.{nat_tests}
 use Rattle.std.proofs.lemmas.Option.{none-some, same_Some}
 use Rattle.world_writers.specs.Taking.{IsUnasked, Joins, AllJoin}
@@ -163,9 +177,9 @@ chain-reach m ms (suc i) n bound le lt e = members-reach ms i n bound le lt e
 same-request : (a b : WriteFields) → request (op.Write a) ≡ request (op.Write b) → a ≡ b
 same-request a b e = cc
 
-dialled-joined : (g : Givens) (w : World) (b : ℕ) (x : WriterRecord) (s : Setup) (stamp : Stamp) (m : NodeId) (ms : List NodeId) → w.nodes ≤ MAX_NODES → Facts g w → Joins w → At w b x → x.phase ≡ phase.Stamped s stamp → x.members ≡ m ∷ ms
+dialled-joined : (g : Givens) (w : World) (b : ℕ) (x : WriterRecord) (s : Setup) (stamp : Stamp) (m : NodeId) (ms : List NodeId) → w.nodes ≤ MAX_NODES → Facts g w → Ready w → Joins w → At w b x → x.phase ≡ phase.Stamped s stamp → x.members ≡ m ∷ ms
     → Joined w (dialled_change w b x m (request_for x.block x.committed x.stream s stamp (length x.members) ms) true)
-dialled-joined g w b x s stamp m ms le f h a e mem = record {
+dialled-joined g w b x s stamp m ms le f rd h a e mem = record {
   takes = record {
     lower = λ z. z;
     dials = λ j d q i z. (first j d i, of_writer (asks d q j i z));
@@ -198,6 +212,11 @@ dialled-joined g w b x s stamp m ms le f h a e mem = record {
         let y : AsksFor (g b) w.past (w.latest b) x.committed x.stream s stamp = subst (λ (p : Phase). Asks (g b) w.past (w.latest b) x.committed x.stream p) e
         (subst (λ (z : WriterRecord). Asks (g b) w.past (w.latest b) z.committed z.stream z.phase) a.is (f.carried.writers b).asks) in y.created
 
+    covers : (q : WriteFields) → r.fields ≡ q → (heard (w.writers b)).stream.acked ≤ promised q
+    covers q same =
+        subst (λ (y : WriteFields). (heard (w.writers b)).stream.acked ≤ promised y) same
+        (rd.covers b s stamp r.fields (ap (λ (y : WriterRecord). y.phase) a.is ∙ e) r.kind_is (r.least ∙ ap (λ (z : WriterRecord). min_length s z.stream) (sym a.is)))
+
     only : Dial
     only = record { dialled = record { upper = by_writer b; from = None; to = place_of w m.0 }; request = request o }
 
@@ -219,6 +238,8 @@ dialled-joined g w b x s stamp m ms le f h a e mem = record {
           stamp = stamp;
           phase_is = ap (λ (y : WriterRecord). y.phase) a.is ∙ e;
           is = ap new_stamp (sym same) ∙ r.new created;
+          covers = covers q same;
+          block = ap block_of (sym same) ∙ ap (λ (i : BlockId). i.0) (r.block ∙ ap (λ (z : WriterRecord). z.block) (sym a.is) ∙ f.recorded.writers b);
           members = m ∷ ms;
           distinct = subst (λ (ys : List NodeId). are_distinct ys ≡ true) mem distinct;
           reaches = λ v n lt y. chain-reach m ms v n w.nodes le lt
@@ -227,30 +248,30 @@ dialled-joined g w b x s stamp m ms le f h a e mem = record {
           dialled_now = ap is_stamped then-phase;
         }
 
-dials-joined : (g : Givens) (w : World) (b : ℕ) (x : WriterRecord) (s : Setup) (stamp : Stamp) (m : NodeId) (ms : List NodeId) (answered : Bool) → w.nodes ≤ MAX_NODES → Facts g w → Joins w → At w b x → x.phase ≡ phase.Stamped s stamp → x.members ≡ m ∷ ms
+dials-joined : (g : Givens) (w : World) (b : ℕ) (x : WriterRecord) (s : Setup) (stamp : Stamp) (m : NodeId) (ms : List NodeId) (answered : Bool) → w.nodes ≤ MAX_NODES → Facts g w → Ready w → Joins w → At w b x → x.phase ≡ phase.Stamped s stamp → x.members ≡ m ∷ ms
     → Joined w (dialled_change w b x m (request_for x.block x.committed x.stream s stamp (length x.members) ms) answered)
-dials-joined g w b x s stamp m ms true le f h a e mem = dialled-joined g w b x s stamp m ms le f h a e mem
-dials-joined g w b x s stamp m ms false le f h a e mem = change-joined w b x (dialled x false) h a (unanswered-trails x)
+dials-joined g w b x s stamp m ms true le f rd h a e mem = dialled-joined g w b x s stamp m ms le f rd h a e mem
+dials-joined g w b x s stamp m ms false le f rd h a e mem = change-joined w b x (dialled x false) h a (unanswered-trails x)
 
-dialling-joined : (g : Givens) (w : World) (b : ℕ) (x : WriterRecord) (s : Setup) (stamp : Stamp) (ms : List NodeId) (answered : Bool) → w.nodes ≤ MAX_NODES → Facts g w → Joins w → At w b x → x.phase ≡ phase.Stamped s stamp → x.members ≡ ms
+dialling-joined : (g : Givens) (w : World) (b : ℕ) (x : WriterRecord) (s : Setup) (stamp : Stamp) (ms : List NodeId) (answered : Bool) → w.nodes ≤ MAX_NODES → Facts g w → Ready w → Joins w → At w b x → x.phase ≡ phase.Stamped s stamp → x.members ≡ ms
     → Joined w (dialling w b x (dial_step_as x s stamp ms).action answered)
-dialling-joined g w b x s stamp [] answered le f h a e mem = change-joined w b x x h a (itself-trails x)
-dialling-joined g w b x s stamp (m ∷ ms) answered le f h a e mem = dials-joined g w b x s stamp m ms (answered && w.running m.0) le f h a e mem
+dialling-joined g w b x s stamp [] answered le f rd h a e mem = change-joined w b x x h a (itself-trails x)
+dialling-joined g w b x s stamp (m ∷ ms) answered le f rd h a e mem = dials-joined g w b x s stamp m ms (answered && w.running m.0) le f rd h a e mem
 
 -- OWN STEPS
 
-rest-joined : (p : Phase) (g : Givens) (w : World) (b : ℕ) (x : WriterRecord) (answered : Bool) → x.phase ≡ p → w.nodes ≤ MAX_NODES → Facts g w → Joins w → At w b x → IfSome (rest_in p w b x answered) (Joined w)
-rest-joined phase.Closed g w b x answered e le f h a = change-joined w b x x h a (itself-trails x)
-rest-joined (phase.Wanted s) g w b x answered e le f h a = change-joined w b x x h a (itself-trails x)
-rest-joined (phase.Stamped s stamp) g w b x answered e le f h a = dialling-joined g w b x s stamp x.members answered le f h a e refl
-rest-joined (phase.Requested s stamp) g w b x answered e le f h a = change-joined w b x x h a (itself-trails x)
-rest-joined (phase.Accepted s stamp) g w b x answered e le f h a = change-joined w b x x h a (itself-trails x)
-rest-joined phase.Opened g w b x answered e le f h a = did-joined w b x.waiting (open_step x).action x (open_step x).writer [] h a (empty-fits x.queue a.queue) (open-trails x)
-rest-joined (phase.Streaming sent) g w b x answered e le f h a = change-joined w b x x h a (itself-trails x)
-rest-joined phase.Closing g w b x answered e le f h a = change-joined w b x x h a (itself-trails x)
-rest-joined phase.Finished g w b x answered e le f h a = change-joined w b x x h a (itself-trails x)
-rest-joined phase.Completed g w b x answered e le f h a = did-joined w b x.waiting (completed_step x).action x (completed_step x).writer [] h a (empty-fits x.queue a.queue) (completed-trails x)
-rest-joined (phase.Failed e) g w b x answered q le f h a = change-joined w b x x h a (itself-trails x)
+rest-joined : (p : Phase) (g : Givens) (w : World) (b : ℕ) (x : WriterRecord) (answered : Bool) → x.phase ≡ p → w.nodes ≤ MAX_NODES → Facts g w → Ready w → Joins w → At w b x → IfSome (rest_in p w b x answered) (Joined w)
+rest-joined phase.Closed g w b x answered e le f rd h a = change-joined w b x x h a (itself-trails x)
+rest-joined (phase.Wanted s) g w b x answered e le f rd h a = change-joined w b x x h a (itself-trails x)
+rest-joined (phase.Stamped s stamp) g w b x answered e le f rd h a = dialling-joined g w b x s stamp x.members answered le f rd h a e refl
+rest-joined (phase.Requested s stamp) g w b x answered e le f rd h a = change-joined w b x x h a (itself-trails x)
+rest-joined (phase.Accepted s stamp) g w b x answered e le f rd h a = change-joined w b x x h a (itself-trails x)
+rest-joined phase.Opened g w b x answered e le f rd h a = did-joined w b x.waiting (open_step x).action x (open_step x).writer [] h a (empty-fits x.queue a.queue) (open-trails x)
+rest-joined (phase.Streaming sent) g w b x answered e le f rd h a = change-joined w b x x h a (itself-trails x)
+rest-joined phase.Closing g w b x answered e le f rd h a = change-joined w b x x h a (itself-trails x)
+rest-joined phase.Finished g w b x answered e le f rd h a = change-joined w b x x h a (itself-trails x)
+rest-joined phase.Completed g w b x answered e le f rd h a = did-joined w b x.waiting (completed_step x).action x (completed_step x).writer [] h a (empty-fits x.queue a.queue) (completed-trails x)
+rest-joined (phase.Failed e) g w b x answered q le f rd h a = change-joined w b x x h a (itself-trails x)
 
 command-fits : (c : Command) (r : Rule) → is_formed c r ≡ true → CommandFits c
 command-fits (command.Create ms) r e = and-right (nat_le (length ms) MAX_MEMBERS) (are_distinct ms) (and-left (are_members ms) (nat_le MIN_CHUNK_SIZE r.chunk) (and-left (are_members ms && nat_le MIN_CHUNK_SIZE r.chunk) (nat_le r.chunk MAX_CHUNK_SIZE) e))
@@ -315,14 +336,14 @@ at-told g w b o f e =
     let is = ap (λ (z : Option Told). known_heard (w.writers b).known z) e in
     record { is = is; queue = subst (λ (x : WriterRecord). x.queue ≡ []) is (f.carried.writers b).queue }
 
-step-joined : (g : Givens) (w : World) (b : ℕ) (o : Option Told) (takes : Option TakenCommand) (answered : Bool) → w.nodes ≤ MAX_NODES → Facts g w → Joins w → (w.writers b).told ≡ o → IfSome (writer_step w b (w.writers b).known o takes answered) (Joined w)
-step-joined g w b (Some told) None answered le f h e = let x = granted (w.writers b).known told in rest-joined x.phase g w b x answered refl le f h (at-told g w b (Some told) f e)
-step-joined g w b (Some told) (Some k) answered le f h e = tt
-step-joined g w b None None answered le f h e =
+step-joined : (g : Givens) (w : World) (b : ℕ) (o : Option Told) (takes : Option TakenCommand) (answered : Bool) → w.nodes ≤ MAX_NODES → Facts g w → Ready w → Joins w → (w.writers b).told ≡ o → IfSome (writer_step w b (w.writers b).known o takes answered) (Joined w)
+step-joined g w b (Some told) None answered le f rd h e = let x = granted (w.writers b).known told in rest-joined x.phase g w b x answered refl le f rd h (at-told g w b (Some told) f e)
+step-joined g w b (Some told) (Some k) answered le f rd h e = tt
+step-joined g w b None None answered le f rd h e =
     let x = (w.writers b).known in
     let a = at-told g w b None f e in
     did-joined w b x.waiting (own_step x).action x (own_step x).writer [] h a (empty-fits x.queue a.queue) (own-step-trails x)
-step-joined g w b None (Some k) answered le f h e = command-joined w b (w.writers b).known k h (at-told g w b None f e)
+step-joined g w b None (Some k) answered le f rd h e = command-joined w b (w.writers b).known k h (at-told g w b None f e)
 
 writer-up-joined : (g : Givens) (w : World) (b c : ℕ) (x : Next) → Facts g w → Joins w → IfSome (writer_up w b c x) (Joined w)
 writer-up-joined g w b c x f h =
@@ -555,19 +576,160 @@ office-joined : (g : Givens) (w : World) (c : Caller) → Facts g w → SetUps g
 office-joined g w (caller.Writer b) f s h = when-each (Joined w) (is_none (w.writers b.0).told) _ (λ e. asks-joined (own_step (w.writers b.0).known).action g w b.0 f s h (none-is (w.writers b.0).told e) refl)
 office-joined g w (caller.Primary i b) f s h = primary-asks-joined (w.primaries i) w i b h
 
+new-session : (f : ℕ → ℕ) (s : Option Stamped) → IfSome s (λ z. sessions_with f s z.stamp ≡ z.session)
+new-session f None = tt
+new-session f (Some z) = put-here f z.stamp z.session
+
+-- a stamp that is given is of no earlier session than those that were given before
+ordered-with : (f : Givens) (s : Option Stamped) (n : ℕ) → IfSome s (λ z. z.stamp ≡ n) → ((b t e : ℕ) → f b t ≡ Some e → t < n) → ((b t u e d : ℕ) → f b t ≡ Some e → f b u ≡ Some d → t ≤ u → e ≤ d)
+    → IfSome s (λ z. (t e : ℕ) → f z.block t ≡ Some e → e ≤ z.session) → (b t u e d : ℕ) → given_with f s b t ≡ Some e → given_with f s b u ≡ Some d → t ≤ u → e ≤ d
+ordered-with f None n new under order top = order
+ordered-with f (Some z) n new under order top = λ b t u e d x y le. given-each (λ (i v o : ℕ). (u d : ℕ) → given_with f (Some z) i u ≡ Some d → v ≤ u → o ≤ d) f (Some z)
+    (λ u d y le. given-each (λ (i v o : ℕ). z.stamp ≤ v → z.session ≤ o) f (Some z) (λ _. omega arith) (λ i v o q w. absurd (omega (arith, w, new, under i v o q))) z.block u d y le)
+    (λ i v o q u d y le. given-each (λ (j a c : ℕ). j ≡ i → v ≤ a → o ≤ c) f (Some z) (λ same _. top v o (subst (λ (j : ℕ). f j v ≡ Some o) (sym same) q)) (λ j a c w same lt. order i v a o c q (subst (λ (l : ℕ). f l a ≡ Some c) same w) lt) i u d y refl le)
+    b t e x u d y le
+
+-- the session of a stamp that a writer is given
+abbrev NewSessionBy : (w : World) → Joins w → OfficeCall → office_step.Step OfficeState OfficeAnswer → Type 0
+NewSessionBy w h c s = (x : WriterRecord) → AsksAs x c →
+    IfSome (stamped_by w c (office_step.reply s)) (λ z. ((t e : ℕ) → h.setups z.block t ≡ Some e → e ≤ z.session) × (z.session ≤ latest_with w.latest (stamped_by w c (office_step.reply s)) z.block))
+
+session-new : (w : World) (h : Joins w) (c : OfficeCall) → NewSessionBy w h c (office_case w.office c)
+session-new w h c = each_case w.office (NewSessionBy w h) (record {
+  refused = λ d e. λ x a. subst (λ (o : Option Stamped). IfSome o (λ z. ((t e : ℕ) → h.setups z.block t ≡ Some e → e ≤ z.session) × (z.session ≤ latest_with w.latest o z.block))) (sym (refused-stamp w d e)) tt;
+  created = λ block members none. λ x a. (λ t e q. omega (arith, h.early block.0 t e q), omega (arith, put-here w.latest block.0 w.office.next.0));
+  appended = λ block r is shut short. λ x a. (λ t e q. omega (arith, h.early block.0 t e q), omega (arith, put-here w.latest block.0 w.office.next.0));
+  stamped = λ block r is writers. λ x a. (λ t e q. h.within block.0 t e q, omega (arith, put-here w.latest block.0 (w.latest block.0)));
+  committed = λ block stamp members r is writers new. λ x a. tt;
+  completed = λ block stamp bytes r is writers new. λ x a. tt;
+  begun = λ block r is is_open. λ x a. absurd a;
+  synced = λ block id bytes members r is is_open latest. λ x a. absurd a;
+}) c
+
+-- the stamp that a writer is given, if it is
+writer-sets : (g : Givens) (w : World) (b : ℕ) (c : OfficeCall) → Facts g w → (h : Joins w) → (w.writers b).told ≡ None → AsksAs (w.writers b).known c → Sets w (asks_writer w b c) h.setups
+writer-sets g w b c f h none a = record {
+  setups = given_with h.setups s;
+  keeps = λ d t e q. given-mono h.setups s w.office.next.0 d t e (some-weaker _ (λ z. z.stamp ≡ w.office.next.0) s (λ z v. v.0) (gives w c).fresh) (h.under d t e q) q;
+  lifts = λ d. up d (d == b) refl;
+  sessions = given-each (λ d t e. sessions_with w.session_of s t ≡ e) h.setups s (new-session w.session_of s)
+      (λ d t e q. given-sessions w.session_of s w.office.next.0 (block_in c).0 k.office.next.0 (gives w c).fresh t (h.under d t e q) ∙ h.sessions d t e q);
+  early = given-each (λ d t e. e < k.office.next.0) h.setups s early-new (λ d t e q. omega (arith, h.early d t e q, (gives w c).rises));
+  late = λ d. later d;
+  within = given-each (λ d t e. e ≤ latest_with w.latest s d) h.setups s (some-weaker _ (λ z. z.session ≤ latest_with w.latest s z.block) s (λ z v. v.1) news)
+      (λ d t e q. old-within d t e q (up d (d == b) refl));
+  order = ordered-with h.setups s w.office.next.0 (some-weaker _ (λ z. z.stamp ≡ w.office.next.0) s (λ z v. v.0) (gives w c).fresh) h.under h.order (some-weaker _ (λ z. (t e : ℕ) → h.setups z.block t ≡ Some e → e ≤ z.session) s (λ z v. v.0) news);
+  answers = tt;
+  fits = λ d. at d (d == b) refl;
+  under = given-each (λ d t e. t < k.office.next.0) h.setups s (some-weaker _ (λ z. z.stamp < k.office.next.0) s (λ z v. v.2) (gives w c).fresh) (λ d t e q. omega (arith, h.under d t e q, (gives w c).rises));
+}
+  where
+    k : Change
+    k = asks_writer w b c
+
+    s : Option Stamped
+    s = k.stamped
+
+    is : heard (w.writers b) ≡ (w.writers b).known
+    is = none-heard (w.writers b) none
+
+    block : (w.writers b).known.block ≡ record { 0 = b }
+    block = subst (λ (x : WriterRecord). x.block ≡ record { 0 = b }) is (f.recorded.writers b)
+
+    own : Fits (given_with h.setups s b) (latest_with w.latest s b) None (granted (w.writers b).known (answer_to w.office c))
+    own = settles-by w b h.setups c (w.writers b).known a block (subst (λ (x : WriterRecord). Fits (h.setups b) (w.latest b) None x) is (h.fits b)) (record { below = λ t e q. h.under b t e q })
+
+    news : IfSome s (λ z. ((t e : ℕ) → h.setups z.block t ≡ Some e → e ≤ z.session) × (z.session ≤ latest_with w.latest s z.block))
+    news = session-new w h c (w.writers b).known a
+
+    old-within : (d t e : ℕ) → h.setups d t ≡ Some e → Goes w d s (heard (w.writers d)) (heard (put w.writers b k.writer d)) → e ≤ latest_with w.latest s d
+    old-within d t e q (inl x) = omega (arith, h.within d t e q, x.0)
+    old-within d t e q (inr x) = omega (arith, h.early d t e q, x)
+
+    at-block : (block_in c).0 ≡ b
+    at-block = ap (λ (q : BlockId). q.0) (asks-block (w.writers b).known c a ∙ block)
+
+    sessions : IfSome s (λ z. (z.session < k.office.next.0) × (z.latest < k.office.next.0))
+    sessions = session-by w c (w.writers b).known a h.late
+
+    -- a session that begins has the name of the stamp that is given
+    early-new : IfSome s (λ z. z.session < k.office.next.0)
+    early-new = some-weaker _ (λ z. z.session < k.office.next.0) s (λ z v. v.0) sessions
+
+    later : (d : ℕ) → latest_with w.latest s d < k.office.next.0
+    later d = late-with w.latest s k.office.next.0 (λ i. omega (arith, h.late i, (gives w c).rises)) (some-weaker _ (λ z. z.latest < k.office.next.0) s (λ z v. v.1) sessions) d
+
+    up : (d : ℕ) (t : Bool) → (d == b) ≡ t → Goes w d s (heard (w.writers d)) (heard (if t then k.writer else w.writers d))
+    up d true e = subst (λ (i : ℕ). Goes w i s (heard (w.writers i)) (heard k.writer)) (sym (eqb-true d b e))
+        (subst (λ (x : WriterRecord). Goes w b s x (heard k.writer)) (sym is) (begun-by w b c (w.writers b).known a block))
+    up d false e = inl (others-latest w.latest s (block_in c).0 d w.office.next.0 k.office.next.0 (gives w c).fresh (λ q. eqb-false d b e (q ∙ at-block)), omega arith)
+
+    at : (d : ℕ) (t : Bool) → (d == b) ≡ t → Fits (given_with h.setups s d) (latest_with w.latest s d) None (heard (if t then k.writer else w.writers d))
+    at d true e = subst (λ (i : ℕ). Fits (given_with h.setups s i) (latest_with w.latest s i) None (heard k.writer)) (sym (eqb-true d b e)) own
+    at d false e =
+        let apart : d ≡ (block_in c).0 → ⊥ = λ q. eqb-false d b e (q ∙ at-block) in
+        subst (λ (z : ℕ → Option ℕ). Fits z (latest_with w.latest s d) None (heard (w.writers d))) (sym (others-given h.setups s (block_in c).0 d w.office.next.0 k.office.next.0 (gives w c).fresh apart))
+        (subst (λ (z : ℕ). Fits (h.setups d) z None (heard (w.writers d))) (sym (others-latest w.latest s (block_in c).0 d w.office.next.0 k.office.next.0 (gives w c).fresh apart)) (h.fits d))
+
+primary-sets : (w : World) (i : ℕ) (c : OfficeCall) (p : Told → Primary) → IsPrimarys c → (h : Joins w) → Sets w (asks_primary w i c p) h.setups
+primary-sets w i c p a h = record {
+  setups = h.setups;
+  keeps = λ b t e q. q;
+  lifts = λ b. inl (latest-by w c a b, put-each (λ (d : ℕ) (y : Writing). Lifts (heard (w.writers d)) (heard y)) w.writers 0 (w.writers 0) (omega arith) (λ d. omega arith) b);
+  sessions = λ b t e q.
+      given-sessions w.session_of (asks_primary w i c p).stamped w.office.next.0 (block_in c).0 (asks_primary w i c p).office.next.0 (gives w c).fresh t (h.under b t e q) ∙ h.sessions b t e q;
+  early = λ b t e q. omega (arith, h.early b t e q, (gives w c).rises);
+  late = λ b. omega (arith, h.late b, latest-by w c a b, (gives w c).rises);
+  within = λ b t e q. omega (arith, h.within b t e q, latest-by w c a b);
+  order = h.order;
+  answers = tt;
+  fits = λ b. subst (λ (l : ℕ). Fits (h.setups b) l None (heard (put w.writers 0 (w.writers 0) b))) (sym (latest-by w c a b))
+      (put-each (λ (d : ℕ) (y : Writing). Fits (h.setups d) (w.latest d) None (heard y)) w.writers 0 (w.writers 0) (h.fits 0) h.fits b);
+  under = λ b t e q. omega (arith, h.under b t e q, (gives w c).rises);
+}
+
+asks-sets : (a : Action) (g : Givens) (w : World) (b : ℕ) → Facts g w → (h : Joins w) → (w.writers b).told ≡ None → (own_step (w.writers b).known).action ≡ a → IfSome (writer_asks a w b) (λ k. Sets w k h.setups)
+asks-sets action.Wait g w b f h e q = tt
+asks-sets action.Took g w b f h e q = tt
+asks-sets (action.Dial to r) g w b f h e q = tt
+asks-sets (action.Send p) g w b f h e q = tt
+asks-sets (action.Answered n c) g w b f h e q = tt
+asks-sets action.Memory g w b f h e q = tt
+asks-sets (action.Ask c) g w b f h e q = writer-sets g w b c f h e (subst (λ (z : Action). Asking (w.writers b).known z) q (own-step-asking (w.writers b).known))
+
+commits-sets : (s : OwnStep) (w : World) (i : ℕ) (l : Leading) → (h : Joins w) → IfSome (primary_commits s w i l) (λ k. Sets w k h.setups)
+commits-sets lead.Waits w i l h = tt
+commits-sets (lead.Updates c) w i l h = tt
+commits-sets (lead.Commits c) w i l h = primary-sets w i (primary.sync_call l.state c) (λ told. leads (record l { told = Some told })) tt h
+commits-sets (lead.Ends r) w i l h = tt
+
+primary-asks-sets : (p : Primary) (w : World) (i : ℕ) (b : BlockId) → (h : Joins w) → IfSome (primary_asks p w i b) (λ k. Sets w k h.setups)
+primary-asks-sets no_primary w i b h = primary-sets w i (call.BeginRecovery b) (was_told b) tt h
+primary-asks-sets (was_told c told) w i b h = tt
+primary-asks-sets (leads l) w i b h = when-each (λ k. Sets w k h.setups) (is_alive w l.at && is_none l.told) _ (λ _. commits-sets (primary.own_step l.state).does w i l h)
+primary-asks-sets (has_led r) w i b h = tt
+
+office-sets : (g : Givens) (w : World) (c : Caller) → Facts g w → (h : Joins w) → IfSome (office_event w c) (λ k. Sets w k h.setups)
+office-sets g w (caller.Writer b) f h = when-each (λ k. Sets w k h.setups) (is_none (w.writers b.0).told) _ (λ e. asks-sets (own_step (w.writers b.0).known).action g w b.0 f h (none-is (w.writers b.0).told e) refl)
+office-sets g w (caller.Primary i b) f h = primary-asks-sets (w.primaries i) w i b h
+
 -- EVENTS
 
-changed-joins : (g l : Givens) (w : World) (o : Option Change) → Facts g w → Joins w → IfSome (changed w o) (Facts l) → IfSome o (Joined w) → IfSome (changed w o) Joins
-changed-joins g l w None f h n j = tt
-changed-joins g l w (Some k) f h n j = joins-apply g l w k h j.takes j.after f n
+changed-joins : (g l : Givens) (w : World) (o : Option Change) → Facts g w → (h : Joins w) → IfSome (changed w o) (Facts l) → IfSome o (Joined w) → IfSome o (Quietly w) → IfSome o (Lifted w) → IfSome (changed w o) Joins
+changed-joins g l w None f h n j q d = tt
+changed-joins g l w (Some k) f h n j q d = joins-apply g l w k h j.takes j.after (quiet-sets w k h q d) f n
+
+office-joins : (g l : Givens) (w : World) (o : Option Change) → Facts g w → (h : Joins w) → IfSome (changed w o) (Facts l) → IfSome o (Joined w) → IfSome o (λ k. Sets w k h.setups) → IfSome (changed w o) Joins
+office-joins g l w None f h n j q = tt
+office-joins g l w (Some k) f h n j q = joins-apply g l w k h j.takes j.after q f n
 
 down-taken-joins : (w : World) (c : ℕ) (x : Next) → Joins w → Joins (down_taken w c x)
 unfolding down_taken
-down-taken-joins w c x h = record { few = h.few; begun = h.begun; once = h.once; unmet = h.unmet; stamped = h.stamped; members = h.members; single = h.single }
+down-taken-joins w c x h = record { few = h.few; begun = h.begun; once = h.once; unmet = h.unmet; stamped = h.stamped; members = h.members; setups = h.setups; fits = h.fits; under = h.under; sessions = h.sessions; early = h.early; late = h.late; within = h.within; order = h.order; answered = h.answered; acked = h.acked; cover = h.cover; given = h.given; reach = h.reach; single = h.single }
 
 up-taken-joins : (w : World) (c : ℕ) (x : Next) → Joins w → Joins (up_taken w c x)
 unfolding up_taken
-up-taken-joins w c x h = record { few = h.few; begun = h.begun; once = h.once; unmet = h.unmet; stamped = h.stamped; members = h.members; single = h.single }
+up-taken-joins w c x h = record { few = h.few; begun = h.begun; once = h.once; unmet = h.unmet; stamped = h.stamped; members = h.members; setups = h.setups; fits = h.fits; under = h.under; sessions = h.sessions; early = h.early; late = h.late; within = h.within; order = h.order; answered = h.answered; acked = h.acked; cover = h.cover; given = h.given; reach = h.reach; single = h.single }
 
 first-op : (g : Givens) (t : Ends) (w : World) (c : ℕ) (o : Op) → NextTells g t w c (message (request o)) → FirstOf w c (message (request o))
 first-op g t w c (op.Write f) h = record { first = h.0.first }
@@ -612,6 +774,7 @@ down-as-joins g l t w c answered fails (Some x) k h e n =
     let j = down-taken-joins w c x h in
     let o = lower_down (w.lowers c) v c x answered fails in
     changed-joins g l v o (down-known g t w c x k).facts j n (asides-joined v o j (lower-down-aside (w.lowers c) v c x answered fails) (lower-takes w c x answered fails (first-of g t w c x (next-tells g t w c x k e))))
+    (aside-quietly v o (lower-down-aside (w.lowers c) v c x answered fails)) (asides-lifted v o (lower-down-aside (w.lowers c) v c x answered fails))
 
 down-joins : (g l : Givens) (t : Ends) (w : World) (c : ℕ) (answered fails : Bool) → Known g t w → Joins w → IfSome (down_event w c answered fails) (Facts l) → IfSome (down_event w c answered fails) Joins
 down-joins g l t w c answered fails k h n = when-two (Facts l) Joins (is_served w c) _ n (λ _ q. down-as-joins g l t w c answered fails (next_down w c) k h refl q)
@@ -619,7 +782,7 @@ down-joins g l t w c answered fails k h n = when-two (Facts l) Joins (is_served 
 ready-joins : (g l : Givens) (t : Ends) (w : World) (c : ℕ) (fails : Bool) → Known g t w → Joins w → IfSome (ready_event w c fails) (Facts l) → IfSome (ready_event w c fails) Joins
 ready-joins g l t w c fails k h n =
     let o = lower_ready (w.lowers c) w c fails in
-    when-two (Facts l) Joins (is_served w c) _ n (λ _ q. changed-joins g l w o k.facts h q (asides-joined w o h (lower-ready-aside (w.lowers c) w c fails) (lower-ready-takes (w.lowers c) w c fails)))
+    when-two (Facts l) Joins (is_served w c) _ n (λ _ q. changed-joins g l w o k.facts h q (asides-joined w o h (lower-ready-aside (w.lowers c) w c fails) (lower-ready-takes (w.lowers c) w c fails)) (aside-quietly w o (lower-ready-aside (w.lowers c) w c fails)) (asides-lifted w o (lower-ready-aside (w.lowers c) w c fails)))
 
 unless-joined : (w : World) (fails : Bool) (o : Option Change) → IfSome o (Joined w) → IfSome (unless_fails fails o) (Joined w)
 unless-joined w true o h = tt
@@ -631,13 +794,42 @@ upper-joined (by_member d) g w c x fails f h = asides-joined w (mirror_up (w.low
 upper-joined (by_reader i) g w c x fails f h = unless-joined w fails (reader_up w i c x) (asides-joined w (reader_up w i c x) h (reader-up-aside w i c x) (reader-up-takes (w.readers i) w i c x))
 upper-joined (by_primary i p) g w c x fails f h = unless-joined w fails (primary_up w i p c x) (asides-joined w (primary_up w i p c x) h (primary-up-aside w i p c x) (primary-up-takes (w.primaries i) w i p c x))
 
+unless-lifted : (w : World) (fails : Bool) (o : Option Change) → IfSome o (Lifted w) → IfSome (unless_fails fails o) (Lifted w)
+unless-lifted w true o h = tt
+unless-lifted w false o h = h
+
+upper-lifted : (u : Upper) (w : World) (c : ℕ) (x : Next) (fails : Bool) → IfSome (upper_up u w c x fails) (Lifted w)
+upper-lifted (by_writer b) w c x fails = unless-lifted w fails (writer_up w b c x) (writer-up-lifted w b c x)
+upper-lifted (by_member d) w c x fails = asides-lifted w (mirror_up (w.lowers d) w d x fails) (mirror-up-aside (w.lowers d) w d x fails)
+upper-lifted (by_reader i) w c x fails = unless-lifted w fails (reader_up w i c x) (asides-lifted w (reader_up w i c x) (reader-up-aside w i c x))
+upper-lifted (by_primary i p) w c x fails = unless-lifted w fails (primary_up w i p c x) (asides-lifted w (primary_up w i p c x) (primary-up-aside w i p c x))
+
+-- what is known of writers after every list of events
+record Moving (w : World) : Type 0 where
+  pub makes : (b : ℕ) → Makes b (heard (w.writers b))
+  pub reaches : (b : ℕ) → Reaches (heard (w.writers b))
+  pub ready : Ready w
+
+moving-at : (w : World) → Reached w → Moving w
+moving-at w r = subst (λ (v : World). Moving v) r.is (record {
+  makes = all-move r.nodes r.events;
+  reaches = all-reached r.nodes r.events;
+  ready = let x = at-end r.nodes r.events in ready-of (given_in none_given (start r.nodes) r.events) x.ends (run (start r.nodes) r.events) x.known x.stands;
+})
+
+own-lifted : (g : Givens) (w : World) (s : step.OwnStep) → Facts g w → Moving w → IfSome (own_change w s) (Lifted w)
+own-lifted g w (own.Writer b takes answered) f m = step-lifted w b.0 (w.writers b.0).told takes answered (m.reaches b.0) (m.makes b.0) (f.carried.writers b.0).queue refl
+own-lifted g w (own.Reader i n r answered) f m = asides-lifted w (own_reader w i n.0 r answered) (own-reader-aside w i n.0 r answered)
+own-lifted g w (own.Recover i n b members answers) f m = asides-lifted w (own_recover w i n.0 b members answers) (own-recover-aside w i n.0 b members answers)
+own-lifted g w (own.Primary i) f m = asides-lifted w (own_primary w i) (own-primary-aside w i)
+
 up-as-joins : (g l : Givens) (t : Ends) (w : World) (c : ℕ) (fails : Bool) (o : Option Next) → Known g t w → Joins w → IfSome (up_as w c fails o) (Facts l) → IfSome (up_as w c fails o) Joins
 up-as-joins g l t w c fails None k h n = tt
 up-as-joins g l t w c fails (Some x) k h n =
     let v = up_taken w c x in
     let f = (up-known g t w c x k).facts in
     let j = up-taken-joins w c x h in
-    changed-joins g l v (upper_up (w.dialled c).upper v c x fails) f j n (upper-joined (w.dialled c).upper g v c x fails f j)
+    changed-joins g l v (upper_up (w.dialled c).upper v c x fails) f j n (upper-joined (w.dialled c).upper g v c x fails f j) (upper-quietly (w.dialled c).upper v c x fails) (upper-lifted (w.dialled c).upper v c x fails)
 
 up-joins : (g l : Givens) (t : Ends) (w : World) (c : ℕ) (fails : Bool) → Known g t w → Joins w → IfSome (up_event w c fails) (Facts l) → IfSome (up_event w c fails) Joins
 up-joins g l t w c fails k h n = when-two (Facts l) Joins (nat_lt c w.next_conn) _ n (λ _ q. up-as-joins g l t w c fails (next_up w c) k h q)
@@ -647,40 +839,40 @@ fault-joins g l t w (delivery.Down c) k h n = down-joins g l t w c.0 false true 
 fault-joins g l t w (delivery.Ready c) k h n = ready-joins g l t w c.0 true k h n
 fault-joins g l t w (delivery.Up c) k h n = up-joins g l t w c.0 true k h n
 
-own-joined : (g : Givens) (w : World) (s : step.OwnStep) → Facts g w → Joins w → IfSome (own_change w s) (Joined w)
-own-joined g w (own.Writer b takes answered) f h = step-joined g w b.0 (w.writers b.0).told takes answered h.few f h refl
-own-joined g w (own.Reader i n r answered) f h = asides-joined w (own_reader w i n.0 r answered) h (own-reader-aside w i n.0 r answered) (own-reader-takes (w.readers i) w i n.0 r answered)
-own-joined g w (own.Recover i n b members answers) f h = asides-joined w (own_recover w i n.0 b members answers) h (own-recover-aside w i n.0 b members answers) (begins-at-takes (w.primaries i) w i n.0 b members answers)
-own-joined g w (own.Primary i) f h = asides-joined w (own_primary w i) h (own-primary-aside w i) (own-primary-takes (w.primaries i) w i)
+own-joined : (g : Givens) (w : World) (s : step.OwnStep) → Facts g w → Ready w → Joins w → IfSome (own_change w s) (Joined w)
+own-joined g w (own.Writer b takes answered) f rd h = step-joined g w b.0 (w.writers b.0).told takes answered h.few f rd h refl
+own-joined g w (own.Reader i n r answered) f rd h = asides-joined w (own_reader w i n.0 r answered) h (own-reader-aside w i n.0 r answered) (own-reader-takes (w.readers i) w i n.0 r answered)
+own-joined g w (own.Recover i n b members answers) f rd h = asides-joined w (own_recover w i n.0 b members answers) h (own-recover-aside w i n.0 b members answers) (begins-at-takes (w.primaries i) w i n.0 b members answers)
+own-joined g w (own.Primary i) f rd h = asides-joined w (own_primary w i) h (own-primary-aside w i) (own-primary-takes (w.primaries i) w i)
 
 where-joins : (test : Bool) (v : World) → Joins v → IfSome (where_so test v) Joins
 where-joins true v h = h
 where-joins false v h = tt
 
 lost-joins : (w : World) (c : ℕ) (way : Direction) (more : ℕ) → Joins w → Joins (lost w c way more)
-lost-joins w c direction.Down more h = record { few = h.few; begun = h.begun; once = h.once; unmet = h.unmet; stamped = h.stamped; members = h.members; single = h.single }
-lost-joins w c direction.Up more h = record { few = h.few; begun = h.begun; once = h.once; unmet = h.unmet; stamped = h.stamped; members = h.members; single = h.single }
+lost-joins w c direction.Down more h = record { few = h.few; begun = h.begun; once = h.once; unmet = h.unmet; stamped = h.stamped; members = h.members; setups = h.setups; fits = h.fits; under = h.under; sessions = h.sessions; early = h.early; late = h.late; within = h.within; order = h.order; answered = h.answered; acked = h.acked; cover = h.cover; given = h.given; reach = h.reach; single = h.single }
+lost-joins w c direction.Up more h = record { few = h.few; begun = h.begun; once = h.once; unmet = h.unmet; stamped = h.stamped; members = h.members; setups = h.setups; fits = h.fits; under = h.under; sessions = h.sessions; early = h.early; late = h.late; within = h.within; order = h.order; answered = h.answered; acked = h.acked; cover = h.cover; given = h.given; reach = h.reach; single = h.single }
 
-outcome-joins : (g l : Givens) (t : Ends) (w : World) (e : Event) → Known g t w → Joins w → IfSome (outcome w e) (Facts l) → IfSome (outcome w e) Joins
+outcome-joins : (g l : Givens) (t : Ends) (w : World) (e : Event) → Known g t w → Moving w → Joins w → IfSome (outcome w e) (Facts l) → IfSome (outcome w e) Joins
 unfolding outcome restart
-outcome-joins g l t w (event.Own s) k h n = changed-joins g l w (own_change w s) k.facts h n (own-joined g w s k.facts h)
-outcome-joins g l t w (event.Office c) k h n = changed-joins g l w (office_event w c) k.facts h n (office-joined g w c k.facts k.sets h)
-outcome-joins g l t w (event.Down c answered) k h n = down-joins g l t w c.0 answered false k h n
-outcome-joins g l t w (event.Ready c) k h n = ready-joins g l t w c.0 false k h n
-outcome-joins g l t w (event.Up c) k h n = up-joins g l t w c.0 false k h n
-outcome-joins g l t w (event.Lost c way more) k h n = where-joins (nat_lt c.0 w.next_conn) (lost w c.0 way more) (lost-joins w c.0 way more h)
-outcome-joins g l t w (event.Fault d) k h n = fault-joins g l t w d k h n
-outcome-joins g l t w (event.Stop n) k h q = where-joins (w.running n.0) (stop w n.0) (record { few = h.few; begun = h.begun; once = h.once; unmet = h.unmet; stamped = h.stamped; members = h.members; single = h.single })
-outcome-joins g l t w (event.Restart n list) k h q =
-    where-joins (nat_lt n.0 w.nodes && not (w.running n.0) && all_found w n.0 list) (restart w n.0 list) (record { few = h.few; begun = h.begun; once = h.once; unmet = h.unmet; stamped = h.stamped; members = h.members; single = h.single })
+outcome-joins g l t w (event.Own s) k m h n = changed-joins g l w (own_change w s) k.facts h n (own-joined g w s k.facts m.ready h) (own-quietly w s) (own-lifted g w s k.facts m)
+outcome-joins g l t w (event.Office c) k m h n = office-joins g l w (office_event w c) k.facts h n (office-joined g w c k.facts k.sets h) (office-sets g w c k.facts h)
+outcome-joins g l t w (event.Down c answered) k m h n = down-joins g l t w c.0 answered false k h n
+outcome-joins g l t w (event.Ready c) k m h n = ready-joins g l t w c.0 false k h n
+outcome-joins g l t w (event.Up c) k m h n = up-joins g l t w c.0 false k h n
+outcome-joins g l t w (event.Lost c way more) k m h n = where-joins (nat_lt c.0 w.next_conn) (lost w c.0 way more) (lost-joins w c.0 way more h)
+outcome-joins g l t w (event.Fault d) k m h n = fault-joins g l t w d k h n
+outcome-joins g l t w (event.Stop n) k m h q = where-joins (w.running n.0) (stop w n.0) (record { few = h.few; begun = h.begun; once = h.once; unmet = h.unmet; stamped = h.stamped; members = h.members; setups = h.setups; fits = h.fits; under = h.under; sessions = h.sessions; early = h.early; late = h.late; within = h.within; order = h.order; answered = h.answered; acked = h.acked; cover = h.cover; given = h.given; reach = h.reach; single = h.single })
+outcome-joins g l t w (event.Restart n list) k m h q =
+    where-joins (nat_lt n.0 w.nodes && not (w.running n.0) && all_found w n.0 list) (restart w n.0 list) (record { few = h.few; begun = h.begun; once = h.once; unmet = h.unmet; stamped = h.stamped; members = h.members; setups = h.setups; fits = h.fits; under = h.under; sessions = h.sessions; early = h.early; late = h.late; within = h.within; order = h.order; answered = h.answered; acked = h.acked; cover = h.cover; given = h.given; reach = h.reach; single = h.single })
 
 after-joins : (w : World) (e : Event) (o : Option World) → Joins w → IfSome o Joins → Joins (after_event w e o)
 after-joins w e None h k = h
-after-joins w e (Some v) h k = record { few = k.few; begun = k.begun; once = k.once; unmet = k.unmet; stamped = k.stamped; members = k.members; single = k.single }
+after-joins w e (Some v) h k = record { few = k.few; begun = k.begun; once = k.once; unmet = k.unmet; stamped = k.stamped; members = k.members; setups = k.setups; fits = k.fits; under = k.under; sessions = k.sessions; early = k.early; late = k.late; within = k.within; order = k.order; answered = k.answered; acked = k.acked; cover = k.cover; given = k.given; reach = k.reach; single = k.single }
 
-happens-joins : (g l : Givens) (t : Ends) (w : World) (e : Event) → Known g t w → Facts l (happens w e) → Joins w → Joins (happens w e)
+happens-joins : (g l : Givens) (t : Ends) (w : World) (e : Event) → Known g t w → Moving w → Facts l (happens w e) → Joins w → Joins (happens w e)
 unfolding happens
-happens-joins g l t w e k n h = after-joins w e (outcome w e) h (outcome-joins g l t w e k h (outcome-facts l w e (outcome w e) n))
+happens-joins g l t w e k m n h = after-joins w e (outcome w e) h (outcome-joins g l t w e k m h (outcome-facts l w e (outcome w e) n))
 
 -- what is known of a world that some events lead to
 record Seen (w : World) : Type 0 where
@@ -699,10 +891,20 @@ run-joins w (e ∷ events) r h =
     let k = seen w r in
     let n = reached-next w e r in
     let v = seen (happens w e) n in
-    run-joins (happens w e) events n (happens-joins k.givens v.givens k.ends w e k.known v.known.facts h)
+    run-joins (happens w e) events n (happens-joins k.givens v.givens k.ends w e k.known (moving-at w r) v.known.facts h)
+
+-- 0 stands for the stamp of a block that no writer has created
+first_setups : Givens
+first_setups b t = if t == 0 then Some 0 else None
+
+first-is : (t e : ℕ) → (if t == 0 then Some 0 else None) ≡ Some e → t ≡ 0
+first-is t e = if-each (λ (o : Option ℕ). o ≡ Some e → t ≡ 0) (t == 0) (Some 0) None (λ q _. eqb-true t 0 q) (λ _ q. absurd (none-some e q))
+
+first-zero : (t e : ℕ) → (if t == 0 then Some 0 else None) ≡ Some e → e ≡ 0
+first-zero t e = if-each (λ (o : Option ℕ). o ≡ Some e → e ≡ 0) (t == 0) (Some 0) None (λ _ q. sym (same_Some 0 e q)) (λ _ q. absurd (none-some e q))
 
 start-joins : (nodes : ℕ) → nodes ≤ MAX_NODES → Joins (start nodes)
-unfolding start
+unfolding start first_setups
 start-joins nodes le = record {
   few = le;
   begun = λ c lt. absurd (omega (arith, lt));
@@ -710,6 +912,19 @@ start-joins nodes le = record {
   unmet = λ c f x. absurd (none-some _ x.asked.first);
   stamped = λ b s t e. absurd (apart e);
   members = λ b. refl;
+  setups = first_setups;
+  fits = λ b. record { is = refl };
+  under = λ b t e x. omega (arith, first-is t e x, (start-recorded nodes).first);
+  sessions = λ b t e x. sym (first-zero t e x);
+  early = λ b t e x. omega (arith, first-zero t e x, (start-recorded nodes).first);
+  late = λ b. (start-recorded nodes).first;
+  within = λ b t e x. omega (arith, first-zero t e x);
+  order = λ b t u e d x y lt. omega (arith, first-zero t e x);
+  answered = λ a x. absurd (none-some a x.there);
+  acked = λ a x. absurd (none-some a x.there);
+  cover = λ a c e f x. absurd (none-some a x.there);
+  given = λ c f x. absurd (none-some _ x.first);
+  reach = λ c d b f k o x y. absurd (none-some _ x.first);
   single = λ s n l k lt x y. absurd (none-some _ x.there);
 }
   where

@@ -93,6 +93,7 @@ pipeline-later h k b s ms c g p = record {
   others = p.others;
   are = p.are;
   node = ap (λ (d : Dialled). d.to.node) (g.dialled c p.known) ∙ p.node;
+  upper = ap (λ (d : Dialled). d.upper) (g.dialled c p.known) ∙ p.upper;
   targets = p.targets;
 }
 
@@ -219,6 +220,7 @@ dialled-linked w b x s stamp m ms h q e mem = record {
       others = ms;
       are = mem;
       node = ap (λ (d : Dialled). d.to.node) (new-dialled w k _ refl);
+      upper = ap (λ (d : Dialled). d.upper) (new-dialled w k _ refl);
       targets = request-targets x.block x.committed x.stream s stamp (length x.members) ms r.fields r.is;
     };
     creates = begun-creates s stamp x.committed created;

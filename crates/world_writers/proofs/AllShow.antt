@@ -25,7 +25,6 @@ use Rattle.world.specs.Events.{changed, own_change, down_as, down_event, ready_e
 use Rattle.world_laws.proofs.SessionAsides.{lower-down-aside, lower-ready-aside, mirror-up-aside, own-reader-aside, reader-up-aside, own-recover-aside, own-primary-aside, primary-up-aside}
 use Rattle.world_laws.specs.Stamping.{Givens, none_given, given_with, stamped_in, given_by, given_in, heard}
 use Rattle.world_laws.proofs.AllRecorded.{happens-recorded, Reached, reached-next, reached-agreed, start-recorded}
-use Rattle.world_laws.proofs.ByteLeaves.{Facts}
 use Rattle.world_laws.proofs.AllCarried.{happens-carried, reached-facts, at-start, start-carried}
 use Rattle.world_laws.proofs.AllSetUp.{happens-set, start-set}
 use Rattle.world_acks.specs.Acking.{Ends, Asked}
@@ -37,7 +36,8 @@ use Rattle.world_acks.proofs.Ends.{lower-ready-leaf}
 use Rattle.world_acks.proofs.Clients.{Leads}
 use Rattle.world_acks.proofs.Granting.{OfficeLeads, fresh-given, office-event-leads}
 use Rattle.world_laws.proofs.FactTables.{if-each}
-use Rattle.world_acks.proofs.AllAcked.{like-onward, down-known, up-known, leads-of, when-two, lt-true, served-known, served-life, next-tells, taken-tells, heard-tells, lower-taken, upper-taken, own-leads, outcome-facts, happens-told, no_ends, start-requests, start-acked, restart-onward}
+use Rattle.world_recoveries.proofs.AllRecovering.{happens-fits, start-fits}
+use Rattle.world_acks.proofs.AllAcked.{like-onward, down-known, up-known, leads-of, when-two, lt-true, served-known, served-life, next-tells, taken-tells, heard-tells, lower-taken, upper-taken, own-leads, Follows, down-follows, up-follows, outcome-follows, happens-told, no_ends, start-requests, start-acked, restart-onward}
 use Rattle.std.proofs.lemmas.Option.{none-some}
 use Rattle.world.specs.Parts.{Answered}
 use Rattle.world.specs.Safe.{Has}
@@ -52,20 +52,20 @@ use Rattle.world_writers.proofs.Granting.{Gives, office-stood}
 
 -- CHANGES
 
-changed-stands : (g : Givens) (t : Ends) (w : World) (o : Option Change) → Known g t w → Standing g w → IfSome o (Leads g g t w) → IfSome (changed w o) (Facts g) → IfSome o (Stood g g t w) → IfSome (changed w o) (Standing g)
+changed-stands : (g : Givens) (t : Ends) (w : World) (o : Option Change) → Known g t w → Standing g w → IfSome o (Leads g g t w) → IfSome (changed w o) (Follows g w) → IfSome o (Stood g g t w) → IfSome (changed w o) (Standing g)
 changed-stands g t w None h s l f d = tt
 changed-stands g t w (Some k) h s l f d =
-    let new = subst (λ (r : FullReplica). IsFull r) (after-at w k) (f.full k.node k.block) in
-    let on = apply-onward g g t l.ends w k l.steps h.facts.full new (λ b i e q. q) l.named in
-    apply-stands g g t l.ends w k s on f d
+    let new = subst (λ (r : FullReplica). IsFull r) (after-at w k) (f.facts.full k.node k.block) in
+    let on = apply-onward g g t l.ends w k l.steps h.recovering f.coming.tells f.coming.recovering h.facts.full new (λ b i e q. q) l.named in
+    apply-stands g g t l.ends w k s on f.facts d
 
-office-stands : (g : Givens) (t : Ends) (w : World) (o : Option Change) → Known g t w → Standing g w → IfSome o (OfficeLeads g t w) → IfSome (changed w o) (Facts (given_with g (stamped_in o))) → IfSome o (Gives g t w) → IfSome (changed w o) (Standing (given_with g (stamped_in o)))
+office-stands : (g : Givens) (t : Ends) (w : World) (o : Option Change) → Known g t w → Standing g w → IfSome o (OfficeLeads g t w) → IfSome (changed w o) (Follows (given_with g (stamped_in o)) w) → IfSome o (Gives g t w) → IfSome (changed w o) (Standing (given_with g (stamped_in o)))
 office-stands g t w None h s l f d = tt
 office-stands g t w (Some k) h s x f d =
     let l = x.leads in
-    let new = subst (λ (r : FullReplica). IsFull r) (after-at w k) (f.full k.node k.block) in
-    let on = apply-onward g (given_with g k.stamped) t l.ends w k l.steps h.facts.full new (fresh-given g t w k.stamped h x.fresh) l.named in
-    apply-stands g (given_with g k.stamped) t l.ends w k s on f d
+    let new = subst (λ (r : FullReplica). IsFull r) (after-at w k) (f.facts.full k.node k.block) in
+    let on = apply-onward g (given_with g k.stamped) t l.ends w k l.steps h.recovering f.coming.tells f.coming.recovering h.facts.full new (fresh-given g t w k.stamped h x.fresh) l.named in
+    apply-stands g (given_with g k.stamped) t l.ends w k s on f.facts d
 
 -- WORLDS WITH THE SAME WRITERS
 
@@ -101,24 +101,24 @@ up-taken-stands g t w c x h =
 -- DELIVERIES
 
 down-as-stands : (g : Givens) (t : Ends) (w : World) (c : ℕ) (answered fails : Bool) (o : Option Next) → Known g t w → Standing g w → c < w.next_conn → w.lives (node_of w c) ≡ (w.dialled c).to.life → next_down w c ≡ o
-    → IfSome (down_as w c answered fails o) (Facts g) → IfSome (down_as w c answered fails o) (Standing g)
+    → IfSome (down_as w c answered fails o) (Follows g w) → IfSome (down_as w c answered fails o) (Standing g)
 down-as-stands g t w c answered fails None h s lt alive e f = tt
 down-as-stands g t w c answered fails (Some x) h s lt alive e f =
     let v = down_taken w c x in
     let k = lower_down (w.lowers c) v c x answered fails in
     let d = down-taken-stands g t w c x s in
     changed-stands g t v k (down-known g t w c x h) d
-    (leads-of g t v k (lower-taken g t w c x answered fails (down-known g t w c x h) lt alive (taken-tells g t w c x x (next-tells g t w c x h e)))) f
+    (leads-of g t v k (lower-taken g t w c x answered fails (down-known g t w c x h) lt alive (taken-tells g t w c x x (next-tells g t w c x h e)))) (down-follows g w c x _ f)
     (asides-stood g t v k d (lower-down-aside (w.lowers c) v c x answered fails))
 
-down-stands : (g : Givens) (t : Ends) (w : World) (c : ℕ) (answered fails : Bool) → Known g t w → Standing g w → IfSome (down_event w c answered fails) (Facts g) → IfSome (down_event w c answered fails) (Standing g)
+down-stands : (g : Givens) (t : Ends) (w : World) (c : ℕ) (answered fails : Bool) → Known g t w → Standing g w → IfSome (down_event w c answered fails) (Follows g w) → IfSome (down_event w c answered fails) (Standing g)
 down-stands g t w c answered fails h s f =
-    when-two (Facts g) (Standing g) (is_served w c) _ f (λ e q. down-as-stands g t w c answered fails (next_down w c) h s (served-known w c e) (served-life w c e) refl q)
+    when-two (Follows g w) (Standing g) (is_served w c) _ f (λ e q. down-as-stands g t w c answered fails (next_down w c) h s (served-known w c e) (served-life w c e) refl q)
 
-ready-stands : (g : Givens) (t : Ends) (w : World) (c : ℕ) (fails : Bool) → Known g t w → Standing g w → IfSome (ready_event w c fails) (Facts g) → IfSome (ready_event w c fails) (Standing g)
+ready-stands : (g : Givens) (t : Ends) (w : World) (c : ℕ) (fails : Bool) → Known g t w → Standing g w → IfSome (ready_event w c fails) (Follows g w) → IfSome (ready_event w c fails) (Standing g)
 ready-stands g t w c fails h s f =
     let k = lower_ready (w.lowers c) w c fails in
-    when-two (Facts g) (Standing g) (is_served w c) _ f (λ e q. changed-stands g t w k h s (leads-of g t w k (lower-ready-leaf (w.lowers c) g t w c fails h refl (served-life w c e))) q
+    when-two (Follows g w) (Standing g) (is_served w c) _ f (λ e q. changed-stands g t w k h s (leads-of g t w k (lower-ready-leaf (w.lowers c) g t w c fails h refl (served-life w c e))) q
     (asides-stood g t w k s (lower-ready-aside (w.lowers c) w c fails)))
 
 unless-stood : (g : Givens) (t : Ends) (w : World) (fails : Bool) (o : Option Change) → IfSome o (Stood g g t w) → IfSome (unless_fails fails o) (Stood g g t w)
@@ -131,7 +131,7 @@ upper-stood (by_member d) g t w c x fails h v s n = asides-stood g t w (mirror_u
 upper-stood (by_reader i) g t w c x fails h v s n = unless-stood g t w fails (reader_up w i c x) (asides-stood g t w (reader_up w i c x) s (reader-up-aside w i c x))
 upper-stood (by_primary i p) g t w c x fails h v s n = unless-stood g t w fails (primary_up w i p c x) (asides-stood g t w (primary_up w i p c x) s (primary-up-aside w i p c x))
 
-up-as-stands : (g : Givens) (t : Ends) (w : World) (c : ℕ) (fails : Bool) (o : Option Next) → Known g t w → Writers w → Standing g w → c < w.next_conn → next_up w c ≡ o → IfSome (up_as w c fails o) (Facts g) → IfSome (up_as w c fails o) (Standing g)
+up-as-stands : (g : Givens) (t : Ends) (w : World) (c : ℕ) (fails : Bool) (o : Option Next) → Known g t w → Writers w → Standing g w → c < w.next_conn → next_up w c ≡ o → IfSome (up_as w c fails o) (Follows g w) → IfSome (up_as w c fails o) (Standing g)
 up-as-stands g t w c fails None h z s lt e f = tt
 up-as-stands g t w c fails (Some x) h z s lt e f =
     let v = up_taken w c x in
@@ -139,12 +139,12 @@ up-as-stands g t w c fails (Some x) h z s lt e f =
     let d = up-taken-stands g t w c x s in
     let known = up-known g t w c x h in
     let told = heard-tells g t w c x h e in
-    changed-stands g t v k known d (upper-taken g t w c x fails known lt told) f (upper-stood (w.dialled c).upper g t v c x fails known (up-taken-writers w c x z) d told)
+    changed-stands g t v k known d (upper-taken g t w c x fails known lt told) (up-follows g w c x _ f) (upper-stood (w.dialled c).upper g t v c x fails known (up-taken-writers w c x z) d told)
 
-up-stands : (g : Givens) (t : Ends) (w : World) (c : ℕ) (fails : Bool) → Known g t w → Writers w → Standing g w → IfSome (up_event w c fails) (Facts g) → IfSome (up_event w c fails) (Standing g)
-up-stands g t w c fails h z s f = when-two (Facts g) (Standing g) (nat_lt c w.next_conn) _ f (λ e q. up-as-stands g t w c fails (next_up w c) h z s (lt-true c w.next_conn e) refl q)
+up-stands : (g : Givens) (t : Ends) (w : World) (c : ℕ) (fails : Bool) → Known g t w → Writers w → Standing g w → IfSome (up_event w c fails) (Follows g w) → IfSome (up_event w c fails) (Standing g)
+up-stands g t w c fails h z s f = when-two (Follows g w) (Standing g) (nat_lt c w.next_conn) _ f (λ e q. up-as-stands g t w c fails (next_up w c) h z s (lt-true c w.next_conn e) refl q)
 
-fault-stands : (g : Givens) (t : Ends) (w : World) (d : Delivery) → Known g t w → Writers w → Standing g w → IfSome (fault_event w d) (Facts g) → IfSome (fault_event w d) (Standing g)
+fault-stands : (g : Givens) (t : Ends) (w : World) (d : Delivery) → Known g t w → Writers w → Standing g w → IfSome (fault_event w d) (Follows g w) → IfSome (fault_event w d) (Standing g)
 fault-stands g t w (delivery.Down c) h v s f = down-stands g t w c.0 false true h s f
 fault-stands g t w (delivery.Ready c) h v s f = ready-stands g t w c.0 true h s f
 fault-stands g t w (delivery.Up c) h v s f = up-stands g t w c.0 true h v s f
@@ -181,7 +181,7 @@ where-stands : (g : Givens) (test : Bool) (v : World) → Standing g v → IfSom
 where-stands g true v h = h
 where-stands g false v h = tt
 
-outcome-stands : (g : Givens) (t : Ends) (w : World) (e : Event) → Known g t w → Writers w → Standing g w → IfSome (outcome w e) (Facts (given_by g w e)) → IfSome (outcome w e) (Standing (given_by g w e))
+outcome-stands : (g : Givens) (t : Ends) (w : World) (e : Event) → Known g t w → Writers w → Standing g w → IfSome (outcome w e) (Follows (given_by g w e) w) → IfSome (outcome w e) (Standing (given_by g w e))
 unfolding outcome
 outcome-stands g t w (event.Own s) h v d f = changed-stands g t w (own_change w s) h d (own-leads g t w s h) f (own-stood g t w s h v d)
 outcome-stands g t w (event.Office c) h v d f = office-stands g t w (office_event w c) h d (office-event-leads g t w c h) f (office-stood g t w c h d)
@@ -219,9 +219,9 @@ after-stands : (g : Givens) (t : Ends) (w : World) (e : Event) (o : Option World
 after-stands g t w e None i h k = idle-stands g w e i h
 after-stands g t w e (Some v) i h k = last-stands (given_by g w e) t v e k
 
-happens-stands : (g : Givens) (t : Ends) (w : World) (e : Event) → Known g t w → Writers w → Standing g w → Facts (given_by g w e) (happens w e) → Standing (given_by g w e) (happens w e)
+happens-stands : (g : Givens) (t : Ends) (w : World) (e : Event) → Known g t w → Writers w → Standing g w → Follows (given_by g w e) w (happens w e) → Standing (given_by g w e) (happens w e)
 unfolding happens
-happens-stands g t w e h v d f = after-stands g t w e (outcome w e) refl d (outcome-stands g t w e h v d (outcome-facts (given_by g w e) w e (outcome w e) f))
+happens-stands g t w e h v d f = after-stands g t w e (outcome w e) refl d (outcome-stands g t w e h v d (outcome-follows (given_by g w e) w e (outcome w e) f))
 
 -- what is known of writers after every list of events
 writers-at : (w : World) → Reached w → Writers w
@@ -242,8 +242,10 @@ run-stands g t w (e ∷ events) r h d =
     let s = happens-set g w e h.facts a j.one h.sets in
     let n = reached-next w e r in
     let f = reached-facts (given_by g w e) (happens w e) n j c in
-    let k = happens-told g t w e h f in
-    run-stands (given_by g w e) k.ends (happens w e) events n (record { facts = f; sets = s; requests = k.requests; acked = k.acked }) (happens-stands g t w e h (writers-at w r) d f)
+    let m = happens-fits g w e h.facts a h.recovering h.sets.writes in
+    let y : Follows (given_by g w e) w (happens w e) = record { facts = f; coming = m } in
+    let k = happens-told g t w e h y in
+    run-stands (given_by g w e) k.ends (happens w e) events n (record { facts = f; sets = s; requests = k.requests; acked = k.acked; recovering = m.recovering }) (happens-stands g t w e h (writers-at w r) d y)
 
 start-stands : (nodes : ℕ) → Standing none_given (start nodes)
 unfolding start
@@ -261,7 +263,7 @@ pub at-end : (nodes : ℕ) (events : List Event) → AtEnd (given_in none_given 
 at-end nodes events =
     let c = start-carried nodes in
     let r = start-recorded nodes in
-    run-stands none_given no_ends (start nodes) events (at-start nodes) (record { facts = reached-facts none_given (start nodes) (at-start nodes) r c; sets = start-set nodes; requests = start-requests nodes; acked = start-acked nodes }) (start-stands nodes)
+    run-stands none_given no_ends (start nodes) events (at-start nodes) (record { facts = reached-facts none_given (start nodes) (at-start nodes) r c; sets = start-set nodes; requests = start-requests nodes; acked = start-acked nodes; recovering = start-fits nodes }) (start-stands nodes)
 
 pub all-show : AllShow
 all-show nodes events b =

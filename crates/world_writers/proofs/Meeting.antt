@@ -13,14 +13,25 @@ use Rattle.op_headers.specs.Values.{WriteFields}
 use Rattle.writer_core.specs.declared.phases.Phase.{Phase}
 use Rattle.writer_core.specs.declared.phases.Phase.TheVariants as phase
 use Rattle.writer_core.specs.declared.phases.Setup.{Setup}
-use Rattle.world.specs.Parts.{Message, request, Dialled, Lower, idle, Writing, Joined}
-use Rattle.world.specs.Worlds.{World, Dial, Change, put, listed, dial_at, past_after, apply}
-use Rattle.world.specs.Nodes.{node_on}
+use Rattle.world.specs.Parts.{Message, request, by_writer, by_member, Dialled, Lower, idle, Writing, Joined}
+use Rattle.world.specs.Worlds.{Past, World, Dial, Change, put, listed, dial_at, past_after, apply}
+use Rattle.world.specs.Nodes.{node_on, block_of}
 use Rattle.world.specs.Clients.{are_distinct}
 use Rattle.world.specs.Safe.{Has}
 use Rattle.world_laws.proofs.GrowthLaws.{apply-grows}
 use Rattle.world_laws.proofs.FactTables.{if-each, and-left, and-right}
-use Rattle.world_laws.specs.Stamping.{Givens, heard}
+use Rattle.world_laws.specs.Stamping.{Givens, InPhase, heard}
+use Rattle.packet_codec.specs.declared.packets.Packet.{Packet}
+use Rattle.writer_core.specs.declared.phases.Waiting.{Waiting}
+use Rattle.world.specs.Parts.{Answered}
+use Rattle.world.specs.Worlds.{latest_with}
+use Rattle.world_laws.proofs.SetupNodes.{has-split}
+use Rattle.world_acks.specs.Acking.{promised}
+use Rattle.world_writers.proofs.Reaching.{answers_in}
+use Rattle.world_writers.proofs.Stepping.{answers-latest}
+use Rattle.world_writers.proofs.Lifting.{Begun, AnswerFits}
+use Rattle.std.proofs.Common.{append-nil, IfSome}
+use Rattle.world_writers.proofs.Giving.{Sets}
 use Rattle.world_laws.specs.Carrying.{new_stamp, AsksFor, Asks}
 use Rattle.world_laws.proofs.ByteAsking.{first-dial}
 use Rattle.world_laws.proofs.ByteLeaves.{Facts}
@@ -28,9 +39,17 @@ use Rattle.world_laws.specs.Joining.{joined_as}
 use Rattle.world_acks.specs.Acking.{Asked}
 use Rattle.world_acks.proofs.Frame.{begins-first, dial-place, dial-none}
 use Rattle.world_acks.proofs.Lowers.{dialled-there}
+use Rattle.world_acks.proofs.Setups.{dialled-new}
 use Rattle.world_writers.specs.Taking.{Waits, chain, IsUnmet, IsUnasked, Joins}
 use Rattle.world_writers.proofs.Trailing.{is_stamped}
 use Rattle.world_writers.proofs.Taking.{PassesOn, Begins as WriterBegins, NewRequest, of_member, of_writer, Accepts, Takes}
+
+same-write : (a b : WriteFields) → request (op.Write a) ≡ request (op.Write b) → a ≡ b
+same-write a b e = cc
+
+-- a connection has one first request
+first-request : (h : Past) (c : ℕ) (f q : WriteFields) → Asked h c f → Asked h c q → f ≡ q
+first-request h c f q a b = same-write f q (same_Some (request (op.Write f)) (request (op.Write q)) (sym a.first ∙ b.first))
 
 -- WHAT WAS SENT
 
@@ -250,6 +269,47 @@ single-after w k s n l m h r lt (inr x) (inr y) =
     let b = r.joined _ y in
     ap (λ (j : Joined). j.life) a.is ∙ sym (ap (λ (j : Joined). j.life) b.is)
 
+-- WHAT REQUESTS REACH
+
+dialled-now : (w : World) (k : Change) (c : ℕ) (d : Dial) → c ≡ w.next_conn → slice_get k.dials 0 ≡ Some d → (past_after w k).dialled c ≡ d.dialled
+dialled-now w k c d at e = ap (λ (i : ℕ). (past_after w k).dialled i) (at ∙ plus w.next_conn) ∙ dialled-new w k 0 d e
+  where
+    plus : (n : ℕ) → n ≡ n + 0
+    plus n = omega arith
+
+by-apart : (b c : ℕ) → by_writer b ≡ by_member c → ⊥
+by-apart b c e = cc
+
+-- a request that a member passes on reaches what its own reaches
+passed-reach : (w : World) (k : Change) (c : ℕ) (d : Dial) (f : WriteFields) (o : Option ℕ) → c ≡ w.next_conn → slice_get k.dials 0 ≡ Some d → (p : PassesOn w k d f) → Has (chain (past_after w k) c f) o → Has (chain w.past k.lower_at p.own) o
+passed-reach w k c d f o at e p h = record { place = suc h.place; there = sym (ap (λ (xs : List (Option ℕ)). slice_get xs h.place) (chain-new w k c d f at e ∙ p.rest)) ∙ h.there }
+
+reach-old : (g : Givens) (w : World) (k : Change) (c d b : ℕ) (f q : WriteFields) (o : Option ℕ) → Joins w → Facts g w → new_stamp f ≡ new_stamp q → ((past_after w k).dialled c).upper ≡ by_writer b → Asked w.past c f → Sent w k d q → Has (chain (past_after w k) d q) o
+    → Has (chain w.past c f) o
+reach-old g w k c d b f q o h old e up a (sent_before x) i =
+    h.reach c d b f q o a x e (sym (ap (λ (y : Dialled). y.upper) (dialled-same w k c (dialled-there g w c (request (op.Write f)) old a.first))) ∙ up)
+    (subst (λ (xs : List (Option ℕ)). Has xs o) (chain-old w k d q (dialled-there g w d (request (op.Write q)) old x.first)) i)
+reach-old g w k c d b f q o h old e up a (sent_now at z y (of_member p)) i =
+    h.reach c k.lower_at b f p.own o a p.waited.asked (e ∙ p.stamp) (sym (ap (λ (v : Dialled). v.upper) (dialled-same w k c (dialled-there g w c (request (op.Write f)) old a.first))) ∙ up)
+    (passed-reach w k d z q o at y p i)
+reach-old g w k c d b f q o h old e up a (sent_now at z y (of_writer p)) i = absurd ((h.stamped k.writer_at p.setup_is p.stamp p.phase_is).asked c f a (e ∙ p.is))
+
+-- the request of a new connection of a writer is the only one of its stamp
+reach-new : (g : Givens) (w : World) (k : Change) (c d b : ℕ) (f q : WriteFields) (o : Option ℕ) (z : Dial) → Joins w → c ≡ w.next_conn → slice_get k.dials 0 ≡ Some z → NewRequest w k z f → new_stamp f ≡ new_stamp q → ((past_after w k).dialled c).upper ≡ by_writer b
+    → Asked (past_after w k) c f → Asked (past_after w k) d q → Sent w k d q → Has (chain (past_after w k) d q) o → Has (chain (past_after w k) c f) o
+reach-new g w k c d b f q o z h at y (of_member p) e up a x s i = absurd (by-apart b k.lower_at (sym up ∙ ap (λ (v : Dialled). v.upper) (dialled-now w k c z at y) ∙ p.upper))
+reach-new g w k c d b f q o z h at y (of_writer p) e up a x (sent_before r) i = absurd ((h.stamped k.writer_at p.setup_is p.stamp p.phase_is).asked d q r (sym e ∙ p.is))
+reach-new g w k c d b f q o z h at y (of_writer p) e up a x (sent_now here u v n) i =
+    let same : d ≡ c = here ∙ sym at in
+    let asked : Asked (past_after w k) c q = subst (λ (j : ℕ). Asked (past_after w k) j q) same x in
+    subst (λ (y : WriteFields). Has (chain (past_after w k) c y) o) (first-request (past_after w k) c q f asked a) (subst (λ (j : ℕ). Has (chain (past_after w k) j q) o) same i)
+
+reach-after : (g : Givens) (w : World) (k : Change) (c d b : ℕ) (f q : WriteFields) (o : Option ℕ) → Joins w → Facts g w → new_stamp f ≡ new_stamp q → ((past_after w k).dialled c).upper ≡ by_writer b → Asked (past_after w k) c f → Asked (past_after w k) d q
+    → Sent w k c f → Sent w k d q → Has (chain (past_after w k) d q) o → Has (chain (past_after w k) c f) o
+reach-after g w k c d b f q o h old e up a x (sent_before r) s i =
+    subst (λ (xs : List (Option ℕ)). Has xs o) (sym (chain-old w k c f (dialled-there g w c (request (op.Write f)) old r.first))) (reach-old g w k c d b f q o h old e up r s i)
+reach-after g w k c d b f q o h old e up a x (sent_now at z y n) s i = reach-new g w k c d b f q o z h at y n e up a x s i
+
 -- WRITERS
 
 -- what the writer of a change is then
@@ -287,9 +347,126 @@ unasked-after g l w k b s t h r old new u other = record {
 not-stamped : (p : Phase) (s : Setup) (t : Stamp) → is_stamped p ≡ false → p ≡ phase.Stamped s t → ⊥
 not-stamped p s t e q = false≢true (sym e ∙ ap is_stamped q)
 
-pub joins-apply : (g l : Givens) (w : World) (k : Change) → Joins w → Takes w k → Then w k → Facts g w → Facts l (apply w k) → Joins (apply w k)
+-- what a writer in a phase with a stamp fits
+stamped-given : (w : World) (h : Joins w) (b : ℕ) (s : Setup) (t : Stamp) → (heard (w.writers b)).phase ≡ phase.Stamped s t → h.setups b t.0 ≡ Some (w.latest b)
+stamped-given w h b s t e =
+    let x = heard (w.writers b) in
+    let fits : InPhase (h.setups b) (w.latest b) None x.committed x.waiting x.stream.unacked (phase.Stamped s t) =
+    subst (λ (q : Phase). InPhase (h.setups b) (w.latest b) None x.committed x.waiting x.stream.unacked q) e (h.fits b) in
+    fits.0.session.is
+
+-- the stamp of a request was given to a writer before
+given-before : (w : World) (k : Change) (c : ℕ) (f : WriteFields) (h : Joins w) → Sent w k c f → (e : ℕ) × (h.setups (block_of f) (new_stamp f).0 ≡ Some e)
+given-before w k c f h (sent_before a) = h.given c f a
+given-before w k c f h (sent_now at d i (of_member p)) =
+    let x = h.given k.lower_at p.own p.waited.asked in
+    (x.0, ap (λ (s : Stamp). h.setups (block_of f) s.0) p.stamp ∙ ap (λ (b : ℕ). h.setups b (new_stamp p.own).0) p.block ∙ x.1)
+given-before w k c f h (sent_now at d i (of_writer p)) =
+    (w.latest k.writer_at, ap (λ (s : Stamp). h.setups (block_of f) s.0) p.is ∙ ap (λ (d : ℕ). h.setups d p.stamp.0) p.block ∙ stamped-given w h k.writer_at p.setup_is p.stamp p.phase_is)
+
+given-after : (w : World) (k : Change) (c : ℕ) (f : WriteFields) (h : Joins w) (z : Sets w k h.setups) → Sent w k c f → (e : ℕ) × (z.setups (block_of f) (new_stamp f).0 ≡ Some e)
+given-after w k c f h z s = let x = given-before w k c f h s in (x.0, z.keeps (block_of f) (new_stamp f).0 x.0 x.1)
+
+-- WHAT IS ANSWERED
+
+-- a length that was answered, or is now
+data Answering (w : World) (k : Change) (a : Answered) : Type 0 where
+  answered_before : Has w.answered a → Answering w k a
+  answered_now : AnswerFits w a → Answering w k a
+
+answering : (w : World) (k : Change) (a : Answered) → IfSome k.answered (AnswerFits w) → Has (w.answered ++ listed k.answered) a → Answering w k a
+answering w k a n h = go k.answered n h
+  where
+    go : (o : Option Answered) → IfSome o (AnswerFits w) → Has (w.answered ++ listed o) a → Answering w k a
+    go None n q = answered_before (subst (λ (ys : List Answered). Has ys a) (append-nil w.answered) q)
+    go (Some x) n q = either (has-split w.answered x a q)
+      where
+        either : Has w.answered a ⊎ (x ≡ a) → Answering w k a
+        either (inl j) = answered_before j
+        either (inr e) = answered_now (subst (λ (y : Answered). AnswerFits w y) e n)
+
+-- the stamp of what is answered now is of the latest session, and no later one was given to a writer
+now-given : (w : World) (h : Joins w) (a : Answered) → AnswerFits w a → h.setups a.block a.stamp ≡ Some (w.latest a.block)
+now-given w h a n =
+    let x = heard (w.writers a.block) in
+    ap (λ (s : ℕ). h.setups a.block s) n.stamp ∙ answers-latest (h.setups a.block) (w.latest a.block) None x.committed x.waiting x.stream.unacked x.phase n.answers (h.fits a.block)
+
+answers-newest : (f : ℕ → Option ℕ) (l : ℕ) (c : Stamp) (waits : Option Waiting) (ps : List Packet) (p : Phase) → answers_in p ≡ true → InPhase f l None c waits ps p → (t e : ℕ) → f t ≡ Some e → t ≤ c.0
+answers-newest f l c waits ps (phase.Streaming sent) a h = h.0.newest.last refl
+answers-newest f l c waits ps phase.Completed a h = h.newest.last refl
+answers-newest f l c waits ps phase.Closed a h = absurd (false≢true a)
+answers-newest f l c waits ps (phase.Wanted s) a h = absurd (false≢true a)
+answers-newest f l c waits ps (phase.Stamped s t) a h = absurd (false≢true a)
+answers-newest f l c waits ps (phase.Requested s t) a h = absurd (false≢true a)
+answers-newest f l c waits ps (phase.Accepted s t) a h = absurd (false≢true a)
+answers-newest f l c waits ps phase.Opened a h = absurd (false≢true a)
+answers-newest f l c waits ps phase.Closing a h = absurd (false≢true a)
+answers-newest f l c waits ps phase.Finished a h = absurd (false≢true a)
+answers-newest f l c waits ps (phase.Failed e) a h = absurd (false≢true a)
+
+answered-given : (w : World) (k : Change) (a : Answered) (h : Joins w) → Answering w k a → (e : ℕ) × (h.setups a.block a.stamp ≡ Some e)
+answered-given w k a h (answered_before q) = h.answered a q
+answered-given w k a h (answered_now n) = (w.latest a.block, now-given w h a n)
+
+acked-before : (w : World) (k : Change) (a : Answered) (h : Joins w) → Answering w k a → h.setups a.block a.stamp ≡ Some (w.latest a.block) → a.length ≤ (heard (w.writers a.block)).stream.acked
+acked-before w k a h (answered_before q) e = h.acked a q e
+acked-before w k a h (answered_now n) e = n.acked
+
+acked-after : (w : World) (k : Change) (a : Answered) (h : Joins w) (z : Sets w k h.setups) → Answering w k a → z.setups a.block a.stamp ≡ Some (latest_with w.latest k.stamped a.block) → a.length ≤ (heard (put w.writers k.writer_at k.writer a.block)).stream.acked
+acked-after w k a h z q e = go (z.lifts a.block)
+  where
+    g : (e : ℕ) × (h.setups a.block a.stamp ≡ Some e)
+    g = answered-given w k a h q
+
+    same : g.0 ≡ latest_with w.latest k.stamped a.block
+    same = same_Some g.0 (latest_with w.latest k.stamped a.block) (sym (z.keeps a.block a.stamp g.0 g.1) ∙ e)
+
+    go : Begun w a.block k.stamped (heard (w.writers a.block)) (heard (put w.writers k.writer_at k.writer a.block)) → a.length ≤ (heard (put w.writers k.writer_at k.writer a.block)).stream.acked
+    go (inl x) = omega (arith, acked-before w k a h q (g.1 ∙ ap (λ (i : ℕ). Some i) (same ∙ x.0)), x.1)
+    go (inr x) = absurd (omega (arith, h.early a.block a.stamp g.0 g.1, same, x))
+
+cover-old : (w : World) (k : Change) (a : Answered) (c e : ℕ) (f : WriteFields) (h : Joins w) → Has w.answered a → Sent w k c f → block_of f ≡ a.block → h.setups a.block a.stamp ≡ Some e → h.setups a.block (new_stamp f).0 ≡ Some e → a.stamp < (new_stamp f).0
+    → a.length ≤ promised f
+cover-old w k a c e f h q (sent_before x) b s t lt = h.cover a c e f q x b s t lt
+cover-old w k a c e f h q (sent_now at d i (of_member p)) b s t lt =
+    let same = ap (λ (v : Stamp). v.0) p.stamp in
+    let low = h.cover a k.lower_at e p.own q p.waited.asked (sym p.block ∙ b) s (ap (λ (v : ℕ). h.setups a.block v) (sym same) ∙ t) (omega (arith, lt, same)) in
+    omega (arith, low, p.least)
+cover-old w k a c e f h q (sent_now at d i (of_writer p)) b s t lt =
+    let here : a.block ≡ k.writer_at = sym b ∙ p.block in
+    let latest : h.setups a.block (new_stamp f).0 ≡ Some (w.latest a.block) =
+    ap (λ (v : Stamp). h.setups a.block v.0) p.is ∙ subst (λ (v : ℕ). h.setups v p.stamp.0 ≡ Some (w.latest v)) (sym here) (stamped-given w h k.writer_at p.setup_is p.stamp p.phase_is) in
+    let low = h.acked a q (s ∙ sym t ∙ latest) in
+    omega (arith, low, p.covers, ap (λ (v : ℕ). (heard (w.writers v)).stream.acked) here)
+
+cover-after : (w : World) (k : Change) (a : Answered) (c e : ℕ) (f : WriteFields) (h : Joins w) (z : Sets w k h.setups) → Answering w k a → Sent w k c f → block_of f ≡ a.block → z.setups a.block a.stamp ≡ Some e → z.setups a.block (new_stamp f).0 ≡ Some e
+    → a.stamp < (new_stamp f).0 → a.length ≤ promised f
+cover-after w k a c e f h z q x b s t lt = go q
+  where
+    g : (e : ℕ) × (h.setups a.block a.stamp ≡ Some e)
+    g = answered-given w k a h q
+
+    d : (e : ℕ) × (h.setups (block_of f) (new_stamp f).0 ≡ Some e)
+    d = given-before w k c f h x
+
+    there : h.setups a.block (new_stamp f).0 ≡ Some d.0
+    there = ap (λ (v : ℕ). h.setups v (new_stamp f).0) (sym b) ∙ d.1
+
+    one : g.0 ≡ e
+    one = same_Some g.0 e (sym (z.keeps a.block a.stamp g.0 g.1) ∙ s)
+
+    two : d.0 ≡ e
+    two = same_Some d.0 e (sym (z.keeps a.block (new_stamp f).0 d.0 there) ∙ t)
+
+    go : Answering w k a → a.length ≤ promised f
+    go (answered_before q) = cover-old w k a c e f h q x b (g.1 ∙ ap (λ (i : ℕ). Some i) one) (there ∙ ap (λ (i : ℕ). Some i) two) lt
+    go (answered_now n) =
+        let y = heard (w.writers a.block) in
+        absurd (omega (arith, answers-newest (h.setups a.block) (w.latest a.block) y.committed y.waiting y.stream.unacked y.phase n.answers (h.fits a.block) (new_stamp f).0 d.0 there, n.stamp, lt))
+
+pub joins-apply : (g l : Givens) (w : World) (k : Change) (h : Joins w) → Takes w k → Then w k → Sets w k h.setups → Facts g w → Facts l (apply w k) → Joins (apply w k)
 unfolding apply
-joins-apply g l w k h r t old new = record {
+joins-apply g l w k h r t z old new = record {
   few = h.few;
   begun = λ c lt. begun c lt (dial_at w.next_conn k.dials c) refl;
   once = λ c d f q x y e. once-after w k c d f q h r e x y (sent g l w k c f h r old new x.asked) (sent g l w k d q h r old new y.asked);
@@ -299,6 +476,19 @@ joins-apply g l w k h r t old new = record {
       (λ _ e. unasked-after g l w k b s v h r old new (t.stamped s v e) (λ q x n. not-stamped (heard k.writer).phase s v n e))
       (λ n e. unasked-after g l w k b s v h r old new (h.stamped b s v e) (λ q x _. eqb-false b k.writer_at n (stamp-apart g w b k.writer_at s q v old e x)));
   members = λ b. if-each (λ (z : Writing). are_distinct (heard z).members ≡ true) (b == k.writer_at) k.writer (w.writers b) (λ _. t.members) (λ _. h.members b);
+  setups = z.setups;
+  fits = z.fits;
+  under = z.under;
+  given = λ c f x. given-after w k c f h z (sent g l w k c f h r old new x);
+  sessions = z.sessions;
+  early = z.early;
+  late = z.late;
+  within = z.within;
+  order = z.order;
+  answered = λ a x. let y = answered-given w k a h (answering w k a z.answers x) in (y.0, z.keeps a.block a.stamp y.0 y.1);
+  acked = λ a x e. acked-after w k a h z (answering w k a z.answers x) e;
+  cover = λ a c e f x y b s q lt. cover-after w k a c e f h z (answering w k a z.answers x) (sent g l w k c f h r old new y) b s q lt;
+  reach = λ c d b f q o x y e up i. reach-after g w k c d b f q o h old e up x y (sent g l w k c f h r old new x) (sent g l w k d q h r old new y) i;
   single = λ s n a b lt x y. single-after w k s n a b h r lt (split-has w.joined k.joined (joined_as s n a) x) (split-has w.joined k.joined (joined_as s n b) y);
 }
   where

@@ -166,6 +166,14 @@ created-makes b x ms r size a h = record { moved = moved; unmade = λ u. absurd 
     moved : IsMoved b (given (ruled x c r) c)
     moved = record { rule = r; chunk = size; moves = Gives c ∷ []; is = ap (λ (y : WriterRecord). given (ruled y c r) c) new.is }
 
+-- a block that isn't made yet has nothing acked
+pub created-acks : (b : ℕ) (x : WriterRecord) (ms : List NodeId) → x.queue ≡ [] → not (is_empty (given x (command.Create ms)).queue) ≡ true → Makes b x → x.stream.acked ≡ 0
+created-acks b x ms q t h =
+    let c = command.Create ms in
+    let a : Admits x c = admits-as x c (admitted x.intake c) refl q t in
+    let new : IsFresh b x = h.unmade (unmade-is x.intake.stand (and-left (is_unmade x.intake.stand) (not (length ms == 0)) a.fits_so)) in
+    ap (λ (y : WriterRecord). y.stream.acked) new.is
+
 -- a command that a writer takes
 pub taken-makes : (b : ℕ) (x : WriterRecord) (c : Command) (r : Rule) → x.queue ≡ [] → is_formed c r ≡ true → not (is_empty (given x c).queue) ≡ true → Makes b x → Makes b (own_step (given (ruled x c r) c)).writer
 taken-makes b x (command.Create ms) r q f t h =

@@ -10,7 +10,7 @@ use Rattle.writer_core.specs.declared.records.WriterRecord.{WriterRecord}
 use Rattle.writer_core.specs.Transitions.{is_connected}
 use Rattle.hd_base.specs.declared.numbers.NodeId.{NodeId}
 use Rattle.hd_base.specs.declared.numbers.Stamp.{Stamp}
-use Rattle.world.specs.Parts.{Writing, Answered}
+use Rattle.world.specs.Parts.{Writing, Answered, Dialled}
 use Rattle.world.specs.Worlds.{World, Change, listed, latest_with, past_after, apply}
 use Rattle.world.specs.Nodes.{node_of, block_of}
 use Rattle.world.specs.Clients.{writing_as}
@@ -37,7 +37,7 @@ use Rattle.world_writers.proofs.Standing.{Goes, stays, off, on, Turns}
 -- FEWER BYTES
 
 seat-less : (w : World) (b s e i m n : ℕ) → m ≤ n → Seat w b s e i n → Seat w b s e i m
-seat-less w b s e i m n le h = record { life = h.life; joins = h.joins; born = h.born; shows = λ r a q j lt u. h.shows r a q j (omega (arith, lt, le)) u }
+seat-less w b s e i m n le h = record { life = h.life; joins = h.joins; born = h.born; shows = λ r a q j lt u. h.shows r a q j (omega (arith, lt, le)) u; told = record { each = λ c id x y at above j lt u. h.told.each c id x y at above j (omega (arith, lt, le)) u }; passes = h.passes }
 
 pub seated-less : (w : World) (f : WriteFields) (i e m n : ℕ) → m ≤ n → Seated w f i e n → Seated w f i e m
 seated-less w f i e m n le h = record {
@@ -90,6 +90,7 @@ sit-on g k t u w v b s ms e n o h = record {
     others = p.others;
     are = p.are;
     node = sym (node-on g k t u w v h.conn o p.known) ∙ p.node;
+    upper = ap (λ (d : Dialled). d.upper) (o.dialled h.conn p.known) ∙ p.upper;
     targets = p.targets;
   };
   seated = λ f a. subst (λ (x : WriteFields). Seated v x (node_of v h.conn) e n) (same-asked v h.conn p.fields f asked a)
@@ -103,7 +104,7 @@ sit-on g k t u w v b s ms e n o h = record {
     asked = asked-on g k t u w v h.conn p.fields o (record { first = p.asked })
 
 pub answer-on : (g k : Givens) (t u : Ends) (w v : World) (a : Answered) → Onward g k t u w v → AnswerSits g w a → AnswerSits k v a
-answer-on g k t u w v a o h = record { session = h.session; given = o.given a.block a.stamp h.session h.given; sit = sit-on g k t u w v a.block (record { 0 = a.stamp }) a.members h.session a.length o h.sit }
+answer-on g k t u w v a o h = record { session = h.session; given = o.given a.block a.stamp h.session h.given; within = omega (arith, h.within, o.written h.session); sit = sit-on g k t u w v a.block (record { 0 = a.stamp }) a.members h.session a.length o h.sit }
 
 -- WRITERS
 

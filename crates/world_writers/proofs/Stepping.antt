@@ -111,7 +111,7 @@ answered-sit g w b i waits (answer.Lost r) h = tt
 answered-sit g w b i waits (answer.Refused e) h = tt
 
 -- a writer that answers with a length is in its latest session
-answers-latest : (f : ℕ → Option ℕ) (l : ℕ) (r : Option Stamp) (c : Stamp) (waits : Option Waiting) (ps : List Packet) (p : Phase) → answers_in p ≡ true → InPhase f l r c waits ps p → f c.0 ≡ Some l
+pub answers-latest : (f : ℕ → Option ℕ) (l : ℕ) (r : Option Stamp) (c : Stamp) (waits : Option Waiting) (ps : List Packet) (p : Phase) → answers_in p ≡ true → InPhase f l r c waits ps p → f c.0 ≡ Some l
 answers-latest f l r c waits ps (phase.Streaming sent) a h = h.0.session.is
 answers-latest f l r c waits ps phase.Completed a h = h.session.is
 answers-latest f l r c waits ps phase.Closed a h = absurd (false≢true a)
@@ -182,6 +182,7 @@ own-sit g t w b x h v q st = λ i n s ms e by.
     record {
       session = w.latest b;
       given = ap (λ (c : Stamp). g b c.0) r.committed ∙ answers-latest (g b) (w.latest b) fits.0 x.committed x.waiting x.stream.unacked x.phase a fits.1;
+      within = omega (arith, r.acked, st.within);
       sit = sit-as w b x.committed s x.members ms (w.latest b) n x.stream.acked r.committed r.pipeline r.acked (members-sit g t w b x v q st a);
     }
 
@@ -252,6 +253,21 @@ dialled-stood g t w b x s stamp to r h q e a st = record {
     enough : x.stream.acked ≤ promised a.fields
     enough = asks-enough s x.stream a.fields a.kind_is a.least (subst (λ (n : ℕ). x.stream.acked ≤ n) whole st.within) begins
 
+-- a request that a writer is to dial asks for no fewer bytes than are acked at it
+pub record Ready (w : World) : Type 0 where
+  pub covers : (b : ℕ) (s : Setup) (stamp : Stamp) (f : WriteFields) → (heard (w.writers b)).phase ≡ phase.Stamped s stamp → setup_with f.stage ≡ Some (kind_of s) → f.min ≡ min_length s (heard (w.writers b)).stream
+      → (heard (w.writers b)).stream.acked ≤ promised f
+
+pub ready-of : (g : Givens) (t : Ends) (w : World) → Known g t w → Standing g w → Ready w
+ready-of g t w h st = record {
+  covers = λ b s stamp f e k m.
+      let x = heard (w.writers b) in
+      let y = st.each b in
+      let whole : length (w.written (w.latest b)) ≡ written_in x.stream = (stream-of g t w b x h refl (subst (λ (p : Phase). 1 ≤ reach_of p) (sym e) (sets-reach s))).carries.whole in
+      asks-enough s x.stream f k m (subst (λ (n : ℕ). x.stream.acked ≤ n) whole y.within)
+      (λ z. subst (λ (way : Setup). Starts (phase.Stamped way stamp) x.stream.acked) z (subst (λ (p : Phase). Starts p x.stream.acked) e y.starts));
+}
+
 dials-stood : (g : Givens) (t : Ends) (w : World) (b : ℕ) (x : WriterRecord) (s : Setup) (stamp : Stamp) (to : NodeId) (r : Op) (answered : Bool) → Known g t w → heard (w.writers b) ≡ x → x.phase ≡ phase.Stamped s stamp
     → Requested x.block x.committed x.stream s stamp r → Stands w b (w.latest b) x (w.writers b).conn → Stood g g t w (dialled_change w b x to r answered)
 dials-stood g t w b x s stamp to r true h q e a st = dialled-stood g t w b x s stamp to r h q e a st
@@ -290,7 +306,7 @@ rest-stood phase.Completed g t w b x answered e h v q st =
 rest-stood (phase.Failed f) g t w b x answered e h v q st = stays-stood g t w b x st
 
 -- a command that was taken isn't in the queue, so nothing was answered with a length
-queue-grows : (x : WriterRecord) (c : Command) (r : Rule) → (given (ruled x c r) c).queue ≡ (given x c).queue
+pub queue-grows : (x : WriterRecord) (c : Command) (r : Rule) → (given (ruled x c r) c).queue ≡ (given x c).queue
 queue-grows x (command.Create members) r = go (admitted x.intake (command.Create members))
   where
     go : (a : Result Intake CommandFault) → (given_as (ruled x (command.Create members) r) (command.Create members) a).queue ≡ (given_as x (command.Create members) a).queue

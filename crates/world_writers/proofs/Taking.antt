@@ -1,5 +1,5 @@
 -- What a change makes of the requests that wait and of the setups that were accepted.
-use Rattle.std.proofs.Common.{◌≡◌, ℕ, zero, suc, ◌<◌, Bool, true, false, List, [], ◌∷◌, ◌++◌, take, slice_get, Option, Some, None, IfSome, Result, Ok, Err, IfOk, refl, sym, ◌∙◌, ap, subst}
+use Rattle.std.proofs.Common.{◌≤◌, ◌≡◌, ℕ, zero, suc, ◌<◌, Bool, true, false, List, [], ◌∷◌, ◌++◌, take, slice_get, Option, Some, None, IfSome, Result, Ok, Err, IfOk, refl, sym, ◌∙◌, ap, subst}
 use Rattle.std.specs.Prelude.{map, option_map}
 use Rattle.std.proofs.lemmas.Option.{none-some, same_Some}
 use Rattle.hd_base.specs.declared.numbers.Stamp.{Stamp}
@@ -31,7 +31,7 @@ use Rattle.member_core.specs.Steps.{Step, step, faulted_step, request_at, booked
 use Rattle.read_core.specs.Servings.{ServingState, read_at, read_event, next_call, piece_at}
 use Rattle.recovery_core.specs.declared.members.RecoveryReply.{RecoveryReply}
 use Rattle.recovery_core.specs.Members.{recovery_event}
-use Rattle.world.specs.Parts.{Message, request, packet, ack, response, read_status, recovery_answer, FullMember, Lower, idle, writes, serves, recovers, ended_below, Break, Joined}
+use Rattle.world.specs.Parts.{Message, request, packet, ack, response, read_status, recovery_answer, by_member, FullMember, Lower, idle, writes, serves, recovers, ended_below, Break, Joined}
 use Rattle.world.specs.Worlds.{World, Dial, Change}
 use Rattle.world.specs.Connections.{Next, message, the_end, is_alive}
 use Rattle.world.specs.Nodes.{node_of, node_on, replica_at, block_of, broke_at, closing, unless_failing, member_change, failing_turn, turn_change, pending_at, takes_next, above_of, below_of, member_down, member_up, ready_change, mirror_node, is_asked, mirror_dial, dials_of, setup_change, failing_write, write_request, joined_at, read_change, failing_read, read_request, piece_as, serve_change, failing_recovery, recovery_request, first_message, next_recovery, lower_down, lower_ready, mirror_up}
@@ -57,6 +57,9 @@ pub record PassesOn (w : World) (k : Change) (d : Dial) (f : WriteFields) : Type
   pub waited : Waits w.past w.lowers k.lower_at own
   pub busy : k.lower ≡ idle → ⊥
   pub stamp : new_stamp f ≡ new_stamp own
+  pub upper : d.dialled.upper ≡ by_member k.lower_at
+  pub block : block_of f ≡ block_of own
+  pub least : promised f ≡ promised own
   pub rest : Some d.dialled.to.node ∷ map (λ (t : NodeRef). node_on t.xfer) f.targets ≡ map (λ (t : NodeRef). node_on t.xfer) own.targets
 
 -- a writer's request: under the stamp that its setup had, to members that stand once
@@ -65,6 +68,8 @@ pub record Begins (w : World) (k : Change) (d : Dial) (f : WriteFields) : Type 0
   pub stamp : Stamp
   pub phase_is : (heard (w.writers k.writer_at)).phase ≡ phase.Stamped setup_is stamp
   pub is : new_stamp f ≡ stamp
+  pub block : block_of f ≡ k.writer_at
+  pub covers : (heard (w.writers k.writer_at)).stream.acked ≤ promised f
   pub members : List NodeId
   pub distinct : are_distinct members ≡ true
   pub reaches : (i n : ℕ) → n < w.nodes → slice_get (Some d.dialled.to.node ∷ map (λ (t : NodeRef). node_on t.xfer) f.targets) i ≡ Some (Some n) → (m : NodeId) × (slice_get members i ≡ Some m) × (m.0 ≡ n)
@@ -175,6 +180,9 @@ passes-on w k f q d h busy x e =
       waited = h;
       busy = busy;
       stamp = ap new_stamp (sym same);
+      upper = x.upper;
+      block = ap block_of (sym same);
+      least = ap promised (sym same);
       rest = ap (λ (o : Option ℕ). o ∷ map (λ (t : NodeRef). node_on t.xfer) q.targets) (sym x.node)
           ∙ ap (λ (ts : List NodeRef). node_on x.first.xfer ∷ map (λ (t : NodeRef). node_on t.xfer) ts) (sym (ap (λ (y : WriteFields). y.targets) same))
           ∙ ap (λ (ts : List NodeRef). map (λ (t : NodeRef). node_on t.xfer) ts) (sym x.targets);

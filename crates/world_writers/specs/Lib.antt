@@ -1,3 +1,4 @@
+pub mod Leaving
 pub mod Moving
 pub mod Piping
 pub mod Settling

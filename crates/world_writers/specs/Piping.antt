@@ -11,7 +11,7 @@ use Rattle.writer_core.specs.declared.phases.Setup.TheVariants as setup
 use Rattle.writer_core.specs.declared.records.WriterRecord.{WriterRecord}
 use Rattle.writer_core.specs.Transitions.{is_connected}
 use Rattle.world.specs.declared.events.Event.{Event}
-use Rattle.world.specs.Parts.{request}
+use Rattle.world.specs.Parts.{request, by_writer}
 use Rattle.world.specs.Worlds.{Past, World, start}
 use Rattle.world.specs.Nodes.{block_of}
 use Rattle.world.specs.Events.{run}
@@ -30,7 +30,8 @@ Creates (phase.Requested setup.Create stamp) committed = committed ≡ stamp
 Creates (phase.Accepted setup.Create stamp) committed = committed ≡ stamp
 Creates _ committed = Unit {0}
 
--- The connection's request is of this block and stamp; the members are the node at its lower end and the targets.
+-- A writer's connection, whose request is of this block and stamp; the members are the node at its lower end and the
+-- targets.
 pub record IsPipeline (h : Past) (block : ℕ) (stamp : Stamp) (members : List NodeId) (conn : ℕ) : Type 0 where
   pub known : conn < h.next_conn
   pub fields : WriteFields
@@ -41,6 +42,7 @@ pub record IsPipeline (h : Past) (block : ℕ) (stamp : Stamp) (members : List N
   pub others : List NodeId
   pub are : members ≡ first ∷ others
   pub node : (h.dialled conn).to.node ≡ first.0
+  pub upper : (h.dialled conn).upper ≡ by_writer block
   pub targets : fields.targets ≡ map ref_of others
 
 pub record Piped (h : Past) (block : ℕ) (x : WriterRecord) (conn : Option ℕ) : Type 0 where

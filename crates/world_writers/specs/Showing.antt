@@ -26,7 +26,8 @@ asking_in (phase.Streaming sent) = was_answered
 asking_in phase.Closing = was_answered
 asking_in _ = not_asked
 
--- A request that was asked asks for no fewer bytes than are acked; once it was answered SUCCESS, all members show these.
+-- A request that was asked asks for no fewer bytes than are acked; once it was answered SUCCESS, all members show
+-- these.
 abbrev pub ShowsAt : Asking → World → ℕ → WriteFields → ℕ → ℕ → Type 0
 ShowsAt not_asked w c f session acked = Unit {0}
 ShowsAt was_asked w c f session acked = acked ≤ promised f
@@ -37,7 +38,8 @@ abbrev pub Starts : Phase → ℕ → Type 0
 Starts (phase.Stamped setup.Create stamp) acked = acked ≡ 0
 Starts _ acked = Unit {0}
 
--- In its session a writer's acked bytes are among those written; all members of the pipeline of its connection show them.
+-- In its session a writer's acked bytes are among those written; all members of the pipeline of its connection show
+-- them.
 pub record Shows (w : World) (session : ℕ) (x : WriterRecord) (conn : Option ℕ) : Type 0 where
   pub within : x.stream.acked ≤ length (w.written session)
   pub starts : Starts x.phase x.stream.acked

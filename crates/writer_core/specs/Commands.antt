@@ -50,7 +50,11 @@ abbrev pub is_too_much : Intake → Command → Bool
 is_too_much i c = nat_lt MAX_GIVEN (i.bytes + command_length c) || nat_le MAX_COMMANDS i.commands
 
 abbrev pub intake_after : Intake → Command → Intake
-intake_after i c = record { stand = stand_after i.stand c; bytes = i.bytes + command_length c; commands = i.commands + 1 }
+intake_after i c = record {
+  stand = stand_after i.stand c;
+  bytes = i.bytes + command_length c;
+  commands = i.commands + 1;
+}
 
 -- the intake with this command, or why it may not be given
 unfoldable pub admitted : Intake → Command → Result Intake CommandFault

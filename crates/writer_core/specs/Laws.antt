@@ -55,9 +55,11 @@ pub record IsReached (w : WriterRecord) (bytes : ℕ) (stamp : Stamp) (members :
 
 -- Whatever happens at a writer, a flush, a sync or a close is answered only with bytes that all members have acked.
 abbrev pub AnsweredIsAcked : Type 0
-AnsweredIsAcked = (block : BlockId) (rule : Rule) (moves : List Move) (ordinal bytes : ℕ) (stamp : Stamp) (members : List NodeId) →
+AnsweredIsAcked = (block : BlockId) (rule : Rule) (moves : List Move) (ordinal bytes : ℕ) (stamp : Stamp)
+    (members : List NodeId) →
     IsChunkSize rule.chunk →
-    (own_step (after_moves (fresh block rule) moves)).action ≡ action.Answered ordinal (answer.Reached bytes stamp members) →
+    (own_step (after_moves (fresh block rule) moves)).action ≡
+    action.Answered ordinal (answer.Reached bytes stamp members) →
     IsReached (after_moves (fresh block rule) moves) bytes stamp members
 
 -- A request names the committed stamp, and so do a call to complete the block and an answer.

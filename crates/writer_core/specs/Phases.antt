@@ -71,7 +71,8 @@ replies_verdict members replies =
 -- What an ack says where this is the number of the oldest packet that isn't acked.
 abbrev pub ack_verdict : Option ℤ → ℕ → Ack → Verdict
 ack_verdict None members ack = verdict.Bad 0
-ack_verdict (Some seqno) members ack = if int_eq seqno ack.seqno then replies_verdict members ack.replies else verdict.Bad 0
+ack_verdict (Some seqno) members ack = if int_eq seqno ack.seqno then replies_verdict members ack.replies
+    else verdict.Bad 0
 
 -- the place of a member, 0 of another node
 abbrev pub place_of : Option ℕ → ℕ

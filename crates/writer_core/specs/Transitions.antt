@@ -1,7 +1,7 @@
 -- What each call makes of a writer, and what its own step asks for. The writer's record holds: the block; what was given to it; the commands
 -- given and not taken; how many were taken; the command that waits; the phase; the members of the pipeline that stands or is wanted; the
 -- committed stamp; the stream of packets; and whether this create or append had an hsync.
-use Rattle.std.specs.Prelude.{ℕ, ℤ, pos, ◌≡◌, ◌⊎◌, ◌==◌, ◌+◌, ◌-◌, ◌&&◌, nat_lt, nat_le, int_lt, if◌then◌else◌, Bool, true, false, List, [], ◌∷◌, ◌++◌, length, drop, slice_get, is_some, Option, Some, None, Result, Ok, Err}
+use Rattle.std.specs.Prelude.{ℕ, ℤ, pos, ◌≡◌, ◌⊎◌, ◌==◌, ◌+◌, ◌-◌, ◌&&◌, nat_lt, nat_le, int_lt, if◌then◌else◌, Bool, true, false, List, [], ◌∷◌, ◌++◌, length, drop, slice_get, is_some, is_none, Option, Some, None, Result, Ok, Err}
 use Rattle.hd_base.specs.declared.numbers.BlockId.{BlockId}
 use Rattle.hd_base.specs.declared.numbers.NodeId.{NodeId}
 use Rattle.hd_base.specs.declared.numbers.Stamp.{Stamp}
@@ -169,7 +169,10 @@ dial_step w s stamp = dial_step_as w s stamp w.members
 
 -- the create or append is answered, and the writer streams
 abbrev pub open_step : WriterRecord → Step
-open_step w = step (action.Answered (ordinal w) (answer.Granted w.committed)) (record w { waiting = None; phase = phase.Streaming 0 })
+open_step w = step (action.Answered (ordinal w) (answer.Granted w.committed)) (record w {
+  waiting = None;
+  phase = phase.Streaming 0;
+})
 
 -- Rule 2: a new block streams at once; else the stamp and the members are committed first.
 abbrev pub accepted_step : WriterRecord → Setup → Stamp → Step
@@ -210,7 +213,8 @@ data_due x end = due.Data end (ends_sync x end)
 -- The packet that is due: one with bytes where those written reach its greatest end, or a command waits for bytes past the sent end.
 abbrev pub due_in : Option Waiting → StreamState → Option DuePacket
 due_in x s =
-    if nat_le (greatest_end s.rule.chunk (start_in s)) (written_in s) then Some (data_due x (greatest_end s.rule.chunk (start_in s)))
+    if nat_le (greatest_end s.rule.chunk (start_in s)) (written_in s)
+    then Some (data_due x (greatest_end s.rule.chunk (start_in s)))
     else if is_flushing x && nat_lt s.sent (written_in s) then Some (data_due x (written_in s))
     else empty_due x s
 
@@ -239,7 +243,8 @@ form_step w due.Sync = step (action.Send (sync_packet w.stream)) (record w {
   waiting = sync_formed_as true (pos w.stream.seqno) w.waiting;
   phase = all_sent w;
 })
-form_step w due.Last = step (action.Send (last_packet w.stream w.had_sync)) (record w { stream = last_formed w.stream w.had_sync; phase = phase.Closing })
+form_step w due.Last = step (action.Send (last_packet w.stream w.had_sync))
+    (record w { stream = last_formed w.stream w.had_sync; phase = phase.Closing })
 
 -- the packet of this number, which was formed, is acked where this is the oldest one that isn't
 abbrev pub is_acked : ℤ → Option ℤ → Bool
@@ -437,6 +442,19 @@ abbrev pub wants_pipeline : Phase → Bool
 wants_pipeline (phase.Wanted s) = true
 wants_pipeline (phase.Stamped s stamp) = true
 wants_pipeline _ = false
+
+-- no command waits, and one is to be taken
+abbrev pub has_command_due : WriterRecord → Bool
+has_command_due w = is_none w.waiting && is_some (slice_get w.queue 0)
+
+-- an action by which something is done or asked
+abbrev pub is_action : Action → Bool
+is_action action.Wait = false
+is_action _ = true
+
+-- the writer's own step does or asks something
+abbrev pub has_step : WriterRecord → Bool
+has_step w = is_action (own_step w).action
 
 -- the writer has a connection
 abbrev pub is_connected : Phase → Bool

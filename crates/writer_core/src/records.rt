@@ -5,7 +5,7 @@ ghost use Rattle.ack_codec.specs.declared.acks.Ack.{Ack};
 ghost use Rattle.hd_base.specs.Results.{Gives, with_value};
 ghost use Rattle.writer_core.specs.Commands.{admitted};
 ghost use Rattle.writer_core.specs.Phases.{without};
-ghost use Rattle.writer_core.specs.Transitions.{given, ordinal, took, waits_as, opening, wrote, taken_as};
+ghost use Rattle.writer_core.specs.Transitions.{given, ordinal, took, waits_as, opening, wrote, taken_as, has_command_due, is_action, has_step};
 ghost use Rattle.writer_core.specs.Transitions.{free_step, failed_command, failed_step, stamp_call, dial_step, open_step};
 ghost use Rattle.writer_core.specs.Transitions.{accepted_step, reached, completed_step, due_in, due_now, form_step};
 ghost use Rattle.writer_core.specs.Transitions.{reached_length, reach_step, stream_step, own_step, fail_at, ended, dropped, data_due};
@@ -101,6 +101,42 @@ impl WriterRecord {
         self.await_as(Waiting::Opening);
         self.members = members;
         self.phase = Phase::Wanted { setup };
+    }
+
+    /// Whether no command waits, and one is to be taken.
+    pub fn has_command_due(&self) -> bool
+        ensures { result ≡ has_command_due self.now }
+    {
+        self.waiting.is_none() && self.queue.first().is_some()
+    }
+
+    /// Whether the own step does or asks something.
+    #[tactic(auto, unfolding(crate::specs::Transitions::own_step))]
+    pub fn has_step(&self) -> bool
+        ensures { result ≡ has_step self.now }
+    {
+        match self.phase {
+            Phase::Closed | Phase::Requested { .. } | Phase::Closing => self.has_command_due(),
+            Phase::Stamped { .. } => !self.members.is_empty(),
+            Phase::Streaming { sent } => self.has_stream_step(sent),
+            Phase::Failed { .. } => self.waiting.is_some() || self.queue.first().is_some(),
+            Phase::Wanted { .. } | Phase::Accepted { .. } | Phase::Opened => true,
+            Phase::Finished | Phase::Completed => true,
+        }
+    }
+
+    /// Whether one of the rules 4 to 8 applies.
+    fn has_stream_step(&self, sent: usize) -> bool
+        ensures { result ≡ is_action (stream_step self.now sent).action }
+    {
+        sent < self.stream.unacked() || self.due().is_some() || self.has_reach_step()
+    }
+
+    /// Whether rule 7 or rule 8 applies.
+    fn has_reach_step(&self) -> bool
+        ensures { result ≡ is_action (reach_step self.now).action }
+    {
+        reached_length(self.waiting, &self.stream).is_some() || self.has_command_due()
     }
 
     /// Rule 8: where no command waits, the next one is taken.

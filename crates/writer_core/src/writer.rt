@@ -3,7 +3,7 @@
 ghost use Rattle.std.specs.Prelude.{◌≡◌, IfOk, OnOk, OnErr, is_some};
 ghost use Rattle.hd_base.specs.Results.{Gives, with_value};
 ghost use Rattle.writer_core.specs.Commands.{admitted};
-ghost use Rattle.writer_core.specs.Transitions.{fresh, given, own_step, NextGives, wants_pipeline, is_connected};
+ghost use Rattle.writer_core.specs.Transitions.{fresh, given, own_step, NextGives, wants_pipeline, has_command_due, has_step, is_connected};
 ghost use Rattle.writer_core.specs.Transitions.{ended, acked, setup_answered, dialled, granted};
 
 use crate::acks::no_members;
@@ -148,5 +148,26 @@ impl Writer {
         ensures { result ≡ wants_pipeline self.now.phase }
     {
         self.known.phase.wants_pipeline()
+    }
+
+    /// Whether no command waits for its answer and one was given that wasn't taken yet.
+    pub fn has_command_due(&self) -> bool
+        ensures { result ≡ has_command_due self.now }
+    {
+        self.known.has_command_due()
+    }
+
+    /// Whether the next own step does or asks something: `next` doesn't answer `Action::Wait` then.
+    pub fn has_step(&self) -> bool
+        ensures { result ≡ has_step self.now }
+    {
+        self.known.has_step()
+    }
+
+    /// Whether a command waits for its answer.
+    pub fn is_waiting(&self) -> bool
+        ensures { result ≡ is_some self.now.waiting }
+    {
+        self.known.waiting.is_some()
     }
 }

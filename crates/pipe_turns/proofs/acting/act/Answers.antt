@@ -8,7 +8,7 @@ pub returns-in_default : goal.returns-in_default
 returns-in_default g c = record {
   sent = c.args.upstream.now.outward;
   passed = c.args.mirror.now;
-  performed = does_nothing g.F.Files g.O.LinkOut c.args.turn.call (texts_of c.args.op.now c.args.turn.effect.sends) c.args.book.now c.args.upstream.now.outward c.args.mirror.now;
+  performed = does_nothing g.F.Files g.O.LinkOut c.args.due.turn.call (texts_of c.args.op.now c.args.due.turn.effect.sends) c.args.book.now c.args.upstream.now.outward c.args.mirror.now;
   followed = (refl, refl, refl, refl);
 }
 

@@ -4,7 +4,7 @@ use Rattle.replica_core.specs.declared.ack_queue.PendingPacket.{PendingPacket}
 use Rattle.replica_core.specs.declared.records.ReplicaRecord.{ReplicaRecord}
 use Rattle.std.proofs.Common.{Option}
 use Rattle.member_core.specs.Members.{up_turn}
-use Rattle.pipe_turns.proofs.TurnLemmas.{up_doable}
+use Rattle.pipe_turns.proofs.TurnLemmas.{up_doable, unspelled}
 use Rattle.pipe_member.specs.declared.stages.Took.TheVariants as took
 use Rattle.pipe_member.proofs.TurnLaws.{unmade, turned}
 use Rattle.pipe_member.proofs.member.Member.take_below.Goals as goal
@@ -21,6 +21,9 @@ turn-requires-clause-book g c =
 pub turn-requires-clause-listed : goal.turn-requires-clause-listed
 turn-requires-clause-listed g c =
     rw c.up-turn.ensures (up_doable c.args.core c.oldest.result c.in-Some.taken (rw c.in-Some.is at c.in-Ok.ensures.listed)).listed
+
+pub turn-requires-clause-spelled : goal.turn-requires-clause-spelled
+turn-requires-clause-spelled g c = unspelled _
 
 pub returns : goal.returns
 returns g c =

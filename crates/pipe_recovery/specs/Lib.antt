@@ -1,0 +1,10 @@
+pub mod Naming
+pub mod Hearing
+pub mod Links
+pub mod Acting
+pub mod Asking
+pub mod Dialling
+pub mod Reports
+pub mod Steps
+pub mod Exchanging
+pub mod Driving

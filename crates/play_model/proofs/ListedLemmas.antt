@@ -1,0 +1,123 @@
+-- What is listed is due, and its events are enabled.
+use Rattle.std.specs.Prelude.{◌≡◌, ℕ, ◌||◌, ◌&&◌, is_none, if◌then◌else◌, Bool, true, false, List, [], ◌∷◌, ◌++◌, slice_get, Option, Some, None}
+use Rattle.std.proofs.Common.{refl, ap, ◌∙◌, subst, zero, suc}
+use Rattle.writer_core.specs.declared.actions.Action.{Action}
+use Rattle.writer_core.specs.declared.actions.Action.TheVariants as action
+use Rattle.writer_core.specs.Transitions.{own_step}
+use Rattle.world.specs.declared.events.Caller.TheVariants as caller
+use Rattle.name_core.specs.declared.calls.OfficeCall.{OfficeCall}
+use Rattle.name_core.specs.Offices.{answer_to}
+use Rattle.world.specs.declared.events.TakenCommand.{TakenCommand}
+use Rattle.world.specs.Parts.{Told, Writing}
+use Rattle.world.specs.Worlds.{World, apply}
+use Rattle.world.specs.Primaries.{writer_asks}
+use Rattle.world.specs.Events.{happens, outcome, changed, after_event}
+use Rattle.world.specs.Enabled.{acts_with, is_deed, is_question}
+use Rattle.world_laws.proofs.StampGivens.{put-here}
+use Rattle.world_laws.proofs.TestLaws.{all-tested}
+use Rattle.play_model.specs.declared.dues.Due.{Due}
+use Rattle.play_model.specs.declared.dues.Due.TheVariants as due
+use Rattle.play_model.specs.States.{PlayState, world_of}
+use Rattle.play_model.specs.Dues.{Queues, is_due, when, when_due, upto, own_dues, conn_dues, dues, asking, acting, own_events, action_of, due_events}
+use Rattle.play_model.specs.Laws.{AreEnabled, IsDeed, IsQuiet}
+
+-- all of the list are such
+abbrev All : (Due → Type 0) → List Due → Type 0
+All P [] = Unit {0}
+All P (d ∷ ds) = P d × All P ds
+
+abbrev Is : World → Queues → Due → Type 0
+Is w queues d = is_due w queues d ≡ true
+
+at : (P : Due → Type 0) (ds : List Due) (i : ℕ) (d : Due) → All P ds → slice_get ds i ≡ Some d → P d
+at P [] i d all found = cc
+at P (x ∷ ds) zero d all found = let e : x ≡ d = cc in subst P e all.0
+at P (x ∷ ds) (suc i) d all found = at P ds i d all.1 found
+
+both : (P : Due → Type 0) (ds es : List Due) → All P ds → All P es → All P (ds ++ es)
+both P [] es one other = other
+both P (d ∷ ds) es one other = (one.0, both P ds es one.1 other)
+
+when_is : (P : Due → Type 0) (b : Bool) (d : Due) → (b ≡ true → P d) → All P (when b d)
+when_is P true d h = (h refl, tt)
+when_is P false d h = tt
+
+when_all : (w : World) (queues : Queues) (d : Due) → All (Is w queues) (when_due w queues d)
+when_all w queues d = when_is (Is w queues) (is_due w queues d) d (λ e. e)
+
+own_all : (w : World) (queues : Queues) (blocks : List ℕ) → All (Is w queues) (own_dues w queues blocks)
+own_all w queues [] = tt
+own_all w queues (b ∷ blocks) =
+    both (Is w queues) (when_due w queues (due.Own (record { 0 = b }))) (own_dues w queues blocks) (when_all w queues (due.Own (record { 0 = b })))
+    (own_all w queues blocks)
+
+conn_all : (w : World) (queues : Queues) (c : ℕ) → All (Is w queues) (conn_dues w queues c)
+conn_all w queues c =
+    both (Is w queues) (when_due w queues (due.Down (record { 0 = c }))) _ (when_all w queues (due.Down (record { 0 = c })))
+    (both (Is w queues) (when_due w queues (due.Ready (record { 0 = c }))) _ (when_all w queues (due.Ready (record { 0 = c })))
+    (when_all w queues (due.Up (record { 0 = c }))))
+
+upto_all : (P : Due → Type 0) (f : ℕ → List Due) (n : ℕ) → ((c : ℕ) → All P (f c)) → All P (upto f n)
+upto_all P f zero h = tt
+upto_all P f (suc n) h = both P (upto f n) (f n) (upto_all P f n h) (h n)
+
+all_due : (blocks : List ℕ) (p : PlayState) → All (Is (world_of p) p.queues) (dues blocks p)
+unfolding dues
+all_due blocks p =
+    let w = world_of p in
+    both (Is w p.queues) (own_dues w p.queues blocks) (upto (conn_dues w p.queues) w.next_conn) (own_all w p.queues blocks)
+    (upto_all (Is w p.queues) (conn_dues w p.queues) w.next_conn (conn_all w p.queues))
+
+-- ---- a writer's step
+
+asked_told : (w : World) (b : ℕ) (t : Option Told) (a : Action) (c : OfficeCall) → t ≡ None → a ≡ action.Ask c
+    → ((after_event w (asking b) (changed w (if is_none t then writer_asks a w b else None))).writers b).told ≡ Some (answer_to w.office c)
+unfolding apply
+asked_told w b t a c none ask = rw (none, ask) (ap (λ (x : Writing). x.told) (put-here w.writers b (record (w.writers b) { told = Some (answer_to w.office c) })))
+
+-- Once the office was asked, its answer waits.
+told_then : (w : World) (b : ℕ) (c : OfficeCall) → (w.writers b).told ≡ None → (own_step (w.writers b).known).action ≡ action.Ask c
+    → ((happens w (asking b)).writers b).told ≡ Some (answer_to w.office c)
+unfolding happens outcome
+told_then w b c none ask = asked_told w b (w.writers b).told (own_step (w.writers b).known).action c none ask
+
+acts_on : (t : Option Told) (a : Action) (x : Told) → t ≡ Some x → acts_with t a ≡ true
+acts_on t a x e = ap (λ o. acts_with o a) e
+
+acts_by : (t : Option Told) (a : Action) → t ≡ None → is_deed a ≡ true → acts_with t a ≡ true
+acts_by t a none deed = ap (λ o. acts_with o a) none ∙ deed
+
+asks_by : (t : Option Told) (a : Action) (c : OfficeCall) → t ≡ None → a ≡ action.Ask c → (is_none t && is_question a) ≡ true
+asks_by t a c none ask = rw (none, ask) refl
+
+asking_enabled : (w : World) (b : ℕ) (c : OfficeCall) → (w.writers b).told ≡ None → (own_step (w.writers b).known).action ≡ action.Ask c → AreEnabled w (asking b ∷ acting b None ∷ [])
+asking_enabled w b c none ask = (
+  (all-tested w).ask (caller.Writer (record { 0 = b })) ∙ asks_by (w.writers b).told (own_step (w.writers b).known).action c none ask,
+  ((all-tested (happens w (asking b))).write (record { 0 = b }) true ∙ acts_on ((happens w (asking b)).writers b).told _ (answer_to w.office c) (told_then w b c none ask), tt),
+)
+
+deed_enabled : (w : World) (b : ℕ) (a : Action) → (w.writers b).told ≡ None → (own_step (w.writers b).known).action ≡ a → is_deed a ≡ true → AreEnabled w (acting b None ∷ [])
+deed_enabled w b a none is deed =
+    ((all-tested w).write (record { 0 = b }) true ∙ acts_by (w.writers b).told (own_step (w.writers b).known).action none (ap is_deed is ∙ deed), tt)
+
+own_enabled : (w : World) (b : ℕ) (queue : List TakenCommand) (a : Action) → (w.writers b).told ≡ None → (own_step (w.writers b).known).action ≡ a → (is_deed a || is_question a) ≡ true
+    → AreEnabled w (own_events a b queue)
+own_enabled w b queue action.Wait none is deed = cc
+own_enabled w b queue action.Took none is deed = deed_enabled w b action.Took none is refl
+own_enabled w b queue (action.Ask c) none is deed = asking_enabled w b c none is
+own_enabled w b queue (action.Dial to r) none is deed = cc
+own_enabled w b queue (action.Send p) none is deed = deed_enabled w b (action.Send p) none is refl
+own_enabled w b queue (action.Answered n x) none is deed = deed_enabled w b (action.Answered n x) none is refl
+own_enabled w b queue action.Memory none is deed = cc
+
+-- What is due can happen.
+due_enabled : (w : World) (queues : Queues) (d : Due) → IsQuiet w → is_due w queues d ≡ true → IsDeed w d → AreEnabled w (due_events w queues d)
+due_enabled w queues (due.Own b) quiet is deed = own_enabled w b.0 (queues b.0) (action_of w b) (quiet b.0) refl deed
+due_enabled w queues (due.Down c) quiet is deed = ((all-tested w).down c true ∙ is, tt)
+due_enabled w queues (due.Ready c) quiet is deed = ((all-tested w).ready c ∙ is, tt)
+due_enabled w queues (due.Up c) quiet is deed = ((all-tested w).up c ∙ is, tt)
+
+pub listed_enabled : (blocks : List ℕ) (p : PlayState) (i : ℕ) (d : Due) → IsQuiet (world_of p) → slice_get (dues blocks p) i ≡ Some d → IsDeed (world_of p) d
+    → AreEnabled (world_of p) (due_events (world_of p) p.queues d)
+listed_enabled blocks p i d quiet found deed =
+    due_enabled (world_of p) p.queues d quiet (at (Is (world_of p) p.queues) (dues blocks p) i d (all_due blocks p) found) deed

@@ -1,0 +1,108 @@
+-- What may happen next in a play, and what happens then.
+use Rattle.std.specs.Prelude.{zero, suc, ℕ, ◌&&◌, ◌||◌, is_some, is_none, Bool, true, false, List, [], ◌∷◌, ◌++◌, slice_get, drop, Option, None}
+use Rattle.hd_base.specs.declared.numbers.BlockId.{BlockId}
+use Rattle.writer_core.specs.declared.actions.Action.{Action}
+use Rattle.writer_core.specs.declared.actions.Action.TheVariants as action
+use Rattle.writer_core.specs.Transitions.{own_step, has_step}
+use Rattle.world.specs.declared.events.Caller.TheVariants as caller
+use Rattle.world.specs.declared.events.Event.{Event}
+use Rattle.world.specs.declared.events.Event.TheVariants as event
+use Rattle.world.specs.declared.events.OwnStep.TheVariants as own
+use Rattle.world.specs.declared.events.TakenCommand.{TakenCommand}
+use Rattle.world.specs.Parts.{Writing}
+use Rattle.world.specs.Worlds.{World, put}
+use Rattle.world.specs.Enabled.{can_down, can_ready, can_up}
+use Rattle.play_model.specs.declared.dues.Due.{Due}
+use Rattle.play_model.specs.declared.dues.Due.TheVariants as due
+use Rattle.play_model.specs.States.{PlayState, world_of}
+
+-- the commands of each block that its writer hasn't taken
+abbrev pub Queues : Type 0
+Queues = ℕ → List TakenCommand
+
+-- WHAT IS DUE
+
+-- A command is queued, and none waits: it is taken where nothing else is to be done.
+abbrev pub takes_due : Writing → List TakenCommand → Bool
+takes_due x queue = is_none x.known.waiting && is_some (slice_get queue 0)
+
+-- the writer has an own step
+abbrev pub own_due : Writing → List TakenCommand → Bool
+own_due x queue = has_step x.known || takes_due x queue
+
+abbrev pub is_due : World → Queues → Due → Bool
+is_due w queues (due.Own b) = own_due (w.writers b.0) (queues b.0)
+is_due w queues (due.Down c) = can_down w c.0
+is_due w queues (due.Ready c) = can_ready w c.0
+is_due w queues (due.Up c) = can_up w c.0
+
+-- this, where the test holds
+abbrev pub when : {A : Type 0} → Bool → A → List A
+when true x = x ∷ []
+when false x = []
+
+abbrev pub when_due : World → Queues → Due → List Due
+when_due w queues d = when (is_due w queues d) d
+
+-- what these give one after the other, of the numbers below this
+abbrev pub upto : {A : Type 0} → (ℕ → List A) → ℕ → List A
+upto f zero = []
+upto f (suc n) = upto f n ++ f n
+
+-- the own steps of the writers of these blocks
+abbrev pub own_dues : World → Queues → List ℕ → List Due
+own_dues w queues [] = []
+own_dues w queues (b ∷ blocks) = when_due w queues (due.Own (record { 0 = b })) ++ own_dues w queues blocks
+
+-- what is due of a connection
+abbrev pub conn_dues : World → Queues → ℕ → List Due
+conn_dues w queues c =
+    when_due w queues (due.Down (record { 0 = c })) ++
+    (when_due w queues (due.Ready (record { 0 = c })) ++ when_due w queues (due.Up (record { 0 = c })))
+
+-- All that is due, in the order in which it is counted: the writers of these blocks, then each connection.
+unfoldable pub dues : List ℕ → PlayState → List Due
+dues blocks p = own_dues (world_of p) p.queues blocks ++ upto (conn_dues (world_of p) p.queues) (world_of p).next_conn
+
+-- WHAT HAPPENS THEN
+
+-- the office answers the writer of a block
+abbrev pub asking : ℕ → Event
+asking b = event.Office (caller.Writer (record { 0 = b }))
+
+-- the writer of a block takes a step, and this command, if any, in it; each dial is answered
+abbrev pub acting : ℕ → Option TakenCommand → Event
+acting b takes = event.Own (own.Writer (record { 0 = b }) takes true)
+
+-- An own step whose next action is this: a question to the office comes with what follows its answer; where nothing is to be done a command is
+-- taken.
+abbrev pub own_events : Action → ℕ → List TakenCommand → List Event
+own_events action.Wait b queue = acting b (slice_get queue 0) ∷ []
+own_events (action.Ask call) b queue = asking b ∷ acting b None ∷ []
+own_events other b queue = acting b None ∷ []
+
+-- the commands that are left of the queue
+abbrev pub queue_left : Action → List TakenCommand → List TakenCommand
+queue_left action.Wait queue = drop 1 queue
+queue_left other queue = queue
+
+-- the next action of the writer of a block
+abbrev pub action_of : World → BlockId → Action
+action_of w b = (own_step (w.writers b.0).known).action
+
+abbrev pub due_events : World → Queues → Due → List Event
+due_events w queues (due.Own b) = own_events (action_of w b) b.0 (queues b.0)
+due_events w queues (due.Down c) = event.Down c true ∷ []
+due_events w queues (due.Ready c) = event.Ready c ∷ []
+due_events w queues (due.Up c) = event.Up c ∷ []
+
+abbrev pub queues_after : World → Queues → Due → Queues
+queues_after w queues (due.Own b) = put queues b.0 (queue_left (action_of w b) (queues b.0))
+queues_after w queues other = queues
+
+-- the play once this has happened
+unfoldable pub after_due : PlayState → Due → PlayState
+after_due p d = record p {
+  events = p.events ++ due_events (world_of p) p.queues d;
+  queues = queues_after (world_of p) p.queues d;
+}

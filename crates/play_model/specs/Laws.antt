@@ -1,0 +1,36 @@
+-- What is true of all plays.
+use Rattle.std.specs.Prelude.{◌≡◌, ℕ, ◌||◌, true, List, [], ◌∷◌, slice_get, Some, None}
+use Rattle.script_lang.specs.declared.instructions.ScriptLine.{ScriptLine}
+use Rattle.world.specs.declared.events.Event.{Event}
+use Rattle.world.specs.Worlds.{World}
+use Rattle.world.specs.Enabled.{is_deed, is_question}
+use Rattle.world.specs.Events.{is_enabled, happens}
+use Rattle.play_model.specs.declared.dues.Due.{Due}
+use Rattle.play_model.specs.declared.dues.Due.TheVariants as due
+use Rattle.play_model.specs.States.{PlayState, world_of}
+use Rattle.play_model.specs.Dues.{dues, due_events, action_of}
+use Rattle.play_model.specs.Lines.{Plays}
+
+-- A script is played to one end.
+abbrev pub HaveOneEnd : Type 0
+HaveOneEnd = (script : List ScriptLine) (one other : PlayState) → Plays script one → Plays script other → one ≡ other
+
+-- Each of these events is enabled where it stands.
+abbrev pub AreEnabled : World → List Event → Type 0
+AreEnabled w [] = Unit {0}
+AreEnabled w (e ∷ events) = (is_enabled w e ≡ true) × AreEnabled (happens w e) events
+
+-- Of a writer's step: it does something, or asks the office, and takes no command.
+abbrev pub IsDeed : World → Due → Type 0
+IsDeed w (due.Own b) = (is_deed (action_of w b) || is_question (action_of w b)) ≡ true
+IsDeed w other = Unit {0}
+
+-- no answer of the office waits for a writer
+abbrev pub IsQuiet : World → Type 0
+IsQuiet w = (b : ℕ) → (w.writers b).told ≡ None
+
+abbrev pub AreEnabledWhereListed : Type 0
+AreEnabledWhereListed =
+    (blocks : List ℕ) (p : PlayState) (i : ℕ) (d : Due) → IsQuiet (world_of p) → slice_get (dues blocks p) i ≡ Some d →
+    IsDeed (world_of p) d
+    → AreEnabled (world_of p) (due_events (world_of p) p.queues d)

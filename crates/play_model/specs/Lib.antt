@@ -1,0 +1,5 @@
+pub mod States
+pub mod Dues
+pub mod Draws
+pub mod Lines
+pub mod Laws

@@ -1,0 +1,92 @@
+-- What the lines of a script do in a play.
+use Rattle.std.specs.Prelude.{zero, suc, ◌≡◌, ℕ, nat_lt, if◌then◌else◌, List, [], ◌∷◌, Option, Some, None, option_map}
+use Rattle.script_lang.specs.declared.instructions.Instruction.{Instruction}
+use Rattle.script_lang.specs.declared.instructions.Instruction.TheVariants as line
+use Rattle.script_lang.specs.declared.instructions.ScriptLine.{ScriptLine}
+use Rattle.script_lang.specs.declared.instructions.StepEvent.{StepEvent}
+use Rattle.script_lang.specs.declared.instructions.StepEvent.TheVariants as step
+use Rattle.writer_core.specs.declared.commands.Command.TheVariants as command
+use Rattle.world.specs.Parts.{Lower, writes}
+use Rattle.world.specs.Worlds.{World}
+use Rattle.play_model.specs.declared.dues.Due.{Due}
+use Rattle.play_model.specs.declared.dues.Due.TheVariants as due
+use Rattle.play_model.specs.States.{PlayState, world_of, opened, ordered, ruled}
+use Rattle.play_model.specs.Dues.{is_due, after_due}
+use Rattle.play_model.specs.Draws.{draws, Settles}
+
+-- ONE EVENT OF A PIPELINE
+
+-- the connection to the mirror of a member
+abbrev pub mirror_of : Lower → Option ℕ
+mirror_of (writes m) = m.mirror
+mirror_of other = None
+
+-- the connection at this place behind one, which has place 0, from member to mirror
+abbrev pub conn_behind : World → ℕ → Option ℕ → Option ℕ
+conn_behind w zero first = first
+conn_behind w (suc place) None = None
+conn_behind w (suc place) (Some c) = conn_behind w place (mirror_of (w.lowers c))
+
+-- the connection at a place of a block's present pipeline, whose first is the writer's
+abbrev pub pipeline_conn : World → ℕ → ℕ → Option ℕ
+pipeline_conn w b place = conn_behind w place (w.writers b).conn
+
+abbrev pub step_due : World → ℕ → StepEvent → Option Due
+step_due w b step.Writer = Some (due.Own (record { 0 = b }))
+step_due w b (step.Down place) = option_map (λ c. due.Down (record { 0 = c })) (pipeline_conn w b place)
+step_due w b (step.Ready place) = option_map (λ c. due.Ready (record { 0 = c })) (pipeline_conn w b place)
+step_due w b (step.Up place) = option_map (λ c. due.Up (record { 0 = c })) (pipeline_conn w b place)
+
+-- It happens where it is due.
+abbrev pub stepped : PlayState → Option Due → PlayState
+stepped p None = p
+stepped p (Some d) = if is_due (world_of p) p.queues d then after_due p d else p
+
+-- LINES
+
+-- What a line of a script without cuts, faults, stops, recoveries and reads makes of a play with the writers of these blocks.
+abbrev pub PlaysLine : List ℕ → Instruction → PlayState → PlayState → Type 0
+PlaysLine blocks (line.Sums b rule) old new = new ≡ ruled old b.0 rule
+PlaysLine blocks (line.Create b members) old new = new ≡ ordered old b.0 (command.Create members)
+PlaysLine blocks (line.Append b members) old new = new ≡ ordered old b.0 (command.Append members)
+PlaysLine blocks (line.Write b bytes) old new = new ≡ ordered old b.0 (command.Write bytes)
+PlaysLine blocks (line.Fill b count) old new = new ≡ ordered old b.0 (command.Fill count)
+PlaysLine blocks (line.Hflush b) old new = new ≡ ordered old b.0 command.Hflush
+PlaysLine blocks (line.Hsync b) old new = new ≡ ordered old b.0 command.Hsync
+PlaysLine blocks (line.Close b) old new = new ≡ ordered old b.0 command.Close
+PlaysLine blocks (line.Run count) old new = new ≡ draws blocks count old
+PlaysLine blocks line.Settle old new = Settles blocks old new
+PlaysLine blocks (line.Step b event) old new = new ≡ stepped old (step_due (world_of old) b.0 event)
+PlaysLine blocks other old new = new ≡ old
+
+-- one after the other; behind the last one all is settled
+abbrev pub PlaysLines : List ℕ → List ScriptLine → PlayState → PlayState → Type 0
+PlaysLines blocks [] old new = Settles blocks old new
+PlaysLines blocks (l ∷ lines) old new = (middle : PlayState) ×
+    (PlaysLine blocks l.instruction old middle × PlaysLines blocks lines middle new)
+
+-- SCRIPTS
+
+-- a block among others in ascending order
+abbrev pub placed : ℕ → List ℕ → List ℕ
+placed b [] = b ∷ []
+placed b (c ∷ cs) = if nat_lt b c then b ∷ (c ∷ cs) else c ∷ placed b cs
+
+-- the blocks that a line makes, with others
+abbrev pub with_block : Instruction → List ℕ → List ℕ
+with_block (line.Create b members) blocks = placed b.0 blocks
+with_block other blocks = blocks
+
+-- the blocks that a script makes, in ascending order
+abbrev pub blocks_of : List ScriptLine → List ℕ
+blocks_of [] = []
+blocks_of (l ∷ lines) = with_block l.instruction (blocks_of lines)
+
+-- A script without cuts, faults, stops, recoveries and reads is played: its first two lines give the nodes and the seed.
+abbrev pub PlaysFrom : Instruction → Instruction → List ScriptLine → PlayState → Type 0
+PlaysFrom (line.Nodes count) (line.Seed seed) lines end = PlaysLines (blocks_of lines) lines (opened count seed) end
+PlaysFrom first second lines end = ⊥
+
+abbrev pub Plays : List ScriptLine → PlayState → Type 0
+Plays (first ∷ (second ∷ lines)) end = PlaysFrom first.instruction second.instruction lines end
+Plays other end = ⊥

@@ -1,0 +1,45 @@
+-- A play so far.
+use Rattle.std.specs.Prelude.{ℕ, List, [], ◌∷◌}
+use Rattle.hd_base.specs.SumRules.{Rule, default_rule}
+use Rattle.rand_pcg.specs.Lcg.{Lcg, started, increment_of}
+use Rattle.rand_pcg.specs.Pcg.{multiplier_64}
+use Rattle.writer_core.specs.declared.commands.Command.{Command}
+use Rattle.world.specs.declared.events.Event.{Event}
+use Rattle.world.specs.declared.events.TakenCommand.{TakenCommand}
+use Rattle.world.specs.Worlds.{World, start, put, add}
+use Rattle.world.specs.Events.{run}
+
+-- A play so far: how many nodes there are; the events that happened; by block the commands that its writer hasn't taken, and the rule of its
+-- sums; and the generator that draws.
+pub record PlayState : Type 0 where
+  pub nodes : ℕ
+  pub events : List Event
+  pub queues : ℕ → List TakenCommand
+  pub rules : ℕ → Rule
+  pub generator : Lcg
+
+-- the world of a play
+abbrev pub world_of : PlayState → World
+world_of p = run (start p.nodes) p.events
+
+-- the stream of the generator that draws events
+abbrev pub event_stream : ℕ
+event_stream = 1
+
+-- nothing was played yet
+abbrev pub opened : ℕ → ℕ → PlayState
+opened nodes seed = record {
+  nodes = nodes;
+  events = [];
+  queues = λ _. [];
+  rules = λ _. default_rule;
+  generator = started 64 multiplier_64 seed (increment_of 64 event_stream);
+}
+
+-- a command joins the queue of its block, with the rule that the block's sums have
+abbrev pub ordered : PlayState → ℕ → Command → PlayState
+ordered p b c = record p { queues = add p.queues b (record { command = c; rule = p.rules b } ∷ []) }
+
+-- the rule of a block's sums is this
+abbrev pub ruled : PlayState → ℕ → Rule → PlayState
+ruled p b rule = record p { rules = put p.rules b rule }

@@ -1,0 +1,16 @@
+//! What may happen next in a play.
+
+use hd_base::{BlockId, ConnId};
+
+/// What may happen next in a play: one event, or the several that one rule of a writer makes.
+#[derive(Clone, Copy, Debug, PartialEq, Eq)]
+pub enum Due {
+    /// The writer of a block takes its own step: all actions of one rule, with the calls that bring their results back.
+    Own { block: BlockId },
+    /// The lower end of a connection takes what stands next.
+    Down { conn: ConnId },
+    /// The lower end of a connection acts without a message.
+    Ready { conn: ConnId },
+    /// The upper end of a connection takes what stands next.
+    Up { conn: ConnId },
+}

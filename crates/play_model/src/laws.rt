@@ -1,0 +1,14 @@
+//! Laws of plays.
+
+ghost use Rattle.play_model.specs.Laws.{HaveOneEnd, AreEnabledWhereListed};
+
+/// A script is played to one end: the events, the queues and the generator are settled by its lines alone.
+pub fn plays_have_one_end()
+    ensures { HaveOneEnd }
+{}
+
+/// What is listed to be drawn can happen: where no answer of the office waits, each event of it is enabled where it stands,
+/// unless it is a writer's step that takes a command.
+pub fn drawn_events_are_enabled()
+    ensures { AreEnabledWhereListed }
+{}

@@ -1,0 +1,8 @@
+//! What a play of a script is: which events are due, how one is drawn, and what each line does.
+#![tactic(auto)]
+
+mod dues;
+mod laws;
+
+pub use dues::Due;
+pub use laws::{drawn_events_are_enabled, plays_have_one_end};

@@ -1,0 +1,10 @@
+pub mod RowLemmas
+pub mod ChangeLemmas
+pub mod FlushLemmas
+pub mod EndLemmas
+pub mod StepLemmas
+pub mod DialLemmas
+pub mod FlushingLemmas
+pub mod DrawnLemmas
+pub mod MirrorLemmas
+pub mod StartLemmas

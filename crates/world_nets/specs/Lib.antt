@@ -1,0 +1,11 @@
+pub mod Rows
+pub mod Nets
+pub mod Laws
+pub mod Changes
+pub mod Ends
+pub mod Steps
+pub mod Dials
+pub mod Flushing
+pub mod Drawn
+pub mod Mirrors
+pub mod Starts

@@ -1,0 +1,10 @@
+pub mod Lists
+pub mod Frame
+pub mod Writing
+pub mod Turns
+pub mod Kept
+pub mod Clients
+pub mod Nodes
+pub mod Primaries
+pub mod AllOrdered
+pub mod Takes
