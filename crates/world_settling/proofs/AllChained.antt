@@ -1,17 +1,13 @@
 -- Members stand in chains after every list of events.
-use Rattle.std.proofs.Common.{◌≡◌, ℕ, ◌<◌, ◌≤◌, ◌+◌, Bool, true, false, List, [], ◌∷◌, ◌++◌, length, slice_get, Option, Some, None, IfSome, Result, Ok, Err, refl, sym, ap, ◌∙◌, subst, arith}
-use Rattle.std.specs.Prelude.{◌==◌, ◌&&◌, nat_lt, not, option_map, if◌then◌else◌}
+use Rattle.std.proofs.Common.{◌≡◌, ℕ, ◌<◌, Bool, true, false, List, slice_get, Option, Some, None, IfSome, Result, Ok, Err, refl, ap, ◌∙◌, arith}
+use Rattle.std.specs.Prelude.{◌&&◌, nat_lt, not}
 use Rattle.std.proofs.lemmas.Bool.Decides.{nat_tests}
 use Rattle.std.proofs.lemmas.Bool.{false≢true}
-use Rattle.std.proofs.lemmas.Option.{none-some, same_Some}
-use Rattle.hd_base.specs.SumRules.{Rule, IsChunkSize}
-use Rattle.op_headers.specs.declared.ops.Op.{Op}
 use Rattle.op_headers.specs.declared.ops.Op.TheVariants as op
 use Rattle.op_headers.specs.declared.ops.ReadOp.{ReadOp}
 use Rattle.op_headers.specs.declared.ops.RecoveryOp.{RecoveryOp}
 use Rattle.op_headers.specs.Values.{WriteFields}
 use Rattle.replica_core.specs.declared.events.Event.{Event as CoreEvent}
-use Rattle.replica_core.specs.declared.info.ReplicaInfo.{ReplicaInfo}
 use Rattle.replica_model.specs.Rows.{FullReplica}
 use Rattle.request_refusals.specs.declared.refusals.RequestRefusal.{RequestRefusal}
 use Rattle.read_core.specs.Servings.{ServingState, next_call, read_at, read_event, piece_at}
@@ -27,21 +23,20 @@ use Rattle.world.specs.declared.events.Event.TheVariants as event
 use Rattle.world.specs.declared.events.FoundReplica.{FoundReplica}
 use Rattle.world.specs.declared.events.OwnStep.{OwnStep}
 use Rattle.world.specs.declared.events.OwnStep.TheVariants as own
-use Rattle.world.specs.Parts.{Message, Marks, Break, Answered, request, packet, ack, response, read_status, recovery_answer, Upper, by_writer, by_member, by_reader, by_primary, FullMember, Lower, idle, writes, serves, recovers, ended_below}
-use Rattle.world.specs.Worlds.{World, Change, apply, start}
-use Rattle.world.specs.Connections.{Next, message, the_end, next_on, next_down, next_up, down_taken, up_taken, is_alive, is_served}
+use Rattle.world.specs.Parts.{Message, Marks, Break, Answered, request, packet, ack, response, read_status, recovery_answer, Upper, by_writer, by_member, by_reader, by_primary, Lower, idle, writes, serves, recovers, ended_below}
+use Rattle.world.specs.Worlds.{World, Change, start}
+use Rattle.world.specs.Connections.{Next, message, the_end, next_down, next_up, down_taken, up_taken, is_alive, is_served}
 use Rattle.world.specs.Nodes.{replica_at, closing, unless_failing, read_change, failing_read, read_request, piece_as, serve_change, failing_recovery, recovery_request, first_message, next_recovery, lower_down, lower_ready, mirror_up}
 use Rattle.world.specs.Clients.{writer_up, reader_up}
 use Rattle.world.specs.Primaries.{primary_up, office_event}
 use Rattle.world.specs.Restarts.{all_found, restart}
-use Rattle.world.specs.Events.{changed, own_change, down_as, down_event, ready_event, unless_fails, upper_up, up_as, up_event, fault_event, lost, stop, where_so, outcome, after_event, happens, run}
-use Rattle.world_settling.specs.Traffic.{hops}
+use Rattle.world.specs.Events.{changed, own_change, down_as, down_event, ready_event, unless_fails, upper_up, up_as, up_event, fault_event, lost, stop, where_so, outcome, after_event, happens}
 use Rattle.world_settling.proofs.Ways.{next-message}
 use Rattle.world_settling.proofs.Outer.{when-each}
-use Rattle.world_settling.proofs.Begun.{AllBegun, all-begun}
+use Rattle.world_settling.proofs.Begun.{AllBegun}
 use Rattle.world_settling.proofs.Requests.{IsNew}
 use Rattle.world_settling.proofs.LowerUntouching.{Untouched, own-writer-untouched, own-reader-untouched, own-recover-untouched, own-primary-untouched, office-untouched, writer-up-untouched, reader-up-untouched, primary-up-untouched}
-use Rattle.world_settling.proofs.Chains.{Linked, LinkedAt, AllLinked, apply-linked, untouched-linked}
+use Rattle.world_settling.proofs.Chains.{LinkedAt, AllLinked, apply-linked, untouched-linked}
 use Rattle.world_settling.proofs.ChainLaws.{Keeps, down-keeps, up-keeps, ready-keeps}
 use Rattle.world_settling.proofs.ChainSetups.{Asks, write-keeps}
 

@@ -1,5 +1,5 @@
 -- On each connection something was sent down: its request.
-use Rattle.std.proofs.Common.{◌≡◌, ℕ, zero, suc, ◌<◌, ◌≤◌, ◌+◌, ◌-◌, Bool, true, false, List, [], ◌∷◌, ◌++◌, length, slice_get, Option, Some, None, option_map, IfSome, refl, sym, ap, subst, arith}
+use Rattle.std.proofs.Common.{◌≡◌, ℕ, zero, suc, ◌<◌, ◌+◌, ◌-◌, Bool, true, false, List, [], ◌∷◌, ◌++◌, length, slice_get, Option, Some, None, option_map, IfSome, refl, sym, arith}
 use Rattle.std.specs.Prelude.{nat_le, nat_lt, ◌&&◌, not, if◌then◌else◌}
 use Rattle.std.proofs.lemmas.Bool.Decides.{nat_tests}
 use Rattle.std.proofs.lemmas.Option.{none-some}
@@ -10,12 +10,11 @@ use Rattle.world.specs.declared.events.Direction.TheVariants as direction
 use Rattle.world.specs.declared.events.Event.{Event}
 use Rattle.world.specs.declared.events.Event.TheVariants as event
 use Rattle.world.specs.Parts.{Message}
-use Rattle.world.specs.Worlds.{World, Dial, Change, listed, dial_at, downs_with, apply, start}
+use Rattle.world.specs.Worlds.{World, Dial, Change, listed, dial_at, apply, start}
 use Rattle.world.specs.Connections.{Next, next_down, next_up, down_taken, up_taken, is_served}
-use Rattle.world.specs.Nodes.{lower_down, lower_ready}
 use Rattle.world.specs.Primaries.{office_event}
 use Rattle.world.specs.Restarts.{all_found, restart}
-use Rattle.world.specs.Events.{changed, own_change, down_as, down_event, ready_event, upper_up, up_as, up_event, fault_event, lost, stop, where_so, outcome, after_event, happens, run}
+use Rattle.world.specs.Events.{changed, own_change, down_as, down_event, ready_event, up_as, up_event, fault_event, lost, where_so, outcome, after_event, happens, run}
 use Rattle.world_settling.proofs.Frame.{HasFirst}
 use Rattle.world_settling.proofs.Outer.{when-each}
 

@@ -1,8 +1,6 @@
 -- Members stand in chains after every event of a lower end but a write request.
-use Rattle.std.proofs.Common.{◌≡◌, ℕ, ◌<◌, ◌≤◌, ◌+◌, Bool, true, false, List, [], ◌∷◌, Option, Some, None, IfSome, Result, Ok, Err, refl, sym, ap, ◌∙◌, subst, arith}
-use Rattle.std.specs.Prelude.{◌==◌, ◌&&◌, if◌then◌else◌}
+use Rattle.std.proofs.Common.{◌≡◌, ℕ, Bool, true, false, Option, Some, None, IfSome, ap, ◌∙◌, subst}
 use Rattle.hd_base.specs.declared.numbers.ConnId.{ConnId}
-use Rattle.replica_core.specs.declared.events.Event.{Event}
 use Rattle.replica_model.specs.declared.events.ReplicaEvent.{ReplicaEvent}
 use Rattle.member_core.specs.declared.turns.Booked.TheVariants as booked
 use Rattle.member_core.specs.declared.turns.Turn.{Turn}

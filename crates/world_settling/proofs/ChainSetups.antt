@@ -1,15 +1,14 @@
 -- Members stand in chains after a write request.
-use Rattle.std.proofs.Common.{◌≡◌, ℕ, ◌<◌, ◌≤◌, ◌+◌, Bool, true, false, List, [], ◌∷◌, length, slice_get, Option, Some, None, IfSome, Result, Ok, Err, refl, sym, ap, ◌∙◌, subst, arith}
+use Rattle.std.proofs.Common.{◌≡◌, ℕ, ◌<◌, ◌≤◌, ◌+◌, Bool, true, false, [], ◌∷◌, length, slice_get, Option, Some, None, IfSome, Result, Ok, Err, refl, ap, ◌∙◌, arith}
 use Rattle.std.specs.Prelude.{◌==◌, ◌&&◌, is_some, if◌then◌else◌}
 use Rattle.std.proofs.lemmas.Bool.{false≢true}
-use Rattle.hd_base.specs.declared.numbers.ConnId.{ConnId}
 use Rattle.op_headers.specs.declared.ops.Op.TheVariants as op
 use Rattle.op_headers.specs.Values.{WriteFields}
 use Rattle.node_refs.specs.NodeRefs.{ref_of}
 use Rattle.replica_core.specs.declared.events.Event.{Event}
 use Rattle.replica_core.specs.Views.{rule_in}
 use Rattle.replica_model.specs.declared.events.ReplicaEvent.TheVariants as replica_event
-use Rattle.replica_model.specs.Rows.{FullReplica, row, row_answer, broken}
+use Rattle.replica_model.specs.Rows.{FullReplica, row, row_answer}
 use Rattle.request_refusals.specs.declared.refusals.RequestRefusal.{RequestRefusal}
 use Rattle.member_core.specs.declared.member.Mirror.TheVariants as mirror
 use Rattle.member_core.specs.Members.{set_up, set_up_at}
@@ -22,7 +21,7 @@ use Rattle.world.specs.Nodes.{node_of, replica_at, broke_at, block_of, is_asked,
 use Rattle.world_settling.specs.Traffic.{hops_of, hops}
 use Rattle.world_settling.proofs.Begun.{AllBegun}
 use Rattle.world_settling.proofs.Requests.{IsNew, here-dial, one-more, goes-fewer}
-use Rattle.world_settling.proofs.Chains.{Linked, LinkedAt, AllLinked, hops-later, conns-later, apply-linked}
+use Rattle.world_settling.proofs.Chains.{AllLinked, hops-later, conns-later, apply-linked}
 use Rattle.world_settling.proofs.ChainLaws.{Keeps}
 
 dialled-hops : (w : World) (k : Change) (d : Dial) → IsNew w → k.dials ≡ d ∷ [] → k.downs w.next_conn ≡ [] → hops (apply w k) w.next_conn ≡ hops_of (Some d.request)

@@ -1,10 +1,7 @@
 -- Members stand in chains: each mirror has fewer members below.
-use Rattle.std.proofs.Common.{◌≡◌, ℕ, ◌<◌, ◌≤◌, ◌+◌, Bool, true, false, List, [], ◌∷◌, ◌++◌, length, slice_get, Option, Some, None, IfSome, refl, sym, ap, ◌∙◌, subst, arith, eqb-true}
-use Rattle.std.specs.Prelude.{◌==◌, ◌&&◌, nat_lt, not, if◌then◌else◌}
+use Rattle.std.proofs.Common.{◌≡◌, ℕ, ◌<◌, ◌≤◌, ◌+◌, Bool, true, false, List, [], ◌∷◌, ◌++◌, slice_get, Option, Some, None, IfSome, refl, sym, ap, ◌∙◌, subst, arith, eqb-true}
+use Rattle.std.specs.Prelude.{◌==◌, if◌then◌else◌}
 use Rattle.std.proofs.lemmas.Option.{none-some}
-use Rattle.hd_base.specs.declared.numbers.ConnId.{ConnId}
-use Rattle.op_headers.specs.Values.{WriteFields}
-use Rattle.replica_core.specs.declared.refusals.Refusal.{Refusal}
 use Rattle.replica_core.specs.declared.refusals.Refusal.TheVariants as refusal
 use Rattle.replica_model.specs.declared.events.ReplicaEvent.{ReplicaEvent}
 use Rattle.replica_model.specs.declared.events.ReplicaEvent.TheVariants as replica_event
@@ -17,9 +14,9 @@ use Rattle.member_core.specs.declared.turns.Side.TheVariants as side
 use Rattle.member_core.specs.declared.turns.Turn.{Turn}
 use Rattle.member_core.specs.Members.{MemberState, closed, closed_by, bad_sum, settled}
 use Rattle.world.specs.Parts.{Message, FullMember, Lower, idle, writes, serves, recovers, ended_below}
-use Rattle.world.specs.Worlds.{Past, World, Change, put, apply}
+use Rattle.world.specs.Worlds.{World, Change, apply}
 use Rattle.world_settling.specs.Traffic.{hops_of, hops}
-use Rattle.world_settling.proofs.Frame.{HasFirst, old-downs}
+use Rattle.world_settling.proofs.Frame.{old-downs}
 use Rattle.world_settling.proofs.Begun.{AllBegun}
 use Rattle.world_settling.proofs.LowerUntouching.{Untouched}
 

@@ -1,7 +1,6 @@
 -- What writers, readers and primaries take lowers what is to be delivered.
-use Rattle.std.proofs.Common.{◌≡◌, ℕ, ◌<◌, ◌≤◌, ◌+◌, Bool, true, false, List, [], ◌∷◌, Option, Some, None, IfSome, Ok, Err, refl, sym, ap, arith}
-use Rattle.std.specs.Prelude.{◌==◌, ◌&&◌, is_none, slice_get, sum_by, if◌then◌else◌}
-use Rattle.std.proofs.lemmas.Bool.{false≢true}
+use Rattle.std.proofs.Common.{◌≡◌, ℕ, ◌≤◌, ◌+◌, [], ◌∷◌, Option, Some, None, IfSome, refl, ap, arith}
+use Rattle.std.specs.Prelude.{◌==◌, ◌&&◌, is_none, slice_get}
 use Rattle.hd_base.specs.declared.states.Status.TheVariants as status
 use Rattle.read_core.specs.declared.reading.FromNode.TheVariants as from_node
 use Rattle.read_core.specs.declared.reading.ReadPhase.{ReadPhase}
@@ -12,15 +11,14 @@ use Rattle.read_core.specs.Readings.{ReadingState, ReadTaken, taken_at, take_fro
 use Rattle.recovery_core.specs.declared.standings.Standing.{Standing}
 use Rattle.world.specs.Parts.{Message, read_status, Leading, Primary, no_primary, was_told, leads, has_led, Reader, no_reader, reads, has_read}
 use Rattle.world.specs.Worlds.{World, Change, apply}
-use Rattle.world.specs.Connections.{Next, message, the_end, is_conn, is_alive, sent_on}
-use Rattle.world.specs.Clients.{writer_up, from_node_of, reader_change, reader_turn, reader_takes, reader_up_as, reader_up}
+use Rattle.world.specs.Connections.{Next, message, the_end, is_conn, is_alive}
+use Rattle.world.specs.Clients.{writer_up, from_node_of, reader_turn, reader_up_as, reader_up}
 use Rattle.world.specs.Primaries.{listens, hears_change, primary_up_as, primary_up}
-use Rattle.world_settling.specs.Traffic.{sum_to, hops, down_weight, down_way, up_way, sides, lower_weight, entries, traffic}
+use Rattle.world_settling.specs.Traffic.{sum_to, down_way, up_way, sides, lower_weight, entries, traffic}
 use Rattle.world_settling.proofs.Sums.{sum-le}
 use Rattle.world_settling.proofs.Frame.{Eases, HasFirst, entries-each, downs-sent, ups-quiet, sides-same}
 use Rattle.world_settling.proofs.Outer.{Quiet, quiet-keeps, lower-stays, conns-stay, when-each}
 use Rattle.world_settling.proofs.Taking.{up_paid}
-use Rattle.world_settling.proofs.Begun.{AllBegun}
 
 -- what was paid is more than what the change makes
 pub record Falls (w : World) (paid : ℕ) (k : Change) : Type 0 where

@@ -1,23 +1,19 @@
 -- Each delivery lowers what is to be delivered.
-use Rattle.std.proofs.Common.{◌≡◌, ℕ, ◌<◌, ◌≤◌, ◌+◌, Bool, true, false, List, [], ◌∷◌, Option, Some, None, IfSome, option_map, ◌++◌, refl, sym, ap, subst, arith}
-use Rattle.std.specs.Prelude.{is_some, nat_lt, ◌&&◌, if◌then◌else◌}
+use Rattle.std.proofs.Common.{◌≡◌, ℕ, ◌<◌, ◌≤◌, ◌+◌, Bool, true, false, List, [], ◌∷◌, Option, Some, None, IfSome, option_map, ◌++◌, refl, sym, subst, arith}
+use Rattle.std.specs.Prelude.{is_some, nat_lt, ◌&&◌}
 use Rattle.std.proofs.lemmas.Bool.Decides.{nat_tests}
 use Rattle.std.proofs.lemmas.Bool.{false≢true}
 use Rattle.hd_base.specs.SumRules.{Rule, IsChunkSize}
-use Rattle.op_headers.specs.declared.ops.Op.{Op}
 use Rattle.op_headers.specs.declared.ops.Op.TheVariants as op
-use Rattle.op_headers.specs.declared.ops.ReadOp.{ReadOp}
-use Rattle.op_headers.specs.Values.{WriteFields}
 use Rattle.replica_core.specs.Views.{rule_in}
-use Rattle.read_core.specs.Servings.{ServingState, next_call}
 use Rattle.world.specs.declared.events.Delivery.{Delivery}
 use Rattle.world.specs.declared.events.Delivery.TheVariants as delivery
 use Rattle.world.specs.declared.events.Event.{Event}
 use Rattle.world.specs.declared.events.Event.TheVariants as event
 use Rattle.world.specs.Parts.{Message, request, packet, ack, response, read_status, recovery_answer, Upper, by_writer, by_member, by_reader, by_primary, FullMember, Lower, idle, writes, serves, recovers, ended_below}
-use Rattle.world.specs.Worlds.{World, Change, start, apply}
+use Rattle.world.specs.Worlds.{World, Change, start}
 use Rattle.world.specs.Connections.{Next, message, the_end, next_down, next_up, down_taken, up_taken, is_alive, is_served}
-use Rattle.world.specs.Nodes.{node_of, closing, unless_failing, write_request, read_request, first_message, next_recovery, lower_down, lower_ready, mirror_up}
+use Rattle.world.specs.Nodes.{node_of, closing, unless_failing, first_message, next_recovery, lower_down, lower_ready, mirror_up}
 use Rattle.world.specs.Clients.{writer_up, reader_up}
 use Rattle.world.specs.Primaries.{primary_up}
 use Rattle.world.specs.Events.{changed, down_as, down_event, ready_event, unless_fails, upper_up, up_as, up_event, fault_event, outcome, after_event, is_enabled, happens, run}
@@ -27,7 +23,7 @@ use Rattle.world_laws.proofs.PlacedLaws.{all-placed}
 use Rattle.world_laws.proofs.AllCarried.{all-carried}
 use Rattle.world_laws.proofs.FilledLaws.{all-filled}
 use Rattle.world_laws.proofs.RunLaws.{runs-end}
-use Rattle.world_settling.specs.Traffic.{hops, request_weight, traffic, is_delivery}
+use Rattle.world_settling.specs.Traffic.{hops, traffic, is_delivery}
 use Rattle.world_settling.proofs.Frame.{HasFirst}
 use Rattle.world_settling.proofs.Outer.{when-each, named-keeps}
 use Rattle.world_settling.proofs.Taking.{up_paid, down_paid, up-taken-falls, down-taken-falls}
@@ -38,11 +34,8 @@ use Rattle.world_settling.proofs.MemberEnds.{ready-falls, up-falls}
 use Rattle.world_settling.proofs.Receiving.{down-pays, member-down-falls}
 use Rattle.world_settling.proofs.Requests.{IsNew, write-falls}
 use Rattle.world_settling.proofs.ReadRequests.{read-falls}
-use Rattle.world_settling.proofs.Chains.{Linked, LinkedAt, AllLinked, untouched-linked}
-use Rattle.world_settling.proofs.ChainLaws.{down-keeps, up-keeps, ready-keeps}
-use Rattle.world_settling.proofs.ChainSetups.{Asks, write-keeps}
+use Rattle.world_settling.proofs.Chains.{Linked, LinkedAt, AllLinked}
 use Rattle.world_settling.proofs.AllChained.{Ordered, happens-linked, start-linked}
-use Rattle.world_settling.proofs.LowerUntouching.{own-writer-untouched, own-reader-untouched, own-recover-untouched, own-primary-untouched, office-untouched, writer-up-untouched, reader-up-untouched, primary-up-untouched}
 use Rattle.world_settling.proofs.Nodes.{serve-falls, closing-falls, recovery-request-falls}
 
 -- WHAT IS USED OF THE WORLD
@@ -238,7 +231,7 @@ linked-from nodes before [] h = h
 linked-from nodes before (e ∷ events) h =
     let on = runs-end (start nodes) before e in
     let next : AllLinked (run (start nodes) (before ++ e ∷ [])) =
-        subst (λ (v : World). AllLinked v) (sym on) (happens-linked (run (start nodes) before) e (ordered nodes before) h) in
+    subst (λ (v : World). AllLinked v) (sym on) (happens-linked (run (start nodes) before) e (ordered nodes before) h) in
     subst (λ (v : World). AllLinked (run v events)) on (linked-from nodes (before ++ e ∷ []) events next)
 
 all-linked : (nodes : ℕ) (events : List Event) → AllLinked (run (start nodes) events)

@@ -1,15 +1,15 @@
 -- What a change makes of what is on its way, connection by connection and over all.
-use Rattle.std.proofs.Common.{◌≡◌, ℕ, zero, suc, ◌<◌, ◌≤◌, ◌+◌, ◌-◌, Bool, true, false, List, [], ◌∷◌, ◌++◌, length, slice_get, Option, Some, None, option_map, unwrap_or, append-nil, refl, sym, ap, ◌∙◌, subst, arith, eqb-true}
+use Rattle.std.proofs.Common.{◌≡◌, ℕ, ◌<◌, ◌≤◌, ◌+◌, ◌-◌, Bool, true, false, List, [], ◌∷◌, ◌++◌, slice_get, Option, Some, None, option_map, unwrap_or, append-nil, refl, sym, ap, ◌∙◌, subst, arith, eqb-true}
 use Rattle.std.specs.Prelude.{sum_by, nat_le, ◌==◌, ◌&&◌, if◌then◌else◌}
 use Rattle.std.proofs.lemmas.Bool.Decides.{nat_tests}
 use Rattle.std.proofs.lemmas.Bool.{ne_eqb}
 use Rattle.std.proofs.lemmas.Option.{none-some}
 use Rattle.world.specs.Parts.{Message, Marks, Dialled, Lower, idle, writes, serves, recovers, ended_below}
-use Rattle.world.specs.Worlds.{World, Dial, Change, put, put_at, listed, dial_at, shut_marks, marks_with, downs_with, ups_with, dialled_with, past_after, apply}
+use Rattle.world.specs.Worlds.{World, Dial, Change, put, put_at, dial_at, shut_marks, downs_with, ups_with, dialled_with, apply}
 use Rattle.world.specs.Connections.{sent_on}
-use Rattle.world.specs.Nodes.{node_of, replica_at, block_of}
-use Rattle.world_settling.specs.Traffic.{sum_to, hops_of, hops, down_weight, up_weight, on_way, down_way, up_way, open_weight, sides, lower_weight, entries_by, entries_of, entries}
-use Rattle.world_settling.proofs.Sums.{sum-le, sum-at, sum-rise}
+use Rattle.world.specs.Nodes.{replica_at, block_of}
+use Rattle.world_settling.specs.Traffic.{sum_to, hops, down_weight, up_weight, on_way, down_way, up_way, open_weight, sides, entries_by, entries_of}
+use Rattle.world_settling.proofs.Sums.{sum-le, sum-rise}
 use Rattle.world_settling.proofs.Ways.{sent-way, shut-way}
 
 -- OLD CONNECTIONS
@@ -53,7 +53,7 @@ down-each w k c lt b =
     let xs : List Message = w.downs c ++ k.downs c in
     let f : Message → ℕ = down_weight (hops w c) in
     let now : sum_by f (on_way (if k.shuts c then shut_marks xs (w.down_marks c) else w.down_marks c) xs) ≤ sum_by f (on_way (w.down_marks c) (w.downs c)) + sum_by f (k.downs c) =
-        omega (arith, with-way f (k.shuts c) (w.down_marks c) xs, sent-way f (w.down_marks c) (w.downs c) (k.downs c)) in
+    omega (arith, with-way f (k.shuts c) (w.down_marks c) xs, sent-way f (w.down_marks c) (w.downs c) (k.downs c)) in
     rw (old-downs w k c lt) (rw (first-same w k c b) now)
 
 pub up-each : (w : World) (k : Change) (c : ℕ) → up_way (apply w k) c ≤ up_way w c + sum_by up_weight (k.ups c)

@@ -1,24 +1,23 @@
 -- What members do lowers what is to be delivered.
-use Rattle.std.proofs.Common.{◌≡◌, ℕ, ◌<◌, ◌≤◌, ◌+◌, Bool, true, false, List, [], Option, Some, None, IfSome, refl, sym, ap, subst, arith}
-use Rattle.std.specs.Prelude.{sum_by, ◌&&◌, if◌then◌else◌}
+use Rattle.std.proofs.Common.{◌≡◌, ℕ, ◌≤◌, Bool, true, false, Option, Some, None, IfSome, refl, arith}
+use Rattle.std.specs.Prelude.{◌&&◌}
 use Rattle.replica_core.specs.declared.events.Event.TheVariants as event
 use Rattle.replica_model.specs.declared.events.ReplicaEvent.{ReplicaEvent}
-use Rattle.replica_model.specs.Rows.{FullReplica, broken}
+use Rattle.replica_model.specs.Rows.{FullReplica}
 use Rattle.member_core.specs.declared.turns.Turn.{Turn}
 use Rattle.member_core.specs.Members.{hears, is_heard, up_turn}
 use Rattle.member_core.specs.Steps.{Step, step, faulted_step, oldest_at, ready_turn_at}
-use Rattle.world.specs.Parts.{Message, FullMember, Break}
+use Rattle.world.specs.Parts.{FullMember, Break}
 use Rattle.world.specs.Worlds.{World}
 use Rattle.world.specs.Connections.{Next, the_end}
-use Rattle.world.specs.Nodes.{node_of, replica_at, block_of, below_of, passed, member_change, failing_turn, turn_change, ready_change, member_ready, member_up}
-use Rattle.world_settling.specs.Traffic.{hops, down_weight, entries_by, traffic}
-use Rattle.world_settling.proofs.Frame.{Eases}
+use Rattle.world.specs.Nodes.{replica_at, block_of, below_of, passed, member_change, failing_turn, turn_change, ready_change, member_ready, member_up}
+use Rattle.world_settling.specs.Traffic.{entries_by}
 use Rattle.world_settling.proofs.Outer.{when-each}
 use Rattle.world_settling.proofs.Rows.{other-calm}
 use Rattle.world_settling.proofs.Taking.{up_paid}
 use Rattle.world_settling.proofs.Clients.{Falls, up-pays}
 use Rattle.world_settling.proofs.Members.{onward, Stands, member-frame}
-use Rattle.world_settling.proofs.Turns.{Balances, Ready, Acts, ready-acts, up-ready, fault-balances}
+use Rattle.world_settling.proofs.Turns.{Balances, Ready, ready-acts, up-ready, fault-balances}
 
 nothing-on : (w : World) (o : Option ℕ) (b : Bool) (x : Next) → b ≡ false → onward w o (passed b x) ≡ 0
 nothing-on w None b x e = refl

@@ -1,16 +1,14 @@
 -- What a turn of a member changes.
-use Rattle.std.proofs.Common.{◌≡◌, ℕ, ◌<◌, ◌≤◌, ◌+◌, ◌*◌, Bool, true, false, List, [], ◌∷◌, Option, Some, None, IfSome, refl, sym, ap, ◌∙◌, subst, arith, eqb-true}
-use Rattle.std.specs.Prelude.{sum_by, ◌==◌, ◌&&◌, if◌then◌else◌}
+use Rattle.std.proofs.Common.{◌≡◌, ℕ, ◌<◌, ◌≤◌, ◌+◌, true, List, Option, Some, None, IfSome, refl, sym, ap, subst, arith}
+use Rattle.std.specs.Prelude.{sum_by, ◌==◌}
 use Rattle.std.proofs.lemmas.Bool.Decides.{nat_tests}
-use Rattle.member_core.specs.declared.effects.Upward.{Upward}
 use Rattle.member_core.specs.Steps.{Step}
-use Rattle.op_headers.specs.Values.{WriteFields}
 use Rattle.world.specs.Parts.{Message, Dialled, FullMember, Lower, writes, Break}
-use Rattle.world.specs.Worlds.{World, Change, put, put_at, apply}
+use Rattle.world.specs.Worlds.{World, Change, put_at, apply}
 use Rattle.world.specs.Connections.{Next, sent_on}
 use Rattle.world.specs.Nodes.{node_of, replica_at, block_of, passed, sent_up, member_change}
 use Rattle.world_settling.specs.Traffic.{sum_to, hops, down_weight, up_weight, down_way, up_way, sides, member_weight, lower_weight, entries, entries_by, entries_of, traffic}
-use Rattle.world_settling.proofs.Sums.{sum-le, sum-at}
+use Rattle.world_settling.proofs.Sums.{sum-at}
 use Rattle.world_settling.proofs.Frame.{Eases, HasFirst, old-dialled, entries-each, put-other, put-here, downs-quiet, downs-sent, ups-sent, sides-same}
 use Rattle.world_settling.proofs.Outer.{conns-stay}
 
@@ -61,15 +59,31 @@ member-frame w c m x s b st eases =
     let ups = ups-sent w k c (sent_up m.fields s.effect.sends) (λ d. refl) in
     let ends = sides-same w k in
     let lowers : sum_to (λ i. lower_weight (v.lowers i)) w.next_conn + lower_weight (w.lowers c) ≤ sum_to (λ i. lower_weight (w.lowers i)) w.next_conn + lower_weight (v.lowers c) =
-        sum-at (λ i. lower_weight (w.lowers i)) (λ i. lower_weight (v.lowers i)) w.next_conn c (λ i l ne. let e = ap lower_weight (lower-other w k i ne) in omega (arith, e)) st.known in
+    sum-at (λ i. lower_weight (w.lowers i)) (λ i. lower_weight (v.lowers i)) w.next_conn c (λ i l ne. let e = ap lower_weight (lower-other w k i ne) in omega (arith, e)) st.known in
     let held : sum_to (entries v) w.next_conn + entries w c ≤ sum_to (entries w) w.next_conn + entries v c =
-        sum-at (entries w) (entries v) w.next_conn c
-        (λ i l ne. let e = ap (λ (y : Lower). entries_of y v i) (lower-other w k i ne) in omega (arith, e, entries-each w k i (w.lowers i) l (eases i ne))) st.known in
+    sum-at (entries w) (entries v) w.next_conn c
+    (λ i l ne. let e = ap (λ (y : Lower). entries_of y v i) (lower-other w k i ne) in omega (arith, e, entries-each w k i (w.lowers i) l (eases i ne))) st.known in
     let old-weight = ap lower_weight st.lower in
     let new-weight = ap lower_weight (lower-here w k) in
     let old-held = ap (λ (y : Lower). entries_of y w c) st.lower in
     let new-held = ap (λ (y : Lower). entries_of y v c) (lower-here w k) in
     let replica = ap (λ r. entries_by c r.known) (here-replica w k c (block_of m.fields) st.known refl refl) in
     let n = conns-stay w k refl in
-    omega (arith, downs, ups, ends, lowers, held, old-weight, new-weight, old-held, new-held, replica, ap (sum_to (down_way v)) n, ap (sum_to (up_way v)) n, ap (sum_to (sides v)) n,
-    ap (sum_to (λ i. lower_weight (v.lowers i))) n, ap (sum_to (entries v)) n)
+    omega (
+      arith,
+      downs,
+      ups,
+      ends,
+      lowers,
+      held,
+      old-weight,
+      new-weight,
+      old-held,
+      new-held,
+      replica,
+      ap (sum_to (down_way v)) n,
+      ap (sum_to (up_way v)) n,
+      ap (sum_to (sides v)) n,
+      ap (sum_to (λ i. lower_weight (v.lowers i))) n,
+      ap (sum_to (entries v)) n,
+    )

@@ -1,5 +1,5 @@
 -- What lower ends that are no members change, and reads that are served.
-use Rattle.std.proofs.Common.{◌≡◌, ℕ, ◌<◌, ◌≤◌, ◌+◌, ◌-◌, ◌*◌, Bool, true, false, List, [], ◌∷◌, Option, Some, None, IfSome, min, Result, Ok, Err, refl, sym, ap, ◌∙◌, subst, arith}
+use Rattle.std.proofs.Common.{◌≡◌, ℕ, ◌<◌, ◌≤◌, ◌+◌, ◌-◌, ◌*◌, Bool, true, false, List, [], ◌∷◌, Option, Some, IfSome, min, Result, Ok, Err, refl, sym, ap, arith}
 use Rattle.std.specs.Prelude.{sum_by, ◌==◌, if◌then◌else◌}
 use Rattle.std.proofs.lemmas.Bool.Decides.{nat_tests}
 use Rattle.replica_core.specs.declared.events.Answer.{Answer}
@@ -7,7 +7,7 @@ use Rattle.replica_core.specs.declared.events.Answer.TheVariants as answer
 use Rattle.replica_core.specs.declared.events.Event.{Event}
 use Rattle.replica_core.specs.declared.events.Event.TheVariants as event
 use Rattle.replica_model.specs.declared.events.ReplicaEvent.TheVariants as replica_event
-use Rattle.replica_model.specs.Rows.{FullReplica, row_answer, broken}
+use Rattle.replica_model.specs.Rows.{FullReplica, row_answer}
 use Rattle.op_headers.specs.declared.ops.RecoveryKind.{RecoveryKind}
 use Rattle.op_headers.specs.declared.ops.RecoveryKind.TheVariants as kind
 use Rattle.op_headers.specs.declared.ops.RecoveryOp.{RecoveryOp}
@@ -18,14 +18,14 @@ use Rattle.recovery_core.specs.declared.members.RecoveryReply.TheVariants as rep
 use Rattle.recovery_core.specs.Members.{Served, no_recovery, step_event, recovery_event, answer_of, served_as, serve, serve_faulted}
 use Rattle.read_core.specs.declared.serving.ServePhase.{ServePhase}
 use Rattle.read_core.specs.declared.serving.ServePhase.TheVariants as phase
-use Rattle.read_core.specs.Servings.{ServingState, most_bytes, piece_len, packet_of, piece_of, piece_event, next_call, call_at, phase_behind, gone_on, sent, sent_in, piece_as, piece_at, faulted_piece}
-use Rattle.world.specs.Parts.{Message, packet, recovery_answer, Break, Lower, idle, writes, serves, recovers, ended_below}
+use Rattle.read_core.specs.Servings.{ServingState, most_bytes, piece_len, packet_of, piece_of, piece_event, next_call, call_at, phase_behind, gone_on, sent, sent_in, piece_as, faulted_piece}
+use Rattle.world.specs.Parts.{Message, packet, recovery_answer, Break, Lower, serves}
 use Rattle.world.specs.Worlds.{World, Change, apply}
 use Rattle.world.specs.Connections.{sent_on}
 use Rattle.world.specs.Nodes.{replica_at, breaking, piece_change, serve_change, recovery_change, failing_recovery, recovery_request}
 use Rattle.world.specs.Nodes as nodes
 use Rattle.world_settling.specs.Traffic.{sum_to, down_way, up_way, up_weight, sides, lower_weight, serving_weight, entries, entries_of, entries_by, traffic}
-use Rattle.world_settling.proofs.Sums.{sum-le, sum-at}
+use Rattle.world_settling.proofs.Sums.{sum-at}
 use Rattle.world_settling.proofs.Frame.{Eases, entries-each, downs-quiet, ups-sent, sides-same}
 use Rattle.world_settling.proofs.Outer.{conns-stay}
 use Rattle.world_settling.proofs.Rows.{other-calm}
@@ -49,14 +49,28 @@ node-frame w k us h =
     let c : ℕ = k.lower_at in
     let n = conns-stay w k h.dials in
     let lowers : sum_to (λ i. lower_weight (v.lowers i)) w.next_conn + lower_weight (w.lowers c) ≤ sum_to (λ i. lower_weight (w.lowers i)) w.next_conn + lower_weight (v.lowers c) =
-        sum-at (λ i. lower_weight (w.lowers i)) (λ i. lower_weight (v.lowers i)) w.next_conn c (λ i l ne. let e = ap lower_weight (lower-other w k i ne) in omega (arith, e)) h.known in
+    sum-at (λ i. lower_weight (w.lowers i)) (λ i. lower_weight (v.lowers i)) w.next_conn c (λ i l ne. let e = ap lower_weight (lower-other w k i ne) in omega (arith, e)) h.known in
     let held : sum_to (entries v) w.next_conn + entries w c ≤ sum_to (entries w) w.next_conn + entries v c =
-        sum-at (entries w) (entries v) w.next_conn c
-        (λ i l ne. let e = ap (λ (y : Lower). entries_of y v i) (lower-other w k i ne) in omega (arith, e, entries-each w k i (w.lowers i) l (h.eases i))) h.known in
+    sum-at (entries w) (entries v) w.next_conn c
+    (λ i l ne. let e = ap (λ (y : Lower). entries_of y v i) (lower-other w k i ne) in omega (arith, e, entries-each w k i (w.lowers i) l (h.eases i))) h.known in
     let new-weight = ap lower_weight (lower-here w k) in
     let new-held = ap (λ (y : Lower). entries_of y v c) (lower-here w k) in
-    omega (arith, downs-quiet w k h.downs, ups-sent w k c us h.ups, sides-same w k, lowers, held, new-weight, new-held, h.free, ap (sum_to (down_way v)) n, ap (sum_to (up_way v)) n,
-    ap (sum_to (sides v)) n, ap (sum_to (λ i. lower_weight (v.lowers i))) n, ap (sum_to (entries v)) n)
+    omega (
+      arith,
+      downs-quiet w k h.downs,
+      ups-sent w k c us h.ups,
+      sides-same w k,
+      lowers,
+      held,
+      new-weight,
+      new-held,
+      h.free,
+      ap (sum_to (down_way v)) n,
+      ap (sum_to (up_way v)) n,
+      ap (sum_to (sides v)) n,
+      ap (sum_to (λ i. lower_weight (v.lowers i))) n,
+      ap (sum_to (entries v)) n,
+    )
 
 pub sent-none : (d c : ℕ) → sent_on (Some d) [] c ≡ []
 sent-none d c = at (c == d)
@@ -106,7 +120,7 @@ broken-read : (w : World) (c b : ℕ) (s : ServingState) (e : Event) → c < w.n
     → Falls w 0 (breaking w c b (faulted_piece s (replica_at w c b)).0 (replica_event.Other e) [])
 broken-read w c b s e lt l p =
     let frame = node-frame w (breaking w c b (faulted_piece s (replica_at w c b)).0 (replica_event.Other e) []) []
-        (record { known = lt; dials = refl; downs = λ d. refl; ups = λ d. refl; eases = λ i. other-calm i (replica_at w c b).known event.FileFault refl; free = refl }) in
+    (record { known = lt; dials = refl; downs = λ d. refl; ups = λ d. refl; eases = λ i. other-calm i (replica_at w c b).known event.FileFault refl; free = refl }) in
     let weight : lower_weight (w.lowers c) ≡ serving_weight s.phase s = ap lower_weight l in
     let sends : serving_weight s.phase s ≡ serving_weight phase.Sending s = ap (λ (x : ServePhase). serving_weight x s) p in
     record { is = omega (arith, frame, weight, sends) }

@@ -1,6 +1,6 @@
 -- Events that deliver nothing make no more to be delivered.
-use Rattle.std.proofs.Common.{◌≡◌, ℕ, ◌<◌, ◌≤◌, ◌+◌, Bool, true, false, List, [], Option, Some, None, IfSome, length, refl, sym, ap, ◌∙◌, subst, arith}
-use Rattle.std.specs.Prelude.{sum_by, nat_lt, is_none, min, ◌==◌, ◌&&◌, not, if◌then◌else◌}
+use Rattle.std.proofs.Common.{◌≡◌, ℕ, ◌≤◌, Bool, true, false, List, [], Option, Some, None, IfSome, refl, sym, ap, ◌∙◌, subst, arith}
+use Rattle.std.specs.Prelude.{sum_by, nat_lt, is_none, ◌==◌, ◌&&◌, not, if◌then◌else◌}
 use Rattle.std.proofs.Common.{eqb-true}
 use Rattle.std.proofs.lemmas.Bool.{false≢true}
 use Rattle.hd_base.specs.declared.numbers.BlockId.{BlockId}
@@ -26,7 +26,7 @@ use Rattle.world.specs.Worlds.{World, Change, put, apply}
 use Rattle.world.specs.Connections.{is_alive, lesser, lost_marks, stopped_marks, stopped_where, is_of_node}
 use Rattle.world.specs.Nodes.{node_of, block_of}
 use Rattle.world.specs.Restarts.{all_found, found_in, replica_found, restarted, restart}
-use Rattle.world.specs.Primaries.{asks_primary, primary_commits, primary_asks, writer_asks, writer_asks_office, office_event}
+use Rattle.world.specs.Primaries.{asks_primary, primary_commits, primary_asks, writer_asks, office_event}
 use Rattle.world.specs.Events.{changed, lost, stop, where_so, outcome, after_event, happens}
 use Rattle.world_settling.specs.Traffic.{sum_to, hops, down_weight, up_weight, on_way, open_weight, down_way, up_way, sides, lower_weight, entries, entries_by, entries_of, traffic, is_outer}
 use Rattle.world_settling.proofs.Sums.{sum-le}
@@ -61,8 +61,19 @@ quiet-keeps w k q =
     let held = sum-le (entries w) (entries (apply w k)) w.next_conn (λ c lt. rw (lower-stays w k c q.lower) (entries-each w k c (w.lowers c) lt (eases c))) in
     let v : World = apply w k in
     let n = conns-stay w k q.dials in
-    omega (arith, downs-quiet w k q.downs, ups-quiet w k q.ups, sides-same w k, lowers, held, ap (sum_to (down_way v)) n, ap (sum_to (up_way v)) n, ap (sum_to (sides v)) n,
-    ap (sum_to (λ c. lower_weight (v.lowers c))) n, ap (sum_to (entries v)) n)
+    omega (
+      arith,
+      downs-quiet w k q.downs,
+      ups-quiet w k q.ups,
+      sides-same w k,
+      lowers,
+      held,
+      ap (sum_to (down_way v)) n,
+      ap (sum_to (up_way v)) n,
+      ap (sum_to (sides v)) n,
+      ap (sum_to (λ c. lower_weight (v.lowers c))) n,
+      ap (sum_to (entries v)) n,
+    )
 
 -- THE OFFICE
 

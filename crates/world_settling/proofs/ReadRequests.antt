@@ -1,6 +1,6 @@
 -- A read request that is taken makes less than it weighs.
-use Rattle.std.proofs.Common.{◌≡◌, ℕ, ◌<◌, ◌≤◌, ◌+◌, ◌-◌, ◌*◌, Bool, true, false, List, [], ◌∷◌, Option, Some, None, IfSome, Result, Ok, Err, min, refl, sym, ap, ◌∙◌, arith}
-use Rattle.std.specs.Prelude.{sum_by, ◌==◌, ◌%◌, if◌then◌else◌}
+use Rattle.std.proofs.Common.{ℕ, ◌<◌, ◌≤◌, ◌+◌, ◌-◌, ◌*◌, Bool, true, false, [], ◌∷◌, Option, Some, None, IfSome, Result, Ok, Err, min, refl, arith}
+use Rattle.std.specs.Prelude.{◌==◌, ◌%◌, if◌then◌else◌}
 use Rattle.std.proofs.lemmas.Nat.{mod_below}
 use Rattle.hd_base.specs.SumRules.{Rule, IsChunkSize}
 use Rattle.op_headers.specs.declared.ops.ReadOp.{ReadOp}
@@ -13,11 +13,11 @@ use Rattle.replica_model.specs.declared.events.ReplicaEvent.TheVariants as repli
 use Rattle.replica_model.specs.Rows.{FullReplica, row_answer, broken}
 use Rattle.request_refusals.specs.declared.refusals.RequestRefusal.{RequestRefusal}
 use Rattle.request_refusals.specs.declared.refusals.RequestRefusal.TheVariants as refusal
-use Rattle.read_core.specs.Servings.{ServingState, chunk_start, chunk_end, read_end, begun, begun_as, begun_at, read_at, read_event, accepting, refusing, faulted_read}
-use Rattle.world.specs.Parts.{Message, response}
+use Rattle.read_core.specs.Servings.{chunk_start, chunk_end, read_end, begun, begun_as, begun_at, read_event, accepting, refusing}
+use Rattle.world.specs.Parts.{response}
 use Rattle.world.specs.Worlds.{World}
 use Rattle.world.specs.Nodes.{replica_at, breaking, read_change, failing_read, read_request}
-use Rattle.world_settling.specs.Traffic.{entries_by, serving_weight, traffic}
+use Rattle.world_settling.specs.Traffic.{serving_weight}
 use Rattle.world_settling.proofs.Rows.{other-calm}
 use Rattle.world_settling.proofs.Clients.{Falls}
 use Rattle.world_settling.proofs.Nodes.{node-frame}
@@ -50,7 +50,7 @@ refused-falls w c b x paid lt p =
 begun-falls : (w : World) (c b : ℕ) (r : ReadOp) (rule : Rule) (visible : ℕ) → c < w.next_conn → IsChunkSize rule.chunk → Falls w (3 * (r.len + 131072) + 6) (read_change w c b (Ok (begun r rule visible)))
 begun-falls w c b r rule visible lt h =
     let frame = node-frame w (read_change w c b (Ok (begun r rule visible))) (response (accepting (begun r rule visible)) ∷ [])
-        (record { known = lt; dials = refl; downs = λ d. refl; ups = λ d. refl; eases = λ i. omega arith; free = refl }) in
+    (record { known = lt; dials = refl; downs = λ d. refl; ups = λ d. refl; eases = λ i. omega arith; free = refl }) in
     record { is = omega (arith, frame, begun-weighs r rule visible h) }
 
 served-falls : (w : World) (c b : ℕ) (r : ReadOp) (o : Option Rule) (a : Answer) → c < w.next_conn → IfSome o (λ rule. IsChunkSize rule.chunk)
@@ -75,7 +75,7 @@ failing-falls w c b paid (Err x) lt p = tt
 failing-falls w c b paid (Ok e) lt p =
     let r : FullReplica = replica_at w c b in
     let frame = node-frame w (breaking w c b (broken r) (replica_event.Other e) (response (refusing refusal.File) ∷ [])) (response (refusing refusal.File) ∷ [])
-        (record { known = lt; dials = refl; downs = λ d. refl; ups = λ d. refl; eases = λ i. other-calm i r.known event.FileFault refl; free = refl }) in
+    (record { known = lt; dials = refl; downs = λ d. refl; ups = λ d. refl; eases = λ i. other-calm i r.known event.FileFault refl; free = refl }) in
     record { is = omega (arith, frame, p) }
 
 pub read-falls : (w : World) (c : ℕ) (r : ReadOp) (fails : Bool) → c < w.next_conn → IfSome (rule_in (replica_at w c r.block.block.0).known) (λ rule. IsChunkSize rule.chunk)

@@ -1,11 +1,10 @@
 -- What members take from above lowers what is to be delivered.
-use Rattle.std.proofs.Common.{◌≡◌, ℕ, ℤ, ◌<◌, ◌≤◌, ◌+◌, ◌*◌, Bool, true, false, List, [], ◌∷◌, Option, Some, None, IfSome, refl, sym, ap, ◌∙◌, subst, arith}
+use Rattle.std.proofs.Common.{◌≡◌, ℕ, ℤ, ◌≤◌, ◌+◌, ◌*◌, Bool, true, false, [], Option, Some, None, IfSome, refl, sym, ap, ◌∙◌, subst, arith}
 use Rattle.std.specs.Prelude.{sum_by, is_some, slice_get, length, ◌/◌, if◌then◌else◌}
 use Rattle.packet_codec.specs.declared.packets.Packet.{Packet}
 use Rattle.op_headers.specs.declared.ops.Op.{Op}
 use Rattle.op_headers.specs.declared.ops.Op.TheVariants as op
 use Rattle.replica_core.specs.declared.events.Event.TheVariants as event
-use Rattle.replica_core.specs.declared.refusals.Refusal.{Refusal}
 use Rattle.replica_core.specs.declared.refusals.Refusal.TheVariants as refusal
 use Rattle.replica_core.specs.Views.{rule_in}
 use Rattle.replica_model.specs.declared.events.ReplicaEvent.{ReplicaEvent}
@@ -23,7 +22,7 @@ use Rattle.world.specs.Parts.{Message, request, packet, ack, response, read_stat
 use Rattle.world.specs.Worlds.{World}
 use Rattle.world.specs.Connections.{Next, message, the_end}
 use Rattle.world.specs.Nodes.{node_of, above_of, replica_at, block_of, pending_at, takes_next, passed, sent_up, member_change, turn_change, member_down}
-use Rattle.world_settling.specs.Traffic.{hops_of, hops, request_weight, up_weight, down_weight, owed, member_weight, entries_by, traffic}
+use Rattle.world_settling.specs.Traffic.{hops_of, hops, request_weight, up_weight, owed, member_weight, entries_by}
 use Rattle.world_settling.proofs.Outer.{when-each}
 use Rattle.world_settling.proofs.Rows.{other-calm, packet-most, packet-others}
 use Rattle.world_settling.proofs.Taking.{down_paid}
@@ -149,7 +148,7 @@ unreadable-down w c m x false paid st p =
 -- what follows the booking of the end
 end-at : (w : World) (c : ℕ) (m : FullMember) (x : Next) (paid : ℕ) → Stands w c m → 1 ≤ paid → (b : Booked)
     → Falls w paid (member_change w c m x (with_replica (row (replica_at w c (block_of m.fields)) (replica_event.Other (event.Ended m.state.conn))) (settled m.state (down_turn m.state above.End) b))
-        (w.breaks (node_of w c) (block_of m.fields)))
+    (w.breaks (node_of w c) (block_of m.fields)))
 end-at w c m x paid st p booked.Taken =
     let r : FullReplica = replica_at w c (block_of m.fields) in
     let e : ReplicaEvent = replica_event.Other (event.Ended m.state.conn) in
@@ -164,8 +163,8 @@ end-at w c m x paid st p (booked.Refused y) =
     let r : FullReplica = replica_at w c (block_of m.fields) in
     let e : ReplicaEvent = replica_event.Other (event.Ended m.state.conn) in
     let cut : Falls w paid (member_change w c m x (with_replica (row r e) (cut_off m.state (down_turn m.state above.End))) (w.breaks (node_of w c) (block_of m.fields))) =
-        plain-falls w c m x (with_replica (row r e) (cut_off m.state (down_turn m.state above.End))) (w.breaks (node_of w c) (block_of m.fields)) paid st refl refl refl
-        (λ i. other-calm i r.known (event.Ended m.state.conn) refl) p in
+    plain-falls w c m x (with_replica (row r e) (cut_off m.state (down_turn m.state above.End))) (w.breaks (node_of w c) (block_of m.fields)) paid st refl refl refl
+    (λ i. other-calm i r.known (event.Ended m.state.conn) refl) p in
     let same = refused-cut m.state side.Receiver (event.Ended m.state.conn) m.state.mirror (record no_effect { shuts = shuts.Mirror }) y in
     subst (λ (z : MemberState × Effect). Falls w paid (member_change w c m x (with_replica (row r e) z) (w.breaks (node_of w c) (block_of m.fields)))) (sym same) cut
 

@@ -1,8 +1,7 @@
 -- A write request that is taken makes less than it weighs.
-use Rattle.std.proofs.Common.{◌≡◌, ℕ, ◌<◌, ◌≤◌, ◌+◌, ◌*◌, Bool, true, false, List, [], ◌∷◌, ◌++◌, length, Option, Some, None, option_map, IfSome, Result, Ok, Err, append-nil, refl, sym, ap, ◌∙◌, subst, arith}
-use Rattle.std.specs.Prelude.{sum_by, nat_le, ◌-◌, not, is_some, ◌==◌, if◌then◌else◌}
+use Rattle.std.proofs.Common.{◌≡◌, ℕ, ◌<◌, ◌≤◌, ◌+◌, ◌*◌, Bool, true, false, List, [], ◌∷◌, length, Option, Some, None, IfSome, Result, Ok, Err, refl, ap, ◌∙◌, arith}
+use Rattle.std.specs.Prelude.{sum_by, nat_le, ◌-◌, not, ◌==◌, if◌then◌else◌}
 use Rattle.std.proofs.lemmas.Bool.Decides.{nat_tests}
-use Rattle.std.proofs.lemmas.Option.{none-some, same_Some}
 use Rattle.hd_base.specs.Results.{◌>>=◌}
 use Rattle.hd_base.specs.SumRules.{Rule}
 use Rattle.hd_base.specs.declared.numbers.ConnId.{ConnId}
@@ -25,21 +24,21 @@ use Rattle.member_core.specs.declared.effects.SetupAnswer.TheVariants as answer
 use Rattle.member_core.specs.declared.effects.Upward.TheVariants as upward
 use Rattle.member_core.specs.declared.member.Mirror.{Mirror}
 use Rattle.member_core.specs.declared.member.Mirror.TheVariants as mirror
-use Rattle.member_core.specs.Members.{mirror_for, set_up, set_up_at}
+use Rattle.member_core.specs.Members.{set_up, set_up_at}
 use Rattle.member_core.specs.Requests.{check, setup_with, named_setup, named_rule, rule_for, setup_event, request_event, closes, request_from, request_to, mirror_request}
-use Rattle.member_core.specs.Steps.{Setup, refused_request, taken_request, booked_request, request_at, request_step, refused_by, faulted_request}
-use Rattle.world.specs.Parts.{Message, request, by_member, Marks, Lower, idle, writes, Break}
-use Rattle.world.specs.Worlds.{World, Dial, Change, dial_at, listed, downs_with, apply}
+use Rattle.member_core.specs.Steps.{refused_request, taken_request, booked_request, request_at, refused_by}
+use Rattle.world.specs.Parts.{Message, request, by_member, Marks, Lower, idle, Break}
+use Rattle.world.specs.Worlds.{World, Dial, Change, dial_at, apply}
 use Rattle.world.specs.Connections.{place_of, sent_on}
 use Rattle.world.specs.Nodes.{node_of, replica_at, block_of, sent_up, is_asked, mirror_node, mirror_dial, setup_change, failing_write, write_request}
-use Rattle.world_settling.specs.Traffic.{hops, sum_to, down_weight, up_weight, request_weight, down_way, up_way, open_weight, sides, member_weight, lower_weight, entries, entries_of, entries_by, traffic}
+use Rattle.world_settling.specs.Traffic.{hops, sum_to, down_weight, up_weight, down_way, up_way, open_weight, sides, member_weight, lower_weight, entries, entries_of, entries_by, traffic}
 use Rattle.world_settling.proofs.Rows.{IsSetup, other-calm, setup-calm, setup-none}
 use Rattle.world_settling.proofs.Clients.{Falls}
 use Rattle.world_settling.proofs.Sums.{sum-at, sum-more}
 use Rattle.world_settling.proofs.Ways.{whole-way}
 use Rattle.world_settling.proofs.Frame.{Eases, entries-each, downs-quiet, ups-sent, sides-same, sent-else}
 use Rattle.world_settling.proofs.Members.{here-replica, lower-other, lower-here}
-use Rattle.world_settling.proofs.Nodes.{AtNode, node-frame, sent-none}
+use Rattle.world_settling.proofs.Nodes.{node-frame}
 
 -- WHICH EVENT A REQUEST IS
 
@@ -170,7 +169,7 @@ dial-frame w k d us cost h weighs =
     let f : Message → ℕ = down_weight (hops v m) in
     let here-lower : v.lowers m ≡ idle = lower-other w k m (apart c m h.known) ∙ h.new.lower in
     let downs = sum-more (down_way w) (down_way v) m cost (downs-quiet w k h.downs)
-        (omega (arith, whole-way f (v.down_marks m) (v.downs m), ap (sum_by f) (new-downs w k d us h), weighs (hops v m))) in
+    (omega (arith, whole-way f (v.down_marks m) (v.downs m), ap (sum_by f) (new-downs w k d us h), weighs (hops v m))) in
     let ups = sum-more (up_way v) (up_way v) m 0 (omega arith) (omega (arith, whole-way up_weight (v.up_marks m) (v.ups m), ap (sum_by up_weight) (new-ups w k d us h))) in
     let ends = sum-more (sides w) (sides v) m 2 (sides-same w k) (omega (arith, open-most (v.down_marks m), open-most (v.up_marks m))) in
     let weight = ap lower_weight here-lower in
@@ -178,14 +177,31 @@ dial-frame w k d us cost h weighs =
     let lowers = sum-more (λ i. lower_weight (v.lowers i)) (λ i. lower_weight (v.lowers i)) m 0 (omega arith) (omega (arith, weight)) in
     let held = sum-more (entries v) (entries v) m 0 (omega arith) (omega (arith, empty)) in
     let old-lowers : sum_to (λ i. lower_weight (v.lowers i)) m + lower_weight (w.lowers c) ≤ sum_to (λ i. lower_weight (w.lowers i)) m + lower_weight (v.lowers c) =
-        sum-at (λ i. lower_weight (w.lowers i)) (λ i. lower_weight (v.lowers i)) m c (λ i l ne. let e = ap lower_weight (lower-other w k i ne) in omega (arith, e)) h.known in
+    sum-at (λ i. lower_weight (w.lowers i)) (λ i. lower_weight (v.lowers i)) m c (λ i l ne. let e = ap lower_weight (lower-other w k i ne) in omega (arith, e)) h.known in
     let old-held : sum_to (entries v) m + entries w c ≤ sum_to (entries w) m + entries v c =
-        sum-at (entries w) (entries v) m c
-        (λ i l ne. let e = ap (λ (y : Lower). entries_of y v i) (lower-other w k i ne) in omega (arith, e, entries-each w k i (w.lowers i) l (h.eases i))) h.known in
+    sum-at (entries w) (entries v) m c
+    (λ i l ne. let e = ap (λ (y : Lower). entries_of y v i) (lower-other w k i ne) in omega (arith, e, entries-each w k i (w.lowers i) l (h.eases i))) h.known in
     let new-weight = ap lower_weight (lower-here w k) in
     let new-held = ap (λ (y : Lower). entries_of y v c) (lower-here w k) in
-    omega (arith, downs, ups, ups-sent w k c us h.ups, ends, lowers, held, old-lowers, old-held, new-weight, new-held, h.free, ap (sum_to (down_way v)) n, ap (sum_to (up_way v)) n,
-    ap (sum_to (sides v)) n, ap (sum_to (λ i. lower_weight (v.lowers i))) n, ap (sum_to (entries v)) n)
+    omega (
+      arith,
+      downs,
+      ups,
+      ups-sent w k c us h.ups,
+      ends,
+      lowers,
+      held,
+      old-lowers,
+      old-held,
+      new-weight,
+      new-held,
+      h.free,
+      ap (sum_to (down_way v)) n,
+      ap (sum_to (up_way v)) n,
+      ap (sum_to (sides v)) n,
+      ap (sum_to (λ i. lower_weight (v.lowers i))) n,
+      ap (sum_to (entries v)) n,
+    )
 
 -- TAKEN, WITH A DIAL
 

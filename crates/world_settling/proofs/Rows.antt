@@ -1,9 +1,9 @@
 -- What book calls make of the entries that are pending at a replica.
-use Rattle.std.proofs.Common.{◌≡◌, ℕ, ℤ, negsuc, ◌<◌, ◌≤◌, ◌+◌, ◌*◌, Bool, true, false, List, [], ◌∷◌, ◌++◌, length, drop, slice_get, Option, Some, None, option_map, Result, Ok, Err, length-append, length-drop, refl, sym, ap, ◌∙◌, subst, arith, eqb-true}
-use Rattle.std.specs.Prelude.{◌==◌, ◌-◌, not, is_none, if◌then◌else◌}
+use Rattle.std.proofs.Common.{◌≡◌, ℕ, ℤ, negsuc, ◌≤◌, ◌+◌, ◌*◌, Bool, true, false, List, [], ◌∷◌, ◌++◌, length, drop, slice_get, Option, Some, None, Result, Ok, Err, length-append, length-drop, refl, sym, ap, ◌∙◌, subst, arith, eqb-true}
+use Rattle.std.specs.Prelude.{◌==◌, not, is_none, if◌then◌else◌}
 use Rattle.std.proofs.lemmas.Bool.Decides.{nat_tests}
 use Rattle.std.proofs.lemmas.Bool.{ne_eqb, false≢true}
-use Rattle.std.proofs.lemmas.Option.{none-some, same_Some}
+use Rattle.std.proofs.lemmas.Option.{none-some}
 use Rattle.std.specs.Ordering.{int_eq}
 use Rattle.hd_base.specs.Results.{◌>>=◌}
 use Rattle.hd_base.specs.declared.numbers.ConnId.{ConnId}
@@ -25,7 +25,7 @@ use Rattle.replica_core.specs.declared.streams.Stream.{Stream}
 use Rattle.replica_core.specs.Extents.{stream_after, heartbeat_of, pending_of}
 use Rattle.replica_core.specs.Info.{close_stream, advance_acked, is_writable, state_of, settled_at, reopen, recover_setup, recover_stream, begin_recovery, end_recovery, readable, visible_of, given}
 use Rattle.replica_core.specs.Refusals.{check}
-use Rattle.replica_core.specs.Transitions.{Taken, Outcome, done, present, record_after, set_writer, with_writer, new_transition, init_transition, stream_by, enqueue, extend, extent_transition, packet_transition, acknowledge, oldest_of, ack_transition, is_written_by, end_connection, mark_broken, transition, state_after, answer_of, answer_to, reply}
+use Rattle.replica_core.specs.Transitions.{Taken, Outcome, done, present, record_after, set_writer, with_writer, new_transition, init_transition, stream_by, enqueue, extend, extent_transition, packet_transition, acknowledge, oldest_of, ack_transition, is_written_by, transition, state_after, answer_of, answer_to, reply}
 use Rattle.member_core.specs.declared.turns.Booked.TheVariants as booked
 use Rattle.member_core.specs.Steps.{booked_as, refused_by}
 use Rattle.request_refusals.specs.declared.refusals.RequestRefusal.TheVariants as request_refusal

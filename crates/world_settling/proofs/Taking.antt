@@ -1,11 +1,11 @@
 -- What stands next is taken: so much falls.
-use Rattle.std.proofs.Common.{◌≡◌, ℕ, ◌<◌, ◌≤◌, ◌+◌, Bool, true, false, List, [], Option, Some, None, refl, sym, ap, subst, arith, eqb-true}
+use Rattle.std.proofs.Common.{◌≡◌, ℕ, ◌<◌, ◌≤◌, ◌+◌, Bool, true, false, Some, refl, arith, eqb-true}
 use Rattle.std.specs.Prelude.{sum_by, ◌==◌, if◌then◌else◌}
 use Rattle.std.proofs.lemmas.Bool.Decides.{nat_tests}
-use Rattle.world.specs.Parts.{Message, Marks, Lower, idle, writes, serves, recovers, ended_below}
+use Rattle.world.specs.Parts.{Marks, Lower, idle, writes, serves, recovers, ended_below}
 use Rattle.world.specs.Worlds.{World, put}
-use Rattle.world.specs.Connections.{Next, message, the_end, next_on, next_down, next_up, marks_taken, down_taken, up_taken}
-use Rattle.world_settling.specs.Traffic.{sum_to, hops, down_weight, up_weight, on_way, down_way, up_way, open_weight, sides, lower_weight, entries, entries_of, traffic}
+use Rattle.world.specs.Connections.{Next, message, the_end, next_down, next_up, marks_taken, down_taken, up_taken}
+use Rattle.world_settling.specs.Traffic.{sum_to, hops, down_weight, up_weight, on_way, down_way, up_way, open_weight, sides, entries, entries_of, traffic}
 use Rattle.world_settling.proofs.Sums.{sum-le, sum-fall}
 use Rattle.world_settling.proofs.Ways.{next-open, taken-way}
 
@@ -60,18 +60,18 @@ unfolding traffic up_taken
 up-taken-falls w c (message m) lt e =
     let k : Marks = marks_taken (w.up_marks c) (message m) in
     let ways : sum_to (up_way (record w { up_marks = put w.up_marks c k })) w.next_conn + 2 ≤ sum_to (up_way w) w.next_conn =
-        put-falls (λ i q. sum_by up_weight (on_way q (w.ups i))) w.up_marks w.next_conn c 2 k lt (taken-way up_weight (w.ups c) (w.up_marks c) m e) in
+    put-falls (λ i q. sum_by up_weight (on_way q (w.ups i))) w.up_marks w.next_conn c 2 k lt (taken-way up_weight (w.ups c) (w.up_marks c) m e) in
     let ends : sum_to (sides (record w { up_marks = put w.up_marks c k })) w.next_conn + 0 ≤ sum_to (sides w) w.next_conn =
-        put-falls (λ i q. open_weight (w.down_marks i) + open_weight q) w.up_marks w.next_conn c 0 k lt (omega arith) in
+    put-falls (λ i q. open_weight (w.down_marks i) + open_weight q) w.up_marks w.next_conn c 0 k lt (omega arith) in
     let held = held-same w w.down_marks (put w.up_marks c k) w.next_conn in
     omega (arith, ways, ends, held)
 up-taken-falls w c the_end lt e =
     let k : Marks = marks_taken (w.up_marks c) the_end in
     let ways : sum_to (up_way (record w { up_marks = put w.up_marks c k })) w.next_conn + 0 ≤ sum_to (up_way w) w.next_conn =
-        put-falls (λ i q. sum_by up_weight (on_way q (w.ups i))) w.up_marks w.next_conn c 0 k lt (omega arith) in
+    put-falls (λ i q. sum_by up_weight (on_way q (w.ups i))) w.up_marks w.next_conn c 0 k lt (omega arith) in
     let closes = end-closes (w.up_marks c) (next-open (w.ups c) (w.up_marks c) the_end e) in
     let ends : sum_to (sides (record w { up_marks = put w.up_marks c k })) w.next_conn + 1 ≤ sum_to (sides w) w.next_conn =
-        put-falls (λ i q. open_weight (w.down_marks i) + open_weight q) w.up_marks w.next_conn c 1 k lt (omega (arith, closes)) in
+    put-falls (λ i q. open_weight (w.down_marks i) + open_weight q) w.up_marks w.next_conn c 1 k lt (omega (arith, closes)) in
     let held = held-same w w.down_marks (put w.up_marks c k) w.next_conn in
     omega (arith, ways, ends, held)
 
@@ -80,18 +80,18 @@ unfolding traffic down_taken
 down-taken-falls w c (message m) lt e =
     let k : Marks = marks_taken (w.down_marks c) (message m) in
     let ways : sum_to (down_way (record w { down_marks = put w.down_marks c k })) w.next_conn + down_weight (hops w c) m ≤ sum_to (down_way w) w.next_conn =
-        put-falls (λ i q. sum_by (down_weight (hops w i)) (on_way q (w.downs i))) w.down_marks w.next_conn c (down_weight (hops w c) m) k lt
-        (taken-way (down_weight (hops w c)) (w.downs c) (w.down_marks c) m e) in
+    put-falls (λ i q. sum_by (down_weight (hops w i)) (on_way q (w.downs i))) w.down_marks w.next_conn c (down_weight (hops w c) m) k lt
+    (taken-way (down_weight (hops w c)) (w.downs c) (w.down_marks c) m e) in
     let ends : sum_to (sides (record w { down_marks = put w.down_marks c k })) w.next_conn + 0 ≤ sum_to (sides w) w.next_conn =
-        put-falls (λ i q. open_weight q + open_weight (w.up_marks i)) w.down_marks w.next_conn c 0 k lt (omega arith) in
+    put-falls (λ i q. open_weight q + open_weight (w.up_marks i)) w.down_marks w.next_conn c 0 k lt (omega arith) in
     let held = held-same w (put w.down_marks c k) w.up_marks w.next_conn in
     omega (arith, ways, ends, held)
 down-taken-falls w c the_end lt e =
     let k : Marks = marks_taken (w.down_marks c) the_end in
     let ways : sum_to (down_way (record w { down_marks = put w.down_marks c k })) w.next_conn + 0 ≤ sum_to (down_way w) w.next_conn =
-        put-falls (λ i q. sum_by (down_weight (hops w i)) (on_way q (w.downs i))) w.down_marks w.next_conn c 0 k lt (omega arith) in
+    put-falls (λ i q. sum_by (down_weight (hops w i)) (on_way q (w.downs i))) w.down_marks w.next_conn c 0 k lt (omega arith) in
     let closes = end-closes (w.down_marks c) (next-open (w.downs c) (w.down_marks c) the_end e) in
     let ends : sum_to (sides (record w { down_marks = put w.down_marks c k })) w.next_conn + 1 ≤ sum_to (sides w) w.next_conn =
-        put-falls (λ i q. open_weight q + open_weight (w.up_marks i)) w.down_marks w.next_conn c 1 k lt (omega (arith, closes)) in
+    put-falls (λ i q. open_weight q + open_weight (w.up_marks i)) w.down_marks w.next_conn c 1 k lt (omega (arith, closes)) in
     let held = held-same w (put w.down_marks c k) w.up_marks w.next_conn in
     omega (arith, ways, ends, held)

@@ -1,12 +1,9 @@
 -- What a turn of a member makes is paid by what it takes, an entry, or what the member owed.
-use Rattle.std.proofs.Common.{◌≡◌, ℕ, ℤ, ◌<◌, ◌≤◌, ◌+◌, ◌*◌, Bool, true, false, List, [], ◌∷◌, Option, Some, None, refl, sym, ap, ◌∙◌, subst, arith}
+use Rattle.std.proofs.Common.{◌≡◌, ℕ, ℤ, ◌≤◌, ◌+◌, Bool, true, false, List, [], ◌∷◌, Option, Some, None, refl, ap, subst, arith}
 use Rattle.std.proofs.lemmas.Option.{none-some, same_Some}
 use Rattle.std.specs.Prelude.{sum_by, is_some, slice_get, ◌==◌, if◌then◌else◌}
-use Rattle.hd_base.specs.declared.numbers.ConnId.{ConnId}
-use Rattle.packet_codec.specs.declared.packets.Packet.{Packet}
 use Rattle.replica_core.specs.declared.events.Event.{Event}
 use Rattle.replica_core.specs.declared.events.Event.TheVariants as event
-use Rattle.replica_core.specs.declared.records.ReplicaRecord.{ReplicaRecord}
 use Rattle.replica_core.specs.declared.refusals.Refusal.{Refusal}
 use Rattle.replica_core.specs.declared.refusals.Refusal.TheVariants as refusal
 use Rattle.replica_model.specs.declared.events.ReplicaEvent.{ReplicaEvent}
@@ -22,11 +19,8 @@ use Rattle.member_core.specs.declared.member.Mirror.TheVariants as mirror
 use Rattle.member_core.specs.Acks.{is_success, failures, begins_with_bad_sum, is_read, with_own, ack_of}
 use Rattle.replica_core.specs.declared.ack_queue.PendingPacket.{PendingPacket}
 use Rattle.replica_core.specs.Transitions.{is_written_by}
-use Rattle.replica_model.specs.Rows.{broken}
 use Rattle.hd_base.specs.declared.states.Status.{Status}
 use Rattle.hd_base.specs.declared.states.Status.TheVariants as status
-use Rattle.ack_codec.specs.declared.responses.Response.{Response}
-use Rattle.member_core.specs.declared.effects.Shuts.{Shuts}
 use Rattle.member_core.specs.declared.effects.Shuts.TheVariants as shuts
 use Rattle.member_core.specs.declared.effects.Upward.{Upward}
 use Rattle.member_core.specs.declared.member.Mirror.{Mirror}
@@ -35,8 +29,8 @@ use Rattle.member_core.specs.declared.turns.Booked.TheVariants as booked
 use Rattle.member_core.specs.declared.turns.Side.{Side}
 use Rattle.member_core.specs.declared.turns.Side.TheVariants as side
 use Rattle.member_core.specs.declared.turns.Turn.{Turn}
-use Rattle.member_core.specs.Members.{MemberState, is_waiting, turn_of, no_effect, sending, shut_both, closed_by, cut_off, refused_turn, settled, ended_call, bad_turn, partial_turn, fail_turn, good_turn, give_up_turn, idle_turn, quiet_turn, patient_turn, ready_at, ready_turn, accept_turn, setup_turn, ack_turn, pass_turn, failed_turn, spoiled_turn, stream_turn, up_at, up_turn, answered_turn, named_bad, hears}
-use Rattle.member_core.specs.Steps.{Step, step, faulted_step, with_replica, replica_after, outcome_of, booked_as, oldest_at, ready_turn_at}
+use Rattle.member_core.specs.Members.{MemberState, is_waiting, turn_of, no_effect, sending, shut_both, closed_by, cut_off, refused_turn, settled, bad_turn, partial_turn, fail_turn, good_turn, give_up_turn, quiet_turn, patient_turn, ready_at, accept_turn, setup_turn, ack_turn, pass_turn, failed_turn, spoiled_turn, stream_turn, up_at, up_turn, named_bad}
+use Rattle.member_core.specs.Steps.{Step, step, faulted_step, with_replica, replica_after, booked_as, oldest_at, ready_turn_at}
 use Rattle.world.specs.Parts.{FullMember}
 use Rattle.world.specs.Nodes.{sent_up}
 use Rattle.world_settling.specs.Traffic.{up_weight, owed, member_weight, entries_by}

@@ -1,15 +1,14 @@
 -- What is on its way in one direction, as messages are sent and taken and the end is put.
-use Rattle.std.proofs.Common.{◌≡◌, ℕ, zero, suc, ◌<◌, ◌≤◌, ◌+◌, Bool, true, false, List, [], ◌∷◌, ◌++◌, length, take, drop, slice_get, Option, Some, None, min, refl, sym, ap, subst, arith}
-use Rattle.std.specs.Prelude.{sum_by, nat_le, unwrap_or, option_map, if◌then◌else◌}
+use Rattle.std.proofs.Common.{◌≡◌, ℕ, zero, suc, ◌<◌, ◌≤◌, ◌+◌, Bool, true, false, List, [], ◌∷◌, ◌++◌, length, take, drop, slice_get, Option, Some, None, min, refl, ap, subst, arith}
+use Rattle.std.specs.Prelude.{sum_by, unwrap_or, option_map, if◌then◌else◌}
 use Rattle.std.proofs.lemmas.Bool.Decides.{nat_tests}
-use Rattle.std.proofs.lemmas.Bool.{false≢true}
 use Rattle.std.proofs.lemmas.Option.{none-some, same_Some}
 use Rattle.std.proofs.lemmas.List.{take_all}
 use Rattle.std.proofs.lemmas.List.Sums.{sum_by-cons, sum_by-take-le, sum_by-take-drop}
 use Rattle.world.specs.Parts.{Message, Marks}
 use Rattle.world.specs.Worlds.{shut_marks}
-use Rattle.world.specs.Connections.{Next, message, the_end, ends_at, next_on, marks_taken, lesser, lost_marks, stopped_marks}
-use Rattle.world_settling.specs.Traffic.{before_end, on_way, open_weight}
+use Rattle.world.specs.Connections.{Next, message, the_end, ends_at, next_on, marks_taken, lesser}
+use Rattle.world_settling.specs.Traffic.{before_end, on_way}
 
 -- LISTS
 

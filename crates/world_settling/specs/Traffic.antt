@@ -1,19 +1,18 @@
--- How much is still to be delivered: a weight of what is on its way and of what connections' ends have still to do. Each thing weighs more than
+-- How much is still to be delivered: a weight of what is on its way and of what connections' ends have still to do.
+-- Each thing weighs more than
 -- all that its delivery can make.
 use Rattle.std.specs.Prelude.{ℕ, zero, suc, ◌≡◌, ◌≤◌, ◌<◌, ◌+◌, ◌-◌, ◌*◌, if◌then◌else◌, Bool, true, false, List, length, take, drop, slice_get, sum_by, is_some, Option, Some, None}
-use Rattle.hd_base.specs.declared.numbers.ConnId.{ConnId}
 use Rattle.op_headers.specs.declared.ops.Op.{Op}
 use Rattle.op_headers.specs.declared.ops.Op.TheVariants as op
 use Rattle.replica_core.specs.declared.records.ReplicaRecord.{ReplicaRecord}
 use Rattle.replica_core.specs.Transitions.{is_written_by}
-use Rattle.member_core.specs.declared.member.Mirror.{Mirror}
 use Rattle.member_core.specs.Members.{MemberState, is_waiting}
 use Rattle.read_core.specs.declared.serving.ServePhase.{ServePhase}
 use Rattle.read_core.specs.declared.serving.ServePhase.TheVariants as phase
 use Rattle.read_core.specs.Servings.{ServingState}
 use Rattle.world.specs.declared.events.Event.{Event}
 use Rattle.world.specs.declared.events.Event.TheVariants as event
-use Rattle.world.specs.Parts.{Message, request, packet, Marks, Lower, idle, writes, serves, recovers, ended_below}
+use Rattle.world.specs.Parts.{Message, request, packet, Marks, Lower, writes, serves}
 use Rattle.world.specs.Worlds.{World, start}
 use Rattle.world.specs.Nodes.{replica_at, block_of}
 use Rattle.world.specs.Events.{is_enabled, happens, run}
@@ -25,7 +24,8 @@ sum_to f (suc n) = sum_to f n + f n
 
 -- MESSAGES
 
--- How many members stand at or below the lower end of a connection with this first message: the one that takes a write request, and its targets.
+-- How many members stand at or below the lower end of a connection with this first message: the one that takes a
+-- write request, and its targets.
 abbrev pub hops_of : Option Message → ℕ
 hops_of (Some (request (op.Write f))) = length f.targets + 1
 hops_of _ = 1
@@ -33,14 +33,16 @@ hops_of _ = 1
 abbrev pub hops : World → ℕ → ℕ
 hops w c = hops_of (slice_get (w.downs c) 0)
 
--- A write request makes at each member an answer, or a member that owes one, and a connection to the next. A read makes an answer and a packet for
+-- A write request makes at each member an answer, or a member that owes one, and a connection to the next. A read
+-- makes an answer and a packet for
 -- each byte, at most; it is rounded to whole chunks, of which each has at most 65536 bytes.
 abbrev pub request_weight : Op → ℕ
 request_weight (op.Write f) = 6 * (length f.targets + 1)
 request_weight (op.Read r) = 3 * (r.len + 131072) + 6
 request_weight _ = 3
 
--- A packet is taken at each member that it may reach, and makes an entry there, or has a wrong sum, which the member tells of.
+-- A packet is taken at each member that it may reach, and makes an entry there, or has a wrong sum, which the member
+-- tells of.
 abbrev pub down_weight : ℕ → Message → ℕ
 down_weight h (request o) = request_weight o
 down_weight h (packet p) = 6 * h
@@ -77,7 +79,8 @@ sides w c = open_weight (w.down_marks c) + open_weight (w.up_marks c)
 abbrev pub owed : Bool → ℕ
 owed b = if b then 2 else 0
 
--- a member that still answers may shut; it owes the answer to its request, and what it says of a packet with a wrong sum
+-- a member that still answers may shut; it owes the answer to its request, and what it says of a packet with a wrong
+-- sum
 abbrev pub member_weight : MemberState → ℕ
 member_weight m = if m.responds then 1 + owed (is_waiting m.mirror) + owed (is_some m.bad) else 0
 
