@@ -134,7 +134,8 @@ is_outer _ = false
 
 -- Each delivery lowers it, whatever has ended, broken or stopped.
 abbrev pub DeliveriesLower : Type 0
-DeliveriesLower = (nodes : ℕ) (events : List Event) (e : Event) → is_delivery e ≡ true → is_enabled (run (start nodes) events) e ≡ true →
+DeliveriesLower = (nodes : ℕ) (events : List Event) (e : Event) → is_delivery e ≡ true →
+    is_enabled (run (start nodes) events) e ≡ true →
     traffic (happens (run (start nodes) events) e) < traffic (run (start nodes) events)
 
 -- In no world does an outer event raise it.
