@@ -19,3 +19,4 @@ pub mod ChainLaws
 pub mod ChainSetups
 pub mod AllChained
 pub mod Deliveries
+pub mod WriterSteps

@@ -1,6 +1,7 @@
 //! Deliveries come to an end. Each function has an empty body; its clause says what holds of the world.
 #![tactic(auto)]
 
+ghost use Rattle.world_settling.specs.Measure.{StepsPay};
 ghost use Rattle.world_settling.specs.Traffic.{DeliveriesLower, OuterKeep};
 
 /// An answer of the office, a loss, a stop or a restart makes no more to be delivered.
@@ -11,4 +12,9 @@ pub fn outer_events_keep()
 /// Each delivery that is enabled makes less to be delivered.
 pub fn deliveries_lower()
     ensures { DeliveriesLower }
+{}
+
+/// A writer's own step lowers its weight by more than what it sends weighs.
+pub fn steps_pay()
+    ensures { StepsPay }
 {}
