@@ -20,3 +20,4 @@ pub mod ChainSetups
 pub mod AllChained
 pub mod Deliveries
 pub mod WriterSteps
+pub mod WriterHears

@@ -80,10 +80,10 @@ last-most false (Some (waiting.Sync n q)) = omega arith
 last-most false (Some waiting.Close) = omega arith
 
 -- where the writer is
-at-phase : (x : WriterRecord) (p : Phase) → x.phase ≡ p → phase_weight x.phase (length x.stream.unacked) ≡ phase_weight p (length x.stream.unacked)
+pub at-phase : (x : WriterRecord) (p : Phase) → x.phase ≡ p → phase_weight x.phase (length x.stream.unacked) ≡ phase_weight p (length x.stream.unacked)
 at-phase x p is = ap (λ (q : Phase). phase_weight q (length x.stream.unacked)) is
 
-at-last : (x : WriterRecord) (p : Phase) → x.phase ≡ p → last_weight (past_last x.phase) x.waiting ≡ last_weight (past_last p) x.waiting
+pub at-last : (x : WriterRecord) (p : Phase) → x.phase ≡ p → last_weight (past_last x.phase) x.waiting ≡ last_weight (past_last p) x.waiting
 at-last x p is = ap (λ (q : Phase). last_weight (past_last q) x.waiting) is
 
 at-wait : (x : WriterRecord) (o : Option Waiting) → x.waiting ≡ o → wait_weight x.waiting ≡ wait_weight o

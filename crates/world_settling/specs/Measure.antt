@@ -1,6 +1,7 @@
 -- How much a writer has still to do: a weight of its record. Each own step lowers it by more than what it sends weighs, and what comes on its
 -- connection raises it by less than what was taken weighed.
-use Rattle.std.specs.Prelude.{ℕ, ◌≤◌, ◌+◌, ◌-◌, ◌*◌, Bool, true, false, List, length, sum_by, Option, Some, None}
+use Rattle.std.specs.Prelude.{ℕ, ◌≡◌, ◌≢◌, ◌<◌, ◌≤◌, ◌+◌, ◌-◌, ◌*◌, Bool, true, false, List, length, sum_by, Option, Some, None}
+use Rattle.hd_base.specs.declared.numbers.ConnId.{ConnId}
 use Rattle.writer_core.specs.declared.actions.Action.{Action}
 use Rattle.writer_core.specs.declared.actions.Action.TheVariants as action
 use Rattle.writer_core.specs.declared.commands.Command.{Command}
@@ -15,6 +16,11 @@ use Rattle.writer_core.specs.declared.phases.Waiting.TheVariants as waiting
 use Rattle.writer_core.specs.declared.records.WriterRecord.{WriterRecord}
 use Rattle.writer_core.specs.Transitions.{Step, own_step}
 use Rattle.packet_stream.specs.Streams.{StreamState, IsStream, written_in}
+use Rattle.world.specs.declared.events.Event.TheVariants as event
+use Rattle.world.specs.Parts.{by_writer}
+use Rattle.world.specs.Worlds.{World}
+use Rattle.world.specs.Events.{is_enabled, happens}
+use Rattle.world_settling.specs.Traffic.{traffic}
 
 -- A packet that may still be sent: more than it weighs on a connection with sixteen members.
 abbrev pub per_packet : ℕ
@@ -102,3 +108,15 @@ pub record Pays (x : WriterRecord) (s : Step) : Type 0 where
 
 abbrev pub StepsPay : Type 0
 StepsPay = (x : WriterRecord) → IsStream x.stream → Pays x (own_step x)
+
+-- WHAT A WRITER TAKES
+
+-- What is to be delivered, and what the writer of a block has to do, are together lower than before with what was given; other writers stay.
+pub record LowersBoth (w v : World) (b given : ℕ) : Type 0 where
+  pub is : traffic v + writer_weight (v.writers b).known < traffic w + writer_weight (w.writers b).known + given
+  pub others : (a : ℕ) → a ≢ b → v.writers a ≡ w.writers a
+
+-- So it is in every world where a writer takes what stands next on its connection.
+abbrev pub AnswersLower : Type 0
+AnswersLower = (w : World) (c : ConnId) (b : ℕ) → (w.dialled c.0).upper ≡ by_writer b →
+    is_enabled w (event.Up c) ≡ true → LowersBoth w (happens w (event.Up c)) b 0

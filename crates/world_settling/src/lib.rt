@@ -1,7 +1,7 @@
 //! Deliveries come to an end. Each function has an empty body; its clause says what holds of the world.
 #![tactic(auto)]
 
-ghost use Rattle.world_settling.specs.Measure.{StepsPay};
+ghost use Rattle.world_settling.specs.Measure.{StepsPay, AnswersLower};
 ghost use Rattle.world_settling.specs.Traffic.{DeliveriesLower, OuterKeep};
 
 /// An answer of the office, a loss, a stop or a restart makes no more to be delivered.
@@ -17,4 +17,10 @@ pub fn deliveries_lower()
 /// A writer's own step lowers its weight by more than what it sends weighs.
 pub fn steps_pay()
     ensures { StepsPay }
+{}
+
+/// Where a writer takes what stands next on its connection, what is to be delivered and what the writer has to do are
+/// together less than before.
+pub fn answers_lower()
+    ensures { AnswersLower }
 {}
