@@ -21,3 +21,4 @@ pub mod AllChained
 pub mod Deliveries
 pub mod WriterSteps
 pub mod WriterHears
+pub mod WriterOwn

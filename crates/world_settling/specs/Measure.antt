@@ -17,6 +17,7 @@ use Rattle.writer_core.specs.declared.records.WriterRecord.{WriterRecord}
 use Rattle.writer_core.specs.Transitions.{Step, own_step}
 use Rattle.packet_stream.specs.Streams.{StreamState, IsStream, written_in}
 use Rattle.world.specs.declared.events.Event.TheVariants as event
+use Rattle.world.specs.declared.events.TakenCommand.{TakenCommand}
 use Rattle.world.specs.Parts.{by_writer}
 use Rattle.world.specs.Worlds.{World}
 use Rattle.world.specs.Events.{is_enabled, happens}
@@ -89,6 +90,11 @@ command_weight (command.Fill count) = per_packet * count + 1
 command_weight command.Hflush = 2
 command_weight command.Hsync = per_packet + 2
 command_weight command.Close = per_packet + 2
+
+-- what a step is given that takes a command, or none
+abbrev pub given_weight : Option TakenCommand → ℕ
+given_weight None = 0
+given_weight (Some t) = command_weight t.command
 
 abbrev pub writer_weight : WriterRecord → ℕ
 writer_weight x = per_member * length x.members + phase_weight x.phase (length x.stream.unacked)
