@@ -22,3 +22,4 @@ pub mod Deliveries
 pub mod WriterSteps
 pub mod WriterHears
 pub mod WriterOwn
+pub mod OwnEvents

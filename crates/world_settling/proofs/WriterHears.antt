@@ -168,7 +168,7 @@ hears-pays x the_end = omega (arith, ends x)
 
 -- THE EVENT
 
-changed-each : (P : World → Type 0) (v : World) (o : Option Change) → IfSome o (λ k. P (apply v k)) → IfSome (changed v o) P
+pub changed-each : (P : World → Type 0) (v : World) (o : Option Change) → IfSome o (λ k. P (apply v k)) → IfSome (changed v o) P
 changed-each P v None h = tt
 changed-each P v (Some k) h = h
 
@@ -199,10 +199,10 @@ up-both w b c is = when-each (λ v. LowersBoth w v b 0) (nat_lt c w.next_conn) _
   at lt None e = tt
   at lt (Some x) e = subst (λ (u : Upper). IfSome (changed (up_taken w c x) (upper_up u (up_taken w c x) c x false)) (λ v. LowersBoth w v b 0)) (sym is) (hears-both w b c x lt e)
 
-after-both : (w : World) (e : Event) (b : ℕ) (o : Option World) → IfSome o (λ v. LowersBoth w v b 0) → is_some o ≡ true → LowersBoth w (after_event w e o) b 0
-after-both w e b None h s = absurd (false≢true s)
-after-both w e b (Some v) h s = record { is = omega (arith, named-keeps v e, h.is); others = h.others }
+pub after-both : (w : World) (e : Event) (b given : ℕ) (o : Option World) → IfSome o (λ v. LowersBoth w v b given) → is_some o ≡ true → LowersBoth w (after_event w e o) b given
+after-both w e b given None h s = absurd (false≢true s)
+after-both w e b given (Some v) h s = record { is = omega (arith, named-keeps v e, h.is); others = h.others }
 
 pub answers-lower : AnswersLower
 unfolding happens outcome
-answers-lower w c b is enabled = after-both w (event.Up c) b (up_event w c.0 false) (up-both w b c.0 is) enabled
+answers-lower w c b is enabled = after-both w (event.Up c) b 0 (up_event w c.0 false) (up-both w b c.0 is) enabled

@@ -45,13 +45,13 @@ and-right false b e = cc
 -- a connection of a writer: something was sent down there, and few members stand below
 pub record IsWriters (w : World) (d : ℕ) : Type 0 where
   pub first : HasFirst (w.downs d)
-  pub few : hops w d ≤ 16
+  pub few : hops w d ≤ 17
 
 -- with a packet more down this connection
 abbrev sending : World → ℕ → WriterRecord → ℕ → Packet → Change
 sending w b x d p = record (writer_change w b x) { downs = sent_on (Some d) (packet p ∷ []) }
 
-sends-weight : (w : World) (b : ℕ) (x : WriterRecord) (d : ℕ) (p : Packet) → IsWriters w d → traffic (apply w (sending w b x d p)) ≤ traffic w + 96
+sends-weight : (w : World) (b : ℕ) (x : WriterRecord) (d : ℕ) (p : Packet) → IsWriters w d → traffic (apply w (sending w b x d p)) ≤ traffic w + 102
 unfolding traffic
 sends-weight w b x d p c =
     let k : Change = sending w b x d p in
@@ -100,8 +100,8 @@ did-both w b given waits (action.Send p) x bytes c pays = sent (w.writers b).con
       quiet-both w b x (record (writer_change w b x) { downs = sent_on (w.writers b).conn (packet p ∷ []) }) given refl refl
       (record { dials = refl; downs = λ d. ap (λ (o : Option ℕ). sent_on o (packet p ∷ []) d) is; ups = λ d. refl; lower = refl; replica = refl }) (omega (arith, pays))
   sent (Some d) is c =
-      does-both w b x (record (writer_change w b x) { downs = sent_on (w.writers b).conn (packet p ∷ []) }) 96 given refl refl
-      (subst (λ (o : Option ℕ). traffic (apply w (record (writer_change w b x) { downs = sent_on o (packet p ∷ []) })) ≤ traffic w + 96) (sym is) (sends-weight w b x d p c)) (omega (arith, pays))
+      does-both w b x (record (writer_change w b x) { downs = sent_on (w.writers b).conn (packet p ∷ []) }) 102 given refl refl
+      (subst (λ (o : Option ℕ). traffic (apply w (record (writer_change w b x) { downs = sent_on o (packet p ∷ []) })) ≤ traffic w + 102) (sym is) (sends-weight w b x d p c)) (omega (arith, pays))
 did-both w b given waits (action.Answered n a) x bytes c pays =
     quiet-both w b x (record (writer_change w b x) { said = record { ordinal = n; answer = a } ∷ []; answered = reached_answer b waits a }) given refl refl
     (record { dials = refl; downs = λ d. refl; ups = λ d. refl; lower = refl; replica = refl }) pays
@@ -168,12 +168,12 @@ takes-both w b t s c =
     let z : WriterRecord = given y t.command in
     when-each (λ k. LowersBoth w (apply w k) b (command_weight t.command)) (is_formed t.command t.rule && not (is_empty (given x t.command).queue)) (takes_given w b y t.command)
     (λ e.
-      let formed = and-left (is_formed t.command t.rule) (not (is_empty (given x t.command).queue)) e in
-      let fine : IsStream z.stream = subst IsStream (sym (given-stream y t.command)) (ruled-is x t.command t.rule formed s) in
-      let pays = (steps-pay z fine).is in
-      when-each (λ k. LowersBoth w (apply w k) b (command_weight t.command)) (is_empty (own_step z).writer.queue) (did_step w b y.waiting (own_step z) (command_bytes y t.command))
-      (λ f. did-both w b (command_weight t.command) y.waiting (own_step z).action (own_step z).writer (command_bytes y t.command) c
-        (omega (arith, pays, given-weight y t.command, ruled-weight x t.command t.rule))))
+    let formed = and-left (is_formed t.command t.rule) (not (is_empty (given x t.command).queue)) e in
+    let fine : IsStream z.stream = subst IsStream (sym (given-stream y t.command)) (ruled-is x t.command t.rule formed s) in
+    let pays = (steps-pay z fine).is in
+    when-each (λ k. LowersBoth w (apply w k) b (command_weight t.command)) (is_empty (own_step z).writer.queue) (did_step w b y.waiting (own_step z) (command_bytes y t.command))
+    (λ f. did-both w b (command_weight t.command) y.waiting (own_step z).action (own_step z).writer (command_bytes y t.command) c
+    (omega (arith, pays, given-weight y t.command, ruled-weight x t.command t.rule))))
 
 steps-both : (w : World) (b : ℕ) (takes : Option TakenCommand) (answered : Bool) (told : Option Told) → told ≡ None → IsStream (w.writers b).known.stream → IfSome (w.writers b).conn (IsWriters w)
     → IfSome (writer_step w b (w.writers b).known told takes answered) (λ k. LowersBoth w (apply w k) b (given_weight takes))

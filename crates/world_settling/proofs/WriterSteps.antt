@@ -194,7 +194,7 @@ due-last x s =
 now-last : (x : WriterRecord) → due_now x ≡ Some due.Last → x.waiting ≡ Some waiting.Close
 now-last x is =
     let all : IfSome (due_now x) (IsLastOf x.waiting) =
-        choice (λ d. IfSome d (IsLastOf x.waiting)) (nat_lt (length x.stream.unacked) MAX_UNACKED) (due_in x.waiting x.stream) None (λ e. due-last x.waiting x.stream) (λ e. tt) in
+    choice (λ d. IfSome d (IsLastOf x.waiting)) (nat_lt (length x.stream.unacked) MAX_UNACKED) (due_in x.waiting x.stream) None (λ e. due-last x.waiting x.stream) (λ e. tt) in
     (subst (λ d. IfSome d (IsLastOf x.waiting)) is all) refl
 
 forms-pay : (x : WriterRecord) (sent : ℕ) (d : DuePacket) → IsStream x.stream → x.phase ≡ phase.Streaming sent → due_now x ≡ Some d → Pays x (form_step x d)

@@ -1,6 +1,7 @@
 -- How much a writer has still to do: a weight of its record. Each own step lowers it by more than what it sends weighs, and what comes on its
 -- connection raises it by less than what was taken weighed.
-use Rattle.std.specs.Prelude.{ℕ, ◌≡◌, ◌≢◌, ◌<◌, ◌≤◌, ◌+◌, ◌-◌, ◌*◌, Bool, true, false, List, length, sum_by, Option, Some, None}
+use Rattle.std.specs.Prelude.{ℕ, ◌≡◌, ◌≢◌, ◌<◌, ◌≤◌, ◌+◌, ◌-◌, ◌*◌, ◌^◌, Bool, true, false, List, length, sum_by, Option, Some, None}
+use Rattle.hd_base.specs.declared.numbers.BlockId.{BlockId}
 use Rattle.hd_base.specs.declared.numbers.ConnId.{ConnId}
 use Rattle.writer_core.specs.declared.actions.Action.{Action}
 use Rattle.writer_core.specs.declared.actions.Action.TheVariants as action
@@ -16,28 +17,31 @@ use Rattle.writer_core.specs.declared.phases.Waiting.TheVariants as waiting
 use Rattle.writer_core.specs.declared.records.WriterRecord.{WriterRecord}
 use Rattle.writer_core.specs.Transitions.{Step, own_step}
 use Rattle.packet_stream.specs.Streams.{StreamState, IsStream, written_in}
+use Rattle.world.specs.declared.events.Event.{Event}
 use Rattle.world.specs.declared.events.Event.TheVariants as event
+use Rattle.world.specs.declared.events.OwnStep.TheVariants as own
 use Rattle.world.specs.declared.events.TakenCommand.{TakenCommand}
 use Rattle.world.specs.Parts.{by_writer}
-use Rattle.world.specs.Worlds.{World}
-use Rattle.world.specs.Events.{is_enabled, happens}
+use Rattle.world.specs.Worlds.{World, start}
+use Rattle.world.specs.Events.{is_enabled, happens, run}
+use Rattle.world_texts.specs.Texts.{AllFit}
 use Rattle.world_settling.specs.Traffic.{traffic}
 
--- A packet that may still be sent: more than it weighs on a connection with sixteen members.
+-- A packet that may still be sent: more than it weighs on a connection with seventeen members, of which no pipeline has so many.
 abbrev pub per_packet : ℕ
-per_packet = 100
+per_packet = 110
 
 -- A pipeline whose request was sent: more than all packets that aren't acked, which may be sent again.
 abbrev pub per_setup : ℕ
-per_setup = 8200
+per_setup = 9000
 
 -- A pipeline that is wanted: more than one whose request was sent, and a new connection with its request.
 abbrev pub per_pipeline : ℕ
-per_pipeline = 8400
+per_pipeline = 9300
 
 -- A member of the pipeline: where one is dropped another pipeline is wanted.
 abbrev pub per_member : ℕ
-per_member = 8500
+per_member = 9500
 
 -- the setup comes after the last packet
 abbrev pub is_closing : Setup → Bool
@@ -101,9 +105,9 @@ writer_weight x = per_member * length x.members + phase_weight x.phase (length x
     + wait_weight x.waiting + last_weight (past_last x.phase) x.waiting + per_packet * unformed x.stream
     + sum_by command_weight x.queue
 
--- what an action is to be paid with: a packet weighs less than this at sixteen members
+-- what an action is to be paid with: a packet weighs less than this
 abbrev pub cost : Action → ℕ
-cost (action.Send p) = 97
+cost (action.Send p) = 103
 cost action.Took = 1
 cost (action.Answered n a) = 1
 cost _ = 0
@@ -126,3 +130,15 @@ pub record LowersBoth (w v : World) (b given : ℕ) : Type 0 where
 abbrev pub AnswersLower : Type 0
 AnswersLower = (w : World) (c : ConnId) (b : ℕ) → (w.dialled c.0).upper ≡ by_writer b →
     is_enabled w (event.Up c) ≡ true → LowersBoth w (happens w (event.Up c)) b 0
+
+-- WHAT A WRITER DOES
+
+-- So it is, with what the command weighs that is taken, after every list of events that fit, in each own step of a writer for which no answer of
+-- the office waits. A step that asks the office is enabled only once its answer waits.
+abbrev pub OwnStepsLower : Type 0
+OwnStepsLower = (nodes : ℕ) (events : List Event) (b : BlockId) (takes : Option TakenCommand) (answered : Bool) →
+    AllFit events → (run (start nodes) events).office.next.0 ≤ 2 ^ 64 →
+    ((run (start nodes) events).writers b.0).told ≡ None →
+    is_enabled (run (start nodes) events) (event.Own (own.Writer b takes answered)) ≡ true →
+    LowersBoth (run (start nodes) events) (happens (run (start nodes) events) (event.Own (own.Writer b takes answered)))
+    b.0 (given_weight takes)

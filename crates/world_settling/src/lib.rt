@@ -1,7 +1,7 @@
 //! Deliveries come to an end. Each function has an empty body; its clause says what holds of the world.
 #![tactic(auto)]
 
-ghost use Rattle.world_settling.specs.Measure.{StepsPay, AnswersLower};
+ghost use Rattle.world_settling.specs.Measure.{StepsPay, AnswersLower, OwnStepsLower};
 ghost use Rattle.world_settling.specs.Traffic.{DeliveriesLower, OuterKeep};
 
 /// An answer of the office, a loss, a stop or a restart makes no more to be delivered.
@@ -23,4 +23,10 @@ pub fn steps_pay()
 /// together less than before.
 pub fn answers_lower()
     ensures { AnswersLower }
+{}
+
+/// So they are, with what the command weighs that is taken, in each own step of a writer in which it asks nothing of the
+/// office.
+pub fn own_steps_lower()
+    ensures { OwnStepsLower }
 {}
