@@ -280,9 +280,12 @@ start-fine nodes = record {
   bounded = record { most = λ b t e q. absurd (none-some e q) };
 }
 
+pub all-formed : (nodes : ℕ) (events : List Event) → AllFit events → (run (start nodes) events).office.next.0 ≤ 2 ^ 64 → Formed (run (start nodes) events)
+all-formed nodes events a left = run-formed none_given (start nodes) events (at-start nodes) (start-recorded nodes) (start-carried nodes) (start-fine nodes) a left
+
 pub all-written : (nodes : ℕ) (events : List Event) → AllFit events → (run (start nodes) events).office.next.0 ≤ 2 ^ 64 → Written (run (start nodes) events)
 all-written nodes events a left =
-    let h = run-formed none_given (start nodes) events (at-start nodes) (start-recorded nodes) (start-carried nodes) (start-fine nodes) a left in
+    let h = all-formed nodes events a left in
     record {
       downs = λ c k m e. message-spelled m ((h.downs c).at k m e);
       ups = λ c k m e. message-spelled m ((h.ups c).at k m e);
