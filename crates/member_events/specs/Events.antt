@@ -7,14 +7,13 @@ use Rattle.hd_base.specs.declared.links.LinkOut as link_out
 use Rattle.hd_base.specs.declared.roads.Roads as roads
 use Rattle.replica_files.specs.declared.book_state.BookState.{BookState}
 use Rattle.member_core.specs.declared.turns.Turn.{Turn}
-use Rattle.member_core.specs.Members.{MemberState, hears}
 use Rattle.member_core.specs.Steps.{ready_turn_at}
 use Rattle.pipe_member.specs.declared.member.Member.{Member}
 use Rattle.pipe_member.specs.Steps.{is_asked}
 use Rattle.road_traffic.specs.Showing.{Net}
 use Rattle.world.specs.declared.events.Event.{Event}
 use Rattle.world.specs.declared.events.Event.TheVariants as event
-use Rattle.world.specs.Parts.{Message, ack, response, FullMember}
+use Rattle.world.specs.Parts.{ack, response, FullMember}
 use Rattle.world.specs.Worlds.{World}
 use Rattle.world.specs.Connections.{Next, message, the_end, is_served}
 use Rattle.world.specs.Nodes.{block_of, replica_at, pending_at, takes_next}
