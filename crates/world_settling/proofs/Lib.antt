@@ -23,3 +23,5 @@ pub mod WriterSteps
 pub mod WriterHears
 pub mod WriterOwn
 pub mod OwnEvents
+pub mod OfficeAnswers
+pub mod WriterPairs
