@@ -25,3 +25,4 @@ pub mod WriterOwn
 pub mod OwnEvents
 pub mod OfficeAnswers
 pub mod WriterPairs
+pub mod OfficeEvents

@@ -1,0 +1,87 @@
+-- A writer asks the office, and goes on with the answer in its next own step.
+use Rattle.std.proofs.Common.{◌≡◌, ◌≢◌, ℕ, ◌<◌, ◌≤◌, ◌+◌, ◌^◌, Bool, true, false, List, [], ◌∷◌, ◌++◌, length, slice_get, Option, Some, None, IfSome, Result, Ok, Err, refl, sym, ap, ◌∙◌, subst, arith}
+use Rattle.std.specs.Prelude.{is_some, is_none, if◌then◌else◌}
+use Rattle.std.proofs.lemmas.Bool.{false≢true}
+use Rattle.hd_base.specs.declared.numbers.BlockId.{BlockId}
+use Rattle.hd_base.specs.declared.numbers.NodeId.{NodeId}
+use Rattle.hd_base.specs.declared.numbers.Stamp.{Stamp}
+use Rattle.packet_codec.specs.declared.packets.Packet.{Packet}
+use Rattle.packet_stream.specs.Streams.{IsStream, written_in}
+use Rattle.name_core.specs.declared.calls.OfficeCall.{OfficeCall}
+use Rattle.name_core.specs.declared.calls.OfficeCall.TheVariants as call
+use Rattle.name_core.specs.Offices.{OfficeState, answer_to}
+use Rattle.writer_core.specs.declared.actions.Action.{Action}
+use Rattle.writer_core.specs.declared.actions.Action.TheVariants as action
+use Rattle.writer_core.specs.declared.commands.Command.{Command}
+use Rattle.writer_core.specs.declared.commands.Command.TheVariants as command
+use Rattle.writer_core.specs.declared.phases.DuePacket.{DuePacket}
+use Rattle.writer_core.specs.declared.phases.DuePacket.TheVariants as due
+use Rattle.writer_core.specs.declared.phases.Failure.{Failure}
+use Rattle.writer_core.specs.declared.phases.Phase.{Phase}
+use Rattle.writer_core.specs.declared.phases.Phase.TheVariants as phase
+use Rattle.writer_core.specs.declared.phases.Setup.{Setup}
+use Rattle.writer_core.specs.declared.phases.Setup.TheVariants as setup
+use Rattle.writer_core.specs.declared.phases.Waiting.{Waiting}
+use Rattle.writer_core.specs.declared.records.WriterRecord.{WriterRecord}
+use Rattle.writer_core.specs.Transitions.{own_step, step_in, free_step_as, take_first, failed_step_as, failed_first, failed_command, dial_step_as, accepted_step, stream_step_as, due_step, due_now, form_step, reach_step_as, reached_length, stamp_call}
+use Rattle.world_settling.proofs.OfficeAnswers.{IsAnswer, IsDone, committed, completed, stamps}
+
+-- WHO ASKS
+
+free-never : (x : WriterRecord) (o : Option Waiting) (q : OfficeCall) → (free_step_as x o).action ≡ action.Ask q → ⊥
+free-never x (Some y) q is = cc
+free-never x None q is = by (slice_get x.queue 0) is where
+  by : (o : Option Command) → (take_first x o).action ≡ action.Ask q → ⊥
+  by None is = cc
+  by (Some c) is = cc
+
+failed-never : (x : WriterRecord) (f : Failure) (o : Option Waiting) (q : OfficeCall) → (failed_step_as x f o).action ≡ action.Ask q → ⊥
+failed-never x f (Some y) q is = cc
+failed-never x f None q is = by (slice_get x.queue 0) is where
+  by : (o : Option Command) → (failed_first x f o).action ≡ action.Ask q → ⊥
+  by None is = cc
+  by (Some (command.Create members)) is = cc
+  by (Some (command.Append members)) is = cc
+  by (Some (command.Write bytes)) is = cc
+  by (Some (command.Fill count)) is = cc
+  by (Some command.Hflush) is = cc
+  by (Some command.Hsync) is = cc
+  by (Some command.Close) is = cc
+
+dial-never : (x : WriterRecord) (s : Setup) (stamp : Stamp) (ms : List NodeId) (q : OfficeCall) → (dial_step_as x s stamp ms).action ≡ action.Ask q → ⊥
+dial-never x s stamp [] q is = cc
+dial-never x s stamp (m ∷ ms) q is = cc
+
+stream-never : (x : WriterRecord) (sent : ℕ) (o : Option Packet) (q : OfficeCall) → (stream_step_as x sent o).action ≡ action.Ask q → ⊥
+stream-never x sent (Some p) q is = cc
+stream-never x sent None q is = due_or (due_now x) is where
+  reach_or : (o : Option ℕ) → (reach_step_as x o).action ≡ action.Ask q → ⊥
+  reach_or (Some n) is = cc
+  reach_or None is = free-never x x.waiting q is
+
+  due_or : (o : Option DuePacket) → (due_step x o).action ≡ action.Ask q → ⊥
+  due_or (Some (due.Data end is_sync)) is = cc
+  due_or (Some due.Sync) is = cc
+  due_or (Some due.Last) is = cc
+  due_or None is = reach_or (reached_length x.waiting x.stream) is
+
+asks-as : (o : OfficeState) (x : WriterRecord) (p : Phase) (q : OfficeCall) → (step_in x p).action ≡ action.Ask q → IsAnswer p (answer_to o q)
+asks-as o x (phase.Wanted s) q is = let same : stamp_call x s ≡ q = cc in subst (λ (c : OfficeCall). IsAnswer (phase.Wanted s) (answer_to o c)) same (stamps o x s x.committed)
+asks-as o x (phase.Accepted setup.Create stamp) q is = cc
+asks-as o x (phase.Accepted setup.Append stamp) q is = let same : call.Commit x.block stamp x.members ≡ q = cc in subst (λ (c : OfficeCall). IsDone (answer_to o c)) same (committed o x.block stamp x.members)
+asks-as o x (phase.Accepted setup.AppendRecovery stamp) q is = let same : call.Commit x.block stamp x.members ≡ q = cc in subst (λ (c : OfficeCall). IsDone (answer_to o c)) same (committed o x.block stamp x.members)
+asks-as o x (phase.Accepted setup.StreamRecovery stamp) q is = let same : call.Commit x.block stamp x.members ≡ q = cc in subst (λ (c : OfficeCall). IsDone (answer_to o c)) same (committed o x.block stamp x.members)
+asks-as o x (phase.Accepted setup.CloseRecovery stamp) q is = let same : call.Commit x.block stamp x.members ≡ q = cc in subst (λ (c : OfficeCall). IsDone (answer_to o c)) same (committed o x.block stamp x.members)
+asks-as o x phase.Finished q is = let same : call.Complete x.block x.committed (written_in x.stream) ≡ q = cc in subst (λ (c : OfficeCall). IsDone (answer_to o c)) same (completed o x.block x.committed (written_in x.stream))
+asks-as o x phase.Closed q is = absurd (free-never x x.waiting q is)
+asks-as o x (phase.Stamped s stamp) q is = absurd (dial-never x s stamp x.members q is)
+asks-as o x (phase.Requested s stamp) q is = absurd (free-never x x.waiting q is)
+asks-as o x phase.Opened q is = cc
+asks-as o x (phase.Streaming sent) q is = absurd (stream-never x sent (slice_get x.stream.unacked sent) q is)
+asks-as o x phase.Closing q is = absurd (free-never x x.waiting q is)
+asks-as o x phase.Completed q is = cc
+asks-as o x (phase.Failed f) q is = absurd (failed-never x f x.waiting q is)
+
+pub asks-fair : (o : OfficeState) (x : WriterRecord) (q : OfficeCall) → (own_step x).action ≡ action.Ask q → IsAnswer x.phase (answer_to o q)
+unfolding own_step
+asks-fair o x q is = asks-as o x x.phase q is
