@@ -24,6 +24,17 @@ use Rattle.writer_core.specs.declared.phases.Setup.TheVariants as setup
 use Rattle.writer_core.specs.declared.phases.Waiting.{Waiting}
 use Rattle.writer_core.specs.declared.records.WriterRecord.{WriterRecord}
 use Rattle.writer_core.specs.Transitions.{own_step, step_in, free_step_as, take_first, failed_step_as, failed_first, failed_command, dial_step_as, accepted_step, stream_step_as, due_step, due_now, form_step, reach_step_as, reached_length, stamp_call}
+use Rattle.world.specs.declared.events.Caller.TheVariants as caller
+use Rattle.world.specs.declared.events.Event.{Event}
+use Rattle.world.specs.declared.events.Event.TheVariants as event
+use Rattle.world.specs.Worlds.{World, Change, apply}
+use Rattle.world.specs.Primaries.{asks_writer, writer_asks, writer_asks_office}
+use Rattle.world.specs.Events.{changed, outcome, after_event, is_enabled, happens}
+use Rattle.world_settling.specs.Traffic.{traffic, hops}
+use Rattle.world_settling.proofs.Begun.{AllBegun}
+use Rattle.world_settling.proofs.Chains.{hops-later}
+use Rattle.world_settling.proofs.Outer.{outer-keep, conns-stay}
+use Rattle.world_settling.proofs.WriterOwn.{writer-put, writers-else}
 use Rattle.world_settling.proofs.OfficeAnswers.{IsAnswer, IsDone, committed, completed, stamps}
 
 -- WHO ASKS
@@ -85,3 +96,53 @@ asks-as o x (phase.Failed f) q is = absurd (failed-never x f x.waiting q is)
 pub asks-fair : (o : OfficeState) (x : WriterRecord) (q : OfficeCall) → (own_step x).action ≡ action.Ask q → IsAnswer x.phase (answer_to o q)
 unfolding own_step
 asks-fair o x q is = asks-as o x x.phase q is
+
+-- THE TWO EVENTS
+
+-- the question, and the world once it was asked
+pub record Asks (w : World) (b : BlockId) : Type 0 where
+  pub question : OfficeCall
+  pub is : (own_step (w.writers b.0).known).action ≡ action.Ask question
+  pub out : outcome w (event.Office (caller.Writer b)) ≡ Some (apply w (asks_writer w b.0 question))
+
+asks-by : (w : World) (b : BlockId) (a : Action) → (own_step (w.writers b.0).known).action ≡ a → is_none (w.writers b.0).told ≡ true → is_enabled w (event.Office (caller.Writer b)) ≡ true → Asks w b
+unfolding outcome
+asks-by w b a is none enabled = by a is where
+  out_is : (c : Action) → (own_step (w.writers b.0).known).action ≡ c → changed w (writer_asks_office w b.0) ≡ changed w (writer_asks c w b.0)
+  out_is c e = ap (λ (q : Bool). changed w (if q then writer_asks (own_step (w.writers b.0).known).action w b.0 else None)) none ∙ ap (λ (y : Action). changed w (writer_asks y w b.0)) e
+
+  never : (c : Action) → (own_step (w.writers b.0).known).action ≡ c → changed w (writer_asks c w b.0) ≡ None → Asks w b
+  never c e idle = absurd (false≢true (sym (ap is_some (out_is c e ∙ idle)) ∙ enabled))
+
+  by : (c : Action) → (own_step (w.writers b.0).known).action ≡ c → Asks w b
+  by (action.Ask q) e = record { question = q; is = e; out = out_is (action.Ask q) e }
+  by action.Wait e = never action.Wait e refl
+  by action.Took e = never action.Took e refl
+  by (action.Dial to r) e = never (action.Dial to r) e refl
+  by (action.Send p) e = never (action.Send p) e refl
+  by (action.Answered n a) e = never (action.Answered n a) e refl
+  by action.Memory e = never action.Memory e refl
+
+-- the answer waits for the writer, which is else as before
+pub record Told (w v : World) (b : ℕ) (q : OfficeCall) : Type 0 where
+  pub writer : v.writers b ≡ record (w.writers b) { told = Some (answer_to w.office q) }
+  pub others : (a : ℕ) → a ≢ b → v.writers a ≡ w.writers a
+  pub less : traffic v ≤ traffic w
+  pub conns : v.next_conn ≡ w.next_conn
+  pub hops_are : (c : ℕ) → c < w.next_conn → hops v c ≡ hops w c
+
+tells : (w : World) (b : BlockId) (q : OfficeCall) → AllBegun w → outcome w (event.Office (caller.Writer b)) ≡ Some (apply w (asks_writer w b.0 q)) → Told w (happens w (event.Office (caller.Writer b))) b.0 q
+unfolding happens
+tells w b q begun out =
+    let e : Event = event.Office (caller.Writer b) in
+    let k : Change = asks_writer w b.0 q in
+    let u : World = record (apply w k) { last = Some e } in
+    let after : after_event w e (outcome w e) ≡ u = ap (after_event w e) out in
+    let here : Told w u b.0 q = record {
+      writer = writer-put w k;
+      others = writers-else w k;
+      less = subst (λ (v : World). traffic v ≤ traffic w) after (outer-keep w e refl);
+      conns = conns-stay w k refl;
+      hops_are = λ c lt. hops-later w k c begun lt;
+    } in
+    subst (λ (v : World). Told w v b.0 q) (sym after) here

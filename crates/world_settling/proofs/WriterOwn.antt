@@ -69,11 +69,11 @@ sends-weight w b x d p c =
 -- WHAT A STEP DOES
 
 -- the writer of a change, and the others
-writer-put : (w : World) (k : Change) → ((apply w k).writers k.writer_at) ≡ k.writer
+pub writer-put : (w : World) (k : Change) → ((apply w k).writers k.writer_at) ≡ k.writer
 unfolding apply
 writer-put w k = put-here w.writers k.writer_at k.writer
 
-writers-else : (w : World) (k : Change) (a : ℕ) → a ≢ k.writer_at → (apply w k).writers a ≡ w.writers a
+pub writers-else : (w : World) (k : Change) (a : ℕ) → a ≢ k.writer_at → (apply w k).writers a ≡ w.writers a
 unfolding apply
 writers-else w k a other = put-other w.writers k.writer_at a k.writer other
 
