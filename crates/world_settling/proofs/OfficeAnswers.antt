@@ -99,8 +99,8 @@ unfolding office_case
 reopened o block =
     told-by (λ (r : Reopened). r.length ≤ MAX_APPEND_LENGTH) IsReopened office.Reopened (append_case o block)
     (block-fair (λ (r : Reopened). r.length ≤ MAX_APPEND_LENGTH) (stamp_given o) block (λ r. append_step r o.next) (λ r.
-      check-fair (λ (r : Reopened). r.length ≤ MAX_APPEND_LENGTH) (not r.is_open) fault.NotClosed _ (λ e. cc)
-      (λ e. check-fair (λ (r : Reopened). r.length ≤ MAX_APPEND_LENGTH) (nat_le r.length MAX_APPEND_LENGTH) (fault.TooLong r.length) _ (λ f. cc) (λ f. grind (arith, nat_tests, f)))))
+    check-fair (λ (r : Reopened). r.length ≤ MAX_APPEND_LENGTH) (not r.is_open) fault.NotClosed _ (λ e. cc)
+    (λ e. check-fair (λ (r : Reopened). r.length ≤ MAX_APPEND_LENGTH) (nat_le r.length MAX_APPEND_LENGTH) (fault.TooLong r.length) _ (λ f. cc) (λ f. grind (arith, nat_tests, f)))))
     (λ a h. h) (λ e h. h)
 
 stamped-new : (o : OfficeState) (block : BlockId) → IsStampGiven (answer_to o (call.NewStamp block))

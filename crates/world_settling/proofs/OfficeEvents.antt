@@ -25,16 +25,30 @@ use Rattle.writer_core.specs.declared.phases.Waiting.{Waiting}
 use Rattle.writer_core.specs.declared.records.WriterRecord.{WriterRecord}
 use Rattle.writer_core.specs.Transitions.{own_step, step_in, free_step_as, take_first, failed_step_as, failed_first, failed_command, dial_step_as, accepted_step, stream_step_as, due_step, due_now, form_step, reach_step_as, reached_length, stamp_call}
 use Rattle.world.specs.declared.events.Caller.TheVariants as caller
+use Rattle.world.specs.declared.events.OwnStep.TheVariants as own
+use Rattle.world.specs.Parts as world_told
+use Rattle.world.specs.Parts.{Writing}
+use Rattle.world.specs.Clients.{own_writer, writer_step}
+use Rattle.world_laws.proofs.PlacedLaws.{all-placed}
+use Rattle.world_laws.proofs.AllCarried.{all-carried}
+use Rattle.world_laws.proofs.RunLaws.{runs-end}
+use Rattle.world_texts.specs.Texts.{AllFit}
+use Rattle.world_texts.proofs.AllWritten.{all-formed}
+use Rattle.world_settling.specs.Measure.{writer_weight, LowersBoth, AskingLowers}
+use Rattle.world_settling.proofs.Requests.{IsNew}
+use Rattle.world_settling.proofs.OwnEvents.{linked-as, heard-none}
+use Rattle.world_settling.proofs.WriterHears.{changed-each, after-both}
+use Rattle.world_settling.proofs.WriterPairs.{CanGoOn, told-both}
 use Rattle.world.specs.declared.events.Event.{Event}
 use Rattle.world.specs.declared.events.Event.TheVariants as event
-use Rattle.world.specs.Worlds.{World, Change, apply}
+use Rattle.world.specs.Worlds.{World, Change, apply, start}
 use Rattle.world.specs.Primaries.{asks_writer, writer_asks, writer_asks_office}
-use Rattle.world.specs.Events.{changed, outcome, after_event, is_enabled, happens}
+use Rattle.world.specs.Events.{changed, outcome, after_event, is_enabled, happens, run}
 use Rattle.world_settling.specs.Traffic.{traffic, hops}
-use Rattle.world_settling.proofs.Begun.{AllBegun}
+use Rattle.world_settling.proofs.Begun.{AllBegun, all-begun}
 use Rattle.world_settling.proofs.Chains.{hops-later}
 use Rattle.world_settling.proofs.Outer.{outer-keep, conns-stay}
-use Rattle.world_settling.proofs.WriterOwn.{writer-put, writers-else}
+use Rattle.world_settling.proofs.WriterOwn.{IsWriters, writer-put, writers-else}
 use Rattle.world_settling.proofs.OfficeAnswers.{IsAnswer, IsDone, committed, completed, stamps}
 
 -- WHO ASKS
@@ -146,3 +160,58 @@ tells w b q begun out =
       hops_are = λ c lt. hops-later w k c begun lt;
     } in
     subst (λ (v : World). Told w v b.0 q) (sym after) here
+
+-- a writer to whom the office has answered goes on
+goes-on : (w v : World) (b : ℕ) (q : OfficeCall) (answered : Bool) → Told w v b q → (own_step (w.writers b).known).action ≡ action.Ask q → CanGoOn v b → IfSome (own_writer v b None answered) (λ k. LowersBoth v (apply v k) b 0)
+goes-on w v b q answered t is h =
+    let told : (v.writers b).told ≡ Some (answer_to w.office q) = ap Writing.told t.writer in
+    let known : (v.writers b).known ≡ (w.writers b).known = ap Writing.known t.writer in
+    let fair : IsAnswer (v.writers b).known.phase (answer_to w.office q) =
+    subst (λ (x : WriterRecord). IsAnswer x.phase (answer_to w.office q)) (sym known) (asks-fair w.office (w.writers b).known q is) in
+    subst (λ (o : Option world_told.Told). IfSome (writer_step v b (v.writers b).known o None answered) (λ k. LowersBoth v (apply v k) b 0)) (sym told)
+    (told-both v b answered h (v.writers b).known.phase (answer_to w.office q) refl fair)
+
+-- what holds after every list of events that fit, with the question behind them
+can-go-on : (nodes : ℕ) (events : List Event) (b : BlockId) (q : OfficeCall) → AllFit events → (run (start nodes) events).office.next.0 ≤ 2 ^ 64 → ((run (start nodes) events).writers b.0).told ≡ None
+    → Told (run (start nodes) events) (happens (run (start nodes) events) (event.Office (caller.Writer b))) b.0 q → CanGoOn (happens (run (start nodes) events) (event.Office (caller.Writer b))) b.0
+can-go-on nodes events b q fit left told t =
+    let w : World = run (start nodes) events in
+    let e : Event = event.Office (caller.Writer b) in
+    let v : World = happens w e in
+    let on : run (start nodes) (events ++ e ∷ []) ≡ v = runs-end (start nodes) events e in
+    let formed = all-formed nodes events fit left in
+    let known : (v.writers b.0).known ≡ (w.writers b.0).known = ap Writing.known t.writer in
+    let conn : (v.writers b.0).conn ≡ (w.writers b.0).conn = ap Writing.conn t.writer in
+    let heard_is = heard-none (w.writers b.0).known (w.writers b.0).conn (w.writers b.0).told told in
+    let begun : AllBegun v = subst AllBegun on (all-begun nodes (events ++ e ∷ [])) in
+    let new : IsNew v = subst IsNew on (let z : World = run (start nodes) (events ++ e ∷ []) in let p = (all-placed nodes (events ++ e ∷ [])).undialled z.next_conn (omega arith) in record { downs = p.downs; ups = p.ups; lower = p.lower }) in
+    let before : IfSome (w.writers b.0).conn (IsWriters w) = linked-as w (all-begun nodes events) formed (w.writers b.0).conn ((all-placed nodes events).writers b.0).below in
+    record {
+      new = new;
+      stream = subst (λ (x : WriterRecord). IsStream x.stream) (heard_is ∙ sym known) ((all-carried nodes events).writers b.0).sound.stream;
+      few = subst (λ (x : WriterRecord). length x.members ≤ 16) (heard_is ∙ sym known) (formed.writers b.0).few;
+      linked = subst (λ (o : Option ℕ). IfSome o (IsWriters v)) (sym conn) (later w v b.0 q t begun (w.writers b.0).conn ((all-placed nodes events).writers b.0).below before);
+    }
+  where
+    later : (w v : World) (b : ℕ) (q : OfficeCall) → Told w v b q → AllBegun v → (o : Option ℕ) → IfSome o (λ d. d < w.next_conn) → IfSome o (IsWriters w) → IfSome o (IsWriters v)
+    later w v b q t begun None lt h = tt
+    later w v b q t begun (Some d) lt h = record { first = begun.first d (omega (arith, lt, t.conns)); few = omega (arith, h.few, t.hops_are d lt) }
+
+acts : (v : World) (b : BlockId) (answered : Bool) → IfSome (own_writer v b.0 None answered) (λ k. LowersBoth v (apply v k) b.0 0) → is_enabled v (event.Own (own.Writer b None answered)) ≡ true
+    → LowersBoth v (happens v (event.Own (own.Writer b None answered))) b.0 0
+unfolding happens outcome
+acts v b answered h enabled =
+    after-both v (event.Own (own.Writer b None answered)) b.0 0 (changed v (own_writer v b.0 None answered)) (changed-each (λ u. LowersBoth v u b.0 0) v (own_writer v b.0 None answered) h) enabled
+
+pub asking-lowers : AskingLowers
+asking-lowers nodes events b answered fit left told asked enabled =
+    let w : World = run (start nodes) events in
+    let v : World = happens w (event.Office (caller.Writer b)) in
+    let a : Asks w b = asks-by w b (own_step (w.writers b.0).known).action refl (ap is_none told) asked in
+    let t : Told w v b.0 a.question = tells w b a.question (all-begun nodes events) a.out in
+    let h : CanGoOn v b.0 = can-go-on nodes events b a.question fit left told t in
+    let l : LowersBoth v (happens v (event.Own (own.Writer b None answered))) b.0 0 = acts v b answered (goes-on w v b.0 a.question answered t a.is h) enabled in
+    record {
+      is = omega (arith, l.is, t.less, ap (λ (x : Writing). writer_weight x.known) t.writer);
+      others = λ c other. l.others c other ∙ t.others c other;
+    }

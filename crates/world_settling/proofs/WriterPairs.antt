@@ -102,8 +102,13 @@ dials-both v b y s stamp (m ∷ ms) answered new is few pays = by (answered && v
   by : (a : Bool) → LowersBoth v (apply v (dialled_change v b y m r a)) b 0
   by true =
       does-both v b (dialled_in y y.phase true) (dialled_change v b y m r true) 104 0 refl refl
-      (omega (arith, dials-weight v (dialled_change v b y m r true) (record { dialled = record { upper = by_writer b; from = None; to = place_of v m.0 }; request = request r }) (request_weight r)
-        (record { dials = refl; downs = λ d. refl; ups = λ d. refl; lower = refl; replica = refl; new = new }) (λ h. refl), length-map ms ref_of, few))
+      (omega (
+        arith,
+        dials-weight v (dialled_change v b y m r true) (record { dialled = record { upper = by_writer b; from = None; to = place_of v m.0 }; request = request r }) (request_weight r)
+            (record { dials = refl; downs = λ d. refl; ups = λ d. refl; lower = refl; replica = refl; new = new }) (λ h. refl),
+        length-map ms ref_of,
+        few,
+      ))
       (omega (arith, requested, pays))
   by false =
       quiet-both v b (dialled_in y y.phase false) (writer_change v b (dialled_in y y.phase false)) 0 refl refl (record { dials = refl; downs = λ d. refl; ups = λ d. refl; lower = refl; replica = refl })
