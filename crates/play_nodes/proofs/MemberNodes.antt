@@ -106,8 +106,8 @@ module _ {F R I O : Type 0} (r : roads.Ghosts R I O) (i : link_in.Ghosts I) (o :
       → LeftShows i o v made c full full' left → LowerShows i o v made c new (writes full') (lower_left place lower.Ended left)
   left_lower w v made c place new full full' block (Some m) events before served after fields at_place of_block h = (
     both_so (is_served v c) (is_open (v.lowers c)) (served ∙ and-left (is_served w c) (is_open (w.lowers c)) events)
-    (ap is_open after ∙ (h.acts ∙ (sym (ap is_open before) ∙ and-right (is_served w c) (is_open (w.lowers c)) events))),
-    record { shows = h.shows; block = block; at_place = at_place; of_block = of_block ∙ ap block_of (sym fields) }
+        (ap is_open after ∙ (h.acts ∙ (sym (ap is_open before) ∙ and-right (is_served w c) (is_open (w.lowers c)) events))),
+    record { shows = h.shows; block = block; at_place = at_place; of_block = of_block ∙ ap block_of (sym fields) },
   )
   left_lower w v made c place new full full' block None events before served after fields at_place of_block h =
       never_so (is_served v c) (is_open (v.lowers c)) (ap is_open after ∙ h)
@@ -125,14 +125,14 @@ module _ {F R I O : Type 0} (r : roads.Ghosts R I O) (i : link_in.Ghosts I) (o :
       let taken : mid.connections.items ≡ slice_set old.connections.items c ended = t.set at seat.found in
       let conns : set.connections.items ≡ slice_set old.connections.items c ended = b.connections ∙ taken in
       let here : slice_get set.connections.items s.conn ≡ Some ended =
-          ap (slice_get set.connections.items) seat.conn ∙ (ap (λ (xs : List (Connection I O)). slice_get xs c) conns ∙ set_here old.connections.items c at ended seat.found) in
+      ap (slice_get set.connections.items) seat.conn ∙ (ap (λ (xs : List (Connection I O)). slice_get xs c) conns ∙ set_here old.connections.items c at ended seat.found) in
       let put : new.connections.items ≡ slice_set old.connections.items c last =
-          p.set ended here ∙ (ap (λ (q : ℕ). slice_set set.connections.items q last) seat.conn ∙
-          (ap (λ (xs : List (Connection I O)). slice_set xs c last) conns ∙ set_set old.connections.items c ended last)) in
+      p.set ended here ∙ (ap (λ (q : ℕ). slice_set set.connections.items q last) seat.conn ∙
+      (ap (λ (xs : List (Connection I O)). slice_set xs c last) conns ∙ set_set old.connections.items c ended last)) in
       let blocks : new.blocks.items ≡ old.blocks.items = p.blocks ∙ (b.blocks ∙ t.blocks) in
       let at_place : slice_get new.blocks.items s.place ≡ Some k.seat.block = ap (λ (xs : List BlockId). slice_get xs s.place) blocks ∙ k.seat.at_place in
       let at_book : book_at new.nodes.items (node_of w c) s.place ≡ Some book =
-          ap (λ (xs : List (NodeBooks F)). book_at xs (node_of w c) s.place) p.nodes ∙ (ap (λ (q : ℕ). book_at set.nodes.items q s.place) (sym node) ∙ b.here) in
+      ap (λ (xs : List (NodeBooks F)). book_at xs (node_of w c) s.place) p.nodes ∙ (ap (λ (q : ℕ). book_at set.nodes.items q s.place) (sym node) ∙ b.here) in
       let of : IsOfMember i o w v net h.made c k.full = record { ordered = ordered; lower = k.lower; rest = rest; over = over; others = h.others } in
       let served = served_as w v c (node_of w c) (block_of k.full.fields) c rest in
       let is_left : IsLeft i o w v h.made c s.place k.full old new at (lower_left s.place lower.Ended left) = record {

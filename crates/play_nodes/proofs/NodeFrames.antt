@@ -1,5 +1,5 @@
 -- Nodes that show a world show the world after an event of one member.
-use Rattle.std.proofs.Common.{◌≡◌, ℕ, Bool, true, false, List, length, slice_get, slice_set, Option, Some, None, IfSome, IsSome, ◌⊎◌, inl, inr, refl, sym, ap, ◌∙◌, subst, length-set}
+use Rattle.std.proofs.Common.{◌≡◌, ℕ, true, false, List, length, slice_get, slice_set, Option, Some, None, IfSome, IsSome, ◌⊎◌, inl, inr, refl, sym, ap, ◌∙◌, subst, length-set}
 use Rattle.hd_base.specs.declared.ends.Conn.{Conn}
 use Rattle.hd_base.specs.declared.numbers.BlockId.{BlockId}
 use Rattle.hd_base.specs.declared.links.LinkIn as link_in
@@ -8,13 +8,13 @@ use Rattle.replica_files.specs.declared.book_state.BookState.{BookState}
 use Rattle.replica_files.specs.Books.{replica_of}
 use Rattle.pipe_member.specs.declared.member.Member.{Member}
 use Rattle.road_traffic.specs.Showing.{Net}
-use Rattle.link_messages.specs.Incomings.{IncomingState, nothing_received}
+use Rattle.link_messages.specs.Incomings.{IncomingState}
 use Rattle.world.specs.Parts as parts
 use Rattle.world.specs.Parts.{Dialled, by_writer, by_member, FullMember, idle, writes}
 use Rattle.world.specs.Worlds.{World}
 use Rattle.world.specs.Connections.{is_served}
 use Rattle.world.specs.Nodes.{node_of, block_of}
-use Rattle.world_nets.specs.Nets.{IsEndOf, is_over}
+use Rattle.world_nets.specs.Nets.{is_over}
 use Rattle.member_core.specs.Members.{MemberState}
 use Rattle.world_orders.specs.Orders.{Ordered, IsMirror, MirrorIs}
 use Rattle.member_events.specs.Showing.{MirrorShows, NoneReceived, MemberShows, IsLater, IsNoneOf, OthersStay}
@@ -22,10 +22,9 @@ use Rattle.play_model.specs.Lines.{mirror_of}
 use Rattle.play_nodes.specs.declared.connections.Connection.{Connection}
 use Rattle.play_nodes.specs.declared.connections.Lower.{Lower}
 use Rattle.play_nodes.specs.declared.connections.Lower.TheVariants as lower
-use Rattle.play_nodes.specs.declared.connections.Upper.{Upper}
 use Rattle.play_nodes.specs.declared.nodes.Nodes.{Nodes}
 use Rattle.play_nodes.specs.Places.{book_at, with_lower}
-use Rattle.play_nodes.specs.Showing.{UpperShows, has_events, SeatShows, LowerShows, ConnectionShows, NodesShow, WritersStay}
+use Rattle.play_nodes.specs.Showing.{UpperShows, has_events, LowerShows, ConnectionShows, NodesShow, WritersStay}
 use Rattle.play_nodes.proofs.Tables.{SetOr, set_or, same_or}
 use Rattle.play_nodes.proofs.WorldFrames.{KeepsRest}
 
@@ -119,7 +118,7 @@ module _ {I O : Type 0} (i : link_in.Ghosts I) (o : link_out.Ghosts O) where
       → MemberShows i o w net d other m → MemberShows i o v made d other m
   member_stays w v net made c d full other m k apart is h =
       let away : IfSome other.mirror (λ e. IsApart full.mirror e) =
-          mirrors_apart w c d full other.mirror (dialled_by w c full k.ordered k.lower) (dialled_by w d other k.ordered is) apart in
+      mirrors_apart w c d full other.mirror (dialled_by w c full k.ordered k.lower) (dialled_by w d other k.ordered is) apart in
       record {
         node = h.node ∙ sym (node_as w v c (node_of w c) (block_of full.fields) d k.rest);
         op = h.op;
@@ -143,7 +142,7 @@ module _ {F I O : Type 0} (i : link_in.Ghosts I) (o : link_out.Ghosts O) where
       → new.blocks.items ≡ old.blocks.items → w.lowers d ≡ l → LowerShows i o w net d old l real → LowerShows i o v made d new l real
   lower_stays w v net made c d full old new idle (lower.Idle end) k apart blocks is h = (
     events_as w v c (node_of w c) (block_of full.fields) d k.rest apart ∙ h.0,
-    k.others d true end (lower_none c full.mirror d apart) h.1
+    k.others d true end (lower_none c full.mirror d apart) h.1,
   )
   lower_stays w v net made c d full old new (writes other) (lower.Member m place) k apart blocks is h = (
     events_as w v c (node_of w c) (block_of full.fields) d k.rest apart ∙ h.0,
@@ -152,7 +151,7 @@ module _ {F I O : Type 0} (i : link_in.Ghosts I) (o : link_out.Ghosts O) where
       block = h.1.block;
       at_place = ap (λ (xs : List BlockId). slice_get xs place) blocks ∙ h.1.at_place;
       of_block = h.1.of_block;
-    }
+    },
   )
   lower_stays w v net made c d full old new l lower.Ended k apart blocks is h =
       events_as w v c (node_of w c) (block_of full.fields) d k.rest apart ∙ h

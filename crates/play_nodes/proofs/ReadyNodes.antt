@@ -1,5 +1,5 @@
 -- A member among the nodes acts without a message.
-use Rattle.std.proofs.Common.{◌≡◌, ◌<◌, ℕ, Bool, true, false, length, slice_get, List, Option, Some, None, IsSome, is_some, Result, Ok, Err, inl, inr, refl, sym, ap, ◌∙◌, subst, arith}
+use Rattle.std.proofs.Common.{◌≡◌, ◌<◌, ℕ, Bool, true, false, slice_get, List, Option, Some, None, IsSome, is_some, Result, Ok, Err, inl, inr, refl, sym, ap, ◌∙◌, subst, arith}
 use Rattle.std.specs.Prelude.{◌&&◌, nat_lt}
 use Rattle.std.proofs.lemmas.Bool.Decides.{nat_tests}
 use Rattle.hd_base.specs.declared.files.Files as files
@@ -8,7 +8,6 @@ use Rattle.hd_base.specs.declared.links.LinkOut as link_out
 use Rattle.hd_base.specs.declared.numbers.ConnId.{ConnId}
 use Rattle.hd_base.specs.declared.roads.Roads as roads
 use Rattle.replica_files.specs.declared.book_state.BookState.{BookState}
-use Rattle.member_core.specs.declared.turns.Turn.{Turn}
 use Rattle.member_core.specs.Steps.{Step, step, ready_turn_at}
 use Rattle.pipe_member.specs.declared.member.Member.{Member}
 use Rattle.road_traffic.specs.Showing.{Net}
@@ -42,8 +41,8 @@ use Rattle.play_nodes.specs.declared.nodes.Nodes.{Nodes}
 use Rattle.play_nodes.specs.declared.nodes.Seat.{Seat}
 use Rattle.play_nodes.specs.Faults.{fault_at}
 use Rattle.play_nodes.specs.Places.{book_at, IsSeated, IsUnseated, Takes, Follows, member_of}
-use Rattle.play_nodes.specs.Showing.{has_events, SeatShows, LowerShows, NodesStand, NodesLeft}
-use Rattle.play_nodes.specs.Events.{IsCaused, IsLawful, EventEnds, ReadyShows}
+use Rattle.play_nodes.specs.Showing.{has_events, SeatShows, LowerShows, NodesStand}
+use Rattle.play_nodes.specs.Events.{IsCaused, EventEnds, ReadyShows}
 use Rattle.play_nodes.proofs.Tables.{element}
 use Rattle.play_nodes.proofs.WorldFrames.{KeepsRest, rest_after}
 use Rattle.play_nodes.proofs.NodeFrames.{IsApart}
@@ -179,8 +178,8 @@ module _ {F R I O : Type 0} (f : files.Ghosts F) (r : roads.Ghosts R I O) (i : l
       let broke : Option Break = break_at w c full.fields in
       let out : outcome w e ≡ Some (apply w (member_change w c full the_end did broke)) = ready-makes w conn full turn.0 acting.served k.lower turn.1 in
       let ends = ready w net conn full turn.0 (member_stands r i o w net road c old s book lawful.ordered stands seat k at_book)
-          (record { served = acting.served; acts = turn.1; spelled = lawful.after.ups c }) in
+      (record { served = acting.served; acts = turn.1; spelled = lawful.after.ups c }) in
       let over : (d : ℕ) → IsApart full.mirror d → is_over (happens w e) d false ≡ is_over w d false = λ d apart.
-          (followed w (apply w (member_change w c full the_end did broke)) e out).over d false ∙ changed-over w (member_change w c full the_end did broke) d false in
+      (followed w (apply w (member_change w c full the_end did broke)) e out).over d false ∙ changed-over w (member_change w c full the_end did broke) d false in
       ends_so old mid set new s c book book' left result road road' w net e stands lawful.ordered seat k t at b
       (rest_after w w c full the_end did broke e out) over ends follows

@@ -1,6 +1,6 @@
 -- Elements of lists and tables of which one was set.
-use Rattle.std.proofs.Common.{◌≡◌, ℕ, zero, suc, ◌<◌, ◌-◌, Bool, true, false, if◌then◌else◌, List, [], ◌∷◌, length, slice_get, slice_set, option_map, Option, Some, None, ◌⊎◌, inl, inr, refl, sym, ap, ◌∙◌, subst, arith, eqb-true}
-use Rattle.std.specs.Prelude.{◌==◌, ◌&&◌, nat_le, unwrap_or}
+use Rattle.std.proofs.Common.{◌≡◌, ℕ, zero, suc, ◌<◌, Bool, true, false, if◌then◌else◌, List, [], ◌∷◌, length, slice_get, slice_set, option_map, Some, None, ◌⊎◌, inl, inr, refl, sym, ap, arith, eqb-true}
+use Rattle.std.specs.Prelude.{◌==◌, ◌&&◌, unwrap_or}
 use Rattle.std.proofs.lemmas.Bool.{eqb-false}
 use Rattle.world.specs.Parts.{Dialled}
 use Rattle.world.specs.Worlds.{Dial, put_at}

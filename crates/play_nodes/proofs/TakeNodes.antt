@@ -50,7 +50,7 @@ use Rattle.play_nodes.specs.declared.connections.Upper.{Upper}
 use Rattle.play_nodes.specs.declared.connections.Upper.TheVariants as upper
 use Rattle.play_nodes.specs.Places.{book_at, IsSeated, IsUnseated, Takes, Follows, member_above}
 use Rattle.play_nodes.specs.Showing.{UpperShows, has_events, NodesStand}
-use Rattle.play_nodes.specs.Events.{IsLawful, IsBusy, DownShows, UpShows}
+use Rattle.play_nodes.specs.Events.{DownShows, UpShows}
 use Rattle.play_nodes.proofs.WorldFrames.{rest_after, rest_taken}
 use Rattle.play_nodes.proofs.NodeFrames.{IsApart}
 use Rattle.play_nodes.proofs.Tables.{element}
@@ -221,6 +221,7 @@ module _ {F R I O : Type 0} (r : roads.Ghosts R I O) (i : link_in.Ghosts I) (o :
     where
       busy : (full : FullMember) → idle ≡ writes full → ⊥
       busy full e = cc
+
       test_so : (a b : ℕ) → a < b → nat_lt a b ≡ true
       test_so a b h = grind (arith, nat_tests, h)
 
@@ -243,9 +244,9 @@ module _ {F R I O : Type 0} (f : files.Ghosts F) (r : roads.Ghosts R I O) (i : l
       let did = down_step full.state (replica_at w1 c (block_of full.fields)) (above_of x) in
       let out = (down-makes w conn answered x taking.comes).member full k.lower takes in
       let ends = down w net conn answered full x (member_stands r i o w net road c old s book lawful.ordered stands seat k at_book)
-          (record { comes = taking.comes; takes = takes; packets = packet_next w c full x lawful.taken lawful.before k.lower taking.comes.next; spelled = lawful.after.ups c }) in
+      (record { comes = taking.comes; takes = takes; packets = packet_next w c full x lawful.taken lawful.before k.lower taking.comes.next; spelled = lawful.after.ups c }) in
       let over : (d : ℕ) → IsApart full.mirror d → is_over (happens w e) d false ≡ is_over w d false = λ d apart.
-          (followed w (apply w1 (goes_down w1 c full x)) e out).over d false ∙ (changed-over w1 (goes_down w1 c full x) d false ∙ taken-over w d false c true x (λ same. refl)) in
+      (followed w (apply w1 (goes_down w1 c full x)) e out).over d false ∙ (changed-over w1 (goes_down w1 c full x) d false ∙ taken-over w d false c true x (λ same. refl)) in
       ends_so f r i o old mid set new s c book book' left result road road' w net e stands lawful.ordered seat k t at b
       (rest_taken w c true x (happens w e) c (block_of full.fields) (rest_after w w1 c full x did (break_at w1 c full.fields) e out)) over ends follows
 
@@ -271,16 +272,16 @@ module _ {F R I O : Type 0} (f : files.Ghosts F) (r : roads.Ghosts R I O) (i : l
       let did = up_step full.state (replica_at w1 c (block_of full.fields)) (below_of x) in
       let out = (up-makes w conn x hearing.comes).member c full heard in
       let ends = up w net c full x (member_stands r i o w net road c old s book lawful.ordered stands seat k at_book)
-          (record {
-            comes = hearing.comes;
-            heard = heard;
-            of_mirror = of_mirror;
-            answers = mirror_next w c conn.0 full x lawful.taken lawful.before k.lower of_mirror heard.hears hearing.comes.next;
-            spelled = lawful.after.ups c;
-          }) in
+      (record {
+        comes = hearing.comes;
+        heard = heard;
+        of_mirror = of_mirror;
+        answers = mirror_next w c conn.0 full x lawful.taken lawful.before k.lower of_mirror heard.hears hearing.comes.next;
+        spelled = lawful.after.ups c;
+      }) in
       let over : (d : ℕ) → IsApart full.mirror d → is_over (happens w e) d false ≡ is_over w d false = λ d apart.
-          (followed w (apply w1 (goes_up w1 c full x)) e out).over d false ∙ (changed-over w1 (goes_up w1 c full x) d false ∙
-          taken-over w d false conn.0 false x (λ same. absurd (subst (λ (m : Option ℕ). IsApart m d) of_mirror apart same))) in
+      (followed w (apply w1 (goes_up w1 c full x)) e out).over d false ∙ (changed-over w1 (goes_up w1 c full x) d false ∙
+      taken-over w d false conn.0 false x (λ same. absurd (subst (λ (m : Option ℕ). IsApart m d) of_mirror apart same))) in
       ends_so f r i o old mid set new s c book book' left result road road' w net e stands lawful.ordered seat k t at b
       (rest_taken w conn.0 false x (happens w e) c (block_of full.fields) (rest_after w w1 c full x did (break_at w1 c full.fields) e out)) over ends follows
     where

@@ -1,5 +1,5 @@
 -- What a step of a member leaves of the world as it is.
-use Rattle.std.proofs.Common.{◌≡◌, ℕ, ◌-◌, Bool, true, false, Option, Some, refl, sym, ap, ◌∙◌, subst, arith}
+use Rattle.std.proofs.Common.{◌≡◌, ℕ, ◌-◌, Bool, true, false, Option, Some, refl, sym, subst, arith}
 use Rattle.std.specs.Prelude.{nat_le}
 use Rattle.member_core.specs.Steps.{Step}
 use Rattle.world.specs.declared.events.Event.{Event}

@@ -4,7 +4,7 @@ use Rattle.std.proofs.Common.{refl, subst, ◌<◌, ℕ, sym, ◌∙◌}
 use Rattle.play_nodes.specs.Places.{IsSeat, Takes}
 use Rattle.play_nodes.proofs.PlaceLaws.{none_so, element_some, element_within, book_found, book_set}
 use Rattle.play_nodes.proofs.LiftLaws.{seat_within, taken_within, books_of, place_within, lifted_known}
-use Rattle.play_nodes.proofs.ReadyNodes.{is_seated, taken_none}
+use Rattle.play_nodes.proofs.ReadyNodes.{taken_none}
 use Rattle.play_nodes.proofs.TakeNodes.{above_needed, above_seated, up_shows}
 use Rattle.play_nodes.proofs.nodes.Nodes.mirror_up.Goals as goal
 
