@@ -38,7 +38,8 @@ use Rattle.world.specs.Worlds.{World, listed}
 use Rattle.world.specs.Connections.{Next, message, the_end}
 use Rattle.world.specs.Nodes.{above_of, sent_up, passed}
 use Rattle.world_nets.specs.Rows.{text_of}
-use Rattle.member_events.specs.Texts.{SpellsText, SpellUp, IsPacketNext}
+use Rattle.world_texts.specs.Texts.{SpellsText}
+use Rattle.member_events.specs.Texts.{SpellUp, IsPacketNext}
 
 -- WHAT GOES UP
 

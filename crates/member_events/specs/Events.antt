@@ -21,7 +21,8 @@ use Rattle.world.specs.Events.{happens}
 use Rattle.world_nets.specs.Drawn.{ComesDown, ComesUp, HearsMirror}
 use Rattle.member_events.specs.declared.faults.MemberFault.{MemberFault}
 use Rattle.member_events.specs.Faults.{IsCaused}
-use Rattle.member_events.specs.Texts.{SpellsText, SpellUp, IsPacketNext}
+use Rattle.world_texts.specs.Texts.{SpellsText}
+use Rattle.member_events.specs.Texts.{SpellUp, IsPacketNext}
 use Rattle.member_events.specs.Showing.{MemberStands, MemberLeft}
 
 -- How an event of a member at a connection ends: what is left shows the world after it, or a fault has its cause.
