@@ -3,3 +3,4 @@ pub mod Steps
 pub mod Texts
 pub mod Showing
 pub mod Events
+pub mod Beginning
