@@ -14,3 +14,4 @@ pub mod FaultEvents
 pub mod ReadyEvents
 pub mod DownEvents
 pub mod UpEvents
+pub mod BeginEvents

@@ -6,7 +6,12 @@ use Rattle.hd_base.specs.declared.links.LinkIn as link_in
 use Rattle.hd_base.specs.declared.links.LinkOut as link_out
 use Rattle.hd_base.specs.declared.numbers.ConnId.{ConnId}
 use Rattle.hd_base.specs.declared.roads.Roads as roads
+use Rattle.frame_feed.specs.Kinds.{requests}
+use Rattle.link_messages.specs.declared.incoming.Next as came
+use Rattle.link_messages.specs.declared.incoming.Next.TheVariants as next
+use Rattle.link_messages.specs.Incomings.{IncomingState, nothing_received, NextEnds}
 use Rattle.link_pieces.specs.Roads.{names, ExchangesEnd, BringsEnd}
+use Rattle.op_headers.specs.declared.ops.Op.{Op}
 use Rattle.op_headers.specs.declared.ops.Op.TheVariants as op
 use Rattle.pipe_turns.specs.Acting.{ShutsEnd}
 use Rattle.road_traffic.specs.Showing.{Net}
@@ -22,6 +27,7 @@ use Rattle.member_events.specs.declared.beginning.Requested.{Requested}
 use Rattle.member_events.specs.declared.faults.MemberFault.{MemberFault}
 use Rattle.member_events.specs.declared.faults.MemberFault.TheVariants as fault
 use Rattle.member_events.specs.Faults.{IsRoadFault}
+use Rattle.member_events.specs.Steps.{FailsBy}
 use Rattle.member_events.specs.Showing.{ShowsWorld, OthersStay}
 
 -- ONE END
@@ -57,6 +63,31 @@ abbrev pub IsClosed : {R I O : Type 0} → roads.Ghosts R I O → link_in.Ghosts
 IsClosed r i o at_end road road' (Ok None) = Closes r i o at_end road road'
 IsClosed r i o at_end road road' (Ok (Some new)) = ⊥
 IsClosed r i o at_end road road' (Err why) = why ≡ fault.Memory
+
+-- What an end gave first, of which nothing was received before.
+pub record GivesFirst {I : Type 0} (i : link_in.Ghosts I) (half half' : I) (r : came.Next Op) : Type 0 where
+  pub left : IncomingState
+  pub ends : NextEnds requests i nothing_received left half half' r
+
+abbrev pub NextFirst : {I : Type 0} → link_in.Ghosts I → I → I → came.Next Op → Type 0
+NextFirst i half half' next.Memory = Unit {0}
+NextFirst i half half' other = GivesFirst i half half' other
+
+-- Only the inward half of the end has changed, and this came.
+pub record LooksFirst {I O : Type 0} (i : link_in.Ghosts I) (old new : Conn I O) (r : came.Next Op) : Type 0 where
+  pub id : new.id ≡ old.id
+  pub lower : new.lower ≡ old.lower
+  pub outward : new.outward ≡ old.outward
+  pub comes : NextFirst i old.inward new.inward r
+
+-- A request to write is handed over with the end, an end that has failed is brought back, and another one is shut before.
+abbrev pub FollowsFirst : {R I O : Type 0} → roads.Ghosts R I O → link_in.Ghosts I → link_out.Ghosts O → came.Next Op →
+    Conn I O → R → R → Result (Option (Requested I O)) MemberFault → Type 0
+FollowsFirst r i o (next.Message (op.Write fields)) at_end road road' result =
+    (road' ≡ road) × (result ≡ Ok (Some (record { end = at_end; op = fields })))
+FollowsFirst r i o next.Failed at_end road road' result = FailsBy (IsBroken r i o at_end road road') result
+FollowsFirst r i o next.Memory at_end road road' result = result ≡ Err fault.Memory
+FollowsFirst r i o other at_end road road' result = IsClosed r i o at_end road road' result
 
 -- THE FIRST MESSAGE
 

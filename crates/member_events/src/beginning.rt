@@ -1,7 +1,7 @@
 //! An end that has taken nothing yet takes its first message.
 
 ghost use Rattle.hd_base.specs.Ends.{IsKnown};
-ghost use Rattle.member_events.specs.Beginning.{IsDrawn, IsBrought, IsBroken, IsClosed, BeginShows};
+ghost use Rattle.member_events.specs.Beginning.{IsDrawn, IsBrought, IsBroken, IsClosed, LooksFirst, FollowsFirst, BeginShows};
 
 use crate::faults::{MemberFault, road_fault};
 use hd_base::{Conn, LinkIn, LinkOut, Roads};
@@ -27,11 +27,32 @@ pub fn begin<I: LinkIn, O: LinkOut, R: Roads<Inward = I, Outward = O>>(
     requires { IsKnown (R.plain roads.old) end.id.0 }
     ensures { BeginShows R.Roads I.LinkIn O.LinkOut end roads.old roads.new result }
 {
-    let Ok(mut incoming) = Incoming::new(alloc) else {
-        return Err(MemberFault::Memory);
-    };
     let mut end = drawn(alloc, roads, end)?;
-    match incoming.next::<Op, I>(&mut end.inward) {
+    let next = first(alloc, &mut end);
+    follow(alloc, roads, end, next)
+}
+
+/// The first message that an end holds.
+fn first<I: LinkIn, O: LinkOut>(alloc: Global, end: &mut Conn<I, O>) -> Next<Op>
+    ensures { LooksFirst I.LinkIn end.old end.new result }
+{
+    match Incoming::new(alloc) {
+        Ok(mut incoming) => incoming.next(&mut end.inward),
+        Err(_) => Next::Memory,
+    }
+}
+
+/// What follows what an end has taken first.
+fn follow<I: LinkIn, O: LinkOut, R: Roads<Inward = I, Outward = O>>(
+    alloc: Global,
+    roads: &mut R,
+    end: Conn<I, O>,
+    next: Next<Op>,
+) -> Result<Option<Requested<I, O>>, MemberFault>
+    requires { IsKnown (R.plain roads.old) end.id.0 }
+    ensures { FollowsFirst R.Roads I.LinkIn O.LinkOut next end roads.old roads.new result }
+{
+    match next {
         Next::Message(Op::Write(op)) => Ok(Some(Requested { end, op })),
         Next::Failed => Err(broken(alloc, roads, end)),
         Next::Memory => Err(MemberFault::Memory),
