@@ -1,5 +1,5 @@
 -- An end that has taken nothing yet takes its first message.
-use Rattle.std.proofs.Common.{◌≡◌, ◌≤◌, ℕ, Bool, true, false, List, [], ◌∷◌, Option, Some, None, Result, Ok, Err, inl, refl, sym, ap, ◌∙◌, subst}
+use Rattle.std.proofs.Common.{◌≡◌, ℕ, Bool, true, false, [], Option, Some, None, Result, Ok, Err, inl, refl, sym, ap, ◌∙◌, subst}
 use Rattle.hd_base.specs.Links.{Inbox}
 use Rattle.hd_base.specs.Ends.{has_failed}
 use Rattle.hd_base.specs.declared.ends.Conn.{Conn}
@@ -11,15 +11,14 @@ use Rattle.frame_feed.specs.Kinds.{requests}
 use Rattle.frame_feed.specs.KindLaws.{requests_sound}
 use Rattle.link_messages.specs.declared.incoming.Next as came
 use Rattle.link_messages.specs.declared.incoming.Next.TheVariants as next
-use Rattle.link_messages.specs.Incomings.{IncomingState, nothing_received, NextEnds}
-use Rattle.link_pieces.specs.Roads.{names, ExchangesEnd, BringsEnd}
+use Rattle.link_pieces.specs.Roads.{names, ExchangesEnd}
 use Rattle.op_headers.specs.declared.ops.Op.{Op}
 use Rattle.op_headers.specs.declared.ops.Op.TheVariants as op
 use Rattle.op_headers.specs.Values.{WriteFields}
 use Rattle.pipe_member.specs.declared.stages.Looked.TheVariants as looked
 use Rattle.pipe_member.specs.Looks.{looked_of}
 use Rattle.road_traffic.specs.Showing.{Net}
-use Rattle.road_traffic.specs.Laws.{Took, left_net}
+use Rattle.road_traffic.specs.Laws.{left_net}
 use Rattle.road_traffic.proofs.TrafficLemmas.{same-itself}
 use Rattle.world.specs.declared.events.Event.{Event}
 use Rattle.world.specs.declared.events.Event.TheVariants as event
@@ -40,7 +39,7 @@ use Rattle.member_events.specs.declared.faults.MemberFault.{MemberFault}
 use Rattle.member_events.specs.declared.faults.MemberFault.TheVariants as fault
 use Rattle.member_events.specs.Faults.{IsRoadFault}
 use Rattle.member_events.specs.Steps.{FailsBy}
-use Rattle.member_events.specs.Beginning.{IsDrawn, IsBroken, IsClosed, Closes, GivesFirst, NextFirst, LooksFirst, FollowsFirst, IdleStands, IsFirst, CanBegin, HasRequest, HasEnded, IsEndFault, BeginEnds, BeginShows}
+use Rattle.member_events.specs.Beginning.{IsBroken, IsClosed, Closes, GivesFirst, LooksFirst, FollowsFirst, IdleStands, IsFirst, CanBegin, HasRequest, HasEnded, IsEndFault, BeginShows}
 use Rattle.member_events.proofs.CauseLaws.{in_failed, one_risen}
 use Rattle.member_events.proofs.DownEvents.{held_took}
 use Rattle.member_events.proofs.EndLaws.{HeldAt, RoadsAt, end_held, end_from, end_sends, end_passes, end_brought}

@@ -1,5 +1,5 @@
 -- The end took its first message, and what followed.
-use Rattle.std.proofs.Common.{◌∙◌, ap, subst, sym, rules}
+use Rattle.std.proofs.Common.{◌∙◌, subst, sym, rules}
 use Rattle.hd_base.specs.Ends.{IsKnown}
 use Rattle.hd_base.specs.declared.numbers.ConnId.{ConnId}
 use Rattle.member_events.proofs.BeginEvents.{begin_failed, begin_shows}
