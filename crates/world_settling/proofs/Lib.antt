@@ -23,3 +23,6 @@ pub mod WriterSteps
 pub mod WriterHears
 pub mod WriterOwn
 pub mod OwnEvents
+pub mod OfficeAnswers
+pub mod WriterPairs
+pub mod OfficeEvents

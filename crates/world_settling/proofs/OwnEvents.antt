@@ -26,7 +26,7 @@ use Rattle.world_settling.proofs.WriterHears.{changed-each, after-both}
 use Rattle.world_settling.proofs.WriterOwn.{IsWriters, own-both}
 
 -- few members stand below a connection whose first message fits
-few-hops : (m : Message) → MessageFits m → hops_of (Some m) ≤ 17
+pub few-hops : (m : Message) → MessageFits m → hops_of (Some m) ≤ 17
 few-hops (request (op.Write f)) h = omega (arith, h.few)
 few-hops (request (op.Read r)) h = omega arith
 few-hops (request (op.Transfer t)) h = omega arith
@@ -38,14 +38,14 @@ few-hops (response r) h = omega arith
 few-hops (read_status s) h = omega arith
 few-hops (recovery_answer a) h = omega arith
 
-linked-as : (w : World) → AllBegun w → Formed w → (o : Option ℕ) → IfSome o (λ d. d < w.next_conn) → IfSome o (IsWriters w)
+pub linked-as : (w : World) → AllBegun w → Formed w → (o : Option ℕ) → IfSome o (λ d. d < w.next_conn) → IfSome o (IsWriters w)
 linked-as w begun formed None h = tt
 linked-as w begun formed (Some d) h =
     let f = begun.first d h in
     record { first = f; few = omega (arith, few-hops f.message ((formed.downs d).at 0 f.message f.is), ap hops_of f.is) }
 
 -- a writer for which no answer waits has heard all
-heard-none : (known : WriterRecord) (conn : Option ℕ) (told : Option Told) → told ≡ None → heard (record { known = known; conn = conn; told = told }) ≡ known
+pub heard-none : (known : WriterRecord) (conn : Option ℕ) (told : Option Told) → told ≡ None → heard (record { known = known; conn = conn; told = told }) ≡ known
 heard-none known conn None is = refl
 heard-none known conn (Some t) is = cc
 

@@ -151,7 +151,7 @@ new-ups : (w : World) (k : Change) (d : Dial) (us : List Message) → Dials w k 
 unfolding apply
 new-ups w k d us h = rw h.new.ups (h.ups w.next_conn ∙ sent-else k.lower_at w.next_conn us (apart k.lower_at w.next_conn h.known))
 
-open-most : (k : Marks) → open_weight k ≤ 1
+pub open-most : (k : Marks) → open_weight k ≤ 1
 open-most k = at k.over
   where
     at : (b : Bool) → (if b then 0 else 1) ≤ 1

@@ -65,7 +65,7 @@ fails-for : (x : WriterRecord) (r : Remedy) (place : ℕ) (bad : NodeId) → sli
 fails-for x remedy.Abandon place bad is = omega arith
 fails-for x (remedy.Recover s) place bad is = drops x s bad (without x.members bad) (one-fewer x.members place bad is)
 
-fails-at : (x : WriterRecord) (r : Remedy) (place : ℕ) → writer_weight (fail_at x r place) ≤ writer_weight x
+pub fails-at : (x : WriterRecord) (r : Remedy) (place : ℕ) → writer_weight (fail_at x r place) ≤ writer_weight x
 fails-at x r place = by (slice_get x.members place) refl where
   by : (o : Option NodeId) → slice_get x.members place ≡ o → writer_weight (fail_named x r o) ≤ writer_weight x
   by None is = omega arith

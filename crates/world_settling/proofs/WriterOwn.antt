@@ -69,16 +69,16 @@ sends-weight w b x d p c =
 -- WHAT A STEP DOES
 
 -- the writer of a change, and the others
-writer-put : (w : World) (k : Change) → ((apply w k).writers k.writer_at) ≡ k.writer
+pub writer-put : (w : World) (k : Change) → ((apply w k).writers k.writer_at) ≡ k.writer
 unfolding apply
 writer-put w k = put-here w.writers k.writer_at k.writer
 
-writers-else : (w : World) (k : Change) (a : ℕ) → a ≢ k.writer_at → (apply w k).writers a ≡ w.writers a
+pub writers-else : (w : World) (k : Change) (a : ℕ) → a ≢ k.writer_at → (apply w k).writers a ≡ w.writers a
 unfolding apply
 writers-else w k a other = put-other w.writers k.writer_at a k.writer other
 
 -- a change by which the writer comes into this state, and no more than this is to be delivered
-does-both : (w : World) (b : ℕ) (x : WriterRecord) (k : Change) (more given : ℕ) → k.writer_at ≡ b → k.writer.known ≡ x → traffic (apply w k) ≤ traffic w + more → writer_weight x + more + 1 ≤ writer_weight (w.writers b).known + given
+pub does-both : (w : World) (b : ℕ) (x : WriterRecord) (k : Change) (more given : ℕ) → k.writer_at ≡ b → k.writer.known ≡ x → traffic (apply w k) ≤ traffic w + more → writer_weight x + more + 1 ≤ writer_weight (w.writers b).known + given
     → LowersBoth w (apply w k) b given
 does-both w b x k more given at is sent pays =
     let known : ((apply w k).writers b).known ≡ x = subst (λ (n : ℕ). ((apply w k).writers n).known ≡ k.writer.known) at (ap (λ (z : Writing). z.known) (writer-put w k)) ∙ is in
@@ -87,10 +87,10 @@ does-both w b x k more given at is sent pays =
       others = λ a other. writers-else w k a (λ e. other (e ∙ at));
     }
 
-quiet-both : (w : World) (b : ℕ) (x : WriterRecord) (k : Change) (given : ℕ) → k.writer_at ≡ b → k.writer.known ≡ x → Quiet w k → writer_weight x + 1 ≤ writer_weight (w.writers b).known + given → LowersBoth w (apply w k) b given
+pub quiet-both : (w : World) (b : ℕ) (x : WriterRecord) (k : Change) (given : ℕ) → k.writer_at ≡ b → k.writer.known ≡ x → Quiet w k → writer_weight x + 1 ≤ writer_weight (w.writers b).known + given → LowersBoth w (apply w k) b given
 quiet-both w b x k given at is quiet pays = does-both w b x k 0 given at is (omega (arith, quiet-keeps w k quiet)) (omega (arith, pays))
 
-did-both : (w : World) (b given : ℕ) (waits : Option Waiting) (a : Action) (x : WriterRecord) (bytes : List ℕ) → IfSome (w.writers b).conn (IsWriters w) → writer_weight x + cost a ≤ writer_weight (w.writers b).known + given
+pub did-both : (w : World) (b given : ℕ) (waits : Option Waiting) (a : Action) (x : WriterRecord) (bytes : List ℕ) → IfSome (w.writers b).conn (IsWriters w) → writer_weight x + cost a ≤ writer_weight (w.writers b).known + given
     → IfSome (did w b waits a x bytes) (λ k. LowersBoth w (apply w k) b given)
 did-both w b given waits action.Took x bytes c pays =
     quiet-both w b x (record (writer_change w b x) { session = w.latest b; bytes = bytes }) given refl refl (record { dials = refl; downs = λ d. refl; ups = λ d. refl; lower = refl; replica = refl }) pays

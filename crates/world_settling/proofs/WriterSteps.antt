@@ -232,7 +232,7 @@ stream-pays x sent None s is at = due-pays x sent (due_now x) s is refl
 
 -- BY WHERE THE WRITER IS
 
-completes-pay : (x : WriterRecord) → x.phase ≡ phase.Completed → Pays x (completed_step x)
+pub completes-pay : (x : WriterRecord) → x.phase ≡ phase.Completed → Pays x (completed_step x)
 completes-pay x is = record { is = omega (arith, at-phase x phase.Completed is) }
 
 in-pays : (x : WriterRecord) (p : Phase) → x.phase ≡ p → IsStream x.stream → Pays x (step_in x p)

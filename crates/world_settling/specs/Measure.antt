@@ -17,6 +17,7 @@ use Rattle.writer_core.specs.declared.phases.Waiting.TheVariants as waiting
 use Rattle.writer_core.specs.declared.records.WriterRecord.{WriterRecord}
 use Rattle.writer_core.specs.Transitions.{Step, own_step}
 use Rattle.packet_stream.specs.Streams.{StreamState, IsStream, written_in}
+use Rattle.world.specs.declared.events.Caller.TheVariants as caller
 use Rattle.world.specs.declared.events.Event.{Event}
 use Rattle.world.specs.declared.events.Event.TheVariants as event
 use Rattle.world.specs.declared.events.OwnStep.TheVariants as own
@@ -142,3 +143,18 @@ OwnStepsLower = (nodes : ℕ) (events : List Event) (b : BlockId) (takes : Optio
     is_enabled (run (start nodes) events) (event.Own (own.Writer b takes answered)) ≡ true →
     LowersBoth (run (start nodes) events) (happens (run (start nodes) events) (event.Own (own.Writer b takes answered)))
     b.0 (given_weight takes)
+
+-- The world after the office's answer to the writer of a block.
+abbrev pub answered_world : World → BlockId → World
+answered_world w b = happens w (event.Office (caller.Writer b))
+
+-- So it is, too, where a writer asks the office and goes on with the answer in its next own step: it is given a stamp
+-- and dials, or commits, or completes its block, or is refused.
+abbrev pub AskingLowers : Type 0
+AskingLowers = (nodes : ℕ) (events : List Event) (b : BlockId) (answered : Bool) →
+    AllFit events → (run (start nodes) events).office.next.0 ≤ 2 ^ 64 →
+    ((run (start nodes) events).writers b.0).told ≡ None →
+    is_enabled (run (start nodes) events) (event.Office (caller.Writer b)) ≡ true →
+    is_enabled (answered_world (run (start nodes) events) b) (event.Own (own.Writer b None answered)) ≡ true →
+    LowersBoth (run (start nodes) events)
+    (happens (answered_world (run (start nodes) events) b) (event.Own (own.Writer b None answered))) b.0 0

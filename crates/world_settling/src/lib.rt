@@ -1,7 +1,7 @@
 //! Deliveries come to an end. Each function has an empty body; its clause says what holds of the world.
 #![tactic(auto)]
 
-ghost use Rattle.world_settling.specs.Measure.{StepsPay, AnswersLower, OwnStepsLower};
+ghost use Rattle.world_settling.specs.Measure.{StepsPay, AnswersLower, OwnStepsLower, AskingLowers};
 ghost use Rattle.world_settling.specs.Traffic.{DeliveriesLower, OuterKeep};
 
 /// An answer of the office, a loss, a stop or a restart makes no more to be delivered.
@@ -29,4 +29,9 @@ pub fn answers_lower()
 /// office.
 pub fn own_steps_lower()
     ensures { OwnStepsLower }
+{}
+
+/// So they are where a writer asks the office, and goes on with the answer in its next own step.
+pub fn asking_lowers()
+    ensures { AskingLowers }
 {}
