@@ -1,5 +1,5 @@
 -- How the mirror is reached, by what the parts of it say.
-use Rattle.std.proofs.Common.{◌≡◌, ◌==◌, ◌≤◌, ℕ, nat_le, List, [], ◌∷◌, length, Bool, true, false, if◌then◌else◌, Some, None, Result, Ok, Err, OnOk, OnErr, inr, refl, ◌∙◌, arith}
+use Rattle.std.proofs.Common.{◌≡◌, ◌==◌, ◌≤◌, ℕ, nat_le, List, [], ◌∷◌, length, Bool, true, false, if◌then◌else◌, Some, None, Err, inr, refl, ◌∙◌, arith}
 use Rattle.std.proofs.lemmas.Bool.Decides.{nat_tests}
 use Rattle.hd_base.specs.declared.links.LinkError.{LinkError}
 use Rattle.hd_base.specs.declared.links.LinkError.TheVariants as link_error
