@@ -1,8 +1,9 @@
 -- How the mirror is reached, by what the parts of it say.
-use Rattle.std.proofs.Common.{◌≡◌, ◌==◌, ◌≤◌, ℕ, nat_le, List, [], ◌∷◌, length, Bool, true, false, if◌then◌else◌, Some, None, Err, inr, refl, ◌∙◌, arith}
+use Rattle.std.proofs.Common.{◌≡◌, ◌==◌, ◌≤◌, ℕ, nat_le, List, [], ◌∷◌, length, Bool, true, false, if◌then◌else◌, Option, Some, None, IfSome, Err, inr, refl, ◌∙◌, arith}
 use Rattle.std.proofs.lemmas.Bool.Decides.{nat_tests}
 use Rattle.hd_base.specs.declared.links.LinkError.{LinkError}
 use Rattle.hd_base.specs.declared.links.LinkError.TheVariants as link_error
+use Rattle.hd_base.specs.Channels.{Plain}
 use Rattle.link_pieces.specs.Pieces.{SendsNothing, SendsPiece, FailsToSend, IsSending}
 use Rattle.member_core.specs.declared.requests.TheConstants.{MAX_PORT}
 use Rattle.member_core.specs.Requests.{request_to, mirror_request}
@@ -26,6 +27,15 @@ module _ {R I O : Type 0} (r : roads.Ghosts R I O) (i : link_in.Ghosts I) (o : l
   reaches_with node w text old new (reached.Unsent end) is p = p
   reaches_with node w text old new reached.NotDialled is p = inr p
   reaches_with node w text old new reached.Memory is p = p
+
+-- A dial that was answered is of a port on which somebody listens.
+heard_by : (p : Plain) (port : ℕ) (listens : Bool) → p.listening port ≡ listens → (p.listening port ≡ false → ⊥) → p.listening port ≡ true
+heard_by p port true is h = is
+heard_by p port false is h = absurd (h is)
+
+pub listened : (plain : Option Plain) (port : ℕ) → IfSome plain (λ p. p.listening port ≡ false → ⊥) → IfSome plain (λ p. p.listening port ≡ true)
+listened None port h = tt
+listened (Some p) port h = heard_by p port (p.listening port) refl h
 
 -- THE PORT
 

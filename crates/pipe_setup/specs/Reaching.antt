@@ -1,5 +1,5 @@
 -- How a member reaches its mirror.
-use Rattle.std.specs.Prelude.{◌≡◌, ◌⊎◌, ℕ, List, Some, None, Result, Err}
+use Rattle.std.specs.Prelude.{◌≡◌, ◌⊎◌, ℕ, true, List, Some, None, IfSome, Result, Err}
 use Rattle.hd_base.specs.declared.ends.Conn.{Conn}
 use Rattle.hd_base.specs.declared.ends.RoadError.{RoadError}
 use Rattle.hd_base.specs.declared.numbers.NodeId.{NodeId}
@@ -13,10 +13,15 @@ use Rattle.pipe_setup.specs.Requests.{request_text, first_port}
 use Rattle.pipe_setup.specs.declared.reaching.Reached.{Reached}
 use Rattle.pipe_setup.specs.declared.reaching.Reached.TheVariants as reached
 
--- The request was sent on the end of a dial.
+-- Somebody listens on the port, where observable.
+abbrev pub IsListening : {R I O : Type 0} → roads.Ghosts R I O → ℕ → R → Type 0
+IsListening r port road = IfSome (r.plain road) (λ p. p.listening port ≡ true)
+
+-- The request was sent on the end of a dial, which was answered because somebody listens there.
 pub record IsAsked {R I O : Type 0} (r : roads.Ghosts R I O) (i : link_in.Ghosts I) (o : link_out.Ghosts O)
     (text : List ℕ) (port : ℕ) (old new : R) (end : Conn I O) : Type 0 where
   pub fresh : Conn I O
+  pub listening : IsListening r port old
   pub dialled : IsDialled r i o port old new fresh
   pub kept : KeepsInward fresh end
   pub sent : SendsPiece o text fresh.outward end.outward
