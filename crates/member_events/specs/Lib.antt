@@ -4,3 +4,4 @@ pub mod Texts
 pub mod Showing
 pub mod Events
 pub mod Beginning
+pub mod Joining

@@ -5,8 +5,10 @@
 mod beginning;
 mod events;
 mod faults;
+mod joining;
 mod steps;
 
 pub use beginning::{Requested, begin};
 pub use events::{member_down, member_ready, mirror_up};
 pub use faults::MemberFault;
+pub use joining::{Joined, MirrorDial, join};

@@ -1,6 +1,7 @@
 -- How the mirror is reached, by what the parts of it say.
-use Rattle.std.proofs.Common.{◌≡◌, ◌==◌, ◌≤◌, ℕ, nat_le, List, [], ◌∷◌, length, Bool, true, false, if◌then◌else◌, Option, Some, None, IfSome, Err, inr, refl, ◌∙◌, arith}
+use Rattle.std.proofs.Common.{◌≡◌, ◌==◌, ◌≤◌, ℕ, nat_le, List, [], ◌∷◌, length, Bool, true, false, if◌then◌else◌, Option, Some, None, IfSome, IsErrOf, Ok, Err, inr, refl, ◌∙◌, arith}
 use Rattle.std.proofs.lemmas.Bool.Decides.{nat_tests}
+use Rattle.hd_base.specs.declared.ends.RoadError.TheVariants.{NotListening}
 use Rattle.hd_base.specs.declared.links.LinkError.{LinkError}
 use Rattle.hd_base.specs.declared.links.LinkError.TheVariants as link_error
 use Rattle.hd_base.specs.Channels.{Plain}
@@ -29,13 +30,16 @@ module _ {R I O : Type 0} (r : roads.Ghosts R I O) (i : link_in.Ghosts I) (o : l
   reaches_with node w text old new reached.Memory is p = p
 
 -- A dial that was answered is of a port on which somebody listens.
-heard_by : (p : Plain) (port : ℕ) (listens : Bool) → p.listening port ≡ listens → (p.listening port ≡ false → ⊥) → p.listening port ≡ true
-heard_by p port true is h = is
-heard_by p port false is h = absurd (h is)
+no_error : {T : Type 0} (x : T) → IsErrOf (Ok x) NotListening → ⊥
+no_error x h = let e : Ok x ≡ Err NotListening = h in cc
 
-pub listened : (plain : Option Plain) (port : ℕ) → IfSome plain (λ p. p.listening port ≡ false → ⊥) → IfSome plain (λ p. p.listening port ≡ true)
-listened None port h = tt
-listened (Some p) port h = heard_by p port (p.listening port) refl h
+heard_by : {T : Type 0} (x : T) (p : Plain) (port : ℕ) (listens : Bool) → p.listening port ≡ listens → (p.listening port ≡ false → IsErrOf (Ok x) NotListening) → p.listening port ≡ true
+heard_by x p port true is h = is
+heard_by x p port false is h = absurd (no_error x (h is))
+
+pub listened : {T : Type 0} (x : T) (plain : Option Plain) (port : ℕ) → IfSome plain (λ p. p.listening port ≡ false → IsErrOf (Ok x) NotListening) → IfSome plain (λ p. p.listening port ≡ true)
+listened x None port h = tt
+listened x (Some p) port h = heard_by x p port (p.listening port) refl h
 
 -- THE PORT
 

@@ -4,7 +4,7 @@ use Rattle.pipe_setup.proofs.reaching.dial_mirror.Goals as goal
 
 pub returns-in-Ok : goal.returns-in-Ok
 returns-in-Ok g c =
-    c.ask_mirror.ensures c.args.roads.now (listened (g.R.Roads.plain c.args.roads.now) c.args.port c.in-Ok.ensures.cause.nobody) (record {
+    c.ask_mirror.ensures c.args.roads.now (listened c.in-Ok.end (g.R.Roads.plain c.args.roads.now) c.args.port c.in-Ok.ensures.cause.nobody) (record {
       upper = c.in-Ok.ensures.upper;
       number = c.in-Ok.ensures.number;
       fresh = c.in-Ok.ensures.fresh;
