@@ -36,7 +36,7 @@ use Rattle.world.specs.declared.events.Event.{Event}
 use Rattle.world.specs.Parts.{request, by_member, Lower, Break}
 use Rattle.world.specs.Worlds.{World, Change, Dial, apply, put}
 use Rattle.world.specs.Connections.{place_of}
-use Rattle.world.specs.Nodes.{node_of, setup_change, member_dials}
+use Rattle.world.specs.Nodes.{node_of, lower_of, setup_change, member_dials}
 use Rattle.world.specs.Events.{outcome, happens}
 use Rattle.world_nets.specs.Rows.{text_of}
 use Rattle.world_nets.specs.Nets.{IsNetOf, IsEndOf, held_by, is_over}
@@ -96,7 +96,7 @@ same_some a b h = cc
 -- the lower end of another connection stays
 lower_kept : (w : World) (c : ℕ) (fields : WriteFields) (s : Setup) (broke : Option Break) (e : Event) (next : ℕ) → c < next → (record (apply w (setup_change w c fields s broke)) { last = Some e }).lowers next ≡ w.lowers next
 unfolding apply
-lower_kept w c fields s broke e next before = ap (λ (b : Bool). if b then _ else w.lowers next) (other-number next c (not_below c next before))
+lower_kept w c fields s broke e next before = ap (λ (b : Bool). if b then lower_of s.member fields w.next_conn else w.lowers next) (other-number next c (not_below c next before))
 
 module _ {I O : Type 0} (i : link_in.Ghosts I) (o : link_out.Ghosts O) where
   held_dialled : (net : Net) (port : ℕ) (shut : Bool) (ms : List (List ℕ)) (over : Bool) (c : ℕ) (d : Bool) (e : Conn I O) → HeldAt i o net shut ms (held_by over) c d e → HeldAt i o (dialled_net net port) shut ms (held_by over) c d e

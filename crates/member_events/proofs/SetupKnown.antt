@@ -26,6 +26,7 @@ use Rattle.pipe_setup.specs.Setups.{IsDown, GoesOn}
 use Rattle.pipe_turns.specs.declared.turning.Done.{Done}
 use Rattle.pipe_member.specs.declared.member.Member.{Member}
 use Rattle.pipe_member.specs.declared.stages.Stage.{Stage}
+use Rattle.pipe_member.specs.declared.stages.Stage.TheVariants as stage
 use Rattle.pipe_member.specs.declared.stages.Took.{Took}
 use Rattle.pipe_member.specs.declared.stepped.Stepped.{Stepped}
 use Rattle.pipe_member.specs.Exchanges.{AreKnown}
@@ -143,7 +144,7 @@ module _ {I O : Type 0} (o : link_out.Ghosts O) where
   setup_ids x (setup.Refused why) old new result f = let k = refuses_ids x.answer why old new result f in record { upper = k.upper; lower = k.lower }
   setup_ids x (setup.File receipt) old new result f = let k = opens_ids x.fault receipt _ _ old new f.answer f.says in record { upper = k.upper; lower = k.lower }
   setup_ids x (setup.Memory None) old new result f = let k = same_ends old old new refl refl f.0 in record { upper = k.upper; lower = k.lower }
-  setup_ids x (setup.Memory (Some receipt)) old new result f = let k = same_ends old _ new refl refl f.0 in record { upper = k.upper; lower = k.lower }
+  setup_ids x (setup.Memory (Some receipt)) old new result f = let k = same_ends old (record old { stage = stage.Booked receipt x.asked x.unasked }) new refl refl f.0 in record { upper = k.upper; lower = k.lower }
 
   pub refused_ids : (memory : Bool) (d : Done) (old new : Member I O) (result : Stepped) → RefusalEnds o memory d old new result → SameIds old new
   refused_ids true d old new result x = same_itself old new x.0
