@@ -95,7 +95,7 @@ lower_open : (x : Option MemberState) (m : MemberState) (fields : WriteFields) (
 lower_open x m fields next is alone = ap (λ (y : Option MemberState). lower_of y fields next) is ∙ ap (λ (z : Option ℕ). writes (record { fields = fields; state = m; mirror = z })) alone
 
 stage_open : (x : Option MemberState) (m : MemberState) (sh : Shuts) → x ≡ Some m → sh ≡ shuts.Nothing → stage_of x sh ≡ stage.Open m
-stage_open x m sh is open = ap (λ (y : Option MemberState). stage_of y sh) is ∙ ap (stage_after m) open
+stage_open x m sh is still = ap (λ (y : Option MemberState). stage_of y sh) is ∙ ap (stage_after m) still
 
 left_over : (v : World) (c : ℕ) (s : Setup) (fields : WriteFields) (next : ℕ) → v.lowers c ≡ lower_of s.member fields next → (lower_of s.member fields next ≡ ended_below) ⊎ OverLower s fields next → (v.lowers c ≡ ended_below) ⊎ OverJoins v c
 left_over v c s fields next is (inl over) = inl (is ∙ over)
@@ -131,7 +131,7 @@ module _ {F R I O : Type 0} (r : roads.Ghosts R I O) (i : link_in.Ghosts I) (o :
   alone_sends h = (setup-sends w1 c fields s broke h.before).alone h.dials
 
   alone_open : (h : AloneDone) (new : Member I O) → OpenLower s w1.next_conn → s.effect.shuts ≡ shuts.Nothing → ExchangesBoth r i o None held new road road' (Ok tt) → MemberJoins r i o w1 net (happens w e) c fields None book' road' (Some new)
-  alone_open h new low open ex =
+  alone_open h new low still ex =
       let k : Change = setup_change w1 c fields s broke in
       let v : World = happens w e in
       let f = followed w (apply w1 k) e h.out in
@@ -143,7 +143,7 @@ module _ {F R I O : Type 0} (r : roads.Ghosts R I O) (i : link_in.Ghosts I) (o :
       let n : IsNetOf (apply w1 k) made = passed_net w1 net k c None s1 false (sent_up fields s.effect.sends) [] h.is_net (alone_sends h) in
       let p = both_pass r i o None false false s1 false ms [] (held_by over) no_inbox net c None road road' held new h.roads_at (alone_end h) (alone_mirror h) refl (never_named held.mirror) (λ z. never z) (λ z. never z) ex in
       let none : new.mirror ≡ None = none_at i o made false [] no_inbox new.mirror p.lower in
-      let open_is : new.stage ≡ stage.Open low.state = ex.rest.stage ∙ (h.ends.stage_is ∙ stage_open s.member low.state s.effect.shuts low.member open) in
+      let open_is : new.stage ≡ stage.Open low.state = ex.rest.stage ∙ (h.ends.stage_is ∙ stage_open s.member low.state s.effect.shuts low.member still) in
       let same : (d : ℕ) (b : Bool) → is_over v d b ≡ is_over w1 d b = λ d b. f.over d b ∙ changed-over w1 k d b in
       record {
         made = made;

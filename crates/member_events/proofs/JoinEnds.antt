@@ -1,6 +1,6 @@
 -- How an end that has taken a request becomes a member, or why it doesn't.
 use Rattle.std.proofs.Common.{◌≡◌, ◌≢◌, ◌⊎◌, inl, inr, ◌<◌, ◌≤◌, ◌+◌, ℕ, Bool, true, false, if◌then◌else◌, List, [], ◌∷◌, ◌++◌, length, slice_get, Option, Some, None, IfSome, Result, Ok, Err, refl, sym, ap, ◌∙◌, subst, arith}
-use Rattle.std.specs.Prelude.{nat_le, cond}
+use Rattle.std.specs.Prelude.{nat_le, min, cond}
 use Rattle.std.proofs.lemmas.Bool.Decides.{nat_tests}
 use Rattle.hd_base.specs.Channels.{Plain}
 use Rattle.hd_base.specs.Ends.{IsKnown}
@@ -171,6 +171,9 @@ mirror_none i o v made (Some d) e is h = cc
 
 less_then : (x y z : ℕ) → x ≤ y → y ≤ z → x ≤ z
 less_then x y z a b = omega arith
+
+least_is : (a b : ℕ) → a ≤ b → min a b ≡ a
+least_is a b h = omega arith
 
 true_not : true ≡ false → ⊥
 true_not h = cc
@@ -380,7 +383,7 @@ module _ {F R I O : Type 0} (f : files.Ghosts F) (r : roads.Ghosts R I O) (i : l
         let targets : old.op.targets ≡ requested.op.targets = ap (λ (y : WriteFields). y.targets) h.is_new.op_is in
         let fits : first_port requested.op.targets ≤ MAX_PORT = subst (λ (l : List NodeRef). first_port l ≤ MAX_PORT) targets (port_is_one old.node old.op x.text x.is) in
         let ends : SameMirror (Some end) new.mirror = subst (λ (y : Option (Conn I O)). SameMirror y new.mirror) holds (exchanged_same r i o None held new mid later ex).lower in
-        accepted_end n end new result x k some (port_is.1 fits ∙ sym (ap first_port targets)) holds ex (less_then (r.faults road) (r.faults mid) (r.faults later) le (exchange_never r i o None held new mid later ex)) (met_mirror n end new new.mirror result ends met)
+        accepted_end n end new result x k some (port_is.1 ∙ (least_is (first_port requested.op.targets) MAX_PORT fits ∙ sym (ap first_port targets))) holds ex (less_then (r.faults road) (r.faults mid) (r.faults later) le (exchange_never r i o None held new mid later ex)) (met_mirror n end new new.mirror result ends met)
 
     -- EACH SETUP
 

@@ -1,9 +1,12 @@
 -- How the setup of a member fails, and what is known of its mirror then.
-use Rattle.std.proofs.Common.{◌≡◌, ◌≢◌, ◌⊎◌, inl, inr, ◌≤◌, ℕ, Bool, true, false, List, Option, Some, None, Result, Ok, Err, refl, sym, ap, ◌∙◌, subst}
+use Rattle.std.proofs.Common.{◌≡◌, ◌≢◌, ◌⊎◌, inl, inr, ◌≤◌, ◌↔◌, ℕ, Bool, true, false, List, [], Option, Some, None, IfSome, IsNone, Result, Ok, Err, refl, sym, ap, ◌∙◌, subst}
+use Rattle.hd_base.specs.Channels.{Plain}
 use Rattle.hd_base.specs.Faults.{FaultsIncreased}
+use Rattle.hd_base.specs.RoadCauses.{RoadCause}
 use Rattle.hd_base.specs.Ends.{has_failed}
 use Rattle.hd_base.specs.declared.ends.Conn.{Conn}
 use Rattle.hd_base.specs.declared.ends.RoadError.{RoadError}
+use Rattle.hd_base.specs.declared.ends.RoadError.TheVariants as error
 use Rattle.hd_base.specs.declared.files.Files as files
 use Rattle.hd_base.specs.declared.links.LinkIn as link_in
 use Rattle.hd_base.specs.declared.links.LinkOut as link_out
@@ -34,6 +37,8 @@ use Rattle.pipe_member.specs.declared.stepped.Stepped.TheVariants as stepped
 use Rattle.pipe_member.specs.Exchanges.{BringsMirror, BringsBoth}
 use Rattle.pipe_member.specs.Setups.{Opened, Says, Opens, RefusesAs, RefusalEnds, FollowsSetup, Begins, with_outward}
 use Rattle.pipe_member.specs.Steps.{stepped_of}
+use Rattle.member_events.specs.Faults.{road_fault}
+use Rattle.member_events.specs.Joining.{Accepts}
 use Rattle.member_events.proofs.CauseLaws.{file_book, file_done, link_done, mirror_keeps, or_first, one_risen, out_failed, still_risen, less_through}
 use Rattle.member_events.proofs.LostLaws.{later_end}
 
@@ -92,7 +97,7 @@ module _ {I O : Type 0} (i : link_in.Ghosts I) (o : link_out.Ghosts O) where
 
 -- A CALL ON FILES THAT FAILED
 
-module _ {I O : Type 0} (o : link_out.Ghosts O) where
+module _ {O : Type 0} (o : link_out.Ghosts O) where
   says_file : (text : Option (List ℕ)) (receipt x : Receipt) (a b : O) (d : Done) → d ≡ done.File x → Says o text receipt a b d → ⊥
   says_file None receipt x a b d is h = let e : done.Taken (Some receipt) ≡ done.File x = sym h.0 ∙ is in cc
   says_file (Some text) receipt x a b (done.File y) is h = h
@@ -166,3 +171,15 @@ module _ {R I O : Type 0} (r : roads.Ghosts R I O) (i : link_in.Ghosts I) (o : l
       let id : g.shut.id.0 ≡ x.unsent.fresh.id.0 = ap (λ (y : ConnId). y.0) (g.kept.id ∙ x.unsent.kept.id) in
       subst (λ (n : ℕ). r.risen road' n ≡ true) id
       (one_risen r i o g.shut x.middle road' (lost_brought g.shut x.middle road' g.result x.lost.ends g.brings) (out_failed i o (o.faults x.unsent.fresh.outward) g.shut rose))
+
+-- A DIAL THAT ISN'T ACCEPTED
+
+module _ {R I O : Type 0} (r : roads.Ghosts R I O) (i : link_in.Ghosts I) (o : link_out.Ghosts O) where
+  pub none_accepted : (plain : Option Plain) (port : ℕ) → IfSome plain (λ p. IsNone {T = Conn I O} None ↔ (p.waiting port ≡ [])) → IfSome plain (λ p. p.waiting port ≡ [])
+  none_accepted None port h = tt
+  none_accepted (Some p) port h = h.0 tt
+
+  pub err_accepts : (port : ℕ) (m : Member I O) (road road' : R) (why : RoadError) → RoadCause {T = Option (Conn I O)} (r.faults road) (r.faults road') (Err why) → Accepts r i o port m road road' (Err (road_fault why))
+  err_accepts port m road road' error.Failed c = inr (c.failed refl)
+  err_accepts port m road road' error.Memory c = tt
+  err_accepts port m road road' error.NotListening c = absurd (c.no_dial refl)

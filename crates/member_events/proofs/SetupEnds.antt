@@ -145,12 +145,12 @@ module _ {F I O : Type 0} (o : link_out.Ghosts O) where
   -- where it waits for its mirror, or is to tell that there is none
   waits_as : (s : Setup) (receipt : Receipt) (core : MemberState) (mirror : Option (Conn I O)) (old new : Member I O) (half : O) (book' : BookState F) (result : Stepped) → SendsNothing o old.upstream.outward half
       → Waits o receipt core (record (with_outward old half) { mirror = mirror }) new result → s.effect.sends ≡ None → s.effect.shuts ≡ shuts.Nothing → new.stage ≡ stage_of s.member s.effect.shuts → replica_of book' ≡ s.replica → SetUpAs o s old new book' result
-  waits_as s receipt core mirror old new half book' result quiet x none open st_is replica =
+  waits_as s receipt core mirror old new half book' result quiet x none still st_is replica =
       let upper : EndSends o None (shuts_above shuts.Nothing) old.upstream new.upstream = sent_up_end None shuts.Nothing old new half (with_half old.upstream half) (inr quiet) refl x.upper in
       record {
         stage_is = st_is;
         replica = replica;
-        upper = subst (λ (z : Shuts). EndSends o (texts_of old.op s.effect.sends) (shuts_above z) old.upstream new.upstream) (sym open)
+        upper = subst (λ (z : Shuts). EndSends o (texts_of old.op s.effect.sends) (shuts_above z) old.upstream new.upstream) (sym still)
             (subst (λ (t : Option Upward). EndSends o (texts_of old.op t) (shuts_above shuts.Nothing) old.upstream new.upstream) (sym none) upper);
         same = record { node = x.same.node; op = x.same.op };
         above = x.above;

@@ -1,5 +1,5 @@
 -- A request to write makes an end a member.
-use Rattle.std.specs.Prelude.{◌≡◌, ◌≢◌, ◌⊎◌, ◌≤◌, ℕ, nat_le, if◌then◌else◌, Bool, true, false, List, [], ◌∷◌, slice_get, Option, Some, None, option_map, IfSome, Result, Ok, Err}
+use Rattle.std.specs.Prelude.{◌≡◌, ◌≢◌, ◌⊎◌, ◌≤◌, ℕ, min, Bool, true, false, List, [], slice_get, Option, Some, None, option_map, IfSome, Result, Ok, Err}
 use Rattle.hd_base.specs.Channels.{with_accept}
 use Rattle.hd_base.specs.Ends.{IsFresh, IsObservable}
 use Rattle.hd_base.specs.Faults.{FaultsIncreased}
@@ -41,10 +41,10 @@ use Rattle.member_events.specs.Texts.{SpellUp}
 
 -- THE MIRROR
 
--- The port of the first target, where it is one, if there is a target.
+-- The port of the first target, if there is one, and no higher than the last port.
 abbrev pub IsMirrorPort : List NodeRef → Option ℕ → Type 0
 IsMirrorPort targets None = targets ≡ []
-IsMirrorPort targets (Some port) = (targets ≢ []) × (first_port targets ≤ MAX_PORT → port ≡ first_port targets)
+IsMirrorPort targets (Some port) = (targets ≢ []) × (port ≡ min (first_port targets) MAX_PORT)
 
 -- The oldest dial that waits at the port is accepted, and this is its lower end.
 pub record AcceptsDial {R I O : Type 0} (r : roads.Ghosts R I O) (i : link_in.Ghosts I) (o : link_out.Ghosts O)

@@ -1,6 +1,5 @@
 //! A request to write makes an end a member.
 
-ghost use Rattle.std.specs.Prelude.{◌≡◌, MatchOption};
 ghost use Rattle.hd_base.specs.Ends.{IsKnown};
 ghost use Rattle.pipe_member.specs.Exchanges.{AreKnown};
 ghost use Rattle.member_events.specs.Joining.{IsMirrorPort, Accepts, Meets, JoinShows};
@@ -9,6 +8,7 @@ use crate::beginning::Requested;
 use crate::faults::{MemberFault, road_fault};
 use crate::steps::{lost, placed};
 use hd_base::{Conn, ConnId, Files, LinkIn, LinkOut, NodeId, Roads};
+use member_core::MAX_PORT;
 use op_headers::WriteOp;
 use pipe_member::Member;
 use replica_files::ReplicaBook;
@@ -59,12 +59,12 @@ pub fn join<I: LinkIn, O: LinkOut, R: Roads<Inward = I, Outward = O>, F: Files>(
     meet(alloc, roads, port, left)
 }
 
-/// The port of the mirror that a request names, if it names one.
+/// The port of the mirror that a request names, if it names one, and the last port where that is none.
 fn mirror_port(op: &WriteOp) -> Option<u16>
     ensures { IsMirrorPort op.now.targets result }
 {
     match op.targets.as_slice() {
-        [mirror, ..] => Some(u16::try_from(mirror.xfer).unwrap_or(0)),
+        [mirror, ..] => Some(mirror.xfer.min(MAX_PORT) as u16),
         [] => None,
     }
 }
