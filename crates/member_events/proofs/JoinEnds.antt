@@ -400,17 +400,17 @@ module _ {F R I O : Type 0} (f : files.Ghosts F) (r : roads.Ghosts R I O) (i : l
         → GoesOn r i o old.node old.op road mid z → FollowsSetup o (opened old.upstream.id old.op (transition book.replica e)) z (with_outward old x.half) held ended → EndsWell left result
     setup_end e x (setup.Last receipt) left result asked good le is b g y p met =
         last_end port left result h.port_is (on_requested g.0) (last_is f r i o e old held book book' road mid ended asked good x receipt is b y)
-        (none_same old.mirror held.mirror no_mirror (setup_ids o _ (setup.Last receipt) (with_outward old x.half) held ended y).lower) (same_roads g.1) p met
+        (none_same old.mirror held.mirror no_mirror (setup_ids o (opened old.upstream.id old.op (transition book.replica e)) (setup.Last receipt) (with_outward old x.half) held ended y).lower) (same_roads g.1) p met
     setup_end e x (setup.Mirrored receipt end) left result asked good le is b g y p met =
         asked_end port left end result g.1 h.port_is (some_requested g.0) (waits_is f r i o e old held book book' road mid ended asked good x true receipt _ (Some end) (ap was_answered is) b g.0 y)
         (shut_mirror o end held.mirror y.lower) le p met
     setup_end e x (setup.MirrorDown receipt true) left result asked good le is b g y p met = absurd (lost_end _ g.1)
     setup_end e x (setup.MirrorDown receipt false) left result asked good le is b g y p met =
         let k = waits_is f r i o e old held book book' road mid ended asked good x false receipt _ old.mirror (ap was_answered is) b g.0 y in
-        down_end port left result h.port_is (some_requested g.0) k (none_same old.mirror held.mirror no_mirror (setup_ids o _ (setup.MirrorDown receipt false) (with_outward old x.half) held ended y).lower) (down_roads g.1) (unasked_if k (some_requested g.0) g.1) p met
+        down_end port left result h.port_is (some_requested g.0) k (none_same old.mirror held.mirror no_mirror (setup_ids o (opened old.upstream.id old.op (transition book.replica e)) (setup.MirrorDown receipt false) (with_outward old x.half) held ended y).lower) (down_roads g.1) (unasked_if k (some_requested g.0) g.1) p met
     setup_end e x (setup.Refused (refusal.Core why receipt)) left result asked good le is b g y p met =
         refused_end port left result (core_is f r i o e old held book book' road mid ended asked good x why receipt is b y)
-        (none_same old.mirror held.mirror no_mirror (setup_ids o _ (setup.Refused (refusal.Core why receipt)) (with_outward old x.half) held ended y).lower) (same_roads g) p met
+        (none_same old.mirror held.mirror no_mirror (setup_ids o (opened old.upstream.id old.op (transition book.replica e)) (setup.Refused (refusal.Core why receipt)) (with_outward old x.half) held ended y).lower) (same_roads g) p met
     setup_end e x (setup.Refused (refusal.Stage n)) left result asked good le is b g y p met = absurd y
     setup_end e x (setup.Refused refusal.Pool) left result asked good le is b g y p met = absurd y
     setup_end e x (setup.Refused (refusal.Checksum n c)) left result asked good le is b g y p met = absurd y
@@ -464,3 +464,9 @@ module _ {F R I O : Type 0} (f : files.Ghosts F) (r : roads.Ghosts R I O) (i : l
   join_known old held book book' ended road mid is_new x known =
       (setup_passes f r i o (request_event old.upstream.id old.op (rule_in book.replica)) old held book book' road mid ended is_new.mirror (at_new old held book book' ended road mid is_new x)).known
       (subst (λ (y : Conn I O). IsKnown (r.plain road) y.id.0) (sym is_new.upstream) known)
+
+  pub join_failed : (old held : Member I O) (book book' : BookState F) (ended : Stepped) (road mid road' : R) (result : Result (Joined I O) MemberFault) (why : MemberFault) → result ≡ Err why → IsNew node requested.end requested.op old → SetsUp f r i o old.stage old held book book' road mid ended → IsPlaced r i o ended held mid road' (Err why)
+      → JoinShows f r i o node next requested book book' road road' result
+  join_failed old held book book' ended road mid road' result why is is_new x p =
+      subst (λ (y : Result (Joined I O) MemberFault). JoinShows f r i o node next requested book book' road road' y) (sym is)
+      (join_unplaced old held book book' ended road mid road' why is_new (at_new old held book book' ended road mid is_new x) p)

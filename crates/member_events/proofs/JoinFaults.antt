@@ -1,9 +1,10 @@
 -- How the setup of a member fails, and what is known of its mirror then.
 use Rattle.std.proofs.Common.{◌≡◌, ◌≢◌, ◌⊎◌, inl, inr, ◌≤◌, ◌↔◌, ℕ, Bool, true, false, List, [], Option, Some, None, IfSome, IsNone, Result, Ok, Err, refl, sym, ap, ◌∙◌, subst}
-use Rattle.hd_base.specs.Channels.{Plain}
+use Rattle.std.specs.Prelude.{slice_get, is_some, option_map, MatchOption}
+use Rattle.hd_base.specs.Channels.{Plain, with_accept}
 use Rattle.hd_base.specs.Faults.{FaultsIncreased}
 use Rattle.hd_base.specs.RoadCauses.{RoadCause}
-use Rattle.hd_base.specs.Ends.{has_failed}
+use Rattle.hd_base.specs.Ends.{has_failed, IsFresh, IsObservable}
 use Rattle.hd_base.specs.declared.ends.Conn.{Conn}
 use Rattle.hd_base.specs.declared.ends.RoadError.{RoadError}
 use Rattle.hd_base.specs.declared.ends.RoadError.TheVariants as error
@@ -38,7 +39,7 @@ use Rattle.pipe_member.specs.Exchanges.{BringsMirror, BringsBoth}
 use Rattle.pipe_member.specs.Setups.{Opened, Says, Opens, RefusesAs, RefusalEnds, FollowsSetup, Begins, with_outward}
 use Rattle.pipe_member.specs.Steps.{stepped_of}
 use Rattle.member_events.specs.Faults.{road_fault}
-use Rattle.member_events.specs.Joining.{Accepts}
+use Rattle.member_events.specs.Joining.{AcceptsDial, Accepts}
 use Rattle.member_events.proofs.CauseLaws.{file_book, file_done, link_done, mirror_keeps, or_first, one_risen, out_failed, still_risen, less_through}
 use Rattle.member_events.proofs.LostLaws.{later_end}
 
@@ -172,12 +173,21 @@ module _ {R I O : Type 0} (r : roads.Ghosts R I O) (i : link_in.Ghosts I) (o : l
       subst (λ (n : ℕ). r.risen road' n ≡ true) id
       (one_risen r i o g.shut x.middle road' (lost_brought g.shut x.middle road' g.result x.lost.ends g.brings) (out_failed i o (o.faults x.unsent.fresh.outward) g.shut rose))
 
--- A DIAL THAT ISN'T ACCEPTED
+-- A DIAL THAT IS ACCEPTED, OR ISN'T
+
+some_same : {A : Type 0} (x y : A) → Some x ≡ Some y → x ≡ y
+some_same x y h = cc
 
 module _ {R I O : Type 0} (r : roads.Ghosts R I O) (i : link_in.Ghosts I) (o : link_out.Ghosts O) where
-  pub none_accepted : (plain : Option Plain) (port : ℕ) → IfSome plain (λ p. IsNone {T = Conn I O} None ↔ (p.waiting port ≡ [])) → IfSome plain (λ p. p.waiting port ≡ [])
-  none_accepted None port h = tt
-  none_accepted (Some p) port h = h.0 tt
+  pub some_accepted : (port : ℕ) (road road' : R) (found : Option (Conn I O)) (e : Conn I O) → found ≡ Some e → IfSome found (λ c. IfSome (r.plain road) (λ p. slice_get (p.waiting port) 0 ≡ Some c.id.0)) → IfSome found (λ c. c.lower ≡ true) → IfSome found (λ c. IsFresh i o c)
+      → IfSome found (λ c. IfSome (r.plain road) (λ _. IsObservable i o c)) → MatchOption found (r.plain road' ≡ r.plain road) (λ _. r.plain road' ≡ option_map (λ p. with_accept p port) (r.plain road)) → r.carried road' ≡ r.carried road → AcceptsDial r i o port road road' e
+  some_accepted port road road' None e is number lower fresh observable plain carried = cc
+  some_accepted port road road' (Some x) e is number lower fresh observable plain carried =
+      subst (λ (y : Conn I O). AcceptsDial r i o port road road' y) (some_same x e is) (record { number = number; lower = lower; fresh = fresh; observable = observable; plain = plain; carried = carried })
+
+  pub none_accepted : (plain : Option Plain) (port : ℕ) (found : Option (Conn I O)) → found ≡ None → IfSome plain (λ p. IsNone found ↔ (p.waiting port ≡ [])) → IfSome plain (λ p. p.waiting port ≡ [])
+  none_accepted None port found is h = tt
+  none_accepted (Some p) port found is h = h.0 (ap is_some is)
 
   pub err_accepts : (port : ℕ) (m : Member I O) (road road' : R) (why : RoadError) → RoadCause {T = Option (Conn I O)} (r.faults road) (r.faults road') (Err why) → Accepts r i o port m road road' (Err (road_fault why))
   err_accepts port m road road' error.Failed c = inr (c.failed refl)

@@ -113,7 +113,7 @@ fine_up o (done.File r) upper new ok h = absurd ok
 fine_up o (done.MirrorFailed r) upper new ok h = absurd ok
 fine_up o done.Memory upper new ok h = absurd ok
 
-module _ {F I O : Type 0} (o : link_out.Ghosts O) where
+module _ {I O : Type 0} (o : link_out.Ghosts O) where
   sent_up_end : (text : Option (List ℕ)) (s : Shuts) (old new : Member I O) (half : O) (upper : Conn I O) → HasSaid o text old.upstream.outward half → ShutsEnd o (shuts_up s) (with_half old.upstream half) upper → new.upstream ≡ upper
       → EndSends o text (shuts_above s) old.upstream new.upstream
   sent_up_end text s old new half upper says shut is = record {
@@ -123,6 +123,19 @@ module _ {F I O : Type 0} (o : link_out.Ghosts O) where
     shuts = subst (λ (b : Bool). ShutsEnd o b (with_half old.upstream half) new.upstream) (above_same s) (subst (λ (z : Conn I O). ShutsEnd o (shuts_up s) (with_half old.upstream half) z) (sym is) shut);
   }
 
+module _ {O : Type 0} (o : link_out.Ghosts O) where
+  -- where the request is refused before the replica is asked
+  refuses_fine : (text : Option (List ℕ)) (d : Done) (a b : O) → SendsAlone o text d a b → IsDone (stepped_of d shuts.Both) → IsFine d × HasSaid o text a b
+  refuses_fine text (done.Taken r) a b h k = (tt, alone o text r a b h)
+  refuses_fine None (done.Refused why r) a b h k = absurd h
+  refuses_fine (Some text) (done.Refused why r) a b h k = absurd h
+  refuses_fine text (done.LinkFailed r) a b h k = absurd k
+  refuses_fine text (done.File r) a b h k = absurd k
+  refuses_fine None (done.MirrorFailed r) a b h k = absurd h
+  refuses_fine (Some text) (done.MirrorFailed r) a b h k = absurd h
+  refuses_fine text done.Memory a b h k = absurd k
+
+module _ {F I O : Type 0} (o : link_out.Ghosts O) where
   -- where it says something at once
   opens_as : (s : Setup) (text : Option (List ℕ)) (receipt : Receipt) (st : Stage) (sh : Shuts) (old new : Member I O) (half : O) (book' : BookState F) (result : Stepped) → SendsNothing o old.upstream.outward half
       → Opens o text receipt st sh (with_outward old half) new result → IsGood result → text ≡ texts_of old.op s.effect.sends → sh ≡ s.effect.shuts → new.stage ≡ stage_of s.member s.effect.shuts → replica_of book' ≡ s.replica → SetUpAs o s old new book' result
@@ -130,7 +143,7 @@ module _ {F I O : Type 0} (o : link_out.Ghosts O) where
       let over : IsDone (stepped_of x.done sh) = subst IsDone x.follows.answer (good_done x.done sh result x.follows.answer good) in
       let ok : IsFine x.done = says_fine o text receipt half x.half x.done sh x.says over in
       let upper : EndSends o text (shuts_above sh) old.upstream new.upstream =
-      sent_up_end text sh old new x.half x.upper (says_sent o text receipt old.upstream.outward half x.half x.done quiet x.says ok) x.shut (fine_up o x.done x.upper new.upstream ok x.follows.upper) in
+      sent_up_end o text sh old new x.half x.upper (says_sent o text receipt old.upstream.outward half x.half x.done quiet x.says ok) x.shut (fine_up o x.done x.upper new.upstream ok x.follows.upper) in
       record {
         stage_is = st_is;
         replica = replica;
@@ -146,7 +159,7 @@ module _ {F I O : Type 0} (o : link_out.Ghosts O) where
   waits_as : (s : Setup) (receipt : Receipt) (core : MemberState) (mirror : Option (Conn I O)) (old new : Member I O) (half : O) (book' : BookState F) (result : Stepped) → SendsNothing o old.upstream.outward half
       → Waits o receipt core (record (with_outward old half) { mirror = mirror }) new result → s.effect.sends ≡ None → s.effect.shuts ≡ shuts.Nothing → new.stage ≡ stage_of s.member s.effect.shuts → replica_of book' ≡ s.replica → SetUpAs o s old new book' result
   waits_as s receipt core mirror old new half book' result quiet x none still st_is replica =
-      let upper : EndSends o None (shuts_above shuts.Nothing) old.upstream new.upstream = sent_up_end None shuts.Nothing old new half (with_half old.upstream half) (inr quiet) refl x.upper in
+      let upper : EndSends o None (shuts_above shuts.Nothing) old.upstream new.upstream = sent_up_end o None shuts.Nothing old new half (with_half old.upstream half) (inr quiet) refl x.upper in
       record {
         stage_is = st_is;
         replica = replica;
@@ -156,27 +169,16 @@ module _ {F I O : Type 0} (o : link_out.Ghosts O) where
         above = x.above;
         below = x.below;
         receipt = Some receipt;
-        ended = x.answer ∙ sym (ap (λ (z : Shuts). done_step z (Some receipt)) open);
+        ended = x.answer ∙ sym (ap (λ (z : Shuts). done_step z (Some receipt)) still);
       }
-
-  -- where the request is refused before the replica is asked
-  refuses_fine : (text : Option (List ℕ)) (d : Done) (a b : O) → SendsAlone o text d a b → IsDone (stepped_of d shuts.Both) → IsFine d × HasSaid o text a b
-  refuses_fine text (done.Taken r) a b h k = (tt, alone o text r a b h)
-  refuses_fine None (done.Refused why r) a b h k = absurd h
-  refuses_fine (Some text) (done.Refused why r) a b h k = absurd h
-  refuses_fine text (done.LinkFailed r) a b h k = absurd k
-  refuses_fine text (done.File r) a b h k = absurd k
-  refuses_fine None (done.MirrorFailed r) a b h k = absurd h
-  refuses_fine (Some text) (done.MirrorFailed r) a b h k = absurd h
-  refuses_fine text done.Memory a b h k = absurd k
 
   refused_as_by : (s : Setup) (memory : Bool) (d : Done) (text : Option (List ℕ)) (old new : Member I O) (half : O) (book' : BookState F) (result : Stepped) → SendsAlone o text d old.upstream.outward half → RefusalEnds o memory d (with_outward old half) new result → IsGood result
       → text ≡ texts_of old.op s.effect.sends → shuts.Both ≡ s.effect.shuts → new.stage ≡ stage_of s.member s.effect.shuts → replica_of book' ≡ s.replica → SetUpAs o s old new book' result
   refused_as_by s true d text old new half book' result says x good text_is shuts_is st_is replica = absurd (not_memory result good x.1)
   refused_as_by s false d text old new half book' result says x good text_is shuts_is st_is replica =
       let over : IsDone (stepped_of d shuts.Both) = subst IsDone x.follows.answer (good_done d shuts.Both result x.follows.answer good) in
-      let k = refuses_fine text d old.upstream.outward half says over in
-      let upper : EndSends o text (shuts_above shuts.Both) old.upstream new.upstream = sent_up_end text shuts.Both old new half x.upper k.1 x.shut (fine_up o d x.upper new.upstream k.0 x.follows.upper) in
+      let k = refuses_fine o text d old.upstream.outward half says over in
+      let upper : EndSends o text (shuts_above shuts.Both) old.upstream new.upstream = sent_up_end o text shuts.Both old new half x.upper k.1 x.shut (fine_up o d x.upper new.upstream k.0 x.follows.upper) in
       record {
         stage_is = st_is;
         replica = replica;
