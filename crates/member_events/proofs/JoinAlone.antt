@@ -37,7 +37,7 @@ use Rattle.pipe_member.specs.Steps.{done_step, stage_after}
 use Rattle.road_traffic.specs.Showing.{Net, no_inbox, exchanged_net}
 use Rattle.road_traffic.specs.Laws.{left_net}
 use Rattle.world.specs.declared.events.Event.{Event}
-use Rattle.world.specs.Parts.{FullMember, Lower, writes, ended_below, Break}
+use Rattle.world.specs.Parts.{FullMember, writes, ended_below, Break}
 use Rattle.world.specs.Worlds.{World, Change, listed, apply}
 use Rattle.world.specs.Nodes.{node_of, setup_change, sent_up, lower_of, mirror_conn, member_dials}
 use Rattle.world.specs.Events.{outcome, happens}

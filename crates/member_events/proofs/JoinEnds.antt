@@ -1,6 +1,6 @@
 -- How an end that has taken a request becomes a member, or why it doesn't.
-use Rattle.std.proofs.Common.{◌≡◌, ◌≢◌, ◌⊎◌, inl, inr, ◌<◌, ◌≤◌, ◌+◌, ℕ, Bool, true, false, if◌then◌else◌, List, [], ◌∷◌, ◌++◌, length, slice_get, Option, Some, None, IfSome, Result, Ok, Err, refl, sym, ap, ◌∙◌, subst, arith}
-use Rattle.std.specs.Prelude.{nat_le, min, cond}
+use Rattle.std.proofs.Common.{◌≡◌, ◌≢◌, ◌⊎◌, inl, inr, ◌≤◌, ◌+◌, ℕ, Bool, true, false, if◌then◌else◌, List, [], ◌∷◌, ◌++◌, length, slice_get, Option, Some, None, IfSome, Result, Ok, Err, refl, sym, ap, ◌∙◌, subst, arith}
+use Rattle.std.specs.Prelude.{nat_le, min}
 use Rattle.std.proofs.lemmas.Bool.Decides.{nat_tests}
 use Rattle.hd_base.specs.Channels.{Plain}
 use Rattle.hd_base.specs.Ends.{IsKnown}
@@ -18,7 +18,7 @@ use Rattle.link_pieces.specs.Pieces.{SendsPiece}
 use Rattle.link_pieces.specs.Roads.{IsUnanswered}
 use Rattle.proto_fields.specs.Frames.{limit}
 use Rattle.op_headers.specs.declared.ops.Op.TheVariants as op
-use Rattle.op_headers.specs.Requests.{op_message, SpellsOp}
+use Rattle.op_headers.specs.Requests.{op_message}
 use Rattle.op_headers.specs.Values.{WriteFields}
 use Rattle.node_refs.specs.NodeRefs.{ref_of}
 use Rattle.member_core.specs.declared.requests.TheConstants.{MAX_PORT}
@@ -88,7 +88,7 @@ use Rattle.member_events.specs.declared.joining.MirrorDial.{MirrorDial}
 use Rattle.member_events.specs.declared.joining.MirrorDial.TheVariants as dial
 use Rattle.member_events.specs.declared.faults.MemberFault.{MemberFault}
 use Rattle.member_events.specs.declared.faults.MemberFault.TheVariants as fault
-use Rattle.member_events.specs.Joining.{IsMirrorPort, AcceptsFor, MeetsNobody, MeetsMirror, Meets, Accepts, write_next, JoinStands, CanJoin, MemberJoins, MirrorJoins, IsUnasked, JoinsBy, JoinEnds, JoinShows}
+use Rattle.member_events.specs.Joining.{IsMirrorPort, MeetsNobody, MeetsMirror, Meets, Accepts, write_next, JoinStands, CanJoin, MemberJoins, MirrorJoins, IsUnasked, JoinsBy, JoinEnds, JoinShows}
 use Rattle.member_events.specs.Showing.{MirrorShows}
 use Rattle.member_events.specs.Steps as steps
 use Rattle.member_events.specs.Steps.{IsPlaced}

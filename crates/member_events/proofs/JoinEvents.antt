@@ -1,60 +1,34 @@
 -- A request to write makes an end a member.
-use Rattle.std.proofs.Common.{◌≡◌, ◌≢◌, ◌⊎◌, inl, inr, ◌<◌, ◌≤◌, ◌+◌, ◌^◌, ◌==◌, ℕ, Bool, true, false, List, [], ◌∷◌, ◌++◌, length, slice_get, Option, Some, None, IfSome, Result, Ok, Err, refl, sym, ap, ◌∙◌, subst, arith}
-use Rattle.std.specs.Prelude.{nat_le, cond}
-use Rattle.std.proofs.lemmas.Bool.Decides.{nat_tests}
-use Rattle.hd_base.specs.Channels.{Plain}
-use Rattle.hd_base.specs.Faults.{FaultsIncreased}
-use Rattle.hd_base.specs.Ends.{has_failed}
+use Rattle.std.proofs.Common.{◌≡◌, ◌≢◌, ◌<◌, ℕ, Bool, true, false, [], Option, None, Ok, refl, sym, ap, ◌∙◌, subst}
 use Rattle.hd_base.specs.declared.ends.Conn.{Conn}
-use Rattle.hd_base.specs.declared.files.Files as files
 use Rattle.hd_base.specs.declared.links.LinkIn as link_in
 use Rattle.hd_base.specs.declared.links.LinkOut as link_out
 use Rattle.hd_base.specs.declared.numbers.ConnId.{ConnId}
 use Rattle.hd_base.specs.declared.numbers.NodeId.{NodeId}
-use Rattle.hd_base.specs.declared.numbers.Receipt.{Receipt}
 use Rattle.hd_base.specs.declared.roads.Roads as roads
-use Rattle.hd_base.specs.declared.roads.TheConstants.{FIRST_PORT}
-use Rattle.link_pieces.specs.Roads.{IsDialled, BringsEnd, GivesUp, IsUnanswered}
-use Rattle.op_headers.specs.declared.ops.Op.TheVariants as op
-use Rattle.op_headers.specs.Requests.{op_message, op_text}
-use Rattle.op_headers.specs.Values.{WriteFields}
-use Rattle.node_refs.specs.NodeRefs.{ref_of}
-use Rattle.proto_fields.specs.Frames.{limit}
 use Rattle.replica_model.specs.Rows.{FullReplica}
 use Rattle.replica_files.specs.declared.book_state.BookState.{BookState}
 use Rattle.replica_files.specs.Books.{replica_of}
-use Rattle.request_refusals.specs.declared.refusals.RequestRefusal.{RequestRefusal}
-use Rattle.member_core.specs.Members.{MemberState, set_up, new_member, no_effect}
-use Rattle.member_core.specs.Requests.{mirror_request}
+use Rattle.member_core.specs.Members.{set_up}
 use Rattle.member_core.specs.Steps.{Setup, request_step, refused_request, taken_request}
-use Rattle.pipe_setup.specs.Requests.{request_text, first_port, written}
-use Rattle.pipe_setup.specs.Reaching.{IsAskedBy, IsUnwritten}
-use Rattle.pipe_setup.specs.Setups.{IsLost, IsDown, HasTarget}
-use Rattle.pipe_setup.proofs.ReachingLemmas.{port_is_one}
 use Rattle.pipe_member.specs.declared.member.Member.{Member}
 use Rattle.pipe_member.specs.declared.stepped.Stepped.{Stepped}
-use Rattle.pipe_member.specs.Exchanges.{ExchangesBoth, BringsBoth}
 use Rattle.pipe_member.specs.Turns.{IsNew}
-use Rattle.road_traffic.specs.Showing.{Net, RoadsShow}
-use Rattle.road_traffic.proofs.ShowingLemmas.{roads-same}
+use Rattle.road_traffic.specs.Showing.{Net}
 use Rattle.world.specs.declared.events.Event.TheVariants as event
-use Rattle.world.specs.Parts.{Message, request}
 use Rattle.world.specs.Worlds.{World}
 use Rattle.world.specs.Connections.{down_taken}
-use Rattle.world.specs.Nodes.{node_of, block_of, replica_at, is_asked, runs_there, mirror_node}
+use Rattle.world.specs.Nodes.{block_of, replica_at, is_asked}
 use Rattle.world.specs.Events.{happens}
 use Rattle.world_nets.specs.Drawn.{break_at}
-use Rattle.world_nets.specs.Rows.{text_of}
 use Rattle.world_nets.specs.Nets.{IsEndOf}
-use Rattle.world_texts.specs.Texts.{SpellsText}
 use Rattle.member_events.specs.declared.beginning.Requested.{Requested}
 use Rattle.member_events.specs.Joining.{write_next, JoinStands, CanJoin, MemberJoins}
-use Rattle.member_events.specs.Showing.{MirrorShows}
 use Rattle.member_events.specs.Steps.{IsPlaced}
 use Rattle.member_events.proofs.EndLaws.{RoadsAt}
-use Rattle.member_events.proofs.JoinAlone.{IsUnset, AloneDone, AloneSetup, alone_joins, refused_alone, last_alone, down_alone}
-use Rattle.member_events.proofs.JoinWorld.{RequestSame, request_same, served_before, setup_out, never_asked, last_unasked, unasked_there}
-use Rattle.member_events.proofs.SetupEnds.{SetUpAs, HasRefused, HasTaken, last_set_up}
+use Rattle.member_events.proofs.JoinAlone.{IsUnset, AloneSetup, alone_joins, refused_alone, last_alone, down_alone}
+use Rattle.member_events.proofs.JoinWorld.{RequestSame, request_same, served_before, setup_out, never_asked, last_unasked}
+use Rattle.member_events.proofs.SetupEnds.{SetUpAs, HasRefused, HasTaken}
 
 -- the same number of a connection
 same_conn : (a b : ConnId) → a.0 ≡ b.0 → a ≡ b

@@ -1,5 +1,5 @@
 -- How the setup of a member fails, and what is known of its mirror then.
-use Rattle.std.proofs.Common.{◌≡◌, ◌≢◌, ◌⊎◌, inl, inr, ◌≤◌, ◌↔◌, ℕ, Bool, true, false, List, [], Option, Some, None, IfSome, IsNone, Result, Ok, Err, refl, sym, ap, ◌∙◌, subst}
+use Rattle.std.proofs.Common.{◌≡◌, inr, ◌↔◌, ℕ, Bool, true, false, List, [], Option, Some, None, IfSome, IsNone, Result, Ok, Err, refl, sym, ap, ◌∙◌, subst}
 use Rattle.std.specs.Prelude.{slice_get, is_some, option_map, MatchOption}
 use Rattle.hd_base.specs.Channels.{Plain, with_accept}
 use Rattle.hd_base.specs.Faults.{FaultsIncreased}
@@ -22,7 +22,6 @@ use Rattle.replica_files.specs.declared.faults.BookFault.TheVariants as book_fau
 use Rattle.request_refusals.specs.declared.refusals.RequestRefusal.{RequestRefusal}
 use Rattle.member_core.specs.declared.effects.Shuts.{Shuts}
 use Rattle.member_core.specs.declared.effects.Shuts.TheVariants as shuts
-use Rattle.pipe_setup.specs.declared.refusals.SetupRefusal.{SetupRefusal}
 use Rattle.pipe_setup.specs.declared.refusals.SetupRefusal.TheVariants as refusal
 use Rattle.pipe_setup.specs.declared.setups.Setup.{Setup}
 use Rattle.pipe_setup.specs.declared.setups.Setup.TheVariants as setup
@@ -36,8 +35,7 @@ use Rattle.pipe_member.specs.declared.stages.Stage.{Stage}
 use Rattle.pipe_member.specs.declared.stepped.Stepped.{Stepped}
 use Rattle.pipe_member.specs.declared.stepped.Stepped.TheVariants as stepped
 use Rattle.pipe_member.specs.Exchanges.{BringsMirror, BringsBoth}
-use Rattle.pipe_member.specs.Setups.{Opened, Says, Opens, RefusesAs, RefusalEnds, FollowsSetup, Begins, with_outward}
-use Rattle.pipe_member.specs.Steps.{stepped_of}
+use Rattle.pipe_member.specs.Setups.{Opened, Says, Opens, RefusalEnds, FollowsSetup, Begins, with_outward}
 use Rattle.member_events.specs.Faults.{road_fault}
 use Rattle.member_events.specs.Joining.{AcceptsDial, Accepts}
 use Rattle.member_events.proofs.CauseLaws.{file_book, file_done, link_done, mirror_keeps, or_first, one_risen, out_failed, still_risen, less_through}

@@ -1,5 +1,5 @@
 -- A request whose mirror was asked: the member, its connection to the mirror, and the lower end of that show the world after it.
-use Rattle.std.proofs.Common.{◌≡◌, ◌≢◌, ◌<◌, ◌≤◌, ◌+◌, ◌==◌, ℕ, Bool, true, false, List, [], ◌∷◌, ◌++◌, slice_get, map, Option, Some, None, IfSome, Ok, inr, refl, sym, ap, ◌∙◌, subst, arith}
+use Rattle.std.proofs.Common.{◌≡◌, ◌<◌, ◌≤◌, ◌+◌, ◌==◌, ℕ, Bool, true, false, List, [], ◌∷◌, ◌++◌, slice_get, Option, Some, None, IfSome, Ok, refl, sym, ap, ◌∙◌, subst, arith}
 use Rattle.std.specs.Prelude.{cond, if◌then◌else◌}
 use Rattle.hd_base.specs.Channels.{Plain}
 use Rattle.hd_base.specs.Ends.{IsObservable}
@@ -13,12 +13,10 @@ use Rattle.link_pieces.specs.Pieces.{SendsPiece}
 use Rattle.link_pieces.specs.Roads.{IsDialled, KeepsInward}
 use Rattle.op_headers.specs.declared.ops.Op.TheVariants as op
 use Rattle.op_headers.specs.Values.{WriteFields}
-use Rattle.node_refs.specs.NodeRefs.{ref_of}
 use Rattle.replica_model.specs.Rows.{FullReplica}
 use Rattle.replica_files.specs.declared.book_state.BookState.{BookState}
 use Rattle.member_core.specs.declared.member.Mirror.TheVariants as mirror
-use Rattle.member_core.specs.Members.{MemberState, new_member, no_effect}
-use Rattle.member_core.specs.Requests.{mirror_request}
+use Rattle.member_core.specs.Members.{new_member, no_effect}
 use Rattle.member_core.specs.Steps.{Setup, taken_request}
 use Rattle.pipe_member.specs.declared.member.Member.{Member}
 use Rattle.pipe_member.specs.declared.stages.Stage.{Stage}
@@ -28,15 +26,15 @@ use Rattle.pipe_member.specs.Below.{BelowState}
 use Rattle.pipe_member.specs.EventSteps.{HoldsMirror}
 use Rattle.pipe_member.specs.Exchanges.{ExchangesBoth}
 use Rattle.road_traffic.specs.Traffic.{Traffic}
-use Rattle.road_traffic.specs.Showing.{Net, IsSane, RoadsShow, EndIs, no_inbox, exchanged_net, dialled_net, accepted_net}
+use Rattle.road_traffic.specs.Showing.{Net, IsSane, no_inbox, exchanged_net, dialled_net, accepted_net}
 use Rattle.road_traffic.proofs.CallLemmas.{sent-shows, dialled-shows}
 use Rattle.road_traffic.proofs.ShowingLemmas.{roads-accepted}
 use Rattle.road_traffic.proofs.TrafficLemmas.{same-itself}
 use Rattle.world.specs.declared.events.Event.{Event}
-use Rattle.world.specs.Parts.{request, by_member, Lower, Break}
-use Rattle.world.specs.Worlds.{World, Change, Dial, apply, put}
+use Rattle.world.specs.Parts.{request, by_member, Break}
+use Rattle.world.specs.Worlds.{World, Change, Dial, apply}
 use Rattle.world.specs.Connections.{place_of}
-use Rattle.world.specs.Nodes.{node_of, lower_of, setup_change, member_dials}
+use Rattle.world.specs.Nodes.{lower_of, setup_change, member_dials}
 use Rattle.world.specs.Events.{outcome, happens}
 use Rattle.world_nets.specs.Rows.{text_of}
 use Rattle.world_nets.specs.Nets.{IsNetOf, IsEndOf, held_by, is_over}
@@ -49,10 +47,9 @@ use Rattle.world_nets.proofs.FlushingLemmas.{setup-sends, other-number}
 use Rattle.world_nets.proofs.StepLemmas.{changed-over, followed}
 use Rattle.member_events.specs.Joining.{AcceptsDial, MirrorJoins}
 use Rattle.member_events.specs.Showing.{MirrorShows}
-use Rattle.member_events.specs.Texts.{SpellUp}
-use Rattle.member_events.proofs.EndLaws.{HeldAt, MirrorAt, RoadsAt, BothPassed, mirror_net, end_held, end_sends, both_pass, end_from}
+use Rattle.member_events.proofs.EndLaws.{HeldAt, MirrorAt, RoadsAt, BothPassed, end_held, end_sends, both_pass, end_from}
 use Rattle.member_events.proofs.JoinAlone.{IsUnset}
-use Rattle.member_events.proofs.JoinWorld.{IsMirror, dial_is, setup_after}
+use Rattle.member_events.proofs.JoinWorld.{setup_after}
 use Rattle.member_events.proofs.MemberLaws.{never_named, never}
 use Rattle.member_events.proofs.SetupEnds.{SetUpAs}
 use Rattle.member_events.proofs.WorldLaws.{happened}

@@ -1,22 +1,20 @@
 -- The world after a request to write.
-use Rattle.std.proofs.Common.{◌≡◌, ◌≢◌, ◌<◌, ◌≤◌, ◌-◌, ◌+◌, ◌&&◌, inl, inr, ℕ, Bool, true, false, if◌then◌else◌, List, [], ◌∷◌, ◌++◌, length, slice_get, option_map, Option, Some, None, refl, sym, ap, ◌∙◌, subst, arith}
-use Rattle.std.specs.Prelude.{◌==◌, nat_le, nat_lt, is_some, unwrap_or}
+use Rattle.std.proofs.Common.{◌≡◌, ◌≢◌, ◌<◌, ◌≤◌, ◌-◌, ◌+◌, ◌&&◌, ℕ, Bool, true, false, if◌then◌else◌, List, [], ◌∷◌, ◌++◌, slice_get, option_map, Option, Some, None, refl, sym, ap, ◌∙◌, subst, arith}
+use Rattle.std.specs.Prelude.{nat_le, nat_lt, is_some, unwrap_or}
 use Rattle.std.proofs.lemmas.Bool.Decides.{nat_tests}
 use Rattle.hd_base.specs.declared.numbers.ConnId.{ConnId}
 use Rattle.hd_base.specs.declared.roads.TheConstants.{FIRST_PORT}
 use Rattle.op_headers.specs.declared.nodes.NodeRef.{NodeRef}
-use Rattle.op_headers.specs.declared.ops.Op.TheVariants as op
 use Rattle.op_headers.specs.Values.{WriteFields}
 use Rattle.node_refs.specs.NodeRefs.{ref_of}
-use Rattle.member_core.specs.Members.{MemberState}
 use Rattle.member_core.specs.Requests.{mirror_request}
 use Rattle.member_core.specs.Steps.{Setup, request_step}
 use Rattle.pipe_setup.specs.Requests.{first_port}
 use Rattle.world.specs.declared.events.Event.{Event}
 use Rattle.world.specs.declared.events.Event.TheVariants as event
-use Rattle.world.specs.Parts.{Message, request, Break, Dialled, Lower, idle}
-use Rattle.world.specs.Worlds.{World, Change, Dial, put, put_at, listed, apply}
-use Rattle.world.specs.Connections.{down_taken, is_served, sent_on}
+use Rattle.world.specs.Parts.{Message, Break, Dialled, idle}
+use Rattle.world.specs.Worlds.{World, Change, Dial, put_at, listed, apply}
+use Rattle.world.specs.Connections.{down_taken, is_served}
 use Rattle.world.specs.Nodes.{node_of, block_of, replica_at, setup_change, sent_up, lower_of, is_asked, runs_there, mirror_node, node_on, mirror_dial}
 use Rattle.world.specs.Events.{outcome, happens}
 use Rattle.world_nets.specs.Drawn.{ComesDown, break_at}

@@ -1,5 +1,5 @@
 -- What a setup that was done has made of the member, and what its end has sent.
-use Rattle.std.proofs.Common.{◌≡◌, ◌≢◌, inl, inr, ℕ, Bool, true, false, List, [], length, Option, Some, None, IsOk, Ok, Err, refl, sym, ap, ◌∙◌, subst}
+use Rattle.std.proofs.Common.{◌≡◌, ◌≢◌, inr, ℕ, Bool, true, false, List, [], length, Option, Some, None, IsOk, Ok, Err, refl, sym, ap, ◌∙◌, subst}
 use Rattle.hd_base.specs.declared.ends.Conn.{Conn}
 use Rattle.hd_base.specs.declared.files.Files as files
 use Rattle.hd_base.specs.declared.links.LinkIn as link_in
@@ -31,9 +31,8 @@ use Rattle.member_core.specs.Members.{MemberState, set_up, set_up_at, mirror_for
 use Rattle.member_core.specs.Requests.{request_event}
 use Rattle.member_core.specs.Steps.{Setup, request_at, request_step, refused_request, taken_request}
 use Rattle.pipe_setup.specs.declared.refusals.SetupRefusal.TheVariants as refusal
-use Rattle.pipe_setup.specs.declared.setups.Setup as local
 use Rattle.pipe_setup.specs.declared.setups.Setup.TheVariants as setup
-use Rattle.pipe_setup.specs.Setups.{SetsUpBy, HasTarget}
+use Rattle.pipe_setup.specs.Setups.{HasTarget}
 use Rattle.pipe_setup.proofs.ReachingLemmas.{quiet_then_sends}
 use Rattle.pipe_turns.specs.declared.turning.Done.{Done}
 use Rattle.pipe_turns.specs.declared.turning.Done.TheVariants as done
@@ -45,12 +44,12 @@ use Rattle.pipe_member.specs.declared.stages.Stage.TheVariants as stage
 use Rattle.pipe_member.specs.declared.stepped.Stepped.{Stepped}
 use Rattle.pipe_member.specs.declared.stepped.Stepped.TheVariants as stepped
 use Rattle.pipe_member.specs.Steps.{done_step, receipt_of, stepped_of, loses_upstream}
-use Rattle.pipe_member.specs.Setups.{Says, Opens, Waits, Refuses, RefusalEnds, FollowsSetup, SetsUpWith, first_by, opened, with_outward, with_mirror, is_memory}
+use Rattle.pipe_member.specs.Setups.{Says, Opens, Waits, Refuses, RefusalEnds, FollowsSetup, SetsUpWith, first_by, opened, with_outward, is_memory}
 use Rattle.pipe_member.specs.SetupSteps.{was_answered, setup_by, stage_of, IsSetup, IsNewRequest}
 use Rattle.pipe_member.specs.Turns.{IsSameMember}
 use Rattle.pipe_member.proofs.SetupStepLemmas.{unrefused_by, refused_as, refused_none, refused_some, awaits, leads_to, setups_step, refusals_step}
 use Rattle.world_nets.specs.Flushing.{shuts_above}
-use Rattle.member_events.proofs.EventEndLemmas.{IsGood, good_done, done_memory, above_nothing, below_nothing}
+use Rattle.member_events.proofs.EventEndLemmas.{IsGood, good_done, above_nothing, below_nothing}
 use Rattle.member_events.proofs.TurnEnds.{IsDone, IsFine, HasSaid, EndSends, above_same, ended_fine, alone}
 
 -- A member whose setup was done: it is where this setup leads, and its end has sent what this sends.
