@@ -55,7 +55,7 @@ still_risen before now after h k = later (min (before + 1) (2 ^ 64 - 1)) now aft
     later : (x y z : ℕ) → x ≤ y → y ≤ z → x ≤ z
     later x y z a b = omega arith
 
-same_less : (n : ℕ) → n ≤ n
+pub same_less : (n : ℕ) → n ≤ n
 same_less n = omega arith
 
 pub less_through : (x y z : ℕ) → x ≤ y → y ≤ z → x ≤ z

@@ -92,7 +92,7 @@ use Rattle.member_events.specs.Joining.{IsMirrorPort, MeetsNobody, MeetsMirror, 
 use Rattle.member_events.specs.Showing.{MirrorShows}
 use Rattle.member_events.specs.Steps as steps
 use Rattle.member_events.specs.Steps.{IsPlaced}
-use Rattle.member_events.proofs.CauseLaws.{still_risen}
+use Rattle.member_events.proofs.CauseLaws.{still_risen, less_through}
 use Rattle.member_events.proofs.EndLaws.{RoadsAt}
 use Rattle.member_events.proofs.EventEndLemmas.{IsGood, placed_good}
 use Rattle.member_events.proofs.FaultEvents.{exchange_never, rises_from, lost_caused, placed_caused}
@@ -169,18 +169,11 @@ mirror_none i o v made None None is h = refl
 mirror_none i o v made None (Some y) is h = absurd h
 mirror_none i o v made (Some d) e is h = cc
 
-less_then : (x y z : ℕ) → x ≤ y → y ≤ z → x ≤ z
-less_then x y z a b = omega arith
-
 least_is : (a b : ℕ) → a ≤ b → min a b ≡ a
 least_is a b h = omega arith
 
 true_not : true ≡ false → ⊥
 true_not h = cc
-
-some_empty : (l : List ℕ) (n : ℕ) → l ≡ [] → slice_get l 0 ≡ Some n → ⊥
-some_empty [] n is h = cc
-some_empty (x ∷ xs) n is h = cc
 
 module _ {F R I O : Type 0} (f : files.Ghosts F) (r : roads.Ghosts R I O) (i : link_in.Ghosts I) (o : link_out.Ghosts O) (node : NodeId) (next : ConnId) (requested : Requested I O) (old held : Member I O) (book book' : BookState F) (ended : Stepped) (port : Option ℕ) (road mid later road' : R) where
   -- What is known of a member's setup, before and after it is placed.
@@ -383,7 +376,7 @@ module _ {F R I O : Type 0} (f : files.Ghosts F) (r : roads.Ghosts R I O) (i : l
         let targets : old.op.targets ≡ requested.op.targets = ap (λ (y : WriteFields). y.targets) h.is_new.op_is in
         let fits : first_port requested.op.targets ≤ MAX_PORT = subst (λ (l : List NodeRef). first_port l ≤ MAX_PORT) targets (port_is_one old.node old.op x.text x.is) in
         let ends : SameMirror (Some end) new.mirror = subst (λ (y : Option (Conn I O)). SameMirror y new.mirror) holds (exchanged_same r i o None held new mid later ex).lower in
-        accepted_end n end new result x k some (port_is.1 ∙ (least_is (first_port requested.op.targets) MAX_PORT fits ∙ sym (ap first_port targets))) holds ex (less_then (r.faults road) (r.faults mid) (r.faults later) le (exchange_never r i o None held new mid later ex)) (met_mirror n end new new.mirror result ends met)
+        accepted_end n end new result x k some (port_is.1 ∙ (least_is (first_port requested.op.targets) MAX_PORT fits ∙ sym (ap first_port targets))) holds ex (less_through (r.faults road) (r.faults mid) (r.faults later) le (exchange_never r i o None held new mid later ex)) (met_mirror n end new new.mirror result ends met)
 
     -- EACH SETUP
 

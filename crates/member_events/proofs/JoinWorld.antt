@@ -86,7 +86,7 @@ setup_out w conn answered asked fields s comes lower is leads =
     let w1 : World = down_taken w conn.0 (write_next fields) in
     (down-makes w conn answered (write_next fields) comes).request fields lower refl
     ∙ ap (λ (x : Setup). Some (apply w1 (setup_change w1 conn.0 fields x (break_at w1 conn.0 fields))))
-        (ap (λ (b : Bool). request_step conn fields b (replica_at w1 conn.0 (block_of fields))) is ∙ leads)
+    (ap (λ (b : Bool). request_step conn fields b (replica_at w1 conn.0 (block_of fields))) is ∙ leads)
 
 -- WHETHER THE MIRROR IS ASKED
 

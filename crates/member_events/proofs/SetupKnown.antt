@@ -32,6 +32,7 @@ use Rattle.pipe_member.specs.declared.stepped.Stepped.{Stepped}
 use Rattle.pipe_member.specs.Exchanges.{AreKnown}
 use Rattle.pipe_member.specs.Setups.{Opened, Opens, RefusesAs, RefusalEnds, FollowsSetup, Begins, with_outward}
 use Rattle.pipe_member.specs.Turns.{Follows}
+use Rattle.member_events.proofs.CauseLaws.{same_less, less_through}
 use Rattle.member_events.proofs.KnownLaws.{SameMirror, SameIds, mirror_itself, same_itself, known_same, end_same, ends_same, known_on}
 
 -- ROADS
@@ -46,12 +47,6 @@ one_more c n h = omega arith
 
 itself_less : (n : ℕ) → n < n + 1
 itself_less n = omega arith
-
-same_less : (n : ℕ) → n ≤ n
-same_less n = omega arith
-
-less_on : (x y z : ℕ) → x ≤ y → y ≤ z → x ≤ z
-less_on x y z a b = omega arith
 
 dialled_known : (p : Option Plain) (port c : ℕ) → IsKnown p c → IsKnown (option_map (λ q. with_dial q port) p) c
 dialled_known None port c h = tt
@@ -84,7 +79,7 @@ module _ {R I O : Type 0} (r : roads.Ghosts R I O) (i : link_in.Ghosts I) (o : l
   pass_brought e road road' result b = record { knows = λ c h. known_on (r.plain road) (r.plain road') c b.connections h; never_falls = b.cause.never_falls }
 
   pass_on : (a b c : R) → RoadsPass r a b → RoadsPass r b c → RoadsPass r a c
-  pass_on a b c h k = record { knows = λ n z. k.knows n (h.knows n z); never_falls = less_on (r.faults a) (r.faults b) (r.faults c) h.never_falls k.never_falls }
+  pass_on a b c h k = record { knows = λ n z. k.knows n (h.knows n z); never_falls = less_through (r.faults a) (r.faults b) (r.faults c) h.never_falls k.never_falls }
 
   pass_memory : (port : ℕ) (road road' : R) → FindsNoMemory r i o port road road' → RoadsPass r road road'
   pass_memory port road road' (before k) = pass_kept road road' k

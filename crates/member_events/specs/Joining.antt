@@ -162,7 +162,8 @@ pub record MirrorJoins {F R I O : Type 0} (r : roads.Ghosts R I O) (i : link_in.
 
 -- The mirror couldn't be asked: there is no request for it, its node doesn't run, or the roads' count rose.
 abbrev pub IsUnasked : {R I O : Type 0} → roads.Ghosts R I O → World → ℕ → WriteFields → R → R → Type 0
-IsUnasked r w c fields road road' = (is_asked w c fields true ≡ false) ⊎ FaultsIncreased (r.faults road) (r.faults road')
+IsUnasked r w c fields road road' =
+    (is_asked w c fields true ≡ false) ⊎ FaultsIncreased (r.faults road) (r.faults road')
 
 -- Which world it is, by the dial of the mirror: where none was made it is the same whether one would be answered or not.
 abbrev pub JoinsBy : {F R I O : Type 0} → roads.Ghosts R I O → link_in.Ghosts I → link_out.Ghosts O → World → Net →
