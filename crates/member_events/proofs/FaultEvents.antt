@@ -33,10 +33,10 @@ use Rattle.member_events.proofs.LostLaws.{MirrorFailed}
 pub same_count : (n : ℕ) → n ≤ n
 same_count n = omega arith
 
-less_then : (x y z : ℕ) → x ≤ y → y ≤ z → x ≤ z
+pub less_then : (x y z : ℕ) → x ≤ y → y ≤ z → x ≤ z
 less_then x y z a b = omega arith
 
-rises_from : (before road now : ℕ) → before ≤ road → FaultsIncreased road now → FaultsIncreased before now
+pub rises_from : (before road now : ℕ) → before ≤ road → FaultsIncreased road now → FaultsIncreased before now
 rises_from before road now h k = lower before road now h k
   where
     lower : (a b n : ℕ) → a ≤ b → min (b + 1) (2 ^ 64 - 1) ≤ n → min (a + 1) (2 ^ 64 - 1) ≤ n

@@ -44,7 +44,7 @@ use Rattle.member_events.specs.Texts.{SpellUp, IsPacketNext}
 -- WHAT GOES UP
 
 -- a response that is spelled as it is written is within the limit
-spelled_within : (bytes : List ℕ) (P : List ℕ → Type 0) → FramesSome P (least_varint (length bytes) ++ bytes) → length bytes < 2 ^ 64 → length bytes ≤ limit
+pub spelled_within : (bytes : List ℕ) (P : List ℕ → Type 0) → FramesSome P (least_varint (length bytes) ++ bytes) → length bytes < 2 ^ 64 → length bytes ≤ limit
 spelled_within bytes P f fits =
     let one : varint_at (least_varint (length bytes) ++ bytes) ≡ Ok (length bytes, bytes) = read_varint_again (least_varint (length bytes)) (length bytes) bytes (least_varint_spells (length bytes) fits) in
     let two : varint_at (least_varint (length bytes) ++ bytes) ≡ Ok (length f.message, f.message) = ap varint_at f.parts ∙ read_varint_again f.prefix (length f.message) f.message f.spelled in
@@ -53,7 +53,7 @@ spelled_within bytes P f fits =
     let few : length f.message ≤ limit = f.few in
     omega arith
 
-fits_within : (bytes : List ℕ) (P : List ℕ → Type 0) → FramesSome P (least_varint (length bytes) ++ bytes) → length bytes < 2 ^ 64
+pub fits_within : (bytes : List ℕ) (P : List ℕ → Type 0) → FramesSome P (least_varint (length bytes) ++ bytes) → length bytes < 2 ^ 64
 fits_within bytes P f =
     let parts : length (least_varint (length bytes)) + length bytes ≡ length f.prefix + length f.message = sym (length-append (least_varint (length bytes)) bytes) ∙ (ap length f.parts ∙ length-append f.prefix f.message) in
     let few : length f.message ≤ limit = f.few in
@@ -66,7 +66,7 @@ response_within r h = spelled_within (response_message r) (SaysResponse r) h (fi
 sized : (r : Response) → length (response_message r) ≤ limit → listed (sized_response r) ≡ response_text r ∷ []
 sized r h = let test : nat_le (length (response_message r)) limit ≡ true = grind (arith, nat_tests) in rw test refl
 
-last_of : {A : Type 0} (xs : List A) (x : A) → slice_get (xs ++ x ∷ []) (length xs) ≡ Some x
+pub last_of : {A : Type 0} (xs : List A) (x : A) → slice_get (xs ++ x ∷ []) (length xs) ≡ Some x
 last_of [] x = refl
 last_of (y ∷ xs) x = last_of xs x
 
