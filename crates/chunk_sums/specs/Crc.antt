@@ -1,7 +1,7 @@
 -- The sum of bytes over a polynomial, one bit at a time over a register of 32 bits: the polynomial in its reflected form, the
 -- register all ones at first, each byte least bit first, and the register inverted at the end. CRC32 (Ethernet, zip) is the
 -- polynomial 0x04C11DB7, CRC32C (iSCSI, RFC 3720) is 0x1EDC6F41.
-use Rattle.std.specs.Prelude.{ℕ, zero, suc, ◌/◌, ◌%◌, List, fold, bit_xor, ◌==◌, if◌then◌else◌}
+use Rattle.std.specs.Prelude.{ℕ, zero, suc, ◌/◌, ◌%◌, ◌*◌, List, [], ◌∷◌, fold, bit_xor, ◌==◌, if◌then◌else◌}
 use Rattle.std.specs.Int.{w32, bit_not}
 use Rattle.hd_base.specs.declared.sum_rule.SumKind.{SumKind}
 use Rattle.hd_base.specs.declared.sum_rule.SumKind.TheVariants as kind
@@ -56,3 +56,8 @@ extended k sum bytes = bit_not w32 (register (polynomial k) (bit_not w32 sum) by
 unfoldable pub advance : ℕ → ℕ → ℕ → ℕ
 advance poly zero r = r
 advance poly (suc n) r = advance poly n (byte_step poly r)
+
+-- the bytes as one number, the first lowest
+unfoldable pub number : List ℕ → ℕ
+number [] = 0
+number (b ∷ bs) = bit_xor b (number bs * 256)

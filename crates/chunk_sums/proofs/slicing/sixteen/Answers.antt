@@ -1,18 +1,15 @@
-use Rattle.std.proofs.Common.{◌≡◌, ap, sym, ◌∙◌, arith}
+use Rattle.std.proofs.Common.{ap, sym, ◌∙◌}
 use lib.Bits.{bit_xor}
 use Rattle.chunk_sums.specs.Crc.{advance}
-use Rattle.chunk_sums.proofs.SlicingLemmas.{register_sixteen, word}
+use Rattle.chunk_sums.proofs.SlicingLemmas.{register_sixteen}
 use Rattle.chunk_sums.proofs.slicing.sixteen.Goals as goal
 
 pub returns : goal.returns
-unfolding word
 returns g c =
     let poly = g.P.Polynomial.reflected in
-    let bytes = c.args.bytes.now in
-    let later : c.from_le_bytes.result ≡ word bytes 8 8 = omega (arith, c.from_le_bytes.ensures) in
-    let front : c.from_le_bytes-2.result ≡ word bytes 0 8 = omega (arith, c.from_le_bytes-2.ensures) in
-    ap (λ v. bit_xor v c.eight.result) (c.eight-later.ensures ∙ ap (advance poly 8) later)
-    ∙ ap (bit_xor (advance poly 8 (word bytes 8 8)))
-    (c.eight.ensures ∙ ap (λ v. advance poly 16 (bit_xor v c.from.result)) front
-    ∙ ap (λ v. advance poly 16 (bit_xor (word bytes 0 8) v)) c.from.ensures)
-    ∙ sym (register_sixteen poly c.args.state bytes c.told-bytes (λ i. omega (arith, c.fits-bytes i)))
+    let fourth = c.four-fourth.ensures ∙ ap (advance poly 4) c.word_at.ensures in
+    let third = c.four-third.ensures ∙ ap (advance poly 8) c.word_at-2.ensures in
+    let second = c.four-second.ensures ∙ ap (advance poly 12) c.word_at-3.ensures in
+    let first = c.four-first.ensures ∙ ap (λ w. advance poly 16 (bit_xor w c.args.state)) c.word_at-4.ensures in
+    (λ i. bit_xor (bit_xor (bit_xor (fourth i) (third i)) (second i)) (first i))
+    ∙ sym (register_sixteen poly c.args.state c.args.bytes.now c.args.at c.requires)
