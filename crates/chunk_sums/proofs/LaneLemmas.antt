@@ -11,6 +11,7 @@ use lib.Ieee.Fits.{and_l, and_r}
 use Rattle.hd_base.specs.Bytes.{IsBytes}
 use Rattle.chunk_sums.specs.Crc.{register}
 use Rattle.chunk_sums.specs.Ahead.{joined, mixed, held, within, IsSpan}
+use Rattle.chunk_sums.specs.Four.{sum_by}
 use Rattle.chunk_sums.specs.Lanes.{started, IsClean, IsMoved, IsSpread, carried, IsMixed}
 use Rattle.chunk_sums.proofs.AheadLemmas.{register-ones, get_or-mixed, length-mixed, get_or-padded, mixed-zeros, read, ReadsBytes, place, place-add, moved-more, zeros, get_or-drop-zeros}
 
@@ -266,3 +267,15 @@ register-mixed poly wide near piece wide_lane near_lane last wide_span near_span
     ∙ register-moved poly wide 223 wide_span first wide_lane small_first small_wide m spread (omega arith) (omega arith)
     ∙ register-moved poly near 111 near_span bytes near_lane small_bytes small_near 112 moved (omega arith) (omega arith)
     ∙ ap (register poly 0) (sym same)
+
+-- the sum of a piece, by the register of what is left of it
+pub lane-sum : (poly : ℕ) (wide near : List ℕ) → IsSpan poly wide 224 → IsSpan poly near 112 → (piece wide_lane near_lane last bytes : List ℕ) (r : ℕ) (long : Type 0)
+    → (((512 ≤ length piece) × long) × (IsSpread wide piece wide_lane (length piece - 224) × IsMoved near 112 112 (carried wide piece wide_lane) near_lane 112))
+    × IsMixed near (carried wide piece wide_lane) near_lane last 112
+    → IsBytes piece × IsBytes wide_lane × IsBytes near_lane × (length piece ≤ length wide_lane) × (length near_lane ≡ 240) × (length last ≡ 112)
+    → r ≡ register poly 0 last → piece ≡ bytes → 4294967295 - r ≡ sum_by poly bytes
+lane-sum poly wide near wide_span near_span piece wide_lane near_lane last bytes r long s b is_r is_bytes =
+    let moved = s.0.1 in
+    ap (λ (v : ℕ). 4294967295 - v)
+    (is_r ∙ sym (register-mixed poly wide near piece wide_lane near_lane last wide_span near_span s.0.0.0 b.3 b.4 b.5 b.0 b.1 b.2 moved.0 moved.1 s.1))
+    ∙ ap (sum_by poly) is_bytes

@@ -148,3 +148,16 @@ register-more poly r s rest front behind long is_front is_behind is_s =
     ∙ ap (λ (v : ℕ). register poly v (drop 16 rest)) (is_s ∙ ap (λ (l : List ℕ). register poly r (take 16 l)) is_front ∙ ap (register poly r) whole)
     ∙ sym (fold-append (enter poly) r (take 16 rest) (drop 16 rest))
     ∙ ap (register poly r) (take-append-drop 16 rest)
+
+-- a step of a loop that takes the next sixteen bytes
+pub register-next : (poly : ℕ) (bytes : List ℕ) (i s t : ℕ) → s ≡ register poly 0 (take (i * 16) bytes) → t ≡ register poly s (take 16 (drop (i * 16) bytes))
+    → t ≡ register poly 0 (take ((i + 1) * 16) bytes)
+register-next poly bytes i s t is_s is_t =
+    let next : i * 16 + 16 ≡ (i + 1) * 16 = omega arith in
+    is_t ∙ ap (λ (v : ℕ). register poly v (take 16 (drop (i * 16) bytes))) is_s
+    ∙ sym (fold-append (enter poly) 0 (take (i * 16) bytes) (take 16 (drop (i * 16) bytes)))
+    ∙ ap (register poly 0) (sym (take-add (i * 16) 16 bytes) ∙ ap (λ (n : ℕ). take n bytes) next)
+
+-- after the last step
+pub register-all : (poly : ℕ) (bytes : List ℕ) (i s : ℕ) → s ≡ register poly 0 (take (i * 16) bytes) → length bytes ≤ i * 16 → s ≡ register poly 0 bytes
+register-all poly bytes i s is_s h = is_s ∙ ap (register poly 0) (take_all (i * 16) bytes h)

@@ -1,6 +1,7 @@
 -- Four pieces in four lanes.
-use Rattle.std.specs.Prelude.{ℕ, ◌+◌, ◌-◌, ◌≤◌, List, [], ◌∷◌, length}
+use Rattle.std.specs.Prelude.{ℕ, ◌≡◌, ◌+◌, ◌-◌, ◌≤◌, List, [], ◌∷◌, length}
 use Rattle.std.specs.Int.{w32, bit_not}
+use Rattle.hd_base.specs.Bytes.{IsBytes}
 use Rattle.chunk_sums.specs.Crc.{register}
 use Rattle.chunk_sums.specs.Lanes.{IsClean, IsSpread, IsBrought, IsMixed, carried}
 use Rattle.chunk_sums.specs.declared.four.Lane.{Lane}
@@ -34,6 +35,12 @@ module _ {N : ℕ} where
   abbrev pub IsMixedTo : List ℕ → List ℕ → ℕ → List ℕ → Lane N → Type 0
   IsMixedTo wide near n piece lane =
       IsBroughtTo wide near 112 piece lane × IsMixed near (carried wide piece lane.wide) lane.near lane.mixed n
+
+  -- a piece and the buffers of its lane hold bytes, and the buffers have their lengths
+  abbrev pub IsSound : List ℕ → Lane N → Type 0
+  IsSound piece lane =
+      IsBytes piece × IsBytes lane.wide × IsBytes lane.near × (length piece ≤ length lane.wide)
+      × (length lane.near ≡ 240) × (length lane.mixed ≡ 112)
 
   -- a lane is 0 but for where a piece of so many bytes is moved
   abbrev pub IsReady : ℕ → Lane N → Type 0

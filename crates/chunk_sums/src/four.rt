@@ -9,7 +9,7 @@
 ghost use Rattle.std.specs.Prelude.{◌≡◌, ◌⊎◌, ℕ, ◌+◌, ◌*◌, ◌%◌, ◌≤◌, length, map, slice_index};
 ghost use Rattle.chunk_sums.specs.Chunks.{four_chunks};
 ghost use Rattle.chunk_sums.specs.Crc.{register};
-ghost use Rattle.chunk_sums.specs.Four.{OfEach, AreReady, IsSpreadTo, IsBroughtTo, IsMixedTo, all_mixed, sum_by};
+ghost use Rattle.chunk_sums.specs.Four.{OfEach, AreReady, IsSpreadTo, IsBroughtTo, IsMixedTo, IsSound, all_mixed, sum_by};
 
 use crate::lanes::{NEAR, STEP, WIDE, bring, mix, spread, spread_front};
 use crate::slicing::sixteen;
@@ -183,7 +183,8 @@ fn bring_four<P: Polynomial, const N: usize>(lanes: &mut Lanes<N>, pieces: &Piec
 #[inline(always)]
 fn mix_last<P: Polynomial, const N: usize>(lanes: &mut Lanes<N>, pieces: &Pieces<'_>)
     requires { OfEach (IsMixedTo P.wide_places P.near_places 0) pieces.now lanes.old }
-    ensures { OfEach (IsMixedTo P.wide_places P.near_places 112) pieces.now lanes.new }
+    ensures mixed { OfEach (IsMixedTo P.wide_places P.near_places 112) pieces.now lanes.new }
+    ensures sound { OfEach IsSound pieces.now lanes.new }
 {
     mix_four::<P, N>(lanes, pieces, 0);
     mix_four::<P, N>(lanes, pieces, 16);
@@ -199,7 +200,8 @@ fn mix_last<P: Polynomial, const N: usize>(lanes: &mut Lanes<N>, pieces: &Pieces
 fn mix_four<P: Polynomial, const N: usize>(lanes: &mut Lanes<N>, pieces: &Pieces<'_>, at: usize)
     requires within { at + 16 ≤ 112 }
     requires before { OfEach (IsMixedTo P.wide_places P.near_places at) pieces.now lanes.old }
-    ensures { OfEach (IsMixedTo P.wide_places P.near_places (at + 16)) pieces.now lanes.new }
+    ensures mixed { OfEach (IsMixedTo P.wide_places P.near_places (at + 16)) pieces.now lanes.new }
+    ensures sound { OfEach IsSound pieces.now lanes.new }
 {
     mix::<P>(&mut lanes.a.mixed, &lanes.a.near, &lanes.a.wide, pieces.a, at);
     mix::<P>(&mut lanes.b.mixed, &lanes.b.near, &lanes.b.wide, pieces.b, at);
@@ -213,15 +215,19 @@ fn mix_four<P: Polynomial, const N: usize>(lanes: &mut Lanes<N>, pieces: &Pieces
 fn four_registers<P: Polynomial, const N: usize>(lanes: &Lanes<N>) -> [u32; 4]
     ensures { result ≡ map (register P.reflected 0) (all_mixed lanes.now) }
 {
+    let last_a: &[u8] = &lanes.a.mixed;
+    let last_b: &[u8] = &lanes.b.mixed;
+    let last_c: &[u8] = &lanes.c.mixed;
+    let last_d: &[u8] = &lanes.d.mixed;
     let mut a = 0;
     let mut b = 0;
     let mut c = 0;
     let mut d = 0;
     for step in 0..NEAR / STEP {
-        a = sixteen::<P>(a, &lanes.a.mixed, step * STEP);
-        b = sixteen::<P>(b, &lanes.b.mixed, step * STEP);
-        c = sixteen::<P>(c, &lanes.c.mixed, step * STEP);
-        d = sixteen::<P>(d, &lanes.d.mixed, step * STEP);
+        a = sixteen::<P>(a, last_a, step * STEP);
+        b = sixteen::<P>(b, last_b, step * STEP);
+        c = sixteen::<P>(c, last_c, step * STEP);
+        d = sixteen::<P>(d, last_d, step * STEP);
     }
     [a, b, c, d]
 }

@@ -2,6 +2,7 @@
 
 ghost use Rattle.std.specs.Prelude.{◌≡◌, ◌⊎◌, ℕ, ◌+◌, ◌-◌, ◌<◌, ◌≤◌, length, drop, slice_index};
 ghost use Rattle.std.specs.Simd.Lanes.{put_chunk};
+ghost use Rattle.hd_base.specs.Bytes.{IsBytes};
 ghost use Rattle.chunk_sums.specs.Ahead.{joined};
 ghost use Rattle.chunk_sums.specs.Lanes.{started, carried, IsMoved, IsSpread, IsMixed};
 
@@ -76,7 +77,11 @@ pub fn mix<P: Polynomial>(mixed: &mut [u8], near: &[u8], lane: &[u8], piece: &[u
     requires spread { IsSpread P.wide_places piece.now lane.now (length piece.now - 224) }
     requires moved { IsMoved P.near_places 112 112 (carried P.wide_places piece.now lane.now) near.now 112 }
     requires before { IsMixed P.near_places (carried P.wide_places piece.now lane.now) near.now mixed.old at }
-    ensures { IsMixed P.near_places (carried P.wide_places piece.now lane.now) near.now mixed.new (at + 16) }
+    ensures mixed { IsMixed P.near_places (carried P.wide_places piece.now lane.now) near.now mixed.new (at + 16) }
+    ensures mixed_len { length mixed.new ≡ 112 }
+    ensures piece_bytes { IsBytes piece.now }
+    ensures lane_bytes { IsBytes lane.now }
+    ensures near_bytes { IsBytes near.now }
 {
     let bytes = carried_at::<P>(lane, piece, NEAR + at);
     let bytes = joined_to(bytes, near, NEAR + at, P::near(), NEAR, 2 * NEAR);

@@ -4,8 +4,8 @@ use Rattle.chunk_sums.specs.Lanes.{IsMixed, carried}
 use Rattle.chunk_sums.proofs.LaneLemmas.{IsMixed-more}
 use Rattle.chunk_sums.proofs.lanes.mix.Goals as goal
 
-pub returns : goal.returns
-returns g c =
+pub returns-clause-mixed : goal.returns-clause-mixed
+returns-clause-mixed g c =
     let bytes = carried g.P.Polynomial.wide_places c.args.piece.now c.args.lane.now in
     let lane = c.args.near.now in
     let at = c.args.at in
