@@ -1,7 +1,7 @@
 //! A body in chunks, each with a sum of its own.
 
-ghost use Rattle.std.specs.Prelude.{◌≡◌, ℕ, ◌+◌, ◌*◌, ◌<◌, ◌≤◌, ◌↔◌, List, [], ◌++◌, length, map, take, drop};
-ghost use Rattle.std.specs.Prelude.{slice_index_or, IfSome, IfNone, IsNone};
+ghost use Rattle.std.specs.Prelude.{◌≡◌, ℕ, ◌+◌, ◌*◌, ◌%◌, ◌<◌, ◌≤◌, ◌↔◌, List, [], ◌++◌, length, map, take, drop};
+ghost use Rattle.std.specs.Prelude.{slice_index_or, IfSome, IfNone, IsNone, IsTrue};
 ghost use Rattle.std.specs.List.{All};
 ghost use Rattle.std.specs.Int.{w32, to_be_bytes, from_be_bytes};
 ghost use Rattle.chunk_sums.specs.Crc.{HasSum, sum_of};
@@ -86,6 +86,7 @@ fn first_wrong_over<const N: usize>(
     requires has_sum { HasSum kind }
     requires chunk_positive { 1 ≤ chunk }
     requires first_positive { 1 ≤ first_len }
+    requires lane_len { N ≤ 4112 }
     requires ready { All (AreReady chunk) lanes.old }
     requires four_per_chunk { length sums.now ≡ 4 * length (chunks first_len chunk body.now) }
 
@@ -151,8 +152,10 @@ fn chunk_count(body_len: u64, first_len: u64, chunk: u64) -> u64
 }
 
 /// Whether chunks are of a length of which four are taken at once, and a body has as many.
-fn has_four(body_len: u64, chunk: u64) -> bool {
-    chunk % 16 == 0 && LEAST <= chunk && chunk <= MOST && body_len >= 4 * chunk
+fn has_four(body_len: u64, chunk: u64) -> bool
+    ensures { IsTrue result ↔ ((512 ≤ chunk) × (chunk ≤ 4096) × (chunk % 16 ≡ 0) × (4 * chunk ≤ body_len)) }
+{
+    LEAST <= chunk && chunk <= MOST && chunk % 16 == 0 && 4 * chunk <= body_len
 }
 
 /// The sums of the first four chunks of a body, where there are lanes for them and the body has as many.
@@ -163,16 +166,21 @@ fn four_first<const N: usize>(
     lanes: &mut [Lanes<N>],
 ) -> Option<[u32; 4]>
     requires has_sum { HasSum kind }
+    requires lane_len { N ≤ 4112 }
     requires ready { All (AreReady chunk) lanes.old }
     ensures ready { All (AreReady chunk) lanes.new }
+    ensures least { IfSome result (λ _. 512 ≤ chunk) }
     ensures enough { IfSome result (λ _. 4 * chunk ≤ length body.now) }
     ensures value { IfSome result (λ found. found ≡ map (sum_of kind) (four_chunks chunk body.now)) }
 {
-    let lanes = lanes.first_mut()?;
-    if !has_four(body.len() as u64, chunk) || chunk as usize + 16 > N {
+    if !has_four(body.len() as u64, chunk) {
         return None;
     }
     let size = chunk as usize;
+    if size + 16 > N {
+        return None;
+    }
+    let lanes = lanes.first_mut()?;
     match kind {
         SumKind::Null => unreachable!(),
         SumKind::Crc32 => Some(four_sums::<Crc32, N>(lanes, body, size)),
@@ -190,6 +198,7 @@ fn behind_four<'a, const N: usize>(
     lanes: &mut [Lanes<N>],
 ) -> Option<(&'a [u8], &'a [u8])>
     requires has_sum { HasSum kind }
+    requires lane_len { N ≤ 4112 }
     requires ready { All (AreReady chunk) lanes.old }
     ensures ready { All (AreReady chunk) lanes.new }
     ensures enough { IfSome result (λ _. (4 * chunk ≤ length body.now) × (16 ≤ length sums.now)) }
@@ -270,6 +279,7 @@ fn write_each_over<const N: usize>(
     requires has_sum { HasSum kind }
     requires chunk_positive { 1 ≤ chunk }
     requires first_positive { 1 ≤ first_len }
+    requires lane_len { N ≤ 4112 }
     requires ready { All (AreReady chunk) lanes.old }
     requires four_per_chunk { length into.old ≡ 4 * length (chunks first_len chunk body.now) }
     ensures { into.new ≡ sums_of kind (chunks first_len chunk body.now) }

@@ -1,0 +1,10 @@
+use Rattle.std.proofs.lemmas.List.Elements.{All-set}
+use Rattle.chunk_sums.specs.Four.{AreReady}
+use Rattle.chunk_sums.proofs.chunks.four_first.Goals as goal
+
+pub returns-in-Crc32-clause-ready : goal.returns-in-Crc32-clause-ready
+returns-in-Crc32-clause-ready g c = All-set (AreReady c.args.chunk) c.args.lanes.now 0 c.four_sums.new.lanes c.four_sums.ensures.ready c.requires.ready
+
+pub returns-in-Crc32c-clause-ready : goal.returns-in-Crc32c-clause-ready
+returns-in-Crc32c-clause-ready g c =
+    All-set (AreReady c.args.chunk) c.args.lanes.now 0 c.four_sums-in-Crc32c.new.lanes c.four_sums-in-Crc32c.ensures.ready c.requires.ready
