@@ -65,7 +65,7 @@ fn first_wrong(kind: SumKind, body: &[u8], sums: &[u8], first_len: u64, chunk: u
         → IsRight kind (chunks first_len chunk body.now) sums.now j) }
     ensures same { IsNone result ↔ (sums.now ≡ sums_of kind (chunks first_len chunk body.now)) }
 {
-    if !has_four(body.len() as u64, chunk) {
+    if !has_four(body.len() as u64, chunk, chunk) {
         first_wrong_over::<0>(kind, body, sums, first_len, chunk, &mut [])
     } else if chunk == LEAST {
         first_wrong_over::<USUAL_LANE>(kind, body, sums, first_len, chunk, &mut [Lanes::new()])
@@ -102,13 +102,11 @@ fn first_wrong_over<const N: usize>(
     let mut len = first_len;
     let mut number = 0u64;
     while let Some((sum, behind)) = left.split_first_chunk::<4>() {
-        if len == chunk {
-            if let Some((after, behind)) = behind_four(kind, rest, left, chunk, lanes) {
-                rest = after;
-                left = behind;
-                number += 4;
-                continue;
-            }
+        if let Some((after, behind)) = behind_four(kind, rest, left, len, chunk, lanes) {
+            rest = after;
+            left = behind;
+            number += 4;
+            continue;
         }
         let (front, after) = rest.split_at((len as usize).min(rest.len()));
         if crc(kind, front) != u32::from_be_bytes(*sum) {
@@ -151,17 +149,20 @@ fn chunk_count(body_len: u64, first_len: u64, chunk: u64) -> u64
     1 + body_len.saturating_sub(first_len).div_ceil(chunk)
 }
 
-/// Whether chunks are of a length of which four are taken at once, and a body has as many.
-fn has_four(body_len: u64, chunk: u64) -> bool
-    ensures { IsTrue result ↔ ((512 ≤ chunk) × (chunk ≤ 4096) × (chunk % 16 ≡ 0) × (4 * chunk ≤ body_len)) }
+/// Whether the next chunk has the length of all, four of that length can be taken at once, and a body has
+/// as many.
+fn has_four(body_len: u64, len: u64, chunk: u64) -> bool
+    ensures { IsTrue result
+        ↔ ((len ≡ chunk) × (512 ≤ chunk) × (chunk ≤ 4096) × (chunk % 16 ≡ 0) × (4 * chunk ≤ body_len)) }
 {
-    LEAST <= chunk && chunk <= MOST && chunk % 16 == 0 && 4 * chunk <= body_len
+    len == chunk && LEAST <= chunk && chunk <= MOST && chunk % 16 == 0 && 4 * chunk <= body_len
 }
 
 /// The sums of the first four chunks of a body, where there are lanes for them and the body has as many.
 fn four_first<const N: usize>(
     kind: SumKind,
     body: &[u8],
+    len: u64,
     chunk: u64,
     lanes: &mut [Lanes<N>],
 ) -> Option<[u32; 4]>
@@ -169,11 +170,12 @@ fn four_first<const N: usize>(
     requires lane_len { N ≤ 4112 }
     requires ready { All (AreReady chunk) lanes.old }
     ensures ready { All (AreReady chunk) lanes.new }
+    ensures even { IfSome result (λ _. len ≡ chunk) }
     ensures least { IfSome result (λ _. 512 ≤ chunk) }
     ensures enough { IfSome result (λ _. 4 * chunk ≤ length body.now) }
     ensures value { IfSome result (λ found. found ≡ map (sum_of kind) (four_chunks chunk body.now)) }
 {
-    if !has_four(body.len() as u64, chunk) {
+    if !has_four(body.len() as u64, len, chunk) {
         return None;
     }
     let size = chunk as usize;
@@ -194,6 +196,7 @@ fn behind_four<'a, const N: usize>(
     kind: SumKind,
     body: &'a [u8],
     sums: &'a [u8],
+    len: u64,
     chunk: u64,
     lanes: &mut [Lanes<N>],
 ) -> Option<(&'a [u8], &'a [u8])>
@@ -201,6 +204,7 @@ fn behind_four<'a, const N: usize>(
     requires lane_len { N ≤ 4112 }
     requires ready { All (AreReady chunk) lanes.old }
     ensures ready { All (AreReady chunk) lanes.new }
+    ensures even { IfSome result (λ _. len ≡ chunk) }
     ensures enough { IfSome result (λ _. (4 * chunk ≤ length body.now) × (16 ≤ length sums.now)) }
     ensures right { IfSome result (λ _. (j : ℕ) → j < 4 → IsRight kind (chunks chunk chunk body.now) sums.now j) }
     ensures after { IfSome result (λ x. x.0.now ≡ drop (4 * chunk) body.now) }
@@ -209,7 +213,7 @@ fn behind_four<'a, const N: usize>(
     if sums.len() < 16 {
         return None;
     }
-    let found = four_first(kind, body, chunk, lanes)?;
+    let found = four_first(kind, body, len, chunk, lanes)?;
     let noted = [
         word_at(sums, 0),
         word_at(sums, 4),
@@ -258,7 +262,7 @@ fn write_each(kind: SumKind, body: &[u8], first_len: u64, chunk: u64, into: &mut
     requires four_per_chunk { length into.old ≡ 4 * length (chunks first_len chunk body.now) }
     ensures { into.new ≡ sums_of kind (chunks first_len chunk body.now) }
 {
-    if !has_four(body.len() as u64, chunk) {
+    if !has_four(body.len() as u64, chunk, chunk) {
         write_each_over::<0>(kind, body, first_len, chunk, into, &mut []);
     } else if chunk == LEAST {
         write_each_over::<USUAL_LANE>(kind, body, first_len, chunk, into, &mut [Lanes::new()]);
@@ -288,13 +292,11 @@ fn write_each_over<const N: usize>(
     let mut len = first_len;
     let mut at = 0;
     while at < into.len() {
-        if len == chunk {
-            if let Some(four) = four_first(kind, rest, chunk, lanes) {
-                put_all(into, at, &four);
-                (_, rest) = rest.split_at(4 * chunk as usize);
-                at += 16;
-                continue;
-            }
+        if let Some(four) = four_first(kind, rest, len, chunk, lanes) {
+            put_all(into, at, &four);
+            (_, rest) = rest.split_at(4 * chunk as usize);
+            at += 16;
+            continue;
         }
         let (front, after) = rest.split_at((len as usize).min(rest.len()));
         put(into, at, crc(kind, front));

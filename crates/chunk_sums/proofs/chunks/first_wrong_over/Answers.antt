@@ -7,7 +7,7 @@ pub loop-sum-preserved-in-Some-behind_four : goal.loop-sum-preserved-in-Some-beh
 loop-sum-preserved-in-Some-behind_four g c =
     let four = c.in-Some-behind_four.ensures in record {
       so_far =
-          SoFar-four _ _ _ _ _ _ _ _ _ c.loop-sum.invariant.so_far _ _ c.if-len-eq-chunk.true four.enough.0 four.after four.behind four.right;
+          SoFar-four _ _ _ _ _ _ _ _ _ c.loop-sum.invariant.so_far _ _ four.even four.enough.0 four.after four.behind four.right;
       ready = c.behind_four.ensures.ready;
     }
 
@@ -17,7 +17,7 @@ loop-sum-preserved g c =
       so_far =
           SoFar-here _ _ _ _ _ _ _ _ _ c.loop-sum.invariant.so_far _ _ _ _ _ c.requires.chunk_positive (omega (arith, word.2)) c.min.ensures
           c.split_at.ensures.front c.split_at.ensures.back word.0 word.1 (sym c.crc.ensures ∙ c.if-crc-from_be_bytes.false ∙ c.from_be_bytes.ensures);
-      ready = ?;
+      ready = c.behind_four.ensures.ready;
     }
 
 pub returns-then-crc-from_be_bytes-clause-wrong : goal.returns-then-crc-from_be_bytes-clause-wrong

@@ -1,3 +1,4 @@
+use Rattle.std.proofs.Common.{arith}
 use Rattle.std.proofs.lemmas.List.Elements.{All-set}
 use Rattle.chunk_sums.specs.Four.{AreReady}
 use Rattle.chunk_sums.proofs.chunks.four_first.Goals as goal
@@ -8,3 +9,9 @@ returns-in-Crc32-clause-ready g c = All-set (AreReady c.args.chunk) c.args.lanes
 pub returns-in-Crc32c-clause-ready : goal.returns-in-Crc32c-clause-ready
 returns-in-Crc32c-clause-ready g c =
     All-set (AreReady c.args.chunk) c.args.lanes.now 0 c.four_sums-in-Crc32c.new.lanes c.four_sums-in-Crc32c.ensures.ready c.requires.ready
+
+pub four_sums-requires : goal.four_sums-requires
+four_sums-requires g c = omega (arith, c.requires.lane_len)
+
+pub four_sums-requires-in-Crc32c : goal.four_sums-requires-in-Crc32c
+four_sums-requires-in-Crc32c g c = omega (arith, c.requires.lane_len)
