@@ -78,7 +78,11 @@ impl<const N: usize> Lanes<N> {
 }
 
 /// The sums of the first four pieces of `size` bytes of a body.
-pub fn four_sums<P: Polynomial, const N: usize>(lanes: &mut Lanes<N>, body: &[u8], size: usize) -> [u32; 4]
+pub fn four_sums<P: Polynomial, const N: usize>(
+    lanes: &mut Lanes<N>,
+    body: &[u8],
+    size: usize,
+) -> [u32; 4]
     requires least { 512 ≤ size }
     requires whole { size % 16 ≡ 0 }
     requires room { size + 16 ≤ N }
@@ -125,7 +129,11 @@ fn spread_fronts<P: Polynomial, const N: usize>(lanes: &mut Lanes<N>, pieces: &P
 
 /// Moves sixteen bytes of each of four pieces ahead, near the front.
 #[inline(always)]
-fn front_of_four<P: Polynomial, const N: usize>(lanes: &mut Lanes<N>, pieces: &Pieces<'_>, at: usize)
+fn front_of_four<P: Polynomial, const N: usize>(
+    lanes: &mut Lanes<N>,
+    pieces: &Pieces<'_>,
+    at: usize,
+)
     requires place { (at ≡ 0) ⊎ (16 ≤ at) }
     requires within { at ≤ 192 }
     requires before { OfEach (IsSpreadTo P.wide_places at) pieces.now lanes.old }
@@ -203,10 +211,34 @@ fn mix_four<P: Polynomial, const N: usize>(lanes: &mut Lanes<N>, pieces: &Pieces
     ensures mixed { OfEach (IsMixedTo P.wide_places P.near_places (at + 16)) pieces.now lanes.new }
     ensures sound { OfEach IsSound pieces.now lanes.new }
 {
-    mix::<P>(&mut lanes.a.mixed, &lanes.a.near, &lanes.a.wide, pieces.a, at);
-    mix::<P>(&mut lanes.b.mixed, &lanes.b.near, &lanes.b.wide, pieces.b, at);
-    mix::<P>(&mut lanes.c.mixed, &lanes.c.near, &lanes.c.wide, pieces.c, at);
-    mix::<P>(&mut lanes.d.mixed, &lanes.d.near, &lanes.d.wide, pieces.d, at);
+    mix::<P>(
+        &mut lanes.a.mixed,
+        &lanes.a.near,
+        &lanes.a.wide,
+        pieces.a,
+        at,
+    );
+    mix::<P>(
+        &mut lanes.b.mixed,
+        &lanes.b.near,
+        &lanes.b.wide,
+        pieces.b,
+        at,
+    );
+    mix::<P>(
+        &mut lanes.c.mixed,
+        &lanes.c.near,
+        &lanes.c.wide,
+        pieces.c,
+        at,
+    );
+    mix::<P>(
+        &mut lanes.d.mixed,
+        &lanes.d.near,
+        &lanes.d.wide,
+        pieces.d,
+        at,
+    );
 }
 
 /// The registers from 0 after the last bytes of four pieces. The steps of the four are taken in turn, so

@@ -69,5 +69,8 @@ fn four<P: Polynomial>(word: u32, behind: usize) -> u32
     ensures { result ≡ advance P.reflected (behind + 4) word }
 {
     let [a, b, c, d] = word.to_le_bytes();
-    P::entry(behind + 3, a) ^ P::entry(behind + 2, b) ^ P::entry(behind + 1, c) ^ P::entry(behind, d)
+    P::entry(behind + 3, a)
+        ^ P::entry(behind + 2, b)
+        ^ P::entry(behind + 1, c)
+        ^ P::entry(behind, d)
 }

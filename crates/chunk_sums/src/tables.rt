@@ -12,7 +12,9 @@ use crate::{castagnoli, ieee};
 /// leaves the window may be moved in place of where it stands.
 pub trait Polynomial {
     ghost reflected: { ℕ };
+
     ghost wide_places: { List ℕ };
+
     ghost near_places: { List ℕ };
 
     /// The register that starts at `byte` once it and `row` more zero bytes have gone through.
@@ -40,9 +42,13 @@ pub enum Crc32 {}
 
 impl Polynomial for Crc32 {
     ghost reflected = { crc32_polynomial };
+
     ghost wide_places = { crc32_wide };
+
     ghost near_places = { crc32_near };
+
     ghost wide_span = { crc32_wide_span };
+
     ghost near_span = { crc32_near_span };
 
     #[inline(always)]
@@ -66,9 +72,13 @@ pub enum Crc32c {}
 
 impl Polynomial for Crc32c {
     ghost reflected = { crc32c_polynomial };
+
     ghost wide_places = { crc32c_wide };
+
     ghost near_places = { crc32c_near };
+
     ghost wide_span = { crc32c_wide_span };
+
     ghost near_span = { crc32c_near_span };
 
     #[inline(always)]
