@@ -171,7 +171,7 @@ fn four_first<const N: usize>(
     requires ready { All (AreReady chunk) lanes.old }
     ensures ready { All (AreReady chunk) lanes.new }
     ensures even { IfSome result (λ _. len ≡ chunk) }
-    ensures least { IfSome result (λ _. 512 ≤ chunk) }
+    ensures size { IfSome result (λ _. (512 ≤ chunk) × (chunk ≤ 4096)) }
     ensures enough { IfSome result (λ _. 4 * chunk ≤ length body.now) }
     ensures value { IfSome result (λ found. found ≡ map (sum_of kind) (four_chunks chunk body.now)) }
 {

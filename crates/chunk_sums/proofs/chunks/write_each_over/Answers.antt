@@ -27,3 +27,6 @@ loop-at-preserved g c = record {
       c.split_at-in-loop-at.ensures.back c.crc.ensures c.put.ensures (omega arith);
   ready = c.four_first.ensures.ready;
 }
+
+pub overflow_mul-chunk : goal.overflow_mul-chunk
+overflow_mul-chunk g c = omega (arith, c.in-Some.ensures.size.1)
