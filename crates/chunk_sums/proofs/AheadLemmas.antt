@@ -2,15 +2,13 @@
 use Rattle.std.proofs.Common.{◌≡◌, ◌≢◌, ℕ, zero, suc, ◌+◌, ◌-◌, ◌*◌, ◌/◌, ◌%◌, ◌^◌, ◌<◌, ◌≤◌, Bool, true, false, cond, eqb, ltb, leb, T, ◌&&◌, List, [], ◌∷◌, ◌++◌, length, get_or, take, drop, set, replicate, refl, sym, ap, subst, ◌∙◌, arith, inl, inr, below_more}
 use Rattle.std.proofs.lemmas.Bool.{cases_lt}
 use Rattle.std.proofs.lemmas.Bool.Decides.{nat_tests}
-use Rattle.std.proofs.lemmas.List.{get_or_append_left, get_or_past, get_or_push, length_push, length-drop, get_or-drop, get_or-take, drop-set-add, take_more_set, drop-take, drop-drop, length-take-le, take_all, drop_more, get_or-append-add, length-set, get_or-set_same, get_or-set_other, get_or-replicate, length-replicate, length-take, get_or-append_right, take_more, drop-set-lt}
+use Rattle.std.proofs.lemmas.List.{get_or_append_left, get_or_past, get_or_push, length_push, length-drop, get_or-drop, get_or-take, drop-set-add, take_more_set, drop-take, drop-drop, length-take-le, drop_more, get_or-append-add, length-set, get_or-set_same, get_or-set_other, get_or-replicate, length-replicate, length-take, get_or-append_right, take_more, drop-set-lt}
 use Rattle.std.proofs.lemmas.Grind.{same_number_lists}
 use Rattle.std.proofs.Math.Nat.{pow-suc}
 use lib.Bits.{bit_xor, xor_assoc, xor_comm, xor_self, xor_zero_r, xor_shifted, xor_lt}
 use lib.Dec.{ltb→lt, leb→le, eqb→eq}
 use lib.Ieee.Fits.{and_l, and_r}
-use Rattle.std.specs.Int.{w32, bit_not}
-use Rattle.hd_base.specs.declared.sum_rule.SumKind.TheVariants.{Crc32c}
-use Rattle.chunk_sums.specs.Crc.{crc32c_polynomial, bit_step, byte_step, enter, register, advance, sum_of}
+use Rattle.chunk_sums.specs.Crc.{crc32c_polynomial, bit_step, byte_step, enter, register, advance}
 use Rattle.chunk_sums.specs.Ahead.{joined, mixed, held, far_places, only, struck, walk, Agrees, within, IsSpan}
 use Rattle.chunk_sums.proofs.SlicingLemmas.{advance-add}
 use Rattle.chunk_sums.proofs.LinearLemmas.{regroup, xor_last, bit_step-xor, bit_step-double, byte_step-xor, byte_step-shifted, low_byte, advance-xor}

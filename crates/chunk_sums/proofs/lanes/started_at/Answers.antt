@@ -1,4 +1,4 @@
-use Rattle.std.proofs.Common.{◌≡◌, ◌+◌, ℕ, ◌<◌, get_or, length, ap, sym, ◌∙◌, arith}
+use Rattle.std.proofs.Common.{◌≡◌, ◌+◌, get_or, ap, sym, ◌∙◌, arith}
 use lib.Bits.{bit_xor}
 use Rattle.std.proofs.lemmas.Simd.{get_or-zip2}
 use Rattle.chunk_sums.specs.Lanes.{started}
