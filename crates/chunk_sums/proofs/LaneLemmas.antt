@@ -1,15 +1,16 @@
 -- Bytes that were moved along a lane count as they did where they stood.
-use Rattle.std.proofs.Common.{◌≡◌, ℕ, zero, suc, ◌+◌, ◌-◌, ◌^◌, ◌<◌, ◌≤◌, ltb, T, List, [], ◌∷◌, length, get_or, take, drop, refl, sym, ap, ◌∙◌, arith, inl, inr}
+use Rattle.std.proofs.Common.{◌≡◌, ℕ, zero, suc, ◌+◌, ◌-◌, ◌*◌, ◌^◌, ◌<◌, ◌≤◌, ltb, T, List, [], ◌∷◌, length, get_or, take, drop, refl, sym, ap, ◌∙◌, arith, inl, inr}
 use Rattle.std.proofs.lemmas.Bool.{cases_lt}
 use Rattle.std.proofs.lemmas.List.{get_or_past, length-drop, get_or-drop, get_or-take, drop-drop, length-take-le, drop_more, drop_all, set-get_or}
 use Rattle.std.proofs.lemmas.Grind.{same_number_lists}
-use Rattle.std.proofs.lemmas.Simd.{get_or-put_chunk_below, get_or-put_chunk_at, get_or-put_chunk_above, get_or-zip2, length-zip2}
-use lib.Bits.{bit_xor, xor_zero_r, xor_lt}
-use lib.Lanes.{zip2, put_chunk}
+use Rattle.std.proofs.Math.Seq.{drop-cons}
+use Rattle.std.proofs.lemmas.Simd.{get_or-put_chunk_below, get_or-put_chunk_at, get_or-put_chunk_above, get_or-zip2, length-zip2, get_or-chunk, length-chunk, get_or_wider, Each1-from_get_or}
+use lib.Bits.{bit_xor, xor_zero_r, xor_lt, xor_comm, xor_shifted}
+use lib.Lanes.{Each1, zip2, chunk, put_chunk, number_l, digits_l}
 use lib.Dec.{ltb→lt}
 use lib.Ieee.Fits.{and_l, and_r}
 use Rattle.hd_base.specs.Bytes.{IsBytes}
-use Rattle.chunk_sums.specs.Crc.{register}
+use Rattle.chunk_sums.specs.Crc.{register, number}
 use Rattle.chunk_sums.specs.Ahead.{joined, mixed, held, within, IsSpan}
 use Rattle.chunk_sums.specs.Four.{sum_by}
 use Rattle.chunk_sums.specs.Lanes.{started, IsClean, IsMoved, IsSpread, carried, IsMixed}
@@ -133,6 +134,48 @@ IsMixed-more places bytes lane mixed v at s len room value k h = elim (cases_lt 
       ∙ value (k - at) (omega arith)
       ∙ ap (λ (n : ℕ). joined places (drop n lane) (get_or bytes n 0)) here
 ]
+
+-- ---- words of four bytes
+
+number_l-number : (bytes : List ℕ) → IsBytes bytes → (n i : ℕ) → i + n ≤ length bytes → number_l 256 (take n (drop i bytes)) ≡ number (take n (drop i bytes))
+unfolding number
+number_l-number bytes small zero i within = refl
+number_l-number bytes small (suc n) i within =
+    let first : i < length bytes = omega arith in
+    let below : get_or bytes i 0 < 2 ^ 8 = small i in
+    let rest = number (take n (drop (suc i) bytes)) in
+    let turned : get_or bytes i 0 + 256 * rest ≡ rest * 256 + get_or bytes i 0 = omega arith in
+    ap (λ (xs : List ℕ). number_l 256 (take (suc n) xs)) (drop-cons bytes i 0 first)
+    ∙ ap (λ (v : ℕ). get_or bytes i 0 + 256 * v) (number_l-number bytes small n (suc i) (omega arith))
+    ∙ turned ∙ sym (xor_shifted rest 8 (get_or bytes i 0) below) ∙ xor_comm (rest * 256) (get_or bytes i 0)
+    ∙ sym (ap (λ (xs : List ℕ). number (take (suc n) xs)) (drop-cons bytes i 0 first))
+
+-- sixteen bytes more, as four words
+pub words-more : (bytes words v : List ℕ) (i w : ℕ) → IsBytes bytes → w ≡ 4 * i → i * 16 + 16 ≤ length bytes → w + 4 ≤ length words → length v ≡ 16
+    → ((k : ℕ) → k < 16 → get_or v k 0 ≡ get_or bytes (i * 16 + k) 0)
+    → ((k : ℕ) → k < 4 * i → get_or words k 0 ≡ number (take 4 (drop (4 * k) bytes)))
+    → (k : ℕ) → k < 4 * (i + 1) → get_or (put_chunk w words (digits_l 4294967296 4 (number_l 256 v))) k 0 ≡ number (take 4 (drop (4 * k) bytes))
+words-more bytes words v i w small is_w long room len value s k h =
+    let four = digits_l 4294967296 4 (number_l 256 v) in
+    elim (cases_lt k w) [
+      | inl below ↦ get_or-put_chunk_below w words four k 0 below ∙ s k (omega arith)
+      | inr above ↦
+          let j = k - w in
+          let there : k ≡ w + j = omega arith in
+          let few : j < 4 = omega arith in
+          let bytes_fit : Each1 (λ x. x < 256) v = Each1-from_get_or (λ x. x < 256) v 0 (λ m below. omega (arith, value m (omega arith), small (i * 16 + m))) in
+          let same : chunk (4 * j) 4 v ≡ take 4 (drop (4 * k) bytes) =
+          same_number_lists (chunk (4 * j) 4 v) (chunk (4 * k) 4 bytes)
+          (length-chunk (4 * j) 4 v (omega arith) ∙ sym (length-chunk (4 * k) 4 bytes (omega arith))) (λ m below.
+          let few_more : m < 4 = omega (arith, length-chunk (4 * j) 4 v (omega arith)) in
+          let here : i * 16 + (4 * j + m) ≡ 4 * k + m = omega arith in
+          get_or-chunk (4 * j) 4 v m 0 few_more ∙ value (4 * j + m) (omega arith)
+          ∙ ap (λ (n : ℕ). get_or bytes n 0) here ∙ sym (get_or-chunk (4 * k) 4 bytes m 0 few_more)) in
+          ap (λ (n : ℕ). get_or (put_chunk w words four) n 0) there
+          ∙ get_or-put_chunk_at w words four j 0 few room
+          ∙ get_or_wider 256 4 4294967296 4 v j refl bytes_fit few
+          ∙ ap (number_l 256) same ∙ number_l-number bytes small 4 (4 * k) (omega arith)
+    ]
 
 -- ---- the register as it is joined to the first bytes
 

@@ -149,12 +149,14 @@ register-more poly r s rest front behind long is_front is_behind is_s =
     ∙ sym (fold-append (enter poly) r (take 16 rest) (drop 16 rest))
     ∙ ap (register poly r) (take-append-drop 16 rest)
 
--- a step of a loop that takes the next sixteen bytes
-pub register-next : (poly : ℕ) (bytes : List ℕ) (i s t : ℕ) → s ≡ register poly 0 (take (i * 16) bytes) → t ≡ register poly s (take 16 (drop (i * 16) bytes))
-    → t ≡ register poly 0 (take ((i + 1) * 16) bytes)
-register-next poly bytes i s t is_s is_t =
+-- a step of a loop that takes the next sixteen bytes, which are four words from place w on
+pub register-next : (poly : ℕ) (bytes : List ℕ) (i s t w : ℕ) → w ≡ 4 * i → s ≡ register poly 0 (take (i * 16) bytes)
+    → t ≡ register poly s (take 16 (drop (4 * w) bytes)) → t ≡ register poly 0 (take ((i + 1) * 16) bytes)
+register-next poly bytes i s t w is_w is_s is_t =
     let next : i * 16 + 16 ≡ (i + 1) * 16 = omega arith in
-    is_t ∙ ap (λ (v : ℕ). register poly v (take 16 (drop (i * 16) bytes))) is_s
+    let here : 4 * w ≡ i * 16 = omega (arith, is_w) in
+    is_t ∙ ap (λ (n : ℕ). register poly s (take 16 (drop n bytes))) here
+    ∙ ap (λ (v : ℕ). register poly v (take 16 (drop (i * 16) bytes))) is_s
     ∙ sym (fold-append (enter poly) 0 (take (i * 16) bytes) (take 16 (drop (i * 16) bytes)))
     ∙ ap (register poly 0) (sym (take-add (i * 16) 16 bytes) ∙ ap (λ (n : ℕ). take n bytes) next)
 

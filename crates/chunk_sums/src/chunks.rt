@@ -20,8 +20,11 @@ const LEAST: u64 = 512;
 /// The most bytes of a chunk of which four are taken at once.
 const MOST: u64 = 4096;
 
-/// The bytes of a lane for the usual chunks, of 512 bytes.
-const USUAL_LANE: usize = 528;
+/// The most bytes of a chunk for which shorter lanes will do.
+const USUAL: u64 = 1024;
+
+/// The bytes of a lane for the usual chunks.
+const USUAL_LANE: usize = 1040;
 
 /// The bytes of a lane for longer chunks.
 const LONG_LANE: usize = 4112;
@@ -67,7 +70,7 @@ fn first_wrong(kind: SumKind, body: &[u8], sums: &[u8], first_len: u64, chunk: u
 {
     if !has_four(body.len() as u64, chunk, chunk) {
         first_wrong_over::<0>(kind, body, sums, first_len, chunk, &mut [])
-    } else if chunk == LEAST {
+    } else if chunk <= USUAL {
         first_wrong_over::<USUAL_LANE>(kind, body, sums, first_len, chunk, &mut [Lanes::new()])
     } else {
         first_wrong_over::<LONG_LANE>(kind, body, sums, first_len, chunk, &mut [Lanes::new()])
@@ -264,7 +267,7 @@ fn write_each(kind: SumKind, body: &[u8], first_len: u64, chunk: u64, into: &mut
 {
     if !has_four(body.len() as u64, chunk, chunk) {
         write_each_over::<0>(kind, body, first_len, chunk, into, &mut []);
-    } else if chunk == LEAST {
+    } else if chunk <= USUAL {
         write_each_over::<USUAL_LANE>(kind, body, first_len, chunk, into, &mut [Lanes::new()]);
     } else {
         write_each_over::<LONG_LANE>(kind, body, first_len, chunk, into, &mut [Lanes::new()]);

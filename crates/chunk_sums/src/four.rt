@@ -11,8 +11,8 @@ ghost use Rattle.chunk_sums.specs.Chunks.{four_chunks};
 ghost use Rattle.chunk_sums.specs.Crc.{register};
 ghost use Rattle.chunk_sums.specs.Four.{OfEach, AreReady, IsSpreadTo, IsBroughtTo, IsMixedTo, IsSound, all_mixed, sum_by};
 
-use crate::lanes::{NEAR, STEP, WIDE, bring, mix, spread, spread_front};
-use crate::slicing::sixteen;
+use crate::lanes::{NEAR, STEP, WIDE, bring, mix, spread, spread_front, words_of};
+use crate::slicing::sixteen_of_words;
 use crate::tables::Polynomial;
 
 /// The bytes of a near lane: a window, as many bytes that are moved, and a vector of zeros.
@@ -247,19 +247,19 @@ fn mix_four<P: Polynomial, const N: usize>(lanes: &mut Lanes<N>, pieces: &Pieces
 fn four_registers<P: Polynomial, const N: usize>(lanes: &Lanes<N>) -> [u32; 4]
     ensures { result ≡ map (register P.reflected 0) (all_mixed lanes.now) }
 {
-    let last_a: &[u8] = &lanes.a.mixed;
-    let last_b: &[u8] = &lanes.b.mixed;
-    let last_c: &[u8] = &lanes.c.mixed;
-    let last_d: &[u8] = &lanes.d.mixed;
+    let last_a = words_of(&lanes.a.mixed);
+    let last_b = words_of(&lanes.b.mixed);
+    let last_c = words_of(&lanes.c.mixed);
+    let last_d = words_of(&lanes.d.mixed);
     let mut a = 0;
     let mut b = 0;
     let mut c = 0;
     let mut d = 0;
     for step in 0..NEAR / STEP {
-        a = sixteen::<P>(a, last_a, step * STEP);
-        b = sixteen::<P>(b, last_b, step * STEP);
-        c = sixteen::<P>(c, last_c, step * STEP);
-        d = sixteen::<P>(d, last_d, step * STEP);
+        a = sixteen_of_words::<P>(a, &last_a, 4 * step);
+        b = sixteen_of_words::<P>(b, &last_b, 4 * step);
+        c = sixteen_of_words::<P>(c, &last_c, 4 * step);
+        d = sixteen_of_words::<P>(d, &last_d, 4 * step);
     }
     [a, b, c, d]
 }

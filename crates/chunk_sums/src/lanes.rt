@@ -4,6 +4,7 @@ ghost use Rattle.std.specs.Prelude.{◌≡◌, ◌⊎◌, ℕ, ◌+◌, ◌-◌,
 ghost use Rattle.std.specs.Simd.Lanes.{put_chunk};
 ghost use Rattle.hd_base.specs.Bytes.{IsBytes};
 ghost use Rattle.chunk_sums.specs.Ahead.{joined};
+ghost use Rattle.chunk_sums.specs.Crc.{AreWords};
 ghost use Rattle.chunk_sums.specs.Lanes.{started, carried, IsMoved, IsSpread, IsMixed};
 
 use crate::tables::Polynomial;
@@ -14,6 +15,9 @@ pub const WIDE: usize = 224;
 
 /// The bytes of the window by which half of the rest is moved.
 pub const NEAR: usize = 112;
+
+/// The words of as many bytes.
+const WORDS: usize = 28;
 
 /// The bytes of a vector.
 pub const STEP: usize = 16;
@@ -86,6 +90,21 @@ pub fn mix<P: Polynomial>(mixed: &mut [u8], near: &[u8], lane: &[u8], piece: &[u
     let bytes = carried_at::<P>(lane, piece, NEAR + at);
     let bytes = joined_to(bytes, near, NEAR + at, P::near(), NEAR, 2 * NEAR);
     put(mixed, at, bytes);
+}
+
+/// The words of the last 112 bytes of a piece, of four bytes each. The tables are read by these, since of
+/// words that were made of single bytes each byte would be loaded alone.
+#[inline(always)]
+pub fn words_of(bytes: &[u8]) -> [u32; WORDS]
+    requires { length bytes.now ≡ 112 }
+    ensures { AreWords bytes.now result }
+{
+    let mut words = [0; WORDS];
+    for step in 0..NEAR / STEP {
+        let four = u32x4::from_le_bytes(bytes_at(bytes, step * STEP));
+        put_words(&mut words, 4 * step, four);
+    }
+    words
 }
 
 /// Sixteen of the last 224 bytes of a piece, each joined to what the lane has for it.
@@ -178,4 +197,14 @@ fn put(buffer: &mut [u8], at: usize, bytes: u8x16)
     ensures { buffer.new ≡ put_chunk at buffer.old bytes }
 {
     bytes.copy_to_slice(&mut buffer[at..]);
+}
+
+/// Writes four words from place `at` on.
+#[inline(always)]
+fn put_words(words: &mut [u32], at: usize, four: u32x4)
+    requires four { length four ≡ 4 }
+    requires room { at + 4 ≤ length words.old }
+    ensures { words.new ≡ put_chunk at words.old four }
+{
+    four.copy_to_slice(&mut words[at..]);
 }

@@ -1,7 +1,7 @@
 //! The register over a body by tables of bytes, sixteen bytes at a step.
 
-ghost use Rattle.std.specs.Prelude.{◌≡◌, ◌+◌, ◌≤◌, length, take, drop};
-ghost use Rattle.chunk_sums.specs.Crc.{advance, enter, number, register};
+ghost use Rattle.std.specs.Prelude.{◌≡◌, ℕ, ◌+◌, ◌*◌, ◌≤◌, List, length, take, drop};
+ghost use Rattle.chunk_sums.specs.Crc.{advance, enter, number, register, through_four, AreWords};
 
 use crate::tables::Polynomial;
 
@@ -39,17 +39,40 @@ fn single<P: Polynomial>(state: u32, byte: u8) -> u32
     P::entry(0, low) ^ (mixed >> 8)
 }
 
-/// The register after the sixteen bytes from place `at` on, four to a word. The words that do not depend
-/// on the register stand first, so that their look-ups need not wait for the step before.
+/// The register after the sixteen bytes from place `at` on, four to a word.
 #[inline(always)]
 pub fn sixteen<P: Polynomial>(state: u32, bytes: &[u8], at: usize) -> u32
     requires { at + 16 ≤ length bytes.now }
     ensures { result ≡ register P.reflected state (take 16 (drop at bytes.now)) }
 {
-    let fourth = four::<P>(word_at(bytes, at + 12), 0);
-    let third = four::<P>(word_at(bytes, at + 8), 4);
-    let second = four::<P>(word_at(bytes, at + 4), 8);
-    let first = four::<P>(word_at(bytes, at) ^ state, 12);
+    let first = word_at(bytes, at) ^ state;
+    let second = word_at(bytes, at + 4);
+    let third = word_at(bytes, at + 8);
+    let fourth = word_at(bytes, at + 12);
+    four_words::<P>(first, second, third, fourth)
+}
+
+/// The register after the sixteen bytes of the four words from place `at` on.
+#[inline(always)]
+pub fn sixteen_of_words<P: Polynomial>(state: u32, words: &[u32], at: usize) -> u32
+    requires { at + 4 ≤ length words.now }
+    ensures { (bytes : List ℕ) → AreWords bytes words.now
+        → result ≡ register P.reflected state (take 16 (drop (4 * at) bytes)) }
+{
+    let first = words[at] ^ state;
+    four_words::<P>(first, words[at + 1], words[at + 2], words[at + 3])
+}
+
+/// The register after four words, to the first of which it was joined. The words that do not depend on it
+/// stand first, so that their look-ups need not wait for the step before.
+#[inline(always)]
+fn four_words<P: Polynomial>(first: u32, second: u32, third: u32, fourth: u32) -> u32
+    ensures { result ≡ through_four P.reflected first second third fourth }
+{
+    let fourth = four::<P>(fourth, 0);
+    let third = four::<P>(third, 4);
+    let second = four::<P>(second, 8);
+    let first = four::<P>(first, 12);
     fourth ^ third ^ second ^ first
 }
 
