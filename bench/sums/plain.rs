@@ -135,12 +135,20 @@ fn all<F: Fn(u32, &[u8]) -> u32 + Copy>(way: &str, kind: &str, extend: F) {
         });
         println!("{way} {kind}-writing-{chunk} 65536 16 {nanos} {}", extend(0, &sums));
         write_sums(extend, &body, chunk, &mut sums);
-        let mut found = 0u64;
-        let nanos = best(400, 16, || {
-            body[65_535] ^= 1;
-            found = found.wrapping_add(first_bad(extend, &body, chunk, &sums).unwrap_or(0) as u64);
-        });
-        println!("{way} {kind}-testing-{chunk} 65536 16 {nanos} {found}");
+        body[65_535] ^= 1;
+        let mut other = sums.clone();
+        write_sums(extend, &body, chunk, &mut other);
+        body[65_535] ^= 1;
+        for (case, is_right) in [("testing", true), ("refusing", false)] {
+            let (mut found, mut pass) = (0u64, 0);
+            let nanos = best(400, 16, || {
+                body[65_535] ^= 1;
+                let noted = if (pass % 2 == 0) == is_right { &other } else { &sums };
+                pass += 1;
+                found = found.wrapping_add(first_bad(extend, &body, chunk, noted).unwrap_or(1) as u64);
+            });
+            println!("{way} {kind}-{case}-{chunk} 65536 16 {nanos} {found}");
+        }
     }
     for (len, rounds, passes) in [(65_536, 400, 16), (1_048_576, 200, 4), (67_108_864, 12, 1)] {
         let body = noise(len);

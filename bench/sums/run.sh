@@ -46,6 +46,7 @@ awk '
       for (size = 512; size <= 4096; size *= 2) {
         title[kind "-writing-" size " 65536"] = name[kind] ", chunks of " size " B, written"
         title[kind "-testing-" size " 65536"] = name[kind] ", chunks of " size " B, tested"
+        title[kind "-refusing-" size " 65536"] = name[kind] ", chunks of " size " B, tested, the last wrong"
       }
       title[kind "-body 65536"] = name[kind] ", 64 KiB"; title[kind "-body 1048576"] = name[kind] ", 1 MiB"
       title[kind "-body 67108864"] = name[kind] ", 64 MiB"

@@ -47,7 +47,8 @@ IsRight k cs sums i = sum_of k (slice_index_or cs i []) ≡ from_be_bytes w32 (t
 -- the first four chunks of so many bytes of a body that has as many
 abbrev pub four_chunks : ℕ → List ℕ → List (List ℕ)
 four_chunks size body =
-    take size body ∷ take size (drop size body) ∷ take size (drop (2 * size) body) ∷ take size (drop (3 * size) body) ∷ []
+    take size body ∷ take size (drop size body) ∷ take size (drop (2 * size) body)
+    ∷ take size (drop (3 * size) body) ∷ []
 
 -- how many chunks a body of so many bytes has
 abbrev pub count_of : ℕ → ℕ → ℕ → ℕ

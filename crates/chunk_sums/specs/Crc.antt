@@ -65,9 +65,11 @@ number (b ∷ bs) = bit_xor b (number bs * 256)
 -- the register from 0 after four words, of four bytes each
 abbrev pub through_four : ℕ → ℕ → ℕ → ℕ → ℕ → ℕ
 through_four poly first second third fourth =
-    bit_xor (bit_xor (bit_xor (advance poly 4 fourth) (advance poly 8 third)) (advance poly 12 second)) (advance poly 16 first)
+    bit_xor (bit_xor (bit_xor (advance poly 4 fourth) (advance poly 8 third)) (advance poly 12 second))
+    (advance poly 16 first)
 
 -- some words are those of some bytes, four bytes each
 abbrev pub AreWords : List ℕ → List ℕ → Type 0
 AreWords bytes words =
-    (4 * length words ≤ length bytes) × ((k : ℕ) → k < length words → slice_index words k ≡ number (take 4 (drop (4 * k) bytes)))
+    (4 * length words ≤ length bytes)
+    × ((k : ℕ) → k < length words → slice_index words k ≡ number (take 4 (drop (4 * k) bytes)))
