@@ -84,7 +84,7 @@ or_first : (a b : Bool) → a ≡ true → (a || b) ≡ true
 or_first a b h = rw h refl
 
 module _ {R I O : Type 0} (r : roads.Ghosts R I O) (i : link_in.Ghosts I) (o : link_out.Ghosts O) where
-  one_risen : (e : Conn I O) (road road' : R) → BringsEnd r i o e road road' (Ok tt) → has_failed i o e ≡ true → r.risen road' e.id.0 ≡ true
+  pub one_risen : (e : Conn I O) (road road' : R) → BringsEnd r i o e road road' (Ok tt) → has_failed i o e ≡ true → r.risen road' e.id.0 ≡ true
   one_risen e road road' b h = b.risen e.id.0 ∙ or_on (r.risen road e.id.0) ((e.id.0 == e.id.0) && has_failed i o e) (rw (same-itself e.id.0, h) refl)
 
   mirror_keeps : (c : ℕ) (mirror : Option (Conn I O)) (road road' : R) → r.risen road c ≡ true → BringsMirror r i o mirror road road' (Ok tt) (Ok tt) → r.risen road' c ≡ true

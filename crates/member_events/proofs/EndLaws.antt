@@ -156,7 +156,7 @@ module _ {R I O : Type 0} (r : roads.Ghosts R I O) (i : link_in.Ghosts I) (o : l
         };
       }
 
-  end_passes : (net : Net) (takes shut : Bool) (extra : List (List ℕ)) (inbox : Inbox) (conn : ℕ) (lower : Bool) (road road' : R) (e e' : Conn I O) → RoadsAt r net road → HeldAt i o net shut extra inbox conn lower e
+  pub end_passes : (net : Net) (takes shut : Bool) (extra : List (List ℕ)) (inbox : Inbox) (conn : ℕ) (lower : Bool) (road road' : R) (e e' : Conn I O) → RoadsAt r net road → HeldAt i o net shut extra inbox conn lower e
       → (takes ≡ true → inbox ≡ no_inbox) → ExchangesEnd r i o takes e e' road road' (Ok tt) → Passed r i o net takes shut extra inbox conn lower road' e'
   end_passes net takes shut extra inbox conn lower road road' e e' at k empty x =
       subst (λ (b : Bool). Passed r i o net takes shut extra inbox conn b road' e') k.side
@@ -222,7 +222,7 @@ module _ {R I O : Type 0} (r : roads.Ghosts R I O) (i : link_in.Ghosts I) (o : l
     shows = brought-shows r i o e road road' (Ok tt) k net shut extra inbox at.sane (record { road_shows = at.shows; end_is = is });
   }
 
-  end_brought : (net : Net) (shut : Bool) (extra : List (List ℕ)) (inbox : Inbox) (conn : ℕ) (lower : Bool) (road road' : R) (e : Conn I O) → RoadsAt r net road → e.id.0 ≡ conn → e.lower ≡ lower → conn < net.conns → EndIs i o net.traffic shut extra inbox e
+  pub end_brought : (net : Net) (shut : Bool) (extra : List (List ℕ)) (inbox : Inbox) (conn : ℕ) (lower : Bool) (road road' : R) (e : Conn I O) → RoadsAt r net road → e.id.0 ≡ conn → e.lower ≡ lower → conn < net.conns → EndIs i o net.traffic shut extra inbox e
       → BringsEnd r i o e road road' (Ok tt) → RoadsAt r (left_net shut net conn lower extra) road'
   end_brought net shut extra inbox conn lower road road' e at id side within is x =
       subst (λ (b : Bool). RoadsAt r (left_net shut net conn b extra) road') side
