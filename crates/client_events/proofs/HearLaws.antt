@@ -1,7 +1,5 @@
 -- A writer that hears an ack, or the end, and the world after it.
 use Rattle.std.proofs.Common.{◌≡◌, ℕ, not, Bool, true, false, [], Option, Some, Result, Ok, Err, refl, sym, ap, ◌∙◌, subst}
-use Rattle.std.specs.Prelude.{◌==◌}
-use Rattle.hd_base.specs.Ends.{IsKnown}
 use Rattle.hd_base.specs.Links.{Inbox}
 use Rattle.hd_base.specs.declared.ends.Conn.{Conn}
 use Rattle.hd_base.specs.declared.links.LinkIn as link_in
@@ -14,16 +12,15 @@ use Rattle.frame_feed.specs.KindLaws.{acks_sound}
 use Rattle.link_messages.specs.Incomings.{IncomingState, nothing_received, NextEnds}
 use Rattle.link_pieces.specs.Roads.{ExchangesEnd, names}
 use Rattle.name_core.specs.Offices.{OfficeState}
-use Rattle.pipe_member.specs.declared.stages.Looked.{Looked}
 use Rattle.pipe_member.specs.declared.stages.Looked.TheVariants as looked
 use Rattle.road_traffic.specs.Showing.{Net}
 use Rattle.road_traffic.specs.Laws.{Took}
 use Rattle.road_traffic.proofs.TrafficLemmas.{same-itself}
 use Rattle.world.specs.declared.events.Event.TheVariants as event
-use Rattle.world.specs.Parts.{Message, ack, Writing}
+use Rattle.world.specs.Parts.{ack, Writing}
 use Rattle.world.specs.Worlds.{World, Change, apply}
 use Rattle.world.specs.Connections.{Next, message, the_end, up_taken, is_conn}
-use Rattle.world.specs.Clients.{writing_as, writer_change, writer_hears}
+use Rattle.world.specs.Clients.{writing_as, writer_hears}
 use Rattle.world.specs.Events.{happens}
 use Rattle.world_nets.specs.Nets.{held_by, inbox_for, is_over}
 use Rattle.world_nets.specs.Drawn.{HearsPipe, hears_as}
@@ -38,8 +35,6 @@ use Rattle.writer_core.specs.Transitions.{is_connected}
 use Rattle.member_events.proofs.CauseLaws.{in_failed, one_risen}
 use Rattle.member_events.proofs.DownEvents.{held_took}
 use Rattle.member_events.proofs.EndLaws.{HeldAt, RoadsAt, end_held, end_passes}
-use Rattle.member_events.proofs.FaultEvents.{same_count}
-use Rattle.member_events.proofs.KnownLaws.{known_on}
 use Rattle.member_events.proofs.LostLaws.{found_failed}
 use Rattle.member_events.proofs.TakeLaws.{message_came, end_came}
 use Rattle.member_events.proofs.WorldLaws.{at_put}
@@ -48,11 +43,11 @@ use Rattle.client_events.specs.declared.faults.ClientFault.TheVariants as fault
 use Rattle.client_events.specs.declared.pipes.Pipe.{Pipe}
 use Rattle.client_events.specs.declared.pipes.Pipe.TheVariants as pipe
 use Rattle.client_events.specs.Events.{IsAckNext, CanHear, HearShows}
-use Rattle.client_events.specs.Faults.{IsRoadFault, HasRisen, IsCaused}
+use Rattle.client_events.specs.Faults.{HasRisen, IsCaused}
 use Rattle.client_events.specs.Hearing.{told_of, Hears}
 use Rattle.client_events.specs.Showing.{ClientStands, ClientLeft}
 use Rattle.client_events.specs.Steps.{IsLost, IsSettled}
-use Rattle.client_events.proofs.SettleLaws.{HasActed, settled_left, settled_caused, road_caused}
+use Rattle.client_events.proofs.SettleLaws.{HasActed, settled_left, settled_caused}
 
 -- WHAT CAME
 
@@ -138,24 +133,10 @@ module _ {R I O : Type 0} (r : roads.Ghosts R I O) (i : link_in.Ghosts I) (o : l
       (settled_left r i o w w1 net n1 (event.Up old.id) b c office k y [] (is_end x) new received left middle road' acted p.roads_at
       (subst (λ (z : WriterRecord). IsSettled r i o (is_connected z.phase) new received middle road' (Ok left)) is_y settled))
 
-  -- Roads that know an end know it after it was exchanged.
-  pub known_after : (take : Bool) (old new : Conn I O) (road road' : R) → ExchangesEnd r i o take old new road road' (Ok tt) → IsKnown (r.plain road) old.id.0 → IsKnown (r.plain road') new.id.0
-  known_after take old new road road' x h = subst (λ (n : ConnId). IsKnown (r.plain road') n.0) (sym x.kept.id) (known_on (r.plain road) (r.plain road') old.id.0 x.connections h)
-
   -- WHAT IT LEAVES, OR WHY IT FAILED
 
   unheard : (known known' : WriterRecord) (old : Conn I O) (incoming : IncomingState) (why : ClientFault) (road road' : R) → ((conn : Option ℕ) → conn ≡ Some old.id.0 → IsCaused r conn road road' why) → HearShows r i o known known' old incoming road road' (Err why)
   unheard known known' old incoming why road road' caused = λ w net b office x stands can. caused (w.writers b).conn stands.pipe_is.conn_is
-
-  -- The exchange failed.
-  pub hear_failed : (known : WriterRecord) (old : Conn I O) (incoming : IncomingState) (result : Result (Pipe I O) ClientFault) (why : ClientFault) (road road' : R) → result ≡ Err why → IsRoadFault (r.faults road) (r.faults road') why → HearShows r i o known known old incoming road road' result
-  hear_failed known old incoming result why road road' is failed =
-      subst (λ (z : Result (Pipe I O) ClientFault). HearShows r i o known known old incoming road road' z) (sym is)
-      (unheard known known old incoming why road road' (λ conn at. road_caused r i o conn road road road' why (same_count (r.faults road)) failed))
-
-  -- Memory ran out.
-  pub hear_memory : (known known' : WriterRecord) (old : Conn I O) (incoming : IncomingState) (road road' : R) → HearShows r i o known known' old incoming road road' (Err fault.Memory)
-  hear_memory known known' old incoming road road' = unheard known known' old incoming fault.Memory road road' (λ conn at. tt)
 
   lost_caused : (old held : Conn I O) (incoming received : IncomingState) (known known' : WriterRecord) (half' : I) (why : ClientFault) (road middle road' : R) → held.id ≡ old.id → Hears i known known' incoming received held.inward half' looked.Failed
       → IsLost r i o (record held { inward = half' }) middle road' why → (conn : Option ℕ) → conn ≡ Some old.id.0 → IsCaused r conn road road' why

@@ -1,14 +1,10 @@
 -- A writer's end that is kept or given back, and the world after the event.
-use Rattle.std.proofs.Common.{◌≡◌, ◌≤◌, ◌+◌, ◌-◌, ◌^◌, ℕ, not, Bool, true, false, if◌then◌else◌, List, [], map, min, Option, Some, None, IfSome, Result, Ok, Err, refl, sym, ap, ◌∙◌, subst, arith}
-use Rattle.hd_base.specs.Faults.{FaultsIncreased}
+use Rattle.std.proofs.Common.{◌≡◌, ◌≤◌, ℕ, not, Bool, true, false, if◌then◌else◌, List, map, Option, Some, None, IfSome, Ok, Err, refl, sym, ap, ◌∙◌, subst}
 use Rattle.hd_base.specs.declared.ends.Conn.{Conn}
-use Rattle.hd_base.specs.declared.ends.RoadError.{RoadError}
-use Rattle.hd_base.specs.declared.ends.RoadError.TheVariants as error
 use Rattle.hd_base.specs.declared.links.LinkIn as link_in
 use Rattle.hd_base.specs.declared.links.LinkOut as link_out
 use Rattle.hd_base.specs.declared.numbers.ConnId.{ConnId}
 use Rattle.hd_base.specs.declared.roads.Roads as roads
-use Rattle.hd_base.specs.RoadCauses.{RoadCause}
 use Rattle.link_messages.specs.Incomings.{IncomingState, nothing_received}
 use Rattle.link_pieces.specs.Roads.{ExchangesEnd}
 use Rattle.name_core.specs.Offices.{OfficeState}
@@ -36,20 +32,14 @@ use Rattle.client_events.specs.declared.faults.ClientFault.{ClientFault}
 use Rattle.client_events.specs.declared.faults.ClientFault.TheVariants as fault
 use Rattle.client_events.specs.declared.pipes.Pipe.{Pipe}
 use Rattle.client_events.specs.declared.pipes.Pipe.TheVariants as pipe
-use Rattle.client_events.specs.Faults.{road_fault, IsRoadFault, IsCaused}
+use Rattle.client_events.specs.Faults.{IsRoadFault, IsCaused}
 use Rattle.client_events.specs.Showing.{OthersStay, StreamShows, ClientLeft}
 use Rattle.client_events.specs.Steps.{GivesBack, IsSettled}
 
 -- CAUSES
 
--- what an exchange's error means
-pub by_cause : (before now : ℕ) (why : RoadError) → RoadCause {T = Unit {0}} before now (Err why) → IsRoadFault before now (road_fault why)
-by_cause before now error.Failed c = c.failed refl
-by_cause before now error.Memory c = tt
-by_cause before now error.NotListening c = absurd (c.no_dial refl)
-
 module _ {R I O : Type 0} (r : roads.Ghosts R I O) (i : link_in.Ghosts I) (o : link_out.Ghosts O) where
-  pub road_caused : (conn : Option ℕ) (first road road' : R) (why : ClientFault) → r.faults first ≤ r.faults road → IsRoadFault (r.faults road) (r.faults road') why → IsCaused r conn first road' why
+  road_caused : (conn : Option ℕ) (first road road' : R) (why : ClientFault) → r.faults first ≤ r.faults road → IsRoadFault (r.faults road) (r.faults road') why → IsCaused r conn first road' why
   road_caused conn first road road' fault.RoadsFailed h k = rises_from (r.faults first) (r.faults road) (r.faults road') h k
   road_caused conn first road road' fault.Memory h k = tt
   road_caused conn first road road' fault.LinkFailed h k = absurd k

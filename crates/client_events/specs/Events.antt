@@ -9,7 +9,7 @@ use Rattle.link_messages.specs.Incomings.{IncomingState}
 use Rattle.name_core.specs.Offices.{OfficeState}
 use Rattle.road_traffic.specs.Showing.{Net}
 use Rattle.world.specs.declared.events.Event.TheVariants as event
-use Rattle.world.specs.Parts.{Message, ack, by_writer}
+use Rattle.world.specs.Parts.{ack, by_writer}
 use Rattle.world.specs.Worlds.{World}
 use Rattle.world.specs.Connections.{Next, message, the_end}
 use Rattle.world.specs.Events.{happens}

@@ -36,7 +36,7 @@ same_count n = omega arith
 less_then : (x y z : ℕ) → x ≤ y → y ≤ z → x ≤ z
 less_then x y z a b = omega arith
 
-rises_from : (before road now : ℕ) → before ≤ road → FaultsIncreased road now → FaultsIncreased before now
+pub rises_from : (before road now : ℕ) → before ≤ road → FaultsIncreased road now → FaultsIncreased before now
 rises_from before road now h k = lower before road now h k
   where
     lower : (a b n : ℕ) → a ≤ b → min (b + 1) (2 ^ 64 - 1) ≤ n → min (a + 1) (2 ^ 64 - 1) ≤ n

@@ -189,7 +189,7 @@ module _ {F I O : Type 0} (f : files.Ghosts F) (i : link_in.Ghosts I) (o : link_
 
 -- EXCHANGES
 
-pub known_on : (old new : Option Plain) (c : ℕ) → KeepsConnections old new → IsKnown old c → IsKnown new c
+known_on : (old new : Option Plain) (c : ℕ) → KeepsConnections old new → IsKnown old c → IsKnown new c
 known_on None None c h k = tt
 known_on None (Some q) c h k = cc (h.stays_hidden refl)
 known_on (Some p) None c h k = tt

@@ -1,6 +1,5 @@
 -- An end was shut, and brought back.
 use Rattle.std.proofs.Common.{Result, refl, subst}
-use Rattle.hd_base.specs.declared.ends.Conn.{Conn}
 use Rattle.hd_base.specs.declared.ends.RoadError.{RoadError}
 use Rattle.link_pieces.specs.Roads.{BringsEnd}
 use Rattle.client_events.proofs.steps.given_back.Goals as goal
