@@ -16,8 +16,8 @@ use pipe_member::Looked;
 use std::alloc::Global;
 use writer_core::Writer;
 
-/// A writer whose pipeline stands takes what stands next on its connection: an ack, or the end. What is received there and
-/// not yet taken is `incoming`.
+/// A writer whose pipeline stands takes what stands next on its connection: an ack, or the end. What was received there
+/// and not yet taken is `incoming`.
 pub fn hear_ack<I: LinkIn, O: LinkOut, R: Roads<Inward = I, Outward = O>>(
     alloc: Global,
     roads: &mut R,

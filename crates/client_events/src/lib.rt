@@ -1,5 +1,5 @@
-//! The events of the writer of a block in a play: each takes a writer and its connection that show a world, on roads that
-//! show it, to what shows the world after the event.
+//! The events of the writer of a block in a play: each takes a writer and its connection that show a world, on roads
+//! that show it, to what shows the world after the event.
 #![tactic(auto)]
 
 mod faults;

@@ -90,7 +90,7 @@ module _ {R I O : Type 0} (r : roads.Ghosts R I O) (i : link_in.Ghosts I) (o : l
   other_passed w v net c (Some b) t1 t2 s1 s2 m1 m2 d lower e none over k =
       (stays r i o v v (exchanged_net net c true t1 s1 m1) b false d lower e none.1 refl ((stays r i o w v net c true d lower e none.0 over k).exchanged t1 s1 m1)).exchanged t2 s2 m2
 
-  pub one_left : (w v : World) (net : Net) (c : ℕ) (side shut : Bool) (ms : List (List ℕ)) (d : ℕ) (lower : Bool) (e : Conn I O) → IsElsewhere c side d lower → is_over v d lower ≡ is_over w d lower
+  one_left : (w v : World) (net : Net) (c : ℕ) (side shut : Bool) (ms : List (List ℕ)) (d : ℕ) (lower : Bool) (e : Conn I O) → IsElsewhere c side d lower → is_over v d lower ≡ is_over w d lower
       → IsEndOf i o w net d lower e → IsEndOf i o v (left_net shut net c side ms) d lower e
   one_left w v net c side true ms d lower e away over k = (stays r i o w v net c side d lower e away over k).lost ms
   one_left w v net c side false ms d lower e away over k = (stays r i o w v net c side d lower e away over k).exchanged false false ms
