@@ -15,7 +15,7 @@ use Rattle.world.specs.Connections.{Next, message, the_end}
 use Rattle.world.specs.Events.{happens}
 use Rattle.world_nets.specs.Drawn.{ComesUp}
 use Rattle.writer_core.specs.declared.records.WriterRecord.{WriterRecord}
-use Rattle.member_events.specs.Texts.{SpellsText}
+use Rattle.world_texts.specs.Texts.{SpellsText}
 use Rattle.client_events.specs.declared.faults.ClientFault.{ClientFault}
 use Rattle.client_events.specs.declared.pipes.Pipe.{Pipe}
 use Rattle.client_events.specs.declared.pipes.Pipe.TheVariants as pipe

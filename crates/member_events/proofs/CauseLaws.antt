@@ -1,5 +1,5 @@
 -- A link of a member that failed, and a call on its files, has raised a count; and an end that was brought back then is one of those that had failed.
-use Rattle.std.proofs.Common.{◌≡◌, ◌≢◌, ◌⊎◌, inl, inr, ◌<◌, ◌≤◌, ◌+◌, ◌-◌, ◌^◌, ◌&&◌, ◌||◌, ℕ, Bool, true, false, List, Option, Some, None, IfSome, Result, Ok, Err, min, refl, sym, ap, ◌∙◌, subst, arith}
+use Rattle.std.proofs.Common.{◌≡◌, ◌≢◌, ◌<◌, ◌≤◌, ◌+◌, ◌-◌, ◌^◌, ◌&&◌, ◌||◌, ℕ, Bool, true, false, List, Option, Some, None, Result, Ok, Err, min, refl, sym, ap, ◌∙◌, subst, arith}
 use Rattle.std.specs.Prelude.{◌==◌, nat_lt}
 use Rattle.std.proofs.lemmas.Bool.Decides.{nat_tests}
 use Rattle.hd_base.specs.Faults.{FaultsIncreased}
@@ -13,8 +13,6 @@ use Rattle.hd_base.specs.declared.numbers.Receipt.{Receipt}
 use Rattle.hd_base.specs.declared.roads.Roads as roads
 use Rattle.link_pieces.specs.Roads.{BringsEnd}
 use Rattle.road_traffic.proofs.TrafficLemmas.{same-itself}
-use Rattle.packet_codec.specs.declared.packets.Packet.{Packet}
-use Rattle.replica_core.specs.declared.events.Event.{Event}
 use Rattle.replica_model.specs.declared.events.ReplicaEvent.{ReplicaEvent}
 use Rattle.replica_model.specs.declared.events.ReplicaEvent.TheVariants as replica_event
 use Rattle.replica_files.specs.declared.book_state.BookState.{BookState}
@@ -32,13 +30,12 @@ use Rattle.member_core.specs.declared.effects.Shuts.TheVariants as shuts
 use Rattle.member_core.specs.declared.turns.Booked.{Booked}
 use Rattle.member_core.specs.declared.turns.Turn.{Turn}
 use Rattle.member_core.specs.Members.{MemberState}
-use Rattle.pipe_turns.specs.Turning.{Performs, PassesEnd, SendsText, SendsAlone, packet_done, sending_done}
-use Rattle.pipe_turns.specs.Acting.{ShutsEnd, ShutsMirror, FollowsAs, booked_of, texts_of, with_half}
+use Rattle.pipe_turns.specs.Turning.{Performs, SendsText, SendsAlone, packet_done, sending_done}
+use Rattle.pipe_turns.specs.Acting.{ShutsEnd, FollowsAs, booked_of, texts_of, with_half}
 use Rattle.pipe_turns.specs.declared.turning.Done.{Done}
 use Rattle.pipe_turns.specs.declared.turning.Done.TheVariants as done
 use Rattle.pipe_member.specs.declared.member.Member.{Member}
 use Rattle.pipe_member.specs.declared.stages.Took.{Took}
-use Rattle.pipe_member.specs.declared.stepped.Stepped.{Stepped}
 use Rattle.pipe_member.specs.declared.stepped.Stepped.TheVariants as stepped
 use Rattle.pipe_member.specs.Exchanges.{BringsMirror, BringsBoth}
 use Rattle.pipe_member.specs.Steps.{stepped_of}

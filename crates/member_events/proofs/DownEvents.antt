@@ -1,6 +1,5 @@
 -- A member that takes what stands next from above.
-use Rattle.std.proofs.Common.{◌≡◌, ◌≢◌, ◌<◌, ℕ, Bool, true, false, if◌then◌else◌, List, [], map, length, Option, Some, None, IsSome, IfSome, Result, Ok, Err, option_map, refl, sym, ap, ◌∙◌, subst, arith}
-use Rattle.std.specs.Prelude.{◌==◌}
+use Rattle.std.proofs.Common.{◌≡◌, ◌≢◌, ◌<◌, ℕ, Bool, true, false, List, [], length, Option, Some, None, IsSome, IfSome, Result, Ok, Err, option_map, refl, sym, ap, ◌∙◌, subst, arith}
 use Rattle.hd_base.specs.Links.{Inbox}
 use Rattle.hd_base.specs.declared.ends.Conn.{Conn}
 use Rattle.hd_base.specs.declared.files.Files as files
@@ -20,7 +19,6 @@ use Rattle.replica_model.specs.Rows.{FullReplica}
 use Rattle.replica_core.specs.declared.records.ReplicaRecord.{ReplicaRecord}
 use Rattle.replica_files.specs.declared.book_state.BookState.{BookState}
 use Rattle.replica_files.specs.Books.{replica_of}
-use Rattle.member_core.specs.declared.effects.Shuts.{Shuts}
 use Rattle.member_core.specs.declared.effects.Shuts.TheVariants as shuts
 use Rattle.member_core.specs.declared.inputs.FromAbove.{FromAbove}
 use Rattle.member_core.specs.declared.inputs.FromAbove.TheVariants as above
@@ -37,11 +35,10 @@ use Rattle.pipe_member.specs.declared.stages.Stage.{Stage}
 use Rattle.pipe_member.specs.declared.stages.Stage.TheVariants as stage
 use Rattle.pipe_member.specs.declared.stages.Took.TheVariants as took
 use Rattle.pipe_member.specs.declared.stepped.Stepped.{Stepped}
-use Rattle.pipe_member.specs.declared.stepped.Stepped.TheVariants as stepped
 use Rattle.pipe_member.specs.Above.{AboveState, nothing_above, LooksAbove, ReceivesAbove, may_take, due_above, above_of as found_above}
 use Rattle.pipe_member.specs.Below.{BelowState, stands_end}
 use Rattle.pipe_member.specs.EventSteps.{HoldsMirror, IsOfHistory}
-use Rattle.pipe_member.specs.Events.{TurnsIf, TakesAbove, TakesDown, LooksUp, GoesDown, GoesDownBy}
+use Rattle.pipe_member.specs.Events.{TurnsIf, TakesAbove, TakesDown, GoesDown, GoesDownBy}
 use Rattle.pipe_member.specs.Exchanges.{KeepsRest, ExchangesBoth}
 use Rattle.pipe_member.specs.Stepping.{IsStep}
 use Rattle.pipe_member.specs.Steps.{is_failed, finds_no_memory}
@@ -49,12 +46,12 @@ use Rattle.pipe_member.specs.Turns.{Turns}
 use Rattle.pipe_member.proofs.EventStepLemmas.{downs_step}
 use Rattle.pipe_member.proofs.RuledTurns.{down_ruled}
 use Rattle.pipe_member.proofs.SteppingLemmas.{turns_step}
-use Rattle.road_traffic.specs.Showing.{Net, EndIs, exchanged_net, no_inbox}
+use Rattle.road_traffic.specs.Showing.{Net}
 use Rattle.road_traffic.specs.Laws.{Took}
 use Rattle.road_traffic.proofs.CallLemmas.{took-shows}
 use Rattle.road_traffic.proofs.TrafficLemmas.{same-itself}
 use Rattle.world.specs.declared.events.Event.TheVariants as event
-use Rattle.world.specs.Parts.{Message, packet, FullMember, writes, Break}
+use Rattle.world.specs.Parts.{packet, FullMember, writes, Break}
 use Rattle.world.specs.Worlds.{World, apply}
 use Rattle.world.specs.Connections.{Next, message, the_end, down_taken}
 use Rattle.world.specs.Nodes.{above_of, block_of, replica_at, member_change, pending_at, takes_next}
@@ -74,7 +71,7 @@ use Rattle.member_events.specs.Steps.{IsLost, IsPlaced}
 use Rattle.member_events.proofs.FaultEvents.{lost_caused, exchange_caused, placed_caused, exchange_never, risen_below}
 use Rattle.member_events.proofs.KnownLaws.{SameMirror, same_on, exchanged_same, down_same}
 use Rattle.member_events.proofs.LostLaws.{down_lost, down_link, down_file}
-use Rattle.member_events.proofs.TurnEnds.{IsDone, turn_fine, turn_sends}
+use Rattle.member_events.proofs.TurnEnds.{turn_fine, turn_sends}
 use Rattle.member_events.proofs.EndLaws.{HeldAt, MirrorAt, RoadsAt, mirror_net, both_pass, end_held}
 use Rattle.member_events.proofs.NetLaws.{other_passed}
 use Rattle.member_events.proofs.MemberLaws.{holds_like, kept_inbox, never}

@@ -1,6 +1,5 @@
 -- What becomes of an end of a connection in a step, and of the two ends of a member that are exchanged or brought back.
-use Rattle.std.proofs.Common.{◌≡◌, ◌≢◌, ◌⊎◌, inl, inr, ◌<◌, ℕ, not, Bool, true, false, List, [], ◌∷◌, map, Option, Some, None, IfSome, Result, Ok, Err, OnOk, refl, sym, ap, ◌∙◌, subst, arith}
-use Rattle.std.specs.Prelude.{◌==◌, cond}
+use Rattle.std.proofs.Common.{◌≡◌, inl, inr, ◌<◌, ℕ, Bool, true, false, List, [], Option, Some, None, IfSome, Result, Ok, Err, refl, sym, ap, ◌∙◌, subst}
 use Rattle.hd_base.specs.Links.{Inbox}
 use Rattle.hd_base.specs.declared.ends.Conn.{Conn}
 use Rattle.hd_base.specs.declared.ends.RoadError.{RoadError}
@@ -8,13 +7,12 @@ use Rattle.hd_base.specs.declared.numbers.ConnId.{ConnId}
 use Rattle.hd_base.specs.declared.links.LinkIn as link_in
 use Rattle.hd_base.specs.declared.links.LinkOut as link_out
 use Rattle.hd_base.specs.declared.roads.Roads as roads
-use Rattle.link_pieces.specs.Pieces.{SendsNothing, SendsPiece}
 use Rattle.link_pieces.specs.Roads.{KeepsInward, ExchangesEnd, BringsEnd, names}
 use Rattle.pipe_turns.specs.Acting.{ShutsEnd}
 use Rattle.pipe_member.specs.declared.member.Member.{Member}
 use Rattle.pipe_member.specs.Exchanges.{ExchangesMirror, ExchangesBoth, BringsMirror, BringsBoth}
 use Rattle.road_traffic.specs.Traffic.{Traffics}
-use Rattle.road_traffic.specs.Showing.{Net, IsSane, RoadsShow, EndIs, BothShow, ResultIs, no_inbox, flushed_net, lost_net, exchanged_net, exchanged_inbox}
+use Rattle.road_traffic.specs.Showing.{Net, IsSane, RoadsShow, EndIs, BothShow, no_inbox, exchanged_net, exchanged_inbox}
 use Rattle.road_traffic.specs.Laws.{left_net}
 use Rattle.road_traffic.proofs.ShowingLemmas.{sane-exchanged, sane-lost, exchange-shows}
 use Rattle.road_traffic.proofs.CallLemmas.{sent-shows, quiet-shows, shut-shows, brought-shows}

@@ -1,13 +1,11 @@
 -- What a step of a member that was done has been, and that one without a packet has lost no mirror.
-use Rattle.std.proofs.Common.{◌≡◌, ◌≢◌, ◌<◌, ℕ, Bool, true, false, List, Option, Some, None, Result, Ok, Err, refl, sym, ap, ◌∙◌, subst, arith}
+use Rattle.std.proofs.Common.{◌≡◌, ◌≢◌, ◌<◌, ℕ, false, List, Option, Some, None, Ok, refl, sym, ap, ◌∙◌, subst, arith}
 use Rattle.hd_base.specs.declared.ends.Conn.{Conn}
 use Rattle.hd_base.specs.declared.files.Files as files
 use Rattle.hd_base.specs.declared.links.LinkIn as link_in
 use Rattle.hd_base.specs.declared.links.LinkOut as link_out
-use Rattle.hd_base.specs.declared.numbers.Receipt.{Receipt}
 use Rattle.hd_base.specs.declared.roads.Roads as roads
 use Rattle.replica_core.specs.declared.ack_queue.TheConstants.{MAX_PENDING}
-use Rattle.replica_core.specs.declared.events.Event.{Event}
 use Rattle.replica_model.specs.declared.events.ReplicaEvent.{ReplicaEvent}
 use Rattle.replica_model.specs.declared.events.ReplicaEvent.TheVariants as replica_event
 use Rattle.replica_model.specs.Rows.{FullReplica}
@@ -25,7 +23,6 @@ use Rattle.pipe_turns.specs.declared.turning.Done.TheVariants as done
 use Rattle.pipe_member.specs.declared.member.Member.{Member}
 use Rattle.pipe_member.specs.declared.stages.Looked.{Looked}
 use Rattle.pipe_member.specs.declared.stages.Looked.TheVariants as looked
-use Rattle.pipe_member.specs.declared.stages.Took.{Took}
 use Rattle.pipe_member.specs.declared.stages.Took.TheVariants as took
 use Rattle.pipe_member.specs.declared.stepped.Stepped.{Stepped}
 use Rattle.pipe_member.specs.declared.stepped.Stepped.TheVariants as stepped
@@ -33,7 +30,6 @@ use Rattle.pipe_member.specs.Above.{AboveState, above_after}
 use Rattle.pipe_member.specs.Below.{BelowState, below_after}
 use Rattle.pipe_member.specs.Steps.{stepped_of, loses_mirror, as_failure, after_failure}
 use Rattle.pipe_member.specs.Stepping.{step_by}
-use Rattle.member_events.specs.declared.faults.MemberFault.{MemberFault}
 use Rattle.member_events.specs.Steps.{IsPlaced}
 use Rattle.member_events.proofs.TurnEnds.{IsDone, IsFine}
 

@@ -1,5 +1,5 @@
 -- Each fault of a member's event has its cause.
-use Rattle.std.proofs.Common.{◌≡◌, ◌≢◌, ◌⊎◌, inl, inr, ◌≤◌, ◌+◌, ◌-◌, ◌^◌, ℕ, Bool, true, false, List, Option, Some, None, IfSome, IsErrOf, Result, Ok, Err, option_map, min, length, slice_get, refl, sym, ap, ◌∙◌, subst, arith}
+use Rattle.std.proofs.Common.{◌≡◌, inl, inr, ◌≤◌, ◌+◌, ◌-◌, ◌^◌, ℕ, Bool, true, List, Option, Some, None, Result, Ok, Err, min, refl, sym, ap, ◌∙◌, subst, arith}
 use Rattle.hd_base.specs.Faults.{FaultsIncreased}
 use Rattle.hd_base.specs.Links.{Inbox}
 use Rattle.hd_base.specs.Ends.{has_failed}

@@ -1,5 +1,5 @@
 -- How the events of an open member fail: which count rose.
-use Rattle.std.proofs.Common.{◌≡◌, ◌≢◌, ◌⊎◌, inl, inr, ◌≤◌, ℕ, Bool, true, false, List, Option, Some, None, IfSome, option_map, refl, sym, ap, ◌∙◌, subst, arith}
+use Rattle.std.proofs.Common.{◌≡◌, ◌≤◌, ℕ, Bool, true, false, List, Option, Some, None, refl, sym, ap, ◌∙◌, subst, arith}
 use Rattle.hd_base.specs.Faults.{FaultsIncreased}
 use Rattle.hd_base.specs.Ends.{has_failed}
 use Rattle.hd_base.specs.declared.ends.Conn.{Conn}
@@ -7,8 +7,6 @@ use Rattle.hd_base.specs.declared.files.Files as files
 use Rattle.hd_base.specs.declared.links.LinkIn as link_in
 use Rattle.hd_base.specs.declared.links.LinkOut as link_out
 use Rattle.hd_base.specs.declared.numbers.Receipt.{Receipt}
-use Rattle.ack_codec.specs.declared.acks.Ack.{Ack}
-use Rattle.ack_codec.specs.declared.responses.Response.{Response}
 use Rattle.packet_codec.specs.declared.packets.Packet.{Packet}
 use Rattle.frame_feed.specs.Kinds.{Kind, acks, responses, packets}
 use Rattle.link_messages.specs.declared.incoming.Next.{Next}
@@ -40,7 +38,7 @@ use Rattle.pipe_member.specs.declared.stepped.Stepped.TheVariants as stepped
 use Rattle.pipe_member.specs.Looks.{looked_of}
 use Rattle.pipe_member.specs.Above.{AboveState, nothing_above, LooksAbove, ReceivesAbove}
 use Rattle.pipe_member.specs.Below.{BelowState, below_after, stands_end, LooksBelow, LooksAt, ReceivesBelow}
-use Rattle.pipe_member.specs.Events.{Stays, TurnsIf, TakesDown, TakesUp, LooksUp, LooksDown, GoesDownBy, GoesUpBy}
+use Rattle.pipe_member.specs.Events.{TurnsIf, TakesDown, TakesUp, LooksDown, GoesDownBy, GoesUpBy}
 use Rattle.pipe_member.specs.Steps.{is_failed, is_asked, finds_no_memory, as_failure, loses_mirror}
 use Rattle.pipe_member.specs.Turns.{Turns}
 use Rattle.member_events.proofs.CauseLaws.{in_failed, out_failed, still_risen, turn_link, turn_file}

@@ -10,7 +10,6 @@ use Rattle.link_messages.specs.Incomings.{IncomingState, nothing_received}
 use Rattle.link_pieces.specs.Roads.{names}
 use Rattle.replica_files.specs.declared.book_state.BookState.{BookState}
 use Rattle.replica_files.specs.Books.{replica_of}
-use Rattle.member_core.specs.declared.effects.Shuts.{Shuts}
 use Rattle.member_core.specs.declared.effects.Shuts.TheVariants as shuts
 use Rattle.member_core.specs.Steps.{Step}
 use Rattle.pipe_member.specs.declared.member.Member.{Member}
@@ -21,24 +20,23 @@ use Rattle.pipe_member.specs.Below.{BelowState}
 use Rattle.pipe_member.specs.EventSteps.{HoldsMirror}
 use Rattle.pipe_member.specs.Exchanges.{ExchangesBoth, BringsBoth}
 use Rattle.pipe_member.specs.Steps.{stage_after}
-use Rattle.road_traffic.specs.Showing.{Net, exchanged_net, no_inbox}
+use Rattle.road_traffic.specs.Showing.{Net, exchanged_net}
 use Rattle.road_traffic.specs.Laws.{left_net}
 use Rattle.world.specs.declared.events.Event.{Event}
-use Rattle.world.specs.Parts.{Message, FullMember, Break}
+use Rattle.world.specs.Parts.{FullMember, Break}
 use Rattle.world.specs.Worlds.{World, Change, apply}
 use Rattle.world.specs.Connections.{Next}
-use Rattle.world.specs.Nodes.{node_of, block_of, replica_at, member_change, sent_up, passed}
+use Rattle.world.specs.Nodes.{node_of, member_change, sent_up, passed}
 use Rattle.world.specs.Events.{outcome, happens}
 use Rattle.world_nets.specs.Rows.{text_of}
-use Rattle.world_nets.specs.Nets.{IsNetOf, IsEndOf, held_by, is_over}
+use Rattle.world_nets.specs.Nets.{IsNetOf, held_by, is_over}
 use Rattle.world_nets.specs.Flushing.{shuts_above, shuts_below}
-use Rattle.world_nets.specs.Steps.{FollowsEvent}
 use Rattle.world_nets.proofs.FlushingLemmas.{member-sends}
 use Rattle.world_nets.proofs.StepLemmas.{changed-over, followed}
 use Rattle.member_events.specs.Showing.{MirrorShows, NoneReceived, OthersStay, MemberLeft}
-use Rattle.member_events.proofs.EndLaws.{HeldAt, MirrorAt, RoadsAt, BothPassed, mirror_net, mirror_inbox, mirror_left, both_pass, both_brought, end_from}
-use Rattle.member_events.proofs.NetLaws.{both_flushes, passed_net, brought_net, other_passed, other_left}
-use Rattle.member_events.proofs.WorldLaws.{MemberAfter, member_after}
+use Rattle.member_events.proofs.EndLaws.{HeldAt, MirrorAt, RoadsAt, mirror_net, mirror_inbox, mirror_left, both_pass, both_brought, end_from}
+use Rattle.member_events.proofs.NetLaws.{passed_net, brought_net, other_passed, other_left}
+use Rattle.member_events.proofs.WorldLaws.{member_after}
 
 -- A member that has done this step in a world in which it took this: what it is, what its ends have sent, and what they hold. Its ends have taken
 -- the end of their direction or not.

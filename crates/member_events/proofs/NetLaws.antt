@@ -1,11 +1,11 @@
 -- The connections once both ends of a member were exchanged or brought back are those of the world after its step; and the other ends stay.
-use Rattle.std.proofs.Common.{◌≡◌, ◌≢◌, ◌<◌, ◌+◌, ℕ, Bool, true, false, List, [], ◌∷◌, map, Option, Some, None, IfSome, refl, sym, ap, ◌∙◌, subst}
+use Rattle.std.proofs.Common.{◌≡◌, ◌+◌, ℕ, Bool, true, false, List, ◌∷◌, map, Option, Some, None, refl, ◌∙◌, subst}
 use Rattle.hd_base.specs.declared.ends.Conn.{Conn}
 use Rattle.hd_base.specs.declared.links.LinkIn as link_in
 use Rattle.hd_base.specs.declared.links.LinkOut as link_out
 use Rattle.hd_base.specs.declared.roads.Roads as roads
 use Rattle.hd_base.specs.declared.roads.TheConstants.{FIRST_PORT}
-use Rattle.road_traffic.specs.Showing.{Net, exchanged_net, flushed_net}
+use Rattle.road_traffic.specs.Showing.{Net, exchanged_net}
 use Rattle.road_traffic.specs.Laws.{left_net}
 use Rattle.world.specs.Parts.{Message}
 use Rattle.world.specs.Worlds.{World, Change, apply}
@@ -18,7 +18,7 @@ use Rattle.world_nets.specs.Flushing.{lower_flush, upper_flushes}
 use Rattle.world_nets.proofs.RowLemmas.{flushed, lost}
 use Rattle.world_nets.proofs.FlushLemmas.{rows_after, after-is}
 use Rattle.world_nets.proofs.StepLemmas.{rows-by, changed-net}
-use Rattle.world_nets.proofs.EndLemmas.{stays, same-end}
+use Rattle.world_nets.proofs.EndLemmas.{stays}
 use Rattle.member_events.specs.Showing.{IsNoneOf}
 use Rattle.member_events.proofs.EndLaws.{mirror_net, mirror_left}
 

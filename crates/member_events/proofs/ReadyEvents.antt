@@ -1,5 +1,5 @@
 -- A member that acts without a message.
-use Rattle.std.proofs.Common.{◌≡◌, ◌≢◌, ◌<◌, ℕ, Bool, true, false, List, [], map, Option, Some, None, IfSome, Result, Ok, Err, refl, sym, ap, ◌∙◌, subst, arith}
+use Rattle.std.proofs.Common.{◌≡◌, ◌≢◌, ◌<◌, ℕ, Bool, true, false, [], map, Option, Some, None, IfSome, Result, Ok, Err, refl, sym, ap, ◌∙◌, subst, arith}
 use Rattle.hd_base.specs.declared.ends.Conn.{Conn}
 use Rattle.hd_base.specs.declared.files.Files as files
 use Rattle.hd_base.specs.declared.links.LinkIn as link_in
@@ -7,20 +7,17 @@ use Rattle.hd_base.specs.declared.links.LinkOut as link_out
 use Rattle.hd_base.specs.declared.numbers.ConnId.{ConnId}
 use Rattle.hd_base.specs.declared.roads.Roads as roads
 use Rattle.link_messages.specs.Incomings.{IncomingState, nothing_received}
-use Rattle.replica_core.specs.declared.records.ReplicaRecord.{ReplicaRecord}
 use Rattle.replica_model.specs.Rows.{FullReplica}
 use Rattle.replica_files.specs.declared.book_state.BookState.{BookState}
 use Rattle.replica_files.specs.Books.{replica_of}
 use Rattle.member_core.specs.declared.turns.Turn.{Turn}
 use Rattle.member_core.specs.Members.{MemberState, ready_turn_by}
-use Rattle.member_core.specs.Steps.{Step, step, ready_turn_at}
+use Rattle.member_core.specs.Steps.{Step, step}
 use Rattle.pipe_turns.specs.Acting.{texts_of}
-use Rattle.pipe_turns.specs.declared.turning.Done.{Done}
 use Rattle.pipe_member.specs.declared.member.Member.{Member}
 use Rattle.pipe_member.specs.declared.stages.Stage.{Stage}
 use Rattle.pipe_member.specs.declared.stages.Took.TheVariants as took
 use Rattle.pipe_member.specs.declared.stepped.Stepped.{Stepped}
-use Rattle.pipe_member.specs.Above.{AboveState}
 use Rattle.pipe_member.specs.Below.{BelowState}
 use Rattle.pipe_member.specs.EventSteps.{IsOfHistory}
 use Rattle.pipe_member.specs.Events.{TurnsIf, IsReady}
@@ -47,8 +44,8 @@ use Rattle.member_events.specs.Steps.{IsPlaced}
 use Rattle.member_events.proofs.CauseLaws.{turn_link, turn_file}
 use Rattle.member_events.proofs.FaultEvents.{placed_caused, same_count}
 use Rattle.member_events.proofs.KnownLaws.{ready_same}
-use Rattle.member_events.proofs.TurnEnds.{IsDone, IsFine, fine, turn_sends}
-use Rattle.member_events.proofs.EndLaws.{MirrorAt, RoadsAt, end_held}
+use Rattle.member_events.proofs.TurnEnds.{IsDone, fine, turn_sends}
+use Rattle.member_events.proofs.EndLaws.{MirrorAt, end_held}
 use Rattle.member_events.proofs.EventEndLemmas.{placed_good, good_done, done_memory, done_step_by, above_nothing, below_nothing, quiet_lost}
 use Rattle.member_events.proofs.StepLaws.{sent_texts, passed_end, quiet_text}
 use Rattle.member_events.proofs.WorldLaws.{member_after}

@@ -1,6 +1,5 @@
 -- A member that has acted without a message, or has taken something, and what is left of it.
-use Rattle.std.proofs.Common.{◌≡◌, ◌≢◌, ◌<◌, ℕ, Bool, true, false, List, [], map, length, Option, Some, None, IfSome, Result, Ok, Err, refl, sym, ap, ◌∙◌, subst, arith}
-use Rattle.hd_base.specs.declared.ends.Conn.{Conn}
+use Rattle.std.proofs.Common.{◌≡◌, ◌≢◌, ℕ, Bool, true, false, List, [], map, Option, Some, None, IfSome, Ok, refl, sym, ap, ◌∙◌, subst}
 use Rattle.hd_base.specs.declared.files.Files as files
 use Rattle.hd_base.specs.declared.links.LinkIn as link_in
 use Rattle.hd_base.specs.declared.links.LinkOut as link_out
@@ -9,35 +8,25 @@ use Rattle.hd_base.specs.declared.numbers.Receipt.{Receipt}
 use Rattle.hd_base.specs.declared.roads.Roads as roads
 use Rattle.link_messages.specs.Incomings.{nothing_received}
 use Rattle.op_headers.specs.Values.{WriteFields}
-use Rattle.replica_core.specs.declared.records.ReplicaRecord.{ReplicaRecord}
 use Rattle.replica_model.specs.Rows.{FullReplica}
 use Rattle.replica_files.specs.declared.book_state.BookState.{BookState}
 use Rattle.replica_files.specs.Books.{replica_of}
 use Rattle.member_core.specs.declared.effects.Shuts.{Shuts}
 use Rattle.member_core.specs.declared.effects.Shuts.TheVariants as shuts
 use Rattle.member_core.specs.declared.turns.Turn.{Turn}
-use Rattle.member_core.specs.Members.{MemberState}
 use Rattle.member_core.specs.Steps.{Step, step}
 use Rattle.pipe_turns.specs.Acting.{texts_of}
-use Rattle.pipe_turns.specs.declared.turning.Done.{Done}
-use Rattle.pipe_turns.specs.declared.turning.Done.TheVariants as done
 use Rattle.pipe_member.specs.declared.member.Member.{Member}
-use Rattle.pipe_member.specs.declared.stages.Stage.{Stage}
-use Rattle.pipe_member.specs.declared.stages.Stage.TheVariants as stage
 use Rattle.pipe_member.specs.declared.stages.Took.{Took}
-use Rattle.pipe_member.specs.declared.stages.Took.TheVariants as took
 use Rattle.pipe_member.specs.declared.stepped.Stepped.{Stepped}
-use Rattle.pipe_member.specs.declared.stepped.Stepped.TheVariants as stepped
-use Rattle.pipe_member.specs.Above.{AboveState, nothing_above, above_after}
-use Rattle.pipe_member.specs.Below.{BelowState, below_after, stands_end}
+use Rattle.pipe_member.specs.Above.{nothing_above}
 use Rattle.pipe_member.specs.EventSteps.{HoldsMirror}
-use Rattle.pipe_member.specs.Exchanges.{ExchangesBoth, BringsBoth}
-use Rattle.pipe_member.specs.Stepping.{IsStep, step_by, passed_text}
-use Rattle.pipe_member.specs.Steps.{stage_after, stepped_of, done_step, receipt_of}
-use Rattle.pipe_member.specs.Turns.{IsSameMember, Turns}
+use Rattle.pipe_member.specs.Stepping.{IsStep, passed_text}
+use Rattle.pipe_member.specs.Steps.{done_step}
+use Rattle.pipe_member.specs.Turns.{Turns}
 use Rattle.road_traffic.specs.Showing.{Net}
 use Rattle.world.specs.declared.events.Event.{Event}
-use Rattle.world.specs.Parts.{Message, FullMember, Break}
+use Rattle.world.specs.Parts.{FullMember, Break}
 use Rattle.world.specs.Worlds.{World, apply, listed}
 use Rattle.world.specs.Connections.{Next}
 use Rattle.world.specs.Nodes.{node_of, block_of, replica_at, member_change, sent_up, passed}
@@ -45,14 +34,11 @@ use Rattle.world.specs.Events.{outcome, happens}
 use Rattle.world_nets.specs.Rows.{text_of}
 use Rattle.world_nets.specs.Nets.{IsNetOf, held_by, is_over}
 use Rattle.world_nets.specs.Flushing.{shuts_above, shuts_below}
-use Rattle.member_events.specs.declared.faults.MemberFault.{MemberFault}
 use Rattle.member_events.specs.Steps.{IsPlaced}
-use Rattle.member_events.specs.Texts.{SpellUp}
 use Rattle.member_events.specs.Showing.{OthersStay, MemberLeft}
-use Rattle.member_events.proofs.TurnEnds.{IsDone, IsFine, TurnSends, turn_sends}
+use Rattle.member_events.proofs.TurnEnds.{IsFine, TurnSends}
 use Rattle.member_events.proofs.EndLaws.{HeldAt, MirrorAt, RoadsAt, end_sends, mirror_sends}
-use Rattle.member_events.proofs.StepLaws.{sent_texts, step_over}
-use Rattle.member_events.proofs.WorldLaws.{MemberAfter, member_after}
+use Rattle.member_events.proofs.StepLaws.{step_over}
 use Rattle.member_events.proofs.MemberLaws.{HasStepped, moved, shut}
 
 -- A running member before its turn, in a world in which it took this: what it is, and what its ends hold.

@@ -1,9 +1,9 @@
 -- What a member's step sends, in the world and as texts, and when a member is over.
-use Rattle.std.proofs.Common.{◌≡◌, ◌≢◌, ◌<◌, ◌≤◌, ◌+◌, ◌^◌, ◌&&◌, ℕ, Bool, true, false, if◌then◌else◌, List, [], ◌∷◌, ◌++◌, length, map, Option, Some, None, slice_get, Ok, refl, sym, ap, ◌∙◌, subst, arith}
+use Rattle.std.proofs.Common.{◌≡◌, ◌≢◌, ◌<◌, ◌≤◌, ◌+◌, ◌^◌, ◌&&◌, ℕ, Bool, true, false, List, [], ◌∷◌, ◌++◌, length, map, Option, Some, None, slice_get, Ok, refl, sym, ap, ◌∙◌, arith}
 use Rattle.std.specs.Prelude.{nat_le}
 use Rattle.std.proofs.lemmas.Bool.Decides.{nat_tests}
 use Rattle.std.proofs.lemmas.List.{length-append}
-use Rattle.proto_fields.specs.Varint.{varint_at, least_varint, SpellsVarint}
+use Rattle.proto_fields.specs.Varint.{varint_at, least_varint}
 use Rattle.proto_fields.specs.Frames.{limit}
 use Rattle.proto_fields.specs.Framed.{FramesSome}
 use Rattle.proto_fields.proofs.VarintLemmas.{read_varint_again, least_varint_spells}
@@ -19,7 +19,6 @@ use Rattle.replica_model.specs.declared.events.ReplicaEvent.TheVariants as repli
 use Rattle.replica_model.specs.Rows.{FullReplica}
 use Rattle.member_core.specs.declared.effects.Shuts.{Shuts}
 use Rattle.member_core.specs.declared.effects.Shuts.TheVariants as shuts
-use Rattle.member_core.specs.declared.effects.SetupAnswer.{SetupAnswer}
 use Rattle.member_core.specs.declared.effects.Upward.{Upward}
 use Rattle.member_core.specs.declared.effects.Upward.TheVariants as upward
 use Rattle.member_core.specs.declared.turns.Booked.{Booked}
@@ -39,7 +38,8 @@ use Rattle.world.specs.Worlds.{World, listed}
 use Rattle.world.specs.Connections.{Next, message, the_end}
 use Rattle.world.specs.Nodes.{above_of, sent_up, passed}
 use Rattle.world_nets.specs.Rows.{text_of}
-use Rattle.member_events.specs.Texts.{SpellsText, SpellUp, IsPacketNext}
+use Rattle.world_texts.specs.Texts.{SpellsText}
+use Rattle.member_events.specs.Texts.{SpellUp, IsPacketNext}
 
 -- WHAT GOES UP
 

@@ -1,5 +1,5 @@
 -- An end that holds one message, or the end, gives just that.
-use Rattle.std.proofs.Common.{◌≡◌, ◌≢◌, ◌+◌, ℕ, Bool, true, false, if◌then◌else◌, List, [], ◌∷◌, ◌++◌, length, Option, Some, None, option_map, Result, Ok, Err, refl, sym, ap, ◌∙◌, subst, arith}
+use Rattle.std.proofs.Common.{◌≡◌, ◌+◌, ℕ, Bool, true, false, List, [], ◌∷◌, ◌++◌, length, Option, Some, None, Result, Ok, refl, sym, ap, ◌∙◌, subst, arith}
 use Rattle.std.proofs.lemmas.List.{append-nil, length-append}
 use Rattle.hd_base.specs.Links.{Inbox, in_front}
 use Rattle.hd_base.specs.declared.links.LinkIn as link_in
@@ -7,7 +7,6 @@ use Rattle.frame_feed.specs.Kinds.{Kind, IsSound}
 use Rattle.link_messages.specs.declared.incoming.Next.{Next}
 use Rattle.link_messages.specs.declared.incoming.Next.TheVariants as came
 use Rattle.link_messages.specs.Incomings.{IncomingState, nothing_received, coming, GivesOne, Comes, Finds, FindsNone, NextEnds}
-use Rattle.pipe_member.specs.declared.stages.Looked.{Looked}
 use Rattle.pipe_member.specs.declared.stages.Looked.TheVariants as looked
 use Rattle.pipe_member.specs.Looks.{looked_of}
 

@@ -1,5 +1,5 @@
 -- What a turn that was done has sent on a member's two ends, and which it has shut.
-use Rattle.std.proofs.Common.{◌≡◌, ◌≢◌, ◌⊎◌, inl, inr, ℕ, Bool, true, false, if◌then◌else◌, List, Option, Some, None, IsSome, Result, refl, sym, ap, ◌∙◌, subst}
+use Rattle.std.proofs.Common.{◌≡◌, ◌≢◌, ◌⊎◌, inl, inr, ℕ, Bool, true, false, List, Option, Some, None, IsSome, refl, sym, ap, ◌∙◌, subst}
 use Rattle.hd_base.specs.declared.ends.Conn.{Conn}
 use Rattle.hd_base.specs.declared.numbers.ConnId.{ConnId}
 use Rattle.hd_base.specs.declared.numbers.Receipt.{Receipt}
@@ -8,7 +8,6 @@ use Rattle.hd_base.specs.declared.links.LinkOut as link_out
 use Rattle.link_pieces.specs.Pieces.{SendsNothing, SendsPiece}
 use Rattle.link_pieces.specs.Roads.{KeepsInward}
 use Rattle.packet_codec.specs.declared.packets.Packet.{Packet}
-use Rattle.packet_codec.specs.Packets.{packet_text}
 use Rattle.op_headers.specs.Values.{WriteFields}
 use Rattle.replica_core.specs.declared.events.Event.{Event}
 use Rattle.replica_core.specs.declared.refusals.Refusal.{Refusal}
@@ -42,7 +41,7 @@ use Rattle.pipe_member.specs.Below.{BelowState, below_after, stands_end}
 use Rattle.pipe_member.specs.Steps.{stepped_of, done_step, receipt_of, loses_upstream, loses_mirror}
 use Rattle.pipe_member.specs.Stepping.{passed_text, IsOfRules}
 use Rattle.pipe_member.specs.Turns.{Turns}
-use Rattle.pipe_member.proofs.SteppingLemmas.{silent, step_done, made, no_memory, settled_as}
+use Rattle.pipe_member.proofs.SteppingLemmas.{silent, step_done, made, settled_as}
 use Rattle.world_nets.specs.Flushing as flushing
 
 -- the step was done, and no link from above and no call on files failed

@@ -1,5 +1,5 @@
 -- A member that takes what stands next from its mirror.
-use Rattle.std.proofs.Common.{◌≡◌, ◌≢◌, ◌<◌, ℕ, Bool, true, false, List, [], map, slice_get, Option, Some, None, IfSome, Result, Ok, Err, option_map, refl, sym, ap, ◌∙◌, subst, arith}
+use Rattle.std.proofs.Common.{◌≡◌, ◌<◌, ℕ, Bool, true, false, [], map, slice_get, Option, Some, None, IfSome, Result, Ok, Err, option_map, refl, sym, ap, ◌∙◌, subst}
 use Rattle.std.specs.Prelude.{◌==◌}
 use Rattle.hd_base.specs.Links.{Inbox}
 use Rattle.hd_base.specs.declared.ends.Conn.{Conn}
@@ -22,7 +22,7 @@ use Rattle.replica_files.specs.declared.book_state.BookState.{BookState}
 use Rattle.replica_files.specs.Books.{replica_of}
 use Rattle.member_core.specs.declared.inputs.FromBelow.{FromBelow}
 use Rattle.member_core.specs.declared.turns.Turn.{Turn}
-use Rattle.member_core.specs.Members.{MemberState, hears, up_turn}
+use Rattle.member_core.specs.Members.{MemberState, up_turn}
 use Rattle.member_core.specs.Steps.{Step, step, oldest_at}
 use Rattle.pipe_turns.specs.Acting.{texts_of, ShutsMirror}
 use Rattle.pipe_member.specs.declared.member.Member.{Member}
@@ -32,8 +32,7 @@ use Rattle.pipe_member.specs.declared.stages.Stage.{Stage}
 use Rattle.pipe_member.specs.declared.stages.Stage.TheVariants as stage
 use Rattle.pipe_member.specs.declared.stages.Took.TheVariants as took
 use Rattle.pipe_member.specs.declared.stepped.Stepped.{Stepped}
-use Rattle.pipe_member.specs.Above.{AboveState}
-use Rattle.pipe_member.specs.Below.{BelowState, LooksBelow, LooksAt, ReceivesAt, ReceivesBelow, answer_of, ack_of}
+use Rattle.pipe_member.specs.Below.{BelowState, LooksBelow, LooksAt, ReceivesBelow, answer_of, ack_of}
 use Rattle.pipe_member.specs.EventSteps.{HoldsMirror, IsOfHistory}
 use Rattle.pipe_member.specs.Events.{TurnsIf, TakesBelow, TakesUp, LooksDown, LooksDownAt, GoesUp, GoesUpIf, GoesUpBy}
 use Rattle.pipe_member.specs.Exchanges.{KeepsRest, ExchangesBoth}
@@ -43,17 +42,17 @@ use Rattle.pipe_member.specs.Turns.{IsSameMember, Turns}
 use Rattle.pipe_member.proofs.EventStepLemmas.{ups_step}
 use Rattle.pipe_member.proofs.RuledTurns.{IsQuiet, ups, up_ruled}
 use Rattle.pipe_member.proofs.SteppingLemmas.{turns_step}
-use Rattle.road_traffic.specs.Showing.{Net, exchanged_net, exchanged_inbox, no_inbox}
+use Rattle.road_traffic.specs.Showing.{Net, exchanged_net}
 use Rattle.road_traffic.specs.Laws.{Took}
 use Rattle.road_traffic.proofs.TrafficLemmas.{same-itself}
 use Rattle.world.specs.declared.events.Event.TheVariants as event
-use Rattle.world.specs.Parts.{Message, ack, response, FullMember, writes, Break}
+use Rattle.world.specs.Parts.{ack, response, FullMember, Break}
 use Rattle.world.specs.Worlds.{World, apply, listed}
 use Rattle.world.specs.Connections.{Next, message, the_end, up_taken}
-use Rattle.world.specs.Nodes.{below_of, block_of, replica_at, member_change, passed}
+use Rattle.world.specs.Nodes.{below_of, block_of, replica_at, member_change}
 use Rattle.world.specs.Events.{outcome, happens}
 use Rattle.world_nets.specs.Rows.{text_of}
-use Rattle.world_nets.specs.Nets.{IsNetOf, IsEndOf, held_by, inbox_for, is_over}
+use Rattle.world_nets.specs.Nets.{IsEndOf, held_by, inbox_for, is_over}
 use Rattle.world_nets.specs.Drawn.{break_at}
 use Rattle.world_nets.specs.Steps.{taken_net, is_end}
 use Rattle.world_nets.proofs.DrawnLemmas.{up-makes}
@@ -70,10 +69,10 @@ use Rattle.member_events.proofs.FaultEvents.{lost_caused, exchange_caused, place
 use Rattle.member_events.proofs.KnownLaws.{SameMirror, same_on, exchanged_same, look_same, up_same}
 use Rattle.member_events.proofs.LostLaws.{look_lost, up_link, up_file}
 use Rattle.member_events.proofs.TurnEnds.{IsDone, fine, turn_sends}
-use Rattle.member_events.proofs.EndLaws.{HeldAt, MirrorAt, RoadsAt, BothPassed, mirror_net, both_pass, end_held}
+use Rattle.member_events.proofs.EndLaws.{HeldAt, MirrorAt, RoadsAt, mirror_net, both_pass, end_held}
 use Rattle.member_events.proofs.NetLaws.{other_passed}
 use Rattle.member_events.proofs.MemberLaws.{holds_like, never}
-use Rattle.member_events.proofs.EventEndLemmas.{IsGood, placed_good, good_done, done_memory, done_step_by, above_below, below_below, quiet_lost}
+use Rattle.member_events.proofs.EventEndLemmas.{placed_good, good_done, done_memory, done_step_by, above_below, below_below, quiet_lost}
 use Rattle.member_events.proofs.StepLaws.{sent_texts, passed_none, quiet_text, step_still}
 use Rattle.member_events.proofs.TakeLaws.{message_came, end_came}
 use Rattle.member_events.proofs.WorldLaws.{member_after, taken_same}

@@ -3,11 +3,10 @@ use Rattle.std.proofs.Common.{◌≡◌, ℕ, ◌-◌, ◌&&◌, Bool, true, fal
 use Rattle.std.specs.Prelude.{◌==◌, nat_le, unwrap_or}
 use Rattle.road_traffic.proofs.TrafficLemmas.{same-itself}
 use Rattle.member_core.specs.Steps.{Step}
-use Rattle.replica_model.specs.Rows.{FullReplica}
 use Rattle.world.specs.declared.events.Event.{Event}
-use Rattle.world.specs.Parts.{Message, Place, FullMember, Lower, writes, Break, Dialled}
-use Rattle.world.specs.Worlds.{World, Change, Dial, put, put_at, apply, dial_at, dialled_with}
-use Rattle.world.specs.Connections.{Next, down_taken, up_taken, sent_on, is_alive}
+use Rattle.world.specs.Parts.{Message, FullMember, writes, Break, Dialled}
+use Rattle.world.specs.Worlds.{World, Dial, put, put_at, apply}
+use Rattle.world.specs.Connections.{Next, down_taken, up_taken, sent_on}
 use Rattle.world.specs.Nodes.{node_of, block_of, replica_at, member_change, sent_up}
 use Rattle.world.specs.Events.{outcome, happens, after_event}
 use Rattle.world_nets.specs.Changes.{world_taken}

@@ -28,7 +28,7 @@ use Rattle.pipe_member.specs.declared.stepped.Stepped.TheVariants as stepped
 use Rattle.pipe_member.specs.Above.{due_above}
 use Rattle.pipe_member.specs.Below.{BelowState, LooksBelow}
 use Rattle.pipe_member.specs.Steps.{stage_after, after_failure, finds_no_memory}
-use Rattle.pipe_member.specs.Events.{Stays, TurnsIf, LooksUp, TakesFound, TakesDown, GoesDown, GoesDownBy, LooksDown, TakesBelow, TakesUp, GoesUp, GoesUpIf, GoesUpBy, IsReady}
+use Rattle.pipe_member.specs.Events.{TurnsIf, LooksUp, TakesFound, TakesDown, GoesDown, GoesDownBy, LooksDown, TakesBelow, TakesUp, GoesUp, GoesUpIf, IsReady}
 use Rattle.pipe_member.specs.Stepping.{TellsMirror, IsStep, step_by}
 use Rattle.pipe_member.specs.EventSteps.{HoldsMirror, StepsIf, DownIsStep, UpIsStep, UpIsStepIf, IsOpenEvent, DownsAreSteps, ReadiesAreSteps, UpsAreSteps}
 use Rattle.pipe_member.proofs.SteppingLemmas.{turns_step}

@@ -1,6 +1,9 @@
+pub mod AnswerSizes
 pub mod EventLaws
 pub mod EventStepLemmas
+pub mod FieldSizes
 pub mod KnownLemmas
+pub mod ResumptionLemmas
 pub mod RuledTurns
 pub mod SetupLaws
 pub mod SetupStepLemmas

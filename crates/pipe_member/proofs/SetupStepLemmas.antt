@@ -1,5 +1,5 @@
 -- The setup of a member as the step of its request.
-use Rattle.std.proofs.Common.{◌≡◌, ◌≢◌, ◌⊎◌, inl, inr, ◌==◌, ◌≤◌, ◌+◌, ◌-◌, ◌^◌, min, arith, ℕ, Bool, true, false, List, [], ◌∷◌, length, Option, Some, None, IsSome, IsOk, Result, Ok, Err, refl, sym, ap, ◌∙◌, subst}
+use Rattle.std.proofs.Common.{◌≡◌, ◌≢◌, inl, inr, ◌==◌, ◌≤◌, ◌+◌, ◌-◌, ◌^◌, min, arith, ℕ, Bool, true, false, List, [], ◌∷◌, length, Option, Some, None, IsSome, IsOk, Ok, Err, refl, sym, ap, ◌∙◌, subst}
 use Rattle.std.proofs.lemmas.Bool.Decides.{nat_tests}
 use Rattle.hd_base.specs.Faults.{FaultsIncreased}
 use Rattle.hd_base.specs.declared.ends.Conn.{Conn}
@@ -9,7 +9,7 @@ use Rattle.hd_base.specs.declared.links.LinkOut as link_out
 use Rattle.hd_base.specs.declared.numbers.ConnId.{ConnId}
 use Rattle.hd_base.specs.declared.numbers.Receipt.{Receipt}
 use Rattle.hd_base.specs.declared.roads.Roads as roads
-use Rattle.link_pieces.specs.Pieces.{SendsNothing, SendsPiece, FailsToSend}
+use Rattle.link_pieces.specs.Pieces.{SendsNothing}
 use Rattle.op_headers.specs.Values.{WriteFields}
 use Rattle.op_headers.specs.declared.nodes.NodeRef.{NodeRef}
 use Rattle.replica_core.specs.declared.events.Answer.{Answer}
@@ -36,14 +36,13 @@ use Rattle.member_core.specs.declared.effects.Upward.{Upward}
 use Rattle.member_core.specs.Members.{MemberState, set_up, set_up_at, mirror_for, refused_setup}
 use Rattle.member_core.specs.Requests.{request_event}
 use Rattle.member_core.specs.Steps.{Setup, request_at, booked_request, refused_request, taken_request, request_step, refused_by}
-use Rattle.pipe_setup.specs.declared.refusals.SetupRefusal.{SetupRefusal}
 use Rattle.pipe_setup.specs.declared.refusals.SetupRefusal.TheVariants as setup_refusal
 use Rattle.pipe_setup.specs.declared.setups.Setup as local
 use Rattle.pipe_setup.specs.declared.setups.Setup.TheVariants as setup
 use Rattle.pipe_setup.specs.Setups.{SetsUpBy, HasTarget}
 use Rattle.pipe_turns.specs.declared.turning.Done.{Done}
 use Rattle.pipe_turns.specs.declared.turning.Done.TheVariants as done
-use Rattle.pipe_turns.specs.Acting.{ShutsEnd, ShutsMirror, texts_of, shuts_up, with_half}
+use Rattle.pipe_turns.specs.Acting.{ShutsMirror, texts_of, shuts_up, with_half}
 use Rattle.pipe_turns.specs.Turning.{SendsAlone}
 use Rattle.pipe_member.specs.declared.member.Member.{Member}
 use Rattle.pipe_member.specs.declared.stages.Stage.{Stage}
@@ -52,10 +51,10 @@ use Rattle.pipe_member.specs.declared.stepped.Stepped.{Stepped}
 use Rattle.pipe_member.specs.declared.stepped.Stepped.TheVariants as stepped
 use Rattle.pipe_member.specs.Refusing.{refused_in}
 use Rattle.pipe_member.specs.Steps.{stage_after, stepped_of, loses_upstream}
-use Rattle.pipe_member.specs.Setups.{opened, first_by, asked_if, Says, Opens, Waits, with_mirror, with_outward, FollowsSetup, SetsUpWith, Refuses, RefusalEnds, IsShutBy, is_memory}
+use Rattle.pipe_member.specs.Setups.{opened, first_by, asked_if, Says, Opens, Waits, with_mirror, with_outward, FollowsSetup, RefusalEnds, IsShutBy, is_memory}
 use Rattle.pipe_member.specs.Stepping.{HasSent, Tells}
 use Rattle.pipe_member.specs.EventSteps.{HoldsMirror}
-use Rattle.pipe_member.specs.SetupSteps.{was_answered, stage_of, setup_by, IsSetup, IsNewRequest, SetupsAreSteps, RefusalsAreSteps}
+use Rattle.pipe_member.specs.SetupSteps.{was_answered, setup_by, IsSetup, IsNewRequest, SetupsAreSteps, RefusalsAreSteps}
 use Rattle.pipe_member.proofs.SteppingLemmas.{told_end, alone_says, alone_fails, refused_alone, file_alone, mirror_alone}
 use Rattle.pipe_member.proofs.RuledTurns.{Has}
 use Rattle.pipe_member.proofs.EventStepLemmas.{holds_after, holds_open, shut_there}
@@ -215,7 +214,7 @@ module _ {F I O : Type 0} (f : files.Ghosts F) (o : link_out.Ghosts O) (e : Even
         subst (λ (st : Stage). HoldsMirror st new.mirror) (sym x.says.follows.stage) tt,
       )
 
-  waits_lead : (answered : Bool) (core : MemberState) (mid : Member I O) (receipt : Receipt) → IsNewRequest (Ok e) old book result → SendsNothing o old.upstream.outward half
+  pub waits_lead : (answered : Bool) (core : MemberState) (mid : Member I O) (receipt : Receipt) → IsNewRequest (Ok e) old book result → SendsNothing o old.upstream.outward half
       → BookEnds f book book' (replica_event.Other e) (Ok receipt) → HasTarget old.op → core ≡ (set_up old.upstream.id old.op answered).0 → mid.upstream ≡ with_half old.upstream half → Waits o receipt core mid new result
       → IsSetup o (setup_by result old.upstream.id old.op answered (replica_of book)) old new book' × HoldsMirror new.stage new.mirror
   waits_lead answered core mid receipt asked quiet ends some is same x =

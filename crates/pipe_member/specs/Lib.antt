@@ -1,5 +1,6 @@
 pub mod Looks
 pub mod Above
+pub mod Answering
 pub mod Below
 pub mod Steps
 pub mod Turns

@@ -4,6 +4,7 @@ use Rattle.hd_base.specs.declared.files.Files as files
 use Rattle.hd_base.specs.declared.links.LinkIn as link_in
 use Rattle.hd_base.specs.declared.links.LinkOut as link_out
 use Rattle.hd_base.specs.declared.numbers.ConnId.{ConnId}
+use Rattle.hd_base.specs.declared.numbers.Receipt.{Receipt}
 use Rattle.hd_base.specs.declared.roads.Roads as roads
 use Rattle.op_headers.specs.Values.{WriteFields}
 use Rattle.replica_core.specs.declared.events.Event.{Event}
@@ -25,7 +26,7 @@ use Rattle.pipe_member.specs.declared.stages.Stage.TheVariants as stage
 use Rattle.pipe_member.specs.declared.stepped.Stepped.{Stepped}
 use Rattle.pipe_member.specs.declared.stepped.Stepped.TheVariants as stepped
 use Rattle.pipe_member.specs.Steps.{stage_after}
-use Rattle.pipe_member.specs.Setups.{SetsUpWith, Refuses}
+use Rattle.pipe_member.specs.Setups.{SetsUpWith, GoesOnWith, Refuses}
 use Rattle.pipe_member.specs.Stepping.{Tells}
 use Rattle.pipe_member.specs.EventSteps.{HoldsMirror, IsOfHistory}
 
@@ -77,3 +78,27 @@ RefusalsAreSteps F I O o = (why : RequestRefusal) (old new : Member I O) (book :
     → Refuses o (texts_of old.op (refused_setup why).sends) old new result
     → IsSetup o (setup_by result old.upstream.id old.op false (replica_of book)) old new book ×
     HoldsMirror new.stage new.mirror
+
+-- A new member's setup books its request and finds no memory for the dial, and a later call goes on with it, which finds
+-- memory and leaves the book alone.
+pub record GoesOnLater {F R I O : Type 0} (f : files.Ghosts F) (r : roads.Ghosts R I O) (i : link_in.Ghosts I)
+    (o : link_out.Ghosts O) (e : Event) (old mid new : Member I O) (book book' : BookState F)
+    (roads roads' later later' : R) (result : Stepped) : Type 0 where
+  pub fresh : old.stage ≡ stage.New
+  pub receipt : Receipt
+  pub asked : MemberState
+  pub unasked : MemberState
+  pub booked : mid.stage ≡ stage.Booked receipt asked unasked
+  pub first : SetsUpWith f r i o e old mid book book' roads roads' stepped.Memory
+  pub goes_on : GoesOnWith r i o receipt asked unasked mid new later later' result
+
+-- The two calls together are the request's step at the replica as it was before the first.
+abbrev pub ResumptionsAreSteps : (F R I O : Type 0) → files.Ghosts F → roads.Ghosts R I O → link_in.Ghosts I →
+    link_out.Ghosts O → Type 0
+ResumptionsAreSteps F R I O f r i o =
+    (e : Event) (old mid new : Member I O) (book book' : BookState F) (roads roads' later later' : R)
+    (result : Stepped) →
+    IsNewRequest (Ok e) old book result
+    → (x : GoesOnLater f r i o e old mid new book book' roads roads' later later' result)
+    → IsSetup o (setup_by result old.upstream.id old.op (was_answered x.goes_on.ended) (replica_of book)) old new
+    book' × HoldsMirror new.stage new.mirror

@@ -2,7 +2,7 @@
 
 ghost use Rattle.pipe_member.specs.Stepping.{TurnsAreSteps};
 ghost use Rattle.pipe_member.specs.EventSteps.{DownsAreSteps, ReadiesAreSteps, UpsAreSteps};
-ghost use Rattle.pipe_member.specs.SetupSteps.{SetupsAreSteps, RefusalsAreSteps};
+ghost use Rattle.pipe_member.specs.SetupSteps.{SetupsAreSteps, RefusalsAreSteps, ResumptionsAreSteps};
 
 use hd_base::{Files, LinkIn, LinkOut, Roads};
 
@@ -39,4 +39,9 @@ pub fn setups_are_steps<F: Files, R: Roads>()
 /// So is each setup of a member whose request is refused before the replica is asked.
 pub fn refusals_are_steps<F: Files, I: Drop, O: LinkOut>()
     ensures { RefusalsAreSteps F I O O.LinkOut }
+{}
+
+/// So are the two calls of a setup that books its request, finds no memory for the dial, and goes on with it later.
+pub fn resumptions_are_steps<F: Files, R: Roads>()
+    ensures { ResumptionsAreSteps F R R.Inward R.Outward F.Files R.Roads R.Inward.LinkIn R.Outward.LinkOut }
 {}

@@ -3,6 +3,7 @@
 #![tactic(auto)]
 
 mod above;
+mod answers;
 mod below;
 mod enabled;
 mod exchanging;
@@ -14,10 +15,11 @@ mod stages;
 mod stepped;
 
 pub use above::Above;
+pub use answers::answers_are_written;
 pub use below::Below;
 pub use laws::{
-    downs_are_steps, readies_are_steps, refusals_are_steps, setups_are_steps, turns_are_steps,
-    ups_are_steps,
+    downs_are_steps, readies_are_steps, refusals_are_steps, resumptions_are_steps,
+    setups_are_steps, turns_are_steps, ups_are_steps,
 };
 pub use member::Member;
 pub use stages::{Looked, Stage, Took};

@@ -1,5 +1,5 @@
 -- The member took what stood next from above, and what followed.
-use Rattle.std.proofs.Common.{◌≡◌, ◌∙◌, rules, Some, Ok, subst, sym}
+use Rattle.std.proofs.Common.{◌∙◌, rules, Some, Ok, subst, sym}
 use Rattle.hd_base.specs.declared.numbers.ConnId.{ConnId}
 use Rattle.pipe_member.specs.Exchanges.{AreKnown, ExchangesBoth}
 use Rattle.member_events.proofs.DownEvents.{down_failed, down_lost_shows, down_shows}
@@ -12,27 +12,27 @@ returns-in_err-member g c = down_failed g.F.Files g.R.Roads g.I.LinkIn g.O.LinkO
 pub lost-requires : goal.lost-requires
 lost-requires g c =
     let k : AreKnown (g.R.Roads.plain c.exchanged.new.roads) c.down-stepped.new.self = known_same (g.R.Roads.plain c.exchanged.new.roads) c.in_ok-member.member c.down-stepped.new.self
-        (down_same g.F.Files g.I.LinkIn g.O.LinkOut c.in_ok-member.member.stage c.in_ok-member.member c.down-stepped.new.self c.args.book.now c.down-stepped.new.book c.down-stepped.result c.down-stepped.ensures)
-        (exchanged_known g.R.Roads g.I.LinkIn g.O.LinkOut (Some c.conn-conn.result) c.args.member c.in_ok-member.member c.args.roads.now c.exchanged.new.roads c.in_ok-member.ensures c.requires) in
+    (down_same g.F.Files g.I.LinkIn g.O.LinkOut c.in_ok-member.member.stage c.in_ok-member.member c.down-stepped.new.self c.args.book.now c.down-stepped.new.book c.down-stepped.result c.down-stepped.ensures)
+    (exchanged_known g.R.Roads g.I.LinkIn g.O.LinkOut (Some c.conn-conn.result) c.args.member c.in_ok-member.member c.args.roads.now c.exchanged.new.roads c.in_ok-member.ensures c.requires) in
     (first_of (assumption c.type_bounds.send-I, search rules), (first_of (assumption c.type_bounds.send-O, search rules), k))
 
 pub placed-requires : goal.placed-requires
 placed-requires g c =
     let k : AreKnown (g.R.Roads.plain c.exchanged.new.roads) c.down-stepped.new.self = known_same (g.R.Roads.plain c.exchanged.new.roads) c.in_ok-member.member c.down-stepped.new.self
-        (down_same g.F.Files g.I.LinkIn g.O.LinkOut c.in_ok-member.member.stage c.in_ok-member.member c.down-stepped.new.self c.args.book.now c.down-stepped.new.book c.down-stepped.result c.down-stepped.ensures)
-        (exchanged_known g.R.Roads g.I.LinkIn g.O.LinkOut (Some c.conn-conn.result) c.args.member c.in_ok-member.member c.args.roads.now c.exchanged.new.roads c.in_ok-member.ensures c.requires) in
+    (down_same g.F.Files g.I.LinkIn g.O.LinkOut c.in_ok-member.member.stage c.in_ok-member.member c.down-stepped.new.self c.args.book.now c.down-stepped.new.book c.down-stepped.result c.down-stepped.ensures)
+    (exchanged_known g.R.Roads g.I.LinkIn g.O.LinkOut (Some c.conn-conn.result) c.args.member c.in_ok-member.member c.args.roads.now c.exchanged.new.roads c.in_ok-member.ensures c.requires) in
     (first_of (assumption c.type_bounds.send-I, search rules), (first_of (assumption c.type_bounds.send-O, search rules), k))
 
 pub returns-then-knows_mirror_end : goal.returns-then-knows_mirror_end
 returns-then-knows_mirror_end g c =
     let ex : ExchangesBoth g.R.Roads g.I.LinkIn g.O.LinkOut (Some c.args.member.upstream.id) c.args.member c.in_ok-member.member c.args.roads.now c.exchanged.new.roads (Ok tt) =
-        subst (λ (x : ConnId). ExchangesBoth g.R.Roads g.I.LinkIn g.O.LinkOut (Some x) c.args.member c.in_ok-member.member c.args.roads.now c.exchanged.new.roads (Ok tt)) c.conn-conn.ensures c.in_ok-member.ensures in
+    subst (λ (x : ConnId). ExchangesBoth g.R.Roads g.I.LinkIn g.O.LinkOut (Some x) c.args.member c.in_ok-member.member c.args.roads.now c.exchanged.new.roads (Ok tt)) c.conn-conn.ensures c.in_ok-member.ensures in
     down_lost_shows g.F.Files g.R.Roads g.I.LinkIn g.O.LinkOut c.args.member c.in_ok-member.member c.down-stepped.new.self c.args.book.now c.down-stepped.new.book c.down-stepped.result c.lost.result c.args.roads.now c.exchanged.new.roads c.lost.new.roads
     ex c.down-stepped.ensures (sym c.knows_mirror_end.ensures ∙ c.if-knows_mirror_end.true) c.lost.ensures
 
 pub returns : goal.returns
 returns g c =
     let ex : ExchangesBoth g.R.Roads g.I.LinkIn g.O.LinkOut (Some c.args.member.upstream.id) c.args.member c.in_ok-member.member c.args.roads.now c.exchanged.new.roads (Ok tt) =
-        subst (λ (x : ConnId). ExchangesBoth g.R.Roads g.I.LinkIn g.O.LinkOut (Some x) c.args.member c.in_ok-member.member c.args.roads.now c.exchanged.new.roads (Ok tt)) c.conn-conn.ensures c.in_ok-member.ensures in
+    subst (λ (x : ConnId). ExchangesBoth g.R.Roads g.I.LinkIn g.O.LinkOut (Some x) c.args.member c.in_ok-member.member c.args.roads.now c.exchanged.new.roads (Ok tt)) c.conn-conn.ensures c.in_ok-member.ensures in
     down_shows g.F.Files g.R.Roads g.I.LinkIn g.O.LinkOut c.args.member c.in_ok-member.member c.down-stepped.new.self c.args.book.now c.down-stepped.new.book c.down-stepped.result c.placed.result c.args.roads.now c.exchanged.new.roads c.placed.new.roads
     ex c.down-stepped.ensures (sym c.knows_mirror_end.ensures ∙ c.if-knows_mirror_end.false) c.replica-kept.ensures.kept.known c.placed.ensures

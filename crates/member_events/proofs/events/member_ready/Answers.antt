@@ -8,7 +8,7 @@ use Rattle.member_events.proofs.events.member_ready.Goals as goal
 pub placed-requires : goal.placed-requires
 placed-requires g c =
     let k : AreKnown (g.R.Roads.plain c.args.roads.now) c.ready-stepped.new.self = known_same (g.R.Roads.plain c.args.roads.now) c.args.member c.ready-stepped.new.self
-        (ready_same g.F.Files g.O.LinkOut c.args.member.stage c.args.member c.ready-stepped.new.self c.args.book.now c.ready-stepped.new.book c.ready-stepped.result c.ready-stepped.ensures) c.requires in
+    (ready_same g.F.Files g.O.LinkOut c.args.member.stage c.args.member c.ready-stepped.new.self c.args.book.now c.ready-stepped.new.book c.ready-stepped.result c.ready-stepped.ensures) c.requires in
     (first_of (assumption c.type_bounds.send-I, search rules), (first_of (assumption c.type_bounds.send-O, search rules), k))
 
 pub returns : goal.returns

@@ -13,17 +13,17 @@ returns-in_err-member g c = up_failed g.F.Files g.R.Roads g.I.LinkIn g.O.LinkOut
 pub lost-requires : goal.lost-requires
 lost-requires g c =
     let k : AreKnown (g.R.Roads.plain c.exchanged.new.roads) c.look_down.new.self = known_same (g.R.Roads.plain c.exchanged.new.roads) c.in_ok-member.member c.look_down.new.self
-        (look_same g.F.Files g.I.LinkIn g.O.LinkOut c.in_ok-member.member.stage c.in_ok-member.member c.look_down.new.self c.look_down.result c.look_down.ensures)
-        (exchanged_known g.R.Roads g.I.LinkIn g.O.LinkOut (Some c.args.mirror) c.args.member c.in_ok-member.member c.args.roads.now c.exchanged.new.roads c.in_ok-member.ensures c.requires) in
+    (look_same g.F.Files g.I.LinkIn g.O.LinkOut c.in_ok-member.member.stage c.in_ok-member.member c.look_down.new.self c.look_down.result c.look_down.ensures)
+    (exchanged_known g.R.Roads g.I.LinkIn g.O.LinkOut (Some c.args.mirror) c.args.member c.in_ok-member.member c.args.roads.now c.exchanged.new.roads c.in_ok-member.ensures c.requires) in
     (first_of (assumption c.type_bounds.send-I, search rules), (first_of (assumption c.type_bounds.send-O, search rules), k))
 
 pub placed-requires : goal.placed-requires
 placed-requires g c =
     let at_look : AreKnown (g.R.Roads.plain c.exchanged.new.roads) c.look_down.new.self = known_same (g.R.Roads.plain c.exchanged.new.roads) c.in_ok-member.member c.look_down.new.self
-        (look_same g.F.Files g.I.LinkIn g.O.LinkOut c.in_ok-member.member.stage c.in_ok-member.member c.look_down.new.self c.look_down.result c.look_down.ensures)
-        (exchanged_known g.R.Roads g.I.LinkIn g.O.LinkOut (Some c.args.mirror) c.args.member c.in_ok-member.member c.args.roads.now c.exchanged.new.roads c.in_ok-member.ensures c.requires) in
+    (look_same g.F.Files g.I.LinkIn g.O.LinkOut c.in_ok-member.member.stage c.in_ok-member.member c.look_down.new.self c.look_down.result c.look_down.ensures)
+    (exchanged_known g.R.Roads g.I.LinkIn g.O.LinkOut (Some c.args.mirror) c.args.member c.in_ok-member.member c.args.roads.now c.exchanged.new.roads c.in_ok-member.ensures c.requires) in
     let k : AreKnown (g.R.Roads.plain c.exchanged.new.roads) c.up-stepped.new.self = known_same (g.R.Roads.plain c.exchanged.new.roads) c.look_down.new.self c.up-stepped.new.self
-        (up_same g.F.Files g.I.LinkIn g.O.LinkOut c.look_down.new.self.stage c.look_down.new.self c.up-stepped.new.self c.args.book.now c.up-stepped.new.book c.up-stepped.result c.up-stepped.ensures) at_look in
+    (up_same g.F.Files g.I.LinkIn g.O.LinkOut c.look_down.new.self.stage c.look_down.new.self c.up-stepped.new.self c.args.book.now c.up-stepped.new.book c.up-stepped.result c.up-stepped.ensures) at_look in
     (first_of (assumption c.type_bounds.send-I, search rules), (first_of (assumption c.type_bounds.send-O, search rules), k))
 
 pub returns-in-Failed : goal.returns-in-Failed

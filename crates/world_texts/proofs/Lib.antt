@@ -1,0 +1,14 @@
+pub mod Spelling
+pub mod Frame
+pub mod Rows
+pub mod Refusals
+pub mod Turns
+pub mod Nodes
+pub mod Sums
+pub mod Serving
+pub mod Writers
+pub mod Ranges
+pub mod Clients
+pub mod Primaries
+pub mod Sessions
+pub mod AllWritten
