@@ -1,7 +1,6 @@
 -- Whoever may still take hasn't taken the end, after every list of events.
 use Rattle.std.proofs.Common.{◌≡◌, ℕ, ◌<◌, Bool, true, false, List, [], ◌∷◌, Option, Some, None, IfSome, refl, sym, ap, ◌∙◌, subst, arith, eqb-true}
 use Rattle.std.specs.Prelude.{◌==◌, ◌&&◌, not, nat_lt}
-use Rattle.std.proofs.lemmas.Bool.Decides.{nat_tests}
 use Rattle.world.specs.declared.events.Caller.{Caller}
 use Rattle.world.specs.declared.events.Caller.TheVariants as caller
 use Rattle.world.specs.declared.events.Delivery.{Delivery}
@@ -26,6 +25,8 @@ use Rattle.world_laws.proofs.PlacedLaws.{happens-placed, all-placed}
 use Rattle.world_orders.specs.Orders.{Ordered}
 use Rattle.world_orders.specs.Open.{IsOpenBelow, OpenEnds}
 use Rattle.world_orders.proofs.AllOrdered.{lt-true, happens-ordered, start-ordered}
+use Rattle.world_orders.proofs.Kept.{eqb-itself}
+use Rattle.world_orders.proofs.Clients.{clash}
 use Rattle.world_orders.proofs.Nodes.{member-same}
 use Rattle.world_orders.proofs.OpenFrame.{IsOpenMirror, IsOpenWriter, Opens, open-ends, below-over, mirror-over, writer-over, mirror-apart, writer-apart, Beside, beside-opens, LowerOpens, lower-opens, WriterOpens, writer-opens}
 use Rattle.world_orders.proofs.OpenLowers.{lower-down-opens, lower-ready-opens, mirror-up-opens}
@@ -51,15 +52,8 @@ put-over marks c x e d = if-each (λ (m : Marks). (marks d).over ≡ m.over) (d 
 put-elsewhere : (marks : ℕ → Marks) (c : ℕ) (x : Marks) (d : ℕ) → (d ≡ c → ⊥) → (marks d).over ≡ (put marks c x d).over
 put-elsewhere marks c x d other = if-each (λ (m : Marks). (marks d).over ≡ m.over) (d == c) x (marks d) (λ f. absurd (other (eqb-true d c f))) (λ f. refl)
 
-clash : (b : Bool) → b ≡ false → b ≡ true → ⊥
-clash true f t = cc
-clash false f t = cc
-
 different : (d c : ℕ) → (d == c) ≡ false → d ≡ c → ⊥
-different d c e is = clash (d == c) e (subst (λ (n : ℕ). (d == n) ≡ true) is (itself d))
-  where
-    itself : (n : ℕ) → (n == n) ≡ true
-    itself n = grind (arith, nat_tests)
+different d c e is = clash (d == c) e (subst (λ (n : ℕ). (d == n) ≡ true) is (eqb-itself d))
 
 fresh-over : (w : World) → Placed w → (w.up_marks w.next_conn).over ≡ false
 fresh-over w p = ap (λ (m : Marks). m.over) ((p.undialled w.next_conn (omega arith)).up_marks)

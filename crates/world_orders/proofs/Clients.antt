@@ -40,7 +40,7 @@ use Rattle.world_orders.proofs.Writing.{says, asked-none, streams-some, Follows,
 
 -- WHAT A WRITER HAS TAKEN
 
-clash : (b : Bool) → b ≡ false → b ≡ true → ⊥
+pub clash : (b : Bool) → b ≡ false → b ≡ true → ⊥
 clash true f t = cc
 clash false f t = cc
 

@@ -26,17 +26,13 @@ use Rattle.world.specs.Connections.{Next, message, the_end, is_conn}
 use Rattle.world.specs.Clients.{writing_as, did, dialled_change, dialling, rest_in, is_empty, is_formed, ruled, command_bytes, takes_step, takes_command, writer_step, own_writer, writer_hears, writer_up, named_member, reader_dials, own_reader_as, own_reader, from_node_of, reader_turn, reader_up_as, reader_up}
 use Rattle.world_laws.proofs.FactTables.{when-each}
 use Rattle.world_orders.specs.Orders.{has_members}
-use Rattle.world_orders.proofs.Clients.{alike-then, given-alike, ruled-alike}
+use Rattle.world_orders.proofs.Clients.{clash, alike-then, given-alike, ruled-alike}
 use Rattle.world_orders.proofs.Writing.{Follows, own-follows, granted-follows, ended-follows, acked-follows, answered-keeps, ended-gone, dialled-gone, dialled-asks, dialled-keeps}
 use Rattle.world_orders.proofs.OpenFrame.{IsOpenConn, IsOpenWriter, Beside, WriterOpens}
 
 -- A writer's next state is right for the connection that it keeps.
 abbrev pub NextOpens : World → ℕ → WriterRecord → Type 0
 NextOpens v b y = (c : ℕ) → (v.writers b).conn ≡ Some c → is_connected y.phase ≡ true → IsOpenConn (v.up_marks c).over y
-
-clash : (b : Bool) → b ≡ false → b ≡ true → ⊥
-clash true f t = cc
-clash false f t = cc
 
 by-gone : (v : World) (b : ℕ) (y : WriterRecord) → is_connected y.phase ≡ false → NextOpens v b y
 by-gone v b y g = λ c on e. absurd (clash (is_connected y.phase) g e)

@@ -26,6 +26,7 @@ pub record IsOpenConn (over : Bool) (x : WriterRecord) : Type 0 where
 abbrev pub IsOpenWriter : (ℕ → Marks) → Writing → Type 0
 IsOpenWriter marks x = IfSome x.conn (λ c. IsOpenConn (marks c).over x.known)
 
+-- In this world no end was taken by whoever may still take.
 pub record Opens (w : World) : Type 0 where
   pub below : (c : ℕ) → IsOpenBelow (w.lowers c) (w.down_marks c).over
   pub mirrors : (c : ℕ) → IsOpenMirror w.up_marks (w.lowers c)

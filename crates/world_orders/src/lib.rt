@@ -1,5 +1,5 @@
-//! In which order messages come on the connections of the world. Each function has an empty body; its clauses say what
-//! holds after every list of events.
+//! In which order messages come on the connections of the world, and who hasn't taken a connection's end. Each function
+//! has an empty body; its clauses say what holds after every list of events.
 #![tactic(auto)]
 
 ghost use Rattle.world_orders.specs.Open.{AllOpen};
