@@ -532,15 +532,18 @@ module _ (kind : SumKind) (body : List ℕ) (first size : ℕ) (rest into : List
         ∙ ap (λ (l : List ℕ). chunks len size l ++ chunks size size (drop n rest)) (sym is_front)
         ∙ ap (λ (l : List ℕ). chunks len size piece ++ chunks size size l) (sym is_behind)
 
-    pub room_for_piece : at + 4 * length (chunks len size piece) ≤ length into
-    room_for_piece =
-        omega (arith, s.room, ap length piece_first, length-append (chunks len size piece) (chunks size size after))
+    piece_count : length (chunks len size piece) ≡ count_of (length piece) len size
+    piece_count = length-chunks len size piece s.positive c
 
-    pub WrittenSoFar-piece : (into' : List ℕ) (at' : ℕ) → at' ≡ at + 4 * length (chunks len size piece)
+    pub room_for_piece : at + 4 * count_of (length piece) len size ≤ length into
+    room_for_piece =
+        omega (arith, s.room, piece_count, ap length piece_first, length-append (chunks len size piece) (chunks size size after))
+
+    pub WrittenSoFar-piece : (into' : List ℕ) (at' : ℕ) → at' ≡ at + 4 * count_of (length piece) len size
         → take at' into' ≡ take at into ++ (sums_of kind) (chunks len size piece) → length into' ≡ length into
         → WrittenSoFar kind body first size after into' size at'
     WrittenSoFar-piece into' at' is_at' is_into' same_len =
-        WrittenSoFar-more (chunks len size piece) after into' size at' c is_at' piece_first is_into' same_len
+        WrittenSoFar-more (chunks len size piece) after into' size at' c (omega (arith, is_at', piece_count)) piece_first is_into' same_len
 
 -- ---- a loop that copies a body
 
@@ -560,13 +563,20 @@ all_copied whole copy rest so_far none =
 
 -- ---- how long a piece is
 
--- some chunks are one, and whole chunks behind it
-pub whole_behind : (m size : ℕ) → 1 ≤ m → (size ≤ m * size) × ((m * size - size) % size ≡ 0)
-whole_behind zero size h = absurd (omega arith)
-whole_behind (suc m) size h =
+-- one chunk, and none behind it
+pub none_behind : (size len : ℕ) → (len ≤ len) × ((len - len) % size ≡ 0)
+none_behind size len =
+    let none : len - len ≡ 0 = omega arith in
+    (omega arith, ap (λ (n : ℕ). n % size) none ∙ zero-mod size)
+
+-- fours of chunks are one, and whole chunks behind it
+pub fours_behind : (m size len : ℕ) → 1 ≤ m → len ≡ size → (len ≤ 4 * (m * size)) × ((4 * (m * size) - len) % size ≡ 0)
+fours_behind zero size len h e = absurd (omega arith)
+fours_behind (suc m) size len h e =
     let more : suc m * size ≡ m * size + size = omega arith in
-    let rest : suc m * size - size ≡ m * size = omega (arith, more) in
-    (omega (arith, more), ap (λ (n : ℕ). n % size) rest ∙ mul-mod_left m size)
+    let three : (4 * m + 3) * size ≡ 4 * (m * size) + 3 * size = omega arith in
+    let rest : 4 * (suc m * size) - len ≡ (4 * m + 3) * size = omega (arith, more, three) in
+    (omega (arith, more), ap (λ (n : ℕ). n % size) rest ∙ mul-mod_left (4 * m + 3) size)
 
 -- so many chunks as a length has, but at least one, are no longer than both
 pub some_fit : (n size : ℕ) → max (n / size) 1 * size ≤ max n size

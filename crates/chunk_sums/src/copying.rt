@@ -3,7 +3,7 @@
 ghost use Rattle.std.specs.Prelude.{◌≡◌, ◌+◌, ◌-◌, ◌*◌, ◌%◌, ◌≤◌, ◌++◌, length, take, vec_len, vec_capacity};
 ghost use Rattle.std.specs.List.{All};
 ghost use Rattle.chunk_sums.specs.Crc.{HasSum};
-ghost use Rattle.chunk_sums.specs.Chunks.{chunks, summed_chunks, sums_of};
+ghost use Rattle.chunk_sums.specs.Chunks.{chunks, summed_chunks, sums_of, count_of};
 ghost use Rattle.chunk_sums.specs.Four.{AreReady};
 
 use crate::chunks::{LONG_LANE, MOST, USUAL, USUAL_LANE, chunk_count, has_four, write_each_over};
@@ -107,9 +107,9 @@ fn put_sums<const N: usize>(
     requires len_positive { 1 ≤ len }
     requires lane_len { N ≤ 4112 }
     requires ready { All (AreReady chunk) lanes.old }
-    requires room { at + 4 * length (chunks len chunk piece.now) ≤ length into.old }
+    requires room { at + 4 * count_of (length piece.now) len chunk ≤ length into.old }
     ensures ready { All (AreReady chunk) lanes.new }
-    ensures place { result ≡ at + 4 * length (chunks len chunk piece.now) }
+    ensures place { result ≡ at + 4 * count_of (length piece.now) len chunk }
     ensures sums { take result into.new ≡ take at into.old ++ sums_of kind (chunks len chunk piece.now) }
 {
     let end = at + 4 * chunk_count(piece.len() as u64, len, chunk) as usize;
