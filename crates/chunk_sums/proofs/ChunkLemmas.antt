@@ -563,12 +563,6 @@ all_copied whole copy rest so_far none =
 
 -- ---- how long a piece is
 
--- one chunk, and none behind it
-pub none_behind : (size len : ℕ) → (len ≤ len) × ((len - len) % size ≡ 0)
-none_behind size len =
-    let none : len - len ≡ 0 = omega arith in
-    (omega arith, ap (λ (n : ℕ). n % size) none ∙ zero-mod size)
-
 -- fours of chunks are one, and whole chunks behind it
 pub fours_behind : (m size len : ℕ) → 1 ≤ m → len ≡ size → (len ≤ 4 * (m * size)) × ((4 * (m * size) - len) % size ≡ 0)
 fours_behind zero size len h e = absurd (omega arith)

@@ -35,12 +35,21 @@ pub fn write_sums_and_copy(
 {
     match kind {
         SumKind::Null => append(copy, body),
-        SumKind::Crc32 | SumKind::Crc32c => write_and_copy(kind, body, first_len, chunk, into, copy),
+        SumKind::Crc32 | SumKind::Crc32c => write_and_copy(
+            kind, body, first_len, chunk, into, copy,
+        ),
     }
 }
 
 /// Writes the sums of the chunks of a body and copies it, where chunks have sums.
-fn write_and_copy(kind: SumKind, body: &[u8], first_len: u64, chunk: u64, into: &mut [u8], copy: &mut Vec<u8>)
+fn write_and_copy(
+    kind: SumKind,
+    body: &[u8],
+    first_len: u64,
+    chunk: u64,
+    into: &mut [u8],
+    copy: &mut Vec<u8>,
+)
     requires has_sum { HasSum kind }
     requires chunk_positive { 1 ≤ chunk }
     requires first_positive { 1 ≤ first_len }
@@ -52,9 +61,25 @@ fn write_and_copy(kind: SumKind, body: &[u8], first_len: u64, chunk: u64, into: 
     if !has_four(body.len() as u64, chunk, chunk) {
         write_and_copy_over::<0>(kind, body, first_len, chunk, into, copy, &mut []);
     } else if chunk <= USUAL {
-        write_and_copy_over::<USUAL_LANE>(kind, body, first_len, chunk, into, copy, &mut [Lanes::new()]);
+        write_and_copy_over::<USUAL_LANE>(
+            kind,
+            body,
+            first_len,
+            chunk,
+            into,
+            copy,
+            &mut [Lanes::new()],
+        );
     } else {
-        write_and_copy_over::<LONG_LANE>(kind, body, first_len, chunk, into, copy, &mut [Lanes::new()]);
+        write_and_copy_over::<LONG_LANE>(
+            kind,
+            body,
+            first_len,
+            chunk,
+            into,
+            copy,
+            &mut [Lanes::new()],
+        );
     }
 }
 

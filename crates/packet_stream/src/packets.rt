@@ -37,7 +37,12 @@ pub(crate) fn data_packet(
 }
 
 /// The sums of bytes that begin here, each computed once, and a copy of the bytes, made in the same pass.
-fn summed_copy(alloc: Global, rule: SumRule, start: u64, body: &[u8]) -> Result<(Bytes, Bytes), AllocError>
+fn summed_copy(
+    alloc: Global,
+    rule: SumRule,
+    start: u64,
+    body: &[u8],
+) -> Result<(Bytes, Bytes), AllocError>
     requires { length body.now ≤ BLOCK_LIMIT }
     ensures sums { IfOk result (λ x. x.0 ≡ sums_from rule start body.now) }
     ensures copied { IfOk result (λ x. x.1 ≡ body.now) }
