@@ -202,6 +202,7 @@ module _ {F R I O : Type 0} (r : roads.Ghosts R I O) (i : link_in.Ghosts I) (o :
             lower = a.lower;
             fields_are = refl;
             mirror_is = refl;
+            acts = refl;
             shows = record {
               node = ap (λ (y : NodeId). y.0) (h.exchanged.rest.node ∙ h.ends.same.node) ∙ (h.unset.node ∙ sym a.node);
               op = h.exchanged.rest.op ∙ (h.ends.same.op ∙ h.unset.op);

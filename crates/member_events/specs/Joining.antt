@@ -36,7 +36,7 @@ use Rattle.member_events.specs.declared.joining.MirrorDial.TheVariants as dial
 use Rattle.member_events.specs.declared.faults.MemberFault.{MemberFault}
 use Rattle.member_events.specs.declared.faults.MemberFault.TheVariants as fault
 use Rattle.member_events.specs.Faults.{IsCaused}
-use Rattle.member_events.specs.Showing.{ShowsWorld, MemberShows, IsOver, OthersStay}
+use Rattle.member_events.specs.Showing.{ShowsWorld, MemberShows, both_act, IsOver, OthersStay}
 use Rattle.member_events.specs.Texts.{SpellUp}
 
 -- THE MIRROR
@@ -121,13 +121,14 @@ pub record CanJoin (w : World) (conn : ConnId) (fields : WriteFields) : Type 0 w
 
 -- AFTER THE EVENT
 
--- An open member of this request, with or without a mirror.
+-- An open member of this request, both of whose sides act, with or without a mirror.
 pub record OpenJoins {I O : Type 0} (i : link_in.Ghosts I) (o : link_out.Ghosts O) (v : World) (made : Net) (c : ℕ)
     (fields : WriteFields) (mirror : Option ℕ) (m : Member I O) : Type 0 where
   pub full : FullMember
   pub lower : v.lowers c ≡ writes full
   pub fields_are : full.fields ≡ fields
   pub mirror_is : full.mirror ≡ mirror
+  pub acts : both_act full ≡ true
   pub shows : MemberShows i o v made c full m
 
 -- One that no longer acts.
