@@ -72,11 +72,11 @@ came_to i the_end known known' old new half half' spelled held none h =
 -- THE WORLD
 
 -- A world in which something was taken has the same writers and office.
-record TakenClients (w : World) (c : ℕ) (x : Next) : Type 0 where
-  writers : (up_taken w c x).writers ≡ w.writers
-  office : (up_taken w c x).office ≡ w.office
+pub record TakenClients (w : World) (c : ℕ) (x : Next) : Type 0 where
+  pub writers : (up_taken w c x).writers ≡ w.writers
+  pub office : (up_taken w c x).office ≡ w.office
 
-taken_clients : (w : World) (c : ℕ) (x : Next) → TakenClients w c x
+pub taken_clients : (w : World) (c : ℕ) (x : Next) → TakenClients w c x
 unfolding up_taken
 taken_clients w c x = record { writers = refl; office = refl }
 

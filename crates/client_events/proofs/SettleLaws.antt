@@ -39,7 +39,7 @@ use Rattle.client_events.specs.Steps.{GivesBack, IsSettled}
 -- CAUSES
 
 module _ {R I O : Type 0} (r : roads.Ghosts R I O) (i : link_in.Ghosts I) (o : link_out.Ghosts O) where
-  road_caused : (conn : Option ℕ) (first road road' : R) (why : ClientFault) → r.faults first ≤ r.faults road → IsRoadFault (r.faults road) (r.faults road') why → IsCaused r conn first road' why
+  pub road_caused : (conn : Option ℕ) (first road road' : R) (why : ClientFault) → r.faults first ≤ r.faults road → IsRoadFault (r.faults road) (r.faults road') why → IsCaused r conn first road' why
   road_caused conn first road road' fault.RoadsFailed h k = rises_from (r.faults first) (r.faults road) (r.faults road') h k
   road_caused conn first road road' fault.Memory h k = tt
   road_caused conn first road road' fault.LinkFailed h k = absurd k
@@ -64,7 +64,7 @@ pub record HasActed {I O : Type 0} (i : link_in.Ghosts I) (o : link_out.Ghosts O
   pub others : OthersStay i o w first w1 net (Some c)
 
 module _ {R I O : Type 0} (r : roads.Ghosts R I O) (i : link_in.Ghosts I) (o : link_out.Ghosts O) where
-  away_from : (conn : Option ℕ) (c d : ℕ) (lower : Bool) → conn ≡ Some c → IfSome conn (λ n. IsElsewhere n false d lower) → IsElsewhere c false d lower
+  pub away_from : (conn : Option ℕ) (c d : ℕ) (lower : Bool) → conn ≡ Some c → IfSome conn (λ n. IsElsewhere n false d lower) → IsElsewhere c false d lower
   away_from conn c d lower is none = subst (λ (n : Option ℕ). IfSome n (λ z. IsElsewhere z false d lower)) is none
 
   kept_left : (w w1 : World) (first net : Net) (e : Event) (b c : ℕ) (office : OfficeState) (k : Change) (x : WriterRecord) (ms : List Message) (over : Bool) (at_end new : Conn I O) (incoming received : IncomingState) (road road' : R)
@@ -96,7 +96,7 @@ module _ {R I O : Type 0} (r : roads.Ghosts R I O) (i : link_in.Ghosts I) (o : l
             (stays r i o w1 v net c false d l y (away_from (w.writers b).conn c d l h.conn none) (same d l) (h.others d l y (away_from (w.writers b).conn c d l h.conn none) z)).exchanged false false (map text_of ms);
       }
 
-  given_left : (w w1 : World) (first net : Net) (e : Event) (b c : ℕ) (office : OfficeState) (k : Change) (x : WriterRecord) (ms : List Message) (over : Bool) (at_end : Conn I O) (incoming : IncomingState) (road road' : R)
+  pub given_left : (w w1 : World) (first net : Net) (e : Event) (b c : ℕ) (office : OfficeState) (k : Change) (x : WriterRecord) (ms : List Message) (over : Bool) (at_end : Conn I O) (incoming : IncomingState) (road road' : R)
       → HasActed i o w w1 first net e b c office k x ms over at_end incoming → is_connected x.phase ≡ false → RoadsAt r net road → GivesBack r i o at_end road road'
       → ClientLeft r i o w first (happens w e) b office x pipe.Closed road'
   given_left w w1 first net e b c office k x ms over at_end incoming road road' h off at g =

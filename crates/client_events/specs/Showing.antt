@@ -1,5 +1,7 @@
 -- A writer, its connection, the office and the roads show a world.
 use Rattle.std.specs.Prelude.{◌≡◌, ℕ, Bool, false, Option, Some, None, IfSome}
+use Rattle.hd_base.specs.Channels.{Plain}
+use Rattle.hd_base.specs.Ends.{IsKnown}
 use Rattle.hd_base.specs.declared.ends.Conn.{Conn}
 use Rattle.hd_base.specs.declared.links.LinkIn as link_in
 use Rattle.hd_base.specs.declared.links.LinkOut as link_out
@@ -7,10 +9,11 @@ use Rattle.hd_base.specs.declared.roads.Roads as roads
 use Rattle.link_messages.specs.Incomings.{IncomingState, nothing_received}
 use Rattle.name_core.specs.Offices.{OfficeState}
 use Rattle.pipe_recovery.specs.declared.links.Link.{Link}
+use Rattle.pipe_recovery.specs.Dialling.{LinkIsKnown}
 use Rattle.pipe_recovery.specs.Hearing.{nothing_heard}
 use Rattle.road_traffic.specs.Showing.{Net}
 use Rattle.world.specs.Worlds.{World}
-use Rattle.world_nets.specs.Nets.{IsEndOf, is_over}
+use Rattle.world_nets.specs.Nets.{IsNetOf, IsEndOf, is_over}
 use Rattle.world_nets.specs.Ends.{IsElsewhere}
 use Rattle.writer_core.specs.declared.records.WriterRecord.{WriterRecord}
 use Rattle.member_events.specs.Showing.{ShowsWorld}
@@ -45,6 +48,12 @@ PipeShows i o w net conn pipe.Closed = conn ≡ None
 PipeShows i o w net conn (pipe.SettingUp setup) = LinkShows i o w net conn setup.link
 PipeShows i o w net conn (pipe.Streaming end incoming) = StreamShows i o w net conn end incoming
 
+-- The roads know the end of the connection, if there is one.
+abbrev pub PipeIsKnown : {I O : Type 0} → Option Plain → Pipe I O → Type 0
+PipeIsKnown plain pipe.Closed = Unit {0}
+PipeIsKnown plain (pipe.SettingUp setup) = LinkIsKnown plain setup.link
+PipeIsKnown plain (pipe.Streaming end incoming) = IsKnown plain end.id.0
+
 -- WRITERS
 
 -- A block's writer, for which no answer of the office waits, its connection, the office, and roads that show that world.
@@ -73,3 +82,8 @@ pub record ClientLeft {R I O : Type 0} (r : roads.Ghosts R I O) (i : link_in.Gho
   pub made : Net
   pub stands : ClientStands r i o v made b office known left road
   pub others : OthersStay i o w net v made (w.writers b).conn
+
+-- The roads and ends that show the first world show the second one: nothing was sent, taken or shut.
+pub record StayShown (w v : World) : Type 0 where
+  pub nets : (net : Net) → IsNetOf w net → IsNetOf v net
+  pub over : (c : ℕ) (lower : Bool) → is_over v c lower ≡ is_over w c lower

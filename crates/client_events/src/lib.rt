@@ -2,11 +2,16 @@
 //! that show it, to what shows the world after the event.
 #![tactic(auto)]
 
+mod acting;
+mod completing;
 mod faults;
 mod hearing;
 mod pipes;
+mod sending;
 mod steps;
 
+pub use acting::{Acted, Said, act};
+pub use completing::complete;
 pub use faults::ClientFault;
 pub use hearing::hear_ack;
 pub use pipes::Pipe;

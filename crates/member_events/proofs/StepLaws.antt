@@ -66,7 +66,7 @@ response_within r h = spelled_within (response_message r) (SaysResponse r) h (fi
 sized : (r : Response) → length (response_message r) ≤ limit → listed (sized_response r) ≡ response_text r ∷ []
 sized r h = let test : nat_le (length (response_message r)) limit ≡ true = grind (arith, nat_tests) in rw test refl
 
-last_of : {A : Type 0} (xs : List A) (x : A) → slice_get (xs ++ x ∷ []) (length xs) ≡ Some x
+pub last_of : {A : Type 0} (xs : List A) (x : A) → slice_get (xs ++ x ∷ []) (length xs) ≡ Some x
 last_of [] x = refl
 last_of (y ∷ xs) x = last_of xs x
 
