@@ -263,6 +263,16 @@ module _ {D : Type 0} (d : desks.Ghosts D) where
   pub complete_memory : (known known' : WriterRecord) (desk desk' : D) (why : ClientFault) → why ≡ fault.Memory → CompleteShows d known known' desk desk' (Err why)
   complete_memory known known' desk desk' why h = λ w block answered can. h
 
+closes_err : (q : Bool) (w w' : WriterRecord) (why : ClientFault) → Closes q w w' (Err why) → why ≡ fault.Memory
+closes_err true w w' why c = c
+closes_err false w w' why c = cc (c.1)
+
+-- What is left, or memory ran out.
+pub complete_shows : {D : Type 0} (d : desks.Ghosts D) (known asked told known' : WriterRecord) (c : OfficeCall) (desk desk' : D) (result : Result (Option Said) ClientFault) → action.Ask c ≡ (own_step known).action → asked ≡ (own_step known).writer → Puts d c asked told desk desk' (Ok tt)
+    → Closes (is_completed told.phase) told known' result → CompleteShows d known known' desk desk' result
+complete_shows d known asked told known' c desk desk' (Ok said) is_c is_asked puts closes = complete_left d known asked told known' c desk desk' said is_c is_asked puts closes
+complete_shows d known asked told known' c desk desk' (Err why) is_c is_asked puts closes = complete_memory d known known' desk desk' why (closes_err (is_completed told.phase) told known' why closes)
+
 -- What shows the world before shows it after.
 pub completed_stands : {R I O D : Type 0} (r : roads.Ghosts R I O) (i : link_in.Ghosts I) (o : link_out.Ghosts O) (d : desks.Ghosts D) (w : World) (net : Net) (v : World) (b : ℕ) (office : OfficeState) (known : WriterRecord) (desk : D) (said : Option Said) (road : R)
     → ClientStands r i o w net b office (w.writers b).known pipe.Closed road → CompleteLeft d w v b known desk said → ClientLeft r i o w net v b v.office known pipe.Closed road
