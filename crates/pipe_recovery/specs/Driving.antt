@@ -1,5 +1,5 @@
 -- The setup of a pipeline, from its first step to its last.
-use Rattle.std.specs.Prelude.{◌≡◌, ◌⊎◌, false, List, [], ◌∷◌, Option, None}
+use Rattle.std.specs.Prelude.{◌≡◌, ◌⊎◌, false, List, [], ◌∷◌, Option, None, Bool}
 use Rattle.hd_base.specs.declared.links.LinkIn as link_in
 use Rattle.hd_base.specs.declared.links.LinkOut as link_out
 use Rattle.hd_base.specs.declared.roads.Roads as roads
@@ -18,10 +18,11 @@ pub record Place (D R I O : Type 0) : Type 0 where
   pub office : D
   pub road : R
 
--- A step leads from one place to another, and ends so.
+-- A step leads from one place to another, and ends so; it may lose an end.
 abbrev pub Leads : {D R I O : Type 0} → desk.Ghosts D → roads.Ghosts R I O → link_in.Ghosts I → link_out.Ghosts O
     → Place D R I O → Place D R I O → RebuildStep I O → Type 0
-Leads d r i o a b result = Steps d r i o a.writer b.writer a.link b.link a.office b.office a.road b.road result
+Leads d r i o a b result = (lost : Bool) ×
+    Steps d r i o a.writer b.writer a.link b.link a.office b.office a.road b.road lost result
 
 -- It didn't end the setup.
 abbrev pub LeadsOn : {D R I O : Type 0} → desk.Ghosts D → roads.Ghosts R I O → link_in.Ghosts I → link_out.Ghosts O

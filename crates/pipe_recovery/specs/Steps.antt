@@ -1,5 +1,5 @@
 -- The steps of a setup.
-use Rattle.std.specs.Prelude.{◌≡◌, not, ◌||◌, Bool, true, false, Option, Some, None}
+use Rattle.std.specs.Prelude.{◌≡◌, not, ◌||◌, Bool, true, false, Option, Some, None, is_err}
 use Rattle.hd_base.specs.declared.links.LinkIn as link_in
 use Rattle.hd_base.specs.declared.links.LinkOut as link_out
 use Rattle.hd_base.specs.declared.roads.Roads as roads
@@ -191,14 +191,27 @@ Settles r i o true link link' old new = (link' ≡ link) × (new ≡ old)
 Settles r i o false None link' old new = (link' ≡ None) × (new ≡ old)
 Settles r i o false (Some l) link' old new = (link' ≡ None) × GivesUp r i o l.end old new
 
--- A step: its action, a connection that is given up, and how it ends.
+-- whether the end that is given up is lost: there was no memory to bring it back
+abbrev pub is_lost : {R I O : Type 0} → (r : roads.Ghosts R I O) → (i : link_in.Ghosts I) → (o : link_out.Ghosts O)
+    → (keeps : Bool) → (link link' : Option (Link I O)) → (old new : R) → Settles r i o keeps link link' old new → Bool
+is_lost r i o true link link' old new s = false
+is_lost r i o false None link' old new s = false
+is_lost r i o false (Some l) link' old new s = is_err s.1.result
+
+-- The same, and it is told whether an end is lost.
+pub record SettlesTold {R I O : Type 0} (r : roads.Ghosts R I O) (i : link_in.Ghosts I) (o : link_out.Ghosts O)
+    (keeps : Bool) (link link' : Option (Link I O)) (old new : R) (lost : Bool) : Type 0 where
+  pub settles : Settles r i o keeps link link' old new
+  pub told : lost ≡ is_lost r i o keeps link link' old new settles
+
+-- A step: its action, a connection that is given up, whether its end is lost, and how it ends.
 pub record Steps {D R I O : Type 0} (d : desk.Ghosts D) (r : roads.Ghosts R I O) (i : link_in.Ghosts I)
     (o : link_out.Ghosts O) (w w' : WriterRecord) (link link' : Option (Link I O)) (office office' : D) (old new : R)
-    (result : RebuildStep I O) : Type 0 where
+    (lost : Bool) (result : RebuildStep I O) : Type 0 where
   pub acted : Acted
   pub held : Option (Link I O)
   pub kept : Option (Link I O)
   pub middle : R
   pub acts : Acts d r i o w.phase w w' link held office office' old middle acted
-  pub settles : Settles r i o (keeps_link w'.phase) held kept middle new
+  pub settles : SettlesTold r i o (keeps_link w'.phase) held kept middle new lost
   pub reports : Reports i acted w' kept link' result

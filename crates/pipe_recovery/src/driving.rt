@@ -27,7 +27,7 @@ pub fn rebuild<H: Wait, D: Desk, R: Roads>(
     let mut setup = Rebuild::new();
     'steps: for _ in rt.forever() {
         if let RebuildStep::Ended(rebuilt) = setup.step(alloc, writer, office, roads) {
-            setup.give_up(alloc, roads);
+            let _lost = setup.give_up(alloc, roads);
             return rebuilt;
         }
     }

@@ -17,7 +17,7 @@ ghost use Rattle.pipe_recovery.specs.Steps.{
   Takes,
   WaitsOn,
   Waits,
-  Settles,
+  SettlesTold,
   Steps,
   StillFits,
 };
@@ -29,7 +29,6 @@ use crate::links::Link;
 use crate::naming::named_member;
 use hd_base::{Conn, ConnId, LinkIn, LinkOut, NodeId, Roads, Stamp};
 use link_messages::Incoming;
-use link_pieces::give_up;
 use name_core::{Desk, OfficeFault};
 use std::alloc::Global;
 use writer_core::{Phase, Setup, Writer};
@@ -39,6 +38,8 @@ use writer_core::{Phase, Setup, Writer};
 pub struct Rebuild<I, O> {
     /// The writer's connection, once its dial was answered.
     pub(crate) link: Option<Link<I, O>>,
+    /// Whether the last step lost an end.
+    pub(crate) lost: bool,
 }
 
 /// How the setup of a pipeline ended.
@@ -75,9 +76,20 @@ pub enum RebuildStep<I, O> {
 impl<I: LinkIn, O: LinkOut> Rebuild<I, O> {
     /// The setup of a pipeline of which nothing was done.
     pub fn new() -> Rebuild<I, O>
-        ensures { result.link ≡ None }
+        ensures { result ≡ record { link = None; lost = false } }
     {
-        Rebuild { link: None }
+        Rebuild {
+            link: None,
+            lost: false,
+        }
+    }
+
+    /// Whether the last step lost the end of a connection that the writer no longer has: it was shut, and there was no
+    /// memory to bring it back.
+    pub fn has_lost(&self) -> bool
+        ensures { result ≡ self.now.lost }
+    {
+        self.lost
     }
 
     /// The writer's connection, where the setup holds its end.
@@ -113,7 +125,7 @@ impl<I: LinkIn, O: LinkOut> Rebuild<I, O> {
     /// Does the writer's own step, or takes the answer to its request: asks the office and goes on with the dial,
     /// dials and sends the request, or takes a command while the answer is awaited. Before a stamp is committed it
     /// takes what the roads were asked to give on the connection, so that an end there is a setup that failed. A
-    /// connection that the writer no longer has is given up.
+    /// connection that the writer no longer has is given up; `has_lost` says whether its end was lost then.
     pub fn step<D: Desk, R: Roads<Inward = I, Outward = O>>(
         &mut self,
         alloc: Global,
@@ -124,13 +136,15 @@ impl<I: LinkIn, O: LinkOut> Rebuild<I, O> {
         requires fits { fits_in writer.old.phase (is_some self.old.link) ≡ true }
         requires known { LinkIsKnown (R.plain roads.old) self.old.link }
         ensures steps { Steps D.Desk R.Roads I.LinkIn O.LinkOut writer.old writer.new
-            self.old.link self.new.link office.old office.new roads.old roads.new result }
+            self.old.link self.new.link office.old office.new roads.old roads.new self.new.lost result }
         ensures fits { StillFits writer.new.phase (is_some self.new.link) result }
         ensures known { LinkIsKnown (R.plain roads.new) self.new.link }
     {
         let acted = self.act(alloc, writer, office, roads);
-        self.settle(alloc, writer, roads);
-        self.report(acted, writer)
+        let lost = self.settle(alloc, writer, roads);
+        let step = self.report(acted, writer);
+        self.lost = lost;
+        step
     }
 
     /// Does the writer's own step, or takes the answer to its request.
@@ -215,36 +229,41 @@ impl<I: LinkIn, O: LinkOut> Rebuild<I, O> {
         }
     }
 
-    /// Gives up a connection that the writer doesn't have.
+    /// Gives up a connection that the writer doesn't have. Answers whether its end was lost.
     fn settle<R: Roads<Inward = I, Outward = O>>(
         &mut self,
         alloc: Global,
         writer: &Writer,
         roads: &mut R,
-    )
+    ) -> bool
         requires known { LinkIsKnown (R.plain roads.old) self.old.link }
-        ensures settles { Settles R.Roads I.LinkIn O.LinkOut (keeps_link writer.now.phase)
-            self.old.link self.new.link roads.old roads.new }
+        ensures settles { SettlesTold R.Roads I.LinkIn O.LinkOut (keeps_link writer.now.phase)
+            self.old.link self.new.link roads.old roads.new result }
         ensures known { LinkIsKnown (R.plain roads.new) self.new.link }
     {
-        if !keeps_link(writer) {
-            self.give_up(alloc, roads);
+        if keeps_link(writer) {
+            return false;
         }
+        self.give_up(alloc, roads)
     }
 
-    /// Gives up the connection, if there is one.
+    /// Gives up the connection, if there is one. Answers whether its end was lost.
     pub(crate) fn give_up<R: Roads<Inward = I, Outward = O>>(
         &mut self,
         alloc: Global,
         roads: &mut R,
-    )
+    ) -> bool
         requires known { LinkIsKnown (R.plain roads.old) self.old.link }
-        ensures settles { Settles R.Roads I.LinkIn O.LinkOut false self.old.link self.new.link roads.old roads.new }
+        ensures settles { SettlesTold R.Roads I.LinkIn O.LinkOut false
+            self.old.link self.new.link roads.old roads.new result }
         ensures known { LinkIsKnown (R.plain roads.new) self.new.link }
     {
-        if let Some(link) = self.link.take() {
-            give_up(alloc, roads, link.end);
-        }
+        let Some(link) = self.link.take() else {
+            return false;
+        };
+        let mut end = link.end;
+        end.outward.shut();
+        roads.bring(alloc, end).is_err()
     }
 }
 

@@ -15,11 +15,11 @@ pub returns-in-Ended : goal.returns-in-Ended
 returns-in-Ended g c = record {
   before = record { writer = c.steps.writer; link = c.steps.setup.link; office = c.steps.office; road = c.steps.roads };
   link = c.step.new.self.link;
-  rest = c.give_up.new.self.link;
+  rest = c.give_up-lost.new.self.link;
   road = c.step.new.roads;
   comes = c.steps.invariant.comes;
-  ends = rw c.in-Ended.is at c.step.ensures.steps;
-  given_up = c.give_up.ensures.settles;
+  ends = (c.step.new.self.lost, rw c.in-Ended.is at c.step.ensures.steps);
+  given_up = c.give_up-lost.ensures.settles.settles;
 }
 
 pub steps-preserved : goal.steps-preserved
@@ -32,7 +32,7 @@ steps-preserved g c = record {
       (goes-on-leads g.D.Desk g.R.Roads g.R.Inward.LinkIn g.R.Outward.LinkOut
       (record { writer = c.steps.writer; link = c.steps.setup.link; office = c.steps.office; road = c.steps.roads })
       (record { writer = c.step.new.writer; link = c.step.new.self.link; office = c.step.new.office; road = c.step.new.roads })
-      c.step.result c.in_default.not-Ended c.step.ensures.steps);
+      c.step.result c.in_default.not-Ended (c.step.new.self.lost, c.step.ensures.steps));
   fits = goes-on-fits c.step.result c.step.new.writer.phase (is_some c.step.new.self.link) c.in_default.not-Ended c.step.ensures.fits;
   known = c.step.ensures.known;
 }
