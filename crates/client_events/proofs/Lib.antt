@@ -2,3 +2,5 @@ pub mod SettleLaws
 pub mod HearLaws
 pub mod ActLaws
 pub mod CompleteLaws
+pub mod AnswerLaws
+pub mod AnswerEnds

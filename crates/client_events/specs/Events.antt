@@ -1,5 +1,5 @@
 -- What the events of a writer make of roads, connection and writer that show a world: what shows the world after the event.
-use Rattle.std.specs.Prelude.{◌≡◌, ℕ, Bool, true, ◌++◌, Option, Some, None, IfSome, slice_get, Result, Ok, Err}
+use Rattle.std.specs.Prelude.{◌≡◌, ◌≢◌, ℕ, Bool, true, List, [], ◌++◌, Option, Some, None, IfSome, slice_get, Result, Ok, Err}
 use Rattle.hd_base.specs.declared.numbers.BlockId.{BlockId}
 use Rattle.hd_base.specs.declared.ends.Conn.{Conn}
 use Rattle.hd_base.specs.declared.numbers.ConnId.{ConnId}
@@ -15,7 +15,7 @@ use Rattle.world.specs.declared.events.Event.{Event}
 use Rattle.world.specs.declared.events.Event.TheVariants as event
 use Rattle.world.specs.declared.events.OwnStep.TheVariants as own
 use Rattle.world.specs.declared.events.TakenCommand.{TakenCommand}
-use Rattle.world.specs.Parts.{Message, ack, by_writer}
+use Rattle.world.specs.Parts.{Message, ack, response, by_writer}
 use Rattle.world.specs.Clients.{ruled}
 use Rattle.world.specs.Worlds.{World}
 use Rattle.world.specs.Connections.{Next, message, the_end}
@@ -32,7 +32,9 @@ use Rattle.client_events.specs.declared.faults.ClientFault.{ClientFault}
 use Rattle.client_events.specs.declared.faults.ClientFault.TheVariants as fault
 use Rattle.client_events.specs.declared.pipes.Pipe.{Pipe}
 use Rattle.client_events.specs.declared.pipes.Pipe.TheVariants as pipe
+use Rattle.pipe_recovery.specs.declared.rebuilding.Rebuild.{Rebuild}
 use Rattle.client_events.specs.Acting.{said_in}
+use Rattle.client_events.specs.Answering.{IsWaiting}
 use Rattle.client_events.specs.Faults.{IsCaused}
 use Rattle.client_events.specs.Showing.{ClientStands, ClientLeft, StayShown}
 
@@ -147,3 +149,29 @@ abbrev pub CompleteShows : {D : Type 0} → desks.Ghosts D → WriterRecord → 
 CompleteShows d known known' desk desk' result =
     (w : World) (block : BlockId) (answered : Bool) → CanComplete d w block.0 known desk
     → CompleteEnds d w (asked_world w block answered) block.0 known' desk' result
+
+-- HEARING THE ANSWER TO A REQUEST
+
+-- What comes to a writer that waits for the answer to its request: an answer that is spelled as it is written, or the
+-- end.
+abbrev pub IsAnswerNext : Next → Type 0
+IsAnswerNext (message (response r)) = SpellsText (response r)
+IsAnswerNext (message other) = ⊥
+IsAnswerNext the_end = Unit {0}
+
+-- The writer of a block waits for the answer to its request, and takes what stands next on its connection. That it has
+-- members then, and that this is an answer, holds after all events (messages_are_taken_in_order).
+pub record CanHearAnswer (w : World) (conn : ConnId) (b : ℕ) (known : WriterRecord) (x : Next) : Type 0 where
+  pub comes : ComesUp w conn.0 x
+  pub conn_is : (w.writers b).conn ≡ Some conn.0
+  pub upper : (w.dialled conn.0).upper ≡ by_writer b
+  pub answers : IsAnswerNext x
+  pub waits : IsWaiting known.phase
+  pub members : known.members ≢ []
+
+abbrev pub AnswerShows : {R I O : Type 0} → roads.Ghosts R I O → link_in.Ghosts I → link_out.Ghosts O → WriterRecord →
+    WriterRecord → Rebuild I O → R → R → Result (Pipe I O) ClientFault → Type 0
+AnswerShows r i o known known' setup road road' result =
+    (w : World) (net : Net) (b : ℕ) (office : OfficeState) (conn : ConnId) (x : Next) →
+    ClientStands r i o w net b office known (pipe.SettingUp setup) road → CanHearAnswer w conn b known x
+    → EventEnds r i o w net (happens w (event.Up conn)) b office known' road road' result

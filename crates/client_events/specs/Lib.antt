@@ -4,5 +4,6 @@ pub mod Hearing
 pub mod Sending
 pub mod Acting
 pub mod Completing
+pub mod Answering
 pub mod Showing
 pub mod Events

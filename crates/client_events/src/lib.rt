@@ -3,6 +3,7 @@
 #![tactic(auto)]
 
 mod acting;
+mod answering;
 mod completing;
 mod faults;
 mod hearing;
@@ -11,6 +12,7 @@ mod sending;
 mod steps;
 
 pub use acting::{Acted, Said, act};
+pub use answering::hear_answer;
 pub use completing::complete;
 pub use faults::ClientFault;
 pub use hearing::hear_ack;
