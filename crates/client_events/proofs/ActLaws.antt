@@ -301,7 +301,7 @@ module _ {R I O : Type 0} (r : roads.Ghosts R I O) (i : link_in.Ghosts I) (o : l
       let none : (w.writers b).conn ≡ None = stands.pipe_is in
       let flushes : SendsBy w k [] = subst (λ (n : Option ℕ). SendsBy w k (upper_flushes n (not (is_connected x.phase)) (action_sends s.action))) none ((writer-sends w b x).does done.waits s.action done.bytes k done.is) in
       subst (λ (y : R). ClientLeft r i o w net (happens w e) b office x left y) (sym f.1)
-      (subst (λ (y : Pipe I O). ClientLeft r i o w net (happens w e) b office x y road) (some_left pipe.Closed left (sym f.0))
+      (subst (λ (y : Pipe I O). ClientLeft r i o w net (happens w e) b office x y road) (some_left left pipe.Closed f.0)
       (still_left w net e b office k s.action x pipe.Closed road out flushes (done_to w b done.waits s.action x done.bytes k done.is) stands (λ v same. if_none (is_connected x.phase) (w.writers b).conn none)))
   act_left w net e b office k s (pipe.SettingUp setup) left road road' out done stands keeps spelled f =
       let x : WriterRecord = s.writer in
@@ -311,7 +311,7 @@ module _ {R I O : Type 0} (r : roads.Ghosts R I O) (i : link_in.Ghosts I) (o : l
       let flushes : SendsBy w k [] = unsent w k conn (subst (λ (q : Bool). SendsBy w k (upper_flushes conn (not q) [])) keeps.1 quiet) in
       let has : (writing_as x conn).conn ≡ conn = ap (λ (q : Bool). if q then conn else None) keeps.1 in
       subst (λ (y : R). ClientLeft r i o w net (happens w e) b office x left y) (sym f.1)
-      (subst (λ (y : Pipe I O). ClientLeft r i o w net (happens w e) b office x y road) (some_left (pipe.SettingUp setup) left (sym f.0))
+      (subst (λ (y : Pipe I O). ClientLeft r i o w net (happens w e) b office x y road) (some_left left (pipe.SettingUp setup) f.0)
       (still_left w net e b office k s.action x (pipe.SettingUp setup) road out flushes (done_to w b done.waits s.action x done.bytes k done.is) stands
       (λ v same. subst (λ (n : Option ℕ). LinkShows i o v net n setup.link) (sym has) (link_moves w v net conn setup.link same stands.pipe_is))))
   act_left w net e b office k s (pipe.Streaming at_end incoming) left road road' out done stands keeps spelled f =
@@ -340,3 +340,6 @@ module _ {R I O : Type 0} (r : roads.Ghosts R I O) (i : link_in.Ghosts I) (o : l
   -- Why it failed.
   pub act_failed : (known known' : WriterRecord) (on : Bool) (a : Action) (connection : Pipe I O) (road road' : R) (why : ClientFault) → IsFollowed r i o on a connection road road' (Err why) → ActShows r i o known known' connection road road' (Err why)
   act_failed known known' on a connection road road' why f = λ w net block office takes answered stands can. act_caused r i o w net (w.writers block.0).conn on a connection road road' why stands.pipe_is f
+
+  pub act_failed_as : (known known' : WriterRecord) (on : Bool) (a : Action) (connection : Pipe I O) (road road' : R) (result : Result (Acted I O) ClientFault) (why : ClientFault) → result ≡ Err why → IsFollowed r i o on a connection road road' (Err why) → ActShows r i o known known' connection road road' result
+  act_failed_as known known' on a connection road road' result why is f = subst (λ (x : Result (Acted I O) ClientFault). ActShows r i o known known' connection road road' x) (sym is) (act_failed known known' on a connection road road' why f)

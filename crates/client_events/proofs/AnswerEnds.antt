@@ -355,3 +355,7 @@ module _ {R I O : Type 0} (r : roads.Ghosts R I O) (i : link_in.Ghosts I) (o : l
   -- The exchange failed.
   pub answer_untaken : (setup : Rebuild I O) (known known' : WriterRecord) (road road' : R) (why : ClientFault) → TakesLink r i o setup.link road road' (Err why) → AnswerShows r i o known known' setup road road' (Err why)
   answer_untaken setup known known' road road' why h = λ w net b office conn x stands can. road_caused r i o (w.writers b).conn road road road' why (same_count (r.faults road)) h
+
+  -- The office is as it was.
+  pub answer_office : {D : Type 0} (d : desks.Ghosts D) (known known' : WriterRecord) (link link' : Option (Link I O)) (desk desk' : D) (road road' : R) (lost : Bool) (ends : RebuildStep I O) → IsWaiting known.phase → Steps d r i o known known' link link' desk desk' road road' lost ends → desk' ≡ desk
+  answer_office d known known' link link' desk desk' road road' lost ends waits steps = (waits_acts d known.phase known known' link steps.held desk desk' road steps.middle steps.acted waits steps.acts).0
