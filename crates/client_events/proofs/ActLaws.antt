@@ -84,7 +84,7 @@ done_taking w b x t k h =
       waits = y.waiting;
       bytes = command_bytes y t.command;
       is = if_some (is_empty s.writer.queue) (did_step w b y.waiting s (command_bytes y t.command)) k
-      (if_some (is_formed t.command t.rule && not (is_empty (given x t.command).queue)) (takes_given w b y t.command) k h);
+          (if_some (is_formed t.command t.rule && not (is_empty (given x t.command).queue)) (takes_given w b y t.command) k h);
     }
 
 done_by : (w : World) (b : ℕ) (x : WriterRecord) (takes : Option TakenCommand) (answered : Bool) (k : Change) → writer_step w b x None takes answered ≡ Some k → HasDone w b (own_step (given_to x takes)) k
@@ -171,7 +171,7 @@ module _ {I O : Type 0} (i : link_in.Ghosts I) (o : link_out.Ghosts O) where
         side = k.side;
         within = k.within;
         is = sent-shows i o net.traffic [] inbox (packet_text p) middle new (record { id = refl; lower = refl; inward = refl }) s.sent
-        (quiet-shows i o net.traffic false [] inbox e middle (record { id = refl; lower = refl; inward = refl }) s.room k.is);
+            (quiet-shows i o net.traffic false [] inbox e middle (record { id = refl; lower = refl; inward = refl }) s.room k.is);
         taking = k.taking;
       }
   held_sent net inbox c other e half spelled s k = subst (λ (h : O). HeldAt i o net false [] inbox c false (record e { outward = h })) (sym s.0) k
@@ -333,7 +333,7 @@ module _ {R I O : Type 0} (r : roads.Ghosts R I O) (i : link_in.Ghosts I) (o : l
       let to = done_to w b done.waits s.action s.writer done.bytes d.change done.is in
       record {
         shows = subst (λ (y : WriterRecord). ClientLeft r i o w net (happens w e) b office y left road') (sym is_x)
-        (act_left w net e b office d.change s connection left road road' d.out done stands can.keeps can.spelled does);
+            (act_left w net e b office d.change s connection left road road' d.out done stands can.keeps can.spelled does);
         said = ap (λ (u : World). u.said b) (happened w (apply w d.change) e d.out) ∙ (to.said ∙ ap (λ (y : Action). w.said b ++ said_in (said_by y)) (sym is_a));
       }
 

@@ -125,12 +125,15 @@ module _ {R I O : Type 0} (r : roads.Ghosts R I O) (i : link_in.Ghosts I) (o : l
   -- an end that was given up and not lost was brought back
   given_back : (l : Link I O) (kept : Option (Link I O)) (road road' : R) → SettlesTold r i o false (Some l) kept road road' false → (kept ≡ None) × GivesBack r i o l.end road road'
   given_back l kept road road' s =
-      let g = s.settles.1 in (s.settles.0, record {
-        shut = g.shut;
-        kept = g.kept;
-        half = record { shut = g.is_shut; sent = g.sent; flushed = g.flushed; lost = g.lost };
-        brings = subst (λ (res : Result (Unit {0}) RoadError). BringsEnd r i o g.shut road road' res) (ok_of g.result s.told) g.brings;
-      })
+      let g = s.settles.1 in (
+        s.settles.0,
+        record {
+          shut = g.shut;
+          kept = g.kept;
+          half = record { shut = g.is_shut; sent = g.sent; flushed = g.flushed; lost = g.lost };
+          brings = subst (λ (res : Result (Unit {0}) RoadError). BringsEnd r i o g.shut road road' res) (ok_of g.result s.told) g.brings;
+        },
+      )
 
   -- WHAT IS LEFT OF THE SETUP
 
