@@ -123,7 +123,7 @@ module _ {R I O : Type 0} (r : roads.Ghosts R I O) (i : link_in.Ghosts I) (o : l
   ok_of (Err why) h = cc
 
   -- an end that was given up and not lost was brought back
-  given_back : (l : Link I O) (kept : Option (Link I O)) (road road' : R) → SettlesTold r i o false (Some l) kept road road' false → (kept ≡ None) × GivesBack r i o l.end road road'
+  pub given_back : (l : Link I O) (kept : Option (Link I O)) (road road' : R) → SettlesTold r i o false (Some l) kept road road' false → (kept ≡ None) × GivesBack r i o l.end road road'
   given_back l kept road road' s =
       let g = s.settles.1 in (
         s.settles.0,
@@ -144,7 +144,7 @@ module _ {R I O : Type 0} (r : roads.Ghosts R I O) (i : link_in.Ghosts I) (o : l
   piped_moved left true = refl
   piped_moved left false = refl
 
-  piped_failed : (left : Rebuild I O) (f : Failure) → piped left (step.Ended (failed_as f)) ≡ Ok pipe.Closed
+  pub piped_failed : (left : Rebuild I O) (f : Failure) → piped left (step.Ended (failed_as f)) ≡ Ok pipe.Closed
   piped_failed left (failure.Abandoned m) = refl
   piped_failed left (failure.AllBad m) = refl
   piped_failed left (failure.Lost recovery) = refl
@@ -153,7 +153,7 @@ module _ {R I O : Type 0} (r : roads.Ghosts R I O) (i : link_in.Ghosts I) (o : l
   ok_pipe : (x y : Pipe I O) → ◌≡◌ {A = Result (Pipe I O) ClientFault} (Ok x) (Ok y) → x ≡ y
   ok_pipe x y h = cc
 
-  piped_as : (left : Rebuild I O) (ends what : RebuildStep I O) (x y : Pipe I O) → ends ≡ what → piped left what ≡ Ok x → piped left ends ≡ Ok y → x ≡ y
+  pub piped_as : (left : Rebuild I O) (ends what : RebuildStep I O) (x y : Pipe I O) → ends ≡ what → piped left what ≡ Ok x → piped left ends ≡ Ok y → x ≡ y
   piped_as left ends what x y is a b = ok_pipe x y (sym a ∙ (ap (piped left) (sym is) ∙ b))
 
 module _ {R I O : Type 0} (r : roads.Ghosts R I O) (i : link_in.Ghosts I) (o : link_out.Ghosts O) (w w1 : World) (first net : Net) (e : Event) (b c : ℕ) (office : OfficeState) (k : Change) (x : WriterRecord) (over : Bool) (held : Link I O)
@@ -261,7 +261,7 @@ module _ {R I O : Type 0} (r : roads.Ghosts R I O) (i : link_in.Ghosts I) (o : l
   by_heard w net b office x l l' held setup setup' ends left kept known known' ended_so road middle road' stands s can same h1 at risen settles reports is (inr f) =
       absurd (true_false (sym (failed_risen l' held known known' ended_so l.end.id kept middle road' can.waits can.members same f settles) ∙ risen))
 
-  none_ok : (why : ClientFault) (left : Pipe I O) → Err why ≡ Ok left → ⊥
+  pub none_ok : (why : ClientFault) (left : Pipe I O) → Err why ≡ Ok left → ⊥
   none_ok why left h = cc
 
   by_look : (found : Looked) (w : World) (net : Net) (b : ℕ) (office : OfficeState) (x : Next) (l l' seen held : Link I O) (setup setup' : Rebuild I O) (ends : RebuildStep I O) (left : Pipe I O) (kept : Option (Link I O)) (known known' : WriterRecord) (ended_so : Acted) (road middle road' : R)
@@ -326,7 +326,7 @@ module _ {R I O : Type 0} (r : roads.Ghosts R I O) (i : link_in.Ghosts I) (o : l
       subst (λ (n : ConnId). ClientLeft r i o w net (happens w (event.Up n)) b office known' left road') same
       (by_step d w net b office x l l' setup setup' ends left known known' desk desk' road middle road' stands s (subst (λ (n : ConnId). CanHearAnswer w n b known x) (sym same) can) ex risen steps is)
 
-  piped_err : (setup' : Rebuild I O) (ends : RebuildStep I O) (why : ClientFault) → piped setup' ends ≡ Err why → fault.Memory ≡ why
+  pub piped_err : (setup' : Rebuild I O) (ends : RebuildStep I O) (why : ClientFault) → piped setup' ends ≡ Err why → fault.Memory ≡ why
   piped_err setup' step.Moved why h = cc
   piped_err setup' step.Waiting why h = cc
   piped_err setup' (step.Ended (rebuilt.Streaming end incoming)) why h = cc
@@ -347,7 +347,7 @@ module _ {R I O : Type 0} (r : roads.Ghosts R I O) (i : link_in.Ghosts I) (o : l
   pub answer_memory : (setup : Rebuild I O) (known known' : WriterRecord) (road road' : R) → AnswerShows r i o known known' setup road road' (Err fault.Memory)
   answer_memory setup known known' road road' = λ w net b office conn x stands can. tt
 
-  risen_by : (link : Option (Link I O)) (w : World) (net : Net) (conn : Option ℕ) (risen : ℕ → Bool) → LinkShows i o w net conn link → is_risen risen (option_map (λ (l : Link I O). l.end.id) link) ≡ true → HasRisen risen conn
+  pub risen_by : (link : Option (Link I O)) (w : World) (net : Net) (conn : Option ℕ) (risen : ℕ → Bool) → LinkShows i o w net conn link → is_risen risen (option_map (λ (l : Link I O). l.end.id) link) ≡ true → HasRisen risen conn
   risen_by None w net conn risen s h = absurd (true_false (sym h))
   risen_by (Some l) w net conn risen s h = subst (λ (n : Option ℕ). HasRisen risen n) (sym s.conn_is) h
 

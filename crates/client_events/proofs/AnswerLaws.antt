@@ -62,7 +62,7 @@ IsDecided (phase.Wanted s) = Unit {0}
 IsDecided (phase.Failed f) = Unit {0}
 IsDecided other = ⊥
 
-fail_decided : (x : WriterRecord) (r : Remedy) (o : Option NodeId) → (o ≡ None → ⊥) → IsDecided (fail_named x r o).phase × (keeps_link (fail_named x r o).phase ≡ false)
+pub fail_decided : (x : WriterRecord) (r : Remedy) (o : Option NodeId) → (o ≡ None → ⊥) → IsDecided (fail_named x r o).phase × (keeps_link (fail_named x r o).phase ≡ false)
 fail_decided x r None never = absurd (never refl)
 fail_decided x remedy.Abandon (Some bad) never = (tt, refl)
 fail_decided x (remedy.Recover s) (Some bad) never = go (without x.members bad)
@@ -71,7 +71,7 @@ fail_decided x (remedy.Recover s) (Some bad) never = go (without x.members bad)
     go [] = (tt, refl)
     go (m ∷ ms) = (tt, refl)
 
-first_there : (members : List NodeId) → members ≢ [] → slice_get members 0 ≡ None → ⊥
+pub first_there : (members : List NodeId) → members ≢ [] → slice_get members 0 ≡ None → ⊥
 first_there [] some none = some refl
 first_there (n ∷ ns) some none = none-some n (sym none)
 

@@ -4,3 +4,5 @@ pub mod ActLaws
 pub mod CompleteLaws
 pub mod AnswerLaws
 pub mod AnswerEnds
+pub mod CommitLaws
+pub mod CommitEnds

@@ -1,5 +1,5 @@
 -- What the events of a writer make of roads, connection and writer that show a world: what shows the world after the event.
-use Rattle.std.specs.Prelude.{◌≡◌, ◌≢◌, ℕ, Bool, true, List, [], ◌++◌, Option, Some, None, IfSome, slice_get, Result, Ok, Err}
+use Rattle.std.specs.Prelude.{◌≡◌, ◌≢◌, ℕ, Bool, true, false, List, [], ◌++◌, Option, Some, None, IfSome, slice_get, Result, Ok, Err}
 use Rattle.hd_base.specs.declared.numbers.BlockId.{BlockId}
 use Rattle.hd_base.specs.declared.ends.Conn.{Conn}
 use Rattle.hd_base.specs.declared.numbers.ConnId.{ConnId}
@@ -21,6 +21,7 @@ use Rattle.world.specs.Worlds.{World}
 use Rattle.world.specs.Connections.{Next, message, the_end}
 use Rattle.world.specs.Events.{happens, is_enabled}
 use Rattle.world_nets.specs.Drawn.{ComesUp}
+use Rattle.world_nets.specs.Nets.{is_over}
 use Rattle.writer_core.specs.declared.actions.Action.TheVariants as action
 use Rattle.writer_core.specs.declared.phases.Phase.TheVariants as phase
 use Rattle.writer_core.specs.declared.records.WriterRecord.{WriterRecord}
@@ -175,3 +176,31 @@ AnswerShows r i o known known' setup road road' result =
     (w : World) (net : Net) (b : ℕ) (office : OfficeState) (conn : ConnId) (x : Next) →
     ClientStands r i o w net b office known (pipe.SettingUp setup) road → CanHearAnswer w conn b known x
     → EventEnds r i o w net (happens w (event.Up conn)) b office known' road road' result
+
+-- COMMITTING
+
+-- The office answers the writer of a block whose request was answered, and the desk is that of the office. That the
+-- writer has members then, and that the end of its connection wasn't taken, holds after all events
+-- (messages_are_taken_in_order, takers_are_open).
+pub record CanCommit {D : Type 0} (d : desks.Ghosts D) (w : World) (b : ℕ) (known : WriterRecord) (desk : D) : Type 0
+  where
+    pub office : d.office desk ≡ Some w.office
+    pub members : known.members ≢ []
+    pub untaken : IfSome (w.writers b).conn (λ c. is_over w c false ≡ false)
+
+-- What is left, with the office, shows the world after the events, and the answer, if there is one, is the world's; or
+-- a fault has its cause.
+abbrev pub AskedEnds : {D R I O : Type 0} → desks.Ghosts D → roads.Ghosts R I O → link_in.Ghosts I →
+    link_out.Ghosts O → World → Net → World → ℕ → WriterRecord → D → R → R → Result (Acted I O) ClientFault → Type 0
+AskedEnds d r i o w net v b known desk road road' (Ok left) =
+    (d.office desk ≡ Some v.office) × StepLeft r i o w net v b v.office known left road'
+AskedEnds d r i o w net v b known desk road road' (Err why) = IsCaused r (w.writers b).conn road road' why
+
+abbrev pub CommitShows : {D R I O : Type 0} → desks.Ghosts D → roads.Ghosts R I O → link_in.Ghosts I →
+    link_out.Ghosts O → WriterRecord → WriterRecord → Rebuild I O → D → D → R → R → Result (Acted I O) ClientFault →
+    Type 0
+CommitShows d r i o known known' setup desk desk' road road' result =
+    (w : World) (net : Net) (block : BlockId) (answered : Bool) →
+    ClientStands r i o w net block.0 w.office known (pipe.SettingUp setup) road →
+    CanCommit d w block.0 known desk
+    → AskedEnds d r i o w net (asked_world w block answered) block.0 known' desk' road road' result

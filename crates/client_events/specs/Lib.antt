@@ -5,5 +5,6 @@ pub mod Sending
 pub mod Acting
 pub mod Completing
 pub mod Answering
+pub mod Committing
 pub mod Showing
 pub mod Events

@@ -59,7 +59,7 @@ fn taken<I: LinkIn, O: LinkOut, R: Roads<Inward = I, Outward = O>>(
 }
 
 /// Whether the count of this connection's end had risen when it was brought back.
-fn is_risen<R: Roads>(roads: &R, conn: Option<ConnId>) -> bool
+pub(crate) fn is_risen<R: Roads>(roads: &R, conn: Option<ConnId>) -> bool
     ensures { result ≡ is_risen (R.risen roads.now) conn }
 {
     match conn {
@@ -69,7 +69,7 @@ fn is_risen<R: Roads>(roads: &R, conn: Option<ConnId>) -> bool
 }
 
 /// The connection after a step of its setup, which hands it over where the pipeline stands.
-fn piped<I: LinkIn, O: LinkOut>(
+pub(crate) fn piped<I: LinkIn, O: LinkOut>(
     setup: Rebuild<I, O>,
     step: RebuildStep<I, O>,
 ) -> Result<Pipe<I, O>, ClientFault>

@@ -4,6 +4,7 @@
 
 mod acting;
 mod answering;
+mod committing;
 mod completing;
 mod faults;
 mod hearing;
@@ -13,6 +14,7 @@ mod steps;
 
 pub use acting::{Acted, Said, act};
 pub use answering::hear_answer;
+pub use committing::commit;
 pub use completing::complete;
 pub use faults::ClientFault;
 pub use hearing::hear_ack;
