@@ -105,7 +105,7 @@ module _ {R I O : Type 0} (r : roads.Ghosts R I O) (i : link_in.Ghosts I) (o : l
       }
 
   -- no connection is left, whether a setup goes on or not
-  no_conn : (w : World) (net : Net) (v : World) (b : ℕ) (office : OfficeState) (x : WriterRecord) (left : Pipe I O) (road : R) → ((z : World) (made : Net) (conn : Option ℕ) → conn ≡ None → PipeShows i o z made conn left) → ClientLeft r i o w net v b office x pipe.Closed road → ClientLeft r i o w net v b office x left road
+  pub no_conn : (w : World) (net : Net) (v : World) (b : ℕ) (office : OfficeState) (x : WriterRecord) (left : Pipe I O) (road : R) → ((z : World) (made : Net) (conn : Option ℕ) → conn ≡ None → PipeShows i o z made conn left) → ClientLeft r i o w net v b office x pipe.Closed road → ClientLeft r i o w net v b office x left road
   no_conn w net v b office x left road shows h = record {
     made = h.made;
     stands = record {
@@ -137,10 +137,10 @@ module _ {R I O : Type 0} (r : roads.Ghosts R I O) (i : link_in.Ghosts I) (o : l
 
   -- WHAT IS LEFT OF THE SETUP
 
-  setup_none : (left : Rebuild I O) → left.link ≡ None → (z : World) (made : Net) (conn : Option ℕ) → conn ≡ None → PipeShows i o z made conn (pipe.SettingUp left)
+  pub setup_none : (left : Rebuild I O) → left.link ≡ None → (z : World) (made : Net) (conn : Option ℕ) → conn ≡ None → PipeShows i o z made conn (pipe.SettingUp left)
   setup_none left none z made conn h = subst (λ (n : Option (Link I O)). LinkShows i o z made conn n) (sym none) h
 
-  piped_moved : (left : Rebuild I O) (q : Bool) → piped left (moved_if q) ≡ Ok (pipe.SettingUp left)
+  pub piped_moved : (left : Rebuild I O) (q : Bool) → piped left (moved_if q) ≡ Ok (pipe.SettingUp left)
   piped_moved left true = refl
   piped_moved left false = refl
 

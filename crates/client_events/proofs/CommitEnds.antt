@@ -80,7 +80,7 @@ pub record RestGoes (w : World) (b : ℕ) (y z : WriterRecord) (said : Option Sa
   pub office : (apply w change).office ≡ w.office
   pub said_is : (apply w change).said b ≡ w.said b ++ said_in said
 
-rest_moves : (w : World) (b : ℕ) (y : WriterRecord) (answered : Bool) → rest_in y.phase w b y answered ≡ Some (writer_change w b y) → RestGoes w b y y None answered
+pub rest_moves : (w : World) (b : ℕ) (y : WriterRecord) (answered : Bool) → rest_in y.phase w b y answered ≡ Some (writer_change w b y) → RestGoes w b y y None answered
 rest_moves w b y answered is =
     let to = moved_to w b y in record {
       change = writer_change w b y;
@@ -142,10 +142,10 @@ connected_by other y z said linked at ok c = absurd ok
 
 module _ {R I O : Type 0} (r : roads.Ghosts R I O) (i : link_in.Ghosts I) (o : link_out.Ghosts O) (w : World) (net : Net) (block : BlockId) (answered : Bool) (y z : WriterRecord) (said : Option Said) (rest : RestGoes w block.0 y z said answered)
     (out : outcome w (own_event block None answered) ≡ Some (apply w rest.change)) (is_net : IsNetOf w net) (road : R) (at : RoadsAt r net road) where
-  abbrev the_event : Event
+  abbrev pub the_event : Event
   the_event = own_event block None answered
 
-  abbrev world_after : World
+  abbrev pub world_after : World
   world_after = happens w (own_event block None answered)
 
   commit_acted : (c : ℕ) (e : Conn I O) → (w.writers block.0).conn ≡ Some c → HeldAt i o net false [] (held_by false) c false e → is_over w c false ≡ false → HasActed i o w w net net the_event block.0 c world_after.office rest.change z [] false e nothing_received
@@ -162,7 +162,7 @@ module _ {R I O : Type 0} (r : roads.Ghosts R I O) (i : link_in.Ghosts I) (o : l
     others = λ d l x none q. q;
   }
 
-  none_left : (w.writers block.0).conn ≡ None → ClientLeft r i o w net world_after block.0 world_after.office z pipe.Closed road
+  pub none_left : (w.writers block.0).conn ≡ None → ClientLeft r i o w net world_after block.0 world_after.office z pipe.Closed road
   none_left none =
       let v : World = world_after in
       let f = followed w (apply w rest.change) the_event out in
@@ -227,7 +227,7 @@ module _ {R I O : Type 0} (r : roads.Ghosts R I O) (i : link_in.Ghosts I) (o : l
 
 module _ {R I O : Type 0} (r : roads.Ghosts R I O) (i : link_in.Ghosts I) (o : link_out.Ghosts O) where
   -- What the office was asked leaves roads and ends as they are.
-  past_office : (w w1 : World) (net : Net) (v : World) (b : ℕ) (office : OfficeState) (x : WriterRecord) (left : Pipe I O) (road : R) → StayShown w w1 → (w1.writers b).conn ≡ (w.writers b).conn → ClientLeft r i o w1 net v b office x left road → ClientLeft r i o w net v b office x left road
+  pub past_office : (w w1 : World) (net : Net) (v : World) (b : ℕ) (office : OfficeState) (x : WriterRecord) (left : Pipe I O) (road : R) → StayShown w w1 → (w1.writers b).conn ≡ (w.writers b).conn → ClientLeft r i o w1 net v b office x left road → ClientLeft r i o w net v b office x left road
   past_office w w1 net v b office x left road stay conn h = record {
     made = h.made;
     stands = h.stands;

@@ -144,7 +144,7 @@ commit_ended x s stamp h fits some = subst (λ (p : Phase). keeps_link (ended_as
 
 -- WHAT IT HEARS
 
-still_empty : (new : IncomingState) (held : Option Inbox) → IsEmptyInbox false held → coming new held ≡ Some (held_by false) → held ≡ Some (held_by false)
+pub still_empty : (new : IncomingState) (held : Option Inbox) → IsEmptyInbox false held → coming new held ≡ Some (held_by false) → held ≡ Some (held_by false)
 still_empty new None empty h = cc
 still_empty new (Some inbox) empty h = empty
 
@@ -208,7 +208,7 @@ module _ {I O : Type 0} (i : link_in.Ghosts I) where
 
 -- WHAT IT ASKS
 
-put_ok : (a : Told) (first : Acted) → first ≡ asked_as a → (first ≡ acted.Memory → ⊥) → Ok tt ≡ put_as a
+pub put_ok : (a : Told) (first : Acted) → first ≡ asked_as a → (first ≡ acted.Memory → ⊥) → Ok tt ≡ put_as a
 put_ok (Ok x) first e never = refl
 put_ok (Err office_fault.Memory) first e never = absurd (never e)
 put_ok (Err other) first e never = refl
@@ -227,7 +227,7 @@ module _ {R I O D : Type 0} (r : roads.Ghosts R I O) (i : link_in.Ghosts I) (o :
     pub roads_same : road' ≡ road
     pub moved : does ≡ acted.Moved
 
-  asks_by : (c : OfficeCall) (x answered : WriterRecord) (desk desk' : D) (first : Acted) → own_step x ≡ step (action.Ask c) x → Asks d (own_step x) x answered desk desk' first → ((answered ≡ x) × (first ≡ acted.Memory)) ⊎ IsPut d c x answered desk desk' first
+  pub asks_by : (c : OfficeCall) (x answered : WriterRecord) (desk desk' : D) (first : Acted) → own_step x ≡ step (action.Ask c) x → Asks d (own_step x) x answered desk desk' first → ((answered ≡ x) × (first ≡ acted.Memory)) ⊎ IsPut d c x answered desk desk' first
   asks_by c x answered desk desk' first own (inl u) = inl (u.writer, u.is)
   asks_by c x answered desk desk' first own (inr p) = inr (subst (λ (s : Step). AsksBy d s.action s.writer answered desk desk' first) own p)
 
