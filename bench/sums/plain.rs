@@ -100,14 +100,14 @@ fn noise(len: usize) -> Vec<u8> {
         .collect()
 }
 
-fn write_sums<F: Fn(u32, &[u8]) -> u32>(extend: F, body: &[u8], into: &mut [u8]) {
-    for (piece, word) in body.chunks(512).zip(into.chunks_exact_mut(4)) {
+fn write_sums<F: Fn(u32, &[u8]) -> u32>(extend: F, body: &[u8], chunk: usize, into: &mut [u8]) {
+    for (piece, word) in body.chunks(chunk).zip(into.chunks_exact_mut(4)) {
         word.copy_from_slice(&extend(0, piece).to_be_bytes());
     }
 }
 
-fn first_bad<F: Fn(u32, &[u8]) -> u32>(extend: F, body: &[u8], sums: &[u8]) -> Option<usize> {
-    body.chunks(512)
+fn first_bad<F: Fn(u32, &[u8]) -> u32>(extend: F, body: &[u8], chunk: usize, sums: &[u8]) -> Option<usize> {
+    body.chunks(chunk)
         .zip(sums.chunks_exact(4))
         .position(|(piece, word)| extend(0, piece) != u32::from_be_bytes([word[0], word[1], word[2], word[3]]))
 }
@@ -127,19 +127,29 @@ fn best(rounds: u32, passes: u32, mut pass: impl FnMut()) -> u128 {
 
 fn all<F: Fn(u32, &[u8]) -> u32 + Copy>(way: &str, kind: &str, extend: F) {
     let mut body = noise(65_536);
-    let mut sums = [0; 512];
-    let nanos = best(400, 16, || {
-        body[0] = body[0].wrapping_add(1);
-        write_sums(extend, &body, &mut sums);
-    });
-    println!("{way} {kind}-writing 65536 16 {nanos} {}", extend(0, &sums));
-    write_sums(extend, &body, &mut sums);
-    let mut found = 0u64;
-    let nanos = best(400, 16, || {
+    for chunk in [512, 1024, 2048, 4096] {
+        let mut sums = vec![0; 4 * (65_536 / chunk)];
+        let nanos = best(400, 16, || {
+            body[0] = body[0].wrapping_add(1);
+            write_sums(extend, &body, chunk, &mut sums);
+        });
+        println!("{way} {kind}-writing-{chunk} 65536 16 {nanos} {}", extend(0, &sums));
+        write_sums(extend, &body, chunk, &mut sums);
         body[65_535] ^= 1;
-        found = found.wrapping_add(first_bad(extend, &body, &sums).unwrap_or(0) as u64);
-    });
-    println!("{way} {kind}-testing 65536 16 {nanos} {found}");
+        let mut other = sums.clone();
+        write_sums(extend, &body, chunk, &mut other);
+        body[65_535] ^= 1;
+        for (case, is_right) in [("testing", true), ("refusing", false)] {
+            let (mut found, mut pass) = (0u64, 0);
+            let nanos = best(400, 16, || {
+                body[65_535] ^= 1;
+                let noted = if (pass % 2 == 0) == is_right { &other } else { &sums };
+                pass += 1;
+                found = found.wrapping_add(first_bad(extend, &body, chunk, noted).unwrap_or(1) as u64);
+            });
+            println!("{way} {kind}-{case}-{chunk} 65536 16 {nanos} {found}");
+        }
+    }
     for (len, rounds, passes) in [(65_536, 400, 16), (1_048_576, 200, 4), (67_108_864, 12, 1)] {
         let body = noise(len);
         let mut sum = 0;

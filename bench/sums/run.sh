@@ -43,8 +43,11 @@ awk '
     split("crc32c crc32", kinds, " "); name["crc32c"] = "CRC32C"; name["crc32"] = "CRC32"
     for (k in kinds) {
       kind = kinds[k]
-      title[kind "-writing 65536"] = name[kind] ", chunks of 512 B, written"
-      title[kind "-testing 65536"] = name[kind] ", chunks of 512 B, tested"
+      for (size = 512; size <= 4096; size *= 2) {
+        title[kind "-writing-" size " 65536"] = name[kind] ", chunks of " size " B, written"
+        title[kind "-testing-" size " 65536"] = name[kind] ", chunks of " size " B, tested"
+        title[kind "-refusing-" size " 65536"] = name[kind] ", chunks of " size " B, tested, the last wrong"
+      }
       title[kind "-body 65536"] = name[kind] ", 64 KiB"; title[kind "-body 1048576"] = name[kind] ", 1 MiB"
       title[kind "-body 67108864"] = name[kind] ", 64 MiB"
     }

@@ -2,23 +2,18 @@
 use Rattle.std.proofs.Common.{◌≡◌, ◌≢◌, ℕ, zero, suc, ◌+◌, ◌-◌, ◌*◌, ◌/◌, ◌%◌, ◌^◌, ◌<◌, ◌≤◌, Bool, true, false, cond, eqb, ltb, leb, T, ◌&&◌, List, [], ◌∷◌, ◌++◌, length, get_or, take, drop, set, replicate, refl, sym, ap, subst, ◌∙◌, arith, inl, inr, below_more}
 use Rattle.std.proofs.lemmas.Bool.{cases_lt}
 use Rattle.std.proofs.lemmas.Bool.Decides.{nat_tests}
-use Rattle.std.proofs.lemmas.List.{get_or_append_left, get_or_past, get_or_push, length_push, length-drop, get_or-drop, get_or-take, drop-set-add, take_more_set, drop-take, drop-drop, length-take-le, take_all, drop_more, get_or-append-add, length-set, get_or-set_same, get_or-set_other, get_or-replicate, length-replicate, length-take, get_or-append_right, take_more, drop-set-lt}
+use Rattle.std.proofs.lemmas.List.{get_or_append_left, get_or_past, get_or_push, length_push, length-drop, get_or-drop, get_or-take, drop-set-add, take_more_set, drop-take, drop-drop, length-take-le, drop_more, get_or-append-add, length-set, get_or-set_same, get_or-set_other, get_or-replicate, length-replicate, length-take, get_or-append_right, take_more, drop-set-lt}
 use Rattle.std.proofs.lemmas.Grind.{same_number_lists}
 use Rattle.std.proofs.Math.Nat.{pow-suc}
 use lib.Bits.{bit_xor, xor_assoc, xor_comm, xor_self, xor_zero_r, xor_shifted, xor_lt}
 use lib.Dec.{ltb→lt, leb→le, eqb→eq}
 use lib.Ieee.Fits.{and_l, and_r}
-use Rattle.std.specs.Int.{w32, bit_not}
-use Rattle.hd_base.specs.declared.sum_rule.SumKind.TheVariants.{Crc32c}
-use Rattle.chunk_sums.specs.Crc.{crc32c_polynomial, bit_step, byte_step, enter, register, advance, sum_of}
-use Rattle.chunk_sums.specs.Ahead.{joined, mixed, held, far_places, near_places}
+use Rattle.chunk_sums.specs.Crc.{crc32c_polynomial, bit_step, byte_step, enter, register, advance}
+use Rattle.chunk_sums.specs.Ahead.{joined, mixed, held, far_places, only, struck, walk, Agrees, within, IsSpan}
+use Rattle.chunk_sums.proofs.SlicingLemmas.{advance-add}
 use Rattle.chunk_sums.proofs.LinearLemmas.{regroup, xor_last, bit_step-xor, bit_step-double, byte_step-xor, byte_step-shifted, low_byte, advance-xor}
 
 -- ---- one byte alone in the window
-
--- what stands at place i of a window that has v at place p and 0 elsewhere
-only : ℕ → ℕ → ℕ → ℕ
-only i p v = cond (eqb i p) v 0
 
 only-same : (i p v : ℕ) → i ≡ p → only i p v ≡ v
 unfolding only
@@ -27,16 +22,6 @@ only-same i p v e = grind (arith, nat_tests)
 only-other : (i p v : ℕ) → i ≢ p → only i p v ≡ 0
 unfolding only
 only-other i p v ne = grind (arith, nat_tests)
-
--- what such a window gives for the places
-struck : List ℕ → ℕ → ℕ → ℕ → ℕ
-struck [] p v b = b
-struck (i ∷ is) p v b = struck is p v (bit_xor b (only i p v))
-
--- the register after the bytes that such a window gives as it slides along, until v has left it
-walk : (poly : ℕ) → List ℕ → ℕ → ℕ → ℕ → ℕ
-walk poly places zero r v = r
-walk poly places (suc p) r v = walk poly places p (byte_step poly (bit_xor r (struck places p v 0))) v
 
 only-xor : (i p a b : ℕ) → only i p (bit_xor a b) ≡ bit_xor (only i p a) (only i p b)
 unfolding only
@@ -104,10 +89,6 @@ advance-step poly zero r = refl
 advance-step poly (suc n) r = ap (advance poly n) (byte_step-bit_step poly r) ∙ advance-step poly n (byte_step poly r)
 
 -- ---- the one equation gives all bytes
-
--- v counts as much from the places as where it stands
-pub Agrees : (poly : ℕ) → List ℕ → ℕ → ℕ → Type 0
-Agrees poly places far v = walk poly places far 0 v ≡ advance poly (suc far) v
 
 Agrees-half : (poly : ℕ) (places : List ℕ) (far q : ℕ) → Agrees poly places far (q * 2) → Agrees poly places far q
 unfolding Agrees
@@ -193,7 +174,7 @@ register-xor poly a d (b ∷ bs) =
     ap (λ (r : ℕ). register poly r bs) (ap (byte_step poly) (xor_last a d b) ∙ byte_step-xor poly (bit_xor a b) d)
     ∙ register-xor poly (byte_step poly (bit_xor a b)) (byte_step poly d) bs
 
-length-mixed : (places w bytes : List ℕ) → length (mixed places w bytes) ≡ length bytes
+pub length-mixed : (places w bytes : List ℕ) → length (mixed places w bytes) ≡ length bytes
 unfolding mixed
 length-mixed places w [] = refl
 length-mixed places w (b ∷ bs) = ap suc (length-mixed places (drop 1 w) bs)
@@ -210,15 +191,6 @@ register-push poly places [] v r s (b ∷ bs) n e =
 register-push poly places (x ∷ w) v r s (b ∷ bs) n e =
     ap (λ (y : ℕ). register poly y (mixed places (w ++ v ∷ []) bs)) (enter-push poly places (x ∷ w) v r s b)
     ∙ register-push poly places w v (enter poly r (joined places (x ∷ w) b)) (byte_step poly (bit_xor s (struck places (suc (length w)) v 0))) bs n (omega arith)
-
-advance-add : (poly m n r : ℕ) → advance poly (m + n) r ≡ advance poly n (advance poly m r)
-unfolding advance
-advance-add poly zero n r =
-    let e : 0 + n ≡ n = omega arith in
-    ap (λ (k : ℕ). advance poly k r) e
-advance-add poly (suc m) n r =
-    let e : suc m + n ≡ suc (m + n) = omega arith in
-    ap (λ (k : ℕ). advance poly k r) e ∙ advance-add poly m n (byte_step poly r)
 
 -- the first byte, joined to what the window has for it, goes to the window's end, and nothing else changes
 moved : (poly : ℕ) (places window : List ℕ) (b : ℕ) (bytes : List ℕ) → 0 < length window → length window ≤ length bytes
@@ -237,37 +209,26 @@ moved poly places (x ∷ w) b bytes some long agrees =
 
 -- ---- windows of a buffer
 
--- each place is within a window of `far`
-pub within : ℕ → List ℕ → Bool
-within far [] = true
-within far (i ∷ is) = ltb i far && within far is
-
 -- each place but the first is behind the first four bytes of a window, and the first place, the last of the list, is its front
 pub from_fourth : List ℕ → Bool
 from_fourth [] = false
 from_fourth (i ∷ []) = eqb i 0
 from_fourth (i ∷ j ∷ is) = leb 4 i && from_fourth (j ∷ is)
 
--- the places of a window that moves bytes ahead: the one equation, and where the places stand
-pub record IsSpan (poly : ℕ) (places : List ℕ) (far : ℕ) : Type 0 where
-  pub top : Agrees poly places far (2 ^ 31)
-  pub inside : T (within far places)
-  pub front : T (from_fourth places)
-
 pub IsSpan-far : IsSpan crc32c_polynomial far_places 418
-unfolding Agrees walk struck only advance byte_step bit_step within from_fourth
-IsSpan-far = record { top = refl; inside = tt; front = tt }
+unfolding Agrees walk struck only advance byte_step bit_step within
+IsSpan-far = record { top = refl; inside = tt }
 
-pub IsSpan-near : IsSpan crc32c_polynomial near_places 104
-unfolding Agrees walk struck only advance byte_step bit_step within from_fourth
-IsSpan-near = record { top = refl; inside = tt; front = tt }
+pub front-far : T (from_fourth far_places)
+unfolding from_fourth
+front-far = tt
 
 -- place i of what stands from j on in a buffer
 unfoldable pub place : ℕ → ℕ → ℕ
 place j zero = j
 place j (suc i) = j + suc i
 
-place-add : (j i : ℕ) → place j i ≡ j + i
+pub place-add : (j i : ℕ) → place j i ≡ j + i
 unfolding place
 place-add j zero = omega arith
 place-add j (suc i) = refl
@@ -282,14 +243,15 @@ unfoldable pub ReadsBytes : List ℕ → List ℕ → ℕ → Type 0
 ReadsBytes [] buffer j = Unit {0}
 ReadsBytes (i ∷ is) buffer j = (get_or buffer (place j i) 0 < 2 ^ 8) × ReadsBytes is buffer j
 
-joined-window : (is buffer : List ℕ) (far j b : ℕ) → T (within far is) → joined is (take far (drop j buffer)) b ≡ read is buffer j b
+joined-window : (is buffer : List ℕ) (far j b : ℕ) → T (within (far - 15) is) → joined is (take far (drop j buffer)) b ≡ read is buffer j b
 unfolding joined within read
 joined-window [] buffer far j b h = refl
 joined-window (i ∷ is) buffer far j b h =
+    let below : i < far - 15 = ltb→lt i (far - 15) (and_l _ _ h) in
     ap (λ (v : ℕ). joined is (take far (drop j buffer)) (bit_xor b v))
-    (get_or-take far (drop j buffer) i 0 (ltb→lt i far (and_l _ _ h)) ∙ get_or-drop j buffer i 0
+    (get_or-take far (drop j buffer) i 0 (omega arith) ∙ get_or-drop j buffer i 0
     ∙ ap (λ (k : ℕ). get_or buffer k 0) (sym (place-add j i)))
-    ∙ joined-window is buffer far j (bit_xor b (get_or buffer (place j i) 0)) (and_r (ltb i far) _ h)
+    ∙ joined-window is buffer far j (bit_xor b (get_or buffer (place j i) 0)) (and_r (ltb i (far - 15)) _ h)
 
 read-lt : (is buffer : List ℕ) (j b : ℕ) → b < 2 ^ 8 → ReadsBytes is buffer j → read is buffer j b < 2 ^ 8
 unfolding read ReadsBytes
@@ -333,7 +295,7 @@ moved-more poly places f span buffer body j at v room long small reads is_v =
 
 -- ---- the last bytes, onto which the window is moved
 
-get_or-mixed : (places w bytes : List ℕ) (i : ℕ) → i < length bytes → get_or (mixed places w bytes) i 0 ≡ joined places (drop i w) (get_or bytes i 0)
+pub get_or-mixed : (places w bytes : List ℕ) (i : ℕ) → i < length bytes → get_or (mixed places w bytes) i 0 ≡ joined places (drop i w) (get_or bytes i 0)
 unfolding mixed
 get_or-mixed places w [] i h = absurd (omega arith)
 get_or-mixed places w (b ∷ bs) zero h = refl
@@ -343,7 +305,7 @@ get_or-mixed places w (b ∷ bs) (suc i) h =
     ∙ ap (λ (l : List ℕ). joined places l (get_or bs i 0)) (drop-drop i 1 w ∙ ap (λ (n : ℕ). drop n w) e)
 
 -- zeros behind a list change nothing that is read of it
-get_or-padded : (w pad : List ℕ) (k : ℕ) → ((i : ℕ) → get_or pad i 0 ≡ 0) → get_or w k 0 ≡ get_or (w ++ pad) k 0
+pub get_or-padded : (w pad : List ℕ) (k : ℕ) → ((i : ℕ) → get_or pad i 0 ≡ 0) → get_or w k 0 ≡ get_or (w ++ pad) k 0
 get_or-padded w pad k zeros = elim (cases_lt k (length w)) [
   | inl below ↦ sym (get_or_append_left w pad 0 k below)
   | inr above ↦
@@ -395,7 +357,7 @@ joined-zeros [] w b zeros = refl
 joined-zeros (i ∷ is) w b zeros =
     ap (joined is w) (ap (bit_xor b) (zeros i) ∙ xor_zero_r b) ∙ joined-zeros is w b zeros
 
-mixed-zeros : (places w bytes : List ℕ) → ((i : ℕ) → get_or w i 0 ≡ 0) → mixed places w bytes ≡ bytes
+pub mixed-zeros : (places w bytes : List ℕ) → ((i : ℕ) → get_or w i 0 ≡ 0) → mixed places w bytes ≡ bytes
 unfolding mixed
 mixed-zeros places w [] zeros = refl
 mixed-zeros places w (b ∷ bs) zeros =
@@ -429,7 +391,7 @@ enter-low poly x r b =
     ∙ byte_step-xor poly (bit_xor x (bit_xor b low)) high
     ∙ ap (bit_xor (byte_step poly (bit_xor x (bit_xor b low)))) (byte_step-shifted poly (r / 256))
 
-register-begins : (poly : ℕ) (places : List ℕ) → T (from_fourth places) → (n : ℕ) (w : List ℕ) (x r : ℕ) (bytes : List ℕ) → n ≤ 4 → n ≤ length bytes
+pub register-begins : (poly : ℕ) (places : List ℕ) → T (from_fourth places) → (n : ℕ) (w : List ℕ) (x r : ℕ) (bytes : List ℕ) → n ≤ 4 → n ≤ length bytes
     → Begins n w r → ((i : ℕ) → n ≤ i → get_or w i 0 ≡ 0) → register poly x (mixed places w bytes) ≡ register poly (bit_xor x r) bytes
 unfolding mixed Begins
 register-begins poly places front zero w x r bytes few long begins zeros =
@@ -443,6 +405,13 @@ register-begins poly places front (suc n) w x r (b ∷ bs) few long begins zeros
     ∙ register-begins poly places front n (drop 1 w) (enter poly x (bit_xor b (r % 256))) (r / 256) bs (omega arith) (omega arith) begins.1
     (λ i h. get_or-drop 1 w i 0 ∙ zeros (1 + i) (omega arith))
     ∙ ap (λ (v : ℕ). register poly v bs) (sym (enter-low poly x r b))
+
+-- a register of all ones, joined to the first four bytes, counts as if it had been there before
+pub register-ones : (poly : ℕ) (bytes : List ℕ) → 4 ≤ length bytes → register poly 4294967295 bytes ≡ register poly 0 (mixed (0 ∷ []) (255 ∷ 255 ∷ 255 ∷ 255 ∷ []) bytes)
+unfolding Begins from_fourth
+register-ones poly bytes long =
+    sym (register-begins poly (0 ∷ []) tt 4 (255 ∷ 255 ∷ 255 ∷ 255 ∷ []) 0 4294967295 bytes (omega arith) long (refl, (refl, (refl, (refl, refl))))
+    (λ i h. get_or_past (255 ∷ 255 ∷ 255 ∷ 255 ∷ []) i 0 h))
 
 -- a buffer to which nothing was written
 abbrev pub zeros : ℕ → List ℕ
@@ -465,18 +434,18 @@ get_or-take-zeros n pad none i = elim (cases_lt i n) [
 ]
 
 -- a window that begins with the four bytes of the register, and has zeros behind them
-pub held-start : (poly : ℕ) (places : List ℕ) (m r : ℕ) → IsSpan poly places (suc (suc (suc (suc m)))) → (buffer front pad bytes : List ℕ) → r < 2 ^ 32
+pub held-start : (poly : ℕ) (places : List ℕ) (m r : ℕ) → T (from_fourth places) → (buffer front pad bytes : List ℕ) → r < 2 ^ 32
     → buffer ≡ front ++ pad → front ≡ r % 256 ∷ r / 256 % 256 ∷ r / 65536 % 256 ∷ r / 16777216 % 256 ∷ []
     → ((i : ℕ) → get_or pad i 0 ≡ 0) → 4 ≤ length bytes → register poly r bytes ≡ held poly places (take (suc (suc (suc (suc m)))) buffer) bytes
 unfolding Begins
-held-start poly places m r span buffer front pad bytes fits is_buffer is_front none long =
+held-start poly places m r first buffer front pad bytes fits is_buffer is_front none long =
     let four : List ℕ = r % 256 ∷ r / 256 % 256 ∷ r / 65536 % 256 ∷ r / 16777216 % 256 ∷ [] in
     let third : r / 65536 % 256 ≡ r / 256 / 256 % 256 = omega arith in
     let fourth : r / 16777216 % 256 ≡ r / 256 / 256 / 256 % 256 = omega arith in
     let nothing : r / 256 / 256 / 256 / 256 ≡ 0 = omega arith in
     sym (
     ap (λ (l : List ℕ). held poly places (take (suc (suc (suc (suc m)))) l) bytes) (is_buffer ∙ ap (λ (l : List ℕ). l ++ pad) is_front)
-    ∙ register-begins poly places span.front 4 (four ++ take m pad) 0 r bytes (omega arith) long (refl, (refl, (third, (fourth, nothing))))
+    ∙ register-begins poly places first 4 (four ++ take m pad) 0 r bytes (omega arith) long (refl, (refl, (third, (fourth, nothing))))
     (λ i h. get_or-append_right four (take m pad) 4 i 0 refl h ∙ get_or-take-zeros m pad none (i - 4)))
 
 -- a loop over the bytes of a buffer that brings those from n on down to its front
@@ -495,27 +464,3 @@ copied-more buffer old i n room len copied kept =
 pub kept-more : (buffer old : List ℕ) (i v : ℕ) → drop i buffer ≡ drop i old → drop (i + 1) (set buffer i v) ≡ drop (i + 1) old
 kept-more buffer old i v kept =
     drop-set-lt (i + 1) buffer i v (omega arith) ∙ sym (drop-drop 1 i buffer) ∙ ap (drop 1) kept ∙ drop-drop 1 i old
-
--- ---- a chunk of 512 bytes in a lane of its own
-
--- the lane stands before byte `at` of the chunk
-pub record LaneSoFar (chunk lane : List ℕ) (at : ℕ) : Type 0 where
-  pub so_far : register crc32c_polynomial 0xFFFF_FFFF chunk ≡ held crc32c_polynomial near_places (take 104 (drop at lane)) (drop at chunk)
-  pub len : length lane ≡ 488
-
-pub LaneSoFar-start : (chunk lane : List ℕ) → 4 ≤ length chunk → lane ≡ (255 ∷ 255 ∷ 255 ∷ 255 ∷ []) ++ drop 4 (zeros 488) → LaneSoFar chunk lane 0
-LaneSoFar-start chunk lane long is_lane = record {
-  so_far =
-      held-start crc32c_polynomial near_places 100 4294967295 IsSpan-near lane (255 ∷ 255 ∷ 255 ∷ 255 ∷ []) (drop 4 (zeros 488)) chunk (omega arith) is_lane refl
-      (get_or-drop-zeros 4 488) long;
-  len = ap length is_lane ∙ omega (arith, length-drop 4 (zeros 488), length-zeros 488);
-}
-
-pub LaneSoFar-sum : (chunk lane : List ℕ) (at result : ℕ) → LaneSoFar chunk lane at → at ≡ 384
-    → result ≡ bit_not w32 (held crc32c_polynomial near_places (drop 384 lane) (drop 384 chunk)) → result ≡ sum_of Crc32c chunk
-LaneSoFar-sum chunk lane at result s is_at is_result =
-    let short : length (drop 384 lane) ≤ 104 = omega (arith, length-drop 384 lane, s.len) in
-    is_result
-    ∙ ap (bit_not w32)
-    (sym (s.so_far ∙ ap (λ (n : ℕ). held crc32c_polynomial near_places (take 104 (drop n lane)) (drop n chunk)) is_at
-    ∙ ap (λ (l : List ℕ). held crc32c_polynomial near_places l (drop 384 chunk)) (take_all 104 (drop 384 lane) short)))

@@ -150,23 +150,24 @@ chunks-append (suc n) size front behind c len =
 
 -- ---- four chunks at once
 
-more_of_512 : (body : List ℕ) → 2048 ≤ length body → (n m : ℕ) → n < 2048 → m ≡ n + 512
-    → chunks 512 512 (drop n body) ≡ take 512 (drop n body) ∷ chunks 512 512 (drop m body)
-more_of_512 body long n m h e =
-    chunks-more 512 512 (drop n body) (omega arith) (omega arith) (omega (arith, length-drop n body))
-    ∙ ap (λ (xs : List ℕ). take 512 (drop n body) ∷ chunks 512 512 xs) (drop-drop 512 n body)
-    ∙ ap (λ (k : ℕ). take 512 (drop n body) ∷ chunks 512 512 (drop k body)) (sym e)
+more_of : (size : ℕ) (body : List ℕ) → 1 ≤ size → (n m : ℕ) → n < length body → m ≡ n + size
+    → chunks size size (drop n body) ≡ take size (drop n body) ∷ chunks size size (drop m body)
+more_of size body c n m h e =
+    chunks-more size size (drop n body) c c (omega (arith, length-drop n body))
+    ∙ ap (λ (xs : List ℕ). take size (drop n body) ∷ chunks size size xs) (drop-drop size n body)
+    ∙ ap (λ (k : ℕ). take size (drop n body) ∷ chunks size size (drop k body)) (sym e)
 
--- four chunks of 512 bytes, and those of what is behind them
-pub chunks-four : (body : List ℕ) → 2048 ≤ length body → chunks 512 512 body ≡ four_chunks body ++ chunks 512 512 (drop 2048 body)
-chunks-four body long =
-    more_of_512 body long 0 512 (omega arith) (omega arith)
-    ∙ ap (λ (ps : List (List ℕ)). take 512 body ∷ ps)
-    (more_of_512 body long 512 1024 (omega arith) (omega arith)
-    ∙ ap (λ (ps : List (List ℕ)). take 512 (drop 512 body) ∷ ps)
-    (more_of_512 body long 1024 1536 (omega arith) (omega arith)
-    ∙ ap (λ (ps : List (List ℕ)). take 512 (drop 1024 body) ∷ ps)
-    (more_of_512 body long 1536 2048 (omega arith) (omega arith))))
+-- four chunks, and those of what is behind them
+pub chunks-four : (size : ℕ) (body : List ℕ) → 1 ≤ size → 4 * size ≤ length body
+    → chunks size size body ≡ four_chunks size body ++ chunks size size (drop (4 * size) body)
+chunks-four size body c long =
+    more_of size body c 0 size (omega arith) (omega arith)
+    ∙ ap (λ (ps : List (List ℕ)). take size body ∷ ps)
+    (more_of size body c size (2 * size) (omega arith) (omega arith)
+    ∙ ap (λ (ps : List (List ℕ)). take size (drop size body) ∷ ps)
+    (more_of size body c (2 * size) (3 * size) (omega arith) (omega arith)
+    ∙ ap (λ (ps : List (List ℕ)). take size (drop (2 * size) body) ∷ ps)
+    (more_of size body c (3 * size) (4 * size) (omega arith) (omega arith))))
 
 -- ---- the sums of chunks as one list
 
@@ -299,14 +300,14 @@ IsRight_from_same kind ps sums k same within = subst (λ (l : List ℕ). IsRight
 pub four_same : {a b c d a' b' c' d' : ℕ} → a ≡ a' → b ≡ b' → c ≡ c' → d ≡ d' → a ∷ b ∷ c ∷ d ∷ [] ≡ a' ∷ b' ∷ c' ∷ d' ∷ []
 four_same p q r s = λ i. p i ∷ q i ∷ r i ∷ s i ∷ []
 
--- four sums that were compared are those of the first four chunks of 512 bytes
-pub four_right : (kind : SumKind) (body sums : List ℕ) → 2048 ≤ length body
-    → map (sum_of kind) (four_chunks body) ≡ from_be_bytes w32 (take 4 sums) ∷ from_be_bytes w32 (take 4 (drop 4 sums)) ∷ from_be_bytes w32 (take 4 (drop 8 sums)) ∷ from_be_bytes w32 (take 4 (drop 12 sums)) ∷ []
-    → (j : ℕ) → j < 4 → IsRight kind (chunks 512 512 body) sums j
+-- four sums that were compared are those of the first four chunks
+pub four_right : (kind : SumKind) (size : ℕ) (body sums : List ℕ) → 1 ≤ size → 4 * size ≤ length body
+    → map (sum_of kind) (four_chunks size body) ≡ from_be_bytes w32 (take 4 sums) ∷ from_be_bytes w32 (take 4 (drop 4 sums)) ∷ from_be_bytes w32 (take 4 (drop 8 sums)) ∷ from_be_bytes w32 (take 4 (drop 12 sums)) ∷ []
+    → (j : ℕ) → j < 4 → IsRight kind (chunks size size body) sums j
 unfolding IsRight
-four_right kind body sums long e j h = subst (λ (ps : List (List ℕ)). IsRight kind ps sums j) (sym (chunks-four body long)) (here j h)
+four_right kind size body sums c long e j h = subst (λ (ps : List (List ℕ)). IsRight kind ps sums j) (sym (chunks-four size body c long)) (here j h)
   where
-    here : (i : ℕ) → i < 4 → IsRight kind (four_chunks body ++ chunks 512 512 (drop 2048 body)) sums i
+    here : (i : ℕ) → i < 4 → IsRight kind (four_chunks size body ++ chunks size size (drop (4 * size) body)) sums i
     here zero h' = ap (λ (l : List ℕ). get_or l 0 0) e
     here (suc zero) h' = ap (λ (l : List ℕ). get_or l 1 0) e
     here (suc (suc zero)) h' = ap (λ (l : List ℕ). get_or l 2 0) e
@@ -403,17 +404,16 @@ module _ (kind : SumKind) (body sums : List ℕ) (first size : ℕ) (rest left :
       (SoFar-next c h (
       ap (sum_of kind) (sym (is_chunk ∙ ap (λ (m : ℕ). take m rest) is_n ∙ take_min len rest)) ∙ e ∙ ap (from_be_bytes w32) is_word)))
 
-  pub SoFar-four : (after behind : List ℕ) → len ≡ 512 → size ≡ 512 → 2048 ≤ length rest → after ≡ drop 2048 rest → behind ≡ drop 16 left
-      → ((j : ℕ) → j < 4 → IsRight kind (chunks 512 512 rest) left j) → SoFar kind body sums first size after behind len (k + 4)
-  SoFar-four after behind is_len is_chunk long is_after is_behind right =
-      let at_512 : (xs : List ℕ) → chunks len size xs ≡ chunks 512 512 xs =
-      λ xs. ap (λ (n : ℕ). chunks n size xs) is_len ∙ ap (λ (n : ℕ). chunks 512 n xs) is_chunk in
-      let four = at_512 rest ∙ chunks-four rest long in
+  pub SoFar-four : (after behind : List ℕ) → len ≡ size → 4 * size ≤ length rest → after ≡ drop (4 * size) rest → behind ≡ drop 16 left
+      → ((j : ℕ) → j < 4 → IsRight kind (chunks size size rest) left j) → SoFar kind body sums first size after behind len (k + 4)
+  SoFar-four after behind is_len long is_after is_behind right =
+      let even : (xs : List ℕ) → chunks len size xs ≡ chunks size size xs = λ xs. ap (λ (n : ℕ). chunks n size xs) is_len in
+      let four = even rest ∙ chunks-four size rest (omega (arith, s.positive)) long in
       let some : 4 ≤ length (chunks len size rest) =
-      omega (arith, ap length four, length-append (four_chunks rest) (chunks 512 512 (drop 2048 rest))) in
+      omega (arith, ap length four, length-append (four_chunks size rest) (chunks size size (drop (4 * size) rest))) in
       SoFar-more 4 after behind len (k + 4) s.positive refl some is_behind
-      (ap (drop 4) four ∙ sym (at_512 (drop 2048 rest)) ∙ ap (chunks len size) (sym is_after))
-      (λ j h. subst (λ (ps : List (List ℕ)). IsRight kind ps left j) (sym (at_512 rest)) (right j h))
+      (ap (drop 4) four ∙ sym (even (drop (4 * size) rest)) ∙ ap (chunks len size) (sym is_after))
+      (λ j h. subst (λ (ps : List (List ℕ)). IsRight kind ps left j) (sym (even rest)) (right j h))
 
   -- at the end each chunk is right
   pub all_right : length left < 4 → (j : ℕ) → j < length (chunks first size body) → IsRight kind (chunks first size body) sums j
@@ -463,23 +463,24 @@ module _ (kind : SumKind) (body : List ℕ) (first size : ℕ) (rest into : List
       (chunks-more len size rest s.positive c some ∙ ap (λ (xs : List ℕ). take len rest ∷ chunks size size xs) (sym is_next))
       (is_into' ∙ ap (λ (v : ℕ). take at into ++ to_be_bytes w32 v) (is_sum ∙ ap (sum_of kind) is_first)) same_len
 
-  module _ (is_len : len ≡ 512) (is_chunk : size ≡ 512) (long : 2048 ≤ length rest) where
-    four_first : chunks len size rest ≡ four_chunks rest ++ chunks len size (drop 2048 rest)
+  module _ (is_len : len ≡ size) (long : 4 * size ≤ length rest) where
+    four_first : chunks len size rest ≡ four_chunks size rest ++ chunks len size (drop (4 * size) rest)
     four_first =
-        let at_512 : (xs : List ℕ) → chunks len size xs ≡ chunks 512 512 xs =
-        λ xs. ap (λ (n : ℕ). chunks n size xs) is_len ∙ ap (λ (n : ℕ). chunks 512 n xs) is_chunk in
-        at_512 rest ∙ chunks-four rest long ∙ ap (λ (ps : List (List ℕ)). four_chunks rest ++ ps) (sym (at_512 (drop 2048 rest)))
+        let even : (xs : List ℕ) → chunks len size xs ≡ chunks size size xs = λ xs. ap (λ (n : ℕ). chunks n size xs) is_len in
+        even rest ∙ chunks-four size rest (omega (arith, s.positive)) long
+        ∙ ap (λ (ps : List (List ℕ)). four_chunks size rest ++ ps) (sym (even (drop (4 * size) rest)))
 
     pub room_for_four : at + 16 ≤ length into
-    room_for_four = omega (arith, s.room, ap length four_first, length-append (four_chunks rest) (chunks len size (drop 2048 rest)))
+    room_for_four =
+        omega (arith, s.room, ap length four_first, length-append (four_chunks size rest) (chunks len size (drop (4 * size) rest)))
 
-    pub WrittenSoFar-four : (after into' sums : List ℕ) → after ≡ drop 2048 rest → sums ≡ map (sum_of kind) (four_chunks rest)
+    pub WrittenSoFar-four : (after into' sums : List ℕ) → after ≡ drop (4 * size) rest → sums ≡ map (sum_of kind) (four_chunks size rest)
         → take (at + 4 * length sums) into' ≡ take at into ++ flat_sums sums → length into' ≡ length into
         → WrittenSoFar kind body first size after into' len (at + 16)
     WrittenSoFar-four after into' sums is_after is_sums is_into' same_len =
         let four : at + 4 * length sums ≡ at + 16 = omega (arith, ap length is_sums) in
-        WrittenSoFar-more (four_chunks rest) after into' len (at + 16) s.positive refl
-        (four_first ∙ ap (λ (xs : List ℕ). four_chunks rest ++ chunks len size xs) (sym is_after))
+        WrittenSoFar-more (four_chunks size rest) after into' len (at + 16) s.positive refl
+        (four_first ∙ ap (λ (xs : List ℕ). four_chunks size rest ++ chunks len size xs) (sym is_after))
         (ap (λ (n : ℕ). take n into') (sym four) ∙ is_into' ∙ ap (λ (l : List ℕ). take at into ++ flat_sums l) is_sums) same_len
 
   pub all_written : length into ≤ at → into ≡ sums_of kind (chunks first size body)

@@ -1,4 +1,5 @@
 pub mod AheadLemmas
+pub mod LaneLemmas
 pub mod LinearLemmas
 pub mod ChunkLemmas
 pub mod SlicingLemmas

@@ -1,7 +1,7 @@
 -- The register is linear: each step of it passes through an exclusive or.
 use Rattle.std.proofs.Common.{◌≡◌, ℕ, zero, suc, ◌+◌, ◌*◌, ◌/◌, ◌%◌, ◌^◌, ◌<◌, List, [], ◌∷◌, length, refl, sym, ap, ◌∙◌, arith, if◌then◌else◌, ◌==◌}
 use lib.Bits.{bit_xor, xor_assoc, xor_comm, xor_self, xor_zero_r, xor_shr, xor_mod, xor_shifted}
-use Rattle.chunk_sums.specs.Crc.{bit_step, byte_step, enter, register, advance}
+use Rattle.chunk_sums.specs.Crc.{bit_step, byte_step, enter, number, register, advance}
 
 -- what the lowest digit takes along as it leaves, over the rest
 leaving : ℕ → ℕ → ℕ → ℕ
@@ -82,11 +82,6 @@ advance-zero poly (suc n) = advance-zero poly n
 pub advance_split : (poly n r : ℕ) → advance poly (suc n) r ≡ bit_xor (advance poly n (r / 256)) (advance poly (suc n) (r % 256))
 unfolding advance
 advance_split poly n r = ap (advance poly n) (byte_step_split poly r) ∙ advance-xor poly n (r / 256) (byte_step poly (r % 256))
-
--- the bytes as one number, the first lowest
-unfoldable pub number : List ℕ → ℕ
-number [] = 0
-number (b ∷ bs) = bit_xor b (number bs * 256)
 
 pub register-number : (poly r : ℕ) (bytes : List ℕ) → register poly r bytes ≡ advance poly (length bytes) (bit_xor r (number bytes))
 unfolding advance enter number

@@ -44,10 +44,11 @@ sums r body = sums_of r.kind (summed_chunks r.kind r.chunk r.chunk body)
 unfoldable pub IsRight : SumKind → List (List ℕ) → List ℕ → ℕ → Type 0
 IsRight k cs sums i = sum_of k (slice_index_or cs i []) ≡ from_be_bytes w32 (take 4 (drop (4 * i) sums))
 
--- the first four chunks of 512 bytes of a body that has as many
-abbrev pub four_chunks : List ℕ → List (List ℕ)
-four_chunks body =
-    take 512 body ∷ take 512 (drop 512 body) ∷ take 512 (drop 1024 body) ∷ take 512 (drop 1536 body) ∷ []
+-- the first four chunks of so many bytes of a body that has as many
+abbrev pub four_chunks : ℕ → List ℕ → List (List ℕ)
+four_chunks size body =
+    take size body ∷ take size (drop size body) ∷ take size (drop (2 * size) body)
+    ∷ take size (drop (3 * size) body) ∷ []
 
 -- how many chunks a body of so many bytes has
 abbrev pub count_of : ℕ → ℕ → ℕ → ℕ

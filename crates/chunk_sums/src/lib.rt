@@ -14,6 +14,7 @@ mod castagnoli;
 mod chunks;
 mod four;
 mod ieee;
+mod lanes;
 mod slicing;
 mod tables;
 mod window;

@@ -55,10 +55,10 @@ still_risen before now after h k = later (min (before + 1) (2 ^ 64 - 1)) now aft
     later : (x y z : ℕ) → x ≤ y → y ≤ z → x ≤ z
     later x y z a b = omega arith
 
-same_less : (n : ℕ) → n ≤ n
+pub same_less : (n : ℕ) → n ≤ n
 same_less n = omega arith
 
-less_through : (x y z : ℕ) → x ≤ y → y ≤ z → x ≤ z
+pub less_through : (x y z : ℕ) → x ≤ y → y ≤ z → x ≤ z
 less_through x y z a b = omega arith
 
 -- an end of which a half's count has risen
@@ -77,14 +77,14 @@ out_failed i o before e h = ap (λ (b : Bool). nat_lt 0 (i.faults e.inward) || b
 or_on : (a b : Bool) → b ≡ true → (a || b) ≡ true
 or_on a b h = rw h (or_true a)
 
-or_first : (a b : Bool) → a ≡ true → (a || b) ≡ true
+pub or_first : (a b : Bool) → a ≡ true → (a || b) ≡ true
 or_first a b h = rw h refl
 
 module _ {R I O : Type 0} (r : roads.Ghosts R I O) (i : link_in.Ghosts I) (o : link_out.Ghosts O) where
   pub one_risen : (e : Conn I O) (road road' : R) → BringsEnd r i o e road road' (Ok tt) → has_failed i o e ≡ true → r.risen road' e.id.0 ≡ true
   one_risen e road road' b h = b.risen e.id.0 ∙ or_on (r.risen road e.id.0) ((e.id.0 == e.id.0) && has_failed i o e) (rw (same-itself e.id.0, h) refl)
 
-  mirror_keeps : (c : ℕ) (mirror : Option (Conn I O)) (road road' : R) → r.risen road c ≡ true → BringsMirror r i o mirror road road' (Ok tt) (Ok tt) → r.risen road' c ≡ true
+  pub mirror_keeps : (c : ℕ) (mirror : Option (Conn I O)) (road road' : R) → r.risen road c ≡ true → BringsMirror r i o mirror road road' (Ok tt) (Ok tt) → r.risen road' c ≡ true
   mirror_keeps c None road road' h b = subst (λ (x : R). r.risen x c ≡ true) (sym b.0) h
   mirror_keeps c (Some e) road road' h b = b.risen c ∙ or_first (r.risen road c) ((e.id.0 == c) && has_failed i o e) h
 
@@ -105,7 +105,7 @@ module _ {R I O : Type 0} (r : roads.Ghosts R I O) (i : link_in.Ghosts I) (o : l
 
 -- HOW A TURN FAILED
 
-link_done : (d : Done) (s : Shuts) (receipt : Option Receipt) → stepped_of d s ≡ stepped.LinkFailed receipt → d ≡ done.LinkFailed receipt
+pub link_done : (d : Done) (s : Shuts) (receipt : Option Receipt) → stepped_of d s ≡ stepped.LinkFailed receipt → d ≡ done.LinkFailed receipt
 link_done (done.LinkFailed x) s receipt h = let e : x ≡ receipt = cc in ap done.LinkFailed e
 link_done (done.File x) s receipt h = cc
 link_done done.Memory s receipt h = cc
@@ -119,7 +119,7 @@ link_done (done.MirrorFailed x) shuts.Nothing receipt h = cc
 link_done (done.MirrorFailed x) shuts.Mirror receipt h = cc
 link_done (done.MirrorFailed x) shuts.Both receipt h = cc
 
-file_done : (d : Done) (s : Shuts) (receipt : Receipt) → stepped_of d s ≡ stepped.File receipt → d ≡ done.File receipt
+pub file_done : (d : Done) (s : Shuts) (receipt : Receipt) → stepped_of d s ≡ stepped.File receipt → d ≡ done.File receipt
 file_done (done.File x) s receipt h = let e : x ≡ receipt = cc in ap done.File e
 file_done (done.LinkFailed x) s receipt h = cc
 file_done done.Memory s receipt h = cc
@@ -156,7 +156,7 @@ module _ {O : Type 0} (o : link_out.Ghosts O) where
   event_rose text (sending.File x) receipt up sent is h = cc
   event_rose text sending.Memory receipt up sent is h = cc
 
-file_book : {F : Type 0} (f : files.Ghosts F) (e : ReplicaEvent) (book book' : BookState F) (answered : Result Receipt BookFault) → BookEnds f book book' e answered → (receipt : Receipt) → answered ≡ Err (fault.File receipt) → FaultsIncreased (f.faults book.drawer) (f.faults book'.drawer)
+pub file_book : {F : Type 0} (f : files.Ghosts F) (e : ReplicaEvent) (book book' : BookState F) (answered : Result Receipt BookFault) → BookEnds f book book' e answered → (receipt : Receipt) → answered ≡ Err (fault.File receipt) → FaultsIncreased (f.faults book.drawer) (f.faults book'.drawer)
 file_book f e book book' answered b receipt is = (subst (λ (x : Result Receipt BookFault). BookEnds f book book' e x) is b).rose
 
 packet_file : (x : Taken) (receipt : Receipt) → packet_done x ≡ done.File receipt → receiving.booked_as x ≡ Err (fault.File receipt)

@@ -33,7 +33,7 @@ use Rattle.member_events.proofs.LostLaws.{MirrorFailed}
 pub same_count : (n : ℕ) → n ≤ n
 same_count n = omega arith
 
-less_then : (x y z : ℕ) → x ≤ y → y ≤ z → x ≤ z
+pub less_then : (x y z : ℕ) → x ≤ y → y ≤ z → x ≤ z
 less_then x y z a b = omega arith
 
 pub rises_from : (before road now : ℕ) → before ≤ road → FaultsIncreased road now → FaultsIncreased before now

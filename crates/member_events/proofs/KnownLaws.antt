@@ -48,7 +48,7 @@ pub record SameIds {I O : Type 0} (old new : Member I O) : Type 0 where
   pub lower : SameMirror old.mirror new.mirror
 
 module _ {I O : Type 0} where
-  mirror_itself : (e : Option (Conn I O)) → SameMirror e e
+  pub mirror_itself : (e : Option (Conn I O)) → SameMirror e e
   mirror_itself None = tt
   mirror_itself (Some e) = refl
 
@@ -81,11 +81,11 @@ module _ {I O : Type 0} where
 -- A TURN
 
 module _ {I O : Type 0} (o : link_out.Ghosts O) where
-  end_same : (closes : Bool) (old new : Conn I O) → ShutsEnd o closes old new → new.id ≡ old.id
+  pub end_same : (closes : Bool) (old new : Conn I O) → ShutsEnd o closes old new → new.id ≡ old.id
   end_same true old new h = h.id
   end_same false old new h = ap (λ (e : Conn I O). e.id) h
 
-  ends_same : (closes : Bool) (old new : Option (Conn I O)) → ShutsMirror o closes old new → SameMirror old new
+  pub ends_same : (closes : Bool) (old new : Option (Conn I O)) → ShutsMirror o closes old new → SameMirror old new
   ends_same closes None None h = tt
   ends_same closes None (Some new) h = absurd h
   ends_same closes (Some old) None h = absurd h
@@ -188,7 +188,7 @@ module _ {F I O : Type 0} (f : files.Ghosts F) (i : link_in.Ghosts I) (o : link_
 
 -- EXCHANGES
 
-known_on : (old new : Option Plain) (c : ℕ) → KeepsConnections old new → IsKnown old c → IsKnown new c
+pub known_on : (old new : Option Plain) (c : ℕ) → KeepsConnections old new → IsKnown old c → IsKnown new c
 known_on None None c h k = tt
 known_on None (Some q) c h k = cc (h.stays_hidden refl)
 known_on (Some p) None c h k = tt

@@ -14,3 +14,12 @@ pub mod FaultEvents
 pub mod ReadyEvents
 pub mod DownEvents
 pub mod UpEvents
+pub mod BeginEvents
+pub mod SetupKnown
+pub mod SetupEnds
+pub mod JoinWorld
+pub mod JoinAlone
+pub mod JoinMirror
+pub mod JoinEvents
+pub mod JoinFaults
+pub mod JoinEnds

@@ -88,7 +88,7 @@ same_less : (n : ℕ) → n ≤ n
 same_less n = omega arith
 
 module _ {I O : Type 0} (o : link_out.Ghosts O) where
-  later_end : (closes : Bool) (old new : Conn I O) → ShutsEnd o closes old new → o.faults old.outward ≤ o.faults new.outward
+  pub later_end : (closes : Bool) (old new : Conn I O) → ShutsEnd o closes old new → o.faults old.outward ≤ o.faults new.outward
   later_end true old new h = h.half.never_falls
   later_end false old new h = subst (λ (e : Conn I O). o.faults old.outward ≤ o.faults e.outward) (sym h) (same_less (o.faults old.outward))
 

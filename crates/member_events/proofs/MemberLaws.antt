@@ -33,7 +33,7 @@ use Rattle.world_nets.specs.Nets.{IsNetOf, held_by, is_over}
 use Rattle.world_nets.specs.Flushing.{shuts_above, shuts_below}
 use Rattle.world_nets.proofs.FlushingLemmas.{member-sends}
 use Rattle.world_nets.proofs.StepLemmas.{changed-over, followed}
-use Rattle.member_events.specs.Showing.{MirrorShows, NoneReceived, OthersStay, MemberLeft}
+use Rattle.member_events.specs.Showing.{MirrorShows, NoneReceived, both_act, OthersStay, MemberLeft}
 use Rattle.member_events.proofs.EndLaws.{HeldAt, MirrorAt, RoadsAt, mirror_net, mirror_inbox, mirror_left, both_pass, both_brought, end_from}
 use Rattle.member_events.proofs.NetLaws.{passed_net, brought_net, other_passed, other_left}
 use Rattle.member_events.proofs.WorldLaws.{member_after}
@@ -100,8 +100,8 @@ module _ {F R I O : Type 0} (r : roads.Ghosts R I O) (i : link_in.Ghosts I) (o :
   -- A member that goes on is exchanged.
   pub moved : (w w1 : World) (first net : Net) (e : Event) (c : ℕ) (full : FullMember) (x : Next) (s : Step) (broke : Option Break) (up down : Bool) (book : BookState F) (m new : Member I O) (road road' : R)
       → outcome w e ≡ Some (apply w1 (member_change w1 c full x s broke)) → full.mirror ≢ Some c → OthersStay i o w first w1 net c full.mirror → IsNetOf w1 net → RoadsAt r net road
-      → HasStepped i o w1 net c full x s up down m book → s.effect.shuts ≡ shuts.Nothing → ExchangesBoth r i o None m new road road' (Ok tt) → MemberLeft r i o w first (happens w e) c full book road' (Some new)
-  moved w w1 first net e c full x s broke up down book m new road road' out apart others is_net at h quiet ex =
+      → HasStepped i o w1 net c full x s up down m book → s.effect.shuts ≡ shuts.Nothing → both_act (record full { state = s.member }) ≡ both_act full → ExchangesBoth r i o None m new road road' (Ok tt) → MemberLeft r i o w first (happens w e) c full book road' (Some new)
+  moved w w1 first net e c full x s broke up down book m new road road' out apart others is_net at h quiet acts ex =
       let k : Change = member_change w1 c full x s broke in
       let s1 = shuts_above s.effect.shuts in
       let s2 = shuts_below s.effect.shuts in
@@ -123,16 +123,19 @@ module _ {F R I O : Type 0} (r : roads.Ghosts R I O) (i : link_in.Ghosts I) (o :
         fields = refl;
         mirror = refl;
         left_is = record {
-          node = ap (λ (y : NodeId). y.0) ex.rest.node ∙ (h.node ∙ sym a.node);
-          op = ex.rest.op ∙ h.op;
-          stage_is = ex.rest.stage ∙ (h.stage_is ∙ ap (stage_after s.member) quiet);
-          holds = subst (λ (st : Stage). HoldsMirror st new.mirror) (sym ex.rest.stage)
-              (holds_like i o m.stage net made s2 (map text_of m2) (held_by down) (held_by down) full.mirror m.mirror new.mirror h.lower low h.holds);
-          upstream = end_from i o v made c true up new.upstream (same c true ∙ h.over_up) p.upper;
-          mirror = mirror_shows i o v made down full.mirror new.mirror (over_on w1 v full.mirror down (λ d. same d false) h.over_down) low;
-          above = ex.rest.above ∙ h.above quiet;
-          below_next = ap (λ (b : BelowState). b.next) ex.rest.below ∙ h.below_next;
-          below = none_left v full.mirror down new.below.received (over_on w1 v full.mirror down (λ d. same d false) h.over_down) (λ z. ap (λ (b : BelowState). b.received) ex.rest.below ∙ h.below z);
+          shows = record {
+            node = ap (λ (y : NodeId). y.0) ex.rest.node ∙ (h.node ∙ sym a.node);
+            op = ex.rest.op ∙ h.op;
+            stage_is = ex.rest.stage ∙ (h.stage_is ∙ ap (stage_after s.member) quiet);
+            holds = subst (λ (st : Stage). HoldsMirror st new.mirror) (sym ex.rest.stage)
+                (holds_like i o m.stage net made s2 (map text_of m2) (held_by down) (held_by down) full.mirror m.mirror new.mirror h.lower low h.holds);
+            upstream = end_from i o v made c true up new.upstream (same c true ∙ h.over_up) p.upper;
+            mirror = mirror_shows i o v made down full.mirror new.mirror (over_on w1 v full.mirror down (λ d. same d false) h.over_down) low;
+            above = ex.rest.above ∙ h.above quiet;
+            below_next = ap (λ (b : BelowState). b.next) ex.rest.below ∙ h.below_next;
+            below = none_left v full.mirror down new.below.received (over_on w1 v full.mirror down (λ d. same d false) h.over_down) (λ z. ap (λ (b : BelowState). b.received) ex.rest.below ∙ h.below z);
+          };
+          acts = acts;
         };
         replica = h.replica ∙ sym a.replica;
         others = λ d b y none z. other_passed r i o w1 v net c full.mirror false false s1 s2 (map text_of m1) (map text_of m2) d b y none (same d b) (others d b y none z);

@@ -38,7 +38,7 @@ use Rattle.member_events.specs.Steps.{IsPlaced}
 use Rattle.member_events.specs.Showing.{OthersStay, MemberLeft}
 use Rattle.member_events.proofs.TurnEnds.{IsFine, TurnSends}
 use Rattle.member_events.proofs.EndLaws.{HeldAt, MirrorAt, RoadsAt, end_sends, mirror_sends}
-use Rattle.member_events.proofs.StepLaws.{step_over}
+use Rattle.member_events.proofs.StepLaws.{step_over, step_on}
 use Rattle.member_events.proofs.MemberLaws.{HasStepped, moved, shut}
 
 -- A running member before its turn, in a world in which it took this: what it is, and what its ends hold.
@@ -100,7 +100,7 @@ module _ {F R I O : Type 0} (r : roads.Ghosts R I O) (i : link_in.Ghosts I) (o :
       → outcome w e ≡ Some (apply w1 (member_change w1 c full x (step full.state was t) broke)) → full.mirror ≢ Some c → OthersStay i o w first w1 net c full.mirror → IsNetOf w1 net → RoadsAt r net road
       → HasStepped i o w1 net c full x (step full.state was t) up down m book → (step full.state was t).effect.shuts ≡ sh → IsPlaced r i o (done_step sh receipt) m road road' (Ok left) → MemberLeft r i o w first (happens w e) c full book road' left
   place_by w w1 first net e c full x t was broke up down book m (Some new) road road' shuts.Nothing receipt out apart others is_net at h is p =
-      moved r i o w w1 first net e c full x (step full.state was t) broke up down book m new road road' out apart others is_net at h is p
+      moved r i o w w1 first net e c full x (step full.state was t) broke up down book m new road road' out apart others is_net at h is (step_on full.state was t is) p
   place_by w w1 first net e c full x t was broke up down book m None road road' shuts.Nothing receipt out apart others is_net at h is p = absurd p
   place_by w w1 first net e c full x t was broke up down book m None road road' shuts.Mirror receipt out apart others is_net at h is p =
       shut r i o w w1 first net e c full x (step full.state was t) broke up down book m road road' out apart others is_net at h (step_over full.state was t (λ z. cc)) p

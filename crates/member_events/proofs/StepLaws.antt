@@ -44,7 +44,7 @@ use Rattle.member_events.specs.Texts.{SpellUp, IsPacketNext}
 -- WHAT GOES UP
 
 -- a response that is spelled as it is written is within the limit
-spelled_within : (bytes : List ℕ) (P : List ℕ → Type 0) → FramesSome P (least_varint (length bytes) ++ bytes) → length bytes < 2 ^ 64 → length bytes ≤ limit
+pub spelled_within : (bytes : List ℕ) (P : List ℕ → Type 0) → FramesSome P (least_varint (length bytes) ++ bytes) → length bytes < 2 ^ 64 → length bytes ≤ limit
 spelled_within bytes P f fits =
     let one : varint_at (least_varint (length bytes) ++ bytes) ≡ Ok (length bytes, bytes) = read_varint_again (least_varint (length bytes)) (length bytes) bytes (least_varint_spells (length bytes) fits) in
     let two : varint_at (least_varint (length bytes) ++ bytes) ≡ Ok (length f.message, f.message) = ap varint_at f.parts ∙ read_varint_again f.prefix (length f.message) f.message f.spelled in
@@ -53,7 +53,7 @@ spelled_within bytes P f fits =
     let few : length f.message ≤ limit = f.few in
     omega arith
 
-fits_within : (bytes : List ℕ) (P : List ℕ → Type 0) → FramesSome P (least_varint (length bytes) ++ bytes) → length bytes < 2 ^ 64
+pub fits_within : (bytes : List ℕ) (P : List ℕ → Type 0) → FramesSome P (least_varint (length bytes) ++ bytes) → length bytes < 2 ^ 64
 fits_within bytes P f =
     let parts : length (least_varint (length bytes)) + length bytes ≡ length f.prefix + length f.message = sym (length-append (least_varint (length bytes)) bytes) ∙ (ap length f.parts ∙ length-append f.prefix f.message) in
     let few : length f.message ≤ limit = f.few in
@@ -148,3 +148,28 @@ settled_over m t booked.Failed h = closed_over t.side m
 -- A member whose step shuts something no longer acts on one side.
 pub step_over : (m : MemberState) (r : FullReplica) (t : Turn) → (step m r t).effect.shuts ≢ shuts.Nothing → is_over_by (step m r t).member ≡ false
 step_over m r t h = settled_over m t (outcome_of r t.call) h
+
+-- WHO GOES ON
+
+open_on : (s : Shuts) (at : Side) (m : MemberState) → s ≡ shuts.Nothing → is_over_by (closed_by s at m) ≡ is_over_by m
+open_on shuts.Nothing at m h = refl
+open_on shuts.Mirror at m h = cc
+open_on shuts.Both at m h = cc
+
+bad_on : (m : MemberState) (call : Option ReplicaEvent) (t : Turn) → (bad_sum m call t).1.shuts ≡ shuts.Nothing → is_over_by (bad_sum m call t).0 ≡ is_over_by m
+bad_on m None t h = cc
+bad_on m (Some (replica_event.Packet conn p)) t h = refl
+bad_on m (Some (replica_event.Other e)) t h = cc
+
+refused_on : (m : MemberState) (t : Turn) (why : Refusal) → (refused_turn m t why).1.shuts ≡ shuts.Nothing → is_over_by (refused_turn m t why).0 ≡ is_over_by m
+refused_on m t (refusal.BadSum chunk) h = bad_on m t.call t h
+refused_on m t why h = cc
+
+settled_on : (m : MemberState) (t : Turn) (b : Booked) → (settled m t b).1.shuts ≡ shuts.Nothing → is_over_by (settled m t b).0 ≡ is_over_by m
+settled_on m t booked.Taken h = open_on t.effect.shuts t.side (record m { mirror = t.mirror }) h
+settled_on m t (booked.Refused why) h = refused_on m t why h
+settled_on m t booked.Failed h = cc
+
+-- A member whose step shuts nothing goes on with the sides that acted.
+pub step_on : (m : MemberState) (r : FullReplica) (t : Turn) → (step m r t).effect.shuts ≡ shuts.Nothing → is_over_by (step m r t).member ≡ is_over_by m
+step_on m r t h = settled_on m t (outcome_of r t.call) h

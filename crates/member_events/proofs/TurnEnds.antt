@@ -94,7 +94,7 @@ module _ {O : Type 0} (o : link_out.Ghosts O) where
   says_nothing : (op : WriteFields) (sends : Option Upward) (up sent : O) → sends ≡ None → HasSaid o None up sent → HasSaid o (texts_of op sends) up sent
   says_nothing op sends up sent none h = rw none h
 
-  alone : (text : Option (List ℕ)) (r : Option Receipt) (up sent : O) → SendsAlone o text (done.Taken r) up sent → HasSaid o text up sent
+  pub alone : (text : Option (List ℕ)) (r : Option Receipt) (up sent : O) → SendsAlone o text (done.Taken r) up sent → HasSaid o text up sent
   alone None None up sent h = inl h
   alone (Some text) None up sent h = h
   alone None (Some r) up sent h = absurd h
@@ -219,7 +219,7 @@ pub record TurnSends {I O : Type 0} (o : link_out.Ghosts O) (t : Turn) (e : Effe
   pub receipt : Option Receipt
   pub ended : result ≡ done_step e.shuts receipt
 
-above_same : (s : Shuts) → shuts_up s ≡ flushing.shuts_above s
+pub above_same : (s : Shuts) → shuts_up s ≡ flushing.shuts_above s
 above_same shuts.Nothing = refl
 above_same shuts.Mirror = refl
 above_same shuts.Both = refl
@@ -262,7 +262,7 @@ fine_mirror (done.File r) ok = refl
 fine_mirror (done.MirrorFailed r) ok = absurd ok
 fine_mirror done.Memory ok = refl
 
-ended_fine : (d : Done) (s : Shuts) → IsFine d → stepped_of d s ≡ done_step s (receipt_of d)
+pub ended_fine : (d : Done) (s : Shuts) → IsFine d → stepped_of d s ≡ done_step s (receipt_of d)
 ended_fine (done.Taken r) s ok = refl
 ended_fine (done.Refused why r) s ok = refl
 ended_fine (done.LinkFailed r) s ok = absurd ok

@@ -22,7 +22,7 @@ both_same n b = rw (same-itself n, same-itself b) refl
 pub at_put_at : {A : Type 0} (f : ℕ → ℕ → A) (n b : ℕ) (x : A) → put_at f n b x n b ≡ x
 at_put_at f n b x = ap (λ (q : Bool). if q then x else f n b) (both_same n b)
 
-sent_here : (c : ℕ) (ms : List Message) → sent_on (Some c) ms c ≡ ms
+pub sent_here : (c : ℕ) (ms : List Message) → sent_on (Some c) ms c ≡ ms
 sent_here c ms = ap (λ (q : Bool). if q then ms else []) (same-itself c)
 
 -- WHERE NOTHING IS DIALLED

@@ -3,3 +3,5 @@ pub mod Steps
 pub mod Texts
 pub mod Showing
 pub mod Events
+pub mod Beginning
+pub mod Joining

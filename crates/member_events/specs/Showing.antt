@@ -52,9 +52,13 @@ pub record MemberShows {I O : Type 0} (i : link_in.Ghosts I) (o : link_out.Ghost
   pub below_next : m.below.next ≡ None
   pub below : NoneReceived w full.mirror m.below.received
 
+-- both sides of a member act
+abbrev pub both_act : FullMember → Bool
+both_act full = full.state.receives && full.state.responds
+
 -- One side of a member no longer acts: the running member has shut then.
 abbrev pub IsOver : FullMember → Type 0
-IsOver full = (full.state.receives && full.state.responds) ≡ false
+IsOver full = both_act full ≡ false
 
 -- the mirror's connection was dialled after the member's own
 abbrev pub IsLater : ℕ → Option ℕ → Type 0
@@ -71,11 +75,17 @@ pub record MemberStands {F R I O : Type 0} (r : roads.Ghosts R I O) (i : link_in
 
 -- WHAT AN EVENT LEAVES
 
+-- A member that goes on: both its sides act, if they did.
+pub record GoesOn {I O : Type 0} (i : link_in.Ghosts I) (o : link_out.Ghosts O) (w : World) (net : Net) (c : ℕ)
+    (old full : FullMember) (m : Member I O) : Type 0 where
+  pub shows : MemberShows i o w net c full m
+  pub acts : both_act full ≡ both_act old
+
 -- a member that goes on, or one that is over
 abbrev pub LeftShows : {I O : Type 0} → link_in.Ghosts I → link_out.Ghosts O → World → Net → ℕ → FullMember →
-    Option (Member I O) → Type 0
-LeftShows i o w net c full (Some m) = MemberShows i o w net c full m
-LeftShows i o w net c full None = IsOver full
+    FullMember → Option (Member I O) → Type 0
+LeftShows i o w net c old full (Some m) = GoesOn i o w net c old full m
+LeftShows i o w net c old full None = IsOver full
 
 -- An end is none of a member's two: the lower one of its connection, and the upper one of that to its mirror.
 abbrev pub IsNoneOf : ℕ → Option ℕ → ℕ → Bool → Type 0
@@ -98,6 +108,6 @@ pub record MemberLeft {F R I O : Type 0} (r : roads.Ghosts R I O) (i : link_in.G
   pub lower : v.lowers c ≡ writes full
   pub fields : full.fields ≡ old.fields
   pub mirror : full.mirror ≡ old.mirror
-  pub left_is : LeftShows i o v made c full left
+  pub left_is : LeftShows i o v made c old full left
   pub replica : replica_of book ≡ replica_at v c (block_of full.fields)
   pub others : OthersStay i o w net v made c old.mirror

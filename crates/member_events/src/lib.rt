@@ -2,9 +2,13 @@
 //! shows the world after the event.
 #![tactic(auto)]
 
+mod beginning;
 mod events;
 mod faults;
+mod joining;
 mod steps;
 
+pub use beginning::{Requested, begin};
 pub use events::{member_down, member_ready, mirror_up};
 pub use faults::MemberFault;
+pub use joining::{Joined, MirrorDial, join};

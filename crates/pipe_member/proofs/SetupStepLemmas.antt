@@ -61,7 +61,7 @@ use Rattle.pipe_member.proofs.EventStepLemmas.{holds_after, holds_open, shut_the
 
 -- ---- what the replica answers
 
-unrefused_by : (r : FullReplica) (e : Event) (a : Answer) → a ≡ row_answer r (replica_event.Other e) → IsOk (transition r.known e) → refused_by a ≡ None
+pub unrefused_by : (r : FullReplica) (e : Event) (a : Answer) → a ≡ row_answer r (replica_event.Other e) → IsOk (transition r.known e) → refused_by a ≡ None
 unrefused_by r e (answer.Refused x) is takes = absurd (never (transition r.known e) x takes (is_refused r.known e (answer.Refused x) x is refl))
   where
     never : (out : Outcome) (x : Refusal) → IsOk out → Err x ≡ reply out → ⊥
@@ -69,14 +69,14 @@ unrefused_by r e (answer.Refused x) is takes = absurd (never (transition r.known
     never (Err y) x is e = cc
 unrefused_by r e other is takes = refl
 
-refused_as : (r : FullReplica) (e : Event) (why : Refusal) → transition r.known e ≡ Err why → refused_by (row_answer r (replica_event.Other e)) ≡ Some (request.Core why)
+pub refused_as : (r : FullReplica) (e : Event) (why : Refusal) → transition r.known e ≡ Err why → refused_by (row_answer r (replica_event.Other e)) ≡ Some (request.Core why)
 refused_as r e why is = ap (λ (o : Outcome). refused_by (answer_of (reply o))) is
 
-refused_none : (o : Outcome) → IsOk o → refused_in o ≡ None
+pub refused_none : (o : Outcome) → IsOk o → refused_in o ≡ None
 refused_none (Ok t) is = refl
 refused_none (Err y) is = cc
 
-refused_some : (o : Outcome) (why : Refusal) → o ≡ Err why → refused_in o ≡ Some why
+pub refused_some : (o : Outcome) (why : Refusal) → o ≡ Err why → refused_in o ≡ Some why
 refused_some o why is = ap refused_in is
 
 -- ---- the step
@@ -143,7 +143,7 @@ module _ {I O : Type 0} (o : link_out.Ghosts O) where
   no_mirror closes old new m none shut there = let k : IsSome {T = Conn I O} None = subst IsSome none (shut_there o closes old new shut there) in cc
 
 -- a member with a target says nothing yet, and has a mirror
-awaits : (conn : ConnId) (op : WriteFields) (answered : Bool) → HasTarget op → ((set_up conn op answered).1.sends ≡ None) × ((set_up conn op answered).1.shuts ≡ shuts.Nothing) × Has (set_up conn op answered).0.mirror
+pub awaits : (conn : ConnId) (op : WriteFields) (answered : Bool) → HasTarget op → ((set_up conn op answered).1.sends ≡ None) × ((set_up conn op answered).1.shuts ≡ shuts.Nothing) × Has (set_up conn op answered).0.mirror
 unfolding set_up
 awaits conn op answered some = by_targets op.targets answered some
   where
@@ -156,7 +156,7 @@ awaits conn op answered some = by_targets op.targets answered some
 -- ---- the setup
 
 module _ {F I O : Type 0} (f : files.Ghosts F) (o : link_out.Ghosts O) (e : Event) (old new : Member I O) (half : O) (book book' : BookState F) (result : Stepped) where
-  leads_to : (answered : Bool) (why : Option RequestRefusal) → IsNewRequest (Ok e) old book result → refused_by (row_answer (replica_of book) (replica_event.Other e)) ≡ why
+  pub leads_to : (answered : Bool) (why : Option RequestRefusal) → IsNewRequest (Ok e) old book result → refused_by (row_answer (replica_of book) (replica_event.Other e)) ≡ why
       → request_step old.upstream.id old.op answered (replica_of book) ≡ booked_request old.upstream.id old.op answered (row (replica_of book) (replica_event.Other e)) why
   leads_to answered why asked says =
       request_leads old.upstream.id old.op answered (replica_of book) e why (subst (λ (c : ReplicaRecord). request_event old.upstream.id old.op (rule_in c) ≡ Ok e) asked.of_history asked.event_is) says

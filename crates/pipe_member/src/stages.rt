@@ -13,7 +13,7 @@ use member_core::{Member as Core, Shuts};
 pub enum Stage {
     /// Its request waits to be set up.
     New,
-    /// Its request was booked, and the dial of its mirror, or the request to it, found no memory. These are its rules once
+    /// Its request was booked, and its mirror couldn't be reached for want of memory. These are its rules once
     /// the mirror is asked, or can't be.
     Booked {
         receipt: Receipt,

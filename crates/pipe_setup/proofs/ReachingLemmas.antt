@@ -1,8 +1,10 @@
 -- How the mirror is reached, by what the parts of it say.
-use Rattle.std.proofs.Common.{◌≡◌, ◌==◌, ◌≤◌, ℕ, nat_le, List, [], ◌∷◌, length, Bool, true, false, if◌then◌else◌, Some, None, Result, Ok, Err, OnOk, OnErr, inr, refl, ◌∙◌, arith}
+use Rattle.std.proofs.Common.{◌≡◌, ◌==◌, ◌≤◌, ℕ, nat_le, List, [], ◌∷◌, length, Bool, true, false, if◌then◌else◌, Option, Some, None, IfSome, IsErrOf, Ok, Err, inr, refl, ◌∙◌, arith}
 use Rattle.std.proofs.lemmas.Bool.Decides.{nat_tests}
+use Rattle.hd_base.specs.declared.ends.RoadError.TheVariants.{NotListening}
 use Rattle.hd_base.specs.declared.links.LinkError.{LinkError}
 use Rattle.hd_base.specs.declared.links.LinkError.TheVariants as link_error
+use Rattle.hd_base.specs.Channels.{Plain}
 use Rattle.link_pieces.specs.Pieces.{SendsNothing, SendsPiece, FailsToSend, IsSending}
 use Rattle.member_core.specs.declared.requests.TheConstants.{MAX_PORT}
 use Rattle.member_core.specs.Requests.{request_to, mirror_request}
@@ -26,6 +28,18 @@ module _ {R I O : Type 0} (r : roads.Ghosts R I O) (i : link_in.Ghosts I) (o : l
   reaches_with node w text old new (reached.Unsent end) is p = p
   reaches_with node w text old new reached.NotDialled is p = inr p
   reaches_with node w text old new reached.Memory is p = p
+
+-- A dial that was answered is of a port on which somebody listens.
+no_error : {T : Type 0} (x : T) → IsErrOf (Ok x) NotListening → ⊥
+no_error x h = let e : Ok x ≡ Err NotListening = h in cc
+
+heard_by : {T : Type 0} (x : T) (p : Plain) (port : ℕ) (listens : Bool) → p.listening port ≡ listens → (p.listening port ≡ false → IsErrOf (Ok x) NotListening) → p.listening port ≡ true
+heard_by x p port true is h = is
+heard_by x p port false is h = absurd (no_error x (h is))
+
+pub listened : {T : Type 0} (x : T) (plain : Option Plain) (port : ℕ) → IfSome plain (λ p. p.listening port ≡ false → IsErrOf (Ok x) NotListening) → IfSome plain (λ p. p.listening port ≡ true)
+listened x None port h = tt
+listened x (Some p) port h = heard_by x p port (p.listening port) refl h
 
 -- THE PORT
 

@@ -1,6 +1,7 @@
 -- How a member reaches its mirror.
-use Rattle.std.specs.Prelude.{◌≡◌, ◌⊎◌, ℕ, List, Some, None}
+use Rattle.std.specs.Prelude.{◌≡◌, ◌⊎◌, ℕ, true, List, Some, None, IfSome, Result, Err}
 use Rattle.hd_base.specs.declared.ends.Conn.{Conn}
+use Rattle.hd_base.specs.declared.ends.RoadError.{RoadError}
 use Rattle.hd_base.specs.declared.numbers.NodeId.{NodeId}
 use Rattle.hd_base.specs.declared.links.LinkIn as link_in
 use Rattle.hd_base.specs.declared.links.LinkOut as link_out
@@ -12,10 +13,15 @@ use Rattle.pipe_setup.specs.Requests.{request_text, first_port}
 use Rattle.pipe_setup.specs.declared.reaching.Reached.{Reached}
 use Rattle.pipe_setup.specs.declared.reaching.Reached.TheVariants as reached
 
--- The request was sent on the end of a dial.
+-- Somebody listens on the port, where observable.
+abbrev pub IsListening : {R I O : Type 0} → roads.Ghosts R I O → ℕ → R → Type 0
+IsListening r port road = IfSome (r.plain road) (λ p. p.listening port ≡ true)
+
+-- The request was sent on the end of a dial, which was answered because somebody listens there.
 pub record IsAsked {R I O : Type 0} (r : roads.Ghosts R I O) (i : link_in.Ghosts I) (o : link_out.Ghosts O)
     (text : List ℕ) (port : ℕ) (old new : R) (end : Conn I O) : Type 0 where
   pub fresh : Conn I O
+  pub listening : IsListening r port old
   pub dialled : IsDialled r i o port old new fresh
   pub kept : KeepsInward fresh end
   pub sent : SendsPiece o text fresh.outward end.outward
@@ -28,12 +34,21 @@ pub record IsUnsent {R I O : Type 0} (r : roads.Ghosts R I O) (i : link_in.Ghost
   pub kept : KeepsInward fresh end
   pub failed : FailsToSend o fresh.outward end.outward
 
--- Memory ran out before the dial or in it, and the roads stay; or for the request on the end of the dial, which is given up.
+-- An end was shut and brought back, which ended so.
+pub record Loses {R I O : Type 0} (r : roads.Ghosts R I O) (i : link_in.Ghosts I) (o : link_out.Ghosts O)
+    (end : Conn I O) (old new : R) (result : Result (Unit {0}) RoadError) : Type 0 where
+  pub given_up : GivesUp r i o end old new
+  pub ends : given_up.result ≡ result
+
+-- Memory ran out before the dial or in it, and the roads stay; or for the request on the end of the dial, which is given up;
+-- or for an end that is brought back because its link failed.
 pub data FindsNoMemory {R I O : Type 0} (r : roads.Ghosts R I O) (i : link_in.Ghosts I) (o : link_out.Ghosts O)
     (port : ℕ) (old new : R) : Type 0 where
   before : KeepsRoads r old new → FindsNoMemory r i o port old new
   after : (middle : R) (fresh end : Conn I O) → IsDialled r i o port old middle fresh → KeepsInward fresh end
       → SendsNothing o fresh.outward end.outward → GivesUp r i o end middle new → FindsNoMemory r i o port old new
+  unsent : (middle : R) (end : Conn I O) (why : RoadError) → IsUnsent r i o port old middle end
+      → Loses r i o end middle new (Err why) → FindsNoMemory r i o port old new
 
 -- How a port is reached with a request.
 abbrev pub ReachesPort : {R I O : Type 0} → roads.Ghosts R I O → link_in.Ghosts I → link_out.Ghosts O → List ℕ → ℕ →

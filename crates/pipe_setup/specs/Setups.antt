@@ -8,7 +8,7 @@ use Rattle.hd_base.specs.declared.files.Files as files
 use Rattle.hd_base.specs.declared.links.LinkIn as link_in
 use Rattle.hd_base.specs.declared.links.LinkOut as link_out
 use Rattle.hd_base.specs.declared.roads.Roads as roads
-use Rattle.link_pieces.specs.Roads.{IsUnanswered, GivesUp}
+use Rattle.link_pieces.specs.Roads.{IsUnanswered}
 use Rattle.op_headers.specs.Values.{WriteFields}
 use Rattle.replica_core.specs.declared.events.Event.{Event}
 use Rattle.replica_core.specs.Views.{rule_in}
@@ -21,7 +21,7 @@ use Rattle.request_refusals.specs.declared.refusals.RequestRefusal.{RequestRefus
 use Rattle.member_core.specs.Requests.{request_event}
 use Rattle.pipe_setup.specs.Refusals.{refusal_of, IsUnbooked}
 use Rattle.pipe_setup.specs.Requests.{first_port}
-use Rattle.pipe_setup.specs.Reaching.{IsAskedBy, IsUnwritten, IsUnsent, FindsNoMemory}
+use Rattle.pipe_setup.specs.Reaching.{IsAskedBy, IsUnwritten, IsUnsent, Loses, FindsNoMemory}
 use Rattle.pipe_setup.specs.declared.refusals.SetupRefusal.{SetupRefusal}
 use Rattle.pipe_setup.specs.declared.refusals.SetupRefusal.TheVariants as refusal
 use Rattle.pipe_setup.specs.declared.setups.Setup.{Setup}
@@ -48,13 +48,13 @@ abbrev pub EndsAs : {F : Type 0} → files.Ghosts F → BookState F → BookStat
 EndsAs f old new e None = ⊥
 EndsAs f old new e (Some answer) = BookEnds f old new (replica_event.Other e) answer
 
--- The dial was answered, and the link that it gave failed and is given up.
+-- The dial was answered, and the link that it gave failed and was brought back.
 pub record IsLost {R I O : Type 0} (r : roads.Ghosts R I O) (i : link_in.Ghosts I) (o : link_out.Ghosts O) (port : ℕ)
     (old new : R) : Type 0 where
   pub middle : R
   pub end : Conn I O
   pub unsent : IsUnsent r i o port old middle end
-  pub given_up : GivesUp r i o end middle new
+  pub lost : Loses r i o end middle new (Ok tt)
 
 -- The mirror can't be had: its dial was answered and the link failed, or no request can go on, or the dial wasn't answered.
 abbrev pub IsDown : {R I O : Type 0} → roads.Ghosts R I O → link_in.Ghosts I → link_out.Ghosts O → NodeId →

@@ -5,7 +5,7 @@ ghost use Rattle.hd_base.specs.Ends.{IsKnown};
 ghost use Rattle.member_core.specs.declared.requests.TheConstants.{MAX_PORT};
 ghost use Rattle.pipe_setup.specs.Requests.{first_port};
 ghost use Rattle.link_pieces.specs.Roads.{IsDialled};
-ghost use Rattle.pipe_setup.specs.Reaching.{Reaches, ReachesPort};
+ghost use Rattle.pipe_setup.specs.Reaching.{IsListening, Reaches, ReachesPort};
 
 use crate::requests::request_text;
 use hd_base::{Conn, NodeId, RoadError, Roads};
@@ -81,7 +81,8 @@ fn ask_mirror<R: Roads>(
     mut end: Conn<R::Inward, R::Outward>,
 ) -> Reached<R::Inward, R::Outward>
     requires { IsKnown (R.plain roads.old) end.id.0 }
-    ensures { (first : R) → IsDialled R.Roads R.Inward.LinkIn R.Outward.LinkOut port first roads.old end
+    ensures { (first : R) → IsListening R.Roads port first →
+        IsDialled R.Roads R.Inward.LinkIn R.Outward.LinkOut port first roads.old end
         → ReachesPort R.Roads R.Inward.LinkIn R.Outward.LinkOut text.now port first roads.new result }
 {
     if take_room(alloc, &mut end.outward, text.len()).is_err() {

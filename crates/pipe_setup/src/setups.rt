@@ -1,16 +1,17 @@
 //! The setup of a member, up to its answer.
 
 ghost use Rattle.std.specs.Prelude.{◌≡◌, ◌==◌, length, Some, Ok, Err, IfOk, IfErr};
+ghost use Rattle.hd_base.specs.Ends.{IsKnown};
 ghost use Rattle.replica_core.specs.Views.{rule_in};
 ghost use Rattle.replica_files.specs.Events.{IsSetup};
 ghost use Rattle.member_core.specs.Requests.{request_event};
+ghost use Rattle.pipe_setup.specs.Reaching.{Loses};
 ghost use Rattle.pipe_setup.specs.Refusals.{refusal_of, IsUnbooked, IsBefore};
 ghost use Rattle.pipe_setup.specs.Setups.{SetsUp, SetsUpBy, GoesOn, booked_in};
 
 use crate::reaching::{Reached, reach_mirror};
 use crate::refusals::SetupRefusal;
-use hd_base::{Conn, ConnId, Files, NodeId, Receipt, Roads};
-use link_pieces::give_up;
+use hd_base::{Conn, ConnId, Files, LinkOut, NodeId, Receipt, RoadError, Roads};
 use member_core::request_event;
 use op_headers::WriteOp;
 use replica_core::Event;
@@ -32,8 +33,8 @@ pub enum Setup<I, O> {
     Refused(SetupRefusal),
     /// A call on the replica's files failed, and the drawer's count of faults rose.
     File(Receipt),
-    /// Memory ran out. Nothing was booked, or the request was booked and only the dial or the request to the mirror found no
-    /// memory; a connection that was dialled is shut.
+    /// Memory ran out. Nothing was booked, or the request was booked and only the dial, the request to the mirror, or
+    /// bringing back an end on which it wasn't sent found no memory; a connection that was dialled is shut.
     Memory { booked: Option<Receipt> },
 }
 
@@ -130,13 +131,15 @@ pub fn go_on<R: Roads>(
     }
     match reach_mirror(alloc, node, op, roads) {
         Reached::Asked(end) => Setup::Mirrored(receipt, end),
-        Reached::Unsent(end) => {
-            give_up(alloc, roads, end);
-            Setup::MirrorDown {
+        Reached::Unsent(end) => match lose(alloc, roads, end) {
+            Ok(()) => Setup::MirrorDown {
                 receipt,
                 answered: true,
-            }
-        }
+            },
+            Err(_) => Setup::Memory {
+                booked: Some(receipt),
+            },
+        },
         Reached::NotDialled => Setup::MirrorDown {
             receipt,
             answered: false,
@@ -145,6 +148,20 @@ pub fn go_on<R: Roads>(
             booked: Some(receipt),
         },
     }
+}
+
+/// Shuts an end on which the request wasn't sent, and brings it back.
+fn lose<R: Roads>(
+    alloc: Global,
+    roads: &mut R,
+    end: Conn<R::Inward, R::Outward>,
+) -> Result<(), RoadError>
+    requires { IsKnown (R.plain roads.old) end.id.0 }
+    ensures { Loses R.Roads R.Inward.LinkIn R.Outward.LinkOut end roads.old roads.new result }
+{
+    let mut end = end;
+    end.outward.shut();
+    roads.bring(alloc, end)
 }
 
 /// Whether a request is of the last member.

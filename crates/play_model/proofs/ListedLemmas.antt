@@ -12,13 +12,14 @@ use Rattle.world.specs.Parts.{Told, Writing}
 use Rattle.world.specs.Worlds.{World, apply}
 use Rattle.world.specs.Primaries.{writer_asks}
 use Rattle.world.specs.Events.{happens, outcome, changed, after_event}
-use Rattle.world.specs.Enabled.{acts_with, is_deed, is_question}
+use Rattle.world.specs.Enabled.{acts_with, is_deed, is_question, can_down, can_ready, can_up}
+use Rattle.world_laws.proofs.FactTables.{and-right}
 use Rattle.world_laws.proofs.StampGivens.{put-here}
 use Rattle.world_laws.proofs.TestLaws.{all-tested}
 use Rattle.play_model.specs.declared.dues.Due.{Due}
 use Rattle.play_model.specs.declared.dues.Due.TheVariants as due
 use Rattle.play_model.specs.States.{PlayState, world_of}
-use Rattle.play_model.specs.Dues.{Queues, is_due, when, when_due, upto, own_dues, conn_dues, dues, asking, acting, own_events, action_of, due_events}
+use Rattle.play_model.specs.Dues.{Queues, is_open, is_open_above, is_due, when, when_due, upto, own_dues, conn_dues, dues, asking, acting, own_events, action_of, due_events}
 use Rattle.play_model.specs.Laws.{AreEnabled, IsDeed, IsQuiet}
 
 -- all of the list are such
@@ -113,9 +114,9 @@ own_enabled w b queue action.Memory none is deed = cc
 -- What is due can happen.
 due_enabled : (w : World) (queues : Queues) (d : Due) → IsQuiet w → is_due w queues d ≡ true → IsDeed w d → AreEnabled w (due_events w queues d)
 due_enabled w queues (due.Own b) quiet is deed = own_enabled w b.0 (queues b.0) (action_of w b) (quiet b.0) refl deed
-due_enabled w queues (due.Down c) quiet is deed = ((all-tested w).down c true ∙ is, tt)
-due_enabled w queues (due.Ready c) quiet is deed = ((all-tested w).ready c ∙ is, tt)
-due_enabled w queues (due.Up c) quiet is deed = ((all-tested w).up c ∙ is, tt)
+due_enabled w queues (due.Down c) quiet is deed = ((all-tested w).down c true ∙ and-right (is_open (w.lowers c.0)) (can_down w c.0) is, tt)
+due_enabled w queues (due.Ready c) quiet is deed = ((all-tested w).ready c ∙ and-right (is_open (w.lowers c.0)) (can_ready w c.0) is, tt)
+due_enabled w queues (due.Up c) quiet is deed = ((all-tested w).up c ∙ and-right (is_open_above w (w.dialled c.0).upper) (can_up w c.0) is, tt)
 
 pub listed_enabled : (blocks : List ℕ) (p : PlayState) (i : ℕ) (d : Due) → IsQuiet (world_of p) → slice_get (dues blocks p) i ≡ Some d → IsDeed (world_of p) d
     → AreEnabled (world_of p) (due_events (world_of p) p.queues d)

@@ -9,7 +9,7 @@ use Rattle.world.specs.declared.events.Event.{Event}
 use Rattle.world.specs.declared.events.Event.TheVariants as event
 use Rattle.world.specs.declared.events.OwnStep.TheVariants as own
 use Rattle.world.specs.declared.events.TakenCommand.{TakenCommand}
-use Rattle.world.specs.Parts.{Writing}
+use Rattle.world.specs.Parts.{Upper, by_member, Lower, writes, ended_below, Writing}
 use Rattle.world.specs.Worlds.{World, put}
 use Rattle.world.specs.Enabled.{can_down, can_ready, can_up}
 use Rattle.play_model.specs.declared.dues.Due.{Due}
@@ -30,11 +30,23 @@ takes_due x queue = is_none x.known.waiting && is_some (slice_get queue 0)
 abbrev pub own_due : Writing → List TakenCommand → Bool
 own_due x queue = has_step x.known || takes_due x queue
 
+-- A member of which both sides act, or another lower end that hasn't ended. A member is over in a play as soon as one of its
+-- sides is: it has shut then, or the end has come from above, and it has no further events.
+abbrev pub is_open : Lower → Bool
+is_open (writes m) = m.state.receives && m.state.responds
+is_open ended_below = false
+is_open other = true
+
+-- the upper end of a connection isn't that of a member that is over
+abbrev pub is_open_above : World → Upper → Bool
+is_open_above w (by_member d) = is_open (w.lowers d)
+is_open_above w other = true
+
 abbrev pub is_due : World → Queues → Due → Bool
 is_due w queues (due.Own b) = own_due (w.writers b.0) (queues b.0)
-is_due w queues (due.Down c) = can_down w c.0
-is_due w queues (due.Ready c) = can_ready w c.0
-is_due w queues (due.Up c) = can_up w c.0
+is_due w queues (due.Down c) = is_open (w.lowers c.0) && can_down w c.0
+is_due w queues (due.Ready c) = is_open (w.lowers c.0) && can_ready w c.0
+is_due w queues (due.Up c) = is_open_above w (w.dialled c.0).upper && can_up w c.0
 
 -- this, where the test holds
 abbrev pub when : {A : Type 0} → Bool → A → List A

@@ -1,38 +1,15 @@
-use Rattle.std.proofs.Common.{arith, sym, refl, ◌∙◌}
-use Rattle.std.proofs.lemmas.Bool.{false≢true}
-use Rattle.chunk_sums.proofs.ChunkLemmas.{SoFar-here, SoFar-four, not_right_here, all_right, sums_of-right, IsRight_from_same}
+use Rattle.std.proofs.Common.{[], arith}
+use Rattle.std.proofs.lemmas.List.Elements.{All-nil, All-cons}
+use Rattle.chunk_sums.specs.Four.{AreReady}
 use Rattle.chunk_sums.proofs.chunks.first_wrong.Goals as goal
 
-pub loop-sum-preserved-in-Some-behind_four : goal.loop-sum-preserved-in-Some-behind_four
-loop-sum-preserved-in-Some-behind_four c =
-    let four = c.in-Some-behind_four.ensures in
-    SoFar-four _ _ _ _ _ _ _ _ _ c.loop-sum.invariant _ _ c.if-len-eq-USUAL_LEN.true c.if-chunk-eq-USUAL_LEN.true four.enough.0 four.after four.behind
-    four.right
+pub first_wrong_over-requires-then-chunk-le-USUAL : goal.first_wrong_over-requires-then-chunk-le-USUAL
+first_wrong_over-requires-then-chunk-le-USUAL c =
+    let ready = All-cons (AreReady c.args.chunk) c.new.result [] (c.new.ensures c.args.chunk) (All-nil (AreReady c.args.chunk)) in
+    (omega arith, (c.requires.has_sum, (c.requires.chunk_positive, (c.requires.first_positive, (omega arith, (ready, c.requires.four_per_chunk))))))
 
-pub loop-sum-preserved : goal.loop-sum-preserved
-loop-sum-preserved c =
-    let word = c.in-Some.ensures.cases in
-    SoFar-here _ _ _ _ _ _ _ _ _ c.loop-sum.invariant _ _ _ _ _ c.requires.chunk_positive (omega (arith, word.2)) c.min.ensures
-    c.split_at.ensures.front c.split_at.ensures.back word.0 word.1 (sym c.crc.ensures ∙ c.if-crc-from_be_bytes.false ∙ c.from_be_bytes.ensures)
-
-pub returns-then-crc-from_be_bytes-clause-wrong : goal.returns-then-crc-from_be_bytes-clause-wrong
-returns-then-crc-from_be_bytes-clause-wrong c =
-    let word = c.in-Some.ensures.cases in
-    not_right_here _ _ _ _ _ _ _ _ _ c.loop-sum.invariant _ _ _ c.requires.chunk_positive (omega (arith, word.2)) c.min.ensures
-    c.split_at.ensures.front word.0 (λ e. c.if-crc-from_be_bytes.true (c.crc.ensures ∙ e ∙ sym c.from_be_bytes.ensures))
-
-pub returns-then-crc-from_be_bytes-clause-same : goal.returns-then-crc-from_be_bytes-clause-same
-returns-then-crc-from_be_bytes-clause-same c =
-    let word = c.in-Some.ensures.cases in
-    let s = c.loop-sum.invariant in (
-      λ e. absurd (false≢true (sym e)),
-      λ same. absurd (returns-then-crc-from_be_bytes-clause-wrong c
-          (IsRight_from_same _ _ c.args.sums.now c.loop-sum.number same (omega (arith, word.2, s.place, s.counted)))),
-    )
-
-pub returns-clause-same : goal.returns-clause-same
-returns-clause-same c =
-    let s = c.loop-sum.invariant in (
-      λ _. sums_of-right _ _ c.args.sums.now (λ i. omega (arith, c.type_inv.sums i)) c.requires.four_per_chunk (all_right _ _ _ _ _ _ _ _ _ s c.in_default.ensures.cases),
-      λ _. refl,
-    )
+pub first_wrong_over-requires-else-chunk-le-USUAL : goal.first_wrong_over-requires-else-chunk-le-USUAL
+first_wrong_over-requires-else-chunk-le-USUAL c =
+    let lanes = c.new-else-chunk-le-USUAL in
+    let ready = All-cons (AreReady c.args.chunk) lanes.result [] (lanes.ensures c.args.chunk) (All-nil (AreReady c.args.chunk)) in
+    (omega arith, (c.requires.has_sum, (c.requires.chunk_positive, (c.requires.first_positive, (omega arith, (ready, c.requires.four_per_chunk))))))

@@ -1,24 +1,15 @@
-use Rattle.std.proofs.Common.{length, ap, arith}
-use Rattle.chunk_sums.proofs.ChunkLemmas.{WrittenSoFar-here, WrittenSoFar-four, room_for_four, all_written}
+use Rattle.std.proofs.Common.{[], arith}
+use Rattle.std.proofs.lemmas.List.Elements.{All-nil, All-cons}
+use Rattle.chunk_sums.specs.Four.{AreReady}
 use Rattle.chunk_sums.proofs.chunks.write_each.Goals as goal
 
-pub returns : goal.returns
-returns c = all_written _ _ _ _ _ _ _ _ c.loop-at.invariant (omega arith)
+pub write_each_over-requires-then-chunk-le-USUAL : goal.write_each_over-requires-then-chunk-le-USUAL
+write_each_over-requires-then-chunk-le-USUAL c =
+    let ready = All-cons (AreReady c.args.chunk) c.new.result [] (c.new.ensures c.args.chunk) (All-nil (AreReady c.args.chunk)) in
+    (omega arith, (c.requires.has_sum, (c.requires.chunk_positive, (c.requires.first_positive, (omega arith, (ready, c.requires.four_per_chunk))))))
 
-pub put_all-requires : goal.put_all-requires
-put_all-requires c =
-    let four = c.in-Some.ensures in
-    let room =
-    room_for_four _ _ _ _ _ _ _ _ c.loop-at.invariant c.if-len-eq-USUAL_LEN.true c.if-chunk-eq-USUAL_LEN.true four.enough in
-    omega (arith, ap length four.value)
-
-pub loop-at-preserved-in-Some : goal.loop-at-preserved-in-Some
-loop-at-preserved-in-Some c =
-    let four = c.in-Some.ensures in
-    WrittenSoFar-four _ _ _ _ _ _ _ _ c.loop-at.invariant c.if-len-eq-USUAL_LEN.true c.if-chunk-eq-USUAL_LEN.true four.enough _ _ _
-    c.split_at.ensures.back four.value c.put_all.ensures (omega arith)
-
-pub loop-at-preserved : goal.loop-at-preserved
-loop-at-preserved c =
-    WrittenSoFar-here _ _ _ _ _ _ _ _ c.loop-at.invariant _ _ _ _ _ c.requires.chunk_positive (omega arith) c.min.ensures c.split_at-in-loop-at.ensures.front
-    c.split_at-in-loop-at.ensures.back c.crc.ensures c.put.ensures (omega arith)
+pub write_each_over-requires-else-chunk-le-USUAL : goal.write_each_over-requires-else-chunk-le-USUAL
+write_each_over-requires-else-chunk-le-USUAL c =
+    let lanes = c.new-else-chunk-le-USUAL in
+    let ready = All-cons (AreReady c.args.chunk) lanes.result [] (lanes.ensures c.args.chunk) (All-nil (AreReady c.args.chunk)) in
+    (omega arith, (c.requires.has_sum, (c.requires.chunk_positive, (c.requires.first_positive, (omega arith, (ready, c.requires.four_per_chunk))))))

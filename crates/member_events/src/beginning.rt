@@ -1,0 +1,127 @@
+//! An end that has taken nothing yet takes its first message.
+
+ghost use Rattle.hd_base.specs.Ends.{IsKnown};
+ghost use Rattle.member_events.specs.Beginning.{IsDrawn, IsBrought, IsBroken, IsClosed, LooksFirst, FollowsFirst, BeginShows};
+
+use crate::faults::{MemberFault, road_fault};
+use hd_base::{Conn, LinkIn, LinkOut, Roads};
+use link_messages::{Incoming, Next};
+use link_pieces::exchange_end;
+use op_headers::{Op, WriteOp};
+use std::alloc::Global;
+
+/// A request to write, and the end that has taken it.
+#[derive(Drop)]
+pub struct Requested<I, O> {
+    pub end: Conn<I, O>,
+    pub op: WriteOp,
+}
+
+/// An end that has taken nothing yet takes what stands next. A request to write is handed over with the end; where
+/// anything else comes, the end is shut and brought back.
+pub fn begin<I: LinkIn, O: LinkOut, R: Roads<Inward = I, Outward = O>>(
+    alloc: Global,
+    roads: &mut R,
+    end: Conn<I, O>,
+) -> Result<Option<Requested<I, O>>, MemberFault>
+    requires { IsKnown (R.plain roads.old) end.id.0 }
+    ensures { BeginShows R.Roads I.LinkIn O.LinkOut end roads.old roads.new result }
+{
+    let mut end = drawn(alloc, roads, end)?;
+    let next = first(alloc, &mut end);
+    follow(alloc, roads, end, next)
+}
+
+/// The first message that an end holds.
+fn first<I: LinkIn, O: LinkOut>(alloc: Global, end: &mut Conn<I, O>) -> Next<Op>
+    ensures { LooksFirst I.LinkIn end.old end.new result }
+{
+    match Incoming::new(alloc) {
+        Ok(mut incoming) => incoming.next(&mut end.inward),
+        Err(_) => Next::Memory,
+    }
+}
+
+/// What follows what an end has taken first.
+fn follow<I: LinkIn, O: LinkOut, R: Roads<Inward = I, Outward = O>>(
+    alloc: Global,
+    roads: &mut R,
+    end: Conn<I, O>,
+    next: Next<Op>,
+) -> Result<Option<Requested<I, O>>, MemberFault>
+    requires { IsKnown (R.plain roads.old) end.id.0 }
+    ensures { FollowsFirst R.Roads I.LinkIn O.LinkOut next end roads.old roads.new result }
+{
+    match next {
+        Next::Message(Op::Write(op)) => Ok(Some(Requested { end, op })),
+        Next::Failed => Err(broken(alloc, roads, end)),
+        Next::Memory => Err(MemberFault::Memory),
+        Next::Message(_) | Next::Unreadable | Next::End | Next::NotYet => {
+            closed(alloc, roads, end)
+        }
+    }
+}
+
+/// An end that was exchanged, and took what stood next.
+fn drawn<I: LinkIn, O: LinkOut, R: Roads<Inward = I, Outward = O>>(
+    alloc: Global,
+    roads: &mut R,
+    end: Conn<I, O>,
+) -> Result<Conn<I, O>, MemberFault>
+    requires { IsKnown (R.plain roads.old) end.id.0 }
+    ensures { IsDrawn R.Roads I.LinkIn O.LinkOut end roads.old roads.new result }
+{
+    let mut end = end;
+    let conn = end.id;
+    match exchange_end(alloc, roads, &mut end, Some(conn)) {
+        Ok(()) => Ok(end),
+        Err(error) => Err(road_fault(error)),
+    }
+}
+
+/// Brings an end back.
+fn brought<I: LinkIn, O: LinkOut, R: Roads<Inward = I, Outward = O>>(
+    alloc: Global,
+    roads: &mut R,
+    end: Conn<I, O>,
+) -> Result<(), MemberFault>
+    requires { IsKnown (R.plain roads.old) end.id.0 }
+    ensures { IsBrought R.Roads I.LinkIn O.LinkOut end roads.old roads.new result }
+{
+    match roads.bring(alloc, end) {
+        Ok(()) => Ok(()),
+        Err(_) => Err(MemberFault::Memory),
+    }
+}
+
+/// Brings an end back that has failed.
+fn broken<I: LinkIn, O: LinkOut, R: Roads<Inward = I, Outward = O>>(
+    alloc: Global,
+    roads: &mut R,
+    end: Conn<I, O>,
+) -> MemberFault
+    requires { IsKnown (R.plain roads.old) end.id.0 }
+    ensures { IsBroken R.Roads I.LinkIn O.LinkOut end roads.old roads.new result }
+{
+    match brought(alloc, roads, end) {
+        Ok(()) => MemberFault::LinkFailed,
+        Err(_) => MemberFault::Memory,
+    }
+}
+
+/// Shuts an end, and brings it back.
+fn closed<I: LinkIn, O: LinkOut, R: Roads<Inward = I, Outward = O>>(
+    alloc: Global,
+    roads: &mut R,
+    end: Conn<I, O>,
+) -> Result<Option<Requested<I, O>>, MemberFault>
+    requires { IsKnown (R.plain roads.old) end.id.0 }
+    ensures { IsClosed R.Roads I.LinkIn O.LinkOut end roads.old roads.new result }
+{
+    let mut end = end;
+    end.outward.shut();
+    match brought(alloc, roads, end) {
+        Ok(()) => Ok(None),
+        Err(fault) => Err(fault),
+    }
+}

@@ -1,0 +1,8 @@
+pub mod Tables
+pub mod PlaceLaws
+pub mod WorldFrames
+pub mod NodeFrames
+pub mod MemberNodes
+pub mod ReadyNodes
+pub mod TakeNodes
+pub mod LiftLaws

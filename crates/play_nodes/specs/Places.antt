@@ -1,0 +1,84 @@
+-- Members and books in their places among the nodes of a play.
+use Rattle.std.specs.Prelude.{◌≡◌, ℕ, List, slice_get, slice_set, Option, Some, None, IsSome, option_and_then, Result, Ok, Err}
+use Rattle.hd_base.specs.declared.numbers.ConnId.{ConnId}
+use Rattle.member_events.specs.declared.faults.MemberFault.{MemberFault}
+use Rattle.pipe_member.specs.declared.member.Member.{Member}
+use Rattle.replica_files.specs.declared.book_state.BookState.{BookState}
+use Rattle.play_nodes.specs.declared.connections.Connection.{Connection}
+use Rattle.play_nodes.specs.declared.connections.Lower.{Lower}
+use Rattle.play_nodes.specs.declared.connections.Lower.TheVariants as lower
+use Rattle.play_nodes.specs.declared.connections.Upper.{Upper}
+use Rattle.play_nodes.specs.declared.connections.Upper.TheVariants as upper
+use Rattle.play_nodes.specs.declared.faults.NodesFault.{NodesFault}
+use Rattle.play_nodes.specs.declared.nodes.NodeBooks.{NodeBooks}
+use Rattle.play_nodes.specs.declared.nodes.Nodes.{Nodes}
+use Rattle.play_nodes.specs.declared.nodes.Seat.{Seat}
+use Rattle.play_nodes.specs.Faults.{fault_at}
+
+-- BOOKS
+
+-- the book at a place of a node
+abbrev pub book_at : {F : Type 0} → List (NodeBooks F) → ℕ → ℕ → Option (BookState F)
+book_at nodes node place = option_and_then (λ x. slice_get x.books.items place) (slice_get nodes node)
+
+-- MEMBERS
+
+-- the connection with another lower end
+abbrev pub with_lower : {I O : Type 0} → Connection I O → Lower I O → Connection I O
+with_lower x l = record x { lower = l }
+
+-- A member stands there, and so does its book.
+pub record IsSeated {F I O : Type 0} (n : Nodes F I O) (c : ℕ) (s : Seat) : Type 0 where
+  pub conn : s.conn ≡ c
+  pub at : Connection I O
+  pub member : Member I O
+  pub found : slice_get n.connections.items c ≡ Some at
+  pub lower : at.lower ≡ lower.Member member s.place
+  pub node : s.node ≡ at.node
+  pub book : IsSome (book_at n.nodes.items s.node.0 s.place)
+
+-- No member stands at the connection whose book is there.
+abbrev pub IsUnseated : {F I O : Type 0} → Nodes F I O → ℕ → Type 0
+IsUnseated {F} {I} {O} n c = (at : Connection I O) (m : Member I O) (place : ℕ) →
+    slice_get n.connections.items c ≡ Some at → at.lower ≡ lower.Member m place
+    → book_at n.nodes.items at.node.0 place ≡ None
+
+abbrev pub IsSeat : {F I O : Type 0} → Nodes F I O → ℕ → Option Seat → Type 0
+IsSeat n c None = IsUnseated n c
+IsSeat n c (Some s) = IsSeated n c s
+
+-- the member at a lower end, if it is one
+abbrev pub member_of : {I O : Type 0} → Lower I O → Option (Member I O)
+member_of (lower.Member m place) = Some m
+member_of other = None
+
+-- The lower end at a connection was taken from its place.
+pub record Takes {F I O : Type 0} (old new : Nodes F I O) (c : ℕ) (result : Option (Member I O)) : Type 0 where
+  pub blocks : new.blocks.items ≡ old.blocks.items
+  pub nodes : new.nodes.items ≡ old.nodes.items
+  pub set : (at : Connection I O) → slice_get old.connections.items c ≡ Some at →
+      new.connections.items ≡ slice_set old.connections.items c (with_lower at lower.Ended)
+  pub taken : (at : Connection I O) → slice_get old.connections.items c ≡ Some at → result ≡ member_of at.lower
+
+-- the lower end that is left of a member
+abbrev pub lower_left : {I O : Type 0} → ℕ → Lower I O → Option (Member I O) → Lower I O
+lower_left place old None = old
+lower_left place old (Some m) = lower.Member m place
+
+-- What is left of a member is in its place.
+pub record PutBack {F I O : Type 0} (old new : Nodes F I O) (s : Seat) (left : Option (Member I O)) : Type 0 where
+  pub blocks : new.blocks.items ≡ old.blocks.items
+  pub nodes : new.nodes.items ≡ old.nodes.items
+  pub set : (at : Connection I O) → slice_get old.connections.items s.conn ≡ Some at →
+      new.connections.items ≡ slice_set old.connections.items s.conn (with_lower at (lower_left s.place at.lower left))
+
+-- What follows an event of a member.
+abbrev pub Follows : {F I O : Type 0} → Nodes F I O → Nodes F I O → Seat → Result (Option (Member I O)) MemberFault →
+    Result (Unit {0}) NodesFault → Type 0
+Follows old new s (Ok left) result = PutBack old new s left × (result ≡ Ok tt)
+Follows old new s (Err why) result = (new ≡ old) × (result ≡ Err (fault_at s.node why))
+
+-- the member that dialled a connection, if one did
+abbrev pub member_above : Option Upper → Option ConnId
+member_above (Some (upper.Member conn)) = Some conn
+member_above other = None

@@ -1,0 +1,120 @@
+-- The nodes of a play show a world.
+use Rattle.std.specs.Prelude.{◌≡◌, ℕ, ◌&&◌, Bool, true, false, length, slice_get, option_map, Some, IsSome}
+use Rattle.hd_base.specs.declared.ends.Conn.{Conn}
+use Rattle.hd_base.specs.declared.numbers.BlockId.{BlockId}
+use Rattle.hd_base.specs.declared.numbers.ConnId.{ConnId}
+use Rattle.hd_base.specs.declared.links.LinkIn as link_in
+use Rattle.hd_base.specs.declared.links.LinkOut as link_out
+use Rattle.hd_base.specs.declared.roads.Roads as roads
+use Rattle.replica_files.specs.declared.book_state.BookState.{BookState}
+use Rattle.replica_files.specs.Books.{replica_of}
+use Rattle.pipe_member.specs.declared.member.Member.{Member}
+use Rattle.road_traffic.specs.Showing.{Net}
+use Rattle.world.specs.Parts as parts
+use Rattle.world.specs.Parts.{by_writer, by_member, FullMember, idle, writes}
+use Rattle.world.specs.Worlds.{World}
+use Rattle.world.specs.Connections.{is_served}
+use Rattle.world.specs.Nodes.{node_of, block_of}
+use Rattle.world_nets.specs.Nets.{IsEndOf}
+use Rattle.play_model.specs.Dues.{is_open}
+use Rattle.play_model.specs.Lines.{mirror_of}
+use Rattle.member_events.specs.Showing.{ShowsWorld, MemberShows}
+use Rattle.play_nodes.specs.declared.connections.Connection.{Connection}
+use Rattle.play_nodes.specs.declared.connections.Lower.{Lower}
+use Rattle.play_nodes.specs.declared.connections.Lower.TheVariants as lower
+use Rattle.play_nodes.specs.declared.connections.Upper.{Upper}
+use Rattle.play_nodes.specs.declared.connections.Upper.TheVariants as upper
+use Rattle.play_nodes.specs.declared.nodes.Nodes.{Nodes}
+use Rattle.play_nodes.specs.Places.{book_at}
+
+-- CONNECTIONS
+
+-- who dialled
+abbrev pub UpperShows : parts.Upper → Upper → Type 0
+UpperShows (by_writer b) (upper.Writer block) = block.0 ≡ b
+UpperShows (by_member d) (upper.Member conn) = conn.0 ≡ d
+UpperShows other real = ⊥
+
+-- the lower end may still have events: its node runs, and it hasn't ended
+abbrev pub has_events : World → ℕ → Bool
+has_events w c = is_served w c && is_open (w.lowers c)
+
+-- A member of which both sides act, and its book is that of its block.
+pub record SeatShows {F I O : Type 0} (i : link_in.Ghosts I) (o : link_out.Ghosts O) (w : World) (net : Net) (c : ℕ)
+    (n : Nodes F I O) (full : FullMember) (m : Member I O) (place : ℕ) : Type 0 where
+  pub shows : MemberShows i o w net c full m
+  pub block : BlockId
+  pub at_place : slice_get n.blocks.items place ≡ Some block
+  pub of_block : block.0 ≡ block_of full.fields
+
+-- A lower end that has events, or one that has none.
+abbrev pub LowerShows : {F I O : Type 0} → link_in.Ghosts I → link_out.Ghosts O → World → Net → ℕ → Nodes F I O →
+    parts.Lower → Lower I O → Type 0
+LowerShows i o w net c n idle (lower.Idle end) = (has_events w c ≡ true) × IsEndOf i o w net c true end
+LowerShows i o w net c n (writes full) (lower.Member m place) =
+    (has_events w c ≡ true) × SeatShows i o w net c n full m place
+LowerShows i o w net c n l lower.Ended = has_events w c ≡ false
+LowerShows i o w net c n l other = ⊥
+
+pub record ConnectionShows {F I O : Type 0} (i : link_in.Ghosts I) (o : link_out.Ghosts O) (w : World) (net : Net)
+    (c : ℕ) (n : Nodes F I O) (x : Connection I O) : Type 0 where
+  pub upper_is : UpperShows (w.dialled c).upper x.upper
+  pub node : x.node.0 ≡ node_of w c
+  pub mirror : option_map (λ (d : ConnId). d.0) x.mirror ≡ mirror_of (w.lowers c)
+  pub lower_is : LowerShows i o w net c n (w.lowers c) x.lower
+
+-- NODES
+
+-- Each book is that of its block's replica at its node.
+abbrev pub BooksShow : {F I O : Type 0} → World → Nodes F I O → Type 0
+BooksShow {F} w n = (node place : ℕ) (block : BlockId) (book : BookState F) →
+    slice_get n.blocks.items place ≡ Some block → book_at n.nodes.items node place ≡ Some book
+    → replica_of book ≡ w.replicas node block.0
+
+-- No block stands at two places.
+abbrev pub IsDistinct : {F I O : Type 0} → Nodes F I O → Type 0
+IsDistinct n = (j k : ℕ) (a b : BlockId) → slice_get n.blocks.items j ≡ Some a → slice_get n.blocks.items k ≡ Some b →
+    a.0 ≡ b.0
+    → j ≡ k
+
+-- Each node that serves a connection has a book at each place.
+abbrev pub HasBooks : {F I O : Type 0} → World → Nodes F I O → Type 0
+HasBooks w n = (c place : ℕ) (block : BlockId) → is_served w c ≡ true → slice_get n.blocks.items place ≡ Some block →
+    IsSome (book_at n.nodes.items (node_of w c) place)
+
+-- The lower ends and the books show the world.
+pub record NodesShow {F I O : Type 0} (i : link_in.Ghosts I) (o : link_out.Ghosts O) (w : World) (net : Net)
+    (n : Nodes F I O) : Type 0 where
+  pub count : length n.connections.items ≡ w.next_conn
+  pub distinct : IsDistinct n
+  pub each : (c : ℕ) (x : Connection I O) → slice_get n.connections.items c ≡ Some x → ConnectionShows i o w net c n x
+  pub books : BooksShow w n
+  pub has_books : HasBooks w n
+
+-- The nodes and the roads show the world.
+pub record NodesStand {F R I O : Type 0} (r : roads.Ghosts R I O) (i : link_in.Ghosts I) (o : link_out.Ghosts O)
+    (w : World) (net : Net) (road : R) (n : Nodes F I O) : Type 0 where
+  pub roads_are : ShowsWorld r w net road
+  pub nodes_are : NodesShow i o w net n
+
+-- They show some world.
+pub record Stand {F R I O : Type 0} (r : roads.Ghosts R I O) (i : link_in.Ghosts I) (o : link_out.Ghosts O) (road : R)
+    (n : Nodes F I O) : Type 0 where
+  pub w : World
+  pub net : Net
+  pub stands : NodesStand r i o w net road n
+
+-- WHAT AN EVENT LEAVES
+
+-- Each end that a writer has is one of the world after.
+abbrev pub WritersStay : {I O : Type 0} → link_in.Ghosts I → link_out.Ghosts O → World → Net → World → Net → Type 0
+WritersStay {I} {O} i o w net v made = (b d : ℕ) (e : Conn I O) → (w.dialled d).upper ≡ by_writer b →
+    IsEndOf i o w net d false e
+    → IsEndOf i o v made d false e
+
+-- The nodes and the roads show the world after, and so do the ends of writers.
+pub record NodesLeft {F R I O : Type 0} (r : roads.Ghosts R I O) (i : link_in.Ghosts I) (o : link_out.Ghosts O)
+    (w : World) (net : Net) (v : World) (road : R) (n : Nodes F I O) : Type 0 where
+  pub made : Net
+  pub stands : NodesStand r i o v made road n
+  pub writers : WritersStay i o w net v made
