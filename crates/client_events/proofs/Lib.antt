@@ -6,3 +6,6 @@ pub mod AnswerLaws
 pub mod AnswerEnds
 pub mod CommitLaws
 pub mod CommitEnds
+pub mod SetUpLaws
+pub mod SetUpEnds
+pub mod SetUpEvents

@@ -8,3 +8,4 @@ pub mod Answering
 pub mod Committing
 pub mod Showing
 pub mod Events
+pub mod SettingUp

@@ -10,6 +10,7 @@ mod faults;
 mod hearing;
 mod pipes;
 mod sending;
+mod setting_up;
 mod steps;
 
 pub use acting::{Acted, Said, act};
@@ -19,3 +20,4 @@ pub use completing::complete;
 pub use faults::ClientFault;
 pub use hearing::hear_ack;
 pub use pipes::Pipe;
+pub use setting_up::{SetUp, set_up};
