@@ -243,7 +243,7 @@ module _ {R I O D : Type 0} (r : roads.Ghosts R I O) (i : link_in.Ghosts I) (o :
   -- the writer and its connection after both events, by those after the second one
   commit_by : (s : Setup) (stamp : Stamp) (linked : Bool) (held kept : Option (Link I O)) (middle : R) (does : Acted) → known.phase ≡ phase.Accepted s stamp → fits_accepted s linked ≡ true → HasAsked r i o d (commit_call known stamp) known y held kept desk desk' road middle does
       → ((rest : RestGoes asked_first block.0 y z said answered) → outcome asked_first (own_event block None answered) ≡ Some (apply asked_first rest.change) → IsNetOf asked_first net → StayShown w asked_first → (asked_first.writers block.0).conn ≡ (w.writers block.0).conn
-          → IsCommitted y.phase linked → ClientLeft r i o asked_first net (asked_world w block answered) block.0 (asked_world w block answered).office z left road')
+      → IsCommitted y.phase linked → ClientLeft r i o asked_first net (asked_world w block answered) block.0 (asked_world w block answered).office z left road')
       → (d.office desk' ≡ Some (asked_world w block answered).office) × StepLeft r i o w net (asked_world w block answered) block.0 (asked_world w block answered).office z (record { pipe = left; said = said }) road'
   commit_by s stamp linked held kept middle does h fits a goes =
       let b : ℕ = block.0 in

@@ -56,7 +56,10 @@ fn read_off<I: LinkIn, O: LinkOut>(
     ensures { IsReadOff pipe result }
 {
     match pipe {
-        Pipe::Streaming { end, incoming: _read } => match Incoming::new(alloc) {
+        Pipe::Streaming {
+            end,
+            incoming: _read,
+        } => match Incoming::new(alloc) {
             Ok(incoming) => Ok(Pipe::Streaming { end, incoming }),
             Err(_) => Err(ClientFault::Memory),
         },

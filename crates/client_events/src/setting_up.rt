@@ -73,7 +73,10 @@ pub fn set_up<D: Desk, I: LinkIn, O: LinkOut, R: Roads<Inward = I, Outward = O>>
 }
 
 /// What is left where no request was sent.
-fn undialled<I: LinkIn, O: LinkOut>(phase: Phase, pipe: Pipe<I, O>) -> Result<SetUp<I, O>, ClientFault>
+fn undialled<I: LinkIn, O: LinkOut>(
+    phase: Phase,
+    pipe: Pipe<I, O>,
+) -> Result<SetUp<I, O>, ClientFault>
     ensures { result ≡ undialled phase pipe }
 {
     if is_unreached(phase) {
