@@ -1,5 +1,6 @@
 -- A request that is refused, or whose member has no mirror or asks none: what is left shows the world after it.
 use Rattle.std.proofs.Common.{◌≡◌, ◌≢◌, ◌⊎◌, inl, inr, ◌<◌, ◌==◌, ℕ, Bool, true, false, not, List, [], ◌∷◌, length, map, Option, Some, None, Ok, refl, sym, ap, ◌∙◌, subst, arith}
+use Rattle.std.specs.Prelude.{◌&&◌}
 use Rattle.std.proofs.lemmas.Bool.Decides.{nat_tests}
 use Rattle.hd_base.specs.Links.{Inbox}
 use Rattle.hd_base.specs.declared.ends.Conn.{Conn}
@@ -76,6 +77,7 @@ pub record OpenLower (s : Setup) (next : ℕ) : Type 0 where
   pub state : MemberState
   pub member : s.member ≡ Some state
   pub alone : mirror_conn state.mirror next ≡ None
+  pub acts : (state.receives && state.responds) ≡ true
 
 abbrev pub AloneIs : Setup → WriteFields → ℕ → Shuts → Type 0
 AloneIs s fields next shuts.Nothing = OpenLower s next
@@ -153,6 +155,7 @@ module _ {F R I O : Type 0} (r : roads.Ghosts R I O) (i : link_in.Ghosts I) (o :
           lower = a.lower ∙ lower_open s.member low.state fields w1.next_conn low.member low.alone;
           fields_are = refl;
           mirror_is = refl;
+          acts = low.acts;
           shows = record {
             node = ap (λ (y : NodeId). y.0) (ex.rest.node ∙ h.ends.same.node) ∙ (h.unset.node ∙ sym a.node);
             op = ex.rest.op ∙ (h.ends.same.op ∙ h.unset.op);
@@ -208,7 +211,7 @@ refused_alone after why w c fields = record { dials = refl; kind = inl refl }
 -- a member without a mirror, by what its setup is
 last_kind : (b : Bool) (after : FullReplica) (conn : ConnId) (w : World) (c : ℕ) (fields : WriteFields) → AloneSetup (taken_request after (new_member conn fields mirror.Nobody (not b), sending (upward.Answer answer.Success) b)) w c fields
 last_kind true after conn w c fields = record { dials = refl; kind = inr (record { full = record { fields = fields; state = new_member conn fields mirror.Nobody false; mirror = None }; lower = refl; over = refl }) }
-last_kind false after conn w c fields = record { dials = refl; kind = record { state = new_member conn fields mirror.Nobody true; member = refl; alone = refl } }
+last_kind false after conn w c fields = record { dials = refl; kind = record { state = new_member conn fields mirror.Nobody true; member = refl; alone = refl; acts = refl } }
 
 last_is_set : (conn : ConnId) (fields : WriteFields) → fields.targets ≡ [] → set_up conn fields false ≡ (new_member conn fields mirror.Nobody (not (closes fields)), sending (upward.Answer answer.Success) (closes fields))
 unfolding set_up
@@ -237,4 +240,4 @@ asked_is_set conn fields some = by_targets fields.targets some
 pub down_alone : (after : FullReplica) (conn : ConnId) (w : World) (c : ℕ) (fields : WriteFields) → fields.targets ≢ [] → AloneSetup (taken_request after (set_up conn fields false)) w c fields
 down_alone after conn w c fields some =
     subst (λ (u : MemberState × Effect). AloneSetup (taken_request after u) w c fields) (sym (down_is_set conn fields some))
-    (record { dials = refl; kind = record { state = new_member conn fields mirror.Unreachable true; member = refl; alone = refl } })
+    (record { dials = refl; kind = record { state = new_member conn fields mirror.Unreachable true; member = refl; alone = refl; acts = refl } })

@@ -1,5 +1,5 @@
 -- A member that stands among the nodes, and what its event leaves of them.
-use Rattle.std.proofs.Common.{◌≡◌, ◌<◌, ℕ, Bool, true, false, List, slice_get, slice_set, Option, Some, None, IfSome, IsSome, refl, sym, ap, ◌∙◌, subst}
+use Rattle.std.proofs.Common.{◌≡◌, ◌<◌, ℕ, Bool, true, false, List, slice_get, slice_set, Option, Some, None, IfSome, IsSome, refl, sym, ap, ◌∙◌, subst, [], append-nil, arith}
 use Rattle.std.specs.Prelude.{◌&&◌}
 use Rattle.hd_base.specs.Channels.{Plain}
 use Rattle.hd_base.specs.Ends.{IsKnown}
@@ -34,9 +34,9 @@ use Rattle.play_nodes.specs.declared.nodes.Seat.{Seat}
 use Rattle.play_nodes.specs.Places.{book_at, with_lower, IsSeated, Takes, PutBack, lower_left}
 use Rattle.play_nodes.specs.Showing.{has_events, SeatShows, LowerShows, NodesStand, NodesLeft}
 use Rattle.play_nodes.proofs.Tables.{set_here, set_set}
-use Rattle.play_nodes.proofs.PlaceLaws.{BookSet}
+use Rattle.play_nodes.proofs.PlaceLaws.{BookSet, element_within}
 use Rattle.play_nodes.proofs.WorldFrames.{KeepsRest}
-use Rattle.play_nodes.proofs.NodeFrames.{IsApart, IsOfMember, IsLeft, is_later, node_as, served_as, nodes_after, writers_after}
+use Rattle.play_nodes.proofs.NodeFrames.{IsApart, IsOfEvent, IsLeft, dialled_by, is_later, node_as, served_as, nodes_after, writers_after}
 
 both_so : (a b : Bool) → a ≡ true → b ≡ true → (a && b) ≡ true
 both_so a b x y = rw (x, y) refl
@@ -115,9 +115,10 @@ module _ {F R I O : Type 0} (r : roads.Ghosts R I O) (i : link_in.Ghosts I) (o :
   -- What an event of a member leaves, once what is left of it is back in its place.
   pub member_left : (w v : World) (net : Net) (road road' : R) (c : ℕ) (old mid set new : Nodes F I O) (s : Seat) (m : Member I O) (book : BookState F) (left : Option (Member I O)) → Ordered w → NodesStand r i o w net road old
       → (seat : IsSeated old c s) → (k : IsMember w net c old seat.member s.place) → Takes old mid c (Some m) → BookSet mid set s.node.0 s.place book → PutBack set new s left
-      → KeepsRest w v c (node_of w c) (block_of k.full.fields) → ((d : ℕ) → IsApart k.full.mirror d → is_over v d false ≡ is_over w d false) → MemberLeft r i o w net v c k.full book road' left
+      → v.next_conn ≡ w.next_conn → KeepsRest w v c (node_of w c) (block_of k.full.fields) → ((d : ℕ) → IsApart k.full.mirror d → is_over v d false ≡ is_over w d false) → MemberLeft r i o w net v c k.full book road' left
       → NodesLeft r i o w net v road' new
-  member_left w v net road road' c old mid set new s m book left ordered stands seat k t b p rest over h =
+  member_left w v net road road' c old mid set new s m book left ordered stands seat k t b p conns_same rest over h =
+      let before : c < w.next_conn = subst (λ (n : ℕ). c < n) stands.nodes_are.count (element_within old.connections.items c seat.at seat.found) in
       let at : Connection I O = seat.at in
       let ended : Connection I O = with_lower at lower.Ended in
       let last : Connection I O = with_lower at (lower_left s.place lower.Ended left) in
@@ -133,11 +134,16 @@ module _ {F R I O : Type 0} (r : roads.Ghosts R I O) (i : link_in.Ghosts I) (o :
       let at_place : slice_get new.blocks.items s.place ≡ Some k.seat.block = ap (λ (xs : List BlockId). slice_get xs s.place) blocks ∙ k.seat.at_place in
       let at_book : book_at new.nodes.items (node_of w c) s.place ≡ Some book =
       ap (λ (xs : List (NodeBooks F)). book_at xs (node_of w c) s.place) p.nodes ∙ (ap (λ (q : ℕ). book_at set.nodes.items q s.place) (sym node) ∙ b.here) in
-      let of : IsOfMember i o w v net h.made c k.full = record { ordered = ordered; lower = k.lower; rest = rest; over = over; others = h.others } in
-      let served = served_as w v c (node_of w c) (block_of k.full.fields) c rest in
-      let is_left : IsLeft i o w v h.made c s.place k.full old new at (lower_left s.place lower.Ended left) = record {
+      let of : IsOfEvent i o w v net h.made c k.full.mirror (block_of k.full.fields) =
+      record { ordered = ordered; before = before; dialled = dialled_by w c k.full ordered k.lower; rest = rest; over = over; others = h.others } in
+      let served = served_as w v c (node_of w c) (block_of k.full.fields) c rest before in
+      let is_left : IsLeft i o w v h.made c s.place (block_of k.full.fields) old new at last [] = record {
         found = seat.found;
-        set = put;
+        set = put ∙ sym (append-nil (slice_set old.connections.items c last));
+        count = omega (arith, conns_same);
+        upper = refl;
+        node = refl;
+        added = λ n x none. cc;
         after = record {
           blocks = blocks;
           books = λ n q apart. ap (λ (xs : List (NodeBooks F)). book_at xs n q) p.nodes ∙
@@ -145,19 +151,19 @@ module _ {F R I O : Type 0} (r : roads.Ghosts R I O) (i : link_in.Ghosts I) (o :
         };
         shows = subst (λ (l : parts.Lower). LowerShows i o v h.made c new l (lower_left s.place lower.Ended left)) (sym h.lower)
             (left_lower w v h.made c s.place new k.full h.full k.seat.block left k.events k.lower served h.lower h.fields at_place k.seat.of_block h.left_is);
-        mirror = ap mirror_of h.lower ∙ (h.mirror ∙ sym (ap mirror_of k.lower));
+        mirror = (stands.nodes_are.each c at seat.found).mirror ∙ sym (ap mirror_of h.lower ∙ (h.mirror ∙ sym (ap mirror_of k.lower)));
         block = k.seat.block;
         at_place = k.seat.at_place;
         of_block = k.seat.of_block;
         replica = λ other found. ap replica_of (book_same other book (sym found ∙ at_book)) ∙
-            (h.replica ∙ (ap (λ (q : ℕ). v.replicas q (block_of h.full.fields)) (node_as w v c (node_of w c) (block_of k.full.fields) c rest) ∙
+            (h.replica ∙ (ap (λ (q : ℕ). v.replicas q (block_of h.full.fields)) (node_as w v c (node_of w c) (block_of k.full.fields) c rest before) ∙
             ap (v.replicas (node_of w c)) (ap block_of h.fields ∙ sym k.seat.of_block)));
         has_book = subst IsSome (sym at_book) refl;
       } in
       record {
         made = h.made;
-        stands = record { roads_are = h.roads_are; nodes_are = nodes_after i o w v net h.made c s.place k.full old new at (lower_left s.place lower.Ended left) stands.nodes_are of is_left };
-        writers = writers_after i o w v net h.made c k.full of;
+        stands = record { roads_are = h.roads_are; nodes_are = nodes_after i o w v net h.made c s.place k.full.mirror (block_of k.full.fields) old new at last [] stands.nodes_are of is_left };
+        writers = writers_after i o w v net h.made c k.full.mirror (block_of k.full.fields) of;
       }
     where
       book_same : (x y : BookState F) → Some x ≡ Some y → x ≡ y

@@ -1,7 +1,11 @@
 -- Nodes that show a world show the world after an event of one member.
-use Rattle.std.proofs.Common.{◌≡◌, ℕ, true, false, List, length, slice_get, slice_set, Option, Some, None, IfSome, IsSome, ◌⊎◌, inl, inr, refl, sym, ap, ◌∙◌, subst, length-set}
+use Rattle.std.proofs.Common.{◌≡◌, ℕ, true, false, List, length, slice_get, slice_set, Option, Some, None, IfSome, IsSome, ◌⊎◌, inl, inr, refl, sym, ap, ◌∙◌, subst, length-set, ◌<◌, ◌≤◌, ◌+◌, ◌++◌, length-append, option_map, arith}
+use Rattle.std.specs.Prelude.{nat_lt}
+use Rattle.std.proofs.lemmas.Bool.Decides.{nat_tests}
 use Rattle.hd_base.specs.declared.ends.Conn.{Conn}
 use Rattle.hd_base.specs.declared.numbers.BlockId.{BlockId}
+use Rattle.hd_base.specs.declared.numbers.ConnId.{ConnId}
+use Rattle.hd_base.specs.declared.numbers.NodeId.{NodeId}
 use Rattle.hd_base.specs.declared.links.LinkIn as link_in
 use Rattle.hd_base.specs.declared.links.LinkOut as link_out
 use Rattle.replica_files.specs.declared.book_state.BookState.{BookState}
@@ -22,22 +26,37 @@ use Rattle.play_model.specs.Lines.{mirror_of}
 use Rattle.play_nodes.specs.declared.connections.Connection.{Connection}
 use Rattle.play_nodes.specs.declared.connections.Lower.{Lower}
 use Rattle.play_nodes.specs.declared.connections.Lower.TheVariants as lower
+use Rattle.play_nodes.specs.declared.connections.Upper.{Upper}
 use Rattle.play_nodes.specs.declared.nodes.Nodes.{Nodes}
 use Rattle.play_nodes.specs.Places.{book_at, with_lower}
 use Rattle.play_nodes.specs.Showing.{UpperShows, has_events, LowerShows, ConnectionShows, NodesShow, WritersStay}
-use Rattle.play_nodes.proofs.Tables.{SetOr, set_or, same_or}
+use Rattle.play_nodes.proofs.Tables.{SetOr, set_or, JoinedOr, joined_or, same_or}
+use Rattle.play_nodes.proofs.PlaceLaws.{element_within}
 use Rattle.play_nodes.proofs.WorldFrames.{KeepsRest}
 
 -- THE WORLD
 
-pub served_as : (w v : World) (c node block d : ℕ) → KeepsRest w v c node block → is_served v d ≡ is_served w d
-served_as w v c node block d rest = rw (rest.next_conn, rest.dialled d, rest.running (w.dialled d).to.node, rest.lives (w.dialled d).to.node) refl
+test_so : (a b : ℕ) → a < b → nat_lt a b ≡ true
+test_so a b h = grind (arith, nat_tests, h)
 
-events_as : (w v : World) (c node block d : ℕ) → KeepsRest w v c node block → (d ≡ c → ⊥) → has_events v d ≡ has_events w d
-events_as w v c node block d rest apart = rw (served_as w v c node block d rest, rest.lowers d apart) refl
+later : (a b c : ℕ) → a < b → b ≤ c → a < c
+later a b c h k = omega arith
 
-pub node_as : (w v : World) (c node block d : ℕ) → KeepsRest w v c node block → node_of v d ≡ node_of w d
-node_as w v c node block d rest = ap (λ (x : Dialled). x.to.node) (rest.dialled d)
+pub served_as : (w v : World) (c node block d : ℕ) → KeepsRest w v c node block → d < w.next_conn → is_served v d ≡ is_served w d
+served_as w v c node block d rest within =
+    rw (
+      test_so d v.next_conn (later d w.next_conn v.next_conn within rest.grows),
+      test_so d w.next_conn within,
+      rest.dialled d within,
+      rest.running (w.dialled d).to.node,
+      rest.lives (w.dialled d).to.node,
+    ) refl
+
+events_as : (w v : World) (c node block d : ℕ) → KeepsRest w v c node block → d < w.next_conn → (d ≡ c → ⊥) → has_events v d ≡ has_events w d
+events_as w v c node block d rest within apart = rw (served_as w v c node block d rest within, rest.lowers d apart) refl
+
+pub node_as : (w v : World) (c node block d : ℕ) → KeepsRest w v c node block → d < w.next_conn → node_of v d ≡ node_of w d
+node_as w v c node block d rest within = ap (λ (x : Dialled). x.to.node) (rest.dialled d within)
 
 -- WHO DIALLED THE MIRRORS
 
@@ -88,47 +107,48 @@ upper_none c (Some m) d apart = ((λ e. refl), (λ e. absurd (apart e)))
 
 -- A WORLD AND THE ONE AFTER
 
--- An event of the member at a connection: what it leaves, where it took what came, if it took it from its mirror.
-pub record IsOfMember {I O : Type 0} (i : link_in.Ghosts I) (o : link_out.Ghosts O) (w v : World) (net made : Net) (c : ℕ)
-    (full : FullMember) : Type 0 where
+-- An event at the lower end of a connection, of a member with this mirror, if it has one, at a replica of this block.
+pub record IsOfEvent {I O : Type 0} (i : link_in.Ghosts I) (o : link_out.Ghosts O) (w v : World) (net made : Net) (c : ℕ)
+    (own : Option ℕ) (written : ℕ) : Type 0 where
   pub ordered : Ordered w
-  pub lower : w.lowers c ≡ writes full
-  pub rest : KeepsRest w v c (node_of w c) (block_of full.fields)
-  pub over : (d : ℕ) → IsApart full.mirror d → is_over v d false ≡ is_over w d false
-  pub others : OthersStay i o w net v made c full.mirror
+  pub before : c < w.next_conn
+  pub dialled : DialledBy w c own
+  pub rest : KeepsRest w v c (node_of w c) written
+  pub over : (d : ℕ) → IsApart own d → is_over v d false ≡ is_over w d false
+  pub others : OthersStay i o w net v made c own
 
 module _ {I O : Type 0} (i : link_in.Ghosts I) (o : link_out.Ghosts O) where
-  mirror_stays : (w v : World) (net made : Net) (c : ℕ) (full : FullMember) (mirror : Option ℕ) (e : Option (Conn I O)) → IsOfMember i o w v net made c full → IfSome mirror (λ d. IsApart full.mirror d)
+  mirror_stays : (w v : World) (net made : Net) (c : ℕ) (own : Option ℕ) (written : ℕ) (mirror : Option ℕ) (e : Option (Conn I O)) → IsOfEvent i o w v net made c own written → IfSome mirror (λ d. IsApart own d)
       → MirrorShows i o w net mirror e → MirrorShows i o v made mirror e
-  mirror_stays w v net made c full None None k apart h = tt
-  mirror_stays w v net made c full None (Some e) k apart h = h
-  mirror_stays w v net made c full (Some d) None k apart h = h
-  mirror_stays w v net made c full (Some d) (Some e) k apart h = k.others d false e (upper_none c full.mirror d apart) h
+  mirror_stays w v net made c own written None None k apart h = tt
+  mirror_stays w v net made c own written None (Some e) k apart h = h
+  mirror_stays w v net made c own written (Some d) None k apart h = h
+  mirror_stays w v net made c own written (Some d) (Some e) k apart h = k.others d false e (upper_none c own d apart) h
 
-  received_stays : (w v : World) (net made : Net) (c : ℕ) (full : FullMember) (mirror : Option ℕ) (received : IncomingState) → IsOfMember i o w v net made c full → IfSome mirror (λ d. IsApart full.mirror d)
+  received_stays : (w v : World) (net made : Net) (c : ℕ) (own : Option ℕ) (written : ℕ) (mirror : Option ℕ) (received : IncomingState) → IsOfEvent i o w v net made c own written → IfSome mirror (λ d. IsApart own d)
       → NoneReceived w mirror received → NoneReceived v mirror received
-  received_stays w v net made c full None received k apart h = tt
-  received_stays w v net made c full (Some d) received k apart h = λ z. h (sym (k.over d apart) ∙ z)
+  received_stays w v net made c own written None received k apart h = tt
+  received_stays w v net made c own written (Some d) received k apart h = λ z. h (sym (k.over d apart) ∙ z)
 
-  mirrors_apart : (w : World) (c d : ℕ) (full : FullMember) (mirror : Option ℕ) → DialledBy w c full.mirror → DialledBy w d mirror → (d ≡ c → ⊥) → IfSome mirror (λ e. IsApart full.mirror e)
-  mirrors_apart w c d full None h k apart = tt
-  mirrors_apart w c d full (Some e) h k apart = member_apart w c d e full.mirror h k apart
+  mirrors_apart : (w : World) (c d : ℕ) (own : Option ℕ) (mirror : Option ℕ) → DialledBy w c own → DialledBy w d mirror → (d ≡ c → ⊥) → IfSome mirror (λ e. IsApart own e)
+  mirrors_apart w c d own None h k apart = tt
+  mirrors_apart w c d own (Some e) h k apart = member_apart w c d e own h k apart
 
-  member_stays : (w v : World) (net made : Net) (c d : ℕ) (full other : FullMember) (m : Member I O) → IsOfMember i o w v net made c full → (d ≡ c → ⊥) → w.lowers d ≡ writes other
+  member_stays : (w v : World) (net made : Net) (c d : ℕ) (own : Option ℕ) (written : ℕ) (other : FullMember) (m : Member I O) → IsOfEvent i o w v net made c own written → d < w.next_conn → (d ≡ c → ⊥) → w.lowers d ≡ writes other
       → MemberShows i o w net d other m → MemberShows i o v made d other m
-  member_stays w v net made c d full other m k apart is h =
-      let away : IfSome other.mirror (λ e. IsApart full.mirror e) =
-      mirrors_apart w c d full other.mirror (dialled_by w c full k.ordered k.lower) (dialled_by w d other k.ordered is) apart in
+  member_stays w v net made c d own written other m k within apart is h =
+      let away : IfSome other.mirror (λ e. IsApart own e) =
+      mirrors_apart w c d own other.mirror k.dialled (dialled_by w d other k.ordered is) apart in
       record {
-        node = h.node ∙ sym (node_as w v c (node_of w c) (block_of full.fields) d k.rest);
+        node = h.node ∙ sym (node_as w v c (node_of w c) written d k.rest within);
         op = h.op;
         stage_is = h.stage_is;
         holds = h.holds;
-        upstream = k.others d true m.upstream (lower_none c full.mirror d apart) h.upstream;
-        mirror = mirror_stays w v net made c full other.mirror m.mirror k away h.mirror;
+        upstream = k.others d true m.upstream (lower_none c own d apart) h.upstream;
+        mirror = mirror_stays w v net made c own written other.mirror m.mirror k away h.mirror;
         above = h.above;
         below_next = h.below_next;
-        below = received_stays w v net made c full other.mirror m.below.received k away h.below;
+        below = received_stays w v net made c own written other.mirror m.below.received k away h.below;
       }
 
 module _ {F I O : Type 0} (i : link_in.Ghosts I) (o : link_out.Ghosts O) where
@@ -138,108 +158,123 @@ module _ {F I O : Type 0} (i : link_in.Ghosts I) (o : link_out.Ghosts O) where
     pub books : (n p : ℕ) → (n ≡ node → p ≡ place → ⊥) → book_at new.nodes.items n p ≡ book_at old.nodes.items n p
 
   -- another lower end
-  lower_stays : (w v : World) (net made : Net) (c d : ℕ) (full : FullMember) (old new : Nodes F I O) (l : parts.Lower) (real : Lower I O) → IsOfMember i o w v net made c full → (d ≡ c → ⊥)
+  lower_stays : (w v : World) (net made : Net) (c d : ℕ) (own : Option ℕ) (written : ℕ) (old new : Nodes F I O) (l : parts.Lower) (real : Lower I O) → IsOfEvent i o w v net made c own written → d < w.next_conn → (d ≡ c → ⊥)
       → new.blocks.items ≡ old.blocks.items → w.lowers d ≡ l → LowerShows i o w net d old l real → LowerShows i o v made d new l real
-  lower_stays w v net made c d full old new idle (lower.Idle end) k apart blocks is h = (
-    events_as w v c (node_of w c) (block_of full.fields) d k.rest apart ∙ h.0,
-    k.others d true end (lower_none c full.mirror d apart) h.1,
+  lower_stays w v net made c d own written old new idle (lower.Idle end) k within apart blocks is h = (
+    events_as w v c (node_of w c) written d k.rest within apart ∙ h.0,
+    k.others d true end (lower_none c own d apart) h.1,
   )
-  lower_stays w v net made c d full old new (writes other) (lower.Member m place) k apart blocks is h = (
-    events_as w v c (node_of w c) (block_of full.fields) d k.rest apart ∙ h.0,
+  lower_stays w v net made c d own written old new (writes other) (lower.Member m place) k within apart blocks is h = (
+    events_as w v c (node_of w c) written d k.rest within apart ∙ h.0,
     record {
-      shows = member_stays i o w v net made c d full other m k apart is h.1.shows;
+      shows = member_stays i o w v net made c d own written other m k within apart is h.1.shows;
       block = h.1.block;
       at_place = ap (λ (xs : List BlockId). slice_get xs place) blocks ∙ h.1.at_place;
       of_block = h.1.of_block;
     },
   )
-  lower_stays w v net made c d full old new l lower.Ended k apart blocks is h =
-      events_as w v c (node_of w c) (block_of full.fields) d k.rest apart ∙ h
-  lower_stays w v net made c d full old new l real k apart blocks is h = absurd h
+  lower_stays w v net made c d own written old new l lower.Ended k within apart blocks is h =
+      events_as w v c (node_of w c) written d k.rest within apart ∙ h
+  lower_stays w v net made c d own written old new l real k within apart blocks is h = absurd h
 
   -- another connection
-  conn_stays : (w v : World) (net made : Net) (c d : ℕ) (full : FullMember) (old new : Nodes F I O) (x : Connection I O) → IsOfMember i o w v net made c full → (d ≡ c → ⊥) → new.blocks.items ≡ old.blocks.items
+  conn_stays : (w v : World) (net made : Net) (c d : ℕ) (own : Option ℕ) (written : ℕ) (old new : Nodes F I O) (x : Connection I O) → IsOfEvent i o w v net made c own written → d < w.next_conn → (d ≡ c → ⊥) → new.blocks.items ≡ old.blocks.items
       → ConnectionShows i o w net d old x → ConnectionShows i o v made d new x
-  conn_stays w v net made c d full old new x k apart blocks h = record {
-    upper_is = subst (λ (u : Dialled). UpperShows u.upper x.upper) (sym (k.rest.dialled d)) h.upper_is;
-    node = h.node ∙ sym (node_as w v c (node_of w c) (block_of full.fields) d k.rest);
+  conn_stays w v net made c d own written old new x k within apart blocks h = record {
+    upper_is = subst (λ (u : Dialled). UpperShows u.upper x.upper) (sym (k.rest.dialled d within)) h.upper_is;
+    node = h.node ∙ sym (node_as w v c (node_of w c) written d k.rest within);
     mirror = h.mirror ∙ ap mirror_of (sym (k.rest.lowers d apart));
     lower_is = subst (λ (l : parts.Lower). LowerShows i o v made d new l x.lower) (sym (k.rest.lowers d apart))
-        (lower_stays w v net made c d full old new (w.lowers d) x.lower k apart blocks refl h.lower_is);
+        (lower_stays w v net made c d own written old new (w.lowers d) x.lower k within apart blocks refl h.lower_is);
   }
 
-  -- What is left of the member is at its connection, and its book is that of its replica.
-  pub record IsLeft (w v : World) (made : Net) (c place : ℕ) (full : FullMember) (old new : Nodes F I O) (at : Connection I O)
-      (left : Lower I O) : Type 0 where
+  -- What the event leaves at its connection, what it adds to the connections, and the book of its replica.
+  pub record IsLeft (w v : World) (made : Net) (c place written : ℕ) (old new : Nodes F I O) (at last : Connection I O)
+      (more : List (Connection I O)) : Type 0 where
     pub found : slice_get old.connections.items c ≡ Some at
-    pub set : new.connections.items ≡ slice_set old.connections.items c (with_lower at left)
+    pub set : new.connections.items ≡ slice_set old.connections.items c last ++ more
+    pub count : v.next_conn ≡ w.next_conn + length more
+    pub upper : last.upper ≡ at.upper
+    pub node : last.node ≡ at.node
+    pub mirror : option_map (λ (d : ConnId). d.0) last.mirror ≡ mirror_of (v.lowers c)
+    pub shows : LowerShows i o v made c new (v.lowers c) last.lower
+    pub added : (k : ℕ) (x : Connection I O) → slice_get more k ≡ Some x → ConnectionShows i o v made (w.next_conn + k) new x
     pub after : NodesAfter old new (node_of w c) place
-    pub shows : LowerShows i o v made c new (v.lowers c) left
-    pub mirror : mirror_of (v.lowers c) ≡ mirror_of (w.lowers c)
     pub block : BlockId
     pub at_place : slice_get old.blocks.items place ≡ Some block
-    pub of_block : block.0 ≡ block_of full.fields
+    pub of_block : block.0 ≡ written
     pub replica : (book : BookState F) → book_at new.nodes.items (node_of w c) place ≡ Some book → replica_of book ≡ v.replicas (node_of w c) block.0
     pub has_book : IsSome (book_at new.nodes.items (node_of w c) place)
 
-  each_after : (w v : World) (net made : Net) (c d place : ℕ) (full : FullMember) (old new : Nodes F I O) (at x : Connection I O) (left : Lower I O) → NodesShow i o w net old → IsOfMember i o w v net made c full
-      → IsLeft w v made c place full old new at left → SetOr old.connections.items c (with_lower at left) d x → ConnectionShows i o v made d new x
-  each_after w v net made c d place full old new at x left h k l (inl here) =
+  each_set : (w v : World) (net made : Net) (c d place : ℕ) (own : Option ℕ) (written : ℕ) (old new : Nodes F I O) (at last x : Connection I O) (more : List (Connection I O)) → NodesShow i o w net old → IsOfEvent i o w v net made c own written
+      → IsLeft w v made c place written old new at last more → SetOr old.connections.items c last d x → ConnectionShows i o v made d new x
+  each_set w v net made c d place own written old new at last x more h k l (inl here) =
       subst (λ (n : ℕ). ConnectionShows i o v made n new x) (sym here.0) (subst (λ (y : Connection I O). ConnectionShows i o v made c new y) (sym here.1) (record {
-        upper_is = subst (λ (u : Dialled). UpperShows u.upper at.upper) (sym (k.rest.dialled c)) (h.each c at l.found).upper_is;
-        node = (h.each c at l.found).node ∙ sym (node_as w v c (node_of w c) (block_of full.fields) c k.rest);
-        mirror = (h.each c at l.found).mirror ∙ sym l.mirror;
+        upper_is = subst (λ (y : Upper). UpperShows (v.dialled c).upper y) (sym l.upper)
+            (subst (λ (u : Dialled). UpperShows u.upper at.upper) (sym (k.rest.dialled c k.before)) (h.each c at l.found).upper_is);
+        node = ap (λ (n : NodeId). n.0) l.node ∙ ((h.each c at l.found).node ∙ sym (node_as w v c (node_of w c) written c k.rest k.before));
+        mirror = l.mirror;
         lower_is = l.shows;
       }))
-  each_after w v net made c d place full old new at x left h k l (inr there) = conn_stays w v net made c d full old new x k there.0 l.after.blocks (h.each d x there.1)
+  each_set w v net made c d place own written old new at last x more h k l (inr there) =
+      conn_stays w v net made c d own written old new x k
+      (subst (λ (n : ℕ). d < n) h.count (element_within old.connections.items d x there.1)) there.0 l.after.blocks (h.each d x there.1)
 
-  other_book : (w v : World) (net made : Net) (c place n p : ℕ) (full : FullMember) (old new : Nodes F I O) (at : Connection I O) (left : Lower I O) (block : BlockId) (book : BookState F) → NodesShow i o w net old
-      → IsOfMember i o w v net made c full → IsLeft w v made c place full old new at left → slice_get old.blocks.items p ≡ Some block → book_at new.nodes.items n p ≡ Some book → (n ≡ node_of w c → p ≡ place → ⊥)
+  each_after : (w v : World) (net made : Net) (c d place : ℕ) (own : Option ℕ) (written : ℕ) (old new : Nodes F I O) (at last x : Connection I O) (more : List (Connection I O)) → NodesShow i o w net old → IsOfEvent i o w v net made c own written
+      → IsLeft w v made c place written old new at last more → JoinedOr (slice_set old.connections.items c last) more d x → ConnectionShows i o v made d new x
+  each_after w v net made c d place own written old new at last x more h k l (inl before) =
+      each_set w v net made c d place own written old new at last x more h k l (set_or old.connections.items c last d x before)
+  each_after w v net made c d place own written old new at last x more h k l (inr behind) =
+      subst (λ (n : ℕ). ConnectionShows i o v made n new x)
+      (sym (behind.1.0 ∙ ap (λ (n : ℕ). n + behind.0) (length-set old.connections.items c last ∙ h.count))) (l.added behind.0 x behind.1.1)
+
+  other_book : (w v : World) (net made : Net) (c place n p : ℕ) (own : Option ℕ) (written : ℕ) (old new : Nodes F I O) (at last : Connection I O) (more : List (Connection I O)) (block : BlockId) (book : BookState F) → NodesShow i o w net old
+      → IsOfEvent i o w v net made c own written → IsLeft w v made c place written old new at last more → slice_get old.blocks.items p ≡ Some block → book_at new.nodes.items n p ≡ Some book → (n ≡ node_of w c → p ≡ place → ⊥)
       → replica_of book ≡ v.replicas n block.0
-  other_book w v net made c place n p full old new at left block book h k l at_p found apart =
+  other_book w v net made c place n p own written old new at last more block book h k l at_p found apart =
       h.books n p block book at_p (sym (l.after.books n p apart) ∙ found) ∙
       sym (k.rest.replicas n block.0 (λ a b. apart a (h.distinct p place block l.block at_p l.at_place (b ∙ sym l.of_block))))
 
-  book_after : (w v : World) (net made : Net) (c place n p : ℕ) (full : FullMember) (old new : Nodes F I O) (at : Connection I O) (left : Lower I O) (block : BlockId) (book : BookState F) → NodesShow i o w net old
-      → IsOfMember i o w v net made c full → IsLeft w v made c place full old new at left → slice_get old.blocks.items p ≡ Some block → book_at new.nodes.items n p ≡ Some book
+  book_after : (w v : World) (net made : Net) (c place n p : ℕ) (own : Option ℕ) (written : ℕ) (old new : Nodes F I O) (at last : Connection I O) (more : List (Connection I O)) (block : BlockId) (book : BookState F) → NodesShow i o w net old
+      → IsOfEvent i o w v net made c own written → IsLeft w v made c place written old new at last more → slice_get old.blocks.items p ≡ Some block → book_at new.nodes.items n p ≡ Some book
       → ((n ≡ node_of w c) ⊎ (n ≡ node_of w c → ⊥)) → ((p ≡ place) ⊎ (p ≡ place → ⊥)) → replica_of book ≡ v.replicas n block.0
-  book_after w v net made c place n p full old new at left block book h k l at_p found (inl same) (inl here) =
+  book_after w v net made c place n p own written old new at last more block book h k l at_p found (inl same) (inl here) =
       let of : block ≡ l.block = same_some block l.block (sym at_p ∙ (ap (slice_get old.blocks.items) here ∙ l.at_place)) in
       l.replica book (sym (ap (λ (q : ℕ). book_at new.nodes.items q place) same) ∙ (sym (ap (book_at new.nodes.items n) here) ∙ found)) ∙
       (ap (λ (b : BlockId). v.replicas (node_of w c) b.0) (sym of) ∙ ap (λ (q : ℕ). v.replicas q block.0) (sym same))
     where
       same_some : (a b : BlockId) → Some a ≡ Some b → a ≡ b
       same_some a b e = cc
-  book_after w v net made c place n p full old new at left block book h k l at_p found (inl same) (inr apart) =
-      other_book w v net made c place n p full old new at left block book h k l at_p found (λ a b. apart b)
-  book_after w v net made c place n p full old new at left block book h k l at_p found (inr apart) q =
-      other_book w v net made c place n p full old new at left block book h k l at_p found (λ a b. apart a)
+  book_after w v net made c place n p own written old new at last more block book h k l at_p found (inl same) (inr apart) =
+      other_book w v net made c place n p own written old new at last more block book h k l at_p found (λ a b. apart b)
+  book_after w v net made c place n p own written old new at last more block book h k l at_p found (inr apart) q =
+      other_book w v net made c place n p own written old new at last more block book h k l at_p found (λ a b. apart a)
 
-  has_book_after : (w v : World) (net made : Net) (c place n p : ℕ) (full : FullMember) (old new : Nodes F I O) (at : Connection I O) (left : Lower I O)
-      → IsLeft w v made c place full old new at left → IsSome (book_at old.nodes.items n p) → ((n ≡ node_of w c) ⊎ (n ≡ node_of w c → ⊥)) → ((p ≡ place) ⊎ (p ≡ place → ⊥)) → IsSome (book_at new.nodes.items n p)
-  has_book_after w v net made c place n p full old new at left l has (inl same) (inl here) =
+  has_book_after : (w v : World) (net made : Net) (c place n p : ℕ) (own : Option ℕ) (written : ℕ) (old new : Nodes F I O) (at last : Connection I O) (more : List (Connection I O))
+      → IsLeft w v made c place written old new at last more → IsSome (book_at old.nodes.items n p) → ((n ≡ node_of w c) ⊎ (n ≡ node_of w c → ⊥)) → ((p ≡ place) ⊎ (p ≡ place → ⊥)) → IsSome (book_at new.nodes.items n p)
+  has_book_after w v net made c place n p own written old new at last more l has (inl same) (inl here) =
       subst (λ (q : ℕ). IsSome (book_at new.nodes.items q p)) (sym same) (subst (λ (q : ℕ). IsSome (book_at new.nodes.items (node_of w c) q)) (sym here) l.has_book)
-  has_book_after w v net made c place n p full old new at left l has (inl same) (inr apart) = subst IsSome (sym (l.after.books n p (λ a b. apart b))) has
-  has_book_after w v net made c place n p full old new at left l has (inr apart) q = subst IsSome (sym (l.after.books n p (λ a b. apart a))) has
+  has_book_after w v net made c place n p own written old new at last more l has (inl same) (inr apart) = subst IsSome (sym (l.after.books n p (λ a b. apart b))) has
+  has_book_after w v net made c place n p own written old new at last more l has (inr apart) q = subst IsSome (sym (l.after.books n p (λ a b. apart a))) has
 
   -- The nodes show the world after.
-  pub nodes_after : (w v : World) (net made : Net) (c place : ℕ) (full : FullMember) (old new : Nodes F I O) (at : Connection I O) (left : Lower I O) → NodesShow i o w net old → IsOfMember i o w v net made c full
-      → IsLeft w v made c place full old new at left → NodesShow i o v made new
-  nodes_after w v net made c place full old new at left h k l = record {
-    count = ap length l.set ∙ (length-set old.connections.items c (with_lower at left) ∙ (h.count ∙ sym k.rest.next_conn));
+  pub nodes_after : (w v : World) (net made : Net) (c place : ℕ) (own : Option ℕ) (written : ℕ) (old new : Nodes F I O) (at last : Connection I O) (more : List (Connection I O)) → NodesShow i o w net old
+      → IsOfEvent i o w v net made c own written → IsLeft w v made c place written old new at last more → NodesShow i o v made new
+  nodes_after w v net made c place own written old new at last more h k l = record {
+    count = ap length l.set ∙ (length-append (slice_set old.connections.items c last) more ∙
+        (ap (λ (n : ℕ). n + length more) (length-set old.connections.items c last ∙ h.count) ∙ sym l.count));
     distinct = λ j k a b at_j at_k. h.distinct j k a b (sym (ap (λ (xs : List BlockId). slice_get xs j) l.after.blocks) ∙ at_j) (sym (ap (λ (xs : List BlockId). slice_get xs k) l.after.blocks) ∙ at_k);
-    each = λ d x found. each_after w v net made c d place full old new at x left h k l
-        (set_or old.connections.items c (with_lower at left) d x (sym (ap (λ (xs : List (Connection I O)). slice_get xs d) l.set) ∙ found));
-    books = λ n p block book at_p found. book_after w v net made c place n p full old new at left block book h k l
+    each = λ d x found. each_after w v net made c d place own written old new at last x more h k l
+        (joined_or (slice_set old.connections.items c last) more d x (sym (ap (λ (xs : List (Connection I O)). slice_get xs d) l.set) ∙ found));
+    books = λ n p block book at_p found. book_after w v net made c place n p own written old new at last more block book h k l
         (sym (ap (λ (xs : List BlockId). slice_get xs p) l.after.blocks) ∙ at_p) found (same_or n (node_of w c)) (same_or p place);
-    has_books = λ d p block served at_p. subst (λ (n : ℕ). IsSome (book_at new.nodes.items n p)) (sym (node_as w v c (node_of w c) (block_of full.fields) d k.rest))
-        (has_book_after w v net made c place (node_of w d) p full old new at left l
-        (h.has_books d p block (sym (served_as w v c (node_of w c) (block_of full.fields) d k.rest) ∙ served) (sym (ap (λ (xs : List BlockId). slice_get xs p) l.after.blocks) ∙ at_p))
-        (same_or (node_of w d) (node_of w c)) (same_or p place));
+    has_books = λ n p block within at_p. has_book_after w v net made c place n p own written old new at last more l
+        (h.has_books n p block (subst (λ (q : ℕ). n < q) k.rest.nodes within) (sym (ap (λ (xs : List BlockId). slice_get xs p) l.after.blocks) ∙ at_p))
+        (same_or n (node_of w c)) (same_or p place);
   }
 
 module _ {I O : Type 0} (i : link_in.Ghosts I) (o : link_out.Ghosts O) where
   -- The ends of writers stay.
-  pub writers_after : (w v : World) (net made : Net) (c : ℕ) (full : FullMember) → IsOfMember i o w v net made c full → WritersStay i o w net v made
-  writers_after w v net made c full k = λ b d e by is.
-      k.others d false e (upper_none c full.mirror d (writer_apart w c b d full.mirror (dialled_by w c full k.ordered k.lower) by)) is
+  pub writers_after : (w v : World) (net made : Net) (c : ℕ) (own : Option ℕ) (written : ℕ) → IsOfEvent i o w v net made c own written → WritersStay i o w net v made
+  writers_after w v net made c own written k = λ b d e by is.
+      k.others d false e (upper_none c own d (writer_apart w c b d own k.dialled by)) is

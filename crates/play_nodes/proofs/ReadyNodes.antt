@@ -20,6 +20,7 @@ use Rattle.world.specs.Connections.{is_served, is_alive, the_end}
 use Rattle.world.specs.Nodes.{node_of, block_of, replica_at, member_change}
 use Rattle.world.specs.Enabled.{acts_below}
 use Rattle.world.specs.Events.{outcome, happens}
+use Rattle.world_laws.specs.Placing.{Placed}
 use Rattle.world_laws.proofs.FactTables.{and-left, and-right}
 use Rattle.world_orders.specs.Orders.{Ordered}
 use Rattle.world_nets.specs.Nets.{is_over}
@@ -44,7 +45,7 @@ use Rattle.play_nodes.specs.Places.{book_at, IsSeated, IsUnseated, Takes, Follow
 use Rattle.play_nodes.specs.Showing.{has_events, SeatShows, LowerShows, NodesStand}
 use Rattle.play_nodes.specs.Events.{IsCaused, EventEnds, ReadyShows}
 use Rattle.play_nodes.proofs.Tables.{element}
-use Rattle.play_nodes.proofs.WorldFrames.{KeepsRest, rest_after}
+use Rattle.play_nodes.proofs.WorldFrames.{KeepsRest, rest_after, conns_after}
 use Rattle.play_nodes.proofs.NodeFrames.{IsApart}
 use Rattle.play_nodes.proofs.PlaceLaws.{BookSet, same_some}
 use Rattle.play_nodes.proofs.MemberNodes.{IsMember, is_member, member_stands, member_left}
@@ -121,13 +122,13 @@ module _ {F R I O : Type 0} (r : roads.Ghosts R I O) (i : link_in.Ghosts I) (o :
   seat_needed w net c n at l real found node is events busy books h none = h
 
   -- A member stands where a lower end has events that isn't idle.
-  pub is_seated : (w : World) (net : Net) (road : R) (c : ℕ) (n : Nodes F I O) → NodesStand r i o w net road n → has_events w c ≡ true → (w.lowers c ≡ idle → ⊥) → IsUnseated n c → ⊥
-  is_seated w net road c n stands events busy none =
+  pub is_seated : (w : World) (net : Net) (road : R) (c : ℕ) (n : Nodes F I O) → NodesStand r i o w net road n → Placed w → has_events w c ≡ true → (w.lowers c ≡ idle → ⊥) → IsUnseated n c → ⊥
+  is_seated w net road c n stands placed events busy none =
       let served : is_served w c ≡ true = and-left (is_served w c) (is_open (w.lowers c)) events in
       let at = element n.connections.items c (subst (λ (k : ℕ). c < k) (sym stands.nodes_are.count) (served_within w c served)) in
       let shows = stands.nodes_are.each c at.0 at.1 in
       seat_needed w net c n at.0 (w.lowers c) at.0.lower at.1 shows.node refl events busy
-      (λ place m full k. stands.nodes_are.has_books c place k.block served k.at_place) shows.lower_is none
+      (λ place m full k. stands.nodes_are.has_books (node_of w c) place k.block (placed.dialled c (served_within w c served)).to k.at_place) shows.lower_is none
 
 module _ {F R I O : Type 0} (f : files.Ghosts F) (r : roads.Ghosts R I O) (i : link_in.Ghosts I) (o : link_out.Ghosts O) where
   -- WHY AN EVENT FAILED
@@ -150,12 +151,12 @@ module _ {F R I O : Type 0} (f : files.Ghosts F) (r : roads.Ghosts R I O) (i : l
   -- How an event of a member ends, that of the nodes does.
   pub ends_so : (old mid set new : Nodes F I O) (s : Seat) (c : ℕ) (book book' : BookState F) (left : Result (Option (Member I O)) MemberFault) (result : Result (Unit {0}) NodesFault) (road road' : R) (w : World) (net : Net) (e : Event)
       → (stands : NodesStand r i o w net road old) → Ordered w → (seat : IsSeated old c s) → (k : IsMember r i o w net c old seat.member s.place) → Takes old mid c (Some seat.member) → book_at mid.nodes.items s.node.0 s.place ≡ Some book
-      → BookSet mid set s.node.0 s.place book' → KeepsRest w (happens w e) c (node_of w c) (block_of k.full.fields) → ((d : ℕ) → IsApart k.full.mirror d → is_over (happens w e) d false ≡ is_over w d false)
+      → BookSet mid set s.node.0 s.place book' → (happens w e).next_conn ≡ w.next_conn → KeepsRest w (happens w e) c (node_of w c) (block_of k.full.fields) → ((d : ℕ) → IsApart k.full.mirror d → is_over (happens w e) d false ≡ is_over w d false)
       → member_events.EventEnds f r i o w net e c k.full book book' road road' left → Follows set new s left result → EventEnds f r i o w net e old new road road' result
-  ends_so old mid set new s c book book' (Ok left) result road road' w net e stands ordered seat k t at b rest over ends follows =
+  ends_so old mid set new s c book book' (Ok left) result road road' w net e stands ordered seat k t at b conns rest over ends follows =
       subst (λ (x : Result (Unit {0}) NodesFault). EventEnds f r i o w net e old new road road' x) (sym follows.1)
-      (member_left r i o w (happens w e) net road road' c old mid set new s seat.member book' left ordered stands seat k t b follows.0 rest over ends)
-  ends_so old mid set new s c book book' (Err why) result road road' w net e stands ordered seat k t at b rest over ends follows =
+      (member_left r i o w (happens w e) net road road' c old mid set new s seat.member book' left ordered stands seat k t b follows.0 conns rest over ends)
+  ends_so old mid set new s c book book' (Err why) result road road' w net e stands ordered seat k t at b conns rest over ends follows =
       subst (λ (x : Result (Unit {0}) NodesFault). EventEnds f r i o w net e old new road road' x) (sym follows.1)
       (caused old mid set new s c k.full.mirror book book' seat.member road road' why t at b follows.0 ends)
 
@@ -182,4 +183,4 @@ module _ {F R I O : Type 0} (f : files.Ghosts F) (r : roads.Ghosts R I O) (i : l
       let over : (d : ℕ) → IsApart full.mirror d → is_over (happens w e) d false ≡ is_over w d false = λ d apart.
       (followed w (apply w (member_change w c full the_end did broke)) e out).over d false ∙ changed-over w (member_change w c full the_end did broke) d false in
       ends_so old mid set new s c book book' left result road road' w net e stands lawful.ordered seat k t at b
-      (rest_after w w c full the_end did broke e out) over ends follows
+      (conns_after w w c full the_end did broke e out) (rest_after w w c full the_end did broke e out) over ends follows

@@ -1,5 +1,5 @@
 -- Elements of lists and tables of which one was set.
-use Rattle.std.proofs.Common.{◌≡◌, ℕ, zero, suc, ◌<◌, Bool, true, false, if◌then◌else◌, List, [], ◌∷◌, length, slice_get, slice_set, option_map, Some, None, ◌⊎◌, inl, inr, refl, sym, ap, arith, eqb-true}
+use Rattle.std.proofs.Common.{◌≡◌, ℕ, zero, suc, ◌<◌, Bool, true, false, if◌then◌else◌, List, [], ◌∷◌, length, slice_get, slice_set, option_map, Some, None, ◌⊎◌, inl, inr, refl, sym, ap, arith, eqb-true, ◌+◌, ◌++◌}
 use Rattle.std.specs.Prelude.{◌==◌, ◌&&◌, unwrap_or}
 use Rattle.std.proofs.lemmas.Bool.{eqb-false}
 use Rattle.world.specs.Parts.{Dialled}
@@ -47,6 +47,22 @@ set_same {A} (x ∷ xs) zero a h = ap (λ (y : A). y ∷ xs) (sym (same_some x a
     same_some : (p q : A) → Some p ≡ Some q → p ≡ q
     same_some p q e = cc
 set_same {A} (x ∷ xs) (suc i) a h = ap (λ (ys : List A). x ∷ ys) (set_same xs i a h)
+
+-- An element of two lists that are joined stands in the first, or behind it in the second.
+abbrev pub JoinedOr : {A : Type 0} → List A → List A → ℕ → A → Type 0
+JoinedOr xs ys j y = (slice_get xs j ≡ Some y) ⊎ ((k : ℕ) × ((j ≡ length xs + k) × (slice_get ys k ≡ Some y)))
+
+joined_or_more : {A : Type 0} (a : A) (xs ys : List A) (j : ℕ) (y : A) → JoinedOr xs ys j y → JoinedOr (a ∷ xs) ys (suc j) y
+joined_or_more a xs ys j y (inl h) = inl h
+joined_or_more a xs ys j y (inr h) = inr (h.0, (behind (length xs) h.0 h.1.0, h.1.1))
+  where
+    behind : (n k : ℕ) → j ≡ n + k → suc j ≡ suc n + k
+    behind n k e = omega (arith, e)
+
+pub joined_or : {A : Type 0} (xs ys : List A) (j : ℕ) (y : A) → slice_get (xs ++ ys) j ≡ Some y → JoinedOr xs ys j y
+joined_or [] ys j y h = inr (j, (omega arith, h))
+joined_or (a ∷ xs) ys zero y h = inl h
+joined_or (a ∷ xs) ys (suc j) y h = joined_or_more a xs ys j y (joined_or xs ys j y h)
 
 -- An index within a list has an element.
 pub element : {A : Type 0} (xs : List A) (i : ℕ) → i < length xs → (a : A) × (slice_get xs i ≡ Some a)

@@ -51,7 +51,7 @@ use Rattle.play_nodes.specs.declared.connections.Upper.TheVariants as upper
 use Rattle.play_nodes.specs.Places.{book_at, IsSeated, IsUnseated, Takes, Follows, member_above}
 use Rattle.play_nodes.specs.Showing.{UpperShows, has_events, NodesStand}
 use Rattle.play_nodes.specs.Events.{DownShows, UpShows}
-use Rattle.play_nodes.proofs.WorldFrames.{rest_after, rest_taken}
+use Rattle.play_nodes.proofs.WorldFrames.{rest_after, rest_taken, conns_after, conns_taken}
 use Rattle.play_nodes.proofs.NodeFrames.{IsApart}
 use Rattle.play_nodes.proofs.Tables.{element}
 use Rattle.play_nodes.proofs.PlaceLaws.{BookSet, same_some}
@@ -216,7 +216,7 @@ module _ {F R I O : Type 0} (r : roads.Ghosts R I O) (i : link_in.Ghosts I) (o :
       let within : conn.0 < w.next_conn = within_so conn.0 w.next_conn hearing.comes.known in
       let member : d < w.next_conn = subst (λ (u : parts.Upper). IsUpper w.next_conn u) upper (placed.dialled conn.0 within).upper in
       let served : is_served w d ≡ true = rw (test_so d w.next_conn member, hearing.heard.alive) refl in
-      is_seated r i o w net road d n stands (rw (served, hearing.opened) refl) (λ idle. busy hearing.full (sym idle ∙ hearing.lower))
+      is_seated r i o w net road d n stands placed (rw (served, hearing.opened) refl) (λ idle. busy hearing.full (sym idle ∙ hearing.lower))
       (subst (λ (q : ℕ). IsUnseated n q) (above_as w net road conn d above n stands queues upper due is) none)
     where
       busy : (full : FullMember) → idle ≡ writes full → ⊥
@@ -248,7 +248,7 @@ module _ {F R I O : Type 0} (f : files.Ghosts F) (r : roads.Ghosts R I O) (i : l
       let over : (d : ℕ) → IsApart full.mirror d → is_over (happens w e) d false ≡ is_over w d false = λ d apart.
       (followed w (apply w1 (goes_down w1 c full x)) e out).over d false ∙ (changed-over w1 (goes_down w1 c full x) d false ∙ taken-over w d false c true x (λ same. refl)) in
       ends_so f r i o old mid set new s c book book' left result road road' w net e stands lawful.ordered seat k t at b
-      (rest_taken w c true x (happens w e) c (block_of full.fields) (rest_after w w1 c full x did (break_at w1 c full.fields) e out)) over ends follows
+      (conns_after w w1 c full x did (break_at w1 c full.fields) e out ∙ conns_taken w c true x) (rest_taken w c true x (happens w e) c (block_of full.fields) (rest_after w w1 c full x did (break_at w1 c full.fields) e out)) over ends follows
 
   pub up_shows : (old mid set new : Nodes F I O) (conn above : ConnId) (s : Seat) (m : Member I O) (book book' : BookState F) (left : Result (Option (Member I O)) MemberFault) (result : Result (Unit {0}) NodesFault) (road road' : R) → (seat : IsSeated old above.0 s)
       → member_above (option_map (λ x. x.upper) (slice_get old.connections.items conn.0)) ≡ Some above
@@ -283,7 +283,7 @@ module _ {F R I O : Type 0} (f : files.Ghosts F) (r : roads.Ghosts R I O) (i : l
       (followed w (apply w1 (goes_up w1 c full x)) e out).over d false ∙ (changed-over w1 (goes_up w1 c full x) d false ∙
       taken-over w d false conn.0 false x (λ same. absurd (subst (λ (m : Option ℕ). IsApart m d) of_mirror apart same))) in
       ends_so f r i o old mid set new s c book book' left result road road' w net e stands lawful.ordered seat k t at b
-      (rest_taken w conn.0 false x (happens w e) c (block_of full.fields) (rest_after w w1 c full x did (break_at w1 c full.fields) e out)) over ends follows
+      (conns_after w w1 c full x did (break_at w1 c full.fields) e out ∙ conns_taken w conn.0 false x) (rest_taken w conn.0 false x (happens w e) c (block_of full.fields) (rest_after w w1 c full x did (break_at w1 c full.fields) e out)) over ends follows
     where
       full_same : (a b : FullMember) → writes a ≡ writes b → a ≡ b
       full_same a b e = cc

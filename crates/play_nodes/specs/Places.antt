@@ -1,7 +1,15 @@
 -- Members and books in their places among the nodes of a play.
-use Rattle.std.specs.Prelude.{◌≡◌, ℕ, List, slice_get, slice_set, Option, Some, None, IsSome, option_and_then, Result, Ok, Err}
+use Rattle.std.specs.Prelude.{◌++◌, ◌-◌, [], ◌∷◌, Bool, true, false, ◌≡◌, ℕ, List, slice_get, slice_set, Option, Some, None, IsSome, option_and_then, Result, Ok, Err}
+use Rattle.hd_base.specs.declared.ends.Conn.{Conn}
+use Rattle.hd_base.specs.declared.numbers.BlockId.{BlockId}
 use Rattle.hd_base.specs.declared.numbers.ConnId.{ConnId}
+use Rattle.hd_base.specs.declared.numbers.NodeId.{NodeId}
+use Rattle.hd_base.specs.declared.roads.TheConstants.{FIRST_PORT}
+use Rattle.op_headers.specs.declared.nodes.NodeRef.{NodeRef}
 use Rattle.member_events.specs.declared.faults.MemberFault.{MemberFault}
+use Rattle.member_events.specs.declared.joining.Joined.{Joined}
+use Rattle.member_events.specs.declared.joining.MirrorDial.{MirrorDial}
+use Rattle.member_events.specs.declared.joining.MirrorDial.TheVariants as dial
 use Rattle.pipe_member.specs.declared.member.Member.{Member}
 use Rattle.replica_files.specs.declared.book_state.BookState.{BookState}
 use Rattle.play_nodes.specs.declared.connections.Connection.{Connection}
@@ -10,6 +18,7 @@ use Rattle.play_nodes.specs.declared.connections.Lower.TheVariants as lower
 use Rattle.play_nodes.specs.declared.connections.Upper.{Upper}
 use Rattle.play_nodes.specs.declared.connections.Upper.TheVariants as upper
 use Rattle.play_nodes.specs.declared.faults.NodesFault.{NodesFault}
+use Rattle.play_nodes.specs.declared.faults.NodesFault.TheVariants as fault
 use Rattle.play_nodes.specs.declared.nodes.NodeBooks.{NodeBooks}
 use Rattle.play_nodes.specs.declared.nodes.Nodes.{Nodes}
 use Rattle.play_nodes.specs.declared.nodes.Seat.{Seat}
@@ -82,3 +91,64 @@ Follows old new s (Err why) result = (new ≡ old) × (result ≡ Err (fault_at 
 abbrev pub member_above : Option Upper → Option ConnId
 member_above (Some (upper.Member conn)) = Some conn
 member_above other = None
+
+-- THE FIRST MESSAGE
+
+-- the end of a lower end that has taken nothing yet, if it is one
+abbrev pub idle_of : {I O : Type 0} → Lower I O → Option (Conn I O)
+idle_of (lower.Idle end) = Some end
+idle_of other = None
+
+-- The lower end at a connection was taken from its place.
+pub record TakesIdle {F I O : Type 0} (old new : Nodes F I O) (c : ℕ) (result : Option (Conn I O)) : Type 0 where
+  pub blocks : new.blocks.items ≡ old.blocks.items
+  pub nodes : new.nodes.items ≡ old.nodes.items
+  pub set : (at : Connection I O) → slice_get old.connections.items c ≡ Some at →
+      new.connections.items ≡ slice_set old.connections.items c (with_lower at lower.Ended)
+  pub taken : (at : Connection I O) → slice_get old.connections.items c ≡ Some at → result ≡ idle_of at.lower
+
+-- The block stands at this place, or nowhere.
+abbrev pub IsPlaceOf : List BlockId → BlockId → Option ℕ → Type 0
+IsPlaceOf blocks block None = (place : ℕ) (b : BlockId) → slice_get blocks place ≡ Some b → b.0 ≡ block.0 → ⊥
+IsPlaceOf blocks block (Some place) = slice_get blocks place ≡ Some block
+
+-- The node that listens on the port of the first target.
+abbrev pub IsMirrorNode : List NodeRef → NodeId → Type 0
+IsMirrorNode [] node = Unit {0}
+IsMirrorNode (first ∷ rest) node = node.0 ≡ first.xfer - FIRST_PORT
+
+-- the connection to a member's mirror, of which nothing was taken yet
+abbrev pub mirror_made : {I O : Type 0} → ℕ → NodeId → Conn I O → Connection I O
+mirror_made c node end = record {
+  upper = upper.Member (record { 0 = c });
+  node = node;
+  lower = lower.Idle end;
+  mirror = None;
+}
+
+-- The connection to the mirror was added, or memory ran out.
+pub record IsAdded {F I O : Type 0} (old new : Nodes F I O) (s : Seat) (next : ConnId) (mirror : NodeId)
+    (end : Conn I O) : Type 0 where
+  pub blocks : new.blocks.items ≡ old.blocks.items
+  pub nodes : new.nodes.items ≡ old.nodes.items
+  pub set : (at : Connection I O) → slice_get old.connections.items s.conn ≡ Some at →
+      new.connections.items ≡
+      slice_set old.connections.items s.conn (record at { mirror = Some next }) ++ mirror_made s.conn mirror end ∷ []
+
+abbrev pub Adds : {F I O : Type 0} → Nodes F I O → Nodes F I O → Seat → ConnId → NodeId → Conn I O →
+    Result Bool NodesFault → Type 0
+Adds old new s next mirror end (Ok answered) = (answered ≡ true) × IsAdded old new s next mirror end
+Adds old new s next mirror end (Err why) = why ≡ fault.Memory
+
+abbrev pub AddsDial : {F I O : Type 0} → Nodes F I O → Nodes F I O → Seat → ConnId → NodeId → MirrorDial I O →
+    Result Bool NodesFault → Type 0
+AddsDial old new s next mirror dial.NotDialled result = (new ≡ old) × (result ≡ Ok true)
+AddsDial old new s next mirror dial.Unanswered result = (new ≡ old) × (result ≡ Ok false)
+AddsDial old new s next mirror (dial.Reached end) result = Adds old new s next mirror end result
+
+-- What was made of an end is in its place, and so is the connection to its mirror.
+pub record IsSettled {F I O : Type 0} (old new : Nodes F I O) (s : Seat) (next : ConnId) (mirror : NodeId)
+    (joined : Joined I O) (result : Result Bool NodesFault) : Type 0 where
+  pub middle : Nodes F I O
+  pub put : PutBack old middle s joined.member
+  pub adds : AddsDial middle new s next mirror joined.mirror result

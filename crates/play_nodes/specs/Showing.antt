@@ -1,5 +1,5 @@
 -- The nodes of a play show a world.
-use Rattle.std.specs.Prelude.{◌≡◌, ℕ, ◌&&◌, Bool, true, false, length, slice_get, option_map, Some, IsSome}
+use Rattle.std.specs.Prelude.{◌≡◌, ◌<◌, ℕ, ◌&&◌, Bool, true, false, length, slice_get, option_map, Some, IsSome}
 use Rattle.hd_base.specs.declared.ends.Conn.{Conn}
 use Rattle.hd_base.specs.declared.numbers.BlockId.{BlockId}
 use Rattle.hd_base.specs.declared.numbers.ConnId.{ConnId}
@@ -77,10 +77,10 @@ IsDistinct n = (j k : ℕ) (a b : BlockId) → slice_get n.blocks.items j ≡ So
     a.0 ≡ b.0
     → j ≡ k
 
--- Each node that serves a connection has a book at each place.
+-- Each node has a book at each place.
 abbrev pub HasBooks : {F I O : Type 0} → World → Nodes F I O → Type 0
-HasBooks w n = (c place : ℕ) (block : BlockId) → is_served w c ≡ true → slice_get n.blocks.items place ≡ Some block →
-    IsSome (book_at n.nodes.items (node_of w c) place)
+HasBooks w n = (node place : ℕ) (block : BlockId) → node < w.nodes → slice_get n.blocks.items place ≡ Some block →
+    IsSome (book_at n.nodes.items node place)
 
 -- The lower ends and the books show the world.
 pub record NodesShow {F I O : Type 0} (i : link_in.Ghosts I) (o : link_out.Ghosts O) (w : World) (net : Net)

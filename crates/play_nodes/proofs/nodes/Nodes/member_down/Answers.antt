@@ -11,7 +11,7 @@ use Rattle.play_nodes.proofs.nodes.Nodes.member_down.Goals as goal
 pub returns-in_default : goal.returns-in_default
 returns-in_default g c = λ w net queues answered stands lawful due busy.
     let taking = takes_at w c.args.conn queues due in
-    absurd (is_seated g.R.Roads g.I.LinkIn g.O.LinkOut w net c.args.roads.now c.args.conn.0 c.args.self.now stands taking.events busy
+    absurd (is_seated g.R.Roads g.I.LinkIn g.O.LinkOut w net c.args.roads.now c.args.conn.0 c.args.self.now stands lawful.placed taking.events busy
     (subst (λ x. IsSeat c.args.self.now c.args.conn.0 x) (none_so c.seat_of.result c.in_default.not-Some) c.seat_of.ensures))
 
 pub returns-in_default-take : goal.returns-in_default-take

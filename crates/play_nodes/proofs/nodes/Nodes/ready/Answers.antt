@@ -10,7 +10,7 @@ use Rattle.play_nodes.proofs.nodes.Nodes.ready.Goals as goal
 pub returns-in_default : goal.returns-in_default
 returns-in_default g c = λ w net queues stands lawful due.
     let acting = acts_at w c.args.conn queues due in
-    absurd (is_seated g.R.Roads g.I.LinkIn g.O.LinkOut w net c.args.roads.now c.args.conn.0 c.args.self.now stands acting.events (acts_busy w c.args.conn.0 acting.acts)
+    absurd (is_seated g.R.Roads g.I.LinkIn g.O.LinkOut w net c.args.roads.now c.args.conn.0 c.args.self.now stands lawful.placed acting.events (acts_busy w c.args.conn.0 acting.acts)
     (subst (λ x. IsSeat c.args.self.now c.args.conn.0 x) (none_so c.seat_of.result c.in_default.not-Some) c.seat_of.ensures))
 
 pub returns-in_default-take : goal.returns-in_default-take
