@@ -2,3 +2,10 @@ pub mod SettleLaws
 pub mod HearLaws
 pub mod ActLaws
 pub mod CompleteLaws
+pub mod AnswerLaws
+pub mod AnswerEnds
+pub mod CommitLaws
+pub mod CommitEnds
+pub mod SetUpLaws
+pub mod SetUpEnds
+pub mod SetUpEvents

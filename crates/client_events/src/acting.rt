@@ -2,7 +2,7 @@
 
 ghost use Rattle.std.specs.Prelude.{◌≡◌};
 ghost use Rattle.writer_core.specs.Transitions.{own_step};
-ghost use Rattle.client_events.specs.Acting.{said_by, IsStepped};
+ghost use Rattle.client_events.specs.Acting.{said_by, IsStepped, AnswersIf};
 ghost use Rattle.client_events.specs.Events.{ActShows};
 ghost use Rattle.client_events.specs.Showing.{PipeIsKnown};
 
@@ -69,4 +69,15 @@ pub(crate) fn said_by(action: Action) -> Option<Said>
         Action::Dial { to: _to, op: _op } => None,
         Action::Send(_packet) => None,
     }
+}
+
+/// The own step of a writer that is due to answer a command, if it is.
+pub(crate) fn answer_if(writer: &mut Writer, due: bool) -> Result<Option<Said>, ClientFault>
+    ensures { AnswersIf due writer.old writer.new result }
+{
+    if !due {
+        return Ok(None);
+    }
+    let action = stepped(writer)?;
+    Ok(said_by(action))
 }

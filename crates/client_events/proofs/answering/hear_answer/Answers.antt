@@ -1,0 +1,24 @@
+-- A step of the setup took what stood next, and what followed.
+use Rattle.std.proofs.Common.{sym, ap, ◌∙◌}
+use Rattle.client_events.specs.Answering.{is_risen}
+use Rattle.client_events.proofs.AnswerEnds.{answer_shows, answer_risen, answer_office}
+use Rattle.client_events.proofs.answering.hear_answer.Goals as goal
+
+pub returns-then-has_lost-clause-office : goal.returns-then-has_lost-clause-office
+returns-then-has_lost-clause-office g c =
+    answer_office g.R.Roads g.I.LinkIn g.O.LinkOut g.D.Desk c.args.writer.now c.step-step.new.writer c.in_ok-setup.setup.link c.step-step.new.self.link c.args.office.now c.step-step.new.office c.taken.new.roads c.step-step.new.roads c.step-step.new.self.lost c.step-step.result c.requires.waits c.step-step.ensures.steps
+
+pub returns-then-is_risen-clause-shows : goal.returns-then-is_risen-clause-shows
+returns-then-is_risen-clause-shows g c =
+    answer_risen g.R.Roads g.I.LinkIn g.O.LinkOut c.args.setup c.args.writer.now c.step-step.new.writer c.args.roads.now c.step-step.new.roads
+    (ap (is_risen (g.R.Roads.risen c.step-step.new.roads)) (sym c.conn-conn.ensures) ∙ (sym c.is_risen.ensures ∙ c.if-is_risen.true))
+
+pub returns-then-is_risen-clause-office : goal.returns-then-is_risen-clause-office
+returns-then-is_risen-clause-office g c =
+    answer_office g.R.Roads g.I.LinkIn g.O.LinkOut g.D.Desk c.args.writer.now c.step-step.new.writer c.in_ok-setup.setup.link c.step-step.new.self.link c.args.office.now c.step-step.new.office c.taken.new.roads c.step-step.new.roads c.step-step.new.self.lost c.step-step.result c.requires.waits c.step-step.ensures.steps
+
+pub returns-clause-shows : goal.returns-clause-shows
+returns-clause-shows g c =
+    answer_shows g.R.Roads g.I.LinkIn g.O.LinkOut g.D.Desk c.args.setup c.in_ok-setup.setup c.step-step.new.self c.step-step.result c.piped.result c.args.writer.now c.step-step.new.writer c.args.office.now c.step-step.new.office c.args.roads.now c.taken.new.roads c.step-step.new.roads
+    c.in_ok-setup.ensures.takes c.step-step.ensures.steps (sym c.has_lost.ensures ∙ c.if-has_lost.false)
+    (ap (is_risen (g.R.Roads.risen c.step-step.new.roads)) (sym c.conn-conn.ensures) ∙ (sym c.is_risen.ensures ∙ c.if-is_risen.false)) (sym c.piped.ensures)
