@@ -3,7 +3,9 @@
 ghost use Rattle.std.specs.Prelude.{◌≡◌, true, IfOk, is_some};
 ghost use Rattle.pipe_recovery.specs.Dialling.{LinkIsKnown};
 ghost use Rattle.client_events.specs.Answering.{IsWaiting, TakesLink, is_risen, piped};
+ghost use Rattle.client_events.specs.declared.pipes.Pipe.TheVariants.{SettingUp};
 ghost use Rattle.client_events.specs.Events.{AnswerShows};
+ghost use Rattle.client_events.specs.Showing.{FitsAfter};
 
 use crate::faults::{ClientFault, road_fault};
 use crate::pipes::Pipe;
@@ -25,6 +27,7 @@ pub fn hear_answer<D: Desk, I: LinkIn, O: LinkOut, R: Roads<Inward = I, Outward 
     requires linked { is_some setup.link ≡ true }
     requires known { LinkIsKnown (R.plain roads.old) setup.link }
     ensures shows { AnswerShows R.Roads I.LinkIn O.LinkOut writer.old writer.new setup roads.old roads.new result }
+    ensures fits { FitsAfter writer.old writer.new (SettingUp setup) result }
     ensures office { office.new ≡ office.old }
 {
     let conn = setup.conn();

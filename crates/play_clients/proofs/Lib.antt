@@ -1,0 +1,3 @@
+pub mod CourseLaws
+pub mod PartLaws
+pub mod HearLaws

@@ -1,0 +1,5 @@
+pub mod Clients
+pub mod Courses
+pub mod Hearing
+pub mod Owning
+pub mod Events
