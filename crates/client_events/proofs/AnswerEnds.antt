@@ -269,7 +269,7 @@ module _ {R I O : Type 0} (r : roads.Ghosts R I O) (i : link_in.Ghosts I) (o : l
       → r.risen road' l.end.id.0 ≡ false → LooksAt i l' seen found → FollowsLook found known known' seen held ended_so → SettlesTold r i o (keeps_link known'.phase) (Some held) kept middle road' false → Reports i ended_so known' kept setup'.link ends → piped setup' ends ≡ Ok left
       → ClientLeft r i o w net (happens w (event.Up l.end.id)) b office known' left road'
   by_look looked.Memory w net b office x l l' seen held setup setup' ends left kept known known' ended_so road middle road' stands s can ex risen looks follows settles reports is =
-      let m = subst (λ (z : Acted). Reports i z known' kept setup'.link ends) follows.1.1 reports in
+      let m = subst (λ (z : Acted). Reports i z known' kept setup'.link ends) follows.2 reports in
       absurd (none_ok fault.Memory left (sym (ap (piped setup') m.1) ∙ is))
   by_look looked.Known w net b office x l l' seen held setup setup' ends left kept known known' ended_so road middle road' stands s can ex risen looks follows settles reports is =
       let c : ℕ = l.end.id.0 in

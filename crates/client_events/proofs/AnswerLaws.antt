@@ -133,7 +133,7 @@ pub true_false : true ≡ false → ⊥
 true_false h = cc
 
 -- what was received, and nothing that was looked at
-with_received : IncomingState → HeardState
+abbrev with_received : IncomingState → HeardState
 with_received s = record { received = s; next = None }
 
 module _ {I O : Type 0} (i : link_in.Ghosts I) where
@@ -146,14 +146,14 @@ module _ {I O : Type 0} (i : link_in.Ghosts I) where
   from_taken x known known' l seen held a ended_so looks shut holds t is none = record {
     tells = a;
     told_is = t.0;
-    moved = t.1.1;
+    moved = t.2;
     writer = t.0 ∙ is;
-    id = ap (λ (z : Link I O). z.end.id) t.1.0 ∙ looks.kept.id;
-    lower = ap (λ (z : Link I O). z.end.lower) t.1.0 ∙ looks.kept.lower;
-    outward = ap (λ (z : Link I O). z.end.outward) t.1.0 ∙ looks.kept.outward;
-    shut = ap (λ (z : Link I O). i.shut z.end.inward) t.1.0 ∙ shut;
-    holds = ap (λ (z : Link I O). i.held z.end.inward) t.1.0 ∙ holds;
-    heard = λ e. ap (λ (z : Link I O). z.heard) t.1.0 ∙ ap with_received (none e);
+    id = ap (λ (z : Link I O). z.end.id) t.1 ∙ looks.kept.id;
+    lower = ap (λ (z : Link I O). z.end.lower) t.1 ∙ looks.kept.lower;
+    outward = ap (λ (z : Link I O). z.end.outward) t.1 ∙ looks.kept.outward;
+    shut = ap (λ (z : Link I O). i.shut z.end.inward) t.1 ∙ shut;
+    holds = ap (λ (z : Link I O). i.held z.end.inward) t.1 ∙ holds;
+    heard = λ e. ap (λ (z : Link I O). z.heard) t.1 ∙ ap with_received (none e);
   }
 
   given_by : (x : Next) (known known' : WriterRecord) (l seen held : Link I O) (ended_so : Acted) (r : Came Response) → IsAnswerNext x → i.held l.end.inward ≡ Some (inbox_for x) → LooksAt i l seen looked.Known
@@ -179,10 +179,10 @@ module _ {I O : Type 0} (i : link_in.Ghosts I) where
       inr (record {
         tells = answer.Ended;
         told_is = s.0;
-        moved = s.1.1;
-        rose = subst (λ (z : Link I O). FaultsIncreased (i.faults l.end.inward) (i.faults z.end.inward)) (sym s.1.0) ends.comes.0;
+        moved = s.2;
+        rose = subst (λ (z : Link I O). FaultsIncreased (i.faults l.end.inward) (i.faults z.end.inward)) (sym s.1) ends.comes.0;
         writer = s.0;
-        id = ap (λ (z : Link I O). z.end.id) s.1.0 ∙ looks.kept.id;
+        id = ap (λ (z : Link I O). z.end.id) s.1 ∙ looks.kept.id;
       })
   answered_as x known known' l seen held ended_so came.Memory spelled inbox looks ends next known_so t = cc
 

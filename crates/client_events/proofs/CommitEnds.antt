@@ -326,10 +326,10 @@ module _ {R I O D : Type 0} (r : roads.Ghosts R I O) (i : link_in.Ghosts I) (o :
       (asks_so r i o d s stamp true known y (Some h0) acts desk desk' road middle does h fits (never_memory kept does reports) (asks_after heard after (Some h0) acts middle does q.none q.same e)) settles reports
   by_outcome s stamp l h0 heard after acts kept middle does shows over h fits risen e settles reports (inr (inl memory)) =
       let e1 : ElseAsks d r i o (Some acted.Memory) after y (Some h0) acts desk desk' road middle does = subst (λ (q : Option Acted). ElseAsks d r i o q after y (Some h0) acts desk desk' road middle does) memory e in
-      absurd (never_memory kept does reports e1.1.1.1.1)
+      absurd (never_memory kept does reports e1.4)
   by_outcome s stamp l h0 heard after acts kept middle does shows over h fits risen e settles reports (inr (inr f)) =
       let e1 : ElseAsks d r i o (Some acted.Moved) after y (Some h0) acts desk desk' road middle does = subst (λ (q : Option Acted). ElseAsks d r i o q after y (Some h0) acts desk desk' road middle does) f.moved e in
-      absurd (true_false (sym (ended_risen s stamp l h0 heard after acts kept middle h fits f e1.0 e1.1.0 settles) ∙ risen))
+      absurd (true_false (sym (ended_risen s stamp l h0 heard after acts kept middle h fits f e1.0 e1.1 settles) ∙ risen))
 
   by_none : (s : Setup) (stamp : Stamp) (h0 : Option (Link I O)) (heard : Option Acted) (after : WriterRecord) (acts kept : Option (Link I O)) (middle : R) (does : Acted) → (w.writers block.0).conn ≡ None → known.phase ≡ phase.Accepted s stamp → fits_accepted s false ≡ true
       → Hears i known after None h0 heard → ElseAsks d r i o heard after y h0 acts desk desk' road middle does → SettlesTold r i o (keeps_link y.phase) acts kept middle road' false → Reports i does y kept setup'.link ends

@@ -185,17 +185,17 @@ module _ {I O : Type 0} (i : link_in.Ghosts I) where
         shut = ends.shut;
         holds = still_empty seen.heard.received (i.held seen.end.inward) ends.comes.0.empty (ends.comes.1 ∙ ap (coming nothing_received) inbox);
       } in
-      inl (record { same = t.0; none = t.1.1; took = subst (λ (z : Link I O). Took i (held_by false) l.end z.end) (sym t.1.0) kept })
+      inl (record { same = t.0; none = t.2; took = subst (λ (z : Link I O). Took i (held_by false) l.end z.end) (sym t.1) kept })
   by_came found known after l seen held heard came.Failed inbox looks ends none stands is h =
       let t = as_known found known after seen held heard (Some answer.Ended) is stands h in
       inr (inr (record {
         told = t.0;
-        moved = t.1.1;
-        id = ap (λ (z : Link I O). z.end.id) t.1.0 ∙ looks.kept.id;
-        rose = subst (λ (z : Link I O). FaultsIncreased (i.faults l.end.inward) (i.faults z.end.inward)) (sym t.1.0) ends.comes.0;
+        moved = t.2;
+        id = ap (λ (z : Link I O). z.end.id) t.1 ∙ looks.kept.id;
+        rose = subst (λ (z : Link I O). FaultsIncreased (i.faults l.end.inward) (i.faults z.end.inward)) (sym t.1) ends.comes.0;
       }))
   by_came found known after l seen held heard came.Memory inbox looks ends none stands is h =
-      let t : HearsSeen looked.Memory known after seen held heard = subst (λ (f : Looked). HearsSeen f known after seen held heard) is h in inr (inl t.1.1)
+      let t : HearsSeen looked.Memory known after seen held heard = subst (λ (f : Looked). HearsSeen f known after seen held heard) is h in inr (inl t.2)
 
   -- What a writer hears on a connection on which nothing stands next.
   pub hears_nothing : (asked : Bool) (known after : WriterRecord) (l held : Link I O) (heard : Option Acted) → i.held l.end.inward ≡ Some (held_by false) → l.heard ≡ nothing_heard → HearsGiven i asked known after l held heard → HearsNothing known after l held heard
@@ -204,7 +204,7 @@ module _ {I O : Type 0} (i : link_in.Ghosts I) where
       by_came h.found known after l h.seen held heard x.came inbox h.looks x.comes (x.comes.none refl false (ap (coming nothing_received) inbox)) x.stands x.is h.hears
   hears_nothing false known after l held heard inbox none h =
       let kept : Took i (held_by false) l.end l.end = record { id = refl; lower = refl; outward = refl; shut = refl; holds = inbox } in
-      inl (record { same = h.0; none = h.1.1; took = subst (λ (z : Link I O). Took i (held_by false) l.end z.end) (sym h.1.0) kept })
+      inl (record { same = h.0; none = h.2; took = subst (λ (z : Link I O). Took i (held_by false) l.end z.end) (sym h.1) kept })
 
 -- WHAT IT ASKS
 
@@ -237,15 +237,15 @@ module _ {R I O D : Type 0} (r : roads.Ghosts R I O) (i : link_in.Ghosts I) (o :
   asked_as_put : (s : Setup) (stamp : Stamp) (linked : Bool) (known answered known' : WriterRecord) (held held' : Option (Link I O)) (desk desk' : D) (road road' : R) (first does : Acted) → known.phase ≡ phase.Accepted s stamp → fits_accepted s linked ≡ true → (does ≡ acted.Memory → ⊥)
       → GoesOn r i o (is_stamped answered.phase) answered known' held held' road road' first does → ((answered ≡ known) × (first ≡ acted.Memory)) ⊎ IsPut d (commit_call known stamp) known answered desk desk' first → HasAsked (commit_call known stamp) known known' held held' desk desk' road road' does
   asked_as_put s stamp linked known answered known' held held' desk desk' road road' first does h fits never goes (inl u) =
-      let g = goes_not answered known' held held' road road' first does (ap (λ (x : WriterRecord). is_stamped x.phase) u.0 ∙ ap is_stamped h) goes in absurd (never (g.1.1.1 ∙ u.1))
+      let g = goes_not answered known' held held' road road' first does (ap (λ (x : WriterRecord). is_stamped x.phase) u.0 ∙ ap is_stamped h) goes in absurd (never (g.3 ∙ u.1))
   asked_as_put s stamp linked known answered known' held held' desk desk' road road' first does h fits never goes (inr p) =
       let g = goes_not answered known' held held' road road' first does (ap (λ (x : WriterRecord). is_stamped x.phase) p.writer ∙ told_unstamped known s stamp linked p.answer h fits p.fits) goes in
-      let no : first ≡ acted.Memory → ⊥ = λ e. never (g.1.1.1 ∙ e) in record {
+      let no : first ≡ acted.Memory → ⊥ = λ e. never (g.3 ∙ e) in record {
         puts = record { answer = p.answer; answers = p.answers; office = p.office; writer = g.0 ∙ p.writer; ends = put_ok p.answer first p.ends no };
         fits = p.fits;
-        link = g.1.0;
-        roads_same = g.1.1.0;
-        moved = g.1.1.1 ∙ put_moved p.answer first p.ends no;
+        link = g.1;
+        roads_same = g.2;
+        moved = g.3 ∙ put_moved p.answer first p.ends no;
       }
 
   -- What is asked where nothing was heard.

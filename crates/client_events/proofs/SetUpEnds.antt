@@ -90,7 +90,6 @@ use Rattle.member_events.proofs.JoinEnds.{spelled_few}
 use Rattle.member_events.proofs.JoinWorld.{SentDown, sent_down}
 use Rattle.member_events.proofs.MemberLaws.{never}
 use Rattle.member_events.proofs.StepLaws.{last_of}
-use Rattle.member_events.proofs.TakeLaws.{both_nil}
 use Rattle.member_events.proofs.WorldLaws.{at_put, happened}
 use Rattle.member_events.specs.Joining.{AcceptsDial}
 use Rattle.client_events.specs.declared.faults.ClientFault.{ClientFault}
@@ -191,7 +190,7 @@ module _ {R I O D : Type 0} (r : roads.Ghosts R I O) (i : link_in.Ghosts I) (o :
       inr (record { setup = s; stamp = stamp; first = first; others = others; phase_is = h; members = is; how = dials_so r i o d s stamp first others x y held road road' does h is never k })
 
   pub goes_by : (p : Phase) (x y : WriterRecord) (held : Option (Link I O)) (road road' : R) (first does : Acted) → x.phase ≡ p → IsGiven p → (does ≡ acted.Memory → ⊥) → GoesOn r i o (is_stamped p) x y None held road road' first does → GoneOn x y held road road' does
-  goes_by (phase.Failed f) x y held road road' first does h ok never g = inl (inl (f, h), record { same = g.0; none = g.1.0; roads_same = g.1.1.0 })
+  goes_by (phase.Failed f) x y held road road' first does h ok never g = inl (inl (f, h), record { same = g.0; none = g.1; roads_same = g.2 })
   goes_by (phase.Stamped s stamp) x y held road road' first does h ok never g = by_members s stamp x.members x y held road road' does h refl never g
   goes_by other x y held road road' first does h ok never g = absurd ok
 

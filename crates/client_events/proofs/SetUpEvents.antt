@@ -91,7 +91,6 @@ use Rattle.member_events.proofs.JoinEnds.{spelled_few}
 use Rattle.member_events.proofs.JoinWorld.{SentDown, sent_down}
 use Rattle.member_events.proofs.MemberLaws.{never}
 use Rattle.member_events.proofs.StepLaws.{last_of}
-use Rattle.member_events.proofs.TakeLaws.{both_nil}
 use Rattle.member_events.proofs.WorldLaws.{at_put, happened}
 use Rattle.member_events.specs.Joining.{AcceptsDial}
 use Rattle.client_events.specs.declared.faults.ClientFault.{ClientFault}
@@ -117,6 +116,10 @@ use Rattle.member_events.proofs.FaultEvents.{rises_from}
 
 -- WHAT WAS LOOKED AT
 
+front_nil : {A : Type 0} (xs ys : List A) → xs ++ ys ≡ [] → xs ≡ []
+front_nil [] ys h = refl
+front_nil (x ∷ xs) ys h = cc
+
 quiet_received : (new : IncomingState) (held : Option Inbox) → IsOver responses false new held → coming new held ≡ Some no_inbox → new ≡ nothing_received
 quiet_received new None over h = absurd (none_inbox h)
   where
@@ -124,14 +127,11 @@ quiet_received new None over h = absurd (none_inbox h)
     none_inbox q = cc
 quiet_received new (Some inbox) over h =
     let bytes : (new.rest ++ new.unpushed) ++ inbox.bytes ≡ [] = ap (λ (q : Inbox). q.bytes) (same_inbox _ _ h) in
-    let rest = (both_nil new.rest new.unpushed (both_nil (new.rest ++ new.unpushed) inbox.bytes bytes).0).0 in
+    let rest = front_nil new.rest new.unpushed (front_nil (new.rest ++ new.unpushed) inbox.bytes bytes) in
     λ j. record { rest = rest j; unpushed = over.all j; refused = over.reads_on j }
   where
     same_inbox : (p q : Inbox) → Some p ≡ Some q → p ≡ q
     same_inbox p q e = cc
-
-with_received : IncomingState → HeardState
-with_received s = record { received = s; next = None }
 
 module _ {I O : Type 0} (i : link_in.Ghosts I) where
   -- Nothing came.

@@ -13,6 +13,7 @@ use Rattle.link_pieces.specs.Roads.{KeepsRoads, IsDialled, IsUnanswered}
 use Rattle.name_core.specs.declared.calls.OfficeAnswer.{OfficeAnswer}
 use Rattle.name_core.specs.declared.calls.OfficeAnswer.TheVariants as granted_as
 use Rattle.name_core.specs.declared.calls.OfficeCall.{OfficeCall}
+use Rattle.name_core.specs.declared.calls.Reopened.{Reopened}
 use Rattle.name_core.specs.declared.desks.Desk as desks
 use Rattle.name_core.specs.declared.faults.OfficeFault.{OfficeFault}
 use Rattle.name_core.specs.declared.faults.OfficeFault.TheVariants as office_fault
@@ -46,7 +47,7 @@ use Rattle.writer_core.specs.declared.phases.Waiting.{Waiting}
 use Rattle.writer_core.specs.declared.records.WriterRecord.{WriterRecord}
 use Rattle.writer_core.specs.Phases.{remedy_after, without}
 use Rattle.writer_core.specs.Requests.{request_for}
-use Rattle.writer_core.specs.Transitions.{Step, step, step_in, own_step, free_step, free_step_as, take_first, stamp_call, dial_step, dial_step_as, granted, granted_in, stamp_given, refused, asks, dialled, dialled_in, dropped, fail_named, ended, has_command_due}
+use Rattle.writer_core.specs.Transitions.{Step, step, step_in, own_step, free_step, free_step_as, take_first, stamp_call, dial_step, dial_step_as, granted, granted_in, stamp_given, begin_session, refused, asks, dialled, dialled_in, dropped, fail_named, ended, has_command_due}
 use Rattle.client_events.specs.Completing.{put_as, Puts}
 use Rattle.client_events.specs.SettingUp.{IsWanted, is_requested, is_unreached}
 use Rattle.client_events.proofs.AnswerLaws.{first_there, end_leaves}
@@ -77,9 +78,12 @@ IsGiven other = ⊥
 short_enough : (n : ℕ) → n ≤ MAX_APPEND_LENGTH → nat_le n MAX_APPEND_LENGTH ≡ true
 short_enough n h = grind (arith, nat_tests)
 
+reopened_phase : (x : WriterRecord) (r : Reopened) → r.length ≤ MAX_APPEND_LENGTH → (stamp_given x setup.Append (granted_as.Reopened r)).phase ≡ phase.Stamped setup.Append r.new
+reopened_phase x r few = ap (λ (q : Bool). (if q then record (begin_session x r.committed r.length) { phase = phase.Stamped setup.Append r.new } else x).phase) (short_enough r.length few)
+
 given_stamp : (x : WriterRecord) (s : Setup) (a : OfficeAnswer) → FitsCall (stamp_call x s) a → IsGiven (stamp_given x s a).phase
 given_stamp x setup.Create (granted_as.Stamp stamp) ok = tt
-given_stamp x setup.Append (granted_as.Reopened r) ok = subst (λ (q : Bool). IsGiven (if q then record x { phase = phase.Stamped setup.Append r.new } else x).phase) (sym (short_enough r.length ok)) tt
+given_stamp x setup.Append (granted_as.Reopened r) ok = subst IsGiven (sym (reopened_phase x r ok)) tt
 given_stamp x setup.AppendRecovery (granted_as.Stamp stamp) ok = tt
 given_stamp x setup.StreamRecovery (granted_as.Stamp stamp) ok = tt
 given_stamp x setup.CloseRecovery (granted_as.Stamp stamp) ok = tt
@@ -119,7 +123,7 @@ given_queue x setup.Append (granted_as.Stamp stamp) = same_queue x
 given_queue x setup.AppendRecovery (granted_as.Stamp stamp) = record { members = refl; due = refl }
 given_queue x setup.StreamRecovery (granted_as.Stamp stamp) = record { members = refl; due = refl }
 given_queue x setup.CloseRecovery (granted_as.Stamp stamp) = record { members = refl; due = refl }
-given_queue x setup.Append (granted_as.Reopened r) = if_queue (nat_le r.length MAX_APPEND_LENGTH) x _ x (record { members = refl; due = refl }) (same_queue x)
+given_queue x setup.Append (granted_as.Reopened r) = if_queue (nat_le r.length MAX_APPEND_LENGTH) x (record (begin_session x r.committed r.length) { phase = phase.Stamped setup.Append r.new }) x (record { members = refl; due = refl }) (same_queue x)
 given_queue x setup.Create (granted_as.Reopened r) = same_queue x
 given_queue x setup.AppendRecovery (granted_as.Reopened r) = same_queue x
 given_queue x setup.StreamRecovery (granted_as.Reopened r) = same_queue x
@@ -142,8 +146,7 @@ refusal_reached x s (Ok a) f h put ok failed = absurd (not_failed s a ok (sym (a
   where
     not_failed : (s : Setup) (a : OfficeAnswer) → FitsCall (stamp_call x s) a → (stamp_given x s a).phase ≡ phase.Failed f → ⊥
     not_failed setup.Create (granted_as.Stamp stamp) ok is = let k : phase.Stamped setup.Create stamp ≡ phase.Failed f = is in cc
-    not_failed setup.Append (granted_as.Reopened r) ok is =
-        let k : phase.Stamped setup.Append r.new ≡ phase.Failed f = subst (λ (q : Bool). (if q then record x { phase = phase.Stamped setup.Append r.new } else x).phase ≡ phase.Failed f) (short_enough r.length ok) is in cc
+    not_failed setup.Append (granted_as.Reopened r) ok is = let k : phase.Stamped setup.Append r.new ≡ phase.Failed f = sym (reopened_phase x r ok) ∙ is in cc
     not_failed setup.AppendRecovery (granted_as.Stamp stamp) ok is = let k : phase.Stamped setup.AppendRecovery stamp ≡ phase.Failed f = is in cc
     not_failed setup.StreamRecovery (granted_as.Stamp stamp) ok is = let k : phase.Stamped setup.StreamRecovery stamp ≡ phase.Failed f = is in cc
     not_failed setup.CloseRecovery (granted_as.Stamp stamp) ok is = let k : phase.Stamped setup.CloseRecovery stamp ≡ phase.Failed f = is in cc
@@ -257,8 +260,8 @@ module _ {R I O D : Type 0} (r : roads.Ghosts R I O) (i : link_in.Ghosts I) (o :
       → OpensAs r i o port opened_link road road' how → FollowsDial o (op_text op) x y opened_link held how does → HasDialled first op x y held road road' does
   opens_so first op port opened.Answered x y opened_link held road road' does is never opens follows =
       sends_so first op port opens.end x y held road road' does is opens.dialled never (subst (λ (l : Option (Link I O)). Sends o (op_text op) x y l held does) opens.is follows)
-  opens_so first op port opened.Unanswered x y opened_link held road road' does is never opens follows = inl (record { writer = follows.0; none = follows.1.0 ∙ opens.0; cause = inr (port, (is, opens.1)) })
-  opens_so first op port opened.Memory x y opened_link held road road' does is never opens follows = absurd (never follows.1.1)
+  opens_so first op port opened.Unanswered x y opened_link held road road' does is never opens follows = inl (record { writer = follows.0; none = follows.1 ∙ opens.0; cause = inr (port, (is, opens.1)) })
+  opens_so first op port opened.Memory x y opened_link held road road' does is never opens follows = absurd (never follows.2)
 
   reaches_so : (first : NodeId) (op : Op) (x y : WriterRecord) (held : Option (Link I O)) (road road' : R) (does : Acted) → (does ≡ acted.Memory → ⊥) → Reaches r i o first op x y None held road road' does → HasDialled first op x y held road road' does
   reaches_so first op x y held road road' does never (no_memory u) = absurd (never u.is)
@@ -295,7 +298,7 @@ module _ {R I O D : Type 0} (r : roads.Ghosts R I O) (i : link_in.Ghosts I) (o :
   stamp_asked s known x y held desk desk' road road' first does h never asked goes = by_asked (asks_by r i o d (stamp_call known s) known x desk desk' first (wanted_step known s h) asked)
     where
       wanting : x ≡ known → first ≡ acted.Memory → ⊥
-      wanting same memory = let g = goes_without x y held road road' first does (ap (λ (z : WriterRecord). is_stamped z.phase) same ∙ ap is_stamped h) goes in never (g.1.1.1 ∙ memory)
+      wanting same memory = let g = goes_without x y held road road' first does (ap (λ (z : WriterRecord). is_stamped z.phase) same ∙ ap is_stamped h) goes in never (g.3 ∙ memory)
 
       by_asked : ((x ≡ known) × (first ≡ acted.Memory)) ⊎ IsPut d (stamp_call known s) known x desk desk' first → StampAsked (stamp_call known s) known x desk desk'
       by_asked (inl u) = absurd (wanting u.0 u.1)

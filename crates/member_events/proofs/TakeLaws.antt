@@ -24,7 +24,7 @@ nil_of : {A : Type 0} (xs : List A) → length xs ≡ 0 → xs ≡ []
 nil_of [] h = refl
 nil_of (x ∷ xs) h = absurd (omega arith)
 
-pub both_nil : {A : Type 0} (xs ys : List A) → xs ++ ys ≡ [] → (xs ≡ []) × (ys ≡ [])
+both_nil : {A : Type 0} (xs ys : List A) → xs ++ ys ≡ [] → (xs ≡ []) × (ys ≡ [])
 both_nil [] ys h = (refl, h)
 both_nil (x ∷ xs) ys h = cc
 
