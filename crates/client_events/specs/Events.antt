@@ -37,7 +37,7 @@ use Rattle.pipe_recovery.specs.declared.rebuilding.Rebuild.{Rebuild}
 use Rattle.client_events.specs.Acting.{said_in}
 use Rattle.client_events.specs.Answering.{IsWaiting}
 use Rattle.client_events.specs.Faults.{IsCaused}
-use Rattle.client_events.specs.Showing.{ClientStands, ClientLeft, StayShown}
+use Rattle.client_events.specs.Showing.{ClientStands, ClientLeft, StayShown, PipeFits}
 
 -- How an event of the writer of a block ends: what is left shows the world after it, or a fault has its cause.
 abbrev pub EventEnds : {R I O : Type 0} → roads.Ghosts R I O → link_in.Ghosts I → link_out.Ghosts O → World → Net →
@@ -115,6 +115,13 @@ ActShows r i o known known' connection road road' result =
     ClientStands r i o w net block.0 office (w.writers block.0).known connection road →
     CanAct w block takes answered known connection
     → StepEnds r i o w net (happens w (own_event block takes answered)) block.0 office known' road road' result
+
+-- It leaves a connection that fits the writer, where it fitted before.
+abbrev pub FitsActed : {I O : Type 0} → WriterRecord → WriterRecord → Pipe I O → Result (Acted I O) ClientFault →
+    Type 0
+FitsActed known known' connection (Ok acted) =
+    KeepsSetup connection (own_step known) → PipeFits known.phase connection → PipeFits known'.phase acted.pipe
+FitsActed known known' connection (Err why) = Unit {0}
 
 -- COMPLETING
 
@@ -195,6 +202,13 @@ abbrev pub AskedEnds : {D R I O : Type 0} → desks.Ghosts D → roads.Ghosts R 
 AskedEnds d r i o w net v b known desk road road' (Ok left) =
     (d.office desk ≡ Some v.office) × StepLeft r i o w net v b v.office known left road'
 AskedEnds d r i o w net v b known desk road road' (Err why) = IsCaused r (w.writers b).conn road road' why
+
+-- The commit leaves a connection that fits the writer, where the setup did.
+abbrev pub FitsCommitted : {I O : Type 0} → WriterRecord → WriterRecord → Rebuild I O → Result (Acted I O) ClientFault →
+    Type 0
+FitsCommitted known known' setup (Ok acted) =
+    PipeFits known.phase (pipe.SettingUp setup) → PipeFits known'.phase acted.pipe
+FitsCommitted known known' setup (Err why) = Unit {0}
 
 abbrev pub CommitShows : {D R I O : Type 0} → desks.Ghosts D → roads.Ghosts R I O → link_in.Ghosts I →
     link_out.Ghosts O → WriterRecord → WriterRecord → Rebuild I O → D → D → R → R → Result (Acted I O) ClientFault →

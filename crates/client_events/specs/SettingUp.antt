@@ -15,6 +15,7 @@ use Rattle.pipe_recovery.specs.declared.links.Link.{Link}
 use Rattle.pipe_recovery.specs.declared.rebuilding.Rebuild.{Rebuild}
 use Rattle.pipe_recovery.specs.Exchanging.{ExchangesLink, BringsLink}
 use Rattle.road_traffic.specs.Showing.{Net}
+use Rattle.world.specs.Parts.{by_writer}
 use Rattle.world.specs.Worlds.{World}
 use Rattle.world_nets.specs.Nets.{IsEndOf}
 use Rattle.writer_core.specs.declared.phases.Failure.TheVariants as failure
@@ -30,7 +31,7 @@ use Rattle.client_events.specs.declared.pipes.Pipe.TheVariants as pipe
 use Rattle.client_events.specs.declared.setting_up.SetUp.{SetUp}
 use Rattle.client_events.specs.Events.{asked_world, SpellDown}
 use Rattle.client_events.specs.Faults.{IsRoadFault, IsCaused}
-use Rattle.client_events.specs.Showing.{ClientStands, ClientLeft}
+use Rattle.client_events.specs.Showing.{ClientStands, ClientLeft, PipeFits}
 
 -- WHERE THE WRITER IS
 
@@ -130,13 +131,17 @@ pub record SetUpLeft {D R I O : Type 0} (d : desks.Ghosts D) (r : roads.Ghosts R
   pub said : v.said b ≡ w.said b
   pub shows : ClientLeft r i o w net v b v.office known left road
 
--- So does the lower end of the new connection, where nothing was taken yet.
+-- So does the lower end of the new connection, where nothing was taken yet: the writer has dialled its first member.
 pub record FirstAsked {D R I O : Type 0} (d : desks.Ghosts D) (r : roads.Ghosts R I O) (i : link_in.Ghosts I)
     (o : link_out.Ghosts O) (w : World) (net : Net) (v : World) (b next : ℕ) (known : WriterRecord) (desk : D)
     (left : Pipe I O) (road : R) (at_end : Conn I O) : Type 0 where
   pub is_left : SetUpLeft d r i o w net v b known desk left road
   pub end_is : IsEndOf i o v is_left.shows.made next true at_end
   pub lower_same : v.lowers next ≡ w.lowers next
+  pub upper : (v.dialled next).upper ≡ by_writer b
+  pub member : NodeId
+  pub first : slice_get known.members 0 ≡ Some member
+  pub node : (v.dialled next).to.node ≡ member.0
 
 -- Which world it is: that in which the dial of the first member was answered; where none was made it is the same
 -- whether one would be answered or not.
@@ -162,3 +167,10 @@ SetUpShows d r i o next known known' setup desk desk' road road' result =
     ClientStands r i o w net block.0 w.office known (pipe.SettingUp setup) road →
     CanSetUp d w block next known desk
     → SetUpEnds d r i o w net block next.0 known' desk' road road' result
+
+-- It leaves a connection that fits the writer, where the setup did.
+abbrev pub FitsSetUp : {I O : Type 0} → WriterRecord → WriterRecord → Rebuild I O → Result (SetUp I O) ClientFault →
+    Type 0
+FitsSetUp known known' setup (Ok left) =
+    PipeFits known.phase (pipe.SettingUp setup) → PipeFits known'.phase left.pipe
+FitsSetUp known known' setup (Err why) = Unit {0}

@@ -3,7 +3,7 @@
 ghost use Rattle.std.specs.Prelude.{◌≡◌};
 ghost use Rattle.writer_core.specs.Transitions.{own_step};
 ghost use Rattle.client_events.specs.Acting.{said_by, IsStepped, AnswersIf};
-ghost use Rattle.client_events.specs.Events.{ActShows};
+ghost use Rattle.client_events.specs.Events.{ActShows, FitsActed};
 ghost use Rattle.client_events.specs.Showing.{PipeIsKnown};
 
 use crate::faults::ClientFault;
@@ -39,7 +39,8 @@ pub fn act<I: LinkIn, O: LinkOut, R: Roads<Inward = I, Outward = O>>(
     pipe: Pipe<I, O>,
 ) -> Result<Acted<I, O>, ClientFault>
     requires { PipeIsKnown (R.plain roads.old) pipe }
-    ensures { ActShows R.Roads I.LinkIn O.LinkOut writer.old writer.new pipe roads.old roads.new result }
+    ensures shows { ActShows R.Roads I.LinkIn O.LinkOut writer.old writer.new pipe roads.old roads.new result }
+    ensures fits { FitsActed writer.old writer.new pipe result }
 {
     let action = stepped(writer)?;
     let connected = writer.connected();

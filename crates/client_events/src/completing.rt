@@ -1,9 +1,10 @@
 //! The completion of a block by its writer.
 
-ghost use Rattle.std.specs.Prelude.{◌≡◌};
+ghost use Rattle.std.specs.Prelude.{◌≡◌, false};
 ghost use Rattle.client_events.specs.Acting.{AnswersIf};
 ghost use Rattle.client_events.specs.Completing.{put_as, Puts, is_completed};
 ghost use Rattle.client_events.specs.Events.{CompleteShows};
+ghost use Rattle.client_events.specs.Showing.{awaits};
 
 use crate::acting::{Said, answer_if, said_by, stepped};
 use crate::faults::ClientFault;
@@ -13,7 +14,8 @@ use writer_core::{Action, Phase, Writer};
 /// A writer whose packets are all acked asks the office to complete its block, and answers the close once it is
 /// completed.
 pub fn complete<D: Desk>(office: &mut D, writer: &mut Writer) -> Result<Option<Said>, ClientFault>
-    ensures { CompleteShows D.Desk writer.old writer.new office.old office.new result }
+    ensures shows { CompleteShows D.Desk writer.old writer.new office.old office.new result }
+    ensures fits { awaits writer.old.phase ≡ false → awaits writer.new.phase ≡ false }
 {
     match stepped(writer)? {
         Action::Ask(call) => {

@@ -14,6 +14,7 @@ ghost use Rattle.client_events.specs.SettingUp.{
   Accepts,
   Meets,
   SetUpShows,
+  FitsSetUp,
 };
 
 use crate::answering::piped;
@@ -48,8 +49,9 @@ pub fn set_up<D: Desk, I: LinkIn, O: LinkOut, R: Roads<Inward = I, Outward = O>>
     requires wanted { IsWanted writer.old.phase }
     requires fits { fits_in writer.old.phase (is_some setup.link) ≡ true }
     requires known { LinkIsKnown (R.plain roads.old) setup.link }
-    ensures { SetUpShows D.Desk R.Roads I.LinkIn O.LinkOut next writer.old writer.new setup
+    ensures shows { SetUpShows D.Desk R.Roads I.LinkIn O.LinkOut next writer.old writer.new setup
         office.old office.new roads.old roads.new result }
+    ensures fits { FitsSetUp writer.old writer.new setup result }
 {
     let mut setup = setup;
     let step = setup.step(alloc, writer, office, roads);

@@ -10,7 +10,7 @@ use Rattle.hd_base.specs.declared.roads.Roads as roads
 use Rattle.name_core.specs.declared.desks.Desk as desks
 use Rattle.pipe_recovery.specs.declared.links.Link.{Link}
 use Rattle.pipe_recovery.specs.declared.rebuilding.Rebuild.{Rebuild}
-use Rattle.pipe_recovery.specs.Steps.{fits_accepted}
+use Rattle.pipe_recovery.specs.Steps.{fits_accepted, fits_in, is_stamped}
 use Rattle.road_traffic.specs.Showing.{Net}
 use Rattle.link_messages.specs.Incomings.{IncomingState}
 use Rattle.world.specs.declared.events.Event.TheVariants as event
@@ -133,6 +133,15 @@ free_so : (p : Phase) → awaits p ≡ false → is_requested p ≡ false
 free_so (phase.Requested s stamp) h = cc
 free_so p h = refl
 
+-- A setup that has the connection is one on which the writer waits.
+pub waits_on : (p : Phase) (linked : Bool) → fits_in p linked ≡ true → is_stamped p ≡ false → linked ≡ true → awaits p ≡ true
+waits_on (phase.Wanted s) true f k e = cc
+waits_on (phase.Stamped s stamp) linked f k e = cc
+waits_on (phase.Requested s stamp) linked f k e = refl
+waits_on (phase.Accepted s stamp) true f k e = f
+waits_on p false f k e = cc
+waits_on p true f k e = cc
+
 waits_so : (p : Phase) → IsUncommitted p → awaits p ≡ true → (awaits_answer p ≡ true) × ((is_requested p ≡ true) × IsWaiting p)
 waits_so (phase.Requested s stamp) u h = (refl, (refl, tt))
 waits_so (phase.Accepted s stamp) u h = absurd u
@@ -215,7 +224,7 @@ module _ {D R I O : Type 0} (d : desks.Ghosts D) (r : roads.Ghosts R I O) (i : l
       conn_same a b e = ap (λ (n : ℕ). record { 0 = n }) e
   pipe_ends w net queues conn b known known' (pipe.SettingUp setup) road road' result stands fits lawful at upper un hears =
       let held : is_some setup.link ≡ true = linked i o w net (w.writers b).conn conn.0 setup.link at.conn stands.pipe_is in
-      let waits = waits_so known.phase un (sym fits ∙ held) in
+      let waits = waits_so known.phase un (waits_on known.phase (is_some setup.link) fits.0 fits.1 held) in
       let test : (awaits_answer known.phase && is_some setup.link) ≡ true = both_of (awaits_answer known.phase) (is_some setup.link) waits.0 held in
       let does = subst (λ (q : Bool). SetupHearsIf r i o q known known' setup road road' result) test hears in
       let asked : is_requested (w.writers b).known.phase ≡ true = ap (λ (x : WriterRecord). is_requested x.phase) (sym stands.writer) ∙ waits.1.0 in

@@ -1,3 +1,5 @@
 pub mod CourseLaws
 pub mod PartLaws
 pub mod HearLaws
+pub mod OwnLaws
+pub mod TakeLaws

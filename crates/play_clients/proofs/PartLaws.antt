@@ -1,5 +1,5 @@
 -- The parts of an own step, where there is a writer.
-use Rattle.std.proofs.Common.{◌≡◌, Bool, true, false, List, slice_get, Option, Some, None, Result, Ok, Err, refl, sym, ap, ◌∙◌, subst, ◌⊎◌, inl, inr}
+use Rattle.std.proofs.Common.{◌≡◌, Bool, true, false, List, slice_get, Option, Some, None, Result, Ok, Err, refl, sym, ap, ◌∙◌, subst, ◌⊎◌, inl, inr, append-nil}
 use Rattle.std.specs.Prelude.{is_some, drop}
 use Rattle.hd_base.specs.declared.numbers.ConnId.{ConnId}
 use Rattle.hd_base.specs.declared.links.LinkIn as link_in
@@ -18,6 +18,7 @@ use Rattle.client_events.specs.declared.pipes.Pipe.{Pipe}
 use Rattle.client_events.specs.declared.pipes.Pipe.TheVariants as pipe
 use Rattle.client_events.specs.declared.setting_up.SetUp.{SetUp}
 use Rattle.client_events.specs.Events as events
+use Rattle.client_events.specs.Showing.{awaits}
 use Rattle.play_clients.specs.declared.clients.Client.{Client}
 use Rattle.play_clients.specs.declared.clients.First.{First}
 use Rattle.play_clients.specs.Owning.{IsWith, Keeps, FollowsActed, ActsIf, Acts, Gives, taken_of, TakesIf, Takes, Answers, FollowsSaid, CompletesIf, Completes, setup_of, CommitsBy, CommitsFitting, CommitsIf, Commits, first_of, FollowsSetUp, SetsUpBy, SetsUpFitting, SetsUpIf, SetsUp}
@@ -63,10 +64,10 @@ module _ {I O : Type 0} where
   said_follows old mid new known said (Err why) block rule queue answers pipe writer h = h
 
 module _ {R I O : Type 0} (r : roads.Ghosts R I O) (i : link_in.Ghosts I) (o : link_out.Ghosts O) where
-  pub acts_so : (old new : Client I O) (known after : WriterRecord) (acted : Result (Acted I O) ClientFault) (road road' : R) (result : Result (Unit {0}) ClientFault) → old.writer ≡ Some known → events.ActShows r i o known after old.pipe road road' acted → FollowsActed old new after acted result
+  pub acts_so : (old new : Client I O) (known after : WriterRecord) (acted : Result (Acted I O) ClientFault) (road road' : R) (result : Result (Unit {0}) ClientFault) → old.writer ≡ Some known → events.ActShows r i o known after old.pipe road road' acted → events.FitsActed known after old.pipe acted → FollowsActed old new after acted result
       → Acts r i o old new road road' result
-  acts_so old new known after acted road road' result is shows follows =
-      subst (λ (x : Option WriterRecord). ActsIf r i o x old new road road' result) (sym is) (record { after = after; acted = acted; shows = shows; follows = follows })
+  acts_so old new known after acted road road' result is shows fits follows =
+      subst (λ (x : Option WriterRecord). ActsIf r i o x old new road road' result) (sym is) (record { after = after; acted = acted; shows = shows; fits = fits; follows = follows })
 
   pub takes_so : (old popped middle new : Client I O) (t : TakenCommand) (road road' : R) (acted : Result (Unit {0}) ClientFault) (result : Result (Option TakenCommand) ClientFault) → popped ≡ record old { queue = popped.queue } → slice_get old.queue.items 0 ≡ Some t
       → popped.queue.items ≡ drop 1 old.queue.items → Gives popped middle t (Ok tt) → Acts r i o middle new road road' acted → result ≡ taken_of t acted → Takes r i o old new road road' result
@@ -75,10 +76,10 @@ module _ {R I O : Type 0} (r : roads.Ghosts R I O) (i : link_in.Ghosts I) (o : l
       (inr (record { popped = popped; middle = middle; acted = acted; same = same; queue = rest; gives = gives; acts = acts; ends = ends }))
 
 module _ {D I O : Type 0} (d : desks.Ghosts D) where
-  pub completes_so : (old new : Client I O) (known after : WriterRecord) (said : Result (Option Said) ClientFault) (desk desk' : D) (result : Result (Unit {0}) ClientFault) → old.writer ≡ Some known → events.CompleteShows d known after desk desk' said → FollowsSaid old new after said result
+  pub completes_so : (old new : Client I O) (known after : WriterRecord) (said : Result (Option Said) ClientFault) (desk desk' : D) (result : Result (Unit {0}) ClientFault) → old.writer ≡ Some known → events.CompleteShows d known after desk desk' said → (awaits known.phase ≡ false → awaits after.phase ≡ false) → FollowsSaid old new after said result
       → Completes d old new desk desk' result
-  completes_so old new known after said desk desk' result is shows follows =
-      subst (λ (x : Option WriterRecord). CompletesIf d x old new desk desk' result) (sym is) (record { after = after; said = said; shows = shows; follows = follows })
+  completes_so old new known after said desk desk' result is shows fits follows =
+      subst (λ (x : Option WriterRecord). CompletesIf d x old new desk desk' result) (sym is) (record { after = after; said = said; shows = shows; fits = fits; follows = follows })
 
 module _ {D R I O : Type 0} (d : desks.Ghosts D) (r : roads.Ghosts R I O) (i : link_in.Ghosts I) (o : link_out.Ghosts O) where
   commits_at : (q : Bool) (known : WriterRecord) (setup : Rebuild I O) (old new : Client I O) (desk desk' : D) (road road' : R) (result : Result (Unit {0}) ClientFault) → CommitsBy d r i o known setup old new desk desk' road road' result

@@ -115,9 +115,10 @@ pub record CanHaveCommitted (w : World) (b : ℕ) : Type 0 where
   pub untaken : IfSome (w.writers b).conn (λ c. is_over w c false ≡ false)
 
 -- Where it asks the first member: the member's node runs, and has a port. The request is spelled as it is written
--- (messages_are_written).
+-- (messages_are_written). Nothing was taken on the next connection (only_dialled_connections_carry).
 pub record CanAskFirst (w : World) (block : BlockId) (next : ConnId) : Type 0 where
   pub next_is : next.0 ≡ w.next_conn
+  pub undialled : w.lowers next.0 ≡ idle
   pub no_command : has_command_due (w.writers block.0).known ≡ false
   pub runs : IfSome (slice_get (w.writers block.0).known.members 0) (λ first. w.running first.0 ≡ true)
   pub has_port : IfSome (slice_get (w.writers block.0).known.members 0) (λ first. FIRST_PORT + first.0 ≤ MAX_PORT)
@@ -127,12 +128,14 @@ abbrev pub CanOwnAs : {I O : Type 0} → Course → World → Client I O → Con
 CanOwnAs course.Takes w c next = IfSome (slice_get c.queue.items 0) (CanTake w c)
 CanOwnAs course.SetsUp w c next = CanAskFirst w c.block next
 CanOwnAs course.Commits w c next = CanHaveCommitted w c.block.0
-CanOwnAs course.Completes w c next = (w.writers c.block.0).conn ≡ None
+CanOwnAs course.Completes w c next = Unit {0}
 CanOwnAs course.Acts w c next = CanActAlone w c
 
--- What is asked of the world for the writer's own step, as that is.
-abbrev pub CanOwn : {I O : Type 0} → World → Client I O → ConnId → Type 0
-CanOwn w c next = CanOwnAs (course_of (known_of c.block c.writer)) w c next
+-- What is asked of the world for the writer's own step, as that is. A writer that isn't connected has no connection
+-- (writers_rest).
+pub record CanOwn {I O : Type 0} (w : World) (c : Client I O) (next : ConnId) : Type 0 where
+  pub rests : is_connected (w.writers c.block.0).known.phase ≡ false → (w.writers c.block.0).conn ≡ None
+  pub does : CanOwnAs (course_of (known_of c.block c.writer)) w c next
 
 -- the events of an own step
 abbrev pub owned_events : {I O : Type 0} → BlockId → Owned I O → List Event

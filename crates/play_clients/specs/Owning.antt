@@ -23,6 +23,7 @@ use Rattle.client_events.specs.declared.pipes.Pipe.TheVariants as pipe
 use Rattle.client_events.specs.declared.setting_up.SetUp.{SetUp}
 use Rattle.client_events.specs.Events as events
 use Rattle.client_events.specs.SettingUp as setting_up
+use Rattle.client_events.specs.Showing.{awaits}
 use Rattle.play_clients.specs.declared.clients.Client.{Client}
 use Rattle.play_clients.specs.declared.clients.First.{First}
 
@@ -69,7 +70,7 @@ pub record ActsBy {R I O : Type 0} (r : roads.Ghosts R I O) (i : link_in.Ghosts 
     pub after : WriterRecord
     pub acted : Result (Acted I O) ClientFault
     pub shows : events.ActShows r i o known after old.pipe road road' acted
-    pub fits : FitsActed known after old.pipe acted
+    pub fits : events.FitsActed known after old.pipe acted
     pub follows : FollowsActed old new after acted result
 
 -- It did, where there is one.
@@ -152,6 +153,7 @@ pub record CompletesBy {D I O : Type 0} (d : desks.Ghosts D) (known : WriterReco
   pub after : WriterRecord
   pub said : Result (Option Said) ClientFault
   pub shows : events.CompleteShows d known after desk desk' said
+  pub fits : awaits known.phase ≡ false → awaits after.phase ≡ false
   pub follows : FollowsSaid old new after said result
 
 abbrev pub CompletesIf : {D I O : Type 0} → desks.Ghosts D → Option WriterRecord → Client I O → Client I O → D → D →
@@ -183,7 +185,7 @@ pub record CommitsBy {D R I O : Type 0} (d : desks.Ghosts D) (r : roads.Ghosts R
   pub after : WriterRecord
   pub acted : Result (Acted I O) ClientFault
   pub shows : events.CommitShows d r i o known after setup desk desk' road road' acted
-  pub fits : FitsCommitted known after setup acted
+  pub fits : events.FitsCommitted known after setup acted
   pub follows : FollowsActed old new after acted result
 
 -- Nothing is done where a setup doesn't fit the writer.
@@ -230,7 +232,7 @@ pub record SetsUpBy {D R I O : Type 0} (d : desks.Ghosts D) (r : roads.Ghosts R 
   pub after : WriterRecord
   pub left : Result (SetUp I O) ClientFault
   pub shows : setting_up.SetUpShows d r i o next known after setup desk desk' road road' left
-  pub fits : FitsSetUp known after setup left
+  pub fits : setting_up.FitsSetUp known after setup left
   pub follows : FollowsSetUp old new after left result
 
 abbrev pub SetsUpFitting : {D R I O : Type 0} → desks.Ghosts D → roads.Ghosts R I O → link_in.Ghosts I →

@@ -13,6 +13,7 @@ returns g c =
     (sym kept.writer ∙ c.in-Some-writer.is) (sym c.take_setup.ensures.is ∙ c.in-Some.is) (record {
       after = c.commit.new.writer;
       acted = Ok c.in_ok-acted.acted;
-      shows = c.in_ok-acted.ensures;
+      shows = c.in_ok-acted.ensures.shows;
+      fits = c.in_ok-acted.ensures.fits;
       follows = kept_follows x _ c.keep.new.self c.commit.new.writer c.in_ok-acted.acted c.keep.result kept.block kept.rule kept.queue kept.said refl c.keep.ensures;
     })

@@ -12,6 +12,7 @@ returns g c =
     (sym kept.writer ∙ c.in-Some-writer.is) (sym c.take_setup.ensures.is ∙ c.in-Some.is) (record {
       after = c.set_up.new.writer;
       left = Ok c.in_ok-left.left;
-      shows = c.in_ok-left.ensures;
-      follows = set_up_follows x mid _ c.set_up.new.writer c.in_ok-left.left _ kept refl ?;
+      shows = c.in_ok-left.ensures.shows;
+      fits = c.in_ok-left.ensures.fits;
+      follows = set_up_follows x mid _ c.set_up.new.writer c.in_ok-left.left _ kept refl (search rules);
     })
