@@ -126,7 +126,7 @@ refused_unstamped x office_fault.Memory h = h
 refused_unstamped x (office_fault.LeaseLost recovery) h = refl
 refused_unstamped x other h = refl
 
-told_unstamped : (x : WriterRecord) (s : Setup) (stamp : Stamp) (linked : Bool) (told : Told) → x.phase ≡ phase.Accepted s stamp → fits_accepted s linked ≡ true → IfOk told (FitsCall (commit_call x stamp)) → is_stamped (granted x told).phase ≡ false
+pub told_unstamped : (x : WriterRecord) (s : Setup) (stamp : Stamp) (linked : Bool) (told : Told) → x.phase ≡ phase.Accepted s stamp → fits_accepted s linked ≡ true → IfOk told (FitsCall (commit_call x stamp)) → is_stamped (granted x told).phase ≡ false
 unfolding granted
 told_unstamped x s stamp linked (Ok a) h fits ok =
     subst (λ (p : Phase). is_stamped (granted_in x p a).phase ≡ false) (sym h) (not_stamped (commit_given x s stamp a).phase linked (given_commit x s stamp linked a fits ok))

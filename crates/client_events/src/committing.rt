@@ -1,10 +1,11 @@
 //! The commit of a stamp by the writer of a block.
 
-ghost use Rattle.std.specs.Prelude.{◌≡◌, true, is_some};
+ghost use Rattle.std.specs.Prelude.{◌≡◌, ◌≤◌, true, IfOk, is_some};
 ghost use Rattle.pipe_recovery.specs.Dialling.{LinkIsKnown};
 ghost use Rattle.pipe_recovery.specs.Steps.{fits_in};
 ghost use Rattle.client_events.specs.Committing.{IsAccepted, is_opened, IsReadOff};
 ghost use Rattle.client_events.specs.Events.{CommitShows};
+ghost use Rattle.client_events.specs.Showing.{PipeIsKnown};
 
 use crate::acting::{Acted, answer_if};
 use crate::answering::{is_risen, piped};
@@ -29,8 +30,10 @@ pub fn commit<D: Desk, I: LinkIn, O: LinkOut, R: Roads<Inward = I, Outward = O>>
     requires accepted { IsAccepted writer.old.phase }
     requires fits { fits_in writer.old.phase (is_some setup.link) ≡ true }
     requires known { LinkIsKnown (R.plain roads.old) setup.link }
-    ensures { CommitShows D.Desk R.Roads I.LinkIn O.LinkOut writer.old writer.new setup
+    ensures shows { CommitShows D.Desk R.Roads I.LinkIn O.LinkOut writer.old writer.new setup
         office.old office.new roads.old roads.new result }
+    ensures counts { R.faults roads.old ≤ R.faults roads.new }
+    ensures known { IfOk result (λ left. PipeIsKnown (R.plain roads.new) left.pipe) }
 {
     let conn = setup.conn();
     let mut setup = setup;
