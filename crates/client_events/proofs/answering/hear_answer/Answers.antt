@@ -1,5 +1,5 @@
 -- A step of the setup took what stood next, and what followed.
-use Rattle.std.proofs.Common.{sym, ap, ◌∙◌}
+use Rattle.std.proofs.Common.{true, sym, ap, ◌∙◌}
 use Rattle.client_events.specs.Answering.{is_risen}
 use Rattle.client_events.proofs.AnswerEnds.{answer_shows, answer_risen, answer_office}
 use Rattle.client_events.proofs.PassLaws.{waits_asked, ok_known, pass_on, step_pass, piped_known}
