@@ -48,6 +48,7 @@ use Rattle.member_events.proofs.FaultEvents.{same_count}
 use Rattle.member_events.proofs.StepLaws.{last_of}
 use Rattle.member_events.proofs.WorldLaws.{at_put, happened}
 use Rattle.client_events.specs.declared.acting.Acted.{Acted}
+use Rattle.member_events.specs.Joining.{SpellDown}
 use Rattle.client_events.specs.declared.faults.ClientFault.{ClientFault}
 use Rattle.client_events.specs.declared.faults.ClientFault.TheVariants as fault
 use Rattle.client_events.specs.declared.pipes.Pipe.{Pipe}
@@ -55,7 +56,7 @@ use Rattle.client_events.specs.declared.pipes.Pipe.TheVariants as pipe
 use Rattle.client_events.specs.declared.sending.Sending.{Sending}
 use Rattle.client_events.specs.declared.sending.Sending.TheVariants as sending
 use Rattle.client_events.specs.Acting.{said_by, said_in}
-use Rattle.client_events.specs.Events.{given_to, own_event, SpellDown, KeepsSetup, CanAct, StepLeft, ActShows}
+use Rattle.client_events.specs.Events.{given_to, own_event, KeepsSetup, CanAct, StepLeft, ActShows}
 use Rattle.client_events.specs.Faults.{IsCaused, HasRisen}
 use Rattle.client_events.specs.Sending.{SendsPacket, SendsAction, FollowsSending, IsStreamed, IsFollowed}
 use Rattle.client_events.specs.Showing.{PipeShows, LinkShows, ClientStands, ClientLeft}

@@ -126,7 +126,7 @@ refused_unstamped x office_fault.Memory h = h
 refused_unstamped x (office_fault.LeaseLost recovery) h = refl
 refused_unstamped x other h = refl
 
-told_unstamped : (x : WriterRecord) (s : Setup) (stamp : Stamp) (linked : Bool) (told : Told) → x.phase ≡ phase.Accepted s stamp → fits_accepted s linked ≡ true → IfOk told (FitsCall (commit_call x stamp)) → is_stamped (granted x told).phase ≡ false
+pub told_unstamped : (x : WriterRecord) (s : Setup) (stamp : Stamp) (linked : Bool) (told : Told) → x.phase ≡ phase.Accepted s stamp → fits_accepted s linked ≡ true → IfOk told (FitsCall (commit_call x stamp)) → is_stamped (granted x told).phase ≡ false
 unfolding granted
 told_unstamped x s stamp linked (Ok a) h fits ok =
     subst (λ (p : Phase). is_stamped (granted_in x p a).phase ≡ false) (sym h) (not_stamped (commit_given x s stamp a).phase linked (given_commit x s stamp linked a fits ok))
@@ -231,7 +231,7 @@ module _ {R I O D : Type 0} (r : roads.Ghosts R I O) (i : link_in.Ghosts I) (o :
   asks_by c x answered desk desk' first own (inl u) = inl (u.writer, u.is)
   asks_by c x answered desk desk' first own (inr p) = inr (subst (λ (s : Step). AsksBy d s.action s.writer answered desk desk' first) own p)
 
-  goes_not : (answered known' : WriterRecord) (held held' : Option (Link I O)) (road road' : R) (first does : Acted) → is_stamped answered.phase ≡ false → GoesOn r i o (is_stamped answered.phase) answered known' held held' road road' first does → GoesOn r i o false answered known' held held' road road' first does
+  pub goes_not : (answered known' : WriterRecord) (held held' : Option (Link I O)) (road road' : R) (first does : Acted) → is_stamped answered.phase ≡ false → GoesOn r i o (is_stamped answered.phase) answered known' held held' road road' first does → GoesOn r i o false answered known' held held' road road' first does
   goes_not answered known' held held' road road' first does is g = subst (λ (q : Bool). GoesOn r i o q answered known' held held' road road' first does) is g
 
   asked_as_put : (s : Setup) (stamp : Stamp) (linked : Bool) (known answered known' : WriterRecord) (held held' : Option (Link I O)) (desk desk' : D) (road road' : R) (first does : Acted) → known.phase ≡ phase.Accepted s stamp → fits_accepted s linked ≡ true → (does ≡ acted.Memory → ⊥)

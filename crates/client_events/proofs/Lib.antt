@@ -1,6 +1,7 @@
 pub mod SettleLaws
 pub mod HearLaws
 pub mod ActLaws
+pub mod PassLaws
 pub mod CompleteLaws
 pub mod AnswerLaws
 pub mod AnswerEnds

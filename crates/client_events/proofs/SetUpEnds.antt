@@ -200,9 +200,9 @@ module _ {R I O D : Type 0} (r : roads.Ghosts R I O) (i : link_in.Ghosts I) (o :
   settle_none false held kept road road' none s = let t = subst (λ (l : Option (Link I O)). SettlesTold r i o false l kept road road' false) none s in (t.settles.0, t.settles.1)
 
   pub reports_at : (does : Acted) (y : WriterRecord) (kept link' : Option (Link I O)) (ends : RebuildStep I O) → (does ≡ acted.Memory → ⊥) → Reports i does y kept link' ends → ReportsAt i y.phase y kept link' ends
-  reports_at acted.Moved y kept link' ends no h = h
-  reports_at acted.Idle y kept link' ends no h = h
-  reports_at acted.Memory y kept link' ends no h = absurd (no refl)
+  reports_at acted.Moved y kept link' ends some h = h
+  reports_at acted.Idle y kept link' ends some h = h
+  reports_at acted.Memory y kept link' ends none h = absurd (none refl)
 
   -- A link that failed when the request was sent is one whose count had risen.
   pub lost_risen : (net : Net) (port : ℕ) (x y : WriterRecord) (fresh : Conn I O) (link : Link I O) (half : O) (text : List ℕ) (why : LinkError) (kept : Option (Link I O)) (s : Setup) (stamp : Stamp) (road middle road' : R) → RoadsAt r net road → IsDialled r i o port road middle fresh → KeepsInward fresh link.end

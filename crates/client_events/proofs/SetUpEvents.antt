@@ -221,15 +221,15 @@ module _ {R I O D : Type 0} (r : roads.Ghosts R I O) (i : link_in.Ghosts I) (o :
     gone : GoneOn r i o d x y held road middle does
 
   never_by : (does : Acted) (kept : Option (Link I O)) → Reports i does y kept setup'.link ends → (ends ≡ step.Ended rebuilt.Memory → ⊥) → does ≡ acted.Memory → ⊥
-  never_by does kept reports no same = let m : EndsAs kept setup'.link (step.Ended rebuilt.Memory) ends = subst (λ (q : Acted). Reports i q y kept setup'.link ends) same reports in no m.1
+  never_by does kept reports none same = let m : EndsAs kept setup'.link (step.Ended rebuilt.Memory) ends = subst (λ (q : Acted). Reports i q y kept setup'.link ends) same reports in none m.1
 
   begun : (s : Setup) (held : Option (Link I O)) (middle : R) (does : Acted) → known.phase ≡ phase.Wanted s → setup.link ≡ None → Acts d r i o known.phase known y setup.link held desk desk' road middle does → (does ≡ acted.Memory → ⊥) → Begun s held middle does
-  begun s held middle does h none acts no =
+  begun s held middle does h none acts some =
       let at_none : Acts d r i o known.phase known y None held desk desk' road middle does = subst (λ (l : Option (Link I O)). Acts d r i o known.phase known y l held desk desk' road middle does) none acts in
       let g : AsksAndDials d r i o known y None held desk desk' road middle does = subst (λ (p : Phase). Acts d r i o p known y None held desk desk' road middle does) h at_none in
-      let a = stamp_asked r i o d s known g.answered y held desk desk' road middle g.first does h no g.asks g.goes_on in
+      let a = stamp_asked r i o d s known g.answered y held desk desk' road middle g.first does h some g.asks g.goes_on in
       let given : IsGiven g.answered.phase = subst (λ (q : WriterRecord). IsGiven q.phase) (sym a.puts.writer) (after_stamp known s a.puts.answer h (sym a.puts.ends) a.fits) in
-      record { x = g.answered; asks = a; gone = goes_by r i o d g.answered.phase g.answered y held road middle g.first does refl given no g.goes_on }
+      record { x = g.answered; asks = a; gone = goes_by r i o d g.answered.phase g.answered y held road middle g.first does refl given some g.goes_on }
 
   module _ (w : World) (net : Net) (block : BlockId) (stands : ClientStands r i o w net block.0 w.office known (pipe.SettingUp setup) road) (can : CanSetUp d w block next known desk) (s : Setup) (wants : known.phase ≡ phase.Wanted s) (unlinked : setup.link ≡ None)
       (x : WriterRecord) (asks : StampAsked r i o d (stamp_call known s) known x desk desk') (held kept : Option (Link I O)) (middle : R) (does : Acted) (settles : SettlesTold r i o (keeps_link y.phase) held kept middle road' false)

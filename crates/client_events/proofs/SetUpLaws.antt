@@ -1,5 +1,5 @@
 -- A writer that wants a pipeline: what it asks of the office, and how its first member is dialled.
-use Rattle.std.proofs.Common.{◌≡◌, ◌≢◌, ◌≤◌, ◌+◌, inl, inr, ◌⊎◌, ℕ, not, Bool, true, false, if◌then◌else◌, List, [], ◌∷◌, slice_get, is_some, is_none, option_map, Option, Some, None, IfOk, Result, Ok, Err, refl, sym, ap, ◌∙◌, subst, arith}
+use Rattle.std.proofs.Common.{◌≡◌, ◌≢◌, ◌≤◌, ◌+◌, inl, inr, ◌⊎◌, ℕ, not, Bool, true, false, if◌then◌else◌, List, [], ◌∷◌, length, slice_get, is_some, is_none, option_map, Option, Some, None, IfOk, Result, Ok, Err, refl, sym, ap, ◌∙◌, subst, arith}
 use Rattle.std.proofs.lemmas.Bool.Decides.{nat_tests}
 use Rattle.std.specs.Prelude.{◌&&◌, nat_le}
 use Rattle.hd_base.specs.declared.ends.Conn.{Conn}
@@ -216,7 +216,7 @@ no_own_step x s stamp h due = subst (λ (p : Phase). not (is_wait (step_in x p).
 
 -- HOW IT ENDED
 
-some_members : (x : WriterRecord) (first : NodeId) (others : List NodeId) → x.members ≡ first ∷ others → x.members ≢ []
+pub some_members : (x : WriterRecord) (first : NodeId) (others : List NodeId) → x.members ≡ first ∷ others → x.members ≢ []
 some_members x first others h none = let e : first ∷ others ≡ [] = sym h ∙ none in cc
 
 module _ {R I O D : Type 0} (r : roads.Ghosts R I O) (i : link_in.Ghosts I) (o : link_out.Ghosts O) (d : desks.Ghosts D) where

@@ -1,5 +1,5 @@
 -- What the events of a writer make of roads, connection and writer that show a world: what shows the world after the event.
-use Rattle.std.specs.Prelude.{◌≡◌, ◌≢◌, ℕ, Bool, true, false, List, [], ◌++◌, Option, Some, None, IfSome, slice_get, Result, Ok, Err}
+use Rattle.std.specs.Prelude.{◌≡◌, ◌≢◌, ℕ, Bool, true, false, List, [], ◌++◌, Option, Some, None, IfSome, Result, Ok, Err}
 use Rattle.hd_base.specs.declared.numbers.BlockId.{BlockId}
 use Rattle.hd_base.specs.declared.ends.Conn.{Conn}
 use Rattle.hd_base.specs.declared.numbers.ConnId.{ConnId}
@@ -15,7 +15,7 @@ use Rattle.world.specs.declared.events.Event.{Event}
 use Rattle.world.specs.declared.events.Event.TheVariants as event
 use Rattle.world.specs.declared.events.OwnStep.TheVariants as own
 use Rattle.world.specs.declared.events.TakenCommand.{TakenCommand}
-use Rattle.world.specs.Parts.{Message, ack, response, by_writer}
+use Rattle.world.specs.Parts.{ack, response, by_writer}
 use Rattle.world.specs.Clients.{ruled}
 use Rattle.world.specs.Worlds.{World}
 use Rattle.world.specs.Connections.{Next, message, the_end}
@@ -27,6 +27,7 @@ use Rattle.writer_core.specs.declared.phases.Phase.TheVariants as phase
 use Rattle.writer_core.specs.declared.records.WriterRecord.{WriterRecord}
 use Rattle.writer_core.specs.Transitions.{Step, given, own_step, is_connected}
 use Rattle.world_texts.specs.Texts.{SpellsText}
+use Rattle.member_events.specs.Joining.{SpellDown}
 use Rattle.client_events.specs.declared.acting.Acted.{Acted}
 use Rattle.client_events.specs.declared.acting.Said.{Said}
 use Rattle.client_events.specs.declared.faults.ClientFault.{ClientFault}
@@ -44,10 +45,6 @@ abbrev pub EventEnds : {R I O : Type 0} → roads.Ghosts R I O → link_in.Ghost
     World → ℕ → OfficeState → WriterRecord → R → R → Result (Pipe I O) ClientFault → Type 0
 EventEnds r i o w net v b office known road road' (Ok left) = ClientLeft r i o w net v b office known left road'
 EventEnds r i o w net v b office known road road' (Err why) = IsCaused r (w.writers b).conn road road' why
-
--- Each message that was sent down on the connection is spelled by the bytes as which it is written.
-abbrev pub SpellDown : World → ℕ → Type 0
-SpellDown w c = (k : ℕ) (m : Message) → slice_get (w.downs c) k ≡ Some m → SpellsText m
 
 -- HEARING
 

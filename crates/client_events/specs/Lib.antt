@@ -7,5 +7,6 @@ pub mod Completing
 pub mod Answering
 pub mod Committing
 pub mod Showing
+pub mod Passing
 pub mod Events
 pub mod SettingUp

@@ -23,13 +23,13 @@ use Rattle.writer_core.specs.declared.phases.Phase.{Phase}
 use Rattle.writer_core.specs.declared.phases.Phase.TheVariants as phase
 use Rattle.writer_core.specs.declared.records.WriterRecord.{WriterRecord}
 use Rattle.writer_core.specs.Transitions.{has_command_due}
-use Rattle.member_events.specs.Joining.{AcceptsDial}
+use Rattle.member_events.specs.Joining.{SpellDown, AcceptsDial}
 use Rattle.client_events.specs.declared.faults.ClientFault.{ClientFault}
 use Rattle.client_events.specs.declared.faults.ClientFault.TheVariants as fault
 use Rattle.client_events.specs.declared.pipes.Pipe.{Pipe}
 use Rattle.client_events.specs.declared.pipes.Pipe.TheVariants as pipe
 use Rattle.client_events.specs.declared.setting_up.SetUp.{SetUp}
-use Rattle.client_events.specs.Events.{asked_world, SpellDown}
+use Rattle.client_events.specs.Events.{asked_world}
 use Rattle.client_events.specs.Faults.{IsRoadFault, IsCaused}
 use Rattle.client_events.specs.Showing.{ClientStands, ClientLeft, PipeFits}
 

@@ -1,6 +1,6 @@
 //! A writer's own step that asks nothing and dials nothing.
 
-ghost use Rattle.std.specs.Prelude.{◌≡◌};
+ghost use Rattle.std.specs.Prelude.{◌≡◌, ◌≤◌, IfOk};
 ghost use Rattle.writer_core.specs.Transitions.{own_step};
 ghost use Rattle.client_events.specs.Acting.{said_by, IsStepped, AnswersIf};
 ghost use Rattle.client_events.specs.Events.{ActShows, FitsActed};
@@ -41,6 +41,8 @@ pub fn act<I: LinkIn, O: LinkOut, R: Roads<Inward = I, Outward = O>>(
     requires { PipeIsKnown (R.plain roads.old) pipe }
     ensures shows { ActShows R.Roads I.LinkIn O.LinkOut writer.old writer.new pipe roads.old roads.new result }
     ensures fits { FitsActed writer.old writer.new pipe result }
+    ensures counts { R.faults roads.old ≤ R.faults roads.new }
+    ensures known { IfOk result (λ left. PipeIsKnown (R.plain roads.new) left.pipe) }
 {
     let action = stepped(writer)?;
     let connected = writer.connected();

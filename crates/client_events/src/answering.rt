@@ -1,11 +1,12 @@
 //! What a writer hears that waits for the answer to its request.
 
-ghost use Rattle.std.specs.Prelude.{◌≡◌, true, IfOk, is_some};
+ghost use Rattle.std.specs.Prelude.{◌≡◌, ◌≤◌, true, IfOk, is_some};
 ghost use Rattle.pipe_recovery.specs.Dialling.{LinkIsKnown};
 ghost use Rattle.client_events.specs.Answering.{IsWaiting, TakesLink, is_risen, piped};
 ghost use Rattle.client_events.specs.declared.pipes.Pipe.TheVariants.{SettingUp};
 ghost use Rattle.client_events.specs.Events.{AnswerShows};
-ghost use Rattle.client_events.specs.Showing.{FitsAfter};
+ghost use Rattle.client_events.specs.Passing.{RoadsPass};
+ghost use Rattle.client_events.specs.Showing.{FitsAfter, PipeIsKnown};
 
 use crate::faults::{ClientFault, road_fault};
 use crate::pipes::Pipe;
@@ -29,6 +30,8 @@ pub fn hear_answer<D: Desk, I: LinkIn, O: LinkOut, R: Roads<Inward = I, Outward 
     ensures shows { AnswerShows R.Roads I.LinkIn O.LinkOut writer.old writer.new setup roads.old roads.new result }
     ensures fits { FitsAfter writer.old writer.new (SettingUp setup) result }
     ensures office { office.new ≡ office.old }
+    ensures counts { R.faults roads.old ≤ R.faults roads.new }
+    ensures known { IfOk result (λ left. PipeIsKnown (R.plain roads.new) left) }
 {
     let conn = setup.conn();
     let mut setup = taken(alloc, roads, setup)?;
@@ -52,6 +55,7 @@ fn taken<I: LinkIn, O: LinkOut, R: Roads<Inward = I, Outward = O>>(
     ensures takes { TakesLink R.Roads I.LinkIn O.LinkOut setup.link roads.old roads.new result }
     ensures linked { IfOk result (λ new. is_some new.link ≡ is_some setup.link) }
     ensures known { IfOk result (λ new. LinkIsKnown (R.plain roads.new) new.link) }
+    ensures passes { RoadsPass R.Roads roads.old roads.new }
 {
     let conn = setup.conn();
     let mut setup = setup;
