@@ -1,4 +1,6 @@
 pub mod SettleLaws
+pub mod PhaseLaws
+pub mod FitLaws
 pub mod HearLaws
 pub mod ActLaws
 pub mod PassLaws

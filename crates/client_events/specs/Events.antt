@@ -38,7 +38,7 @@ use Rattle.pipe_recovery.specs.declared.rebuilding.Rebuild.{Rebuild}
 use Rattle.client_events.specs.Acting.{said_in}
 use Rattle.client_events.specs.Answering.{IsWaiting}
 use Rattle.client_events.specs.Faults.{IsCaused}
-use Rattle.client_events.specs.Showing.{ClientStands, ClientLeft, StayShown, PipeFits}
+use Rattle.client_events.specs.Showing.{ClientStands, ClientLeft, StayShown, awaits, PipeFits}
 
 -- How an event of the writer of a block ends: what is left shows the world after it, or a fault has its cause.
 abbrev pub EventEnds : {R I O : Type 0} → roads.Ghosts R I O → link_in.Ghosts I → link_out.Ghosts O → World → Net →
@@ -154,6 +154,11 @@ abbrev pub CompleteShows : {D : Type 0} → desks.Ghosts D → WriterRecord → 
 CompleteShows d known known' desk desk' result =
     (w : World) (block : BlockId) (answered : Bool) → CanComplete d w block.0 known desk
     → CompleteEnds d w (asked_world w block answered) block.0 known' desk' result
+
+-- A writer that didn't wait on the connection of a setup doesn't after the completion.
+abbrev pub FitsCompleted : WriterRecord → WriterRecord → Result (Option Said) ClientFault → Type 0
+FitsCompleted known known' (Ok said) = awaits known.phase ≡ false → awaits known'.phase ≡ false
+FitsCompleted known known' (Err why) = Unit {0}
 
 -- HEARING THE ANSWER TO A REQUEST
 

@@ -1,10 +1,9 @@
 //! The completion of a block by its writer.
 
-ghost use Rattle.std.specs.Prelude.{◌≡◌, false};
+ghost use Rattle.std.specs.Prelude.{◌≡◌};
 ghost use Rattle.client_events.specs.Acting.{AnswersIf};
 ghost use Rattle.client_events.specs.Completing.{put_as, Puts, is_completed};
-ghost use Rattle.client_events.specs.Events.{CompleteShows};
-ghost use Rattle.client_events.specs.Showing.{awaits};
+ghost use Rattle.client_events.specs.Events.{CompleteShows, FitsCompleted};
 
 use crate::acting::{Said, answer_if, said_by, stepped};
 use crate::faults::ClientFault;
@@ -15,7 +14,7 @@ use writer_core::{Action, Phase, Writer};
 /// completed.
 pub fn complete<D: Desk>(office: &mut D, writer: &mut Writer) -> Result<Option<Said>, ClientFault>
     ensures shows { CompleteShows D.Desk writer.old writer.new office.old office.new result }
-    ensures fits { awaits writer.old.phase ≡ false → awaits writer.new.phase ≡ false }
+    ensures fits { FitsCompleted writer.old writer.new result }
 {
     match stepped(writer)? {
         Action::Ask(call) => {

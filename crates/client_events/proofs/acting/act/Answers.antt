@@ -5,6 +5,7 @@ use Rattle.client_events.specs.Events.{ActShows}
 use Rattle.client_events.specs.Sending.{IsFollowed}
 use Rattle.client_events.proofs.ActLaws.{act_shows, act_failed_as}
 use Rattle.client_events.proofs.PassLaws.{followed_known}
+use Rattle.client_events.proofs.FitLaws.{act_fits}
 use Rattle.client_events.proofs.acting.act.Goals as goal
 
 pub returns-in_err-pipe-clause-shows : goal.returns-in_err-pipe-clause-shows
@@ -19,3 +20,7 @@ returns-clause-shows g c =
 
 pub returns-clause-known : goal.returns-clause-known
 returns-clause-known g c = followed_known g.R.Roads g.I.LinkIn g.O.LinkOut c.connected-connected.result c.in_ok-action.action c.args.pipe c.in_ok-pipe.pipe c.args.roads.now c.followed.new.roads c.in_ok-pipe.ensures.follows c.followed.ensures.passes c.requires
+
+pub returns-clause-fits : goal.returns-clause-fits
+returns-clause-fits g c =
+    act_fits g.R.Roads g.I.LinkIn g.O.LinkOut c.args.writer.now c.stepped.new.writer c.connected-connected.result c.in_ok-action.action c.args.pipe c.in_ok-pipe.pipe c.args.roads.now c.followed.new.roads c.in_ok-action.ensures.1 c.in_ok-pipe.ensures.follows

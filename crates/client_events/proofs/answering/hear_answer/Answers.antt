@@ -3,6 +3,7 @@ use Rattle.std.proofs.Common.{true, sym, ap, ◌∙◌}
 use Rattle.client_events.specs.Answering.{is_risen}
 use Rattle.client_events.proofs.AnswerEnds.{answer_shows, answer_risen, answer_office}
 use Rattle.client_events.proofs.PassLaws.{waits_asked, ok_known, pass_on, step_pass, piped_known}
+use Rattle.client_events.proofs.FitLaws.{answer_fits}
 use Rattle.client_events.proofs.answering.hear_answer.Goals as goal
 
 pub returns-then-has_lost-clause-office : goal.returns-then-has_lost-clause-office
@@ -47,3 +48,8 @@ returns-clause-known g c =
     ok_known (g.R.Roads.plain c.step-step.new.roads) c.piped.result
     (λ left is. piped_known g.R.Roads g.I.LinkIn g.O.LinkOut g.D.Desk true c.args.writer.now c.step-step.new.writer c.in_ok-setup.setup.link c.step-step.new.self c.args.office.now c.step-step.new.office c.taken.new.roads c.step-step.new.roads c.step-step.new.self.lost c.step-step.result left
     (waits_asked c.args.writer.now.phase c.requires.waits) c.step-step.ensures.steps c.in_ok-setup.ensures.known c.step-step.ensures.known (sym c.piped.ensures ∙ is))
+
+pub returns-clause-fits : goal.returns-clause-fits
+returns-clause-fits g c =
+    answer_fits g.D.Desk g.R.Roads g.I.LinkIn g.O.LinkOut c.args.writer.now c.step-step.new.writer c.args.setup c.in_ok-setup.setup c.step-step.new.self c.args.office.now c.step-step.new.office c.taken.new.roads c.step-step.new.roads c.step-step.result c.piped.result c.requires.waits c.step-step.ensures.steps
+    c.step-step.ensures.fits (sym c.piped.ensures)

@@ -5,6 +5,7 @@ use Rattle.client_events.specs.Hearing.{Hears}
 use Rattle.client_events.specs.Steps.{IsSettled}
 use Rattle.client_events.proofs.HearLaws.{hear_lost, hear_shows}
 use Rattle.client_events.proofs.PassLaws.{id_known, pass_on, settled_known}
+use Rattle.client_events.proofs.FitLaws.{hear_fits}
 use Rattle.client_events.proofs.hearing.hear_ack.Goals as goal
 
 pub returns-in-Failed-clause-shows : goal.returns-in-Failed-clause-shows
@@ -28,3 +29,8 @@ pub returns-clause-known : goal.returns-clause-known
 returns-clause-known g c =
     settled_known g.R.Roads g.I.LinkIn g.O.LinkOut c.connected-connected.result (record c.in_ok-end.end { inward = c.heard.new.inward }) c.heard.new.incoming c.exchanged.new.roads c.settled.new.roads c.settled.result c.settled.ensures.settles c.settled.ensures.passes
     (id_known (g.R.Roads.plain c.exchanged.new.roads) c.args.end.id c.in_ok-end.end.id c.in_ok-end.ensures.exchanges.kept.id (c.exchanged.ensures.passes.knows c.args.end.id.0 c.requires))
+
+pub returns-clause-fits : goal.returns-clause-fits
+returns-clause-fits g c =
+    hear_fits g.R.Roads g.I.LinkIn g.O.LinkOut c.args.writer.now c.heard.new.writer c.args.end c.args.incoming c.connected-connected.result (record c.in_ok-end.end { inward = c.heard.new.inward }) c.heard.new.incoming c.in_ok-end.end.inward c.heard.new.inward c.heard.result
+    c.exchanged.new.roads c.settled.new.roads c.settled.result c.heard.ensures c.settled.ensures.settles
