@@ -73,7 +73,7 @@ ended_unstamped_as : (x : WriterRecord) (r : Option Remedy) → is_stamped x.pha
 ended_unstamped_as x None h = h
 ended_unstamped_as x (Some r) h = fail_unstamped x r 0 h
 
-ended_unstamped : (x : WriterRecord) → is_stamped x.phase ≡ false → is_stamped (ended x).phase ≡ false
+pub ended_unstamped : (x : WriterRecord) → is_stamped x.phase ≡ false → is_stamped (ended x).phase ≡ false
 unfolding ended
 ended_unstamped x h = ended_unstamped_as x (remedy_in x.phase) h
 

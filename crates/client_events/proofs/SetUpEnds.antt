@@ -1,5 +1,5 @@
 -- The world after a writer that wants a pipeline was refused a stamp, or has asked its first member.
-use Rattle.std.proofs.Common.{◌≡◌, ◌≢◌, ◌<◌, ◌≤◌, ◌+◌, ◌==◌, inl, inr, ◌⊎◌, ℕ, not, Bool, true, false, if◌then◌else◌, List, [], ◌∷◌, ◌++◌, length, slice_get, is_some, is_err, option_map, Option, Some, None, IfSome, Result, Ok, Err, refl, sym, ap, ◌∙◌, subst, arith, eqb-true}
+use Rattle.std.proofs.Common.{◌≡◌, ◌≢◌, ◌<◌, ◌≤◌, ◌+◌, ◌-◌, ◌==◌, inl, inr, ◌⊎◌, ℕ, not, Bool, true, false, if◌then◌else◌, List, [], ◌∷◌, ◌++◌, length, slice_get, is_some, is_err, option_map, Option, Some, None, IfSome, Result, Ok, Err, refl, sym, ap, ◌∙◌, subst, arith, eqb-true}
 use Rattle.std.proofs.lemmas.Bool.Decides.{nat_tests}
 use Rattle.std.proofs.lemmas.List.{append-nil}
 use Rattle.std.specs.Prelude.{◌&&◌, ◌||◌, cond, min, nat_le}
@@ -59,8 +59,9 @@ use Rattle.road_traffic.specs.Traffic.{Traffic}
 use Rattle.world.specs.declared.events.Caller.TheVariants as caller
 use Rattle.world.specs.declared.events.Event.{Event}
 use Rattle.world.specs.declared.events.Event.TheVariants as event
-use Rattle.world.specs.Parts.{Message, request, Writing}
+use Rattle.world.specs.Parts.{Message, request, Writing, Dialled, by_writer}
 use Rattle.world.specs.Worlds.{World, Change, Dial, put, apply}
+use Rattle.world.specs.Connections.{place_of}
 use Rattle.world.specs.Clients.{writing_as, writer_change, dialled_change, dialling, rest_in}
 use Rattle.world.specs.Events.{outcome, happens}
 use Rattle.world.specs.Primaries.{asks_writer}
@@ -255,6 +256,20 @@ dialled_to w b x to op = record {
   office = refl;
   said = at_add w.said b [];
 }
+
+-- the connection that was dialled
+self_le : (n : ℕ) → nat_le n n ≡ true
+self_le n = grind (arith, nat_tests)
+
+self_minus : (n : ℕ) → n - n ≡ 0
+self_minus n = omega arith
+
+dialled_new : (w : World) (b : ℕ) (x : WriterRecord) (to : NodeId) (op : Op) → (apply w (dialled_change w b x to op true)).dialled w.next_conn ≡ record { upper = by_writer b; from = None; to = place_of w to.0 }
+unfolding apply
+dialled_new w b x to op = rw (self_le w.next_conn, self_minus w.next_conn) refl
+
+dialled_members : (x : WriterRecord) (s : Setup) (stamp : Stamp) → x.phase ≡ phase.Stamped s stamp → (dialled x true).members ≡ x.members
+dialled_members x s stamp h = ap (λ (y : WriterRecord). y.members) (asked_phase x s stamp h)
 
 module _ {R I O D : Type 0} (r : roads.Ghosts R I O) (i : link_in.Ghosts I) (o : link_out.Ghosts O) (d : desks.Ghosts D) (w : World) (net : Net) (block : BlockId) (setup : Rebuild I O) (known x : WriterRecord) (desk desk' : D) (road : R)
     (stands : ClientStands r i o w net block.0 w.office known (pipe.SettingUp setup) road) (next : ConnId) (can : CanSetUp d w block next known desk) (first_setup : Setup) (wants : known.phase ≡ phase.Wanted first_setup)
@@ -480,4 +495,8 @@ module _ {R I O D : Type 0} (r : roads.Ghosts R I O) (i : link_in.Ghosts I) (o :
             };
             end_is = subst (λ (m : ℕ). IsEndOf i o v made m true at_end) to_next (same-end r i o (apply told_world dial_change) v made n true at_end (follows.over n true) (ends.lower at_end accepted));
             lower_same = ap (λ (u : World). u.lowers next.0) is_v ∙ (dialled_lowers told_world b x first op next.0 ∙ told_lowers next.0);
+            upper = ap (λ (m : ℕ). (v.dialled m).upper) (sym to_next) ∙ (ap (λ (u : World). (u.dialled n).upper) is_v ∙ ap (λ (q : Dialled). q.upper) (dialled_new told_world b x first op));
+            member = first;
+            first = ap (λ (q : WriterRecord). slice_get q.members 0) is_y ∙ ap (λ (ms : List NodeId). slice_get ms 0) (dialled_members x s stamp h ∙ members);
+            node = ap (λ (m : ℕ). (v.dialled m).to.node) (sym to_next) ∙ (ap (λ (u : World). (u.dialled n).to.node) is_v ∙ ap (λ (q : Dialled). q.to.node) (dialled_new told_world b x first op));
           }

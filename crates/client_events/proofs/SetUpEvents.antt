@@ -50,7 +50,7 @@ use Rattle.pipe_recovery.specs.Exchanging.{Exchanges, ExchangesLink, BringsLink}
 use Rattle.pipe_recovery.specs.Hearing.{HeardState, nothing_heard, answer_of, looked_of, Looks, Receives}
 use Rattle.pipe_recovery.specs.Links.{LooksAt}
 use Rattle.pipe_recovery.specs.Reports.{Sees, Awaits, AwaitsOn, EndsAs, Reports, ReportsAt, moved_if, failed_as}
-use Rattle.pipe_recovery.specs.Steps.{fits_in, is_stamped, keeps_link, GoesOn, AsksAndDials, Acts, SettlesTold, Steps}
+use Rattle.pipe_recovery.specs.Steps.{StillFits, fits_in, is_stamped, keeps_link, GoesOn, AsksAndDials, Acts, SettlesTold, Steps}
 use Rattle.road_traffic.proofs.CallLemmas.{sent-shows, quiet-shows, dialled-shows}
 use Rattle.road_traffic.proofs.ShowingLemmas.{roads-accepted}
 use Rattle.road_traffic.proofs.TrafficLemmas.{same-itself}
@@ -101,8 +101,10 @@ use Rattle.client_events.specs.declared.setting_up.SetUp.{SetUp}
 use Rattle.client_events.specs.Answering.{piped}
 use Rattle.client_events.specs.Events.{own_event, asked_world}
 use Rattle.client_events.specs.Faults.{HasRisen, IsCaused}
-use Rattle.client_events.specs.SettingUp.{IsWanted, is_requested, is_unreached, first_port, undialled, Accepts, MeetsBy, Meets, GivesUpLink, CanSetUp, SetUpLeft, FirstAsked, SetUpBy, SetUpEnds, SetUpShows}
-use Rattle.client_events.specs.Showing.{StayShown, LinkShows, LinkStands, PipeShows, ClientStands, ClientLeft}
+use Rattle.client_events.specs.SettingUp.{IsWanted, is_requested, is_unreached, first_port, undialled, Accepts, MeetsBy, Meets, GivesUpLink, CanSetUp, SetUpLeft, FirstAsked, SetUpBy, SetUpEnds, SetUpShows, FitsSetUp}
+use Rattle.client_events.proofs.PhaseLaws.{ended_unstamped}
+use Rattle.client_events.proofs.FitLaws.{report_fits}
+use Rattle.client_events.specs.Showing.{PipeFits, StayShown, LinkShows, LinkStands, PipeShows, ClientStands, ClientLeft}
 use Rattle.client_events.proofs.ActLaws.{at_add}
 use Rattle.client_events.proofs.AnswerEnds.{given_back, no_conn, piped_as, piped_failed, none_ok, setup_none, piped_moved}
 use Rattle.client_events.proofs.AnswerLaws.{true_false, end_leaves}
@@ -230,6 +232,61 @@ module _ {R I O D : Type 0} (r : roads.Ghosts R I O) (i : link_in.Ghosts I) (o :
       let a = stamp_asked r i o d s known g.answered y held desk desk' road middle g.first does h some g.asks g.goes_on in
       let given : IsGiven g.answered.phase = subst (λ (q : WriterRecord). IsGiven q.phase) (sym a.puts.writer) (after_stamp known s a.puts.answer h (sym a.puts.ends) a.fits) in
       record { x = g.answered; asks = a; gone = goes_by r i o d g.answered.phase g.answered y held road middle g.first does refl given some g.goes_on }
+
+  -- THE CONNECTION FITS
+
+  unreached_unstamped : (p : Phase) → is_unreached p ≡ true → is_stamped p ≡ false
+  unreached_unstamped (phase.Wanted s) h = refl
+  unreached_unstamped (phase.Failed f) h = refl
+  unreached_unstamped p h = cc
+
+  asked_unstamped : (x after : WriterRecord) (s : Setup) (stamp : Stamp) (sending : Result ℕ LinkError) → x.phase ≡ phase.Stamped s stamp → after ≡ asked_after x sending → is_stamped after.phase ≡ false
+  asked_unstamped x after s stamp (Ok n) h is = ap (λ (q : WriterRecord). is_stamped q.phase) (is ∙ asked_phase x s stamp h)
+  asked_unstamped x after s stamp (Err e) h is = ap (λ (q : WriterRecord). is_stamped q.phase) is ∙ ended_unstamped (dialled x true) (ap (λ (q : WriterRecord). is_stamped q.phase) (asked_phase x s stamp h))
+
+  dialled_unstamped : (x : WriterRecord) (k : (s : Setup) × ((stamp : Stamp) × ((first : NodeId) × ((others : List NodeId) × ((x.phase ≡ phase.Stamped s stamp) × (x.members ≡ first ∷ others)))))) (op : Op) (held : Option (Link I O)) (middle : R) (does : Acted)
+      → HasDialled r i o d k.1.1.0 op x y held road middle does → is_stamped y.phase ≡ false
+  dialled_unstamped x k op held middle does (inl u) =
+      ap (λ (q : WriterRecord). is_stamped q.phase) u.writer ∙ unreached_unstamped (dialled x false).phase (unreached_phase x k.0 k.1.0 k.1.1.1.1.0 (some_members x k.1.1.0 k.1.1.1.0 k.1.1.1.1.1))
+  dialled_unstamped x k op held middle does (inr a) = asked_unstamped x y k.0 k.1.0 a.sent.sending k.1.1.1.1.0 a.sent.writer
+
+  gone_unstamped : (x : WriterRecord) (held : Option (Link I O)) (middle : R) (does : Acted) → GoneOn r i o d x y held road middle does → x.members ≢ [] → is_stamped y.phase ≡ false
+  gone_unstamped x held middle does (inl (inl f, u)) some = ap (λ (q : WriterRecord). is_stamped q.phase) u.same ∙ ap is_stamped f.1
+  gone_unstamped x held middle does (inl (inr n, u)) some = absurd (some n.1.1.1)
+  gone_unstamped x held middle does (inr k) some = dialled_unstamped x (k.setup, (k.stamp, (k.first, (k.others, (k.phase_is, k.members))))) (first_request x k.setup k.stamp k.others) held middle does k.how
+
+  step_unstamped : IsWanted known.phase → fits_in known.phase (is_some setup.link) ≡ true → Steps d r i o known y setup.link setup'.link desk desk' road road' setup'.lost ends → (ends ≡ step.Ended rebuilt.Memory → ⊥) → known.members ≢ [] → is_stamped y.phase ≡ false
+  step_unstamped ok fits steps none some =
+      let u : WantedIn known.phase = wanted_in known.phase ok in
+      let unlinked = unlinked_by u.setup setup.link (subst (λ (p : Phase). fits_in p (is_some setup.link) ≡ true) u.is fits) in
+      let g = begun u.setup steps.held steps.middle steps.acted u.is unlinked steps.acts (never_by steps.acted steps.kept steps.reports none) in
+      let same : g.x.members ≡ known.members = ap (λ (q : WriterRecord). q.members) g.asks.puts.writer ∙ (keeps_queue known u.setup g.asks.puts.answer u.is).members in
+      gone_unstamped g.x steps.held steps.middle steps.acted g.gone (λ e. some (sym same ∙ e))
+
+  undialled_fits_as : (q : Bool) (left : Pipe I O) → (known.members ≢ [] → PipeFits y.phase left) → FitsSetUp known y setup (if q then Err fault.RoadsFailed else Ok (record { pipe = left; first = None }))
+  undialled_fits_as true left h = tt
+  undialled_fits_as false left h = λ some before. h some
+
+  pub left_fits : (left : Pipe I O) → IsWanted known.phase → fits_in known.phase (is_some setup.link) ≡ true → Steps d r i o known y setup.link setup'.link desk desk' road road' setup'.lost ends → StillFits y.phase (is_some setup'.link) ends → piped setup' ends ≡ Ok left → FitsSetUp known y setup (undialled y.phase left)
+  left_fits left ok fits steps still is = undialled_fits_as (is_unreached y.phase) left (λ some.
+      report_fits i steps.acted y steps.kept setup' ends left steps.reports is still (step_unstamped ok fits steps (λ e. none_ok r i o fault.Memory left (sym (ap (piped setup') e) ∙ is)) some))
+
+  requested_unstamped : (p : Phase) → is_requested p ≡ true → is_stamped p ≡ false
+  requested_unstamped (phase.Requested s stamp) h = refl
+  requested_unstamped p h = cc
+
+  exchanged_some : (old new : Option (Link I O)) (before later : R) → ExchangesLink r i o None old new before later (Ok tt) → is_some new ≡ is_some old
+  exchanged_some None None before later h = refl
+  exchanged_some (Some a) (Some b) before later h = refl
+  exchanged_some None (Some b) before later h = absurd h
+  exchanged_some (Some a) None before later h = absurd h
+
+  pub met_fits : (port : ℕ) (last : R) (result : Result (SetUp I O) ClientFault) → is_requested y.phase ≡ true → StillFits y.phase (is_some setup'.link) ends → ends ≡ step.Waiting → Meets r i o port setup'.link road' last result → FitsSetUp known y setup result
+  met_fits port last (Err why) on still is m = tt
+  met_fits port last (Ok left) on still is m = λ some before.
+      let fits : fits_in y.phase (is_some setup'.link) ≡ true = subst (λ (z : RebuildStep I O). StillFits y.phase (is_some setup'.link) z) is still in
+      subst (λ (l : SetUp I O). PipeFits y.phase l.pipe) (sym m.accepts.is)
+      (subst (λ (q : Bool). fits_in y.phase q ≡ true) (sym (exchanged_some setup'.link m.setup.link road' m.middle m.flushes)) fits, requested_unstamped y.phase on)
 
   module _ (w : World) (net : Net) (block : BlockId) (stands : ClientStands r i o w net block.0 w.office known (pipe.SettingUp setup) road) (can : CanSetUp d w block next known desk) (s : Setup) (wants : known.phase ≡ phase.Wanted s) (unlinked : setup.link ≡ None)
       (x : WriterRecord) (asks : StampAsked r i o d (stamp_call known s) known x desk desk') (held kept : Option (Link I O)) (middle : R) (does : Acted) (settles : SettlesTold r i o (keeps_link y.phase) held kept middle road' false)

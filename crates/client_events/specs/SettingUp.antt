@@ -1,5 +1,5 @@
 -- The setup of a pipeline by the writer of a block: the office gives a stamp, and the first member is asked.
-use Rattle.std.specs.Prelude.{◌≡◌, ◌⊎◌, ℕ, ◌+◌, ◌≤◌, min, if◌then◌else◌, Bool, true, false, List, [], ◌∷◌, slice_get, Option, Some, None, IfSome, Result, Ok, Err}
+use Rattle.std.specs.Prelude.{◌≡◌, ◌≢◌, ◌⊎◌, ℕ, ◌+◌, ◌≤◌, min, if◌then◌else◌, Bool, true, false, List, [], ◌∷◌, slice_get, Option, Some, None, IfSome, Result, Ok, Err}
 use Rattle.hd_base.specs.Faults.{FaultsIncreased}
 use Rattle.hd_base.specs.declared.ends.Conn.{Conn}
 use Rattle.hd_base.specs.declared.links.LinkIn as link_in
@@ -168,9 +168,9 @@ SetUpShows d r i o next known known' setup desk desk' road road' result =
     CanSetUp d w block next known desk
     → SetUpEnds d r i o w net block next.0 known' desk' road road' result
 
--- It leaves a connection that fits the writer, where the setup did.
+-- It leaves a connection that fits the writer, where the setup did and the writer has members.
 abbrev pub FitsSetUp : {I O : Type 0} → WriterRecord → WriterRecord → Rebuild I O → Result (SetUp I O) ClientFault →
     Type 0
 FitsSetUp known known' setup (Ok left) =
-    PipeFits known.phase (pipe.SettingUp setup) → PipeFits known'.phase left.pipe
+    known.members ≢ [] → PipeFits known.phase (pipe.SettingUp setup) → PipeFits known'.phase left.pipe
 FitsSetUp known known' setup (Err why) = Unit {0}
