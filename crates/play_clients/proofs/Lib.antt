@@ -3,3 +3,4 @@ pub mod PartLaws
 pub mod HearLaws
 pub mod OwnLaws
 pub mod TakeLaws
+pub mod OwnShowing

@@ -401,7 +401,7 @@ module _ {D R I O : Type 0} (d : desks.Ghosts D) (r : roads.Ghosts R I O) (i : l
           record {
             made = h.0.shows.made;
             events = ap (λ (a : Action). own_events a old.block.0 (queues old.block.0)) (same_action w old.block known known_is) ∙ does.events_are;
-            shows = client_left w net v h.0.shows.made old new after left.pipe None desk' road' follows.0 c h.0.shows.stands h.0.shows.others (fits fitted) h.0.office (h.0.said ∙ sym (append-nil (w.said old.block.0)));
+            shows = client_left w net v h.0.shows.made old new after left.pipe None desk' road' follows.0 c h.0.shows.stands h.0.shows.others (fits (subst (λ (x : WriterRecord). x.members ≢ []) known_is can.members) fitted) h.0.office (h.0.said ∙ sym (append-nil (w.said old.block.0)));
             queue = queue_same w old.block old new queues known (queues old.block.0) known_is follows.0.queue queue does.queue_is;
             first = subst (λ (x : Option (First I O)). IfSome x (FirstShows i o v h.0.shows.made old.block.0 next)) (sym same) h.1;
           }

@@ -31,7 +31,8 @@ use Rattle.play_model.specs.declared.dues.Due.TheVariants as due
 use Rattle.play_model.specs.Dues.{Queues, is_due, due_events, queues_after}
 use Rattle.client_events.specs.declared.faults.ClientFault.{ClientFault}
 use Rattle.client_events.specs.declared.faults.ClientFault.TheVariants as fault
-use Rattle.client_events.specs.Events.{SpellDown, own_event, asked_world, given_to}
+use Rattle.client_events.specs.Events.{own_event, asked_world, given_to}
+use Rattle.member_events.specs.Joining.{SpellDown}
 use Rattle.client_events.specs.Showing.{awaits}
 use Rattle.play_clients.specs.declared.clients.Client.{Client}
 use Rattle.play_clients.specs.declared.clients.First.{First}
@@ -114,11 +115,12 @@ pub record CanHaveCommitted (w : World) (b : ℕ) : Type 0 where
   pub members : (w.writers b).known.members ≢ []
   pub untaken : IfSome (w.writers b).conn (λ c. is_over w c false ≡ false)
 
--- Where it asks the first member: the member's node runs, and has a port. The request is spelled as it is written
--- (messages_are_written). Nothing was taken on the next connection (only_dialled_connections_carry).
+-- Where it asks the first member: there is one (writers_rest), whose node runs, and has a port. The request is spelled as
+-- it is written (messages_are_written). Nothing was taken on the next connection (only_dialled_connections_carry).
 pub record CanAskFirst (w : World) (block : BlockId) (next : ConnId) : Type 0 where
   pub next_is : next.0 ≡ w.next_conn
   pub undialled : w.lowers next.0 ≡ idle
+  pub members : (w.writers block.0).known.members ≢ []
   pub no_command : has_command_due (w.writers block.0).known ≡ false
   pub runs : IfSome (slice_get (w.writers block.0).known.members 0) (λ first. w.running first.0 ≡ true)
   pub has_port : IfSome (slice_get (w.writers block.0).known.members 0) (λ first. FIRST_PORT + first.0 ≤ MAX_PORT)
