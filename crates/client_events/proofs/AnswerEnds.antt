@@ -1,6 +1,5 @@
 -- The world after a writer heard the answer to its request, or the end.
-use Rattle.std.proofs.Common.{◌≡◌, ◌≢◌, inl, inr, ◌⊎◌, ℕ, not, Bool, true, false, if◌then◌else◌, [], is_err, option_map, Option, Some, None, IfSome, Result, Ok, Err, refl, sym, ap, ◌∙◌, subst}
-use Rattle.std.proofs.lemmas.Option.{same_Some}
+use Rattle.std.proofs.Common.{◌≡◌, ◌≢◌, inl, inr, ◌⊎◌, ℕ, not, Bool, true, false, if◌then◌else◌, [], is_err, option_map, Option, Some, None, Result, Ok, Err, refl, sym, ap, ◌∙◌, subst}
 use Rattle.hd_base.specs.Ends.{has_failed}
 use Rattle.hd_base.specs.Faults.{FaultsIncreased}
 use Rattle.hd_base.specs.Links.{Inbox}
@@ -11,11 +10,10 @@ use Rattle.hd_base.specs.declared.links.LinkOut as link_out
 use Rattle.hd_base.specs.declared.numbers.ConnId.{ConnId}
 use Rattle.hd_base.specs.declared.roads.Roads as roads
 use Rattle.link_messages.specs.Incomings.{IncomingState, nothing_received}
-use Rattle.link_pieces.specs.Roads.{ExchangesEnd, BringsEnd, names}
+use Rattle.link_pieces.specs.Roads.{ExchangesEnd, BringsEnd}
 use Rattle.name_core.specs.declared.desks.Desk as desks
 use Rattle.name_core.specs.Offices.{OfficeState}
 use Rattle.pipe_recovery.specs.declared.acting.Acted.{Acted}
-use Rattle.pipe_recovery.specs.declared.acting.Acted.TheVariants as acted
 use Rattle.pipe_recovery.specs.declared.hearing.Looked.{Looked}
 use Rattle.pipe_recovery.specs.declared.hearing.Looked.TheVariants as looked
 use Rattle.pipe_recovery.specs.declared.links.Link.{Link}
@@ -40,7 +38,7 @@ use Rattle.world.specs.Connections.{Next, message, the_end, up_taken, is_conn}
 use Rattle.world.specs.Clients.{writing_as, writer_hears}
 use Rattle.world.specs.Events.{happens}
 use Rattle.world_nets.specs.Drawn.{ComesUp, HearsPipe, hears_as}
-use Rattle.world_nets.specs.Nets.{IsNetOf, IsEndOf, held_by, inbox_for, is_over}
+use Rattle.world_nets.specs.Nets.{IsEndOf, held_by, inbox_for, is_over}
 use Rattle.world_nets.specs.Steps.{SendsBy, is_end, taken_net}
 use Rattle.world_nets.specs.Flushing.{upper_flushes}
 use Rattle.world_nets.proofs.DrawnLemmas.{up-makes}
@@ -51,7 +49,6 @@ use Rattle.writer_core.specs.declared.phases.Failure.{Failure}
 use Rattle.writer_core.specs.declared.phases.Failure.TheVariants as failure
 use Rattle.writer_core.specs.declared.phases.Phase.{Phase}
 use Rattle.writer_core.specs.declared.phases.Phase.TheVariants as phase
-use Rattle.writer_core.specs.declared.phases.Setup.{Setup}
 use Rattle.writer_core.specs.declared.phases.Setup.TheVariants as setup
 use Rattle.writer_core.specs.declared.records.WriterRecord.{WriterRecord}
 use Rattle.writer_core.specs.Transitions.{is_connected}
@@ -60,7 +57,6 @@ use Rattle.member_events.proofs.DownEvents.{held_took}
 use Rattle.member_events.proofs.EndLaws.{HeldAt, RoadsAt, end_held, end_from, end_passes}
 use Rattle.member_events.proofs.FaultEvents.{same_count}
 use Rattle.member_events.proofs.WorldLaws.{happened}
-use Rattle.member_events.specs.Showing.{ShowsWorld}
 use Rattle.client_events.specs.declared.faults.ClientFault.{ClientFault}
 use Rattle.client_events.specs.declared.faults.ClientFault.TheVariants as fault
 use Rattle.client_events.specs.declared.pipes.Pipe.{Pipe}

@@ -1,19 +1,11 @@
 -- A writer that hears the answer to its request, or the end, and the world after it.
-use Rattle.std.proofs.Common.{◌≡◌, ◌≢◌, inl, inr, ◌⊎◌, ℕ, not, Bool, true, false, List, [], ◌∷◌, position, slice_get, is_err, option_map, Option, Some, None, IfSome, IsSome, Result, Ok, Err, refl, sym, ap, ◌∙◌, subst}
+use Rattle.std.proofs.Common.{◌≡◌, ◌≢◌, inl, inr, ◌⊎◌, ℕ, Bool, true, false, List, [], ◌∷◌, position, slice_get, Option, Some, None, refl, sym, ap, ◌∙◌, subst}
 use Rattle.std.specs.Prelude.{◌==◌}
 use Rattle.std.proofs.lemmas.List.Quantifiers.{position-Some}
 use Rattle.std.proofs.lemmas.Option.{none-some, slice_get-get_or}
-use Rattle.hd_base.specs.Channels.{Plain}
-use Rattle.hd_base.specs.Ends.{has_failed}
 use Rattle.hd_base.specs.Faults.{FaultsIncreased}
-use Rattle.hd_base.specs.Links.{Inbox}
-use Rattle.hd_base.specs.declared.ends.Conn.{Conn}
-use Rattle.hd_base.specs.declared.ends.RoadError.{RoadError}
 use Rattle.hd_base.specs.declared.links.LinkIn as link_in
-use Rattle.hd_base.specs.declared.links.LinkOut as link_out
-use Rattle.hd_base.specs.declared.numbers.ConnId.{ConnId}
 use Rattle.hd_base.specs.declared.numbers.NodeId.{NodeId}
-use Rattle.hd_base.specs.declared.roads.Roads as roads
 use Rattle.ack_codec.specs.ResponseTexts.{response_text}
 use Rattle.ack_codec.specs.declared.responses.Response.{Response}
 use Rattle.frame_feed.specs.Kinds.{responses}
@@ -21,21 +13,18 @@ use Rattle.frame_feed.specs.KindLaws.{responses_sound}
 use Rattle.link_messages.specs.declared.incoming.Next.{Next as Came}
 use Rattle.link_messages.specs.declared.incoming.Next.TheVariants as came
 use Rattle.link_messages.specs.Incomings.{IncomingState, nothing_received, NextEnds}
-use Rattle.link_pieces.specs.Roads.{GivesUp}
-use Rattle.name_core.specs.Offices.{OfficeState}
 use Rattle.pipe_member.specs.declared.stages.Looked.TheVariants as member_looked
 use Rattle.pipe_member.specs.Looks as member_looks
 use Rattle.pipe_recovery.specs.declared.acting.Acted.{Acted}
 use Rattle.pipe_recovery.specs.declared.acting.Acted.TheVariants as acted
 use Rattle.pipe_recovery.specs.declared.hearing.Answer.{Answer}
 use Rattle.pipe_recovery.specs.declared.hearing.Answer.TheVariants as answer
-use Rattle.pipe_recovery.specs.declared.hearing.Looked.{Looked}
 use Rattle.pipe_recovery.specs.declared.hearing.Looked.TheVariants as looked
 use Rattle.pipe_recovery.specs.declared.links.Link.{Link}
 use Rattle.pipe_recovery.specs.Hearing.{HeardState, nothing_heard, answer_of, looked_of, Receives, Looks, told}
 use Rattle.pipe_recovery.specs.Links.{LooksAt}
 use Rattle.pipe_recovery.specs.Naming.{is_address, named_member}
-use Rattle.pipe_recovery.specs.Steps.{keeps_link, SettlesTold, TakesAs, Takes}
+use Rattle.pipe_recovery.specs.Steps.{keeps_link, TakesAs, Takes}
 use Rattle.world.specs.Clients.{writer_hears}
 use Rattle.world.specs.Clients as clients
 use Rattle.world.specs.Parts.{response}

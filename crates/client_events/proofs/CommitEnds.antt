@@ -1,8 +1,7 @@
 -- The world after the stamp of a writer was committed, or the office refused.
-use Rattle.std.proofs.Common.{◌≡◌, inl, inr, ◌⊎◌, ℕ, not, Bool, true, false, List, [], ◌∷◌, ◌++◌, is_some, option_map, Option, Some, None, IfSome, Result, Ok, Err, refl, sym, ap, ◌∙◌, subst}
+use Rattle.std.proofs.Common.{◌≡◌, inl, inr, ℕ, not, Bool, true, false, List, [], ◌∷◌, ◌++◌, is_some, option_map, Option, Some, None, IfSome, Result, Ok, Err, refl, sym, ap, ◌∙◌, subst}
 use Rattle.hd_base.specs.Ends.{has_failed}
 use Rattle.hd_base.specs.Faults.{FaultsIncreased}
-use Rattle.hd_base.specs.Links.{Inbox}
 use Rattle.hd_base.specs.declared.ends.Conn.{Conn}
 use Rattle.hd_base.specs.declared.links.LinkIn as link_in
 use Rattle.hd_base.specs.declared.links.LinkOut as link_out
@@ -10,9 +9,9 @@ use Rattle.hd_base.specs.declared.numbers.BlockId.{BlockId}
 use Rattle.hd_base.specs.declared.numbers.ConnId.{ConnId}
 use Rattle.hd_base.specs.declared.numbers.Stamp.{Stamp}
 use Rattle.hd_base.specs.declared.roads.Roads as roads
-use Rattle.link_messages.specs.Incomings.{IncomingState, nothing_received}
+use Rattle.link_messages.specs.Incomings.{nothing_received}
 use Rattle.name_core.specs.declared.desks.Desk as desks
-use Rattle.name_core.specs.Offices.{OfficeState, answer_to}
+use Rattle.name_core.specs.Offices.{OfficeState}
 use Rattle.pipe_recovery.specs.declared.acting.Acted.{Acted}
 use Rattle.pipe_recovery.specs.declared.acting.Acted.TheVariants as acted
 use Rattle.pipe_recovery.specs.declared.links.Link.{Link}
@@ -31,21 +30,20 @@ use Rattle.world.specs.Parts as parts
 use Rattle.world.specs.Worlds.{World, Change, apply}
 use Rattle.world.specs.Clients.{writing_as, writer_change, reached_answer, did, rest_in}
 use Rattle.world.specs.Events.{outcome, happens}
-use Rattle.world_nets.specs.Nets.{IsNetOf, IsEndOf, held_by, is_over}
+use Rattle.world_nets.specs.Nets.{IsNetOf, held_by, is_over}
 use Rattle.world_nets.specs.Ends.{IsElsewhere}
 use Rattle.world_nets.specs.Steps.{SendsBy}
 use Rattle.world_nets.specs.Flushing.{upper_flushes}
 use Rattle.world_nets.proofs.EndLemmas.{same-end}
 use Rattle.world_nets.proofs.FlushingLemmas.{writer-sends}
 use Rattle.world_nets.proofs.StepLemmas.{changed-net, changed-over, followed}
-use Rattle.writer_core.specs.declared.actions.Action.TheVariants as action
 use Rattle.writer_core.specs.declared.actions.ClientAnswer.TheVariants as answer
 use Rattle.writer_core.specs.declared.phases.Failure.{Failure}
 use Rattle.writer_core.specs.declared.phases.Phase.{Phase}
 use Rattle.writer_core.specs.declared.phases.Phase.TheVariants as phase
 use Rattle.writer_core.specs.declared.phases.Setup.{Setup}
 use Rattle.writer_core.specs.declared.records.WriterRecord.{WriterRecord}
-use Rattle.writer_core.specs.Transitions.{Step, step_in, own_step, open_step, ordinal, granted, ended, is_connected}
+use Rattle.writer_core.specs.Transitions.{Step, step_in, own_step, open_step, ordinal, is_connected}
 use Rattle.member_events.proofs.CauseLaws.{in_failed, one_risen}
 use Rattle.member_events.proofs.DownEvents.{held_took}
 use Rattle.member_events.proofs.EndLaws.{HeldAt, RoadsAt, end_held}
@@ -60,10 +58,9 @@ use Rattle.client_events.specs.Acting.{said_by, said_in, AnswersIf}
 use Rattle.client_events.specs.Answering.{is_risen, piped}
 use Rattle.client_events.specs.Committing.{IsAccepted, is_opened, read_off, IsReadOff}
 use Rattle.client_events.specs.Events.{own_event, asked_world, CanCommit, StepLeft, CommitShows}
-use Rattle.client_events.specs.Faults.{HasRisen, IsCaused}
 use Rattle.client_events.specs.Showing.{StayShown, LinkShows, LinkStands, ClientStands, ClientLeft}
 use Rattle.client_events.proofs.ActLaws.{done_to, if_none}
-use Rattle.client_events.proofs.AnswerEnds.{quiet_left, given_back, piped_as, piped_failed, none_ok, piped_err, risen_by}
+use Rattle.client_events.proofs.AnswerEnds.{quiet_left, given_back, piped_as, piped_failed, none_ok, risen_by}
 use Rattle.client_events.proofs.AnswerLaws.{true_false}
 use Rattle.client_events.proofs.CommitLaws.{AcceptedIn, accepted_in, commit_call, commit_step, IsCommitted, after_commit, commit_ended, HasNotHeard, HasEnded, HearsNothing, hears_nothing, HasAsked, asks_so, accepted_acts}
 use Rattle.client_events.proofs.CompleteLaws.{moved_to, put_to, ok_said, office_asked}

@@ -1,10 +1,9 @@
 -- A writer whose request was answered, and what it hears and asks where its stamp is to be committed.
-use Rattle.std.proofs.Common.{◌≡◌, ◌≢◌, inl, inr, ◌⊎◌, ℕ, not, Bool, true, false, if◌then◌else◌, List, [], ◌∷◌, ◌++◌, slice_get, option_map, Option, Some, None, IfOk, Result, Ok, Err, refl, sym, ap, ◌∙◌, subst}
+use Rattle.std.proofs.Common.{◌≡◌, ◌≢◌, inl, inr, ◌⊎◌, not, Bool, true, false, if◌then◌else◌, [], slice_get, Option, Some, None, IfOk, Ok, Err, refl, sym, ap, ◌∙◌, subst}
 use Rattle.hd_base.specs.Faults.{FaultsIncreased}
 use Rattle.hd_base.specs.Links.{Inbox, IsEmptyInbox}
 use Rattle.hd_base.specs.declared.links.LinkIn as link_in
 use Rattle.hd_base.specs.declared.links.LinkOut as link_out
-use Rattle.hd_base.specs.declared.numbers.ConnId.{ConnId}
 use Rattle.hd_base.specs.declared.numbers.Stamp.{Stamp}
 use Rattle.hd_base.specs.declared.roads.Roads as roads
 use Rattle.ack_codec.specs.declared.responses.Response.{Response}
@@ -42,7 +41,6 @@ use Rattle.writer_core.specs.declared.phases.Setup.TheVariants as setup
 use Rattle.writer_core.specs.declared.records.WriterRecord.{WriterRecord}
 use Rattle.writer_core.specs.Phases.{remedy_after, remedy_in}
 use Rattle.writer_core.specs.Transitions.{Step, step, step_in, own_step, granted, granted_in, commit_given, phase_committed, refused, asks, ended, ended_as}
-use Rattle.client_events.specs.declared.faults.ClientFault.{ClientFault}
 use Rattle.client_events.specs.Committing.{IsAccepted}
 use Rattle.client_events.specs.Completing.{put_as, Puts}
 use Rattle.client_events.proofs.AnswerLaws.{fail_decided, first_there}

@@ -2,7 +2,6 @@
 use Rattle.std.proofs.Common.{◌≡◌, inl, inr, ℕ, not, Bool, true, false, if◌then◌else◌, List, [], ◌∷◌, ◌++◌, option_map, Option, Some, None, Result, Ok, Err, refl, sym, ap, ◌∙◌, subst}
 use Rattle.std.proofs.lemmas.List.{append-nil}
 use Rattle.hd_base.specs.Results.{Gives}
-use Rattle.hd_base.specs.declared.ends.Conn.{Conn}
 use Rattle.hd_base.specs.declared.links.LinkIn as link_in
 use Rattle.hd_base.specs.declared.links.LinkOut as link_out
 use Rattle.hd_base.specs.declared.numbers.BlockId.{BlockId}
@@ -24,11 +23,10 @@ use Rattle.world.specs.declared.events.Event.{Event}
 use Rattle.world.specs.declared.events.Event.TheVariants as event
 use Rattle.world.specs.Parts.{Told, Writing}
 use Rattle.world.specs.Parts as parts
-use Rattle.world.specs.Worlds.{World, Change, add, apply}
+use Rattle.world.specs.Worlds.{World, Change, apply}
 use Rattle.world.specs.Clients.{writing_as, writer_change, own_writer, writer_step, reached_answer, did, rest_in}
 use Rattle.world.specs.Events.{outcome, happens}
 use Rattle.world.specs.Primaries.{asks_writer}
-use Rattle.world_nets.specs.Nets.{IsNetOf, IsEndOf, is_over}
 use Rattle.world_nets.specs.Steps.{SendsBy}
 use Rattle.world_nets.specs.Flushing.{upper_flushes, action_sends}
 use Rattle.world_nets.proofs.DrawnLemmas.{own-makes, asks-make}
@@ -49,9 +47,9 @@ use Rattle.client_events.specs.declared.faults.ClientFault.TheVariants as fault
 use Rattle.client_events.specs.declared.pipes.Pipe.TheVariants as pipe
 use Rattle.client_events.specs.Acting.{said_by, said_in, AnswersIf}
 use Rattle.client_events.specs.Completing.{put_as, Puts, is_completed}
-use Rattle.client_events.specs.Events.{own_event, asked_world, CanComplete, CompleteLeft, CompleteEnds, CompleteShows}
+use Rattle.client_events.specs.Events.{own_event, CompleteLeft, CompleteShows}
 use Rattle.client_events.specs.Showing.{StayShown, ClientStands, ClientLeft}
-use Rattle.client_events.proofs.ActLaws.{HasDone, DoneTo, done_to, at_add, if_none}
+use Rattle.client_events.proofs.ActLaws.{DoneTo, done_to, at_add, if_none}
 
 -- WHAT THE WRITER ASKS
 

@@ -1,6 +1,6 @@
 -- The connection fits the writer after each event.
-use Rattle.std.proofs.Common.{◌≡◌, ℕ, Bool, true, false, List, [], ◌∷◌, slice_get, Option, Some, None, Result, Ok, Err, refl, sym, ap, ◌∙◌, subst, ◌⊎◌, inl, inr}
-use Rattle.std.specs.Prelude.{is_some, not}
+use Rattle.std.proofs.Common.{◌≡◌, Bool, true, false, slice_get, Option, Some, None, Result, Ok, Err, refl, sym, ap, ◌∙◌, subst, inl, inr}
+use Rattle.std.specs.Prelude.{is_some}
 use Rattle.hd_base.specs.declared.ends.Conn.{Conn}
 use Rattle.hd_base.specs.declared.links.LinkIn as link_in
 use Rattle.hd_base.specs.declared.links.LinkOut as link_out
@@ -22,7 +22,7 @@ use Rattle.pipe_recovery.specs.declared.rebuilding.RebuildStep.TheVariants as st
 use Rattle.pipe_recovery.specs.declared.rebuilding.Rebuilt.TheVariants as rebuilt
 use Rattle.pipe_recovery.specs.Acting.{MovesOn, has_own_step}
 use Rattle.pipe_recovery.specs.Asking.{Asks, AsksBy}
-use Rattle.pipe_recovery.specs.Reports.{failed_as, moved_if, Streams, Sees, AwaitsOn, Awaits, EndsAs, ReportsAccepted, ReportsAt, Reports}
+use Rattle.pipe_recovery.specs.Reports.{failed_as, moved_if, Streams, Sees, Awaits, ReportsAccepted, ReportsAt, Reports}
 use Rattle.pipe_recovery.specs.Steps as recovery
 use Rattle.pipe_recovery.specs.Steps.{fits_in, fits_accepted, is_stamped, Acts, Waits, FollowsLook, TakesAs, HearsOrAsks, HearsGiven, HearsSeen, HearsNextAs, ElseAsks, GoesOn, StillFits, Steps}
 use Rattle.writer_core.specs.declared.actions.Action.{Action}
@@ -51,7 +51,7 @@ use Rattle.client_events.specs.Committing.{IsAccepted, is_opened, IsReadOff}
 use Rattle.client_events.specs.Completing.{Puts, is_completed}
 use Rattle.client_events.specs.Events.{KeepsSetup, FitsCompleted}
 use Rattle.client_events.specs.Hearing.{Hears}
-use Rattle.client_events.specs.Sending.{IsFollowed, IsStreamed, FollowsSending}
+use Rattle.client_events.specs.Sending.{IsFollowed, FollowsSending}
 use Rattle.client_events.specs.Showing.{awaits, PipeFits, FitsAfter}
 use Rattle.client_events.specs.Steps.{IsSettled}
 use Rattle.client_events.proofs.PhaseLaws.{told_of_free, step_free, granted_free, told_unstamped, wants, granted_unstamped, free_quiet}

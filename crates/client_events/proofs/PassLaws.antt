@@ -1,5 +1,5 @@
 -- Roads know the connections that they knew, and their count of faults never falls, whatever a writer's event does with them; and the end that it leaves is known.
-use Rattle.std.proofs.Common.{◌≡◌, ◌||◌, is_some, ◌<◌, ◌≤◌, ◌+◌, inl, inr, ◌⊎◌, ℕ, Bool, true, false, Option, Some, None, IfOk, IfSome, option_map, Result, Ok, Err, refl, sym, ap, ◌∙◌, subst, arith}
+use Rattle.std.proofs.Common.{◌≡◌, ◌||◌, is_some, ◌≤◌, inl, inr, ◌⊎◌, Bool, true, false, Option, Some, None, IfOk, Result, Ok, Err, refl, sym, ap, ◌∙◌, subst}
 use Rattle.hd_base.specs.Channels.{Plain}
 use Rattle.hd_base.specs.Ends.{IsKnown, KeepsConnections}
 use Rattle.hd_base.specs.declared.ends.Conn.{Conn}
@@ -26,8 +26,7 @@ use Rattle.pipe_recovery.specs.Acting.{has_own_step}
 use Rattle.pipe_recovery.specs.Asking.{IsPut}
 use Rattle.pipe_recovery.specs.Dialling.{LinkIsKnown}
 use Rattle.pipe_recovery.specs.Exchanging.{ExchangesLink, BringsLink}
-use Rattle.pipe_recovery.specs.Hearing.{HeardState}
-use Rattle.pipe_recovery.specs.Reports.{Streams, Sees, Awaits, EndsAs, Reports, ReportsAccepted, ReportsAt, moved_if, failed_as}
+use Rattle.pipe_recovery.specs.Reports.{Streams, Sees, Awaits, Reports, ReportsAccepted, ReportsAt, moved_if, failed_as}
 use Rattle.pipe_recovery.specs.Steps.{fits_in, fits_accepted, is_stamped, keeps_link, TakesAs, FollowsLook, Waits, AsksAndDials, HearsNextAs, HearsSeen, HearsGiven, Hears, ElseAsks, HearsOrAsks, Acts, Settles, Steps}
 use Rattle.writer_core.specs.declared.actions.Action.{Action}
 use Rattle.writer_core.specs.declared.phases.Failure.{Failure}

@@ -1,5 +1,5 @@
 -- Where a writer is after what happens to it: whether it waits on the connection of a setup, or has a stamp to use.
-use Rattle.std.proofs.Common.{◌≡◌, ℕ, Bool, true, false, List, [], ◌∷◌, slice_get, if◌then◌else◌, Option, Some, None, Result, Ok, Err, refl, sym, ap, ◌∙◌, subst, ◌⊎◌, inl, inr}
+use Rattle.std.proofs.Common.{◌≡◌, ℕ, Bool, true, false, List, [], ◌∷◌, slice_get, if◌then◌else◌, Option, Some, None, Result, Ok, Err, refl}
 use Rattle.std.specs.Prelude.{nat_le}
 use Rattle.hd_base.specs.declared.numbers.NodeId.{NodeId}
 use Rattle.hd_base.specs.declared.numbers.Stamp.{Stamp}
@@ -17,7 +17,7 @@ use Rattle.packet_codec.specs.declared.packets.Packet.{Packet}
 use Rattle.pipe_recovery.specs.declared.hearing.Answer.{Answer}
 use Rattle.pipe_recovery.specs.declared.hearing.Answer.TheVariants as answer
 use Rattle.pipe_recovery.specs.Hearing.{told}
-use Rattle.pipe_recovery.specs.Steps.{fits_in, fits_accepted, is_stamped}
+use Rattle.pipe_recovery.specs.Steps.{is_stamped}
 use Rattle.writer_core.specs.declared.commands.Command.{Command}
 use Rattle.writer_core.specs.declared.commands.Command.TheVariants as command
 use Rattle.writer_core.specs.declared.phases.DuePacket.{DuePacket}
@@ -33,7 +33,7 @@ use Rattle.writer_core.specs.declared.phases.Verdict.{Verdict}
 use Rattle.writer_core.specs.declared.phases.Verdict.TheVariants as verdict
 use Rattle.writer_core.specs.declared.phases.Waiting.{Waiting}
 use Rattle.writer_core.specs.declared.records.WriterRecord.{WriterRecord}
-use Rattle.writer_core.specs.Phases.{remedy_after, remedy_in, remedy_at_ack, is_success, ack_verdict, bad_place, without}
+use Rattle.writer_core.specs.Phases.{remedy_after, remedy_in, remedy_at_ack, is_success, bad_place, without}
 use Rattle.writer_core.specs.Transitions.{own_step, step_in, taken_as, take_first, free_step, free_step_as, reach_step_as, reached_length, due_step, due_now, stream_step_as, failed_first, failed_step_as, dial_step_as, fail_for, fail_named, fail_at, dropped, ended, ended_as, phase_acked, acked, acked_as, acked_in, setup_answered, setup_answered_in, granted, granted_as, granted_in, refused, asks, stamped, reopened, stamp_given, committed_as, commit_given, complete_given}
 use Rattle.client_events.specs.Hearing.{told_of}
 use Rattle.client_events.specs.Showing.{awaits}

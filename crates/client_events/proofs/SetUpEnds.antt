@@ -1,12 +1,11 @@
 -- The world after a writer that wants a pipeline was refused a stamp, or has asked its first member.
-use Rattle.std.proofs.Common.{◌≡◌, ◌≢◌, ◌<◌, ◌≤◌, ◌+◌, ◌-◌, ◌==◌, inl, inr, ◌⊎◌, ℕ, not, Bool, true, false, if◌then◌else◌, List, [], ◌∷◌, ◌++◌, length, slice_get, is_some, is_err, option_map, Option, Some, None, IfSome, Result, Ok, Err, refl, sym, ap, ◌∙◌, subst, arith, eqb-true}
+use Rattle.std.proofs.Common.{◌≡◌, ◌≢◌, ◌<◌, ◌≤◌, ◌+◌, ◌-◌, ◌==◌, inl, inr, ◌⊎◌, ℕ, Bool, true, false, if◌then◌else◌, List, [], ◌∷◌, ◌++◌, length, slice_get, is_err, Option, Some, None, IfSome, Result, Ok, Err, refl, sym, ap, ◌∙◌, subst, arith, eqb-true}
 use Rattle.std.proofs.lemmas.Bool.Decides.{nat_tests}
 use Rattle.std.proofs.lemmas.List.{append-nil}
-use Rattle.std.specs.Prelude.{◌&&◌, ◌||◌, cond, min, nat_le}
+use Rattle.std.specs.Prelude.{cond, min, nat_le}
 use Rattle.hd_base.specs.Channels.{Plain}
-use Rattle.hd_base.specs.Ends.{has_failed, IsObservable}
+use Rattle.hd_base.specs.Ends.{IsObservable}
 use Rattle.hd_base.specs.Faults.{FaultsIncreased}
-use Rattle.hd_base.specs.Links.{Inbox, IsEmptyInbox}
 use Rattle.hd_base.specs.declared.ends.Conn.{Conn}
 use Rattle.hd_base.specs.declared.ends.RoadError.{RoadError}
 use Rattle.hd_base.specs.declared.links.LinkError.{LinkError}
@@ -19,42 +18,29 @@ use Rattle.hd_base.specs.declared.numbers.NodeId.{NodeId}
 use Rattle.hd_base.specs.declared.numbers.Stamp.{Stamp}
 use Rattle.hd_base.specs.declared.roads.Roads as roads
 use Rattle.hd_base.specs.declared.roads.TheConstants.{FIRST_PORT}
-use Rattle.ack_codec.specs.declared.responses.Response.{Response}
-use Rattle.frame_feed.specs.Kinds.{responses}
-use Rattle.link_messages.specs.declared.incoming.Next.{Next as Came}
-use Rattle.link_messages.specs.declared.incoming.Next.TheVariants as came
-use Rattle.link_messages.specs.Incomings.{IncomingState, nothing_received, coming, IsOver, FindsNone, NextEnds}
 use Rattle.link_pieces.specs.Pieces.{SendsNothing, SendsPiece, IsSending}
 use Rattle.link_pieces.specs.Roads.{KeepsInward, IsDialled, IsUnanswered, BringsEnd}
 use Rattle.member_core.specs.declared.requests.TheConstants.{MAX_PORT}
 use Rattle.name_core.specs.declared.desks.Desk as desks
-use Rattle.name_core.specs.Offices.{OfficeState, answer_to}
+use Rattle.name_core.specs.Offices.{answer_to}
 use Rattle.op_headers.specs.declared.ops.Op.{Op}
-use Rattle.op_headers.specs.Requests.{op_text, IsEncodable}
+use Rattle.op_headers.specs.Requests.{IsEncodable}
 use Rattle.packet_stream.specs.Streams.{StreamState}
 use Rattle.pipe_recovery.specs.declared.acting.Acted.{Acted}
 use Rattle.pipe_recovery.specs.declared.acting.Acted.TheVariants as acted
-use Rattle.pipe_recovery.specs.declared.hearing.Answer.TheVariants as answer
-use Rattle.pipe_recovery.specs.declared.hearing.Looked.{Looked}
-use Rattle.pipe_recovery.specs.declared.hearing.Looked.TheVariants as looked
 use Rattle.pipe_recovery.specs.declared.links.Link.{Link}
 use Rattle.pipe_recovery.specs.declared.rebuilding.Rebuild.{Rebuild}
 use Rattle.pipe_recovery.specs.declared.rebuilding.RebuildStep.{RebuildStep}
-use Rattle.pipe_recovery.specs.declared.rebuilding.RebuildStep.TheVariants as step
-use Rattle.pipe_recovery.specs.declared.rebuilding.Rebuilt.TheVariants as rebuilt
-use Rattle.pipe_recovery.specs.Acting.{has_own_step}
-use Rattle.pipe_recovery.specs.Asking.{Asks}
-use Rattle.pipe_recovery.specs.Dialling.{dial_port, asked_after, HasNoWay, Dials}
-use Rattle.pipe_recovery.specs.Exchanging.{Exchanges, ExchangesLink, BringsLink}
-use Rattle.pipe_recovery.specs.Hearing.{HeardState, nothing_heard, answer_of, looked_of, Looks, Receives}
-use Rattle.pipe_recovery.specs.Links.{LooksAt}
-use Rattle.pipe_recovery.specs.Reports.{Sees, AwaitsOn, EndsAs, Reports, ReportsAt, moved_if, failed_as}
-use Rattle.pipe_recovery.specs.Steps.{fits_in, is_stamped, keeps_link, GoesOn, AsksAndDials, Acts, SettlesTold, Steps}
+use Rattle.pipe_recovery.specs.Dialling.{dial_port, HasNoWay, Dials}
+use Rattle.pipe_recovery.specs.Exchanging.{Exchanges}
+use Rattle.pipe_recovery.specs.Hearing.{nothing_heard}
+use Rattle.pipe_recovery.specs.Reports.{Reports, ReportsAt}
+use Rattle.pipe_recovery.specs.Steps.{is_stamped, keeps_link, GoesOn, SettlesTold}
 use Rattle.road_traffic.proofs.CallLemmas.{sent-shows, quiet-shows, dialled-shows}
 use Rattle.road_traffic.proofs.ShowingLemmas.{roads-accepted}
 use Rattle.road_traffic.proofs.TrafficLemmas.{same-itself}
 use Rattle.road_traffic.specs.Laws.{Took}
-use Rattle.road_traffic.specs.Showing.{Net, IsSane, RoadsShow, EndIs, no_inbox, exchanged_net, dialled_net, accepted_net}
+use Rattle.road_traffic.specs.Showing.{Net, IsSane, EndIs, no_inbox, exchanged_net, dialled_net, accepted_net}
 use Rattle.road_traffic.specs.Traffic.{Traffic}
 use Rattle.world.specs.declared.events.Caller.TheVariants as caller
 use Rattle.world.specs.declared.events.Event.{Event}
@@ -62,7 +48,7 @@ use Rattle.world.specs.declared.events.Event.TheVariants as event
 use Rattle.world.specs.Parts.{Message, request, Writing, Dialled, by_writer}
 use Rattle.world.specs.Worlds.{World, Change, Dial, put, apply}
 use Rattle.world.specs.Connections.{place_of}
-use Rattle.world.specs.Clients.{writing_as, writer_change, dialled_change, dialling, rest_in}
+use Rattle.world.specs.Clients.{writer_change, dialled_change, dialling, rest_in}
 use Rattle.world.specs.Events.{outcome, happens}
 use Rattle.world.specs.Primaries.{asks_writer}
 use Rattle.world_nets.specs.Nets.{IsNetOf, IsEndOf, held_by, is_over}
@@ -82,35 +68,27 @@ use Rattle.writer_core.specs.declared.phases.Phase.TheVariants as phase
 use Rattle.writer_core.specs.declared.phases.Setup.{Setup}
 use Rattle.writer_core.specs.declared.records.WriterRecord.{WriterRecord}
 use Rattle.writer_core.specs.Requests.{request_for}
-use Rattle.writer_core.specs.Transitions.{Step, own_step, stamp_call, dial_step, granted, dialled, ended, is_connected, has_command_due}
-use Rattle.member_events.proofs.CauseLaws.{in_failed, out_failed, one_risen, still_risen}
+use Rattle.writer_core.specs.Transitions.{Step, own_step, stamp_call, granted, dialled, ended}
+use Rattle.member_events.proofs.CauseLaws.{out_failed, one_risen, still_risen}
 use Rattle.member_events.proofs.DownEvents.{held_took}
 use Rattle.member_events.proofs.EndLaws.{HeldAt, RoadsAt, Passed, end_from, end_passes}
-use Rattle.member_events.proofs.FaultEvents.{same_count}
 use Rattle.member_events.proofs.JoinEnds.{spelled_few}
 use Rattle.member_events.proofs.JoinWorld.{SentDown, sent_down}
 use Rattle.member_events.proofs.MemberLaws.{never}
 use Rattle.member_events.proofs.StepLaws.{last_of}
 use Rattle.member_events.proofs.WorldLaws.{at_put, happened}
 use Rattle.member_events.specs.Joining.{AcceptsDial}
-use Rattle.client_events.specs.declared.faults.ClientFault.{ClientFault}
-use Rattle.client_events.specs.declared.faults.ClientFault.TheVariants as fault
 use Rattle.client_events.specs.declared.pipes.Pipe.{Pipe}
 use Rattle.client_events.specs.declared.pipes.Pipe.TheVariants as pipe
-use Rattle.client_events.specs.declared.setting_up.SetUp.{SetUp}
-use Rattle.client_events.specs.Answering.{piped}
 use Rattle.client_events.specs.Events.{own_event, asked_world}
-use Rattle.client_events.specs.Faults.{HasRisen, IsCaused}
-use Rattle.client_events.specs.SettingUp.{IsWanted, is_requested, is_unreached, first_port, undialled, Accepts, MeetsBy, Meets, GivesUpLink, CanSetUp, SetUpLeft, FirstAsked, SetUpBy, SetUpEnds, SetUpShows}
-use Rattle.client_events.specs.Showing.{StayShown, LinkShows, LinkStands, PipeShows, ClientStands, ClientLeft}
+use Rattle.client_events.specs.SettingUp.{is_requested, is_unreached, first_port, CanSetUp, SetUpLeft, FirstAsked}
+use Rattle.client_events.specs.Showing.{LinkShows, LinkStands, PipeShows, ClientStands}
 use Rattle.client_events.proofs.ActLaws.{at_add}
-use Rattle.client_events.proofs.AnswerEnds.{given_back, no_conn, piped_as, piped_failed, none_ok, setup_none}
+use Rattle.client_events.proofs.AnswerEnds.{no_conn}
 use Rattle.client_events.proofs.AnswerLaws.{true_false, end_leaves}
-use Rattle.client_events.proofs.CommitEnds.{RestGoes, rest_moves, none_left, past_office}
-use Rattle.client_events.proofs.CommitLaws.{still_empty}
+use Rattle.client_events.proofs.CommitEnds.{rest_moves, none_left, past_office}
 use Rattle.client_events.proofs.CompleteLaws.{office_asked, OfficeAsked, put_to, PutTo}
-use Rattle.client_events.proofs.SettleLaws.{road_caused}
-use Rattle.client_events.proofs.SetUpLaws.{WantedIn, wanted_in, wanted_step, IsGiven, after_stamp, KeepsQueue, keeps_queue, refusal_reached, dial_to, dial_none, asked_phase, first_request, unreached_phase, no_own_step, some_members, Undialled, Unreached, Asked, HasDialled, dials_so, dials_none, StampAsked, stamp_asked}
+use Rattle.client_events.proofs.SetUpLaws.{wanted_step, IsGiven, KeepsQueue, keeps_queue, dial_to, dial_none, asked_phase, first_request, Undialled, Unreached, HasDialled, dials_so, dials_none, StampAsked}
 
 -- NUMBERS
 

@@ -1,16 +1,11 @@
 -- A writer that wants a pipeline: what its setup leaves, or why it failed.
-use Rattle.std.proofs.Common.{◌≡◌, ◌≢◌, ◌<◌, ◌≤◌, ◌+◌, ◌==◌, inl, inr, ◌⊎◌, ℕ, not, Bool, true, false, if◌then◌else◌, List, [], ◌∷◌, ◌++◌, length, slice_get, is_some, is_err, option_map, Option, Some, None, IfSome, Result, Ok, Err, refl, sym, ap, ◌∙◌, subst, arith, eqb-true}
-use Rattle.std.proofs.lemmas.Bool.Decides.{nat_tests}
-use Rattle.std.proofs.lemmas.List.{append-nil}
-use Rattle.std.specs.Prelude.{◌&&◌, ◌||◌, cond, min, nat_le}
-use Rattle.hd_base.specs.Channels.{Plain}
-use Rattle.hd_base.specs.Ends.{has_failed, IsObservable}
+use Rattle.std.proofs.Common.{◌≡◌, ◌≢◌, ◌≤◌, ◌+◌, inl, inr, ◌⊎◌, ℕ, Bool, true, false, if◌then◌else◌, List, [], ◌∷◌, ◌++◌, slice_get, is_some, Option, Some, None, IfSome, Result, Ok, Err, refl, sym, ap, ◌∙◌, subst, arith}
+use Rattle.std.specs.Prelude.{◌||◌}
+use Rattle.hd_base.specs.Ends.{has_failed}
 use Rattle.hd_base.specs.Faults.{FaultsIncreased}
-use Rattle.hd_base.specs.Links.{Inbox, IsEmptyInbox}
+use Rattle.hd_base.specs.Links.{Inbox}
 use Rattle.hd_base.specs.declared.ends.Conn.{Conn}
-use Rattle.hd_base.specs.declared.ends.RoadError.{RoadError}
 use Rattle.hd_base.specs.declared.links.LinkError.{LinkError}
-use Rattle.hd_base.specs.declared.links.LinkError.TheVariants as link_error
 use Rattle.hd_base.specs.declared.links.LinkIn as link_in
 use Rattle.hd_base.specs.declared.links.LinkOut as link_out
 use Rattle.hd_base.specs.declared.numbers.BlockId.{BlockId}
@@ -25,13 +20,11 @@ use Rattle.link_messages.specs.declared.incoming.Next.{Next as Came}
 use Rattle.link_messages.specs.declared.incoming.Next.TheVariants as came
 use Rattle.link_messages.specs.Incomings.{IncomingState, nothing_received, coming, IsOver, FindsNone, NextEnds}
 use Rattle.link_pieces.specs.Pieces.{SendsNothing, SendsPiece, IsSending}
-use Rattle.link_pieces.specs.Roads.{KeepsInward, IsDialled, IsUnanswered, BringsEnd}
+use Rattle.link_pieces.specs.Roads.{KeepsInward, IsDialled}
 use Rattle.member_core.specs.declared.requests.TheConstants.{MAX_PORT}
 use Rattle.name_core.specs.declared.desks.Desk as desks
-use Rattle.name_core.specs.Offices.{OfficeState, answer_to}
 use Rattle.op_headers.specs.declared.ops.Op.{Op}
-use Rattle.op_headers.specs.Requests.{op_text, IsEncodable}
-use Rattle.packet_stream.specs.Streams.{StreamState}
+use Rattle.op_headers.specs.Requests.{op_text}
 use Rattle.pipe_recovery.specs.declared.acting.Acted.{Acted}
 use Rattle.pipe_recovery.specs.declared.acting.Acted.TheVariants as acted
 use Rattle.pipe_recovery.specs.declared.hearing.Answer.{Answer}
@@ -44,75 +37,40 @@ use Rattle.pipe_recovery.specs.declared.rebuilding.RebuildStep.{RebuildStep}
 use Rattle.pipe_recovery.specs.declared.rebuilding.RebuildStep.TheVariants as step
 use Rattle.pipe_recovery.specs.declared.rebuilding.Rebuilt.TheVariants as rebuilt
 use Rattle.pipe_recovery.specs.Acting.{has_own_step}
-use Rattle.pipe_recovery.specs.Asking.{Asks}
-use Rattle.pipe_recovery.specs.Dialling.{dial_port, asked_after, HasNoWay, Dials}
-use Rattle.pipe_recovery.specs.Exchanging.{Exchanges, ExchangesLink, BringsLink}
+use Rattle.pipe_recovery.specs.Dialling.{dial_port, asked_after}
+use Rattle.pipe_recovery.specs.Exchanging.{Exchanges, ExchangesLink}
 use Rattle.pipe_recovery.specs.Hearing.{HeardState, nothing_heard, answer_of, looked_of, Looks, Receives}
 use Rattle.pipe_recovery.specs.Links.{LooksAt}
 use Rattle.pipe_recovery.specs.Reports.{Sees, Awaits, AwaitsOn, EndsAs, Reports, ReportsAt, moved_if, failed_as}
-use Rattle.pipe_recovery.specs.Steps.{StillFits, fits_in, is_stamped, keeps_link, GoesOn, AsksAndDials, Acts, SettlesTold, Steps}
-use Rattle.road_traffic.proofs.CallLemmas.{sent-shows, quiet-shows, dialled-shows}
-use Rattle.road_traffic.proofs.ShowingLemmas.{roads-accepted}
-use Rattle.road_traffic.proofs.TrafficLemmas.{same-itself}
+use Rattle.pipe_recovery.specs.Steps.{StillFits, fits_in, is_stamped, keeps_link, AsksAndDials, Acts, SettlesTold, Steps}
+use Rattle.road_traffic.proofs.CallLemmas.{dialled-shows}
 use Rattle.road_traffic.specs.Laws.{Took}
-use Rattle.road_traffic.specs.Showing.{Net, IsSane, RoadsShow, EndIs, no_inbox, exchanged_net, dialled_net, accepted_net}
-use Rattle.road_traffic.specs.Traffic.{Traffic}
-use Rattle.world.specs.declared.events.Caller.TheVariants as caller
-use Rattle.world.specs.declared.events.Event.{Event}
-use Rattle.world.specs.declared.events.Event.TheVariants as event
-use Rattle.world.specs.Parts.{Message, request, Writing}
-use Rattle.world.specs.Worlds.{World, Change, Dial, put, apply}
-use Rattle.world.specs.Clients.{writing_as, writer_change, dialled_change, dialling, rest_in}
-use Rattle.world.specs.Events.{outcome, happens}
-use Rattle.world.specs.Primaries.{asks_writer}
-use Rattle.world_nets.specs.Nets.{IsNetOf, IsEndOf, held_by, is_over}
-use Rattle.world_nets.specs.Rows.{text_of}
-use Rattle.world_nets.specs.Dials.{DialsBy, IsAccepted, flushes_with, made_net}
-use Rattle.world_nets.specs.Flushing.{writer_dial}
-use Rattle.world_nets.proofs.DrawnLemmas.{asks-make}
-use Rattle.world_nets.proofs.DialLemmas.{dialled-net, sane-stays, ends-made}
-use Rattle.world_nets.proofs.EndLemmas.{same-end}
-use Rattle.world_nets.proofs.FlushingLemmas.{writer-sends}
-use Rattle.world_nets.proofs.StepLemmas.{changed-over, followed}
-use Rattle.world_texts.specs.Texts.{SpellsText}
-use Rattle.writer_core.specs.declared.actions.Action.TheVariants as action
+use Rattle.road_traffic.specs.Showing.{Net, no_inbox}
+use Rattle.world.specs.Worlds.{World}
 use Rattle.writer_core.specs.declared.phases.Failure.{Failure}
 use Rattle.writer_core.specs.declared.phases.Phase.{Phase}
 use Rattle.writer_core.specs.declared.phases.Phase.TheVariants as phase
 use Rattle.writer_core.specs.declared.phases.Setup.{Setup}
 use Rattle.writer_core.specs.declared.records.WriterRecord.{WriterRecord}
-use Rattle.writer_core.specs.Requests.{request_for}
-use Rattle.writer_core.specs.Transitions.{Step, own_step, stamp_call, dial_step, granted, dialled, ended, is_connected, has_command_due}
-use Rattle.member_events.proofs.CauseLaws.{in_failed, out_failed, one_risen, still_risen}
-use Rattle.member_events.proofs.DownEvents.{held_took}
-use Rattle.member_events.proofs.EndLaws.{HeldAt, RoadsAt, Passed, end_from, end_passes}
-use Rattle.member_events.proofs.FaultEvents.{same_count}
-use Rattle.member_events.proofs.JoinEnds.{spelled_few}
-use Rattle.member_events.proofs.JoinWorld.{SentDown, sent_down}
-use Rattle.member_events.proofs.MemberLaws.{never}
-use Rattle.member_events.proofs.StepLaws.{last_of}
-use Rattle.member_events.proofs.WorldLaws.{at_put, happened}
-use Rattle.member_events.specs.Joining.{AcceptsDial}
+use Rattle.writer_core.specs.Transitions.{stamp_call, dialled, has_command_due}
+use Rattle.member_events.proofs.CauseLaws.{in_failed, one_risen}
+use Rattle.member_events.proofs.EndLaws.{RoadsAt}
 use Rattle.client_events.specs.declared.faults.ClientFault.{ClientFault}
 use Rattle.client_events.specs.declared.faults.ClientFault.TheVariants as fault
 use Rattle.client_events.specs.declared.pipes.Pipe.{Pipe}
 use Rattle.client_events.specs.declared.pipes.Pipe.TheVariants as pipe
 use Rattle.client_events.specs.declared.setting_up.SetUp.{SetUp}
 use Rattle.client_events.specs.Answering.{piped}
-use Rattle.client_events.specs.Events.{own_event, asked_world}
-use Rattle.client_events.specs.Faults.{HasRisen, IsCaused}
-use Rattle.client_events.specs.SettingUp.{IsWanted, is_requested, is_unreached, first_port, undialled, Accepts, MeetsBy, Meets, GivesUpLink, CanSetUp, SetUpLeft, FirstAsked, SetUpBy, SetUpEnds, SetUpShows, FitsSetUp}
+use Rattle.client_events.specs.Faults.{IsCaused}
+use Rattle.client_events.specs.SettingUp.{IsWanted, is_requested, is_unreached, first_port, undialled, Accepts, MeetsBy, Meets, GivesUpLink, CanSetUp, SetUpBy, SetUpEnds, SetUpShows, FitsSetUp}
 use Rattle.client_events.proofs.PhaseLaws.{ended_unstamped}
 use Rattle.client_events.proofs.FitLaws.{report_fits}
-use Rattle.client_events.specs.Showing.{PipeFits, StayShown, LinkShows, LinkStands, PipeShows, ClientStands, ClientLeft}
-use Rattle.client_events.proofs.ActLaws.{at_add}
-use Rattle.client_events.proofs.AnswerEnds.{given_back, no_conn, piped_as, piped_failed, none_ok, setup_none, piped_moved}
-use Rattle.client_events.proofs.AnswerLaws.{true_false, end_leaves}
-use Rattle.client_events.proofs.CommitEnds.{RestGoes, rest_moves, none_left, past_office}
+use Rattle.client_events.specs.Showing.{PipeFits, PipeShows, ClientStands}
+use Rattle.client_events.proofs.AnswerEnds.{piped_as, piped_failed, none_ok, setup_none, piped_moved}
+use Rattle.client_events.proofs.AnswerLaws.{true_false}
 use Rattle.client_events.proofs.CommitLaws.{still_empty}
-use Rattle.client_events.proofs.CompleteLaws.{office_asked, OfficeAsked, put_to, PutTo}
 use Rattle.client_events.proofs.SettleLaws.{road_caused}
-use Rattle.client_events.proofs.SetUpLaws.{WantedIn, wanted_in, wanted_step, IsGiven, after_stamp, KeepsQueue, keeps_queue, refusal_reached, dial_to, dial_none, asked_phase, first_request, unreached_phase, no_own_step, some_members, Undialled, Unreached, Asked, HasDialled, dials_so, dials_none, StampAsked, stamp_asked}
+use Rattle.client_events.proofs.SetUpLaws.{WantedIn, wanted_in, IsGiven, after_stamp, KeepsQueue, keeps_queue, refusal_reached, asked_phase, first_request, unreached_phase, no_own_step, some_members, Undialled, Unreached, Asked, HasDialled, StampAsked, stamp_asked}
 use Rattle.client_events.proofs.SetUpEnds.{first_is, not_requested, LeftOut, left_out_requested, DialledSo, GoneOn, goes_by, settle_none, reports_at, lost_risen, undialled_left, unreached_rose, FirstReached, dial_waits, first_left}
 use Rattle.member_events.proofs.FaultEvents.{rises_from}
 

@@ -1,15 +1,14 @@
 -- A writer that wants a pipeline: what it asks of the office, and how its first member is dialled.
-use Rattle.std.proofs.Common.{◌≡◌, ◌≢◌, ◌≤◌, ◌+◌, inl, inr, ◌⊎◌, ℕ, not, Bool, true, false, if◌then◌else◌, List, [], ◌∷◌, length, slice_get, is_some, is_none, option_map, Option, Some, None, IfOk, Result, Ok, Err, refl, sym, ap, ◌∙◌, subst, arith}
+use Rattle.std.proofs.Common.{◌≡◌, ◌≢◌, ◌≤◌, inl, inr, ◌⊎◌, ℕ, not, Bool, true, false, if◌then◌else◌, List, [], ◌∷◌, length, slice_get, is_some, is_none, Option, Some, None, IfOk, Ok, Err, refl, sym, ap, ◌∙◌, subst, arith}
 use Rattle.std.proofs.lemmas.Bool.Decides.{nat_tests}
 use Rattle.std.specs.Prelude.{◌&&◌, nat_le}
 use Rattle.hd_base.specs.declared.ends.Conn.{Conn}
-use Rattle.hd_base.specs.declared.links.LinkError.{LinkError}
 use Rattle.hd_base.specs.declared.links.LinkIn as link_in
 use Rattle.hd_base.specs.declared.links.LinkOut as link_out
 use Rattle.hd_base.specs.declared.numbers.NodeId.{NodeId}
 use Rattle.hd_base.specs.declared.numbers.Stamp.{Stamp}
 use Rattle.hd_base.specs.declared.roads.Roads as roads
-use Rattle.link_pieces.specs.Roads.{KeepsRoads, IsDialled, IsUnanswered}
+use Rattle.link_pieces.specs.Roads.{IsDialled, IsUnanswered}
 use Rattle.name_core.specs.declared.calls.OfficeAnswer.{OfficeAnswer}
 use Rattle.name_core.specs.declared.calls.OfficeAnswer.TheVariants as granted_as
 use Rattle.name_core.specs.declared.calls.OfficeCall.{OfficeCall}
@@ -28,15 +27,13 @@ use Rattle.pipe_recovery.specs.declared.dialling.Opened.TheVariants as opened
 use Rattle.pipe_recovery.specs.declared.links.Link.{Link}
 use Rattle.pipe_recovery.specs.Acting.{is_wait, has_own_step}
 use Rattle.pipe_recovery.specs.Asking.{asked_as, IsPut, Asks}
-use Rattle.pipe_recovery.specs.Dialling.{dial_port, IsSent, SendsTo, Sends, OpensAs, FollowsDial, HasNoWay, ReachesPort, Reaches, no_memory, no_way, dials, DialsBy, Dials}
+use Rattle.pipe_recovery.specs.Dialling.{dial_port, IsSent, SendsTo, Sends, OpensAs, FollowsDial, HasNoWay, Reaches, no_memory, no_way, dials, DialsBy, Dials}
 use Rattle.pipe_recovery.specs.Hearing.{nothing_heard}
-use Rattle.pipe_recovery.specs.Steps.{fits_in, is_stamped, keeps_link, GoesOn, AsksAndDials, Acts}
+use Rattle.pipe_recovery.specs.Steps.{is_stamped, GoesOn}
 use Rattle.world.specs.Parts.{Told}
-use Rattle.writer_core.specs.declared.actions.Action.{Action}
 use Rattle.writer_core.specs.declared.actions.Action.TheVariants as action
 use Rattle.writer_core.specs.declared.commands.Command.{Command}
 use Rattle.writer_core.specs.declared.phases.Failure.{Failure}
-use Rattle.writer_core.specs.declared.phases.Failure.TheVariants as failure
 use Rattle.writer_core.specs.declared.phases.Phase.{Phase}
 use Rattle.writer_core.specs.declared.phases.Phase.TheVariants as phase
 use Rattle.writer_core.specs.declared.phases.Remedy.{Remedy}
@@ -47,10 +44,10 @@ use Rattle.writer_core.specs.declared.phases.Waiting.{Waiting}
 use Rattle.writer_core.specs.declared.records.WriterRecord.{WriterRecord}
 use Rattle.writer_core.specs.Phases.{remedy_after, without}
 use Rattle.writer_core.specs.Requests.{request_for}
-use Rattle.writer_core.specs.Transitions.{Step, step, step_in, own_step, free_step, free_step_as, take_first, stamp_call, dial_step, dial_step_as, granted, granted_in, stamp_given, begin_session, refused, asks, dialled, dialled_in, dropped, fail_named, ended, has_command_due}
+use Rattle.writer_core.specs.Transitions.{Step, step, step_in, own_step, free_step_as, take_first, stamp_call, dial_step, dial_step_as, granted, granted_in, stamp_given, begin_session, refused, asks, dialled, dialled_in, dropped, fail_named, has_command_due}
 use Rattle.client_events.specs.Completing.{put_as, Puts}
-use Rattle.client_events.specs.SettingUp.{IsWanted, is_requested, is_unreached}
-use Rattle.client_events.proofs.AnswerLaws.{first_there, end_leaves}
+use Rattle.client_events.specs.SettingUp.{IsWanted, is_unreached}
+use Rattle.client_events.proofs.AnswerLaws.{first_there}
 use Rattle.client_events.proofs.CommitLaws.{asks_by, put_ok}
 use Rattle.client_events.proofs.CompleteLaws.{no_memory as not_memory}
 

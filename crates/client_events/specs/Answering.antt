@@ -1,5 +1,5 @@
 -- What a writer hears that waits for the answer to its request.
-use Rattle.std.specs.Prelude.{◌≡◌, ℕ, Bool, false, option_map, Option, Some, None, Result, Ok, Err}
+use Rattle.std.specs.Prelude.{ℕ, Bool, false, option_map, Option, Some, None, Result, Ok, Err}
 use Rattle.hd_base.specs.declared.numbers.ConnId.{ConnId}
 use Rattle.hd_base.specs.declared.links.LinkIn as link_in
 use Rattle.hd_base.specs.declared.links.LinkOut as link_out

@@ -1,6 +1,6 @@
 -- What a writer's own step is, and which events it makes.
 use Rattle.std.proofs.lemmas.Bool.Decides.{nat_tests}
-use Rattle.std.proofs.Common.{arith, suc, ◌≡◌, ℕ, Bool, true, false, List, [], ◌∷◌, ◌++◌, if◌then◌else◌, slice_get, Option, Some, None, IfSome, refl, sym, ap, ◌∙◌, subst}
+use Rattle.std.proofs.Common.{arith, suc, ◌≡◌, ℕ, Bool, true, false, List, [], ◌∷◌, ◌++◌, if◌then◌else◌, slice_get, Option, Some, None, refl, sym, ap, ◌∙◌}
 use Rattle.std.specs.Prelude.{◌==◌, option_to_list, length, drop, ◌||◌, ◌&&◌, is_some, is_none, not}
 use Rattle.hd_base.specs.declared.numbers.BlockId.{BlockId}
 use Rattle.hd_base.specs.declared.numbers.NodeId.{NodeId}
@@ -23,7 +23,7 @@ use Rattle.writer_core.specs.declared.phases.Setup.{Setup}
 use Rattle.writer_core.specs.declared.phases.Setup.TheVariants as setup
 use Rattle.writer_core.specs.declared.phases.Waiting.{Waiting}
 use Rattle.writer_core.specs.declared.records.WriterRecord.{WriterRecord}
-use Rattle.writer_core.specs.Transitions.{fresh, own_step, step_in, has_step, is_action, take_first, free_step, free_step_as, reach_step_as, reached_length, due_step, due_now, form_step, stream_step_as, failed_command, failed_first, failed_step_as, dial_step_as}
+use Rattle.writer_core.specs.Transitions.{fresh, own_step, step_in, has_step, is_action, take_first, free_step, free_step_as, reach_step_as, reached_length, due_step, due_now, stream_step_as, failed_first, failed_step_as, dial_step_as}
 use Rattle.play_model.specs.Dues.{asking, acting, own_events, queue_left}
 use Rattle.client_events.specs.Committing.{IsAccepted}
 use Rattle.client_events.specs.SettingUp.{IsWanted}

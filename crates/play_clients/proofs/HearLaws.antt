@@ -1,7 +1,6 @@
 -- A client that hears, and the world after it.
-use Rattle.std.proofs.Common.{◌≡◌, ◌≢◌, ◌<◌, ℕ, Bool, true, false, List, [], ◌∷◌, ◌++◌, map, if◌then◌else◌, Option, Some, None, Result, Ok, Err, IfSome, refl, sym, ap, ◌∙◌, subst, append-nil, eqb-true, ◌⊎◌, inl, inr}
+use Rattle.std.proofs.Common.{◌≡◌, ◌≢◌, ℕ, Bool, true, false, List, [], ◌∷◌, ◌++◌, map, if◌then◌else◌, Option, Some, None, Result, Ok, Err, IfSome, refl, sym, ap, ◌∙◌, subst, append-nil, eqb-true}
 use Rattle.std.specs.Prelude.{◌==◌, ◌&&◌, is_some, is_none, nat_lt}
-use Rattle.hd_base.specs.declared.ends.Conn.{Conn}
 use Rattle.hd_base.specs.declared.numbers.ConnId.{ConnId}
 use Rattle.hd_base.specs.declared.numbers.NodeId.{NodeId}
 use Rattle.hd_base.specs.declared.links.LinkIn as link_in
@@ -9,14 +8,12 @@ use Rattle.hd_base.specs.declared.links.LinkOut as link_out
 use Rattle.hd_base.specs.declared.roads.Roads as roads
 use Rattle.name_core.specs.declared.desks.Desk as desks
 use Rattle.pipe_recovery.specs.declared.links.Link.{Link}
-use Rattle.pipe_recovery.specs.declared.rebuilding.Rebuild.{Rebuild}
-use Rattle.pipe_recovery.specs.Steps.{fits_accepted, fits_in, is_stamped}
+use Rattle.pipe_recovery.specs.Steps.{fits_in, is_stamped}
 use Rattle.road_traffic.specs.Showing.{Net}
-use Rattle.link_messages.specs.Incomings.{IncomingState}
 use Rattle.world.specs.declared.events.Event.TheVariants as event
 use Rattle.world.specs.Parts as parts
 use Rattle.world.specs.Parts.{Message, request, packet, ack, response, read_status, recovery_answer, Upper, by_writer}
-use Rattle.world.specs.Worlds.{World, Change, apply, add}
+use Rattle.world.specs.Worlds.{World, apply}
 use Rattle.world.specs.Connections.{Next, message, the_end, next_up, up_taken, is_conn}
 use Rattle.world.specs.Events.{happens}
 use Rattle.world.specs.Enabled.{takes_above}
@@ -44,9 +41,9 @@ use Rattle.client_events.specs.Faults as faults
 use Rattle.client_events.specs.Showing as showing
 use Rattle.client_events.specs.Showing.{PipeShows, LinkShows, awaits, PipeFits}
 use Rattle.play_clients.specs.declared.clients.Client.{Client}
-use Rattle.play_clients.specs.Clients.{known_of, said_as, ClientShows, ClientStands}
-use Rattle.play_clients.specs.Events.{IsCaused, IsUncommitted, HearIsLawful, HearLeft, HearEnds, HearShows}
-use Rattle.play_clients.specs.Hearing.{awaits_answer, SetupHears, SetupHearsIf, PipeHears}
+use Rattle.play_clients.specs.Clients.{known_of, said_as, ClientShows}
+use Rattle.play_clients.specs.Events.{IsCaused, IsUncommitted, HearIsLawful, HearLeft, HearShows}
+use Rattle.play_clients.specs.Hearing.{awaits_answer, SetupHearsIf, PipeHears}
 
 -- WHAT IS DUE
 

@@ -1,6 +1,6 @@
 -- A client's own step, and the world after it.
-use Rattle.std.proofs.Common.{◌≡◌, ◌≢◌, ◌≤◌, ◌+◌, ℕ, Bool, true, false, List, [], ◌∷◌, ◌++◌, map, slice_get, Option, Some, None, IfSome, Result, Ok, Err, refl, sym, ap, ◌∙◌, subst, append-nil, ◌⊎◌, inl, inr}
-use Rattle.std.specs.Prelude.{◌==◌, ◌&&◌, ◌||◌, is_some, is_none, drop, not}
+use Rattle.std.proofs.Common.{◌≡◌, ◌≢◌, ◌≤◌, ◌+◌, ℕ, Bool, true, false, List, [], ◌∷◌, ◌++◌, map, slice_get, Option, Some, None, IfSome, Result, Ok, Err, refl, sym, ap, ◌∙◌, subst, append-nil}
+use Rattle.std.specs.Prelude.{is_some}
 use Rattle.hd_base.specs.declared.ends.Conn.{Conn}
 use Rattle.hd_base.specs.declared.numbers.BlockId.{BlockId}
 use Rattle.hd_base.specs.declared.numbers.ConnId.{ConnId}
@@ -15,15 +15,13 @@ use Rattle.name_core.specs.declared.desks.Desk as desks
 use Rattle.pipe_recovery.specs.declared.rebuilding.Rebuild.{Rebuild}
 use Rattle.pipe_recovery.specs.Steps.{fits_in, fits_accepted, is_stamped}
 use Rattle.road_traffic.specs.Showing.{Net, EndIs}
-use Rattle.world.specs.declared.events.Event.{Event}
 use Rattle.world.specs.declared.events.TakenCommand.{TakenCommand}
 use Rattle.world.specs.Parts as parts
 use Rattle.world.specs.Parts.{by_writer, idle}
 use Rattle.world.specs.Worlds.{World}
-use Rattle.world.specs.Events.{happens, is_enabled, run}
+use Rattle.world.specs.Events.{happens}
 use Rattle.world_nets.specs.Nets.{IsEndOf, held_by}
 use Rattle.writer_core.specs.declared.actions.Action.{Action}
-use Rattle.writer_core.specs.declared.actions.Action.TheVariants as action
 use Rattle.writer_core.specs.declared.commands.Command.{Command}
 use Rattle.writer_core.specs.declared.phases.Phase.{Phase}
 use Rattle.writer_core.specs.declared.phases.Phase.TheVariants as phase
@@ -31,10 +29,9 @@ use Rattle.writer_core.specs.declared.phases.Setup.{Setup}
 use Rattle.writer_core.specs.declared.phases.Setup.TheVariants as setup
 use Rattle.writer_core.specs.declared.phases.Waiting.{Waiting}
 use Rattle.writer_core.specs.declared.records.WriterRecord.{WriterRecord}
-use Rattle.writer_core.specs.Transitions.{has_command_due, is_connected, own_step, step_in, has_step, is_action, take_first, free_step_as}
+use Rattle.writer_core.specs.Transitions.{has_command_due, is_connected, own_step, step_in, is_action, take_first, free_step_as}
 use Rattle.play_model.specs.declared.dues.Due.TheVariants as due
-use Rattle.play_model.specs.Dues.{Queues, is_due, due_events, queues_after, own_events, queue_left, asking, acting}
-use Rattle.member_events.specs.Showing.{ShowsWorld}
+use Rattle.play_model.specs.Dues.{Queues, queues_after, own_events, queue_left, asking, acting}
 use Rattle.member_events.proofs.WorldLaws.{at_put}
 use Rattle.client_events.specs.declared.acting.Acted.{Acted}
 use Rattle.client_events.specs.declared.acting.Said.{Said}
@@ -54,14 +51,13 @@ use Rattle.client_events.specs.Showing.{PipeShows, PipeFits, OthersStay, awaits}
 use Rattle.play_clients.specs.declared.clients.Client.{Client}
 use Rattle.play_clients.specs.declared.clients.First.{First}
 use Rattle.play_clients.specs.declared.clients.Owned.{Owned}
-use Rattle.play_clients.specs.declared.courses.Course.{Course}
 use Rattle.play_clients.specs.declared.courses.Course.TheVariants as course
 use Rattle.play_clients.specs.Clients.{known_of, said_as, ClientShows, ClientStands, ClientLeft}
 use Rattle.play_clients.specs.Courses.{course_of, course_in}
-use Rattle.play_clients.specs.Events.{IsCaused, CanActAlone, CanHaveCommitted, CanAskFirst, CanOwn, CanOwnAs, owned_events, FirstShows, OwnLeft, OwnEnds, OwnShows}
-use Rattle.play_clients.specs.Owning.{IsWith, said_list, FollowsActed, ActsBy, ActsIf, Acts, FollowsSaid, CompletesBy, CompletesIf, Completes, setup_of, CommitsBy, CommitsFitting, CommitsIf, Commits, first_node, first_of, FollowsSetUp, SetsUpBy, SetsUpFitting, SetsUpIf, SetsUp}
-use Rattle.play_clients.proofs.CourseLaws.{IsCourse, IsDone, course_is, acts_done, commits_done, sets_up_done, completes_done, wanted_so, accepted_so, finished_so}
-use Rattle.play_clients.proofs.HearLaws.{caused, waits_on, FailsAs}
+use Rattle.play_clients.specs.Events.{IsCaused, CanActAlone, CanHaveCommitted, CanAskFirst, FirstShows, OwnLeft}
+use Rattle.play_clients.specs.Owning.{IsWith, said_list, FollowsActed, ActsBy, FollowsSaid, CompletesBy, CommitsBy, first_node, first_of, FollowsSetUp, SetsUpBy}
+use Rattle.play_clients.proofs.CourseLaws.{IsCourse, IsDone, course_is, acts_done, commits_done, sets_up_done, completes_done, finished_so}
+use Rattle.play_clients.proofs.HearLaws.{caused}
 
 -- ANSWERS
 
@@ -228,7 +224,7 @@ module _ {D R I O : Type 0} (d : desks.Ghosts D) (r : roads.Ghosts R I O) (i : l
           let fits_before : PipeFits known.phase old.pipe = subst (λ (x : Option WriterRecord). PipeFits (known_of old.block x).phase old.pipe) is c.fits in
           let keeps : events.KeepsSetup old.pipe (own_step known) = keeps_setup known old.pipe k fits_before quiet in
           let h : events.StepLeft r i o w net v old.block.0 w.office after acted road' = shows w net old.block w.office None true (record { roads_are = stands.roads_are; writer = refl; told = c.told; pipe_is = c.pipe_is; office_is = refl })
-              (record { given_is = sym known_is; enabled = can.enabled; keeps = keeps; spelled = can.spelled }) in
+          (record { given_is = sym known_is; enabled = can.enabled; keeps = keeps; spelled = can.spelled }) in
           let does : IsDone (own_step known).action old.block.0 (queues old.block.0) (acting old.block.0 None ∷ []) (queues old.block.0) = acts_done known old.block.0 (queues old.block.0) k in
           record {
             made = h.shows.made;
@@ -327,7 +323,7 @@ module _ {D R I O : Type 0} (d : desks.Ghosts D) (r : roads.Ghosts R I O) (i : l
           let known_is : (w.writers old.block.0).known ≡ known = c.writer ∙ ap (known_of old.block) is in
           let v : World = asked_world w old.block true in
           let h = shows w net old.block true (record { roads_are = stands.roads_are; writer = sym known_is; told = c.told; pipe_is = linked; office_is = refl })
-              (record { office = stands.office_is; members = subst (λ (x : WriterRecord). x.members ≢ []) known_is can.members; untaken = can.untaken }) in
+          (record { office = stands.office_is; members = subst (λ (x : WriterRecord). x.members ≢ []) known_is can.members; untaken = can.untaken }) in
           let does : IsDone (own_step known).action old.block.0 (queues old.block.0) (asking old.block.0 ∷ acting old.block.0 None ∷ []) (queues old.block.0) = commits_done known old.block.0 (queues old.block.0) (course_is known course.Commits of (λ e. cc)) in
           record {
             made = h.1.shows.made;
@@ -388,14 +384,14 @@ module _ {D R I O : Type 0} (d : desks.Ghosts D) (r : roads.Ghosts R I O) (i : l
           let known_is : (w.writers old.block.0).known ≡ known = c.writer ∙ ap (known_of old.block) is in
           let v : World = asked_world w old.block true in
           let h = set_up_by w net old.block next after desk' road' left.pipe left.first (shows w net old.block (record { roads_are = stands.roads_are; writer = sym known_is; told = c.told; pipe_is = linked; office_is = refl })
-              (record {
-                office = stands.office_is;
-                next_is = can.next_is;
-                no_command = subst (λ (x : WriterRecord). has_command_due x ≡ false) known_is can.no_command;
-                runs = subst (λ (x : WriterRecord). IfSome (slice_get x.members 0) (λ n. w.running n.0 ≡ true)) known_is can.runs;
-                has_port = subst (λ (x : WriterRecord). IfSome (slice_get x.members 0) (λ n. FIRST_PORT + n.0 ≤ MAX_PORT)) known_is can.has_port;
-                spelled = can.spelled;
-              })) can.undialled in
+          (record {
+            office = stands.office_is;
+            next_is = can.next_is;
+            no_command = subst (λ (x : WriterRecord). has_command_due x ≡ false) known_is can.no_command;
+            runs = subst (λ (x : WriterRecord). IfSome (slice_get x.members 0) (λ n. w.running n.0 ≡ true)) known_is can.runs;
+            has_port = subst (λ (x : WriterRecord). IfSome (slice_get x.members 0) (λ n. FIRST_PORT + n.0 ≤ MAX_PORT)) known_is can.has_port;
+            spelled = can.spelled;
+          })) can.undialled in
           let does : IsDone (own_step known).action old.block.0 (queues old.block.0) (asking old.block.0 ∷ acting old.block.0 None ∷ []) (queues old.block.0) = sets_up_done known old.block.0 (queues old.block.0) wanted in
           let same : first ≡ first_of after left.first = ap (ok_of first) follows.1 in
           record {

@@ -1,5 +1,5 @@
 -- A client's own step shows the world after it, whatever the step is.
-use Rattle.std.proofs.Common.{◌≡◌, ◌≢◌, ℕ, Bool, true, false, List, slice_get, Option, Some, None, IfSome, Result, Ok, Err, refl, sym, ap, ◌∙◌, subst, ◌⊎◌, inl, inr}
+use Rattle.std.proofs.Common.{◌≡◌, ℕ, Bool, true, false, List, slice_get, Option, Some, None, IfSome, Result, Ok, Err, refl, sym, ap, ◌∙◌, subst, ◌⊎◌, inl, inr}
 use Rattle.std.specs.Prelude.{◌||◌, ◌&&◌, is_some, is_none}
 use Rattle.hd_base.specs.declared.numbers.BlockId.{BlockId}
 use Rattle.hd_base.specs.declared.numbers.ConnId.{ConnId}
@@ -9,7 +9,7 @@ use Rattle.hd_base.specs.declared.links.LinkOut as link_out
 use Rattle.hd_base.specs.declared.roads.Roads as roads
 use Rattle.name_core.specs.declared.desks.Desk as desks
 use Rattle.pipe_recovery.specs.declared.rebuilding.Rebuild.{Rebuild}
-use Rattle.pipe_recovery.specs.Steps.{fits_in, fits_accepted, is_stamped}
+use Rattle.pipe_recovery.specs.Steps.{fits_in, is_stamped}
 use Rattle.road_traffic.specs.Showing.{Net}
 use Rattle.world.specs.declared.events.TakenCommand.{TakenCommand}
 use Rattle.world.specs.Worlds.{World}
@@ -20,7 +20,7 @@ use Rattle.writer_core.specs.declared.phases.Setup.TheVariants as setup
 use Rattle.writer_core.specs.declared.records.WriterRecord.{WriterRecord}
 use Rattle.writer_core.specs.Transitions.{has_step, is_connected}
 use Rattle.play_model.specs.declared.dues.Due.TheVariants as due
-use Rattle.play_model.specs.Dues.{Queues, is_due, takes_due}
+use Rattle.play_model.specs.Dues.{Queues, is_due}
 use Rattle.client_events.specs.declared.faults.ClientFault.{ClientFault}
 use Rattle.client_events.specs.declared.faults.ClientFault.TheVariants as fault
 use Rattle.client_events.specs.declared.pipes.Pipe.{Pipe}
@@ -34,12 +34,12 @@ use Rattle.play_clients.specs.declared.courses.Course.{Course}
 use Rattle.play_clients.specs.declared.courses.Course.TheVariants as course
 use Rattle.play_clients.specs.Clients.{known_of, ClientShows, ClientStands}
 use Rattle.play_clients.specs.Courses.{course_of, course_in}
-use Rattle.play_clients.specs.Events.{IsCaused, CanTake, CanActAlone, CanHaveCommitted, CanAskFirst, CanOwn, CanOwnAs, OwnEnds, OwnShows}
+use Rattle.play_clients.specs.Events.{IsCaused, CanTake, CanOwn, CanOwnAs, OwnEnds, OwnShows}
 use Rattle.play_clients.specs.Owning.{ActsBy, ActsIf, Acts, taken_of, TakesBy, TakesIf, Takes, CompletesBy, CompletesIf, Completes, setup_of, CommitsBy, CommitsFitting, CommitsIf, Commits, SetsUpBy, SetsUpFitting, SetsUpIf, SetsUp}
-use Rattle.play_clients.proofs.CourseLaws.{fresh_course, IsCourse, course_is, takes_is, wanted_so, accepted_so}
+use Rattle.play_clients.proofs.CourseLaws.{fresh_course, course_is, takes_is, wanted_so}
 use Rattle.play_clients.proofs.HearLaws.{FailsAs}
 use Rattle.play_clients.proofs.OwnLaws.{alone, asked, acts_left, acts_failed, completes_left, completes_failed, commits_left, commits_failed, sets_up_left, sets_up_failed, memory_caused}
-use Rattle.play_clients.proofs.TakeLaws.{took, takes_left, takes_failed}
+use Rattle.play_clients.proofs.TakeLaws.{takes_left, takes_failed}
 
 -- WHERE THERE IS A WRITER
 

@@ -1,5 +1,5 @@
 -- The parts of an own step, where there is a writer.
-use Rattle.std.proofs.Common.{◌≡◌, Bool, true, false, List, slice_get, Option, Some, None, Result, Ok, Err, refl, sym, ap, ◌∙◌, subst, ◌⊎◌, inl, inr, append-nil}
+use Rattle.std.proofs.Common.{◌≡◌, Bool, true, false, slice_get, Option, Some, Result, Ok, Err, sym, ap, ◌∙◌, subst, inr, append-nil}
 use Rattle.std.specs.Prelude.{is_some, drop}
 use Rattle.hd_base.specs.declared.numbers.ConnId.{ConnId}
 use Rattle.hd_base.specs.declared.links.LinkIn as link_in
@@ -13,7 +13,6 @@ use Rattle.writer_core.specs.declared.records.WriterRecord.{WriterRecord}
 use Rattle.client_events.specs.declared.acting.Acted.{Acted}
 use Rattle.client_events.specs.declared.acting.Said.{Said}
 use Rattle.client_events.specs.declared.faults.ClientFault.{ClientFault}
-use Rattle.client_events.specs.declared.faults.ClientFault.TheVariants as fault
 use Rattle.client_events.specs.declared.pipes.Pipe.{Pipe}
 use Rattle.client_events.specs.declared.pipes.Pipe.TheVariants as pipe
 use Rattle.client_events.specs.declared.setting_up.SetUp.{SetUp}

@@ -1,6 +1,6 @@
 -- A client whose writer takes a command, and the world after it.
-use Rattle.std.proofs.Common.{◌≡◌, ℕ, Bool, true, false, List, [], ◌∷◌, ◌++◌, if◌then◌else◌, slice_get, Option, Some, None, IfSome, Result, Ok, Err, refl, sym, ap, ◌∙◌, subst, ◌⊎◌, inl, inr}
-use Rattle.std.specs.Prelude.{◌&&◌, ◌||◌, is_some, is_none, drop, not, option_map}
+use Rattle.std.proofs.Common.{◌≡◌, ℕ, Bool, true, false, List, [], ◌∷◌, ◌++◌, if◌then◌else◌, slice_get, Option, Some, None, Result, Ok, Err, refl, sym, ap, ◌∙◌, subst}
+use Rattle.std.specs.Prelude.{◌&&◌, is_some, drop, not, option_map}
 use Rattle.hd_base.specs.declared.numbers.BlockId.{BlockId}
 use Rattle.hd_base.specs.declared.numbers.ConnId.{ConnId}
 use Rattle.hd_base.specs.declared.numbers.Stamp.{Stamp}
@@ -16,7 +16,7 @@ use Rattle.world.specs.Parts.{Told}
 use Rattle.world.specs.Worlds.{World, Change, apply}
 use Rattle.world.specs.Events.{happens, is_enabled, outcome}
 use Rattle.world.specs.Enabled.{is_deed}
-use Rattle.world.specs.Clients.{is_formed, ruled, is_empty, did, did_step, takes_step, takes_given, takes_command, writer_step, own_writer}
+use Rattle.world.specs.Clients.{is_formed, ruled, is_empty, did, takes_given, takes_command, writer_step, own_writer}
 use Rattle.world_orders.specs.Orders.{is_requested}
 use Rattle.writer_core.specs.declared.actions.Action.{Action}
 use Rattle.writer_core.specs.declared.actions.Action.TheVariants as action
@@ -29,13 +29,11 @@ use Rattle.writer_core.specs.declared.phases.Setup.TheVariants as setup
 use Rattle.writer_core.specs.declared.phases.Waiting.{Waiting}
 use Rattle.writer_core.specs.declared.records.WriterRecord.{WriterRecord}
 use Rattle.writer_core.specs.Commands.{admitted, fits, is_too_much}
-use Rattle.writer_core.specs.Transitions.{Step, fresh, given, given_as, own_step, step_in, has_step, is_action, is_connected, take_first, free_step, free_step_as}
-use Rattle.play_model.specs.declared.dues.Due.TheVariants as due
+use Rattle.writer_core.specs.Transitions.{Step, fresh, given, given_as, own_step, step_in, has_step, is_action, is_connected, take_first, free_step_as}
 use Rattle.play_model.specs.Dues.{Queues, own_events, acting}
 use Rattle.client_events.specs.declared.acting.Acted.{Acted}
 use Rattle.client_events.specs.declared.acting.Said.{Said}
 use Rattle.client_events.specs.declared.faults.ClientFault.{ClientFault}
-use Rattle.client_events.specs.declared.faults.ClientFault.TheVariants as fault
 use Rattle.client_events.specs.declared.pipes.Pipe.{Pipe}
 use Rattle.client_events.specs.declared.pipes.Pipe.TheVariants as pipe
 use Rattle.client_events.specs.Events as events
@@ -43,12 +41,11 @@ use Rattle.client_events.specs.Events.{own_event, given_to}
 use Rattle.client_events.specs.Showing.{PipeFits, awaits}
 use Rattle.play_clients.specs.declared.clients.Client.{Client}
 use Rattle.play_clients.specs.declared.clients.Owned.{Owned}
-use Rattle.play_clients.specs.declared.courses.Course.{Course}
 use Rattle.play_clients.specs.declared.courses.Course.TheVariants as course
-use Rattle.play_clients.specs.Clients.{known_of, ClientShows, ClientStands, ClientLeft}
+use Rattle.play_clients.specs.Clients.{known_of, ClientShows, ClientStands}
 use Rattle.play_clients.specs.Courses.{course_of}
 use Rattle.play_clients.specs.Events.{IsCaused, IsFirst, CanTake, OwnLeft}
-use Rattle.play_clients.specs.Owning.{made_as, said_list, IsWith, FollowsActed, ActsBy, ActsIf, Acts, GivesBy, Gives, taken_of, TakesBy}
+use Rattle.play_clients.specs.Owning.{made_as, said_list, FollowsActed, ActsBy, ActsIf, Acts, GivesBy, taken_of, TakesBy}
 use Rattle.play_clients.proofs.CourseLaws.{IsDone, takes_is, takes_done}
 use Rattle.play_clients.proofs.OwnLaws.{client_left_of, queue_same, same_action, memory_caused}
 use Rattle.play_clients.proofs.HearLaws.{caused}
@@ -210,7 +207,7 @@ module _ {D R I O : Type 0} (d : desks.Ghosts D) (r : roads.Ghosts R I O) (i : l
       let deed : is_deed (own_step known).action ≡ true = ap (λ (y : WriterRecord). is_deed (own_step y).action) given_is ∙ does.deed in
       let phase_is : known.phase ≡ x.phase = ap (λ (y : WriterRecord). y.phase) given_is ∙ (given_to_phase (w.writers old.block.0).known t ∙ ap (λ (y : WriterRecord). y.phase) c.writer) in
       let connects : awaits x.phase ≡ true → is_connected (own_step known).writer.phase ≡ true = λ a.
-          ap (λ (y : WriterRecord). is_connected (own_step y).writer.phase) given_is ∙ can.keeps (ap (λ (y : WriterRecord). awaits y.phase) c.writer ∙ a) in
+      ap (λ (y : WriterRecord). is_connected (own_step y).writer.phase) given_is ∙ can.keeps (ap (λ (y : WriterRecord). awaits y.phase) c.writer ∙ a) in
       let keeps : events.KeepsSetup old.pipe (own_step known) = takes_keeps x known old.pipe (takes_is x of) c.fits phase_is deed connects in
       record {
         ends = shows w net old.block w.office (Some t) true (record { roads_are = stands.roads_are; writer = refl; told = c.told; pipe_is = c.pipe_is; office_is = refl })

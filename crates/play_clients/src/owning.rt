@@ -37,23 +37,43 @@ impl<I: LinkIn, O: LinkOut> Client<I, O> {
         match self.course() {
             Course::Takes => {
                 let took = self.take(alloc, roads)?;
-                Ok(Owned { took, asked: false, first: None })
+                Ok(Owned {
+                    took,
+                    asked: false,
+                    first: None,
+                })
             }
             Course::SetsUp => {
                 let first = self.set_up(alloc, roads, office, next)?;
-                Ok(Owned { took: None, asked: true, first })
+                Ok(Owned {
+                    took: None,
+                    asked: true,
+                    first,
+                })
             }
             Course::Commits => {
                 self.commit(alloc, roads, office)?;
-                Ok(Owned { took: None, asked: true, first: None })
+                Ok(Owned {
+                    took: None,
+                    asked: true,
+                    first: None,
+                })
             }
             Course::Completes => {
                 self.complete(office)?;
-                Ok(Owned { took: None, asked: true, first: None })
+                Ok(Owned {
+                    took: None,
+                    asked: true,
+                    first: None,
+                })
             }
             Course::Acts => {
                 self.act(alloc, roads)?;
-                Ok(Owned { took: None, asked: false, first: None })
+                Ok(Owned {
+                    took: None,
+                    asked: false,
+                    first: None,
+                })
             }
         }
     }
@@ -215,16 +235,16 @@ impl<I: LinkIn, O: LinkOut> Client<I, O> {
         match mem::replace(&mut self.pipe, Pipe::Closed) {
             Pipe::Closed => Some(Rebuild::new()),
             Pipe::SettingUp(setup) => Some(setup),
-            Pipe::Streaming { end: _end, incoming: _incoming } => None,
+            Pipe::Streaming {
+                end: _end,
+                incoming: _incoming,
+            } => None,
         }
     }
 }
 
 /// The lower end of the connection on which the first member of a writer was asked, with the member.
-fn first_of<I: LinkIn, O: LinkOut>(
-    writer: &Writer,
-    end: Option<Conn<I, O>>,
-) -> Option<First<I, O>>
+fn first_of<I: LinkIn, O: LinkOut>(writer: &Writer, end: Option<Conn<I, O>>) -> Option<First<I, O>>
     ensures { result ≡ first_of writer.now end }
 {
     let node = match writer.members().as_slice() {

@@ -1,5 +1,5 @@
 -- The step of the setup, and what followed.
-use Rattle.std.proofs.Common.{rules, Bool, Ok, is_some, sym, ap, ◌∙◌, subst}
+use Rattle.std.proofs.Common.{Bool, Ok, is_some, sym, ap, ◌∙◌, subst}
 use Rattle.client_events.specs.Acting.{AnswersIf}
 use Rattle.client_events.specs.Answering.{is_risen}
 use Rattle.client_events.specs.Committing.{is_opened}

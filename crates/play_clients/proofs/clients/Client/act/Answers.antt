@@ -1,5 +1,5 @@
 -- The writer did something alone, and what was left was kept.
-use Rattle.std.proofs.Common.{rules, ◌≡◌, Option, Some, Ok, Err, subst, sym, refl, ◌∙◌}
+use Rattle.std.proofs.Common.{rules, Ok, Err, subst, refl}
 use Rattle.client_events.specs.declared.pipes.Pipe.{Pipe}
 use Rattle.client_events.specs.Events.{ActShows, FitsActed}
 use Rattle.play_clients.proofs.PartLaws.{acts_so, kept_follows}

@@ -1,5 +1,5 @@
 -- The office was asked, and what was answered kept.
-use Rattle.std.proofs.Common.{rules, Ok, Err, refl}
+use Rattle.std.proofs.Common.{Ok, refl}
 use Rattle.play_clients.proofs.PartLaws.{completes_so, said_follows}
 use Rattle.play_clients.proofs.clients.Client.complete.Goals as goal
 

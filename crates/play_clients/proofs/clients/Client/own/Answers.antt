@@ -1,6 +1,6 @@
 -- The own step.
 use Rattle.std.proofs.Common.{rules, sym, ◌∙◌}
-use Rattle.play_clients.proofs.OwnShowing.{own_acts, own_acts_failed, own_completes, own_completes_failed, own_commits, own_commits_failed, own_sets_up, own_sets_up_failed, own_takes, own_takes_failed}
+use Rattle.play_clients.proofs.OwnShowing.{own_acts, own_acts_failed, own_completes, own_completes_failed, own_commits, own_commits_failed, own_sets_up, own_takes, own_takes_failed}
 use Rattle.play_clients.proofs.clients.Client.own.Goals as goal
 
 pub returns-in_err-took-in-Takes : goal.returns-in_err-took-in-Takes

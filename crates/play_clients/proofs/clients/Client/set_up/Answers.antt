@@ -1,5 +1,5 @@
 -- The office was asked for a stamp, and then the first member, and what was left was kept.
-use Rattle.std.proofs.Common.{rules, Ok, Err, sym, refl, ◌∙◌}
+use Rattle.std.proofs.Common.{rules, Ok, sym, refl, ◌∙◌}
 use Rattle.play_clients.proofs.PartLaws.{IsKept, is_kept, sets_up_so, set_up_follows}
 use Rattle.play_clients.proofs.clients.Client.set_up.Goals as goal
 
