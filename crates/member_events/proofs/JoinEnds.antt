@@ -333,6 +333,8 @@ module _ {F R I O : Type 0} (f : files.Ghosts F) (r : roads.Ghosts R I O) (i : l
         record {
           before = before r i o w net conn node next requested old book road stands can h.is_new;
           out = asked_out k.after g.on k.step_is some g.is runs;
+          node_is = (mirror_is some).node_is;
+          runs = sym (ap (runs_there taken) (mirror_is some).node_is) ∙ runs;
           dials = dials_at k.after g.on (mirror_is some) g.is;
           is_net = stands.roads_are.is_net;
           roads_at = first_at;

@@ -31,10 +31,10 @@ use Rattle.road_traffic.proofs.CallLemmas.{sent-shows, dialled-shows}
 use Rattle.road_traffic.proofs.ShowingLemmas.{roads-accepted}
 use Rattle.road_traffic.proofs.TrafficLemmas.{same-itself}
 use Rattle.world.specs.declared.events.Event.{Event}
-use Rattle.world.specs.Parts.{request, by_member, Break}
+use Rattle.world.specs.Parts.{request, by_member, Break, Dialled}
 use Rattle.world.specs.Worlds.{World, Change, Dial, apply}
 use Rattle.world.specs.Connections.{place_of}
-use Rattle.world.specs.Nodes.{lower_of, setup_change, member_dials}
+use Rattle.world.specs.Nodes.{lower_of, setup_change, member_dials, mirror_node}
 use Rattle.world.specs.Events.{outcome, happens}
 use Rattle.world_nets.specs.Rows.{text_of}
 use Rattle.world_nets.specs.Nets.{IsNetOf, IsEndOf, held_by, is_over}
@@ -49,7 +49,7 @@ use Rattle.member_events.specs.Joining.{AcceptsDial, MirrorJoins}
 use Rattle.member_events.specs.Showing.{MirrorShows}
 use Rattle.member_events.proofs.EndLaws.{HeldAt, MirrorAt, RoadsAt, BothPassed, end_held, end_sends, both_pass, end_from}
 use Rattle.member_events.proofs.JoinAlone.{IsUnset}
-use Rattle.member_events.proofs.JoinWorld.{setup_after}
+use Rattle.member_events.proofs.JoinWorld.{setup_after, NewConn, new_conn}
 use Rattle.member_events.proofs.MemberLaws.{never_named, never}
 use Rattle.member_events.proofs.SetupEnds.{SetUpAs}
 use Rattle.member_events.proofs.WorldLaws.{happened}
@@ -116,6 +116,8 @@ module _ {F R I O : Type 0} (r : roads.Ghosts R I O) (i : link_in.Ghosts I) (o :
   pub record MirrorDone : Type 0 where
     pub before : c < w1.next_conn
     pub out : outcome w e ≡ Some (apply w1 (setup_change w1 c fields (asked_setup after conn fields) broke))
+    pub node_is : mirror_node fields.targets ≡ Some number
+    pub runs : w1.running number ≡ true
     pub dials : member_dials (asked_setup after conn fields).member w1 c fields ≡ asked_dial w1 c on number ∷ []
     pub is_net : IsNetOf w1 net
     pub roads_at : RoadsAt r net road
@@ -176,6 +178,7 @@ module _ {F R I O : Type 0} (r : roads.Ghosts R I O) (i : link_in.Ghosts I) (o :
       let over : Bool = is_over w1 c true in
       let all : Net = exchanged_net (exchanged_net dialled_at c true false false []) next false false false (on_text ∷ []) in
       let made : Net = made_net net port (flushes_with w1 fs dial) in
+      let there : NewConn w1 v dial = new_conn w w1 k dial e h.dials h.out in
       let by : DialsBy w1 k dial fs = (setup-sends w1 c fields s broke h.before).mirrored dial h.dials in
       let last : next ≡ net.conns = sym h.is_net.conns in
       let p = both_passed h in
@@ -219,5 +222,13 @@ module _ {F R I O : Type 0} (r : roads.Ghosts R I O) (i : link_in.Ghosts I) (o :
           others = λ n b y none z. same-end r i o (apply w1 k) v made n b y (f.over n b) (ends.others n b y (none.0, tt) z);
         };
         end_is = same-end r i o (apply w1 k) v made next true at_end (f.over next true) (ends.lower at_end accepted);
+        dialled = record {
+          number = number;
+          node_is = h.node_is;
+          runs = there.running number ∙ h.runs;
+          upper = ap (λ (x : Dialled). x.upper) there.dialled;
+          to = ap (λ (x : Dialled). x.to) there.dialled ∙ ap (λ (l : ℕ). record { node = number; life = l }) (sym (there.lives number));
+          last = there.last;
+        };
         lower_same = ap (λ (u : World). u.lowers next) (happened w (apply w1 k) e h.out) ∙ lower_kept w1 c fields s broke e next h.before;
       }

@@ -1,5 +1,5 @@
 -- The world after a request to write.
-use Rattle.std.proofs.Common.{◌≡◌, ◌≢◌, ◌<◌, ◌≤◌, ◌-◌, ◌+◌, ◌&&◌, ℕ, Bool, true, false, if◌then◌else◌, List, [], ◌∷◌, ◌++◌, slice_get, option_map, Option, Some, None, refl, sym, ap, ◌∙◌, subst, arith}
+use Rattle.std.proofs.Common.{◌≡◌, ◌≢◌, ◌<◌, ◌≤◌, ◌-◌, ◌+◌, ◌&&◌, ℕ, Bool, true, false, if◌then◌else◌, List, [], ◌∷◌, ◌++◌, slice_get, option_map, Option, Some, None, refl, sym, ap, ◌∙◌, subst, arith, length}
 use Rattle.std.specs.Prelude.{nat_le, nat_lt, is_some, unwrap_or}
 use Rattle.std.proofs.lemmas.Bool.Decides.{nat_tests}
 use Rattle.hd_base.specs.declared.numbers.ConnId.{ConnId}
@@ -172,3 +172,32 @@ dialled_applied w k d e once = record {
 
 pub sent_down : (w w1 : World) (k : Change) (d : Dial) (e : Event) → k.dials ≡ d ∷ [] → outcome w e ≡ Some (apply w1 k) → SentDown (happens w e) w1.next_conn d.request
 sent_down w w1 k d e once out = subst (λ (v : World). SentDown v w1.next_conn d.request) (sym (happened w (apply w1 k) e out)) (dialled_applied w1 k d e once)
+
+-- THE CONNECTION TO A MIRROR
+
+sub_dialled : (q : Bool) (n : ℕ) (d : Dial) (x : Dialled) → q ≡ true → unwrap_or (option_map (λ (y : Dial). y.dialled) (if q then slice_get (d ∷ []) (n - n) else None)) x ≡ d.dialled
+sub_dialled true n d x h = let z : n - n ≡ 0 = omega arith in rw z refl
+sub_dialled false n d x h = cc
+
+-- What a dial makes of the world: the next connection is the one that was dialled.
+pub record NewConn (w v : World) (d : Dial) : Type 0 where
+  pub dialled : v.dialled w.next_conn ≡ d.dialled
+  pub running : (n : ℕ) → v.running n ≡ w.running n
+  pub lives : (n : ℕ) → v.lives n ≡ w.lives n
+  pub last : v.next_conn ≡ w.next_conn + 1
+
+one_more : (n : ℕ) (ds : List Dial) (d : Dial) → ds ≡ d ∷ [] → n + length ds ≡ n + 1
+one_more n ds d h = ap (λ (l : List Dial). n + length l) h
+
+new_applied : (w : World) (k : Change) (d : Dial) (e : Event) → k.dials ≡ d ∷ [] → NewConn w (record (apply w k) { last = Some e }) d
+unfolding apply
+new_applied w k d e once = record {
+  dialled = ap (λ (ds : List Dial). unwrap_or (option_map (λ (x : Dial). x.dialled) (if nat_le w.next_conn w.next_conn then slice_get ds (w.next_conn - w.next_conn) else None)) (w.dialled w.next_conn)) once
+      ∙ sub_dialled (nat_le w.next_conn w.next_conn) w.next_conn d (w.dialled w.next_conn) (same_le w.next_conn);
+  running = λ n. refl;
+  lives = λ n. refl;
+  last = one_more w.next_conn k.dials d once;
+}
+
+pub new_conn : (w w1 : World) (k : Change) (d : Dial) (e : Event) → k.dials ≡ d ∷ [] → outcome w e ≡ Some (apply w1 k) → NewConn w1 (happens w e) d
+new_conn w w1 k d e once out = subst (λ (v : World). NewConn w1 v d) (sym (happened w (apply w1 k) e out)) (new_applied w1 k d e once)

@@ -1,5 +1,5 @@
 -- A request to write makes an end a member.
-use Rattle.std.specs.Prelude.{◌≡◌, ◌≢◌, ◌⊎◌, ◌≤◌, ℕ, min, Bool, true, false, List, [], slice_get, Option, Some, None, option_map, IfSome, Result, Ok, Err}
+use Rattle.std.specs.Prelude.{◌≡◌, ◌≢◌, ◌⊎◌, ◌≤◌, ℕ, min, Bool, true, false, List, [], slice_get, Option, Some, None, option_map, IfSome, Result, Ok, Err, ◌+◌}
 use Rattle.hd_base.specs.Channels.{with_accept}
 use Rattle.hd_base.specs.Ends.{IsFresh, IsObservable}
 use Rattle.hd_base.specs.Faults.{FaultsIncreased}
@@ -21,10 +21,10 @@ use Rattle.pipe_setup.specs.Requests.{first_port}
 use Rattle.pipe_member.specs.declared.member.Member.{Member}
 use Rattle.road_traffic.specs.Showing.{Net}
 use Rattle.world.specs.declared.events.Event.TheVariants as event
-use Rattle.world.specs.Parts.{Message, request, FullMember, idle, writes, ended_below}
+use Rattle.world.specs.Parts.{Message, request, FullMember, idle, writes, ended_below, by_member}
 use Rattle.world.specs.Worlds.{World}
-use Rattle.world.specs.Connections.{Next, message, down_taken}
-use Rattle.world.specs.Nodes.{node_of, block_of, replica_at, is_asked}
+use Rattle.world.specs.Connections.{Next, message, down_taken, place_of}
+use Rattle.world.specs.Nodes.{node_of, block_of, replica_at, is_asked, mirror_node}
 use Rattle.world.specs.Events.{happens}
 use Rattle.world_nets.specs.Drawn.{ComesDown}
 use Rattle.world_nets.specs.Nets.{IsEndOf}
@@ -153,12 +153,22 @@ pub record MemberJoins {F R I O : Type 0} (r : roads.Ghosts R I O) (i : link_in.
   pub replica : replica_of book ≡ replica_at v c (block_of fields)
   pub others : OthersStay i o taken net v made c None
 
+-- The connection with this number is the one to the mirror, which the member has dialled, at a node that runs.
+pub record MirrorDialled (v : World) (c next : ℕ) (fields : WriteFields) : Type 0 where
+  pub number : ℕ
+  pub node_is : mirror_node fields.targets ≡ Some number
+  pub runs : v.running number ≡ true
+  pub upper : (v.dialled next).upper ≡ by_member c
+  pub to : (v.dialled next).to ≡ place_of v number
+  pub last : v.next_conn ≡ next + 1
+
 -- So does the lower end of the connection to the mirror, where nothing was taken yet.
 pub record MirrorJoins {F R I O : Type 0} (r : roads.Ghosts R I O) (i : link_in.Ghosts I) (o : link_out.Ghosts O)
     (taken : World) (net : Net) (v : World) (c next : ℕ) (fields : WriteFields) (book : BookState F) (road : R)
     (left : Option (Member I O)) (at_end : Conn I O) : Type 0 where
   pub joins : MemberJoins r i o taken net v c fields (Some next) book road left
   pub end_is : IsEndOf i o v joins.made next true at_end
+  pub dialled : MirrorDialled v c next fields
   pub lower_same : v.lowers next ≡ taken.lowers next
 
 -- The mirror couldn't be asked: there is no request for it, its node doesn't run, or the roads' count rose.

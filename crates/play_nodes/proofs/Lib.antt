@@ -6,3 +6,4 @@ pub mod MemberNodes
 pub mod ReadyNodes
 pub mod TakeNodes
 pub mod LiftLaws
+pub mod BeginNodes

@@ -107,11 +107,6 @@ pub record TakesIdle {F I O : Type 0} (old new : Nodes F I O) (c : ℕ) (result 
       new.connections.items ≡ slice_set old.connections.items c (with_lower at lower.Ended)
   pub taken : (at : Connection I O) → slice_get old.connections.items c ≡ Some at → result ≡ idle_of at.lower
 
--- The block stands at this place, or nowhere.
-abbrev pub IsPlaceOf : List BlockId → BlockId → Option ℕ → Type 0
-IsPlaceOf blocks block None = (place : ℕ) (b : BlockId) → slice_get blocks place ≡ Some b → b.0 ≡ block.0 → ⊥
-IsPlaceOf blocks block (Some place) = slice_get blocks place ≡ Some block
-
 -- The node that listens on the port of the first target.
 abbrev pub IsMirrorNode : List NodeRef → NodeId → Type 0
 IsMirrorNode [] node = Unit {0}
