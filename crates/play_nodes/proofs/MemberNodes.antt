@@ -31,10 +31,10 @@ use Rattle.play_nodes.specs.declared.connections.Lower.TheVariants as lower
 use Rattle.play_nodes.specs.declared.nodes.NodeBooks.{NodeBooks}
 use Rattle.play_nodes.specs.declared.nodes.Nodes.{Nodes}
 use Rattle.play_nodes.specs.declared.nodes.Seat.{Seat}
-use Rattle.play_nodes.specs.Places.{book_at, with_lower, IsSeated, Takes, PutBack, lower_left}
+use Rattle.play_nodes.specs.Places.{book_at, with_lower, IsSeated, Takes, PutBack, lower_left, BookSet}
 use Rattle.play_nodes.specs.Showing.{has_events, SeatShows, LowerShows, NodesStand, NodesLeft}
 use Rattle.play_nodes.proofs.Tables.{set_here, set_set}
-use Rattle.play_nodes.proofs.PlaceLaws.{BookSet, element_within}
+use Rattle.play_nodes.proofs.PlaceLaws.{element_within}
 use Rattle.play_nodes.proofs.WorldFrames.{KeepsRest}
 use Rattle.play_nodes.proofs.NodeFrames.{IsApart, IsOfEvent, IsLeft, BookLeft, dialled_by, is_later, node_as, served_as, nodes_after, books_after, has_books_after, writers_after}
 

@@ -41,13 +41,13 @@ use Rattle.play_nodes.specs.declared.nodes.NodeBooks.{NodeBooks}
 use Rattle.play_nodes.specs.declared.nodes.Nodes.{Nodes}
 use Rattle.play_nodes.specs.declared.nodes.Seat.{Seat}
 use Rattle.play_nodes.specs.Faults.{fault_at}
-use Rattle.play_nodes.specs.Places.{book_at, IsSeated, IsUnseated, Takes, Follows, member_of}
+use Rattle.play_nodes.specs.Places.{book_at, IsSeated, IsUnseated, Takes, Follows, member_of, BookSet}
 use Rattle.play_nodes.specs.Showing.{has_events, SeatShows, LowerShows, NodesStand}
 use Rattle.play_nodes.specs.Events.{IsCaused, EventEnds, ReadyShows}
 use Rattle.play_nodes.proofs.Tables.{element}
 use Rattle.play_nodes.proofs.WorldFrames.{KeepsRest, rest_after, conns_after}
 use Rattle.play_nodes.proofs.NodeFrames.{IsApart}
-use Rattle.play_nodes.proofs.PlaceLaws.{BookSet, same_some}
+use Rattle.play_nodes.proofs.PlaceLaws.{same_some}
 use Rattle.play_nodes.proofs.MemberNodes.{IsMember, is_member, member_stands, member_left}
 
 some_of : {A : Type 0} (x : Option A) → is_some x ≡ true → (a : A) × (x ≡ Some a)

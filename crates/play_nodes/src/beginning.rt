@@ -1,9 +1,9 @@
 //! A connection's first message.
 
-ghost use Rattle.std.specs.Prelude.{◌≡◌, ◌<◌, ◌==◌, length, position};
+ghost use Rattle.std.specs.Prelude.{◌≡◌, ◌<◌, ◌==◌, ◌⊎◌, length, position};
 ghost use Rattle.hd_base.specs.Ends.{IsKnown};
 ghost use Rattle.play_nodes.specs.Showing.{Stand};
-ghost use Rattle.play_nodes.specs.Places.{TakesIdle, IsMirrorNode, Adds, IsSettled};
+ghost use Rattle.play_nodes.specs.Places.{TakesIdle, IsMirrorNode, Adds, IsSettled, IsJoined, HasNoBook};
 ghost use Rattle.play_nodes.specs.Beginning.{BeginShows};
 
 use crate::connections::{Connection, Lower, Upper};
@@ -51,7 +51,13 @@ impl<F: Files, I: LinkIn, O: LinkOut> Nodes<F, I, O> {
         conn: usize,
         node: NodeId,
         requested: Requested<I, O>,
-    ) -> Result<bool, NodesFault> {
+    ) -> Result<bool, NodesFault>
+        requires known { IsKnown (R.plain roads.old) requested.end.id.0 }
+        requires within { conn < length self.old.connections.items }
+        ensures { IsJoined F.Files R.Roads I.LinkIn O.LinkOut
+            self.old self.new conn node requested roads.old roads.new result
+            ⊎ HasNoBook self.old self.new node requested.op roads.old roads.new result }
+    {
         let Some(place) = self.place_of(requested.op.block.block) else {
             return Ok(true);
         };
