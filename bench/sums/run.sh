@@ -1,5 +1,6 @@
 #!/usr/bin/env bash
-# Times chunk_sums beside a plain Rust slicing by 16 and ISA-L, for CRC32C and CRC32, on this machine, and prints a table of ratios.
+# Times chunk_sums beside a plain Rust slicing by 16 and ISA-L, for CRC32C and CRC32, on this machine, and prints a table of ratios. A second
+# table has bodies that are summed by chunks of 512 bytes and copied: in one pass, and by chunk_sums and a copy one after the other.
 #
 # The proved program is built in a folder of its own, from a copy of the crate and of hd_base, with nothing of the repository changed. All
 # three ways go over the same bytes, and the script stops where what they computed differs. Usage: run.sh [RUNS], 3 if left out.
@@ -54,6 +55,14 @@ awk '
     print "| | chunk_sums GB/s | plain GB/s | ISA-L GB/s | to plain | to ISA-L |"
     print "|---|---|---|---|---|---|"
     for (i = 1; i <= count; i++) {
-      key = keys[i]; ours = best["proved", key]; plain = best["plain", key]; isal = best["isal", key]
-      printf "| %s | %.2f | %.2f | %.2f | %.2f | %.2f |\n", title[key], ours, plain, isal, ours / plain, ours / isal } }
+      key = keys[i]; if (key ~ /-(together|apart)-/) continue
+      ours = best["proved", key]; plain = best["plain", key]; isal = best["isal", key]
+      printf "| %s | %.2f | %.2f | %.2f | %.2f | %.2f |\n", title[key], ours, plain, isal, ours / plain, ours / isal }
+    print "\n| Summed and copied | in one pass GB/s | in two GB/s | one to two |"
+    print "|---|---|---|---|"
+    split("65536 1048576", lens, " "); shown[1] = "64 KiB"; shown[2] = "1 MiB"
+    for (k = 1; k <= 2; k++) for (l = 1; l <= 2; l++) {
+      one = kinds[k] "-together-512 " lens[l]; two = kinds[k] "-apart-512 " lens[l]
+      if (result[one] != result[two]) { print "what was computed differs: " one > "/dev/stderr"; exit 1 }
+      printf "| %s, %s | %.2f | %.2f | %.2f |\n", name[kinds[k]], shown[l], best["proved", one], best["proved", two], best["proved", one] / best["proved", two] } }
 ' "$work/lines.txt"

@@ -1,9 +1,9 @@
 -- The chunks of a body, one after another, and how far a loop over them has come.
-use Rattle.std.proofs.Common.{◌≡◌, ◌≢◌, ℕ, zero, suc, min, ◌+◌, ◌-◌, ◌*◌, ◌/◌, ◌%◌, ◌<◌, ◌≤◌, List, [], ◌∷◌, ◌++◌, length, get_or, take, drop, map, refl, sym, ap, subst, ◌⊎◌, ◌∙◌, inl, inr, arith}
+use Rattle.std.proofs.Common.{◌≡◌, ◌≢◌, ℕ, zero, suc, min, max, ◌+◌, ◌-◌, ◌*◌, ◌/◌, ◌%◌, ◌<◌, ◌≤◌, List, [], ◌∷◌, ◌++◌, length, get_or, take, drop, map, refl, sym, ap, subst, ◌⊎◌, ◌∙◌, inl, inr, arith}
 use Rattle.std.proofs.lemmas.List.{length-append, length-take-le, length-drop, get_or-take, get_or-drop, take-append-drop, drop-drop, append_assoc, append-nil, take_all, get_or_past, take_min, drop_min, take_more, map-append, nil_from_length, length-map, take-append-le, drop-append-le}
 use Rattle.std.proofs.lemmas.Bool.{cases_lt}
 use Rattle.std.proofs.lemmas.Nat.{be_bytes_4, from_be_bytes-to_be_bytes_4}
-use Rattle.std.proofs.Math.Nat.{zero-div, zero-mod, div-eq_of_lt, mod-eq_of_lt, add-div_right, add-mod_right}
+use Rattle.std.proofs.Math.Nat.{zero-div, zero-mod, div-eq_of_lt, mod-eq_of_lt, add-div_right, add-mod_right, div-add-mod', div-mul-le_self, mul-mod_left}
 use Rattle.std.specs.Int.{w32, to_be_bytes, from_be_bytes, div_ceil}
 use Rattle.hd_base.specs.declared.sum_rule.SumKind.{SumKind}
 use Rattle.hd_base.specs.declared.sum_rule.SumKind.TheVariants.{Null, Crc32, Crc32c}
@@ -147,6 +147,34 @@ chunks-append (suc n) size front behind c len =
     ∙ ap (λ (ps : List (List ℕ)). take size front ∷ ps)
     (chunks-append n size (drop size front) behind c (omega (arith, length-drop size front, more)))
     ∙ ap (λ (ps : List (List ℕ)). ps ++ chunks size size behind) (sym (chunks-more size size front c c (omega arith)))
+
+-- whole chunks behind a first one, and what is behind them, are cut apart
+chunks-append_first : (n first size : ℕ) (front behind : List ℕ) → 1 ≤ first → 1 ≤ size → length front ≡ first + n * size
+    → chunks first size (front ++ behind) ≡ chunks first size front ++ chunks size size behind
+chunks-append_first n first size front behind f c len =
+    let long : first ≤ length front = omega (arith, len) in
+    chunks-more first size (front ++ behind) f c (omega (arith, length-append front behind))
+    ∙ ap (λ (l : List ℕ). l ∷ chunks size size (drop first (front ++ behind))) (take-append-le first front behind long)
+    ∙ ap (λ (l : List ℕ). take first front ∷ chunks size size l) (drop-append-le first front behind long)
+    ∙ ap (λ (ps : List (List ℕ)). take first front ∷ ps)
+    (chunks-append n size (drop first front) behind c (omega (arith, length-drop first front, len)))
+    ∙ ap (λ (ps : List (List ℕ)). ps ++ chunks size size behind) (sym (chunks-more first size front f c (omega arith)))
+
+-- a piece of a body that ends where a chunk does, or at the end of the body, has the first chunks
+pub chunks-apart : (n first size : ℕ) (body : List ℕ) → 1 ≤ first → 1 ≤ size → first ≤ n → (n - first) % size ≡ 0
+    → chunks first size body ≡ chunks first size (take n body) ++ chunks size size (drop n body)
+chunks-apart n first size body f c from whole = elim (cases_lt n (length body)) [
+  | inl within ↦
+      let front_len : length (take n body) ≡ n = length-take-le n body (omega arith) in
+      let parts : (n - first) / size * size + (n - first) % size ≡ n - first = div-add-mod' (n - first) size in
+      ap (chunks first size) (sym (take-append-drop n body))
+      ∙ chunks-append_first ((n - first) / size) first size (take n body) (drop n body) f c (omega (arith, front_len, parts))
+  | inr all ↦
+      let none : length (drop n body) ≡ 0 = omega (arith, length-drop n body) in
+      sym (append-nil (chunks first size body))
+      ∙ ap (λ (ps : List (List ℕ)). chunks first size body ++ ps) (sym (chunks-empty size size (drop n body) none))
+      ∙ ap (λ (l : List ℕ). chunks first size l ++ chunks size size (drop n body)) (sym (take_all n body all))
+]
 
 -- ---- four chunks at once
 
@@ -489,3 +517,70 @@ module _ (kind : SumKind) (body : List ℕ) (first size : ℕ) (rest into : List
       let none : length (chunks len size rest) ≡ 0 = omega (arith, s.room) in
       sym (take_all at into h) ∙ sym (append-nil (take at into))
       ∙ ap (λ (ps : List (List ℕ)). take at into ++ (sums_of kind) ps) (sym (nil_from_length (chunks len size rest) none)) ∙ s.written
+
+  -- at the end of the body all are written
+  pub all_written_at_end : length rest ≡ 0 → into ≡ sums_of kind (chunks first size body)
+  all_written_at_end none = all_written (omega (arith, s.room, ap length (chunks-empty len size rest none)))
+
+  -- a piece of the body that ends where a chunk does, or at the end of the body
+  module _ (n m : ℕ) (piece after : List ℕ) (c : 1 ≤ size) (from : len ≤ n) (whole : (n - len) % size ≡ 0) (is_m : m ≡ min n (length rest)) (is_piece : piece ≡ take m rest) (is_after : after ≡ drop m rest) where
+    piece_first : chunks len size rest ≡ chunks len size piece ++ chunks size size after
+    piece_first =
+        let is_front : piece ≡ take n rest = is_piece ∙ ap (λ (k : ℕ). take k rest) is_m ∙ take_min n rest in
+        let is_behind : after ≡ drop n rest = is_after ∙ ap (λ (k : ℕ). drop k rest) is_m ∙ drop_min n rest in
+        chunks-apart n len size rest s.positive c from whole
+        ∙ ap (λ (l : List ℕ). chunks len size l ++ chunks size size (drop n rest)) (sym is_front)
+        ∙ ap (λ (l : List ℕ). chunks len size piece ++ chunks size size l) (sym is_behind)
+
+    piece_count : length (chunks len size piece) ≡ count_of (length piece) len size
+    piece_count = length-chunks len size piece s.positive c
+
+    pub room_for_piece : at + 4 * count_of (length piece) len size ≤ length into
+    room_for_piece =
+        omega (arith, s.room, piece_count, ap length piece_first, length-append (chunks len size piece) (chunks size size after))
+
+    pub WrittenSoFar-piece : (into' : List ℕ) (at' : ℕ) → at' ≡ at + 4 * count_of (length piece) len size
+        → take at' into' ≡ take at into ++ (sums_of kind) (chunks len size piece) → length into' ≡ length into
+        → WrittenSoFar kind body first size after into' size at'
+    WrittenSoFar-piece into' at' is_at' is_into' same_len =
+        WrittenSoFar-more (chunks len size piece) after into' size at' c (omega (arith, is_at', piece_count)) piece_first is_into' same_len
+
+-- ---- a loop that copies a body
+
+-- a piece more was copied
+pub copied_more : (whole copy rest copy' piece after : List ℕ) (m : ℕ) → copy ++ rest ≡ whole → copy' ≡ copy ++ piece → piece ≡ take m rest
+    → after ≡ drop m rest → copy' ++ after ≡ whole
+copied_more whole copy rest copy' piece after m so_far is_copy' is_piece is_after =
+    ap (λ (l : List ℕ). l ++ after) is_copy' ∙ append_assoc copy piece after
+    ∙ ap (λ (l : List ℕ). copy ++ l)
+    (ap (λ (l : List ℕ). l ++ after) is_piece ∙ ap (λ (l : List ℕ). take m rest ++ l) is_after ∙ take-append-drop m rest)
+    ∙ so_far
+
+-- at the end of the body all is copied
+pub all_copied : (whole copy rest : List ℕ) → copy ++ rest ≡ whole → length rest ≡ 0 → copy ≡ whole
+all_copied whole copy rest so_far none =
+    sym (append-nil copy) ∙ ap (λ (l : List ℕ). copy ++ l) (sym (nil_from_length rest none)) ∙ so_far
+
+-- ---- how long a piece is
+
+-- fours of chunks are one, and whole chunks behind it
+pub fours_behind : (m size len : ℕ) → 1 ≤ m → len ≡ size → (len ≤ 4 * (m * size)) × ((4 * (m * size) - len) % size ≡ 0)
+fours_behind zero size len h e = absurd (omega arith)
+fours_behind (suc m) size len h e =
+    let more : suc m * size ≡ m * size + size = omega arith in
+    let three : (4 * m + 3) * size ≡ 4 * (m * size) + 3 * size = omega arith in
+    let rest : 4 * (suc m * size) - len ≡ (4 * m + 3) * size = omega (arith, more, three) in
+    (omega (arith, more), ap (λ (n : ℕ). n % size) rest ∙ mul-mod_left (4 * m + 3) size)
+
+-- so many chunks as a length has, but at least one, are no longer than both
+pub some_fit : (n size : ℕ) → max (n / size) 1 * size ≤ max n size
+some_fit n size = elim (cases_lt (n / size) 1) [
+  | inl none ↦
+      let one : max (n / size) 1 ≡ 1 = omega arith in
+      let same : max (n / size) 1 * size ≡ 1 * size = ap (λ (k : ℕ). k * size) one in
+      omega (arith, same)
+  | inr some ↦
+      let most : max (n / size) 1 ≡ n / size = omega arith in
+      let same : max (n / size) 1 * size ≡ n / size * size = ap (λ (k : ℕ). k * size) most in
+      omega (arith, same, div-mul-le_self n size)
+]

@@ -18,16 +18,16 @@ use hd_base::SumKind;
 const LEAST: u64 = 512;
 
 /// The most bytes of a chunk of which four are taken at once.
-const MOST: u64 = 4096;
+pub(crate) const MOST: u64 = 4096;
 
 /// The most bytes of a chunk for which shorter lanes will do.
-const USUAL: u64 = 1024;
+pub(crate) const USUAL: u64 = 1024;
 
 /// The bytes of a lane for the usual chunks.
-const USUAL_LANE: usize = 1040;
+pub(crate) const USUAL_LANE: usize = 1040;
 
 /// The bytes of a lane for longer chunks.
-const LONG_LANE: usize = 4112;
+pub(crate) const LONG_LANE: usize = 4112;
 
 /// The least number of a chunk whose sum differs from the one that `sums` has for it, four bytes
 /// big-endian, or `None` where all are right, as under `Null`, which has no sums.
@@ -141,7 +141,7 @@ pub fn piece_count(kind: SumKind, body_len: u64, first_len: u64, chunk: u64) -> 
 }
 
 /// How many chunks a body of `body_len` bytes has.
-fn chunk_count(body_len: u64, first_len: u64, chunk: u64) -> u64
+pub(crate) fn chunk_count(body_len: u64, first_len: u64, chunk: u64) -> u64
     requires chunk_positive { 1 ≤ chunk }
     requires first_positive { 1 ≤ first_len }
     ensures { result ≡ count_of body_len first_len chunk }
@@ -154,7 +154,7 @@ fn chunk_count(body_len: u64, first_len: u64, chunk: u64) -> u64
 
 /// Whether the next chunk has the length of all, four of that length can be taken at once, and a body has
 /// as many.
-fn has_four(body_len: u64, len: u64, chunk: u64) -> bool
+pub(crate) fn has_four(body_len: u64, len: u64, chunk: u64) -> bool
     ensures { IsTrue result
         ↔ ((len ≡ chunk) × (512 ≤ chunk) × (chunk ≤ 4096) × (chunk % 16 ≡ 0) × (4 * chunk ≤ body_len)) }
 {
@@ -275,7 +275,7 @@ fn write_each(kind: SumKind, body: &[u8], first_len: u64, chunk: u64, into: &mut
 }
 
 /// Writes the sums of the chunks of a body, where chunks have sums, with lanes for four chunks or none.
-fn write_each_over<const N: usize>(
+pub(crate) fn write_each_over<const N: usize>(
     kind: SumKind,
     body: &[u8],
     first_len: u64,
@@ -289,7 +289,8 @@ fn write_each_over<const N: usize>(
     requires lane_len { N ≤ 4112 }
     requires ready { All (AreReady chunk) lanes.old }
     requires four_per_chunk { length into.old ≡ 4 * length (chunks first_len chunk body.now) }
-    ensures { into.new ≡ sums_of kind (chunks first_len chunk body.now) }
+    ensures sums { into.new ≡ sums_of kind (chunks first_len chunk body.now) }
+    ensures ready { All (AreReady chunk) lanes.new }
 {
     let mut rest = body;
     let mut len = first_len;

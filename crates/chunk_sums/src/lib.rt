@@ -12,6 +12,7 @@ ghost use Rattle.chunk_sums.specs.Crc.{sum_of, extended, register, polynomial, H
 mod ahead;
 mod castagnoli;
 mod chunks;
+mod copying;
 mod four;
 mod ieee;
 mod lanes;
@@ -20,6 +21,7 @@ mod tables;
 mod window;
 
 pub use chunks::{first_bad, piece_count, write_sums};
+pub use copying::write_sums_and_copy;
 use hd_base::SumKind;
 use tables::{Crc32, Crc32c};
 

@@ -142,7 +142,7 @@ module _ {M I : Type 0} (kind : Kind M) (i : link_in.Ghosts I) (first old : Inco
       let at : (bytes : List ℕ) (end : Bool) → coming first (i.held half) ≡ Some (record { bytes = bytes; ended = end }) → Holds old.rest bytes end (i.held later) =
       λ bytes end is. holds old.rest bytes end (i.held later) (sym (coming_fed old (i.held later) g.fed) ∙ (ap (λ (s : IncomingState). coming s (i.held later)) (sym same) ∙ (stays ∙ is))) in
       record {
-        comes = (record { empty = r.receives.1; all = ap IncomingState.unpushed same ∙ g.fed; cut = subst (λ (s : IncomingState). IsCut kind.framing s.rest) (sym same) a.asks.cut }, stays);
+        comes = (record { empty = r.receives.1; all = ap IncomingState.unpushed same ∙ g.fed; cut = subst (λ (s : IncomingState). IsCut kind.framing s.rest) (sym same) a.asks.cut; reads_on = ap IncomingState.refused same ∙ a.asks.reads_on }, stays);
         finds = λ on m text behind end s is.
             let h = at (text ++ behind) end is in
             let none = empty_bytes true h.inbox (subst (IsEmptyInbox true) h.is r.receives.1) in
@@ -162,7 +162,7 @@ module _ {M I : Type 0} (kind : Kind M) (i : link_in.Ghosts I) (first old : Inco
       let at : (bytes : List ℕ) (end : Bool) → coming first (i.held half) ≡ Some (record { bytes = bytes; ended = end }) → Holds old.rest bytes end (i.held later) =
       λ bytes end is. holds old.rest bytes end (i.held later) (sym (coming_fed old (i.held later) g.fed) ∙ (ap (λ (s : IncomingState). coming s (i.held later)) (sym same) ∙ (stays ∙ is))) in
       record {
-        comes = (record { empty = r.receives.1; all = ap IncomingState.unpushed same ∙ g.fed; cut = subst (λ (s : IncomingState). IsCut kind.framing s.rest) (sym same) a.asks.cut }, stays);
+        comes = (record { empty = r.receives.1; all = ap IncomingState.unpushed same ∙ g.fed; cut = subst (λ (s : IncomingState). IsCut kind.framing s.rest) (sym same) a.asks.cut; reads_on = ap IncomingState.refused same ∙ a.asks.reads_on }, stays);
         finds = λ on m text behind end s is.
             let h = at (text ++ behind) end is in
             let none = empty_bytes false h.inbox (subst (IsEmptyInbox false) h.is r.receives.1) in

@@ -49,11 +49,12 @@ pub record IsUnreadable {M : Type 0} (kind : Kind M) (old new : IncomingState) :
   pub kept : new.refused ≡ Some fault
   pub cause : (old.refused ≡ Some fault) ⊎ IsNone kind new.rest
 
--- Nothing more is held, and the message at the front, if there is one, is cut off: the end of the connection stands next, or not.
+-- Nothing more is held, and the message at the front, if there is one, is cut off: the end of the connection stands next, or not. It can be read on.
 pub record IsOver {M : Type 0} (kind : Kind M) (ended : Bool) (new : IncomingState) (held : Option Inbox) : Type 0 where
   pub empty : IsEmptyInbox ended held
   pub all : new.unpushed ≡ []
   pub cut : IsCut kind.framing new.rest
+  pub reads_on : new.refused ≡ None
 
 -- What came next: a message off the front, or nothing, and then what is to be taken stays.
 abbrev pub Comes : {M I : Type 0} → Kind M → link_in.Ghosts I → IncomingState → IncomingState → I → I → Next M → Type 0

@@ -65,7 +65,7 @@ less_through x y z a b = omega arith
 pub in_failed : {I O : Type 0} (i : link_in.Ghosts I) (o : link_out.Ghosts O) (before : ℕ) (e : Conn I O) → FaultsIncreased before (i.faults e.inward) → has_failed i o e ≡ true
 in_failed i o before e h = ap (λ (b : Bool). b || nat_lt 0 (o.faults e.outward)) (has_count before (i.faults e.inward) h)
 
-or_true : (b : Bool) → (b || true) ≡ true
+pub or_true : (b : Bool) → (b || true) ≡ true
 or_true true = refl
 or_true false = refl
 

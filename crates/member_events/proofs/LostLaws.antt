@@ -132,7 +132,7 @@ lost_done (done.File r) b none h = absurd (not_end b none h)
 lost_done done.Memory b none h = absurd (not_end b none h)
 
 -- what came where the link failed
-found_failed : {M I : Type 0} (i : link_in.Ghosts I) (kind : Kind M) (old new : IncomingState) (half half' : I) (r : Next M) → looked_of r ≡ looked.Failed → Comes kind i old new half half' r → FaultsIncreased (i.faults half) (i.faults half')
+pub found_failed : {M I : Type 0} (i : link_in.Ghosts I) (kind : Kind M) (old new : IncomingState) (half half' : I) (r : Next M) → looked_of r ≡ looked.Failed → Comes kind i old new half half' r → FaultsIncreased (i.faults half) (i.faults half')
 found_failed i kind old new half half' came.Failed is c = c.0
 found_failed i kind old new half half' (came.Message m) is c = cc
 found_failed i kind old new half half' came.Unreadable is c = cc

@@ -6,7 +6,7 @@ ghost use Rattle.packet_stream.specs.Streams.{data_packet, empty_packet, packet_
 
 use crate::extents::{BLOCK_LIMIT, rest_of_chunk};
 use bytes::Bytes;
-use chunk_sums::{piece_count, write_sums};
+use chunk_sums::{piece_count, write_sums_and_copy};
 use hd_base::SumRule;
 use packet_codec::Packet;
 use std::alloc::{AllocError, Global};
@@ -25,27 +25,35 @@ pub(crate) fn data_packet(
     requires body { length body.now ≤ BLOCK_LIMIT }
     ensures { IfOk result (λ packet. packet ≡ data_packet rule start seqno sync body.now) }
 {
+    let (sums, body) = summed_copy(alloc, rule, start, body)?;
     Ok(Packet {
         offset: start as i64,
         seqno: seqno as i64,
         last: false,
         sync,
-        sums: sums_of_bytes(alloc, rule, start, body)?,
-        body: shared_copy(alloc, body)?,
+        sums,
+        body,
     })
 }
 
-/// The sums of bytes that begin here, each computed once.
-fn sums_of_bytes(alloc: Global, rule: SumRule, start: u64, body: &[u8]) -> Result<Bytes, AllocError>
+/// The sums of bytes that begin here, each computed once, and a copy of the bytes, made in the same pass.
+fn summed_copy(
+    alloc: Global,
+    rule: SumRule,
+    start: u64,
+    body: &[u8],
+) -> Result<(Bytes, Bytes), AllocError>
     requires { length body.now ≤ BLOCK_LIMIT }
-    ensures { IfOk result (λ sums. sums ≡ sums_from rule start body.now) }
+    ensures sums { IfOk result (λ x. x.0 ≡ sums_from rule start body.now) }
+    ensures copied { IfOk result (λ x. x.1 ≡ body.now) }
 {
     let chunk = u64::from(rule.chunk());
     let first = rest_of_chunk(chunk, start);
     let count = piece_count(rule.kind(), body.len() as u64, first, chunk);
     let mut sums = vec![in alloc; 0; 4 * count as usize]?;
-    write_sums(rule.kind(), body, first, chunk, &mut sums);
-    shared(sums)
+    let mut copy = Vec::with_capacity(alloc, body.len())?;
+    write_sums_and_copy(rule.kind(), body, first, chunk, &mut sums, &mut copy);
+    Ok((shared(sums)?, shared(copy)?))
 }
 
 /// A packet without bytes.
@@ -76,11 +84,4 @@ fn shared(bytes: Vec<u8>) -> Result<Bytes, AllocError>
     ensures { IfOk result (λ shared. shared ≡ bytes.items) }
 {
     Bytes::from_vec(bytes).map_err(|_| AllocError)
-}
-
-/// A copy of these bytes that can be shared.
-fn shared_copy(alloc: Global, bytes: &[u8]) -> Result<Bytes, AllocError>
-    ensures { IfOk result (λ shared. shared ≡ bytes.now) }
-{
-    shared(Vec::from_slice(alloc, bytes)?)
 }

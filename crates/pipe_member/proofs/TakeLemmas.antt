@@ -69,8 +69,8 @@ module _ {I : Type 0} (i : link_in.Ghosts I) where
   comes_bare : (old new : IncomingState) (half half' : I) (r : Next PacketFrame) → Comes packet_frames i old new half half' r → Comes packets i old new half half' (without_text r)
   comes_bare old new half half' (came.Message f) c = record { text = c.text; spelled = c.spelled.0; listed = tt; front = c.front; reads_on = c.reads_on }
   comes_bare old new half half' came.Unreadable c = (record { fault = c.0.fault; kept = c.0.kept; cause = none_bare new.rest (old.refused ≡ Some c.0.fault) c.0.cause }, c.1)
-  comes_bare old new half half' came.End c = (record { empty = c.0.empty; all = c.0.all; cut = c.0.cut }, c.1)
-  comes_bare old new half half' came.NotYet c = (record { empty = c.0.empty; all = c.0.all; cut = c.0.cut }, c.1)
+  comes_bare old new half half' came.End c = (record { empty = c.0.empty; all = c.0.all; cut = c.0.cut; reads_on = c.0.reads_on }, c.1)
+  comes_bare old new half half' came.NotYet c = (record { empty = c.0.empty; all = c.0.all; cut = c.0.cut; reads_on = c.0.reads_on }, c.1)
   comes_bare old new half half' came.Failed c = c
   comes_bare old new half half' came.Memory c = c
 

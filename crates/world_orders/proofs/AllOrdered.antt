@@ -92,17 +92,17 @@ next-found sent k m e = go k.over (ends_at k.end k.taken) e
     go false true f = cc
     go false false f = found (slice_get sent k.taken) f
 
-put-here : (f : ℕ → Marks) (c : ℕ) (x : Marks) → put f c x c ≡ x
+pub put-here : (f : ℕ → Marks) (c : ℕ) (x : Marks) → put f c x c ≡ x
 put-here f c x = rw (eqb-itself c) refl
 
 put-past : (n c : ℕ) (marks : ℕ → Marks) (x : Marks) → c < n → ((d : ℕ) → n ≤ d → marks d ≡ new_marks) → (d : ℕ) → n ≤ d → put marks c x d ≡ new_marks
 put-past n c marks x lt h d le =
     if-each (λ (m : Marks). m ≡ new_marks) (d == c) x (marks d) (λ e. absurd (omega (arith, eqb-true d c e, lt, le))) (λ e. h d le)
 
-lt-true : (a b : ℕ) → nat_lt a b ≡ true → a < b
+pub lt-true : (a b : ℕ) → nat_lt a b ≡ true → a < b
 lt-true a b e = grind (arith, nat_tests, e)
 
-served-below : (w : World) (c : ℕ) → is_served w c ≡ true → c < w.next_conn
+pub served-below : (w : World) (c : ℕ) → is_served w c ≡ true → c < w.next_conn
 served-below w c e = lt-true c w.next_conn (and-left (nat_lt c w.next_conn) (is_alive w (w.dialled c).to) e)
 
 -- DELIVERIES
@@ -246,7 +246,7 @@ after-ordered : (w : World) (e : Event) (o : Option World) → Ordered w → IfS
 after-ordered w e None h k = h
 after-ordered w e (Some v) h k = k
 
-happens-ordered : (w : World) (e : Event) → Placed w → Ordered w → Ordered (happens w e)
+pub happens-ordered : (w : World) (e : Event) → Placed w → Ordered w → Ordered (happens w e)
 unfolding happens
 happens-ordered w e p h = after-ordered w e (outcome w e) h (outcome-ordered w e p h)
 
@@ -254,7 +254,7 @@ run-ordered : (w : World) (events : List Event) → Placed w → Ordered w → O
 run-ordered w [] p h = h
 run-ordered w (e ∷ events) p h = run-ordered (happens w e) events (happens-placed w e p) (happens-ordered w e p h)
 
-start-ordered : (nodes : ℕ) → Ordered (start nodes)
+pub start-ordered : (nodes : ℕ) → Ordered (start nodes)
 unfolding start
 start-ordered nodes = record {
   downs = λ c k m e. absurd (none-some m e);

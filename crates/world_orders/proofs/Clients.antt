@@ -40,7 +40,7 @@ use Rattle.world_orders.proofs.Writing.{says, asked-none, streams-some, Follows,
 
 -- WHAT A WRITER HAS TAKEN
 
-clash : (b : Bool) → b ≡ false → b ≡ true → ⊥
+pub clash : (b : Bool) → b ≡ false → b ≡ true → ⊥
 clash true f t = cc
 clash false f t = cc
 
@@ -199,11 +199,11 @@ pub record Alike (x y : WriterRecord) : Type 0 where
   pub phase_same : y.phase ≡ x.phase
   pub members_same : y.members ≡ x.members
 
-given-alike : (x : WriterRecord) (c : Command) (r : Result Intake CommandFault) → Alike x (given_as x c r)
+pub given-alike : (x : WriterRecord) (c : Command) (r : Result Intake CommandFault) → Alike x (given_as x c r)
 given-alike x c (Ok i) = record { phase_same = refl; members_same = refl }
 given-alike x c (Err e) = record { phase_same = refl; members_same = refl }
 
-ruled-alike : (x : WriterRecord) (c : Command) (rule : _) → Alike x (ruled x c rule)
+pub ruled-alike : (x : WriterRecord) (c : Command) (rule : _) → Alike x (ruled x c rule)
 ruled-alike x (command.Create members) rule = record { phase_same = refl; members_same = refl }
 ruled-alike x (command.Append members) rule = record { phase_same = refl; members_same = refl }
 ruled-alike x (command.Write bytes) rule = record { phase_same = refl; members_same = refl }
@@ -212,10 +212,11 @@ ruled-alike x command.Hflush rule = record { phase_same = refl; members_same = r
 ruled-alike x command.Hsync rule = record { phase_same = refl; members_same = refl }
 ruled-alike x command.Close rule = record { phase_same = refl; members_same = refl }
 
-alike-then : (x y z : WriterRecord) → Alike x y → Follows y z → Follows x z
+pub alike-then : (x y z : WriterRecord) → Alike x y → Follows y z → Follows x z
 alike-then x y z a f = record {
   late = λ e. let l = f.late e in (ap is_requested (sym a.phase_same) ∙ l.0, l.1 ∙ a.members_same);
   early = λ e c. f.early (ap is_requested a.phase_same ∙ e) c;
+  keeps = λ c. f.keeps c ∙ a.members_same;
 }
 
 takes-owes : (w : World) (b : ℕ) (waits : Option Waiting) (s : writer.Step) (bytes : List ℕ) → Ordered w → Placed w → NextIs w w.up_marks b s.writer

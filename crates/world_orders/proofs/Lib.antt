@@ -8,3 +8,8 @@ pub mod Nodes
 pub mod Primaries
 pub mod AllOrdered
 pub mod Takes
+pub mod OpenFrame
+pub mod OpenLowers
+pub mod OpenClients
+pub mod OpenPrimaries
+pub mod AllOpen

@@ -82,7 +82,7 @@ recovery-is pipeline r e = cc
 recovery-is reading r e = cc
 recovery-is recovering r e = refl
 
-member-same : (c d : ℕ) → by_member c ≡ by_member d → c ≡ d
+pub member-same : (c d : ℕ) → by_member c ≡ by_member d → c ≡ d
 member-same c d e = ap number e
   where
     number : Upper → ℕ

@@ -260,6 +260,30 @@ ready-at-keeps mirror.Ended m None writes = quiet-keeps m m.bad writes
 pub ready-keeps : (m : MemberState) (oldest : Option PendingPacket) (writes : Bool) → IfSome (ready_turn m oldest writes) (KeepsMirror m)
 ready-keeps m oldest writes = if-some (KeepsMirror m) m.responds (ready_at m.mirror m oldest writes) (ready-at-keeps m.mirror m oldest writes)
 
+-- WHETHER THE RECEIVER ACTS
+
+closed-by-receives : (h : Shuts) (s : Side) (m : MemberState) → (closed_by h s m).receives ≡ true → m.receives ≡ true
+closed-by-receives shuts.Nothing s m e = e
+closed-by-receives shuts.Mirror side.Receiver m e = cc
+closed-by-receives shuts.Mirror side.Responder m e = e
+closed-by-receives shuts.Both side.Receiver m e = cc
+closed-by-receives shuts.Both side.Responder m e = e
+
+-- whose receiver acts then, its receiver acted before
+pub settled-receives : (m : MemberState) (t : Turn) (b : Booked) → (settled m t b).0.receives ≡ true → m.receives ≡ true
+settled-receives m t b = settled-cases m t b (λ x. x.0.receives ≡ true → m.receives ≡ true) (closed-by-receives t.effect.shuts t.side (record m { mirror = t.mirror }))
+    (bad-cases m t.call t (λ x. x.0.receives ≡ true → m.receives ≡ true) (λ seqno e. e) (cut t.side)) (cut t.side)
+  where
+    cut : (s : Side) → (closed s m).receives ≡ true → m.receives ≡ true
+    cut side.Receiver e = cc
+    cut side.Responder e = e
+
+-- Once it has taken the end, it acts no more.
+pub end-closes : (m : MemberState) (b : Booked) → (settled m (down_turn m above.End) b).0.receives ≡ true → ⊥
+end-closes m b = settled-cases m (down_turn m above.End) b (λ x. x.0.receives ≡ true → ⊥) (λ e. cc) (λ e. cc) (λ e. cc)
+
+-- WHAT IS TAKEN FROM THE MIRROR
+
 -- What is taken from the mirror: who still hears it afterwards has it open, and it wasn't the end.
 abbrev pub is_packet_call : Option ReplicaEvent → Bool
 is_packet_call (Some (replica_event.Packet conn p)) = true

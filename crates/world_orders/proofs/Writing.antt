@@ -1,6 +1,6 @@
 -- Whether a writer awaits the answer to a request, from one call to the next.
 use Rattle.std.proofs.Common.{◌≡◌, ℕ, ◌<◌, Bool, true, false, List, [], ◌∷◌, length, slice_get, Option, Some, None, Result, Ok, Err, refl, sym, ap, ◌∙◌}
-use Rattle.std.specs.Prelude.{◌==◌, nat_le, if◌then◌else◌, position}
+use Rattle.std.specs.Prelude.{◌==◌, nat_le, is_some, if◌then◌else◌, position}
 use Rattle.std.proofs.lemmas.Option.{none-some, slice_get-get_or}
 use Rattle.std.proofs.lemmas.List.Quantifiers.{position-Some}
 use Rattle.hd_base.specs.declared.numbers.NodeId.{NodeId}
@@ -77,31 +77,42 @@ streams-some (phase.Failed f) members n h e = h
 
 -- FROM ONE STATE TO THE NEXT
 
--- Who awaits an answer then did so before, at the same members; and who did so before and is still connected does so.
+-- Who awaits an answer then did so before, at the same members; who did so before and is still connected does so; and who is connected then has
+-- the same members as before.
 pub record Follows (x y : WriterRecord) : Type 0 where
   pub late : is_requested y.phase ≡ true → (is_requested x.phase ≡ true) × (y.members ≡ x.members)
   pub early : is_requested x.phase ≡ true → is_connected y.phase ≡ true → is_requested y.phase ≡ true
+  pub keeps : is_connected y.phase ≡ true → y.members ≡ x.members
 
 pub same : (x : WriterRecord) → Follows x x
-same x = record { late = λ e. (e, refl); early = λ e c. e }
+same x = record { late = λ e. (e, refl); early = λ e c. e; keeps = λ c. refl }
 
 alike : (x y : WriterRecord) → y.phase ≡ x.phase → y.members ≡ x.members → Follows x y
 alike x y p m = record {
   late = λ e. (ap is_requested (sym p) ∙ e, m);
   early = λ e c. ap is_requested p ∙ e;
+  keeps = λ c. m;
 }
 
 -- no longer connected
 gone : (x y : WriterRecord) → is_requested y.phase ≡ false → is_connected y.phase ≡ false → Follows x y
-gone x y r c = record { late = λ e. absurd (clash (is_requested y.phase) r e); early = λ e d. absurd (clash (is_connected y.phase) c d) }
+gone x y r c = record {
+  late = λ e. absurd (clash (is_requested y.phase) r e);
+  early = λ e d. absurd (clash (is_connected y.phase) c d);
+  keeps = λ d. absurd (clash (is_connected y.phase) c d);
+}
   where
     clash : (b : Bool) → b ≡ false → b ≡ true → ⊥
     clash true f t = cc
     clash false f t = cc
 
 -- it awaited none
-free : (x y : WriterRecord) → is_requested x.phase ≡ false → is_requested y.phase ≡ false → Follows x y
-free x y r s = record { late = λ e. absurd (clash (is_requested y.phase) s e); early = λ e c. absurd (clash (is_requested x.phase) r e) }
+free : (x y : WriterRecord) → is_requested x.phase ≡ false → is_requested y.phase ≡ false → y.members ≡ x.members → Follows x y
+free x y r s m = record {
+  late = λ e. absurd (clash (is_requested y.phase) s e);
+  early = λ e c. absurd (clash (is_requested x.phase) r e);
+  keeps = λ c. m;
+}
   where
     clash : (b : Bool) → b ≡ false → b ≡ true → ⊥
     clash true f t = cc
@@ -134,16 +145,16 @@ dial-follows x s stamp [] = same x
 dial-follows x s stamp (n ∷ ns) = same x
 
 accepted-follows : (x : WriterRecord) (s : Setup) (stamp : Stamp) → is_requested x.phase ≡ false → Follows x (accepted_step x s stamp).writer
-accepted-follows x setup.Create stamp r = free x _ r refl
+accepted-follows x setup.Create stamp r = free x _ r refl refl
 accepted-follows x setup.Append stamp r = same x
 accepted-follows x setup.AppendRecovery stamp r = same x
 accepted-follows x setup.StreamRecovery stamp r = same x
 accepted-follows x setup.CloseRecovery stamp r = same x
 
 form-follows : (x : WriterRecord) (d : DuePacket) → is_requested x.phase ≡ false → Follows x (form_step x d).writer
-form-follows x (due.Data end is_sync) r = free x _ r refl
-form-follows x due.Sync r = free x _ r refl
-form-follows x due.Last r = free x _ r refl
+form-follows x (due.Data end is_sync) r = free x _ r refl refl
+form-follows x due.Sync r = free x _ r refl refl
+form-follows x due.Last r = free x _ r refl refl
 
 reach-follows : (x : WriterRecord) (o : Option ℕ) → Follows x (reach_step_as x o).writer
 reach-follows x (Some n) = alike x _ refl refl
@@ -154,7 +165,7 @@ due-follows x (Some d) r = form-follows x d r
 due-follows x None r = reach-follows x (reached_length x.waiting x.stream)
 
 stream-follows : (x : WriterRecord) (sent : ℕ) (o : Option Packet) → is_requested x.phase ≡ false → Follows x (stream_step_as x sent o).writer
-stream-follows x sent (Some p) r = free x _ r refl
+stream-follows x sent (Some p) r = free x _ r refl refl
 stream-follows x sent None r = due-follows x (due_now x) r
 
 failed-follows : (x : WriterRecord) (f : Failure) (c : Command) → Follows x (failed_command x f c).writer
@@ -180,7 +191,7 @@ step-follows x (phase.Wanted s) e = same x
 step-follows x (phase.Stamped s stamp) e = dial-follows x s stamp x.members
 step-follows x (phase.Requested s stamp) e = free-follows x x.waiting
 step-follows x (phase.Accepted s stamp) e = accepted-follows x s stamp (not-asked x _ e refl)
-step-follows x phase.Opened e = free x _ (not-asked x _ e refl) refl
+step-follows x phase.Opened e = free x _ (not-asked x _ e refl) refl refl
 step-follows x (phase.Streaming sent) e = stream-follows x sent (slice_get x.stream.unacked sent) (not-asked x _ e refl)
 step-follows x phase.Closing e = free-follows x x.waiting
 step-follows x phase.Finished e = same x
@@ -192,7 +203,7 @@ unfolding own_step
 own-follows x = step-follows x x.phase refl
 
 pub open-follows : (x : WriterRecord) → is_requested x.phase ≡ false → Follows x (open_step x).writer
-open-follows x r = free x _ r refl
+open-follows x r = free x _ r refl refl
 
 pub completed-follows : (x : WriterRecord) → Follows x (completed_step x).writer
 completed-follows x = gone x _ refl refl
@@ -227,10 +238,10 @@ given-follows x s office.Nothing = same x
 
 committed-follows : (x : WriterRecord) (s : Setup) (stamp : Stamp) → is_requested x.phase ≡ false → Follows x (committed_as x s stamp)
 committed-follows x setup.Create stamp r = same x
-committed-follows x setup.Append stamp r = free x _ r refl
-committed-follows x setup.AppendRecovery stamp r = free x _ r refl
-committed-follows x setup.StreamRecovery stamp r = free x _ r refl
-committed-follows x setup.CloseRecovery stamp r = free x _ r refl
+committed-follows x setup.Append stamp r = free x _ r refl refl
+committed-follows x setup.AppendRecovery stamp r = free x _ r refl refl
+committed-follows x setup.StreamRecovery stamp r = free x _ r refl refl
+committed-follows x setup.CloseRecovery stamp r = free x _ r refl refl
 
 commit-follows : (x : WriterRecord) (s : Setup) (stamp : Stamp) (a : OfficeAnswer) → is_requested x.phase ≡ false → Follows x (commit_given x s stamp a)
 commit-follows x s stamp (office.Stamp t) r = same x
@@ -300,7 +311,7 @@ oldest-as x y false (phase.Stamped s stamp) e f m = alike x y (f ∙ sym e) m
 oldest-as x y false (phase.Requested s stamp) e f m = alike x y (f ∙ sym e) m
 oldest-as x y false (phase.Accepted s stamp) e f m = alike x y (f ∙ sym e) m
 oldest-as x y false phase.Opened e f m = alike x y (f ∙ sym e) m
-oldest-as x y false (phase.Streaming sent) e f m = free x y (not-asked x _ e refl) (ap is_requested f)
+oldest-as x y false (phase.Streaming sent) e f m = free x y (not-asked x _ e refl) (ap is_requested f) m
 oldest-as x y false phase.Closing e f m = alike x y (f ∙ sym e) m
 oldest-as x y false phase.Finished e f m = alike x y (f ∙ sym e) m
 oldest-as x y false phase.Completed e f m = alike x y (f ∙ sym e) m
@@ -364,6 +375,26 @@ pub answered-gone : (x : WriterRecord) (r : Response) (bad : Option NodeId) → 
 unfolding setup_answered
 answered-gone x r bad some = answered-as x x.phase (is_success r.status) bad refl some
 
+-- who is connected after an answer has the same members
+answered-keeps-as : (x : WriterRecord) (p : Phase) (good : Bool) (bad : Option NodeId) → is_connected (setup_answered_in x p good bad).phase ≡ true
+    → (setup_answered_in x p good bad).members ≡ x.members
+answered-keeps-as x (phase.Requested s stamp) true bad c = refl
+answered-keeps-as x (phase.Requested s stamp) false bad c = (fail-follows x (remedy_after s) (slice_get x.members (bad_place x.members bad))).keeps c
+answered-keeps-as x phase.Closed good bad c = refl
+answered-keeps-as x (phase.Wanted s) good bad c = refl
+answered-keeps-as x (phase.Stamped s stamp) good bad c = refl
+answered-keeps-as x (phase.Accepted s stamp) good bad c = refl
+answered-keeps-as x phase.Opened good bad c = refl
+answered-keeps-as x (phase.Streaming sent) good bad c = refl
+answered-keeps-as x phase.Closing good bad c = refl
+answered-keeps-as x phase.Finished good bad c = refl
+answered-keeps-as x phase.Completed good bad c = refl
+answered-keeps-as x (phase.Failed f) good bad c = refl
+
+pub answered-keeps : (x : WriterRecord) (r : Response) (bad : Option NodeId) → is_connected (setup_answered x r bad).phase ≡ true → (setup_answered x r bad).members ≡ x.members
+unfolding setup_answered
+answered-keeps x r bad c = answered-keeps-as x x.phase (is_success r.status) bad c
+
 -- A writer whose dial wasn't answered isn't connected.
 fail-unconnected : (x : WriterRecord) (r : Remedy) (o : Option NodeId) → (o ≡ None → ⊥) → is_connected (fail_named x r o).phase ≡ false
 fail-unconnected x r None never = absurd (never refl)
@@ -390,6 +421,15 @@ dialled-gone x s stamp e some = go x.phase e
     go phase.Finished f = cc
     go phase.Completed f = cc
     go (phase.Failed g) f = cc
+
+-- nor is one that had members, once its connection has ended
+pub ended-gone : (x : WriterRecord) → is_connected x.phase ≡ true → has_members x.members ≡ true → is_connected (ended x).phase ≡ false
+unfolding ended
+ended-gone x c some = go (remedy_in x.phase) c
+  where
+    go : (o : Option Remedy) → is_some o ≡ true → is_connected (ended_as x o).phase ≡ false
+    go None e = cc
+    go (Some r) e = fail-unconnected x r (slice_get x.members 0) (first-there x.members some)
 
 -- One whose dial was awaits the answer of the same members.
 pub dialled-asks : (y : WriterRecord) (t : Setup) (n : Stamp) → y.phase ≡ phase.Stamped t n → (dialled y true).phase ≡ phase.Requested t n

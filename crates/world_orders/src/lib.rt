@@ -1,7 +1,8 @@
-//! In which order messages come on the connections of the world. Each function has an empty body; its clauses say what
-//! holds after every list of events.
+//! In which order messages come on the connections of the world, and who hasn't taken a connection's end. Each function
+//! has an empty body; its clauses say what holds after every list of events.
 #![tactic(auto)]
 
+ghost use Rattle.world_orders.specs.Open.{AllOpen};
 ghost use Rattle.world_orders.specs.Orders.{AllOrdered};
 ghost use Rattle.world_orders.specs.Takes.{AllTakeInOrder};
 
@@ -15,4 +16,10 @@ pub fn messages_come_in_order()
 /// of its mirror, or a writer, the answer to its request and then acks.
 pub fn messages_are_taken_in_order()
     ensures { AllTakeInOrder }
+{}
+
+/// Whoever may still take from a connection hasn't taken its end: a lower end that hasn't ended, a member whose receiver
+/// acts, a member that hears its mirror, and a writer of the connection that it has.
+pub fn takers_are_open()
+    ensures { AllOpen }
 {}

@@ -2,8 +2,8 @@ use Rattle.std.proofs.Common.{length, ap, arith}
 use Rattle.chunk_sums.proofs.ChunkLemmas.{WrittenSoFar-here, WrittenSoFar-four, room_for_four, all_written}
 use Rattle.chunk_sums.proofs.chunks.write_each_over.Goals as goal
 
-pub returns : goal.returns
-returns g c = all_written _ _ _ _ _ _ _ _ c.loop-at.invariant.so_far (omega arith)
+pub returns-clause-sums : goal.returns-clause-sums
+returns-clause-sums g c = all_written _ _ _ _ _ _ _ _ c.loop-at.invariant.so_far (omega arith)
 
 pub put_all-requires : goal.put_all-requires
 put_all-requires g c =

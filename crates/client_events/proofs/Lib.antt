@@ -1,0 +1,4 @@
+pub mod SettleLaws
+pub mod HearLaws
+pub mod ActLaws
+pub mod CompleteLaws

@@ -1,0 +1,17 @@
+//! The events of the writer of a block in a play: each takes a writer and its connection that show a world, on roads
+//! that show it, to what shows the world after the event.
+#![tactic(auto)]
+
+mod acting;
+mod completing;
+mod faults;
+mod hearing;
+mod pipes;
+mod sending;
+mod steps;
+
+pub use acting::{Acted, Said, act};
+pub use completing::complete;
+pub use faults::ClientFault;
+pub use hearing::hear_ack;
+pub use pipes::Pipe;
