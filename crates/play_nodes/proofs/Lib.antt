@@ -7,3 +7,5 @@ pub mod ReadyNodes
 pub mod TakeNodes
 pub mod LiftLaws
 pub mod BeginNodes
+pub mod JoinNodes
+pub mod BeginEnds

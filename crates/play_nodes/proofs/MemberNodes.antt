@@ -38,7 +38,7 @@ use Rattle.play_nodes.proofs.PlaceLaws.{element_within}
 use Rattle.play_nodes.proofs.WorldFrames.{KeepsRest}
 use Rattle.play_nodes.proofs.NodeFrames.{IsApart, IsOfEvent, IsLeft, BookLeft, dialled_by, is_later, node_as, served_as, nodes_after, books_after, has_books_after, writers_after}
 
-both_so : (a b : Bool) → a ≡ true → b ≡ true → (a && b) ≡ true
+pub both_so : (a b : Bool) → a ≡ true → b ≡ true → (a && b) ≡ true
 both_so a b x y = rw (x, y) refl
 
 pub never_so : (a b : Bool) → b ≡ false → (a && b) ≡ false
@@ -48,7 +48,7 @@ never_so false b y = refl
 module _ {R I O : Type 0} (r : roads.Ghosts R I O) (i : link_in.Ghosts I) (o : link_out.Ghosts O) where
   -- THE ROADS KNOW ITS ENDS
 
-  known : (road : R) (net : Net) (q : Option Plain) (d c : ℕ) → RoadsShow r net road → r.plain road ≡ q → d < net.conns → c ≡ d → IsKnown q c
+  pub known : (road : R) (net : Net) (q : Option Plain) (d c : ℕ) → RoadsShow r net road → r.plain road ≡ q → d < net.conns → c ≡ d → IsKnown q c
   known road net None d c h is within same = tt
   known road net (Some p) d c h is within same =
       let e : p.dialled ≡ net.conns = ap (λ (x : Plain). x.dialled) (plain_same p h.plain (sym is ∙ h.is)) ∙ h.holds.dialled in

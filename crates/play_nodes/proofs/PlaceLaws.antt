@@ -1,6 +1,6 @@
 -- Members and books in their places.
 use Rattle.std.proofs.Common.{◌≡◌, ◌<◌, ◌≤◌, ℕ, zero, suc, List, [], ◌∷◌, length, get_or, slice_get, slice_set, Option, Some, None, IsSome, ◌⊎◌, inl, inr, refl, sym, ap, ◌∙◌, arith, length-set}
-use Rattle.std.specs.Prelude.{option_and_then}
+use Rattle.std.specs.Prelude.{false, is_some, option_and_then}
 use Rattle.replica_files.specs.declared.book_state.BookState.{BookState}
 use Rattle.pipe_member.specs.declared.member.Member.{Member}
 use Rattle.play_nodes.specs.declared.connections.Connection.{Connection}
@@ -39,6 +39,10 @@ element_within (x ∷ xs) (suc i) a h = within (element_within xs i a h)
 pub none_so : {A : Type 0} (x : Option A) → ((a : A) → x ≡ Some a → ⊥) → x ≡ None
 none_so None h = refl
 none_so (Some a) h = absurd (h a refl)
+
+pub none_if : {A : Type 0} (x : Option A) → is_some x ≡ false → x ≡ None
+none_if None h = refl
+none_if (Some a) h = cc
 
 pub same_some : {A : Type 0} (a b : A) → Some a ≡ Some b → a ≡ b
 same_some a b e = cc
