@@ -2,8 +2,8 @@
 
 use hd_base::{BlockId, Members, NodeId, ReplicaState, Stamp};
 use name_core::{
-    Begun, ChooseFault, Chosen, Desk, FIRST_STAMP, Info, Infos, MAX_APPEND_LENGTH, Office,
-    OfficeAnswer, OfficeBook, OfficeCall, OfficeFault, Reopened, SharedDesk, choose,
+    Begun, ChooseFault, Chosen, Desk, FIRST_STAMP, Info, Infos, Office, OfficeAnswer, OfficeBook,
+    OfficeCall, OfficeFault, Reopened, SharedDesk, choose,
 };
 use std::process::Abort;
 use std::sync::{Arc, Mutex};
@@ -42,61 +42,41 @@ fn choice(rt: &impl Abort, length: u64, nodes: &[NodeId]) -> Result<Chosen, Choo
 }
 
 #[test]
-fn the_shortest_being_written_is_chosen(rt: HostRuntime) {
-    let rbw = [
-        info(0, ReplicaState::Rbw, 1001, 700),
-        info(1, ReplicaState::Rbw, 1001, 1000),
-        info(2, ReplicaState::Rbw, 1001, 900),
+fn replicas_are_chosen(rt: HostRuntime) {
+    let (rbw, rwr, finalized) = (
+        ReplicaState::Rbw,
+        ReplicaState::Rwr,
+        ReplicaState::Finalized,
+    );
+    let [zero, one, two] = [NodeId(0), NodeId(1), NodeId(2)];
+    let written = [
+        info(0, rbw, 1001, 700),
+        info(1, rbw, 1001, 1000),
+        info(2, rbw, 1001, 900),
     ];
-    let all = [NodeId(0), NodeId(1), NodeId(2)];
-    assert_eq!(rt; chosen(&rt, &rbw), choice(&rt, 700, &all));
-}
-
-#[test]
-fn a_finalized_length_is_chosen(rt: HostRuntime) {
-    let infos = [
-        info(0, ReplicaState::Finalized, 1001, 1000),
-        info(1, ReplicaState::Rbw, 1001, 1000),
-        info(2, ReplicaState::Rbw, 1001, 900),
+    assert_eq!(rt; chosen(&rt, &written), choice(&rt, 700, &[zero, one, two]));
+    let closed = [
+        info(0, finalized, 1001, 1000),
+        info(1, rbw, 1001, 1000),
+        info(2, rbw, 1001, 900),
+    ];
+    assert_eq!(rt; chosen(&rt, &closed), choice(&rt, 1000, &[zero, one]));
+    let waiting = [info(0, rwr, 1001, 600), info(1, rwr, 1001, 512)];
+    assert_eq!(rt; chosen(&rt, &waiting), choice(&rt, 512, &[zero, one]));
+    let older = [info(0, rbw, 1000, 400), info(1, rbw, 1001, 700)];
+    assert_eq!(rt; chosen(&rt, &older), choice(&rt, 700, &[one]));
+    assert_eq!(rt;
+        chosen(&rt, &[info(0, rbw, 1001, 0)]),
+        Err(ChooseFault::Nothing)
+    );
+    let unequal = [
+        info(0, finalized, 1002, 512),
+        info(1, finalized, 1001, 1000),
     ];
     assert_eq!(rt;
-        chosen(&rt, &infos),
-        choice(&rt, 1000, &[NodeId(0), NodeId(1)])
+        chosen(&rt, &unequal),
+        Err(ChooseFault::Unequal { a: 512, b: 1000 })
     );
-}
-
-#[test]
-fn those_waiting_are_chosen_last(rt: HostRuntime) {
-    let rwr = [
-        info(0, ReplicaState::Rwr, 1001, 600),
-        info(1, ReplicaState::Rwr, 1001, 512),
-    ];
-    assert_eq!(rt;
-        chosen(&rt, &rwr),
-        choice(&rt, 512, &[NodeId(0), NodeId(1)])
-    );
-    let empty = [info(0, ReplicaState::Rbw, 1001, 0)];
-    assert_eq!(rt; chosen(&rt, &empty), Err(ChooseFault::Nothing));
-}
-
-#[test]
-fn an_old_stamp_is_no_candidate(rt: HostRuntime) {
-    let infos = [
-        info(0, ReplicaState::Rbw, 1000, 400),
-        info(1, ReplicaState::Rbw, 1001, 700),
-    ];
-    assert_eq!(rt; chosen(&rt, &infos), choice(&rt, 700, &[NodeId(1)]));
-}
-
-#[test]
-fn finalized_lengths_that_differ(rt: HostRuntime) {
-    let infos = [
-        info(0, ReplicaState::Finalized, 1002, 512),
-        info(1, ReplicaState::Finalized, 1001, 1000),
-    ];
-    let unequal = ChooseFault::Unequal { a: 512, b: 1000 };
-    assert_eq!(rt; chosen(&rt, &infos), Err(unequal));
-    assert!(rt; Infos::new(&[infos[0], infos[0]]).is_none());
 }
 
 /// An office that knows a block of node 0, under the stamp 1001.
@@ -145,88 +125,6 @@ fn book(rt: &(impl Abort + AllocGlobal)) -> Result<OfficeBook, Fail> {
     let mut book = OfficeBook::new(rt.alloc())?;
     book.create(BLOCK, &members(rt, &[NodeId(0)]))?;
     Ok(book)
-}
-
-#[test]
-fn blocks_that_are_known_or_not(rt: HostRuntime) -> Result<(), Fail> {
-    let mut book = book(&rt)?;
-    let one = members(&rt, &[NodeId(0)]);
-    assert_eq!(rt; book.create(BLOCK, &one), Err(OfficeFault::Known));
-    assert_eq!(rt; book.append(OTHER), Err(OfficeFault::Unknown));
-    assert_eq!(rt; book.new_stamp(OTHER), Err(OfficeFault::Unknown));
-    assert_eq!(rt;
-        book.commit(OTHER, Stamp(1), &one),
-        Err(OfficeFault::Unknown)
-    );
-    assert_eq!(rt;
-        book.complete(OTHER, Stamp(1), 0),
-        Err(OfficeFault::Unknown)
-    );
-    assert_eq!(rt; book.begin_recovery(OTHER), Err(OfficeFault::Unknown));
-    assert_eq!(rt;
-        book.commit_sync(OTHER, Stamp(1), 0, &one),
-        Err(OfficeFault::Unknown)
-    );
-    assert_eq!(rt; book.history().len(), 8);
-    Ok(())
-}
-
-#[test]
-fn an_open_block_refuses(rt: HostRuntime) -> Result<(), Fail> {
-    let mut book = book(&rt)?;
-    let one = members(&rt, &[NodeId(0)]);
-    let old = OfficeFault::OldStamp {
-        committed: Stamp(1001),
-    };
-    assert_eq!(rt; book.append(BLOCK), Err(OfficeFault::NotClosed));
-    assert_eq!(rt; book.commit(BLOCK, Stamp(1001), &one), Err(old));
-    assert_eq!(rt; book.complete(BLOCK, Stamp(1000), 9), Err(old));
-    let latest = OfficeFault::OldRecovery { latest: None };
-    assert_eq!(rt; book.commit_sync(BLOCK, Stamp(1002), 9, &one), Err(latest));
-    Ok(())
-}
-
-#[test]
-fn a_closed_block_refuses(rt: HostRuntime) -> Result<(), Fail> {
-    let mut book = book(&rt)?;
-    let one = members(&rt, &[NodeId(0)]);
-    let length = MAX_APPEND_LENGTH + 1;
-    book.complete(BLOCK, Stamp(1001), length)?;
-    assert_eq!(rt; book.append(BLOCK), Err(OfficeFault::TooLong { length }));
-    assert_eq!(rt; book.new_stamp(BLOCK), Err(OfficeFault::NotOpen));
-    assert_eq!(rt;
-        book.commit(BLOCK, Stamp(1002), &one),
-        Err(OfficeFault::NotOpen)
-    );
-    assert_eq!(rt;
-        book.complete(BLOCK, Stamp(1001), 9),
-        Err(OfficeFault::NotOpen)
-    );
-    assert_eq!(rt; book.begin_recovery(BLOCK), Err(OfficeFault::NotOpen));
-    assert_eq!(rt;
-        book.commit_sync(BLOCK, Stamp(1002), 9, &one),
-        Err(OfficeFault::NotOpen)
-    );
-    Ok(())
-}
-
-#[test]
-fn a_lost_lease_refuses(rt: HostRuntime) -> Result<(), Fail> {
-    let mut book = book(&rt)?;
-    let one = members(&rt, &[NodeId(0)]);
-    let recovery = book.begin_recovery(BLOCK)?.id;
-    let lost = OfficeFault::LeaseLost { recovery };
-    assert_eq!(rt; book.new_stamp(BLOCK), Err(lost));
-    assert_eq!(rt; book.commit(BLOCK, Stamp(1002), &one), Err(lost));
-    assert_eq!(rt; book.complete(BLOCK, Stamp(1001), 9), Err(lost));
-    book.commit_sync(BLOCK, recovery, 9, &one)?;
-    assert_eq!(rt;
-        book.complete(BLOCK, Stamp(1001), 9),
-        Err(lost),
-        "also once it is closed"
-    );
-    assert_eq!(rt; book.committed(BLOCK), recovery);
-    Ok(())
 }
 
 /// One call at a desk.

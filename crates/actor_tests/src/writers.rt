@@ -2,7 +2,7 @@
 
 use ack_codec::{Ack, Replies, Response};
 use hd_base::{BlockId, ByteList, ConnId, Members, NodeId, Stamp, Status, SumRule};
-use name_core::{OfficeAnswer, OfficeFault, Reopened};
+use name_core::{OfficeAnswer, Reopened};
 use op_headers::{Op, Stage, WriteOp};
 use packet_codec::Packet;
 use std::alloc::{AllocError, Global};
@@ -199,14 +199,6 @@ fn marked(writer: &mut Writer) -> Option<(i64, bool, bool)> {
     }
 }
 
-/// Whether an action answers a command so.
-fn is_answer(action: &Action, wanted: &ClientAnswer) -> bool {
-    match action {
-        Action::Answered { answer, .. } => answer == wanted,
-        _ => false,
-    }
-}
-
 /// The writer sends such a packet, as `measured` says of it, and its one member acks it.
 fn send(
     rt: &impl Abort,
@@ -301,41 +293,5 @@ fn an_append_ends_the_last_chunk_first(rt: HostRuntime) -> Result<(), Fail> {
     assert!(rt; sent(&mut writer) == Some((0, 600, 424, 4)));
     take(&rt, &mut writer, Command::Hflush)?;
     assert!(rt; sent(&mut writer) == Some((1, 1024, 576, 8)));
-    Ok(())
-}
-
-/// A writer that has sent a byte to a pipeline of these members, which ends.
-fn cut_off(rt: &impl Abort, alloc: Global, nodes: &[NodeId]) -> Result<Writer, Fail> {
-    let mut writer = created(rt, alloc, nodes)?;
-    fill(rt, &mut writer, 1)?;
-    assert!(rt; sent(&mut writer) == Some((0, 0, 1, 4)));
-    writer.ended();
-    Ok(writer)
-}
-
-#[test]
-fn a_writer_has_no_member_left(rt: HostRuntime) -> Result<(), Fail> {
-    let mut writer = cut_off(&rt, rt.alloc(), &[NodeId(3)])?;
-    let member = NodeId(3);
-    assert!(rt; is_answer(&writer.next(), &ClientAnswer::AllBad { member }));
-    Ok(())
-}
-
-#[test]
-fn a_setup_is_abandoned(rt: HostRuntime) -> Result<(), Fail> {
-    let mut writer = requested(&rt, rt.alloc(), &[NodeId(3)])?;
-    writer.dialled(None);
-    let member = NodeId(3);
-    assert!(rt; is_answer(&writer.next(), &ClientAnswer::Abandoned { member }));
-    Ok(())
-}
-
-#[test]
-fn a_lease_is_lost(rt: HostRuntime) -> Result<(), Fail> {
-    let mut writer = cut_off(&rt, rt.alloc(), &[NodeId(3), NodeId(4)])?;
-    assert_eq!(rt; step(&mut writer), Kind::Ask);
-    let recovery = Stamp(1005);
-    writer.granted(&Err(OfficeFault::LeaseLost { recovery }));
-    assert!(rt; is_answer(&writer.next(), &ClientAnswer::Lost { recovery }));
     Ok(())
 }

@@ -1,8 +1,7 @@
-//! Messages byte by byte and several in a piece, by worked examples of their formats.
+//! Messages byte by byte and in pieces, by worked examples of their formats.
 
-use frame_feed::{Feed, FeedFault, Message, Note, NoteList, SentList, Took};
+use frame_feed::{Feed, FeedFault, Message, SentList};
 use hd_base::{ConnId, Status};
-use op_headers::OpFault;
 use packet_codec::PacketFault;
 use std::alloc::AllocError;
 use std::process::Abort;
@@ -52,15 +51,6 @@ fn takes_a_packet_byte_by_byte(rt: HostRuntime) -> Result<(), Fail> {
 }
 
 #[test]
-fn takes_two_packets_of_a_piece(rt: HostRuntime) -> Result<(), Fail> {
-    let mut feed = Feed::new(rt.alloc())?;
-    feed.push(NINE)?;
-    feed.push(NINE)?;
-    takes_nine(&rt, &mut feed)?;
-    takes_nine(&rt, &mut feed)
-}
-
-#[test]
 fn keeps_a_fault(rt: HostRuntime) -> Result<(), Fail> {
     let mut feed = Feed::new(rt.alloc())?;
     feed.push(b"\0\0\0\x03\0\x19")?;
@@ -71,49 +61,16 @@ fn keeps_a_fault(rt: HostRuntime) -> Result<(), Fail> {
     Ok(())
 }
 
-/// An ack with this number and so many replies comes next.
-fn takes_ack(rt: &impl Abort, feed: &mut Feed, seqno: i64, replies: usize) -> Result<(), Fail> {
+#[test]
+fn takes_each_kind(rt: HostRuntime) -> Result<(), Fail> {
+    let mut feed = Feed::new(rt.alloc())?;
+    feed.push(b"\x04\x08\x02\x10\x00\x04\x08\x00\x12\x00")?;
     let ack = feed.next_ack()?.ok_or("an ack")?;
-    assert_eq!(rt; (ack.seqno, ack.replies.len()), (seqno, replies));
-    Ok(())
-}
-
-#[test]
-fn takes_two_acks_and_half_of_a_third(rt: HostRuntime) -> Result<(), Fail> {
-    let mut feed = Feed::new(rt.alloc())?;
-    feed.push(b"\x08\x08\x00\x10\x00\x10\x00\x10\x00\x04\x08\x02\x10\x00\x04\x08")?;
-    takes_ack(&rt, &mut feed, 0, 3)?;
-    takes_ack(&rt, &mut feed, 1, 1)?;
-    assert!(rt; feed.next_ack()?.is_none());
-    assert_eq!(rt; feed.wanted(), 3);
-    feed.push(b"\x01\x10\x00")?;
-    takes_ack(&rt, &mut feed, -1, 1)
-}
-
-#[test]
-fn takes_a_response(rt: HostRuntime) -> Result<(), Fail> {
-    let mut feed = Feed::new(rt.alloc())?;
-    feed.push(b"\x04\x08\x00\x12\x00")?;
+    assert_eq!(rt; (ack.seqno, ack.replies.len()), (1, 1));
     assert!(rt; feed.next_response()?.is_some());
-    assert!(rt; feed.next_response()?.is_none());
-    Ok(())
-}
-
-#[test]
-fn takes_an_answer(rt: HostRuntime) -> Result<(), Fail> {
-    let mut feed = Feed::new(rt.alloc())?;
-    feed.push(b"\x05\x08\x01\x12\x011")?;
+    feed.push(b"\x05\x08\x01\x12\x011\x02\x08\x06")?;
     assert!(rt; feed.next_answer()?.is_some());
-    assert!(rt; feed.next_answer()?.is_none());
-    Ok(())
-}
-
-#[test]
-fn takes_a_read_status(rt: HostRuntime) -> Result<(), Fail> {
-    let mut feed = Feed::new(rt.alloc())?;
-    feed.push(b"\x02\x08\x06")?;
     assert_eq!(rt; feed.next_read_status()?, Some(Status::ChecksumOk));
-    assert_eq!(rt; feed.next_read_status()?, None);
     Ok(())
 }
 
@@ -132,15 +89,6 @@ fn takes_a_request(rt: HostRuntime) -> Result<(), Fail> {
     feed.push(b"\x0a\x1f\x0a\x1d\x0a\x10BP-1-127.0.0.1-1")?;
     feed.push(b"\x10\x81\x80\x80\x80\x04\x18\xe9\x07\x20\x00")?;
     assert!(rt; has_request(&mut feed)?);
-    Ok(())
-}
-
-#[test]
-fn refuses_a_version(rt: HostRuntime) -> Result<(), Fail> {
-    let mut feed = Feed::new(rt.alloc())?;
-    feed.push(b"\x00\x1b")?;
-    let fault = FeedFault::Op(OpFault::Version { got: 27 });
-    assert_eq!(rt; feed.next_op().err(), Some(fault));
     Ok(())
 }
 
@@ -167,20 +115,5 @@ fn keeps_what_was_sent(rt: HostRuntime) -> Result<(), Fail> {
         assert_eq!(rt; *conn, ConnId(1));
         assert!(rt; is_success(message)?);
     }
-    Ok(())
-}
-
-#[test]
-fn keeps_notes(rt: HostRuntime) -> Result<(), Fail> {
-    let mut notes = NoteList::new(rt.alloc());
-    assert!(rt; notes.is_empty());
-    notes.push(Note {
-        conn: ConnId(0),
-        took: Took::End,
-        receipt: None,
-        seen: None,
-        sent: SentList::new(rt.alloc()),
-    })?;
-    assert_eq!(rt; NoteList::from_vec(notes.into_vec()).len(), 1);
     Ok(())
 }

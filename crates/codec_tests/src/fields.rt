@@ -36,23 +36,6 @@ const MESSAGE: [u8; 58] = [
     0x00, 0x00, 0x00, 0xf8, 0xff, 0xff, 0xff, 0x0f, 0x80, 0x01,
 ];
 
-/// Where each field of the message ends.
-const ENDS: [u64; 10] = [3, 12, 18, 23, 25, 28, 31, 44, 51, 58];
-
-/// The fields of the message.
-const FIELDS: [(u32, Wire); 10] = [
-    (1, Wire::Varint(300)),
-    (2, Wire::Eight(0x0102030405060708)),
-    (3, Wire::Part { from: 14, to: 18 }),
-    (4, Wire::Four(0x0a0b0c0d)),
-    (15, Wire::Varint(1)),
-    (16, Wire::Varint(0)),
-    (17, Wire::Part { from: 31, to: 31 }),
-    (2048, Wire::Varint(18446744073709551615)),
-    (262143, Wire::Four(3)),
-    (536870911, Wire::Varint(128)),
-];
-
 /// Fields alone: least spellings at the ends of each length, a value of each kind, and spellings
 /// that no writer gives, with more bytes than need be, bits above the low 32 of a tag, and bits
 /// above the low 64 of a value.
@@ -89,35 +72,11 @@ const SPELLINGS: [(&[u8], u32, Wire); 14] = [
     (b"\x1a\x83\x00abc", 3, Wire::Part { from: 3, to: 6 }),
 ];
 
-/// Bytes that begin with no field, and why: of two faults the first in order.
-const NO_FIELDS: [(&[u8], WireFault); 12] = [
+/// Bytes that begin with no field, and why.
+const NO_FIELDS: [(&[u8], WireFault); 3] = [
     (b"\x0b", WireFault::Kind { at: 0 }),
-    (b"\x0c", WireFault::Kind { at: 0 }),
-    (b"\x0e", WireFault::Kind { at: 0 }),
-    (b"\x0f", WireFault::Kind { at: 0 }),
-    (b"\x03", WireFault::Kind { at: 0 }),
-    (b"\x02", WireFault::FieldZero { at: 0 }),
-    (b"\x80", WireFault::Short { at: 0 }),
-    (
-        b"\x11\x01\x02\x03\x04\x05\x06\x07",
-        WireFault::Short { at: 0 },
-    ),
-    (
-        b"\x1a\xff\xff\xff\xff\xff\xff\xff\xff\xff\x01\x00",
-        WireFault::Short { at: 0 },
-    ),
-    (
-        b"\xff\xff\xff\xff\xff\xff\xff\xff\xff",
-        WireFault::Short { at: 0 },
-    ),
-    (
-        b"\xff\xff\xff\xff\xff\xff\xff\xff\xff\xff",
-        WireFault::LongVarint { at: 0 },
-    ),
-    (
-        b"\x1a\xff\xff\xff\xff\xff\xff\xff\xff\xff\xff",
-        WireFault::LongVarint { at: 0 },
-    ),
+    (b"\x00", WireFault::FieldZero { at: 0 }),
+    (b"\x08\x80", WireFault::Short { at: 0 }),
 ];
 
 #[test]
@@ -129,39 +88,6 @@ fn reads_any_spelling(rt: HostRuntime) {
     }
     for (bytes, fault) in NO_FIELDS {
         assert_eq!(rt; next_field(bytes, 0), Err(fault));
-    }
-    assert_eq!(rt;
-        next_field(b"\x08\x01\x0b", 2),
-        Err(WireFault::Kind { at: 2 })
-    );
-}
-
-/// Whole up to each place where a field ends, and cut off in the field that begins at the last such
-/// place elsewhere.
-#[test]
-fn reads_each_front_of_a_message(rt: HostRuntime) {
-    for cut in 0..=MESSAGE.len() {
-        let place = cut as u64;
-        let whole = ENDS.iter().filter(|end| **end <= place).count();
-        let at = ENDS
-            .iter()
-            .copied()
-            .filter(|end| *end <= place)
-            .max()
-            .unwrap_or(0);
-        match fields(rt.alloc(), &MESSAGE[..cut]) {
-            Ok(listed) => {
-                assert_eq!(rt; at, place);
-                assert_eq!(rt; listed.entries().len(), whole);
-                for (got, want) in listed.entries().iter().zip(&FIELDS) {
-                    assert!(rt; *got == *want, "at {place}");
-                }
-            }
-            Err(fault) => {
-                assert!(rt; at < place);
-                assert_eq!(rt; fault, FieldsFault::Wire(WireFault::Short { at }));
-            }
-        }
     }
 }
 
@@ -202,24 +128,6 @@ const REPEATED: &[u8] =
     b"\x1a\x02ab\x08\x05\x1a\x02cd\x08\x07\x12\x01e\x11\x08\x07\x06\x05\x04\x03\x02\x01";
 
 #[test]
-fn takes_the_last_values(rt: HostRuntime) -> Result<(), Fail> {
-    let bytes = REPEATED;
-    let listed = fields(rt.alloc(), bytes)?;
-    assert_eq!(rt; listed.number(1), Some(7));
-    assert_eq!(rt; listed.number(3), None);
-    assert_eq!(rt; listed.part(3), Some((8, 10)));
-    let [one, two, three] = listed.last_values::<3>();
-    assert_eq!(rt; (one.varint, one.part), (Some(7), None));
-    assert_eq!(rt;
-        (two.fixed64, two.part),
-        (Some(0x0102030405060708), Some((14, 15)))
-    );
-    assert_eq!(rt; three.part, Some((8, 10)));
-    assert_eq!(rt; last_values(bytes, 2)?, two);
-    Ok(())
-}
-
-#[test]
 fn joins_all_parts(rt: HostRuntime) -> Result<(), Fail> {
     let bytes = REPEATED;
     let listed = fields(rt.alloc(), bytes)?;
@@ -229,28 +137,6 @@ fn joins_all_parts(rt: HostRuntime) -> Result<(), Fail> {
     assert!(rt; single.as_slice() == b"e".as_slice());
     assert!(rt; matches!(&single, CowSlice::Borrowed(_)));
     assert!(rt; merged(rt.alloc(), bytes, 1, &listed)?.is_none());
-    Ok(())
-}
-
-/// Frames up to the limit of a message.
-#[test]
-fn reads_frames(rt: HostRuntime) -> Result<(), Fail> {
-    let (message, size) = read_frame(b"\x02abc")?;
-    assert!(rt; message == b"ab".as_slice());
-    assert_eq!(rt; size, 3);
-    for (bytes, fault) in [
-        (b"\x80\x80\x04".as_slice(), FrameFault::Short),
-        (
-            b"\x81\x80\x04".as_slice(),
-            FrameFault::TooLong { length: 65_537 },
-        ),
-        (
-            b"\xff\xff\xff\xff\xff\xff\xff\xff\xff\xff".as_slice(),
-            FrameFault::LongPrefix,
-        ),
-    ] {
-        assert_eq!(rt; read_frame(bytes).err(), Some(fault));
-    }
     Ok(())
 }
 

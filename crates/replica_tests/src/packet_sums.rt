@@ -1,9 +1,9 @@
-//! The sums of a packet of two chunks, and places in a metadata file.
+//! The sums of a packet of two chunks.
 
 use bytes::Bytes;
 use hd_base::{SumKind, SumRule};
 use packet_codec::Packet;
-use replica_model::{bad_chunk, meta_len, sum_place};
+use replica_model::bad_chunk;
 use std::alloc::{AllocError, Global};
 use std::test::Fail;
 
@@ -35,11 +35,4 @@ fn the_least_bad_chunk_is_found(rt: HostRuntime) -> Result<(), Fail> {
     assert_eq!(rt; bad(alloc, b"\x8a\x91\x36\xab\x62\xa8\xab\x44")?, Some(0));
     assert_eq!(rt; bad(alloc, b"\x8a\x91\x36\xab")?, None);
     Ok(())
-}
-
-#[test]
-fn sums_have_places(rt: HostRuntime) {
-    let rule = SumRule::default();
-    assert_eq!(rt; (sum_place(rule, 600), meta_len(rule, 600)), (11, 15));
-    assert_eq!(rt; (sum_place(rule, 512), meta_len(rule, 512)), (11, 11));
 }

@@ -1,7 +1,7 @@
 //! Worked examples of the write pipeline, over lengths.
 
 use hd_base::{BlockId, ConnId, ReplicaState, Stamp, SumKind, SumRule};
-use replica_core::{Answer, Event, MAX_PENDING, PieceRule, Refusal, Replica};
+use replica_core::{Answer, Event, PieceRule, Refusal, Replica};
 use std::process::Abort;
 use std::test::Fail;
 
@@ -289,46 +289,6 @@ fn a_transfer_is_taken_and_given(rt: HostRuntime) -> Result<(), Fail> {
     ];
     play(&rt, &mut replica, &table);
     assert_eq!(rt; replica.rule(), Some(sums));
-    Ok(())
-}
-
-#[test]
-fn packets_keep_the_rule_of_sums(rt: HostRuntime) -> Result<(), Fail> {
-    let few = Answer::Refused(Refusal::Piece {
-        rule: PieceRule::Sums,
-    });
-    let null = SumRule::new(SumKind::Null, 512).ok_or("a rule")?;
-    let mut replica = after(&rt, &[temporary(null)])?;
-    let events = [
-        (packet(0, 0, 9, 1), few),
-        (packet(0, 0, 9, 0), Answer::Done),
-    ];
-    play(&rt, &mut replica, &events);
-    let short = SumRule::new(SumKind::Crc32c, 16).ok_or("a rule")?;
-    let mut replica = after(&rt, &[temporary(short)])?;
-    let events = [
-        (packet(0, 0, 40, 2), few),
-        (packet(0, 0, 40, 3), Answer::Done),
-    ];
-    play(&rt, &mut replica, &events);
-    Ok(())
-}
-
-#[test]
-fn so_many_packets_may_be_pending(rt: HostRuntime) -> Result<(), Fail> {
-    let mut replica = after(&rt, &[create()])?;
-    let beat = (packet(-1, 0, 0, 0), Answer::Done);
-    for _ in 0..MAX_PENDING {
-        play(&rt, &mut replica, &[beat]);
-    }
-    assert!(rt; replica.is_full());
-    let beat_acked = Event::Ack {
-        conn: CONN,
-        seqno: -1,
-        good: true,
-    };
-    assert_eq!(rt; replica.step(&beat_acked), Answer::Done);
-    assert!(rt; !replica.is_full() && !replica.is_broken());
     Ok(())
 }
 
