@@ -1,9 +1,8 @@
 -- How a connection's first message ends: the end came, a request was set up, or a fault has its cause.
-use Rattle.std.proofs.Common.{◌≡◌, ◌≢◌, ◌⊎◌, inl, inr, ◌<◌, ◌≤◌, ℕ, Bool, true, false, List, [], length, slice_get, Option, Some, None, IsSome, Result, Ok, Err, refl, sym, ap, ◌∙◌, subst, arith, length-set, eqb-true}
-use Rattle.std.specs.Prelude.{◌==◌, position}
-use Rattle.core.specs.List.{position_or_len}
+use Rattle.std.proofs.Common.{◌≡◌, ◌⊎◌, inl, inr, ◌<◌, ◌≤◌, ℕ, Bool, true, false, List, length, slice_get, Option, Some, None, IsSome, Result, Ok, Err, refl, sym, ap, ◌∙◌, subst, arith, length-set, eqb-true}
+use Rattle.std.specs.Prelude.{◌==◌}
+use Rattle.std.specs.List.{position_or_len}
 use Rattle.std.proofs.lemmas.Bool.Decides.{nat_tests}
-use Rattle.hd_base.specs.Faults.{FaultsIncreased}
 use Rattle.hd_base.specs.declared.ends.Conn.{Conn}
 use Rattle.hd_base.specs.declared.files.Files as files
 use Rattle.hd_base.specs.declared.links.LinkIn as link_in
@@ -16,13 +15,12 @@ use Rattle.op_headers.specs.declared.ops.Op.TheVariants as op
 use Rattle.op_headers.specs.Values.{WriteFields}
 use Rattle.member_core.specs.Steps.{request_step}
 use Rattle.replica_files.specs.declared.book_state.BookState.{BookState}
-use Rattle.replica_files.specs.Books.{replica_of}
 use Rattle.pipe_member.specs.declared.member.Member.{Member}
 use Rattle.road_traffic.specs.Showing.{Net}
 use Rattle.world.specs.declared.events.Event.TheVariants as event
 use Rattle.world.specs.Parts.{request, idle}
 use Rattle.world.specs.Worlds.{World, apply}
-use Rattle.world.specs.Connections.{Next, message, down_taken}
+use Rattle.world.specs.Connections.{Next, down_taken}
 use Rattle.world.specs.Nodes.{node_of, block_of, replica_at, setup_change, is_asked}
 use Rattle.world.specs.Events.{outcome, happens}
 use Rattle.world_laws.specs.Placing.{Placed}
@@ -38,7 +36,6 @@ use Rattle.member_events.specs.declared.faults.MemberFault.TheVariants as member
 use Rattle.member_events.specs.declared.joining.Joined.{Joined}
 use Rattle.member_events.specs.declared.joining.MirrorDial.{MirrorDial}
 use Rattle.member_events.specs.declared.joining.MirrorDial.TheVariants as dial
-use Rattle.member_events.specs.Faults as members
 use Rattle.member_events.specs.Beginning as member_begin
 use Rattle.member_events.specs.Beginning.{IdleStands, CanBegin, HasRequest, IsEndFault}
 use Rattle.member_events.specs.Joining.{write_next, IsUnasked, JoinStands, CanJoin, MemberJoins, JoinsBy, JoinEnds}
@@ -95,6 +92,13 @@ not_none (Some a) h e = cc
 
 same_test : (a b : ℕ) → a ≡ b → (a == b) ≡ true
 same_test a b e = grind (arith, nat_tests, e)
+
+module _ {R I O : Type 0} (r : roads.Ghosts R I O) (i : link_in.Ghosts I) (o : link_out.Ghosts O) where
+  pub shows_as : (end : Conn I O) (made other : Option (Requested I O)) (road road' : R) → made ≡ other → member_begin.BeginShows r i o end road road' (Ok made) → member_begin.BeginShows r i o end road road' (Ok other)
+  shows_as end made other road road' is h = subst (λ (x : Option (Requested I O)). member_begin.BeginShows r i o end road road' (Ok x)) is h
+
+  pub handed_as : (made : Option (Requested I O)) (requested : Requested I O) (road road' : R) → made ≡ Some requested → member_begin.HandsOver r road road' (Ok made) → member_begin.IsHanded r road road' requested.end
+  handed_as made requested road road' is h = subst (λ (x : Option (Requested I O)). member_begin.HandsOver r road road' (Ok x)) is h
 
 module _ {F R I O : Type 0} (f : files.Ghosts F) (r : roads.Ghosts R I O) (i : link_in.Ghosts I) (o : link_out.Ghosts O) where
   -- FAULTS
@@ -232,6 +236,7 @@ module _ {F R I O : Type 0} (f : files.Ghosts F) (r : roads.Ghosts R I O) (i : l
 
       -- the connection to the mirror was added, or memory ran out
       reached_ends : (left : Option (Member I O)) (reached : Conn I O) (middle : Nodes F I O) (x : Result Bool NodesFault) → PutBack set middle s left → JoinsBy r i o w n1 conn next fields book' first road' left (dial.Reached reached) → AddsDial middle new s next of (dial.Reached reached) x → ends x
+      unfolding set_up
       reached_ends left reached middle (Ok answered) put joins adds =
           subst (λ (b : Bool). ends (Ok b)) (sym adds.0)
           (mirrored_left r i o w taken (happens w (event.Down conn true)) net n1 conn.0 fields (Some next.0) s book' road' left old mid set middle at end (set_up true (Some next.0) left middle put joins.joins)

@@ -1,61 +1,49 @@
 -- A lower end that has taken nothing yet takes what stands next, which is the end, or a request.
-use Rattle.std.proofs.Common.{◌≡◌, ◌<◌, ◌-◌, ℕ, Bool, true, false, List, [], slice_get, slice_set, Option, Some, None, IsSome, refl, sym, ap, ◌∙◌, subst, arith, append-nil, eqb-true}
+use Rattle.std.proofs.Common.{◌≡◌, ◌<◌, ◌-◌, ℕ, true, false, List, [], slice_get, slice_set, Some, None, IsSome, refl, sym, ap, ◌∙◌, subst, arith, append-nil, eqb-true}
 use Rattle.std.specs.Prelude.{◌&&◌, ◌==◌, nat_le}
-use Rattle.hd_base.specs.Channels.{Plain}
-use Rattle.hd_base.specs.Ends.{IsKnown}
 use Rattle.hd_base.specs.declared.ends.Conn.{Conn}
-use Rattle.hd_base.specs.declared.files.Files as files
 use Rattle.hd_base.specs.declared.links.LinkIn as link_in
 use Rattle.hd_base.specs.declared.links.LinkOut as link_out
 use Rattle.hd_base.specs.declared.numbers.BlockId.{BlockId}
 use Rattle.hd_base.specs.declared.numbers.ConnId.{ConnId}
 use Rattle.hd_base.specs.declared.roads.Roads as roads
 use Rattle.op_headers.specs.declared.ops.Op.TheVariants as op
-use Rattle.op_headers.specs.Values.{WriteFields}
 use Rattle.road_traffic.specs.Showing.{Net}
 use Rattle.world.specs.declared.events.Event.{Event}
 use Rattle.world.specs.declared.events.Event.TheVariants as event
 use Rattle.world.specs.Parts as parts
 use Rattle.world.specs.Parts.{Message, request, packet, ack, response, read_status, recovery_answer, by_writer, by_member, by_reader, by_primary, idle, ended_below}
-use Rattle.world.specs.Worlds.{World, put, put_at, apply}
-use Rattle.world.specs.Connections.{Next, message, the_end, next_down, down_taken, is_served}
+use Rattle.world.specs.Worlds.{World, put_at, apply}
+use Rattle.world.specs.Connections.{Next, message, the_end, down_taken, is_served}
 use Rattle.world.specs.Nodes.{node_of, closing}
 use Rattle.world.specs.Events.{outcome, happens}
-use Rattle.world_laws.specs.Placing.{Placed}
 use Rattle.world_laws.proofs.FactTables.{if-each, and-left, and-right}
-use Rattle.world_laws.proofs.StampGivens.{put-here, put-there}
+use Rattle.world_laws.proofs.StampGivens.{put-there}
 use Rattle.world_orders.specs.Orders.{Ordered, Purpose, purpose_of, pipeline, comes_down, is_write}
 use Rattle.world_orders.specs.Takes.{TakesInOrder}
 use Rattle.world_orders.proofs.AllOrdered.{next-found}
 use Rattle.world_texts.specs.Texts.{SpellsText, Written}
-use Rattle.world_nets.specs.Nets.{IsEndOf, is_over}
+use Rattle.world_nets.specs.Nets.{IsEndOf}
 use Rattle.world_nets.specs.Drawn.{ComesDown, IsNoRequest}
 use Rattle.world_nets.proofs.DrawnLemmas.{down-makes}
 use Rattle.world_nets.proofs.StepLemmas.{followed, changed-over, taken-over}
-use Rattle.play_model.specs.declared.dues.Due.TheVariants as due
-use Rattle.play_model.specs.Dues.{Queues, is_due, is_open}
+use Rattle.play_model.specs.Dues.{is_open}
 use Rattle.play_model.specs.Lines.{mirror_of}
-use Rattle.member_events.specs.Beginning.{IdleStands, IsFirst, CanBegin, HasEnded, IsEndFault}
-use Rattle.member_events.specs.declared.faults.MemberFault.{MemberFault}
-use Rattle.member_events.specs.declared.faults.MemberFault.TheVariants as member_fault
+use Rattle.member_events.specs.Beginning.{IsFirst, CanBegin, HasEnded}
 use Rattle.member_events.proofs.WorldLaws.{happened}
 use Rattle.play_nodes.specs.declared.connections.Connection.{Connection}
 use Rattle.play_nodes.specs.declared.connections.Lower.{Lower}
 use Rattle.play_nodes.specs.declared.connections.Lower.TheVariants as lower
 use Rattle.play_nodes.specs.declared.connections.Upper.{Upper}
-use Rattle.play_nodes.specs.declared.connections.Upper.TheVariants as upper
 use Rattle.play_nodes.specs.declared.nodes.NodeBooks.{NodeBooks}
 use Rattle.play_nodes.specs.declared.nodes.Nodes.{Nodes}
-use Rattle.play_nodes.specs.Places.{book_at, with_lower, TakesIdle, idle_of}
-use Rattle.play_nodes.specs.Showing.{UpperShows, has_events, LowerShows, BooksShow, HasBooks, NodesStand, NodesLeft}
-use Rattle.play_nodes.specs.Events.{IsLawful}
+use Rattle.play_nodes.specs.Places.{book_at, with_lower, TakesIdle}
+use Rattle.play_nodes.specs.Showing.{UpperShows, has_events, LowerShows, NodesStand, NodesLeft}
 use Rattle.play_nodes.proofs.Tables.{element, none_dialled}
-use Rattle.play_nodes.proofs.PlaceLaws.{element_within, same_some}
 use Rattle.play_nodes.proofs.WorldFrames.{KeepsRest}
-use Rattle.play_nodes.proofs.NodeFrames.{IsApart, IsOfEvent, IsLeft, nodes_after, writers_after}
+use Rattle.play_nodes.proofs.NodeFrames.{IsOfEvent, IsLeft, nodes_after, writers_after}
 use Rattle.play_nodes.proofs.MemberNodes.{never_so}
 use Rattle.play_nodes.proofs.ReadyNodes.{served_within}
-use Rattle.play_nodes.proofs.TakeNodes.{TakesAt, takes_at}
 
 -- THE WORLD AFTER A CONNECTION THAT HAS ENDED
 

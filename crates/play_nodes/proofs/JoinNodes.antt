@@ -1,7 +1,7 @@
 -- A lower end that has taken a request to write becomes a member, and the connection to its mirror stands behind the others.
-use Rattle.std.proofs.Common.{◌≡◌, ◌<◌, ◌≤◌, ◌+◌, ◌-◌, ℕ, zero, suc, Bool, true, false, if◌then◌else◌, List, [], ◌∷◌, ◌++◌, length, get_or, slice_get, slice_set, option_map, Option, Some, None, IsSome, inl, inr, ◌⊎◌, refl, sym, ap, ◌∙◌, subst, arith, append-nil, eqb-true}
-use Rattle.std.specs.Prelude.{◌&&◌, ◌==◌, nat_le, nat_lt, cond, not, position}
-use Rattle.core.specs.List.{position_or_len}
+use Rattle.std.proofs.Common.{◌≡◌, ◌<◌, ◌+◌, ◌-◌, ℕ, zero, suc, Bool, true, false, if◌then◌else◌, List, [], ◌∷◌, ◌++◌, length, get_or, slice_get, slice_set, option_map, Option, Some, None, IsSome, inl, inr, refl, sym, ap, ◌∙◌, subst, arith, append-nil}
+use Rattle.std.specs.Prelude.{◌==◌, nat_le, nat_lt, cond, not, position}
+use Rattle.std.specs.List.{position_or_len}
 use Rattle.std.proofs.lemmas.Bool.Decides.{nat_tests}
 use Rattle.std.proofs.lemmas.List.Quantifiers.{position-Some}
 use Rattle.hd_base.specs.declared.ends.Conn.{Conn}
@@ -23,11 +23,10 @@ use Rattle.world.specs.declared.events.Event.{Event}
 use Rattle.world.specs.Parts as parts
 use Rattle.world.specs.Parts.{Break, Dialled, FullMember, Place, by_member, idle, writes, ended_below}
 use Rattle.world.specs.Worlds.{World, apply}
-use Rattle.world.specs.Connections.{Next, down_taken, is_alive, is_served, place_of}
-use Rattle.world.specs.Nodes.{node_of, block_of, setup_change, lower_of, member_dials, node_on, mirror_node}
+use Rattle.world.specs.Connections.{is_alive, is_served, place_of}
+use Rattle.world.specs.Nodes.{node_of, block_of, setup_change, lower_of, member_dials, mirror_node}
 use Rattle.world.specs.Events.{outcome, happens}
 use Rattle.world_laws.specs.Placing.{Placed}
-use Rattle.world_laws.proofs.FactTables.{and-left, and-right}
 use Rattle.world_laws.proofs.StampGivens.{put-there}
 use Rattle.world_orders.specs.Orders.{Ordered}
 use Rattle.world_nets.specs.Nets.{IsEndOf, is_over}
@@ -40,17 +39,15 @@ use Rattle.member_events.proofs.WorldLaws.{happened}
 use Rattle.play_nodes.specs.declared.connections.Connection.{Connection}
 use Rattle.play_nodes.specs.declared.connections.Lower.{Lower}
 use Rattle.play_nodes.specs.declared.connections.Lower.TheVariants as lower
-use Rattle.play_nodes.specs.declared.connections.Upper.TheVariants as upper
 use Rattle.play_nodes.specs.declared.nodes.NodeBooks.{NodeBooks}
 use Rattle.play_nodes.specs.declared.nodes.Nodes.{Nodes}
 use Rattle.play_nodes.specs.declared.nodes.Seat.{Seat}
 use Rattle.play_nodes.specs.Places.{book_at, with_lower, lower_left, TakesIdle, PutBack, BookSet, IsMirrorNode, mirror_made, IsAdded}
-use Rattle.play_nodes.specs.Showing.{UpperShows, has_events, LowerShows, ConnectionShows, NodesShow, NodesLeft}
+use Rattle.play_nodes.specs.Showing.{UpperShows, LowerShows, ConnectionShows, NodesShow, NodesLeft}
 use Rattle.play_nodes.proofs.Tables.{put_at_there, set_here, set_set}
 use Rattle.play_nodes.proofs.WorldFrames.{KeepsRest}
 use Rattle.play_nodes.proofs.NodeFrames.{IsOfEvent, IsLeft, BookLeft, node_as, served_as, nodes_after, books_after, has_books_after, writers_after}
 use Rattle.play_nodes.proofs.MemberNodes.{both_so, never_so}
-use Rattle.play_nodes.proofs.BeginNodes.{IdleAt}
 
 -- THE PLACE OF A BLOCK
 
@@ -138,15 +135,16 @@ served_at v next number to runs last =
     same : (n : ℕ) → (n == n) ≡ true
     same n = grind (arith, nat_tests)
 
-module _ {F R I O : Type 0} (r : roads.Ghosts R I O) (i : link_in.Ghosts I) (o : link_out.Ghosts O) where
-  -- WHAT IS LEFT AT THE CONNECTION
-
+module _ {I O : Type 0} (i : link_in.Ghosts I) (o : link_out.Ghosts O) where
   -- the connection to the mirror, if there is one, is the world's
   mirror_left : (v : World) (made : Net) (c : ℕ) (fields : WriteFields) (mirror : Option ℕ) (left : Option (Member I O)) → LeftJoins i o v made c fields mirror left → mirror ≡ mirror_of (v.lowers c)
   mirror_left v made c fields mirror (Some m) h = sym (ap mirror_of h.lower ∙ h.mirror_is)
   mirror_left v made c fields None None (inl over) = sym (ap mirror_of over)
   mirror_left v made c fields None None (inr over) = sym (ap mirror_of over.lower ∙ over.alone)
   mirror_left v made c fields (Some d) None h = absurd h
+
+module _ {F R I O : Type 0} (r : roads.Ghosts R I O) (i : link_in.Ghosts I) (o : link_out.Ghosts O) where
+  -- WHAT IS LEFT AT THE CONNECTION
 
   left_shows : (v : World) (made : Net) (c place : ℕ) (new : Nodes F I O) (fields : WriteFields) (mirror : Option ℕ) (block : BlockId) (left : Option (Member I O)) → is_served v c ≡ true → slice_get new.blocks.items place ≡ Some block → block.0 ≡ block_of fields
       → LeftJoins i o v made c fields mirror left → LowerShows i o v made c new (v.lowers c) (lower_left place lower.Ended left)
@@ -238,7 +236,7 @@ module _ {F R I O : Type 0} (r : roads.Ghosts R I O) (i : link_in.Ghosts I) (o :
           count = z.count;
           upper = z.upper;
           node = z.node;
-          mirror = z.mirror_is ∙ mirror_left v made c fields mirror left h.joins.left_is;
+          mirror = z.mirror_is ∙ mirror_left i o v made c fields mirror left h.joins.left_is;
           shows = subst (λ (l : Lower I O). LowerShows i o v made c new (v.lowers c) l) (sym z.lower_is)
               (left_shows v made c s.place new fields mirror h.block left served_after at_place h.of_block h.joins.left_is);
           added = z.added;

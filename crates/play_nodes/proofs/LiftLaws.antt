@@ -1,5 +1,5 @@
 -- A member that was taken from its place, and its book; and an end that has taken nothing yet.
-use Rattle.std.proofs.Common.{◌≡◌, ◌<◌, ℕ, List, length, slice_get, Option, Some, IsSome, refl, sym, ap, ◌∙◌, subst, length-set}
+use Rattle.std.proofs.Common.{◌≡◌, ◌<◌, ℕ, true, List, length, slice_get, Option, Some, IsSome, refl, sym, ap, ◌∙◌, subst, length-set}
 use Rattle.hd_base.specs.Ends.{IsKnown}
 use Rattle.hd_base.specs.declared.ends.Conn.{Conn}
 use Rattle.hd_base.specs.declared.links.LinkIn as link_in

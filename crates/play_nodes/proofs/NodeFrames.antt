@@ -17,7 +17,7 @@ use Rattle.world.specs.Parts as parts
 use Rattle.world.specs.Parts.{Dialled, by_writer, by_member, FullMember, idle, writes}
 use Rattle.world.specs.Worlds.{World}
 use Rattle.world.specs.Connections.{is_served}
-use Rattle.world.specs.Nodes.{node_of, block_of}
+use Rattle.world.specs.Nodes.{node_of}
 use Rattle.world_nets.specs.Nets.{is_over}
 use Rattle.member_core.specs.Members.{MemberState}
 use Rattle.world_orders.specs.Orders.{Ordered, IsMirror, MirrorIs}
@@ -28,7 +28,7 @@ use Rattle.play_nodes.specs.declared.connections.Lower.{Lower}
 use Rattle.play_nodes.specs.declared.connections.Lower.TheVariants as lower
 use Rattle.play_nodes.specs.declared.connections.Upper.{Upper}
 use Rattle.play_nodes.specs.declared.nodes.Nodes.{Nodes}
-use Rattle.play_nodes.specs.Places.{book_at, with_lower}
+use Rattle.play_nodes.specs.Places.{book_at}
 use Rattle.play_nodes.specs.Showing.{UpperShows, has_events, LowerShows, ConnectionShows, NodesShow, WritersStay, BooksShow, HasBooks}
 use Rattle.play_nodes.proofs.Tables.{SetOr, set_or, JoinedOr, joined_or, same_or}
 use Rattle.play_nodes.proofs.PlaceLaws.{element_within}

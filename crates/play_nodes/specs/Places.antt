@@ -1,5 +1,5 @@
 -- Members and books in their places among the nodes of a play.
-use Rattle.std.specs.Prelude.{◌==◌, length, position, ◌⊎◌, ◌++◌, ◌-◌, [], ◌∷◌, Bool, true, false, ◌≡◌, ℕ, List, slice_get, slice_set, Option, Some, None, IsSome, option_and_then, Result, Ok, Err}
+use Rattle.std.specs.Prelude.{◌==◌, length, position, ◌++◌, ◌-◌, [], ◌∷◌, Bool, true, false, ◌≡◌, ℕ, List, slice_get, slice_set, Option, Some, None, IsSome, option_and_then, Result, Ok, Err}
 use Rattle.hd_base.specs.declared.ends.Conn.{Conn}
 use Rattle.hd_base.specs.declared.files.Files as files
 use Rattle.hd_base.specs.declared.links.LinkIn as link_in

@@ -1,15 +1,15 @@
 //! A connection's first message.
 
-ghost use Rattle.std.specs.Prelude.{◌≡◌, ◌<◌, ◌==◌, ◌⊎◌, length, position};
+ghost use Rattle.std.specs.Prelude.{◌≡◌, ◌<◌, ◌⊎◌, length};
 ghost use Rattle.hd_base.specs.Ends.{IsKnown};
 ghost use Rattle.play_nodes.specs.Showing.{Stand};
-ghost use Rattle.play_nodes.specs.Places.{TakesIdle, IsMirrorNode, Adds, IsSettled, IsJoined, HasNoBook};
+ghost use Rattle.play_nodes.specs.Places.{TakesIdle, IsMirrorNode, Adds, IsSettled, place_of, IsJoined, HasNoBook};
 ghost use Rattle.play_nodes.specs.Beginning.{BeginShows};
 
 use crate::connections::{Connection, Lower, Upper};
 use crate::faults::{NodesFault, fault_at};
 use crate::nodes::{Nodes, Seat};
-use hd_base::{BlockId, Conn, ConnId, FIRST_PORT, Files, LinkIn, LinkOut, NodeId, Roads};
+use hd_base::{Conn, ConnId, FIRST_PORT, Files, LinkIn, LinkOut, NodeId, Roads};
 use member_events::{Joined, MemberFault, MirrorDial, Requested, begin, join};
 use op_headers::WriteOp;
 use std::alloc::Global;
@@ -58,7 +58,7 @@ impl<F: Files, I: LinkIn, O: LinkOut> Nodes<F, I, O> {
             self.old self.new conn node requested roads.old roads.new result
             ⊎ HasNoBook self.old self.new node requested.op roads.old roads.new result }
     {
-        let Some(place) = self.place_of(requested.op.block.block) else {
+        let Some(place) = self.place_of(&requested.op) else {
             return Ok(true);
         };
         if !self.has_book(node, place) {
@@ -106,7 +106,9 @@ impl<F: Files, I: LinkIn, O: LinkOut> Nodes<F, I, O> {
     {
         self.connections[seat.conn].mirror = Some(next);
         let connection = Connection {
-            upper: Upper::Member { conn: ConnId(seat.conn as u64) },
+            upper: Upper::Member {
+                conn: ConnId(seat.conn as u64),
+            },
             node: mirror,
             lower: Lower::Idle(end),
             mirror: None,
@@ -128,10 +130,11 @@ impl<F: Files, I: LinkIn, O: LinkOut> Nodes<F, I, O> {
         }
     }
 
-    /// The place of a block among those of the play.
-    fn place_of(&self, block: BlockId) -> Option<usize>
-        ensures { result ≡ position (λ b. b.0 == block.0) self.now.blocks.items }
+    /// The place of the block of a request among those of the play.
+    fn place_of(&self, op: &WriteOp) -> Option<usize>
+        ensures { result ≡ place_of self.now.blocks.items op.now }
     {
+        let block = op.block.block;
         self.blocks.iter().position(|other| other.0 == block.0)
     }
 }

@@ -43,8 +43,8 @@ returns-in-Ok g c =
       book = was;
       book' = c.join.new.book;
       at_book = book_found c.args.self.now.nodes.items c.args.node.0 c.in-Some.place x found ∙ at;
-      next = record { 0 = length c.args.self.now.connections.items };
-      next_is = refl;
+      next = record { 0 = c.len.result };
+      next_is = c.len.ensures ∙ c.args.self.now.connections.ok.0;
       mirror = c.mirror_node-mirror.result;
       mirror_is = c.mirror_node-mirror.ensures;
       set = _;
@@ -68,8 +68,8 @@ returns-in-Err g c =
       book = was;
       book' = c.join.new.book;
       at_book = book_found c.args.self.now.nodes.items c.args.node.0 c.in-Some.place x found ∙ at;
-      next = record { 0 = length c.args.self.now.connections.items };
-      next_is = refl;
+      next = record { 0 = c.len.result };
+      next_is = c.len.ensures ∙ c.args.self.now.connections.ok.0;
       mirror = c.mirror_node-mirror.result;
       mirror_is = c.mirror_node-mirror.ensures;
       set = _;

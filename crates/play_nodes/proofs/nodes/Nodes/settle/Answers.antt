@@ -25,5 +25,5 @@ pub returns-in-Reached : goal.returns-in-Reached
 returns-in-Reached g c = record {
   middle = c.put_back.new.self;
   put = c.put_back.ensures;
-  adds = subst (λ x. AddsDial c.put_back.new.self c.add.new.self c.args.seat c.args.next c.args.mirror x c.add.result) (sym c.in-Reached.is) c.add.ensures;
+  adds = subst (λ x. AddsDial c.put_back.new.self c.add.new.self c.args.seat c.args.next c.args.mirror x c.add.result) (sym c.in-Reached.is) (rw c.in-Reached.is at c.add.ensures);
 }
