@@ -1,7 +1,7 @@
 -- A request to write makes an end a member.
 use Rattle.std.specs.Prelude.{◌≡◌, ◌≢◌, ◌⊎◌, ◌≤◌, ℕ, min, Bool, true, false, List, [], slice_get, Option, Some, None, option_map, IfSome, Result, Ok, Err, ◌+◌}
 use Rattle.hd_base.specs.Channels.{with_accept}
-use Rattle.hd_base.specs.Ends.{IsFresh, IsObservable}
+use Rattle.hd_base.specs.Ends.{IsFresh, IsKnown, IsObservable}
 use Rattle.hd_base.specs.Faults.{FaultsIncreased}
 use Rattle.hd_base.specs.declared.ends.Conn.{Conn}
 use Rattle.hd_base.specs.declared.files.Files as files
@@ -50,6 +50,7 @@ IsMirrorPort targets (Some port) = (targets ≢ []) × (port ≡ min (first_port
 pub record AcceptsDial {R I O : Type 0} (r : roads.Ghosts R I O) (i : link_in.Ghosts I) (o : link_out.Ghosts O)
     (port : ℕ) (road road' : R) (at_end : Conn I O) : Type 0 where
   pub number : IfSome (r.plain road) (λ p. slice_get (p.waiting port) 0 ≡ Some at_end.id.0)
+  pub known : IsKnown (r.plain road) at_end.id.0
   pub lower : at_end.lower ≡ true
   pub fresh : IsFresh i o at_end
   pub observable : IfSome (r.plain road) (λ _. IsObservable i o at_end)

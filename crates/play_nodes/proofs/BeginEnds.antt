@@ -97,9 +97,6 @@ module _ {R I O : Type 0} (r : roads.Ghosts R I O) (i : link_in.Ghosts I) (o : l
   pub shows_as : (end : Conn I O) (made other : Option (Requested I O)) (road road' : R) → made ≡ other → member_begin.BeginShows r i o end road road' (Ok made) → member_begin.BeginShows r i o end road road' (Ok other)
   shows_as end made other road road' is h = subst (λ (x : Option (Requested I O)). member_begin.BeginShows r i o end road road' (Ok x)) is h
 
-  pub handed_as : (made : Option (Requested I O)) (requested : Requested I O) (road road' : R) → made ≡ Some requested → member_begin.HandsOver r road road' (Ok made) → member_begin.IsHanded r road road' requested.end
-  handed_as made requested road road' is h = subst (λ (x : Option (Requested I O)). member_begin.HandsOver r road road' (Ok x)) is h
-
 module _ {F R I O : Type 0} (f : files.Ghosts F) (r : roads.Ghosts R I O) (i : link_in.Ghosts I) (o : link_out.Ghosts O) where
   -- FAULTS
 

@@ -2,6 +2,7 @@
 
 ghost use Rattle.std.specs.Prelude.{◌≡◌, ◌<◌, ◌⊎◌, length};
 ghost use Rattle.hd_base.specs.Ends.{IsKnown};
+ghost use Rattle.member_events.specs.Roads.{RoadsPass};
 ghost use Rattle.play_nodes.specs.Showing.{Stand};
 ghost use Rattle.play_nodes.specs.Places.{TakesIdle, IsMirrorNode, Adds, IsSettled, place_of, IsJoined, HasNoBook};
 ghost use Rattle.play_nodes.specs.Beginning.{BeginShows};
@@ -26,7 +27,8 @@ impl<F: Files, I: LinkIn, O: LinkOut> Nodes<F, I, O> {
         conn: ConnId,
     ) -> Result<bool, NodesFault>
         requires { Stand R.Roads I.LinkIn O.LinkOut roads.old self.old }
-        ensures { BeginShows F.Files R.Roads I.LinkIn O.LinkOut conn self.old self.new roads.old roads.new result }
+        ensures shows { BeginShows F.Files R.Roads I.LinkIn O.LinkOut conn self.old self.new roads.old roads.new result }
+        ensures pass { RoadsPass R.Roads roads.old roads.new }
     {
         let index = conn.0 as usize;
         if index >= self.connections.len() {
@@ -54,9 +56,10 @@ impl<F: Files, I: LinkIn, O: LinkOut> Nodes<F, I, O> {
     ) -> Result<bool, NodesFault>
         requires known { IsKnown (R.plain roads.old) requested.end.id.0 }
         requires within { conn < length self.old.connections.items }
-        ensures { IsJoined F.Files R.Roads I.LinkIn O.LinkOut
+        ensures joins { IsJoined F.Files R.Roads I.LinkIn O.LinkOut
             self.old self.new conn node requested roads.old roads.new result
             ⊎ HasNoBook self.old self.new node requested.op roads.old roads.new result }
+        ensures pass { RoadsPass R.Roads roads.old roads.new }
     {
         let Some(place) = self.place_of(&requested.op) else {
             return Ok(true);

@@ -5,11 +5,11 @@ use Rattle.play_nodes.specs.Places.{book_at}
 use Rattle.play_nodes.proofs.PlaceLaws.{none_if, same_some, element_some, element_within, book_within, book_found, book_set}
 use Rattle.play_nodes.proofs.nodes.Nodes.join.Goals as goal
 
-pub returns-in_default : goal.returns-in_default
-returns-in_default g c = inr (record { same = refl; roads = refl; is = refl; none = λ place is. absurd (c.in_default.not-Some place (c.place_of.ensures ∙ is)) })
+pub returns-in_default-clause-joins : goal.returns-in_default-clause-joins
+returns-in_default-clause-joins g c = inr (record { same = refl; roads = refl; is = refl; none = λ place is. absurd (c.in_default.not-Some place (c.place_of.ensures ∙ is)) })
 
-pub returns-then-not-has_book : goal.returns-then-not-has_book
-returns-then-not-has_book g c = inr (record {
+pub returns-then-not-has_book-clause-joins : goal.returns-then-not-has_book-clause-joins
+returns-then-not-has_book-clause-joins g c = inr (record {
   same = refl;
   roads = refl;
   is = refl;
@@ -29,8 +29,8 @@ index_mut-book-requires g c =
     let found = element_some c.args.self.now.nodes.items c.args.node.0 x (element_within c.args.self.now.nodes.items c.args.node.0 b.at b.found) c.index_mut.ensures.value in
     subst (λ (k : ℕ). c.in-Some.place < k) (sym x.books.ok.0) (subst (λ y. c.in-Some.place < length y.books.items) (same_some b.at x (sym b.found ∙ found)) b.within)
 
-pub returns-in-Ok : goal.returns-in-Ok
-returns-in-Ok g c =
+pub returns-in-Ok-clause-joins : goal.returns-in-Ok-clause-joins
+returns-in-Ok-clause-joins g c =
     let b = book_within c.args.self.now.nodes.items c.args.node.0 c.in-Some.place (sym c.has_book.ensures ∙ c.if-not-has_book.false) in
     let x = c.index_mut.result.now in
     let was = c.index_mut-book.result.now in
@@ -50,12 +50,12 @@ returns-in-Ok g c =
       set = _;
       is_set = book_set c.args.self.now _ c.args.node.0 c.in-Some.place x (record { books = with_item x.books c.in-Some.place c.join.new.book }) was c.join.new.book refl refl found at refl refl;
       joined = Ok c.in-Ok.joined;
-      shows = c.in-Ok.ensures;
+      shows = c.in-Ok.ensures.shows;
       follows = c.settle.ensures;
     })
 
-pub returns-in-Err : goal.returns-in-Err
-returns-in-Err g c =
+pub returns-in-Err-clause-joins : goal.returns-in-Err-clause-joins
+returns-in-Err-clause-joins g c =
     let b = book_within c.args.self.now.nodes.items c.args.node.0 c.in-Some.place (sym c.has_book.ensures ∙ c.if-not-has_book.false) in
     let x = c.index_mut.result.now in
     let was = c.index_mut-book.result.now in
@@ -75,6 +75,6 @@ returns-in-Err g c =
       set = _;
       is_set = book_set c.args.self.now _ c.args.node.0 c.in-Some.place x (record { books = with_item x.books c.in-Some.place c.join.new.book }) was c.join.new.book refl refl found at refl refl;
       joined = Err c.in-Err.fault;
-      shows = c.in-Err.ensures;
+      shows = c.in-Err.ensures.shows;
       follows = (refl, ap Err c.fault_at.ensures);
     })
