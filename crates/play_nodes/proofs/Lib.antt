@@ -9,3 +9,4 @@ pub mod LiftLaws
 pub mod BeginNodes
 pub mod JoinNodes
 pub mod BeginEnds
+pub mod DueNodes

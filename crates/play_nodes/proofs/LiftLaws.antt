@@ -1,5 +1,5 @@
 -- A member that was taken from its place, and its book; and an end that has taken nothing yet.
-use Rattle.std.proofs.Common.{◌≡◌, ◌<◌, ℕ, true, List, length, slice_get, Option, Some, IsSome, refl, sym, ap, ◌∙◌, subst, length-set}
+use Rattle.std.proofs.Common.{◌≡◌, ◌<◌, ℕ, true, List, length, get_or, slice_get, Option, Some, IsSome, refl, sym, ap, ◌∙◌, subst, length-set}
 use Rattle.hd_base.specs.Ends.{IsKnown}
 use Rattle.hd_base.specs.declared.ends.Conn.{Conn}
 use Rattle.hd_base.specs.declared.links.LinkIn as link_in
@@ -12,6 +12,8 @@ use Rattle.world.specs.Parts as parts
 use Rattle.world.specs.Parts.{idle}
 use Rattle.world.specs.Worlds.{World}
 use Rattle.world_nets.specs.Nets.{IsEndOf}
+use Rattle.replica_files.specs.declared.book_state.BookState.{BookState}
+use Rattle.play_nodes.specs.declared.connections.Connection.{Connection}
 use Rattle.play_nodes.specs.declared.connections.Lower.{Lower}
 use Rattle.play_nodes.specs.declared.connections.Lower.TheVariants as lower
 use Rattle.play_nodes.specs.declared.nodes.NodeBooks.{NodeBooks}
@@ -20,7 +22,7 @@ use Rattle.play_nodes.specs.declared.nodes.Seat.{Seat}
 use Rattle.play_nodes.specs.Places.{book_at, with_lower, IsSeated, Takes, TakesIdle, idle_of}
 use Rattle.play_nodes.specs.Showing.{Stand, LowerShows}
 use Rattle.play_nodes.proofs.Tables.{element}
-use Rattle.play_nodes.proofs.PlaceLaws.{BookWithin, book_within, element_within, same_some}
+use Rattle.play_nodes.proofs.PlaceLaws.{BookWithin, book_within, book_found, element_some, element_within, same_some}
 use Rattle.play_nodes.proofs.MemberNodes.{is_member, known, ends_known}
 use Rattle.play_nodes.proofs.ReadyNodes.{member_as}
 
@@ -41,6 +43,35 @@ module _ {F I O : Type 0} where
   place_within old mid c s m x seat t found =
       let b = books_of old mid c s m seat t in
       subst (λ (y : NodeBooks F). s.place < length y.books.items) (same_some b.at x (sym b.found ∙ found)) b.within
+
+-- A MEMBER IN ITS PLACE
+
+module _ {F I O : Type 0} where
+  pub lower_here : (n : Nodes F I O) (c : ℕ) (s : Seat) (x : Connection I O) → (seat : IsSeated n c s) → x ≡ get_or n.connections.items s.conn x → x.lower ≡ lower.Member seat.member s.place
+  lower_here n c s x seat is =
+      let found = element_some n.connections.items s.conn x (seat_within n c s seat) is in
+      ap (λ (y : Connection I O). y.lower) (same_some x seat.at (sym found ∙ (ap (slice_get n.connections.items) seat.conn ∙ seat.found))) ∙ seat.lower
+
+  pub member_here : (n : Nodes F I O) (c : ℕ) (s : Seat) (x : Connection I O) (m : Member I O) (place : ℕ) → (seat : IsSeated n c s) → x ≡ get_or n.connections.items s.conn x → x.lower ≡ lower.Member m place → m ≡ seat.member
+  member_here n c s x m place seat is here = same_member m seat.member place s.place (sym here ∙ lower_here n c s x seat is)
+    where
+      same_member : (a b : Member I O) (p q : ℕ) → lower.Member a p ≡ lower.Member b q → a ≡ b
+      same_member a b p q e = cc
+
+  pub node_here : (n : Nodes F I O) (c : ℕ) (s : Seat) → IsSeated n c s → s.node.0 < length n.nodes.items
+  node_here n c s seat =
+      let b = book_within n.nodes.items s.node.0 s.place seat.book in
+      element_within n.nodes.items s.node.0 b.at b.found
+
+  pub place_here : (n : Nodes F I O) (c : ℕ) (s : Seat) (x : NodeBooks F) → IsSeated n c s → x ≡ get_or n.nodes.items s.node.0 x → s.place < length x.books.items
+  place_here n c s x seat is =
+      let b = book_within n.nodes.items s.node.0 s.place seat.book in
+      subst (λ (y : NodeBooks F). s.place < length y.books.items) (same_some b.at x (sym b.found ∙ element_some n.nodes.items s.node.0 x (node_here n c s seat) is)) b.within
+
+  pub book_here : (n : Nodes F I O) (c : ℕ) (s : Seat) (x : NodeBooks F) (book : BookState F) → IsSeated n c s → x ≡ get_or n.nodes.items s.node.0 x → book ≡ get_or x.books.items s.place book → book_at n.nodes.items s.node.0 s.place ≡ Some book
+  book_here n c s x book seat is at =
+      book_found n.nodes.items s.node.0 s.place x (element_some n.nodes.items s.node.0 x (node_here n c s seat) is) ∙
+      element_some x.books.items s.place book (place_here n c s x seat is) at
 
 module _ {F R I O : Type 0} (r : roads.Ghosts R I O) (i : link_in.Ghosts I) (o : link_out.Ghosts O) where
   pub lifted_known : (road : R) (old mid : Nodes F I O) (c : ℕ) (s : Seat) (m : Member I O) → Stand r i o road old → IsSeated old c s → Takes old mid s.conn (Some m) → AreKnown (r.plain road) m

@@ -32,7 +32,7 @@ use Rattle.play_nodes.specs.declared.nodes.NodeBooks.{NodeBooks}
 use Rattle.play_nodes.specs.declared.nodes.Nodes.{Nodes}
 use Rattle.play_nodes.specs.declared.nodes.Seat.{Seat}
 use Rattle.play_nodes.specs.Places.{book_at, with_lower, IsSeated, Takes, PutBack, lower_left, BookSet}
-use Rattle.play_nodes.specs.Showing.{has_events, SeatShows, LowerShows, NodesStand, NodesLeft}
+use Rattle.play_nodes.specs.Showing.{has_events, SeatShows, LowerShows, NodesShow, NodesStand, NodesLeft}
 use Rattle.play_nodes.proofs.Tables.{set_here, set_set}
 use Rattle.play_nodes.proofs.PlaceLaws.{element_within}
 use Rattle.play_nodes.proofs.WorldFrames.{KeepsRest}
@@ -66,7 +66,7 @@ module _ {R I O : Type 0} (r : roads.Ghosts R I O) (i : link_in.Ghosts I) (o : l
   pub ends_known : (w : World) (net : Net) (road : R) (c : ℕ) (full : FullMember) (m : Member I O) → RoadsShow r net road → MemberShows i o w net c full m → AreKnown (r.plain road) m
   ends_known w net road c full m h k = (known road net (r.plain road) c m.upstream.id.0 h refl k.upstream.within k.upstream.id, mirror_known w net road full.mirror m.mirror h k.mirror)
 
-module _ {F R I O : Type 0} (r : roads.Ghosts R I O) (i : link_in.Ghosts I) (o : link_out.Ghosts O) where
+module _ {F I O : Type 0} (i : link_in.Ghosts I) (o : link_out.Ghosts O) where
   -- The member that stands at a connection is the world's.
   pub record IsMember (w : World) (net : Net) (c : ℕ) (n : Nodes F I O) (m : Member I O) (place : ℕ) : Type 0 where
     pub full : FullMember
@@ -78,17 +78,21 @@ module _ {F R I O : Type 0} (r : roads.Ghosts R I O) (i : link_in.Ghosts I) (o :
   member_so w net c n m place (writes full) is h = record { full = full; lower = is; events = h.0; seat = h.1 }
   member_so w net c n m place l is h = absurd h
 
-  pub is_member : (w : World) (net : Net) (road : R) (c : ℕ) (n : Nodes F I O) (s : Seat) → NodesStand r i o w net road n → (seat : IsSeated n c s) → IsMember w net c n seat.member s.place
-  is_member w net road c n s stands seat =
+  pub member_shown : (w : World) (net : Net) (c : ℕ) (n : Nodes F I O) (s : Seat) → NodesShow i o w net n → (seat : IsSeated n c s) → IsMember w net c n seat.member s.place
+  member_shown w net c n s shows seat =
       member_so w net c n seat.member s.place (w.lowers c) refl
-      (subst (λ (real : Lower I O). LowerShows i o w net c n (w.lowers c) real) seat.lower (stands.nodes_are.each c seat.at seat.found).lower_is)
+      (subst (λ (real : Lower I O). LowerShows i o w net c n (w.lowers c) real) seat.lower (shows.each c seat.at seat.found).lower_is)
+
+module _ {F R I O : Type 0} (r : roads.Ghosts R I O) (i : link_in.Ghosts I) (o : link_out.Ghosts O) where
+  pub is_member : (w : World) (net : Net) (road : R) (c : ℕ) (n : Nodes F I O) (s : Seat) → NodesStand r i o w net road n → (seat : IsSeated n c s) → IsMember i o w net c n seat.member s.place
+  is_member w net road c n s stands seat = member_shown i o w net c n s stands.nodes_are seat
 
   -- where the member is: the node of its connection
   pub seat_node : (w : World) (net : Net) (road : R) (c : ℕ) (n : Nodes F I O) (s : Seat) → NodesStand r i o w net road n → (seat : IsSeated n c s) → s.node.0 ≡ node_of w c
   seat_node w net road c n s stands seat = ap (λ (x : NodeId). x.0) seat.node ∙ (stands.nodes_are.each c seat.at seat.found).node
 
   -- It stands in the world with its book.
-  pub member_stands : (w : World) (net : Net) (road : R) (c : ℕ) (n : Nodes F I O) (s : Seat) (book : BookState F) → Ordered w → NodesStand r i o w net road n → (seat : IsSeated n c s) → (k : IsMember w net c n seat.member s.place)
+  pub member_stands : (w : World) (net : Net) (road : R) (c : ℕ) (n : Nodes F I O) (s : Seat) (book : BookState F) → Ordered w → NodesStand r i o w net road n → (seat : IsSeated n c s) → (k : IsMember i o w net c n seat.member s.place)
       → book_at n.nodes.items s.node.0 s.place ≡ Some book → MemberStands r i o w net c k.full book seat.member road
   member_stands w net road c n s book ordered stands seat k at_book = record {
     roads_are = stands.roads_are;
@@ -114,7 +118,7 @@ module _ {F R I O : Type 0} (r : roads.Ghosts R I O) (i : link_in.Ghosts I) (o :
 
   -- What an event of a member leaves, once what is left of it is back in its place.
   pub member_left : (w v : World) (net : Net) (road road' : R) (c : ℕ) (old mid set new : Nodes F I O) (s : Seat) (m : Member I O) (book : BookState F) (left : Option (Member I O)) → Ordered w → NodesStand r i o w net road old
-      → (seat : IsSeated old c s) → (k : IsMember w net c old seat.member s.place) → Takes old mid c (Some m) → BookSet mid set s.node.0 s.place book → PutBack set new s left
+      → (seat : IsSeated old c s) → (k : IsMember i o w net c old seat.member s.place) → Takes old mid c (Some m) → BookSet mid set s.node.0 s.place book → PutBack set new s left
       → v.next_conn ≡ w.next_conn → KeepsRest w v c (node_of w c) (block_of k.full.fields) → ((d : ℕ) → IsApart k.full.mirror d → is_over v d false ≡ is_over w d false) → MemberLeft r i o w net v c k.full book road' left
       → NodesLeft r i o w net v road' new
   member_left w v net road road' c old mid set new s m book left ordered stands seat k t b p conns_same rest over h =

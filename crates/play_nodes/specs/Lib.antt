@@ -3,3 +3,4 @@ pub mod Places
 pub mod Showing
 pub mod Events
 pub mod Beginning
+pub mod Dues
