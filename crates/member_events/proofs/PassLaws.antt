@@ -1,5 +1,5 @@
 -- The roads pass what is done with the ends of a member, and know them then.
-use Rattle.std.proofs.Common.{◌≡◌, ℕ, Bool, Option, Some, None, IfSome, Result, Ok, Err, refl, sym, ap, ◌∙◌, subst}
+use Rattle.std.proofs.Common.{◌≡◌, ℕ, Bool, Option, Some, None, IfSome, Result, Ok, Err, sym, subst}
 use Rattle.std.specs.Prelude.{option_map, IfOk}
 use Rattle.hd_base.specs.Channels.{Plain, with_accept}
 use Rattle.hd_base.specs.Ends.{IsKnown}
@@ -18,7 +18,7 @@ use Rattle.member_events.specs.declared.joining.MirrorDial.{MirrorDial}
 use Rattle.member_events.specs.declared.joining.MirrorDial.TheVariants as dial
 use Rattle.member_events.specs.Joining.{AcceptsDial, Accepts, MeetsNobody, MeetsMirror, Meets}
 use Rattle.member_events.specs.Roads.{RoadsPass, ReachedIsKnown}
-use Rattle.member_events.proofs.KnownLaws.{SameMirror, SameIds, mirror_same, known_same, known_on}
+use Rattle.member_events.proofs.KnownLaws.{SameMirror, mirror_same, known_same, known_on}
 use Rattle.member_events.proofs.SetupKnown.{pass_same, pass_brought, pass_on}
 
 module _ {R I O : Type 0} (r : roads.Ghosts R I O) (i : link_in.Ghosts I) (o : link_out.Ghosts O) where
