@@ -1,7 +1,7 @@
 -- An end that has taken nothing yet takes its first message.
 use Rattle.std.proofs.Common.{◌≡◌, ℕ, Bool, true, false, [], Option, Some, None, Result, Ok, Err, inl, refl, sym, ap, ◌∙◌, subst}
 use Rattle.hd_base.specs.Links.{Inbox}
-use Rattle.hd_base.specs.Ends.{has_failed}
+use Rattle.hd_base.specs.Ends.{IsKnown, has_failed}
 use Rattle.hd_base.specs.declared.ends.Conn.{Conn}
 use Rattle.hd_base.specs.declared.links.LinkIn as link_in
 use Rattle.hd_base.specs.declared.links.LinkOut as link_out
@@ -39,7 +39,7 @@ use Rattle.member_events.specs.declared.faults.MemberFault.{MemberFault}
 use Rattle.member_events.specs.declared.faults.MemberFault.TheVariants as fault
 use Rattle.member_events.specs.Faults.{IsRoadFault}
 use Rattle.member_events.specs.Steps.{FailsBy}
-use Rattle.member_events.specs.Beginning.{IsBroken, IsClosed, Closes, GivesFirst, LooksFirst, FollowsFirst, IdleStands, IsFirst, CanBegin, HasRequest, HasEnded, IsEndFault, BeginShows}
+use Rattle.member_events.specs.Beginning.{IsBroken, IsClosed, Closes, GivesFirst, LooksFirst, FollowsFirst, IdleStands, IsFirst, CanBegin, HasRequest, HasEnded, IsEndFault, BeginShows, IsHanded, HandsOver}
 use Rattle.member_events.proofs.CauseLaws.{in_failed, one_risen}
 use Rattle.member_events.proofs.DownEvents.{held_took}
 use Rattle.member_events.proofs.EndLaws.{HeldAt, RoadsAt, end_held, end_from, end_sends, end_passes, end_brought}
@@ -226,3 +226,32 @@ module _ {R I O : Type 0} (r : roads.Ghosts R I O) (i : link_in.Ghosts I) (o : l
   begin_shows old held new next.Unreadable result road middle road' ex looks h = closed_shows old held new next.Unreadable result road middle road' ex looks looks.comes tt refl h
   begin_shows old held new next.End result road middle road' ex looks h = closed_shows old held new next.End result road middle road' ex looks looks.comes tt refl h
   begin_shows old held new next.NotYet result road middle road' ex looks h = closed_shows old held new next.NotYet result road middle road' ex looks looks.comes tt refl h
+
+  -- WHAT IS HANDED OVER
+
+  none_handed : (e : Conn I O) (result : Result (Option (Requested I O)) MemberFault) (road middle road' : R) → IsClosed r i o e middle road' result → HandsOver r road road' result
+  none_handed e (Ok None) road middle road' h = tt
+  none_handed e (Ok (Some new)) road middle road' h = absurd h
+  none_handed e (Err why) road middle road' h = tt
+
+  fails_handed : (P : MemberFault → Type 0) (result : Result (Option (Requested I O)) MemberFault) (road road' : R) → FailsBy P result → HandsOver r road road' result
+  fails_handed P (Ok left) road road' h = absurd h
+  fails_handed P (Err why) road road' h = tt
+
+  pub err_handed : (result : Result (Option (Requested I O)) MemberFault) (why : MemberFault) (road road' : R) → result ≡ Err why → HandsOver r road road' result
+  err_handed result why road road' is = subst (λ (z : Result (Option (Requested I O)) MemberFault). HandsOver r road road' z) (sym is) tt
+
+  pub begin_handed : (old held new : Conn I O) (q : came.Next Op) (result : Result (Option (Requested I O)) MemberFault) (road middle road' : R) → ExchangesEnd r i o (names (Some old.id) old.id) old held road middle (Ok tt)
+      → IsKnown (r.plain middle) new.id.0 → FollowsFirst r i o q new middle road' result → HandsOver r road road' result
+  begin_handed old held new (next.Message (op.Write fields)) result road middle road' ex known h =
+      subst (λ (z : Result (Option (Requested I O)) MemberFault). HandsOver r road road' z) (sym h.1)
+      (subst (λ (y : R). IsHanded r road y new) (sym h.0) (record { known = known; never_falls = ex.cause.never_falls }))
+  begin_handed old held new (next.Message (op.Read fields)) result road middle road' ex known h = none_handed new result road middle road' h
+  begin_handed old held new (next.Message (op.Transfer fields)) result road middle road' ex known h = none_handed new result road middle road' h
+  begin_handed old held new (next.Message (op.Checksum fields)) result road middle road' ex known h = none_handed new result road middle road' h
+  begin_handed old held new (next.Message (op.Recovery fields)) result road middle road' ex known h = none_handed new result road middle road' h
+  begin_handed old held new next.Failed result road middle road' ex known h = fails_handed (IsBroken r i o new middle road') result road road' h
+  begin_handed old held new next.Memory result road middle road' ex known h = err_handed result fault.Memory road road' h
+  begin_handed old held new next.Unreadable result road middle road' ex known h = none_handed new result road middle road' h
+  begin_handed old held new next.End result road middle road' ex known h = none_handed new result road middle road' h
+  begin_handed old held new next.NotYet result road middle road' ex known h = none_handed new result road middle road' h

@@ -1,5 +1,6 @@
 -- An end that has taken nothing yet takes its first message.
-use Rattle.std.specs.Prelude.{◌≡◌, ℕ, Bool, true, Option, Some, None, Result, Ok, Err}
+use Rattle.std.specs.Prelude.{◌≡◌, ◌≤◌, ℕ, Bool, true, Option, Some, None, Result, Ok, Err}
+use Rattle.hd_base.specs.Ends.{IsKnown}
 use Rattle.hd_base.specs.Faults.{FaultsIncreased}
 use Rattle.hd_base.specs.declared.ends.Conn.{Conn}
 use Rattle.hd_base.specs.declared.links.LinkIn as link_in
@@ -147,3 +148,14 @@ BeginShows r i o at_end road road' result =
     (w : World) (net : Net) (conn : ConnId) (answered : Bool) (x : Next) →
     IdleStands r i o w net conn.0 at_end road → CanBegin w conn.0 x
     → BeginEnds r i o w net conn answered x road road' result
+
+-- The roads know this end, and their count of faults hasn't fallen.
+pub record IsHanded {R I O : Type 0} (r : roads.Ghosts R I O) (road road' : R) (at_end : Conn I O) : Type 0 where
+  pub known : IsKnown (r.plain road') at_end.id.0
+  pub never_falls : r.faults road ≤ r.faults road'
+
+-- So it is where a request is handed over with the end.
+abbrev pub HandsOver : {R I O : Type 0} → roads.Ghosts R I O → R → R → Result (Option (Requested I O)) MemberFault →
+    Type 0
+HandsOver r road road' (Ok (Some new)) = IsHanded r road road' new.end
+HandsOver r road road' other = Unit {0}

@@ -131,25 +131,29 @@ pub record OpenJoins {I O : Type 0} (i : link_in.Ghosts I) (o : link_out.Ghosts 
   pub acts : both_act full ≡ true
   pub shows : MemberShows i o v made c full m
 
--- One that no longer acts.
+-- One that has no mirror, and no longer acts.
 pub record OverJoins (v : World) (c : ℕ) : Type 0 where
   pub full : FullMember
   pub lower : v.lowers c ≡ writes full
+  pub alone : full.mirror ≡ None
   pub over : IsOver full
 
--- A member that goes on; or one that is over, or whose request was refused.
+-- A member that goes on; or one without a mirror that is over, or whose request was refused.
 abbrev pub LeftJoins : {I O : Type 0} → link_in.Ghosts I → link_out.Ghosts O → World → Net → ℕ → WriteFields →
     Option ℕ → Option (Member I O) → Type 0
 LeftJoins i o v made c fields mirror (Some m) = OpenJoins i o v made c fields mirror m
-LeftJoins i o v made c fields mirror None = (v.lowers c ≡ ended_below) ⊎ OverJoins v c
+LeftJoins i o v made c fields None None = (v.lowers c ≡ ended_below) ⊎ OverJoins v c
+LeftJoins i o v made c fields (Some d) None = ⊥
 
--- The roads, the book and the member show the world after the event, and the other ends stay.
+-- The roads, the book and the member show the world after the event, and the other ends stay. Without a mirror there are no
+-- more connections than before.
 pub record MemberJoins {F R I O : Type 0} (r : roads.Ghosts R I O) (i : link_in.Ghosts I) (o : link_out.Ghosts O)
     (taken : World) (net : Net) (v : World) (c : ℕ) (fields : WriteFields) (mirror : Option ℕ) (book : BookState F)
     (road : R) (left : Option (Member I O)) : Type 0 where
   pub made : Net
   pub roads_are : ShowsWorld r v made road
   pub left_is : LeftJoins i o v made c fields mirror left
+  pub none_dialled : mirror ≡ None → v.next_conn ≡ taken.next_conn
   pub replica : replica_of book ≡ replica_at v c (block_of fields)
   pub others : OthersStay i o taken net v made c None
 

@@ -1,7 +1,7 @@
 //! An end that has taken nothing yet takes its first message.
 
 ghost use Rattle.hd_base.specs.Ends.{IsKnown};
-ghost use Rattle.member_events.specs.Beginning.{IsDrawn, IsBrought, IsBroken, IsClosed, LooksFirst, FollowsFirst, BeginShows};
+ghost use Rattle.member_events.specs.Beginning.{IsDrawn, IsBrought, IsBroken, IsClosed, LooksFirst, FollowsFirst, BeginShows, HandsOver};
 
 use crate::faults::{MemberFault, road_fault};
 use hd_base::{Conn, LinkIn, LinkOut, Roads};
@@ -25,7 +25,8 @@ pub fn begin<I: LinkIn, O: LinkOut, R: Roads<Inward = I, Outward = O>>(
     end: Conn<I, O>,
 ) -> Result<Option<Requested<I, O>>, MemberFault>
     requires { IsKnown (R.plain roads.old) end.id.0 }
-    ensures { BeginShows R.Roads I.LinkIn O.LinkOut end roads.old roads.new result }
+    ensures shows { BeginShows R.Roads I.LinkIn O.LinkOut end roads.old roads.new result }
+    ensures handed { HandsOver R.Roads roads.old roads.new result }
 {
     let mut end = drawn(alloc, roads, end)?;
     let next = first(alloc, &mut end);

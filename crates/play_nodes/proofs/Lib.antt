@@ -6,3 +6,6 @@ pub mod MemberNodes
 pub mod ReadyNodes
 pub mod TakeNodes
 pub mod LiftLaws
+pub mod BeginNodes
+pub mod JoinNodes
+pub mod BeginEnds

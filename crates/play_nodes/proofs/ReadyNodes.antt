@@ -41,13 +41,13 @@ use Rattle.play_nodes.specs.declared.nodes.NodeBooks.{NodeBooks}
 use Rattle.play_nodes.specs.declared.nodes.Nodes.{Nodes}
 use Rattle.play_nodes.specs.declared.nodes.Seat.{Seat}
 use Rattle.play_nodes.specs.Faults.{fault_at}
-use Rattle.play_nodes.specs.Places.{book_at, IsSeated, IsUnseated, Takes, Follows, member_of}
+use Rattle.play_nodes.specs.Places.{book_at, IsSeated, IsUnseated, Takes, Follows, member_of, BookSet}
 use Rattle.play_nodes.specs.Showing.{has_events, SeatShows, LowerShows, NodesStand}
 use Rattle.play_nodes.specs.Events.{IsCaused, EventEnds, ReadyShows}
 use Rattle.play_nodes.proofs.Tables.{element}
 use Rattle.play_nodes.proofs.WorldFrames.{KeepsRest, rest_after, conns_after}
 use Rattle.play_nodes.proofs.NodeFrames.{IsApart}
-use Rattle.play_nodes.proofs.PlaceLaws.{BookSet, same_some}
+use Rattle.play_nodes.proofs.PlaceLaws.{same_some}
 use Rattle.play_nodes.proofs.MemberNodes.{IsMember, is_member, member_stands, member_left}
 
 some_of : {A : Type 0} (x : Option A) → is_some x ≡ true → (a : A) × (x ≡ Some a)
@@ -133,20 +133,20 @@ module _ {F R I O : Type 0} (r : roads.Ghosts R I O) (i : link_in.Ghosts I) (o :
 module _ {F R I O : Type 0} (f : files.Ghosts F) (r : roads.Ghosts R I O) (i : link_in.Ghosts I) (o : link_out.Ghosts O) where
   -- WHY AN EVENT FAILED
 
-  pub caused : (old mid set new : Nodes F I O) (s : Seat) (c : ℕ) (mirror : Option ℕ) (book book' : BookState F) (m : Member I O) (road road' : R) (why : MemberFault) → Takes old mid c (Some m)
+  pub caused : (old mid set new : Nodes F I O) (s : Seat) (c : ℕ) (mirror : Option ℕ) (book book' : BookState F) (road road' : R) (why : MemberFault) → mid.nodes.items ≡ old.nodes.items
       → book_at mid.nodes.items s.node.0 s.place ≡ Some book → BookSet mid set s.node.0 s.place book' → new ≡ set → members.IsCaused f r c mirror book book' road road' why
       → IsCaused f r old new road road' (fault_at s.node why)
-  caused old mid set new s c mirror book book' m road road' member_fault.LinkFailed t at b is h = risen_at (r.risen road') c mirror h
-  caused old mid set new s c mirror book book' m road road' member_fault.RoadsFailed t at b is h = h
-  caused old mid set new s c mirror book book' m road road' member_fault.FilesFailed t at b is h = record {
+  caused old mid set new s c mirror book book' road road' member_fault.LinkFailed same at b is h = risen_at (r.risen road') c mirror h
+  caused old mid set new s c mirror book book' road road' member_fault.RoadsFailed same at b is h = h
+  caused old mid set new s c mirror book book' road road' member_fault.FilesFailed same at b is h = record {
     place = s.place;
     book = book;
     book' = book';
-    before = ap (λ (xs : List (NodeBooks F)). book_at xs s.node.0 s.place) (sym t.nodes) ∙ at;
+    before = ap (λ (xs : List (NodeBooks F)). book_at xs s.node.0 s.place) (sym same) ∙ at;
     now = ap (λ (n : Nodes F I O). book_at n.nodes.items s.node.0 s.place) is ∙ b.here;
     rose = h;
   }
-  caused old mid set new s c mirror book book' m road road' member_fault.Memory t at b is h = tt
+  caused old mid set new s c mirror book book' road road' member_fault.Memory same at b is h = tt
 
   -- How an event of a member ends, that of the nodes does.
   pub ends_so : (old mid set new : Nodes F I O) (s : Seat) (c : ℕ) (book book' : BookState F) (left : Result (Option (Member I O)) MemberFault) (result : Result (Unit {0}) NodesFault) (road road' : R) (w : World) (net : Net) (e : Event)
@@ -158,7 +158,7 @@ module _ {F R I O : Type 0} (f : files.Ghosts F) (r : roads.Ghosts R I O) (i : l
       (member_left r i o w (happens w e) net road road' c old mid set new s seat.member book' left ordered stands seat k t b follows.0 conns rest over ends)
   ends_so old mid set new s c book book' (Err why) result road road' w net e stands ordered seat k t at b conns rest over ends follows =
       subst (λ (x : Result (Unit {0}) NodesFault). EventEnds f r i o w net e old new road road' x) (sym follows.1)
-      (caused old mid set new s c k.full.mirror book book' seat.member road road' why t at b follows.0 ends)
+      (caused old mid set new s c k.full.mirror book book' road road' why t.nodes at b follows.0 ends)
 
   -- THE EVENT
 

@@ -48,13 +48,13 @@ use Rattle.play_nodes.specs.declared.nodes.Seat.{Seat}
 use Rattle.play_nodes.specs.declared.connections.Connection.{Connection}
 use Rattle.play_nodes.specs.declared.connections.Upper.{Upper}
 use Rattle.play_nodes.specs.declared.connections.Upper.TheVariants as upper
-use Rattle.play_nodes.specs.Places.{book_at, IsSeated, IsUnseated, Takes, Follows, member_above}
+use Rattle.play_nodes.specs.Places.{book_at, IsSeated, IsUnseated, Takes, Follows, member_above, BookSet}
 use Rattle.play_nodes.specs.Showing.{UpperShows, has_events, NodesStand}
 use Rattle.play_nodes.specs.Events.{DownShows, UpShows}
 use Rattle.play_nodes.proofs.WorldFrames.{rest_after, rest_taken, conns_after, conns_taken}
 use Rattle.play_nodes.proofs.NodeFrames.{IsApart}
 use Rattle.play_nodes.proofs.Tables.{element}
-use Rattle.play_nodes.proofs.PlaceLaws.{BookSet, same_some}
+use Rattle.play_nodes.proofs.PlaceLaws.{same_some}
 use Rattle.play_nodes.proofs.MemberNodes.{IsMember, is_member, member_stands}
 use Rattle.play_nodes.proofs.ReadyNodes.{ends_so, taken_as, member_as, is_seated}
 

@@ -2,6 +2,7 @@
 //! a world, on roads that show it, to nodes that show the world after the event.
 #![tactic(auto)]
 
+mod beginning;
 mod connections;
 mod events;
 mod faults;
