@@ -1,0 +1,5 @@
+pub mod Sums
+pub mod Staying
+pub mod Steps
+pub mod Dialling
+pub mod Lowering

@@ -1,0 +1,225 @@
+-- What is due lowers the weight of a play.
+use Rattle.std.proofs.Common.{◌≡◌, ◌≢◌, ℕ, ◌<◌, ◌≤◌, ◌+◌, ◌^◌, Bool, true, false, List, [], ◌∷◌, ◌++◌, map, slice_get, Option, Some, None, refl, sym, ap, ◌∙◌, subst, arith}
+use Rattle.std.specs.Prelude.{◌&&◌, ◌||◌, is_some, is_none, if◌then◌else◌}
+use Rattle.std.proofs.lemmas.Bool.{false≢true}
+use Rattle.std.proofs.lemmas.List.Sums.{sum_by-cons}
+use Rattle.hd_base.specs.declared.numbers.BlockId.{BlockId}
+use Rattle.hd_base.specs.declared.numbers.ConnId.{ConnId}
+use Rattle.name_core.specs.declared.calls.OfficeCall.{OfficeCall}
+use Rattle.name_core.specs.Offices.{answer_to}
+use Rattle.writer_core.specs.declared.actions.Action.{Action}
+use Rattle.writer_core.specs.declared.actions.Action.TheVariants as action
+use Rattle.writer_core.specs.declared.commands.Command.{Command}
+use Rattle.writer_core.specs.declared.commands.Command.TheVariants as command
+use Rattle.writer_core.specs.Transitions.{own_step, is_action}
+use Rattle.world.specs.declared.events.Caller.TheVariants as caller
+use Rattle.world.specs.declared.events.Event.{Event}
+use Rattle.world.specs.declared.events.Event.TheVariants as event
+use Rattle.world.specs.declared.events.OwnStep.TheVariants as own
+use Rattle.world.specs.declared.events.TakenCommand.{TakenCommand}
+use Rattle.world.specs.Parts.{Upper, by_writer, by_member, by_reader, by_primary, Told, Writing}
+use Rattle.world.specs.Worlds.{World, put, apply, start}
+use Rattle.world.specs.Primaries.{writer_asks}
+use Rattle.world.specs.Enabled.{acts_with, is_deed, is_question, can_down, can_ready, can_up}
+use Rattle.world.specs.Events.{changed, outcome, after_event, is_enabled, happens, run}
+use Rattle.world.specs.Safe.{Has}
+use Rattle.world_laws.proofs.FactTables.{and-right}
+use Rattle.world_laws.proofs.RunLaws.{idle-stays, runs-join}
+use Rattle.world_laws.proofs.StampGivens.{put-here, put-there}
+use Rattle.world_laws.proofs.TestLaws.{all-tested}
+use Rattle.world_texts.specs.Texts.{AllFit}
+use Rattle.world_settling.specs.Measure.{command_weight, given_weight, writer_weight, LowersBoth, answered_world}
+use Rattle.world_settling.specs.Traffic.{traffic, is_delivery}
+use Rattle.world_settling.proofs.Deliveries.{deliveries-lower}
+use Rattle.world_settling.proofs.OfficeEvents.{asking-lowers}
+use Rattle.world_settling.proofs.OwnEvents.{own-steps-lower}
+use Rattle.world_settling.proofs.WriterHears.{answers-lower}
+use Rattle.play_model.specs.declared.dues.Due.{Due}
+use Rattle.play_model.specs.declared.dues.Due.TheVariants as due
+use Rattle.play_model.specs.States.{world_of}
+use Rattle.play_model.specs.Dues.{Queues, is_open, is_open_above, own_due, asking, own_events, queue_left, action_of, due_events, queues_after, after_due}
+use Rattle.play_settling.specs.Settling.{queue_weight, play_weight, answered_so, events_so, weight_after, AreApart, UpperAmong, CanHappen, DuesLower, PlaysLower}
+use Rattle.play_settling.proofs.Sums.{lowers-all, lowers-at, both-lower}
+use Rattle.play_settling.proofs.Staying.{IsOther, down-leaves, ready-leaves, up-leaves}
+use Rattle.play_settling.proofs.Steps.{is_plain, own-plain}
+use Rattle.play_settling.proofs.Dialling.{all-ready}
+
+-- WHAT IS KNOWN OF A WORLD
+
+pub record Known (w : World) : Type 0 where
+  pub deliver : (e : Event) → is_delivery e ≡ true → is_enabled w e ≡ true → traffic (happens w e) < traffic w
+  pub step : (b : BlockId) (takes : Option TakenCommand) (answered : Bool) → (w.writers b.0).told ≡ None → is_enabled w (event.Own (own.Writer b takes answered)) ≡ true
+      → LowersBoth w (happens w (event.Own (own.Writer b takes answered))) b.0 (given_weight takes)
+  pub ask : (b : BlockId) (answered : Bool) → (w.writers b.0).told ≡ None → is_enabled w (event.Office (caller.Writer b)) ≡ true → is_enabled (answered_world w b) (event.Own (own.Writer b None answered)) ≡ true
+      → LowersBoth w (happens (answered_world w b) (event.Own (own.Writer b None answered))) b.0 0
+  pub plain : (b : ℕ) → (w.writers b).told ≡ None → is_plain (own_step (w.writers b).known).action ≡ true
+
+known : (nodes : ℕ) (events : List Event) → AllFit events → (run (start nodes) events).office.next.0 ≤ 2 ^ 64 → Known (run (start nodes) events)
+known nodes events fit left = record {
+  deliver = λ e d i. deliveries-lower nodes events e d i;
+  step = λ b takes answered told i. own-steps-lower nodes events b takes answered fit left told i;
+  ask = λ b answered told i j. asking-lowers nodes events b answered fit left told i j;
+  plain = λ b told. own-plain ((run (start nodes) events).writers b).known (all-ready nodes events b told);
+}
+
+-- QUEUES
+
+command-some : (c : Command) → 1 ≤ command_weight c
+command-some (command.Create members) = omega arith
+command-some (command.Append members) = omega arith
+command-some (command.Write bytes) = omega arith
+command-some (command.Fill count) = omega arith
+command-some command.Hflush = omega arith
+command-some command.Hsync = omega arith
+command-some command.Close = omega arith
+
+first-weight : (t : TakenCommand) (rest : List TakenCommand) → queue_weight (t ∷ rest) ≡ command_weight t.command + queue_weight rest
+first-weight t rest = sum_by-cons (λ (u : TakenCommand). command_weight u.command) t rest
+
+-- a queue is due only where nothing else is to be done
+queued : (a : Action) (free : Bool) (queue : List TakenCommand) → a ≡ action.Wait → (is_action a || (free && is_some (slice_get queue 0))) ≡ true → is_some (slice_get queue 0) ≡ true
+queued a free queue e h = and-right free (is_some (slice_get queue 0)) (subst (λ (x : Action). (is_action x || (free && is_some (slice_get queue 0))) ≡ true) e h)
+
+spent : (c after rest before : ℕ) → after ≡ rest → before ≡ c + rest → c + after ≤ before
+spent c after rest before p q = omega (arith, p, q)
+
+lapsed : (t x c after rest before : ℕ) → 1 ≤ c → after ≡ rest → before ≡ c + rest → t + (x + after) < t + (x + before)
+lapsed t x c after rest before o p q = omega (arith, o, p, q)
+
+kept : (after queue before : ℕ) → after ≡ queue → before ≡ queue → 0 + after ≤ before
+kept after queue before p q = omega (arith, p, q)
+
+-- WRITERS THAT ASK
+
+asked-told : (w : World) (b : ℕ) (t : Option Told) (a : Action) (c : OfficeCall) → t ≡ None → a ≡ action.Ask c
+    → ((after_event w (asking b) (changed w (if is_none t then writer_asks a w b else None))).writers b).told ≡ Some (answer_to w.office c)
+unfolding apply
+asked-told w b t a c none ask = rw (none, ask) (ap (λ (x : Writing). x.told) (put-here w.writers b (record (w.writers b) { told = Some (answer_to w.office c) })))
+
+-- once the office was asked, its answer waits
+told-then : (w : World) (b : ℕ) (c : OfficeCall) → (w.writers b).told ≡ None → (own_step (w.writers b).known).action ≡ action.Ask c → ((happens w (asking b)).writers b).told ≡ Some (answer_to w.office c)
+unfolding happens outcome
+told-then w b c none ask = asked-told w b (w.writers b).told (own_step (w.writers b).known).action c none ask
+
+acts-by : (t u : Option Told) (a : Action) → t ≡ u → acts_with u a ≡ true → acts_with t a ≡ true
+acts-by t u a e h = ap (λ (o : Option Told). acts_with o a) e ∙ h
+
+asks-by : (t : Option Told) (a : Action) → t ≡ None → is_question a ≡ true → (is_none t && is_question a) ≡ true
+asks-by t a none h = ap (λ (o : Option Told). is_none o && is_question a) none ∙ h
+
+-- WHAT IS DUE
+
+module _ (w : World) (k : Known w) (queues : Queues) (blocks : List ℕ) (apart : AreApart blocks) (answered : Bool) where
+  -- OWN STEPS
+
+  module _ (b : ℕ) (has : Has blocks b) (told : (w.writers b).told ≡ None) where
+    abbrev pub steps : Option TakenCommand → Event
+    steps takes = event.Own (own.Writer (record { 0 = b }) takes answered)
+
+    others : (queue : List TakenCommand) (a : ℕ) → a ≢ b → put queues b queue a ≡ queues a
+    others queue a ne = put-there queues b queue a ne
+
+    here : (queue : List TakenCommand) → queue_weight (put queues b queue b) ≡ queue_weight queue
+    here queue = ap queue_weight (put-here queues b queue)
+
+    -- a command is taken, or the writer takes none
+    takes-lower : (t : TakenCommand) (rest : List TakenCommand) → queues b ≡ t ∷ rest → play_weight (happens w (steps (Some t))) (put queues b rest) blocks < play_weight w queues blocks
+    takes-lower t rest q = go (is_enabled w (steps (Some t))) refl
+      where
+        before : queue_weight (queues b) ≡ command_weight t.command + queue_weight rest
+        before = ap queue_weight q ∙ first-weight t rest
+
+        go : (x : Bool) → is_enabled w (steps (Some t)) ≡ x → play_weight (happens w (steps (Some t))) (put queues b rest) blocks < play_weight w queues blocks
+        go true e =
+            both-lower w (happens w (steps (Some t))) queues (put queues b rest) blocks b apart has (command_weight t.command) (k.step (record { 0 = b }) (Some t) answered told e) (others rest)
+            (spent (command_weight t.command) (queue_weight (put queues b rest b)) (queue_weight rest) (queue_weight (queues b)) (here rest) before)
+        go false e =
+            subst (λ (v : World). play_weight v (put queues b rest) blocks < play_weight w queues blocks) (sym (idle-stays w (steps (Some t)) e))
+            (lowers-at w w queues (put queues b rest) blocks b apart has (λ a ne. refl) (others rest)
+            (lapsed (traffic w) (writer_weight (w.writers b).known) (command_weight t.command) (queue_weight (put queues b rest b)) (queue_weight rest) (queue_weight (queues b)) (command-some t.command) (here rest) before))
+
+    waits-lower : (queue : List TakenCommand) → queues b ≡ queue → is_some (slice_get queue 0) ≡ true
+        → play_weight (run w (map (answered_so answered) (own_events action.Wait b queue))) (put queues b (queue_left action.Wait queue)) blocks < play_weight w queues blocks
+    waits-lower [] q s = absurd (false≢true s)
+    waits-lower (t ∷ rest) q s = takes-lower t rest q
+
+    -- it does something
+    does-lower : (queue : List TakenCommand) → queues b ≡ queue → is_deed (own_step (w.writers b).known).action ≡ true → play_weight (happens w (steps None)) (put queues b queue) blocks < play_weight w queues blocks
+    does-lower queue q deed =
+        both-lower w (happens w (steps None)) queues (put queues b queue) blocks b apart has 0
+        (k.step (record { 0 = b }) None answered told ((all-tested w).write (record { 0 = b }) answered ∙ acts-by (w.writers b).told None (own_step (w.writers b).known).action told deed)) (others queue)
+        (kept (queue_weight (put queues b queue b)) (queue_weight queue) (queue_weight (queues b)) (here queue) (ap queue_weight q))
+
+    -- it asks the office, and goes on
+    asks-lower : (c : OfficeCall) (queue : List TakenCommand) → queues b ≡ queue → (own_step (w.writers b).known).action ≡ action.Ask c → play_weight (happens (happens w (asking b)) (steps None)) (put queues b queue) blocks < play_weight w queues blocks
+    asks-lower c queue q is =
+        let v : World = happens w (asking b) in
+        let asked : is_enabled w (asking b) ≡ true =
+        (all-tested w).ask (caller.Writer (record { 0 = b })) ∙ asks-by (w.writers b).told (own_step (w.writers b).known).action told (ap is_question is) in
+        let enabled : is_enabled v (steps None) ≡ true =
+        (all-tested v).write (record { 0 = b }) answered ∙ acts-by (v.writers b).told (Some (answer_to w.office c)) (own_step (v.writers b).known).action (told-then w b c told is) refl in
+        both-lower w (happens v (steps None)) queues (put queues b queue) blocks b apart has 0 (k.ask (record { 0 = b }) answered told asked enabled) (others queue)
+        (kept (queue_weight (put queues b queue b)) (queue_weight queue) (queue_weight (queues b)) (here queue) (ap queue_weight q))
+
+    own-lowers : (a : Action) (queue : List TakenCommand) → (own_step (w.writers b).known).action ≡ a → queues b ≡ queue → own_due (w.writers b) queue ≡ true
+        → play_weight (run w (map (answered_so answered) (own_events a b queue))) (put queues b (queue_left a queue)) blocks < play_weight w queues blocks
+    own-lowers action.Wait queue is q h = waits-lower queue q (queued (own_step (w.writers b).known).action (is_none (w.writers b).known.waiting) queue is h)
+    own-lowers action.Took queue is q h = does-lower queue q (ap is_deed is)
+    own-lowers (action.Ask c) queue is q h = asks-lower c queue q is
+    own-lowers (action.Dial to r) queue is q h = absurd (false≢true (sym (ap is_plain is) ∙ k.plain b told))
+    own-lowers (action.Send p) queue is q h = does-lower queue q (ap is_deed is)
+    own-lowers (action.Answered n x) queue is q h = does-lower queue q (ap is_deed is)
+    own-lowers action.Memory queue is q h = absurd (false≢true (sym (ap is_plain is) ∙ k.plain b told))
+
+  -- DELIVERIES
+
+  up-lowers : (c : ConnId) (u : Upper) → (w.dialled c.0).upper ≡ u → UpperAmong blocks u → is_enabled w (event.Up c) ≡ true → play_weight (happens w (event.Up c)) queues blocks < play_weight w queues blocks
+  up-lowers c (by_writer b) is has e =
+      both-lower w (happens w (event.Up c)) queues queues blocks b apart has 0 (answers-lower w c b is e) (λ a ne. refl)
+      (kept (queue_weight (queues b)) (queue_weight (queues b)) (queue_weight (queues b)) refl refl)
+  up-lowers c (by_member d) is has e = lowers-all w (happens w (event.Up c)) queues queues blocks (up-leaves w c (subst IsOther (sym is) tt)) (λ a. refl) (k.deliver (event.Up c) refl e)
+  up-lowers c (by_reader i) is has e = lowers-all w (happens w (event.Up c)) queues queues blocks (up-leaves w c (subst IsOther (sym is) tt)) (λ a. refl) (k.deliver (event.Up c) refl e)
+  up-lowers c (by_primary i place) is has e = lowers-all w (happens w (event.Up c)) queues queues blocks (up-leaves w c (subst IsOther (sym is) tt)) (λ a. refl) (k.deliver (event.Up c) refl e)
+
+-- ALL THAT IS DUE
+
+due-lowers : (w : World) (k : Known w) (queues : Queues) (blocks : List ℕ) (d : Due) (answered : Bool) → CanHappen w queues blocks d → weight_after w queues blocks d answered < play_weight w queues blocks
+due-lowers w k queues blocks (due.Own b) answered h = own-lowers w k queues blocks h.apart answered b.0 h.among h.untold (action_of w b) (queues b.0) refl refl h.due_now
+due-lowers w k queues blocks (due.Down c) answered h =
+    lowers-all w (happens w (event.Down c answered)) queues queues blocks (down-leaves w c answered) (λ a. refl)
+    (k.deliver (event.Down c answered) refl ((all-tested w).down c answered ∙ and-right (is_open (w.lowers c.0)) (can_down w c.0) h.due_now))
+due-lowers w k queues blocks (due.Ready c) answered h =
+    lowers-all w (happens w (event.Ready c)) queues queues blocks (ready-leaves w c) (λ a. refl)
+    (k.deliver (event.Ready c) refl ((all-tested w).ready c ∙ and-right (is_open (w.lowers c.0)) (can_ready w c.0) h.due_now))
+due-lowers w k queues blocks (due.Up c) answered h =
+    up-lowers w k queues blocks h.apart answered c (w.dialled c.0).upper refl h.among ((all-tested w).up c ∙ and-right (is_open_above w (w.dialled c.0).upper) (can_up w c.0) h.due_now)
+
+pub dues-lower : DuesLower
+dues-lower nodes events queues blocks d answered fit left h = due-lowers (run (start nodes) events) (known nodes events fit left) queues blocks d answered h
+
+-- PLAYS
+
+own-so : (a : Action) (b : ℕ) (queue : List TakenCommand) → map (answered_so true) (own_events a b queue) ≡ own_events a b queue
+own-so action.Wait b queue = refl
+own-so action.Took b queue = refl
+own-so (action.Ask c) b queue = refl
+own-so (action.Dial to r) b queue = refl
+own-so (action.Send p) b queue = refl
+own-so (action.Answered n x) b queue = refl
+own-so action.Memory b queue = refl
+
+-- in a play dials are answered
+due-so : (w : World) (queues : Queues) (d : Due) → events_so w queues d true ≡ due_events w queues d
+due-so w queues (due.Own b) = own-so (action_of w b) b.0 (queues b.0)
+due-so w queues (due.Down c) = refl
+due-so w queues (due.Ready c) = refl
+due-so w queues (due.Up c) = refl
+
+pub plays-lower : PlaysLower
+unfolding after_due
+plays-lower blocks p d fit left h =
+    let w : World = world_of p in
+    let so : run w (events_so w p.queues d true) ≡ run (start p.nodes) (p.events ++ due_events w p.queues d) =
+    ap (λ (list : List Event). run w list) (due-so w p.queues d) ∙ sym (runs-join (start p.nodes) p.events (due_events w p.queues d)) in
+    subst (λ (v : World). play_weight v (queues_after w p.queues d) blocks < play_weight w p.queues blocks) so
+    (dues-lower p.nodes p.events p.queues blocks d true fit left h)

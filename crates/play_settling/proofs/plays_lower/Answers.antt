@@ -1,0 +1,5 @@
+use Rattle.play_settling.proofs.Lowering.{plays-lower}
+use Rattle.play_settling.proofs.plays_lower.Goals as goal
+
+pub returns : goal.returns
+returns c = plays-lower

@@ -1,0 +1,22 @@
+//! Plays come to an end: what is due makes less to be done. Each function has an empty body; its clause says what holds
+//! of the world of a play.
+#![tactic(auto)]
+
+ghost use Rattle.play_settling.specs.Settling.{ActOrAsk, DuesLower, PlaysLower};
+
+/// Where no answer of the office waits for a writer, its next step does something, asks the office or waits: it dials
+/// only in the step in which it has the office's answer.
+pub fn writers_act_or_ask()
+    ensures { ActOrAsk }
+{}
+
+/// What is due makes less to be done, whether dials in it are answered or not: what is to be delivered, what the
+/// writers have to do and the commands that are queued for them are together less than before.
+pub fn dues_lower()
+    ensures { DuesLower }
+{}
+
+/// So it is in a play: each thing that is due and happens makes less to be done.
+pub fn plays_lower()
+    ensures { PlaysLower }
+{}

@@ -1,0 +1,5 @@
+pub mod Frame
+pub mod Nodes
+pub mod Clients
+pub mod Primaries
+pub mod AllAsked

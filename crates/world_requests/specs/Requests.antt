@@ -1,0 +1,65 @@
+-- Each request to write is of a block whose writer has acted, and its targets are nodes.
+use Rattle.std.specs.Prelude.{ℕ, ◌≡◌, ◌≤◌, ◌⊎◌, List, [], ◌∷◌, slice_get, Some}
+use Rattle.hd_base.specs.declared.numbers.BlockId.{BlockId}
+use Rattle.hd_base.specs.declared.roads.TheConstants.{FIRST_PORT}
+use Rattle.op_headers.specs.declared.nodes.NodeRef.{NodeRef}
+use Rattle.op_headers.specs.declared.ops.Op.TheVariants as op
+use Rattle.op_headers.specs.Values.{WriteFields}
+use Rattle.world.specs.declared.events.Event.{Event}
+use Rattle.world.specs.declared.events.Event.TheVariants as event
+use Rattle.world.specs.declared.events.OwnStep.TheVariants as own
+use Rattle.world.specs.Parts.{request}
+use Rattle.world.specs.Worlds.{World, start}
+use Rattle.world.specs.Nodes.{block_of}
+use Rattle.world.specs.Events.{run}
+
+-- WRITERS THAT ACT
+
+-- an own step of the writer of this block
+abbrev pub IsStepOf : ℕ → Event → Type 0
+IsStepOf b (event.Own (own.Writer d takes answered)) = d.0 ≡ b
+IsStepOf b _ = ⊥
+
+-- one is among these events
+abbrev pub Acts : List Event → ℕ → Type 0
+Acts [] b = ⊥
+Acts (e ∷ events) b = IsStepOf b e ⊎ Acts events b
+
+-- REQUESTS
+
+-- A request to write is of one of these blocks, and the port of each of its targets is a node's.
+pub record IsAsked (Of : ℕ → Type 0) (fields : WriteFields) : Type 0 where
+  pub block : Of (block_of fields)
+  pub ports : (k : ℕ) (t : NodeRef) → slice_get fields.targets k ≡ Some t → FIRST_PORT ≤ t.xfer
+
+-- each request to write that was sent on a connection
+abbrev pub AllAsked : (ℕ → Type 0) → World → Type 0
+AllAsked Of w = (c k : ℕ) (fields : WriteFields) → slice_get (w.downs c) k ≡ Some (request (op.Write fields))
+    → IsAsked Of fields
+
+-- So it is after every list of events.
+abbrev pub AreOfWriters : Type 0
+AreOfWriters = (nodes : ℕ) (events : List Event) → AllAsked (Acts events) (run (start nodes) events)
+
+-- BLOCKS IN A LIST
+
+-- the list has the block with this number
+pub record IsAmong (blocks : List BlockId) (b : ℕ) : Type 0 where
+  pub block : BlockId
+  pub place : ℕ
+  pub at_place : slice_get blocks place ≡ Some block
+  pub is : block.0 ≡ b
+
+-- the list has the block of the writer that acts
+abbrev pub EventAmong : List BlockId → Event → Type 0
+EventAmong blocks (event.Own (own.Writer b takes answered)) = IsAmong blocks b.0
+EventAmong blocks _ = Unit {0}
+
+abbrev pub AllAmong : List BlockId → List Event → Type 0
+AllAmong blocks [] = Unit {0}
+AllAmong blocks (e ∷ events) = EventAmong blocks e × AllAmong blocks events
+
+-- The blocks of all writers that act are those of all requests to write.
+abbrev pub AreAmong : Type 0
+AreAmong = (nodes : ℕ) (blocks : List BlockId) (events : List Event) → AllAmong blocks events →
+    AllAsked (IsAmong blocks) (run (start nodes) events)
