@@ -1,5 +1,5 @@
 -- How a connection's first message ends: the end came, a request was set up, or a fault has its cause.
-use Rattle.std.proofs.Common.{◌≡◌, ◌⊎◌, inl, inr, ◌<◌, ◌≤◌, ℕ, Bool, true, false, List, length, slice_get, Option, Some, None, IsSome, Result, Ok, Err, refl, sym, ap, ◌∙◌, subst, arith, length-set, eqb-true}
+use Rattle.std.proofs.Common.{◌≡◌, ◌≢◌, [], ◌⊎◌, inl, inr, ◌∷◌, ◌<◌, ◌≤◌, ℕ, Bool, true, false, List, length, slice_get, Option, Some, None, IsSome, Result, Ok, Err, refl, sym, ap, ◌∙◌, subst, arith, length-set, eqb-true}
 use Rattle.std.specs.Prelude.{◌==◌}
 use Rattle.std.specs.List.{position_or_len}
 use Rattle.std.proofs.lemmas.Bool.Decides.{nat_tests}
@@ -11,11 +11,14 @@ use Rattle.hd_base.specs.declared.numbers.BlockId.{BlockId}
 use Rattle.hd_base.specs.declared.numbers.ConnId.{ConnId}
 use Rattle.hd_base.specs.declared.numbers.NodeId.{NodeId}
 use Rattle.hd_base.specs.declared.roads.Roads as roads
+use Rattle.hd_base.specs.declared.roads.TheConstants.{FIRST_PORT}
+use Rattle.op_headers.specs.declared.nodes.NodeRef.{NodeRef}
 use Rattle.op_headers.specs.declared.ops.Op.TheVariants as op
 use Rattle.op_headers.specs.Values.{WriteFields}
 use Rattle.member_core.specs.Steps.{request_step}
 use Rattle.replica_files.specs.declared.book_state.BookState.{BookState}
 use Rattle.pipe_member.specs.declared.member.Member.{Member}
+use Rattle.pipe_setup.specs.Requests.{first_port}
 use Rattle.road_traffic.specs.Showing.{Net}
 use Rattle.world.specs.declared.events.Event.TheVariants as event
 use Rattle.world.specs.Parts.{request, idle}
@@ -25,6 +28,7 @@ use Rattle.world.specs.Nodes.{node_of, block_of, replica_at, setup_change, is_as
 use Rattle.world.specs.Events.{outcome, happens}
 use Rattle.world_laws.specs.Placing.{Placed}
 use Rattle.world_orders.proofs.AllOrdered.{next-found}
+use Rattle.world_requests.specs.Requests.{IsAsked, IsAmong}
 use Rattle.world_nets.specs.Drawn.{ComesDown, break_at}
 use Rattle.world_nets.specs.Nets.{IsEndOf, is_over}
 use Rattle.world_nets.proofs.StepLemmas.{followed, changed-over, taken-over}
@@ -53,7 +57,7 @@ use Rattle.play_nodes.specs.Faults.{fault_at}
 use Rattle.play_nodes.specs.Places.{book_at, with_lower, TakesIdle, idle_of, PutBack, BookSet, AddsDial, FollowsJoin, place_of, IsMirrorNode, IsJoined, HasNoBook}
 use Rattle.play_nodes.specs.Showing.{NodesStand}
 use Rattle.play_nodes.specs.Events.{IsLawful, IsCaused}
-use Rattle.play_nodes.specs.Beginning.{RequestFits, RequestsFit, BeginEnds, BeginShows}
+use Rattle.play_nodes.specs.Beginning.{RequestsFit, BeginEnds, BeginShows}
 use Rattle.play_nodes.proofs.PlaceLaws.{same_some}
 use Rattle.play_nodes.proofs.WorldFrames.{KeepsRest, rest_taken}
 use Rattle.play_nodes.proofs.ReadyNodes.{caused, served_within}
@@ -85,6 +89,11 @@ setup_frame w conn answered fields comes is =
 taken_lowers : (w : World) (c : ℕ) (x : Next) (d : ℕ) → (down_taken w c x).lowers d ≡ w.lowers d
 unfolding down_taken
 taken_lowers w c x d = refl
+
+-- the port of the first target is a node's where that of each is
+mirror_port : (targets : List NodeRef) → ((k : ℕ) (t : NodeRef) → slice_get targets k ≡ Some t → FIRST_PORT ≤ t.xfer) → targets ≢ [] → FIRST_PORT ≤ first_port targets
+mirror_port [] ports some = absurd (some refl)
+mirror_port (t ∷ rest) ports some = ports 0 t refl
 
 not_none : {A : Type 0} (x : Option A) → IsSome x → x ≡ None → ⊥
 not_none None h e = cc
@@ -181,7 +190,7 @@ module _ {F R I O : Type 0} (f : files.Ghosts F) (r : roads.Ghosts R I O) (i : l
     taken = down_taken w conn.0 (write_next fields)
 
     -- What is known before the setup.
-    record IsAsked : Type 0 where
+    record IsTaken : Type 0 where
       stands : NodesStand r i o w net road old
       lawful : (answered : Bool) → IsLawful w (event.Down conn answered)
       k : TakesAt w conn.0
@@ -201,7 +210,7 @@ module _ {F R I O : Type 0} (f : files.Ghosts F) (r : roads.Ghosts R I O) (i : l
       mirror_is : IsMirrorNode fields.targets of
       never_falls : r.faults road ≤ r.faults first
 
-    module _ (h : IsAsked) where
+    module _ (h : IsTaken) where
       set_up : (answered : Bool) (mirror : Option ℕ) (left : Option (Member I O)) (middle : Nodes F I O) → PutBack set middle s left → MemberJoins r i o taken n1 (happens w (event.Down conn answered)) conn.0 fields mirror book' road' left
           → IsSetUp r i o w taken (happens w (event.Down conn answered)) net n1 conn.0 fields mirror s book' road' left old mid set middle at end
       set_up answered mirror left middle put joins =
@@ -258,7 +267,7 @@ module _ {F R I O : Type 0} (f : files.Ghosts F) (r : roads.Ghosts R I O) (i : l
           (caused f r i o old mid set new s conn.0 (Some next.0) book book' first road' why h.taken_is.nodes h.at_book h.set_is follows.0 joins))
 
   -- the request that came fits
-  fits_at : (w : World) (c : ℕ) (old : Nodes F I O) (fields : WriteFields) → RequestsFit w old → ComesDown w c (write_next fields) → RequestFits old fields
+  fits_at : (w : World) (c : ℕ) (old : Nodes F I O) (fields : WriteFields) → RequestsFit w old → ComesDown w c (write_next fields) → IsAsked (IsAmong old.blocks.items) fields
   fits_at w c old fields fits comes = fits c (w.down_marks c).taken fields (next-found (w.downs c) (w.down_marks c) (request (op.Write fields)) comes.next)
 
   -- the block of a request at the place where it is found
@@ -267,12 +276,12 @@ module _ {F R I O : Type 0} (f : files.Ghosts F) (r : roads.Ghosts R I O) (i : l
       let p : Passes (λ b. b.0 == fields.block.block.0) blocks place = passes_at (λ b. b.0 == fields.block.block.0) blocks place is in
       (p.at, (p.found, eqb-true p.at.0 fields.block.block.0 p.passes))
 
-  book_needed : (w : World) (net : Net) (c : ℕ) (old mid : Nodes F I O) (at : Connection I O) (fields : WriteFields) (road : R) → NodesStand r i o w net road old → Placed w → c < w.next_conn → slice_get old.connections.items c ≡ Some at → mid.blocks.items ≡ old.blocks.items → mid.nodes.items ≡ old.nodes.items → RequestFits old fields
+  book_needed : (w : World) (net : Net) (c : ℕ) (old mid : Nodes F I O) (at : Connection I O) (fields : WriteFields) (road : R) → NodesStand r i o w net road old → Placed w → c < w.next_conn → slice_get old.connections.items c ≡ Some at → mid.blocks.items ≡ old.blocks.items → mid.nodes.items ≡ old.nodes.items → IsAsked (IsAmong old.blocks.items) fields
       → ((place : ℕ) → place_of mid.blocks.items fields ≡ Some place → book_at mid.nodes.items at.node.0 place ≡ None) → ⊥
   book_needed w net c old mid at fields road stands placed before found blocks nodes fit none =
       let test : BlockId → Bool = λ b. b.0 == fields.block.block.0 in
       let place : ℕ = position_or_len test old.blocks.items in
-      let is : place_of old.blocks.items fields ≡ Some place = place_there test old.blocks.items fit.place fit.block fit.at_place (same_test fit.block.0 fields.block.block.0 fit.of_block) in
+      let is : place_of old.blocks.items fields ≡ Some place = place_there test old.blocks.items fit.block.place fit.block.block fit.block.at_place (same_test fit.block.block.0 fields.block.block.0 fit.block.is) in
       let b = block_found old.blocks.items fields place is in
       let node : at.node.0 ≡ node_of w c = (stands.nodes_are.each c at found).node in
       not_none (book_at old.nodes.items (node_of w c) place) (stands.nodes_are.has_books (node_of w c) place b.0 (placed.dialled c before).to b.1.0)
@@ -295,7 +304,7 @@ module _ {F R I O : Type 0} (f : files.Ghosts F) (r : roads.Ghosts R I O) (i : l
       let begun : HasRequest r i o w net c z.taking.next first requested = shows w net conn true z.taking.next z.stands z.can in
       let has : HasRequest r i o w net c (write_next fields) first requested = subst (λ (x : Next). HasRequest r i o w net c x first requested) begun.is_request begun in
       let comes : ComesDown w c (write_next fields) = subst (λ (x : Next). ComesDown w c x) begun.is_request z.taking.comes in
-      let fit : RequestFits old fields = fits_at w c old fields fits comes in
+      let fit : IsAsked (IsAmong old.blocks.items) fields = fits_at w c old fields fits comes in
       let b = block_found old.blocks.items fields j.place (ap (λ (xs : List BlockId). place_of xs fields) (sym t.blocks) ∙ j.at_place) in
       let node : at.node.0 ≡ node_of w c = (stands.nodes_are.each c at found).node in
       let size : length mid.connections.items ≡ w.next_conn = ap length (t.set at found) ∙ (length-set old.connections.items c (with_lower at lower.Ended) ∙ stands.nodes_are.count) in
@@ -310,7 +319,7 @@ module _ {F R I O : Type 0} (f : files.Ghosts F) (r : roads.Ghosts R I O) (i : l
         replica = stands.nodes_are.books at.node.0 j.place b.0 j.book b.1.0 at_old ∙ (ap (λ (q : ℕ). w.replicas q b.0.0) node ∙ ap (w.replicas (node_of w c)) b.1.1);
       } in
       let can : CanJoin w conn fields = record {
-        of_node = fit.of_node;
+        of_node = mirror_port fields.targets fit.ports;
         answers = λ answered. (lawful answered).after.ups c;
         goes_on = (lawful true).after.downs w.next_conn;
       } in
