@@ -1,3 +1,4 @@
 pub mod Queues
 pub mod Steps
 pub mod Resting
+pub mod Running

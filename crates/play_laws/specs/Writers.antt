@@ -1,5 +1,5 @@
 -- What is known of a writer between its steps.
-use Rattle.std.specs.Prelude.{ℕ, ◌≡◌, ◌≢◌, Bool, true, false, List, [], is_some, None}
+use Rattle.std.specs.Prelude.{ℕ, ◌≡◌, ◌≢◌, Bool, true, false, List, [], is_some, Some, None}
 use Rattle.writer_core.specs.declared.phases.Phase.{Phase}
 use Rattle.writer_core.specs.declared.phases.Phase.TheVariants as phase
 use Rattle.writer_core.specs.Transitions.{is_connected}
@@ -7,6 +7,7 @@ use Rattle.world.specs.declared.events.Event.{Event}
 use Rattle.world.specs.Parts.{Writing}
 use Rattle.world.specs.Worlds.{start}
 use Rattle.world.specs.Events.{run}
+use Rattle.world_nets.specs.Nets.{is_over}
 
 -- The writer goes on from these phases in the step in which it has the office's answer.
 abbrev pub is_settled : Phase → Bool
@@ -33,3 +34,8 @@ pub record Rests (x : Writing) : Type 0 where
 -- So it is of each block's writer after every list of events, whether an answer of the office waits for it or not.
 abbrev pub AllRest : Type 0
 AllRest = (nodes : ℕ) (events : List Event) (b : ℕ) → Rests ((run (start nodes) events).writers b)
+
+-- A writer hasn't taken the end of the connection that it has.
+abbrev pub WritersOpen : Type 0
+WritersOpen = (nodes : ℕ) (events : List Event) (b c : ℕ) → ((run (start nodes) events).writers b).conn ≡ Some c →
+    is_over (run (start nodes) events) c false ≡ false
