@@ -44,7 +44,7 @@ use Rattle.world_laws.proofs.ByteFrame.{Each, each-nil}
 use Rattle.world_laws.proofs.FactTables.{put-each, when-each, and-right}
 use Rattle.world_laws.proofs.SessionAsides.{Aside, lower-down-aside, lower-ready-aside, mirror-up-aside, own-reader-aside, reader-up-aside, own-recover-aside, own-primary-aside, primary-up-aside}
 use Rattle.play_laws.specs.Writers.{Rests, AllRest, is_settled, needs_members}
-use Rattle.play_laws.specs.Members.{Names, EventNames, AllName, AreAll, IsBelow, MembersAre}
+use Rattle.play_laws.specs.Members.{Names, EventNames, AllName, AreAll, IsNode, MembersAre}
 use Rattle.play_laws.proofs.Queues.{Bare, own-bare, hears-bare, dialled-bare, granted-bare}
 use Rattle.play_laws.proofs.Steps.{Fits, Sits, Allows, Gets, some-member, empty-queue, hears-fits, undialled-fits, opened-fits, completed-fits, own-fits, granted-fits, ruled-gets, none-opens}
 
@@ -352,4 +352,4 @@ pub all-rest : AllRest
 all-rest nodes events b = rests ((run (start nodes) events).writers b) (all-stand Any nodes events (any-events events) b)
 
 pub members-are : MembersAre
-members-are nodes events b n = (all-stand (IsBelow nodes) nodes events n b).fits.each.at
+members-are nodes events b n = (all-stand (IsNode nodes) nodes events n b).fits.each.at

@@ -2,7 +2,7 @@
 //! what holds after every list of events.
 #![tactic(auto)]
 
-ghost use Rattle.play_laws.specs.Members.{MembersAre};
+ghost use Rattle.play_laws.specs.Members.{MembersAre, TargetsAre};
 ghost use Rattle.play_laws.specs.Nodes.{AllRun};
 ghost use Rattle.play_laws.specs.Writers.{AllRest, WritersOpen};
 
@@ -25,4 +25,9 @@ pub fn nodes_run()
 /// Where each command that a writer takes names only nodes of the world, so are the members of each writer.
 pub fn members_are_nodes()
     ensures { MembersAre }
+{}
+
+/// So are the targets of each request to write: each is told as that node itself tells where it is.
+pub fn targets_are_nodes()
+    ensures { TargetsAre }
 {}
