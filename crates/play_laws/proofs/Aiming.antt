@@ -231,7 +231,7 @@ module _ (Of : NodeId → Type 0) where
   -- ALL EVENTS
 
   own-calls : (w : World) (s : OwnStep) → AllStand Of w → IfSome (own_change w s) (Calls Of)
-  own-calls w (own.Writer b takes answered) h = writer-step-calls w b.0 (w.writers b.0).known (w.writers b.0).told takes answered (λ t. (granted-fits Of _ (w.writers b.0).known t (h b.0).fits).each)
+  own-calls w (own.Writer b takes answered) h = writer-step-calls w b.0 (w.writers b.0).known (w.writers b.0).told takes answered (λ t. (granted-fits Of _ _ (w.writers b.0).known t (h b.0).fits).each)
   own-calls w (own.Reader i n r answered) h = own-reader-calls Of w i n.0 r answered
   own-calls w (own.Recover i n b members answers) h = own-recover-calls Of w i n.0 b members answers
   own-calls w (own.Primary i) h = own-primary-calls Of w i

@@ -46,12 +46,12 @@ use Rattle.world_laws.proofs.SessionAsides.{Aside, lower-down-aside, lower-ready
 use Rattle.play_laws.specs.Writers.{Rests, AllRest, is_settled, needs_members}
 use Rattle.play_laws.specs.Members.{Names, EventNames, AllName, AreAll, IsNode, MembersAre}
 use Rattle.play_laws.proofs.Queues.{Bare, own-bare, hears-bare, dialled-bare, granted-bare}
-use Rattle.play_laws.proofs.Steps.{Fits, Sits, Allows, Gets, some-member, empty-queue, hears-fits, undialled-fits, opened-fits, completed-fits, own-fits, granted-fits, ruled-gets, none-opens}
+use Rattle.play_laws.proofs.Steps.{is_early, Fits, Sits, Allows, Gets, some-member, empty-queue, hears-fits, undialled-fits, opened-fits, completed-fits, own-fits, granted-fits, ruled-gets, none-opens}
 
 module _ (Of : NodeId → Type 0) where
   -- A writer between its steps.
   pub record Stands (x : Writing) : Type 0 where
-    pub fits : Fits Of (is_some x.conn) true x.known.members x.known.phase
+    pub fits : Fits Of (is_some x.conn) (is_early x.known.phase) true x.known.members x.known.phase
     pub queue : x.known.queue ≡ []
     pub alone : is_connected x.known.phase ≡ false → x.conn ≡ None
 
@@ -64,13 +64,13 @@ module _ (Of : NodeId → Type 0) where
   AllStand w = (b : ℕ) → Stands (w.writers b)
 
   -- the writer keeps its connection where its phase has one
-  as-stands : (x : WriterRecord) (conn : Option ℕ) → Sits Of (is_some conn) true x → x.queue ≡ [] → Stands (writing_as x conn)
-  as-stands x conn h q = go (is_connected x.phase) refl
+  as-stands : (x : WriterRecord) (conn : Option ℕ) (soon : Bool) → Sits Of (is_some conn) soon true x → x.queue ≡ [] → Stands (writing_as x conn)
+  as-stands x conn soon h q = go (is_connected x.phase) refl
     where
       go : (b : Bool) → is_connected x.phase ≡ b → Stands (record { known = x; conn = if b then conn else None; told = None })
-      go true e = record { fits = h; queue = q; alone = λ a. absurd (false≢true (sym a ∙ e)) }
+      go true e = record { fits = record { settled = h.settled; some = h.some; each = h.each; conn = h.conn; early = λ a. a }; queue = q; alone = λ a. absurd (false≢true (sym a ∙ e)) }
       go false e = record {
-        fits = record { settled = h.settled; some = h.some; each = h.each; conn = λ a. absurd (false≢true (sym e ∙ a)) };
+        fits = record { settled = h.settled; some = h.some; each = h.each; conn = λ a. absurd (false≢true (sym e ∙ a)); early = λ a. a };
         queue = q;
         alone = λ a. refl;
       }
@@ -80,23 +80,23 @@ module _ (Of : NodeId → Type 0) where
   module _ (w : World) (b : ℕ) where
     -- of a writer that may be connected
     abbrev Goes : WriterRecord → Type 0
-    Goes x = Sits Of (is_some (w.writers b).conn) true x
+    Goes x = Sits Of (is_some (w.writers b).conn) (is_early (w.writers b).known.phase) true x
 
     did-leaves : (waits : Option Waiting) (a : Action) (x : WriterRecord) (bytes : List ℕ) → Goes x → x.queue ≡ [] → IfSome (did w b waits a x bytes) Leaves
-    did-leaves waits action.Took x bytes h q = as-stands x (w.writers b).conn h q
-    did-leaves waits (action.Send p) x bytes h q = as-stands x (w.writers b).conn h q
-    did-leaves waits (action.Answered k said) x bytes h q = as-stands x (w.writers b).conn h q
+    did-leaves waits action.Took x bytes h q = as-stands x (w.writers b).conn (is_early (w.writers b).known.phase) h q
+    did-leaves waits (action.Send p) x bytes h q = as-stands x (w.writers b).conn (is_early (w.writers b).known.phase) h q
+    did-leaves waits (action.Answered k said) x bytes h q = as-stands x (w.writers b).conn (is_early (w.writers b).known.phase) h q
     did-leaves waits action.Wait x bytes h q = tt
     did-leaves waits (action.Ask c) x bytes h q = tt
     did-leaves waits (action.Dial to r) x bytes h q = tt
     did-leaves waits action.Memory x bytes h q = tt
 
-    given-leaves : (waits : Option Waiting) (x : WriterRecord) (bytes : List ℕ) → Gets Of (is_some (w.writers b).conn) x → IfSome (if is_empty (own_step x).writer.queue then did_step w b waits (own_step x) bytes else None) Leaves
+    given-leaves : (waits : Option Waiting) (x : WriterRecord) (bytes : List ℕ) → Gets Of (is_some (w.writers b).conn) (is_early (w.writers b).known.phase) x → IfSome (if is_empty (own_step x).writer.queue then did_step w b waits (own_step x) bytes else None) Leaves
     given-leaves waits x bytes g = when-each Leaves (is_empty (own_step x).writer.queue) _
-        (λ e. did-leaves waits (own_step x).action (own_step x).writer bytes (own-fits Of (is_some (w.writers b).conn) x g.first g.sits) (empty-queue (own_step x).writer.queue e))
+        (λ e. did-leaves waits (own_step x).action (own_step x).writer bytes (own-fits Of (is_some (w.writers b).conn) (is_early (w.writers b).known.phase) x g.first g.sits) (empty-queue (own_step x).writer.queue e))
 
     -- what commands name may be members
-    allowed : (c : Command) → Names Of c → Allows Of (is_some (w.writers b).conn) c
+    allowed : (c : Command) → Names Of c → Allows Of (is_some (w.writers b).conn) (is_early (w.writers b).known.phase) c
     allowed (command.Create ms) n = record { at = n }
     allowed (command.Append ms) n = record { at = n }
     allowed (command.Write bytes) n = tt
@@ -108,40 +108,40 @@ module _ (Of : NodeId → Type 0) where
     takes-leaves : (x : WriterRecord) (t : TakenCommand) → Names Of t.command → Goes x → x.queue ≡ [] → IfSome (takes_command w b x t) Leaves
     takes-leaves x t n h q = when-each Leaves (is_formed t.command t.rule && not (is_empty (given x t.command).queue)) _
         (λ e. given-leaves (ruled x t.command t.rule).waiting (given (ruled x t.command t.rule) t.command) (command_bytes (ruled x t.command t.rule) t.command)
-          (ruled-gets Of (is_some (w.writers b).conn) x t.command t.rule (and-right (is_formed t.command t.rule) (not (is_empty (given x t.command).queue)) e) q (allowed t.command n) h))
+          (ruled-gets Of (is_some (w.writers b).conn) (is_early (w.writers b).known.phase) x t.command t.rule (and-right (is_formed t.command t.rule) (not (is_empty (given x t.command).queue)) e) q (allowed t.command n) h))
 
     -- WITH THE OFFICE'S ANSWER
 
     -- of a writer that goes on at once
     abbrev GoesOn : WriterRecord → Type 0
-    GoesOn x = Sits Of (is_some (w.writers b).conn) false x
+    GoesOn x = Sits Of (is_some (w.writers b).conn) (is_early (w.writers b).known.phase) false x
 
     requested : (x : WriterRecord) (n : NodeId) (ns : List NodeId) (s : Setup) (stamp : Stamp) (d : ℕ) → x.members ≡ n ∷ ns → x.phase ≡ phase.Stamped s stamp → GoesOn x → x.queue ≡ [] → Stands (record { known = dialled x true; conn = Some d; told = None })
     unfolding dialled
     requested x n ns s stamp d m e h q =
         subst (λ (p : Phase). Stands (record { known = dialled_in x p true; conn = Some d; told = None })) (sym e)
           (record {
-            fits = record { settled = λ a. refl; some = λ a. subst (λ (ms : List NodeId). ms ≡ [] → ⊥) (sym m) (some-member n ns); each = h.each; conn = λ a. refl };
+            fits = record { settled = λ a. refl; some = λ a. subst (λ (ms : List NodeId). ms ≡ [] → ⊥) (sym m) (some-member n ns); each = h.each; conn = λ a. refl; early = λ a. refl };
             queue = q;
             alone = λ a. absurd (false≢true (sym a));
           })
 
     dialled-leaves : (x : WriterRecord) (to : NodeId) (r : Op) (answered : Bool) (s : Setup) (stamp : Stamp) (ns : List NodeId) → x.members ≡ to ∷ ns → x.phase ≡ phase.Stamped s stamp → GoesOn x → x.queue ≡ [] → Leaves (dialled_change w b x to r answered)
     dialled-leaves x to r true s stamp ns m e h q = requested x to ns s stamp w.next_conn m e h q
-    dialled-leaves x to r false s stamp ns m e h q = as-stands (dialled x false) (w.writers b).conn (undialled-fits Of (is_some (w.writers b).conn) x s stamp to ns m e h.each) (dialled-bare x false q)
+    dialled-leaves x to r false s stamp ns m e h q = as-stands (dialled x false) (w.writers b).conn (is_early (w.writers b).known.phase) (undialled-fits Of (is_some (w.writers b).conn) (is_early (w.writers b).known.phase) x s stamp to ns m e h.each) (dialled-bare x false q)
 
     dialling-leaves : (x : WriterRecord) (s : Setup) (stamp : Stamp) (ns : List NodeId) (answered : Bool) → x.members ≡ ns → x.phase ≡ phase.Stamped s stamp → GoesOn x → x.queue ≡ [] → Leaves (dialling w b x (dial_step_as x s stamp ns).action answered)
     dialling-leaves x s stamp [] answered m e h q = absurd (h.some (ap needs_members e) m)
     dialling-leaves x s stamp (n ∷ ns) answered m e h q = dialled-leaves x n (request_for x.block x.committed x.stream s stamp (length x.members) ns) (answered && w.running n.0) s stamp ns m e h q
 
     settled : (x : WriterRecord) (p : Phase) → x.phase ≡ p → is_settled p ≡ true → GoesOn x → x.queue ≡ [] → Leaves (writer_change w b x)
-    settled x p e s h q = as-stands x (w.writers b).conn (record { settled = λ a. ap is_settled e ∙ s; some = h.some; each = h.each; conn = h.conn }) q
+    settled x p e s h q = as-stands x (w.writers b).conn (is_early (w.writers b).known.phase) (record { settled = λ a. ap is_settled e ∙ s; some = h.some; each = h.each; conn = h.conn; early = h.early }) q
 
     rest-leaves : (p : Phase) (x : WriterRecord) (answered : Bool) → x.phase ≡ p → GoesOn x → x.queue ≡ [] → IfSome (rest_in p w b x answered) Leaves
     rest-leaves (phase.Stamped s stamp) x answered e h q = dialling-leaves x s stamp x.members answered refl e h q
     rest-leaves phase.Opened x answered e h q = did-leaves x.waiting (open_step x).action (open_step x).writer []
-        (opened-fits Of (is_some (w.writers b).conn) x (subst (λ (p : Phase). Fits Of (is_some (w.writers b).conn) false x.members p) e h)) q
-    rest-leaves phase.Completed x answered e h q = did-leaves x.waiting (completed_step x).action (completed_step x).writer [] (completed-fits Of (is_some (w.writers b).conn) x h.each) q
+        (opened-fits Of (is_some (w.writers b).conn) (is_early (w.writers b).known.phase) x (subst (λ (p : Phase). Fits Of (is_some (w.writers b).conn) (is_early (w.writers b).known.phase) false x.members p) e h)) q
+    rest-leaves phase.Completed x answered e h q = did-leaves x.waiting (completed_step x).action (completed_step x).writer [] (completed-fits Of (is_some (w.writers b).conn) (is_early (w.writers b).known.phase) x h.each) q
     rest-leaves phase.Closed x answered e h q = settled x phase.Closed e refl h q
     rest-leaves (phase.Wanted s) x answered e h q = settled x (phase.Wanted s) e refl h q
     rest-leaves (phase.Requested s stamp) x answered e h q = settled x (phase.Requested s stamp) e refl h q
@@ -152,16 +152,16 @@ module _ (Of : NodeId → Type 0) where
     rest-leaves (phase.Failed f) x answered e h q = settled x (phase.Failed f) e refl h q
 
     writer-step-leaves : (x : WriterRecord) (told : Option Told) (takes : Option TakenCommand) (answered : Bool) → IfSome takes (λ t. Names Of t.command) → Goes x → x.queue ≡ [] → IfSome (writer_step w b x told takes answered) Leaves
-    writer-step-leaves x (Some t) None answered n h q = rest-leaves (granted x t).phase (granted x t) answered refl (granted-fits Of (is_some (w.writers b).conn) x t h) (granted-bare x t q)
+    writer-step-leaves x (Some t) None answered n h q = rest-leaves (granted x t).phase (granted x t) answered refl (granted-fits Of (is_some (w.writers b).conn) (is_early (w.writers b).known.phase) x t h) (granted-bare x t q)
     writer-step-leaves x (Some t) (Some c) answered n h q = tt
-    writer-step-leaves x None None answered n h q = did-leaves x.waiting (own_step x).action (own_step x).writer [] (own-fits Of (is_some (w.writers b).conn) x (none-opens Of (is_some (w.writers b).conn) x.queue q) h) (own-bare x q)
+    writer-step-leaves x None None answered n h q = did-leaves x.waiting (own_step x).action (own_step x).writer [] (own-fits Of (is_some (w.writers b).conn) (is_early (w.writers b).known.phase) x (none-opens Of (is_some (w.writers b).conn) (is_early (w.writers b).known.phase) x.queue q) h) (own-bare x q)
     writer-step-leaves x None (Some t) answered n h q = takes-leaves x t n h q
 
     -- WHAT A WRITER TAKES
 
     writer-up-leaves : (c : ℕ) (n : Next) → Stands (w.writers b) → IfSome (writer_up w b c n) Leaves
     writer-up-leaves c n h = when-each Leaves (is_conn (w.writers b).conn c && is_none (w.writers b).told) _
-        (λ e. as-stands (writer_hears (w.writers b).known n) (w.writers b).conn (hears-fits Of (is_some (w.writers b).conn) true (w.writers b).known n h.fits) (hears-bare (w.writers b).known n h.queue))
+        (λ e. as-stands (writer_hears (w.writers b).known n) (w.writers b).conn (is_early (w.writers b).known.phase) (hears-fits Of (is_some (w.writers b).conn) (is_early (w.writers b).known.phase) true (w.writers b).known n h.fits) (hears-bare (w.writers b).known n h.queue))
 
   module _ (w : World) (h : AllStand w) where
     -- THE OFFICE
@@ -299,7 +299,7 @@ module _ (Of : NodeId → Type 0) where
   pub start-stands : (nodes : ℕ) → AllStand (start nodes)
   unfolding start
   start-stands nodes b = record {
-    fits = record { settled = λ e. refl; some = λ e. absurd (false≢true e); each = each-nil Of; conn = λ e. e };
+    fits = record { settled = λ e. refl; some = λ e. absurd (false≢true e); each = each-nil Of; conn = λ e. e; early = λ e. e };
     queue = refl;
     alone = λ e. refl;
   }

@@ -52,24 +52,32 @@ pub empty-queue : (q : List Command) → is_empty q ≡ true → q ≡ []
 empty-queue [] e = refl
 empty-queue (c ∷ q) e = absurd (false≢true e)
 
--- members that may be, in a phase that is settled where it must be, of a writer with a connection, or without one
-module _ (Of : NodeId → Type 0) (was : Bool) where
+-- the request was sent, and nothing behind it
+abbrev pub is_early : Phase → Bool
+is_early (phase.Requested s stamp) = true
+is_early (phase.Accepted s stamp) = true
+is_early other = false
+
+-- members that may be, in a phase that is settled where it must be, of a writer with a connection, or without one, which
+-- had sent no more than its request, or had
+module _ (Of : NodeId → Type 0) (was soon : Bool) where
   pub record Fits (now : Bool) (ms : List NodeId) (p : Phase) : Type 0 where
     pub settled : now ≡ true → is_settled p ≡ true
     pub some : needs_members p ≡ true → ms ≢ []
     pub each : Each Of ms
     pub conn : is_connected p ≡ true → was ≡ true
+    pub early : is_early p ≡ true → soon ≡ true
 
   abbrev pub Sits : Bool → WriterRecord → Type 0
   Sits now x = Fits now x.members x.phase
 
   -- a phase without a connection
-  quiet : (now : Bool) (ms : List NodeId) (p : Phase) → is_settled p ≡ true → is_connected p ≡ false → (needs_members p ≡ true → ms ≢ []) → Each Of ms → Fits now ms p
-  quiet now ms p s c n h = record { settled = λ e. s; some = n; each = h; conn = λ e. absurd (false≢true (sym c ∙ e)) }
+  quiet : (now : Bool) (ms : List NodeId) (p : Phase) → is_settled p ≡ true → is_connected p ≡ false → is_early p ≡ false → (needs_members p ≡ true → ms ≢ []) → Each Of ms → Fits now ms p
+  quiet now ms p s c l n h = record { settled = λ e. s; some = n; each = h; conn = λ e. absurd (false≢true (sym c ∙ e)); early = λ e. absurd (false≢true (sym l ∙ e)) }
 
   -- a phase in which there are members
-  moves : (now : Bool) (ms : List NodeId) (p : Phase) → is_settled p ≡ true → ms ≢ [] → Each Of ms → (is_connected p ≡ true → was ≡ true) → Fits now ms p
-  moves now ms p s n h c = record { settled = λ e. s; some = λ e. n; each = h; conn = c }
+  moves : (now : Bool) (ms : List NodeId) (p : Phase) → is_settled p ≡ true → ms ≢ [] → Each Of ms → (is_connected p ≡ true → was ≡ true) → (is_early p ≡ true → soon ≡ true) → Fits now ms p
+  moves now ms p s n h c l = record { settled = λ e. s; some = λ e. n; each = h; conn = c; early = l }
 
   -- FAILURES
 
@@ -81,11 +89,11 @@ module _ (Of : NodeId → Type 0) (was : Bool) where
         (λ e. without-each ms bad (each-tail Of m ms h))
 
   dropped-fits : (now : Bool) (x : WriterRecord) (s : Setup) (bad : NodeId) (ms : List NodeId) → Each Of ms → Sits now (dropped x s bad ms)
-  dropped-fits now x s bad [] h = quiet now [] (dropped x s bad []).phase refl refl (λ e. absurd (false≢true e)) h
-  dropped-fits now x s bad (m ∷ ms) h = quiet now (m ∷ ms) (phase.Wanted s) refl refl (λ e. some-member m ms) h
+  dropped-fits now x s bad [] h = quiet now [] (dropped x s bad []).phase refl refl refl (λ e. absurd (false≢true e)) h
+  dropped-fits now x s bad (m ∷ ms) h = quiet now (m ∷ ms) (phase.Wanted s) refl refl refl (λ e. some-member m ms) h
 
   fail-fits : (now : Bool) (x : WriterRecord) (r : Remedy) (bad : NodeId) → Each Of x.members → Sits now (fail_for x r bad)
-  fail-fits now x remedy.Abandon bad h = quiet now x.members (fail_for x remedy.Abandon bad).phase refl refl (λ e. absurd (false≢true e)) h
+  fail-fits now x remedy.Abandon bad h = quiet now x.members (fail_for x remedy.Abandon bad).phase refl refl refl (λ e. absurd (false≢true e)) h
   fail-fits now x (remedy.Recover s) bad h = dropped-fits now x s bad (without x.members bad) (without-each x.members bad h)
 
   named-fits : (now : Bool) (x : WriterRecord) (r : Remedy) (o : Option NodeId) → Sits now x → Sits now (fail_named x r o)
@@ -103,7 +111,7 @@ module _ (Of : NodeId → Type 0) (was : Bool) where
       go (Some r) = named-fits now x r (slice_get x.members 0) h
 
   finished : (now : Bool) (ms : List NodeId) (p : Phase) → needs_members p ≡ true → Fits now ms p → Fits now ms phase.Finished
-  finished now ms p n h = quiet now ms phase.Finished refl refl (λ e. h.some n) h.each
+  finished now ms p n h = quiet now ms phase.Finished refl refl refl (λ e. h.some n) h.each
 
   acked-needs : (p : Phase) (r : Remedy) → remedy_at_ack p ≡ Some r → needs_members p ≡ true
   acked-needs phase.Closed r e = absurd (none-some r e)
@@ -120,7 +128,7 @@ module _ (Of : NodeId → Type 0) (was : Bool) where
 
   acked-phase-fits : (now last : Bool) (ms : List NodeId) (p : Phase) → needs_members p ≡ true → Fits now ms p → Fits now ms (phase_acked last p)
   acked-phase-fits now true ms p n h = finished now ms p n h
-  acked-phase-fits now false ms (phase.Streaming sent) n h = moves now ms (phase.Streaming _) refl (h.some n) h.each (λ e. h.conn refl)
+  acked-phase-fits now false ms (phase.Streaming sent) n h = moves now ms (phase.Streaming _) refl (h.some n) h.each (λ e. h.conn refl) (λ e. absurd (false≢true e))
   acked-phase-fits now false ms phase.Closed n h = h
   acked-phase-fits now false ms (phase.Wanted s) n h = h
   acked-phase-fits now false ms (phase.Stamped s stamp) n h = h
@@ -145,7 +153,7 @@ module _ (Of : NodeId → Type 0) (was : Bool) where
       go (Some r) e = says r (ack_verdict (oldest_seqno x.stream) (length x.members) a) (acked-needs x.phase r e)
 
   setup-fits : (now : Bool) (x : WriterRecord) (p : Phase) (good : Bool) (bad : Option NodeId) → Fits now x.members p → Sits now x → Sits now (setup_answered_in x p good bad)
-  setup-fits now x (phase.Requested s stamp) true bad k h = moves now x.members (phase.Accepted s stamp) refl (k.some refl) h.each (λ e. k.conn refl)
+  setup-fits now x (phase.Requested s stamp) true bad k h = moves now x.members (phase.Accepted s stamp) refl (k.some refl) h.each (λ e. k.conn refl) (λ e. k.early refl)
   setup-fits now x (phase.Requested s stamp) false bad k h = named-fits now x (remedy_after s) (slice_get x.members (bad_place x.members bad)) h
   setup-fits now x phase.Closed good bad k h = h
   setup-fits now x (phase.Wanted s) good bad k h = h
@@ -187,7 +195,7 @@ module _ (Of : NodeId → Type 0) (was : Bool) where
   Opens other = Unit {0}
 
   wanted : (ms : List NodeId) (s : Setup) → (ms ≢ []) × Each Of ms → Fits true ms (phase.Wanted s)
-  wanted ms s h = quiet true ms (phase.Wanted s) refl refl (λ e. h.0) h.1
+  wanted ms s h = quiet true ms (phase.Wanted s) refl refl refl (λ e. h.0) h.1
 
   taken-fits : (x : WriterRecord) (c : Command) → Opens c → Sits true x → Sits true (taken_as x c)
   taken-fits x (command.Create ms) k h = wanted ms setup.Create k
@@ -224,7 +232,7 @@ module _ (Of : NodeId → Type 0) (was : Bool) where
       go (Some command.Close) e = h
 
   streams : (ms : List NodeId) (sent : ℕ) (p : Phase) (now : Bool) → needs_members p ≡ true → is_connected p ≡ true → Fits now ms p → Fits true ms (phase.Streaming sent)
-  streams ms sent p now n c h = moves true ms (phase.Streaming sent) refl (h.some n) h.each (λ e. h.conn c)
+  streams ms sent p now n c h = moves true ms (phase.Streaming sent) refl (h.some n) h.each (λ e. h.conn c) (λ e. absurd (false≢true e))
 
   accepted-fits : (x : WriterRecord) (s : Setup) (stamp : Stamp) → Fits true x.members (phase.Accepted s stamp) → Sits true x → Sits true (accepted_step x s stamp).writer
   accepted-fits x setup.Create stamp k h = streams x.members 0 (phase.Accepted setup.Create stamp) true refl refl k
@@ -243,7 +251,7 @@ module _ (Of : NodeId → Type 0) (was : Bool) where
   due-fits : (x : WriterRecord) (sent : ℕ) (o : Option DuePacket) → FirstOpens x.queue → Fits true x.members (phase.Streaming sent) → Sits true x → Sits true (due_step x o).writer
   due-fits x sent (Some (due.Data end is_sync)) k q h = streams x.members _ (phase.Streaming sent) true refl refl q
   due-fits x sent (Some due.Sync) k q h = streams x.members _ (phase.Streaming sent) true refl refl q
-  due-fits x sent (Some due.Last) k q h = moves true x.members phase.Closing refl (q.some refl) h.each (λ e. q.conn refl)
+  due-fits x sent (Some due.Last) k q h = moves true x.members phase.Closing refl (q.some refl) h.each (λ e. q.conn refl) (λ e. absurd (false≢true e))
   due-fits x sent None k q h = reach-fits x (reached_length x.waiting x.stream) k h
 
   stream-fits : (x : WriterRecord) (sent : ℕ) (o : Option Packet) → FirstOpens x.queue → Fits true x.members (phase.Streaming sent) → Sits true x → Sits true (stream_step_as x sent o).writer
@@ -255,7 +263,7 @@ module _ (Of : NodeId → Type 0) (was : Bool) where
   dial-fits x s stamp (n ∷ ns) h = h
 
   pub completed-fits : (x : WriterRecord) → Each Of x.members → Sits true (completed_step x).writer
-  completed-fits x h = quiet true x.members phase.Closed refl refl (λ e. absurd (false≢true e)) h
+  completed-fits x h = quiet true x.members phase.Closed refl refl refl (λ e. absurd (false≢true e)) h
 
   step-fits : (x : WriterRecord) (p : Phase) → FirstOpens x.queue → Fits true x.members p → Sits true x → Sits true (step_in x p).writer
   step-fits x phase.Closed k q h = free-fits x x.waiting k h
@@ -277,10 +285,10 @@ module _ (Of : NodeId → Type 0) (was : Bool) where
   -- THE OFFICE'S ANSWER
 
   later : (ms : List NodeId) (p : Phase) → Fits true ms p → Fits false ms p
-  later ms p h = record { settled = λ e. absurd (false≢true e); some = h.some; each = h.each; conn = h.conn }
+  later ms p h = record { settled = λ e. absurd (false≢true e); some = h.some; each = h.each; conn = h.conn; early = h.early }
 
   stamped-as : (ms : List NodeId) (s t : Setup) (stamp : Stamp) → Fits true ms (phase.Wanted s) → Fits false ms (phase.Stamped t stamp)
-  stamped-as ms s t stamp h = record { settled = λ e. absurd (false≢true e); some = λ e. h.some refl; each = h.each; conn = λ e. absurd (false≢true e) }
+  stamped-as ms s t stamp h = record { settled = λ e. absurd (false≢true e); some = λ e. h.some refl; each = h.each; conn = λ e. absurd (false≢true e); early = λ e. absurd (false≢true e) }
 
   stamped-fits : (x : WriterRecord) (s : Setup) (stamp : Stamp) → Fits true x.members (phase.Wanted s) → Sits true x → Sits false (stamped x s stamp)
   stamped-fits x setup.Create stamp q h = stamped-as x.members setup.Create setup.Create stamp q
@@ -304,9 +312,9 @@ module _ (Of : NodeId → Type 0) (was : Bool) where
 
   committed-fits : (x : WriterRecord) (s : Setup) (stamp : Stamp) → Fits true x.members (phase.Accepted s stamp) → Sits true x → Sits false (committed_as x s stamp)
   committed-fits x setup.Create stamp q h = later x.members x.phase h
-  committed-fits x setup.Append stamp q h = record { settled = λ e. absurd (false≢true e); some = λ e. q.some refl; each = h.each; conn = λ e. q.conn refl }
-  committed-fits x setup.AppendRecovery stamp q h = record { settled = λ e. absurd (false≢true e); some = λ e. q.some refl; each = h.each; conn = λ e. q.conn refl }
-  committed-fits x setup.StreamRecovery stamp q h = moves false x.members (phase.Streaming 0) refl (q.some refl) h.each (λ e. q.conn refl)
+  committed-fits x setup.Append stamp q h = record { settled = λ e. absurd (false≢true e); some = λ e. q.some refl; each = h.each; conn = λ e. q.conn refl; early = λ e. absurd (false≢true e) }
+  committed-fits x setup.AppendRecovery stamp q h = record { settled = λ e. absurd (false≢true e); some = λ e. q.some refl; each = h.each; conn = λ e. q.conn refl; early = λ e. absurd (false≢true e) }
+  committed-fits x setup.StreamRecovery stamp q h = moves false x.members (phase.Streaming 0) refl (q.some refl) h.each (λ e. q.conn refl) (λ e. absurd (false≢true e))
   committed-fits x setup.CloseRecovery stamp q h = finished false x.members (phase.Accepted setup.CloseRecovery stamp) refl (later x.members (phase.Accepted setup.CloseRecovery stamp) q)
 
   commit-fits : (x : WriterRecord) (s : Setup) (stamp : Stamp) (a : OfficeAnswer) → Fits true x.members (phase.Accepted s stamp) → Sits true x → Sits false (commit_given x s stamp a)
@@ -316,7 +324,7 @@ module _ (Of : NodeId → Type 0) (was : Bool) where
   commit-fits x s stamp (office.Begun b) q h = later x.members x.phase h
 
   complete-fits : (x : WriterRecord) (a : OfficeAnswer) → Fits true x.members phase.Finished → Sits true x → Sits false (complete_given x a)
-  complete-fits x office.Nothing q h = record { settled = λ e. absurd (false≢true e); some = λ e. q.some refl; each = h.each; conn = λ e. absurd (false≢true e) }
+  complete-fits x office.Nothing q h = record { settled = λ e. absurd (false≢true e); some = λ e. q.some refl; each = h.each; conn = λ e. absurd (false≢true e); early = λ e. absurd (false≢true e) }
   complete-fits x (office.Stamp t) q h = later x.members x.phase h
   complete-fits x (office.Reopened r) q h = later x.members x.phase h
   complete-fits x (office.Begun b) q h = later x.members x.phase h
@@ -335,7 +343,7 @@ module _ (Of : NodeId → Type 0) (was : Bool) where
   grant-fits x (phase.Failed f) a q h = later x.members x.phase h
 
   fails : (ms : List NodeId) (f : Failure) → Each Of ms → Fits false ms (phase.Failed f)
-  fails ms f h = quiet false ms (phase.Failed f) refl refl (λ e. absurd (false≢true e)) h
+  fails ms f h = quiet false ms (phase.Failed f) refl refl refl (λ e. absurd (false≢true e)) h
 
   refused-fits : (x : WriterRecord) (e : OfficeFault) → Sits true x → Sits false (refused x e)
   refused-fits x fault.Memory h = later x.members x.phase h
