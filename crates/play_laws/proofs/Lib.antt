@@ -4,3 +4,9 @@ pub mod Resting
 pub mod Running
 pub mod Dials
 pub mod Aiming
+pub mod Hushing
+pub mod Turns
+pub mod Lowers
+pub mod Asides
+pub mod Sending
+pub mod Early

@@ -96,7 +96,7 @@ module _ (Of : NodeId → Type 0) where
         (λ e. did-leaves waits (own_step x).action (own_step x).writer bytes (own-fits Of (is_some (w.writers b).conn) (is_early (w.writers b).known.phase) x g.first g.sits) (empty-queue (own_step x).writer.queue e))
 
     -- what commands name may be members
-    allowed : (c : Command) → Names Of c → Allows Of (is_some (w.writers b).conn) (is_early (w.writers b).known.phase) c
+    pub allowed : (c : Command) → Names Of c → Allows Of (is_some (w.writers b).conn) (is_early (w.writers b).known.phase) c
     allowed (command.Create ms) n = record { at = n }
     allowed (command.Append ms) n = record { at = n }
     allowed (command.Write bytes) n = tt
@@ -309,10 +309,10 @@ module _ (Of : NodeId → Type 0) where
 
 -- ANY NODES
 
-abbrev Any : NodeId → Type 0
+abbrev pub Any : NodeId → Type 0
 Any n = Unit {0}
 
-any-names : (c : Command) → Names Any c
+pub any-names : (c : Command) → Names Any c
 any-names (command.Create ms) = λ k m e. tt
 any-names (command.Append ms) = λ k m e. tt
 any-names (command.Write bytes) = tt
@@ -325,7 +325,7 @@ any-takes : (o : Option TakenCommand) → IfSome o (λ t. Names Any t.command)
 any-takes None = tt
 any-takes (Some t) = any-names t.command
 
-any-event : (e : Event) → EventNames Any e
+pub any-event : (e : Event) → EventNames Any e
 any-event (event.Own (own.Writer b takes answered)) = any-takes takes
 any-event (event.Own (own.Reader i n r answered)) = tt
 any-event (event.Own (own.Recover i n b members answers)) = tt
@@ -339,7 +339,7 @@ any-event (event.Fault d) = tt
 any-event (event.Stop n) = tt
 any-event (event.Restart n list) = tt
 
-any-events : (list : List Event) → AllName Any list
+pub any-events : (list : List Event) → AllName Any list
 any-events [] = tt
 any-events (e ∷ list) = (any-event e, any-events list)
 

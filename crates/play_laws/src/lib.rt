@@ -2,6 +2,7 @@
 //! what holds after every list of events.
 #![tactic(auto)]
 
+ghost use Rattle.play_laws.specs.Early.{NothingEarly};
 ghost use Rattle.play_laws.specs.Members.{MembersAre, TargetsAre};
 ghost use Rattle.play_laws.specs.Nodes.{AllRun};
 ghost use Rattle.play_laws.specs.Writers.{AllRest, WritersOpen};
@@ -15,6 +16,11 @@ pub fn writers_rest()
 /// A writer hasn't taken the end of the connection that it has.
 pub fn writers_are_open()
     ensures { WritersOpen }
+{}
+
+/// Where a writer's request was accepted, and it has sent no packet yet, no message stands next for it.
+pub fn nothing_comes_early()
+    ensures { NothingEarly }
 {}
 
 /// Where no event stops a node or starts one again, all nodes run in their first life.
