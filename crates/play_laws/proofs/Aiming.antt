@@ -1,5 +1,5 @@
 -- The targets of all requests to write are nodes, after every list of events.
-use Rattle.std.proofs.Common.{◌≡◌, ℕ, zero, suc, ◌<◌, ◌≤◌, ◌+◌, ◌-◌, Bool, true, false, List, [], ◌∷◌, ◌++◌, length, map, slice_get, Option, Some, None, IfSome, option_map, refl, sym, ◌∙◌, ap, subst, arith}
+use Rattle.std.proofs.Common.{◌≡◌, ℕ, zero, suc, ◌<◌, ◌≤◌, ◌+◌, ◌-◌, Bool, true, false, List, [], ◌∷◌, ◌++◌, length, map, slice_get, Option, Some, None, IfSome, option_map, refl, sym, ◌∙◌, subst, arith}
 use Rattle.std.specs.Prelude.{◌&&◌, not, nat_lt, is_none}
 use Rattle.std.proofs.lemmas.Bool.{false≢true}
 use Rattle.std.proofs.lemmas.Bool.Decides.{nat_tests}
@@ -21,7 +21,7 @@ use Rattle.writer_core.specs.declared.phases.Setup.{Setup}
 use Rattle.writer_core.specs.declared.phases.Waiting.{Waiting}
 use Rattle.writer_core.specs.declared.records.WriterRecord.{WriterRecord}
 use Rattle.writer_core.specs.Requests.{request_for}
-use Rattle.writer_core.specs.Transitions.{Step, given, own_step, dial_step_as, open_step, completed_step, granted, dialled}
+use Rattle.writer_core.specs.Transitions.{Step, given, own_step, dial_step_as, open_step, completed_step, granted}
 use Rattle.world.specs.declared.events.Delivery.{Delivery}
 use Rattle.world.specs.declared.events.Delivery.TheVariants as delivery
 use Rattle.world.specs.declared.events.Direction.{Direction}
@@ -36,20 +36,20 @@ use Rattle.world.specs.Parts.{Message, request, Upper, by_writer, by_member, by_
 use Rattle.world.specs.Worlds.{World, Dial, Change, apply, dial_at, listed, start}
 use Rattle.world.specs.Connections.{Next, message, the_end, next_down, next_up, down_taken, up_taken, is_served, is_conn, is_alive}
 use Rattle.world.specs.Nodes.{lower_down, lower_ready}
-use Rattle.world.specs.Clients.{did, did_step, dialled_change, dialling, rest_in, is_formed, ruled, command_bytes, is_empty, takes_given, takes_command, writer_step, writer_up}
+use Rattle.world.specs.Clients.{did, did_step, dialled_change, dialling, rest_in, is_formed, ruled, is_empty, takes_command, writer_step, writer_up}
 use Rattle.world.specs.Primaries.{office_event}
 use Rattle.world.specs.Restarts.{all_found, restart}
 use Rattle.world.specs.Events.{changed, own_change, down_as, down_event, ready_event, unless_fails, upper_up, up_as, up_event, fault_event, lost, stop, where_so, outcome, after_event, happens, run}
 use Rattle.world_laws.proofs.AllCarried.{next-sent, at-start}
 use Rattle.world_laws.proofs.AllRecorded.{Reached, reached-next}
-use Rattle.world_laws.proofs.ByteFrame.{Each, each-nil, each-one, each-tail, dial-place, dial-none}
+use Rattle.world_laws.proofs.ByteFrame.{Each, each-one, each-tail, dial-place, dial-none}
 use Rattle.world_laws.proofs.FactTables.{when-each, and-left}
 use Rattle.world_laws.proofs.PlacedLaws.{all-placed}
 use Rattle.world_orders.specs.Orders.{comes_down, purpose_of, Purpose, pipeline, reading, recovering, is_first, IsBelow, Ordered}
 use Rattle.world_orders.proofs.AllOrdered.{all-ordered}
-use Rattle.play_laws.specs.Members.{IsRef, AreRefs, EventNames, AllName, IsNode, TargetsAre}
+use Rattle.play_laws.specs.Members.{IsRef, AreRefs, AllName, IsNode, TargetsAre}
 use Rattle.play_laws.proofs.Steps.{granted-fits}
-use Rattle.play_laws.proofs.Resting.{AllStand, Stands, happens-stands, start-stands}
+use Rattle.play_laws.proofs.Resting.{AllStand, happens-stands, start-stands}
 use Rattle.play_laws.proofs.Dials.{Aims, NextAims, Calls, quiet, lower-down-calls, lower-ready-calls, mirror-up-calls, own-reader-calls, reader-up-calls, own-recover-calls, own-primary-calls, primary-up-calls, office-calls}
 
 module _ (Of : NodeId → Type 0) where
@@ -101,7 +101,7 @@ module _ (Of : NodeId → Type 0) where
     takes-calls : (x : WriterRecord) (t : TakenCommand) → IfSome (takes_command w b x t) (Calls Of)
     takes-calls x t = when-each (Calls Of) (is_formed t.command t.rule && not (is_empty (given x t.command).queue)) _
         (λ _. when-each (Calls Of) (is_empty (own_step (given (ruled x t.command t.rule) t.command)).writer.queue) _
-          (λ _. given-calls _ (own_step (given (ruled x t.command t.rule) t.command)) _))
+        (λ _. given-calls _ (own_step (given (ruled x t.command t.rule) t.command)) _))
 
     writer-step-calls : (x : WriterRecord) (told : Option Told) (takes : Option TakenCommand) (answered : Bool) → ((t : Told) → Each Of (granted x t).members) → IfSome (writer_step w b x told takes answered) (Calls Of)
     writer-step-calls x (Some t) None answered h = rest-calls (granted x t).phase (granted x t) answered (h t)
@@ -193,7 +193,7 @@ module _ (Of : NodeId → Type 0) where
   down-as-aimed w c answered fails None u o lt h e = tt
   down-as-aimed w c answered fails (Some x) u o lt h e =
       changed-aimed (down_taken w c x) (lower_down (w.lowers c) (down_taken w c x) c x answered fails) (down-taken-bare w c x u) (down-taken-aimed w c x h)
-        (lower-down-calls Of (down_taken w c x) (w.lowers c) c x answered fails (next-aims w c x o h lt e))
+      (lower-down-calls Of (down_taken w c x) (w.lowers c) c x answered fails (next-aims w c x o h lt e))
 
   below : (c n : ℕ) → nat_lt c n ≡ true → c < n
   below c n e = grind (arith, nat_tests, e)
@@ -309,7 +309,7 @@ module _ (Of : NodeId → Type 0) where
   write-aims : (w : World) (c k : ℕ) (f : WriteFields) → Bare w → Ordered w → Aimed w → slice_get (w.downs c) k ≡ Some (request (op.Write f)) → AreRefs Of f
   write-aims w c k f u o h e =
       h.first c (request (op.Write f)) (dialled-here w c k (request (op.Write f)) u e)
-        (subst (λ (n : ℕ). slice_get (w.downs c) n ≡ Some (request (op.Write f))) (write-first (purpose_of (w.dialled c).upper) k f (o.downs c k (request (op.Write f)) e)) e)
+      (subst (λ (n : ℕ). slice_get (w.downs c) n ≡ Some (request (op.Write f))) (write-first (purpose_of (w.dialled c).upper) k f (o.downs c k (request (op.Write f)) e)) e)
 
   pub all-refs : (nodes : ℕ) (list : List Event) (c k : ℕ) (f : WriteFields) → AllName Of list → slice_get ((run (start nodes) list).downs c) k ≡ Some (request (op.Write f)) → AreRefs Of f
   all-refs nodes list c k f n e =

@@ -1,14 +1,12 @@
 -- What writers, readers, primaries and the office leave of connections on which nothing behind the request was sent down.
-use Rattle.std.proofs.Common.{◌≡◌, ℕ, zero, suc, Bool, true, false, List, [], ◌∷◌, length, slice_get, Option, Some, None, IfSome, Ok, Err, refl, sym, ◌∙◌, ap, subst, eqb-true}
-use Rattle.std.specs.Prelude.{◌==◌, ◌&&◌, not, is_none, is_some, zip, if◌then◌else◌}
+use Rattle.std.proofs.Common.{◌≡◌, ℕ, zero, suc, Bool, true, false, List, [], ◌∷◌, slice_get, Option, Some, None, IfSome, Ok, Err, refl, sym, ◌∙◌, ap, subst, eqb-true}
+use Rattle.std.specs.Prelude.{◌==◌, ◌&&◌, not, is_none, zip, if◌then◌else◌}
 use Rattle.std.proofs.lemmas.Bool.{false≢true}
-use Rattle.std.proofs.lemmas.Option.{none-some, same_Some}
 use Rattle.hd_base.specs.declared.numbers.BlockId.{BlockId}
 use Rattle.hd_base.specs.declared.numbers.NodeId.{NodeId}
 use Rattle.hd_base.specs.declared.numbers.Stamp.{Stamp}
 use Rattle.op_headers.specs.declared.ops.Op.{Op}
 use Rattle.op_headers.specs.declared.ops.ReadOp.{ReadOp}
-use Rattle.packet_codec.specs.declared.packets.Packet.{Packet}
 use Rattle.name_core.specs.declared.calls.OfficeAnswer.TheVariants as office
 use Rattle.read_core.specs.Readings.{ReadTaken, take_from}
 use Rattle.read_core.specs.declared.reading.ReadTurn.{ReadTurn}
@@ -29,11 +27,11 @@ use Rattle.writer_core.specs.Transitions as writer
 use Rattle.world.specs.declared.events.Caller.{Caller}
 use Rattle.world.specs.declared.events.Caller.TheVariants as caller
 use Rattle.world.specs.declared.events.TakenCommand.{TakenCommand}
-use Rattle.world.specs.Parts.{Message, Place, by_writer, by_reader, by_primary, Lower, Told, Reader, no_reader, reads, has_read, Leading, Primary, no_primary, was_told, leads, has_led}
+use Rattle.world.specs.Parts.{Message, Place, by_writer, by_reader, by_primary, Told, Reader, no_reader, reads, has_read, Leading, Primary, no_primary, was_told, leads, has_led}
 use Rattle.world.specs.Worlds.{World, Change}
 use Rattle.world.specs.Connections.{Next, sent_on, is_alive, is_conn, place_of}
-use Rattle.world.specs.Clients.{are_members, did, did_step, dialled_change, dialling, rest_in, is_formed, ruled, is_empty, takes_command, writer_step, own_writer, writer_up, reader_dials, own_reader_as, own_reader, from_node_of, reader_turn, reader_up_as, reader_up}
-use Rattle.world.specs.Primaries.{primary_change, dials_answered, begins_as, begins_at, own_recover, updates_on, leads_step, commits_step, leads_told, own_primary_as, own_primary, listens, hears_change, primary_up_as, primary_up, writer_asks, primary_commits, primary_asks, office_event}
+use Rattle.world.specs.Clients.{are_members, did, dialled_change, dialling, rest_in, is_formed, ruled, is_empty, takes_command, writer_step, own_writer, writer_up, reader_dials, own_reader_as, own_reader, from_node_of, reader_turn, reader_up_as, reader_up}
+use Rattle.world.specs.Primaries.{begins_as, begins_at, own_recover, updates_on, leads_step, commits_step, leads_told, own_primary_as, own_primary, listens, hears_change, primary_up_as, primary_up, writer_asks, primary_commits, primary_asks, office_event}
 use Rattle.world_laws.proofs.FactTables.{if-each, when-each, and-right}
 use Rattle.play_laws.proofs.Hushing.{IsAt, Silent, Uppers, Hush, Mute, apart}
 
@@ -87,7 +85,7 @@ module _ (w : World) (c : ℕ) (s : Silent w c) (a : (d : ℕ) → IsAt d (w.low
   takes-hush : (b : ℕ) (x : WriterRecord) (t : TakenCommand) → IfSome (takes_command w b x t) (Hush w c)
   takes-hush b x t = when-each (Hush w c) (is_formed t.command t.rule && not (is_empty (writer.given x t.command).queue)) _
       (λ _. when-each (Hush w c) (is_empty (writer.own_step (writer.given (ruled x t.command t.rule) t.command)).writer.queue) _
-        (λ _. did-hush b _ (writer.own_step (writer.given (ruled x t.command t.rule) t.command)).action _ _))
+      (λ _. did-hush b _ (writer.own_step (writer.given (ruled x t.command t.rule) t.command)).action _ _))
 
   step-hush : (b : ℕ) (x : WriterRecord) (told : Option Told) (takes : Option TakenCommand) (answered : Bool) → IfSome (writer_step w b x told takes answered) (Hush w c)
   step-hush b x (Some t) None answered = rest-hush b (writer.granted x t).phase (writer.granted x t) answered

@@ -1,7 +1,7 @@
 -- What a change dials: each request to write in it has targets that are nodes.
-use Rattle.std.proofs.Common.{◌≡◌, ℕ, zero, suc, ◌+◌, ◌<◌, Bool, true, false, List, [], ◌∷◌, map, slice_get, Option, Some, None, IfSome, Result, Ok, Err, refl, sym, ◌∙◌, ap, subst}
+use Rattle.std.proofs.Common.{◌≡◌, ℕ, suc, ◌+◌, Bool, true, false, List, [], ◌∷◌, slice_get, Option, Some, None, IfSome, Result, Ok, Err, refl, sym, subst}
 use Rattle.std.specs.Prelude.{◌==◌, ◌&&◌, nat_le, is_none}
-use Rattle.std.proofs.lemmas.Option.{none-some, same_Some}
+use Rattle.std.proofs.lemmas.Option.{none-some}
 use Rattle.hd_base.specs.declared.numbers.BlockId.{BlockId}
 use Rattle.hd_base.specs.declared.numbers.NodeId.{NodeId}
 use Rattle.packet_codec.specs.declared.packets.Packet.{Packet}
@@ -12,29 +12,27 @@ use Rattle.op_headers.specs.declared.ops.RecoveryOp.{RecoveryOp}
 use Rattle.op_headers.specs.Values.{WriteFields}
 use Rattle.node_refs.specs.NodeRefs.{ref_of}
 use Rattle.name_core.specs.declared.calls.OfficeAnswer.TheVariants as office
-use Rattle.name_core.specs.declared.calls.OfficeCall.{OfficeCall}
 use Rattle.replica_core.specs.declared.events.Event.{Event}
 use Rattle.replica_core.specs.Views.{rule_in}
 use Rattle.replica_model.specs.declared.events.ReplicaEvent.{ReplicaEvent}
 use Rattle.replica_model.specs.declared.events.ReplicaEvent.TheVariants as replica_event
-use Rattle.replica_model.specs.Rows.{FullReplica}
 use Rattle.request_refusals.specs.declared.refusals.RequestRefusal.{RequestRefusal}
 use Rattle.member_core.specs.declared.member.Mirror.{Mirror}
 use Rattle.member_core.specs.declared.member.Mirror.TheVariants as mirror
 use Rattle.member_core.specs.declared.requests.TheConstants.{MAX_PORT}
 use Rattle.member_core.specs.declared.turns.Turn.{Turn}
 use Rattle.member_core.specs.Members.{MemberState, down_turn, up_turn, hears}
-use Rattle.member_core.specs.Requests.{request_event, request_from, request_to, mirror_request}
-use Rattle.member_core.specs.Steps.{Step, Setup, step, faulted_step, oldest_at, ready_turn_at, request_step, faulted_request}
+use Rattle.member_core.specs.Requests.{request_event, request_to, mirror_request}
+use Rattle.member_core.specs.Steps.{Setup, oldest_at, ready_turn_at, request_step, faulted_request}
 use Rattle.read_core.specs.declared.reading.ReadTurn.{ReadTurn}
 use Rattle.read_core.specs.declared.reading.ReadTurn.TheVariants as turn
 use Rattle.read_core.specs.Readings.{ReadTaken, take_from}
-use Rattle.read_core.specs.Servings.{ServingState, accepting, refusing, faulted_read, faulted_piece, next_call, piece_at, read_at, read_event}
+use Rattle.read_core.specs.Servings.{ServingState, next_call, piece_at, read_at, read_event}
 use Rattle.recovery_core.specs.declared.members.RecoveryReply.{RecoveryReply}
 use Rattle.recovery_core.specs.declared.primary.OwnStep.{OwnStep}
 use Rattle.recovery_core.specs.declared.primary.OwnStep.TheVariants as own
 use Rattle.recovery_core.specs.declared.standings.Standing.{Standing}
-use Rattle.recovery_core.specs.Members.{Served, recovery_event, serve, serve_faulted}
+use Rattle.recovery_core.specs.Members.{recovery_event}
 use Rattle.recovery_core.specs.Primaries.{PrimaryState, own_step}
 use Rattle.writer_core.specs.declared.actions.Action.{Action}
 use Rattle.writer_core.specs.declared.actions.Action.TheVariants as action
@@ -44,12 +42,12 @@ use Rattle.world.specs.declared.events.Caller.TheVariants as caller
 use Rattle.world.specs.Parts.{Message, request, packet, ack, response, read_status, recovery_answer, Place, FullMember, Lower, idle, writes, serves, recovers, ended_below, Break, Told, Reader, no_reader, reads, has_read, Leading, Primary, no_primary, was_told, leads, has_led}
 use Rattle.world.specs.Worlds.{World, Dial, Change}
 use Rattle.world.specs.Connections.{Next, message, the_end, is_alive, place_of}
-use Rattle.world.specs.Nodes.{replica_at, node_of, block_of, broke_at, is_asked, above_of, below_of, closing, unless_failing, member_change, failing_turn, turn_change, takes_next, pending_at, member_down, member_up, ready_change, mirror_dial, mirror_node, dials_of, member_dials, setup_change, failing_write, write_request, breaking, read_change, failing_read, read_request, piece_as, serve_change, recovery_change, failing_recovery, recovery_request, first_message, next_recovery, lower_down, lower_ready, mirror_up}
-use Rattle.world.specs.Clients.{are_members, reader_change, reader_dials, own_reader_as, own_reader, from_node_of, reader_turn, reader_up_as, reader_up}
-use Rattle.world.specs.Primaries.{primary_change, dials_answered, primary_dials, begins_as, begins_at, own_recover, leads_step, commits_step, leads_told, own_primary_as, own_primary, listens, hears_change, primary_up_as, primary_up, writer_asks, primary_commits, primary_asks, office_event}
+use Rattle.world.specs.Nodes.{replica_at, node_of, block_of, broke_at, is_asked, above_of, below_of, closing, unless_failing, failing_turn, turn_change, takes_next, pending_at, member_down, member_up, ready_change, mirror_dial, mirror_node, dials_of, member_dials, setup_change, failing_write, write_request, read_change, failing_read, read_request, piece_as, serve_change, failing_recovery, recovery_request, first_message, next_recovery, lower_down, lower_ready, mirror_up}
+use Rattle.world.specs.Clients.{are_members, reader_dials, own_reader_as, own_reader, from_node_of, reader_turn, reader_up_as, reader_up}
+use Rattle.world.specs.Primaries.{dials_answered, primary_dials, begins_as, begins_at, own_recover, leads_step, commits_step, leads_told, own_primary_as, own_primary, listens, hears_change, primary_up_as, primary_up, writer_asks, primary_commits, primary_asks, office_event}
 use Rattle.world_laws.proofs.ByteFrame.{Each, each-nil, each-one, each-cons}
 use Rattle.world_laws.proofs.FactTables.{if-each, when-each}
-use Rattle.play_laws.specs.Members.{IsRef, AreRefs}
+use Rattle.play_laws.specs.Members.{AreRefs}
 
 module _ (Of : NodeId → Type 0) where
   -- a request to write, and nothing of any other message

@@ -1,7 +1,6 @@
 -- No message stands next for a writer that has sent no packet yet, after every list of events.
-use Rattle.std.proofs.Common.{◌≡◌, ℕ, zero, suc, ◌<◌, ◌≤◌, ◌+◌, Bool, true, false, List, [], ◌∷◌, ◌++◌, length, slice_get, Option, Some, None, IfSome, option_map, length-append, refl, sym, ◌∙◌, ap, subst, arith, eqb-true}
-use Rattle.std.specs.Prelude.{◌==◌, ◌&&◌, not, nat_le, nat_lt, is_none, if◌then◌else◌}
-use Rattle.std.proofs.lemmas.Bool.{eqb-false, false≢true}
+use Rattle.std.proofs.Common.{◌≡◌, ℕ, zero, suc, ◌<◌, ◌≤◌, Bool, true, false, List, [], ◌∷◌, ◌++◌, length, slice_get, Option, Some, None, IfSome, option_map, length-append, refl, sym, ◌∙◌, ap, subst, arith}
+use Rattle.std.specs.Prelude.{◌==◌, ◌&&◌, not, nat_lt, is_none, if◌then◌else◌}
 use Rattle.std.proofs.lemmas.Bool.Decides.{nat_tests}
 use Rattle.std.proofs.lemmas.Option.{none-some, same_Some}
 use Rattle.hd_base.specs.declared.numbers.BlockId.{BlockId}
@@ -28,8 +27,7 @@ use Rattle.world.specs.declared.events.Event.TheVariants as event
 use Rattle.world.specs.declared.events.FoundReplica.{FoundReplica}
 use Rattle.world.specs.declared.events.OwnStep.{OwnStep}
 use Rattle.world.specs.declared.events.OwnStep.TheVariants as own
-use Rattle.world.specs.declared.events.TakenCommand.{TakenCommand}
-use Rattle.world.specs.Parts.{Message, Upper, by_writer, by_member, by_reader, by_primary, Dialled, FullMember, Lower, writes, Writing, Reader, Leading, Primary, no_primary, was_told, leads, has_led, Break}
+use Rattle.world.specs.Parts.{Message, Upper, by_writer, by_member, by_reader, by_primary, Dialled, FullMember, Lower, writes, Writing, Leading, Primary, no_primary, was_told, leads, has_led, Break}
 use Rattle.world.specs.Worlds.{World, Dial, Change, apply, put, put_at, dial_at, dialled_with, downs_with, listed, start}
 use Rattle.world.specs.Connections.{Next, message, next_down, next_up, down_taken, up_taken, is_served, is_alive}
 use Rattle.world.specs.Nodes.{lower_down, lower_ready, mirror_up}
@@ -37,7 +35,7 @@ use Rattle.world.specs.Clients.{own_writer, writer_up, own_reader, reader_up}
 use Rattle.world.specs.Primaries.{own_recover, own_primary, primary_up, writer_asks, primary_commits, primary_asks, office_event}
 use Rattle.world.specs.Restarts.{all_found, found_in, replica_found, restarted, restart}
 use Rattle.world.specs.Events.{changed, own_change, down_as, down_event, ready_event, unless_fails, upper_up, up_as, up_event, fault_event, lost, stop, where_so, outcome, after_event, happens, run}
-use Rattle.world_laws.specs.Placing.{IsUpper, IsConn}
+use Rattle.world_laws.specs.Placing.{IsUpper}
 use Rattle.world_laws.proofs.AllCarried.{next-sent, at-start}
 use Rattle.world_laws.proofs.AllRecorded.{Reached, reached-next}
 use Rattle.world_laws.proofs.FactTables.{if-each, put-each, when-each, and-left}
@@ -48,13 +46,11 @@ use Rattle.world_orders.proofs.AllOrdered.{all-ordered}
 use Rattle.world_orders.proofs.Lists.{dialled-before}
 use Rattle.world_settling.specs.Traffic.{entries_by}
 use Rattle.world_settling.proofs.Frame.{old-downs}
-use Rattle.read_core.specs.Readings.{ReadingState}
-use Rattle.world.specs.Parts as parts
 use Rattle.play_laws.specs.Early.{NothingEarly}
 use Rattle.play_laws.proofs.Asides.{own-writer-hush, writer-up-hush, office-mute, own-reader-mute, reader-up-mute, own-recover-mute, own-primary-mute, primary-up-mute}
-use Rattle.play_laws.proofs.Hushing.{KeepsNone, IsAt, IsPipe, Silent, Uppers, Hush, Mute}
+use Rattle.play_laws.proofs.Hushing.{KeepsNone, IsAt, Silent, Uppers, Hush, Mute}
 use Rattle.play_laws.proofs.Lowers.{lower-down-mute, lower-ready-mute, mirror-up-mute}
-use Rattle.play_laws.proofs.Resting.{Any, any-events, AllStand, Stands, all-stand}
+use Rattle.play_laws.proofs.Resting.{Any, any-events, AllStand, all-stand}
 use Rattle.play_laws.proofs.Sending.{Goes, goes_on, begins, Carries, own-writer-carries, writer-up-carries}
 use Rattle.play_laws.proofs.Steps.{is_early}
 
@@ -96,7 +92,7 @@ module _ (w : World) (k : Change) (x : Ctx w) (n : Leaves w k) where
   held-after : (c i b : ℕ) → length (w.downs c) ≤ 1 → entries_by c (put_at w.replicas k.node k.block k.replica i b).known ≡ 0
   held-after c i b l =
       if-each (λ (r : FullReplica). entries_by c r.known ≡ 0) (i == k.node && b == k.block) k.replica (w.replicas i b)
-        (λ _. omega (arith, (n.hush c l).held, (x.early.quiet c l).held k.node k.block)) (λ _. (x.early.quiet c l).held i b)
+      (λ _. omega (arith, (n.hush c l).held, (x.early.quiet c l).held k.node k.block)) (λ _. (x.early.quiet c l).held i b)
 
   bad-after : (c : ℕ) → length (w.downs c) ≤ 1 → KeepsNone (put w.lowers k.lower_at k.lower c)
   bad-after c l = if-each KeepsNone (c == k.lower_at) k.lower (w.lowers c) (λ e. (n.hush c l).lower e) (λ _. (x.early.quiet c l).bad)
@@ -232,8 +228,8 @@ module _ (w : World) (x : Ctx w) where
   ready-leaves : (d : ℕ) (fails : Bool) → d < w.next_conn → IfSome (lower_ready (w.lowers d) w d fails) (Leaves w)
   ready-leaves d fails lt =
       mute-leaves (lower_ready (w.lowers d) w d fails)
-        (λ c l. lower-ready-mute w c (x.early.quiet c l) x.uppers (w.lowers d) d (x.below d).0 fails lt refl (x.early.conns d) (x.below d).1)
-        (aside-same (lower_ready (w.lowers d) w d fails) (lower-ready-aside (w.lowers d) w d fails))
+      (λ c l. lower-ready-mute w c (x.early.quiet c l) x.uppers (w.lowers d) d (x.below d).0 fails lt refl (x.early.conns d) (x.below d).1)
+      (aside-same (lower_ready (w.lowers d) w d fails) (lower-ready-aside (w.lowers d) w d fails))
 
   -- a member that takes a message has a connection on which a packet was sent
   abbrev IsLate : ℕ → Next → Type 0
@@ -242,9 +238,9 @@ module _ (w : World) (x : Ctx w) where
   down-leaves : (d : ℕ) (n : Next) (answered fails : Bool) → d < w.next_conn → IsLate d n → IfSome (lower_down (w.lowers d) w d n answered fails) (Leaves w)
   down-leaves d n answered fails lt late =
       mute-leaves (lower_down (w.lowers d) w d n answered fails)
-        (λ c l. lower-down-mute w c (x.early.quiet c l) x.uppers (w.lowers d) d (x.below d).0 n answered fails lt refl (x.early.conns d) (x.below d).1
-          (λ m y e q i. late m y e q (subst (λ (j : ℕ). length (w.downs j) ≤ 1) i l)))
-        (aside-same (lower_down (w.lowers d) w d n answered fails) (lower-down-aside (w.lowers d) w d n answered fails))
+      (λ c l. lower-down-mute w c (x.early.quiet c l) x.uppers (w.lowers d) d (x.below d).0 n answered fails lt refl (x.early.conns d) (x.below d).1
+      (λ m y e q i. late m y e q (subst (λ (j : ℕ). length (w.downs j) ≤ 1) i l)))
+      (aside-same (lower_down (w.lowers d) w d n answered fails) (lower-down-aside (w.lowers d) w d n answered fails))
 
   unless-leaves : (fails : Bool) (o : Option Change) → IfSome o (Leaves w) → IfSome (unless_fails fails o) (Leaves w)
   unless-leaves true o q = tt
@@ -255,8 +251,8 @@ module _ (w : World) (x : Ctx w) where
       (writer-leaves b (writer_up w b e n) (λ c l. writer-up-hush w c (x.early.quiet c l) x.early.conns b e n) (writer-up-carries w b e n (x.stands b)))
   upper-leaves (by_member d) e n fails lt q =
       mute-leaves (mirror_up (w.lowers d) w d n fails)
-        (λ c l. mirror-up-mute w c (x.early.quiet c l) x.uppers (w.lowers d) d (x.below d).0 n fails (x.members e d lt q) refl (x.early.conns d) (x.below d).1)
-        (aside-same (mirror_up (w.lowers d) w d n fails) (mirror-up-aside (w.lowers d) w d n fails))
+      (λ c l. mirror-up-mute w c (x.early.quiet c l) x.uppers (w.lowers d) d (x.below d).0 n fails (x.members e d lt q) refl (x.early.conns d) (x.below d).1)
+      (aside-same (mirror_up (w.lowers d) w d n fails) (mirror-up-aside (w.lowers d) w d n fails))
   upper-leaves (by_reader i) e n fails lt q = unless-leaves fails (reader_up w i e n)
       (mute-leaves (reader_up w i e n) (λ c l. reader-up-mute w c (x.early.quiet c l) x.early.conns x.uppers i e n) (aside-same (reader_up w i e n) (reader-up-aside w i e n)))
   upper-leaves (by_primary i place) e n fails lt q = unless-leaves fails (primary_up w i place e n)
@@ -268,18 +264,26 @@ down-taken-ctx : (w : World) (c : ℕ) (n : Next) → Ctx w → Ctx (down_taken 
 unfolding down_taken
 down-taken-ctx w c n x = record {
   early = record { conns = x.early.conns; quiet = λ d l. let s = x.early.quiet d l in record { held = s.held; bad = s.bad; few = s.few }; unsent = x.early.unsent };
-  downs = x.downs; ups = x.ups; writers = x.writers; members = x.members;
+  downs = x.downs;
+  ups = x.ups;
+  writers = x.writers;
+  members = x.members;
   uppers = record { writers = x.uppers.writers; mirrors = x.uppers.mirrors; readers = x.uppers.readers; primaries = x.uppers.primaries };
-  stands = x.stands; below = x.below;
+  stands = x.stands;
+  below = x.below;
 }
 
 up-taken-ctx : (w : World) (c : ℕ) (n : Next) → Ctx w → Ctx (up_taken w c n)
 unfolding up_taken
 up-taken-ctx w c n x = record {
   early = record { conns = x.early.conns; quiet = λ d l. let s = x.early.quiet d l in record { held = s.held; bad = s.bad; few = s.few }; unsent = x.early.unsent };
-  downs = x.downs; ups = x.ups; writers = x.writers; members = x.members;
+  downs = x.downs;
+  ups = x.ups;
+  writers = x.writers;
+  members = x.members;
   uppers = record { writers = x.uppers.writers; mirrors = x.uppers.mirrors; readers = x.uppers.readers; primaries = x.uppers.primaries };
-  stands = x.stands; below = x.below;
+  stands = x.stands;
+  below = x.below;
 }
 
 within : (ms : List Message) (i : ℕ) (m : Message) → slice_get ms i ≡ Some m → i < length ms
@@ -441,7 +445,7 @@ all-early nodes list = run-early (start nodes) list (at-start nodes) (start-earl
 accepted-taken : (w : World) (b c : ℕ) (s : Setup) (stamp : Stamp) → Ordered w → (w.writers b).known.phase ≡ phase.Accepted s stamp → (w.writers b).conn ≡ Some c → 0 < (w.up_marks c).taken
 accepted-taken w b c s stamp o p q =
     subst (λ (y : Phase). HasTaken y (w.writers b).known.members (w.up_marks c).taken) p
-      (conn-is (λ d. IsWriterConn (w.dialled d) (w.up_marks d).taken b (w.writers b).known) (w.writers b).conn c q (o.writers_are b)).heard
+    (conn-is (λ d. IsWriterConn (w.dialled d) (w.up_marks d).taken b (w.writers b).known) (w.writers b).conn c q (o.writers_are b)).heard
 
 none-comes : (w : World) (b c : ℕ) (s : Setup) (stamp : Stamp) (m : Message) → Ctx w → Ordered w → (w.writers b).known.phase ≡ phase.Accepted s stamp → (w.writers b).conn ≡ Some c → next_up w c ≡ Some (message m) → ⊥
 none-comes w b c s stamp m x o p q e =

@@ -1,7 +1,7 @@
 -- Connections on which nothing behind the request was sent down: what a change leaves of them.
-use Rattle.std.proofs.Common.{◌≡◌, ℕ, ◌<◌, ◌≤◌, ◌+◌, Bool, true, false, List, [], ◌∷◌, ◌++◌, length, slice_get, Option, Some, None, IfSome, append-nil, refl, sym, ◌∙◌, ap, subst, arith, eqb-true}
+use Rattle.std.proofs.Common.{◌≡◌, ℕ, ◌<◌, ◌≤◌, Bool, true, false, List, [], ◌++◌, length, slice_get, Some, None, append-nil, refl, sym, ◌∙◌, subst, arith, eqb-true}
 use Rattle.std.specs.Prelude.{◌==◌, if◌then◌else◌}
-use Rattle.world.specs.Parts.{Message, by_writer, by_member, by_reader, by_primary, FullMember, Lower, idle, writes, serves, recovers, ended_below, reads, Leading, leads}
+use Rattle.world.specs.Parts.{Message, by_writer, by_member, by_reader, by_primary, FullMember, Lower, writes, reads, Leading, leads}
 use Rattle.read_core.specs.Readings.{ReadingState}
 use Rattle.world.specs.Worlds.{World, Change}
 use Rattle.world.specs.Connections.{sent_on}

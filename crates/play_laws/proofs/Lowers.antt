@@ -1,7 +1,7 @@
 -- What lower ends leave of connections on which nothing behind the request was sent down.
-use Rattle.std.proofs.Common.{◌≡◌, ℕ, ◌<◌, ◌≤◌, ◌⊎◌, inl, inr, ◌/◌, Bool, true, false, List, [], ◌∷◌, ◌++◌, length, slice_get, Option, Some, None, IfSome, Result, Ok, Err, append-nil, refl, sym, ◌∙◌, ap, subst, arith, eqb-true}
+use Rattle.std.proofs.Common.{◌≡◌, ℕ, ◌<◌, ◌≤◌, ◌⊎◌, inl, inr, ◌/◌, Bool, true, false, List, [], ◌∷◌, ◌++◌, length, Option, Some, None, IfSome, Result, Ok, Err, append-nil, refl, sym, ◌∙◌, ap, subst, arith, eqb-true}
 use Rattle.std.specs.Prelude.{◌==◌, nat_le, if◌then◌else◌}
-use Rattle.std.proofs.lemmas.Bool.{eqb-false, false≢true}
+use Rattle.std.proofs.lemmas.Bool.{false≢true}
 use Rattle.hd_base.specs.Results.{◌>>=◌}
 use Rattle.hd_base.specs.declared.numbers.ConnId.{ConnId}
 use Rattle.hd_base.specs.SumRules.{Rule}
@@ -38,16 +38,16 @@ use Rattle.recovery_core.specs.declared.members.RecoveryReply.{RecoveryReply}
 use Rattle.recovery_core.specs.declared.members.RecoveryReply.TheVariants as reply
 use Rattle.recovery_core.specs.Members.{Served, no_recovery, step_event, recovery_event, answer_of, served_as, serve, serve_faulted}
 use Rattle.world.specs.Parts.{Message, request, packet, ack, response, read_status, recovery_answer, by_writer, by_member, FullMember, Lower, idle, writes, serves, recovers, ended_below, Break}
-use Rattle.world.specs.Worlds.{World, Change}
+use Rattle.world.specs.Worlds.{World}
 use Rattle.world.specs.Connections.{Next, message, the_end, sent_on, is_alive}
-use Rattle.world.specs.Nodes.{replica_at, node_of, block_of, broke_at, is_asked, above_of, below_of, closing, unless_failing, sent_up, passed, member_change, failing_turn, turn_change, takes_next, pending_at, member_down, member_up, ready_change, lower_of, setup_change, failing_write, write_request, breaking, read_change, failing_read, read_request, piece_as, serve_change, recovery_change, failing_recovery, recovery_request, first_message, next_recovery, lower_down, lower_ready, mirror_up}
+use Rattle.world.specs.Nodes.{replica_at, node_of, block_of, is_asked, above_of, below_of, closing, unless_failing, sent_up, passed, member_change, failing_turn, turn_change, takes_next, pending_at, member_down, member_up, ready_change, lower_of, setup_change, failing_write, write_request, breaking, read_change, failing_read, read_request, piece_as, serve_change, recovery_change, failing_recovery, recovery_request, first_message, next_recovery, lower_down, lower_ready, mirror_up}
 use Rattle.world_laws.proofs.FactTables.{when-each}
 use Rattle.world_orders.specs.Orders.{purpose_of, pipeline, reading, recovering, IsBelow, is_empty}
 use Rattle.world_settling.specs.Traffic.{entries_by}
 use Rattle.world_settling.proofs.Chains.{settled-conn}
 use Rattle.world_settling.proofs.Rows.{IsPacket, other-calm, packet-others}
-use Rattle.play_laws.proofs.Hushing.{KeepsNone, IsAt, IsPipe, Silent, Uppers, Hush, Mute, ends, says}
-use Rattle.play_laws.proofs.Turns.{Kind, says_nothing, Hushes, kind-hushes, fault-held, fault-bad, up-kind, ready-kind}
+use Rattle.play_laws.proofs.Hushing.{KeepsNone, IsAt, IsPipe, Silent, Uppers, Mute, ends, says}
+use Rattle.play_laws.proofs.Turns.{Kind, says_nothing, kind-hushes, fault-held, fault-bad, up-kind, ready-kind}
 
 by-apart : (b d : ℕ) → by_writer b ≡ by_member d → ⊥
 by-apart b d e = cc

@@ -1,7 +1,6 @@
 -- A writer's steps give it no commands.
-use Rattle.std.proofs.Common.{◌≡◌, ℕ, Bool, true, false, List, [], ◌∷◌, drop, length, slice_get, Option, Some, None, IfSome, Ok, Err, refl, sym, ap, subst}
+use Rattle.std.proofs.Common.{◌≡◌, ℕ, Bool, true, false, List, [], ◌∷◌, length, slice_get, Option, Some, None, Ok, Err, sym, subst}
 use Rattle.std.specs.Prelude.{nat_le}
-use Rattle.std.proofs.lemmas.Option.{none-some}
 use Rattle.hd_base.specs.declared.numbers.NodeId.{NodeId}
 use Rattle.hd_base.specs.declared.numbers.Stamp.{Stamp}
 use Rattle.ack_codec.specs.declared.acks.Ack.{Ack}
@@ -13,9 +12,8 @@ use Rattle.name_core.specs.declared.faults.OfficeFault.{OfficeFault}
 use Rattle.name_core.specs.declared.faults.OfficeFault.TheVariants as fault
 use Rattle.name_core.specs.declared.records.TheConstants.{MAX_APPEND_LENGTH}
 use Rattle.packet_codec.specs.declared.packets.Packet.{Packet}
-use Rattle.packet_stream.specs.Streams.{oldest_is_last, oldest_seqno}
+use Rattle.packet_stream.specs.Streams.{oldest_seqno}
 use Rattle.writer_core.specs.declared.commands.Command.{Command}
-use Rattle.writer_core.specs.declared.commands.Command.TheVariants as command
 use Rattle.writer_core.specs.declared.phases.DuePacket.{DuePacket}
 use Rattle.writer_core.specs.declared.phases.DuePacket.TheVariants as due
 use Rattle.writer_core.specs.declared.phases.Failure.{Failure}
@@ -30,7 +28,7 @@ use Rattle.writer_core.specs.declared.phases.Verdict.TheVariants as verdict
 use Rattle.writer_core.specs.declared.phases.Waiting.{Waiting}
 use Rattle.writer_core.specs.declared.records.WriterRecord.{WriterRecord}
 use Rattle.writer_core.specs.Phases.{remedy_after, remedy_in, remedy_at_ack, is_success, ack_verdict, bad_place, without}
-use Rattle.writer_core.specs.Transitions.{taken_as, take_first, free_step_as, failed_first, failed_step_as, dial_step_as, accepted_step, due_step, due_now, reach_step_as, reached_length, stream_step_as, step_in, own_step, dropped, fail_for, fail_named, fail_at, ended_as, ended, acked_as, acked_in, acked, setup_answered_in, setup_answered, dialled_in, dialled, refused, stamped, reopened, stamp_given, committed_as, commit_given, complete_given, granted_in, granted_as, granted, asks}
+use Rattle.writer_core.specs.Transitions.{take_first, free_step_as, failed_first, failed_step_as, dial_step_as, accepted_step, due_step, due_now, reach_step_as, reached_length, stream_step_as, step_in, own_step, dropped, fail_for, fail_named, ended_as, ended, acked_as, acked_in, acked, setup_answered_in, setup_answered, dialled_in, dialled, refused, stamped, reopened, stamp_given, committed_as, commit_given, complete_given, granted_in, granted, asks}
 use Rattle.world.specs.Parts.{request, packet, ack, response, read_status, recovery_answer, Told}
 use Rattle.world.specs.Connections.{Next, message, the_end}
 use Rattle.world.specs.Clients.{named_member, writer_hears}

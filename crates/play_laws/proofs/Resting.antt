@@ -1,6 +1,6 @@
 -- What all writers are between their steps, after every list of events.
-use Rattle.std.proofs.Common.{◌≡◌, ℕ, Bool, true, false, List, [], ◌∷◌, length, slice_get, Option, Some, None, IfSome, refl, sym, ◌∙◌, ap, subst}
-use Rattle.std.specs.Prelude.{◌==◌, ◌&&◌, not, nat_lt, is_none, is_some, if◌then◌else◌}
+use Rattle.std.proofs.Common.{◌≡◌, ℕ, Bool, true, false, List, [], ◌∷◌, length, Option, Some, None, IfSome, refl, sym, ◌∙◌, ap, subst}
+use Rattle.std.specs.Prelude.{◌&&◌, not, nat_lt, is_none, is_some, if◌then◌else◌}
 use Rattle.std.proofs.lemmas.Bool.{false≢true}
 use Rattle.hd_base.specs.declared.numbers.BlockId.{BlockId}
 use Rattle.hd_base.specs.declared.numbers.NodeId.{NodeId}
@@ -36,16 +36,16 @@ use Rattle.world.specs.Parts.{Upper, by_writer, by_member, by_reader, by_primary
 use Rattle.world.specs.Worlds.{World, Change, apply, start}
 use Rattle.world.specs.Connections.{Next, next_down, next_up, down_taken, up_taken, is_served, is_conn, is_alive}
 use Rattle.world.specs.Nodes.{lower_down, lower_ready, mirror_up}
-use Rattle.world.specs.Clients.{writing_as, writer_change, did, did_step, dialled_change, dialling, rest_in, is_formed, ruled, command_bytes, is_empty, takes_given, takes_command, writer_step, writer_hears, writer_up, own_reader, reader_up}
+use Rattle.world.specs.Clients.{writing_as, writer_change, did, did_step, dialled_change, dialling, rest_in, is_formed, ruled, command_bytes, is_empty, takes_command, writer_step, writer_hears, writer_up, own_reader, reader_up}
 use Rattle.world.specs.Primaries.{own_recover, own_primary, primary_up, writer_asks, primary_commits, primary_asks, office_event}
 use Rattle.world.specs.Restarts.{all_found, restart}
 use Rattle.world.specs.Events.{changed, own_change, down_as, down_event, ready_event, unless_fails, upper_up, up_as, up_event, fault_event, lost, stop, where_so, outcome, after_event, happens, run}
-use Rattle.world_laws.proofs.ByteFrame.{Each, each-nil}
+use Rattle.world_laws.proofs.ByteFrame.{each-nil}
 use Rattle.world_laws.proofs.FactTables.{put-each, when-each, and-right}
 use Rattle.world_laws.proofs.SessionAsides.{Aside, lower-down-aside, lower-ready-aside, mirror-up-aside, own-reader-aside, reader-up-aside, own-recover-aside, own-primary-aside, primary-up-aside}
 use Rattle.play_laws.specs.Writers.{Rests, AllRest, is_settled, needs_members}
-use Rattle.play_laws.specs.Members.{Names, EventNames, AllName, AreAll, IsNode, MembersAre}
-use Rattle.play_laws.proofs.Queues.{Bare, own-bare, hears-bare, dialled-bare, granted-bare}
+use Rattle.play_laws.specs.Members.{Names, EventNames, AllName, IsNode, MembersAre}
+use Rattle.play_laws.proofs.Queues.{own-bare, hears-bare, dialled-bare, granted-bare}
 use Rattle.play_laws.proofs.Steps.{is_early, Fits, Sits, Allows, Gets, some-member, empty-queue, hears-fits, undialled-fits, opened-fits, completed-fits, own-fits, granted-fits, ruled-gets, none-opens}
 
 module _ (Of : NodeId → Type 0) where
@@ -108,7 +108,7 @@ module _ (Of : NodeId → Type 0) where
     takes-leaves : (x : WriterRecord) (t : TakenCommand) → Names Of t.command → Goes x → x.queue ≡ [] → IfSome (takes_command w b x t) Leaves
     takes-leaves x t n h q = when-each Leaves (is_formed t.command t.rule && not (is_empty (given x t.command).queue)) _
         (λ e. given-leaves (ruled x t.command t.rule).waiting (given (ruled x t.command t.rule) t.command) (command_bytes (ruled x t.command t.rule) t.command)
-          (ruled-gets Of (is_some (w.writers b).conn) (is_early (w.writers b).known.phase) x t.command t.rule (and-right (is_formed t.command t.rule) (not (is_empty (given x t.command).queue)) e) q (allowed t.command n) h))
+        (ruled-gets Of (is_some (w.writers b).conn) (is_early (w.writers b).known.phase) x t.command t.rule (and-right (is_formed t.command t.rule) (not (is_empty (given x t.command).queue)) e) q (allowed t.command n) h))
 
     -- WITH THE OFFICE'S ANSWER
 
@@ -120,11 +120,11 @@ module _ (Of : NodeId → Type 0) where
     unfolding dialled
     requested x n ns s stamp d m e h q =
         subst (λ (p : Phase). Stands (record { known = dialled_in x p true; conn = Some d; told = None })) (sym e)
-          (record {
-            fits = record { settled = λ a. refl; some = λ a. subst (λ (ms : List NodeId). ms ≡ [] → ⊥) (sym m) (some-member n ns); each = h.each; conn = λ a. refl; early = λ a. refl };
-            queue = q;
-            alone = λ a. absurd (false≢true (sym a));
-          })
+        (record {
+          fits = record { settled = λ a. refl; some = λ a. subst (λ (ms : List NodeId). ms ≡ [] → ⊥) (sym m) (some-member n ns); each = h.each; conn = λ a. refl; early = λ a. refl };
+          queue = q;
+          alone = λ a. absurd (false≢true (sym a));
+        })
 
     dialled-leaves : (x : WriterRecord) (to : NodeId) (r : Op) (answered : Bool) (s : Setup) (stamp : Stamp) (ns : List NodeId) → x.members ≡ to ∷ ns → x.phase ≡ phase.Stamped s stamp → GoesOn x → x.queue ≡ [] → Leaves (dialled_change w b x to r answered)
     dialled-leaves x to r true s stamp ns m e h q = requested x to ns s stamp w.next_conn m e h q

@@ -26,9 +26,9 @@ use Rattle.world.specs.declared.events.TakenCommand.{TakenCommand}
 use Rattle.world.specs.Parts.{Message, Told, Writing}
 use Rattle.world.specs.Worlds.{World, Change}
 use Rattle.world.specs.Connections.{Next, sent_on, is_conn}
-use Rattle.world.specs.Clients.{writing_as, writer_change, did, did_step, dialled_change, dialling, rest_in, is_formed, ruled, command_bytes, is_empty, takes_command, writer_step, own_writer, writer_hears, writer_up}
+use Rattle.world.specs.Clients.{writing_as, did, did_step, dialled_change, dialling, rest_in, is_formed, ruled, is_empty, takes_command, writer_step, own_writer, writer_hears, writer_up}
 use Rattle.world_laws.proofs.FactTables.{when-each, and-right}
-use Rattle.play_laws.proofs.Steps.{is_early, Fits, Sits, Allows, Gets, hears-fits, undialled-fits, own-fits, granted-fits, ruled-gets, none-opens}
+use Rattle.play_laws.proofs.Steps.{is_early, Sits, Gets, hears-fits, undialled-fits, own-fits, granted-fits, ruled-gets, none-opens}
 use Rattle.play_laws.proofs.Resting.{Any, Stands, any-names, allowed}
 
 -- A STEP THAT SENDS
@@ -131,8 +131,8 @@ module _ (w : World) (b : ℕ) where
     at = a;
     others = λ e n. d e;
     own = λ e q l. goes_on
-      (kept-conn (is_connected x.phase) (w.writers b).conn e (subst (λ (y : Writing). y.conn ≡ Some e) r q))
-      (h (subst (λ (y : Writing). is_early y.known.phase ≡ true) r l)) (d e);
+        (kept-conn (is_connected x.phase) (w.writers b).conn e (subst (λ (y : Writing). y.conn ≡ Some e) r q))
+        (h (subst (λ (y : Writing). is_early y.known.phase ≡ true) r l)) (d e);
   }
 
   sent-others : (o : Option ℕ) (e : ℕ) (ms : List Message) → (o ≡ Some e → ⊥) → sent_on o ms e ≡ []
@@ -162,8 +162,8 @@ module _ (w : World) (b : ℕ) where
   takes-carries : (x : WriterRecord) (t : TakenCommand) → Sits Any (is_some (w.writers b).conn) (is_early (w.writers b).known.phase) true x → x.queue ≡ [] → IfSome (takes_command w b x t) (Carries w b)
   takes-carries x t h q = when-each (Carries w b) (is_formed t.command t.rule && not (is_empty (given x t.command).queue)) _
       (λ e. when-each (Carries w b) (is_empty (own_step (given (ruled x t.command t.rule) t.command)).writer.queue) _
-        (λ _. given-carries _ (given (ruled x t.command t.rule) t.command) _
-          (ruled-gets Any (is_some (w.writers b).conn) (is_early (w.writers b).known.phase) x t.command t.rule (and-right (is_formed t.command t.rule) (not (is_empty (given x t.command).queue)) e) q (allowed Any w b t.command (any-names t.command)) h)))
+      (λ _. given-carries _ (given (ruled x t.command t.rule) t.command) _
+      (ruled-gets Any (is_some (w.writers b).conn) (is_early (w.writers b).known.phase) x t.command t.rule (and-right (is_formed t.command t.rule) (not (is_empty (given x t.command).queue)) e) q (allowed Any w b t.command (any-names t.command)) h)))
 
   dialled-carries : (x : WriterRecord) (to : NodeId) (r : Op) (answered : Bool) (s : Setup) (stamp : Stamp) (ns : List NodeId) → x.members ≡ to ∷ ns → x.phase ≡ phase.Stamped s stamp → Sits Any (is_some (w.writers b).conn) (is_early (w.writers b).known.phase) false x
       → Carries w b (dialled_change w b x to r answered)

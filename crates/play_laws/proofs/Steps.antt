@@ -1,6 +1,6 @@
 -- What the steps of a writer leave of its members and its phase.
-use Rattle.std.proofs.Common.{◌≡◌, ◌≢◌, ℕ, zero, suc, Bool, true, false, List, [], ◌∷◌, ◌++◌, drop, length, slice_get, Option, Some, None, IfSome, Result, Ok, Err, refl, sym, ◌∙◌, subst}
-use Rattle.std.specs.Prelude.{◌==◌, ◌&&◌, not, nat_le, if◌then◌else◌, filter}
+use Rattle.std.proofs.Common.{◌≡◌, ◌≢◌, ℕ, zero, Bool, true, false, List, [], ◌∷◌, ◌++◌, length, slice_get, Option, Some, None, Result, Ok, Err, refl, sym, ◌∙◌, subst}
+use Rattle.std.specs.Prelude.{◌==◌, not, nat_le, if◌then◌else◌}
 use Rattle.std.proofs.lemmas.Bool.{false≢true}
 use Rattle.std.proofs.lemmas.Option.{none-some, same_Some}
 use Rattle.hd_base.specs.declared.numbers.NodeId.{NodeId}
@@ -37,7 +37,7 @@ use Rattle.writer_core.specs.declared.phases.Waiting.{Waiting}
 use Rattle.writer_core.specs.declared.records.WriterRecord.{WriterRecord}
 use Rattle.writer_core.specs.Commands.{admitted, is_too_much, is_unmade, is_closed, fits, intake_after}
 use Rattle.writer_core.specs.Phases.{remedy_after, remedy_in, remedy_at_ack, is_success, ack_verdict, bad_place, without}
-use Rattle.writer_core.specs.Transitions.{given, given_as, taken_as, take_first, free_step_as, failed_first, failed_step_as, dial_step_as, open_step, accepted_step, due_step, due_now, reach_step_as, reached_length, stream_step_as, step_in, own_step, completed_step, dropped, fail_for, fail_named, fail_at, ended_as, ended, phase_acked, acked_as, acked_in, acked, setup_answered_in, setup_answered, dialled_in, dialled, refused, stamped, reopened, stamp_given, phase_committed, committed_as, commit_given, complete_given, granted_in, granted_as, granted, asks, is_connected}
+use Rattle.writer_core.specs.Transitions.{given, given_as, taken_as, take_first, free_step_as, failed_first, failed_step_as, dial_step_as, open_step, accepted_step, due_step, due_now, reach_step_as, reached_length, stream_step_as, step_in, own_step, completed_step, dropped, fail_for, fail_named, ended_as, ended, phase_acked, acked_as, acked_in, acked, setup_answered_in, setup_answered, dialled_in, dialled, refused, stamped, reopened, stamp_given, committed_as, commit_given, complete_given, granted_in, granted, asks, is_connected}
 use Rattle.world.specs.Parts.{request, packet, ack, response, read_status, recovery_answer, Told}
 use Rattle.world.specs.Connections.{Next, message, the_end}
 use Rattle.world.specs.Clients.{named_member, writer_hears, ruled, is_empty}
@@ -85,8 +85,8 @@ module _ (Of : NodeId → Type 0) (was soon : Bool) where
   without-each [] bad h = each-nil Of
   without-each (m ∷ ms) bad h =
       if-each (Each Of) (not (m.0 == bad.0)) (m ∷ without ms bad) (without ms bad)
-        (λ e. each-cons Of m (without ms bad) (h.at zero m refl) (without-each ms bad (each-tail Of m ms h)))
-        (λ e. without-each ms bad (each-tail Of m ms h))
+      (λ e. each-cons Of m (without ms bad) (h.at zero m refl) (without-each ms bad (each-tail Of m ms h)))
+      (λ e. without-each ms bad (each-tail Of m ms h))
 
   dropped-fits : (now : Bool) (x : WriterRecord) (s : Setup) (bad : NodeId) (ms : List NodeId) → Each Of ms → Sits now (dropped x s bad ms)
   dropped-fits now x s bad [] h = quiet now [] (dropped x s bad []).phase refl refl refl (λ e. absurd (false≢true e)) h
@@ -184,7 +184,7 @@ module _ (Of : NodeId → Type 0) (was soon : Bool) where
   unfolding dialled
   undialled-fits x s stamp n ns m e h =
       subst (λ (p : Phase). Sits true (dialled_in x p false)) (sym e)
-        (subst (λ (ms : List NodeId). Sits true (fail_named x (remedy_after s) (slice_get ms 0))) (sym m) (fail-fits true x (remedy_after s) n h))
+      (subst (λ (ms : List NodeId). Sits true (fail_named x (remedy_after s) (slice_get ms 0))) (sym m) (fail-fits true x (remedy_after s) n h))
 
   -- ITS OWN STEPS
 

@@ -1,19 +1,16 @@
 -- What a member's turns send, and what they leave of a replica's pending packets.
-use Rattle.std.proofs.Common.{◌≡◌, ℕ, ℤ, ◌≤◌, ◌+◌, ◌⊎◌, inl, inr, Bool, true, false, List, [], ◌∷◌, slice_get, Option, Some, None, IfSome, refl, sym, ◌∙◌, ap, subst, arith}
-use Rattle.std.specs.Prelude.{◌==◌, if◌then◌else◌}
+use Rattle.std.proofs.Common.{◌≡◌, ℕ, ℤ, ◌≤◌, ◌⊎◌, inl, inr, Bool, true, false, List, slice_get, Option, Some, None, IfSome, refl, sym, ap, subst, arith}
+use Rattle.std.specs.Prelude.{◌==◌}
 use Rattle.hd_base.specs.declared.states.Status.{Status}
-use Rattle.hd_base.specs.declared.states.Status.TheVariants as status
 use Rattle.ack_codec.specs.declared.responses.Response.{Response}
 use Rattle.replica_core.specs.declared.ack_queue.PendingPacket.{PendingPacket}
-use Rattle.replica_core.specs.declared.events.Event.{Event}
 use Rattle.replica_core.specs.declared.events.Event.TheVariants as event
 use Rattle.replica_core.specs.declared.refusals.Refusal.{Refusal}
 use Rattle.replica_core.specs.declared.refusals.Refusal.TheVariants as refusal
 use Rattle.replica_core.specs.Transitions.{is_written_by}
 use Rattle.replica_model.specs.declared.events.ReplicaEvent.{ReplicaEvent}
 use Rattle.replica_model.specs.declared.events.ReplicaEvent.TheVariants as replica_event
-use Rattle.replica_model.specs.Rows.{FullReplica, row, row_answer}
-use Rattle.member_core.specs.declared.effects.SetupAnswer.TheVariants as answer
+use Rattle.replica_model.specs.Rows.{FullReplica}
 use Rattle.member_core.specs.declared.effects.Shuts.{Shuts}
 use Rattle.member_core.specs.declared.effects.Shuts.TheVariants as shuts
 use Rattle.member_core.specs.declared.inputs.FromBelow.{FromBelow}
@@ -26,8 +23,8 @@ use Rattle.member_core.specs.declared.turns.Side.{Side}
 use Rattle.member_core.specs.declared.turns.Side.TheVariants as side
 use Rattle.member_core.specs.declared.turns.Turn.{Turn}
 use Rattle.member_core.specs.Acks.{is_success, failures, begins_with_bad_sum, is_read, with_own}
-use Rattle.member_core.specs.Members.{MemberState, is_waiting, closed, closed_by, bad_sum, cut_off, refused_turn, settled, fail_turn, named_bad, accept_turn, setup_turn, answered_turn, good_turn, give_up_turn, spoiled_turn, partial_turn, failed_turn, pass_turn, ack_turn, stream_turn, up_at, up_turn, quiet_turn, patient_turn, idle_turn, bad_turn, ready_at}
-use Rattle.member_core.specs.Steps.{step, faulted_step, replica_after, outcome_of, booked_as, ready_turn_at}
+use Rattle.member_core.specs.Members.{MemberState, is_waiting, closed, closed_by, bad_sum, cut_off, refused_turn, settled, fail_turn, named_bad, accept_turn, setup_turn, answered_turn, good_turn, give_up_turn, spoiled_turn, partial_turn, failed_turn, pass_turn, ack_turn, stream_turn, up_at, up_turn, quiet_turn, patient_turn, ready_at}
+use Rattle.member_core.specs.Steps.{step, faulted_step, replica_after, outcome_of, ready_turn_at}
 use Rattle.world_laws.proofs.FactTables.{if-each, when-each}
 use Rattle.world_settling.specs.Traffic.{entries_by}
 use Rattle.world_settling.proofs.Rows.{IsPacket, other-calm, ack-pays}
@@ -121,7 +118,7 @@ kind-sends : (c : ℕ) (m : MemberState) (r : FullReplica) (t : Turn) → m.conn
 kind-sends c m r t is none b (says_nothing e p) = inl (settled-sends m t (outcome_of r t.call) p (λ _. e))
 kind-sends c m r t is none b (says_ack q good e) =
     inl (settled-sends m t (outcome_of r t.call) (kind-plain m t (says_ack q good e))
-      (λ x. absurd (untaken c m r q good is none (subst (λ (o : Option ReplicaEvent). outcome_of r o ≡ booked.Taken) e x))))
+    (λ x. absurd (untaken c m r q good is none (subst (λ (o : Option ReplicaEvent). outcome_of r o ≡ booked.Taken) e x))))
 kind-sends c m r t is none b (says_answer e p) = inr e
 kind-sends c m r t is none b (says_bad q e p) = absurd (none-bad q m.bad e b)
 

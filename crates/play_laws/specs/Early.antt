@@ -9,8 +9,8 @@ use Rattle.world.specs.Worlds.{start}
 use Rattle.world.specs.Connections.{message, next_up}
 use Rattle.world.specs.Events.{run}
 
--- Where the request of a writer's connection was accepted, and it has sent no packet yet, no message stands next for it:
--- nothing, or the end. So it is after every list of events.
+-- Where the request of a writer's connection was accepted, and it has sent no packet yet, no message stands next for
+-- it: nothing does, or the end. So it is after every list of events.
 abbrev pub NothingEarly : Type 0
 NothingEarly = (nodes : ℕ) (events : List Event) (b c : ℕ) (s : Setup) (stamp : Stamp) (m : Message) →
     ((run (start nodes) events).writers b).known.phase ≡ phase.Accepted s stamp →
