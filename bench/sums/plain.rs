@@ -1,10 +1,14 @@
-//! The same passes as the proved program, over the same bytes, by a plain slicing by 16 in its usual order and by
-//! ISA-L's `crc32_iscsi` and `crc32_gzip_refl`. The lines have the name of the way in front of those of the proved program.
+//! The same passes as the proved program, over the same bytes, by a plain slicing by 16 in its usual order, by the
+//! processor's instruction (ISA-L's `crc32_iscsi_00`, which has CRC32C by `crc32`, and `crc32_gzip_refl_by8_02`, which has
+//! CRC32 by `PCLMULQDQ`: what ISA-L takes where the processor has no wider ones), and by what ISA-L takes on this
+//! processor. The lines have the name of the way in front of those of the proved program.
 
 use std::time::Instant;
 
 #[link(name = "isal")]
 unsafe extern "C" {
+    fn crc32_iscsi_00(buffer: *const u8, len: i32, init: u32) -> u32;
+    fn crc32_gzip_refl_by8_02(init: u32, buffer: *const u8, len: u64) -> u32;
     fn crc32_iscsi(buffer: *const u8, len: i32, init: u32) -> u32;
     fn crc32_gzip_refl(init: u32, buffer: *const u8, len: u64) -> u32;
 }
@@ -78,6 +82,16 @@ fn plain_crc32c(sum: u32, body: &[u8]) -> u32 {
 #[inline(never)]
 fn plain_crc32(sum: u32, body: &[u8]) -> u32 {
     slicing(&CRC32, sum, body)
+}
+
+#[inline(never)]
+fn instruction_crc32c(sum: u32, body: &[u8]) -> u32 {
+    !unsafe { crc32_iscsi_00(body.as_ptr(), body.len() as i32, !sum) }
+}
+
+#[inline(never)]
+fn instruction_crc32(sum: u32, body: &[u8]) -> u32 {
+    unsafe { crc32_gzip_refl_by8_02(sum, body.as_ptr(), body.len() as u64) }
 }
 
 #[inline(never)]
@@ -160,7 +174,9 @@ fn all<F: Fn(u32, &[u8]) -> u32 + Copy>(way: &str, kind: &str, extend: F) {
 
 fn main() {
     all("plain", "crc32c", plain_crc32c);
+    all("instruction", "crc32c", instruction_crc32c);
     all("isal", "crc32c", isal_crc32c);
     all("plain", "crc32", plain_crc32);
+    all("instruction", "crc32", instruction_crc32);
     all("isal", "crc32", isal_crc32);
 }

@@ -1,9 +1,10 @@
 #!/usr/bin/env bash
-# Times chunk_sums beside a plain Rust slicing by 16 and ISA-L, for CRC32C and CRC32, on this machine, and prints a table of ratios. A second
-# table has bodies that are summed by chunks of 512 bytes and copied: in one pass, and by chunk_sums and a copy one after the other.
+# Times chunk_sums beside a plain Rust slicing by 16, the processor's instruction (crc32 for CRC32C, PCLMULQDQ for CRC32, as ISA-L has them) and
+# what ISA-L takes on this processor, for CRC32C and CRC32, and prints a table of ratios. A second table has bodies that are summed by chunks of
+# 512 bytes and copied: in one pass, and by chunk_sums and a copy one after the other.
 #
 # The proved program is built in a folder of its own, from a copy of the crate and of hd_base, with nothing of the repository changed. All
-# three ways go over the same bytes, and the script stops where what they computed differs. Usage: run.sh [RUNS], 3 if left out.
+# four ways go over the same bytes, and the script stops where what they computed differs. Usage: run.sh [RUNS], 3 if left out.
 set -euo pipefail
 here=$(cd "$(dirname "$0")" && pwd)
 top=$(cd "$here/../.." && pwd)
@@ -52,12 +53,13 @@ awk '
       title[kind "-body 65536"] = name[kind] ", 64 KiB"; title[kind "-body 1048576"] = name[kind] ", 1 MiB"
       title[kind "-body 67108864"] = name[kind] ", 64 MiB"
     }
-    print "| | chunk_sums GB/s | plain GB/s | ISA-L GB/s | to plain | to ISA-L |"
-    print "|---|---|---|---|---|---|"
+    print "| | chunk_sums GB/s | plain GB/s | instruction GB/s | ISA-L GB/s | to plain | to the instruction | to ISA-L |"
+    print "|---|---|---|---|---|---|---|---|"
     for (i = 1; i <= count; i++) {
       key = keys[i]; if (key ~ /-(together|apart)-/) continue
-      ours = best["proved", key]; plain = best["plain", key]; isal = best["isal", key]
-      printf "| %s | %.2f | %.2f | %.2f | %.2f | %.2f |\n", title[key], ours, plain, isal, ours / plain, ours / isal }
+      ours = best["proved", key]; plain = best["plain", key]; one = best["instruction", key]; isal = best["isal", key]
+      printf "| %s | %.2f | %.2f | %.2f | %.2f |", title[key], ours, plain, one, isal
+      printf " %.2f | %.2f | %.2f |\n", ours / plain, ours / one, ours / isal }
     print "\n| Summed and copied | in one pass GB/s | in two GB/s | one to two |"
     print "|---|---|---|---|"
     split("65536 1048576", lens, " "); shown[1] = "64 KiB"; shown[2] = "1 MiB"

@@ -39,7 +39,7 @@ use Rattle.road_traffic.specs.Showing.{Net, no_inbox, exchanged_net}
 use Rattle.road_traffic.specs.Laws.{left_net}
 use Rattle.world.specs.declared.events.Event.{Event}
 use Rattle.world.specs.Parts.{FullMember, writes, ended_below, Break}
-use Rattle.world.specs.Worlds.{World, Change, listed, apply}
+use Rattle.world.specs.Worlds.{World, Change, Dial, listed, apply}
 use Rattle.world.specs.Nodes.{node_of, setup_change, sent_up, lower_of, mirror_conn, member_dials}
 use Rattle.world.specs.Events.{outcome, happens}
 use Rattle.world_nets.specs.Rows.{text_of}
@@ -47,7 +47,7 @@ use Rattle.world_nets.specs.Nets.{IsNetOf, IsEndOf, held_by, is_over}
 use Rattle.world_nets.specs.Flushing.{shuts_above, flush_above}
 use Rattle.world_nets.specs.Steps.{SendsBy}
 use Rattle.world_nets.proofs.FlushingLemmas.{setup-sends}
-use Rattle.world_nets.proofs.StepLemmas.{changed-over, followed}
+use Rattle.world_nets.proofs.StepLemmas.{changed-over, followed, next-conn}
 use Rattle.member_events.specs.Joining.{OverJoins, MemberJoins}
 use Rattle.member_events.specs.Showing.{MirrorShows, IsOver}
 use Rattle.member_events.specs.Steps.{IsPlaced}
@@ -57,6 +57,7 @@ use Rattle.member_events.proofs.JoinWorld.{setup_after}
 use Rattle.member_events.proofs.MemberLaws.{never_named, never}
 use Rattle.member_events.proofs.NetLaws.{passed_net, brought_net, other_passed, other_left}
 use Rattle.member_events.proofs.SetupEnds.{SetUpAs}
+use Rattle.member_events.proofs.WorldLaws.{happened}
 use Rattle.member_events.proofs.StepLaws.{sent_texts}
 
 -- A member before its setup.
@@ -70,6 +71,7 @@ pub record IsUnset {I O : Type 0} (w : World) (c : ℕ) (fields : WriteFields) (
 pub record OverLower (s : Setup) (fields : WriteFields) (next : ℕ) : Type 0 where
   pub full : FullMember
   pub lower : lower_of s.member fields next ≡ writes full
+  pub alone : full.mirror ≡ None
   pub over : IsOver full
 
 -- What it is where the member goes on without a mirror.
@@ -101,7 +103,7 @@ stage_open x m sh is still = ap (λ (y : Option MemberState). stage_of y sh) is 
 
 left_over : (v : World) (c : ℕ) (s : Setup) (fields : WriteFields) (next : ℕ) → v.lowers c ≡ lower_of s.member fields next → (lower_of s.member fields next ≡ ended_below) ⊎ OverLower s fields next → (v.lowers c ≡ ended_below) ⊎ OverJoins v c
 left_over v c s fields next is (inl over) = inl (is ∙ over)
-left_over v c s fields next is (inr over) = inr (record { full = over.full; lower = is ∙ over.lower; over = over.over })
+left_over v c s fields next is (inr over) = inr (record { full = over.full; lower = is ∙ over.lower; alone = over.alone; over = over.over })
 
 module _ {F R I O : Type 0} (r : roads.Ghosts R I O) (i : link_in.Ghosts I) (o : link_out.Ghosts O) (w w1 : World) (net : Net) (e : Event) (c : ℕ) (fields : WriteFields) (s : Setup) (broke : Option Break) (old held : Member I O) (book' : BookState F) (result : Stepped) (road road' : R) where
   -- What is known where a setup without a mirror was done.
@@ -131,6 +133,12 @@ module _ {F R I O : Type 0} (r : roads.Ghosts R I O) (i : link_in.Ghosts I) (o :
 
   alone_sends : AloneDone → SendsBy w1 (setup_change w1 c fields s broke) (flush_above c fields s.effect ∷ [])
   alone_sends h = (setup-sends w1 c fields s broke h.before).alone h.dials
+
+  -- nothing was dialled
+  alone_conns : AloneDone → (happens w e).next_conn ≡ w1.next_conn
+  alone_conns h =
+      let k : Change = setup_change w1 c fields s broke in
+      omega (arith, ap (λ (u : World). u.next_conn) (happened w (apply w1 k) e h.out), next-conn w1 k 0 (ap (λ (l : List Dial). length l) h.dials))
 
   alone_open : (h : AloneDone) (new : Member I O) → OpenLower s w1.next_conn → s.effect.shuts ≡ shuts.Nothing → ExchangesBoth r i o None held new road road' (Ok tt) → MemberJoins r i o w1 net (happens w e) c fields None book' road' (Some new)
   alone_open h new low still ex =
@@ -168,6 +176,7 @@ module _ {F R I O : Type 0} (r : roads.Ghosts R I O) (i : link_in.Ghosts I) (o :
             below = tt;
           };
         };
+        none_dialled = λ none. alone_conns h;
         replica = h.ends.replica ∙ sym a.replica;
         others = λ d b y none z. other_passed r i o w1 v net c None false false s1 false ms [] d b y none (same d b) z;
       }
@@ -189,6 +198,7 @@ module _ {F R I O : Type 0} (r : roads.Ghosts R I O) (i : link_in.Ghosts I) (o :
         made = made;
         roads_are = record { is_net = f.nets made n; sane = p.sane; shows = p.shows };
         left_is = left_over v c s fields w1.next_conn a.lower low;
+        none_dialled = λ none. alone_conns h;
         replica = h.ends.replica ∙ sym a.replica;
         others = λ d b y none z. other_left r i o w1 v net c None s1 false ms [] d b y none (same d b) z;
       }
@@ -210,7 +220,7 @@ refused_alone after why w c fields = record { dials = refl; kind = inl refl }
 
 -- a member without a mirror, by what its setup is
 last_kind : (b : Bool) (after : FullReplica) (conn : ConnId) (w : World) (c : ℕ) (fields : WriteFields) → AloneSetup (taken_request after (new_member conn fields mirror.Nobody (not b), sending (upward.Answer answer.Success) b)) w c fields
-last_kind true after conn w c fields = record { dials = refl; kind = inr (record { full = record { fields = fields; state = new_member conn fields mirror.Nobody false; mirror = None }; lower = refl; over = refl }) }
+last_kind true after conn w c fields = record { dials = refl; kind = inr (record { full = record { fields = fields; state = new_member conn fields mirror.Nobody false; mirror = None }; lower = refl; alone = refl; over = refl }) }
 last_kind false after conn w c fields = record { dials = refl; kind = record { state = new_member conn fields mirror.Nobody true; member = refl; alone = refl; acts = refl } }
 
 last_is_set : (conn : ConnId) (fields : WriteFields) → fields.targets ≡ [] → set_up conn fields false ≡ (new_member conn fields mirror.Nobody (not (closes fields)), sending (upward.Answer answer.Success) (closes fields))

@@ -89,6 +89,7 @@ use Rattle.member_events.specs.declared.joining.MirrorDial.TheVariants as dial
 use Rattle.member_events.specs.declared.faults.MemberFault.{MemberFault}
 use Rattle.member_events.specs.declared.faults.MemberFault.TheVariants as fault
 use Rattle.member_events.specs.Joining.{IsMirrorPort, MeetsNobody, MeetsMirror, Meets, Accepts, write_next, JoinStands, CanJoin, MemberJoins, MirrorJoins, IsUnasked, JoinsBy, JoinEnds, JoinShows}
+use Rattle.member_events.specs.Roads.{RoadsPass}
 use Rattle.member_events.specs.Showing.{MirrorShows}
 use Rattle.member_events.specs.Steps as steps
 use Rattle.member_events.specs.Steps.{IsPlaced}
@@ -459,6 +460,11 @@ module _ {F R I O : Type 0} (f : files.Ghosts F) (r : roads.Ghosts R I O) (i : l
   join_known old held book book' ended road mid is_new x known =
       (setup_passes f r i o (request_event old.upstream.id old.op (rule_in book.replica)) old held book book' road mid ended is_new.mirror (at_new old held book book' ended road mid is_new x)).known
       (subst (λ (y : Conn I O). IsKnown (r.plain road) y.id.0) (sym is_new.upstream) known)
+
+  -- The roads pass the setup of a member.
+  pub join_passes : (old held : Member I O) (book book' : BookState F) (ended : Stepped) (road mid : R) → IsNew node requested.end requested.op old → SetsUp f r i o old.stage old held book book' road mid ended → RoadsPass r road mid
+  join_passes old held book book' ended road mid is_new x =
+      (setup_passes f r i o (request_event old.upstream.id old.op (rule_in book.replica)) old held book book' road mid ended is_new.mirror (at_new old held book book' ended road mid is_new x)).roads_pass
 
   pub join_failed : (old held : Member I O) (book book' : BookState F) (ended : Stepped) (road mid road' : R) (result : Result (Joined I O) MemberFault) (why : MemberFault) → result ≡ Err why → IsNew node requested.end requested.op old → SetsUp f r i o old.stage old held book book' road mid ended → IsPlaced r i o ended held mid road' (Err why)
       → JoinShows f r i o node next requested book book' road road' result

@@ -4,7 +4,7 @@ use Rattle.std.specs.Prelude.{slice_get, is_some, option_map, MatchOption}
 use Rattle.hd_base.specs.Channels.{Plain, with_accept}
 use Rattle.hd_base.specs.Faults.{FaultsIncreased}
 use Rattle.hd_base.specs.RoadCauses.{RoadCause}
-use Rattle.hd_base.specs.Ends.{has_failed, IsFresh, IsObservable}
+use Rattle.hd_base.specs.Ends.{has_failed, IsFresh, IsKnown, IsObservable}
 use Rattle.hd_base.specs.declared.ends.Conn.{Conn}
 use Rattle.hd_base.specs.declared.ends.RoadError.{RoadError}
 use Rattle.hd_base.specs.declared.ends.RoadError.TheVariants as error
@@ -177,11 +177,11 @@ some_same : {A : Type 0} (x y : A) → Some x ≡ Some y → x ≡ y
 some_same x y h = cc
 
 module _ {R I O : Type 0} (r : roads.Ghosts R I O) (i : link_in.Ghosts I) (o : link_out.Ghosts O) where
-  pub some_accepted : (port : ℕ) (road road' : R) (found : Option (Conn I O)) (e : Conn I O) → found ≡ Some e → IfSome found (λ c. IfSome (r.plain road) (λ p. slice_get (p.waiting port) 0 ≡ Some c.id.0)) → IfSome found (λ c. c.lower ≡ true) → IfSome found (λ c. IsFresh i o c)
+  pub some_accepted : (port : ℕ) (road road' : R) (found : Option (Conn I O)) (e : Conn I O) → found ≡ Some e → IfSome found (λ c. IfSome (r.plain road) (λ p. slice_get (p.waiting port) 0 ≡ Some c.id.0)) → IfSome found (λ c. IsKnown (r.plain road) c.id.0) → IfSome found (λ c. c.lower ≡ true) → IfSome found (λ c. IsFresh i o c)
       → IfSome found (λ c. IfSome (r.plain road) (λ _. IsObservable i o c)) → MatchOption found (r.plain road' ≡ r.plain road) (λ _. r.plain road' ≡ option_map (λ p. with_accept p port) (r.plain road)) → r.carried road' ≡ r.carried road → AcceptsDial r i o port road road' e
-  some_accepted port road road' None e is number lower fresh observable plain carried = cc
-  some_accepted port road road' (Some x) e is number lower fresh observable plain carried =
-      subst (λ (y : Conn I O). AcceptsDial r i o port road road' y) (some_same x e is) (record { number = number; lower = lower; fresh = fresh; observable = observable; plain = plain; carried = carried })
+  some_accepted port road road' None e is number known lower fresh observable plain carried = cc
+  some_accepted port road road' (Some x) e is number known lower fresh observable plain carried =
+      subst (λ (y : Conn I O). AcceptsDial r i o port road road' y) (some_same x e is) (record { number = number; known = known; lower = lower; fresh = fresh; observable = observable; plain = plain; carried = carried })
 
   pub none_accepted : (plain : Option Plain) (port : ℕ) (found : Option (Conn I O)) → found ≡ None → IfSome plain (λ p. IsNone found ↔ (p.waiting port ≡ [])) → IfSome plain (λ p. p.waiting port ≡ [])
   none_accepted None port found is h = tt

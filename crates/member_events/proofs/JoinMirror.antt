@@ -218,6 +218,7 @@ module _ {F R I O : Type 0} (r : roads.Ghosts R I O) (i : link_in.Ghosts I) (o :
               below = λ z. ap (λ (b : BelowState). b.received) (h.exchanged.rest.below ∙ (h.ends.below ∙ h.unset.below));
             };
           };
+          none_dialled = λ none. cc;
           replica = h.ends.replica ∙ sym a.replica;
           others = λ n b y none z. same-end r i o (apply w1 k) v made n b y (f.over n b) (ends.others n b y (none.0, tt) z);
         };

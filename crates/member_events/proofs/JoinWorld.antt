@@ -34,7 +34,7 @@ less_of c n h = grind (arith, nat_tests)
 pub served_before : (w : World) (c : ℕ) → is_served w c ≡ true → c < w.next_conn
 served_before w c h = less_of c w.next_conn (and_left (nat_lt c w.next_conn) _ h)
 
-not_after : (c n : ℕ) → c < n → nat_le n c ≡ false
+pub not_after : (c n : ℕ) → c < n → nat_le n c ≡ false
 not_after c n h = grind (arith, nat_tests)
 
 -- A world in which a request was taken is else the same.
@@ -57,7 +57,7 @@ pub record SetupAfter (w v : World) (c : ℕ) (fields : WriteFields) (s : Setup)
   pub replica : replica_at v c (block_of fields) ≡ s.replica
   pub ups : v.ups c ≡ w.ups c ++ sent_up fields s.effect.sends
 
-old_dialled : (q : Bool) (x : Option Dial) (d : Dialled) → q ≡ false → unwrap_or (option_map (λ (y : Dial). y.dialled) (if q then x else None)) d ≡ d
+pub old_dialled : (q : Bool) (x : Option Dial) (d : Dialled) → q ≡ false → unwrap_or (option_map (λ (y : Dial). y.dialled) (if q then x else None)) d ≡ d
 old_dialled true x d h = cc
 old_dialled false x d h = refl
 

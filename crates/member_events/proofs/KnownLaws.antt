@@ -52,7 +52,7 @@ module _ {I O : Type 0} where
   mirror_itself None = tt
   mirror_itself (Some e) = refl
 
-  mirror_same : (old new : Option (Conn I O)) → new ≡ old → SameMirror old new
+  pub mirror_same : (old new : Option (Conn I O)) → new ≡ old → SameMirror old new
   mirror_same old new h = subst (λ (x : Option (Conn I O)). SameMirror old x) (sym h) (mirror_itself old)
 
   mirror_on : (a b c : Option (Conn I O)) → SameMirror a b → SameMirror b c → SameMirror a c

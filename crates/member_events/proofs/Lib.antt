@@ -16,6 +16,7 @@ pub mod DownEvents
 pub mod UpEvents
 pub mod BeginEvents
 pub mod SetupKnown
+pub mod PassLaws
 pub mod SetupEnds
 pub mod JoinWorld
 pub mod JoinAlone

@@ -32,15 +32,11 @@ use Rattle.pipe_member.specs.declared.stepped.Stepped.{Stepped}
 use Rattle.pipe_member.specs.Exchanges.{AreKnown}
 use Rattle.pipe_member.specs.Setups.{Opened, Opens, RefusesAs, RefusalEnds, FollowsSetup, Begins, with_outward}
 use Rattle.pipe_member.specs.Turns.{Follows}
+use Rattle.member_events.specs.Roads.{RoadsPass}
 use Rattle.member_events.proofs.CauseLaws.{same_less, less_through}
 use Rattle.member_events.proofs.KnownLaws.{SameMirror, SameIds, mirror_itself, same_itself, known_same, end_same, ends_same, known_on}
 
 -- ROADS
-
--- Roads that know a connection know it later, and their count doesn't fall.
-pub record RoadsPass {R I O : Type 0} (r : roads.Ghosts R I O) (road road' : R) : Type 0 where
-  pub knows : (c : ℕ) → IsKnown (r.plain road) c → IsKnown (r.plain road') c
-  pub never_falls : r.faults road ≤ r.faults road'
 
 one_more : (c n : ℕ) → c < n → c < n + 1
 one_more c n h = omega arith
@@ -57,13 +53,13 @@ new_known None port c h = tt
 new_known (Some p) port c h = subst (λ (n : ℕ). n < p.dialled + 1) (sym h) (itself_less p.dialled)
 
 module _ {R I O : Type 0} (r : roads.Ghosts R I O) (i : link_in.Ghosts I) (o : link_out.Ghosts O) where
-  pass_same : (road road' : R) → road' ≡ road → RoadsPass r road road'
+  pub pass_same : (road road' : R) → road' ≡ road → RoadsPass r road road'
   pass_same road road' is = record {
     knows = λ c h. subst (λ (y : R). IsKnown (r.plain y) c) (sym is) h;
     never_falls = subst (λ (y : R). r.faults road ≤ r.faults y) (sym is) (same_less (r.faults road));
   }
 
-  pass_kept : (road road' : R) → KeepsRoads r road road' → RoadsPass r road road'
+  pub pass_kept : (road road' : R) → KeepsRoads r road road' → RoadsPass r road road'
   pass_kept road road' k = record { knows = λ c h. subst (λ (p : Option Plain). IsKnown p c) (sym k.plain) h; never_falls = k.never_falls }
 
   pass_dialled : (port : ℕ) (road road' : R) (e : Conn I O) → IsDialled r i o port road road' e → RoadsPass r road road'
@@ -75,10 +71,10 @@ module _ {R I O : Type 0} (r : roads.Ghosts R I O) (i : link_in.Ghosts I) (o : l
   knows_new : (port : ℕ) (road road' : R) (e : Conn I O) → IsDialled r i o port road road' e → IsKnown (r.plain road') e.id.0
   knows_new port road road' e k = subst (λ (p : Option Plain). IsKnown p e.id.0) (sym k.plain) (new_known (r.plain road) port e.id.0 k.number)
 
-  pass_brought : (e : Conn I O) (road road' : R) (result : Result (Unit {0}) RoadError) → BringsEnd r i o e road road' result → RoadsPass r road road'
+  pub pass_brought : (e : Conn I O) (road road' : R) (result : Result (Unit {0}) RoadError) → BringsEnd r i o e road road' result → RoadsPass r road road'
   pass_brought e road road' result b = record { knows = λ c h. known_on (r.plain road) (r.plain road') c b.connections h; never_falls = b.cause.never_falls }
 
-  pass_on : (a b c : R) → RoadsPass r a b → RoadsPass r b c → RoadsPass r a c
+  pub pass_on : (a b c : R) → RoadsPass r a b → RoadsPass r b c → RoadsPass r a c
   pass_on a b c h k = record { knows = λ n z. k.knows n (h.knows n z); never_falls = less_through (r.faults a) (r.faults b) (r.faults c) h.never_falls k.never_falls }
 
   pass_memory : (port : ℕ) (road road' : R) → FindsNoMemory r i o port road road' → RoadsPass r road road'

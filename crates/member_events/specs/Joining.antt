@@ -1,7 +1,7 @@
 -- A request to write makes an end a member.
 use Rattle.std.specs.Prelude.{◌≡◌, ◌≢◌, ◌⊎◌, ◌≤◌, ℕ, min, Bool, true, false, List, [], slice_get, Option, Some, None, option_map, IfSome, Result, Ok, Err, ◌+◌}
 use Rattle.hd_base.specs.Channels.{with_accept}
-use Rattle.hd_base.specs.Ends.{IsFresh, IsObservable}
+use Rattle.hd_base.specs.Ends.{IsFresh, IsKnown, IsObservable}
 use Rattle.hd_base.specs.Faults.{FaultsIncreased}
 use Rattle.hd_base.specs.declared.ends.Conn.{Conn}
 use Rattle.hd_base.specs.declared.files.Files as files
@@ -50,6 +50,7 @@ IsMirrorPort targets (Some port) = (targets ≢ []) × (port ≡ min (first_port
 pub record AcceptsDial {R I O : Type 0} (r : roads.Ghosts R I O) (i : link_in.Ghosts I) (o : link_out.Ghosts O)
     (port : ℕ) (road road' : R) (at_end : Conn I O) : Type 0 where
   pub number : IfSome (r.plain road) (λ p. slice_get (p.waiting port) 0 ≡ Some at_end.id.0)
+  pub known : IsKnown (r.plain road) at_end.id.0
   pub lower : at_end.lower ≡ true
   pub fresh : IsFresh i o at_end
   pub observable : IfSome (r.plain road) (λ _. IsObservable i o at_end)
@@ -131,25 +132,29 @@ pub record OpenJoins {I O : Type 0} (i : link_in.Ghosts I) (o : link_out.Ghosts 
   pub acts : both_act full ≡ true
   pub shows : MemberShows i o v made c full m
 
--- One that no longer acts.
+-- One that has no mirror, and no longer acts.
 pub record OverJoins (v : World) (c : ℕ) : Type 0 where
   pub full : FullMember
   pub lower : v.lowers c ≡ writes full
+  pub alone : full.mirror ≡ None
   pub over : IsOver full
 
--- A member that goes on; or one that is over, or whose request was refused.
+-- A member that goes on; or one without a mirror that is over, or whose request was refused.
 abbrev pub LeftJoins : {I O : Type 0} → link_in.Ghosts I → link_out.Ghosts O → World → Net → ℕ → WriteFields →
     Option ℕ → Option (Member I O) → Type 0
 LeftJoins i o v made c fields mirror (Some m) = OpenJoins i o v made c fields mirror m
-LeftJoins i o v made c fields mirror None = (v.lowers c ≡ ended_below) ⊎ OverJoins v c
+LeftJoins i o v made c fields None None = (v.lowers c ≡ ended_below) ⊎ OverJoins v c
+LeftJoins i o v made c fields (Some d) None = ⊥
 
--- The roads, the book and the member show the world after the event, and the other ends stay.
+-- The roads, the book and the member show the world after the event, and the other ends stay. Without a mirror there are no
+-- more connections than before.
 pub record MemberJoins {F R I O : Type 0} (r : roads.Ghosts R I O) (i : link_in.Ghosts I) (o : link_out.Ghosts O)
     (taken : World) (net : Net) (v : World) (c : ℕ) (fields : WriteFields) (mirror : Option ℕ) (book : BookState F)
     (road : R) (left : Option (Member I O)) : Type 0 where
   pub made : Net
   pub roads_are : ShowsWorld r v made road
   pub left_is : LeftJoins i o v made c fields mirror left
+  pub none_dialled : mirror ≡ None → v.next_conn ≡ taken.next_conn
   pub replica : replica_of book ≡ replica_at v c (block_of fields)
   pub others : OthersStay i o taken net v made c None
 

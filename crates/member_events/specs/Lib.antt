@@ -1,4 +1,5 @@
 pub mod Faults
+pub mod Roads
 pub mod Steps
 pub mod Texts
 pub mod Showing

@@ -1,6 +1,8 @@
 //! An end that has taken nothing yet takes its first message.
 
+ghost use Rattle.std.specs.Prelude.{IfOk, IfSome};
 ghost use Rattle.hd_base.specs.Ends.{IsKnown};
+ghost use Rattle.member_events.specs.Roads.{RoadsPass};
 ghost use Rattle.member_events.specs.Beginning.{IsDrawn, IsBrought, IsBroken, IsClosed, LooksFirst, FollowsFirst, BeginShows};
 
 use crate::faults::{MemberFault, road_fault};
@@ -25,7 +27,9 @@ pub fn begin<I: LinkIn, O: LinkOut, R: Roads<Inward = I, Outward = O>>(
     end: Conn<I, O>,
 ) -> Result<Option<Requested<I, O>>, MemberFault>
     requires { IsKnown (R.plain roads.old) end.id.0 }
-    ensures { BeginShows R.Roads I.LinkIn O.LinkOut end roads.old roads.new result }
+    ensures shows { BeginShows R.Roads I.LinkIn O.LinkOut end roads.old roads.new result }
+    ensures pass { RoadsPass R.Roads roads.old roads.new }
+    ensures known { IfOk result (λ made. IfSome made (λ new. IsKnown (R.plain roads.new) new.end.id.0)) }
 {
     let mut end = drawn(alloc, roads, end)?;
     let next = first(alloc, &mut end);
@@ -50,7 +54,8 @@ fn follow<I: LinkIn, O: LinkOut, R: Roads<Inward = I, Outward = O>>(
     next: Next<Op>,
 ) -> Result<Option<Requested<I, O>>, MemberFault>
     requires { IsKnown (R.plain roads.old) end.id.0 }
-    ensures { FollowsFirst R.Roads I.LinkIn O.LinkOut next end roads.old roads.new result }
+    ensures ends { FollowsFirst R.Roads I.LinkIn O.LinkOut next end roads.old roads.new result }
+    ensures pass { RoadsPass R.Roads roads.old roads.new }
 {
     match next {
         Next::Message(Op::Write(op)) => Ok(Some(Requested { end, op })),
@@ -69,7 +74,8 @@ fn drawn<I: LinkIn, O: LinkOut, R: Roads<Inward = I, Outward = O>>(
     end: Conn<I, O>,
 ) -> Result<Conn<I, O>, MemberFault>
     requires { IsKnown (R.plain roads.old) end.id.0 }
-    ensures { IsDrawn R.Roads I.LinkIn O.LinkOut end roads.old roads.new result }
+    ensures ends { IsDrawn R.Roads I.LinkIn O.LinkOut end roads.old roads.new result }
+    ensures pass { RoadsPass R.Roads roads.old roads.new }
 {
     let mut end = end;
     let conn = end.id;
@@ -86,7 +92,8 @@ fn brought<I: LinkIn, O: LinkOut, R: Roads<Inward = I, Outward = O>>(
     end: Conn<I, O>,
 ) -> Result<(), MemberFault>
     requires { IsKnown (R.plain roads.old) end.id.0 }
-    ensures { IsBrought R.Roads I.LinkIn O.LinkOut end roads.old roads.new result }
+    ensures ends { IsBrought R.Roads I.LinkIn O.LinkOut end roads.old roads.new result }
+    ensures pass { RoadsPass R.Roads roads.old roads.new }
 {
     match roads.bring(alloc, end) {
         Ok(()) => Ok(()),
@@ -101,7 +108,8 @@ fn broken<I: LinkIn, O: LinkOut, R: Roads<Inward = I, Outward = O>>(
     end: Conn<I, O>,
 ) -> MemberFault
     requires { IsKnown (R.plain roads.old) end.id.0 }
-    ensures { IsBroken R.Roads I.LinkIn O.LinkOut end roads.old roads.new result }
+    ensures ends { IsBroken R.Roads I.LinkIn O.LinkOut end roads.old roads.new result }
+    ensures pass { RoadsPass R.Roads roads.old roads.new }
 {
     match brought(alloc, roads, end) {
         Ok(()) => MemberFault::LinkFailed,
@@ -116,7 +124,8 @@ fn closed<I: LinkIn, O: LinkOut, R: Roads<Inward = I, Outward = O>>(
     end: Conn<I, O>,
 ) -> Result<Option<Requested<I, O>>, MemberFault>
     requires { IsKnown (R.plain roads.old) end.id.0 }
-    ensures { IsClosed R.Roads I.LinkIn O.LinkOut end roads.old roads.new result }
+    ensures ends { IsClosed R.Roads I.LinkIn O.LinkOut end roads.old roads.new result }
+    ensures pass { RoadsPass R.Roads roads.old roads.new }
 {
     let mut end = end;
     end.outward.shut();

@@ -1,6 +1,8 @@
 //! The events of a member.
 
+ghost use Rattle.std.specs.Prelude.{IfOk, IfSome};
 ghost use Rattle.pipe_member.specs.Exchanges.{AreKnown};
+ghost use Rattle.member_events.specs.Roads.{RoadsPass};
 ghost use Rattle.member_events.specs.Events.{ReadyShows, DownShows, UpShows};
 
 use crate::faults::MemberFault;
@@ -18,7 +20,9 @@ pub fn member_ready<I: LinkIn, O: LinkOut, R: Roads<Inward = I, Outward = O>, F:
     member: Member<I, O>,
 ) -> Result<Option<Member<I, O>>, MemberFault>
     requires { AreKnown (R.plain roads.old) member }
-    ensures { ReadyShows F.Files R.Roads I.LinkIn O.LinkOut member book.old book.new roads.old roads.new result }
+    ensures shows { ReadyShows F.Files R.Roads I.LinkIn O.LinkOut member book.old book.new roads.old roads.new result }
+    ensures pass { RoadsPass R.Roads roads.old roads.new }
+    ensures known { IfOk result (λ left. IfSome left (AreKnown (R.plain roads.new))) }
 {
     let mut member = member;
     let _kept = book.replica();
@@ -34,7 +38,9 @@ pub fn member_down<I: LinkIn, O: LinkOut, R: Roads<Inward = I, Outward = O>, F: 
     member: Member<I, O>,
 ) -> Result<Option<Member<I, O>>, MemberFault>
     requires { AreKnown (R.plain roads.old) member }
-    ensures { DownShows F.Files R.Roads I.LinkIn O.LinkOut member book.old book.new roads.old roads.new result }
+    ensures shows { DownShows F.Files R.Roads I.LinkIn O.LinkOut member book.old book.new roads.old roads.new result }
+    ensures pass { RoadsPass R.Roads roads.old roads.new }
+    ensures known { IfOk result (λ left. IfSome left (AreKnown (R.plain roads.new))) }
 {
     let conn = member.conn();
     let _kept = book.replica();
@@ -55,7 +61,9 @@ pub fn mirror_up<I: LinkIn, O: LinkOut, R: Roads<Inward = I, Outward = O>, F: Fi
     mirror: ConnId,
 ) -> Result<Option<Member<I, O>>, MemberFault>
     requires { AreKnown (R.plain roads.old) member }
-    ensures { UpShows F.Files R.Roads I.LinkIn O.LinkOut mirror member book.old book.new roads.old roads.new result }
+    ensures shows { UpShows F.Files R.Roads I.LinkIn O.LinkOut mirror member book.old book.new roads.old roads.new result }
+    ensures pass { RoadsPass R.Roads roads.old roads.new }
+    ensures known { IfOk result (λ left. IfSome left (AreKnown (R.plain roads.new))) }
 {
     let _kept = book.replica();
     let mut member = exchanged(alloc, roads, member, Some(mirror))?;

@@ -1,7 +1,9 @@
 //! A request to write makes an end a member.
 
+ghost use Rattle.std.specs.Prelude.{IfOk, IfSome};
 ghost use Rattle.hd_base.specs.Ends.{IsKnown};
 ghost use Rattle.pipe_member.specs.Exchanges.{AreKnown};
+ghost use Rattle.member_events.specs.Roads.{RoadsPass, ReachedIsKnown};
 ghost use Rattle.member_events.specs.Joining.{IsMirrorPort, Accepts, Meets, JoinShows};
 
 use crate::beginning::Requested;
@@ -43,8 +45,11 @@ pub fn join<I: LinkIn, O: LinkOut, R: Roads<Inward = I, Outward = O>, F: Files>(
     next: ConnId,
 ) -> Result<Joined<I, O>, MemberFault>
     requires { IsKnown (R.plain roads.old) requested.end.id.0 }
-    ensures { JoinShows F.Files R.Roads I.LinkIn O.LinkOut
+    ensures shows { JoinShows F.Files R.Roads I.LinkIn O.LinkOut
         node next requested book.old book.new roads.old roads.new result }
+    ensures pass { RoadsPass R.Roads roads.old roads.new }
+    ensures known { IfOk result (λ joined. IfSome joined.member (AreKnown (R.plain roads.new))) }
+    ensures reached { IfOk result (λ joined. ReachedIsKnown (R.plain roads.new) joined.mirror) }
 {
     let _kept = book.replica();
     let port = mirror_port(&requested.op);
@@ -76,7 +81,8 @@ fn meet<I: LinkIn, O: LinkOut, R: Roads<Inward = I, Outward = O>>(
     port: Option<u16>,
     left: Option<Member<I, O>>,
 ) -> Result<Joined<I, O>, MemberFault>
-    ensures { Meets R.Roads I.LinkIn O.LinkOut port left roads.old roads.new result }
+    ensures ends { Meets R.Roads I.LinkIn O.LinkOut port left roads.old roads.new result }
+    ensures pass { RoadsPass R.Roads roads.old roads.new }
 {
     match (left, port) {
         (Some(member), Some(port)) => match member.mirror_conn() {
@@ -100,7 +106,8 @@ fn accepted<I: LinkIn, O: LinkOut, R: Roads<Inward = I, Outward = O>>(
     port: u16,
     member: Member<I, O>,
 ) -> Result<Joined<I, O>, MemberFault>
-    ensures { Accepts R.Roads I.LinkIn O.LinkOut port member roads.old roads.new result }
+    ensures ends { Accepts R.Roads I.LinkIn O.LinkOut port member roads.old roads.new result }
+    ensures pass { RoadsPass R.Roads roads.old roads.new }
 {
     match roads.accept(alloc, port) {
         Ok(Some(end)) => Ok(Joined {

@@ -1,6 +1,8 @@
 //! What follows a step of a member.
 
+ghost use Rattle.std.specs.Prelude.{IfOk, IfSome};
 ghost use Rattle.pipe_member.specs.Exchanges.{AreKnown};
+ghost use Rattle.member_events.specs.Roads.{RoadsPass};
 ghost use Rattle.member_events.specs.Steps.{IsExchanged, IsRetired, IsLost, IsPlaced};
 
 use crate::faults::{MemberFault, road_fault};
@@ -16,7 +18,9 @@ pub(crate) fn exchanged<I: LinkIn, O: LinkOut, R: Roads<Inward = I, Outward = O>
     take: Option<ConnId>,
 ) -> Result<Member<I, O>, MemberFault>
     requires { AreKnown (R.plain roads.old) member }
-    ensures { IsExchanged R.Roads I.LinkIn O.LinkOut take member roads.old roads.new result }
+    ensures ends { IsExchanged R.Roads I.LinkIn O.LinkOut take member roads.old roads.new result }
+    ensures pass { RoadsPass R.Roads roads.old roads.new }
+    ensures known { IfOk result (AreKnown (R.plain roads.new)) }
 {
     let mut member = member;
     match member.exchange(alloc, roads, take) {
@@ -32,7 +36,8 @@ pub(crate) fn retired<I: LinkIn, O: LinkOut, R: Roads<Inward = I, Outward = O>>(
     member: Member<I, O>,
 ) -> Result<(), MemberFault>
     requires { AreKnown (R.plain roads.old) member }
-    ensures { IsRetired R.Roads I.LinkIn O.LinkOut member roads.old roads.new result }
+    ensures ends { IsRetired R.Roads I.LinkIn O.LinkOut member roads.old roads.new result }
+    ensures pass { RoadsPass R.Roads roads.old roads.new }
 {
     match member.retire(alloc, roads) {
         Ok(()) => Ok(()),
@@ -47,7 +52,8 @@ pub(crate) fn lost<I: LinkIn, O: LinkOut, R: Roads<Inward = I, Outward = O>>(
     member: Member<I, O>,
 ) -> MemberFault
     requires { AreKnown (R.plain roads.old) member }
-    ensures { IsLost R.Roads I.LinkIn O.LinkOut member roads.old roads.new result }
+    ensures ends { IsLost R.Roads I.LinkIn O.LinkOut member roads.old roads.new result }
+    ensures pass { RoadsPass R.Roads roads.old roads.new }
 {
     match retired(alloc, roads, member) {
         Ok(()) => MemberFault::LinkFailed,
@@ -64,7 +70,9 @@ pub(crate) fn placed<I: LinkIn, O: LinkOut, R: Roads<Inward = I, Outward = O>>(
     stepped: Stepped,
 ) -> Result<Option<Member<I, O>>, MemberFault>
     requires { AreKnown (R.plain roads.old) member }
-    ensures { IsPlaced R.Roads I.LinkIn O.LinkOut stepped member roads.old roads.new result }
+    ensures ends { IsPlaced R.Roads I.LinkIn O.LinkOut stepped member roads.old roads.new result }
+    ensures pass { RoadsPass R.Roads roads.old roads.new }
+    ensures known { IfOk result (λ left. IfSome left (AreKnown (R.plain roads.new))) }
 {
     match stepped {
         Stepped::LinkFailed { .. } => Err(lost(alloc, roads, member)),

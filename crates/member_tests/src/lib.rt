@@ -14,6 +14,8 @@ mod nodes;
 #[cfg(test)]
 mod pieces;
 #[cfg(test)]
+mod playing;
+#[cfg(test)]
 mod rebuilding;
 #[cfg(test)]
 mod receiving;

@@ -139,7 +139,7 @@ fn knows_any(roads: &MemRoads, conn: Option<ConnId>) -> bool
 }
 
 /// Whether the roads gave both ends of the member.
-fn knows(roads: &MemRoads, member: &Member<MemIn, MemOut>) -> bool
+pub(crate) fn knows(roads: &MemRoads, member: &Member<MemIn, MemOut>) -> bool
     ensures { IsTrue result → AreKnown (⟦<MemRoads as Roads>⟧.plain roads.now) member.now }
 {
     if !roads.knows(member.conn()) {

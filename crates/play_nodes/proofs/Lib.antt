@@ -6,3 +6,7 @@ pub mod MemberNodes
 pub mod ReadyNodes
 pub mod TakeNodes
 pub mod LiftLaws
+pub mod BeginNodes
+pub mod JoinNodes
+pub mod BeginEnds
+pub mod DueNodes

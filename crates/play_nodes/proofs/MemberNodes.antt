@@ -31,24 +31,24 @@ use Rattle.play_nodes.specs.declared.connections.Lower.TheVariants as lower
 use Rattle.play_nodes.specs.declared.nodes.NodeBooks.{NodeBooks}
 use Rattle.play_nodes.specs.declared.nodes.Nodes.{Nodes}
 use Rattle.play_nodes.specs.declared.nodes.Seat.{Seat}
-use Rattle.play_nodes.specs.Places.{book_at, with_lower, IsSeated, Takes, PutBack, lower_left}
-use Rattle.play_nodes.specs.Showing.{has_events, SeatShows, LowerShows, NodesStand, NodesLeft}
+use Rattle.play_nodes.specs.Places.{book_at, with_lower, IsSeated, Takes, PutBack, lower_left, BookSet}
+use Rattle.play_nodes.specs.Showing.{has_events, SeatShows, LowerShows, NodesShow, NodesStand, NodesLeft}
 use Rattle.play_nodes.proofs.Tables.{set_here, set_set}
-use Rattle.play_nodes.proofs.PlaceLaws.{BookSet, element_within}
+use Rattle.play_nodes.proofs.PlaceLaws.{element_within}
 use Rattle.play_nodes.proofs.WorldFrames.{KeepsRest}
-use Rattle.play_nodes.proofs.NodeFrames.{IsApart, IsOfEvent, IsLeft, dialled_by, is_later, node_as, served_as, nodes_after, writers_after}
+use Rattle.play_nodes.proofs.NodeFrames.{IsApart, IsOfEvent, IsLeft, BookLeft, dialled_by, is_later, node_as, served_as, nodes_after, books_after, has_books_after, writers_after}
 
-both_so : (a b : Bool) → a ≡ true → b ≡ true → (a && b) ≡ true
+pub both_so : (a b : Bool) → a ≡ true → b ≡ true → (a && b) ≡ true
 both_so a b x y = rw (x, y) refl
 
-never_so : (a b : Bool) → b ≡ false → (a && b) ≡ false
+pub never_so : (a b : Bool) → b ≡ false → (a && b) ≡ false
 never_so true b y = y
 never_so false b y = refl
 
 module _ {R I O : Type 0} (r : roads.Ghosts R I O) (i : link_in.Ghosts I) (o : link_out.Ghosts O) where
   -- THE ROADS KNOW ITS ENDS
 
-  known : (road : R) (net : Net) (q : Option Plain) (d c : ℕ) → RoadsShow r net road → r.plain road ≡ q → d < net.conns → c ≡ d → IsKnown q c
+  pub known : (road : R) (net : Net) (q : Option Plain) (d c : ℕ) → RoadsShow r net road → r.plain road ≡ q → d < net.conns → c ≡ d → IsKnown q c
   known road net None d c h is within same = tt
   known road net (Some p) d c h is within same =
       let e : p.dialled ≡ net.conns = ap (λ (x : Plain). x.dialled) (plain_same p h.plain (sym is ∙ h.is)) ∙ h.holds.dialled in
@@ -66,7 +66,7 @@ module _ {R I O : Type 0} (r : roads.Ghosts R I O) (i : link_in.Ghosts I) (o : l
   pub ends_known : (w : World) (net : Net) (road : R) (c : ℕ) (full : FullMember) (m : Member I O) → RoadsShow r net road → MemberShows i o w net c full m → AreKnown (r.plain road) m
   ends_known w net road c full m h k = (known road net (r.plain road) c m.upstream.id.0 h refl k.upstream.within k.upstream.id, mirror_known w net road full.mirror m.mirror h k.mirror)
 
-module _ {F R I O : Type 0} (r : roads.Ghosts R I O) (i : link_in.Ghosts I) (o : link_out.Ghosts O) where
+module _ {F I O : Type 0} (i : link_in.Ghosts I) (o : link_out.Ghosts O) where
   -- The member that stands at a connection is the world's.
   pub record IsMember (w : World) (net : Net) (c : ℕ) (n : Nodes F I O) (m : Member I O) (place : ℕ) : Type 0 where
     pub full : FullMember
@@ -78,17 +78,21 @@ module _ {F R I O : Type 0} (r : roads.Ghosts R I O) (i : link_in.Ghosts I) (o :
   member_so w net c n m place (writes full) is h = record { full = full; lower = is; events = h.0; seat = h.1 }
   member_so w net c n m place l is h = absurd h
 
-  pub is_member : (w : World) (net : Net) (road : R) (c : ℕ) (n : Nodes F I O) (s : Seat) → NodesStand r i o w net road n → (seat : IsSeated n c s) → IsMember w net c n seat.member s.place
-  is_member w net road c n s stands seat =
+  pub member_shown : (w : World) (net : Net) (c : ℕ) (n : Nodes F I O) (s : Seat) → NodesShow i o w net n → (seat : IsSeated n c s) → IsMember w net c n seat.member s.place
+  member_shown w net c n s shows seat =
       member_so w net c n seat.member s.place (w.lowers c) refl
-      (subst (λ (real : Lower I O). LowerShows i o w net c n (w.lowers c) real) seat.lower (stands.nodes_are.each c seat.at seat.found).lower_is)
+      (subst (λ (real : Lower I O). LowerShows i o w net c n (w.lowers c) real) seat.lower (shows.each c seat.at seat.found).lower_is)
+
+module _ {F R I O : Type 0} (r : roads.Ghosts R I O) (i : link_in.Ghosts I) (o : link_out.Ghosts O) where
+  pub is_member : (w : World) (net : Net) (road : R) (c : ℕ) (n : Nodes F I O) (s : Seat) → NodesStand r i o w net road n → (seat : IsSeated n c s) → IsMember i o w net c n seat.member s.place
+  is_member w net road c n s stands seat = member_shown i o w net c n s stands.nodes_are seat
 
   -- where the member is: the node of its connection
   pub seat_node : (w : World) (net : Net) (road : R) (c : ℕ) (n : Nodes F I O) (s : Seat) → NodesStand r i o w net road n → (seat : IsSeated n c s) → s.node.0 ≡ node_of w c
   seat_node w net road c n s stands seat = ap (λ (x : NodeId). x.0) seat.node ∙ (stands.nodes_are.each c seat.at seat.found).node
 
   -- It stands in the world with its book.
-  pub member_stands : (w : World) (net : Net) (road : R) (c : ℕ) (n : Nodes F I O) (s : Seat) (book : BookState F) → Ordered w → NodesStand r i o w net road n → (seat : IsSeated n c s) → (k : IsMember w net c n seat.member s.place)
+  pub member_stands : (w : World) (net : Net) (road : R) (c : ℕ) (n : Nodes F I O) (s : Seat) (book : BookState F) → Ordered w → NodesStand r i o w net road n → (seat : IsSeated n c s) → (k : IsMember i o w net c n seat.member s.place)
       → book_at n.nodes.items s.node.0 s.place ≡ Some book → MemberStands r i o w net c k.full book seat.member road
   member_stands w net road c n s book ordered stands seat k at_book = record {
     roads_are = stands.roads_are;
@@ -114,7 +118,7 @@ module _ {F R I O : Type 0} (r : roads.Ghosts R I O) (i : link_in.Ghosts I) (o :
 
   -- What an event of a member leaves, once what is left of it is back in its place.
   pub member_left : (w v : World) (net : Net) (road road' : R) (c : ℕ) (old mid set new : Nodes F I O) (s : Seat) (m : Member I O) (book : BookState F) (left : Option (Member I O)) → Ordered w → NodesStand r i o w net road old
-      → (seat : IsSeated old c s) → (k : IsMember w net c old seat.member s.place) → Takes old mid c (Some m) → BookSet mid set s.node.0 s.place book → PutBack set new s left
+      → (seat : IsSeated old c s) → (k : IsMember i o w net c old seat.member s.place) → Takes old mid c (Some m) → BookSet mid set s.node.0 s.place book → PutBack set new s left
       → v.next_conn ≡ w.next_conn → KeepsRest w v c (node_of w c) (block_of k.full.fields) → ((d : ℕ) → IsApart k.full.mirror d → is_over v d false ≡ is_over w d false) → MemberLeft r i o w net v c k.full book road' left
       → NodesLeft r i o w net v road' new
   member_left w v net road road' c old mid set new s m book left ordered stands seat k t b p conns_same rest over h =
@@ -137,33 +141,43 @@ module _ {F R I O : Type 0} (r : roads.Ghosts R I O) (i : link_in.Ghosts I) (o :
       let of : IsOfEvent i o w v net h.made c k.full.mirror (block_of k.full.fields) =
       record { ordered = ordered; before = before; dialled = dialled_by w c k.full ordered k.lower; rest = rest; over = over; others = h.others } in
       let served = served_as w v c (node_of w c) (block_of k.full.fields) c rest before in
-      let is_left : IsLeft i o w v h.made c s.place (block_of k.full.fields) old new at last [] = record {
+      let own : Option ℕ = k.full.mirror in
+      let written : ℕ = block_of k.full.fields in
+      let is_left : IsLeft i o w v h.made c old new at last [] = record {
         found = seat.found;
         set = put ∙ sym (append-nil (slice_set old.connections.items c last));
         count = omega (arith, conns_same);
         upper = refl;
         node = refl;
+        mirror = (stands.nodes_are.each c at seat.found).mirror ∙ sym (ap mirror_of h.lower ∙ (h.mirror ∙ sym (ap mirror_of k.lower)));
+        shows = subst (λ (l : parts.Lower). LowerShows i o v h.made c new l (lower_left s.place lower.Ended left)) (sym h.lower)
+            (left_lower w v h.made c s.place new k.full h.full k.seat.block left k.events k.lower served h.lower h.fields at_place k.seat.of_block h.left_is);
         added = λ n x none. cc;
+        blocks = blocks;
+      } in
+      let book_left : BookLeft i o w v c s.place written old new = record {
         after = record {
           blocks = blocks;
           books = λ n q apart. ap (λ (xs : List (NodeBooks F)). book_at xs n q) p.nodes ∙
               (b.there n q (λ x y. apart (x ∙ node) y) ∙ ap (λ (xs : List (NodeBooks F)). book_at xs n q) t.nodes);
         };
-        shows = subst (λ (l : parts.Lower). LowerShows i o v h.made c new l (lower_left s.place lower.Ended left)) (sym h.lower)
-            (left_lower w v h.made c s.place new k.full h.full k.seat.block left k.events k.lower served h.lower h.fields at_place k.seat.of_block h.left_is);
-        mirror = (stands.nodes_are.each c at seat.found).mirror ∙ sym (ap mirror_of h.lower ∙ (h.mirror ∙ sym (ap mirror_of k.lower)));
         block = k.seat.block;
         at_place = k.seat.at_place;
         of_block = k.seat.of_block;
         replica = λ other found. ap replica_of (book_same other book (sym found ∙ at_book)) ∙
-            (h.replica ∙ (ap (λ (q : ℕ). v.replicas q (block_of h.full.fields)) (node_as w v c (node_of w c) (block_of k.full.fields) c rest before) ∙
+            (h.replica ∙ (ap (λ (q : ℕ). v.replicas q (block_of h.full.fields)) (node_as w v c (node_of w c) written c rest before) ∙
             ap (v.replicas (node_of w c)) (ap block_of h.fields ∙ sym k.seat.of_block)));
         has_book = subst IsSome (sym at_book) refl;
       } in
       record {
         made = h.made;
-        stands = record { roads_are = h.roads_are; nodes_are = nodes_after i o w v net h.made c s.place k.full.mirror (block_of k.full.fields) old new at last [] stands.nodes_are of is_left };
-        writers = writers_after i o w v net h.made c k.full.mirror (block_of k.full.fields) of;
+        stands = record {
+          roads_are = h.roads_are;
+          nodes_are = nodes_after i o w v net h.made c own written old new at last [] stands.nodes_are of is_left
+              (books_after i o w v net h.made c s.place own written old new stands.nodes_are of book_left)
+              (has_books_after i o w v net h.made c s.place own written old new stands.nodes_are of book_left);
+        };
+        writers = writers_after i o w v net h.made c own written of;
       }
     where
       book_same : (x y : BookState F) → Some x ≡ Some y → x ≡ y

@@ -17,7 +17,7 @@ use Rattle.world.specs.Parts as parts
 use Rattle.world.specs.Parts.{Dialled, by_writer, by_member, FullMember, idle, writes}
 use Rattle.world.specs.Worlds.{World}
 use Rattle.world.specs.Connections.{is_served}
-use Rattle.world.specs.Nodes.{node_of, block_of}
+use Rattle.world.specs.Nodes.{node_of}
 use Rattle.world_nets.specs.Nets.{is_over}
 use Rattle.member_core.specs.Members.{MemberState}
 use Rattle.world_orders.specs.Orders.{Ordered, IsMirror, MirrorIs}
@@ -28,8 +28,8 @@ use Rattle.play_nodes.specs.declared.connections.Lower.{Lower}
 use Rattle.play_nodes.specs.declared.connections.Lower.TheVariants as lower
 use Rattle.play_nodes.specs.declared.connections.Upper.{Upper}
 use Rattle.play_nodes.specs.declared.nodes.Nodes.{Nodes}
-use Rattle.play_nodes.specs.Places.{book_at, with_lower}
-use Rattle.play_nodes.specs.Showing.{UpperShows, has_events, LowerShows, ConnectionShows, NodesShow, WritersStay}
+use Rattle.play_nodes.specs.Places.{book_at}
+use Rattle.play_nodes.specs.Showing.{UpperShows, has_events, LowerShows, ConnectionShows, NodesShow, WritersStay, BooksShow, HasBooks}
 use Rattle.play_nodes.proofs.Tables.{SetOr, set_or, JoinedOr, joined_or, same_or}
 use Rattle.play_nodes.proofs.PlaceLaws.{element_within}
 use Rattle.play_nodes.proofs.WorldFrames.{KeepsRest}
@@ -188,8 +188,8 @@ module _ {F I O : Type 0} (i : link_in.Ghosts I) (o : link_out.Ghosts O) where
         (lower_stays w v net made c d own written old new (w.lowers d) x.lower k within apart blocks refl h.lower_is);
   }
 
-  -- What the event leaves at its connection, what it adds to the connections, and the book of its replica.
-  pub record IsLeft (w v : World) (made : Net) (c place written : ℕ) (old new : Nodes F I O) (at last : Connection I O)
+  -- What the event leaves at its connection, and what it adds to the connections.
+  pub record IsLeft (w v : World) (made : Net) (c : ℕ) (old new : Nodes F I O) (at last : Connection I O)
       (more : List (Connection I O)) : Type 0 where
     pub found : slice_get old.connections.items c ≡ Some at
     pub set : new.connections.items ≡ slice_set old.connections.items c last ++ more
@@ -199,6 +199,10 @@ module _ {F I O : Type 0} (i : link_in.Ghosts I) (o : link_out.Ghosts O) where
     pub mirror : option_map (λ (d : ConnId). d.0) last.mirror ≡ mirror_of (v.lowers c)
     pub shows : LowerShows i o v made c new (v.lowers c) last.lower
     pub added : (k : ℕ) (x : Connection I O) → slice_get more k ≡ Some x → ConnectionShows i o v made (w.next_conn + k) new x
+    pub blocks : new.blocks.items ≡ old.blocks.items
+
+  -- The book of the event's replica, among those after it.
+  pub record BookLeft (w v : World) (c place written : ℕ) (old new : Nodes F I O) : Type 0 where
     pub after : NodesAfter old new (node_of w c) place
     pub block : BlockId
     pub at_place : slice_get old.blocks.items place ≡ Some block
@@ -206,9 +210,9 @@ module _ {F I O : Type 0} (i : link_in.Ghosts I) (o : link_out.Ghosts O) where
     pub replica : (book : BookState F) → book_at new.nodes.items (node_of w c) place ≡ Some book → replica_of book ≡ v.replicas (node_of w c) block.0
     pub has_book : IsSome (book_at new.nodes.items (node_of w c) place)
 
-  each_set : (w v : World) (net made : Net) (c d place : ℕ) (own : Option ℕ) (written : ℕ) (old new : Nodes F I O) (at last x : Connection I O) (more : List (Connection I O)) → NodesShow i o w net old → IsOfEvent i o w v net made c own written
-      → IsLeft w v made c place written old new at last more → SetOr old.connections.items c last d x → ConnectionShows i o v made d new x
-  each_set w v net made c d place own written old new at last x more h k l (inl here) =
+  each_set : (w v : World) (net made : Net) (c d : ℕ) (own : Option ℕ) (written : ℕ) (old new : Nodes F I O) (at last x : Connection I O) (more : List (Connection I O)) → NodesShow i o w net old → IsOfEvent i o w v net made c own written
+      → IsLeft w v made c old new at last more → SetOr old.connections.items c last d x → ConnectionShows i o v made d new x
+  each_set w v net made c d own written old new at last x more h k l (inl here) =
       subst (λ (n : ℕ). ConnectionShows i o v made n new x) (sym here.0) (subst (λ (y : Connection I O). ConnectionShows i o v made c new y) (sym here.1) (record {
         upper_is = subst (λ (y : Upper). UpperShows (v.dialled c).upper y) (sym l.upper)
             (subst (λ (u : Dialled). UpperShows u.upper at.upper) (sym (k.rest.dialled c k.before)) (h.each c at l.found).upper_is);
@@ -216,61 +220,70 @@ module _ {F I O : Type 0} (i : link_in.Ghosts I) (o : link_out.Ghosts O) where
         mirror = l.mirror;
         lower_is = l.shows;
       }))
-  each_set w v net made c d place own written old new at last x more h k l (inr there) =
+  each_set w v net made c d own written old new at last x more h k l (inr there) =
       conn_stays w v net made c d own written old new x k
-      (subst (λ (n : ℕ). d < n) h.count (element_within old.connections.items d x there.1)) there.0 l.after.blocks (h.each d x there.1)
+      (subst (λ (n : ℕ). d < n) h.count (element_within old.connections.items d x there.1)) there.0 l.blocks (h.each d x there.1)
 
-  each_after : (w v : World) (net made : Net) (c d place : ℕ) (own : Option ℕ) (written : ℕ) (old new : Nodes F I O) (at last x : Connection I O) (more : List (Connection I O)) → NodesShow i o w net old → IsOfEvent i o w v net made c own written
-      → IsLeft w v made c place written old new at last more → JoinedOr (slice_set old.connections.items c last) more d x → ConnectionShows i o v made d new x
-  each_after w v net made c d place own written old new at last x more h k l (inl before) =
-      each_set w v net made c d place own written old new at last x more h k l (set_or old.connections.items c last d x before)
-  each_after w v net made c d place own written old new at last x more h k l (inr behind) =
+  each_after : (w v : World) (net made : Net) (c d : ℕ) (own : Option ℕ) (written : ℕ) (old new : Nodes F I O) (at last x : Connection I O) (more : List (Connection I O)) → NodesShow i o w net old → IsOfEvent i o w v net made c own written
+      → IsLeft w v made c old new at last more → JoinedOr (slice_set old.connections.items c last) more d x → ConnectionShows i o v made d new x
+  each_after w v net made c d own written old new at last x more h k l (inl before) =
+      each_set w v net made c d own written old new at last x more h k l (set_or old.connections.items c last d x before)
+  each_after w v net made c d own written old new at last x more h k l (inr behind) =
       subst (λ (n : ℕ). ConnectionShows i o v made n new x)
       (sym (behind.1.0 ∙ ap (λ (n : ℕ). n + behind.0) (length-set old.connections.items c last ∙ h.count))) (l.added behind.0 x behind.1.1)
 
-  other_book : (w v : World) (net made : Net) (c place n p : ℕ) (own : Option ℕ) (written : ℕ) (old new : Nodes F I O) (at last : Connection I O) (more : List (Connection I O)) (block : BlockId) (book : BookState F) → NodesShow i o w net old
-      → IsOfEvent i o w v net made c own written → IsLeft w v made c place written old new at last more → slice_get old.blocks.items p ≡ Some block → book_at new.nodes.items n p ≡ Some book → (n ≡ node_of w c → p ≡ place → ⊥)
+  other_book : (w v : World) (net made : Net) (c place n p : ℕ) (own : Option ℕ) (written : ℕ) (old new : Nodes F I O) (block : BlockId) (book : BookState F) → NodesShow i o w net old
+      → IsOfEvent i o w v net made c own written → BookLeft w v c place written old new → slice_get old.blocks.items p ≡ Some block → book_at new.nodes.items n p ≡ Some book → (n ≡ node_of w c → p ≡ place → ⊥)
       → replica_of book ≡ v.replicas n block.0
-  other_book w v net made c place n p own written old new at last more block book h k l at_p found apart =
+  other_book w v net made c place n p own written old new block book h k l at_p found apart =
       h.books n p block book at_p (sym (l.after.books n p apart) ∙ found) ∙
       sym (k.rest.replicas n block.0 (λ a b. apart a (h.distinct p place block l.block at_p l.at_place (b ∙ sym l.of_block))))
 
-  book_after : (w v : World) (net made : Net) (c place n p : ℕ) (own : Option ℕ) (written : ℕ) (old new : Nodes F I O) (at last : Connection I O) (more : List (Connection I O)) (block : BlockId) (book : BookState F) → NodesShow i o w net old
-      → IsOfEvent i o w v net made c own written → IsLeft w v made c place written old new at last more → slice_get old.blocks.items p ≡ Some block → book_at new.nodes.items n p ≡ Some book
+  book_after : (w v : World) (net made : Net) (c place n p : ℕ) (own : Option ℕ) (written : ℕ) (old new : Nodes F I O) (block : BlockId) (book : BookState F) → NodesShow i o w net old
+      → IsOfEvent i o w v net made c own written → BookLeft w v c place written old new → slice_get old.blocks.items p ≡ Some block → book_at new.nodes.items n p ≡ Some book
       → ((n ≡ node_of w c) ⊎ (n ≡ node_of w c → ⊥)) → ((p ≡ place) ⊎ (p ≡ place → ⊥)) → replica_of book ≡ v.replicas n block.0
-  book_after w v net made c place n p own written old new at last more block book h k l at_p found (inl same) (inl here) =
+  book_after w v net made c place n p own written old new block book h k l at_p found (inl same) (inl here) =
       let of : block ≡ l.block = same_some block l.block (sym at_p ∙ (ap (slice_get old.blocks.items) here ∙ l.at_place)) in
       l.replica book (sym (ap (λ (q : ℕ). book_at new.nodes.items q place) same) ∙ (sym (ap (book_at new.nodes.items n) here) ∙ found)) ∙
       (ap (λ (b : BlockId). v.replicas (node_of w c) b.0) (sym of) ∙ ap (λ (q : ℕ). v.replicas q block.0) (sym same))
     where
       same_some : (a b : BlockId) → Some a ≡ Some b → a ≡ b
       same_some a b e = cc
-  book_after w v net made c place n p own written old new at last more block book h k l at_p found (inl same) (inr apart) =
-      other_book w v net made c place n p own written old new at last more block book h k l at_p found (λ a b. apart b)
-  book_after w v net made c place n p own written old new at last more block book h k l at_p found (inr apart) q =
-      other_book w v net made c place n p own written old new at last more block book h k l at_p found (λ a b. apart a)
+  book_after w v net made c place n p own written old new block book h k l at_p found (inl same) (inr apart) =
+      other_book w v net made c place n p own written old new block book h k l at_p found (λ a b. apart b)
+  book_after w v net made c place n p own written old new block book h k l at_p found (inr apart) q =
+      other_book w v net made c place n p own written old new block book h k l at_p found (λ a b. apart a)
 
-  has_book_after : (w v : World) (net made : Net) (c place n p : ℕ) (own : Option ℕ) (written : ℕ) (old new : Nodes F I O) (at last : Connection I O) (more : List (Connection I O))
-      → IsLeft w v made c place written old new at last more → IsSome (book_at old.nodes.items n p) → ((n ≡ node_of w c) ⊎ (n ≡ node_of w c → ⊥)) → ((p ≡ place) ⊎ (p ≡ place → ⊥)) → IsSome (book_at new.nodes.items n p)
-  has_book_after w v net made c place n p own written old new at last more l has (inl same) (inl here) =
+  has_book_after : (w v : World) (net made : Net) (c place n p : ℕ) (own : Option ℕ) (written : ℕ) (old new : Nodes F I O)
+      → BookLeft w v c place written old new → IsSome (book_at old.nodes.items n p) → ((n ≡ node_of w c) ⊎ (n ≡ node_of w c → ⊥)) → ((p ≡ place) ⊎ (p ≡ place → ⊥)) → IsSome (book_at new.nodes.items n p)
+  has_book_after w v net made c place n p own written old new l has (inl same) (inl here) =
       subst (λ (q : ℕ). IsSome (book_at new.nodes.items q p)) (sym same) (subst (λ (q : ℕ). IsSome (book_at new.nodes.items (node_of w c) q)) (sym here) l.has_book)
-  has_book_after w v net made c place n p own written old new at last more l has (inl same) (inr apart) = subst IsSome (sym (l.after.books n p (λ a b. apart b))) has
-  has_book_after w v net made c place n p own written old new at last more l has (inr apart) q = subst IsSome (sym (l.after.books n p (λ a b. apart a))) has
+  has_book_after w v net made c place n p own written old new l has (inl same) (inr apart) = subst IsSome (sym (l.after.books n p (λ a b. apart b))) has
+  has_book_after w v net made c place n p own written old new l has (inr apart) q = subst IsSome (sym (l.after.books n p (λ a b. apart a))) has
+
+  -- The books show the world after.
+  pub books_after : (w v : World) (net made : Net) (c place : ℕ) (own : Option ℕ) (written : ℕ) (old new : Nodes F I O) → NodesShow i o w net old → IsOfEvent i o w v net made c own written → BookLeft w v c place written old new → BooksShow v new
+  books_after w v net made c place own written old new h k l = λ n p block book at_p found.
+      book_after w v net made c place n p own written old new block book h k l
+      (sym (ap (λ (xs : List BlockId). slice_get xs p) l.after.blocks) ∙ at_p) found (same_or n (node_of w c)) (same_or p place)
+
+  pub has_books_after : (w v : World) (net made : Net) (c place : ℕ) (own : Option ℕ) (written : ℕ) (old new : Nodes F I O) → NodesShow i o w net old → IsOfEvent i o w v net made c own written → BookLeft w v c place written old new → HasBooks v new
+  has_books_after w v net made c place own written old new h k l = λ n p block within at_p.
+      has_book_after w v net made c place n p own written old new l
+      (h.has_books n p block (subst (λ (q : ℕ). n < q) k.rest.nodes within) (sym (ap (λ (xs : List BlockId). slice_get xs p) l.after.blocks) ∙ at_p))
+      (same_or n (node_of w c)) (same_or p place)
 
   -- The nodes show the world after.
-  pub nodes_after : (w v : World) (net made : Net) (c place : ℕ) (own : Option ℕ) (written : ℕ) (old new : Nodes F I O) (at last : Connection I O) (more : List (Connection I O)) → NodesShow i o w net old
-      → IsOfEvent i o w v net made c own written → IsLeft w v made c place written old new at last more → NodesShow i o v made new
-  nodes_after w v net made c place own written old new at last more h k l = record {
+  pub nodes_after : (w v : World) (net made : Net) (c : ℕ) (own : Option ℕ) (written : ℕ) (old new : Nodes F I O) (at last : Connection I O) (more : List (Connection I O)) → NodesShow i o w net old
+      → IsOfEvent i o w v net made c own written → IsLeft w v made c old new at last more → BooksShow v new → HasBooks v new → NodesShow i o v made new
+  nodes_after w v net made c own written old new at last more h k l books has = record {
     count = ap length l.set ∙ (length-append (slice_set old.connections.items c last) more ∙
         (ap (λ (n : ℕ). n + length more) (length-set old.connections.items c last ∙ h.count) ∙ sym l.count));
-    distinct = λ j k a b at_j at_k. h.distinct j k a b (sym (ap (λ (xs : List BlockId). slice_get xs j) l.after.blocks) ∙ at_j) (sym (ap (λ (xs : List BlockId). slice_get xs k) l.after.blocks) ∙ at_k);
-    each = λ d x found. each_after w v net made c d place own written old new at last x more h k l
+    distinct = λ j q a b at_j at_q. h.distinct j q a b (sym (ap (λ (xs : List BlockId). slice_get xs j) l.blocks) ∙ at_j) (sym (ap (λ (xs : List BlockId). slice_get xs q) l.blocks) ∙ at_q);
+    each = λ d x found. each_after w v net made c d own written old new at last x more h k l
         (joined_or (slice_set old.connections.items c last) more d x (sym (ap (λ (xs : List (Connection I O)). slice_get xs d) l.set) ∙ found));
-    books = λ n p block book at_p found. book_after w v net made c place n p own written old new at last more block book h k l
-        (sym (ap (λ (xs : List BlockId). slice_get xs p) l.after.blocks) ∙ at_p) found (same_or n (node_of w c)) (same_or p place);
-    has_books = λ n p block within at_p. has_book_after w v net made c place n p own written old new at last more l
-        (h.has_books n p block (subst (λ (q : ℕ). n < q) k.rest.nodes within) (sym (ap (λ (xs : List BlockId). slice_get xs p) l.after.blocks) ∙ at_p))
-        (same_or n (node_of w c)) (same_or p place);
+    books = books;
+    has_books = has;
   }
 
 module _ {I O : Type 0} (i : link_in.Ghosts I) (o : link_out.Ghosts O) where

@@ -1,13 +1,14 @@
 -- Members and books in their places.
-use Rattle.std.proofs.Common.{◌≡◌, ◌<◌, ◌≤◌, ℕ, zero, suc, List, [], ◌∷◌, length, get_or, slice_get, slice_set, Option, Some, None, IsSome, ◌⊎◌, inl, inr, refl, sym, ap, ◌∙◌, arith}
-use Rattle.std.specs.Prelude.{option_and_then}
+use Rattle.std.proofs.Common.{◌≡◌, ◌<◌, ◌≤◌, ℕ, zero, suc, List, [], ◌∷◌, length, get_or, slice_get, slice_set, Option, Some, None, IsSome, ◌⊎◌, inl, inr, refl, sym, ap, ◌∙◌, subst, arith, length-set}
+use Rattle.std.specs.Prelude.{false, is_some, option_and_then}
 use Rattle.replica_files.specs.declared.book_state.BookState.{BookState}
 use Rattle.pipe_member.specs.declared.member.Member.{Member}
 use Rattle.play_nodes.specs.declared.connections.Connection.{Connection}
 use Rattle.play_nodes.specs.declared.nodes.NodeBooks.{NodeBooks}
 use Rattle.play_nodes.specs.declared.nodes.Nodes.{Nodes}
-use Rattle.play_nodes.specs.Places.{book_at, with_lower, lower_left}
-use Rattle.play_nodes.proofs.Tables.{set_same, set_here, set_there, same_or}
+use Rattle.play_nodes.specs.declared.nodes.Seat.{Seat}
+use Rattle.play_nodes.specs.Places.{book_at, with_lower, lower_left, BookSet, PutBack}
+use Rattle.play_nodes.proofs.Tables.{element, set_same, set_here, set_there, same_or}
 
 -- ELEMENTS
 
@@ -38,6 +39,10 @@ element_within (x ∷ xs) (suc i) a h = within (element_within xs i a h)
 pub none_so : {A : Type 0} (x : Option A) → ((a : A) → x ≡ Some a → ⊥) → x ≡ None
 none_so None h = refl
 none_so (Some a) h = absurd (h a refl)
+
+pub none_if : {A : Type 0} (x : Option A) → is_some x ≡ false → x ≡ None
+none_if None h = refl
+none_if (Some a) h = cc
 
 pub same_some : {A : Type 0} (a b : A) → Some a ≡ Some b → a ≡ b
 same_some a b e = cc
@@ -83,13 +88,6 @@ module _ {F : Type 0} where
   other_books nodes node place n p x y book found is (inr away) apart =
       ap (λ (z : Option (NodeBooks F)). option_and_then (λ w. slice_get w.books.items p) z) (set_there nodes node y n away)
 
--- A book was set to this one, and all else stays.
-pub record BookSet {F I O : Type 0} (old new : Nodes F I O) (node place : ℕ) (book : BookState F) : Type 0 where
-  pub blocks : new.blocks.items ≡ old.blocks.items
-  pub connections : new.connections.items ≡ old.connections.items
-  pub here : book_at new.nodes.items node place ≡ Some book
-  pub there : (n p : ℕ) → (n ≡ node → p ≡ place → ⊥) → book_at new.nodes.items n p ≡ book_at old.nodes.items n p
-
 pub book_set : {F I O : Type 0} (old new : Nodes F I O) (node place : ℕ) (x y : NodeBooks F) (was book : BookState F) → new.blocks.items ≡ old.blocks.items → new.connections.items ≡ old.connections.items → slice_get old.nodes.items node ≡ Some x
     → slice_get x.books.items place ≡ Some was → y.books.items ≡ slice_set x.books.items place book → new.nodes.items ≡ slice_set old.nodes.items node y → BookSet old new node place book
 book_set {F} old new node place x y was book blocks conns found at is set = record {
@@ -106,3 +104,9 @@ book_set {F} old new node place x y was book blocks conns found at is set = reco
 pub none_put : {I O : Type 0} (xs : List (Connection I O)) (i place : ℕ) (at : Connection I O) (left : Option (Member I O)) → left ≡ None → slice_get xs i ≡ Some at → xs ≡ slice_set xs i (with_lower at (lower_left place at.lower left))
 none_put xs i place at None is found = sym (set_same xs i at found)
 none_put xs i place at (Some m) is found = cc
+
+-- A place within the connections is within them once what was left is back in its place.
+pub put_within : {F I O : Type 0} (old new : Nodes F I O) (s : Seat) (left : Option (Member I O)) → PutBack old new s left → s.conn < length old.connections.items → s.conn < length new.connections.items
+put_within old new s left p h =
+    let at = element old.connections.items s.conn h in
+    subst (λ (n : ℕ). s.conn < n) (sym (ap length (p.set at.0 at.1) ∙ length-set old.connections.items s.conn (with_lower at.0 (lower_left s.place at.0.lower left)))) h

@@ -41,13 +41,13 @@ use Rattle.play_nodes.specs.declared.nodes.NodeBooks.{NodeBooks}
 use Rattle.play_nodes.specs.declared.nodes.Nodes.{Nodes}
 use Rattle.play_nodes.specs.declared.nodes.Seat.{Seat}
 use Rattle.play_nodes.specs.Faults.{fault_at}
-use Rattle.play_nodes.specs.Places.{book_at, IsSeated, IsUnseated, Takes, Follows, member_of}
-use Rattle.play_nodes.specs.Showing.{has_events, SeatShows, LowerShows, NodesStand}
+use Rattle.play_nodes.specs.Places.{book_at, IsSeated, IsUnseated, Takes, Follows, member_of, BookSet}
+use Rattle.play_nodes.specs.Showing.{has_events, SeatShows, LowerShows, NodesShow, NodesStand}
 use Rattle.play_nodes.specs.Events.{IsCaused, EventEnds, ReadyShows}
 use Rattle.play_nodes.proofs.Tables.{element}
 use Rattle.play_nodes.proofs.WorldFrames.{KeepsRest, rest_after, conns_after}
 use Rattle.play_nodes.proofs.NodeFrames.{IsApart}
-use Rattle.play_nodes.proofs.PlaceLaws.{BookSet, same_some}
+use Rattle.play_nodes.proofs.PlaceLaws.{same_some}
 use Rattle.play_nodes.proofs.MemberNodes.{IsMember, is_member, member_stands, member_left}
 
 some_of : {A : Type 0} (x : Option A) → is_some x ≡ true → (a : A) × (x ≡ Some a)
@@ -106,7 +106,7 @@ module _ {F I O : Type 0} where
       never : (b : Member I O) → None ≡ Some b → ⊥
       never b e = cc
 
-module _ {F R I O : Type 0} (r : roads.Ghosts R I O) (i : link_in.Ghosts I) (o : link_out.Ghosts O) where
+module _ {F I O : Type 0} (i : link_in.Ghosts I) (o : link_out.Ghosts O) where
   -- WHERE NO MEMBER STANDS
 
   seat_needed : (w : World) (net : Net) (c : ℕ) (n : Nodes F I O) (at : Connection I O) (l : parts.Lower) (real : Lower I O) → slice_get n.connections.items c ≡ Some at → at.node.0 ≡ node_of w c → at.lower ≡ real → has_events w c ≡ true
@@ -122,35 +122,39 @@ module _ {F R I O : Type 0} (r : roads.Ghosts R I O) (i : link_in.Ghosts I) (o :
   seat_needed w net c n at l real found node is events busy books h none = h
 
   -- A member stands where a lower end has events that isn't idle.
-  pub is_seated : (w : World) (net : Net) (road : R) (c : ℕ) (n : Nodes F I O) → NodesStand r i o w net road n → Placed w → has_events w c ≡ true → (w.lowers c ≡ idle → ⊥) → IsUnseated n c → ⊥
-  is_seated w net road c n stands placed events busy none =
+  pub seated_shown : (w : World) (net : Net) (c : ℕ) (n : Nodes F I O) → NodesShow i o w net n → Placed w → has_events w c ≡ true → (w.lowers c ≡ idle → ⊥) → IsUnseated n c → ⊥
+  seated_shown w net c n nodes placed events busy none =
       let served : is_served w c ≡ true = and-left (is_served w c) (is_open (w.lowers c)) events in
-      let at = element n.connections.items c (subst (λ (k : ℕ). c < k) (sym stands.nodes_are.count) (served_within w c served)) in
-      let shows = stands.nodes_are.each c at.0 at.1 in
+      let at = element n.connections.items c (subst (λ (k : ℕ). c < k) (sym nodes.count) (served_within w c served)) in
+      let shows = nodes.each c at.0 at.1 in
       seat_needed w net c n at.0 (w.lowers c) at.0.lower at.1 shows.node refl events busy
-      (λ place m full k. stands.nodes_are.has_books (node_of w c) place k.block (placed.dialled c (served_within w c served)).to k.at_place) shows.lower_is none
+      (λ place m full k. nodes.has_books (node_of w c) place k.block (placed.dialled c (served_within w c served)).to k.at_place) shows.lower_is none
+
+module _ {F R I O : Type 0} (r : roads.Ghosts R I O) (i : link_in.Ghosts I) (o : link_out.Ghosts O) where
+  pub is_seated : (w : World) (net : Net) (road : R) (c : ℕ) (n : Nodes F I O) → NodesStand r i o w net road n → Placed w → has_events w c ≡ true → (w.lowers c ≡ idle → ⊥) → IsUnseated n c → ⊥
+  is_seated w net road c n stands placed events busy none = seated_shown i o w net c n stands.nodes_are placed events busy none
 
 module _ {F R I O : Type 0} (f : files.Ghosts F) (r : roads.Ghosts R I O) (i : link_in.Ghosts I) (o : link_out.Ghosts O) where
   -- WHY AN EVENT FAILED
 
-  pub caused : (old mid set new : Nodes F I O) (s : Seat) (c : ℕ) (mirror : Option ℕ) (book book' : BookState F) (m : Member I O) (road road' : R) (why : MemberFault) → Takes old mid c (Some m)
+  pub caused : (old mid set new : Nodes F I O) (s : Seat) (c : ℕ) (mirror : Option ℕ) (book book' : BookState F) (road road' : R) (why : MemberFault) → mid.nodes.items ≡ old.nodes.items
       → book_at mid.nodes.items s.node.0 s.place ≡ Some book → BookSet mid set s.node.0 s.place book' → new ≡ set → members.IsCaused f r c mirror book book' road road' why
       → IsCaused f r old new road road' (fault_at s.node why)
-  caused old mid set new s c mirror book book' m road road' member_fault.LinkFailed t at b is h = risen_at (r.risen road') c mirror h
-  caused old mid set new s c mirror book book' m road road' member_fault.RoadsFailed t at b is h = h
-  caused old mid set new s c mirror book book' m road road' member_fault.FilesFailed t at b is h = record {
+  caused old mid set new s c mirror book book' road road' member_fault.LinkFailed same at b is h = risen_at (r.risen road') c mirror h
+  caused old mid set new s c mirror book book' road road' member_fault.RoadsFailed same at b is h = h
+  caused old mid set new s c mirror book book' road road' member_fault.FilesFailed same at b is h = record {
     place = s.place;
     book = book;
     book' = book';
-    before = ap (λ (xs : List (NodeBooks F)). book_at xs s.node.0 s.place) (sym t.nodes) ∙ at;
+    before = ap (λ (xs : List (NodeBooks F)). book_at xs s.node.0 s.place) (sym same) ∙ at;
     now = ap (λ (n : Nodes F I O). book_at n.nodes.items s.node.0 s.place) is ∙ b.here;
     rose = h;
   }
-  caused old mid set new s c mirror book book' m road road' member_fault.Memory t at b is h = tt
+  caused old mid set new s c mirror book book' road road' member_fault.Memory same at b is h = tt
 
   -- How an event of a member ends, that of the nodes does.
   pub ends_so : (old mid set new : Nodes F I O) (s : Seat) (c : ℕ) (book book' : BookState F) (left : Result (Option (Member I O)) MemberFault) (result : Result (Unit {0}) NodesFault) (road road' : R) (w : World) (net : Net) (e : Event)
-      → (stands : NodesStand r i o w net road old) → Ordered w → (seat : IsSeated old c s) → (k : IsMember r i o w net c old seat.member s.place) → Takes old mid c (Some seat.member) → book_at mid.nodes.items s.node.0 s.place ≡ Some book
+      → (stands : NodesStand r i o w net road old) → Ordered w → (seat : IsSeated old c s) → (k : IsMember i o w net c old seat.member s.place) → Takes old mid c (Some seat.member) → book_at mid.nodes.items s.node.0 s.place ≡ Some book
       → BookSet mid set s.node.0 s.place book' → (happens w e).next_conn ≡ w.next_conn → KeepsRest w (happens w e) c (node_of w c) (block_of k.full.fields) → ((d : ℕ) → IsApart k.full.mirror d → is_over (happens w e) d false ≡ is_over w d false)
       → member_events.EventEnds f r i o w net e c k.full book book' road road' left → Follows set new s left result → EventEnds f r i o w net e old new road road' result
   ends_so old mid set new s c book book' (Ok left) result road road' w net e stands ordered seat k t at b conns rest over ends follows =
@@ -158,7 +162,7 @@ module _ {F R I O : Type 0} (f : files.Ghosts F) (r : roads.Ghosts R I O) (i : l
       (member_left r i o w (happens w e) net road road' c old mid set new s seat.member book' left ordered stands seat k t b follows.0 conns rest over ends)
   ends_so old mid set new s c book book' (Err why) result road road' w net e stands ordered seat k t at b conns rest over ends follows =
       subst (λ (x : Result (Unit {0}) NodesFault). EventEnds f r i o w net e old new road road' x) (sym follows.1)
-      (caused old mid set new s c k.full.mirror book book' seat.member road road' why t at b follows.0 ends)
+      (caused old mid set new s c k.full.mirror book book' road road' why t.nodes at b follows.0 ends)
 
   -- THE EVENT
 
@@ -171,7 +175,7 @@ module _ {F R I O : Type 0} (f : files.Ghosts F) (r : roads.Ghosts R I O) (i : l
       let ready : member_events.ReadyShows f r i o seat.member book book' road road' left = subst (λ (y : Member I O). member_events.ReadyShows f r i o y book book' road road' left) (member_as old mid c s m seat taken) shows in
       let e = event.Ready conn in
       let acting : ActsAt w c = acts_at w conn queues due in
-      let k : IsMember r i o w net c old seat.member s.place = is_member r i o w net road c old s stands seat in
+      let k : IsMember i o w net c old seat.member s.place = is_member r i o w net road c old s stands seat in
       let full : FullMember = k.full in
       let at_book : book_at old.nodes.items s.node.0 s.place ≡ Some book = ap (λ (xs : List (NodeBooks F)). book_at xs s.node.0 s.place) (sym t.nodes) ∙ at in
       let turn = some_of (ready_turn_at full.state (replica_at w c (block_of full.fields))) (ap (λ (l : parts.Lower). acts_below l w c) (sym k.lower) ∙ acting.acts) in

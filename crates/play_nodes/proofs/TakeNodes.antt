@@ -48,13 +48,13 @@ use Rattle.play_nodes.specs.declared.nodes.Seat.{Seat}
 use Rattle.play_nodes.specs.declared.connections.Connection.{Connection}
 use Rattle.play_nodes.specs.declared.connections.Upper.{Upper}
 use Rattle.play_nodes.specs.declared.connections.Upper.TheVariants as upper
-use Rattle.play_nodes.specs.Places.{book_at, IsSeated, IsUnseated, Takes, Follows, member_above}
+use Rattle.play_nodes.specs.Places.{book_at, IsSeated, IsUnseated, Takes, Follows, member_above, BookSet}
 use Rattle.play_nodes.specs.Showing.{UpperShows, has_events, NodesStand}
 use Rattle.play_nodes.specs.Events.{DownShows, UpShows}
 use Rattle.play_nodes.proofs.WorldFrames.{rest_after, rest_taken, conns_after, conns_taken}
 use Rattle.play_nodes.proofs.NodeFrames.{IsApart}
 use Rattle.play_nodes.proofs.Tables.{element}
-use Rattle.play_nodes.proofs.PlaceLaws.{BookSet, same_some}
+use Rattle.play_nodes.proofs.PlaceLaws.{same_some}
 use Rattle.play_nodes.proofs.MemberNodes.{IsMember, is_member, member_stands}
 use Rattle.play_nodes.proofs.ReadyNodes.{ends_so, taken_as, member_as, is_seated}
 
@@ -166,7 +166,7 @@ hears_at w conn d queues upper h =
     }
 
 -- The member hears on the connection to its mirror.
-mirror_of_upper : (w : World) (c d : ℕ) (full : FullMember) → Ordered w → c < w.next_conn → (w.dialled c).upper ≡ by_member d → w.lowers d ≡ writes full → full.mirror ≡ Some c
+pub mirror_of_upper : (w : World) (c d : ℕ) (full : FullMember) → Ordered w → c < w.next_conn → (w.dialled c).upper ≡ by_member d → w.lowers d ≡ writes full → full.mirror ≡ Some c
 mirror_of_upper w c d full ordered within upper lower = subst (λ (l : parts.Lower). orders.HasDialled c l) lower (ordered.dialled_by c d within upper)
 
 -- THE EVENTS
@@ -236,7 +236,7 @@ module _ {F R I O : Type 0} (f : files.Ghosts F) (r : roads.Ghosts R I O) (i : l
       let e = event.Down conn answered in
       let taking : TakesAt w c = takes_at w conn queues due in
       let x : Next = taking.next in
-      let k : IsMember r i o w net c old seat.member s.place = is_member r i o w net road c old s stands seat in
+      let k : IsMember i o w net c old seat.member s.place = is_member r i o w net road c old s stands seat in
       let full : FullMember = k.full in
       let at_book : book_at old.nodes.items s.node.0 s.place ≡ Some book = ap (λ (xs : List (NodeBooks F)). book_at xs s.node.0 s.place) (sym t.nodes) ∙ at in
       let takes : takes_next full.state (pending_at w c full) x ≡ true = ap (λ (l : parts.Lower). takes_below l w c x) (sym k.lower) ∙ taking.takes in
@@ -262,7 +262,7 @@ module _ {F R I O : Type 0} (f : files.Ghosts F) (r : roads.Ghosts R I O) (i : l
       let upper_is : (w.dialled conn.0).upper ≡ by_member c = upper ∙ ap by_member (sym (above_as r i o w net road conn d above old stands queues upper due dialled)) in
       let hearing : HearsAt w conn.0 c = hears_at w conn c queues upper_is due in
       let x : Next = hearing.next in
-      let k : IsMember r i o w net c old seat.member s.place = is_member r i o w net road c old s stands seat in
+      let k : IsMember i o w net c old seat.member s.place = is_member r i o w net road c old s stands seat in
       let full : FullMember = k.full in
       let same : hearing.full ≡ full = full_same hearing.full full (sym hearing.lower ∙ k.lower) in
       let heard : HearsMirror w conn.0 c full = subst (λ (y : FullMember). HearsMirror w conn.0 c y) same hearing.heard in

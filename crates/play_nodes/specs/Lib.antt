@@ -2,3 +2,5 @@ pub mod Faults
 pub mod Places
 pub mod Showing
 pub mod Events
+pub mod Beginning
+pub mod Dues

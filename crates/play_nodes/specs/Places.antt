@@ -1,15 +1,22 @@
 -- Members and books in their places among the nodes of a play.
-use Rattle.std.specs.Prelude.{◌++◌, ◌-◌, [], ◌∷◌, Bool, true, false, ◌≡◌, ℕ, List, slice_get, slice_set, Option, Some, None, IsSome, option_and_then, Result, Ok, Err}
+use Rattle.std.specs.Prelude.{◌==◌, length, position, ◌++◌, ◌-◌, [], ◌∷◌, Bool, true, false, ◌≡◌, ℕ, List, slice_get, slice_set, Option, Some, None, IsSome, option_and_then, Result, Ok, Err}
 use Rattle.hd_base.specs.declared.ends.Conn.{Conn}
+use Rattle.hd_base.specs.declared.files.Files as files
+use Rattle.hd_base.specs.declared.links.LinkIn as link_in
+use Rattle.hd_base.specs.declared.links.LinkOut as link_out
+use Rattle.hd_base.specs.declared.roads.Roads as roads
 use Rattle.hd_base.specs.declared.numbers.BlockId.{BlockId}
 use Rattle.hd_base.specs.declared.numbers.ConnId.{ConnId}
 use Rattle.hd_base.specs.declared.numbers.NodeId.{NodeId}
 use Rattle.hd_base.specs.declared.roads.TheConstants.{FIRST_PORT}
 use Rattle.op_headers.specs.declared.nodes.NodeRef.{NodeRef}
+use Rattle.op_headers.specs.Values.{WriteFields}
+use Rattle.member_events.specs.declared.beginning.Requested.{Requested}
 use Rattle.member_events.specs.declared.faults.MemberFault.{MemberFault}
 use Rattle.member_events.specs.declared.joining.Joined.{Joined}
 use Rattle.member_events.specs.declared.joining.MirrorDial.{MirrorDial}
 use Rattle.member_events.specs.declared.joining.MirrorDial.TheVariants as dial
+use Rattle.member_events.specs.Joining.{JoinShows}
 use Rattle.pipe_member.specs.declared.member.Member.{Member}
 use Rattle.replica_files.specs.declared.book_state.BookState.{BookState}
 use Rattle.play_nodes.specs.declared.connections.Connection.{Connection}
@@ -92,6 +99,13 @@ abbrev pub member_above : Option Upper → Option ConnId
 member_above (Some (upper.Member conn)) = Some conn
 member_above other = None
 
+-- A book was set to this one, and all else stays.
+pub record BookSet {F I O : Type 0} (old new : Nodes F I O) (node place : ℕ) (book : BookState F) : Type 0 where
+  pub blocks : new.blocks.items ≡ old.blocks.items
+  pub connections : new.connections.items ≡ old.connections.items
+  pub here : book_at new.nodes.items node place ≡ Some book
+  pub there : (n p : ℕ) → (n ≡ node → p ≡ place → ⊥) → book_at new.nodes.items n p ≡ book_at old.nodes.items n p
+
 -- THE FIRST MESSAGE
 
 -- the end of a lower end that has taken nothing yet, if it is one
@@ -106,11 +120,6 @@ pub record TakesIdle {F I O : Type 0} (old new : Nodes F I O) (c : ℕ) (result 
   pub set : (at : Connection I O) → slice_get old.connections.items c ≡ Some at →
       new.connections.items ≡ slice_set old.connections.items c (with_lower at lower.Ended)
   pub taken : (at : Connection I O) → slice_get old.connections.items c ≡ Some at → result ≡ idle_of at.lower
-
--- The block stands at this place, or nowhere.
-abbrev pub IsPlaceOf : List BlockId → BlockId → Option ℕ → Type 0
-IsPlaceOf blocks block None = (place : ℕ) (b : BlockId) → slice_get blocks place ≡ Some b → b.0 ≡ block.0 → ⊥
-IsPlaceOf blocks block (Some place) = slice_get blocks place ≡ Some block
 
 -- The node that listens on the port of the first target.
 abbrev pub IsMirrorNode : List NodeRef → NodeId → Type 0
@@ -152,3 +161,40 @@ pub record IsSettled {F I O : Type 0} (old new : Nodes F I O) (s : Seat) (next :
   pub middle : Nodes F I O
   pub put : PutBack old middle s joined.member
   pub adds : AddsDial middle new s next mirror joined.mirror result
+
+-- What follows the setup of a member.
+abbrev pub FollowsJoin : {F I O : Type 0} → Nodes F I O → Nodes F I O → Seat → ConnId → NodeId →
+    Result (Joined I O) MemberFault → Result Bool NodesFault → Type 0
+FollowsJoin old new s next mirror (Ok joined) result = IsSettled old new s next mirror joined result
+FollowsJoin old new s next mirror (Err why) result = (new ≡ old) × (result ≡ Err (fault_at s.node why))
+
+-- where the block of a request stands among those of the play
+abbrev pub place_of : List BlockId → WriteFields → Option ℕ
+place_of blocks fields = position (λ b. b.0 == fields.block.block.0) blocks
+
+-- A request was set up with the book of its block at its node.
+pub record IsJoined {F R I O : Type 0} (f : files.Ghosts F) (r : roads.Ghosts R I O) (i : link_in.Ghosts I)
+    (o : link_out.Ghosts O) (old new : Nodes F I O) (conn : ℕ) (node : NodeId) (requested : Requested I O)
+    (road road' : R) (result : Result Bool NodesFault) : Type 0 where
+  pub place : ℕ
+  pub at_place : place_of old.blocks.items requested.op ≡ Some place
+  pub book : BookState F
+  pub book' : BookState F
+  pub at_book : book_at old.nodes.items node.0 place ≡ Some book
+  pub next : ConnId
+  pub next_is : next.0 ≡ length old.connections.items
+  pub mirror : NodeId
+  pub mirror_is : IsMirrorNode requested.op.targets mirror
+  pub set : Nodes F I O
+  pub is_set : BookSet old set node.0 place book'
+  pub joined : Result (Joined I O) MemberFault
+  pub shows : JoinShows f r i o node next requested book book' road road' joined
+  pub follows : FollowsJoin set new (record { conn = conn; node = node; place = place }) next mirror joined result
+
+-- Or there is no such book, and nothing was done.
+pub record HasNoBook {F R I O : Type 0} (old new : Nodes F I O) (node : NodeId) (fields : WriteFields) (road road' : R)
+    (result : Result Bool NodesFault) : Type 0 where
+  pub same : new ≡ old
+  pub roads : road' ≡ road
+  pub is : result ≡ Ok true
+  pub none : (place : ℕ) → place_of old.blocks.items fields ≡ Some place → book_at old.nodes.items node.0 place ≡ None

@@ -1,5 +1,6 @@
 //! The events of the nodes.
 
+ghost use Rattle.member_events.specs.Roads.{RoadsPass};
 ghost use Rattle.play_nodes.specs.Showing.{Stand};
 ghost use Rattle.play_nodes.specs.Events.{ReadyShows, DownShows, UpShows};
 
@@ -18,7 +19,8 @@ impl<F: Files, I: LinkIn, O: LinkOut> Nodes<F, I, O> {
         conn: ConnId,
     ) -> Result<(), NodesFault>
         requires { Stand R.Roads I.LinkIn O.LinkOut roads.old self.old }
-        ensures { ReadyShows F.Files R.Roads I.LinkIn O.LinkOut conn self.old self.new roads.old roads.new result }
+        ensures shows { ReadyShows F.Files R.Roads I.LinkIn O.LinkOut conn self.old self.new roads.old roads.new result }
+        ensures pass { RoadsPass R.Roads roads.old roads.new }
     {
         let Some(seat) = self.seat_of(conn) else {
             return Ok(());
@@ -40,7 +42,8 @@ impl<F: Files, I: LinkIn, O: LinkOut> Nodes<F, I, O> {
         conn: ConnId,
     ) -> Result<(), NodesFault>
         requires { Stand R.Roads I.LinkIn O.LinkOut roads.old self.old }
-        ensures { DownShows F.Files R.Roads I.LinkIn O.LinkOut conn self.old self.new roads.old roads.new result }
+        ensures shows { DownShows F.Files R.Roads I.LinkIn O.LinkOut conn self.old self.new roads.old roads.new result }
+        ensures pass { RoadsPass R.Roads roads.old roads.new }
     {
         let Some(seat) = self.seat_of(conn) else {
             return Ok(());
@@ -62,7 +65,8 @@ impl<F: Files, I: LinkIn, O: LinkOut> Nodes<F, I, O> {
         conn: ConnId,
     ) -> Result<(), NodesFault>
         requires { Stand R.Roads I.LinkIn O.LinkOut roads.old self.old }
-        ensures { UpShows F.Files R.Roads I.LinkIn O.LinkOut conn self.old self.new roads.old roads.new result }
+        ensures shows { UpShows F.Files R.Roads I.LinkIn O.LinkOut conn self.old self.new roads.old roads.new result }
+        ensures pass { RoadsPass R.Roads roads.old roads.new }
     {
         let Some(above) = self.above(conn) else {
             return Ok(());

@@ -38,7 +38,7 @@ pub(crate) struct Seat {
 
 impl<F: Files, I: LinkIn, O: LinkOut> Nodes<F, I, O> {
     /// Whether there is a book at a place of a node.
-    fn has_book(&self, node: NodeId, place: usize) -> bool
+    pub(crate) fn has_book(&self, node: NodeId, place: usize) -> bool
         ensures { result ≡ is_some (book_at self.now.nodes.items node.0 place) }
     {
         let node = node.0 as usize;

@@ -6,14 +6,14 @@ use Rattle.member_events.proofs.BeginEvents.{begin_failed, begin_shows}
 use Rattle.member_events.proofs.KnownLaws.{known_on}
 use Rattle.member_events.proofs.beginning.begin.Goals as goal
 
-pub returns-in_err-end : goal.returns-in_err-end
-returns-in_err-end g c = begin_failed g.R.Roads g.I.LinkIn g.O.LinkOut c.args.end c.from_residual.result c.in_err-end.field-0.0 c.args.roads.now c.drawn.new.roads (search rules) c.in_err-end.ensures
+pub returns-in_err-end-clause-shows : goal.returns-in_err-end-clause-shows
+returns-in_err-end-clause-shows g c = begin_failed g.R.Roads g.I.LinkIn g.O.LinkOut c.args.end c.from_residual.result c.in_err-end.field-0.0 c.args.roads.now c.drawn.new.roads (search rules) c.in_err-end.ensures.ends
 
 pub follow-requires : goal.follow-requires
 follow-requires g c =
-    let k : IsKnown (g.R.Roads.plain c.drawn.new.roads) c.first-next.new.end.id.0 = subst (λ (y : ConnId). IsKnown (g.R.Roads.plain c.drawn.new.roads) y.0) (sym (c.first-next.ensures.id ∙ c.in_ok-end.ensures.kept.id))
-    (known_on (g.R.Roads.plain c.args.roads.now) (g.R.Roads.plain c.drawn.new.roads) c.args.end.id.0 c.in_ok-end.ensures.connections c.requires) in
+    let k : IsKnown (g.R.Roads.plain c.drawn.new.roads) c.first-next.new.end.id.0 = subst (λ (y : ConnId). IsKnown (g.R.Roads.plain c.drawn.new.roads) y.0) (sym (c.first-next.ensures.id ∙ c.in_ok-end.ensures.ends.kept.id))
+    (known_on (g.R.Roads.plain c.args.roads.now) (g.R.Roads.plain c.drawn.new.roads) c.args.end.id.0 c.in_ok-end.ensures.ends.connections c.requires) in
     (first_of (assumption c.type_bounds.send-I, search rules), (first_of (assumption c.type_bounds.send-O, search rules), k))
 
-pub returns : goal.returns
-returns g c = begin_shows g.R.Roads g.I.LinkIn g.O.LinkOut c.args.end c.in_ok-end.end c.first-next.new.end c.first-next.result c.follow.result c.args.roads.now c.drawn.new.roads c.follow.new.roads c.in_ok-end.ensures c.first-next.ensures c.follow.ensures
+pub returns-clause-shows : goal.returns-clause-shows
+returns-clause-shows g c = begin_shows g.R.Roads g.I.LinkIn g.O.LinkOut c.args.end c.in_ok-end.end c.first-next.new.end c.first-next.result c.follow.result c.args.roads.now c.drawn.new.roads c.follow.new.roads c.in_ok-end.ensures.ends c.first-next.ensures c.follow.ensures.ends

@@ -11,6 +11,6 @@ placed-requires g c =
     (ready_same g.F.Files g.O.LinkOut c.args.member.stage c.args.member c.ready-stepped.new.self c.args.book.now c.ready-stepped.new.book c.ready-stepped.result c.ready-stepped.ensures) c.requires in
     (first_of (assumption c.type_bounds.send-I, search rules), (first_of (assumption c.type_bounds.send-O, search rules), k))
 
-pub returns : goal.returns
-returns g c = ready_shows g.F.Files g.R.Roads g.I.LinkIn g.O.LinkOut c.args.member c.ready-stepped.new.self c.args.book.now c.ready-stepped.new.book c.ready-stepped.result c.placed.result c.args.roads.now c.placed.new.roads
-    c.ready-stepped.ensures c.replica-kept.ensures.kept.known c.placed.ensures
+pub returns-clause-shows : goal.returns-clause-shows
+returns-clause-shows g c = ready_shows g.F.Files g.R.Roads g.I.LinkIn g.O.LinkOut c.args.member c.ready-stepped.new.self c.args.book.now c.ready-stepped.new.book c.ready-stepped.result c.placed.result c.args.roads.now c.placed.new.roads
+    c.ready-stepped.ensures c.replica-kept.ensures.kept.known c.placed.ensures.ends

@@ -8,17 +8,17 @@ use Rattle.play_nodes.proofs.ReadyNodes.{taken_none}
 use Rattle.play_nodes.proofs.TakeNodes.{above_needed, above_seated, up_shows}
 use Rattle.play_nodes.proofs.nodes.Nodes.mirror_up.Goals as goal
 
-pub returns-in_default : goal.returns-in_default
-returns-in_default g c = λ w net queues d stands lawful due upper.
+pub returns-in_default-clause-shows : goal.returns-in_default-clause-shows
+returns-in_default-clause-shows g c = λ w net queues d stands lawful due upper.
     absurd (above_needed g.R.Roads g.I.LinkIn g.O.LinkOut w net c.args.roads.now c.args.conn d c.args.self.now stands queues upper due (sym c.above.ensures ∙ none_so c.above.result c.in_default.not-Some))
 
-pub returns-in_default-seat_of : goal.returns-in_default-seat_of
-returns-in_default-seat_of g c = λ w net queues d stands lawful due upper.
+pub returns-in_default-seat_of-clause-shows : goal.returns-in_default-seat_of-clause-shows
+returns-in_default-seat_of-clause-shows g c = λ w net queues d stands lawful due upper.
     absurd (above_seated g.R.Roads g.I.LinkIn g.O.LinkOut w net c.args.roads.now c.args.conn d c.in-Some.above c.args.self.now stands lawful.placed queues upper due (sym c.above.ensures ∙ c.in-Some.is)
     (subst (λ x. IsSeat c.args.self.now c.in-Some.above.0 x) (none_so c.seat_of.result c.in_default-seat_of.not-Some) c.seat_of.ensures))
 
-pub returns-in_default-take : goal.returns-in_default-take
-returns-in_default-take g c = λ w net queues d stands lawful due upper.
+pub returns-in_default-take-clause-shows : goal.returns-in_default-take-clause-shows
+returns-in_default-take-clause-shows g c = λ w net queues d stands lawful due upper.
     absurd (taken_none c.args.self.now c.take.new.self c.in-Some.above.0 c.in-Some-seat_of.seat c.in-Some-seat_of.ensures
     (subst (λ x. Takes c.args.self.now c.take.new.self c.in-Some-seat_of.seat.conn x) (none_so c.take.result c.in_default-take.not-Some) c.take.ensures))
 
@@ -44,8 +44,8 @@ mirror_up-left-requires-after_bounds g c κs within =
 pub follow-requires : goal.follow-requires
 follow-requires g c = taken_within c.args.self.now c.take.new.self c.in-Some.above.0 c.in-Some-seat_of.seat c.take.result c.in-Some-seat_of.ensures c.take.ensures
 
-pub returns : goal.returns
-returns g c =
+pub returns-clause-shows : goal.returns-clause-shows
+returns-clause-shows g c =
     let s = c.in-Some-seat_of.seat in
     let b = books_of c.args.self.now c.take.new.self c.in-Some.above.0 s c.take.result c.in-Some-seat_of.ensures c.take.ensures in
     let x = c.index_mut.result.now in
@@ -55,4 +55,4 @@ returns g c =
     up_shows g.F.Files g.R.Roads g.I.LinkIn g.O.LinkOut c.args.self.now c.take.new.self _ c.follow.new.self c.args.conn c.in-Some.above s c.in-Some-take.member was c.mirror_up-left.new.book c.mirror_up-left.result c.follow.result
     c.args.roads.now c.mirror_up-left.new.roads c.in-Some-seat_of.ensures (sym c.above.ensures ∙ c.in-Some.is) c.in-Some-take.ensures (book_found c.take.new.self.nodes.items s.node.0 s.place x found ∙ at)
     (book_set c.take.new.self _ s.node.0 s.place x (record { books = with_item x.books s.place c.mirror_up-left.new.book }) was c.mirror_up-left.new.book refl refl found at refl refl)
-    c.mirror_up-left.ensures c.follow.ensures
+    c.mirror_up-left.ensures.shows c.follow.ensures

@@ -7,14 +7,14 @@ use Rattle.play_nodes.proofs.LiftLaws.{seat_within, taken_within, books_of, plac
 use Rattle.play_nodes.proofs.ReadyNodes.{acts_at, acts_busy, is_seated, taken_none, ready_shows}
 use Rattle.play_nodes.proofs.nodes.Nodes.ready.Goals as goal
 
-pub returns-in_default : goal.returns-in_default
-returns-in_default g c = λ w net queues stands lawful due.
+pub returns-in_default-clause-shows : goal.returns-in_default-clause-shows
+returns-in_default-clause-shows g c = λ w net queues stands lawful due.
     let acting = acts_at w c.args.conn queues due in
     absurd (is_seated g.R.Roads g.I.LinkIn g.O.LinkOut w net c.args.roads.now c.args.conn.0 c.args.self.now stands lawful.placed acting.events (acts_busy w c.args.conn.0 acting.acts)
     (subst (λ x. IsSeat c.args.self.now c.args.conn.0 x) (none_so c.seat_of.result c.in_default.not-Some) c.seat_of.ensures))
 
-pub returns-in_default-take : goal.returns-in_default-take
-returns-in_default-take g c = λ w net queues stands lawful due.
+pub returns-in_default-take-clause-shows : goal.returns-in_default-take-clause-shows
+returns-in_default-take-clause-shows g c = λ w net queues stands lawful due.
     absurd (taken_none c.args.self.now c.take.new.self c.args.conn.0 c.in-Some.seat c.in-Some.ensures
     (subst (λ x. Takes c.args.self.now c.take.new.self c.in-Some.seat.conn x) (none_so c.take.result c.in_default-take.not-Some) c.take.ensures))
 
@@ -40,8 +40,8 @@ member_ready-left-requires-after_bounds g c κs within =
 pub follow-requires : goal.follow-requires
 follow-requires g c = taken_within c.args.self.now c.take.new.self c.args.conn.0 c.in-Some.seat c.take.result c.in-Some.ensures c.take.ensures
 
-pub returns : goal.returns
-returns g c =
+pub returns-clause-shows : goal.returns-clause-shows
+returns-clause-shows g c =
     let s = c.in-Some.seat in
     let b = books_of c.args.self.now c.take.new.self c.args.conn.0 s c.take.result c.in-Some.ensures c.take.ensures in
     let x = c.index_mut.result.now in
@@ -51,4 +51,4 @@ returns g c =
     ready_shows g.F.Files g.R.Roads g.I.LinkIn g.O.LinkOut c.args.self.now c.take.new.self _ c.follow.new.self c.args.conn s c.in-Some-take.member was c.member_ready-left.new.book c.member_ready-left.result c.follow.result
     c.args.roads.now c.member_ready-left.new.roads c.in-Some.ensures c.in-Some-take.ensures (book_found c.take.new.self.nodes.items s.node.0 s.place x found ∙ at)
     (book_set c.take.new.self _ s.node.0 s.place x (record { books = with_item x.books s.place c.member_ready-left.new.book }) was c.member_ready-left.new.book refl refl found at refl refl)
-    c.member_ready-left.ensures c.follow.ensures
+    c.member_ready-left.ensures.shows c.follow.ensures
