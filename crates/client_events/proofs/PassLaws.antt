@@ -10,7 +10,7 @@ use Rattle.hd_base.specs.declared.numbers.ConnId.{ConnId}
 use Rattle.hd_base.specs.declared.numbers.Stamp.{Stamp}
 use Rattle.hd_base.specs.declared.roads.Roads as roads
 use Rattle.link_messages.specs.Incomings.{IncomingState}
-use Rattle.link_pieces.specs.Roads.{ExchangesEnd, BringsEnd, names}
+use Rattle.link_pieces.specs.Roads.{names}
 use Rattle.name_core.specs.declared.desks.Desk as desks
 use Rattle.pipe_recovery.specs.declared.acting.Acted.{Acted}
 use Rattle.pipe_recovery.specs.declared.acting.Acted.TheVariants as acted

@@ -3,13 +3,11 @@ use Rattle.std.proofs.Common.{◌≡◌, ◌<◌, ◌≤◌, ◌+◌, inl, inr, 
 use Rattle.hd_base.specs.Channels.{Plain, with_dial, with_accept}
 use Rattle.hd_base.specs.Ends.{IsKnown}
 use Rattle.hd_base.specs.declared.ends.Conn.{Conn}
-use Rattle.hd_base.specs.declared.ends.RoadError.{RoadError}
 use Rattle.hd_base.specs.declared.links.LinkIn as link_in
 use Rattle.hd_base.specs.declared.links.LinkOut as link_out
-use Rattle.hd_base.specs.declared.numbers.ConnId.{ConnId}
 use Rattle.hd_base.specs.declared.numbers.NodeId.{NodeId}
 use Rattle.hd_base.specs.declared.roads.Roads as roads
-use Rattle.link_pieces.specs.Roads.{KeepsRoads, IsDialled}
+use Rattle.link_pieces.specs.Roads.{IsDialled}
 use Rattle.name_core.specs.declared.desks.Desk as desks
 use Rattle.op_headers.specs.declared.ops.Op.{Op}
 use Rattle.op_headers.specs.Requests.{op_text}
@@ -21,7 +19,6 @@ use Rattle.pipe_recovery.specs.declared.links.Link.{Link}
 use Rattle.pipe_recovery.specs.declared.rebuilding.Rebuild.{Rebuild}
 use Rattle.pipe_recovery.specs.declared.rebuilding.RebuildStep.{RebuildStep}
 use Rattle.pipe_recovery.specs.Dialling.{LinkIsKnown, SendsTo, Sends, OpensAs, Opens, FollowsDial, ReachesPort, Reaches, no_memory, no_way, dials, DialsBy, Dials, Unreached}
-use Rattle.pipe_recovery.specs.Exchanging.{ExchangesLink, BringsLink}
 use Rattle.pipe_recovery.specs.Steps.{is_stamped, keeps_link, GoesOn, AsksAndDials, Acts, Steps}
 use Rattle.writer_core.specs.declared.actions.Action.{Action}
 use Rattle.writer_core.specs.declared.actions.Action.TheVariants as action
