@@ -10,5 +10,5 @@ pub mod BeginNodes
 pub mod JoinNodes
 pub mod BeginEnds
 pub mod DueNodes
-
 pub mod KeptNodes
+pub mod WriterFrames
