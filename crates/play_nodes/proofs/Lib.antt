@@ -12,3 +12,4 @@ pub mod BeginEnds
 pub mod DueNodes
 pub mod KeptNodes
 pub mod WriterFrames
+pub mod WriterKeeping

@@ -14,14 +14,12 @@ use Rattle.writer_core.specs.declared.phases.Waiting.{Waiting}
 use Rattle.writer_core.specs.declared.records.WriterRecord.{WriterRecord}
 use Rattle.writer_core.specs.Transitions.{given, own_step, dial_step, open_step, completed_step, granted, dialled}
 use Rattle.writer_core.specs.Transitions as writer
-use Rattle.world.specs.declared.events.Caller.TheVariants as caller
 use Rattle.world.specs.declared.events.Event.{Event}
 use Rattle.world.specs.declared.events.Event.TheVariants as event
-use Rattle.world.specs.declared.events.OwnStep.TheVariants as own
 use Rattle.world.specs.declared.events.TakenCommand.{TakenCommand}
 use Rattle.world.specs.Parts.{Upper, by_writer, by_member, Dialled, Told}
 use Rattle.world.specs.Worlds.{World, Dial, Change, put, put_at, apply, dial_at}
-use Rattle.world.specs.Connections.{Next, next_up, up_taken, is_alive, is_served, place_of, is_conn}
+use Rattle.world.specs.Connections.{Next, next_up, up_taken, is_alive, is_conn}
 use Rattle.world.specs.Clients.{writer_change, did, dialled_change, dialling, rest_in, is_empty, is_formed, ruled, command_bytes, takes_step, takes_command, writer_step, own_writer, writer_hears, writer_up}
 use Rattle.world.specs.Primaries.{writer_asks, writer_asks_office}
 use Rattle.world.specs.Events.{changed, outcome, after_event, happens, run, upper_up, up_as}
@@ -31,8 +29,7 @@ use Rattle.world_nets.specs.Nets.{is_over}
 use Rattle.world_nets.proofs.StepLemmas.{changed-over, taken-over, next-conn}
 use Rattle.world_orders.proofs.Lists.{dial-here}
 use Rattle.play_model.specs.Dues.{Queues, own_events, action_of, acting, asking}
-use Rattle.play_nodes.specs.Frames.{KeepsNodes, IsFirst, WriterKeeps, HearKeeps}
-use Rattle.play_nodes.proofs.Tables.{put_at_there}
+use Rattle.play_nodes.specs.Frames.{IsFirst, WriterKeeps, HearKeeps}
 use Rattle.play_nodes.proofs.NodeFrames.{IsApart}
 use Rattle.play_nodes.proofs.MemberNodes.{both_so}
 
@@ -317,18 +314,21 @@ own_keeps w queues block =
 
 taken_kept : (w : World) (b c : ℕ) (x : Next) → Quiet w b (Some c) (up_taken w c x)
 unfolding up_taken
-taken_kept w b c x = (record {
-  nodes = refl;
-  grows = omega arith;
-  dialled = λ d within. refl;
-  running = λ n. refl;
-  lives = λ n. refl;
-  lowers = λ d. refl;
-  replicas = λ n q. refl;
-  over = λ d apart. taken-over w d false c false x (λ same. absurd (apart same));
-  once = omega arith;
-  dials = λ more. absurd (omega (arith, more));
-}, refl)
+taken_kept w b c x = (
+  record {
+    nodes = refl;
+    grows = omega arith;
+    dialled = λ d within. refl;
+    running = λ n. refl;
+    lives = λ n. refl;
+    lowers = λ d. refl;
+    replicas = λ n q. refl;
+    over = λ d apart. taken-over w d false c false x (λ same. absurd (apart same));
+    once = omega arith;
+    dials = λ more. absurd (omega (arith, more));
+  },
+  refl,
+)
 
 quiet_then : (w u : World) (b : ℕ) (c : Option ℕ) (o : Option World) → Quiet w b c u → IfSome o (Quiet u b None) → IfSome o (Quiet w b c)
 quiet_then w u b c None h k = tt

@@ -1,5 +1,5 @@
 -- The connection stands behind the others.
-use Rattle.std.proofs.Common.{Result, Ok, Err, refl, sym, subst}
+use Rattle.std.proofs.Common.{Result, refl, sym, subst}
 use Rattle.play_nodes.specs.declared.faults.NodesFault.{NodesFault}
 use Rattle.play_nodes.specs.Frames.{DialledShows}
 use Rattle.play_nodes.proofs.KeptNodes.{dial_kept}
