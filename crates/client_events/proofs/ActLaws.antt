@@ -1,5 +1,5 @@
 -- A writer's own step that asks nothing and dials nothing, and the world after it.
-use Rattle.std.proofs.Common.{◌≡◌, ◌≤◌, inl, inr, ℕ, not, Bool, true, false, if◌then◌else◌, List, [], ◌∷◌, ◌++◌, length, map, slice_get, is_some, option_map, Option, Some, None, IfSome, Result, Ok, Err, refl, sym, ap, ◌∙◌, subst, arith}
+use Rattle.std.proofs.Common.{◌≡◌, inl, inr, ℕ, not, Bool, true, false, if◌then◌else◌, List, [], ◌∷◌, ◌++◌, length, map, slice_get, is_some, option_map, Option, Some, None, IfSome, Result, Ok, Err, refl, sym, ap, ◌∙◌, subst}
 use Rattle.std.specs.Prelude.{◌==◌, ◌&&◌, ◌||◌, cond, nat_lt}
 use Rattle.std.proofs.lemmas.Option.{same_Some}
 use Rattle.hd_base.specs.Links.{Inbox}
@@ -24,14 +24,13 @@ use Rattle.world.specs.declared.events.TakenCommand.{TakenCommand}
 use Rattle.world.specs.Parts.{Message, packet, Writing}
 use Rattle.world.specs.Parts as parts
 use Rattle.world.specs.Worlds.{World, Change, add, apply}
-use Rattle.world.specs.Clients.{writing_as, writer_change, reached_answer, did, did_step, own_writer, writer_step, takes_command, takes_given, command_bytes, is_empty, is_formed, ruled}
-use Rattle.world.specs.Connections.{sent_on}
+use Rattle.world.specs.Clients.{writing_as, did, did_step, own_writer, writer_step, takes_command, takes_given, command_bytes, is_empty, is_formed, ruled}
 use Rattle.world.specs.Events.{outcome, happens, is_enabled}
 use Rattle.world_nets.specs.Changes.{sent_by, shut_by}
 use Rattle.world_nets.specs.Rows.{Row, rows_of, sends, shuts_if, text_of}
-use Rattle.world_nets.specs.Nets.{IsNetOf, IsEndOf, held_by, is_over}
-use Rattle.world_nets.specs.Steps.{ChangesBy, SendsBy}
-use Rattle.world_nets.specs.Flushing.{upper_flushes, writer_flushes, action_sends}
+use Rattle.world_nets.specs.Nets.{held_by, is_over}
+use Rattle.world_nets.specs.Steps.{SendsBy}
+use Rattle.world_nets.specs.Flushing.{upper_flushes, action_sends}
 use Rattle.world_nets.proofs.DrawnLemmas.{own-makes}
 use Rattle.world_nets.proofs.EndLemmas.{same-end}
 use Rattle.world_nets.proofs.FlushingLemmas.{writer-sends}
@@ -43,11 +42,12 @@ use Rattle.writer_core.specs.declared.phases.Waiting.{Waiting}
 use Rattle.writer_core.specs.declared.records.WriterRecord.{WriterRecord}
 use Rattle.writer_core.specs.Transitions.{Step, given, own_step, is_connected}
 use Rattle.member_events.proofs.CauseLaws.{one_risen, or_true}
-use Rattle.member_events.proofs.EndLaws.{HeldAt, RoadsAt, end_held}
+use Rattle.member_events.proofs.EndLaws.{HeldAt, end_held}
 use Rattle.member_events.proofs.FaultEvents.{same_count}
 use Rattle.member_events.proofs.StepLaws.{last_of}
 use Rattle.member_events.proofs.WorldLaws.{at_put, happened}
 use Rattle.client_events.specs.declared.acting.Acted.{Acted}
+use Rattle.member_events.specs.Joining.{SpellDown}
 use Rattle.client_events.specs.declared.faults.ClientFault.{ClientFault}
 use Rattle.client_events.specs.declared.faults.ClientFault.TheVariants as fault
 use Rattle.client_events.specs.declared.pipes.Pipe.{Pipe}
@@ -55,11 +55,11 @@ use Rattle.client_events.specs.declared.pipes.Pipe.TheVariants as pipe
 use Rattle.client_events.specs.declared.sending.Sending.{Sending}
 use Rattle.client_events.specs.declared.sending.Sending.TheVariants as sending
 use Rattle.client_events.specs.Acting.{said_by, said_in}
-use Rattle.client_events.specs.Events.{given_to, own_event, SpellDown, KeepsSetup, CanAct, StepLeft, ActShows}
+use Rattle.client_events.specs.Events.{given_to, own_event, KeepsSetup, ActShows}
 use Rattle.client_events.specs.Faults.{IsCaused, HasRisen}
-use Rattle.client_events.specs.Sending.{SendsPacket, SendsAction, FollowsSending, IsStreamed, IsFollowed}
+use Rattle.client_events.specs.Sending.{SendsAction, FollowsSending, IsFollowed}
 use Rattle.client_events.specs.Showing.{PipeShows, LinkShows, ClientStands, ClientLeft}
-use Rattle.client_events.specs.Steps.{IsLost, IsSettled}
+use Rattle.client_events.specs.Steps.{IsLost}
 use Rattle.client_events.proofs.SettleLaws.{HasActed, settled_left, settled_caused}
 
 -- WHAT A WRITER DID

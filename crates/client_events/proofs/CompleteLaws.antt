@@ -2,7 +2,6 @@
 use Rattle.std.proofs.Common.{◌≡◌, inl, inr, ℕ, not, Bool, true, false, if◌then◌else◌, List, [], ◌∷◌, ◌++◌, option_map, Option, Some, None, Result, Ok, Err, refl, sym, ap, ◌∙◌, subst}
 use Rattle.std.proofs.lemmas.List.{append-nil}
 use Rattle.hd_base.specs.Results.{Gives}
-use Rattle.hd_base.specs.declared.ends.Conn.{Conn}
 use Rattle.hd_base.specs.declared.links.LinkIn as link_in
 use Rattle.hd_base.specs.declared.links.LinkOut as link_out
 use Rattle.hd_base.specs.declared.numbers.BlockId.{BlockId}
@@ -24,11 +23,10 @@ use Rattle.world.specs.declared.events.Event.{Event}
 use Rattle.world.specs.declared.events.Event.TheVariants as event
 use Rattle.world.specs.Parts.{Told, Writing}
 use Rattle.world.specs.Parts as parts
-use Rattle.world.specs.Worlds.{World, Change, add, apply}
+use Rattle.world.specs.Worlds.{World, Change, apply}
 use Rattle.world.specs.Clients.{writing_as, writer_change, own_writer, writer_step, reached_answer, did, rest_in}
 use Rattle.world.specs.Events.{outcome, happens}
 use Rattle.world.specs.Primaries.{asks_writer}
-use Rattle.world_nets.specs.Nets.{IsNetOf, IsEndOf, is_over}
 use Rattle.world_nets.specs.Steps.{SendsBy}
 use Rattle.world_nets.specs.Flushing.{upper_flushes, action_sends}
 use Rattle.world_nets.proofs.DrawnLemmas.{own-makes, asks-make}
@@ -47,11 +45,11 @@ use Rattle.client_events.specs.declared.acting.Said.{Said}
 use Rattle.client_events.specs.declared.faults.ClientFault.{ClientFault}
 use Rattle.client_events.specs.declared.faults.ClientFault.TheVariants as fault
 use Rattle.client_events.specs.declared.pipes.Pipe.TheVariants as pipe
-use Rattle.client_events.specs.Acting.{said_by, said_in}
-use Rattle.client_events.specs.Completing.{put_as, Puts, is_completed, Closes}
-use Rattle.client_events.specs.Events.{own_event, asked_world, CanComplete, CompleteLeft, CompleteEnds, CompleteShows}
+use Rattle.client_events.specs.Acting.{said_by, said_in, AnswersIf}
+use Rattle.client_events.specs.Completing.{put_as, Puts, is_completed}
+use Rattle.client_events.specs.Events.{own_event, CompleteLeft, CompleteShows}
 use Rattle.client_events.specs.Showing.{StayShown, ClientStands, ClientLeft}
-use Rattle.client_events.proofs.ActLaws.{HasDone, DoneTo, done_to, at_add, if_none}
+use Rattle.client_events.proofs.ActLaws.{DoneTo, done_to, at_add, if_none}
 
 -- WHAT THE WRITER ASKS
 
@@ -91,7 +89,7 @@ entry_of (Ok x) h = refl
 entry_of (Err office_fault.Memory) h = cc
 entry_of (Err other) h = refl
 
-no_memory : (e : OfficeFault) → e ≡ office_fault.Memory → put_as (Err e) ≡ Ok tt → ⊥
+pub no_memory : (e : OfficeFault) → e ≡ office_fault.Memory → put_as (Err e) ≡ Ok tt → ⊥
 no_memory e is h = let k : put_as (Err office_fault.Memory) ≡ Ok tt = subst (λ (x : OfficeFault). put_as (Err x) ≡ Ok tt) is h in cc
 
 answer_is : (r x : Told) → put_as r ≡ Ok tt → Gives office_fault.Memory r x → r ≡ x
@@ -100,11 +98,11 @@ answer_is (Err e) x h (inl is) = absurd (no_memory e is h)
 answer_is (Err e) x h (inr is) = is
 
 -- What a call makes of an office that is observable.
-record PutTo {D : Type 0} (d : desks.Ghosts D) (o : OfficeState) (c : OfficeCall) (known known' : WriterRecord) (desk' : D) : Type 0 where
-  office : d.office desk' ≡ Some (office_after o c)
-  writer : known' ≡ granted known (answer_to o c)
+pub record PutTo {D : Type 0} (d : desks.Ghosts D) (o : OfficeState) (c : OfficeCall) (known known' : WriterRecord) (desk' : D) : Type 0 where
+  pub office : d.office desk' ≡ Some (office_after o c)
+  pub writer : known' ≡ granted known (answer_to o c)
 
-put_to : {D : Type 0} (d : desks.Ghosts D) (o : OfficeState) (c : OfficeCall) (known known' : WriterRecord) (desk desk' : D) → d.office desk ≡ Some o → Puts d c known known' desk desk' (Ok tt) → PutTo d o c known known' desk'
+pub put_to : {D : Type 0} (d : desks.Ghosts D) (o : OfficeState) (c : OfficeCall) (known known' : WriterRecord) (desk desk' : D) → d.office desk ≡ Some o → Puts d c known known' desk desk' (Ok tt) → PutTo d o c known known' desk'
 put_to d o c known known' desk desk' at p =
     let entry : is_entry p.answer ≡ true = entry_of p.answer (sym p.ends) in
     let is : p.answer ≡ answer_to o c = answer_is p.answer (answer_to o c) (sym p.ends) (subst (λ (x : Option OfficeState). AnswersAsOffice x c p.answer) at p.answers) in
@@ -116,23 +114,23 @@ put_to d o c known known' desk desk' at p =
 -- THE WORLD
 
 -- One step in which nothing is sent leaves roads and ends as they are.
-stays_shown : (w : World) (k : Change) (e : Event) → outcome w e ≡ Some (apply w k) → SendsBy w k [] → StayShown w (happens w e)
+pub stays_shown : (w : World) (k : Change) (e : Event) → outcome w e ≡ Some (apply w k) → SendsBy w k [] → StayShown w (happens w e)
 stays_shown w k e out sends =
     let f = followed w (apply w k) e out in record {
       nets = λ net is. f.nets net (changed-net w net k [] is sends);
       over = λ c l. f.over c l ∙ changed-over w k c l;
     }
 
-shown_on : (w u v : World) → StayShown w u → StayShown u v → StayShown w v
+pub shown_on : (w u v : World) → StayShown w u → StayShown u v → StayShown w v
 shown_on w u v a b = record { nets = λ net is. b.nets net (a.nets net is); over = λ c l. b.over c l ∙ a.over c l }
 
 -- The office was asked.
-record AskedTo (w v : World) (b : ℕ) (c : OfficeCall) : Type 0 where
-  writer : v.writers b ≡ record (w.writers b) { told = Some (answer_to w.office c) }
-  office : v.office ≡ office_after w.office c
-  said : v.said b ≡ w.said b
+pub record AskedTo (w v : World) (b : ℕ) (c : OfficeCall) : Type 0 where
+  pub writer : v.writers b ≡ record (w.writers b) { told = Some (answer_to w.office c) }
+  pub office : v.office ≡ office_after w.office c
+  pub said : v.said b ≡ w.said b
 
-asked_to : (w : World) (b : ℕ) (c : OfficeCall) → AskedTo w (apply w (asks_writer w b c)) b c
+pub asked_to : (w : World) (b : ℕ) (c : OfficeCall) → AskedTo w (apply w (asks_writer w b c)) b c
 unfolding apply
 asked_to w b c = record {
   writer = at_put w.writers b (record (w.writers b) { told = Some (answer_to w.office c) });
@@ -140,14 +138,14 @@ asked_to w b c = record {
   said = at_add w.said b [] ∙ append-nil (w.said b);
 }
 
-asked_on : (w v u : World) (b : ℕ) (c : OfficeCall) (e : Event) → v ≡ record u { last = Some e } → AskedTo w u b c → AskedTo w v b c
+pub asked_on : (w v u : World) (b : ℕ) (c : OfficeCall) (e : Event) → v ≡ record u { last = Some e } → AskedTo w u b c → AskedTo w v b c
 asked_on w v u b c e is a = record {
   writer = ap (λ (z : World). z.writers b) is ∙ a.writer;
   office = ap (λ (z : World). z.office) is ∙ a.office;
   said = ap (λ (z : World). z.said b) is ∙ a.said;
 }
 
-moved_to : (w : World) (b : ℕ) (x : WriterRecord) → DoneTo w (apply w (writer_change w b x)) b action.Wait x
+pub moved_to : (w : World) (b : ℕ) (x : WriterRecord) → DoneTo w (apply w (writer_change w b x)) b action.Wait x
 unfolding apply
 moved_to w b x = record { writer = at_put w.writers b (writing_as x (w.writers b).conn); office = refl; said = at_add w.said b [] }
 
@@ -199,14 +197,14 @@ rest_closes w b y answered none at =
       said_is = to.said;
     }
 
-ok_said : (x y : Option Said) → ◌≡◌ {A = Result (Option Said) ClientFault} (Ok x) (Ok y) → x ≡ y
+pub ok_said : (x y : Option Said) → ◌≡◌ {A = Result (Option Said) ClientFault} (Ok x) (Ok y) → x ≡ y
 ok_said x y h = cc
 
 rest_same : (w : World) (b : ℕ) (y z : WriterRecord) (said : Option Said) (answered : Bool) → (w.writers b).conn ≡ None → rest_in y.phase w b y answered ≡ Some (writer_change w b y) → z ≡ y → said ≡ None → RestDone w b y z said answered
 rest_same w b y z said answered none is same quiet =
     subst (λ (x : WriterRecord). RestDone w b y x said answered) (sym same) (subst (λ (x : Option Said). RestDone w b y y x answered) (sym quiet) (rest_moves w b y answered none is))
 
-by_phase : (w : World) (b : ℕ) (p : Phase) (y z : WriterRecord) (said : Option Said) (answered : Bool) → (w.writers b).conn ≡ None → y.phase ≡ p → IsAnswered p → Closes (is_completed p) y z (Ok said) → RestDone w b y z said answered
+by_phase : (w : World) (b : ℕ) (p : Phase) (y z : WriterRecord) (said : Option Said) (answered : Bool) → (w.writers b).conn ≡ None → y.phase ≡ p → IsAnswered p → AnswersIf (is_completed p) y z (Ok said) → RestDone w b y z said answered
 by_phase w b phase.Completed y z said answered none at ok c =
     let own = completed_own y at in
     subst (λ (x : WriterRecord). RestDone w b y x said answered) (sym (c.0 ∙ ap (λ (s : Step). s.writer) own))
@@ -215,44 +213,62 @@ by_phase w b phase.Finished y z said answered none at ok c = rest_same w b y z s
 by_phase w b (phase.Failed f) y z said answered none at ok c = rest_same w b y z said answered none (ap (λ (p : Phase). rest_in p w b y answered) at) c.0 (ok_said said None c.1)
 by_phase w b other y z said answered none at ok c = absurd ok
 
+-- A writer that has the office's answer goes on with its step.
+told_step : (w w1 : World) (block : BlockId) (answered : Bool) (known : WriterRecord) (told : Told) (k : Change) → w1.writers block.0 ≡ record (w.writers block.0) { told = Some told } → known ≡ (w.writers block.0).known
+    → rest_in (granted known told).phase w1 block.0 (granted known told) answered ≡ Some k → own_writer w1 block.0 None answered ≡ Some k
+told_step w w1 block answered known told k at is rest =
+    let b : ℕ = block.0 in
+    ap (λ (x : Writing). writer_step w1 b x.known x.told None answered) at
+    ∙ (ap (λ (x : WriterRecord). rest_in (granted x told).phase w1 b (granted x told) answered) (sym is) ∙ rest)
+
+-- The office has answered a writer, which goes on with its step.
+pub record OfficeAsked (w w1 : World) (block : BlockId) (c : OfficeCall) (y : WriterRecord) (answered : Bool) : Type 0 where
+  pub stay : StayShown w w1
+  pub at : AskedTo w w1 block.0 c
+  pub goes : (k : Change) → rest_in y.phase w1 block.0 y answered ≡ Some k → outcome w1 (own_event block None answered) ≡ Some (apply w1 k)
+
+pub office_asked : (w : World) (block : BlockId) (c : OfficeCall) (known : WriterRecord) (answered : Bool) → known ≡ (w.writers block.0).known → (w.writers block.0).told ≡ None → (own_step known).action ≡ action.Ask c
+    → OfficeAsked w (happens w (event.Office (caller.Writer block))) block c (granted known (answer_to w.office c)) answered
+office_asked w block c known answered is told does =
+    let b : ℕ = block.0 in
+    let e : Event = event.Office (caller.Writer block) in
+    let k : Change = asks_writer w b c in
+    let out = asks-make w block c told (subst (λ (x : WriterRecord). (own_step x).action ≡ action.Ask c) is does) in
+    let w1 : World = happens w e in
+    let a = asked_on w w1 (apply w k) b c e (happened w (apply w k) e out) (asked_to w b c) in record {
+      stay = stays_shown w k e out ((writer-sends w b known).asks c);
+      at = a;
+      goes = λ change rest. own-makes w1 block None answered change (told_step w w1 block answered known (answer_to w.office c) change a.writer is rest);
+    }
+
 -- WHAT IT LEAVES
 
 module _ {D : Type 0} (d : desks.Ghosts D) where
-  told_step : (w w1 : World) (block : BlockId) (answered : Bool) (known : WriterRecord) (told : Told) (k : Change) → w1.writers block.0 ≡ record (w.writers block.0) { told = Some told } → known ≡ (w.writers block.0).known
-      → rest_in (granted known told).phase w1 block.0 (granted known told) answered ≡ Some k → own_writer w1 block.0 None answered ≡ Some k
-  told_step w w1 block answered known told k at is rest =
-      let b : ℕ = block.0 in
-      ap (λ (x : Writing). writer_step w1 b x.known x.told None answered) at
-      ∙ (ap (λ (x : WriterRecord). rest_in (granted x told).phase w1 b (granted x told) answered) (sym is) ∙ rest)
-
   -- The office has answered, and the writer has gone on.
   pub complete_left : (known asked told known' : WriterRecord) (c : OfficeCall) (desk desk' : D) (said : Option Said) → action.Ask c ≡ (own_step known).action → asked ≡ (own_step known).writer → Puts d c asked told desk desk' (Ok tt)
-      → Closes (is_completed told.phase) told known' (Ok said) → CompleteShows d known known' desk desk' (Ok said)
+      → AnswersIf (is_completed told.phase) told known' (Ok said) → CompleteShows d known known' desk desk' (Ok said)
   complete_left known asked told known' c desk desk' said is_c is_asked puts closes = λ w block answered can.
       let b : ℕ = block.0 in
       let own = finished_step known can.finished in
       let same : asked ≡ known = is_asked ∙ ap (λ (s : Step). s.writer) own in
-      let asks : (own_step (w.writers b).known).action ≡ action.Ask c = subst (λ (x : WriterRecord). (own_step x).action ≡ action.Ask c) can.writer (sym is_c) in
       let e1 : Event = event.Office (caller.Writer block) in
-      let k1 : Change = asks_writer w b c in
-      let out1 = asks-make w block c can.told asks in
       let w1 : World = happens w e1 in
-      let a = asked_on w w1 (apply w k1) b c e1 (happened w (apply w k1) e1 out1) (asked_to w b c) in
+      let a = office_asked w block c known answered can.writer can.told (sym is_c) in
       let p = put_to d w.office c asked told desk desk' can.office puts in
       let answer_is : Told = answer_to w.office c in
       let y : WriterRecord = granted known answer_is in
       let is_y : told ≡ y = p.writer ∙ ap (λ (x : WriterRecord). granted x answer_is) same in
-      let none : (w1.writers b).conn ≡ None = ap (λ (x : Writing). x.conn) a.writer ∙ can.conn in
-      let rest = by_phase w1 b y.phase y known' said answered none refl (after_answer known answer_is can.finished) (subst (λ (x : WriterRecord). Closes (is_completed x.phase) x known' (Ok said)) is_y closes) in
+      let none : (w1.writers b).conn ≡ None = ap (λ (x : Writing). x.conn) a.at.writer ∙ can.conn in
+      let rest = by_phase w1 b y.phase y known' said answered none refl (after_answer known answer_is can.finished) (subst (λ (x : WriterRecord). AnswersIf (is_completed x.phase) x known' (Ok said)) is_y closes) in
       let e2 : Event = own_event block None answered in
-      let out2 = own-makes w1 block None answered rest.change (told_step w w1 block answered known answer_is rest.change a.writer can.writer rest.is) in
+      let out2 = a.goes rest.change rest.is in
       let v : World = happens w1 e2 in
       let is_v = happened w1 (apply w1 rest.change) e2 out2 in
       record {
-        stay = shown_on w w1 v (stays_shown w k1 e1 out1 ((writer-sends w b known).asks c)) (stays_shown w1 rest.change e2 out2 rest.sends);
+        stay = shown_on w w1 v a.stay (stays_shown w1 rest.change e2 out2 rest.sends);
         writer = ap (λ (z : World). z.writers b) is_v ∙ rest.writer;
-        office = p.office ∙ ap Some (sym a.office ∙ (sym rest.office ∙ sym (ap (λ (z : World). z.office) is_v)));
-        said_is = ap (λ (z : World). z.said b) is_v ∙ (rest.said_is ∙ ap (λ (l : List parts.Said). l ++ said_in said) a.said);
+        office = p.office ∙ ap Some (sym a.at.office ∙ (sym rest.office ∙ sym (ap (λ (z : World). z.office) is_v)));
+        said_is = ap (λ (z : World). z.said b) is_v ∙ (rest.said_is ∙ ap (λ (l : List parts.Said). l ++ said_in said) a.at.said);
       }
 
   -- It asks the office, and nothing else.
@@ -263,15 +279,15 @@ module _ {D : Type 0} (d : desks.Ghosts D) where
   pub complete_memory : (known known' : WriterRecord) (desk desk' : D) (why : ClientFault) → why ≡ fault.Memory → CompleteShows d known known' desk desk' (Err why)
   complete_memory known known' desk desk' why h = λ w block answered can. h
 
-closes_err : (q : Bool) (w w' : WriterRecord) (why : ClientFault) → Closes q w w' (Err why) → why ≡ fault.Memory
-closes_err true w w' why c = c
-closes_err false w w' why c = cc (c.1)
+pub answers_failed : (q : Bool) (w w' : WriterRecord) (why : ClientFault) → AnswersIf q w w' (Err why) → why ≡ fault.Memory
+answers_failed true w w' why c = c
+answers_failed false w w' why c = cc (c.1)
 
 -- What is left, or memory ran out.
 pub complete_shows : {D : Type 0} (d : desks.Ghosts D) (known asked told known' : WriterRecord) (c : OfficeCall) (desk desk' : D) (result : Result (Option Said) ClientFault) → action.Ask c ≡ (own_step known).action → asked ≡ (own_step known).writer → Puts d c asked told desk desk' (Ok tt)
-    → Closes (is_completed told.phase) told known' result → CompleteShows d known known' desk desk' result
+    → AnswersIf (is_completed told.phase) told known' result → CompleteShows d known known' desk desk' result
 complete_shows d known asked told known' c desk desk' (Ok said) is_c is_asked puts closes = complete_left d known asked told known' c desk desk' said is_c is_asked puts closes
-complete_shows d known asked told known' c desk desk' (Err why) is_c is_asked puts closes = complete_memory d known known' desk desk' why (closes_err (is_completed told.phase) told known' why closes)
+complete_shows d known asked told known' c desk desk' (Err why) is_c is_asked puts closes = complete_memory d known known' desk desk' why (answers_failed (is_completed told.phase) told known' why closes)
 
 -- What shows the world before shows it after.
 pub completed_stands : {R I O D : Type 0} (r : roads.Ghosts R I O) (i : link_in.Ghosts I) (o : link_out.Ghosts O) (d : desks.Ghosts D) (w : World) (net : Net) (v : World) (b : ℕ) (office : OfficeState) (known : WriterRecord) (desk : D) (said : Option Said) (road : R)

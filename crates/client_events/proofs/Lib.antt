@@ -1,4 +1,15 @@
 pub mod SettleLaws
+pub mod PhaseLaws
+pub mod FitLaws
 pub mod HearLaws
 pub mod ActLaws
+pub mod PassLaws
 pub mod CompleteLaws
+pub mod AnswerLaws
+pub mod AnswerEnds
+pub mod CommitLaws
+pub mod CommitEnds
+pub mod SetUpLaws
+pub mod SetUpEnds
+pub mod SetUpEvents
+pub mod SetUpPass

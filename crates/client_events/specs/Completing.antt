@@ -1,5 +1,5 @@
 -- The completion of a block by its writer.
-use Rattle.std.specs.Prelude.{◌≡◌, Bool, true, false, option_map, Option, None, Result, Ok, Err}
+use Rattle.std.specs.Prelude.{◌≡◌, Bool, true, false, option_map, Result, Ok, Err}
 use Rattle.name_core.specs.declared.calls.OfficeAnswer.{OfficeAnswer}
 use Rattle.name_core.specs.declared.calls.OfficeCall.{OfficeCall}
 use Rattle.name_core.specs.declared.desks.Desk as desk
@@ -9,11 +9,9 @@ use Rattle.name_core.specs.Desks.{AnswersAsOffice, office_after_answer}
 use Rattle.writer_core.specs.declared.phases.Phase.{Phase}
 use Rattle.writer_core.specs.declared.phases.Phase.TheVariants as phase
 use Rattle.writer_core.specs.declared.records.WriterRecord.{WriterRecord}
-use Rattle.writer_core.specs.Transitions.{own_step, granted}
-use Rattle.client_events.specs.declared.acting.Said.{Said}
+use Rattle.writer_core.specs.Transitions.{granted}
 use Rattle.client_events.specs.declared.faults.ClientFault.{ClientFault}
 use Rattle.client_events.specs.declared.faults.ClientFault.TheVariants as fault
-use Rattle.client_events.specs.Acting.{said_by}
 
 -- how a call ended that was answered so
 abbrev pub put_as : Result OfficeAnswer OfficeFault → Result (Unit {0}) ClientFault
@@ -33,9 +31,3 @@ pub record Puts {D : Type 0} (d : desk.Ghosts D) (call : OfficeCall) (w w' : Wri
 abbrev pub is_completed : Phase → Bool
 is_completed phase.Completed = true
 is_completed other = false
-
--- Once the block is completed the writer answers the close, or memory was wanting for that.
-abbrev pub Closes : Bool → WriterRecord → WriterRecord → Result (Option Said) ClientFault → Type 0
-Closes false w w' result = (w' ≡ w) × (result ≡ Ok None)
-Closes true w w' (Ok said) = (w' ≡ (own_step w).writer) × (said ≡ said_by (own_step w).action)
-Closes true w w' (Err why) = why ≡ fault.Memory

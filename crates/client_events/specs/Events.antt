@@ -1,5 +1,5 @@
 -- What the events of a writer make of roads, connection and writer that show a world: what shows the world after the event.
-use Rattle.std.specs.Prelude.{◌≡◌, ℕ, Bool, true, ◌++◌, Option, Some, None, IfSome, slice_get, Result, Ok, Err}
+use Rattle.std.specs.Prelude.{◌≡◌, ◌≢◌, ℕ, Bool, true, false, [], ◌++◌, Option, Some, None, IfSome, Result, Ok, Err}
 use Rattle.hd_base.specs.declared.numbers.BlockId.{BlockId}
 use Rattle.hd_base.specs.declared.ends.Conn.{Conn}
 use Rattle.hd_base.specs.declared.numbers.ConnId.{ConnId}
@@ -15,36 +15,36 @@ use Rattle.world.specs.declared.events.Event.{Event}
 use Rattle.world.specs.declared.events.Event.TheVariants as event
 use Rattle.world.specs.declared.events.OwnStep.TheVariants as own
 use Rattle.world.specs.declared.events.TakenCommand.{TakenCommand}
-use Rattle.world.specs.Parts.{Message, ack, by_writer}
+use Rattle.world.specs.Parts.{ack, response, by_writer}
 use Rattle.world.specs.Clients.{ruled}
 use Rattle.world.specs.Worlds.{World}
 use Rattle.world.specs.Connections.{Next, message, the_end}
 use Rattle.world.specs.Events.{happens, is_enabled}
 use Rattle.world_nets.specs.Drawn.{ComesUp}
+use Rattle.world_nets.specs.Nets.{is_over}
 use Rattle.writer_core.specs.declared.actions.Action.TheVariants as action
 use Rattle.writer_core.specs.declared.phases.Phase.TheVariants as phase
 use Rattle.writer_core.specs.declared.records.WriterRecord.{WriterRecord}
 use Rattle.writer_core.specs.Transitions.{Step, given, own_step, is_connected}
 use Rattle.world_texts.specs.Texts.{SpellsText}
+use Rattle.member_events.specs.Joining.{SpellDown}
 use Rattle.client_events.specs.declared.acting.Acted.{Acted}
 use Rattle.client_events.specs.declared.acting.Said.{Said}
 use Rattle.client_events.specs.declared.faults.ClientFault.{ClientFault}
 use Rattle.client_events.specs.declared.faults.ClientFault.TheVariants as fault
 use Rattle.client_events.specs.declared.pipes.Pipe.{Pipe}
 use Rattle.client_events.specs.declared.pipes.Pipe.TheVariants as pipe
+use Rattle.pipe_recovery.specs.declared.rebuilding.Rebuild.{Rebuild}
 use Rattle.client_events.specs.Acting.{said_in}
+use Rattle.client_events.specs.Answering.{IsWaiting}
 use Rattle.client_events.specs.Faults.{IsCaused}
-use Rattle.client_events.specs.Showing.{ClientStands, ClientLeft, StayShown}
+use Rattle.client_events.specs.Showing.{ClientStands, ClientLeft, StayShown, awaits, PipeFits}
 
 -- How an event of the writer of a block ends: what is left shows the world after it, or a fault has its cause.
 abbrev pub EventEnds : {R I O : Type 0} → roads.Ghosts R I O → link_in.Ghosts I → link_out.Ghosts O → World → Net →
     World → ℕ → OfficeState → WriterRecord → R → R → Result (Pipe I O) ClientFault → Type 0
 EventEnds r i o w net v b office known road road' (Ok left) = ClientLeft r i o w net v b office known left road'
 EventEnds r i o w net v b office known road road' (Err why) = IsCaused r (w.writers b).conn road road' why
-
--- Each message that was sent down on the connection is spelled by the bytes as which it is written.
-abbrev pub SpellDown : World → ℕ → Type 0
-SpellDown w c = (k : ℕ) (m : Message) → slice_get (w.downs c) k ≡ Some m → SpellsText m
 
 -- HEARING
 
@@ -113,6 +113,13 @@ ActShows r i o known known' connection road road' result =
     CanAct w block takes answered known connection
     → StepEnds r i o w net (happens w (own_event block takes answered)) block.0 office known' road road' result
 
+-- It leaves a connection that fits the writer, where it fitted before.
+abbrev pub FitsActed : {I O : Type 0} → WriterRecord → WriterRecord → Pipe I O → Result (Acted I O) ClientFault →
+    Type 0
+FitsActed known known' connection (Ok acted) =
+    KeepsSetup connection (own_step known) → PipeFits known.phase connection → PipeFits known'.phase acted.pipe
+FitsActed known known' connection (Err why) = Unit {0}
+
 -- COMPLETING
 
 -- the world once the office has answered the writer of a block, and the writer has gone on with its step
@@ -147,3 +154,69 @@ abbrev pub CompleteShows : {D : Type 0} → desks.Ghosts D → WriterRecord → 
 CompleteShows d known known' desk desk' result =
     (w : World) (block : BlockId) (answered : Bool) → CanComplete d w block.0 known desk
     → CompleteEnds d w (asked_world w block answered) block.0 known' desk' result
+
+-- A writer that didn't wait on the connection of a setup doesn't after the completion.
+abbrev pub FitsCompleted : WriterRecord → WriterRecord → Result (Option Said) ClientFault → Type 0
+FitsCompleted known known' (Ok said) = awaits known.phase ≡ false → awaits known'.phase ≡ false
+FitsCompleted known known' (Err why) = Unit {0}
+
+-- HEARING THE ANSWER TO A REQUEST
+
+-- What comes to a writer that waits for the answer to its request: an answer that is spelled as it is written, or the
+-- end.
+abbrev pub IsAnswerNext : Next → Type 0
+IsAnswerNext (message (response r)) = SpellsText (response r)
+IsAnswerNext (message other) = ⊥
+IsAnswerNext the_end = Unit {0}
+
+-- The writer of a block waits for the answer to its request, and takes what stands next on its connection. That it has
+-- members then, and that this is an answer, holds after all events (messages_are_taken_in_order).
+pub record CanHearAnswer (w : World) (conn : ConnId) (b : ℕ) (known : WriterRecord) (x : Next) : Type 0 where
+  pub comes : ComesUp w conn.0 x
+  pub conn_is : (w.writers b).conn ≡ Some conn.0
+  pub upper : (w.dialled conn.0).upper ≡ by_writer b
+  pub answers : IsAnswerNext x
+  pub waits : IsWaiting known.phase
+  pub members : known.members ≢ []
+
+abbrev pub AnswerShows : {R I O : Type 0} → roads.Ghosts R I O → link_in.Ghosts I → link_out.Ghosts O → WriterRecord →
+    WriterRecord → Rebuild I O → R → R → Result (Pipe I O) ClientFault → Type 0
+AnswerShows r i o known known' setup road road' result =
+    (w : World) (net : Net) (b : ℕ) (office : OfficeState) (conn : ConnId) (x : Next) →
+    ClientStands r i o w net b office known (pipe.SettingUp setup) road → CanHearAnswer w conn b known x
+    → EventEnds r i o w net (happens w (event.Up conn)) b office known' road road' result
+
+-- COMMITTING
+
+-- The office answers the writer of a block whose request was answered, and the desk is that of the office. That the
+-- writer has members then, and that the end of its connection wasn't taken, holds after all events
+-- (messages_are_taken_in_order, takers_are_open).
+pub record CanCommit {D : Type 0} (d : desks.Ghosts D) (w : World) (b : ℕ) (known : WriterRecord) (desk : D) : Type 0
+  where
+    pub office : d.office desk ≡ Some w.office
+    pub members : known.members ≢ []
+    pub untaken : IfSome (w.writers b).conn (λ c. is_over w c false ≡ false)
+
+-- What is left, with the office, shows the world after the events, and the answer, if there is one, is the world's; or
+-- a fault has its cause.
+abbrev pub AskedEnds : {D R I O : Type 0} → desks.Ghosts D → roads.Ghosts R I O → link_in.Ghosts I →
+    link_out.Ghosts O → World → Net → World → ℕ → WriterRecord → D → R → R → Result (Acted I O) ClientFault → Type 0
+AskedEnds d r i o w net v b known desk road road' (Ok left) =
+    (d.office desk ≡ Some v.office) × StepLeft r i o w net v b v.office known left road'
+AskedEnds d r i o w net v b known desk road road' (Err why) = IsCaused r (w.writers b).conn road road' why
+
+-- The commit leaves a connection that fits the writer, where the setup did.
+abbrev pub FitsCommitted : {I O : Type 0} → WriterRecord → WriterRecord → Rebuild I O → Result (Acted I O) ClientFault →
+    Type 0
+FitsCommitted known known' setup (Ok acted) =
+    PipeFits known.phase (pipe.SettingUp setup) → PipeFits known'.phase acted.pipe
+FitsCommitted known known' setup (Err why) = Unit {0}
+
+abbrev pub CommitShows : {D R I O : Type 0} → desks.Ghosts D → roads.Ghosts R I O → link_in.Ghosts I →
+    link_out.Ghosts O → WriterRecord → WriterRecord → Rebuild I O → D → D → R → R → Result (Acted I O) ClientFault →
+    Type 0
+CommitShows d r i o known known' setup desk desk' road road' result =
+    (w : World) (net : Net) (block : BlockId) (answered : Bool) →
+    ClientStands r i o w net block.0 w.office known (pipe.SettingUp setup) road →
+    CanCommit d w block.0 known desk
+    → AskedEnds d r i o w net (asked_world w block answered) block.0 known' desk' road road' result

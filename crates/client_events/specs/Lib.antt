@@ -4,5 +4,8 @@ pub mod Hearing
 pub mod Sending
 pub mod Acting
 pub mod Completing
+pub mod Answering
+pub mod Committing
 pub mod Showing
 pub mod Events
+pub mod SettingUp

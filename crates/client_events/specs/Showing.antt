@@ -1,5 +1,5 @@
 -- A writer, its connection, the office and the roads show a world.
-use Rattle.std.specs.Prelude.{◌≡◌, ℕ, Bool, false, Option, Some, None, IfSome}
+use Rattle.std.specs.Prelude.{◌≡◌, ℕ, Bool, true, false, is_some, Option, Some, None, IfSome, Result, Ok, Err}
 use Rattle.hd_base.specs.Channels.{Plain}
 use Rattle.hd_base.specs.Ends.{IsKnown}
 use Rattle.hd_base.specs.declared.ends.Conn.{Conn}
@@ -10,13 +10,17 @@ use Rattle.link_messages.specs.Incomings.{IncomingState, nothing_received}
 use Rattle.name_core.specs.Offices.{OfficeState}
 use Rattle.pipe_recovery.specs.declared.links.Link.{Link}
 use Rattle.pipe_recovery.specs.Dialling.{LinkIsKnown}
+use Rattle.pipe_recovery.specs.Steps.{fits_accepted, fits_in, is_stamped}
 use Rattle.pipe_recovery.specs.Hearing.{nothing_heard}
 use Rattle.road_traffic.specs.Showing.{Net}
 use Rattle.world.specs.Worlds.{World}
 use Rattle.world_nets.specs.Nets.{IsNetOf, IsEndOf, is_over}
 use Rattle.world_nets.specs.Ends.{IsElsewhere}
+use Rattle.writer_core.specs.declared.phases.Phase.{Phase}
+use Rattle.writer_core.specs.declared.phases.Phase.TheVariants as phase
 use Rattle.writer_core.specs.declared.records.WriterRecord.{WriterRecord}
 use Rattle.member_events.specs.Showing.{ShowsWorld}
+use Rattle.client_events.specs.declared.faults.ClientFault.{ClientFault}
 use Rattle.client_events.specs.declared.pipes.Pipe.{Pipe}
 use Rattle.client_events.specs.declared.pipes.Pipe.TheVariants as pipe
 
@@ -53,6 +57,25 @@ abbrev pub PipeIsKnown : {I O : Type 0} → Option Plain → Pipe I O → Type 0
 PipeIsKnown plain pipe.Closed = Unit {0}
 PipeIsKnown plain (pipe.SettingUp setup) = LinkIsKnown plain setup.link
 PipeIsKnown plain (pipe.Streaming end incoming) = IsKnown plain end.id.0
+
+-- WHERE THE WRITER IS
+
+-- the writer waits on the connection of a setup
+abbrev pub awaits : Phase → Bool
+awaits (phase.Requested s stamp) = true
+awaits (phase.Accepted s stamp) = fits_accepted s true
+awaits other = false
+
+-- Where a setup has the connection a step of it may be done (Rebuild::fits); else the writer doesn't wait on one.
+abbrev pub PipeFits : {I O : Type 0} → Phase → Pipe I O → Type 0
+PipeFits p (pipe.SettingUp setup) = (fits_in p (is_some setup.link) ≡ true) × (is_stamped p ≡ false)
+PipeFits p (pipe.Streaming end incoming) = awaits p ≡ false
+PipeFits p pipe.Closed = awaits p ≡ false
+
+-- An event leaves a connection that fits the writer, where it fitted before.
+abbrev pub FitsAfter : {I O : Type 0} → WriterRecord → WriterRecord → Pipe I O → Result (Pipe I O) ClientFault → Type 0
+FitsAfter known known' connection (Ok left) = PipeFits known.phase connection → PipeFits known'.phase left
+FitsAfter known known' connection (Err why) = Unit {0}
 
 -- WRITERS
 

@@ -1,9 +1,9 @@
 //! A writer's own step that asks nothing and dials nothing.
 
-ghost use Rattle.std.specs.Prelude.{◌≡◌};
+ghost use Rattle.std.specs.Prelude.{◌≡◌, ◌≤◌, IfOk};
 ghost use Rattle.writer_core.specs.Transitions.{own_step};
-ghost use Rattle.client_events.specs.Acting.{said_by, IsStepped};
-ghost use Rattle.client_events.specs.Events.{ActShows};
+ghost use Rattle.client_events.specs.Acting.{said_by, IsStepped, AnswersIf};
+ghost use Rattle.client_events.specs.Events.{ActShows, FitsActed};
 ghost use Rattle.client_events.specs.Showing.{PipeIsKnown};
 
 use crate::faults::ClientFault;
@@ -39,7 +39,10 @@ pub fn act<I: LinkIn, O: LinkOut, R: Roads<Inward = I, Outward = O>>(
     pipe: Pipe<I, O>,
 ) -> Result<Acted<I, O>, ClientFault>
     requires { PipeIsKnown (R.plain roads.old) pipe }
-    ensures { ActShows R.Roads I.LinkIn O.LinkOut writer.old writer.new pipe roads.old roads.new result }
+    ensures shows { ActShows R.Roads I.LinkIn O.LinkOut writer.old writer.new pipe roads.old roads.new result }
+    ensures fits { FitsActed writer.old writer.new pipe result }
+    ensures counts { R.faults roads.old ≤ R.faults roads.new }
+    ensures known { IfOk result (λ left. PipeIsKnown (R.plain roads.new) left.pipe) }
 {
     let action = stepped(writer)?;
     let connected = writer.connected();
@@ -69,4 +72,15 @@ pub(crate) fn said_by(action: Action) -> Option<Said>
         Action::Dial { to: _to, op: _op } => None,
         Action::Send(_packet) => None,
     }
+}
+
+/// The own step of a writer that is due to answer a command, if it is.
+pub(crate) fn answer_if(writer: &mut Writer, due: bool) -> Result<Option<Said>, ClientFault>
+    ensures { AnswersIf due writer.old writer.new result }
+{
+    if !due {
+        return Ok(None);
+    }
+    let action = stepped(writer)?;
+    Ok(said_by(action))
 }

@@ -1,10 +1,11 @@
 //! The completion of a block by its writer.
 
 ghost use Rattle.std.specs.Prelude.{◌≡◌};
-ghost use Rattle.client_events.specs.Completing.{put_as, Puts, is_completed, Closes};
-ghost use Rattle.client_events.specs.Events.{CompleteShows};
+ghost use Rattle.client_events.specs.Acting.{AnswersIf};
+ghost use Rattle.client_events.specs.Completing.{put_as, Puts, is_completed};
+ghost use Rattle.client_events.specs.Events.{CompleteShows, FitsCompleted};
 
-use crate::acting::{Said, said_by, stepped};
+use crate::acting::{Said, answer_if, said_by, stepped};
 use crate::faults::ClientFault;
 use name_core::{Desk, OfficeAnswer, OfficeCall, OfficeFault};
 use writer_core::{Action, Phase, Writer};
@@ -12,7 +13,8 @@ use writer_core::{Action, Phase, Writer};
 /// A writer whose packets are all acked asks the office to complete its block, and answers the close once it is
 /// completed.
 pub fn complete<D: Desk>(office: &mut D, writer: &mut Writer) -> Result<Option<Said>, ClientFault>
-    ensures { CompleteShows D.Desk writer.old writer.new office.old office.new result }
+    ensures shows { CompleteShows D.Desk writer.old writer.new office.old office.new result }
+    ensures fits { FitsCompleted writer.old writer.new result }
 {
     match stepped(writer)? {
         Action::Ask(call) => {
@@ -44,13 +46,10 @@ fn put_as(answer: &Result<OfficeAnswer, OfficeFault>) -> Result<(), ClientFault>
 
 /// Answers the close, where the block is completed.
 fn closed(writer: &mut Writer) -> Result<Option<Said>, ClientFault>
-    ensures { Closes (is_completed writer.old.phase) writer.old writer.new result }
+    ensures { AnswersIf (is_completed writer.old.phase) writer.old writer.new result }
 {
-    if !is_completed(writer.phase()) {
-        return Ok(None);
-    }
-    let action = stepped(writer)?;
-    Ok(said_by(action))
+    let due = is_completed(writer.phase());
+    answer_if(writer, due)
 }
 
 /// Whether the office has completed the block.

@@ -1,10 +1,12 @@
 //! What a writer hears on its connection.
 
-ghost use Rattle.std.specs.Prelude.{◌≡◌};
+ghost use Rattle.std.specs.Prelude.{◌≡◌, ◌≤◌, IfOk};
 ghost use Rattle.hd_base.specs.Ends.{IsKnown};
 ghost use Rattle.pipe_member.specs.Looks.{looked_of};
 ghost use Rattle.client_events.specs.Hearing.{told_of, Hears};
+ghost use Rattle.client_events.specs.declared.pipes.Pipe.TheVariants.{Streaming};
 ghost use Rattle.client_events.specs.Events.{HearShows};
+ghost use Rattle.client_events.specs.Showing.{FitsAfter, PipeIsKnown};
 
 use crate::faults::ClientFault;
 use crate::pipes::Pipe;
@@ -26,7 +28,10 @@ pub fn hear_ack<I: LinkIn, O: LinkOut, R: Roads<Inward = I, Outward = O>>(
     incoming: Incoming,
 ) -> Result<Pipe<I, O>, ClientFault>
     requires { IsKnown (R.plain roads.old) end.id.0 }
-    ensures { HearShows R.Roads I.LinkIn O.LinkOut writer.old writer.new end incoming roads.old roads.new result }
+    ensures shows { HearShows R.Roads I.LinkIn O.LinkOut writer.old writer.new end incoming roads.old roads.new result }
+    ensures fits { FitsAfter writer.old writer.new (Streaming end incoming) result }
+    ensures counts { R.faults roads.old ≤ R.faults roads.new }
+    ensures known { IfOk result (λ left. PipeIsKnown (R.plain roads.new) left) }
 {
     let conn = end.id;
     let mut incoming = incoming;

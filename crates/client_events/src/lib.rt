@@ -3,15 +3,21 @@
 #![tactic(auto)]
 
 mod acting;
+mod answering;
+mod committing;
 mod completing;
 mod faults;
 mod hearing;
 mod pipes;
 mod sending;
+mod setting_up;
 mod steps;
 
 pub use acting::{Acted, Said, act};
+pub use answering::hear_answer;
+pub use committing::commit;
 pub use completing::complete;
 pub use faults::ClientFault;
 pub use hearing::hear_ack;
 pub use pipes::Pipe;
+pub use setting_up::{SetUp, set_up};

@@ -1,6 +1,7 @@
 //! What a writer sends in its own step.
 
 ghost use Rattle.hd_base.specs.Ends.{IsKnown};
+ghost use Rattle.member_events.specs.Roads.{RoadsPass};
 ghost use Rattle.client_events.specs.Sending.{SendsPacket, SendsAction, IsStreamed, IsFollowed};
 ghost use Rattle.client_events.specs.Showing.{PipeIsKnown};
 
@@ -35,7 +36,8 @@ pub(crate) fn followed<I: LinkIn, O: LinkOut, R: Roads<Inward = I, Outward = O>>
     action: &Action,
 ) -> Result<Pipe<I, O>, ClientFault>
     requires { PipeIsKnown (R.plain roads.old) pipe }
-    ensures { IsFollowed R.Roads I.LinkIn O.LinkOut connected action.now pipe roads.old roads.new result }
+    ensures follows { IsFollowed R.Roads I.LinkIn O.LinkOut connected action.now pipe roads.old roads.new result }
+    ensures passes { RoadsPass R.Roads roads.old roads.new }
 {
     match pipe {
         Pipe::Closed => Ok(Pipe::Closed),
@@ -56,7 +58,8 @@ fn streamed<I: LinkIn, O: LinkOut, R: Roads<Inward = I, Outward = O>>(
     action: &Action,
 ) -> Result<Pipe<I, O>, ClientFault>
     requires { IsKnown (R.plain roads.old) end.id.0 }
-    ensures { IsStreamed R.Roads I.LinkIn O.LinkOut connected action.now end incoming roads.old roads.new result }
+    ensures streams { IsStreamed R.Roads I.LinkIn O.LinkOut connected action.now end incoming roads.old roads.new result }
+    ensures passes { RoadsPass R.Roads roads.old roads.new }
 {
     let mut end = end;
     match sent(alloc, &mut end.outward, action) {

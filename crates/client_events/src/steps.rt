@@ -1,6 +1,7 @@
 //! What becomes of a writer's end in an event.
 
 ghost use Rattle.hd_base.specs.Ends.{IsKnown};
+ghost use Rattle.member_events.specs.Roads.{RoadsPass};
 ghost use Rattle.client_events.specs.Steps.{IsExchanged, IsLost, IsKept, IsGivenBack, IsSettled};
 
 use crate::faults::{ClientFault, road_fault};
@@ -18,7 +19,8 @@ pub(crate) fn exchanged<I: LinkIn, O: LinkOut, R: Roads<Inward = I, Outward = O>
     take: Option<ConnId>,
 ) -> Result<Conn<I, O>, ClientFault>
     requires { IsKnown (R.plain roads.old) end.id.0 }
-    ensures { IsExchanged R.Roads I.LinkIn O.LinkOut take end roads.old roads.new result }
+    ensures exchanges { IsExchanged R.Roads I.LinkIn O.LinkOut take end roads.old roads.new result }
+    ensures passes { RoadsPass R.Roads roads.old roads.new }
 {
     let mut end = end;
     match exchange_end(alloc, roads, &mut end, take) {
@@ -34,7 +36,8 @@ pub(crate) fn lost<I: LinkIn, O: LinkOut, R: Roads<Inward = I, Outward = O>>(
     end: Conn<I, O>,
 ) -> ClientFault
     requires { IsKnown (R.plain roads.old) end.id.0 }
-    ensures { IsLost R.Roads I.LinkIn O.LinkOut end roads.old roads.new result }
+    ensures loses { IsLost R.Roads I.LinkIn O.LinkOut end roads.old roads.new result }
+    ensures passes { RoadsPass R.Roads roads.old roads.new }
 {
     match roads.bring(alloc, end) {
         Ok(()) => ClientFault::LinkFailed,
@@ -52,7 +55,8 @@ pub(crate) fn settled<I: LinkIn, O: LinkOut, R: Roads<Inward = I, Outward = O>>(
     incoming: Incoming,
 ) -> Result<Pipe<I, O>, ClientFault>
     requires { IsKnown (R.plain roads.old) end.id.0 }
-    ensures { IsSettled R.Roads I.LinkIn O.LinkOut connected end incoming roads.old roads.new result }
+    ensures settles { IsSettled R.Roads I.LinkIn O.LinkOut connected end incoming roads.old roads.new result }
+    ensures passes { RoadsPass R.Roads roads.old roads.new }
 {
     if connected {
         kept(alloc, roads, end, incoming)
@@ -69,7 +73,8 @@ fn kept<I: LinkIn, O: LinkOut, R: Roads<Inward = I, Outward = O>>(
     incoming: Incoming,
 ) -> Result<Pipe<I, O>, ClientFault>
     requires { IsKnown (R.plain roads.old) end.id.0 }
-    ensures { IsKept R.Roads I.LinkIn O.LinkOut end incoming roads.old roads.new result }
+    ensures keeps { IsKept R.Roads I.LinkIn O.LinkOut end incoming roads.old roads.new result }
+    ensures passes { RoadsPass R.Roads roads.old roads.new }
 {
     match exchanged(alloc, roads, end, None) {
         Ok(end) => Ok(Pipe::Streaming { end, incoming }),
@@ -84,7 +89,8 @@ fn given_back<I: LinkIn, O: LinkOut, R: Roads<Inward = I, Outward = O>>(
     end: Conn<I, O>,
 ) -> Result<Pipe<I, O>, ClientFault>
     requires { IsKnown (R.plain roads.old) end.id.0 }
-    ensures { IsGivenBack R.Roads I.LinkIn O.LinkOut end roads.old roads.new result }
+    ensures gives { IsGivenBack R.Roads I.LinkIn O.LinkOut end roads.old roads.new result }
+    ensures passes { RoadsPass R.Roads roads.old roads.new }
 {
     let mut end = end;
     end.outward.shut();

@@ -26,7 +26,7 @@ use writer_core::{Action, Writer};
 
 /// How a dial went.
 #[derive(Clone, Copy, Debug, PartialEq, Eq)]
-pub(crate) enum Opened {
+pub enum Opened {
     /// It was answered.
     Answered,
     /// It wasn't answered.

@@ -13,6 +13,7 @@ mod rebuilding;
 mod reporting;
 
 pub use acting::Acted;
+pub use dialling::Opened;
 pub use driving::rebuild;
 pub use hearing::{Answer, Heard, Looked};
 pub use links::Link;

@@ -2,10 +2,11 @@
 use Rattle.std.proofs.Common.{Result, refl, subst}
 use Rattle.hd_base.specs.declared.ends.RoadError.{RoadError}
 use Rattle.link_pieces.specs.Roads.{BringsEnd}
+use Rattle.client_events.proofs.PassLaws.{pass_by}
 use Rattle.client_events.proofs.steps.given_back.Goals as goal
 
-pub returns-in-Ok : goal.returns-in-Ok
-returns-in-Ok g c =
+pub returns-in-Ok-clause-gives : goal.returns-in-Ok-clause-gives
+returns-in-Ok-clause-gives g c =
     let at_end = record c.args.end { outward = c.shut.new.self } in
     let b : BringsEnd g.R.Roads g.I.LinkIn g.O.LinkOut at_end c.args.roads.now c.bring.new.self c.bring.result = record {
       carried = c.bring.ensures.carried;
@@ -23,3 +24,9 @@ returns-in-Ok g c =
       half = record { shut = c.shut.ensures.shut; sent = c.shut.ensures.sent; flushed = c.shut.ensures.flushed; lost = c.shut.ensures.lost };
       brings = subst (λ (x : Result (Unit {0}) RoadError). BringsEnd g.R.Roads g.I.LinkIn g.O.LinkOut at_end c.args.roads.now c.bring.new.self x) c.in-Ok.is b;
     }
+
+pub returns-in-Ok-clause-passes : goal.returns-in-Ok-clause-passes
+returns-in-Ok-clause-passes g c = pass_by g.R.Roads g.I.LinkIn g.O.LinkOut c.args.roads.now c.bring.new.self c.bring.ensures.connections c.bring.ensures.cause.never_falls
+
+pub returns-in-Err-clause-passes : goal.returns-in-Err-clause-passes
+returns-in-Err-clause-passes g c = pass_by g.R.Roads g.I.LinkIn g.O.LinkOut c.args.roads.now c.bring.new.self c.bring.ensures.connections c.bring.ensures.cause.never_falls

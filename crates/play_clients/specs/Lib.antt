@@ -1,0 +1,7 @@
+pub mod Clients
+pub mod Courses
+pub mod Hearing
+pub mod Owning
+pub mod Events
+pub mod Staying
+pub mod Others

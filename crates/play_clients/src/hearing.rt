@@ -1,0 +1,83 @@
+//! What a client hears on its writer's connection.
+
+ghost use Rattle.std.specs.Prelude.{◌≡◌};
+ghost use Rattle.client_events.specs.Showing.{PipeIsKnown};
+ghost use Rattle.pipe_recovery.specs.Dialling.{LinkIsKnown};
+ghost use Rattle.play_clients.specs.Hearing.{awaits_answer, SetupHears, PipeHears};
+ghost use Rattle.play_clients.specs.Events.{HearShows};
+
+use crate::clients::Client;
+use client_events::{ClientFault, Pipe, hear_ack, hear_answer};
+use hd_base::{LinkIn, LinkOut, Roads};
+use name_core::Desk;
+use pipe_recovery::Rebuild;
+use std::alloc::Global;
+use std::mem;
+use writer_core::{Phase, Writer};
+
+impl<I: LinkIn, O: LinkOut> Client<I, O> {
+    /// The writer takes what stands next on its connection. Nothing is done where it has none, or doesn't hear on it.
+    pub fn hear<D: Desk, R: Roads<Inward = I, Outward = O>>(
+        &mut self,
+        alloc: Global,
+        roads: &mut R,
+        office: &mut D,
+    ) -> Result<(), ClientFault>
+        requires { PipeIsKnown (R.plain roads.old) self.old.pipe }
+        ensures shows { HearShows D.Desk R.Roads I.LinkIn O.LinkOut
+            self.old self.new office.old roads.old roads.new result }
+        ensures office { office.new ≡ office.old }
+    {
+        let Some(writer) = &mut self.writer else {
+            return Ok(());
+        };
+        let pipe = mem::replace(&mut self.pipe, Pipe::Closed);
+        self.pipe = heard(alloc, roads, office, writer, pipe)?;
+        Ok(())
+    }
+}
+
+/// What is left of the connection of a writer that takes what stands next there.
+fn heard<D: Desk, I: LinkIn, O: LinkOut, R: Roads<Inward = I, Outward = O>>(
+    alloc: Global,
+    roads: &mut R,
+    office: &mut D,
+    writer: &mut Writer,
+    pipe: Pipe<I, O>,
+) -> Result<Pipe<I, O>, ClientFault>
+    requires { PipeIsKnown (R.plain roads.old) pipe }
+    ensures hears { PipeHears R.Roads I.LinkIn O.LinkOut writer.old writer.new pipe roads.old roads.new result }
+    ensures office { office.new ≡ office.old }
+{
+    match pipe {
+        Pipe::Closed => Ok(Pipe::Closed),
+        Pipe::Streaming { end, incoming } => hear_ack(alloc, roads, writer, end, incoming),
+        Pipe::SettingUp(setup) => answered(alloc, roads, office, writer, setup),
+    }
+}
+
+/// What is left of the setup of a writer that waits for the answer to its request.
+fn answered<D: Desk, I: LinkIn, O: LinkOut, R: Roads<Inward = I, Outward = O>>(
+    alloc: Global,
+    roads: &mut R,
+    office: &mut D,
+    writer: &mut Writer,
+    setup: Rebuild<I, O>,
+) -> Result<Pipe<I, O>, ClientFault>
+    requires { LinkIsKnown (R.plain roads.old) setup.link }
+    ensures hears { SetupHears R.Roads I.LinkIn O.LinkOut writer.old writer.new setup roads.old roads.new result }
+    ensures office { office.new ≡ office.old }
+{
+    if awaits_answer(writer.phase()) && setup.conn().is_some() {
+        hear_answer(alloc, roads, office, writer, setup)
+    } else {
+        Ok(Pipe::SettingUp(setup))
+    }
+}
+
+/// Whether a writer waits for the answer to its request.
+fn awaits_answer(phase: Phase) -> bool
+    ensures { result ≡ awaits_answer phase }
+{
+    matches!(phase, Phase::Requested { .. })
+}

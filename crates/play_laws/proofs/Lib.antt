@@ -1,0 +1,12 @@
+pub mod Queues
+pub mod Steps
+pub mod Resting
+pub mod Running
+pub mod Dials
+pub mod Aiming
+pub mod Hushing
+pub mod Turns
+pub mod Lowers
+pub mod Asides
+pub mod Sending
+pub mod Early

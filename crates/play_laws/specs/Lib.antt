@@ -1,0 +1,4 @@
+pub mod Early
+pub mod Members
+pub mod Nodes
+pub mod Writers

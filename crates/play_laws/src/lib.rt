@@ -1,0 +1,39 @@
+//! What a play takes of the world for the clients and the nodes in it. Each function has an empty body; its clause says
+//! what holds after every list of events.
+#![tactic(auto)]
+
+ghost use Rattle.play_laws.specs.Early.{NothingEarly};
+ghost use Rattle.play_laws.specs.Members.{MembersAre, TargetsAre};
+ghost use Rattle.play_laws.specs.Nodes.{AllRun};
+ghost use Rattle.play_laws.specs.Writers.{AllRest, WritersOpen};
+
+/// Between two steps a writer has taken each command that it was given, isn't about to go on with an answer of the
+/// office, has members where a pipeline is wanted, set up or stands, and a connection just where its phase has one.
+pub fn writers_rest()
+    ensures { AllRest }
+{}
+
+/// A writer hasn't taken the end of the connection that it has.
+pub fn writers_are_open()
+    ensures { WritersOpen }
+{}
+
+/// Where a writer's request was accepted, and it has sent no packet yet, no message stands next for it.
+pub fn nothing_comes_early()
+    ensures { NothingEarly }
+{}
+
+/// Where no event stops a node or starts one again, all nodes run in their first life.
+pub fn nodes_run()
+    ensures { AllRun }
+{}
+
+/// Where each command that a writer takes names only nodes of the world, so are the members of each writer.
+pub fn members_are_nodes()
+    ensures { MembersAre }
+{}
+
+/// So are the targets of each request to write: each is told as that node itself tells where it is.
+pub fn targets_are_nodes()
+    ensures { TargetsAre }
+{}
