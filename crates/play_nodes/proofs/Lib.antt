@@ -10,3 +10,6 @@ pub mod BeginNodes
 pub mod JoinNodes
 pub mod BeginEnds
 pub mod DueNodes
+pub mod KeptNodes
+pub mod WriterFrames
+pub mod WriterKeeping

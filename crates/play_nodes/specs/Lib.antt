@@ -4,3 +4,4 @@ pub mod Showing
 pub mod Events
 pub mod Beginning
 pub mod Dues
+pub mod Frames

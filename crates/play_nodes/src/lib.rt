@@ -4,11 +4,14 @@
 
 mod beginning;
 mod connections;
+mod dialling;
 mod dues;
 mod events;
 mod faults;
+mod frames;
 mod nodes;
 
 pub use connections::{Connection, Lower, Upper};
 pub use faults::NodesFault;
+pub use frames::{nodes_keep_writers, nodes_stay, writers_keep_nodes};
 pub use nodes::{NodeBooks, Nodes};

@@ -1,0 +1,23 @@
+//! What the events of writers leave of the nodes, and what the events of the nodes leave of the writers.
+
+ghost use Rattle.play_nodes.specs.Frames.{NodesStay, OwnKeeps, HeardKeeps, DownKeeps, ReadyKeeps, MirrorKeeps};
+
+use hd_base::{Files, LinkIn, LinkOut};
+
+/// Nodes that show a world show the world after an event that keeps what they show, and dials nothing.
+pub fn nodes_stay<F: Files, I: LinkIn, O: LinkOut>()
+    ensures { NodesStay F.Files I.LinkIn O.LinkOut }
+{}
+
+/// The events of writers keep what the nodes show.
+pub fn writers_keep_nodes()
+    ensures own { OwnKeeps }
+    ensures heard { HeardKeeps }
+{}
+
+/// The events of the nodes keep the office, the writers, and what they have answered.
+pub fn nodes_keep_writers()
+    ensures down { DownKeeps }
+    ensures ready { ReadyKeeps }
+    ensures up { MirrorKeeps }
+{}
