@@ -1,6 +1,9 @@
 pub mod Queues
 pub mod Steps
+pub mod Standing
+pub mod Taking
 pub mod Resting
+pub mod Commanding
 pub mod Running
 pub mod Dials
 pub mod Aiming

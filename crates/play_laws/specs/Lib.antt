@@ -1,4 +1,5 @@
 pub mod Early
 pub mod Members
 pub mod Nodes
+pub mod Taking
 pub mod Writers
