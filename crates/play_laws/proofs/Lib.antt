@@ -13,3 +13,4 @@ pub mod Lowers
 pub mod Asides
 pub mod Sending
 pub mod Early
+pub mod Untold

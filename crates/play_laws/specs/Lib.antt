@@ -2,4 +2,5 @@ pub mod Early
 pub mod Members
 pub mod Nodes
 pub mod Taking
+pub mod Untold
 pub mod Writers
