@@ -12,3 +12,4 @@ pub mod CommitEnds
 pub mod SetUpLaws
 pub mod SetUpEnds
 pub mod SetUpEvents
+pub mod SetUpPass

@@ -10,7 +10,7 @@ use Rattle.hd_base.specs.declared.numbers.ConnId.{ConnId}
 use Rattle.hd_base.specs.declared.numbers.Stamp.{Stamp}
 use Rattle.hd_base.specs.declared.roads.Roads as roads
 use Rattle.link_messages.specs.Incomings.{IncomingState}
-use Rattle.link_pieces.specs.Roads.{ExchangesEnd, BringsEnd, names}
+use Rattle.link_pieces.specs.Roads.{names}
 use Rattle.name_core.specs.declared.desks.Desk as desks
 use Rattle.pipe_recovery.specs.declared.acting.Acted.{Acted}
 use Rattle.pipe_recovery.specs.declared.acting.Acted.TheVariants as acted
@@ -36,8 +36,10 @@ use Rattle.writer_core.specs.declared.phases.Phase.TheVariants as phase
 use Rattle.writer_core.specs.declared.phases.Setup.{Setup}
 use Rattle.writer_core.specs.declared.phases.Setup.TheVariants as setup
 use Rattle.writer_core.specs.declared.records.WriterRecord.{WriterRecord}
-use Rattle.member_events.proofs.CauseLaws.{same_less, less_through}
+use Rattle.member_events.specs.Roads.{RoadsPass}
 use Rattle.member_events.proofs.KnownLaws.{known_on}
+use Rattle.member_events.proofs.PassLaws.{pass_exchanged}
+use Rattle.member_events.proofs.SetupKnown.{pass_same, pass_brought, pass_on}
 use Rattle.client_events.specs.declared.faults.ClientFault.{ClientFault}
 use Rattle.client_events.specs.declared.faults.ClientFault.TheVariants as fault
 use Rattle.client_events.specs.declared.pipes.Pipe.{Pipe}
@@ -46,7 +48,6 @@ use Rattle.client_events.specs.declared.sending.Sending.{Sending}
 use Rattle.client_events.specs.declared.sending.Sending.TheVariants as sending
 use Rattle.client_events.specs.Answering.{IsWaiting, piped}
 use Rattle.client_events.specs.Committing.{IsAccepted, read_off}
-use Rattle.client_events.specs.Passing.{RoadsPass}
 use Rattle.client_events.specs.Sending.{FollowsSending, IsFollowed}
 use Rattle.client_events.specs.Showing.{PipeIsKnown}
 use Rattle.client_events.specs.Steps.{IsSettled}
@@ -78,39 +79,24 @@ pub id_known : (p : Option Plain) (a b : ConnId) → b ≡ a → IsKnown p a.0 �
 id_known p a b is h = subst (λ (n : ConnId). IsKnown p n.0) (sym is) h
 
 module _ {R I O : Type 0} (r : roads.Ghosts R I O) (i : link_in.Ghosts I) (o : link_out.Ghosts O) where
-  pub pass_same : (road road' : R) → road' ≡ road → RoadsPass r road road'
-  pass_same road road' is = record {
-    knows = λ c h. subst (λ (y : R). IsKnown (r.plain y) c) (sym is) h;
-    never_falls = subst (λ (y : R). r.faults road ≤ r.faults y) (sym is) (same_less (r.faults road));
-  }
-
-  pub pass_on : (a b c : R) → RoadsPass r a b → RoadsPass r b c → RoadsPass r a c
-  pass_on a b c h k = record { knows = λ n z. k.knows n (h.knows n z); never_falls = less_through (r.faults a) (r.faults b) (r.faults c) h.never_falls k.never_falls }
-
   pub pass_by : (road road' : R) → KeepsConnections (r.plain road) (r.plain road') → r.faults road ≤ r.faults road' → RoadsPass r road road'
   pass_by road road' keeps less = record { knows = λ c h. known_on (r.plain road) (r.plain road') c keeps h; never_falls = less }
 
-  pub pass_brought : (e : Conn I O) (road road' : R) (result : Result (Unit {0}) RoadError) → BringsEnd r i o e road road' result → RoadsPass r road road'
-  pass_brought e road road' result b = pass_by road road' b.connections b.cause.never_falls
-
-  pub pass_exchanged : (take : Bool) (old new : Conn I O) (road road' : R) (result : Result (Unit {0}) RoadError) → ExchangesEnd r i o take old new road road' result → RoadsPass r road road'
-  pass_exchanged take old new road road' result x = pass_by road road' x.connections x.cause.never_falls
-
   pub pass_link : (take : Option ConnId) (link link' : Option (Link I O)) (road road' : R) (result : Result (Unit {0}) RoadError) → ExchangesLink r i o take link link' road road' result → RoadsPass r road road'
-  pass_link take None None road road' result x = pass_same road road' x.0
+  pass_link take None None road road' result x = pass_same r i o road road' x.0
   pass_link take None (Some l') road road' result x = absurd x
   pass_link take (Some l) None road road' result x = absurd x
-  pass_link take (Some l) (Some l') road road' result x = pass_exchanged (names take l.end.id) l.end l'.end road road' result x.end
+  pass_link take (Some l) (Some l') road road' result x = pass_exchanged r i o (names take l.end.id) l.end l'.end road road' result x.end
 
   pub link_known : (take : Option ConnId) (link link' : Option (Link I O)) (road road' : R) (result : Result (Unit {0}) RoadError) → ExchangesLink r i o take link link' road road' result → LinkIsKnown (r.plain road) link → LinkIsKnown (r.plain road') link'
   link_known take None None road road' result x h = tt
   link_known take None (Some l') road road' result x h = absurd x
   link_known take (Some l) None road road' result x h = absurd x
-  link_known take (Some l) (Some l') road road' result x h = id_known (r.plain road') l.end.id l'.end.id x.end.kept.id ((pass_exchanged (names take l.end.id) l.end l'.end road road' result x.end).knows l.end.id.0 h)
+  link_known take (Some l) (Some l') road road' result x h = id_known (r.plain road') l.end.id l'.end.id x.end.kept.id ((pass_exchanged r i o (names take l.end.id) l.end l'.end road road' result x.end).knows l.end.id.0 h)
 
   pub pass_retired : (link : Option (Link I O)) (road road' : R) (result : Result (Unit {0}) RoadError) → BringsLink r i o link road road' result → RoadsPass r road road'
-  pass_retired None road road' result x = pass_same road road' x.0
-  pass_retired (Some l) road road' result x = pass_brought l.end road road' result x
+  pass_retired None road road' result x = pass_same r i o road road' x.0
+  pass_retired (Some l) road road' result x = pass_brought r i o l.end road road' result x
 
   -- A STREAM
 
@@ -143,21 +129,21 @@ module _ {R I O : Type 0} (r : roads.Ghosts R I O) (i : link_in.Ghosts I) (o : l
   -- A STEP OF A SETUP
 
   -- What a step makes of a connection and the roads.
-  record LinkPasses (link link' : Option (Link I O)) (road road' : R) : Type 0 where
-    pass : RoadsPass r road road'
-    known : LinkIsKnown (r.plain road) link → LinkIsKnown (r.plain road') link'
+  pub record LinkPasses (link link' : Option (Link I O)) (road road' : R) : Type 0 where
+    pub pass : RoadsPass r road road'
+    pub known : LinkIsKnown (r.plain road) link → LinkIsKnown (r.plain road') link'
 
-  stays : (link link' : Option (Link I O)) (road road' : R) → link' ≡ link → road' ≡ road → LinkPasses link link' road road'
+  pub stays : (link link' : Option (Link I O)) (road road' : R) → link' ≡ link → road' ≡ road → LinkPasses link link' road road'
   stays link link' road road' same is = record {
-    pass = pass_same road road' is;
+    pass = pass_same r i o road road' is;
     known = λ h. subst (λ (l : Option (Link I O)). LinkIsKnown (r.plain road') l) (sym same) (subst (λ (y : R). LinkIsKnown (r.plain y) link) (sym is) h);
   }
 
-  passes_on : (a b c : Option (Link I O)) (road middle road' : R) → LinkPasses a b road middle → LinkPasses b c middle road' → LinkPasses a c road road'
-  passes_on a b c road middle road' x y = record { pass = pass_on road middle road' x.pass y.pass; known = λ h. y.known (x.known h) }
+  pub passes_on : (a b c : Option (Link I O)) (road middle road' : R) → LinkPasses a b road middle → LinkPasses b c middle road' → LinkPasses a c road road'
+  passes_on a b c road middle road' x y = record { pass = pass_on r i o road middle road' x.pass y.pass; known = λ h. y.known (x.known h) }
 
-  kept_id : (link link' : Link I O) (road : R) → link'.end.id ≡ link.end.id → LinkPasses (Some link) (Some link') road road
-  kept_id link link' road is = record { pass = pass_same road road refl; known = λ h. id_known (r.plain road) link.end.id link'.end.id is h }
+  pub kept_id : (link link' : Link I O) (road : R) → link'.end.id ≡ link.end.id → LinkPasses (Some link) (Some link') road road
+  kept_id link link' road is = record { pass = pass_same r i o road road refl; known = λ h. id_known (r.plain road) link.end.id link'.end.id is h }
 
   -- what is taken of a connection that was looked at
   heard_next : (next : Option Answer) (w w' : WriterRecord) (old new : Link I O) (heard : Option Acted) → HearsNextAs next w w' old new heard → new.end.id ≡ old.end.id
@@ -243,7 +229,7 @@ module _ {R I O D : Type 0} (r : roads.Ghosts R I O) (i : link_in.Ghosts I) (o :
   acts_on (phase.Requested s stamp) linked w w' link link' desk desk' road road' does at ok h = on_road r i o link link' road road' h.1.0 (waits_on r i o w w' link link' road does h.1.1)
   acts_on other linked w w' link link' desk desk' road road' does at ok h = absurd ok
 
-  settles_on : (keeps : Bool) (link link' : Option (Link I O)) (road road' : R) → Settles r i o keeps link link' road road' → LinkPasses r i o link link' road road'
+  pub settles_on : (keeps : Bool) (link link' : Option (Link I O)) (road road' : R) → Settles r i o keeps link link' road road' → LinkPasses r i o link link' road road'
   settles_on true link link' road road' s = stays r i o link link' road road' s.0 s.1
   settles_on false None link' road road' s = stays r i o None link' road road' s.0 s.1
   settles_on false (Some l) link' road road' s = record {
@@ -310,7 +296,7 @@ module _ {R I O D : Type 0} (r : roads.Ghosts R I O) (i : link_in.Ghosts I) (o :
   not_memory : (left : Pipe I O) → ◌≡◌ {A = Result (Pipe I O) ClientFault} (Err fault.Memory) (Ok left) → ⊥
   not_memory left h = cc
 
-  by_ends : (does : Acted) (w : WriterRecord) (p : Option Plain) (kept : Option (Link I O)) (setup' : Rebuild I O) (ends : RebuildStep I O) (left : Pipe I O) → LinkIsKnown p kept → LinkIsKnown p setup'.link → Reports i does w kept setup'.link ends → piped setup' ends ≡ Ok left → PipeIsKnown p left
+  pub by_ends : (does : Acted) (w : WriterRecord) (p : Option Plain) (kept : Option (Link I O)) (setup' : Rebuild I O) (ends : RebuildStep I O) (left : Pipe I O) → LinkIsKnown p kept → LinkIsKnown p setup'.link → Reports i does w kept setup'.link ends → piped setup' ends ≡ Ok left → PipeIsKnown p left
   by_ends does w p kept setup' step.Moved left h k m is = same_pipe r i o p left (pipe.SettingUp setup') (sym is) k
   by_ends does w p kept setup' step.Waiting left h k m is = same_pipe r i o p left (pipe.SettingUp setup') (sym is) k
   by_ends does w p kept setup' (step.Ended (rebuilt.Streaming e incoming)) left h k m is = same_pipe r i o p left (pipe.Streaming e incoming) (sym is) (reports_known does w p kept setup'.link e incoming h m)

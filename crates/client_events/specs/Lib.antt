@@ -7,6 +7,5 @@ pub mod Completing
 pub mod Answering
 pub mod Committing
 pub mod Showing
-pub mod Passing
 pub mod Events
 pub mod SettingUp

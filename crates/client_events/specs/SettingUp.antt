@@ -1,5 +1,7 @@
 -- The setup of a pipeline by the writer of a block: the office gives a stamp, and the first member is asked.
 use Rattle.std.specs.Prelude.{◌≡◌, ◌≢◌, ◌⊎◌, ℕ, ◌+◌, ◌≤◌, min, if◌then◌else◌, Bool, true, false, List, [], ◌∷◌, slice_get, Option, Some, None, IfSome, Result, Ok, Err}
+use Rattle.hd_base.specs.Channels.{Plain}
+use Rattle.hd_base.specs.Ends.{IsKnown}
 use Rattle.hd_base.specs.Faults.{FaultsIncreased}
 use Rattle.hd_base.specs.declared.ends.Conn.{Conn}
 use Rattle.hd_base.specs.declared.links.LinkIn as link_in
@@ -31,7 +33,7 @@ use Rattle.client_events.specs.declared.pipes.Pipe.TheVariants as pipe
 use Rattle.client_events.specs.declared.setting_up.SetUp.{SetUp}
 use Rattle.client_events.specs.Events.{asked_world}
 use Rattle.client_events.specs.Faults.{IsRoadFault, IsCaused}
-use Rattle.client_events.specs.Showing.{ClientStands, ClientLeft, PipeFits}
+use Rattle.client_events.specs.Showing.{ClientStands, ClientLeft, PipeIsKnown, PipeFits}
 
 -- WHERE THE WRITER IS
 
@@ -167,6 +169,10 @@ SetUpShows d r i o next known known' setup desk desk' road road' result =
     ClientStands r i o w net block.0 w.office known (pipe.SettingUp setup) road →
     CanSetUp d w block next known desk
     → SetUpEnds d r i o w net block next.0 known' desk' road road' result
+
+-- The roads know the connection that is left, and the lower end of a new one.
+abbrev pub SetUpIsKnown : {I O : Type 0} → Option Plain → SetUp I O → Type 0
+SetUpIsKnown plain left = PipeIsKnown plain left.pipe × IfSome left.first (λ end. IsKnown plain end.id.0)
 
 -- It leaves a connection that fits the writer, where the setup did and the writer has members.
 abbrev pub FitsSetUp : {I O : Type 0} → WriterRecord → WriterRecord → Rebuild I O → Result (SetUp I O) ClientFault →

@@ -2,10 +2,10 @@
 
 ghost use Rattle.std.specs.Prelude.{◌≡◌, ◌≤◌, true, IfOk, is_some};
 ghost use Rattle.pipe_recovery.specs.Dialling.{LinkIsKnown};
+ghost use Rattle.member_events.specs.Roads.{RoadsPass};
 ghost use Rattle.client_events.specs.Answering.{IsWaiting, TakesLink, is_risen, piped};
 ghost use Rattle.client_events.specs.declared.pipes.Pipe.TheVariants.{SettingUp};
 ghost use Rattle.client_events.specs.Events.{AnswerShows};
-ghost use Rattle.client_events.specs.Passing.{RoadsPass};
 ghost use Rattle.client_events.specs.Showing.{FitsAfter, PipeIsKnown};
 
 use crate::faults::{ClientFault, road_fault};

@@ -1,7 +1,7 @@
 //! What a writer sends in its own step.
 
 ghost use Rattle.hd_base.specs.Ends.{IsKnown};
-ghost use Rattle.client_events.specs.Passing.{RoadsPass};
+ghost use Rattle.member_events.specs.Roads.{RoadsPass};
 ghost use Rattle.client_events.specs.Sending.{SendsPacket, SendsAction, IsStreamed, IsFollowed};
 ghost use Rattle.client_events.specs.Showing.{PipeIsKnown};
 

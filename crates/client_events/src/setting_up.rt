@@ -1,8 +1,9 @@
 //! The setup of a pipeline by the writer of a block.
 
-ghost use Rattle.std.specs.Prelude.{◌≡◌, true, IfOk, is_some};
+ghost use Rattle.std.specs.Prelude.{◌≡◌, ◌≤◌, true, IfOk, is_some};
 ghost use Rattle.pipe_recovery.specs.Dialling.{LinkIsKnown};
 ghost use Rattle.pipe_recovery.specs.Steps.{fits_in};
+ghost use Rattle.member_events.specs.Roads.{RoadsPass};
 ghost use Rattle.client_events.specs.SettingUp.{
   IsWanted,
   is_requested,
@@ -14,6 +15,7 @@ ghost use Rattle.client_events.specs.SettingUp.{
   Accepts,
   Meets,
   SetUpShows,
+  SetUpIsKnown,
   FitsSetUp,
 };
 
@@ -52,6 +54,8 @@ pub fn set_up<D: Desk, I: LinkIn, O: LinkOut, R: Roads<Inward = I, Outward = O>>
     ensures shows { SetUpShows D.Desk R.Roads I.LinkIn O.LinkOut next writer.old writer.new setup
         office.old office.new roads.old roads.new result }
     ensures fits { FitsSetUp writer.old writer.new setup result }
+    ensures counts { R.faults roads.old ≤ R.faults roads.new }
+    ensures known { IfOk result (λ left. SetUpIsKnown (R.plain roads.new) left) }
 {
     let mut setup = setup;
     let step = setup.step(alloc, writer, office, roads);
@@ -127,7 +131,9 @@ fn met<I: LinkIn, O: LinkOut, R: Roads<Inward = I, Outward = O>>(
     setup: Rebuild<I, O>,
 ) -> Result<SetUp<I, O>, ClientFault>
     requires { LinkIsKnown (R.plain roads.old) setup.link }
-    ensures { Meets R.Roads I.LinkIn O.LinkOut port setup.link roads.old roads.new result }
+    ensures meets { Meets R.Roads I.LinkIn O.LinkOut port setup.link roads.old roads.new result }
+    ensures passes { RoadsPass R.Roads roads.old roads.new }
+    ensures known { IfOk result (λ left. SetUpIsKnown (R.plain roads.new) left) }
 {
     let setup = flushed(alloc, roads, setup)?;
     accepted(alloc, roads, port, setup)
@@ -140,7 +146,9 @@ fn flushed<I: LinkIn, O: LinkOut, R: Roads<Inward = I, Outward = O>>(
     setup: Rebuild<I, O>,
 ) -> Result<Rebuild<I, O>, ClientFault>
     requires { LinkIsKnown (R.plain roads.old) setup.link }
-    ensures { FlushesLink R.Roads I.LinkIn O.LinkOut setup.link roads.old roads.new result }
+    ensures flushes { FlushesLink R.Roads I.LinkIn O.LinkOut setup.link roads.old roads.new result }
+    ensures passes { RoadsPass R.Roads roads.old roads.new }
+    ensures known { IfOk result (λ new. LinkIsKnown (R.plain roads.new) new.link) }
 {
     let mut setup = setup;
     match setup.exchange(alloc, roads, None) {
@@ -156,7 +164,10 @@ fn accepted<I: LinkIn, O: LinkOut, R: Roads<Inward = I, Outward = O>>(
     port: u16,
     setup: Rebuild<I, O>,
 ) -> Result<SetUp<I, O>, ClientFault>
-    ensures { Accepts R.Roads I.LinkIn O.LinkOut port setup roads.old roads.new result }
+    requires { LinkIsKnown (R.plain roads.old) setup.link }
+    ensures accepts { Accepts R.Roads I.LinkIn O.LinkOut port setup roads.old roads.new result }
+    ensures passes { RoadsPass R.Roads roads.old roads.new }
+    ensures known { IfOk result (λ left. SetUpIsKnown (R.plain roads.new) left) }
 {
     match roads.accept(alloc, port) {
         Ok(Some(end)) => Ok(SetUp {
@@ -175,7 +186,8 @@ fn given_up<I: LinkIn, O: LinkOut, R: Roads<Inward = I, Outward = O>>(
     setup: Rebuild<I, O>,
 ) -> ClientFault
     requires { LinkIsKnown (R.plain roads.old) setup.link }
-    ensures { GivesUpLink R.Roads I.LinkIn O.LinkOut setup.link roads.old roads.new result }
+    ensures gives_up { GivesUpLink R.Roads I.LinkIn O.LinkOut setup.link roads.old roads.new result }
+    ensures passes { RoadsPass R.Roads roads.old roads.new }
 {
     match setup.retire(alloc, roads) {
         Ok(()) => ClientFault::LinkFailed,

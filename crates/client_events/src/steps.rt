@@ -1,7 +1,7 @@
 //! What becomes of a writer's end in an event.
 
 ghost use Rattle.hd_base.specs.Ends.{IsKnown};
-ghost use Rattle.client_events.specs.Passing.{RoadsPass};
+ghost use Rattle.member_events.specs.Roads.{RoadsPass};
 ghost use Rattle.client_events.specs.Steps.{IsExchanged, IsLost, IsKept, IsGivenBack, IsSettled};
 
 use crate::faults::{ClientFault, road_fault};

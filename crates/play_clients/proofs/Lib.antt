@@ -4,3 +4,5 @@ pub mod HearLaws
 pub mod OwnLaws
 pub mod TakeLaws
 pub mod OwnShowing
+pub mod StayLaws
+pub mod OtherLaws

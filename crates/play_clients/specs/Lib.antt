@@ -3,3 +3,5 @@ pub mod Courses
 pub mod Hearing
 pub mod Owning
 pub mod Events
+pub mod Staying
+pub mod Others

@@ -5,6 +5,8 @@
 mod clients;
 mod courses;
 mod hearing;
+mod others;
 mod owning;
 
 pub use clients::{Client, First, Owned};
+pub use others::{hearing_keeps_others, own_steps_keep_others};

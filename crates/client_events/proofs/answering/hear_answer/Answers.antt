@@ -2,7 +2,8 @@
 use Rattle.std.proofs.Common.{true, sym, ap, ◌∙◌}
 use Rattle.client_events.specs.Answering.{is_risen}
 use Rattle.client_events.proofs.AnswerEnds.{answer_shows, answer_risen, answer_office}
-use Rattle.client_events.proofs.PassLaws.{waits_asked, ok_known, pass_on, step_pass, piped_known}
+use Rattle.member_events.proofs.SetupKnown.{pass_on}
+use Rattle.client_events.proofs.PassLaws.{waits_asked, ok_known, step_pass, piped_known}
 use Rattle.client_events.proofs.FitLaws.{answer_fits}
 use Rattle.client_events.proofs.answering.hear_answer.Goals as goal
 

@@ -4,7 +4,8 @@ use Rattle.pipe_member.specs.declared.stages.Looked.{Looked}
 use Rattle.client_events.specs.Hearing.{Hears}
 use Rattle.client_events.specs.Steps.{IsSettled}
 use Rattle.client_events.proofs.HearLaws.{hear_lost, hear_shows}
-use Rattle.client_events.proofs.PassLaws.{id_known, pass_on, settled_known}
+use Rattle.member_events.proofs.SetupKnown.{pass_on}
+use Rattle.client_events.proofs.PassLaws.{id_known, settled_known}
 use Rattle.client_events.proofs.FitLaws.{hear_fits}
 use Rattle.client_events.proofs.hearing.hear_ack.Goals as goal
 

@@ -1,6 +1,6 @@
 -- There is no pipeline on which anything is sent.
 use Rattle.std.proofs.Common.{refl}
-use Rattle.client_events.proofs.PassLaws.{pass_same}
+use Rattle.member_events.proofs.SetupKnown.{pass_same}
 use Rattle.client_events.proofs.sending.followed.Goals as goal
 
 pub returns-in-Closed-clause-passes : goal.returns-in-Closed-clause-passes

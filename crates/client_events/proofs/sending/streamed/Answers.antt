@@ -1,6 +1,6 @@
 -- Memory ran out before anything was sent.
 use Rattle.std.proofs.Common.{refl}
-use Rattle.client_events.proofs.PassLaws.{pass_same}
+use Rattle.member_events.proofs.SetupKnown.{pass_same}
 use Rattle.client_events.proofs.sending.streamed.Goals as goal
 
 pub returns-in-Memory-clause-passes : goal.returns-in-Memory-clause-passes

@@ -1,8 +1,10 @@
 -- The step of the setup, and what followed.
-use Rattle.std.proofs.Common.{rules, ◌≡◌, true, false, sym, ap, ◌∙◌, subst}
+use Rattle.std.proofs.Common.{rules, ◌≡◌, IfOk, true, false, sym, ap, ◌∙◌, subst}
 use Rattle.writer_core.specs.declared.phases.Phase.{Phase}
-use Rattle.client_events.specs.SettingUp.{is_requested, first_port, undialled, SetUpShows, FitsSetUp}
+use Rattle.member_events.proofs.SetupKnown.{pass_on}
+use Rattle.client_events.specs.SettingUp.{is_requested, first_port, undialled, SetUpShows, SetUpIsKnown, FitsSetUp}
 use Rattle.client_events.proofs.SetUpEvents.{left_shows, left_fits, moved_shows, waiting_shows, met_fits, set_up_risen}
+use Rattle.client_events.proofs.SetUpPass.{first_pass, undialled_known}
 use Rattle.client_events.proofs.setting_up.set_up.Goals as goal
 
 pub returns-then-risen-clause-shows : goal.returns-then-risen-clause-shows
@@ -23,13 +25,13 @@ returns-in-Waiting-clause-shows g c =
     let on : is_requested c.step-step.new.writer.phase ≡ true = ap is_requested (sym c.phase-phase.ensures) ∙ (sym c.is_requested.ensures ∙ c.if-not-is_requested.false) in
     let named : c.first_port-port.result ≡ first_port c.step-step.new.writer.members = search rules in
     waiting_shows g.R.Roads g.I.LinkIn g.O.LinkOut g.D.Desk c.args.next c.args.setup c.step-step.new.self c.args.writer.now c.step-step.new.writer c.args.office.now c.step-step.new.office c.args.roads.now c.step-step.new.roads c.step-step.result
-    c.first_port-port.result c.met.new.roads c.met.result c.requires.wanted c.requires.fits c.step-step.ensures.steps (sym c.has_lost.ensures ∙ c.if-has_lost.false) (sym c.risen.ensures ∙ c.if-risen.false) on c.in-Waiting.is named c.met.ensures
+    c.first_port-port.result c.met.new.roads c.met.result c.requires.wanted c.requires.fits c.step-step.ensures.steps (sym c.has_lost.ensures ∙ c.if-has_lost.false) (sym c.risen.ensures ∙ c.if-risen.false) on c.in-Waiting.is named c.met.ensures.meets
 
 pub returns-in-Moved-clause-shows : goal.returns-in-Moved-clause-shows
 returns-in-Moved-clause-shows g c =
     let on : is_requested c.step-step.new.writer.phase ≡ true = ap is_requested (sym c.phase-phase.ensures) ∙ (sym c.is_requested.ensures ∙ c.if-not-is_requested.false) in
     moved_shows g.R.Roads g.I.LinkIn g.O.LinkOut g.D.Desk c.args.next c.args.setup c.step-step.new.self c.args.writer.now c.step-step.new.writer c.args.office.now c.step-step.new.office c.args.roads.now c.step-step.new.roads c.step-step.result
-    c.given_up.new.roads c.given_up.result c.requires.wanted c.requires.fits c.step-step.ensures.steps (sym c.has_lost.ensures ∙ c.if-has_lost.false) (sym c.risen.ensures ∙ c.if-risen.false) on c.in-Moved.is c.given_up.ensures
+    c.given_up.new.roads c.given_up.result c.requires.wanted c.requires.fits c.step-step.ensures.steps (sym c.has_lost.ensures ∙ c.if-has_lost.false) (sym c.risen.ensures ∙ c.if-risen.false) on c.in-Moved.is c.given_up.ensures.gives_up
 
 pub returns-then-not-is_requested-clause-fits : goal.returns-then-not-is_requested-clause-fits
 returns-then-not-is_requested-clause-fits g c =
@@ -42,4 +44,40 @@ pub returns-in-Waiting-clause-fits : goal.returns-in-Waiting-clause-fits
 returns-in-Waiting-clause-fits g c =
     let on : is_requested c.step-step.new.writer.phase ≡ true = ap is_requested (sym c.phase-phase.ensures) ∙ (sym c.is_requested.ensures ∙ c.if-not-is_requested.false) in
     met_fits g.R.Roads g.I.LinkIn g.O.LinkOut g.D.Desk c.args.next c.args.setup c.step-step.new.self c.args.writer.now c.step-step.new.writer c.args.office.now c.step-step.new.office c.args.roads.now c.step-step.new.roads c.step-step.result
-    c.first_port-port.result c.met.new.roads c.met.result on c.step-step.ensures.fits c.in-Waiting.is c.met.ensures
+    c.first_port-port.result c.met.new.roads c.met.result on c.step-step.ensures.fits c.in-Waiting.is c.met.ensures.meets
+
+pub returns-then-has_lost-clause-counts : goal.returns-then-has_lost-clause-counts
+returns-then-has_lost-clause-counts g c =
+    (first_pass g.R.Roads g.I.LinkIn g.O.LinkOut g.D.Desk c.args.writer.now c.step-step.new.writer c.args.setup.link c.step-step.new.self.link c.args.office.now c.step-step.new.office c.args.roads.now c.step-step.new.roads c.step-step.new.self.lost c.step-step.result c.requires.wanted c.step-step.ensures.steps).never_falls
+
+pub returns-then-risen-clause-counts : goal.returns-then-risen-clause-counts
+returns-then-risen-clause-counts g c =
+    (first_pass g.R.Roads g.I.LinkIn g.O.LinkOut g.D.Desk c.args.writer.now c.step-step.new.writer c.args.setup.link c.step-step.new.self.link c.args.office.now c.step-step.new.office c.args.roads.now c.step-step.new.roads c.step-step.new.self.lost c.step-step.result c.requires.wanted c.step-step.ensures.steps).never_falls
+
+pub returns-in_err-pipe-clause-counts : goal.returns-in_err-pipe-clause-counts
+returns-in_err-pipe-clause-counts g c =
+    (first_pass g.R.Roads g.I.LinkIn g.O.LinkOut g.D.Desk c.args.writer.now c.step-step.new.writer c.args.setup.link c.step-step.new.self.link c.args.office.now c.step-step.new.office c.args.roads.now c.step-step.new.roads c.step-step.new.self.lost c.step-step.result c.requires.wanted c.step-step.ensures.steps).never_falls
+
+pub returns-then-not-is_requested-clause-counts : goal.returns-then-not-is_requested-clause-counts
+returns-then-not-is_requested-clause-counts g c =
+    (first_pass g.R.Roads g.I.LinkIn g.O.LinkOut g.D.Desk c.args.writer.now c.step-step.new.writer c.args.setup.link c.step-step.new.self.link c.args.office.now c.step-step.new.office c.args.roads.now c.step-step.new.roads c.step-step.new.self.lost c.step-step.result c.requires.wanted c.step-step.ensures.steps).never_falls
+
+pub returns-in-Ended-clause-counts : goal.returns-in-Ended-clause-counts
+returns-in-Ended-clause-counts g c =
+    (first_pass g.R.Roads g.I.LinkIn g.O.LinkOut g.D.Desk c.args.writer.now c.step-step.new.writer c.args.setup.link c.step-step.new.self.link c.args.office.now c.step-step.new.office c.args.roads.now c.step-step.new.roads c.step-step.new.self.lost c.step-step.result c.requires.wanted c.step-step.ensures.steps).never_falls
+
+pub returns-then-not-is_requested-clause-known : goal.returns-then-not-is_requested-clause-known
+returns-then-not-is_requested-clause-known g c =
+    subst (λ q. IfOk q (SetUpIsKnown (g.R.Roads.plain c.step-step.new.roads))) (sym c.undialled.ensures)
+    (undialled_known g.R.Roads g.I.LinkIn g.O.LinkOut g.D.Desk c.args.writer.now c.step-step.new.writer c.args.setup.link c.step-step.new.self c.args.office.now c.step-step.new.office c.args.roads.now c.step-step.new.roads c.step-step.new.self.lost c.step-step.result
+    c.in_ok-pipe.pipe c.requires.wanted c.step-step.ensures.steps c.requires.known c.step-step.ensures.known (sym c.in_ok-pipe.ensures) c.phase-phase.result)
+
+pub returns-in-Waiting-clause-counts : goal.returns-in-Waiting-clause-counts
+returns-in-Waiting-clause-counts g c =
+    (pass_on g.R.Roads g.I.LinkIn g.O.LinkOut c.args.roads.now c.step-step.new.roads c.met.new.roads
+    (first_pass g.R.Roads g.I.LinkIn g.O.LinkOut g.D.Desk c.args.writer.now c.step-step.new.writer c.args.setup.link c.step-step.new.self.link c.args.office.now c.step-step.new.office c.args.roads.now c.step-step.new.roads c.step-step.new.self.lost c.step-step.result c.requires.wanted c.step-step.ensures.steps) c.met.ensures.passes).never_falls
+
+pub returns-in-Moved-clause-counts : goal.returns-in-Moved-clause-counts
+returns-in-Moved-clause-counts g c =
+    (pass_on g.R.Roads g.I.LinkIn g.O.LinkOut c.args.roads.now c.step-step.new.roads c.given_up.new.roads
+    (first_pass g.R.Roads g.I.LinkIn g.O.LinkOut g.D.Desk c.args.writer.now c.step-step.new.writer c.args.setup.link c.step-step.new.self.link c.args.office.now c.step-step.new.office c.args.roads.now c.step-step.new.roads c.step-step.new.self.lost c.step-step.result c.requires.wanted c.step-step.ensures.steps) c.given_up.ensures.passes).never_falls

@@ -1,6 +1,6 @@
 -- The end was exchanged, or wasn't.
 use Rattle.link_pieces.specs.Roads.{names}
-use Rattle.client_events.proofs.PassLaws.{pass_exchanged}
+use Rattle.member_events.proofs.PassLaws.{pass_exchanged}
 use Rattle.client_events.proofs.steps.exchanged.Goals as goal
 
 pub returns-in-Ok-clause-passes : goal.returns-in-Ok-clause-passes
