@@ -10,7 +10,7 @@ use Rattle.client_events.specs.declared.pipes.Pipe.{Pipe}
 use Rattle.client_events.specs.declared.pipes.Pipe.TheVariants as pipe
 use Rattle.client_events.specs.Showing.{LinkShows, PipeShows}
 use Rattle.play_clients.specs.declared.clients.Client.{Client}
-use Rattle.play_clients.specs.Staying.{KeepsClient, ClientStays}
+use Rattle.play_clients.specs.Staying.{KeepsClient, ClientsStay}
 
 module _ {I O : Type 0} (i : link_in.Ghosts I) (o : link_out.Ghosts O) where
   link_stays : (w : World) (net : Net) (v : World) (made : Net) (b : ℕ) (link : Option (Link I O)) → KeepsClient i o w net v made b → LinkShows i o w net (w.writers b).conn link → LinkShows i o v made (w.writers b).conn link
@@ -26,8 +26,8 @@ module _ {I O : Type 0} (i : link_in.Ghosts I) (o : link_out.Ghosts O) where
     received = λ z. h.received (sym (k.over end.id.0 h.conn_is) ∙ z);
   }
 
-  pub client_stays : (client : Client I O) → ClientStays i o client
-  client_stays client = λ w net v made h k.
+  pub clients_kept : ClientsStay i o
+  clients_kept client w net v made h k =
       let b : ℕ = client.block.0 in
       record {
         writer = ap (λ (x : Writing). x.known) k.writer ∙ h.writer;

@@ -19,8 +19,8 @@ pub record KeepsClient {I O : Type 0} (i : link_in.Ghosts I) (o : link_out.Ghost
   pub ends : (c : ℕ) (e : Conn I O) → (w.writers b).conn ≡ Some c → IsEndOf i o w net c false e
       → IsEndOf i o v made c false e
 
--- A client that shows a world shows one that keeps it.
-abbrev pub ClientStays : {I O : Type 0} → link_in.Ghosts I → link_out.Ghosts O → Client I O → Type 0
-ClientStays i o client = (w : World) (net : Net) (v : World) (made : Net) → ClientShows i o w net client →
-    KeepsClient i o w net v made client.block.0
+-- Each client that shows a world shows one that keeps it.
+abbrev pub ClientsStay : {I O : Type 0} → link_in.Ghosts I → link_out.Ghosts O → Type 0
+ClientsStay {I} {O} i o = (client : Client I O) (w : World) (net : Net) (v : World) (made : Net) →
+    ClientShows i o w net client → KeepsClient i o w net v made client.block.0
     → ClientShows i o v made client

@@ -2,7 +2,6 @@
 
 ghost use Rattle.std.specs.Prelude.{◌≡◌, IfOk};
 ghost use Rattle.play_clients.specs.Clients.{IsNew, client_has_step};
-ghost use Rattle.play_clients.specs.Staying.{ClientStays};
 
 use client_events::{Pipe, Said};
 use hd_base::{BlockId, Conn, LinkIn, LinkOut, NodeId, SumRule};
@@ -74,10 +73,4 @@ impl<I: LinkIn, O: LinkOut> Client<I, O> {
             None => !self.queue.is_empty(),
         }
     }
-
-    /// A client that shows a world shows also the world after an event that isn't its own: one that leaves its writer,
-    /// its answers and its connection as they are.
-    pub fn stays(&self)
-        ensures { ClientStays I.LinkIn O.LinkOut self.now }
-    {}
 }

@@ -9,4 +9,4 @@ mod others;
 mod owning;
 
 pub use clients::{Client, First, Owned};
-pub use others::{hearing_keeps_others, own_steps_keep_others};
+pub use others::{clients_stay, hearing_keeps_others, own_steps_keep_others};

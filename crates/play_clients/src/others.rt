@@ -2,6 +2,9 @@
 //! every world.
 
 ghost use Rattle.play_clients.specs.Others.{OwnStepsKeep, HearingKeeps};
+ghost use Rattle.play_clients.specs.Staying.{ClientsStay};
+
+use hd_base::{LinkIn, LinkOut};
 
 /// The own step of a writer, with the office's answer where it asks, leaves the other writers and their answers as they
 /// are, and takes from no connection.
@@ -12,4 +15,10 @@ pub fn own_steps_keep_others()
 /// What a writer hears leaves the other writers and their answers as they are, and is taken from its connection alone.
 pub fn hearing_keeps_others()
     ensures { HearingKeeps }
+{}
+
+/// A client that shows a world shows also the world after an event that leaves its writer, its answers and its connection
+/// as they are.
+pub fn clients_stay<I: LinkIn, O: LinkOut>()
+    ensures { ClientsStay I.LinkIn O.LinkOut }
 {}

@@ -1,0 +1,62 @@
+-- What the events of a play make of a player and roads that show a world.
+use Rattle.std.specs.Prelude.{◌≡◌, ◌⊎◌, ℕ, true, ◌++◌, [], ◌∷◌, Result, Ok, Err}
+use Rattle.hd_base.specs.Faults.{FaultsIncreased}
+use Rattle.hd_base.specs.declared.files.Files as files
+use Rattle.hd_base.specs.declared.links.LinkIn as link_in
+use Rattle.hd_base.specs.declared.links.LinkOut as link_out
+use Rattle.hd_base.specs.declared.numbers.ConnId.{ConnId}
+use Rattle.hd_base.specs.declared.roads.Roads as roads
+use Rattle.road_traffic.specs.Showing.{Net}
+use Rattle.world.specs.declared.events.Event.{Event}
+use Rattle.world.specs.declared.events.Event.TheVariants as event
+use Rattle.world.specs.Worlds.{World}
+use Rattle.world.specs.Events.{run}
+use Rattle.play_model.specs.declared.dues.Due.{Due}
+use Rattle.play_model.specs.declared.dues.Due.TheVariants as due
+use Rattle.play_model.specs.Dues.{Queues, is_due, due_events, queues_after}
+use Rattle.play_nodes.specs.Events.{IsLawful, DrawerFailed}
+use Rattle.play.specs.declared.faults.PlayFault.{PlayFault}
+use Rattle.play.specs.declared.faults.PlayFault.TheVariants as fault
+use Rattle.play.specs.declared.player.Player.{Player}
+use Rattle.play.specs.Showing.{PlayerShows}
+
+-- The event stands behind the others, and all else is as it was.
+pub record IsKept {F I O : Type 0} (old new : Player F I O) (e : Event) : Type 0 where
+  pub same : new ≡ record old { events = new.events }
+  pub events : new.events.items ≡ old.events.items ++ e ∷ []
+
+-- An event was kept, or memory ran out.
+abbrev pub Keeps : {F I O : Type 0} → Player F I O → Player F I O → Event → Result (Unit {0}) PlayFault → Type 0
+Keeps old new e (Ok u) = IsKept old new e
+Keeps old new e (Err why) = why ≡ fault.Memory
+
+-- The roads failed: a link of theirs, or their count rose.
+abbrev pub RoadsFailed : {R I O : Type 0} → roads.Ghosts R I O → R → R → Type 0
+RoadsFailed r road road' = ((c : ℕ) × (r.risen road' c ≡ true)) ⊎ FaultsIncreased (r.faults road) (r.faults road')
+
+-- Each fault has its cause.
+abbrev pub IsCaused : {F R I O : Type 0} → files.Ghosts F → roads.Ghosts R I O → Player F I O → Player F I O → R → R →
+    PlayFault → Type 0
+IsCaused f r old new road road' fault.RoadFault = RoadsFailed r road road'
+IsCaused f r old new road road' (fault.ShelfFault node) = DrawerFailed f old.nodes new.nodes node
+IsCaused f r old new road road' fault.Memory = Unit {0}
+
+-- What is left once something that is due has happened: its events were kept, and the player shows the world after them.
+pub record PlayerLeft {F R I O : Type 0} (r : roads.Ghosts R I O) (i : link_in.Ghosts I) (o : link_out.Ghosts O)
+    (w : World) (queues : Queues) (d : Due) (old new : Player F I O) (road : R) : Type 0 where
+  pub made : Net
+  pub shows : PlayerShows r i o (run w (due_events w queues d)) made (queues_after w queues d) road new
+  pub events : new.events.items ≡ old.events.items ++ due_events w queues d
+
+-- How it ends: so, or by a fault that has its cause.
+abbrev pub PlayEnds : {F R I O : Type 0} → files.Ghosts F → roads.Ghosts R I O → link_in.Ghosts I → link_out.Ghosts O →
+    World → Queues → Due → Player F I O → Player F I O → R → R → Result (Unit {0}) PlayFault → Type 0
+PlayEnds f r i o w queues d old new road road' (Ok u) = PlayerLeft r i o w queues d old new road'
+PlayEnds f r i o w queues d old new road road' (Err why) = IsCaused f r old new road road' why
+
+abbrev pub ReadyShows : {F R I O : Type 0} → files.Ghosts F → roads.Ghosts R I O → link_in.Ghosts I →
+    link_out.Ghosts O → ConnId → Player F I O → Player F I O → R → R → Result (Unit {0}) PlayFault → Type 0
+ReadyShows f r i o conn old new road road' result =
+    (w : World) (net : Net) (queues : Queues) → PlayerShows r i o w net queues road old →
+    IsLawful w (event.Ready conn) → is_due w queues (due.Ready conn) ≡ true
+    → PlayEnds f r i o w queues (due.Ready conn) old new road road' result

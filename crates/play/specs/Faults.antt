@@ -1,0 +1,12 @@
+-- Why a play stops.
+use Rattle.play_nodes.specs.declared.faults.NodesFault.{NodesFault}
+use Rattle.play_nodes.specs.declared.faults.NodesFault.TheVariants as nodes_fault
+use Rattle.play.specs.declared.faults.PlayFault.{PlayFault}
+use Rattle.play.specs.declared.faults.PlayFault.TheVariants as fault
+
+-- why a play stops in which an event of the nodes isn't done
+abbrev pub of_nodes : NodesFault → PlayFault
+of_nodes nodes_fault.LinkFailed = fault.RoadFault
+of_nodes nodes_fault.RoadsFailed = fault.RoadFault
+of_nodes (nodes_fault.FilesFailed node) = fault.ShelfFault node
+of_nodes nodes_fault.Memory = fault.Memory

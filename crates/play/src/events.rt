@@ -1,0 +1,42 @@
+//! The events of a play.
+
+ghost use Rattle.play_nodes.specs.Showing.{Stand};
+ghost use Rattle.play.specs.Events.{Keeps, ReadyShows};
+
+use crate::faults::{PlayFault, of_nodes};
+use crate::player::Player;
+use hd_base::{ConnId, Files, LinkIn, LinkOut, Roads};
+use play_clients::clients_stay;
+use play_nodes::nodes_keep_writers;
+use std::alloc::Global;
+use world::Event;
+
+impl<F: Files, I: LinkIn, O: LinkOut> Player<F, I, O> {
+    /// The member at the lower end of a connection acts without a message.
+    pub fn ready<R: Roads<Inward = I, Outward = O>>(
+        &mut self,
+        alloc: Global,
+        roads: &mut R,
+        conn: ConnId,
+    ) -> Result<(), PlayFault>
+        requires { Stand R.Roads I.LinkIn O.LinkOut roads.old self.old.nodes }
+        ensures { ReadyShows F.Files R.Roads I.LinkIn O.LinkOut conn self.old self.new roads.old roads.new result }
+    {
+        nodes_keep_writers();
+        clients_stay::<I, O>();
+        match self.nodes.ready(alloc, roads, conn) {
+            Ok(()) => self.keep(Event::Ready { conn }),
+            Err(fault) => Err(of_nodes(fault)),
+        }
+    }
+
+    /// Keeps an event that happened.
+    fn keep(&mut self, event: Event) -> Result<(), PlayFault>
+        ensures { Keeps self.old self.new event result }
+    {
+        match self.events.push(event) {
+            Ok(()) => Ok(()),
+            Err(_) => Err(PlayFault::Memory),
+        }
+    }
+}

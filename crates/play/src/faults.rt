@@ -1,0 +1,33 @@
+//! Why a play stops.
+
+ghost use Rattle.std.specs.Prelude.{◌≡◌};
+ghost use Rattle.play.specs.Faults.{of_nodes};
+
+use hd_base::NodeId;
+use play_nodes::NodesFault;
+use thiserror::Error;
+
+/// Why a play stops.
+#[derive(Clone, Copy, Debug, PartialEq, Eq, Error)]
+pub enum PlayFault {
+    /// A link or the roads failed, and a count of theirs rose.
+    #[error("the roads failed")]
+    RoadFault,
+    /// The files of a node failed, and the count of a drawer of it rose.
+    #[error("the files of node {} failed", .node.0)]
+    ShelfFault { node: NodeId },
+    /// Memory ran out.
+    #[error("out of memory")]
+    Memory,
+}
+
+/// Why a play stops in which an event of the nodes isn't done.
+pub(crate) fn of_nodes(fault: NodesFault) -> PlayFault
+    ensures { result ≡ of_nodes fault }
+{
+    match fault {
+        NodesFault::LinkFailed | NodesFault::RoadsFailed => PlayFault::RoadFault,
+        NodesFault::FilesFailed { node } => PlayFault::ShelfFault { node },
+        NodesFault::Memory => PlayFault::Memory,
+    }
+}

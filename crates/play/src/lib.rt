@@ -1,0 +1,10 @@
+//! The player of a script: the nodes, the clients and the office of a play, and the events that happened. Each event takes
+//! a player that shows a world, on roads that show it, to one that shows the world after the event.
+#![tactic(auto)]
+
+mod events;
+mod faults;
+mod player;
+
+pub use faults::PlayFault;
+pub use player::Player;
