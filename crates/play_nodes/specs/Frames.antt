@@ -52,7 +52,7 @@ pub record IsKept {F I O : Type 0} (i : link_in.Ghosts I) (o : link_out.Ghosts O
   pub keeps : KeepsNodes w v
   pub ends : EndsStay i o w net v made
 
--- An event leaves the ends of the nodes as they are where it leaves each end but the upper one of a writer's connection.
+-- Where an event leaves each end but the upper one of a writer's connection, the ends of the nodes stay.
 abbrev pub NodesEndsStay : {I O : Type 0} → link_in.Ghosts I → link_out.Ghosts O → Type 0
 NodesEndsStay {I} {O} i o =
     (w : World) (net : Net) (v : World) (made : Net) (b : ℕ) → Ordered w →
