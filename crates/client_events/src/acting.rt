@@ -1,7 +1,8 @@
 //! A writer's own step that asks nothing and dials nothing.
 
-ghost use Rattle.std.specs.Prelude.{◌≡◌, ◌≤◌, IfOk};
+ghost use Rattle.std.specs.Prelude.{◌≡◌, IfOk};
 ghost use Rattle.writer_core.specs.Transitions.{own_step};
+ghost use Rattle.member_events.specs.Roads.{RoadsPass};
 ghost use Rattle.client_events.specs.Acting.{said_by, IsStepped, AnswersIf};
 ghost use Rattle.client_events.specs.Events.{ActShows, FitsActed};
 ghost use Rattle.client_events.specs.Showing.{PipeIsKnown};
@@ -41,7 +42,7 @@ pub fn act<I: LinkIn, O: LinkOut, R: Roads<Inward = I, Outward = O>>(
     requires { PipeIsKnown (R.plain roads.old) pipe }
     ensures shows { ActShows R.Roads I.LinkIn O.LinkOut writer.old writer.new pipe roads.old roads.new result }
     ensures fits { FitsActed writer.old writer.new pipe result }
-    ensures counts { R.faults roads.old ≤ R.faults roads.new }
+    ensures pass { RoadsPass R.Roads roads.old roads.new }
     ensures known { IfOk result (λ left. PipeIsKnown (R.plain roads.new) left.pipe) }
 {
     let action = stepped(writer)?;

@@ -1,6 +1,6 @@
 //! What a writer hears that waits for the answer to its request.
 
-ghost use Rattle.std.specs.Prelude.{◌≡◌, ◌≤◌, true, IfOk, is_some};
+ghost use Rattle.std.specs.Prelude.{◌≡◌, true, IfOk, is_some};
 ghost use Rattle.pipe_recovery.specs.Dialling.{LinkIsKnown};
 ghost use Rattle.member_events.specs.Roads.{RoadsPass};
 ghost use Rattle.client_events.specs.Answering.{IsWaiting, TakesLink, is_risen, piped};
@@ -30,7 +30,7 @@ pub fn hear_answer<D: Desk, I: LinkIn, O: LinkOut, R: Roads<Inward = I, Outward 
     ensures shows { AnswerShows R.Roads I.LinkIn O.LinkOut writer.old writer.new setup roads.old roads.new result }
     ensures fits { FitsAfter writer.old writer.new (SettingUp setup) result }
     ensures office { office.new ≡ office.old }
-    ensures counts { R.faults roads.old ≤ R.faults roads.new }
+    ensures pass { RoadsPass R.Roads roads.old roads.new }
     ensures known { IfOk result (λ left. PipeIsKnown (R.plain roads.new) left) }
 {
     let conn = setup.conn();

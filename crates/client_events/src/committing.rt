@@ -1,8 +1,9 @@
 //! The commit of a stamp by the writer of a block.
 
-ghost use Rattle.std.specs.Prelude.{◌≡◌, ◌≤◌, true, IfOk, is_some};
+ghost use Rattle.std.specs.Prelude.{◌≡◌, true, IfOk, is_some};
 ghost use Rattle.pipe_recovery.specs.Dialling.{LinkIsKnown};
 ghost use Rattle.pipe_recovery.specs.Steps.{fits_in};
+ghost use Rattle.member_events.specs.Roads.{RoadsPass};
 ghost use Rattle.client_events.specs.Committing.{IsAccepted, is_opened, IsReadOff};
 ghost use Rattle.client_events.specs.Events.{CommitShows, FitsCommitted};
 ghost use Rattle.client_events.specs.Showing.{PipeIsKnown};
@@ -33,7 +34,7 @@ pub fn commit<D: Desk, I: LinkIn, O: LinkOut, R: Roads<Inward = I, Outward = O>>
     ensures shows { CommitShows D.Desk R.Roads I.LinkIn O.LinkOut writer.old writer.new setup
         office.old office.new roads.old roads.new result }
     ensures fits { FitsCommitted writer.old writer.new setup result }
-    ensures counts { R.faults roads.old ≤ R.faults roads.new }
+    ensures pass { RoadsPass R.Roads roads.old roads.new }
     ensures known { IfOk result (λ left. PipeIsKnown (R.plain roads.new) left.pipe) }
 {
     let conn = setup.conn();

@@ -1,8 +1,9 @@
 //! What a writer hears on its connection.
 
-ghost use Rattle.std.specs.Prelude.{◌≡◌, ◌≤◌, IfOk};
+ghost use Rattle.std.specs.Prelude.{◌≡◌, IfOk};
 ghost use Rattle.hd_base.specs.Ends.{IsKnown};
 ghost use Rattle.pipe_member.specs.Looks.{looked_of};
+ghost use Rattle.member_events.specs.Roads.{RoadsPass};
 ghost use Rattle.client_events.specs.Hearing.{told_of, Hears};
 ghost use Rattle.client_events.specs.declared.pipes.Pipe.TheVariants.{Streaming};
 ghost use Rattle.client_events.specs.Events.{HearShows};
@@ -30,7 +31,7 @@ pub fn hear_ack<I: LinkIn, O: LinkOut, R: Roads<Inward = I, Outward = O>>(
     requires { IsKnown (R.plain roads.old) end.id.0 }
     ensures shows { HearShows R.Roads I.LinkIn O.LinkOut writer.old writer.new end incoming roads.old roads.new result }
     ensures fits { FitsAfter writer.old writer.new (Streaming end incoming) result }
-    ensures counts { R.faults roads.old ≤ R.faults roads.new }
+    ensures pass { RoadsPass R.Roads roads.old roads.new }
     ensures known { IfOk result (λ left. PipeIsKnown (R.plain roads.new) left) }
 {
     let conn = end.id;

@@ -1,6 +1,6 @@
 //! The setup of a pipeline by the writer of a block.
 
-ghost use Rattle.std.specs.Prelude.{◌≡◌, ◌≤◌, true, IfOk, is_some};
+ghost use Rattle.std.specs.Prelude.{◌≡◌, true, IfOk, is_some};
 ghost use Rattle.pipe_recovery.specs.Dialling.{LinkIsKnown};
 ghost use Rattle.pipe_recovery.specs.Steps.{fits_in};
 ghost use Rattle.member_events.specs.Roads.{RoadsPass};
@@ -54,7 +54,7 @@ pub fn set_up<D: Desk, I: LinkIn, O: LinkOut, R: Roads<Inward = I, Outward = O>>
     ensures shows { SetUpShows D.Desk R.Roads I.LinkIn O.LinkOut next writer.old writer.new setup
         office.old office.new roads.old roads.new result }
     ensures fits { FitsSetUp writer.old writer.new setup result }
-    ensures counts { R.faults roads.old ≤ R.faults roads.new }
+    ensures pass { RoadsPass R.Roads roads.old roads.new }
     ensures known { IfOk result (λ left. SetUpIsKnown (R.plain roads.new) left) }
 {
     let mut setup = setup;

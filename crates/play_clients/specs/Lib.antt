@@ -5,3 +5,4 @@ pub mod Owning
 pub mod Events
 pub mod Staying
 pub mod Others
+pub mod Passing

@@ -1,10 +1,12 @@
 //! What a client hears on its writer's connection.
 
-ghost use Rattle.std.specs.Prelude.{◌≡◌};
+ghost use Rattle.std.specs.Prelude.{◌≡◌, IfOk};
+ghost use Rattle.member_events.specs.Roads.{RoadsPass};
 ghost use Rattle.client_events.specs.Showing.{PipeIsKnown};
 ghost use Rattle.pipe_recovery.specs.Dialling.{LinkIsKnown};
 ghost use Rattle.play_clients.specs.Hearing.{awaits_answer, SetupHears, PipeHears};
 ghost use Rattle.play_clients.specs.Events.{HearShows};
+ghost use Rattle.play_clients.specs.Passing.{ClientPasses};
 
 use crate::clients::Client;
 use client_events::{ClientFault, Pipe, hear_ack, hear_answer};
@@ -26,6 +28,7 @@ impl<I: LinkIn, O: LinkOut> Client<I, O> {
         requires { PipeIsKnown (R.plain roads.old) self.old.pipe }
         ensures shows { HearShows D.Desk R.Roads I.LinkIn O.LinkOut
             self.old self.new office.old roads.old roads.new result }
+        ensures passes { ClientPasses R.Roads roads.old roads.new self.new result }
         ensures office { office.new ≡ office.old }
     {
         let Some(writer) = &mut self.writer else {
@@ -47,6 +50,8 @@ fn heard<D: Desk, I: LinkIn, O: LinkOut, R: Roads<Inward = I, Outward = O>>(
 ) -> Result<Pipe<I, O>, ClientFault>
     requires { PipeIsKnown (R.plain roads.old) pipe }
     ensures hears { PipeHears R.Roads I.LinkIn O.LinkOut writer.old writer.new pipe roads.old roads.new result }
+    ensures pass { RoadsPass R.Roads roads.old roads.new }
+    ensures known { IfOk result (λ left. PipeIsKnown (R.plain roads.new) left) }
     ensures office { office.new ≡ office.old }
 {
     match pipe {
@@ -66,6 +71,8 @@ fn answered<D: Desk, I: LinkIn, O: LinkOut, R: Roads<Inward = I, Outward = O>>(
 ) -> Result<Pipe<I, O>, ClientFault>
     requires { LinkIsKnown (R.plain roads.old) setup.link }
     ensures hears { SetupHears R.Roads I.LinkIn O.LinkOut writer.old writer.new setup roads.old roads.new result }
+    ensures pass { RoadsPass R.Roads roads.old roads.new }
+    ensures known { IfOk result (λ left. PipeIsKnown (R.plain roads.new) left) }
     ensures office { office.new ≡ office.old }
 {
     if awaits_answer(writer.phase()) && setup.conn().is_some() {

@@ -1,6 +1,7 @@
 //! The own steps of a client.
 
 ghost use Rattle.std.specs.Prelude.{◌≡◌, IfSome, IfOk};
+ghost use Rattle.hd_base.specs.Ends.{IsKnown};
 ghost use Rattle.client_events.specs.Committing.{IsAccepted};
 ghost use Rattle.client_events.specs.SettingUp.{IsWanted};
 ghost use Rattle.client_events.specs.Showing.{PipeIsKnown};
@@ -8,6 +9,7 @@ ghost use Rattle.play_clients.specs.Clients.{known_of};
 ghost use Rattle.play_clients.specs.Courses.{course_of};
 ghost use Rattle.play_clients.specs.Owning.{Answers, Keeps, Acts, Puts, Gives, Takes, Completes, TakesSetup, Commits, first_of, SetsUp};
 ghost use Rattle.play_clients.specs.Events.{OwnShows};
+ghost use Rattle.play_clients.specs.Passing.{ClientPasses};
 
 use crate::clients::{Client, First, Owned};
 use crate::courses::{Course, course_of};
@@ -31,8 +33,10 @@ impl<I: LinkIn, O: LinkOut> Client<I, O> {
         next: ConnId,
     ) -> Result<Owned<I, O>, ClientFault>
         requires { PipeIsKnown (R.plain roads.old) self.old.pipe }
-        ensures { OwnShows D.Desk R.Roads I.LinkIn O.LinkOut next
+        ensures shows { OwnShows D.Desk R.Roads I.LinkIn O.LinkOut next
             self.old self.new office.old office.new roads.old roads.new result }
+        ensures passes { ClientPasses R.Roads roads.old roads.new self.new result }
+        ensures first { IfOk result (λ left. IfSome left.first (λ f. IsKnown (R.plain roads.new) f.end.id.0)) }
     {
         match self.course() {
             Course::Takes => {
@@ -116,7 +120,8 @@ impl<I: LinkIn, O: LinkOut> Client<I, O> {
         roads: &mut R,
     ) -> Result<(), ClientFault>
         requires { PipeIsKnown (R.plain roads.old) self.old.pipe }
-        ensures { Acts R.Roads I.LinkIn O.LinkOut self.old self.new roads.old roads.new result }
+        ensures acts { Acts R.Roads I.LinkIn O.LinkOut self.old self.new roads.old roads.new result }
+        ensures passes { ClientPasses R.Roads roads.old roads.new self.new result }
     {
         let Some(writer) = &mut self.writer else {
             return Ok(());
@@ -133,7 +138,8 @@ impl<I: LinkIn, O: LinkOut> Client<I, O> {
         roads: &mut R,
     ) -> Result<Option<TakenCommand>, ClientFault>
         requires { PipeIsKnown (R.plain roads.old) self.old.pipe }
-        ensures { Takes R.Roads I.LinkIn O.LinkOut self.old self.new roads.old roads.new result }
+        ensures takes { Takes R.Roads I.LinkIn O.LinkOut self.old self.new roads.old roads.new result }
+        ensures passes { ClientPasses R.Roads roads.old roads.new self.new result }
     {
         let Some(taken) = self.queue.pop_front() else {
             return Ok(None);
@@ -164,7 +170,8 @@ impl<I: LinkIn, O: LinkOut> Client<I, O> {
 
     /// The writer has the office complete its block.
     fn complete<D: Desk>(&mut self, office: &mut D) -> Result<(), ClientFault>
-        ensures { Completes D.Desk self.old self.new office.old office.new result }
+        ensures completes { Completes D.Desk self.old self.new office.old office.new result }
+        ensures pipe { IfOk result (λ _. self.new.pipe ≡ self.old.pipe) }
     {
         let Some(writer) = &mut self.writer else {
             return Ok(());
@@ -182,8 +189,9 @@ impl<I: LinkIn, O: LinkOut> Client<I, O> {
     ) -> Result<(), ClientFault>
         requires known { PipeIsKnown (R.plain roads.old) self.old.pipe }
         requires accepted { IfSome self.old.writer (λ x. IsAccepted x.phase) }
-        ensures { Commits D.Desk R.Roads I.LinkIn O.LinkOut
+        ensures commits { Commits D.Desk R.Roads I.LinkIn O.LinkOut
             self.old self.new office.old office.new roads.old roads.new result }
+        ensures passes { ClientPasses R.Roads roads.old roads.new self.new result }
     {
         let Some(setup) = self.take_setup() else {
             return Ok(());
@@ -208,8 +216,10 @@ impl<I: LinkIn, O: LinkOut> Client<I, O> {
     ) -> Result<Option<First<I, O>>, ClientFault>
         requires known { PipeIsKnown (R.plain roads.old) self.old.pipe }
         requires wanted { IfSome self.old.writer (λ x. IsWanted x.phase) }
-        ensures { SetsUp D.Desk R.Roads I.LinkIn O.LinkOut next
+        ensures sets_up { SetsUp D.Desk R.Roads I.LinkIn O.LinkOut next
             self.old self.new office.old office.new roads.old roads.new result }
+        ensures passes { ClientPasses R.Roads roads.old roads.new self.new result }
+        ensures first { IfOk result (λ first. IfSome first (λ f. IsKnown (R.plain roads.new) f.end.id.0)) }
     {
         let Some(setup) = self.take_setup() else {
             return Ok(None);

@@ -1,6 +1,9 @@
 pub mod Queues
 pub mod Steps
+pub mod Standing
+pub mod Taking
 pub mod Resting
+pub mod Commanding
 pub mod Running
 pub mod Dials
 pub mod Aiming
@@ -10,3 +13,4 @@ pub mod Lowers
 pub mod Asides
 pub mod Sending
 pub mod Early
+pub mod Untold

@@ -46,6 +46,7 @@ use Rattle.world_laws.proofs.SessionAsides.{Aside, lower-down-aside, lower-ready
 use Rattle.play_laws.specs.Writers.{Rests, AllRest, is_settled, needs_members}
 use Rattle.play_laws.specs.Members.{Names, EventNames, AllName, IsNode, MembersAre}
 use Rattle.play_laws.proofs.Queues.{own-bare, hears-bare, dialled-bare, granted-bare}
+use Rattle.play_laws.proofs.Taking.{Kept, hears-kept, granted-kept, dialled-kept, own-kept, opened-kept, completed-kept, given-kept, fresh-kept}
 use Rattle.play_laws.proofs.Steps.{is_early, Fits, Sits, Allows, Gets, some-member, empty-queue, hears-fits, undialled-fits, opened-fits, completed-fits, own-fits, granted-fits, ruled-gets, none-opens}
 
 module _ (Of : NodeId → Type 0) where
@@ -54,6 +55,7 @@ module _ (Of : NodeId → Type 0) where
     pub fits : Fits Of (is_some x.conn) (is_early x.known.phase) true x.known.members x.known.phase
     pub queue : x.known.queue ≡ []
     pub alone : is_connected x.known.phase ≡ false → x.conn ≡ None
+    pub kept : Kept x.known
 
   -- so is the writer that a change leaves
   abbrev Leaves : Change → Type 0
@@ -64,15 +66,16 @@ module _ (Of : NodeId → Type 0) where
   AllStand w = (b : ℕ) → Stands (w.writers b)
 
   -- the writer keeps its connection where its phase has one
-  as-stands : (x : WriterRecord) (conn : Option ℕ) (soon : Bool) → Sits Of (is_some conn) soon true x → x.queue ≡ [] → Stands (writing_as x conn)
-  as-stands x conn soon h q = go (is_connected x.phase) refl
+  as-stands : (x : WriterRecord) (conn : Option ℕ) (soon : Bool) → Sits Of (is_some conn) soon true x → x.queue ≡ [] → Kept x → Stands (writing_as x conn)
+  as-stands x conn soon h q kept = go (is_connected x.phase) refl
     where
       go : (b : Bool) → is_connected x.phase ≡ b → Stands (record { known = x; conn = if b then conn else None; told = None })
-      go true e = record { fits = record { settled = h.settled; some = h.some; each = h.each; conn = h.conn; early = λ a. a }; queue = q; alone = λ a. absurd (false≢true (sym a ∙ e)) }
+      go true e = record { fits = record { settled = h.settled; some = h.some; each = h.each; conn = h.conn; early = λ a. a }; queue = q; alone = λ a. absurd (false≢true (sym a ∙ e)); kept = kept }
       go false e = record {
         fits = record { settled = h.settled; some = h.some; each = h.each; conn = λ a. absurd (false≢true (sym e ∙ a)); early = λ a. a };
         queue = q;
         alone = λ a. refl;
+        kept = kept;
       }
 
   -- OWN STEPS
@@ -82,18 +85,18 @@ module _ (Of : NodeId → Type 0) where
     abbrev Goes : WriterRecord → Type 0
     Goes x = Sits Of (is_some (w.writers b).conn) (is_early (w.writers b).known.phase) true x
 
-    did-leaves : (waits : Option Waiting) (a : Action) (x : WriterRecord) (bytes : List ℕ) → Goes x → x.queue ≡ [] → IfSome (did w b waits a x bytes) Leaves
-    did-leaves waits action.Took x bytes h q = as-stands x (w.writers b).conn (is_early (w.writers b).known.phase) h q
-    did-leaves waits (action.Send p) x bytes h q = as-stands x (w.writers b).conn (is_early (w.writers b).known.phase) h q
-    did-leaves waits (action.Answered k said) x bytes h q = as-stands x (w.writers b).conn (is_early (w.writers b).known.phase) h q
-    did-leaves waits action.Wait x bytes h q = tt
-    did-leaves waits (action.Ask c) x bytes h q = tt
-    did-leaves waits (action.Dial to r) x bytes h q = tt
-    did-leaves waits action.Memory x bytes h q = tt
+    did-leaves : (waits : Option Waiting) (a : Action) (x : WriterRecord) (bytes : List ℕ) → Goes x → x.queue ≡ [] → Kept x → IfSome (did w b waits a x bytes) Leaves
+    did-leaves waits action.Took x bytes h q kept = as-stands x (w.writers b).conn (is_early (w.writers b).known.phase) h q kept
+    did-leaves waits (action.Send p) x bytes h q kept = as-stands x (w.writers b).conn (is_early (w.writers b).known.phase) h q kept
+    did-leaves waits (action.Answered k said) x bytes h q kept = as-stands x (w.writers b).conn (is_early (w.writers b).known.phase) h q kept
+    did-leaves waits action.Wait x bytes h q kept = tt
+    did-leaves waits (action.Ask c) x bytes h q kept = tt
+    did-leaves waits (action.Dial to r) x bytes h q kept = tt
+    did-leaves waits action.Memory x bytes h q kept = tt
 
-    given-leaves : (waits : Option Waiting) (x : WriterRecord) (bytes : List ℕ) → Gets Of (is_some (w.writers b).conn) (is_early (w.writers b).known.phase) x → IfSome (if is_empty (own_step x).writer.queue then did_step w b waits (own_step x) bytes else None) Leaves
-    given-leaves waits x bytes g = when-each Leaves (is_empty (own_step x).writer.queue) _
-        (λ e. did-leaves waits (own_step x).action (own_step x).writer bytes (own-fits Of (is_some (w.writers b).conn) (is_early (w.writers b).known.phase) x g.first g.sits) (empty-queue (own_step x).writer.queue e))
+    given-leaves : (waits : Option Waiting) (x : WriterRecord) (bytes : List ℕ) → Gets Of (is_some (w.writers b).conn) (is_early (w.writers b).known.phase) x → (is_empty (own_step x).writer.queue ≡ true → Kept (own_step x).writer) → IfSome (if is_empty (own_step x).writer.queue then did_step w b waits (own_step x) bytes else None) Leaves
+    given-leaves waits x bytes g kept = when-each Leaves (is_empty (own_step x).writer.queue) _
+        (λ e. did-leaves waits (own_step x).action (own_step x).writer bytes (own-fits Of (is_some (w.writers b).conn) (is_early (w.writers b).known.phase) x g.first g.sits) (empty-queue (own_step x).writer.queue e) (kept e))
 
     -- what commands name may be members
     pub allowed : (c : Command) → Names Of c → Allows Of (is_some (w.writers b).conn) (is_early (w.writers b).known.phase) c
@@ -105,10 +108,11 @@ module _ (Of : NodeId → Type 0) where
     allowed command.Hsync n = tt
     allowed command.Close n = tt
 
-    takes-leaves : (x : WriterRecord) (t : TakenCommand) → Names Of t.command → Goes x → x.queue ≡ [] → IfSome (takes_command w b x t) Leaves
-    takes-leaves x t n h q = when-each Leaves (is_formed t.command t.rule && not (is_empty (given x t.command).queue)) _
+    takes-leaves : (x : WriterRecord) (t : TakenCommand) → Names Of t.command → Goes x → x.queue ≡ [] → Kept x → IfSome (takes_command w b x t) Leaves
+    takes-leaves x t n h q kept = when-each Leaves (is_formed t.command t.rule && not (is_empty (given x t.command).queue)) _
         (λ e. given-leaves (ruled x t.command t.rule).waiting (given (ruled x t.command t.rule) t.command) (command_bytes (ruled x t.command t.rule) t.command)
-        (ruled-gets Of (is_some (w.writers b).conn) (is_early (w.writers b).known.phase) x t.command t.rule (and-right (is_formed t.command t.rule) (not (is_empty (given x t.command).queue)) e) q (allowed t.command n) h))
+        (ruled-gets Of (is_some (w.writers b).conn) (is_early (w.writers b).known.phase) x t.command t.rule (and-right (is_formed t.command t.rule) (not (is_empty (given x t.command).queue)) e) q (allowed t.command n) h)
+        (given-kept x t.command t.rule (and-right (is_formed t.command t.rule) (not (is_empty (given x t.command).queue)) e) q kept))
 
     -- WITH THE OFFICE'S ANSWER
 
@@ -116,58 +120,59 @@ module _ (Of : NodeId → Type 0) where
     abbrev GoesOn : WriterRecord → Type 0
     GoesOn x = Sits Of (is_some (w.writers b).conn) (is_early (w.writers b).known.phase) false x
 
-    requested : (x : WriterRecord) (n : NodeId) (ns : List NodeId) (s : Setup) (stamp : Stamp) (d : ℕ) → x.members ≡ n ∷ ns → x.phase ≡ phase.Stamped s stamp → GoesOn x → x.queue ≡ [] → Stands (record { known = dialled x true; conn = Some d; told = None })
+    requested : (x : WriterRecord) (n : NodeId) (ns : List NodeId) (s : Setup) (stamp : Stamp) (d : ℕ) → x.members ≡ n ∷ ns → x.phase ≡ phase.Stamped s stamp → GoesOn x → x.queue ≡ [] → Kept (dialled x true) → Stands (record { known = dialled x true; conn = Some d; told = None })
     unfolding dialled
-    requested x n ns s stamp d m e h q =
+    requested x n ns s stamp d m e h q kept =
         subst (λ (p : Phase). Stands (record { known = dialled_in x p true; conn = Some d; told = None })) (sym e)
         (record {
           fits = record { settled = λ a. refl; some = λ a. subst (λ (ms : List NodeId). ms ≡ [] → ⊥) (sym m) (some-member n ns); each = h.each; conn = λ a. refl; early = λ a. refl };
           queue = q;
           alone = λ a. absurd (false≢true (sym a));
+          kept = subst (λ (p : Phase). Kept (dialled_in x p true)) e kept;
         })
 
-    dialled-leaves : (x : WriterRecord) (to : NodeId) (r : Op) (answered : Bool) (s : Setup) (stamp : Stamp) (ns : List NodeId) → x.members ≡ to ∷ ns → x.phase ≡ phase.Stamped s stamp → GoesOn x → x.queue ≡ [] → Leaves (dialled_change w b x to r answered)
-    dialled-leaves x to r true s stamp ns m e h q = requested x to ns s stamp w.next_conn m e h q
-    dialled-leaves x to r false s stamp ns m e h q = as-stands (dialled x false) (w.writers b).conn (is_early (w.writers b).known.phase) (undialled-fits Of (is_some (w.writers b).conn) (is_early (w.writers b).known.phase) x s stamp to ns m e h.each) (dialled-bare x false q)
+    dialled-leaves : (x : WriterRecord) (to : NodeId) (r : Op) (answered : Bool) (s : Setup) (stamp : Stamp) (ns : List NodeId) → x.members ≡ to ∷ ns → x.phase ≡ phase.Stamped s stamp → GoesOn x → x.queue ≡ [] → Kept x → Leaves (dialled_change w b x to r answered)
+    dialled-leaves x to r true s stamp ns m e h q kept = requested x to ns s stamp w.next_conn m e h q (dialled-kept x true kept)
+    dialled-leaves x to r false s stamp ns m e h q kept = as-stands (dialled x false) (w.writers b).conn (is_early (w.writers b).known.phase) (undialled-fits Of (is_some (w.writers b).conn) (is_early (w.writers b).known.phase) x s stamp to ns m e h.each) (dialled-bare x false q) (dialled-kept x false kept)
 
-    dialling-leaves : (x : WriterRecord) (s : Setup) (stamp : Stamp) (ns : List NodeId) (answered : Bool) → x.members ≡ ns → x.phase ≡ phase.Stamped s stamp → GoesOn x → x.queue ≡ [] → Leaves (dialling w b x (dial_step_as x s stamp ns).action answered)
-    dialling-leaves x s stamp [] answered m e h q = absurd (h.some (ap needs_members e) m)
-    dialling-leaves x s stamp (n ∷ ns) answered m e h q = dialled-leaves x n (request_for x.block x.committed x.stream s stamp (length x.members) ns) (answered && w.running n.0) s stamp ns m e h q
+    dialling-leaves : (x : WriterRecord) (s : Setup) (stamp : Stamp) (ns : List NodeId) (answered : Bool) → x.members ≡ ns → x.phase ≡ phase.Stamped s stamp → GoesOn x → x.queue ≡ [] → Kept x → Leaves (dialling w b x (dial_step_as x s stamp ns).action answered)
+    dialling-leaves x s stamp [] answered m e h q kept = absurd (h.some (ap needs_members e) m)
+    dialling-leaves x s stamp (n ∷ ns) answered m e h q kept = dialled-leaves x n (request_for x.block x.committed x.stream s stamp (length x.members) ns) (answered && w.running n.0) s stamp ns m e h q kept
 
-    settled : (x : WriterRecord) (p : Phase) → x.phase ≡ p → is_settled p ≡ true → GoesOn x → x.queue ≡ [] → Leaves (writer_change w b x)
-    settled x p e s h q = as-stands x (w.writers b).conn (is_early (w.writers b).known.phase) (record { settled = λ a. ap is_settled e ∙ s; some = h.some; each = h.each; conn = h.conn; early = h.early }) q
+    settled : (x : WriterRecord) (p : Phase) → x.phase ≡ p → is_settled p ≡ true → GoesOn x → x.queue ≡ [] → Kept x → Leaves (writer_change w b x)
+    settled x p e s h q kept = as-stands x (w.writers b).conn (is_early (w.writers b).known.phase) (record { settled = λ a. ap is_settled e ∙ s; some = h.some; each = h.each; conn = h.conn; early = h.early }) q kept
 
-    rest-leaves : (p : Phase) (x : WriterRecord) (answered : Bool) → x.phase ≡ p → GoesOn x → x.queue ≡ [] → IfSome (rest_in p w b x answered) Leaves
-    rest-leaves (phase.Stamped s stamp) x answered e h q = dialling-leaves x s stamp x.members answered refl e h q
-    rest-leaves phase.Opened x answered e h q = did-leaves x.waiting (open_step x).action (open_step x).writer []
-        (opened-fits Of (is_some (w.writers b).conn) (is_early (w.writers b).known.phase) x (subst (λ (p : Phase). Fits Of (is_some (w.writers b).conn) (is_early (w.writers b).known.phase) false x.members p) e h)) q
-    rest-leaves phase.Completed x answered e h q = did-leaves x.waiting (completed_step x).action (completed_step x).writer [] (completed-fits Of (is_some (w.writers b).conn) (is_early (w.writers b).known.phase) x h.each) q
-    rest-leaves phase.Closed x answered e h q = settled x phase.Closed e refl h q
-    rest-leaves (phase.Wanted s) x answered e h q = settled x (phase.Wanted s) e refl h q
-    rest-leaves (phase.Requested s stamp) x answered e h q = settled x (phase.Requested s stamp) e refl h q
-    rest-leaves (phase.Accepted s stamp) x answered e h q = settled x (phase.Accepted s stamp) e refl h q
-    rest-leaves (phase.Streaming n) x answered e h q = settled x (phase.Streaming n) e refl h q
-    rest-leaves phase.Closing x answered e h q = settled x phase.Closing e refl h q
-    rest-leaves phase.Finished x answered e h q = settled x phase.Finished e refl h q
-    rest-leaves (phase.Failed f) x answered e h q = settled x (phase.Failed f) e refl h q
+    rest-leaves : (p : Phase) (x : WriterRecord) (answered : Bool) → x.phase ≡ p → GoesOn x → x.queue ≡ [] → Kept x → IfSome (rest_in p w b x answered) Leaves
+    rest-leaves (phase.Stamped s stamp) x answered e h q kept = dialling-leaves x s stamp x.members answered refl e h q kept
+    rest-leaves phase.Opened x answered e h q kept = did-leaves x.waiting (open_step x).action (open_step x).writer []
+        (opened-fits Of (is_some (w.writers b).conn) (is_early (w.writers b).known.phase) x (subst (λ (p : Phase). Fits Of (is_some (w.writers b).conn) (is_early (w.writers b).known.phase) false x.members p) e h)) q (opened-kept x e kept)
+    rest-leaves phase.Completed x answered e h q kept = did-leaves x.waiting (completed_step x).action (completed_step x).writer [] (completed-fits Of (is_some (w.writers b).conn) (is_early (w.writers b).known.phase) x h.each) q (completed-kept x e kept)
+    rest-leaves phase.Closed x answered e h q kept = settled x phase.Closed e refl h q kept
+    rest-leaves (phase.Wanted s) x answered e h q kept = settled x (phase.Wanted s) e refl h q kept
+    rest-leaves (phase.Requested s stamp) x answered e h q kept = settled x (phase.Requested s stamp) e refl h q kept
+    rest-leaves (phase.Accepted s stamp) x answered e h q kept = settled x (phase.Accepted s stamp) e refl h q kept
+    rest-leaves (phase.Streaming n) x answered e h q kept = settled x (phase.Streaming n) e refl h q kept
+    rest-leaves phase.Closing x answered e h q kept = settled x phase.Closing e refl h q kept
+    rest-leaves phase.Finished x answered e h q kept = settled x phase.Finished e refl h q kept
+    rest-leaves (phase.Failed f) x answered e h q kept = settled x (phase.Failed f) e refl h q kept
 
-    writer-step-leaves : (x : WriterRecord) (told : Option Told) (takes : Option TakenCommand) (answered : Bool) → IfSome takes (λ t. Names Of t.command) → Goes x → x.queue ≡ [] → IfSome (writer_step w b x told takes answered) Leaves
-    writer-step-leaves x (Some t) None answered n h q = rest-leaves (granted x t).phase (granted x t) answered refl (granted-fits Of (is_some (w.writers b).conn) (is_early (w.writers b).known.phase) x t h) (granted-bare x t q)
-    writer-step-leaves x (Some t) (Some c) answered n h q = tt
-    writer-step-leaves x None None answered n h q = did-leaves x.waiting (own_step x).action (own_step x).writer [] (own-fits Of (is_some (w.writers b).conn) (is_early (w.writers b).known.phase) x (none-opens Of (is_some (w.writers b).conn) (is_early (w.writers b).known.phase) x.queue q) h) (own-bare x q)
-    writer-step-leaves x None (Some t) answered n h q = takes-leaves x t n h q
+    writer-step-leaves : (x : WriterRecord) (told : Option Told) (takes : Option TakenCommand) (answered : Bool) → IfSome takes (λ t. Names Of t.command) → Goes x → x.queue ≡ [] → Kept x → IfSome (writer_step w b x told takes answered) Leaves
+    writer-step-leaves x (Some t) None answered n h q kept = rest-leaves (granted x t).phase (granted x t) answered refl (granted-fits Of (is_some (w.writers b).conn) (is_early (w.writers b).known.phase) x t h) (granted-bare x t q) (granted-kept x t kept)
+    writer-step-leaves x (Some t) (Some c) answered n h q kept = tt
+    writer-step-leaves x None None answered n h q kept = did-leaves x.waiting (own_step x).action (own_step x).writer [] (own-fits Of (is_some (w.writers b).conn) (is_early (w.writers b).known.phase) x (none-opens Of (is_some (w.writers b).conn) (is_early (w.writers b).known.phase) x.queue q) h) (own-bare x q) (own-kept x q kept)
+    writer-step-leaves x None (Some t) answered n h q kept = takes-leaves x t n h q kept
 
     -- WHAT A WRITER TAKES
 
     writer-up-leaves : (c : ℕ) (n : Next) → Stands (w.writers b) → IfSome (writer_up w b c n) Leaves
     writer-up-leaves c n h = when-each Leaves (is_conn (w.writers b).conn c && is_none (w.writers b).told) _
-        (λ e. as-stands (writer_hears (w.writers b).known n) (w.writers b).conn (is_early (w.writers b).known.phase) (hears-fits Of (is_some (w.writers b).conn) (is_early (w.writers b).known.phase) true (w.writers b).known n h.fits) (hears-bare (w.writers b).known n h.queue))
+        (λ e. as-stands (writer_hears (w.writers b).known n) (w.writers b).conn (is_early (w.writers b).known.phase) (hears-fits Of (is_some (w.writers b).conn) (is_early (w.writers b).known.phase) true (w.writers b).known n h.fits) (hears-bare (w.writers b).known n h.queue) (hears-kept (w.writers b).known n h.kept))
 
   module _ (w : World) (h : AllStand w) where
     -- THE OFFICE
 
     asks-leaves : (a : Action) (b : ℕ) → IfSome (writer_asks a w b) Leaves
-    asks-leaves (action.Ask c) b = record { fits = (h b).fits; queue = (h b).queue; alone = (h b).alone }
+    asks-leaves (action.Ask c) b = record { fits = (h b).fits; queue = (h b).queue; alone = (h b).alone; kept = (h b).kept }
     asks-leaves action.Wait b = tt
     asks-leaves action.Took b = tt
     asks-leaves (action.Dial to r) b = tt
@@ -198,7 +203,7 @@ module _ (Of : NodeId → Type 0) where
     aside-leaves (Some k) q = subst Stands (sym q.writer) (h k.writer_at)
 
     own-step-leaves : (s : events.OwnStep) → EventNames Of (event.Own s) → IfSome (own_change w s) Leaves
-    own-step-leaves (own.Writer b takes answered) n = writer-step-leaves w b.0 (w.writers b.0).known (w.writers b.0).told takes answered n (h b.0).fits (h b.0).queue
+    own-step-leaves (own.Writer b takes answered) n = writer-step-leaves w b.0 (w.writers b.0).known (w.writers b.0).told takes answered n (h b.0).fits (h b.0).queue (h b.0).kept
     own-step-leaves (own.Reader i n r answered) _ = aside-leaves (own_reader w i n.0 r answered) (own-reader-aside w i n.0 r answered)
     own-step-leaves (own.Recover i n b members answers) _ = aside-leaves (own_recover w i n.0 b members answers) (own-recover-aside w i n.0 b members answers)
     own-step-leaves (own.Primary i) _ = aside-leaves (own_primary w i) (own-primary-aside w i)
@@ -302,6 +307,7 @@ module _ (Of : NodeId → Type 0) where
     fits = record { settled = λ e. refl; some = λ e. absurd (false≢true e); each = each-nil Of; conn = λ e. e; early = λ e. e };
     queue = refl;
     alone = λ e. refl;
+    kept = fresh-kept (record { 0 = b });
   }
 
   pub all-stand : (nodes : ℕ) (list : List Event) → AllName Of list → AllStand (run (start nodes) list)

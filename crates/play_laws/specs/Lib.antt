@@ -1,4 +1,6 @@
 pub mod Early
 pub mod Members
 pub mod Nodes
+pub mod Taking
+pub mod Untold
 pub mod Writers

@@ -5,6 +5,8 @@
 ghost use Rattle.play_laws.specs.Early.{NothingEarly};
 ghost use Rattle.play_laws.specs.Members.{MembersAre, TargetsAre};
 ghost use Rattle.play_laws.specs.Nodes.{AllRun};
+ghost use Rattle.play_laws.specs.Taking.{CommandsTaken, CreatesFirst};
+ghost use Rattle.play_laws.specs.Untold.{StaysQuiet};
 ghost use Rattle.play_laws.specs.Writers.{AllRest, WritersOpen};
 
 /// Between two steps a writer has taken each command that it was given, isn't about to go on with an answer of the
@@ -36,4 +38,19 @@ pub fn members_are_nodes()
 /// So are the targets of each request to write: each is told as that node itself tells where it is.
 pub fn targets_are_nodes()
     ensures { TargetsAre }
+{}
+
+/// A writer that has nothing else to do takes a command that fits those before it, and keeps its connection.
+pub fn commands_are_taken()
+    ensures { CommandsTaken }
+{}
+
+/// Only a writer that was given nothing may be given a create.
+pub fn creates_come_first()
+    ensures { CreatesFirst }
+{}
+
+/// Where no answer of the office waits for a writer before the events of what is due, none waits after them.
+pub fn plays_stay_quiet()
+    ensures { StaysQuiet }
 {}

@@ -11,11 +11,11 @@ pub returns-then-has_lost-clause-office : goal.returns-then-has_lost-clause-offi
 returns-then-has_lost-clause-office g c =
     answer_office g.R.Roads g.I.LinkIn g.O.LinkOut g.D.Desk c.args.writer.now c.step-step.new.writer c.in_ok-setup.setup.link c.step-step.new.self.link c.args.office.now c.step-step.new.office c.taken.new.roads c.step-step.new.roads c.step-step.new.self.lost c.step-step.result c.requires.waits c.step-step.ensures.steps
 
-pub returns-then-has_lost-clause-counts : goal.returns-then-has_lost-clause-counts
-returns-then-has_lost-clause-counts g c =
+pub returns-then-has_lost-clause-pass : goal.returns-then-has_lost-clause-pass
+returns-then-has_lost-clause-pass g c =
     (pass_on g.R.Roads g.I.LinkIn g.O.LinkOut c.args.roads.now c.taken.new.roads c.step-step.new.roads c.taken.ensures.passes
     (step_pass g.R.Roads g.I.LinkIn g.O.LinkOut g.D.Desk true c.args.writer.now c.step-step.new.writer c.in_ok-setup.setup.link c.step-step.new.self.link c.args.office.now c.step-step.new.office c.taken.new.roads c.step-step.new.roads c.step-step.new.self.lost c.step-step.result
-    (waits_asked c.args.writer.now.phase c.requires.waits) c.step-step.ensures.steps)).never_falls
+    (waits_asked c.args.writer.now.phase c.requires.waits) c.step-step.ensures.steps))
 
 pub returns-then-is_risen-clause-shows : goal.returns-then-is_risen-clause-shows
 returns-then-is_risen-clause-shows g c =
@@ -26,11 +26,11 @@ pub returns-then-is_risen-clause-office : goal.returns-then-is_risen-clause-offi
 returns-then-is_risen-clause-office g c =
     answer_office g.R.Roads g.I.LinkIn g.O.LinkOut g.D.Desk c.args.writer.now c.step-step.new.writer c.in_ok-setup.setup.link c.step-step.new.self.link c.args.office.now c.step-step.new.office c.taken.new.roads c.step-step.new.roads c.step-step.new.self.lost c.step-step.result c.requires.waits c.step-step.ensures.steps
 
-pub returns-then-is_risen-clause-counts : goal.returns-then-is_risen-clause-counts
-returns-then-is_risen-clause-counts g c =
+pub returns-then-is_risen-clause-pass : goal.returns-then-is_risen-clause-pass
+returns-then-is_risen-clause-pass g c =
     (pass_on g.R.Roads g.I.LinkIn g.O.LinkOut c.args.roads.now c.taken.new.roads c.step-step.new.roads c.taken.ensures.passes
     (step_pass g.R.Roads g.I.LinkIn g.O.LinkOut g.D.Desk true c.args.writer.now c.step-step.new.writer c.in_ok-setup.setup.link c.step-step.new.self.link c.args.office.now c.step-step.new.office c.taken.new.roads c.step-step.new.roads c.step-step.new.self.lost c.step-step.result
-    (waits_asked c.args.writer.now.phase c.requires.waits) c.step-step.ensures.steps)).never_falls
+    (waits_asked c.args.writer.now.phase c.requires.waits) c.step-step.ensures.steps))
 
 pub returns-clause-shows : goal.returns-clause-shows
 returns-clause-shows g c =
@@ -38,11 +38,11 @@ returns-clause-shows g c =
     c.in_ok-setup.ensures.takes c.step-step.ensures.steps (sym c.has_lost.ensures ∙ c.if-has_lost.false)
     (ap (is_risen (g.R.Roads.risen c.step-step.new.roads)) (sym c.conn-conn.ensures) ∙ (sym c.is_risen.ensures ∙ c.if-is_risen.false)) (sym c.piped.ensures)
 
-pub returns-clause-counts : goal.returns-clause-counts
-returns-clause-counts g c =
+pub returns-clause-pass : goal.returns-clause-pass
+returns-clause-pass g c =
     (pass_on g.R.Roads g.I.LinkIn g.O.LinkOut c.args.roads.now c.taken.new.roads c.step-step.new.roads c.taken.ensures.passes
     (step_pass g.R.Roads g.I.LinkIn g.O.LinkOut g.D.Desk true c.args.writer.now c.step-step.new.writer c.in_ok-setup.setup.link c.step-step.new.self.link c.args.office.now c.step-step.new.office c.taken.new.roads c.step-step.new.roads c.step-step.new.self.lost c.step-step.result
-    (waits_asked c.args.writer.now.phase c.requires.waits) c.step-step.ensures.steps)).never_falls
+    (waits_asked c.args.writer.now.phase c.requires.waits) c.step-step.ensures.steps))
 
 pub returns-clause-known : goal.returns-clause-known
 returns-clause-known g c =

@@ -8,35 +8,35 @@ use Rattle.client_events.proofs.PassLaws.{accepted_asked, step_pass, piped_known
 use Rattle.client_events.proofs.FitLaws.{commit_fits}
 use Rattle.client_events.proofs.committing.commit.Goals as goal
 
-pub returns-then-has_lost-clause-counts : goal.returns-then-has_lost-clause-counts
-returns-then-has_lost-clause-counts g c =
+pub returns-then-has_lost-clause-pass : goal.returns-then-has_lost-clause-pass
+returns-then-has_lost-clause-pass g c =
     (step_pass g.R.Roads g.I.LinkIn g.O.LinkOut g.D.Desk (is_some c.args.setup.link) c.args.writer.now c.step-step.new.writer c.args.setup.link c.step-step.new.self.link c.args.office.now c.step-step.new.office c.args.roads.now c.step-step.new.roads c.step-step.new.self.lost c.step-step.result
-    (accepted_asked c.args.writer.now.phase (is_some c.args.setup.link) c.requires.accepted c.requires.fits) c.step-step.ensures.steps).never_falls
+    (accepted_asked c.args.writer.now.phase (is_some c.args.setup.link) c.requires.accepted c.requires.fits) c.step-step.ensures.steps)
 
 pub returns-then-is_risen-clause-shows : goal.returns-then-is_risen-clause-shows
 returns-then-is_risen-clause-shows g c =
     commit_risen g.R.Roads g.I.LinkIn g.O.LinkOut g.D.Desk c.args.setup c.step-step.new.self c.args.writer.now c.step-step.new.writer c.step-step.new.writer c.args.office.now c.step-step.new.office c.args.roads.now c.step-step.new.roads
     (ap (is_risen (g.R.Roads.risen c.step-step.new.roads)) (sym c.conn-conn.ensures) ∙ (sym c.is_risen.ensures ∙ c.if-is_risen.true))
 
-pub returns-then-is_risen-clause-counts : goal.returns-then-is_risen-clause-counts
-returns-then-is_risen-clause-counts g c =
+pub returns-then-is_risen-clause-pass : goal.returns-then-is_risen-clause-pass
+returns-then-is_risen-clause-pass g c =
     (step_pass g.R.Roads g.I.LinkIn g.O.LinkOut g.D.Desk (is_some c.args.setup.link) c.args.writer.now c.step-step.new.writer c.args.setup.link c.step-step.new.self.link c.args.office.now c.step-step.new.office c.args.roads.now c.step-step.new.roads c.step-step.new.self.lost c.step-step.result
-    (accepted_asked c.args.writer.now.phase (is_some c.args.setup.link) c.requires.accepted c.requires.fits) c.step-step.ensures.steps).never_falls
+    (accepted_asked c.args.writer.now.phase (is_some c.args.setup.link) c.requires.accepted c.requires.fits) c.step-step.ensures.steps)
 
-pub returns-in_err-held-clause-counts : goal.returns-in_err-held-clause-counts
-returns-in_err-held-clause-counts g c =
+pub returns-in_err-held-clause-pass : goal.returns-in_err-held-clause-pass
+returns-in_err-held-clause-pass g c =
     (step_pass g.R.Roads g.I.LinkIn g.O.LinkOut g.D.Desk (is_some c.args.setup.link) c.args.writer.now c.step-step.new.writer c.args.setup.link c.step-step.new.self.link c.args.office.now c.step-step.new.office c.args.roads.now c.step-step.new.roads c.step-step.new.self.lost c.step-step.result
-    (accepted_asked c.args.writer.now.phase (is_some c.args.setup.link) c.requires.accepted c.requires.fits) c.step-step.ensures.steps).never_falls
+    (accepted_asked c.args.writer.now.phase (is_some c.args.setup.link) c.requires.accepted c.requires.fits) c.step-step.ensures.steps)
 
-pub returns-in_err-pipe-clause-counts : goal.returns-in_err-pipe-clause-counts
-returns-in_err-pipe-clause-counts g c =
+pub returns-in_err-pipe-clause-pass : goal.returns-in_err-pipe-clause-pass
+returns-in_err-pipe-clause-pass g c =
     (step_pass g.R.Roads g.I.LinkIn g.O.LinkOut g.D.Desk (is_some c.args.setup.link) c.args.writer.now c.step-step.new.writer c.args.setup.link c.step-step.new.self.link c.args.office.now c.step-step.new.office c.args.roads.now c.step-step.new.roads c.step-step.new.self.lost c.step-step.result
-    (accepted_asked c.args.writer.now.phase (is_some c.args.setup.link) c.requires.accepted c.requires.fits) c.step-step.ensures.steps).never_falls
+    (accepted_asked c.args.writer.now.phase (is_some c.args.setup.link) c.requires.accepted c.requires.fits) c.step-step.ensures.steps)
 
-pub returns-in_err-said-clause-counts : goal.returns-in_err-said-clause-counts
-returns-in_err-said-clause-counts g c =
+pub returns-in_err-said-clause-pass : goal.returns-in_err-said-clause-pass
+returns-in_err-said-clause-pass g c =
     (step_pass g.R.Roads g.I.LinkIn g.O.LinkOut g.D.Desk (is_some c.args.setup.link) c.args.writer.now c.step-step.new.writer c.args.setup.link c.step-step.new.self.link c.args.office.now c.step-step.new.office c.args.roads.now c.step-step.new.roads c.step-step.new.self.lost c.step-step.result
-    (accepted_asked c.args.writer.now.phase (is_some c.args.setup.link) c.requires.accepted c.requires.fits) c.step-step.ensures.steps).never_falls
+    (accepted_asked c.args.writer.now.phase (is_some c.args.setup.link) c.requires.accepted c.requires.fits) c.step-step.ensures.steps)
 
 pub returns-clause-shows : goal.returns-clause-shows
 returns-clause-shows g c =
@@ -45,10 +45,10 @@ returns-clause-shows g c =
     (ap (is_risen (g.R.Roads.risen c.step-step.new.roads)) (sym c.conn-conn.ensures) ∙ (sym c.is_risen.ensures ∙ c.if-is_risen.false)) (sym c.in_ok-held.ensures) c.in_ok-pipe.ensures
     (subst (λ (q : Bool). AnswersIf q c.step-step.new.writer c.answer_if.new.writer (Ok c.in_ok-said.said)) (c.is_opened-due.ensures ∙ ap is_opened c.phase.ensures) c.in_ok-said.ensures)
 
-pub returns-clause-counts : goal.returns-clause-counts
-returns-clause-counts g c =
+pub returns-clause-pass : goal.returns-clause-pass
+returns-clause-pass g c =
     (step_pass g.R.Roads g.I.LinkIn g.O.LinkOut g.D.Desk (is_some c.args.setup.link) c.args.writer.now c.step-step.new.writer c.args.setup.link c.step-step.new.self.link c.args.office.now c.step-step.new.office c.args.roads.now c.step-step.new.roads c.step-step.new.self.lost c.step-step.result
-    (accepted_asked c.args.writer.now.phase (is_some c.args.setup.link) c.requires.accepted c.requires.fits) c.step-step.ensures.steps).never_falls
+    (accepted_asked c.args.writer.now.phase (is_some c.args.setup.link) c.requires.accepted c.requires.fits) c.step-step.ensures.steps)
 
 pub returns-clause-known : goal.returns-clause-known
 returns-clause-known g c =

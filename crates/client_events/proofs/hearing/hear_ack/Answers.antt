@@ -14,8 +14,8 @@ returns-in-Failed-clause-shows g c =
     hear_lost g.R.Roads g.I.LinkIn g.O.LinkOut c.args.end c.in_ok-end.end c.args.incoming c.heard.new.incoming c.args.writer.now c.heard.new.writer c.heard.new.inward c.lost.result c.args.roads.now c.exchanged.new.roads c.lost.new.roads
     c.in_ok-end.ensures.exchanges.kept.id (subst (λ (x : Looked). Hears g.I.LinkIn c.args.writer.now c.heard.new.writer c.args.incoming c.heard.new.incoming c.in_ok-end.end.inward c.heard.new.inward x) c.in-Failed.is c.heard.ensures) c.lost.ensures.loses
 
-pub returns-in-Failed-clause-counts : goal.returns-in-Failed-clause-counts
-returns-in-Failed-clause-counts g c = (pass_on g.R.Roads g.I.LinkIn g.O.LinkOut c.args.roads.now c.exchanged.new.roads c.lost.new.roads c.exchanged.ensures.passes c.lost.ensures.passes).never_falls
+pub returns-in-Failed-clause-pass : goal.returns-in-Failed-clause-pass
+returns-in-Failed-clause-pass g c = (pass_on g.R.Roads g.I.LinkIn g.O.LinkOut c.args.roads.now c.exchanged.new.roads c.lost.new.roads c.exchanged.ensures.passes c.lost.ensures.passes)
 
 pub returns-clause-shows : goal.returns-clause-shows
 returns-clause-shows g c =
@@ -23,8 +23,8 @@ returns-clause-shows g c =
     c.in_ok-end.ensures.exchanges (subst (λ (x : Looked). Hears g.I.LinkIn c.args.writer.now c.heard.new.writer c.args.incoming c.heard.new.incoming c.in_ok-end.end.inward c.heard.new.inward x) c.in-Known.is c.heard.ensures)
     (subst (λ (b : Bool). IsSettled g.R.Roads g.I.LinkIn g.O.LinkOut b (record c.in_ok-end.end { inward = c.heard.new.inward }) c.heard.new.incoming c.exchanged.new.roads c.settled.new.roads c.settled.result) c.connected-connected.ensures c.settled.ensures.settles)
 
-pub returns-clause-counts : goal.returns-clause-counts
-returns-clause-counts g c = (pass_on g.R.Roads g.I.LinkIn g.O.LinkOut c.args.roads.now c.exchanged.new.roads c.settled.new.roads c.exchanged.ensures.passes c.settled.ensures.passes).never_falls
+pub returns-clause-pass : goal.returns-clause-pass
+returns-clause-pass g c = (pass_on g.R.Roads g.I.LinkIn g.O.LinkOut c.args.roads.now c.exchanged.new.roads c.settled.new.roads c.exchanged.ensures.passes c.settled.ensures.passes)
 
 pub returns-clause-known : goal.returns-clause-known
 returns-clause-known g c =

@@ -46,25 +46,25 @@ returns-in-Waiting-clause-fits g c =
     met_fits g.R.Roads g.I.LinkIn g.O.LinkOut g.D.Desk c.args.next c.args.setup c.step-step.new.self c.args.writer.now c.step-step.new.writer c.args.office.now c.step-step.new.office c.args.roads.now c.step-step.new.roads c.step-step.result
     c.first_port-port.result c.met.new.roads c.met.result on c.step-step.ensures.fits c.in-Waiting.is c.met.ensures.meets
 
-pub returns-then-has_lost-clause-counts : goal.returns-then-has_lost-clause-counts
-returns-then-has_lost-clause-counts g c =
-    (first_pass g.R.Roads g.I.LinkIn g.O.LinkOut g.D.Desk c.args.writer.now c.step-step.new.writer c.args.setup.link c.step-step.new.self.link c.args.office.now c.step-step.new.office c.args.roads.now c.step-step.new.roads c.step-step.new.self.lost c.step-step.result c.requires.wanted c.step-step.ensures.steps).never_falls
+pub returns-then-has_lost-clause-pass : goal.returns-then-has_lost-clause-pass
+returns-then-has_lost-clause-pass g c =
+    (first_pass g.R.Roads g.I.LinkIn g.O.LinkOut g.D.Desk c.args.writer.now c.step-step.new.writer c.args.setup.link c.step-step.new.self.link c.args.office.now c.step-step.new.office c.args.roads.now c.step-step.new.roads c.step-step.new.self.lost c.step-step.result c.requires.wanted c.step-step.ensures.steps)
 
-pub returns-then-risen-clause-counts : goal.returns-then-risen-clause-counts
-returns-then-risen-clause-counts g c =
-    (first_pass g.R.Roads g.I.LinkIn g.O.LinkOut g.D.Desk c.args.writer.now c.step-step.new.writer c.args.setup.link c.step-step.new.self.link c.args.office.now c.step-step.new.office c.args.roads.now c.step-step.new.roads c.step-step.new.self.lost c.step-step.result c.requires.wanted c.step-step.ensures.steps).never_falls
+pub returns-then-risen-clause-pass : goal.returns-then-risen-clause-pass
+returns-then-risen-clause-pass g c =
+    (first_pass g.R.Roads g.I.LinkIn g.O.LinkOut g.D.Desk c.args.writer.now c.step-step.new.writer c.args.setup.link c.step-step.new.self.link c.args.office.now c.step-step.new.office c.args.roads.now c.step-step.new.roads c.step-step.new.self.lost c.step-step.result c.requires.wanted c.step-step.ensures.steps)
 
-pub returns-in_err-pipe-clause-counts : goal.returns-in_err-pipe-clause-counts
-returns-in_err-pipe-clause-counts g c =
-    (first_pass g.R.Roads g.I.LinkIn g.O.LinkOut g.D.Desk c.args.writer.now c.step-step.new.writer c.args.setup.link c.step-step.new.self.link c.args.office.now c.step-step.new.office c.args.roads.now c.step-step.new.roads c.step-step.new.self.lost c.step-step.result c.requires.wanted c.step-step.ensures.steps).never_falls
+pub returns-in_err-pipe-clause-pass : goal.returns-in_err-pipe-clause-pass
+returns-in_err-pipe-clause-pass g c =
+    (first_pass g.R.Roads g.I.LinkIn g.O.LinkOut g.D.Desk c.args.writer.now c.step-step.new.writer c.args.setup.link c.step-step.new.self.link c.args.office.now c.step-step.new.office c.args.roads.now c.step-step.new.roads c.step-step.new.self.lost c.step-step.result c.requires.wanted c.step-step.ensures.steps)
 
-pub returns-then-not-is_requested-clause-counts : goal.returns-then-not-is_requested-clause-counts
-returns-then-not-is_requested-clause-counts g c =
-    (first_pass g.R.Roads g.I.LinkIn g.O.LinkOut g.D.Desk c.args.writer.now c.step-step.new.writer c.args.setup.link c.step-step.new.self.link c.args.office.now c.step-step.new.office c.args.roads.now c.step-step.new.roads c.step-step.new.self.lost c.step-step.result c.requires.wanted c.step-step.ensures.steps).never_falls
+pub returns-then-not-is_requested-clause-pass : goal.returns-then-not-is_requested-clause-pass
+returns-then-not-is_requested-clause-pass g c =
+    (first_pass g.R.Roads g.I.LinkIn g.O.LinkOut g.D.Desk c.args.writer.now c.step-step.new.writer c.args.setup.link c.step-step.new.self.link c.args.office.now c.step-step.new.office c.args.roads.now c.step-step.new.roads c.step-step.new.self.lost c.step-step.result c.requires.wanted c.step-step.ensures.steps)
 
-pub returns-in-Ended-clause-counts : goal.returns-in-Ended-clause-counts
-returns-in-Ended-clause-counts g c =
-    (first_pass g.R.Roads g.I.LinkIn g.O.LinkOut g.D.Desk c.args.writer.now c.step-step.new.writer c.args.setup.link c.step-step.new.self.link c.args.office.now c.step-step.new.office c.args.roads.now c.step-step.new.roads c.step-step.new.self.lost c.step-step.result c.requires.wanted c.step-step.ensures.steps).never_falls
+pub returns-in-Ended-clause-pass : goal.returns-in-Ended-clause-pass
+returns-in-Ended-clause-pass g c =
+    (first_pass g.R.Roads g.I.LinkIn g.O.LinkOut g.D.Desk c.args.writer.now c.step-step.new.writer c.args.setup.link c.step-step.new.self.link c.args.office.now c.step-step.new.office c.args.roads.now c.step-step.new.roads c.step-step.new.self.lost c.step-step.result c.requires.wanted c.step-step.ensures.steps)
 
 pub returns-then-not-is_requested-clause-known : goal.returns-then-not-is_requested-clause-known
 returns-then-not-is_requested-clause-known g c =
@@ -72,12 +72,12 @@ returns-then-not-is_requested-clause-known g c =
     (undialled_known g.R.Roads g.I.LinkIn g.O.LinkOut g.D.Desk c.args.writer.now c.step-step.new.writer c.args.setup.link c.step-step.new.self c.args.office.now c.step-step.new.office c.args.roads.now c.step-step.new.roads c.step-step.new.self.lost c.step-step.result
     c.in_ok-pipe.pipe c.requires.wanted c.step-step.ensures.steps c.requires.known c.step-step.ensures.known (sym c.in_ok-pipe.ensures) c.phase-phase.result)
 
-pub returns-in-Waiting-clause-counts : goal.returns-in-Waiting-clause-counts
-returns-in-Waiting-clause-counts g c =
+pub returns-in-Waiting-clause-pass : goal.returns-in-Waiting-clause-pass
+returns-in-Waiting-clause-pass g c =
     (pass_on g.R.Roads g.I.LinkIn g.O.LinkOut c.args.roads.now c.step-step.new.roads c.met.new.roads
-    (first_pass g.R.Roads g.I.LinkIn g.O.LinkOut g.D.Desk c.args.writer.now c.step-step.new.writer c.args.setup.link c.step-step.new.self.link c.args.office.now c.step-step.new.office c.args.roads.now c.step-step.new.roads c.step-step.new.self.lost c.step-step.result c.requires.wanted c.step-step.ensures.steps) c.met.ensures.passes).never_falls
+    (first_pass g.R.Roads g.I.LinkIn g.O.LinkOut g.D.Desk c.args.writer.now c.step-step.new.writer c.args.setup.link c.step-step.new.self.link c.args.office.now c.step-step.new.office c.args.roads.now c.step-step.new.roads c.step-step.new.self.lost c.step-step.result c.requires.wanted c.step-step.ensures.steps) c.met.ensures.passes)
 
-pub returns-in-Moved-clause-counts : goal.returns-in-Moved-clause-counts
-returns-in-Moved-clause-counts g c =
+pub returns-in-Moved-clause-pass : goal.returns-in-Moved-clause-pass
+returns-in-Moved-clause-pass g c =
     (pass_on g.R.Roads g.I.LinkIn g.O.LinkOut c.args.roads.now c.step-step.new.roads c.given_up.new.roads
-    (first_pass g.R.Roads g.I.LinkIn g.O.LinkOut g.D.Desk c.args.writer.now c.step-step.new.writer c.args.setup.link c.step-step.new.self.link c.args.office.now c.step-step.new.office c.args.roads.now c.step-step.new.roads c.step-step.new.self.lost c.step-step.result c.requires.wanted c.step-step.ensures.steps) c.given_up.ensures.passes).never_falls
+    (first_pass g.R.Roads g.I.LinkIn g.O.LinkOut g.D.Desk c.args.writer.now c.step-step.new.writer c.args.setup.link c.step-step.new.self.link c.args.office.now c.step-step.new.office c.args.roads.now c.step-step.new.roads c.step-step.new.self.lost c.step-step.result c.requires.wanted c.step-step.ensures.steps) c.given_up.ensures.passes)

@@ -3,8 +3,8 @@ use Rattle.std.proofs.Common.{Ok, sym, refl, ◌∙◌}
 use Rattle.play_clients.proofs.PartLaws.{IsKept, is_kept, commits_so, kept_follows}
 use Rattle.play_clients.proofs.clients.Client.commit.Goals as goal
 
-pub returns : goal.returns
-returns g c =
+pub returns-clause-commits : goal.returns-clause-commits
+returns-clause-commits g c =
     let x = c.args.self.now in
     let mid = c.take_setup.new.self in
     let kept : IsKept x mid = is_kept x mid c.take_setup.ensures.same in

@@ -3,8 +3,8 @@ use Rattle.std.proofs.Common.{rules, Ok, sym, refl, ◌∙◌}
 use Rattle.play_clients.proofs.PartLaws.{IsKept, is_kept, sets_up_so, set_up_follows}
 use Rattle.play_clients.proofs.clients.Client.set_up.Goals as goal
 
-pub returns : goal.returns
-returns g c =
+pub returns-clause-sets_up : goal.returns-clause-sets_up
+returns-clause-sets_up g c =
     let x = c.args.self.now in
     let mid = c.take_setup.new.self in
     let kept : IsKept x mid = is_kept x mid c.take_setup.ensures.same in
