@@ -1,5 +1,5 @@
 -- Nodes that show a world show the world after an event that keeps all that they show.
-use Rattle.std.proofs.Common.{◌≡◌, ◌<◌, ◌+◌, ◌++◌, ℕ, zero, suc, List, [], ◌∷◌, length, slice_get, Option, Some, None, IsSome, inl, inr, refl, sym, ap, ◌∙◌, subst, arith, length-append}
+use Rattle.std.proofs.Common.{◌≡◌, ◌<◌, ◌+◌, ◌++◌, ℕ, zero, suc, List, [], ◌∷◌, length, slice_get, Option, Some, None, IfSome, Bool, true, false, IsSome, inl, inr, refl, sym, ap, ◌∙◌, subst, arith, length-append}
 use Rattle.std.proofs.lemmas.List.{append-nil}
 use Rattle.hd_base.specs.declared.ends.Conn.{Conn}
 use Rattle.hd_base.specs.declared.links.LinkIn as link_in
@@ -10,9 +10,12 @@ use Rattle.link_messages.specs.Incomings.{IncomingState}
 use Rattle.pipe_member.specs.declared.member.Member.{Member}
 use Rattle.road_traffic.specs.Showing.{Net}
 use Rattle.world.specs.Parts as parts
-use Rattle.world.specs.Parts.{Dialled, FullMember, idle, writes}
+use Rattle.world.specs.Parts.{Dialled, by_writer, by_member, FullMember, idle, writes}
 use Rattle.world.specs.Worlds.{World}
 use Rattle.world.specs.Connections.{is_served}
+use Rattle.world_nets.specs.Ends.{IsElsewhere}
+use Rattle.world_nets.specs.Nets.{IsEndOf}
+use Rattle.world_orders.specs.Orders.{Ordered, WriterIs}
 use Rattle.member_events.specs.Showing.{MirrorShows, NoneReceived, MemberShows}
 use Rattle.play_model.specs.Dues.{is_open}
 use Rattle.play_model.specs.Lines.{mirror_of}
@@ -169,3 +172,24 @@ module _ {F I O : Type 0} (i : link_in.Ghosts I) (o : link_out.Ghosts O) (w : Wo
       only_one zero y found =
           subst (λ (n : ℕ). ConnectionShows i o v made n new y) (omega arith) (subst (λ (z : Connection I O). ConnectionShows i o v made w.next_conn new z) (sym is ∙ same_some x y found) shows)
       only_one (suc j) y found = cc
+
+-- THE ENDS OF THE NODES
+
+module _ {I O : Type 0} (i : link_in.Ghosts I) (o : link_out.Ghosts O) (w : World) where
+  -- an end that is a lower one, or of a connection that a member dialled, isn't the writer's
+  lower_elsewhere : (conn : Option ℕ) (d : ℕ) → IfSome conn (λ c. IsElsewhere c false d true)
+  lower_elsewhere None d = tt
+  lower_elsewhere (Some c) d = λ same. refl
+
+  upper_elsewhere : (b c d : ℕ) (conn : Option ℕ) → WriterIs w.dialled w.up_marks b (record (w.writers b) { conn = conn }) → (w.dialled d).upper ≡ by_member c → IfSome conn (λ e. IsElsewhere e false d false)
+  upper_elsewhere b c d None is by = tt
+  upper_elsewhere b c d (Some e) is by = λ same. absurd (never (sym is.upper ∙ (ap (λ (n : ℕ). (w.dialled n).upper) same ∙ by)))
+    where
+      never : by_writer b ≡ by_member c → ⊥
+      never x = cc
+
+  pub ends_stay : (net : Net) (v : World) (made : Net) (b : ℕ) → Ordered w → ((d : ℕ) (lower : Bool) (e : Conn I O) → IfSome (w.writers b).conn (λ c. IsElsewhere c false d lower) → IsEndOf i o w net d lower e → IsEndOf i o v made d lower e) → EndsStay i o w net v made
+  ends_stay net v made b ordered others = record {
+    lowers = λ d e is. others d true e (lower_elsewhere (w.writers b).conn d) is;
+    uppers = λ c d e by is. others d false e (upper_elsewhere b c d (w.writers b).conn (ordered.writers_are b) by) is;
+  }

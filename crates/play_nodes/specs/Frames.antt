@@ -1,5 +1,5 @@
 -- What the events of writers leave of the nodes, and what the events of the nodes leave of the writers.
-use Rattle.std.specs.Prelude.{◌≡◌, ◌≤◌, ◌<◌, ◌+◌, ℕ, Bool, true, false, Result, Ok, Err}
+use Rattle.std.specs.Prelude.{◌≡◌, ◌≤◌, ◌<◌, ◌+◌, ℕ, Bool, true, false, IfSome, Result, Ok, Err}
 use Rattle.hd_base.specs.declared.ends.Conn.{Conn}
 use Rattle.hd_base.specs.declared.files.Files as files
 use Rattle.hd_base.specs.declared.links.LinkIn as link_in
@@ -14,6 +14,7 @@ use Rattle.world.specs.Worlds.{World}
 use Rattle.world.specs.Connections.{is_served}
 use Rattle.world.specs.Events.{happens, run}
 use Rattle.world_nets.specs.Nets.{IsEndOf, is_over}
+use Rattle.world_nets.specs.Ends.{IsElsewhere}
 use Rattle.world_orders.specs.Orders.{Ordered}
 use Rattle.play_model.specs.declared.dues.Due.TheVariants as due
 use Rattle.play_model.specs.Dues.{Queues, due_events}
@@ -50,6 +51,15 @@ pub record IsKept {F I O : Type 0} (i : link_in.Ghosts I) (o : link_out.Ghosts O
   pub ordered : Ordered w
   pub keeps : KeepsNodes w v
   pub ends : EndsStay i o w net v made
+
+-- Where an event leaves each end but the upper one of a writer's connection, the ends of the nodes stay.
+abbrev pub NodesEndsStay : {I O : Type 0} → link_in.Ghosts I → link_out.Ghosts O → Type 0
+NodesEndsStay {I} {O} i o =
+    (w : World) (net : Net) (v : World) (made : Net) (b : ℕ) → Ordered w →
+    ((d : ℕ) (lower : Bool) (e : Conn I O) → IfSome (w.writers b).conn (λ c. IsElsewhere c false d lower) →
+    IsEndOf i o w net d lower e
+    → IsEndOf i o v made d lower e)
+    → EndsStay i o w net v made
 
 -- Where the event dials nothing, the nodes show the world after it.
 abbrev pub NodesStay : {F I O : Type 0} → files.Ghosts F → link_in.Ghosts I → link_out.Ghosts O → Type 0

@@ -1,8 +1,13 @@
 //! What the events of writers leave of the nodes, and what the events of the nodes leave of the writers.
 
-ghost use Rattle.play_nodes.specs.Frames.{NodesStay, OwnKeeps, HeardKeeps, DownKeeps, ReadyKeeps, MirrorKeeps};
+ghost use Rattle.play_nodes.specs.Frames.{NodesEndsStay, NodesStay, OwnKeeps, HeardKeeps, DownKeeps, ReadyKeeps, MirrorKeeps};
 
 use hd_base::{Files, LinkIn, LinkOut};
+
+/// An event that leaves each end but the upper one of a writer's connection leaves the ends of the nodes.
+pub fn nodes_ends_stay<I: LinkIn, O: LinkOut>()
+    ensures { NodesEndsStay I.LinkIn O.LinkOut }
+{}
 
 /// Nodes that show a world show the world after an event that keeps what they show, and dials nothing.
 pub fn nodes_stay<F: Files, I: LinkIn, O: LinkOut>()

@@ -13,5 +13,5 @@ mod nodes;
 
 pub use connections::{Connection, Lower, Upper};
 pub use faults::NodesFault;
-pub use frames::{nodes_keep_writers, nodes_stay, writers_keep_nodes};
+pub use frames::{nodes_ends_stay, nodes_keep_writers, nodes_stay, writers_keep_nodes};
 pub use nodes::{NodeBooks, Nodes};
