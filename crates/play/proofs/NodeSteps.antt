@@ -9,7 +9,7 @@ use Rattle.hd_base.specs.declared.roads.Roads as roads
 use Rattle.road_traffic.specs.Showing.{Net}
 use Rattle.world.specs.declared.events.Event.{Event}
 use Rattle.world.specs.declared.events.Event.TheVariants as event
-use Rattle.world.specs.Parts.{Dialled, Writing, by_writer}
+use Rattle.world.specs.Parts.{Dialled, Marks, Writing, by_writer}
 use Rattle.world.specs.Worlds.{World}
 use Rattle.world.specs.Events.{happens}
 use Rattle.world_orders.specs.Orders.{Ordered, IsWriterConn}
@@ -21,14 +21,14 @@ use Rattle.play_nodes.specs.declared.faults.NodesFault.{NodesFault}
 use Rattle.play_nodes.specs.declared.faults.NodesFault.TheVariants as nodes_fault
 use Rattle.play_nodes.specs.declared.nodes.Nodes.{Nodes}
 use Rattle.play_nodes.specs.Events as nodes
-use Rattle.play_nodes.specs.Frames.{KeepsWriters, ReadyKeeps}
+use Rattle.play_nodes.specs.Frames.{KeepsWriters, DownKeeps, ReadyKeeps, MirrorKeeps}
 use Rattle.play_nodes.specs.Showing.{NodesLeft, WritersStay}
 use Rattle.play.specs.declared.faults.PlayFault.{PlayFault}
 use Rattle.play.specs.declared.faults.PlayFault.TheVariants as fault
 use Rattle.play.specs.declared.player.Player.{Player}
 use Rattle.play.specs.Faults.{of_nodes}
 use Rattle.play.specs.Showing.{IsClient, PlayerShows}
-use Rattle.play.specs.Events.{IsKept, Keeps, IsCaused, ReadyShows}
+use Rattle.play.specs.Events.{IsKept, Keeps, IsCaused, ReadyShows, DownShows, MirrorShows}
 
 dialled_there : (dialled : ℕ → Dialled) (marks : ℕ → Marks) (b c : ℕ) (x : Writing) (n : Option ℕ) → n ≡ Some c → IfSome n (λ c. IsWriterConn (dialled c) (marks c).taken b x.known) → (dialled c).upper ≡ by_writer b
 dialled_there dialled marks b c x None is h = cc
@@ -94,3 +94,27 @@ module _ {F R I O : Type 0} (f : files.Ghosts F) (r : roads.Ghosts R I O) (i : l
   pub ready_failed : (conn : ConnId) (old new : Player F I O) (road road' : R) (why : NodesFault) → nodes.ReadyShows f r i o conn old.nodes new.nodes road road' (Err why)
       → ReadyShows f r i o conn old new road road' (Err (of_nodes why))
   ready_failed conn old new road road' why shows = λ w net queues p lawful is. caused old new road road' why (shows w net queues p.nodes lawful is)
+
+  pub down_left : (conn : ConnId) (old : Player F I O) (n' : Nodes F I O) (new : Player F I O) (road road' : R) (result : Result (Unit {0}) PlayFault) → ClientsStay i o → DownKeeps → nodes.DownShows f r i o conn old.nodes n' road road' (Ok tt) → Keeps (record old { nodes = n' }) new (event.Down conn true) result
+      → DownShows f r i o conn old new road road' result
+  down_left conn old n' new road road' (Ok u) stay keeps shows kept = λ w net queues p lawful is busy.
+    let l : Left (happens w (event.Down conn true)) queues old new (event.Down conn true) road' =
+        left_of w (happens w (event.Down conn true)) net queues old n' new (event.Down conn true) road road' stay p lawful.ordered (keeps w conn true) (shows w net queues true p.nodes lawful is busy) kept in
+    record { made = l.made; shows = l.shows; events = l.events }
+  down_left conn old n' new road road' (Err why) stay keeps shows kept = λ w net queues p lawful is busy. out_of_memory old new road road' why kept
+
+  pub down_failed : (conn : ConnId) (old new : Player F I O) (road road' : R) (why : NodesFault) → nodes.DownShows f r i o conn old.nodes new.nodes road road' (Err why)
+      → DownShows f r i o conn old new road road' (Err (of_nodes why))
+  down_failed conn old new road road' why shows = λ w net queues p lawful is busy. caused old new road road' why (shows w net queues true p.nodes lawful is busy)
+
+  pub mirror_left : (conn : ConnId) (old : Player F I O) (n' : Nodes F I O) (new : Player F I O) (road road' : R) (result : Result (Unit {0}) PlayFault) → ClientsStay i o → MirrorKeeps → nodes.UpShows f r i o conn old.nodes n' road road' (Ok tt) → Keeps (record old { nodes = n' }) new (event.Up conn) result
+      → MirrorShows f r i o conn old new road road' result
+  mirror_left conn old n' new road road' (Ok u) stay keeps shows kept = λ w net queues d p lawful is above.
+    let l : Left (happens w (event.Up conn)) queues old new (event.Up conn) road' =
+        left_of w (happens w (event.Up conn)) net queues old n' new (event.Up conn) road road' stay p lawful.ordered (keeps w conn d above) (shows w net queues d p.nodes lawful is above) kept in
+    record { made = l.made; shows = l.shows; events = l.events }
+  mirror_left conn old n' new road road' (Err why) stay keeps shows kept = λ w net queues d p lawful is above. out_of_memory old new road road' why kept
+
+  pub mirror_failed : (conn : ConnId) (old new : Player F I O) (road road' : R) (why : NodesFault) → nodes.UpShows f r i o conn old.nodes new.nodes road road' (Err why)
+      → MirrorShows f r i o conn old new road road' (Err (of_nodes why))
+  mirror_failed conn old new road road' why shows = λ w net queues d p lawful is above. caused old new road road' why (shows w net queues d p.nodes lawful is above)

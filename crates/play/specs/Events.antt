@@ -9,12 +9,13 @@ use Rattle.hd_base.specs.declared.roads.Roads as roads
 use Rattle.road_traffic.specs.Showing.{Net}
 use Rattle.world.specs.declared.events.Event.{Event}
 use Rattle.world.specs.declared.events.Event.TheVariants as event
+use Rattle.world.specs.Parts.{by_member}
 use Rattle.world.specs.Worlds.{World}
 use Rattle.world.specs.Events.{run}
 use Rattle.play_model.specs.declared.dues.Due.{Due}
 use Rattle.play_model.specs.declared.dues.Due.TheVariants as due
 use Rattle.play_model.specs.Dues.{Queues, is_due, due_events, queues_after}
-use Rattle.play_nodes.specs.Events.{IsLawful, DrawerFailed}
+use Rattle.play_nodes.specs.Events.{IsLawful, IsBusy, DrawerFailed}
 use Rattle.play.specs.declared.faults.PlayFault.{PlayFault}
 use Rattle.play.specs.declared.faults.PlayFault.TheVariants as fault
 use Rattle.play.specs.declared.player.Player.{Player}
@@ -60,3 +61,17 @@ ReadyShows f r i o conn old new road road' result =
     (w : World) (net : Net) (queues : Queues) → PlayerShows r i o w net queues road old →
     IsLawful w (event.Ready conn) → is_due w queues (due.Ready conn) ≡ true
     → PlayEnds f r i o w queues (due.Ready conn) old new road road' result
+
+abbrev pub DownShows : {F R I O : Type 0} → files.Ghosts F → roads.Ghosts R I O → link_in.Ghosts I → link_out.Ghosts O →
+    ConnId → Player F I O → Player F I O → R → R → Result (Unit {0}) PlayFault → Type 0
+DownShows f r i o conn old new road road' result =
+    (w : World) (net : Net) (queues : Queues) → PlayerShows r i o w net queues road old →
+    IsLawful w (event.Down conn true) → is_due w queues (due.Down conn) ≡ true → IsBusy w conn.0
+    → PlayEnds f r i o w queues (due.Down conn) old new road road' result
+
+abbrev pub MirrorShows : {F R I O : Type 0} → files.Ghosts F → roads.Ghosts R I O → link_in.Ghosts I →
+    link_out.Ghosts O → ConnId → Player F I O → Player F I O → R → R → Result (Unit {0}) PlayFault → Type 0
+MirrorShows f r i o conn old new road road' result =
+    (w : World) (net : Net) (queues : Queues) (d : ℕ) → PlayerShows r i o w net queues road old →
+    IsLawful w (event.Up conn) → is_due w queues (due.Up conn) ≡ true → (w.dialled conn.0).upper ≡ by_member d
+    → PlayEnds f r i o w queues (due.Up conn) old new road road' result

@@ -1,5 +1,5 @@
 -- A member acted without a message, and the event was kept.
-use Rattle.std.proofs.Common.{rules, refl, sym, subst, Result, Err}
+use Rattle.std.proofs.Common.{sym, subst, Err}
 use Rattle.play.specs.declared.faults.PlayFault.{PlayFault}
 use Rattle.play.specs.Events.{ReadyShows}
 use Rattle.play.proofs.NodeSteps.{ready_left, ready_failed}

@@ -1,0 +1,16 @@
+-- A member took what stood next from its mirror, and the event was kept.
+use Rattle.std.proofs.Common.{sym, subst, Err}
+use Rattle.play.specs.declared.faults.PlayFault.{PlayFault}
+use Rattle.play.specs.Events.{MirrorShows}
+use Rattle.play.proofs.NodeSteps.{mirror_left, mirror_failed}
+use Rattle.play.proofs.player.Player.mirror_up.Goals as goal
+
+pub returns-in-Ok : goal.returns-in-Ok
+returns-in-Ok g c =
+    mirror_left g.F.Files g.R.Roads g.I.LinkIn g.O.LinkOut c.args.conn c.args.self.now c.mirror_up.new.self c.keep.new.self c.args.roads.now c.mirror_up.new.roads c.keep.result c.clients_stay.ensures c.nodes_keep_writers.ensures.up c.in-Ok.ensures.shows c.keep.ensures
+
+pub returns-in-Err : goal.returns-in-Err
+returns-in-Err g c =
+    let new = record c.args.self.now { nodes = c.mirror_up.new.self } in
+    subst (λ (x : PlayFault). MirrorShows g.F.Files g.R.Roads g.I.LinkIn g.O.LinkOut c.args.conn c.args.self.now new c.args.roads.now c.mirror_up.new.roads (Err x)) (sym c.of_nodes.ensures)
+    (mirror_failed g.F.Files g.R.Roads g.I.LinkIn g.O.LinkOut c.args.conn c.args.self.now new c.args.roads.now c.mirror_up.new.roads c.in-Err.fault c.in-Err.ensures.shows)
