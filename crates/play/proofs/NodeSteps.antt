@@ -30,7 +30,7 @@ use Rattle.play.specs.Faults.{of_nodes}
 use Rattle.play.specs.Showing.{IsClient, PlayerShows}
 use Rattle.play.specs.Events.{IsKept, Keeps, IsCaused, ReadyShows, DownShows, MirrorShows}
 
-dialled_there : (dialled : ℕ → Dialled) (marks : ℕ → Marks) (b c : ℕ) (x : Writing) (n : Option ℕ) → n ≡ Some c → IfSome n (λ c. IsWriterConn (dialled c) (marks c).taken b x.known) → (dialled c).upper ≡ by_writer b
+pub dialled_there : (dialled : ℕ → Dialled) (marks : ℕ → Marks) (b c : ℕ) (x : Writing) (n : Option ℕ) → n ≡ Some c → IfSome n (λ c. IsWriterConn (dialled c) (marks c).taken b x.known) → (dialled c).upper ≡ by_writer b
 dialled_there dialled marks b c x None is h = cc
 dialled_there dialled marks b c x (Some d) is h = subst (λ (m : ℕ). (dialled m).upper ≡ by_writer b) (some_is d c is) h.upper
   where
@@ -80,7 +80,7 @@ module _ {F R I O : Type 0} (f : files.Ghosts F) (r : roads.Ghosts R I O) (i : l
   caused old new road road' (nodes_fault.FilesFailed node) h = h
   caused old new road road' nodes_fault.Memory h = tt
 
-  out_of_memory : (old new : Player F I O) (road road' : R) (why : PlayFault) → why ≡ fault.Memory → IsCaused f r old new road road' why
+  pub out_of_memory : (old new : Player F I O) (road road' : R) (why : PlayFault) → why ≡ fault.Memory → IsCaused f r old new road road' why
   out_of_memory old new road road' why is = subst (λ (x : PlayFault). IsCaused f r old new road road' x) (sym is) tt
 
   pub ready_left : (conn : ConnId) (old : Player F I O) (n' : Nodes F I O) (new : Player F I O) (road road' : R) (result : Result (Unit {0}) PlayFault) → ClientsStay i o → ReadyKeeps → nodes.ReadyShows f r i o conn old.nodes n' road road' (Ok tt) → Keeps (record old { nodes = n' }) new (event.Ready conn) result

@@ -1,5 +1,5 @@
 -- What the events of a play make of a player and roads that show a world.
-use Rattle.std.specs.Prelude.{◌≡◌, ◌⊎◌, ℕ, true, ◌++◌, [], ◌∷◌, Result, Ok, Err}
+use Rattle.std.specs.Prelude.{◌≡◌, ◌⊎◌, ℕ, true, ◌++◌, [], ◌∷◌, slice_get, Some, Result, Ok, Err}
 use Rattle.hd_base.specs.Faults.{FaultsIncreased}
 use Rattle.hd_base.specs.declared.files.Files as files
 use Rattle.hd_base.specs.declared.links.LinkIn as link_in
@@ -9,12 +9,14 @@ use Rattle.hd_base.specs.declared.roads.Roads as roads
 use Rattle.road_traffic.specs.Showing.{Net}
 use Rattle.world.specs.declared.events.Event.{Event}
 use Rattle.world.specs.declared.events.Event.TheVariants as event
-use Rattle.world.specs.Parts.{by_member}
+use Rattle.world.specs.Parts.{by_member, by_writer}
 use Rattle.world.specs.Worlds.{World}
 use Rattle.world.specs.Events.{run}
 use Rattle.play_model.specs.declared.dues.Due.{Due}
 use Rattle.play_model.specs.declared.dues.Due.TheVariants as due
 use Rattle.play_model.specs.Dues.{Queues, is_due, due_events, queues_after}
+use Rattle.play_clients.specs.declared.clients.Client.{Client}
+use Rattle.play_clients.specs.Events.{HearIsLawful, IsUncommitted}
 use Rattle.play_nodes.specs.Events.{IsLawful, IsBusy, DrawerFailed}
 use Rattle.play.specs.declared.faults.PlayFault.{PlayFault}
 use Rattle.play.specs.declared.faults.PlayFault.TheVariants as fault
@@ -74,4 +76,13 @@ abbrev pub MirrorShows : {F R I O : Type 0} → files.Ghosts F → roads.Ghosts 
 MirrorShows f r i o conn old new road road' result =
     (w : World) (net : Net) (queues : Queues) (d : ℕ) → PlayerShows r i o w net queues road old →
     IsLawful w (event.Up conn) → is_due w queues (due.Up conn) ≡ true → (w.dialled conn.0).upper ≡ by_member d
+    → PlayEnds f r i o w queues (due.Up conn) old new road road' result
+
+-- Not said where the writer's request was accepted and its stamp isn't committed.
+abbrev pub HeardShows : {F R I O : Type 0} → files.Ghosts F → roads.Ghosts R I O → link_in.Ghosts I →
+    link_out.Ghosts O → ConnId → ℕ → Player F I O → Player F I O → R → R → Result (Unit {0}) PlayFault → Type 0
+HeardShows {F} {R} {I} {O} f r i o conn place old new road road' result =
+    (w : World) (net : Net) (queues : Queues) (c : Client I O) → PlayerShows r i o w net queues road old →
+    slice_get old.clients.items place ≡ Some c → HearIsLawful w c.block.0 → is_due w queues (due.Up conn) ≡ true →
+    (w.dialled conn.0).upper ≡ by_writer c.block.0 → IsUncommitted (w.writers c.block.0).known.phase
     → PlayEnds f r i o w queues (due.Up conn) old new road road' result

@@ -1,4 +1,6 @@
 -- Why a play stops.
+use Rattle.client_events.specs.declared.faults.ClientFault.{ClientFault}
+use Rattle.client_events.specs.declared.faults.ClientFault.TheVariants as client_fault
 use Rattle.play_nodes.specs.declared.faults.NodesFault.{NodesFault}
 use Rattle.play_nodes.specs.declared.faults.NodesFault.TheVariants as nodes_fault
 use Rattle.play.specs.declared.faults.PlayFault.{PlayFault}
@@ -10,3 +12,9 @@ of_nodes nodes_fault.LinkFailed = fault.RoadFault
 of_nodes nodes_fault.RoadsFailed = fault.RoadFault
 of_nodes (nodes_fault.FilesFailed node) = fault.ShelfFault node
 of_nodes nodes_fault.Memory = fault.Memory
+
+-- why it stops in which an event of a client isn't done
+abbrev pub of_client : ClientFault → PlayFault
+of_client client_fault.LinkFailed = fault.RoadFault
+of_client client_fault.RoadsFailed = fault.RoadFault
+of_client client_fault.Memory = fault.Memory

@@ -30,3 +30,11 @@ pub record PlayerShows {F R I O : Type 0} (r : roads.Ghosts R I O) (i : link_in.
   pub clients : (k : ℕ) (c : Client I O) → slice_get p.clients.items k ≡ Some c → IsClient i o w net queues c
   pub apart : AreApart p
   pub office : p.office.office ≡ w.office
+
+-- They show some world.
+pub record PlayerStands {F R I O : Type 0} (r : roads.Ghosts R I O) (i : link_in.Ghosts I) (o : link_out.Ghosts O)
+    (road : R) (p : Player F I O) : Type 0 where
+  pub w : World
+  pub net : Net
+  pub queues : Queues
+  pub shows : PlayerShows r i o w net queues road p

@@ -1,13 +1,15 @@
 //! The events of a play.
 
+ghost use Rattle.std.specs.Prelude.{◌<◌, length};
 ghost use Rattle.play_nodes.specs.Showing.{Stand};
-ghost use Rattle.play.specs.Events.{Keeps, ReadyShows, DownShows, MirrorShows};
+ghost use Rattle.play.specs.Showing.{PlayerStands};
+ghost use Rattle.play.specs.Events.{Keeps, ReadyShows, DownShows, MirrorShows, HeardShows};
 
-use crate::faults::{PlayFault, of_nodes};
+use crate::faults::{PlayFault, of_client, of_nodes};
 use crate::player::Player;
 use hd_base::{ConnId, Files, LinkIn, LinkOut, Roads};
-use play_clients::clients_stay;
-use play_nodes::nodes_keep_writers;
+use play_clients::{clients_stay, hearing_keeps_others};
+use play_nodes::{nodes_ends_stay, nodes_keep_writers, nodes_stay, writers_keep_nodes};
 use std::alloc::Global;
 use world::Event;
 
@@ -66,6 +68,29 @@ impl<F: Files, I: LinkIn, O: LinkOut> Player<F, I, O> {
         match self.nodes.mirror_up(alloc, roads, conn) {
             Ok(()) => self.keep(Event::Up { conn }),
             Err(fault) => Err(of_nodes(fault)),
+        }
+    }
+
+    /// The writer of the client at a place takes what stands next on its connection.
+    pub fn hear<R: Roads<Inward = I, Outward = O>>(
+        &mut self,
+        alloc: Global,
+        roads: &mut R,
+        conn: ConnId,
+        place: usize,
+    ) -> Result<(), PlayFault>
+        requires stands { PlayerStands R.Roads I.LinkIn O.LinkOut roads.old self.old }
+        requires within { place < length self.old.clients.items }
+        ensures { HeardShows F.Files R.Roads I.LinkIn O.LinkOut conn place self.old self.new roads.old roads.new result }
+    {
+        writers_keep_nodes();
+        nodes_stay::<F, I, O>();
+        nodes_ends_stay::<I, O>();
+        hearing_keeps_others();
+        clients_stay::<I, O>();
+        match self.clients[place].hear(alloc, roads, &mut self.office) {
+            Ok(()) => self.keep(Event::Up { conn }),
+            Err(fault) => Err(of_client(fault)),
         }
     }
 

@@ -1,8 +1,9 @@
 //! Why a play stops.
 
 ghost use Rattle.std.specs.Prelude.{◌≡◌};
-ghost use Rattle.play.specs.Faults.{of_nodes};
+ghost use Rattle.play.specs.Faults.{of_nodes, of_client};
 
+use client_events::ClientFault;
 use hd_base::NodeId;
 use play_nodes::NodesFault;
 use thiserror::Error;
@@ -29,5 +30,15 @@ pub(crate) fn of_nodes(fault: NodesFault) -> PlayFault
         NodesFault::LinkFailed | NodesFault::RoadsFailed => PlayFault::RoadFault,
         NodesFault::FilesFailed { node } => PlayFault::ShelfFault { node },
         NodesFault::Memory => PlayFault::Memory,
+    }
+}
+
+/// Why a play stops in which an event of a client isn't done.
+pub(crate) fn of_client(fault: ClientFault) -> PlayFault
+    ensures { result ≡ of_client fault }
+{
+    match fault {
+        ClientFault::LinkFailed | ClientFault::RoadsFailed => PlayFault::RoadFault,
+        ClientFault::Memory => PlayFault::Memory,
     }
 }

@@ -1,0 +1,135 @@
+-- What a writer hears, and what it leaves of the nodes and the other clients.
+use Rattle.std.proofs.Common.{◌≡◌, ◌≢◌, ◌⊎◌, inl, inr, ℕ, Bool, true, false, List, [], ◌∷◌, ◌++◌, slice_get, slice_set, Option, Some, None, IfSome, Result, Ok, Err, refl, sym, ap, ◌∙◌, subst}
+use Rattle.hd_base.specs.declared.ends.Conn.{Conn}
+use Rattle.hd_base.specs.declared.files.Files as files
+use Rattle.hd_base.specs.declared.links.LinkIn as link_in
+use Rattle.hd_base.specs.declared.links.LinkOut as link_out
+use Rattle.hd_base.specs.declared.numbers.ConnId.{ConnId}
+use Rattle.hd_base.specs.declared.roads.Roads as roads
+use Rattle.name_core.specs.declared.desks.Desk as desks
+use Rattle.name_core.specs.Offices.{OfficeState}
+use Rattle.road_traffic.specs.Showing.{Net}
+use Rattle.world.specs.declared.events.Event.{Event}
+use Rattle.world.specs.declared.events.Event.TheVariants as event
+use Rattle.world.specs.Parts.{Upper, by_writer}
+use Rattle.world.specs.Worlds.{World}
+use Rattle.world.specs.Events.{happens}
+use Rattle.world_nets.specs.Ends.{IsElsewhere}
+use Rattle.world_orders.specs.Orders.{Ordered}
+use Rattle.play_model.specs.declared.dues.Due.TheVariants as due
+use Rattle.play_model.specs.Dues.{Queues, is_due}
+use Rattle.client_events.specs.declared.faults.ClientFault.{ClientFault}
+use Rattle.client_events.specs.declared.faults.ClientFault.TheVariants as client_fault
+use Rattle.client_events.specs.Showing.{OthersStay}
+use Rattle.play_clients.specs.declared.clients.Client.{Client}
+use Rattle.play_clients.specs.Clients.{ClientLeft}
+use Rattle.play_clients.specs.Events as clients
+use Rattle.play_clients.specs.Others.{KeepsOthers, TakesThere, HearingKeeps}
+use Rattle.play_clients.specs.Staying.{KeepsClient, ClientsStay}
+use Rattle.play_nodes.specs.Frames.{HearKeeps, HeardKeeps, NodesStay, NodesEndsStay}
+use Rattle.play_nodes.proofs.Tables.{SetOr, set_or}
+use Rattle.play.specs.declared.faults.PlayFault.{PlayFault}
+use Rattle.play.specs.declared.faults.PlayFault.TheVariants as fault
+use Rattle.play.specs.declared.player.Player.{Player}
+use Rattle.play.specs.Faults.{of_client}
+use Rattle.play.specs.Showing.{IsClient, AreApart, PlayerShows}
+use Rattle.play.specs.Events.{IsKept, Keeps, IsCaused, HeardShows}
+use Rattle.play.proofs.NodeSteps.{dialled_there, out_of_memory}
+
+writer_same : (a b : ℕ) → by_writer a ≡ by_writer b → a ≡ b
+writer_same a b e = cc
+
+module _ {F R I O D : Type 0} (f : files.Ghosts F) (r : roads.Ghosts R I O) (i : link_in.Ghosts I) (o : link_out.Ghosts O) (d : desks.Ghosts D) where
+  -- the connection of a writer was dialled by it
+  dialled_by : (w : World) → Ordered w → (b c : ℕ) → (w.writers b).conn ≡ Some c → (w.dialled c).upper ≡ by_writer b
+  dialled_by w ordered b c is = dialled_there w.dialled w.up_marks b c (w.writers b) (w.writers b).conn is (ordered.writers_are b)
+
+  -- the connections of two writers are two
+  apart_conns : (w : World) → Ordered w → (a b c e : ℕ) → a ≢ b → (w.dialled c).upper ≡ by_writer b → (w.writers a).conn ≡ Some e → c ≡ e → ⊥
+  apart_conns w ordered a b c e apart upper is same = apart (writer_same a b (sym (dialled_by w ordered a e is) ∙ subst (λ (x : ℕ). (w.dialled x).upper ≡ by_writer b) same upper))
+
+  elsewhere : (w : World) → Ordered w → (a b e : ℕ) → a ≢ b → (w.writers a).conn ≡ Some e → IfSome (w.writers b).conn (λ c. IsElsewhere c false e false)
+  elsewhere w ordered a b e apart is = each (w.writers b).conn refl
+    where
+      each : (n : Option ℕ) → (w.writers b).conn ≡ n → IfSome n (λ c. IsElsewhere c false e false)
+      each None of = tt
+      each (Some c) of = λ same. absurd (apart_conns w ordered a b c e apart (dialled_by w ordered b c of) is same)
+
+  keeps_other : (w v : World) (net made : Net) (conn a b : ℕ) → Ordered w → a ≢ b → (w.dialled conn).upper ≡ by_writer b → KeepsOthers w v b → TakesThere w v conn → OthersStay i o w net v made (w.writers b).conn → KeepsClient i o w net v made a
+  keeps_other w v net made conn a b ordered apart upper k over others = record {
+    writer = k.writers a apart;
+    said = k.said a apart;
+    over = λ c is. over c (λ same. apart_conns w ordered a b conn c apart upper is (sym same));
+    ends = λ c e is h. others c false e (elsewhere w ordered a b c apart is) h;
+  }
+
+  -- A client stands at the place of another one, for the same block.
+  record IsReplaced (old mid : Player F I O) (place : ℕ) (c c' : Client I O) : Type 0 where
+    nodes : mid.nodes ≡ old.nodes
+    clients : mid.clients.items ≡ slice_set old.clients.items place c'
+    block : c'.block ≡ c.block
+
+  -- the client that stood there before, of the same block
+  record WasThere (old : Player F I O) (k : ℕ) (a : Client I O) : Type 0 where
+    was : Client I O
+    at : slice_get old.clients.items k ≡ Some was
+    same : was.block.0 ≡ a.block.0
+
+  was_there : (old mid : Player F I O) (place : ℕ) (c c' : Client I O) → IsReplaced old mid place c c' → slice_get old.clients.items place ≡ Some c → (k : ℕ) (a : Client I O) → slice_get mid.clients.items k ≡ Some a → WasThere old k a
+  was_there old mid place c c' h at k a is = by (set_or old.clients.items place c' k a (sym (ap (λ (xs : List (Client I O)). slice_get xs k) h.clients) ∙ is))
+    where
+      by : SetOr old.clients.items place c' k a → WasThere old k a
+      by (inl x) = record { was = c; at = ap (λ (n : ℕ). slice_get old.clients.items n) x.0 ∙ at; same = sym (ap (λ (y : Client I O). y.block.0) x.1 ∙ ap (λ (q : _). q.0) h.block) }
+      by (inr x) = record { was = a; at = x.1; same = refl }
+
+  still_apart : (old mid : Player F I O) (place : ℕ) (c c' : Client I O) → IsReplaced old mid place c c' → slice_get old.clients.items place ≡ Some c → AreApart old → AreApart mid
+  still_apart old mid place c c' h at apart j k a b at_j at_k same =
+      let x : WasThere old j a = was_there old mid place c c' h at j a at_j in
+      let y : WasThere old k b = was_there old mid place c c' h at k b at_k in
+      apart j k x.was y.was x.at y.at (x.same ∙ (same ∙ sym y.same))
+
+  -- the clients after an event of the one at a place
+  clients_after : (w v : World) (net made : Net) (queues queues' : Queues) (conn place : ℕ) (old mid : Player F I O) (c c' : Client I O) → ClientsStay i o → Ordered w → (w.dialled conn).upper ≡ by_writer c.block.0
+      → KeepsOthers w v c.block.0 → TakesThere w v conn → OthersStay i o w net v made (w.writers c.block.0).conn → ((b : ℕ) → b ≢ c.block.0 → queues' b ≡ queues b)
+      → ((k : ℕ) (a : Client I O) → slice_get old.clients.items k ≡ Some a → IsClient i o w net queues a) → AreApart old → slice_get old.clients.items place ≡ Some c → IsReplaced old mid place c c' → IsClient i o v made queues' c'
+      → (k : ℕ) (a : Client I O) → slice_get mid.clients.items k ≡ Some a → IsClient i o v made queues' a
+  clients_after w v net made queues queues' conn place old mid c c' stay ordered upper others over ends queues_stay were apart at h here k a is =
+      by (set_or old.clients.items place c' k a (sym (ap (λ (xs : List (Client I O)). slice_get xs k) h.clients) ∙ is))
+    where
+      by : SetOr old.clients.items place c' k a → IsClient i o v made queues' a
+      by (inl x) = subst (λ (y : Client I O). IsClient i o v made queues' y) (sym x.1) here
+      by (inr x) =
+          let was : IsClient i o w net queues a = were k a x.1 in
+          let blocks : a.block.0 ≢ c.block.0 = λ same. x.0 (apart k place a c x.1 at same) in
+          record {
+            shows = stay a w net v made was.shows (keeps_other w v net made conn a.block.0 c.block.0 ordered blocks upper others over ends);
+            queue = was.queue ∙ sym (queues_stay a.block.0 blocks);
+          }
+
+  pub heard_shows : (conn : ConnId) (place : ℕ) (old mid : Player F I O) (c c' : Client I O) (w : World) (net : Net) (queues : Queues) (road road' : R) (desk : D) → d.office desk ≡ Some mid.office.office
+      → ClientsStay i o → NodesStay f i o → NodesEndsStay i o → HearingKeeps → HeardKeeps → PlayerShows r i o w net queues road old → slice_get old.clients.items place ≡ Some c → IsReplaced old mid place c c' → Ordered w → (w.dialled conn.0).upper ≡ by_writer c.block.0
+      → (left : clients.HearLeft d r i o w net (happens w (event.Up conn)) c c' desk road') → PlayerShows r i o (happens w (event.Up conn)) left.made queues road' mid
+  heard_shows conn place old mid c c' w net queues road road' desk office_at stay nodes_stay ends_stay hearing heard p at h ordered upper left =
+      let v : World = happens w (event.Up conn) in
+      let k : KeepsOthers w v c.block.0 × TakesThere w v conn.0 = hearing w conn c.block.0 upper in
+      let n : HearKeeps w v = heard w conn c.block.0 upper in
+      record {
+        nodes = record {
+          roads_are = left.left.stands.roads_are;
+          nodes_are = subst (λ (x : _). _) (sym h.nodes) (nodes_stay w net v left.made old.nodes (record { nodes_are = p.nodes.nodes_are; ordered = ordered; keeps = n.keeps; ends = ends_stay w net v left.made c.block.0 ordered left.left.others }) n.conns);
+        };
+        clients = clients_after w v net left.made queues queues conn.0 place old mid c c' stay ordered upper k.0 k.1 left.left.others (λ b z. refl) p.clients p.apart at h (record {
+          shows = left.left.stands.client_is;
+          queue = left.queue ∙ ((p.clients place c at).queue ∙ ap (λ (q : _). queues q.0) (sym h.block));
+        });
+        apart = still_apart old mid place c c' h at p.apart;
+        office = some_same mid.office.office v.office (sym office_at ∙ left.left.stands.office_is);
+      }
+    where
+      some_same : (a b : OfficeState) → Some a ≡ Some b → a ≡ b
+      some_same a b e = cc
+
+  client_caused : (old new : Player F I O) (road road' : R) (why : ClientFault) → clients.IsCaused r road road' why → IsCaused f r old new road road' (of_client why)
+  client_caused old new road road' client_fault.LinkFailed h = inl h
+  client_caused old new road road' client_fault.RoadsFailed h = inr h
+  client_caused old new road road' client_fault.Memory h = tt
