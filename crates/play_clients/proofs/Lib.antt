@@ -1,6 +1,7 @@
 pub mod CourseLaws
 pub mod PartLaws
 pub mod HearLaws
+pub mod DialLaws
 pub mod OwnLaws
 pub mod TakeLaws
 pub mod OwnShowing

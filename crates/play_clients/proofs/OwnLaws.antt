@@ -1,5 +1,5 @@
 -- A client's own step, and the world after it.
-use Rattle.std.proofs.Common.{◌≡◌, ◌≢◌, ◌≤◌, ◌+◌, ℕ, Bool, true, false, List, [], ◌∷◌, ◌++◌, map, slice_get, Option, Some, None, IfSome, Result, Ok, Err, refl, sym, ap, ◌∙◌, subst, append-nil}
+use Rattle.std.proofs.Common.{◌≡◌, ◌≢◌, ◌≤◌, ◌<◌, ◌+◌, ℕ, Bool, true, false, List, [], ◌∷◌, ◌++◌, map, slice_get, Option, Some, None, IfSome, Result, Ok, Err, refl, sym, ap, ◌∙◌, subst, append-nil}
 use Rattle.std.specs.Prelude.{is_some}
 use Rattle.hd_base.specs.declared.ends.Conn.{Conn}
 use Rattle.hd_base.specs.declared.numbers.BlockId.{BlockId}
@@ -58,6 +58,7 @@ use Rattle.play_clients.specs.Events.{IsCaused, CanActAlone, CanHaveCommitted, C
 use Rattle.play_clients.specs.Owning.{IsWith, said_list, FollowsActed, ActsBy, FollowsSaid, CompletesBy, CommitsBy, first_node, first_of, FollowsSetUp, SetsUpBy}
 use Rattle.play_clients.proofs.CourseLaws.{IsCourse, IsDone, course_is, acts_done, commits_done, sets_up_done, completes_done, finished_so}
 use Rattle.play_clients.proofs.HearLaws.{caused}
+use Rattle.play_clients.proofs.DialLaws.{untold_conns, asked_conns, asked_dials}
 
 -- ANSWERS
 
@@ -234,6 +235,8 @@ module _ {D R I O : Type 0} (d : desks.Ghosts D) (r : roads.Ghosts R I O) (i : l
                 (stands.office_is ∙ ap Some h.shows.stands.office_is) h.said;
             queue = queue_same w old.block old new queues known (queues old.block.0) known_is follows.queue queue does.queue_is;
             first = tt;
+            none = λ _. untold_conns w old.block None true c.told;
+            more = tt;
           }
 
   -- A fault that was there before, or want of memory.
@@ -292,6 +295,9 @@ module _ {D R I O : Type 0} (d : desks.Ghosts D) (r : roads.Ghosts R I O) (i : l
                 }) (λ e lower at_end apart. end_kept i o w v net e lower at_end h.stay) (fits_closed after.phase old.pipe closed (fits (ap awaits finished))) h.office h.said_is;
             queue = queue_same w old.block old new queues known (queues old.block.0) known_is follows.queue queue does.queue_is;
             first = tt;
+            none = λ _. asked_conns w old.block after (sym (ap (λ (x : parts.Writing). x.known) h.writer))
+                (sym (ap (λ (x : parts.Writing). x.known) (shows w old.block false (record { writer = sym known_is; finished = finished; conn = conn; told = c.told; office = stands.office_is })).writer));
+            more = tt;
           }
 
   pub completes_failed : (known : WriterRecord) (old new : Client I O) (desk desk' : D) (road : R) (why : ClientFault) → old.writer ≡ Some known → CompletesBy d known old new desk desk' (Err why) → course_of known ≡ course.Completes
@@ -322,8 +328,9 @@ module _ {D R I O : Type 0} (d : desks.Ghosts D) (r : roads.Ghosts R I O) (i : l
           let c : ClientShows i o w net old = stands.client_is in
           let known_is : (w.writers old.block.0).known ≡ known = c.writer ∙ ap (known_of old.block) is in
           let v : World = asked_world w old.block true in
-          let h = shows w net old.block true (record { roads_are = stands.roads_are; writer = sym known_is; told = c.told; pipe_is = linked; office_is = refl })
+          let either = λ (answered : Bool). shows w net old.block answered (record { roads_are = stands.roads_are; writer = sym known_is; told = c.told; pipe_is = linked; office_is = refl })
           (record { office = stands.office_is; members = subst (λ (x : WriterRecord). x.members ≢ []) known_is can.members; untaken = can.untaken }) in
+          let h = either true in
           let does : IsDone (own_step known).action old.block.0 (queues old.block.0) (asking old.block.0 ∷ acting old.block.0 None ∷ []) (queues old.block.0) = commits_done known old.block.0 (queues old.block.0) (course_is known course.Commits of (λ e. cc)) in
           record {
             made = h.1.shows.made;
@@ -331,6 +338,8 @@ module _ {D R I O : Type 0} (d : desks.Ghosts D) (r : roads.Ghosts R I O) (i : l
             shows = client_left w net v h.1.shows.made old new after acted.pipe acted.said desk' road' follows c h.1.shows.stands h.1.shows.others (fits fitted) h.0 h.1.said;
             queue = queue_same w old.block old new queues known (queues old.block.0) known_is follows.queue queue does.queue_is;
             first = tt;
+            none = λ _. asked_conns w old.block after h.1.shows.stands.writer (either false).1.shows.stands.writer;
+            more = tt;
           }
 
   pub commits_failed : (known : WriterRecord) (setup : Rebuild I O) (old new : Client I O) (desk desk' : D) (road road' : R) (why : ClientFault) → old.writer ≡ Some known → CommitsBy d r i o known setup old new desk desk' road road' (Err why)
@@ -365,11 +374,31 @@ module _ {D R I O : Type 0} (d : desks.Ghosts D) (r : roads.Ghosts R I O) (i : l
   abbrev pub dialled_by : WriterRecord → SetUp I O → Owned I O
   dialled_by after left = record { took = None; asked = true; first = first_of after left.first }
 
-  set_up_by : (w : World) (net : Net) (block : BlockId) (next : ConnId) (after : WriterRecord) (desk' : D) (road' : R) (p : Pipe I O) (first : Option (Conn I O)) → setting_up.SetUpBy d r i o w net block next.0 after desk' road' p first → w.lowers next.0 ≡ idle
-      → (h : setting_up.SetUpLeft d r i o w net (asked_world w block true) block.0 after desk' p road') × IfSome (first_of after first) (FirstShows i o (asked_world w block true) h.shows.made block.0 next)
-  set_up_by w net block next after desk' road' p None h lower = (h true, tt)
-  set_up_by w net block next after desk' road' p (Some at_end) h lower =
-      (h.is_left, first_shown (asked_world w block true) h.is_left.shows.made block.0 next after at_end h.member h.end_is h.upper h.first h.node (h.lower_same ∙ lower))
+  -- What is left, the lower end that is handed back, and which connections there are.
+  record SetUpSo (w : World) (net : Net) (block : BlockId) (next : ConnId) (after : WriterRecord) (desk' : D) (road' : R) (p : Pipe I O) (first : Option (First I O)) : Type 0 where
+    left : setting_up.SetUpLeft d r i o w net (asked_world w block true) block.0 after desk' p road'
+    shown : IfSome first (FirstShows i o (asked_world w block true) left.shows.made block.0 next)
+    none : first ≡ None → (asked_world w block true).next_conn ≡ w.next_conn
+    more : IfSome first (λ f. (asked_world w block true).next_conn ≡ w.next_conn + 1)
+
+  some_none : (f : First I O) → Some f ≡ None → ⊥
+  some_none f e = cc
+
+  set_up_by : (w : World) (net : Net) (block : BlockId) (next : ConnId) (after : WriterRecord) (desk' : D) (road' : R) (p : Pipe I O) (first : Option (Conn I O)) → setting_up.SetUpBy d r i o w net block next.0 after desk' road' p first → w.lowers next.0 ≡ idle → next.0 ≡ w.next_conn
+      → SetUpSo w net block next after desk' road' p (first_of after first)
+  set_up_by w net block next after desk' road' p None h lower is = record {
+    left = h true;
+    shown = tt;
+    none = λ _. asked_conns w block after (h true).shows.stands.writer (h false).shows.stands.writer;
+    more = tt;
+  }
+  set_up_by w net block next after desk' road' p (Some at_end) h lower is = record {
+    left = h.is_left;
+    shown = first_shown (asked_world w block true) h.is_left.shows.made block.0 next after at_end h.member h.end_is h.upper h.first h.node (h.lower_same ∙ lower);
+    none = λ e. absurd (some_none (record { node = first_node after.members; end = at_end }) e);
+    more = asked_dials w block
+        (subst (λ (n : ℕ). w.next_conn < n) h.is_left.shows.stands.roads_are.is_net.conns (subst (λ (n : ℕ). n < h.is_left.shows.made.conns) is h.end_is.within));
+  }
 
   pub sets_up_left : (known : WriterRecord) (setup : Rebuild I O) (old new : Client I O) (next : ConnId) (desk desk' : D) (road road' : R) (result : Result (Option (First I O)) ClientFault) (first : Option (First I O)) → old.writer ≡ Some known → SetsUpBy d r i o next known setup old new desk desk' road road' (Ok first)
       → IsWanted known.phase → (w : World) (net : Net) (queues : Queues) → ClientStands d r i o w net old desk road → PipeShows i o w net (w.writers old.block.0).conn (pipe.SettingUp setup) → PipeFits known.phase (pipe.SettingUp setup) → old.queue.items ≡ queues old.block.0
@@ -391,15 +420,17 @@ module _ {D R I O : Type 0} (d : desks.Ghosts D) (r : roads.Ghosts R I O) (i : l
             runs = subst (λ (x : WriterRecord). IfSome (slice_get x.members 0) (λ n. w.running n.0 ≡ true)) known_is can.runs;
             has_port = subst (λ (x : WriterRecord). IfSome (slice_get x.members 0) (λ n. FIRST_PORT + n.0 ≤ MAX_PORT)) known_is can.has_port;
             spelled = can.spelled;
-          })) can.undialled in
+          })) can.undialled can.next_is in
           let does : IsDone (own_step known).action old.block.0 (queues old.block.0) (asking old.block.0 ∷ acting old.block.0 None ∷ []) (queues old.block.0) = sets_up_done known old.block.0 (queues old.block.0) wanted in
           let same : first ≡ first_of after left.first = ap (ok_of first) follows.1 in
           record {
-            made = h.0.shows.made;
+            made = h.left.shows.made;
             events = ap (λ (a : Action). own_events a old.block.0 (queues old.block.0)) (same_action w old.block known known_is) ∙ does.events_are;
-            shows = client_left w net v h.0.shows.made old new after left.pipe None desk' road' follows.0 c h.0.shows.stands h.0.shows.others (fits (subst (λ (x : WriterRecord). x.members ≢ []) known_is can.members) fitted) h.0.office (h.0.said ∙ sym (append-nil (w.said old.block.0)));
+            shows = client_left w net v h.left.shows.made old new after left.pipe None desk' road' follows.0 c h.left.shows.stands h.left.shows.others (fits (subst (λ (x : WriterRecord). x.members ≢ []) known_is can.members) fitted) h.left.office (h.left.said ∙ sym (append-nil (w.said old.block.0)));
             queue = queue_same w old.block old new queues known (queues old.block.0) known_is follows.0.queue queue does.queue_is;
-            first = subst (λ (x : Option (First I O)). IfSome x (FirstShows i o v h.0.shows.made old.block.0 next)) (sym same) h.1;
+            first = subst (λ (x : Option (First I O)). IfSome x (FirstShows i o v h.left.shows.made old.block.0 next)) (sym same) h.shown;
+            none = λ e. h.none (sym same ∙ e);
+            more = subst (λ (x : Option (First I O)). IfSome x (λ f. v.next_conn ≡ w.next_conn + 1)) (sym same) h.more;
           }
 
   pub sets_up_failed : (known : WriterRecord) (setup : Rebuild I O) (old new : Client I O) (next : ConnId) (desk desk' : D) (road road' : R) (why : ClientFault) → old.writer ≡ Some known → SetsUpBy d r i o next known setup old new desk desk' road road' (Err why)

@@ -9,7 +9,6 @@ use Rattle.world.specs.Worlds.{World}
 use Rattle.client_events.specs.declared.pipes.Pipe.{Pipe}
 use Rattle.client_events.specs.declared.pipes.Pipe.TheVariants as pipe
 use Rattle.client_events.specs.Showing.{LinkShows, PipeShows}
-use Rattle.play_clients.specs.declared.clients.Client.{Client}
 use Rattle.play_clients.specs.Staying.{KeepsClient, ClientsStay}
 
 module _ {I O : Type 0} (i : link_in.Ghosts I) (o : link_out.Ghosts O) where

@@ -47,6 +47,7 @@ use Rattle.play_clients.specs.Courses.{course_of}
 use Rattle.play_clients.specs.Events.{IsCaused, IsFirst, CanTake, OwnLeft}
 use Rattle.play_clients.specs.Owning.{made_as, said_list, FollowsActed, ActsBy, ActsIf, Acts, GivesBy, taken_of, TakesBy}
 use Rattle.play_clients.proofs.CourseLaws.{IsDone, takes_is, takes_done}
+use Rattle.play_clients.proofs.DialLaws.{untold_conns}
 use Rattle.play_clients.proofs.OwnLaws.{client_left_of, queue_same, same_action, memory_caused}
 use Rattle.play_clients.proofs.HearLaws.{caused}
 
@@ -242,6 +243,8 @@ module _ {D R I O : Type 0} (d : desks.Ghosts D) (r : roads.Ghosts R I O) (i : l
             (stands.office_is ∙ ap Some e.shows.stands.office_is) e.said;
         queue = queue_same w old.block (record old { queue = q.queue }) new queues x (drop 1 (queues old.block.0)) c.writer (follows.queue ∙ gives.queue) (rest ∙ ap (drop 1) queue) does.queue_is;
         first = tt;
+        none = λ _. untold_conns w old.block (Some t) true c.told;
+        more = tt;
       }
 
   acts_with : (middle new : Client I O) (known : WriterRecord) (road road' : R) (result : Result (Unit {0}) ClientFault) → middle.writer ≡ Some known → Acts r i o middle new road road' result → ActsBy r i o known middle new road road' result

@@ -152,7 +152,8 @@ pub record FirstShows {I O : Type 0} (i : link_in.Ghosts I) (o : link_out.Ghosts
   pub node : (v.dialled next.0).to.node ≡ first.node.0
   pub idle_is : v.lowers next.0 ≡ idle
 
--- What an own step leaves: what was done is what was due, and shows the world after it.
+-- What an own step leaves: what was done is what was due, and shows the world after it. Where no lower end is handed
+-- back nothing was dialled, else one connection.
 pub record OwnLeft {D R I O : Type 0} (d : desks.Ghosts D) (r : roads.Ghosts R I O) (i : link_in.Ghosts I)
     (o : link_out.Ghosts O) (w : World) (net : Net) (queues : Queues) (next : ConnId) (old new : Client I O) (desk : D)
     (road : R) (left : Owned I O) : Type 0 where
@@ -161,6 +162,8 @@ pub record OwnLeft {D R I O : Type 0} (d : desks.Ghosts D) (r : roads.Ghosts R I
   pub shows : ClientLeft d r i o w net (run w (owned_events old.block left)) made old new desk road
   pub queue : new.queue.items ≡ queues_after w queues (due.Own old.block) old.block.0
   pub first : IfSome left.first (FirstShows i o (run w (owned_events old.block left)) made old.block.0 next)
+  pub none : left.first ≡ None → (run w (owned_events old.block left)).next_conn ≡ w.next_conn
+  pub more : IfSome left.first (λ f. (run w (owned_events old.block left)).next_conn ≡ w.next_conn + 1)
 
 abbrev pub OwnEnds : {D R I O : Type 0} → desks.Ghosts D → roads.Ghosts R I O → link_in.Ghosts I → link_out.Ghosts O →
     World → Net → Queues → ConnId → Client I O → Client I O → D → R → R → Result (Owned I O) ClientFault → Type 0
