@@ -8,7 +8,9 @@ use Rattle.hd_base.specs.declared.numbers.ConnId.{ConnId}
 use Rattle.hd_base.specs.declared.roads.Roads as roads
 use Rattle.name_core.specs.declared.desks.Desk as desks
 use Rattle.name_core.specs.Offices.{OfficeState}
-use Rattle.road_traffic.specs.Showing.{Net}
+use Rattle.pipe_recovery.specs.declared.links.Link.{Link}
+use Rattle.pipe_recovery.specs.Dialling.{LinkIsKnown}
+use Rattle.road_traffic.specs.Showing.{Net, RoadsShow}
 use Rattle.world.specs.declared.events.Event.{Event}
 use Rattle.world.specs.declared.events.Event.TheVariants as event
 use Rattle.world.specs.Parts.{Upper, by_writer}
@@ -20,24 +22,42 @@ use Rattle.play_model.specs.declared.dues.Due.TheVariants as due
 use Rattle.play_model.specs.Dues.{Queues, is_due}
 use Rattle.client_events.specs.declared.faults.ClientFault.{ClientFault}
 use Rattle.client_events.specs.declared.faults.ClientFault.TheVariants as client_fault
-use Rattle.client_events.specs.Showing.{OthersStay}
+use Rattle.client_events.specs.declared.pipes.Pipe.{Pipe}
+use Rattle.client_events.specs.declared.pipes.Pipe.TheVariants as pipe
+use Rattle.client_events.specs.Showing.{LinkShows, PipeShows, PipeIsKnown, OthersStay}
 use Rattle.play_clients.specs.declared.clients.Client.{Client}
 use Rattle.play_clients.specs.Clients.{ClientLeft}
 use Rattle.play_clients.specs.Events as clients
 use Rattle.play_clients.specs.Others.{KeepsOthers, TakesThere, HearingKeeps}
 use Rattle.play_clients.specs.Staying.{KeepsClient, ClientsStay}
 use Rattle.play_nodes.specs.Frames.{HearKeeps, HeardKeeps, NodesStay, NodesEndsStay}
+use Rattle.play_nodes.proofs.MemberNodes.{known}
 use Rattle.play_nodes.proofs.Tables.{SetOr, set_or}
 use Rattle.play.specs.declared.faults.PlayFault.{PlayFault}
 use Rattle.play.specs.declared.faults.PlayFault.TheVariants as fault
 use Rattle.play.specs.declared.player.Player.{Player}
 use Rattle.play.specs.Faults.{of_client}
-use Rattle.play.specs.Showing.{IsClient, AreApart, PlayerShows}
-use Rattle.play.specs.Events.{IsKept, Keeps, IsCaused, HeardShows}
+use Rattle.play.specs.Showing.{IsClient, AreApart, PlayerShows, PlayerStands}
+use Rattle.play.specs.Events.{IsKept, Keeps, IsCaused, PlayerLeft, HeardShows}
 use Rattle.play.proofs.NodeSteps.{dialled_there, out_of_memory}
 
 writer_same : (a b : ℕ) → by_writer a ≡ by_writer b → a ≡ b
 writer_same a b e = cc
+
+module _ {F R I O : Type 0} (r : roads.Ghosts R I O) (i : link_in.Ghosts I) (o : link_out.Ghosts O) where
+  -- THE ROADS KNOW A CLIENT'S CONNECTION
+
+  link_known : (w : World) (net : Net) (road : R) (n : Option ℕ) (link : Option (Link I O)) → RoadsShow r net road → LinkShows i o w net n link → LinkIsKnown (r.plain road) link
+  link_known w net road n None shows h = tt
+  link_known w net road n (Some l) shows h = known r i o road net (r.plain road) l.end.id.0 l.end.id.0 shows refl h.end_is.within refl
+
+  pipe_known : (w : World) (net : Net) (road : R) (n : Option ℕ) (p : Pipe I O) → RoadsShow r net road → PipeShows i o w net n p → PipeIsKnown (r.plain road) p
+  pipe_known w net road n pipe.Closed shows h = tt
+  pipe_known w net road n (pipe.SettingUp setup) shows h = link_known w net road n setup.link shows h
+  pipe_known w net road n (pipe.Streaming end incoming) shows h = known r i o road net (r.plain road) end.id.0 end.id.0 shows refl h.end_is.within refl
+
+  pub client_known : (road : R) (p : Player F I O) (place : ℕ) (c : Client I O) → PlayerStands r i o road p → slice_get p.clients.items place ≡ Some c → PipeIsKnown (r.plain road) c.pipe
+  client_known road p place c s at = pipe_known s.w s.net road (s.w.writers c.block.0).conn c.pipe s.shows.nodes.roads_are.shows (s.shows.clients place c at).shows.pipe_is
 
 module _ {F R I O D : Type 0} (f : files.Ghosts F) (r : roads.Ghosts R I O) (i : link_in.Ghosts I) (o : link_out.Ghosts O) (d : desks.Ghosts D) where
   -- the connection of a writer was dialled by it
@@ -64,10 +84,10 @@ module _ {F R I O D : Type 0} (f : files.Ghosts F) (r : roads.Ghosts R I O) (i :
   }
 
   -- A client stands at the place of another one, for the same block.
-  record IsReplaced (old mid : Player F I O) (place : ℕ) (c c' : Client I O) : Type 0 where
-    nodes : mid.nodes ≡ old.nodes
-    clients : mid.clients.items ≡ slice_set old.clients.items place c'
-    block : c'.block ≡ c.block
+  pub record IsReplaced (old mid : Player F I O) (place : ℕ) (c c' : Client I O) : Type 0 where
+    pub nodes : mid.nodes ≡ old.nodes
+    pub clients : mid.clients.items ≡ slice_set old.clients.items place c'
+    pub block : c'.block ≡ c.block
 
   -- the client that stood there before, of the same block
   record WasThere (old : Player F I O) (k : ℕ) (a : Client I O) : Type 0 where
@@ -133,3 +153,38 @@ module _ {F R I O D : Type 0} (f : files.Ghosts F) (r : roads.Ghosts R I O) (i :
   client_caused old new road road' client_fault.LinkFailed h = inl h
   client_caused old new road road' client_fault.RoadsFailed h = inr h
   client_caused old new road road' client_fault.Memory h = tt
+
+  same_client : (a b : Client I O) → Some a ≡ Some b → a ≡ b
+  same_client a b e = cc
+
+  heard_as : (conn : ConnId) (place : ℕ) (old mid new : Player F I O) (c c' : Client I O) (w : World) (net : Net) (queues : Queues) (road road' : R) (desk : D) → d.office desk ≡ Some old.office.office → d.office desk ≡ Some mid.office.office → mid.nodes ≡ old.nodes
+      → mid.clients.items ≡ slice_set old.clients.items place c' → mid.events.items ≡ old.events.items → ClientsStay i o → NodesStay f i o → NodesEndsStay i o → HearingKeeps → HeardKeeps → slice_get old.clients.items place ≡ Some c → clients.HearShows d r i o c c' desk road road' (Ok tt)
+      → IsKept mid new (event.Up conn) → PlayerShows r i o w net queues road old → clients.HearIsLawful w c.block.0 → is_due w queues (due.Up conn) ≡ true → (w.dialled conn.0).upper ≡ by_writer c.block.0 → clients.IsUncommitted (w.writers c.block.0).known.phase
+      → PlayerLeft r i o w queues (due.Up conn) old new road'
+  heard_as conn place old mid new c c' w net queues road road' desk office_old office_mid nodes set events stay nodes_stay ends_stay hearing heard at shows kept p lawful is upper uncommitted =
+      let left : clients.HearLeft d r i o w net (happens w (event.Up conn)) c c' desk road' =
+          shows w net queues conn (record { roads_are = p.nodes.roads_are; client_is = (p.clients place c at).shows; office_is = office_old ∙ ap (λ (x : OfficeState). Some x) p.office }) lawful is upper uncommitted in
+      let q : PlayerShows r i o (happens w (event.Up conn)) left.made queues road' mid =
+          heard_shows conn place old mid c c' w net queues road road' desk office_mid stay nodes_stay ends_stay hearing heard p at (record { nodes = nodes; clients = set; block = left.left.block }) lawful.ordered upper left in
+      record {
+        made = left.made;
+        shows = subst (λ (x : Player F I O). PlayerShows r i o (happens w (event.Up conn)) left.made queues road' x) (sym kept.same) (record { nodes = q.nodes; clients = q.clients; apart = q.apart; office = q.office });
+        events = kept.events ∙ ap (λ (es : List Event). es ++ event.Up conn ∷ []) events;
+      }
+
+  pub heard_left : (conn : ConnId) (place : ℕ) (old mid new : Player F I O) (c c' : Client I O) (road road' : R) (desk : D) (result : Result (Unit {0}) PlayFault) → d.office desk ≡ Some old.office.office → d.office desk ≡ Some mid.office.office → mid.nodes ≡ old.nodes
+      → mid.clients.items ≡ slice_set old.clients.items place c' → mid.events.items ≡ old.events.items → ClientsStay i o → NodesStay f i o → NodesEndsStay i o → HearingKeeps → HeardKeeps → slice_get old.clients.items place ≡ Some c → clients.HearShows d r i o c c' desk road road' (Ok tt)
+      → Keeps mid new (event.Up conn) result → HeardShows f r i o conn place old new road road' result
+  heard_left conn place old mid new c c' road road' desk (Ok u) office_old office_mid nodes set events stay nodes_stay ends_stay hearing heard at shows kept = λ w net queues a p at_a.
+      subst (λ (y : Client I O). clients.HearIsLawful w y.block.0 → is_due w queues (due.Up conn) ≡ true → (w.dialled conn.0).upper ≡ by_writer y.block.0 → clients.IsUncommitted (w.writers y.block.0).known.phase → PlayerLeft r i o w queues (due.Up conn) old new road')
+      (same_client c a (sym at ∙ at_a))
+      (λ lawful is upper uncommitted. heard_as conn place old mid new c c' w net queues road road' desk office_old office_mid nodes set events stay nodes_stay ends_stay hearing heard at shows kept p lawful is upper uncommitted)
+  heard_left conn place old mid new c c' road road' desk (Err why) office_old office_mid nodes set events stay nodes_stay ends_stay hearing heard at shows kept = λ w net queues a p at_a lawful is upper uncommitted. out_of_memory f r i o old new road road' why kept
+
+  pub heard_failed : (conn : ConnId) (place : ℕ) (old new : Player F I O) (c c' : Client I O) (road road' : R) (desk : D) (why : ClientFault) → d.office desk ≡ Some old.office.office → slice_get old.clients.items place ≡ Some c → clients.HearShows d r i o c c' desk road road' (Err why)
+      → HeardShows f r i o conn place old new road road' (Err (of_client why))
+  heard_failed conn place old new c c' road road' desk why office_old at shows = λ w net queues a p at_a.
+      subst (λ (y : Client I O). clients.HearIsLawful w y.block.0 → is_due w queues (due.Up conn) ≡ true → (w.dialled conn.0).upper ≡ by_writer y.block.0 → clients.IsUncommitted (w.writers y.block.0).known.phase → IsCaused f r old new road road' (of_client why))
+      (same_client c a (sym at ∙ at_a))
+      (λ lawful is upper uncommitted. client_caused old new road road' why
+      (shows w net queues conn (record { roads_are = p.nodes.roads_are; client_is = (p.clients place c at).shows; office_is = office_old ∙ ap (λ (x : OfficeState). Some x) p.office }) lawful is upper uncommitted))
