@@ -3,6 +3,7 @@ use Rattle.std.specs.Prelude.{◌≡◌, ◌≢◌, ◌≤◌, ◌+◌, ◌++◌
 use Rattle.hd_base.specs.Faults.{FaultsIncreased}
 use Rattle.hd_base.specs.declared.numbers.BlockId.{BlockId}
 use Rattle.hd_base.specs.declared.numbers.ConnId.{ConnId}
+use Rattle.hd_base.specs.declared.numbers.Stamp.{Stamp}
 use Rattle.hd_base.specs.declared.links.LinkIn as link_in
 use Rattle.hd_base.specs.declared.links.LinkOut as link_out
 use Rattle.hd_base.specs.declared.roads.Roads as roads
@@ -14,8 +15,9 @@ use Rattle.world.specs.declared.events.Caller.TheVariants as caller
 use Rattle.world.specs.declared.events.Event.{Event}
 use Rattle.world.specs.declared.events.Event.TheVariants as event
 use Rattle.world.specs.declared.events.TakenCommand.{TakenCommand}
-use Rattle.world.specs.Parts.{by_writer, idle}
+use Rattle.world.specs.Parts.{Message, by_writer, idle}
 use Rattle.world.specs.Worlds.{World}
+use Rattle.world.specs.Connections.{message, next_up}
 use Rattle.world.specs.Events.{happens, is_enabled, run}
 use Rattle.world_nets.specs.Nets.{IsEndOf, is_over}
 use Rattle.world_orders.specs.Orders.{Ordered}
@@ -25,6 +27,7 @@ use Rattle.writer_core.specs.declared.commands.Command.{Command}
 use Rattle.writer_core.specs.declared.commands.Command.TheVariants as command
 use Rattle.writer_core.specs.declared.phases.Phase.{Phase}
 use Rattle.writer_core.specs.declared.phases.Phase.TheVariants as phase
+use Rattle.writer_core.specs.declared.phases.Setup.{Setup}
 use Rattle.writer_core.specs.declared.records.WriterRecord.{WriterRecord}
 use Rattle.writer_core.specs.Transitions.{has_command_due, is_connected, own_step}
 use Rattle.play_model.specs.declared.dues.Due.TheVariants as due
@@ -66,6 +69,15 @@ pub record HearIsLawful (w : World) (b : ℕ) : Type 0 where
   pub written : Written w
   pub rests : is_connected (w.writers b).known.phase ≡ false → (w.writers b).conn ≡ None
 
+-- Where the request of a block's writer was accepted, and it has sent no packet yet, the writer has members
+-- (writers_rest), and no message stands next for it: nothing does, or the end (nothing_comes_early).
+pub record AcceptedIsQuiet (w : World) (b : ℕ) : Type 0 where
+  pub members : (s : Setup) (stamp : Stamp) → (w.writers b).known.phase ≡ phase.Accepted s stamp →
+      (w.writers b).known.members ≢ []
+  pub quiet : (c : ℕ) (s : Setup) (stamp : Stamp) (m : Message) →
+      (w.writers b).known.phase ≡ phase.Accepted s stamp → (w.writers b).conn ≡ Some c →
+      next_up w c ≡ Some (message m) → ⊥
+
 -- What a writer hears leaves the client as its commands were.
 pub record HearLeft {D R I O : Type 0} (d : desks.Ghosts D) (r : roads.Ghosts R I O) (i : link_in.Ghosts I)
     (o : link_out.Ghosts O) (w : World) (net : Net) (v : World) (old new : Client I O) (desk : D) (road : R) : Type 0
@@ -85,8 +97,17 @@ abbrev pub HearShows : {D R I O : Type 0} → desks.Ghosts D → roads.Ghosts R 
 HearShows d r i o old new desk road road' result =
     (w : World) (net : Net) (queues : Queues) (conn : ConnId) → ClientStands d r i o w net old desk road →
     HearIsLawful w old.block.0 → is_due w queues (due.Up conn) ≡ true → (w.dialled conn.0).upper ≡ by_writer old.block.0 →
-    IsUncommitted (w.writers old.block.0).known.phase
+    AcceptedIsQuiet w old.block.0
     → HearEnds d r i o w net (happens w (event.Up conn)) old new desk road road' result
+
+-- The office is as it was, whatever happened: what stands next is taken before a stamp is committed.
+abbrev pub HearKeepsOffice : {D R I O : Type 0} → desks.Ghosts D → roads.Ghosts R I O → link_in.Ghosts I →
+    link_out.Ghosts O → Client I O → D → D → R → Type 0
+HearKeepsOffice d r i o old desk desk' road =
+    (w : World) (net : Net) (queues : Queues) (conn : ConnId) → ClientStands d r i o w net old desk road →
+    HearIsLawful w old.block.0 → is_due w queues (due.Up conn) ≡ true → (w.dialled conn.0).upper ≡ by_writer old.block.0 →
+    AcceptedIsQuiet w old.block.0
+    → desk' ≡ desk
 
 -- OWN STEPS
 
