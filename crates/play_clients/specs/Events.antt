@@ -30,6 +30,7 @@ use Rattle.writer_core.specs.declared.phases.Phase.TheVariants as phase
 use Rattle.writer_core.specs.declared.phases.Setup.{Setup}
 use Rattle.writer_core.specs.declared.records.WriterRecord.{WriterRecord}
 use Rattle.writer_core.specs.Transitions.{has_command_due, is_connected, own_step}
+use Rattle.pipe_recovery.specs.Steps.{fits_accepted}
 use Rattle.play_model.specs.declared.dues.Due.TheVariants as due
 use Rattle.play_model.specs.Dues.{Queues, is_due, due_events, queues_after}
 use Rattle.client_events.specs.declared.faults.ClientFault.{ClientFault}
@@ -55,10 +56,10 @@ IsCaused r road road' fault.Memory = Unit {0}
 
 -- HEARING
 
--- Nothing is to be committed.
-abbrev pub IsUncommitted : Phase → Type 0
-IsUncommitted (phase.Accepted s stamp) = ⊥
-IsUncommitted other = Unit {0}
+-- No stamp is to be committed over the connection of a setup.
+abbrev pub NoneToCommit : Phase → Type 0
+NoneToCommit (phase.Accepted s stamp) = fits_accepted s true ≡ false
+NoneToCommit other = Unit {0}
 
 -- What holds of each world before the event, whatever happened before: messages come in order
 -- (messages_come_in_order), whoever takes one knows its kind (messages_are_taken_in_order), each is spelled as it is

@@ -6,7 +6,7 @@ ghost use Rattle.client_events.specs.Showing.{PipeIsKnown, awaits};
 ghost use Rattle.pipe_recovery.specs.Dialling.{LinkIsKnown};
 ghost use Rattle.play_clients.specs.Clients.{known_of};
 ghost use Rattle.play_clients.specs.Hearing.{SetupHears, PipeHears};
-ghost use Rattle.play_clients.specs.Events.{HearShows, HearKeepsOffice, IsUncommitted};
+ghost use Rattle.play_clients.specs.Events.{HearShows, HearKeepsOffice, NoneToCommit};
 ghost use Rattle.play_clients.specs.Passing.{ClientPasses};
 
 use crate::clients::Client;
@@ -31,7 +31,7 @@ impl<I: LinkIn, O: LinkOut> Client<I, O> {
             self.old self.new office.old roads.old roads.new result }
         ensures passes { ClientPasses R.Roads roads.old roads.new self.new result }
         ensures office { HearKeepsOffice D.Desk R.Roads I.LinkIn O.LinkOut self.old office.old office.new roads.old }
-        ensures quiet { IsUncommitted (known_of self.old.block self.old.writer).phase → office.new ≡ office.old }
+        ensures quiet { NoneToCommit (known_of self.old.block self.old.writer).phase → office.new ≡ office.old }
     {
         let Some(writer) = &mut self.writer else {
             return Ok(());
@@ -55,7 +55,7 @@ fn heard<D: Desk, I: LinkIn, O: LinkOut, R: Roads<Inward = I, Outward = O>>(
         office.old office.new roads.old roads.new result }
     ensures pass { RoadsPass R.Roads roads.old roads.new }
     ensures known { IfOk result (λ left. PipeIsKnown (R.plain roads.new) left) }
-    ensures quiet { IsUncommitted writer.old.phase → office.new ≡ office.old }
+    ensures quiet { NoneToCommit writer.old.phase → office.new ≡ office.old }
 {
     match pipe {
         Pipe::Closed => Ok(Pipe::Closed),
@@ -77,7 +77,7 @@ fn answered<D: Desk, I: LinkIn, O: LinkOut, R: Roads<Inward = I, Outward = O>>(
         office.old office.new roads.old roads.new result }
     ensures pass { RoadsPass R.Roads roads.old roads.new }
     ensures known { IfOk result (λ left. PipeIsKnown (R.plain roads.new) left) }
-    ensures quiet { IsUncommitted writer.old.phase → office.new ≡ office.old }
+    ensures quiet { NoneToCommit writer.old.phase → office.new ≡ office.old }
 {
     if awaits(writer.phase()) && setup.conn().is_some() {
         hear_answer(alloc, roads, office, writer, setup)
