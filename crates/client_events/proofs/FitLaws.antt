@@ -24,7 +24,7 @@ use Rattle.pipe_recovery.specs.Acting.{MovesOn, has_own_step}
 use Rattle.pipe_recovery.specs.Asking.{Asks, AsksBy}
 use Rattle.pipe_recovery.specs.Reports.{failed_as, moved_if, Streams, Sees, Awaits, ReportsAccepted, ReportsAt, Reports}
 use Rattle.pipe_recovery.specs.Steps as recovery
-use Rattle.pipe_recovery.specs.Steps.{fits_in, fits_accepted, is_stamped, Acts, Waits, FollowsLook, TakesAs, HearsOrAsks, HearsGiven, HearsSeen, HearsNextAs, ElseAsks, GoesOn, StillFits, Steps}
+use Rattle.pipe_recovery.specs.Steps.{fits_in, fits_accepted, is_stamped, Acts, Waits, FollowsLook, TakesAs, HearsGiven, HearsSeen, HearsNextAs, ElseAsks, GoesOn, StillFits, Steps}
 use Rattle.writer_core.specs.declared.actions.Action.{Action}
 use Rattle.writer_core.specs.declared.actions.Action.TheVariants as action
 use Rattle.writer_core.specs.declared.commands.Command.{Command}

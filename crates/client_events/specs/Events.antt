@@ -174,9 +174,9 @@ abbrev pub IsNextIn : Phase → Next → Type 0
 IsNextIn (phase.Accepted s stamp) (message m) = ⊥
 IsNextIn p x = IsAnswerNext x
 
--- The writer of a block waits on the connection of its setup, and takes what stands next there. That it has members then
--- (writers_rest), and that this is an answer (messages_are_taken_in_order), or the end where the request was accepted
--- (nothing_comes_early), holds after all events.
+-- The writer of a block waits on the connection of its setup, and takes what stands next there. That it has members
+-- then (writers_rest), and that this is an answer (messages_are_taken_in_order), or the end where the request was
+-- accepted (nothing_comes_early), holds after all events.
 pub record CanHearAnswer (w : World) (conn : ConnId) (b : ℕ) (known : WriterRecord) (x : Next) : Type 0 where
   pub comes : ComesUp w conn.0 x
   pub conn_is : (w.writers b).conn ≡ Some conn.0

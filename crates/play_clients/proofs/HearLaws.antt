@@ -21,7 +21,7 @@ use Rattle.world.specs.Enabled.{takes_above}
 use Rattle.world_nets.specs.Drawn.{ComesUp, HearsPipe, hears_as}
 use Rattle.world_nets.proofs.DrawnLemmas.{up-makes}
 use Rattle.world_orders.specs.Orders as orders
-use Rattle.world_orders.specs.Orders.{Ordered, IsWriterConn, WriterIs, HasTaken, comes_up, pipeline, is_requested, has_members}
+use Rattle.world_orders.specs.Orders.{Ordered, IsWriterConn, HasTaken, comes_up, pipeline, is_requested}
 use Rattle.world_orders.specs.Takes.{TakesInOrder}
 use Rattle.world_orders.proofs.AllOrdered.{next-found}
 use Rattle.world_texts.specs.Texts.{Written, SpellsText}
@@ -39,7 +39,7 @@ use Rattle.client_events.specs.declared.pipes.Pipe.TheVariants as pipe
 use Rattle.client_events.specs.Events as events
 use Rattle.client_events.specs.Faults as faults
 use Rattle.client_events.specs.Showing as showing
-use Rattle.client_events.specs.Showing.{PipeShows, LinkShows, awaits, PipeFits}
+use Rattle.client_events.specs.Showing.{LinkShows, awaits, PipeFits}
 use Rattle.play_clients.specs.declared.clients.Client.{Client}
 use Rattle.play_clients.specs.Clients.{known_of, said_as, ClientShows}
 use Rattle.play_clients.specs.Events.{IsCaused, HearIsLawful, AcceptedIsQuiet, HearLeft, HearShows, HearKeepsOffice}

@@ -97,8 +97,8 @@ abbrev pub HearShows : {D R I O : Type 0} → desks.Ghosts D → roads.Ghosts R 
     link_out.Ghosts O → Client I O → Client I O → D → R → R → Result (Unit {0}) ClientFault → Type 0
 HearShows d r i o old new desk road road' result =
     (w : World) (net : Net) (queues : Queues) (conn : ConnId) → ClientStands d r i o w net old desk road →
-    HearIsLawful w old.block.0 → is_due w queues (due.Up conn) ≡ true → (w.dialled conn.0).upper ≡ by_writer old.block.0 →
-    AcceptedIsQuiet w old.block.0
+    HearIsLawful w old.block.0 → is_due w queues (due.Up conn) ≡ true →
+    (w.dialled conn.0).upper ≡ by_writer old.block.0 → AcceptedIsQuiet w old.block.0
     → HearEnds d r i o w net (happens w (event.Up conn)) old new desk road road' result
 
 -- The office is as it was, whatever happened: what stands next is taken before a stamp is committed.
@@ -106,8 +106,8 @@ abbrev pub HearKeepsOffice : {D R I O : Type 0} → desks.Ghosts D → roads.Gho
     link_out.Ghosts O → Client I O → D → D → R → Type 0
 HearKeepsOffice d r i o old desk desk' road =
     (w : World) (net : Net) (queues : Queues) (conn : ConnId) → ClientStands d r i o w net old desk road →
-    HearIsLawful w old.block.0 → is_due w queues (due.Up conn) ≡ true → (w.dialled conn.0).upper ≡ by_writer old.block.0 →
-    AcceptedIsQuiet w old.block.0
+    HearIsLawful w old.block.0 → is_due w queues (due.Up conn) ≡ true →
+    (w.dialled conn.0).upper ≡ by_writer old.block.0 → AcceptedIsQuiet w old.block.0
     → desk' ≡ desk
 
 -- OWN STEPS

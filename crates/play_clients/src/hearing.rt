@@ -86,7 +86,7 @@ fn answered<D: Desk, I: LinkIn, O: LinkOut, R: Roads<Inward = I, Outward = O>>(
     }
 }
 
-/// Whether a writer waits on the connection of its setup: for the answer to its request, or for the commit of its stamp.
+/// Whether a writer waits on the connection of its setup: for the answer to its request, or to commit its stamp.
 fn awaits(phase: Phase) -> bool
     ensures { result ≡ awaits phase }
 {
