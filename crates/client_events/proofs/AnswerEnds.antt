@@ -14,6 +14,7 @@ use Rattle.link_pieces.specs.Roads.{ExchangesEnd, BringsEnd}
 use Rattle.name_core.specs.declared.desks.Desk as desks
 use Rattle.name_core.specs.Offices.{OfficeState}
 use Rattle.pipe_recovery.specs.declared.acting.Acted.{Acted}
+use Rattle.pipe_recovery.specs.declared.hearing.Answer.{Answer}
 use Rattle.pipe_recovery.specs.declared.hearing.Looked.{Looked}
 use Rattle.pipe_recovery.specs.declared.hearing.Looked.TheVariants as looked
 use Rattle.pipe_recovery.specs.declared.links.Link.{Link}
@@ -24,7 +25,7 @@ use Rattle.pipe_recovery.specs.declared.rebuilding.Rebuilt.TheVariants as rebuil
 use Rattle.pipe_recovery.specs.Acting.{has_own_step}
 use Rattle.pipe_recovery.specs.Hearing.{HeardState, nothing_heard}
 use Rattle.pipe_recovery.specs.Reports.{Streams, EndsAs, Reports, ReportsAt, moved_if, failed_as}
-use Rattle.pipe_recovery.specs.Steps.{keeps_link, SettlesTold, FollowsLook, Waits, Leaves, Acts, Steps}
+use Rattle.pipe_recovery.specs.Steps.{keeps_link, SettlesTold, TakesAs, FollowsLook, WaitsOn, Waits, HearsNextAs, HearsSeen, HearsOn, HearsGiven, Hears, ElseAsks, Leaves, Acts, Steps}
 use Rattle.pipe_recovery.specs.Exchanging.{Exchanges, ExchangesLink}
 use Rattle.pipe_recovery.specs.Links.{LooksAt}
 use Rattle.road_traffic.specs.Laws.{Took}
@@ -62,12 +63,12 @@ use Rattle.client_events.specs.declared.faults.ClientFault.TheVariants as fault
 use Rattle.client_events.specs.declared.pipes.Pipe.{Pipe}
 use Rattle.client_events.specs.declared.pipes.Pipe.TheVariants as pipe
 use Rattle.client_events.specs.Answering.{IsWaiting, TakesLink, is_risen, piped}
-use Rattle.client_events.specs.Events.{CanHearAnswer, AnswerShows}
+use Rattle.client_events.specs.Events.{IsNextIn, CanHearAnswer, AnswerShows, AnswerKeepsOffice}
 use Rattle.client_events.specs.Faults.{HasRisen, IsCaused}
-use Rattle.client_events.specs.Showing.{PipeShows, LinkShows, LinkStands, ClientStands, ClientLeft}
+use Rattle.client_events.specs.Showing.{awaits, PipeShows, LinkShows, LinkStands, ClientStands, ClientLeft}
 use Rattle.client_events.specs.Steps.{GivesBack}
 use Rattle.client_events.proofs.ActLaws.{unsent}
-use Rattle.client_events.proofs.AnswerLaws.{IsDecided, AnsweredBy, FailedLink, end_leaves, told_decides, true_false, answered}
+use Rattle.client_events.proofs.AnswerLaws.{IsDecided, AnsweredBy, FailedLink, end_leaves, heard_decides, answer_comes, true_false, answered, finds}
 use Rattle.client_events.proofs.HearLaws.{taken_clients, after_change}
 use Rattle.client_events.proofs.SettleLaws.{HasActed, given_left, away_from, road_caused}
 
@@ -238,7 +239,7 @@ module _ {R I O : Type 0} (r : roads.Ghosts R I O) (i : link_in.Ghosts I) (o : l
       })
 
   -- A link that failed is one whose count had risen.
-  failed_risen : (l' held : Link I O) (known known' : WriterRecord) (ended_so : Acted) (conn : ConnId) (kept : Option (Link I O)) (middle road' : R) → IsWaiting known.phase → known.members ≢ [] → l'.end.id ≡ conn → FailedLink i known known' l' held ended_so → SettlesTold r i o (keeps_link known'.phase) (Some held) kept middle road' false → r.risen road' conn.0 ≡ true
+  failed_risen : (l' held : Link I O) (known known' : WriterRecord) (ended_so : Acted) (conn : ConnId) (kept : Option (Link I O)) (middle road' : R) → awaits known.phase ≡ true → known.members ≢ [] → l'.end.id ≡ conn → FailedLink i known known' l' held ended_so → SettlesTold r i o (keeps_link known'.phase) (Some held) kept middle road' false → r.risen road' conn.0 ≡ true
   failed_risen l' held known known' ended_so conn kept middle road' waits some same f s =
       let off : keeps_link known'.phase ≡ false = ap (λ (z : WriterRecord). keeps_link z.phase) f.writer ∙ end_leaves known waits some in
       let g = (given_back r i o held kept middle road' (subst (λ (q : Bool). SettlesTold r i o q (Some held) kept middle road' false) off s)).1 in
@@ -253,12 +254,24 @@ module _ {R I O : Type 0} (r : roads.Ghosts R I O) (i : link_in.Ghosts I) (o : l
   by_heard w net b office x l l' held setup setup' ends left kept known known' ended_so road middle road' stands s can same h1 at risen settles reports is (inl a) =
       let acted = answer_acted w net b office x l l' held setup known known' ended_so road stands s can.comes can.upper h1 a in
       decided_left r i o w (up_taken w l.end.id.0 x) net (taken_net net l.end.id.0 false) (event.Up l.end.id) b l.end.id.0 office (hears_as (up_taken w l.end.id.0 x) b x) known' (is_end x) held acted setup' ends left kept middle road' at is
-      known'.phase refl (subst (λ (z : WriterRecord). IsDecided z.phase) (sym a.told_is) (told_decides known a.tells can.waits can.members)) (λ q. a.heard (still_open x known known' can a.writer q)) settles (subst (λ (z : Acted). Reports i z known' kept setup'.link ends) a.moved reports)
+      known'.phase refl (subst (λ (z : WriterRecord). IsDecided z.phase) (sym a.writer) (heard_decides known x can.waits can.answers can.members)) (λ q. a.heard (still_open x known known' can a.writer q)) settles (subst (λ (z : Acted). Reports i z known' kept setup'.link ends) a.moved reports)
   by_heard w net b office x l l' held setup setup' ends left kept known known' ended_so road middle road' stands s can same h1 at risen settles reports is (inr f) =
       absurd (true_false (sym (failed_risen l' held known known' ended_so l.end.id kept middle road' can.waits can.members same f settles) ∙ risen))
 
   pub none_ok : (why : ClientFault) (left : Pipe I O) → Err why ≡ Ok left → ⊥
   none_ok why left h = cc
+
+  -- What the end holds once it was exchanged.
+  taken_held : (w : World) (net : Net) (b : ℕ) (office : OfficeState) (x : Next) (l l' : Link I O) (setup : Rebuild I O) (known : WriterRecord) (road middle : R) → ClientStands r i o w net b office known (pipe.SettingUp setup) road → LinkStands i o w net (w.writers b).conn l → ComesUp w l.end.id.0 x → Exchanges r i o (Some l.end.id) l l' road middle (Ok tt)
+      → (HeldAt i o (taken_net net l.end.id.0 false) false [] (inbox_for x) l.end.id.0 false l'.end) × RoadsAt r (taken_net net l.end.id.0 false) middle
+  taken_held w net b office x l l' setup known road middle stands s comes ex =
+      let c : ℕ = l.end.id.0 in
+      let takes = taken-net w net c false x stands.roads_are.is_net s.end_is.within s.end_is.taking comes.next in
+      let p = end_passes r i o net true false [] (held_by (is_over w c false)) c false road middle l.end l'.end (record { sane = stands.roads_are.sane; shows = stands.roads_are.shows }) (end_held i o w net c false l.end s.end_is) (λ z. ap held_by takes.before)
+      (subst (λ (q : Bool). ExchangesEnd r i o q l.end l'.end road middle (Ok tt)) (same-itself c) ex.end) in (
+        subst (λ (z : Inbox). HeldAt i o (taken_net net c false) false [] z c false l'.end) takes.holds p.held,
+        p.roads_at,
+      )
 
   by_look : (found : Looked) (w : World) (net : Net) (b : ℕ) (office : OfficeState) (x : Next) (l l' seen held : Link I O) (setup setup' : Rebuild I O) (ends : RebuildStep I O) (left : Pipe I O) (kept : Option (Link I O)) (known known' : WriterRecord) (ended_so : Acted) (road middle road' : R)
       → ClientStands r i o w net b office known (pipe.SettingUp setup) road → LinkStands i o w net (w.writers b).conn l → CanHearAnswer w l.end.id b known x → Exchanges r i o (Some l.end.id) l l' road middle (Ok tt)
@@ -268,18 +281,63 @@ module _ {R I O : Type 0} (r : roads.Ghosts R I O) (i : link_in.Ghosts I) (o : l
       let m = subst (λ (z : Acted). Reports i z known' kept setup'.link ends) follows.2 reports in
       absurd (none_ok fault.Memory left (sym (ap (piped setup') m.1) ∙ is))
   by_look looked.Known w net b office x l l' seen held setup setup' ends left kept known known' ended_so road middle road' stands s can ex risen looks follows settles reports is =
-      let c : ℕ = l.end.id.0 in
-      let takes = taken-net w net c false x stands.roads_are.is_net s.end_is.within s.end_is.taking can.comes.next in
-      let p = end_passes r i o net true false [] (held_by (is_over w c false)) c false road middle l.end l'.end (record { sane = stands.roads_are.sane; shows = stands.roads_are.shows }) (end_held i o w net c false l.end s.end_is) (λ z. ap held_by takes.before)
-      (subst (λ (q : Bool). ExchangesEnd r i o q l.end l'.end road middle (Ok tt)) (same-itself c) ex.end) in
-      let h1 : HeldAt i o (taken_net net c false) false [] (inbox_for x) c false l'.end = subst (λ (z : Inbox). HeldAt i o (taken_net net c false) false [] z c false l'.end) takes.holds p.held in
-      by_heard w net b office x l l' held setup setup' ends left kept known known' ended_so road middle road' stands s can ex.end.kept.id h1 p.roads_at risen settles reports is
-      (answered i x known known' l' seen held ended_so can.answers h1.is.held (ex.heard ∙ s.heard) looks follows)
+      let h = taken_held w net b office x l l' setup known road middle stands s can.comes ex in
+      by_heard w net b office x l l' held setup setup' ends left kept known known' ended_so road middle road' stands s can ex.end.kept.id h.0 h.1 risen settles reports is
+      (answered i x known known' l' seen held ended_so (answer_comes known.phase x can.answers) h.0.is.held (ex.heard ∙ s.heard) looks follows)
 
-  -- what a step does of a writer that waits
-  waits_acts : {D : Type 0} (d : desks.Ghosts D) (p : Phase) (known known' : WriterRecord) (link held : Option (Link I O)) (desk desk' : D) (road road' : R) (ended_so : Acted) → IsWaiting p → Acts d r i o p known known' link held desk desk' road road' ended_so → Leaves desk desk' (Leaves road road' (Waits i known known' link held ended_so))
-  waits_acts d (phase.Requested s stamp) known known' link held desk desk' road road' ended_so waits h = h
-  waits_acts d other known known' link held desk desk' road road' ended_so waits h = absurd waits
+  -- What was heard, as where an answer is awaited: the office isn't asked.
+  record HeardSo {D : Type 0} (known known' : WriterRecord) (found : Looked) (seen new : Link I O) (held : Option (Link I O)) (desk desk' : D) (road road' : R) (ended_so : Acted) : Type 0 where
+    pub follows : FollowsLook found known known' seen new ended_so
+    pub held_is : held ≡ Some new
+    pub desk_is : desk' ≡ desk
+    pub road_is : road' ≡ road
+
+  next_so : {D : Type 0} (d : desks.Ghosts D) (next : Option Answer) (known after known' : WriterRecord) (seen new : Link I O) (held : Option (Link I O)) (heard : Option Acted) (desk desk' : D) (road road' : R) (ended_so : Acted) → (next ≡ None → ⊥) → HearsNextAs next known after seen new heard
+      → ElseAsks d r i o heard after known' (Some new) held desk desk' road road' ended_so → TakesAs next known known' seen new ended_so × ((held ≡ Some new) × ((desk' ≡ desk) × (road' ≡ road)))
+  next_so d None known after known' seen new held heard desk desk' road road' ended_so some h e = absurd (some refl)
+  next_so d (Some a) known after known' seen new held heard desk desk' road road' ended_so some h e =
+      let k = subst (λ (n : Option Acted). ElseAsks d r i o n after known' (Some new) held desk desk' road road' ended_so) h.2 e in
+      ((k.0 ∙ h.0, h.1, k.4), (k.1, (k.2, k.3)))
+
+  seen_so : {D : Type 0} (d : desks.Ghosts D) (found : Looked) (known after known' : WriterRecord) (seen new : Link I O) (held : Option (Link I O)) (heard : Option Acted) (desk desk' : D) (road road' : R) (ended_so : Acted) → (found ≡ looked.Known → seen.heard.next ≡ None → ⊥) → HearsSeen found known after seen new heard
+      → ElseAsks d r i o heard after known' (Some new) held desk desk' road road' ended_so → HeardSo known known' found seen new held desk desk' road road' ended_so
+  seen_so d looked.Memory known after known' seen new held heard desk desk' road road' ended_so some h e =
+      let k = subst (λ (n : Option Acted). ElseAsks d r i o n after known' (Some new) held desk desk' road road' ended_so) h.2 e in
+      record { follows = (k.0 ∙ h.0, h.1, k.4); held_is = k.1; desk_is = k.2; road_is = k.3 }
+  seen_so d looked.Known known after known' seen new held heard desk desk' road road' ended_so some h e =
+      let k = next_so d seen.heard.next known after known' seen new held heard desk desk' road road' ended_so (some refl) h e in
+      record { follows = k.0; held_is = k.1.0; desk_is = k.1.1.0; road_is = k.1.1.1 }
+
+  -- A writer whose request was accepted takes the end where that stands next.
+  hears_so : {D : Type 0} (d : desks.Ghosts D) (known after known' : WriterRecord) (l' : Link I O) (first held : Option (Link I O)) (heard : Option Acted) (desk desk' : D) (road road' : R) (ended_so : Acted) → i.held l'.end.inward ≡ Some (inbox_for the_end) → l'.heard ≡ nothing_heard → l'.asked ≡ true
+      → Hears i known after (Some l') first heard → ElseAsks d r i o heard after known' first held desk desk' road road' ended_so → Leaves desk desk' (Leaves road road' (Waits i known known' (Some l') held ended_so))
+  hears_so d known after known' l' None held heard desk desk' road road' ended_so holds none asked h e = absurd h
+  hears_so d known after known' l' (Some new) held heard desk desk' road road' ended_so holds none asked h e =
+      let on : HearsOn i known after l' new heard = subst (λ (q : Bool). HearsGiven i q known after l' new heard) asked h in
+      let s = seen_so d on.found known after known' on.seen new held heard desk desk' road road' ended_so (λ f n. finds i l' on.seen holds none (subst (LooksAt i l' on.seen) f on.looks) n) on.hears e in
+      let does : WaitsOn i known known' l' new ended_so = record { found = on.found; seen = on.seen; looks = on.looks; follows = s.follows } in
+      (s.desk_is, (s.road_is, subst (λ (n : Option (Link I O)). Waits i known known' (Some l') n ended_so) (sym s.held_is) does))
+
+  -- What a step does of a writer that waits on the connection of its setup.
+  waits_acts : {D : Type 0} (d : desks.Ghosts D) (p : Phase) (x : Next) (known known' : WriterRecord) (l' : Link I O) (held : Option (Link I O)) (desk desk' : D) (road road' : R) (ended_so : Acted) → awaits p ≡ true → IsNextIn p x → i.held l'.end.inward ≡ Some (inbox_for x) → l'.heard ≡ nothing_heard → l'.asked ≡ true
+      → Acts d r i o p known known' (Some l') held desk desk' road road' ended_so → Leaves desk desk' (Leaves road road' (Waits i known known' (Some l') held ended_so))
+  waits_acts d (phase.Requested s stamp) x known known' l' held desk desk' road road' ended_so waits comes holds none asked h = h
+  waits_acts d (phase.Accepted s stamp) (message m) known known' l' held desk desk' road road' ended_so waits comes holds none asked h = absurd comes
+  waits_acts d (phase.Accepted s stamp) the_end known known' l' held desk desk' road road' ended_so waits comes holds none asked h =
+      hears_so d known h.after known' l' h.held held h.heard desk desk' road road' ended_so holds none asked h.hears h.else_asks
+  waits_acts d other x known known' l' held desk desk' road road' ended_so waits comes holds none asked h = absurd (true_false (sym waits))
+
+  -- the same of one that waits for the answer to its request
+  asked_acts : {D : Type 0} (d : desks.Ghosts D) (p : Phase) (known known' : WriterRecord) (link held : Option (Link I O)) (desk desk' : D) (road road' : R) (ended_so : Acted) → IsWaiting p → Acts d r i o p known known' link held desk desk' road road' ended_so → Leaves desk desk' (Leaves road road' (Waits i known known' link held ended_so))
+  asked_acts d (phase.Requested s stamp) known known' link held desk desk' road road' ended_so waits h = h
+  asked_acts d other known known' link held desk desk' road road' ended_so waits h = absurd waits
+
+  step_acts : {D : Type 0} (d : desks.Ghosts D) (w : World) (net : Net) (b : ℕ) (office : OfficeState) (x : Next) (l l' : Link I O) (setup : Rebuild I O) (link' : Option (Link I O)) (lost : Bool) (ends : RebuildStep I O) (known known' : WriterRecord) (desk desk' : D) (road middle road' : R)
+      → ClientStands r i o w net b office known (pipe.SettingUp setup) road → LinkStands i o w net (w.writers b).conn l → CanHearAnswer w l.end.id b known x → Exchanges r i o (Some l.end.id) l l' road middle (Ok tt) → (steps : Steps d r i o known known' (Some l') link' desk desk' middle road' lost ends)
+      → Leaves desk desk' (Leaves middle steps.middle (Waits i known known' (Some l') steps.held steps.acted))
+  step_acts d w net b office x l l' setup link' lost ends known known' desk desk' road middle road' stands s can ex steps =
+      let h = taken_held w net b office x l l' setup known road middle stands s can.comes ex in
+      waits_acts d known.phase x known known' l' steps.held desk desk' middle steps.middle steps.acted can.waits can.answers h.0.is.held (ex.heard ∙ s.heard) ex.asked steps.acts
 
   by_wait : (w : World) (net : Net) (b : ℕ) (office : OfficeState) (x : Next) (l l' : Link I O) (held : Option (Link I O)) (setup setup' : Rebuild I O) (ends : RebuildStep I O) (left : Pipe I O) (kept : Option (Link I O)) (known known' : WriterRecord) (ended_so : Acted) (road middle road' : R)
       → ClientStands r i o w net b office known (pipe.SettingUp setup) road → LinkStands i o w net (w.writers b).conn l → CanHearAnswer w l.end.id b known x → Exchanges r i o (Some l.end.id) l l' road middle (Ok tt)
@@ -294,7 +352,7 @@ module _ {R I O : Type 0} (r : roads.Ghosts R I O) (i : link_in.Ghosts I) (o : l
       → r.risen road' l.end.id.0 ≡ false → Steps d r i o known known' (Some l') setup'.link desk desk' middle road' false ends → piped setup' ends ≡ Ok left
       → ClientLeft r i o w net (happens w (event.Up l.end.id)) b office known' left road'
   by_step d w net b office x l l' setup setup' ends left known known' desk desk' road middle road' stands s can ex risen steps is =
-      let acts = waits_acts d known.phase known known' (Some l') steps.held desk desk' middle steps.middle steps.acted can.waits steps.acts in
+      let acts = step_acts d w net b office x l l' setup setup'.link false ends known known' desk desk' road middle road' stands s can ex steps in
       let settles : SettlesTold r i o (keeps_link known'.phase) steps.held steps.kept middle road' false = subst (λ (y : R). SettlesTold r i o (keeps_link known'.phase) steps.held steps.kept y road' false) acts.1.0 steps.settles in
       by_wait w net b office x l l' steps.held setup setup' ends left steps.kept known known' steps.acted road middle road' stands s can ex risen acts.1.1 settles steps.reports is
 
@@ -355,6 +413,25 @@ module _ {R I O : Type 0} (r : roads.Ghosts R I O) (i : link_in.Ghosts I) (o : l
   pub answer_untaken : (setup : Rebuild I O) (known known' : WriterRecord) (road road' : R) (why : ClientFault) → TakesLink r i o setup.link road road' (Err why) → AnswerShows r i o known known' setup road road' (Err why)
   answer_untaken setup known known' road road' why h = λ w net b office conn x stands can. road_caused r i o (w.writers b).conn road road road' why (same_count (r.faults road)) h
 
-  -- The office is as it was.
+  -- THE OFFICE
+
+  links_keep : {D : Type 0} (d : desks.Ghosts D) (w : World) (net : Net) (b : ℕ) (office : OfficeState) (conn : ConnId) (x : Next) (link middle_link link' : Option (Link I O)) (setup : Rebuild I O) (lost : Bool) (ends : RebuildStep I O) (known known' : WriterRecord) (desk desk' : D) (road middle road' : R)
+      → setup.link ≡ link → ClientStands r i o w net b office known (pipe.SettingUp setup) road → CanHearAnswer w conn b known x → ExchangesLink r i o (option_map (λ (l : Link I O). l.end.id) link) link middle_link road middle (Ok tt) → Steps d r i o known known' middle_link link' desk desk' middle road' lost ends → desk' ≡ desk
+  links_keep d w net b office conn x None middle_link link' setup lost ends known known' desk desk' road middle road' at stands can ex steps =
+      let none : (w.writers b).conn ≡ None = subst (λ (n : Option (Link I O)). LinkShows i o w net (w.writers b).conn n) at stands.pipe_is in
+      absurd (no_conn_some conn.0 (sym can.conn_is ∙ none))
+  links_keep d w net b office conn x (Some l) None link' setup lost ends known known' desk desk' road middle road' at stands can ex steps = absurd ex
+  links_keep d w net b office conn x (Some l) (Some l') link' setup lost ends known known' desk desk' road middle road' at stands can ex steps =
+      let s : LinkStands i o w net (w.writers b).conn l = subst (λ (n : Option (Link I O)). LinkShows i o w net (w.writers b).conn n) at stands.pipe_is in
+      let same : l.end.id ≡ conn = conn_same l.end.id conn (some_conn l.end.id.0 conn.0 (sym s.conn_is ∙ can.conn_is)) in
+      (step_acts d w net b office x l l' setup link' lost ends known known' desk desk' road middle road' stands s (subst (λ (n : ConnId). CanHearAnswer w n b known x) (sym same) can) ex steps).0
+
+  -- The office is as it was, where something stands next.
+  pub answer_keeps : {D : Type 0} (d : desks.Ghosts D) (setup taken : Rebuild I O) (link' : Option (Link I O)) (lost : Bool) (ends : RebuildStep I O) (known known' : WriterRecord) (desk desk' : D) (road middle road' : R) → TakesLink r i o setup.link road middle (Ok taken)
+      → Steps d r i o known known' taken.link link' desk desk' middle road' lost ends → AnswerKeepsOffice r i o known setup road desk desk'
+  answer_keeps d setup taken link' lost ends known known' desk desk' road middle road' ex steps = λ w net b office conn x stands can.
+      links_keep d w net b office conn x setup.link taken.link link' setup lost ends known known' desk desk' road middle road' refl stands can ex steps
+
+  -- It is where an answer is awaited, whatever stands next.
   pub answer_office : {D : Type 0} (d : desks.Ghosts D) (known known' : WriterRecord) (link link' : Option (Link I O)) (desk desk' : D) (road road' : R) (lost : Bool) (ends : RebuildStep I O) → IsWaiting known.phase → Steps d r i o known known' link link' desk desk' road road' lost ends → desk' ≡ desk
-  answer_office d known known' link link' desk desk' road road' lost ends waits steps = (waits_acts d known.phase known known' link steps.held desk desk' road steps.middle steps.acted waits steps.acts).0
+  answer_office d known known' link link' desk desk' road road' lost ends waits steps = (asked_acts d known.phase known known' link steps.held desk desk' road steps.middle steps.acted waits steps.acts).0

@@ -24,7 +24,7 @@ use Rattle.pipe_recovery.specs.declared.links.Link.{Link}
 use Rattle.pipe_recovery.specs.Hearing.{HeardState, nothing_heard, answer_of, looked_of, Receives, Looks, told}
 use Rattle.pipe_recovery.specs.Links.{LooksAt}
 use Rattle.pipe_recovery.specs.Naming.{is_address, named_member}
-use Rattle.pipe_recovery.specs.Steps.{keeps_link, TakesAs, Takes}
+use Rattle.pipe_recovery.specs.Steps.{fits_accepted, keeps_link, TakesAs, Takes}
 use Rattle.world.specs.Clients.{writer_hears}
 use Rattle.world.specs.Clients as clients
 use Rattle.world.specs.Parts.{response}
@@ -35,12 +35,14 @@ use Rattle.writer_core.specs.declared.phases.Phase.{Phase}
 use Rattle.writer_core.specs.declared.phases.Phase.TheVariants as phase
 use Rattle.writer_core.specs.declared.phases.Remedy.{Remedy}
 use Rattle.writer_core.specs.declared.phases.Remedy.TheVariants as remedy
+use Rattle.writer_core.specs.declared.phases.Setup.{Setup}
+use Rattle.writer_core.specs.declared.phases.Setup.TheVariants as setup
 use Rattle.writer_core.specs.declared.records.WriterRecord.{WriterRecord}
-use Rattle.writer_core.specs.Phases.{remedy_after, remedy_in, is_success, bad_place, place_of, without}
+use Rattle.writer_core.specs.Phases.{remedy_after, remedy_accepted, remedy_in, is_success, bad_place, place_of, without}
 use Rattle.writer_core.specs.Transitions.{dropped, fail_named, ended, ended_as, setup_answered, setup_answered_in}
 use Rattle.member_events.proofs.TakeLaws.{message_came, end_came}
-use Rattle.client_events.specs.Answering.{IsWaiting}
-use Rattle.client_events.specs.Events.{IsAnswerNext}
+use Rattle.client_events.specs.Events.{IsAnswerNext, IsNextIn}
+use Rattle.client_events.specs.Showing.{awaits}
 
 -- WHERE THE WRITER IS THEN
 
@@ -72,21 +74,35 @@ place_there members (Some bad) some none = go (position (λ n. n.0 == bad.0) mem
     go None is e = first_there members some e
     go (Some i) is e = none-some _ (sym e ∙ slice_get-get_or members i bad (position-Some (λ n. n.0 == bad.0) members i bad is).0)
 
-answer_decides : (x : WriterRecord) (p : Phase) (good : Bool) (bad : Option NodeId) → IsWaiting p → x.members ≢ [] → IsDecided (setup_answered_in x p good bad).phase
-answer_decides x (phase.Requested s stamp) true bad waits some = tt
-answer_decides x (phase.Requested s stamp) false bad waits some = (fail_decided x (remedy_after s) (slice_get x.members (bad_place x.members bad)) (place_there x.members bad some)).0
-answer_decides x other good bad waits some = absurd waits
+-- what comes is an answer, or the end
+pub answer_comes : (p : Phase) (x : Next) → IsNextIn p x → IsAnswerNext x
+answer_comes (phase.Accepted s stamp) (message m) h = absurd h
+answer_comes (phase.Accepted s stamp) the_end h = h
+answer_comes p x h = h
 
-end_decides : (x : WriterRecord) (p : Phase) → IsWaiting p → x.members ≢ [] → IsDecided (ended_as x (remedy_in p)).phase × (keeps_link (ended_as x (remedy_in p)).phase ≡ false)
+answer_decides : (x : WriterRecord) (p : Phase) (r : Response) (good : Bool) (bad : Option NodeId) → awaits p ≡ true → IsNextIn p (message (response r)) → x.members ≢ [] → IsDecided (setup_answered_in x p good bad).phase
+answer_decides x (phase.Requested s stamp) r true bad waits comes some = tt
+answer_decides x (phase.Requested s stamp) r false bad waits comes some = (fail_decided x (remedy_after s) (slice_get x.members (bad_place x.members bad)) (place_there x.members bad some)).0
+answer_decides x (phase.Accepted s stamp) r good bad waits comes some = absurd comes
+answer_decides x other r good bad waits comes some = cc
+
+accepted_decides : (x : WriterRecord) (s : Setup) → fits_accepted s true ≡ true → x.members ≢ [] → IsDecided (ended_as x (remedy_accepted s)).phase × (keeps_link (ended_as x (remedy_accepted s)).phase ≡ false)
+accepted_decides x setup.Create fits some = cc
+accepted_decides x setup.CloseRecovery fits some = cc
+accepted_decides x s fits some = fail_decided x (remedy_after s) (slice_get x.members 0) (first_there x.members some)
+
+end_decides : (x : WriterRecord) (p : Phase) → awaits p ≡ true → x.members ≢ [] → IsDecided (ended_as x (remedy_in p)).phase × (keeps_link (ended_as x (remedy_in p)).phase ≡ false)
 end_decides x (phase.Requested s stamp) waits some = fail_decided x (remedy_after s) (slice_get x.members 0) (first_there x.members some)
-end_decides x other waits some = absurd waits
+end_decides x (phase.Accepted s stamp) waits some = accepted_decides x s waits some
+end_decides x other waits some = cc
 
-pub told_decides : (x : WriterRecord) (a : Answer) → IsWaiting x.phase → x.members ≢ [] → IsDecided (told x a).phase
+pub heard_decides : (x : WriterRecord) (n : Next) → awaits x.phase ≡ true → IsNextIn x.phase n → x.members ≢ [] → IsDecided (writer_hears x n).phase
 unfolding setup_answered ended
-told_decides x (answer.Given r) waits some = answer_decides x x.phase (is_success r.status) (named_member x.members r.first_bad) waits some
-told_decides x answer.Ended waits some = (end_decides x x.phase waits some).0
+heard_decides x (message (response r)) waits comes some = answer_decides x x.phase r (is_success r.status) (clients.named_member x.members r.first_bad) waits comes some
+heard_decides x (message other) waits comes some = absurd (answer_comes x.phase (message other) comes)
+heard_decides x the_end waits comes some = (end_decides x x.phase waits some).0
 
-pub end_leaves : (x : WriterRecord) → IsWaiting x.phase → x.members ≢ [] → keeps_link (ended x).phase ≡ false
+pub end_leaves : (x : WriterRecord) → awaits x.phase ≡ true → x.members ≢ [] → keeps_link (ended x).phase ≡ false
 unfolding ended
 end_leaves x waits some = (end_decides x x.phase waits some).1
 
@@ -124,6 +140,15 @@ true_false h = cc
 -- what was received, and nothing that was looked at
 abbrev with_received : IncomingState → HeardState
 with_received s = record { received = s; next = None }
+
+-- where the end stands next it comes
+found_none : {I : Type 0} (i : link_in.Ghosts I) (r : Came Response) (received : IncomingState) (half half' : I) → i.held half ≡ Some (inbox_for the_end) → NextEnds responses i nothing_received received half half' r → looked.Known ≡ looked_of r → answer_of r ≡ None → ⊥
+found_none i (came.Message m) received half half' held ends known_so none = cc
+found_none i came.Unreadable received half half' held ends known_so none = cc
+found_none i came.End received half half' held ends known_so none = cc
+found_none i came.Failed received half half' held ends known_so none = cc
+found_none i came.NotYet received half half' held ends known_so none = let e : ◌≡◌ {A = Came Response} came.NotYet came.End = (end_came responses i received half half' came.NotYet held ends refl).is in cc
+found_none i came.Memory received half half' held ends known_so none = cc
 
 module _ {I O : Type 0} (i : link_in.Ghosts I) where
   takes_as : (known known' : WriterRecord) (seen held : Link I O) (a : Answer) (ended_so : Acted) → seen.heard.next ≡ Some a → Takes known known' seen held ended_so → TakesAs (Some a) known known' seen held ended_so
@@ -181,3 +206,9 @@ module _ {I O : Type 0} (i : link_in.Ghosts I) where
   answered x known known' l seen held ended_so spelled inbox none looks t =
       let r : Receives i nothing_heard seen.heard l.end.inward seen.end.inward looked.Known = subst (λ (h : HeardState). Looks i h.next h seen.heard l.end.inward seen.end.inward looked.Known) none looks.looks in
       answered_as x known known' l seen held ended_so r.came spelled inbox looks r.comes r.stands r.is t
+
+  -- Where the end stands next a look finds something.
+  pub finds : (l seen : Link I O) → i.held l.end.inward ≡ Some (inbox_for the_end) → l.heard ≡ nothing_heard → LooksAt i l seen looked.Known → seen.heard.next ≡ None → ⊥
+  finds l seen held none looks e =
+      let r : Receives i nothing_heard seen.heard l.end.inward seen.end.inward looked.Known = subst (λ (h : HeardState). Looks i h.next h seen.heard l.end.inward seen.end.inward looked.Known) none looks.looks in
+      found_none i r.came seen.heard.received l.end.inward seen.end.inward held r.comes r.is (sym r.stands ∙ e)

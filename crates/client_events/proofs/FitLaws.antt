@@ -24,7 +24,7 @@ use Rattle.pipe_recovery.specs.Acting.{MovesOn, has_own_step}
 use Rattle.pipe_recovery.specs.Asking.{Asks, AsksBy}
 use Rattle.pipe_recovery.specs.Reports.{failed_as, moved_if, Streams, Sees, Awaits, ReportsAccepted, ReportsAt, Reports}
 use Rattle.pipe_recovery.specs.Steps as recovery
-use Rattle.pipe_recovery.specs.Steps.{fits_in, fits_accepted, is_stamped, Acts, Waits, FollowsLook, TakesAs, HearsOrAsks, HearsGiven, HearsSeen, HearsNextAs, ElseAsks, GoesOn, StillFits, Steps}
+use Rattle.pipe_recovery.specs.Steps.{fits_in, fits_accepted, is_stamped, Acts, Waits, FollowsLook, TakesAs, HearsGiven, HearsSeen, HearsNextAs, ElseAsks, GoesOn, StillFits, Steps}
 use Rattle.writer_core.specs.declared.actions.Action.{Action}
 use Rattle.writer_core.specs.declared.actions.Action.TheVariants as action
 use Rattle.writer_core.specs.declared.commands.Command.{Command}
@@ -46,7 +46,7 @@ use Rattle.client_events.specs.declared.sending.Sending.{Sending}
 use Rattle.client_events.specs.declared.sending.Sending.TheVariants as sending
 use Rattle.client_events.specs.declared.acting.Said.{Said}
 use Rattle.client_events.specs.Acting.{AnswersIf}
-use Rattle.client_events.specs.Answering.{IsWaiting, piped}
+use Rattle.client_events.specs.Answering.{piped}
 use Rattle.client_events.specs.Committing.{IsAccepted, is_opened, IsReadOff}
 use Rattle.client_events.specs.Completing.{Puts, is_completed}
 use Rattle.client_events.specs.Events.{KeepsSetup, FitsCompleted}
@@ -222,16 +222,6 @@ module _ {I O : Type 0} where
   report_fits i a x old setup r left h e f n = report_fits_at i x.phase x old setup r left h e f n
 
 module _ {D R I O : Type 0} (d : desks.Ghosts D) (r : roads.Ghosts R I O) (i : link_in.Ghosts I) (o : link_out.Ghosts O) where
-  acts_unstamped : (p : Phase) (x x' : WriterRecord) (link link' : Option (Link I O)) (desk desk' : D) (road road' : R) (a : acting.Acted) → IsWaiting p → x.phase ≡ p → Acts d r i o p x x' link link' desk desk' road road' a → is_stamped x'.phase ≡ false
-  acts_unstamped (phase.Requested s stamp) x x' link link' desk desk' road road' a w e h = waits_unstamped i x x' link link' a s stamp e h.1.1
-  acts_unstamped p x x' link link' desk desk' road road' a w e h = absurd w
-
-  pub answer_fits : (known known' : WriterRecord) (setup taken setup' : Rebuild I O) (desk desk' : D) (road road' : R) (ends : RebuildStep I O) (result : Result (Pipe I O) ClientFault) → IsWaiting known.phase → Steps d r i o known known' taken.link setup'.link desk desk' road road' setup'.lost ends
-      → StillFits known'.phase (is_some setup'.link) ends → piped setup' ends ≡ result → FitsAfter known known' (pipe.SettingUp setup) result
-  answer_fits known known' setup taken setup' desk desk' road road' ends (Err why) waits steps fits is = tt
-  answer_fits known known' setup taken setup' desk desk' road road' ends (Ok left) waits steps fits is = λ k.
-      report_fits i steps.acted known' steps.kept setup' ends left steps.reports is fits (acts_unstamped known.phase known known' taken.link steps.held desk desk' road steps.middle steps.acted waits refl steps.acts)
-
   -- COMMITTING
 
   heard_as : (x after : WriterRecord) (next : Option Answer) (old new : Link I O) (heard : Option acting.Acted) → HearsNextAs next x after old new heard → is_stamped x.phase ≡ false → (is_stamped after.phase ≡ false) × (heard ≡ None → after ≡ x)
@@ -324,6 +314,19 @@ module _ {D R I O : Type 0} (d : desks.Ghosts D) (r : roads.Ghosts R I O) (i : l
   commit_fits known middle known' u u' desk desk' road road' ends held left said accepted steps fits is read answers =
       answered_fits (is_opened middle.phase) middle known' said left refl answers (read_fits middle.phase held left read
       (report_fits i steps.acted middle steps.kept u' ends held steps.reports is fits (commits_unstamped known.phase known middle u.link steps.held desk desk' road steps.middle steps.acted accepted refl steps.acts)))
+
+  -- HEARING THE ANSWER TO A REQUEST
+
+  acts_unstamped : (p : Phase) (x x' : WriterRecord) (link link' : Option (Link I O)) (desk desk' : D) (road road' : R) (a : acting.Acted) → awaits p ≡ true → x.phase ≡ p → Acts d r i o p x x' link link' desk desk' road road' a → is_stamped x'.phase ≡ false
+  acts_unstamped (phase.Requested s stamp) x x' link link' desk desk' road road' a w e h = waits_unstamped i x x' link link' a s stamp e h.1.1
+  acts_unstamped (phase.Accepted s stamp) x x' link link' desk desk' road road' a w e h = commits_unstamped (phase.Accepted s stamp) x x' link link' desk desk' road road' a tt e h
+  acts_unstamped p x x' link link' desk desk' road road' a w e h = cc
+
+  pub answer_fits : (known known' : WriterRecord) (setup taken setup' : Rebuild I O) (desk desk' : D) (road road' : R) (ends : RebuildStep I O) (result : Result (Pipe I O) ClientFault) → awaits known.phase ≡ true → Steps d r i o known known' taken.link setup'.link desk desk' road road' setup'.lost ends
+      → StillFits known'.phase (is_some setup'.link) ends → piped setup' ends ≡ result → FitsAfter known known' (pipe.SettingUp setup) result
+  answer_fits known known' setup taken setup' desk desk' road road' ends (Err why) waits steps fits is = tt
+  answer_fits known known' setup taken setup' desk desk' road road' ends (Ok left) waits steps fits is = λ k.
+      report_fits i steps.acted known' steps.kept setup' ends left steps.reports is fits (acts_unstamped known.phase known known' taken.link steps.held desk desk' road steps.middle steps.acted waits refl steps.acts)
 
 -- COMPLETING
 

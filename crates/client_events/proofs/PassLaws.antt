@@ -46,10 +46,10 @@ use Rattle.client_events.specs.declared.pipes.Pipe.{Pipe}
 use Rattle.client_events.specs.declared.pipes.Pipe.TheVariants as pipe
 use Rattle.client_events.specs.declared.sending.Sending.{Sending}
 use Rattle.client_events.specs.declared.sending.Sending.TheVariants as sending
-use Rattle.client_events.specs.Answering.{IsWaiting, piped}
+use Rattle.client_events.specs.Answering.{piped}
 use Rattle.client_events.specs.Committing.{IsAccepted, read_off}
 use Rattle.client_events.specs.Sending.{FollowsSending, IsFollowed}
-use Rattle.client_events.specs.Showing.{PipeIsKnown}
+use Rattle.client_events.specs.Showing.{awaits, PipeIsKnown}
 use Rattle.client_events.specs.Steps.{IsSettled}
 use Rattle.client_events.proofs.CommitLaws.{commit_call, commit_step, told_unstamped, asks_by, goes_not}
 
@@ -61,9 +61,10 @@ IsAsked (phase.Requested s stamp) linked = Unit {0}
 IsAsked (phase.Accepted s stamp) linked = fits_accepted s linked ≡ true
 IsAsked other linked = ⊥
 
-pub waits_asked : (p : Phase) → IsWaiting p → IsAsked p true
+pub waits_asked : (p : Phase) → awaits p ≡ true → IsAsked p true
 waits_asked (phase.Requested s stamp) ok = tt
-waits_asked other ok = absurd ok
+waits_asked (phase.Accepted s stamp) ok = ok
+waits_asked other ok = cc
 
 pub accepted_asked : (p : Phase) (linked : Bool) → IsAccepted p → fits_in p linked ≡ true → IsAsked p linked
 accepted_asked (phase.Accepted s stamp) linked ok fits = fits

@@ -188,7 +188,7 @@ module _ {R I O D : Type 0} (r : roads.Ghosts R I O) (i : link_in.Ghosts I) (o :
       → IsSending o text half link.end.outward (Err why) → y ≡ ended (dialled x true) → x.phase ≡ phase.Stamped s stamp → x.members ≢ [] → SettlesTold r i o (keeps_link y.phase) (Some link) kept middle road' false → r.risen road' net.conns ≡ true
   lost_risen net port x y fresh link half text link_error.Failed kept s stamp road middle road' at dials keeps sent is h some settles =
       let z : WriterRecord = record x { phase = phase.Requested s stamp } in
-      let off : keeps_link y.phase ≡ false = ap (λ (q : WriterRecord). keeps_link q.phase) (is ∙ ap ended (asked_phase x s stamp h)) ∙ end_leaves z tt some in
+      let off : keeps_link y.phase ≡ false = ap (λ (q : WriterRecord). keeps_link q.phase) (is ∙ ap ended (asked_phase x s stamp h)) ∙ end_leaves z refl some in
       let t : SettlesTold r i o false (Some link) kept middle road' false = subst (λ (q : Bool). SettlesTold r i o q (Some link) kept middle road' false) off settles in
       let g = t.settles.1 in
       let brings : BringsEnd r i o g.shut middle road' (Ok tt) = subst (λ (q : Result (Unit {0}) RoadError). BringsEnd r i o g.shut middle road' q) (ok_result g.result t.told) g.brings in

@@ -1,4 +1,4 @@
--- What a writer hears that waits for the answer to its request.
+-- What a writer hears that waits on the connection of its setup.
 use Rattle.std.specs.Prelude.{ℕ, Bool, false, option_map, Option, Some, None, Result, Ok, Err}
 use Rattle.hd_base.specs.declared.numbers.ConnId.{ConnId}
 use Rattle.hd_base.specs.declared.links.LinkIn as link_in

@@ -23,6 +23,7 @@ use Rattle.world.specs.Events.{happens, is_enabled}
 use Rattle.world_nets.specs.Drawn.{ComesUp}
 use Rattle.world_nets.specs.Nets.{is_over}
 use Rattle.writer_core.specs.declared.actions.Action.TheVariants as action
+use Rattle.writer_core.specs.declared.phases.Phase.{Phase}
 use Rattle.writer_core.specs.declared.phases.Phase.TheVariants as phase
 use Rattle.writer_core.specs.declared.records.WriterRecord.{WriterRecord}
 use Rattle.writer_core.specs.Transitions.{Step, given, own_step, is_connected}
@@ -36,7 +37,6 @@ use Rattle.client_events.specs.declared.pipes.Pipe.{Pipe}
 use Rattle.client_events.specs.declared.pipes.Pipe.TheVariants as pipe
 use Rattle.pipe_recovery.specs.declared.rebuilding.Rebuild.{Rebuild}
 use Rattle.client_events.specs.Acting.{said_in}
-use Rattle.client_events.specs.Answering.{IsWaiting}
 use Rattle.client_events.specs.Faults.{IsCaused}
 use Rattle.client_events.specs.Showing.{ClientStands, ClientLeft, StayShown, awaits, PipeFits}
 
@@ -169,14 +169,20 @@ IsAnswerNext (message (response r)) = SpellsText (response r)
 IsAnswerNext (message other) = ⊥
 IsAnswerNext the_end = Unit {0}
 
--- The writer of a block waits for the answer to its request, and takes what stands next on its connection. That it has
--- members then, and that this is an answer, holds after all events (messages_are_taken_in_order).
+-- The same where the writer is here. Once the request was accepted only the end comes.
+abbrev pub IsNextIn : Phase → Next → Type 0
+IsNextIn (phase.Accepted s stamp) (message m) = ⊥
+IsNextIn p x = IsAnswerNext x
+
+-- The writer of a block waits on the connection of its setup, and takes what stands next there. That it has members
+-- then (writers_rest), and that this is an answer (messages_are_taken_in_order), or the end where the request was
+-- accepted (nothing_comes_early), holds after all events.
 pub record CanHearAnswer (w : World) (conn : ConnId) (b : ℕ) (known : WriterRecord) (x : Next) : Type 0 where
   pub comes : ComesUp w conn.0 x
   pub conn_is : (w.writers b).conn ≡ Some conn.0
   pub upper : (w.dialled conn.0).upper ≡ by_writer b
-  pub answers : IsAnswerNext x
-  pub waits : IsWaiting known.phase
+  pub answers : IsNextIn known.phase x
+  pub waits : awaits known.phase ≡ true
   pub members : known.members ≢ []
 
 abbrev pub AnswerShows : {R I O : Type 0} → roads.Ghosts R I O → link_in.Ghosts I → link_out.Ghosts O → WriterRecord →
@@ -185,6 +191,14 @@ AnswerShows r i o known known' setup road road' result =
     (w : World) (net : Net) (b : ℕ) (office : OfficeState) (conn : ConnId) (x : Next) →
     ClientStands r i o w net b office known (pipe.SettingUp setup) road → CanHearAnswer w conn b known x
     → EventEnds r i o w net (happens w (event.Up conn)) b office known' road road' result
+
+-- The office is as it was: what stands next is taken before a stamp is committed.
+abbrev pub AnswerKeepsOffice : {D R I O : Type 0} → roads.Ghosts R I O → link_in.Ghosts I → link_out.Ghosts O →
+    WriterRecord → Rebuild I O → R → D → D → Type 0
+AnswerKeepsOffice r i o known setup road desk desk' =
+    (w : World) (net : Net) (b : ℕ) (office : OfficeState) (conn : ConnId) (x : Next) →
+    ClientStands r i o w net b office known (pipe.SettingUp setup) road → CanHearAnswer w conn b known x
+    → desk' ≡ desk
 
 -- COMMITTING
 

@@ -1,12 +1,12 @@
-//! What a writer hears that waits for the answer to its request.
+//! What a writer hears that waits on the connection of its setup.
 
 ghost use Rattle.std.specs.Prelude.{◌≡◌, true, IfOk, is_some};
 ghost use Rattle.pipe_recovery.specs.Dialling.{LinkIsKnown};
 ghost use Rattle.member_events.specs.Roads.{RoadsPass};
 ghost use Rattle.client_events.specs.Answering.{IsWaiting, TakesLink, is_risen, piped};
 ghost use Rattle.client_events.specs.declared.pipes.Pipe.TheVariants.{SettingUp};
-ghost use Rattle.client_events.specs.Events.{AnswerShows};
-ghost use Rattle.client_events.specs.Showing.{FitsAfter, PipeIsKnown};
+ghost use Rattle.client_events.specs.Events.{AnswerShows, AnswerKeepsOffice};
+ghost use Rattle.client_events.specs.Showing.{FitsAfter, PipeIsKnown, awaits};
 
 use crate::faults::{ClientFault, road_fault};
 use crate::pipes::Pipe;
@@ -16,7 +16,8 @@ use pipe_recovery::{Rebuild, RebuildStep, Rebuilt};
 use std::alloc::Global;
 use writer_core::Writer;
 
-/// A writer that waits for the answer to its request takes what stands next on its connection: the answer, or the end.
+/// A writer that waits on the connection of its setup takes what stands next there: the answer to its request, or the
+/// end, which it may take before a stamp is committed too. The office isn't asked while something stands next.
 pub fn hear_answer<D: Desk, I: LinkIn, O: LinkOut, R: Roads<Inward = I, Outward = O>>(
     alloc: Global,
     roads: &mut R,
@@ -24,12 +25,13 @@ pub fn hear_answer<D: Desk, I: LinkIn, O: LinkOut, R: Roads<Inward = I, Outward 
     writer: &mut Writer,
     setup: Rebuild<I, O>,
 ) -> Result<Pipe<I, O>, ClientFault>
-    requires waits { IsWaiting writer.old.phase }
+    requires waits { awaits writer.old.phase ≡ true }
     requires linked { is_some setup.link ≡ true }
     requires known { LinkIsKnown (R.plain roads.old) setup.link }
     ensures shows { AnswerShows R.Roads I.LinkIn O.LinkOut writer.old writer.new setup roads.old roads.new result }
     ensures fits { FitsAfter writer.old writer.new (SettingUp setup) result }
-    ensures office { office.new ≡ office.old }
+    ensures office { AnswerKeepsOffice R.Roads I.LinkIn O.LinkOut writer.old setup roads.old office.old office.new }
+    ensures quiet { IsWaiting writer.old.phase → office.new ≡ office.old }
     ensures pass { RoadsPass R.Roads roads.old roads.new }
     ensures known { IfOk result (λ left. PipeIsKnown (R.plain roads.new) left) }
 {

@@ -8,6 +8,7 @@ use Rattle.hd_base.specs.declared.links.LinkOut as link_out
 use Rattle.hd_base.specs.declared.roads.Roads as roads
 use Rattle.name_core.specs.declared.desks.Desk as desks
 use Rattle.pipe_recovery.specs.declared.links.Link.{Link}
+use Rattle.pipe_recovery.specs.declared.rebuilding.Rebuild.{Rebuild}
 use Rattle.pipe_recovery.specs.Steps.{fits_in, is_stamped}
 use Rattle.road_traffic.specs.Showing.{Net}
 use Rattle.world.specs.declared.events.Event.TheVariants as event
@@ -20,7 +21,7 @@ use Rattle.world.specs.Enabled.{takes_above}
 use Rattle.world_nets.specs.Drawn.{ComesUp, HearsPipe, hears_as}
 use Rattle.world_nets.proofs.DrawnLemmas.{up-makes}
 use Rattle.world_orders.specs.Orders as orders
-use Rattle.world_orders.specs.Orders.{Ordered, IsWriterConn, WriterIs, HasTaken, comes_up, pipeline, is_requested, has_members}
+use Rattle.world_orders.specs.Orders.{Ordered, IsWriterConn, HasTaken, comes_up, pipeline, is_requested}
 use Rattle.world_orders.specs.Takes.{TakesInOrder}
 use Rattle.world_orders.proofs.AllOrdered.{next-found}
 use Rattle.world_texts.specs.Texts.{Written, SpellsText}
@@ -35,15 +36,14 @@ use Rattle.client_events.specs.declared.faults.ClientFault.{ClientFault}
 use Rattle.client_events.specs.declared.faults.ClientFault.TheVariants as fault
 use Rattle.client_events.specs.declared.pipes.Pipe.{Pipe}
 use Rattle.client_events.specs.declared.pipes.Pipe.TheVariants as pipe
-use Rattle.client_events.specs.Answering.{IsWaiting}
 use Rattle.client_events.specs.Events as events
 use Rattle.client_events.specs.Faults as faults
 use Rattle.client_events.specs.Showing as showing
-use Rattle.client_events.specs.Showing.{PipeShows, LinkShows, awaits, PipeFits}
+use Rattle.client_events.specs.Showing.{LinkShows, awaits, PipeFits}
 use Rattle.play_clients.specs.declared.clients.Client.{Client}
 use Rattle.play_clients.specs.Clients.{known_of, said_as, ClientShows}
-use Rattle.play_clients.specs.Events.{IsCaused, IsUncommitted, HearIsLawful, HearLeft, HearShows}
-use Rattle.play_clients.specs.Hearing.{awaits_answer, SetupHearsIf, PipeHears}
+use Rattle.play_clients.specs.Events.{IsCaused, HearIsLawful, AcceptedIsQuiet, HearLeft, HearShows, HearKeepsOffice}
+use Rattle.play_clients.specs.Hearing.{SetupHearsIf, PipeHears}
 
 -- WHAT IS DUE
 
@@ -139,10 +139,13 @@ waits_on (phase.Accepted s stamp) true f k e = f
 waits_on p false f k e = cc
 waits_on p true f k e = cc
 
-waits_so : (p : Phase) → IsUncommitted p → awaits p ≡ true → (awaits_answer p ≡ true) × ((is_requested p ≡ true) × IsWaiting p)
-waits_so (phase.Requested s stamp) u h = (refl, (refl, tt))
-waits_so (phase.Accepted s stamp) u h = absurd u
-waits_so p u h = cc
+-- A writer that waits on the connection of its setup hears the answer to its request, or the end; just the end once the
+-- request was accepted.
+next_in : (w : World) (b c : ℕ) (x : Next) (p : Phase) → (w.writers b).known.phase ≡ p → awaits p ≡ true → TakesInOrder w → Written w → AcceptedIsQuiet w b → (w.writers b).conn ≡ Some c → next_up w c ≡ Some x → events.IsNextIn p x
+next_in w b c x (phase.Requested s stamp) at waits taken written quiet conn next = answer_next w b c x taken written conn (ap is_requested at) next
+next_in w b c (message m) (phase.Accepted s stamp) at waits taken written quiet conn next = quiet.quiet c s stamp m at conn next
+next_in w b c the_end (phase.Accepted s stamp) at waits taken written quiet conn next = tt
+next_in w b c x p at waits taken written quiet conn next = cc
 
 members_so : (p : Phase) (members : List NodeId) (taken : ℕ) → is_requested p ≡ true → HasTaken p members taken → members ≢ []
 members_so (phase.Requested s stamp) [] taken w h = cc
@@ -159,6 +162,12 @@ writer_conn w b c (Some d) p e h = subst (λ (n : ℕ). IsWriterConn (w.dialled 
 requested_members : (w : World) (b c : ℕ) → Ordered w → (w.writers b).conn ≡ Some c → is_requested (w.writers b).known.phase ≡ true → (w.writers b).known.members ≢ []
 requested_members w b c ordered conn waits =
     members_so (w.writers b).known.phase (w.writers b).known.members (w.up_marks c).taken waits (writer_conn w b c (w.writers b).conn (w.writers b).known conn (ordered.writers_are b)).heard
+
+-- So has one whose request was accepted.
+members_in : (w : World) (b c : ℕ) (p : Phase) → (w.writers b).known.phase ≡ p → awaits p ≡ true → Ordered w → AcceptedIsQuiet w b → (w.writers b).conn ≡ Some c → (w.writers b).known.members ≢ []
+members_in w b c (phase.Requested s stamp) at waits ordered quiet conn = requested_members w b c ordered conn (ap is_requested at)
+members_in w b c (phase.Accepted s stamp) at waits ordered quiet conn = quiet.members s stamp at
+members_in w b c p at waits ordered quiet conn = cc
 
 -- WHAT WAS SAID
 
@@ -201,10 +210,30 @@ module _ {D R I O : Type 0} (d : desks.Ghosts D) (r : roads.Ghosts R I O) (i : l
   ends_with w net v b known known' p road road' (Ok left) fits after h = (h, after fits)
   ends_with w net v b known known' p road road' (Err why) fits after h = h
 
-  pipe_ends : (w : World) (net : Net) (queues : Queues) (conn : ConnId) (b : ℕ) (known known' : WriterRecord) (p : Pipe I O) (road road' : R) (result : Result (Pipe I O) ClientFault) → showing.ClientStands r i o w net b w.office known p road → PipeFits known.phase p → HearIsLawful w b
-      → HearsAt w conn.0 b → (w.dialled conn.0).upper ≡ by_writer b → IsUncommitted known.phase → PipeHears r i o known known' p road road' result → PipeEnds w net (happens w (event.Up conn)) b known' road road' result
-  pipe_ends w net queues conn b known known' pipe.Closed road road' result stands fits lawful at upper un hears = absurd (none_some conn.0 (sym stands.pipe_is ∙ at.conn))
-  pipe_ends w net queues conn b known known' (pipe.Streaming end incoming) road road' result stands fits lawful at upper un hears =
+  -- A writer whose setup has the connection may take what stands next there.
+  can_answer : (w : World) (net : Net) (conn : ConnId) (b : ℕ) (known : WriterRecord) (setup : Rebuild I O) (road : R) → showing.ClientStands r i o w net b w.office known (pipe.SettingUp setup) road → awaits known.phase ≡ true → HearIsLawful w b → (at : HearsAt w conn.0 b) → (w.dialled conn.0).upper ≡ by_writer b → AcceptedIsQuiet w b
+      → events.CanHearAnswer w conn b known at.next
+  can_answer w net conn b known setup road stands waits lawful at upper quiet =
+      let same : (w.writers b).known.phase ≡ known.phase = ap (λ (x : WriterRecord). x.phase) (sym stands.writer) in
+      record {
+        comes = at.comes;
+        conn_is = at.conn;
+        upper = upper;
+        answers = next_in w b conn.0 at.next known.phase same waits lawful.taken lawful.written quiet at.conn at.comes.next;
+        waits = waits;
+        members = subst (λ (x : WriterRecord). x.members ≢ []) (sym stands.writer) (members_in w b conn.0 known.phase same waits lawful.ordered quiet at.conn);
+      }
+
+  setup_waits : (w : World) (net : Net) (conn : ConnId) (b : ℕ) (known : WriterRecord) (setup : Rebuild I O) (road : R) → showing.ClientStands r i o w net b w.office known (pipe.SettingUp setup) road → PipeFits known.phase (pipe.SettingUp setup) → HearsAt w conn.0 b → (awaits known.phase ≡ true) × ((awaits known.phase && is_some setup.link) ≡ true)
+  setup_waits w net conn b known setup road stands fits at =
+      let held : is_some setup.link ≡ true = linked i o w net (w.writers b).conn conn.0 setup.link at.conn stands.pipe_is in
+      let waits : awaits known.phase ≡ true = waits_on known.phase (is_some setup.link) fits.0 fits.1 held in
+      (waits, both_of (awaits known.phase) (is_some setup.link) waits held)
+
+  pipe_ends : (w : World) (net : Net) (queues : Queues) (conn : ConnId) (b : ℕ) (known known' : WriterRecord) (p : Pipe I O) (desk desk' : D) (road road' : R) (result : Result (Pipe I O) ClientFault) → showing.ClientStands r i o w net b w.office known p road → PipeFits known.phase p → HearIsLawful w b
+      → HearsAt w conn.0 b → (w.dialled conn.0).upper ≡ by_writer b → AcceptedIsQuiet w b → PipeHears r i o known known' p desk desk' road road' result → PipeEnds w net (happens w (event.Up conn)) b known' road road' result
+  pipe_ends w net queues conn b known known' pipe.Closed desk desk' road road' result stands fits lawful at upper quiet hears = absurd (none_some conn.0 (sym stands.pipe_is ∙ at.conn))
+  pipe_ends w net queues conn b known known' (pipe.Streaming end incoming) desk desk' road road' result stands fits lawful at upper quiet hears =
       let same : conn ≡ end.id = conn_same conn end.id (some_same conn.0 end.id.0 (sym at.conn ∙ stands.pipe_is.conn_is)) in
       ends_with w net (happens w (event.Up conn)) b known known' (pipe.Streaming end incoming) road road' result fits hears.1
       (subst (λ (e : ConnId). events.EventEnds r i o w net (happens w (event.Up e)) b w.office known' road road' result) (sym same)
@@ -219,21 +248,21 @@ module _ {D R I O : Type 0} (d : desks.Ghosts D) (r : roads.Ghosts R I O) (i : l
 
       conn_same : (a b : ConnId) → a.0 ≡ b.0 → a ≡ b
       conn_same a b e = ap (λ (n : ℕ). record { 0 = n }) e
-  pipe_ends w net queues conn b known known' (pipe.SettingUp setup) road road' result stands fits lawful at upper un hears =
-      let held : is_some setup.link ≡ true = linked i o w net (w.writers b).conn conn.0 setup.link at.conn stands.pipe_is in
-      let waits = waits_so known.phase un (waits_on known.phase (is_some setup.link) fits.0 fits.1 held) in
-      let test : (awaits_answer known.phase && is_some setup.link) ≡ true = both_of (awaits_answer known.phase) (is_some setup.link) waits.0 held in
-      let does = subst (λ (q : Bool). SetupHearsIf r i o q known known' setup road road' result) test hears in
-      let asked : is_requested (w.writers b).known.phase ≡ true = ap (λ (x : WriterRecord). is_requested x.phase) (sym stands.writer) ∙ waits.1.0 in
+  pipe_ends w net queues conn b known known' (pipe.SettingUp setup) desk desk' road road' result stands fits lawful at upper quiet hears =
+      let waits = setup_waits w net conn b known setup road stands fits at in
+      let does = subst (λ (q : Bool). SetupHearsIf r i o q known known' setup desk desk' road road' result) waits.1 hears in
       ends_with w net (happens w (event.Up conn)) b known known' (pipe.SettingUp setup) road road' result fits does.1
-      (does.0 w net b w.office conn at.next stands (record {
-        comes = at.comes;
-        conn_is = at.conn;
-        upper = upper;
-        answers = answer_next w b conn.0 at.next lawful.taken lawful.written at.conn asked at.comes.next;
-        waits = waits.1.1;
-        members = subst (λ (x : WriterRecord). x.members ≢ []) (sym stands.writer) (requested_members w b conn.0 lawful.ordered at.conn asked);
-      }))
+      (does.0 w net b w.office conn at.next stands (can_answer w net conn b known setup road stands waits.0 lawful at upper quiet))
+
+  -- The office is as it was.
+  pipe_keeps : (w : World) (net : Net) (conn : ConnId) (b : ℕ) (known known' : WriterRecord) (p : Pipe I O) (desk desk' : D) (road road' : R) (result : Result (Pipe I O) ClientFault) → showing.ClientStands r i o w net b w.office known p road → PipeFits known.phase p → HearIsLawful w b
+      → HearsAt w conn.0 b → (w.dialled conn.0).upper ≡ by_writer b → AcceptedIsQuiet w b → PipeHears r i o known known' p desk desk' road road' result → desk' ≡ desk
+  pipe_keeps w net conn b known known' pipe.Closed desk desk' road road' result stands fits lawful at upper quiet hears = hears.3
+  pipe_keeps w net conn b known known' (pipe.Streaming end incoming) desk desk' road road' result stands fits lawful at upper quiet hears = hears.2
+  pipe_keeps w net conn b known known' (pipe.SettingUp setup) desk desk' road road' result stands fits lawful at upper quiet hears =
+      let waits = setup_waits w net conn b known setup road stands fits at in
+      let does = subst (λ (q : Bool). SetupHearsIf r i o q known known' setup desk desk' road road' result) waits.1 hears in
+      does.2 w net b w.office conn at.next stands (can_answer w net conn b known setup road stands waits.0 lawful at upper quiet)
 
   risen_at : (risen : ℕ → Bool) (conn : Option ℕ) → faults.HasRisen risen conn → (c : ℕ) × (risen c ≡ true)
   risen_at risen None h = absurd h
@@ -262,33 +291,42 @@ module _ {D R I O : Type 0} (d : desks.Ghosts D) (r : roads.Ghosts R I O) (i : l
     queue = refl;
   }
 
-  pub heard_left : (old : Client I O) (known known' : WriterRecord) (left : Pipe I O) (desk : D) (road road' : R) → old.writer ≡ Some known → PipeHears r i o known known' old.pipe road road' (Ok left)
+  pub heard_left : (old : Client I O) (known known' : WriterRecord) (left : Pipe I O) (desk desk' : D) (road road' : R) → old.writer ≡ Some known → PipeHears r i o known known' old.pipe desk desk' road road' (Ok left)
       → HearShows d r i o old (record old { writer = Some known'; pipe = left }) desk road road' (Ok tt)
-  heard_left old known known' left desk road road' is hears = λ w net queues conn stands lawful due upper un.
+  heard_left old known known' left desk desk' road road' is hears = λ w net queues conn stands lawful due upper quiet.
       let b : ℕ = old.block.0 in
       let at : HearsAt w conn.0 b = hears_at w conn b queues upper due in
       let c : ClientShows i o w net old = stands.client_is in
       let known_is : known ≡ (w.writers b).known = sym (c.writer ∙ ap (known_of old.block) is) in
-      let h = pipe_ends w net queues conn b known known' old.pipe road road' (Ok left) (record { roads_are = stands.roads_are; writer = known_is; told = c.told; pipe_is = c.pipe_is; office_is = refl })
-      (subst (λ (x : Option WriterRecord). PipeFits (known_of old.block x).phase old.pipe) is c.fits) lawful at upper (subst (λ (x : WriterRecord). IsUncommitted x.phase) (sym known_is) un) hears in
+      let h = pipe_ends w net queues conn b known known' old.pipe desk desk' road road' (Ok left) (record { roads_are = stands.roads_are; writer = known_is; told = c.told; pipe_is = c.pipe_is; office_is = refl })
+      (subst (λ (x : Option WriterRecord). PipeFits (known_of old.block x).phase old.pipe) is c.fits) lawful at upper quiet hears in
       left_shows w net (happens w (event.Up conn)) old known' left desk road' (heard_said w conn b at.next at.comes at.heard) c.said stands.office_is h.0 h.1
 
-  pub heard_failed : (old new : Client I O) (known known' : WriterRecord) (desk : D) (road road' : R) (why : ClientFault) (end : Result (Unit {0}) ClientFault) → old.writer ≡ Some known → PipeHears r i o known known' old.pipe road road' (Err why) → FailsAs why end
+  pub heard_failed : (old new : Client I O) (known known' : WriterRecord) (desk desk' : D) (road road' : R) (why : ClientFault) (end : Result (Unit {0}) ClientFault) → old.writer ≡ Some known → PipeHears r i o known known' old.pipe desk desk' road road' (Err why) → FailsAs why end
       → HearShows d r i o old new desk road road' end
-  heard_failed old new known known' desk road road' why (Ok u) is hears fails = absurd fails
-  heard_failed old new known known' desk road road' why (Err other) is hears fails = λ w net queues conn stands lawful due upper un.
+  heard_failed old new known known' desk desk' road road' why (Ok u) is hears fails = absurd fails
+  heard_failed old new known known' desk desk' road road' why (Err other) is hears fails = λ w net queues conn stands lawful due upper quiet.
       let b : ℕ = old.block.0 in
       let at : HearsAt w conn.0 b = hears_at w conn b queues upper due in
       let c : ClientShows i o w net old = stands.client_is in
       let known_is : known ≡ (w.writers b).known = sym (c.writer ∙ ap (known_of old.block) is) in
-      subst (λ (e : ClientFault). IsCaused r road road' e) (sym fails) (caused (w.writers b).conn road road' why (pipe_ends w net queues conn b known known' old.pipe road road' (Err why)
+      subst (λ (e : ClientFault). IsCaused r road road' e) (sym fails) (caused (w.writers b).conn road road' why (pipe_ends w net queues conn b known known' old.pipe desk desk' road road' (Err why)
       (record { roads_are = stands.roads_are; writer = known_is; told = c.told; pipe_is = c.pipe_is; office_is = refl })
-      (subst (λ (x : Option WriterRecord). PipeFits (known_of old.block x).phase old.pipe) is c.fits) lawful at upper (subst (λ (x : WriterRecord). IsUncommitted x.phase) (sym known_is) un) hears))
+      (subst (λ (x : Option WriterRecord). PipeFits (known_of old.block x).phase old.pipe) is c.fits) lawful at upper quiet hears))
 
   -- A writer that was given nothing has no connection.
   pub unmade_deaf : (old : Client I O) (desk : D) (road : R) → old.writer ≡ None → HearShows d r i o old old desk road road (Ok tt)
-  unmade_deaf old desk road is = λ w net queues conn stands lawful due upper un.
+  unmade_deaf old desk road is = λ w net queues conn stands lawful due upper quiet.
       let b : ℕ = old.block.0 in
       let at : HearsAt w conn.0 b = hears_at w conn b queues upper due in
       let phase_is : is_connected (w.writers b).known.phase ≡ false = ap (λ (x : WriterRecord). is_connected x.phase) (stands.client_is.writer ∙ ap (known_of old.block) is) in
       absurd (none_some conn.0 (sym (lawful.rests phase_is) ∙ at.conn))
+
+  pub hear_keeps : (old : Client I O) (known known' : WriterRecord) (desk desk' : D) (road road' : R) (result : Result (Pipe I O) ClientFault) → old.writer ≡ Some known → PipeHears r i o known known' old.pipe desk desk' road road' result → HearKeepsOffice d r i o old desk desk' road
+  hear_keeps old known known' desk desk' road road' result is hears = λ w net queues conn stands lawful due upper quiet.
+      let b : ℕ = old.block.0 in
+      let at : HearsAt w conn.0 b = hears_at w conn b queues upper due in
+      let c : ClientShows i o w net old = stands.client_is in
+      let known_is : known ≡ (w.writers b).known = sym (c.writer ∙ ap (known_of old.block) is) in
+      pipe_keeps w net conn b known known' old.pipe desk desk' road road' result (record { roads_are = stands.roads_are; writer = known_is; told = c.told; pipe_is = c.pipe_is; office_is = refl })
+      (subst (λ (x : Option WriterRecord). PipeFits (known_of old.block x).phase old.pipe) is c.fits) lawful at upper quiet hears

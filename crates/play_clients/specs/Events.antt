@@ -3,6 +3,7 @@ use Rattle.std.specs.Prelude.{◌≡◌, ◌≢◌, ◌≤◌, ◌+◌, ◌++◌
 use Rattle.hd_base.specs.Faults.{FaultsIncreased}
 use Rattle.hd_base.specs.declared.numbers.BlockId.{BlockId}
 use Rattle.hd_base.specs.declared.numbers.ConnId.{ConnId}
+use Rattle.hd_base.specs.declared.numbers.Stamp.{Stamp}
 use Rattle.hd_base.specs.declared.links.LinkIn as link_in
 use Rattle.hd_base.specs.declared.links.LinkOut as link_out
 use Rattle.hd_base.specs.declared.roads.Roads as roads
@@ -14,8 +15,9 @@ use Rattle.world.specs.declared.events.Caller.TheVariants as caller
 use Rattle.world.specs.declared.events.Event.{Event}
 use Rattle.world.specs.declared.events.Event.TheVariants as event
 use Rattle.world.specs.declared.events.TakenCommand.{TakenCommand}
-use Rattle.world.specs.Parts.{by_writer, idle}
+use Rattle.world.specs.Parts.{Message, by_writer, idle}
 use Rattle.world.specs.Worlds.{World}
+use Rattle.world.specs.Connections.{message, next_up}
 use Rattle.world.specs.Events.{happens, is_enabled, run}
 use Rattle.world_nets.specs.Nets.{IsEndOf, is_over}
 use Rattle.world_orders.specs.Orders.{Ordered}
@@ -25,8 +27,10 @@ use Rattle.writer_core.specs.declared.commands.Command.{Command}
 use Rattle.writer_core.specs.declared.commands.Command.TheVariants as command
 use Rattle.writer_core.specs.declared.phases.Phase.{Phase}
 use Rattle.writer_core.specs.declared.phases.Phase.TheVariants as phase
+use Rattle.writer_core.specs.declared.phases.Setup.{Setup}
 use Rattle.writer_core.specs.declared.records.WriterRecord.{WriterRecord}
 use Rattle.writer_core.specs.Transitions.{has_command_due, is_connected, own_step}
+use Rattle.pipe_recovery.specs.Steps.{fits_accepted}
 use Rattle.play_model.specs.declared.dues.Due.TheVariants as due
 use Rattle.play_model.specs.Dues.{Queues, is_due, due_events, queues_after}
 use Rattle.client_events.specs.declared.faults.ClientFault.{ClientFault}
@@ -52,10 +56,10 @@ IsCaused r road road' fault.Memory = Unit {0}
 
 -- HEARING
 
--- Nothing is to be committed.
-abbrev pub IsUncommitted : Phase → Type 0
-IsUncommitted (phase.Accepted s stamp) = ⊥
-IsUncommitted other = Unit {0}
+-- No stamp is to be committed over the connection of a setup.
+abbrev pub NoneToCommit : Phase → Type 0
+NoneToCommit (phase.Accepted s stamp) = fits_accepted s true ≡ false
+NoneToCommit other = Unit {0}
 
 -- What holds of each world before the event, whatever happened before: messages come in order
 -- (messages_come_in_order), whoever takes one knows its kind (messages_are_taken_in_order), each is spelled as it is
@@ -65,6 +69,15 @@ pub record HearIsLawful (w : World) (b : ℕ) : Type 0 where
   pub taken : TakesInOrder w
   pub written : Written w
   pub rests : is_connected (w.writers b).known.phase ≡ false → (w.writers b).conn ≡ None
+
+-- Where the request of a block's writer was accepted, and it has sent no packet yet, the writer has members
+-- (writers_rest), and no message stands next for it: nothing does, or the end (nothing_comes_early).
+pub record AcceptedIsQuiet (w : World) (b : ℕ) : Type 0 where
+  pub members : (s : Setup) (stamp : Stamp) → (w.writers b).known.phase ≡ phase.Accepted s stamp →
+      (w.writers b).known.members ≢ []
+  pub quiet : (c : ℕ) (s : Setup) (stamp : Stamp) (m : Message) →
+      (w.writers b).known.phase ≡ phase.Accepted s stamp → (w.writers b).conn ≡ Some c →
+      next_up w c ≡ Some (message m) → ⊥
 
 -- What a writer hears leaves the client as its commands were.
 pub record HearLeft {D R I O : Type 0} (d : desks.Ghosts D) (r : roads.Ghosts R I O) (i : link_in.Ghosts I)
@@ -84,9 +97,18 @@ abbrev pub HearShows : {D R I O : Type 0} → desks.Ghosts D → roads.Ghosts R 
     link_out.Ghosts O → Client I O → Client I O → D → R → R → Result (Unit {0}) ClientFault → Type 0
 HearShows d r i o old new desk road road' result =
     (w : World) (net : Net) (queues : Queues) (conn : ConnId) → ClientStands d r i o w net old desk road →
-    HearIsLawful w old.block.0 → is_due w queues (due.Up conn) ≡ true → (w.dialled conn.0).upper ≡ by_writer old.block.0 →
-    IsUncommitted (w.writers old.block.0).known.phase
+    HearIsLawful w old.block.0 → is_due w queues (due.Up conn) ≡ true →
+    (w.dialled conn.0).upper ≡ by_writer old.block.0 → AcceptedIsQuiet w old.block.0
     → HearEnds d r i o w net (happens w (event.Up conn)) old new desk road road' result
+
+-- The office is as it was, whatever happened: what stands next is taken before a stamp is committed.
+abbrev pub HearKeepsOffice : {D R I O : Type 0} → desks.Ghosts D → roads.Ghosts R I O → link_in.Ghosts I →
+    link_out.Ghosts O → Client I O → D → D → R → Type 0
+HearKeepsOffice d r i o old desk desk' road =
+    (w : World) (net : Net) (queues : Queues) (conn : ConnId) → ClientStands d r i o w net old desk road →
+    HearIsLawful w old.block.0 → is_due w queues (due.Up conn) ≡ true →
+    (w.dialled conn.0).upper ≡ by_writer old.block.0 → AcceptedIsQuiet w old.block.0
+    → desk' ≡ desk
 
 -- OWN STEPS
 

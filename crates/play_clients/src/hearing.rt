@@ -2,10 +2,11 @@
 
 ghost use Rattle.std.specs.Prelude.{◌≡◌, IfOk};
 ghost use Rattle.member_events.specs.Roads.{RoadsPass};
-ghost use Rattle.client_events.specs.Showing.{PipeIsKnown};
+ghost use Rattle.client_events.specs.Showing.{PipeIsKnown, awaits};
 ghost use Rattle.pipe_recovery.specs.Dialling.{LinkIsKnown};
-ghost use Rattle.play_clients.specs.Hearing.{awaits_answer, SetupHears, PipeHears};
-ghost use Rattle.play_clients.specs.Events.{HearShows};
+ghost use Rattle.play_clients.specs.Clients.{known_of};
+ghost use Rattle.play_clients.specs.Hearing.{SetupHears, PipeHears};
+ghost use Rattle.play_clients.specs.Events.{HearShows, HearKeepsOffice, NoneToCommit};
 ghost use Rattle.play_clients.specs.Passing.{ClientPasses};
 
 use crate::clients::Client;
@@ -15,7 +16,7 @@ use name_core::Desk;
 use pipe_recovery::Rebuild;
 use std::alloc::Global;
 use std::mem;
-use writer_core::{Phase, Writer};
+use writer_core::{Phase, Setup, Writer};
 
 impl<I: LinkIn, O: LinkOut> Client<I, O> {
     /// The writer takes what stands next on its connection. Nothing is done where it has none, or doesn't hear on it.
@@ -29,7 +30,8 @@ impl<I: LinkIn, O: LinkOut> Client<I, O> {
         ensures shows { HearShows D.Desk R.Roads I.LinkIn O.LinkOut
             self.old self.new office.old roads.old roads.new result }
         ensures passes { ClientPasses R.Roads roads.old roads.new self.new result }
-        ensures office { office.new ≡ office.old }
+        ensures office { HearKeepsOffice D.Desk R.Roads I.LinkIn O.LinkOut self.old office.old office.new roads.old }
+        ensures quiet { NoneToCommit (known_of self.old.block self.old.writer).phase → office.new ≡ office.old }
     {
         let Some(writer) = &mut self.writer else {
             return Ok(());
@@ -49,10 +51,11 @@ fn heard<D: Desk, I: LinkIn, O: LinkOut, R: Roads<Inward = I, Outward = O>>(
     pipe: Pipe<I, O>,
 ) -> Result<Pipe<I, O>, ClientFault>
     requires { PipeIsKnown (R.plain roads.old) pipe }
-    ensures hears { PipeHears R.Roads I.LinkIn O.LinkOut writer.old writer.new pipe roads.old roads.new result }
+    ensures hears { PipeHears R.Roads I.LinkIn O.LinkOut writer.old writer.new pipe
+        office.old office.new roads.old roads.new result }
     ensures pass { RoadsPass R.Roads roads.old roads.new }
     ensures known { IfOk result (λ left. PipeIsKnown (R.plain roads.new) left) }
-    ensures office { office.new ≡ office.old }
+    ensures quiet { NoneToCommit writer.old.phase → office.new ≡ office.old }
 {
     match pipe {
         Pipe::Closed => Ok(Pipe::Closed),
@@ -61,7 +64,7 @@ fn heard<D: Desk, I: LinkIn, O: LinkOut, R: Roads<Inward = I, Outward = O>>(
     }
 }
 
-/// What is left of the setup of a writer that waits for the answer to its request.
+/// What is left of the setup of a writer that may wait on the connection of it.
 fn answered<D: Desk, I: LinkIn, O: LinkOut, R: Roads<Inward = I, Outward = O>>(
     alloc: Global,
     roads: &mut R,
@@ -70,21 +73,26 @@ fn answered<D: Desk, I: LinkIn, O: LinkOut, R: Roads<Inward = I, Outward = O>>(
     setup: Rebuild<I, O>,
 ) -> Result<Pipe<I, O>, ClientFault>
     requires { LinkIsKnown (R.plain roads.old) setup.link }
-    ensures hears { SetupHears R.Roads I.LinkIn O.LinkOut writer.old writer.new setup roads.old roads.new result }
+    ensures hears { SetupHears R.Roads I.LinkIn O.LinkOut writer.old writer.new setup
+        office.old office.new roads.old roads.new result }
     ensures pass { RoadsPass R.Roads roads.old roads.new }
     ensures known { IfOk result (λ left. PipeIsKnown (R.plain roads.new) left) }
-    ensures office { office.new ≡ office.old }
+    ensures quiet { NoneToCommit writer.old.phase → office.new ≡ office.old }
 {
-    if awaits_answer(writer.phase()) && setup.conn().is_some() {
+    if awaits(writer.phase()) && setup.conn().is_some() {
         hear_answer(alloc, roads, office, writer, setup)
     } else {
         Ok(Pipe::SettingUp(setup))
     }
 }
 
-/// Whether a writer waits for the answer to its request.
-fn awaits_answer(phase: Phase) -> bool
-    ensures { result ≡ awaits_answer phase }
+/// Whether a writer waits on the connection of its setup: for the answer to its request, or to commit its stamp.
+fn awaits(phase: Phase) -> bool
+    ensures { result ≡ awaits phase }
 {
-    matches!(phase, Phase::Requested { .. })
+    match phase {
+        Phase::Requested { .. } => true,
+        Phase::Accepted { setup, .. } => !matches!(setup, Setup::Create | Setup::CloseRecovery),
+        _ => false,
+    }
 }
