@@ -1,6 +1,5 @@
 -- What a writer hears, and what it leaves of the nodes and the other clients.
-use Rattle.std.proofs.Common.{◌≡◌, ◌≢◌, ◌⊎◌, inl, inr, ℕ, Bool, true, false, List, [], ◌∷◌, ◌++◌, slice_get, slice_set, Option, Some, None, IfSome, Result, Ok, Err, refl, sym, ap, ◌∙◌, subst}
-use Rattle.hd_base.specs.declared.ends.Conn.{Conn}
+use Rattle.std.proofs.Common.{◌≡◌, ◌≢◌, inl, inr, ℕ, true, false, List, [], ◌∷◌, ◌++◌, slice_get, slice_set, Option, Some, None, IfSome, Result, Ok, Err, refl, sym, ap, ◌∙◌, subst}
 use Rattle.hd_base.specs.declared.files.Files as files
 use Rattle.hd_base.specs.declared.links.LinkIn as link_in
 use Rattle.hd_base.specs.declared.links.LinkOut as link_out
@@ -13,7 +12,7 @@ use Rattle.pipe_recovery.specs.Dialling.{LinkIsKnown}
 use Rattle.road_traffic.specs.Showing.{Net, RoadsShow}
 use Rattle.world.specs.declared.events.Event.{Event}
 use Rattle.world.specs.declared.events.Event.TheVariants as event
-use Rattle.world.specs.Parts.{Upper, by_writer}
+use Rattle.world.specs.Parts.{by_writer}
 use Rattle.world.specs.Worlds.{World}
 use Rattle.world.specs.Events.{happens}
 use Rattle.world_nets.specs.Ends.{IsElsewhere}
@@ -26,15 +25,16 @@ use Rattle.client_events.specs.declared.pipes.Pipe.{Pipe}
 use Rattle.client_events.specs.declared.pipes.Pipe.TheVariants as pipe
 use Rattle.client_events.specs.Showing.{LinkShows, PipeShows, PipeIsKnown, OthersStay}
 use Rattle.play_clients.specs.declared.clients.Client.{Client}
-use Rattle.play_clients.specs.Clients.{ClientLeft}
+use Rattle.play_clients.specs.Clients.{ClientStands}
 use Rattle.play_clients.specs.Events as clients
 use Rattle.play_clients.specs.Others.{KeepsOthers, TakesThere, HearingKeeps}
 use Rattle.play_clients.specs.Staying.{KeepsClient, ClientsStay}
+use Rattle.play_nodes.specs.declared.nodes.Nodes.{Nodes}
+use Rattle.play_nodes.specs.Showing.{NodesShow}
 use Rattle.play_nodes.specs.Frames.{HearKeeps, HeardKeeps, NodesStay, NodesEndsStay}
 use Rattle.play_nodes.proofs.MemberNodes.{known}
 use Rattle.play_nodes.proofs.Tables.{SetOr, set_or}
 use Rattle.play.specs.declared.faults.PlayFault.{PlayFault}
-use Rattle.play.specs.declared.faults.PlayFault.TheVariants as fault
 use Rattle.play.specs.declared.player.Player.{Player}
 use Rattle.play.specs.Faults.{of_client}
 use Rattle.play.specs.Showing.{IsClient, AreApart, PlayerShows, PlayerStands}
@@ -44,7 +44,7 @@ use Rattle.play.proofs.NodeSteps.{dialled_there, out_of_memory}
 writer_same : (a b : ℕ) → by_writer a ≡ by_writer b → a ≡ b
 writer_same a b e = cc
 
-module _ {F R I O : Type 0} (r : roads.Ghosts R I O) (i : link_in.Ghosts I) (o : link_out.Ghosts O) where
+module _ {R I O : Type 0} (r : roads.Ghosts R I O) (i : link_in.Ghosts I) (o : link_out.Ghosts O) where
   -- THE ROADS KNOW A CLIENT'S CONNECTION
 
   link_known : (w : World) (net : Net) (road : R) (n : Option ℕ) (link : Option (Link I O)) → RoadsShow r net road → LinkShows i o w net n link → LinkIsKnown (r.plain road) link
@@ -56,7 +56,7 @@ module _ {F R I O : Type 0} (r : roads.Ghosts R I O) (i : link_in.Ghosts I) (o :
   pipe_known w net road n (pipe.SettingUp setup) shows h = link_known w net road n setup.link shows h
   pipe_known w net road n (pipe.Streaming end incoming) shows h = known r i o road net (r.plain road) end.id.0 end.id.0 shows refl h.end_is.within refl
 
-  pub client_known : (road : R) (p : Player F I O) (place : ℕ) (c : Client I O) → PlayerStands r i o road p → slice_get p.clients.items place ≡ Some c → PipeIsKnown (r.plain road) c.pipe
+  pub client_known : {F : Type 0} (road : R) (p : Player F I O) (place : ℕ) (c : Client I O) → PlayerStands r i o road p → slice_get p.clients.items place ≡ Some c → PipeIsKnown (r.plain road) c.pipe
   client_known road p place c s at = pipe_known s.w s.net road (s.w.writers c.block.0).conn c.pipe s.shows.nodes.roads_are.shows (s.shows.clients place c at).shows.pipe_is
 
 module _ {F R I O D : Type 0} (f : files.Ghosts F) (r : roads.Ghosts R I O) (i : link_in.Ghosts I) (o : link_out.Ghosts O) (d : desks.Ghosts D) where
@@ -136,7 +136,7 @@ module _ {F R I O D : Type 0} (f : files.Ghosts F) (r : roads.Ghosts R I O) (i :
       record {
         nodes = record {
           roads_are = left.left.stands.roads_are;
-          nodes_are = subst (λ (x : _). _) (sym h.nodes) (nodes_stay w net v left.made old.nodes (record { nodes_are = p.nodes.nodes_are; ordered = ordered; keeps = n.keeps; ends = ends_stay w net v left.made c.block.0 ordered left.left.others }) n.conns);
+          nodes_are = subst (λ (x : Nodes F I O). NodesShow i o v left.made x) (sym h.nodes) (nodes_stay w net v left.made old.nodes (record { nodes_are = p.nodes.nodes_are; ordered = ordered; keeps = n.keeps; ends = ends_stay w net v left.made c.block.0 ordered left.left.others }) n.conns);
         };
         clients = clients_after w v net left.made queues queues conn.0 place old mid c c' stay ordered upper k.0 k.1 left.left.others (λ b z. refl) p.clients p.apart at h (record {
           shows = left.left.stands.client_is;
@@ -157,34 +157,35 @@ module _ {F R I O D : Type 0} (f : files.Ghosts F) (r : roads.Ghosts R I O) (i :
   same_client : (a b : Client I O) → Some a ≡ Some b → a ≡ b
   same_client a b e = cc
 
-  heard_as : (conn : ConnId) (place : ℕ) (old mid new : Player F I O) (c c' : Client I O) (w : World) (net : Net) (queues : Queues) (road road' : R) (desk : D) → d.office desk ≡ Some old.office.office → d.office desk ≡ Some mid.office.office → mid.nodes ≡ old.nodes
+  heard_as : (conn : ConnId) (place : ℕ) (old mid new : Player F I O) (c c' : Client I O) (w : World) (net : Net) (queues : Queues) (road road' : R) (desk desk' : D) → d.office desk ≡ Some old.office.office → d.office desk' ≡ Some mid.office.office → clients.HearKeepsOffice d r i o c desk desk' road → mid.nodes ≡ old.nodes
       → mid.clients.items ≡ slice_set old.clients.items place c' → mid.events.items ≡ old.events.items → ClientsStay i o → NodesStay f i o → NodesEndsStay i o → HearingKeeps → HeardKeeps → slice_get old.clients.items place ≡ Some c → clients.HearShows d r i o c c' desk road road' (Ok tt)
-      → IsKept mid new (event.Up conn) → PlayerShows r i o w net queues road old → clients.HearIsLawful w c.block.0 → is_due w queues (due.Up conn) ≡ true → (w.dialled conn.0).upper ≡ by_writer c.block.0 → clients.IsUncommitted (w.writers c.block.0).known.phase
+      → IsKept mid new (event.Up conn) → PlayerShows r i o w net queues road old → clients.HearIsLawful w c.block.0 → is_due w queues (due.Up conn) ≡ true → (w.dialled conn.0).upper ≡ by_writer c.block.0 → clients.AcceptedIsQuiet w c.block.0
       → PlayerLeft r i o w queues (due.Up conn) old new road'
-  heard_as conn place old mid new c c' w net queues road road' desk office_old office_mid nodes set events stay nodes_stay ends_stay hearing heard at shows kept p lawful is upper uncommitted =
-      let left : clients.HearLeft d r i o w net (happens w (event.Up conn)) c c' desk road' =
-          shows w net queues conn (record { roads_are = p.nodes.roads_are; client_is = (p.clients place c at).shows; office_is = office_old ∙ ap (λ (x : OfficeState). Some x) p.office }) lawful is upper uncommitted in
+  heard_as conn place old mid new c c' w net queues road road' desk desk' office_old office_mid same nodes set events stay nodes_stay ends_stay hearing heard at shows kept p lawful is upper quiet =
+      let stands : ClientStands d r i o w net c desk road = record { roads_are = p.nodes.roads_are; client_is = (p.clients place c at).shows; office_is = office_old ∙ ap (λ (x : OfficeState). Some x) p.office } in
+      let left : clients.HearLeft d r i o w net (happens w (event.Up conn)) c c' desk road' = shows w net queues conn stands lawful is upper quiet in
+      let now : d.office desk ≡ Some mid.office.office = sym (ap (λ (x : D). d.office x) (same w net queues conn stands lawful is upper quiet)) ∙ office_mid in
       let q : PlayerShows r i o (happens w (event.Up conn)) left.made queues road' mid =
-          heard_shows conn place old mid c c' w net queues road road' desk office_mid stay nodes_stay ends_stay hearing heard p at (record { nodes = nodes; clients = set; block = left.left.block }) lawful.ordered upper left in
+      heard_shows conn place old mid c c' w net queues road road' desk now stay nodes_stay ends_stay hearing heard p at (record { nodes = nodes; clients = set; block = left.left.block }) lawful.ordered upper left in
       record {
         made = left.made;
         shows = subst (λ (x : Player F I O). PlayerShows r i o (happens w (event.Up conn)) left.made queues road' x) (sym kept.same) (record { nodes = q.nodes; clients = q.clients; apart = q.apart; office = q.office });
         events = kept.events ∙ ap (λ (es : List Event). es ++ event.Up conn ∷ []) events;
       }
 
-  pub heard_left : (conn : ConnId) (place : ℕ) (old mid new : Player F I O) (c c' : Client I O) (road road' : R) (desk : D) (result : Result (Unit {0}) PlayFault) → d.office desk ≡ Some old.office.office → d.office desk ≡ Some mid.office.office → mid.nodes ≡ old.nodes
+  pub heard_left : (conn : ConnId) (place : ℕ) (old mid new : Player F I O) (c c' : Client I O) (road road' : R) (desk desk' : D) (result : Result (Unit {0}) PlayFault) → d.office desk ≡ Some old.office.office → d.office desk' ≡ Some mid.office.office → clients.HearKeepsOffice d r i o c desk desk' road → mid.nodes ≡ old.nodes
       → mid.clients.items ≡ slice_set old.clients.items place c' → mid.events.items ≡ old.events.items → ClientsStay i o → NodesStay f i o → NodesEndsStay i o → HearingKeeps → HeardKeeps → slice_get old.clients.items place ≡ Some c → clients.HearShows d r i o c c' desk road road' (Ok tt)
       → Keeps mid new (event.Up conn) result → HeardShows f r i o conn place old new road road' result
-  heard_left conn place old mid new c c' road road' desk (Ok u) office_old office_mid nodes set events stay nodes_stay ends_stay hearing heard at shows kept = λ w net queues a p at_a.
-      subst (λ (y : Client I O). clients.HearIsLawful w y.block.0 → is_due w queues (due.Up conn) ≡ true → (w.dialled conn.0).upper ≡ by_writer y.block.0 → clients.IsUncommitted (w.writers y.block.0).known.phase → PlayerLeft r i o w queues (due.Up conn) old new road')
+  heard_left conn place old mid new c c' road road' desk desk' (Ok u) office_old office_mid same nodes set events stay nodes_stay ends_stay hearing heard at shows kept = λ w net queues a p at_a.
+      subst (λ (y : Client I O). clients.HearIsLawful w y.block.0 → is_due w queues (due.Up conn) ≡ true → (w.dialled conn.0).upper ≡ by_writer y.block.0 → clients.AcceptedIsQuiet w y.block.0 → PlayerLeft r i o w queues (due.Up conn) old new road')
       (same_client c a (sym at ∙ at_a))
-      (λ lawful is upper uncommitted. heard_as conn place old mid new c c' w net queues road road' desk office_old office_mid nodes set events stay nodes_stay ends_stay hearing heard at shows kept p lawful is upper uncommitted)
-  heard_left conn place old mid new c c' road road' desk (Err why) office_old office_mid nodes set events stay nodes_stay ends_stay hearing heard at shows kept = λ w net queues a p at_a lawful is upper uncommitted. out_of_memory f r i o old new road road' why kept
+      (λ lawful is upper quiet. heard_as conn place old mid new c c' w net queues road road' desk desk' office_old office_mid same nodes set events stay nodes_stay ends_stay hearing heard at shows kept p lawful is upper quiet)
+  heard_left conn place old mid new c c' road road' desk desk' (Err why) office_old office_mid same nodes set events stay nodes_stay ends_stay hearing heard at shows kept = λ w net queues a p at_a lawful is upper quiet. out_of_memory f r i o old new road road' why kept
 
   pub heard_failed : (conn : ConnId) (place : ℕ) (old new : Player F I O) (c c' : Client I O) (road road' : R) (desk : D) (why : ClientFault) → d.office desk ≡ Some old.office.office → slice_get old.clients.items place ≡ Some c → clients.HearShows d r i o c c' desk road road' (Err why)
       → HeardShows f r i o conn place old new road road' (Err (of_client why))
   heard_failed conn place old new c c' road road' desk why office_old at shows = λ w net queues a p at_a.
-      subst (λ (y : Client I O). clients.HearIsLawful w y.block.0 → is_due w queues (due.Up conn) ≡ true → (w.dialled conn.0).upper ≡ by_writer y.block.0 → clients.IsUncommitted (w.writers y.block.0).known.phase → IsCaused f r old new road road' (of_client why))
+      subst (λ (y : Client I O). clients.HearIsLawful w y.block.0 → is_due w queues (due.Up conn) ≡ true → (w.dialled conn.0).upper ≡ by_writer y.block.0 → clients.AcceptedIsQuiet w y.block.0 → IsCaused f r old new road road' (of_client why))
       (same_client c a (sym at ∙ at_a))
-      (λ lawful is upper uncommitted. client_caused old new road road' why
-      (shows w net queues conn (record { roads_are = p.nodes.roads_are; client_is = (p.clients place c at).shows; office_is = office_old ∙ ap (λ (x : OfficeState). Some x) p.office }) lawful is upper uncommitted))
+      (λ lawful is upper quiet. client_caused old new road road' why
+      (shows w net queues conn (record { roads_are = p.nodes.roads_are; client_is = (p.clients place c at).shows; office_is = office_old ∙ ap (λ (x : OfficeState). Some x) p.office }) lawful is upper quiet))

@@ -1,6 +1,5 @@
 -- An event of the nodes, and what it leaves of the clients and the office.
-use Rattle.std.proofs.Common.{◌≡◌, ◌⊎◌, inl, inr, ℕ, true, List, [], ◌∷◌, ◌++◌, slice_get, Option, Some, None, IfSome, Result, Ok, Err, refl, sym, ◌∙◌, subst}
-use Rattle.hd_base.specs.declared.ends.Conn.{Conn}
+use Rattle.std.proofs.Common.{◌≡◌, inl, inr, ℕ, true, [], ◌∷◌, ◌++◌, Option, Some, None, IfSome, Result, Ok, Err, sym, ◌∙◌, subst}
 use Rattle.hd_base.specs.declared.files.Files as files
 use Rattle.hd_base.specs.declared.links.LinkIn as link_in
 use Rattle.hd_base.specs.declared.links.LinkOut as link_out
@@ -13,9 +12,7 @@ use Rattle.world.specs.Parts.{Dialled, Marks, Writing, by_writer}
 use Rattle.world.specs.Worlds.{World}
 use Rattle.world.specs.Events.{happens}
 use Rattle.world_orders.specs.Orders.{Ordered, IsWriterConn}
-use Rattle.play_model.specs.declared.dues.Due.TheVariants as due
-use Rattle.play_model.specs.Dues.{Queues, is_due}
-use Rattle.play_clients.specs.declared.clients.Client.{Client}
+use Rattle.play_model.specs.Dues.{Queues}
 use Rattle.play_clients.specs.Staying.{KeepsClient, ClientsStay}
 use Rattle.play_nodes.specs.declared.faults.NodesFault.{NodesFault}
 use Rattle.play_nodes.specs.declared.faults.NodesFault.TheVariants as nodes_fault
@@ -27,7 +24,7 @@ use Rattle.play.specs.declared.faults.PlayFault.{PlayFault}
 use Rattle.play.specs.declared.faults.PlayFault.TheVariants as fault
 use Rattle.play.specs.declared.player.Player.{Player}
 use Rattle.play.specs.Faults.{of_nodes}
-use Rattle.play.specs.Showing.{IsClient, PlayerShows}
+use Rattle.play.specs.Showing.{PlayerShows}
 use Rattle.play.specs.Events.{IsKept, Keeps, IsCaused, ReadyShows, DownShows, MirrorShows}
 
 pub dialled_there : (dialled : ℕ → Dialled) (marks : ℕ → Marks) (b c : ℕ) (x : Writing) (n : Option ℕ) → n ≡ Some c → IfSome n (λ c. IsWriterConn (dialled c) (marks c).taken b x.known) → (dialled c).upper ≡ by_writer b
@@ -67,12 +64,12 @@ module _ {F R I O : Type 0} (f : files.Ghosts F) (r : roads.Ghosts R I O) (i : l
   left_of : (w v : World) (net : Net) (queues : Queues) (old : Player F I O) (n' : Nodes F I O) (new : Player F I O) (e : Event) (road road' : R) → ClientsStay i o → PlayerShows r i o w net queues road old → Ordered w → KeepsWriters w v → NodesLeft r i o w net v road' n' → IsKept (record old { nodes = n' }) new e
       → Left v queues old new e road'
   left_of w v net queues old n' new e road road' stay p ordered k left kept =
-    let q : PlayerShows r i o v left.made queues road' (record old { nodes = n' }) = same_left w v net queues old n' e road road' stay p ordered k left in
-    record {
-      made = left.made;
-      shows = subst (λ (x : Player F I O). PlayerShows r i o v left.made queues road' x) (sym kept.same) (record { nodes = q.nodes; clients = q.clients; apart = q.apart; office = q.office });
-      events = kept.events;
-    }
+      let q : PlayerShows r i o v left.made queues road' (record old { nodes = n' }) = same_left w v net queues old n' e road road' stay p ordered k left in
+      record {
+        made = left.made;
+        shows = subst (λ (x : Player F I O). PlayerShows r i o v left.made queues road' x) (sym kept.same) (record { nodes = q.nodes; clients = q.clients; apart = q.apart; office = q.office });
+        events = kept.events;
+      }
 
   caused : (old new : Player F I O) (road road' : R) (why : NodesFault) → nodes.IsCaused f r old.nodes new.nodes road road' why → IsCaused f r old new road road' (of_nodes why)
   caused old new road road' nodes_fault.LinkFailed h = inl h
@@ -86,9 +83,9 @@ module _ {F R I O : Type 0} (f : files.Ghosts F) (r : roads.Ghosts R I O) (i : l
   pub ready_left : (conn : ConnId) (old : Player F I O) (n' : Nodes F I O) (new : Player F I O) (road road' : R) (result : Result (Unit {0}) PlayFault) → ClientsStay i o → ReadyKeeps → nodes.ReadyShows f r i o conn old.nodes n' road road' (Ok tt) → Keeps (record old { nodes = n' }) new (event.Ready conn) result
       → ReadyShows f r i o conn old new road road' result
   ready_left conn old n' new road road' (Ok u) stay keeps shows kept = λ w net queues p lawful is.
-    let l : Left (happens w (event.Ready conn)) queues old new (event.Ready conn) road' =
-        left_of w (happens w (event.Ready conn)) net queues old n' new (event.Ready conn) road road' stay p lawful.ordered (keeps w conn) (shows w net queues p.nodes lawful is) kept in
-    record { made = l.made; shows = l.shows; events = l.events }
+      let l : Left (happens w (event.Ready conn)) queues old new (event.Ready conn) road' =
+      left_of w (happens w (event.Ready conn)) net queues old n' new (event.Ready conn) road road' stay p lawful.ordered (keeps w conn) (shows w net queues p.nodes lawful is) kept in
+      record { made = l.made; shows = l.shows; events = l.events }
   ready_left conn old n' new road road' (Err why) stay keeps shows kept = λ w net queues p lawful is. out_of_memory old new road road' why kept
 
   pub ready_failed : (conn : ConnId) (old new : Player F I O) (road road' : R) (why : NodesFault) → nodes.ReadyShows f r i o conn old.nodes new.nodes road road' (Err why)
@@ -98,9 +95,9 @@ module _ {F R I O : Type 0} (f : files.Ghosts F) (r : roads.Ghosts R I O) (i : l
   pub down_left : (conn : ConnId) (old : Player F I O) (n' : Nodes F I O) (new : Player F I O) (road road' : R) (result : Result (Unit {0}) PlayFault) → ClientsStay i o → DownKeeps → nodes.DownShows f r i o conn old.nodes n' road road' (Ok tt) → Keeps (record old { nodes = n' }) new (event.Down conn true) result
       → DownShows f r i o conn old new road road' result
   down_left conn old n' new road road' (Ok u) stay keeps shows kept = λ w net queues p lawful is busy.
-    let l : Left (happens w (event.Down conn true)) queues old new (event.Down conn true) road' =
-        left_of w (happens w (event.Down conn true)) net queues old n' new (event.Down conn true) road road' stay p lawful.ordered (keeps w conn true) (shows w net queues true p.nodes lawful is busy) kept in
-    record { made = l.made; shows = l.shows; events = l.events }
+      let l : Left (happens w (event.Down conn true)) queues old new (event.Down conn true) road' =
+      left_of w (happens w (event.Down conn true)) net queues old n' new (event.Down conn true) road road' stay p lawful.ordered (keeps w conn true) (shows w net queues true p.nodes lawful is busy) kept in
+      record { made = l.made; shows = l.shows; events = l.events }
   down_left conn old n' new road road' (Err why) stay keeps shows kept = λ w net queues p lawful is busy. out_of_memory old new road road' why kept
 
   pub down_failed : (conn : ConnId) (old new : Player F I O) (road road' : R) (why : NodesFault) → nodes.DownShows f r i o conn old.nodes new.nodes road road' (Err why)
@@ -110,9 +107,9 @@ module _ {F R I O : Type 0} (f : files.Ghosts F) (r : roads.Ghosts R I O) (i : l
   pub mirror_left : (conn : ConnId) (old : Player F I O) (n' : Nodes F I O) (new : Player F I O) (road road' : R) (result : Result (Unit {0}) PlayFault) → ClientsStay i o → MirrorKeeps → nodes.UpShows f r i o conn old.nodes n' road road' (Ok tt) → Keeps (record old { nodes = n' }) new (event.Up conn) result
       → MirrorShows f r i o conn old new road road' result
   mirror_left conn old n' new road road' (Ok u) stay keeps shows kept = λ w net queues d p lawful is above.
-    let l : Left (happens w (event.Up conn)) queues old new (event.Up conn) road' =
-        left_of w (happens w (event.Up conn)) net queues old n' new (event.Up conn) road road' stay p lawful.ordered (keeps w conn d above) (shows w net queues d p.nodes lawful is above) kept in
-    record { made = l.made; shows = l.shows; events = l.events }
+      let l : Left (happens w (event.Up conn)) queues old new (event.Up conn) road' =
+      left_of w (happens w (event.Up conn)) net queues old n' new (event.Up conn) road road' stay p lawful.ordered (keeps w conn d above) (shows w net queues d p.nodes lawful is above) kept in
+      record { made = l.made; shows = l.shows; events = l.events }
   mirror_left conn old n' new road road' (Err why) stay keeps shows kept = λ w net queues d p lawful is above. out_of_memory old new road road' why kept
 
   pub mirror_failed : (conn : ConnId) (old new : Player F I O) (road road' : R) (why : NodesFault) → nodes.UpShows f r i o conn old.nodes new.nodes road road' (Err why)

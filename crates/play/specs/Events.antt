@@ -16,7 +16,7 @@ use Rattle.play_model.specs.declared.dues.Due.{Due}
 use Rattle.play_model.specs.declared.dues.Due.TheVariants as due
 use Rattle.play_model.specs.Dues.{Queues, is_due, due_events, queues_after}
 use Rattle.play_clients.specs.declared.clients.Client.{Client}
-use Rattle.play_clients.specs.Events.{HearIsLawful, IsUncommitted}
+use Rattle.play_clients.specs.Events.{HearIsLawful, AcceptedIsQuiet}
 use Rattle.play_nodes.specs.Events.{IsLawful, IsBusy, DrawerFailed}
 use Rattle.play.specs.declared.faults.PlayFault.{PlayFault}
 use Rattle.play.specs.declared.faults.PlayFault.TheVariants as fault
@@ -78,11 +78,10 @@ MirrorShows f r i o conn old new road road' result =
     IsLawful w (event.Up conn) → is_due w queues (due.Up conn) ≡ true → (w.dialled conn.0).upper ≡ by_member d
     → PlayEnds f r i o w queues (due.Up conn) old new road road' result
 
--- Not said where the writer's request was accepted and its stamp isn't committed.
 abbrev pub HeardShows : {F R I O : Type 0} → files.Ghosts F → roads.Ghosts R I O → link_in.Ghosts I →
     link_out.Ghosts O → ConnId → ℕ → Player F I O → Player F I O → R → R → Result (Unit {0}) PlayFault → Type 0
 HeardShows {F} {R} {I} {O} f r i o conn place old new road road' result =
     (w : World) (net : Net) (queues : Queues) (c : Client I O) → PlayerShows r i o w net queues road old →
     slice_get old.clients.items place ≡ Some c → HearIsLawful w c.block.0 → is_due w queues (due.Up conn) ≡ true →
-    (w.dialled conn.0).upper ≡ by_writer c.block.0 → IsUncommitted (w.writers c.block.0).known.phase
+    (w.dialled conn.0).upper ≡ by_writer c.block.0 → AcceptedIsQuiet w c.block.0
     → PlayEnds f r i o w queues (due.Up conn) old new road road' result
