@@ -1,0 +1,110 @@
+-- A writer takes what stands next on the connection that it has.
+use Rattle.std.proofs.Common.{◌≡◌, ◌<◌, ℕ, Bool, true, false, Option, Some, None, is_some, option_map, refl, sym, ap, ◌∙◌, subst, arith}
+use Rattle.std.specs.Prelude.{◌&&◌, ◌==◌, nat_lt, is_none}
+use Rattle.std.proofs.lemmas.Bool.Decides.{nat_tests}
+use Rattle.hd_base.specs.declared.ends.Conn.{Conn}
+use Rattle.hd_base.specs.declared.ends.Standing.{Standing}
+use Rattle.hd_base.specs.declared.links.LinkIn as link_in
+use Rattle.hd_base.specs.declared.links.LinkOut as link_out
+use Rattle.hd_base.specs.declared.numbers.ConnId.{ConnId}
+use Rattle.hd_base.specs.declared.roads.Roads as roads
+use Rattle.pipe_recovery.specs.declared.links.Link.{Link}
+use Rattle.road_traffic.specs.Showing.{Net, RoadsShow, ShowsStanding}
+use Rattle.world.specs.Parts as parts
+use Rattle.world.specs.Parts.{by_writer}
+use Rattle.world.specs.Worlds.{World}
+use Rattle.world.specs.Connections.{Next, message, the_end, next_up, is_conn}
+use Rattle.world.specs.Enabled.{takes_above}
+use Rattle.world_nets.specs.Nets.{IsEndOf}
+use Rattle.world_nets.specs.Rows.{rows_of}
+use Rattle.world_orders.specs.Open.{OpenEnds}
+use Rattle.play_model.specs.declared.dues.Due.TheVariants as due
+use Rattle.play_model.specs.Dues.{is_open_above, is_due}
+use Rattle.member_events.specs.Showing.{ShowsWorld}
+use Rattle.client_events.specs.declared.pipes.Pipe.{Pipe}
+use Rattle.client_events.specs.declared.pipes.Pipe.TheVariants as pipe
+use Rattle.client_events.specs.Showing.{LinkShows, PipeShows}
+use Rattle.play_clients.specs.declared.clients.Client.{Client}
+use Rattle.play_nodes.specs.Dues.{stands}
+use Rattle.play_dues.specs.Writers.{conn_of, TellsWriter}
+use Rattle.play_dues.proofs.Standings.{standing_for, row_standing}
+
+stands_as : (x : Option Next) → stands (standing_for x) ≡ is_some x
+stands_as None = refl
+stands_as (Some (message m)) = refl
+stands_as (Some the_end) = refl
+
+same_number : (c d : ℕ) → (c == d) ≡ true → c ≡ d
+same_number c d h = grind (arith, nat_tests, h)
+
+below_so : (a b : ℕ) → a < b → nat_lt a b ≡ true
+below_so a b h = grind (arith, nat_tests, h)
+
+-- what is due of a writer of which no answer waits
+due_so : (within x has told : Bool) → (has ≡ true → within ≡ true) → told ≡ true → (has && x) ≡ (true && ((within && x) && (has && told)))
+due_so true true true true p q = refl
+due_so true true false true p q = refl
+due_so true false true true p q = refl
+due_so true false false true p q = refl
+due_so false x true told p q = absurd (cc_of (p refl))
+  where
+    cc_of : false ≡ true → ⊥
+    cc_of e = cc
+due_so false x false told p q = refl
+due_so true x has false p q = cc
+
+hears_next : (b x y : Bool) → (b ≡ true → x ≡ y) → (b && x) ≡ (b && y)
+hears_next true x y h = h refl
+hears_next false x y h = refl
+
+-- A connection from which may be taken.
+record IsTaking (net : Net) (c : ℕ) : Type 0 where
+  pub within : c < net.conns
+  pub taking : (net.traffic c false).over ≡ false
+
+module _ {I O : Type 0} (i : link_in.Ghosts I) (o : link_out.Ghosts O) where
+  taking_end : (w : World) (net : Net) (c : ℕ) (e : Conn I O) → IsEndOf i o w net e.id.0 false e → (c == e.id.0) ≡ true → IsTaking net c
+  taking_end w net c e h is = subst (λ (q : ℕ). IsTaking net q) (sym (same_number c e.id.0 is)) (record { within = h.within; taking = h.taking })
+
+  taking_link : (w : World) (net : Net) (conn : Option ℕ) (c : ℕ) (x : Option (Link I O)) → LinkShows i o w net conn x → is_conn (option_map (λ l. l.end.id.0) x) c ≡ true → IsTaking net c
+  taking_link w net conn c None h is = cc
+  taking_link w net conn c (Some l) h is = taking_end w net c l.end h.end_is is
+
+  taking_pipe : (w : World) (net : Net) (conn : Option ℕ) (c : ℕ) (x : Pipe I O) → PipeShows i o w net conn x → is_conn (conn_of x) c ≡ true → IsTaking net c
+  taking_pipe w net conn c pipe.Closed h is = cc
+  taking_pipe w net conn c (pipe.SettingUp setup) h is = taking_link w net conn c setup.link h is
+  taking_pipe w net conn c (pipe.Streaming end incoming) h is = taking_end w net c end h.end_is is
+
+  link_conn : (w : World) (net : Net) (conn : Option ℕ) (x : Option (Link I O)) → LinkShows i o w net conn x → conn ≡ option_map (λ l. l.end.id.0) x
+  link_conn w net conn None h = h
+  link_conn w net conn (Some l) h = h.conn_is
+
+  pipe_conn : (w : World) (net : Net) (conn : Option ℕ) (x : Pipe I O) → PipeShows i o w net conn x → conn ≡ conn_of x
+  pipe_conn w net conn pipe.Closed h = h
+  pipe_conn w net conn (pipe.SettingUp setup) h = link_conn w net conn setup.link h
+  pipe_conn w net conn (pipe.Streaming end incoming) h = h.conn_is
+
+  -- the connection that a writer has is this one
+  conn_so : (x : Option ℕ) (c : ℕ) → is_conn x c ≡ true → x ≡ Some c
+  conn_so None c is = cc
+  conn_so (Some d) c is = ap (λ (q : ℕ). Some q) (sym (same_number c d is))
+
+module _ {R I O : Type 0} (r : roads.Ghosts R I O) (i : link_in.Ghosts I) (o : link_out.Ghosts O) where
+  pub writer_tells : (client : Client I O) (conn : ConnId) (road road' : R) (s : Standing) (result : Bool) → ((net : Net) → RoadsShow r net road → ShowsStanding r net conn.0 false road' s)
+      → result ≡ (is_conn (conn_of client.pipe) conn.0 && stands s) → TellsWriter r i o conn client road road' result
+  writer_tells client conn road road' s result tells told = λ w net queues h shows open_ends upper.
+      let c : ℕ = conn.0 in
+      let b : ℕ = client.block.0 in
+      let has : Bool = is_conn (conn_of client.pipe) c in
+      let conn_is : (w.writers b).conn ≡ conn_of client.pipe = pipe_conn i o w net (w.writers b).conn client.pipe shows.pipe_is in
+      let taking : has ≡ true → IsTaking net c = taking_pipe i o w net (w.writers b).conn c client.pipe shows.pipe_is in
+      let next : (has && stands s) ≡ (has && is_some (next_up w c)) = hears_next has (stands s) (is_some (next_up w c))
+      (λ is. ap stands ((tells net h.shows).is (taking is).taking
+      ∙ row_standing (rows_of w c false) (net.traffic c false) (h.is_net.rows_are c false) (h.sane.fits c false) (taking is).taking (open_ends.writers b c (conn_is ∙ conn_so i o (conn_of client.pipe) c is)))
+      ∙ stands_as (next_up w c)) in
+      let within : has ≡ true → nat_lt c w.next_conn ≡ true = λ is. below_so c w.next_conn (subst (λ (k : ℕ). c < k) h.is_net.conns (taking is).within) in (
+        record { is_net = h.is_net; sane = h.sane; shows = (tells net h.shows).road_shows },
+        told ∙ (next ∙ (due_so (nat_lt c w.next_conn) (is_some (next_up w c)) has (is_none (w.writers b).told) within (ap (λ x. is_none x) shows.told)
+        ∙ (ap (λ (x : Option ℕ). true && ((nat_lt c w.next_conn && is_some (next_up w c)) && (is_conn x c && is_none (w.writers b).told))) (sym conn_is)
+        ∙ ap (λ (x : parts.Upper). is_open_above w x && ((nat_lt c w.next_conn && is_some (next_up w c)) && takes_above x w c)) (sym upper)))),
+      )

@@ -1,0 +1,51 @@
+//! Which events of a connection are due.
+
+ghost use Rattle.std.specs.Prelude.{◌≡◌, length, slice_get};
+ghost use Rattle.play_dues.specs.Conns.{listed};
+
+use hd_base::ConnId;
+use play_model::Due;
+
+/// Which events of a connection are due.
+#[derive(Clone, Copy, Debug, PartialEq, Eq)]
+pub struct ConnDues {
+    /// The lower end takes what stands next.
+    pub down: bool,
+    /// The lower end acts without a message.
+    pub ready: bool,
+    /// The upper end takes what stands next.
+    pub up: bool,
+}
+
+impl ConnDues {
+    /// How many are due.
+    pub fn count(self, conn: ConnId) -> usize
+        ensures { result ≡ length (listed conn self) }
+    {
+        usize::from(self.down) + usize::from(self.ready) + usize::from(self.up)
+    }
+
+    /// The one with this number, of a connection.
+    pub fn pick(self, conn: ConnId, number: usize) -> Option<Due>
+        ensures { result ≡ slice_get (listed conn self) number }
+    {
+        let mut rest = number;
+        if self.down {
+            if rest == 0 {
+                return Some(Due::Down { conn });
+            }
+            rest -= 1;
+        }
+        if self.ready {
+            if rest == 0 {
+                return Some(Due::Ready { conn });
+            }
+            rest -= 1;
+        }
+        if self.up && rest == 0 {
+            Some(Due::Up { conn })
+        } else {
+            None
+        }
+    }
+}
