@@ -1,2 +1,3 @@
 pub mod Standings
 pub mod WriterLaws
+pub mod OwnLaws

@@ -1,9 +1,12 @@
 -- A writer takes what stands next on the connection that it has.
-use Rattle.std.proofs.Common.{◌≡◌, ◌<◌, ℕ, Bool, true, false, Option, Some, None, is_some, option_map, refl, sym, ap, ◌∙◌, subst, arith}
+use Rattle.std.proofs.Common.{◌≡◌, ◌<◌, ◌≤◌, ◌⊎◌, inl, inr, ℕ, Bool, true, false, Option, Some, None, is_some, option_map, refl, sym, ap, ◌∙◌, subst, arith}
 use Rattle.std.specs.Prelude.{◌&&◌, ◌==◌, nat_lt, is_none}
 use Rattle.std.proofs.lemmas.Bool.Decides.{nat_tests}
+use Rattle.hd_base.specs.Channels.{Plain}
+use Rattle.hd_base.specs.Ends.{IsKnown}
 use Rattle.hd_base.specs.declared.ends.Conn.{Conn}
 use Rattle.hd_base.specs.declared.ends.Standing.{Standing}
+use Rattle.hd_base.specs.declared.ends.Standing.TheVariants as standing
 use Rattle.hd_base.specs.declared.links.LinkIn as link_in
 use Rattle.hd_base.specs.declared.links.LinkOut as link_out
 use Rattle.hd_base.specs.declared.numbers.ConnId.{ConnId}
@@ -21,6 +24,7 @@ use Rattle.world_orders.specs.Open.{OpenEnds}
 use Rattle.play_model.specs.declared.dues.Due.TheVariants as due
 use Rattle.play_model.specs.Dues.{is_open_above, is_due}
 use Rattle.member_events.specs.Showing.{ShowsWorld}
+use Rattle.member_events.specs.Roads.{RoadsPass}
 use Rattle.client_events.specs.declared.pipes.Pipe.{Pipe}
 use Rattle.client_events.specs.declared.pipes.Pipe.TheVariants as pipe
 use Rattle.client_events.specs.Showing.{LinkShows, PipeShows}
@@ -53,9 +57,31 @@ due_so false x true told p q = absurd (cc_of (p refl))
 due_so false x false told p q = refl
 due_so true x has false p q = cc
 
+-- where nothing stands next
+pub nothing_so : (b : Bool) (s : Standing) → s ≡ standing.Nothing → false ≡ (b && stands s)
+nothing_so true s h = sym (ap stands h)
+nothing_so false s h = refl
+
+-- where something does
+pub something_so : (b x : Bool) (s : Standing) → stands s ≡ true → x ≡ b → x ≡ (b && stands s)
+something_so true x s h is = is ∙ sym h
+something_so false x s h is = is
+
+-- where a piece stands next, or the end
+pub stands_so : (s : Standing) → (s ≡ standing.Piece) ⊎ (s ≡ standing.End) → stands s ≡ true
+stands_so s (inl h) = ap stands h
+stands_so s (inr h) = ap stands h
+
 hears_next : (b x y : Bool) → (b ≡ true → x ≡ y) → (b && x) ≡ (b && y)
 hears_next true x y h = h refl
 hears_next false x y h = refl
+
+-- roads that hold what they held
+pub roads_pass : {R I O : Type 0} (r : roads.Ghosts R I O) (road road' : R) → r.plain road' ≡ r.plain road → r.faults road ≤ r.faults road' → RoadsPass r road road'
+roads_pass r road road' plain faults = record {
+  knows = λ c h. subst (λ (x : Option Plain). IsKnown x c) (sym plain) h;
+  never_falls = faults;
+}
 
 -- A connection from which may be taken.
 record IsTaking (net : Net) (c : ℕ) : Type 0 where

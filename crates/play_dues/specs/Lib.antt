@@ -1,2 +1,4 @@
 pub mod Conns
 pub mod Writers
+pub mod Own
+pub mod Showing

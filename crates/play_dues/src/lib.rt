@@ -2,7 +2,9 @@
 #![tactic(auto)]
 
 mod conns;
+mod own;
 mod writers;
 
 pub use conns::ConnDues;
+pub use own::{count_own, pick_own};
 pub use writers::can_up;
