@@ -1,10 +1,11 @@
 //! Which events of a connection are due.
 
-ghost use Rattle.std.specs.Prelude.{◌≡◌, length, slice_get};
-ghost use Rattle.play_dues.specs.Conns.{listed};
+ghost use Rattle.std.specs.Prelude.{◌≡◌, length, option_map, slice_get};
+ghost use Rattle.play_dues.specs.Conns.{listed, writer_above};
 
-use hd_base::ConnId;
+use hd_base::{BlockId, ConnId, Files};
 use play_model::Due;
+use play_nodes::{Nodes, Upper};
 
 /// Which events of a connection are due.
 #[derive(Clone, Copy, Debug, PartialEq, Eq)]
@@ -47,5 +48,19 @@ impl ConnDues {
         } else {
             None
         }
+    }
+}
+
+/// The block whose writer dialled a connection, if a writer did.
+pub(crate) fn writer_of<F: Files, I, O>(nodes: &Nodes<F, I, O>, conn: ConnId) -> Option<BlockId>
+    ensures { result ≡ writer_above (option_map (λ x. x.upper) (slice_get nodes.now.connections.items conn.0)) }
+{
+    let conn = conn.0 as usize;
+    if conn >= nodes.connections.len() {
+        return None;
+    }
+    match nodes.connections[conn].upper {
+        Upper::Writer { block } => Some(block),
+        Upper::Member { .. } => None,
     }
 }
