@@ -1,3 +1,4 @@
 pub mod Standings
 pub mod WriterLaws
+pub mod CountLaws
 pub mod OwnLaws
