@@ -1,6 +1,5 @@
 -- Own steps are counted and sought client by client.
 use Rattle.std.proofs.Common.{◌≡◌, ◌≤◌, ◌<◌, ◌+◌, ◌-◌, ℕ, zero, suc, Bool, true, false, List, [], ◌∷◌, ◌++◌, length, drop, get_or, slice_get, refl, sym, ap, ◌∙◌, arith, add-one}
-use Rattle.std.specs.Prelude.{◌==◌}
 use Rattle.std.proofs.Math.Seq.{drop-cons}
 use Rattle.play_model.specs.declared.dues.Due.{Due}
 use Rattle.play_model.specs.declared.dues.Due.TheVariants as due
@@ -9,9 +8,12 @@ use Rattle.play_clients.specs.declared.clients.Client.{Client}
 use Rattle.play_clients.specs.Clients.{client_has_step}
 use Rattle.play_dues.specs.Own.{own_listed}
 
-slice_after : {A : Type 0} (x : A) (xs : List A) (n : ℕ) → (n == 0) ≡ false → slice_get (x ∷ xs) n ≡ slice_get xs (n - 1)
-slice_after x xs zero h = cc
-slice_after x xs (suc n) h = refl
+one_less : (n : ℕ) → n ≡ suc n - 1
+one_less n = omega arith
+
+slice_after : {A : Type 0} (x : A) (xs : List A) (n : ℕ) → (n ≡ 0 → ⊥) → slice_get (x ∷ xs) n ≡ slice_get xs (n - 1)
+slice_after x xs zero h = absurd (h refl)
+slice_after x xs (suc n) h = ap (λ (k : ℕ). slice_get xs k) (one_less n)
 
 add_so : (n m k t : ℕ) → n + k ≡ t → k ≡ suc m → (n + 1) + m ≡ t
 add_so n m k t a b = omega arith
@@ -35,7 +37,7 @@ module _ {I O : Type 0} where
       → n + length (own_listed (drop (i + 1) xs)) ≡ length (own_listed xs)
   counts_none xs i x n within is step so_far = ap (λ (ys : List Due). n + length ys) (sym (next_listed xs i x false within is step)) ∙ so_far
 
-  pub picks_later : (xs : List (Client I O)) (i : ℕ) (x : Client I O) (n number : ℕ) → i < length xs → x ≡ get_or xs i x → client_has_step x ≡ true → (n == 0) ≡ false
+  pub picks_later : (xs : List (Client I O)) (i : ℕ) (x : Client I O) (n number : ℕ) → i < length xs → x ≡ get_or xs i x → client_has_step x ≡ true → (n ≡ 0 → ⊥)
       → slice_get (own_listed (drop i xs)) n ≡ slice_get (own_listed xs) number → slice_get (own_listed (drop (i + 1) xs)) (n - 1) ≡ slice_get (own_listed xs) number
   picks_later xs i x n number within is step some so_far =
       sym (slice_after (due.Own x.block) (own_listed (drop (i + 1) xs)) n some) ∙ (ap (λ (ys : List Due). slice_get ys n) (sym (next_listed xs i x true within is step)) ∙ so_far)

@@ -1,4 +1,4 @@
+pub mod Showing
 pub mod Conns
 pub mod Writers
 pub mod Own
-pub mod Showing

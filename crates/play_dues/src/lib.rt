@@ -6,5 +6,5 @@ mod own;
 mod writers;
 
 pub use conns::ConnDues;
-pub use own::{count_own, pick_own};
+pub use own::{count_own, own_steps_are_told, pick_own};
 pub use writers::can_up;

@@ -1,7 +1,7 @@
 //! Which writers have an own step.
 
 ghost use Rattle.std.specs.Prelude.{◌≡◌, length, slice_get};
-ghost use Rattle.play_dues.specs.Own.{own_listed};
+ghost use Rattle.play_dues.specs.Own.{own_listed, OwnIsTold};
 
 use hd_base::{LinkIn, LinkOut};
 use play_clients::Client;
@@ -35,3 +35,8 @@ pub fn pick_own<I: LinkIn, O: LinkOut>(clients: &[Client<I, O>], number: usize) 
     }
     None
 }
+
+/// The own steps that clients tell, which show a world, are those that are due there.
+pub fn own_steps_are_told<I: LinkIn, O: LinkOut>()
+    ensures { OwnIsTold I.LinkIn O.LinkOut }
+{}
