@@ -63,4 +63,3 @@ row_standing r t is fits taking taken =
     (λ j. next_standing (drop (taken_is j) (before_end (end_is j) (is.sent j))) (is_some (end_is j)))
     ∙ (standing_by r.sent r.marks.taken r.marks.end bounds
     ∙ sym (ap (λ (b : Bool). standing_for (if b then None else (if ends_at r.marks.end r.marks.taken then Some the_end else option_map message (slice_get r.sent r.marks.taken)))) taken))
-

@@ -20,10 +20,7 @@ use Rattle.world.specs.Connections.{Next, message, the_end, next_up, is_conn}
 use Rattle.world.specs.Enabled.{takes_above}
 use Rattle.world_nets.specs.Nets.{IsEndOf}
 use Rattle.world_nets.specs.Rows.{rows_of}
-use Rattle.world_orders.specs.Open.{OpenEnds}
-use Rattle.play_model.specs.declared.dues.Due.TheVariants as due
-use Rattle.play_model.specs.Dues.{is_open_above, is_due}
-use Rattle.member_events.specs.Showing.{ShowsWorld}
+use Rattle.play_model.specs.Dues.{is_open_above}
 use Rattle.member_events.specs.Roads.{RoadsPass}
 use Rattle.client_events.specs.declared.pipes.Pipe.{Pipe}
 use Rattle.client_events.specs.declared.pipes.Pipe.TheVariants as pipe
@@ -131,6 +128,6 @@ module _ {R I O : Type 0} (r : roads.Ghosts R I O) (i : link_in.Ghosts I) (o : l
       let within : has ≡ true → nat_lt c w.next_conn ≡ true = λ is. below_so c w.next_conn (subst (λ (k : ℕ). c < k) h.is_net.conns (taking is).within) in (
         record { is_net = h.is_net; sane = h.sane; shows = (tells net h.shows).road_shows },
         told ∙ (next ∙ (due_so (nat_lt c w.next_conn) (is_some (next_up w c)) has (is_none (w.writers b).told) within (ap (λ x. is_none x) shows.told)
-        ∙ (ap (λ (x : Option ℕ). true && ((nat_lt c w.next_conn && is_some (next_up w c)) && (is_conn x c && is_none (w.writers b).told))) (sym conn_is)
-        ∙ ap (λ (x : parts.Upper). is_open_above w x && ((nat_lt c w.next_conn && is_some (next_up w c)) && takes_above x w c)) (sym upper)))),
+            ∙ (ap (λ (x : Option ℕ). true && ((nat_lt c w.next_conn && is_some (next_up w c)) && (is_conn x c && is_none (w.writers b).told))) (sym conn_is)
+            ∙ ap (λ (x : parts.Upper). is_open_above w x && ((nat_lt c w.next_conn && is_some (next_up w c)) && takes_above x w c)) (sym upper)))),
       )

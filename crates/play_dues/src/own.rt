@@ -28,7 +28,9 @@ pub fn pick_own<I: LinkIn, O: LinkOut>(clients: &[Client<I, O>], number: usize) 
     for client in clients {
         if client.has_step() {
             if rest == 0 {
-                return Some(Due::Own { block: client.block });
+                return Some(Due::Own {
+                    block: client.block,
+                });
             }
             rest -= 1;
         }

@@ -1,5 +1,5 @@
 -- A writer takes what stands next on the connection that it has.
-use Rattle.std.proofs.Common.{◌≡◌, false}
+use Rattle.std.proofs.Common.{false}
 use Rattle.world.specs.Connections.{is_conn}
 use Rattle.play_dues.specs.Writers.{conn_of}
 use Rattle.play_dues.proofs.WriterLaws.{nothing_so, something_so, stands_so, roads_pass, writer_tells}
