@@ -95,7 +95,7 @@ impl<F: Files, I: LinkIn, O: LinkOut> Player<F, I, O> {
     }
 
     /// Keeps an event that happened.
-    fn keep(&mut self, event: Event) -> Result<(), PlayFault>
+    pub(crate) fn keep(&mut self, event: Event) -> Result<(), PlayFault>
         ensures { Keeps self.old self.new event result }
     {
         match self.events.push(event) {
