@@ -1,5 +1,5 @@
 -- The own step of a writer, and what it leaves of the nodes and the other clients.
-use Rattle.std.proofs.Common.{◌≡◌, ◌≢◌, ◌⊎◌, inl, inr, ℕ, Bool, true, false, List, [], ◌∷◌, ◌++◌, slice_get, slice_set, Option, Some, None, IfSome, Result, Ok, Err, refl, sym, ap, ◌∙◌, subst, append_assoc, ◌<◌, ◌+◌, arith}
+use Rattle.std.proofs.Common.{◌≡◌, ◌≢◌, ℕ, true, false, List, [], ◌∷◌, ◌++◌, length, slice_get, slice_set, Option, Some, None, IfSome, Result, Ok, Err, refl, sym, ap, ◌∙◌, subst, append_assoc, ◌<◌, ◌+◌, arith}
 use Rattle.hd_base.specs.declared.links.LinkIn as link_in
 use Rattle.hd_base.specs.declared.links.LinkOut as link_out
 use Rattle.hd_base.specs.declared.numbers.BlockId.{BlockId}
@@ -9,10 +9,8 @@ use Rattle.play_clients.specs.Events.{owned_events}
 use Rattle.client_events.specs.Events.{own_event}
 use Rattle.play.specs.declared.faults.PlayFault.{PlayFault}
 use Rattle.play.specs.declared.player.Player.{Player}
-use Rattle.play.specs.Events as events
 use Rattle.play.specs.Events.{Keeps}
-use Rattle.play.specs.Owning.{question, HasMore, IsDialled, IsOwned}
-
+use Rattle.play.specs.Owning.{question, HasMore, IsDialled, IsOwned, OwnShows}
 use Rattle.hd_base.specs.declared.files.Files as files
 use Rattle.hd_base.specs.declared.numbers.ConnId.{ConnId}
 use Rattle.hd_base.specs.declared.roads.Roads as roads
@@ -37,8 +35,11 @@ use Rattle.play_nodes.specs.declared.nodes.Nodes.{Nodes}
 use Rattle.play_nodes.specs.Frames.{IsKept, DialShows, IsFirst, WriterKeeps, NodesStay, NodesEndsStay, OwnKeeps}
 use Rattle.play_nodes.specs.Showing.{NodesShow}
 use Rattle.play.specs.Showing.{PlayerShows}
-use Rattle.play.specs.Events.{PlayerLeft}
-use Rattle.play.proofs.HearSteps.{IsReplaced, keeps_other, clients_after, still_apart}
+use Rattle.play.specs.Events.{PlayerLeft, IsCaused}
+use Rattle.play.proofs.HearSteps.{IsReplaced, keeps_other, clients_after, still_apart, same_client, client_caused}
+use Rattle.play.proofs.NodeSteps.{out_of_memory}
+use Rattle.play.specs.Faults.{of_client}
+use Rattle.client_events.specs.declared.faults.ClientFault.{ClientFault}
 
 module _ {F I O : Type 0} (i : link_in.Ghosts I) (o : link_out.Ghosts O) where
   pub owned_so : (old middle asked new : Player F I O) (block : BlockId) (left : Owned I O) (result : Result (Unit {0}) PlayFault) → IsDialled i o old middle block left.first (Ok tt) → HasMore middle asked (question block left.asked) → Keeps asked new (own_event block left.took true) result → IsOwned i o old new block left result
@@ -51,6 +52,12 @@ module _ {F I O : Type 0} (i : link_in.Ghosts I) (o : link_out.Ghosts O) where
     };
   }
   owned_so old middle asked new block left (Err why) dialled more kept = kept
+
+pub same_block : {I O : Type 0} (a b : Client I O) → Some a ≡ Some b → a.block ≡ b.block
+same_block {I} {O} a b e = ap (λ (x : Client I O). x.block) (some_is a b e)
+  where
+    some_is : {A : Type 0} (a b : A) → Some a ≡ Some b → a ≡ b
+    some_is a b e = cc
 
 -- ONE MEMBER OF A TABLE
 
@@ -125,3 +132,29 @@ module _ {F R I O D : Type 0} (f : files.Ghosts F) (r : roads.Ghosts R I O) (i :
     where
       some_same : (a b : OfficeState) → Some a ≡ Some b → a ≡ b
       some_same a b e = cc
+
+  next_of : (next : ConnId) (n m : ℕ) → next.0 ≡ n → n ≡ m → record { 0 = m } ≡ next
+  next_of next n m at count = sym (ap (λ (k : ℕ). record { 0 = k }) (at ∙ count))
+
+  -- what a client's own step shows, for the client at the place
+  shows_at : (place : ℕ) (old : Player F I O) (c : Client I O) (next : ConnId) (w : World) (queues : Queues) (End : BlockId → Type 0) → next.0 ≡ w.next_conn → slice_get old.clients.items place ≡ Some c
+      → (Ordered w → is_due w queues (due.Own c.block) ≡ true → CanOwn w c next → End c.block) → (a : Client I O) → slice_get old.clients.items place ≡ Some a → Ordered w → is_due w queues (due.Own a.block) ≡ true → CanOwn w a (record { 0 = w.next_conn }) → End a.block
+  shows_at place old c next w queues End at_next at does a at_a =
+      subst (λ (y : Client I O). Ordered w → is_due w queues (due.Own y.block) ≡ true → CanOwn w y (record { 0 = w.next_conn }) → End y.block) (same_client f r i o d c a (sym at ∙ at_a))
+      (λ ordered is can. does ordered is (subst (λ (n : ConnId). CanOwn w c n) (next_of next w.next_conn w.next_conn at_next refl) can))
+
+  pub own_left : (place : ℕ) (old mid new : Player F I O) (c c' : Client I O) (road road' : R) (desk desk' : D) (next : ConnId) (block : BlockId) (left : Owned I O) (result : Result (Unit {0}) PlayFault) → d.office desk ≡ Some old.office.office → d.office desk' ≡ Some mid.office.office → mid.nodes ≡ old.nodes
+      → mid.clients.items ≡ slice_set old.clients.items place c' → mid.events.items ≡ old.events.items → next.0 ≡ length old.nodes.connections.items → ClientsStay i o → NodesStay f i o → NodesEndsStay i o → OwnStepsKeep → OwnKeeps → slice_get old.clients.items place ≡ Some c
+      → block ≡ c.block → clients.OwnShows d r i o next c c' desk desk' road road' (Ok left) → IsOwned i o mid new block left result → OwnShows f r i o place old new road road' result
+  own_left place old mid new c c' road road' desk desk' next block left (Ok u) office_old office_mid nodes set events at_next stay nodes_stay ends_stay steps_keep own_keeps at of shows owned = λ w net queues a p at_a.
+      let next_is : next.0 ≡ w.next_conn = at_next ∙ p.nodes.nodes_are.count in
+      shows_at place old c next w queues (λ (b : BlockId). PlayerLeft r i o w queues (due.Own b) old new road') next_is at
+      (λ ordered is can. own_as place old mid new c c' w net queues road road' desk desk' next left office_old office_mid nodes set events next_is stay nodes_stay ends_stay steps_keep own_keeps at shows (subst (λ (b : BlockId). IsOwned i o mid new b left (Ok tt)) of owned) p ordered is can) a at_a
+  own_left place old mid new c c' road road' desk desk' next block left (Err why) office_old office_mid nodes set events at_next stay nodes_stay ends_stay steps_keep own_keeps at of shows owned = λ w net queues a p at_a ordered is can. out_of_memory f r i o old new road road' why owned
+
+  pub own_failed : (place : ℕ) (old new : Player F I O) (c c' : Client I O) (road road' : R) (desk desk' : D) (next : ConnId) (why : ClientFault) → d.office desk ≡ Some old.office.office → next.0 ≡ length old.nodes.connections.items → slice_get old.clients.items place ≡ Some c
+      → clients.OwnShows d r i o next c c' desk desk' road road' (Err why) → OwnShows f r i o place old new road road' (Err (of_client why))
+  own_failed place old new c c' road road' desk desk' next why office_old at_next at shows = λ w net queues a p at_a.
+      shows_at place old c next w queues (λ (b : BlockId). IsCaused f r old new road road' (of_client why)) (at_next ∙ p.nodes.nodes_are.count) at
+      (λ ordered is can. client_caused f r i o d old new road road' why
+      (shows w net queues (record { roads_are = p.nodes.roads_are; client_is = (p.clients place c at).shows; office_is = office_old ∙ ap (λ (x : OfficeState). Some x) p.office }) (p.clients place c at).queue is can)) a at_a
