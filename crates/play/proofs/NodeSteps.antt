@@ -1,5 +1,5 @@
 -- An event of the nodes, and what it leaves of the clients and the office.
-use Rattle.std.proofs.Common.{◌≡◌, inl, inr, ℕ, true, [], ◌∷◌, ◌++◌, Option, Some, None, IfSome, Result, Ok, Err, sym, ◌∙◌, subst}
+use Rattle.std.proofs.Common.{◌≡◌, inl, inr, refl, ℕ, true, false, [], ◌∷◌, ◌++◌, Option, Some, None, IfSome, Result, Ok, Err, sym, ◌∙◌, subst}
 use Rattle.hd_base.specs.declared.files.Files as files
 use Rattle.hd_base.specs.declared.links.LinkIn as link_in
 use Rattle.hd_base.specs.declared.links.LinkOut as link_out
@@ -129,9 +129,9 @@ module _ {F R I O : Type 0} (f : files.Ghosts F) (r : roads.Ghosts R I O) (i : l
   pub begin_left : (conn : ConnId) (old : Player F I O) (n' : Nodes F I O) (new : Player F I O) (road road' : R) (result : Result (Unit {0}) PlayFault) → ClientsStay i o → DownKeeps → beginning.BeginShows f r i o conn old.nodes n' road road' (Ok true) → Keeps (record old { nodes = n' }) new (event.Down conn true) result
       → BeginShows f r i o conn old new road road' result
   begin_left conn old n' new road road' (Ok u) stay keeps shows kept = λ w net queues p can is idle_is.
-    let l : Left (happens w (event.Down conn true)) queues old new (event.Down conn true) road' =
-        left_of w (happens w (event.Down conn true)) net queues old n' new (event.Down conn true) road road' stay p (can.lawful true).ordered (keeps w conn true) (shows w net queues p.nodes can.lawful can.fit is idle_is) kept in
-    record { made = l.made; shows = l.shows; events = l.events }
+      let l : Left (happens w (event.Down conn true)) queues old new (event.Down conn true) road' =
+      left_of w (happens w (event.Down conn true)) net queues old n' new (event.Down conn true) road road' stay p (can.lawful true).ordered (keeps w conn true) (shows w net queues p.nodes can.lawful can.fit is idle_is) kept in
+      record { made = l.made; shows = l.shows; events = l.events }
   begin_left conn old n' new road road' (Err why) stay keeps shows kept = λ w net queues p can is idle_is. out_of_memory old new road road' why kept
 
   pub begin_unanswered : (conn : ConnId) (old new : Player F I O) (road road' : R) → beginning.BeginShows f r i o conn old.nodes new.nodes road road' (Ok false) → BeginShows f r i o conn old new road road' (Err fault.RoadFault)
