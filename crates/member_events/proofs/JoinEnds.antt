@@ -1,6 +1,6 @@
 -- How an end that has taken a request becomes a member, or why it doesn't.
-use Rattle.std.proofs.Common.{◌≡◌, ◌≢◌, ◌⊎◌, inl, inr, ◌≤◌, ◌+◌, ℕ, Bool, true, false, if◌then◌else◌, List, [], ◌∷◌, ◌++◌, length, slice_get, Option, Some, None, IfSome, Result, Ok, Err, refl, sym, ap, ◌∙◌, subst, arith}
-use Rattle.std.specs.Prelude.{nat_le, min}
+use Rattle.std.proofs.Common.{◌≡◌, ◌≢◌, ◌⊎◌, inl, inr, ◌≤◌, ◌<◌, ◌+◌, ℕ, Bool, true, false, if◌then◌else◌, List, [], ◌∷◌, ◌++◌, length, slice_get, Option, Some, None, IfSome, Result, Ok, Err, refl, sym, ap, ◌∙◌, subst, arith}
+use Rattle.std.specs.Prelude.{nat_le}
 use Rattle.std.proofs.lemmas.Bool.Decides.{nat_tests}
 use Rattle.hd_base.specs.Channels.{Plain}
 use Rattle.hd_base.specs.Ends.{IsKnown}
@@ -22,10 +22,10 @@ use Rattle.op_headers.specs.Requests.{op_message}
 use Rattle.op_headers.specs.Values.{WriteFields}
 use Rattle.node_refs.specs.NodeRefs.{ref_of}
 use Rattle.member_core.specs.declared.requests.TheConstants.{MAX_PORT}
-use Rattle.member_core.specs.Requests.{mirror_request}
+use Rattle.member_core.specs.Requests.{request_to, request_from, mirror_request}
 use Rattle.pipe_setup.specs.Requests.{request_text, first_port, written}
 use Rattle.world.specs.Parts.{request}
-use Rattle.world.specs.Nodes.{node_of, is_asked}
+use Rattle.world.specs.Nodes.{node_of}
 use Rattle.world_nets.specs.Rows.{text_of}
 use Rattle.world_texts.specs.Texts.{SpellsText}
 use Rattle.proto_fields.specs.Framed.{FramesSome}
@@ -45,7 +45,7 @@ use Rattle.member_events.proofs.JoinAlone.{IsUnset, asked_is_set}
 use Rattle.member_events.proofs.JoinEvents.{unset, end_at, step_at, taken_at, taken_ends}
 use Rattle.member_events.proofs.JoinFaults.{join_link, join_file, both_keep, lost_risen}
 use Rattle.member_events.proofs.JoinMirror.{MirrorDone, asked_setup, asked_dial, mirror_waits, mirror_joins}
-use Rattle.member_events.proofs.JoinWorld.{IsMirror, is_mirror, request_same, setup_out, SentDown, sent_down, not_running, runs_as, asked_there, unasked_there, dial_is}
+use Rattle.member_events.proofs.JoinWorld.{IsMirror, is_mirror, request_same, setup_out, SentDown, sent_down, never_asked, runs_as, asked_there, unasked_there, dial_is}
 use Rattle.member_events.proofs.StepLaws.{last_of}
 use Rattle.op_headers.specs.Requests.{OpSays}
 use Rattle.replica_core.specs.declared.events.Event.{Event}
@@ -88,7 +88,7 @@ use Rattle.member_events.specs.declared.joining.MirrorDial.{MirrorDial}
 use Rattle.member_events.specs.declared.joining.MirrorDial.TheVariants as dial
 use Rattle.member_events.specs.declared.faults.MemberFault.{MemberFault}
 use Rattle.member_events.specs.declared.faults.MemberFault.TheVariants as fault
-use Rattle.member_events.specs.Joining.{IsMirrorPort, MeetsNobody, MeetsMirror, Meets, Accepts, write_next, JoinStands, CanJoin, MemberJoins, MirrorJoins, IsUnasked, JoinsBy, JoinEnds, JoinShows}
+use Rattle.member_events.specs.Joining.{IsMirrorPort, MeetsNobody, MeetsMirror, Meets, Accepts, write_next, JoinStands, CanJoin, MemberJoins, MirrorJoins, IsUnheard, IsUnasked, JoinsBy, JoinEnds, JoinShows}
 use Rattle.member_events.specs.Roads.{RoadsPass}
 use Rattle.member_events.specs.Showing.{MirrorShows}
 use Rattle.member_events.specs.Steps as steps
@@ -130,14 +130,39 @@ tail_of a b xs ys h = cc
 few_enough : (n m : ℕ) → n ≤ m → nat_le n m ≡ true
 few_enough n m h = grind (arith, nat_tests)
 
+some_none : {A : Type 0} (b : Bool) (a : A) → b ≡ true → (if b then Some a else None) ≡ None → ⊥
+some_none true a is h = cc
+some_none false a is h = cc
+
+none_if : {A : Type 0} (b : Bool) (a : A) → b ≡ false → (if b then Some a else None) ≡ None
+none_if true a is = cc
+none_if false a is = refl
+
+too_many : (n m : ℕ) → m < n → nat_le n m ≡ false
+too_many n m h = grind (arith, nat_tests)
+
+portless : (source : NodeRef) (w : WriteFields) (targets : List NodeRef) → MAX_PORT < first_port targets → request_to source w targets ≡ None
+portless source w [] far = refl
+portless source w (mirror ∷ rest) far = none_if (nat_le mirror.xfer MAX_PORT) (request_from source w rest) (too_many mirror.xfer MAX_PORT far)
+
+ported : (source : NodeRef) (w : WriteFields) (targets : List NodeRef) → targets ≢ [] → first_port targets ≤ MAX_PORT → request_to source w targets ≡ None → ⊥
+ported source w [] some fits none = some refl
+ported source w (mirror ∷ rest) some fits none = some_none (nat_le mirror.xfer MAX_PORT) (request_from source w rest) (few_enough mirror.xfer MAX_PORT fits) none
+
+-- Nothing goes to a mirror that is named at no port,
+pub never_goes : (source : NodeRef) (w : WriteFields) → MAX_PORT < first_port w.targets → mirror_request source w ≡ None
+unfolding mirror_request
+never_goes source w far = portless source w w.targets far
+
+-- and a request goes to each other one.
+pub always_goes : (source : NodeRef) (w : WriteFields) → w.targets ≢ [] → first_port w.targets ≤ MAX_PORT → mirror_request source w ≡ None → ⊥
+unfolding mirror_request
+always_goes source w some fits none = ported source w w.targets some fits none
+
 -- so it goes on, if there is one
 unwritten_by : (node : NodeId) (w : WriteFields) (x : Option WriteFields) → mirror_request (ref_of node) w ≡ x → ((on : WriteFields) → mirror_request (ref_of node) w ≡ Some on → length (op_message (op.Write on)) ≤ limit) → written x ≡ None → mirror_request (ref_of node) w ≡ None
 unwritten_by node w None is few h = is
 unwritten_by node w (Some on) is few h = absurd (some_none (nat_le (length (op_message (op.Write on))) limit) _ (few_enough _ _ (few on is)) h)
-  where
-    some_none : (b : Bool) (text : List ℕ) → b ≡ true → (if b then Some text else None) ≡ None → ⊥
-    some_none true text is h = cc
-    some_none false text is h = cc
 
 pub unwritten : (node : NodeId) (w : WriteFields) → ((on : WriteFields) → mirror_request (ref_of node) w ≡ Some on → length (op_message (op.Write on)) ≤ limit) → request_text node w ≡ None → mirror_request (ref_of node) w ≡ None
 unfolding request_text
@@ -169,9 +194,6 @@ mirror_none : {I O : Type 0} (i : link_in.Ghosts I) (o : link_out.Ghosts O) (v :
 mirror_none i o v made None None is h = refl
 mirror_none i o v made None (Some y) is h = absurd h
 mirror_none i o v made (Some d) e is h = cc
-
-least_is : (a b : ℕ) → a ≤ b → min a b ≡ a
-least_is a b h = omega arith
 
 true_not : true ≡ false → ⊥
 true_not h = cc
@@ -230,18 +252,21 @@ module _ {F R I O : Type 0} (f : files.Ghosts F) (r : roads.Ghosts R I O) (i : l
         k.ends.ended ∙ ap (λ (s : Shuts). done_step s k.ends.receipt) (awaits old.upstream.id old.op a some').1
 
     down_end : (q : Option ℕ) (left : Option (Member I O)) (result : Result (Joined I O) MemberFault) → IsMirrorPort requested.op.targets q → requested.op.targets ≢ [] → HasTaken o false old held book book' ended → held.mirror ≡ None → RoadsAt r net mid
-        → IsUnasked r (down_taken w conn.0 (write_next requested.op)) conn.0 requested.op road mid → IsPlaced r i o ended held mid later (Ok left) → Meets r i o q left later road' result → result_is result
-    down_end None left result port_is some k none at cause p met = absurd (some port_is)
+        → (first_port requested.op.targets ≤ MAX_PORT → IsUnasked r (down_taken w conn.0 (write_next requested.op)) requested.op road mid) → IsPlaced r i o ended held mid later (Ok left) → Meets r i o q left later road' result → result_is result
+    down_end None None result port_is some k none at cause p met = absurd (not_over ended k.ends.receipt (waits_open false some k) p)
+    down_end None (Some new) result port_is some k none at cause p met =
+        undialled (Some new) result (λ answered. down_joins r i o w net conn node next requested old book road stands can h.is_new held book' ended mid later (Some new) some k none at p answered
+        (unasked_there (down_taken w conn.0 (write_next requested.op)) conn.0 requested.op answered (never_goes _ requested.op (port_is some)))) met
     down_end (Some n) None result port_is some k none at cause p met = absurd (not_over ended k.ends.receipt (waits_open false some k) p)
     down_end (Some n) (Some new) result port_is some k none at cause p met =
-        let joins = down_joins r i o w net conn node next requested old book road stands can h.is_new held book' ended mid later (Some new) some k none at p in
+        let joins = down_joins r i o w net conn node next requested old book road stands can h.is_new held book' ended mid later (Some new) some k none at p false (never_asked (down_taken w conn.0 (write_next requested.op)) conn.0 requested.op) in
         let alone : new.mirror ≡ None = mirror_none i o (happens w (event.Down conn false)) joins.made joins.left_is.full.mirror new.mirror joins.left_is.mirror_is joins.left_is.shows.mirror in
         let here : MeetsNobody (Some new) dial.Unanswered later road' result = subst (λ (y : Option (Conn I O)). MeetsMirror r i o n new y later road' result) alone met in
         let ex = is_exchanged ended k.ends.receipt new (waits_open false some k) p in
         nobody_met (Some new) dial.Unanswered result
-        (subst (λ (y : R). JoinsBy r i o w net conn next requested.op book' road y (Some new) dial.Unanswered) (sym here.same) (later_cause cause (exchange_never r i o None held new mid later ex), joins)) here.is
+        (subst (λ (y : R). JoinsBy r i o w net conn next requested.op book' road y (Some new) dial.Unanswered) (sym here.same) (later_cause (cause (subst (λ (q : ℕ). q ≤ MAX_PORT) port_is.1.0 port_is.1.1)) (exchange_never r i o None held new mid later ex), joins)) here.is
       where
-        later_cause : IsUnasked r (down_taken w conn.0 (write_next requested.op)) conn.0 requested.op road mid → r.faults mid ≤ r.faults later → IsUnasked r (down_taken w conn.0 (write_next requested.op)) conn.0 requested.op road later
+        later_cause : IsUnasked r (down_taken w conn.0 (write_next requested.op)) requested.op road mid → r.faults mid ≤ r.faults later → IsUnasked r (down_taken w conn.0 (write_next requested.op)) requested.op road later
         later_cause (inl x) le = inl x
         later_cause (inr x) le = inr (still_risen (r.faults road) (r.faults mid) (r.faults later) x le)
 
@@ -295,17 +320,24 @@ module _ {F R I O : Type 0} (f : files.Ghosts F) (r : roads.Ghosts R I O) (i : l
         let d = sent_down w taken (setup_change taken conn.0 requested.op (asked_setup k.after conn requested.op) (break_at taken conn.0 requested.op)) (asked_dial taken conn.0 on m.number) (event.Down conn true) (dials_at k.after on m is) (asked_out k.after on k.step_is some is runs) in
         spelled_few on (can.goes_on (length d.earlier) (request (op.Write on)) (last_down (request (op.Write on)) d))
 
-    -- a request that couldn't be written isn't sent in the world
-    unwritten_by_runs : (b : Bool) → HasTaken o false old held book book' ended → requested.op.targets ≢ [] → request_text old.node old.op ≡ None → runs_there taken (mirror_node requested.op.targets) ≡ b → is_asked taken conn.0 requested.op true ≡ false
-    unwritten_by_runs false k some none is = not_running taken conn.0 requested.op true is
-    unwritten_by_runs true k some none is = unasked_there taken conn.0 requested.op (sym request_at_node ∙ unwritten old.node old.op (few_on k some is) none)
+    unheard : requested.op.targets ≢ [] → runs_there taken (mirror_node requested.op.targets) ≡ false → IsUnheard taken requested.op
+    unheard some is = record {
+      number = (mirror_is some).number;
+      node_is = (mirror_is some).node_is;
+      stopped = sym (ap (runs_there taken) (mirror_is some).node_is) ∙ is;
+    }
 
-    unasked_if : HasTaken o false old held book book' ended → requested.op.targets ≢ [] → IsUnwritten old.node old.op road mid ⊎ IsUnanswered r (first_port old.op.targets) road mid → IsUnasked r taken conn.0 requested.op road mid
-    unasked_if k some (inl x) = inl (unwritten_by_runs (runs_there taken (mirror_node requested.op.targets)) k some x.unwritten refl)
-    unasked_if k some (inr x) = cause_of x.cause
+    -- a request that couldn't be written isn't for a node that runs
+    unwritten_by_runs : (b : Bool) → HasTaken o false old held book book' ended → requested.op.targets ≢ [] → first_port requested.op.targets ≤ MAX_PORT → request_text old.node old.op ≡ None → runs_there taken (mirror_node requested.op.targets) ≡ b → IsUnheard taken requested.op
+    unwritten_by_runs false k some fits none is = unheard some is
+    unwritten_by_runs true k some fits none is = absurd (always_goes (ref_of (record { 0 = node_of taken conn.0 })) requested.op some fits (sym request_at_node ∙ unwritten old.node old.op (few_on k some is) none))
+
+    unasked_if : HasTaken o false old held book book' ended → requested.op.targets ≢ [] → IsUnwritten old.node old.op road mid ⊎ IsUnanswered r (first_port old.op.targets) road mid → first_port requested.op.targets ≤ MAX_PORT → IsUnasked r taken requested.op road mid
+    unasked_if k some (inl x) fits = inl (unwritten_by_runs (runs_there taken (mirror_node requested.op.targets)) k some fits x.unwritten refl)
+    unasked_if k some (inr x) fits = cause_of x.cause
       where
-        cause_of : IfSome (r.plain road) (λ p. p.listening (first_port old.op.targets) ≡ false) ⊎ FaultsIncreased (r.faults road) (r.faults mid) → IsUnasked r taken conn.0 requested.op road mid
-        cause_of (inl heard) = inl (not_running taken conn.0 requested.op true (runs_if (is_mirror requested.op some can.of_node) false heard))
+        cause_of : IfSome (r.plain road) (λ p. p.listening (first_port old.op.targets) ≡ false) ⊎ FaultsIncreased (r.faults road) (r.faults mid) → IsUnasked r taken requested.op road mid
+        cause_of (inl heard) = inl (unheard some (runs_if (mirror_is some) false heard))
         cause_of (inr rose) = inr rose
 
     same_roads : mid ≡ road → RoadsAt r net mid
@@ -370,16 +402,21 @@ module _ {F R I O : Type 0} (f : files.Ghosts F) (r : roads.Ghosts R I O) (i : l
     met_mirror n end new None result same met = absurd same
     met_mirror n end new (Some y) result same met = met
 
+    asked_fits : (end : Conn I O) → IsAskedBy r i o old.node old.op road mid end → first_port requested.op.targets ≤ MAX_PORT
+    asked_fits end x = subst (λ (y : WriteFields). first_port y.targets ≤ MAX_PORT) h.is_new.op_is (port_is_one old.node old.op x.text x.is)
+
+    never_both : (n m : ℕ) → n ≤ m → m < n → ⊥
+    never_both n m le lt = absurd (omega (arith, le, lt))
+
     asked_end : (q : Option ℕ) (left : Option (Member I O)) (end : Conn I O) (result : Result (Joined I O) MemberFault) (x : IsAskedBy r i o old.node old.op road mid end) → IsMirrorPort requested.op.targets q → requested.op.targets ≢ [] → HasTaken o true old held book book' ended → held.mirror ≡ Some end → r.faults road ≤ r.faults mid
         → IsPlaced r i o ended held mid later (Ok left) → Meets r i o q left later road' result → result_is result
-    asked_end None left end result x port_is some k holds le p met = absurd (some port_is)
+    asked_end None left end result x port_is some k holds le p met = absurd (never_both (first_port requested.op.targets) MAX_PORT (asked_fits end x) (port_is some))
     asked_end (Some n) None end result x port_is some k holds le p met = absurd (not_over ended k.ends.receipt (waits_open true some k) p)
     asked_end (Some n) (Some new) end result x port_is some k holds le p met =
         let ex = is_exchanged ended k.ends.receipt new (waits_open true some k) p in
         let targets : old.op.targets ≡ requested.op.targets = ap (λ (y : WriteFields). y.targets) h.is_new.op_is in
-        let fits : first_port requested.op.targets ≤ MAX_PORT = subst (λ (l : List NodeRef). first_port l ≤ MAX_PORT) targets (port_is_one old.node old.op x.text x.is) in
         let ends : SameMirror (Some end) new.mirror = subst (λ (y : Option (Conn I O)). SameMirror y new.mirror) holds (exchanged_same r i o None held new mid later ex).lower in
-        accepted_end n end new result x k some (port_is.1 ∙ (least_is (first_port requested.op.targets) MAX_PORT fits ∙ sym (ap first_port targets))) holds ex (less_through (r.faults road) (r.faults mid) (r.faults later) le (exchange_never r i o None held new mid later ex)) (met_mirror n end new new.mirror result ends met)
+        accepted_end n end new result x k some (port_is.1.0 ∙ sym (ap first_port targets)) holds ex (less_through (r.faults road) (r.faults mid) (r.faults later) le (exchange_never r i o None held new mid later ex)) (met_mirror n end new new.mirror result ends met)
 
     -- EACH SETUP
 

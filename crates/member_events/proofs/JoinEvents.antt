@@ -27,7 +27,7 @@ use Rattle.member_events.specs.Joining.{write_next, JoinStands, CanJoin, MemberJ
 use Rattle.member_events.specs.Steps.{IsPlaced}
 use Rattle.member_events.proofs.EndLaws.{RoadsAt}
 use Rattle.member_events.proofs.JoinAlone.{IsUnset, AloneSetup, alone_joins, refused_alone, last_alone, down_alone}
-use Rattle.member_events.proofs.JoinWorld.{RequestSame, request_same, served_before, setup_out, never_asked, last_unasked}
+use Rattle.member_events.proofs.JoinWorld.{RequestSame, request_same, served_before, setup_out, last_unasked}
 use Rattle.member_events.proofs.SetupEnds.{SetUpAs, HasRefused, HasTaken}
 
 -- the same number of a connection
@@ -108,9 +108,9 @@ module _ {F R I O : Type 0} (r : roads.Ghosts R I O) (i : link_in.Ghosts I) (o :
       alone_by answered false (taken_request k.after (set_up conn requested.op false)) held book' result mid later left (last_unasked taken conn.0 requested.op answered last) (k.step_is false ∙ taken_at false k.after) (taken_ends false held book' result k) none
       (last_alone k.after conn taken conn.0 requested.op last) at placed
 
-  -- One whose mirror couldn't be asked.
+  -- One whose mirror isn't asked, in the world where a dial is answered or isn't.
   pub down_joins : (held : Member I O) (book' : BookState F) (result : Stepped) (mid later : R) (left : Option (Member I O)) → requested.op.targets ≢ [] → HasTaken o false old held book book' result → held.mirror ≡ None → RoadsAt r net mid → IsPlaced r i o result held mid later (Ok left)
-      → MemberJoins r i o taken net (happens w (event.Down conn false)) conn.0 requested.op None book' later left
-  down_joins held book' result mid later left some k none at placed =
-      alone_by false false (taken_request k.after (set_up conn requested.op false)) held book' result mid later left (never_asked taken conn.0 requested.op) (k.step_is false ∙ taken_at false k.after) (taken_ends false held book' result k) none
+      → (answered : Bool) → is_asked taken conn.0 requested.op answered ≡ false → MemberJoins r i o taken net (happens w (event.Down conn answered)) conn.0 requested.op None book' later left
+  down_joins held book' result mid later left some k none at placed answered unasked =
+      alone_by answered false (taken_request k.after (set_up conn requested.op false)) held book' result mid later left unasked (k.step_is false ∙ taken_at false k.after) (taken_ends false held book' result k) none
       (down_alone k.after conn taken conn.0 requested.op some) at placed

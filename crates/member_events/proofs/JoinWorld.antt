@@ -139,8 +139,9 @@ runs_as w targets m b h = ap (runs_there w) m.node_is ∙ h
 pub asked_there : (w : World) (c : ℕ) (fields on : WriteFields) → mirror_request (ref_of (record { 0 = node_of w c })) fields ≡ Some on → runs_there w (mirror_node fields.targets) ≡ true → is_asked w c fields true ≡ true
 asked_there w c fields on is runs = and_three true _ (runs_there w (mirror_node fields.targets)) refl (ap is_some is) runs
 
-pub unasked_there : (w : World) (c : ℕ) (fields : WriteFields) → mirror_request (ref_of (record { 0 = node_of w c })) fields ≡ None → is_asked w c fields true ≡ false
-unasked_there w c fields is = ap (λ (x : Option WriteFields). true && is_some x && runs_there w (mirror_node fields.targets)) is
+pub unasked_there : (w : World) (c : ℕ) (fields : WriteFields) (answered : Bool) → mirror_request (ref_of (record { 0 = node_of w c })) fields ≡ None → is_asked w c fields answered ≡ false
+unasked_there w c fields false is = refl
+unasked_there w c fields true is = ap (λ (x : Option WriteFields). true && is_some x && runs_there w (mirror_node fields.targets)) is
 
 -- the dial of the mirror
 pub dial_is : (w : World) (c : ℕ) (fields on : WriteFields) (m : IsMirror fields.targets) → mirror_request (ref_of (record { 0 = node_of w c })) fields ≡ Some on

@@ -1,5 +1,5 @@
 -- A request to write makes an end a member.
-use Rattle.std.specs.Prelude.{◌≡◌, ◌≢◌, ◌⊎◌, ◌≤◌, ℕ, min, Bool, true, false, List, [], slice_get, Option, Some, None, option_map, IfSome, Result, Ok, Err, ◌+◌}
+use Rattle.std.specs.Prelude.{◌≡◌, ◌≢◌, ◌⊎◌, ◌≤◌, ◌<◌, ℕ, Bool, true, false, List, [], slice_get, Option, Some, None, option_map, IfSome, Result, Ok, Err, ◌+◌}
 use Rattle.hd_base.specs.Channels.{with_accept}
 use Rattle.hd_base.specs.Ends.{IsFresh, IsKnown, IsObservable}
 use Rattle.hd_base.specs.Faults.{FaultsIncreased}
@@ -24,7 +24,7 @@ use Rattle.world.specs.declared.events.Event.TheVariants as event
 use Rattle.world.specs.Parts.{Message, request, FullMember, idle, writes, ended_below, by_member}
 use Rattle.world.specs.Worlds.{World}
 use Rattle.world.specs.Connections.{Next, message, down_taken, place_of}
-use Rattle.world.specs.Nodes.{node_of, block_of, replica_at, is_asked, mirror_node}
+use Rattle.world.specs.Nodes.{node_of, block_of, replica_at, mirror_node}
 use Rattle.world.specs.Events.{happens}
 use Rattle.world_nets.specs.Drawn.{ComesDown}
 use Rattle.world_nets.specs.Nets.{IsEndOf}
@@ -41,10 +41,10 @@ use Rattle.member_events.specs.Texts.{SpellUp}
 
 -- THE MIRROR
 
--- The port of the first target, if there is one, and no higher than the last port.
+-- The port of the first target, if there is one and its port isn't higher than the last.
 abbrev pub IsMirrorPort : List NodeRef → Option ℕ → Type 0
-IsMirrorPort targets None = targets ≡ []
-IsMirrorPort targets (Some port) = (targets ≢ []) × (port ≡ min (first_port targets) MAX_PORT)
+IsMirrorPort targets None = targets ≢ [] → MAX_PORT < first_port targets
+IsMirrorPort targets (Some port) = (targets ≢ []) × ((port ≡ first_port targets) × (port ≤ MAX_PORT))
 
 -- The oldest dial that waits at the port is accepted, and this is its lower end.
 pub record AcceptsDial {R I O : Type 0} (r : roads.Ghosts R I O) (i : link_in.Ghosts I) (o : link_out.Ghosts O)
@@ -176,10 +176,15 @@ pub record MirrorJoins {F R I O : Type 0} (r : roads.Ghosts R I O) (i : link_in.
   pub dialled : MirrorDialled v c next fields
   pub lower_same : v.lowers next ≡ taken.lowers next
 
--- The mirror couldn't be asked: there is no request for it, its node doesn't run, or the roads' count rose.
-abbrev pub IsUnasked : {R I O : Type 0} → roads.Ghosts R I O → World → ℕ → WriteFields → R → R → Type 0
-IsUnasked r w c fields road road' =
-    (is_asked w c fields true ≡ false) ⊎ FaultsIncreased (r.faults road) (r.faults road')
+-- The request names a mirror, and its node doesn't run.
+pub record IsUnheard (w : World) (fields : WriteFields) : Type 0 where
+  pub number : ℕ
+  pub node_is : mirror_node fields.targets ≡ Some number
+  pub stopped : w.running number ≡ false
+
+-- The mirror couldn't be asked: its node doesn't run, or the roads' count rose.
+abbrev pub IsUnasked : {R I O : Type 0} → roads.Ghosts R I O → World → WriteFields → R → R → Type 0
+IsUnasked r w fields road road' = IsUnheard w fields ⊎ FaultsIncreased (r.faults road) (r.faults road')
 
 -- Which world it is, by the dial of the mirror: where none was made it is the same whether one would be answered or not.
 abbrev pub JoinsBy : {F R I O : Type 0} → roads.Ghosts R I O → link_in.Ghosts I → link_out.Ghosts O → World → Net →
@@ -188,7 +193,7 @@ JoinsBy r i o w net conn next fields book road road' left dial.NotDialled = (ans
     MemberJoins r i o (down_taken w conn.0 (write_next fields)) net (happens w (event.Down conn answered)) conn.0 fields
     None book road' left
 JoinsBy r i o w net conn next fields book road road' left dial.Unanswered =
-    IsUnasked r (down_taken w conn.0 (write_next fields)) conn.0 fields road road' ×
+    IsUnasked r (down_taken w conn.0 (write_next fields)) fields road road' ×
     MemberJoins r i o (down_taken w conn.0 (write_next fields)) net (happens w (event.Down conn false)) conn.0 fields
     None book road' left
 JoinsBy r i o w net conn next fields book road road' left (dial.Reached at_end) =

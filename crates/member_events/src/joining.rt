@@ -19,7 +19,7 @@ use std::alloc::Global;
 /// What became of the dial of a member's mirror.
 #[derive(Drop)]
 pub enum MirrorDial<I, O> {
-    /// There is no mirror, or the request was refused.
+    /// There is no mirror, or none at a port, or the request was refused.
     NotDialled,
     /// The mirror couldn't be asked.
     Unanswered,
@@ -64,13 +64,13 @@ pub fn join<I: LinkIn, O: LinkOut, R: Roads<Inward = I, Outward = O>, F: Files>(
     meet(alloc, roads, port, left)
 }
 
-/// The port of the mirror that a request names, if it names one, and the last port where that is none.
+/// The port of the mirror that a request names, if it names one and its port is one.
 fn mirror_port(op: &WriteOp) -> Option<u16>
     ensures { IsMirrorPort op.now.targets result }
 {
     match op.targets.as_slice() {
-        [mirror, ..] => Some(mirror.xfer.min(MAX_PORT) as u16),
-        [] => None,
+        [mirror, ..] if mirror.xfer <= MAX_PORT => Some(mirror.xfer as u16),
+        _ => None,
     }
 }
 

@@ -16,6 +16,7 @@ use Rattle.world.specs.Parts.{by_writer}
 use Rattle.world.specs.Worlds.{World}
 use Rattle.world.specs.Events.{happens}
 use Rattle.world_nets.specs.Ends.{IsElsewhere}
+use Rattle.world_nets.specs.Nets.{is_over}
 use Rattle.world_orders.specs.Orders.{Ordered}
 use Rattle.play_model.specs.declared.dues.Due.TheVariants as due
 use Rattle.play_model.specs.Dues.{Queues, is_due}
@@ -75,11 +76,11 @@ module _ {F R I O D : Type 0} (f : files.Ghosts F) (r : roads.Ghosts R I O) (i :
       each None of = tt
       each (Some c) of = λ same. absurd (apart_conns w ordered a b c e apart (dialled_by w ordered b c of) is same)
 
-  keeps_other : (w v : World) (net made : Net) (conn a b : ℕ) → Ordered w → a ≢ b → (w.dialled conn).upper ≡ by_writer b → KeepsOthers w v b → TakesThere w v conn → OthersStay i o w net v made (w.writers b).conn → KeepsClient i o w net v made a
-  keeps_other w v net made conn a b ordered apart upper k over others = record {
+  pub keeps_other : (w v : World) (net made : Net) (a b : ℕ) → Ordered w → a ≢ b → KeepsOthers w v b → ((c : ℕ) → (w.writers a).conn ≡ Some c → is_over v c false ≡ is_over w c false) → OthersStay i o w net v made (w.writers b).conn → KeepsClient i o w net v made a
+  keeps_other w v net made a b ordered apart k over others = record {
     writer = k.writers a apart;
     said = k.said a apart;
-    over = λ c is. over c (λ same. apart_conns w ordered a b conn c apart upper is (sym same));
+    over = over;
     ends = λ c e is h. others c false e (elsewhere w ordered a b c apart is) h;
   }
 
@@ -102,18 +103,17 @@ module _ {F R I O D : Type 0} (f : files.Ghosts F) (r : roads.Ghosts R I O) (i :
       by (inl x) = record { was = c; at = ap (λ (n : ℕ). slice_get old.clients.items n) x.0 ∙ at; same = sym (ap (λ (y : Client I O). y.block.0) x.1 ∙ ap (λ (q : _). q.0) h.block) }
       by (inr x) = record { was = a; at = x.1; same = refl }
 
-  still_apart : (old mid : Player F I O) (place : ℕ) (c c' : Client I O) → IsReplaced old mid place c c' → slice_get old.clients.items place ≡ Some c → AreApart old → AreApart mid
+  pub still_apart : (old mid : Player F I O) (place : ℕ) (c c' : Client I O) → IsReplaced old mid place c c' → slice_get old.clients.items place ≡ Some c → AreApart old → AreApart mid
   still_apart old mid place c c' h at apart j k a b at_j at_k same =
       let x : WasThere old j a = was_there old mid place c c' h at j a at_j in
       let y : WasThere old k b = was_there old mid place c c' h at k b at_k in
       apart j k x.was y.was x.at y.at (x.same ∙ (same ∙ sym y.same))
 
   -- the clients after an event of the one at a place
-  clients_after : (w v : World) (net made : Net) (queues queues' : Queues) (conn place : ℕ) (old mid : Player F I O) (c c' : Client I O) → ClientsStay i o → Ordered w → (w.dialled conn).upper ≡ by_writer c.block.0
-      → KeepsOthers w v c.block.0 → TakesThere w v conn → OthersStay i o w net v made (w.writers c.block.0).conn → ((b : ℕ) → b ≢ c.block.0 → queues' b ≡ queues b)
+  pub clients_after : (w v : World) (net made : Net) (queues queues' : Queues) (place : ℕ) (old mid : Player F I O) (c c' : Client I O) → ClientsStay i o → ((a : ℕ) → a ≢ c.block.0 → KeepsClient i o w net v made a) → ((b : ℕ) → b ≢ c.block.0 → queues' b ≡ queues b)
       → ((k : ℕ) (a : Client I O) → slice_get old.clients.items k ≡ Some a → IsClient i o w net queues a) → AreApart old → slice_get old.clients.items place ≡ Some c → IsReplaced old mid place c c' → IsClient i o v made queues' c'
       → (k : ℕ) (a : Client I O) → slice_get mid.clients.items k ≡ Some a → IsClient i o v made queues' a
-  clients_after w v net made queues queues' conn place old mid c c' stay ordered upper others over ends queues_stay were apart at h here k a is =
+  clients_after w v net made queues queues' place old mid c c' stay others queues_stay were apart at h here k a is =
       by (set_or old.clients.items place c' k a (sym (ap (λ (xs : List (Client I O)). slice_get xs k) h.clients) ∙ is))
     where
       by : SetOr old.clients.items place c' k a → IsClient i o v made queues' a
@@ -122,7 +122,7 @@ module _ {F R I O D : Type 0} (f : files.Ghosts F) (r : roads.Ghosts R I O) (i :
           let was : IsClient i o w net queues a = were k a x.1 in
           let blocks : a.block.0 ≢ c.block.0 = λ same. x.0 (apart k place a c x.1 at same) in
           record {
-            shows = stay a w net v made was.shows (keeps_other w v net made conn a.block.0 c.block.0 ordered blocks upper others over ends);
+            shows = stay a w net v made was.shows (others a.block.0 blocks);
             queue = was.queue ∙ sym (queues_stay a.block.0 blocks);
           }
 
@@ -138,7 +138,7 @@ module _ {F R I O D : Type 0} (f : files.Ghosts F) (r : roads.Ghosts R I O) (i :
           roads_are = left.left.stands.roads_are;
           nodes_are = subst (λ (x : Nodes F I O). NodesShow i o v left.made x) (sym h.nodes) (nodes_stay w net v left.made old.nodes (record { nodes_are = p.nodes.nodes_are; ordered = ordered; keeps = n.keeps; ends = ends_stay w net v left.made c.block.0 ordered left.left.others }) n.conns);
         };
-        clients = clients_after w v net left.made queues queues conn.0 place old mid c c' stay ordered upper k.0 k.1 left.left.others (λ b z. refl) p.clients p.apart at h (record {
+        clients = clients_after w v net left.made queues queues place old mid c c' stay (λ a apart. keeps_other w v net left.made a c.block.0 ordered apart k.0 (λ e is. k.1 e (λ same. apart_conns w ordered a c.block.0 conn.0 e apart upper is (sym same))) left.left.others) (λ b z. refl) p.clients p.apart at h (record {
           shows = left.left.stands.client_is;
           queue = left.queue ∙ ((p.clients place c at).queue ∙ ap (λ (q : _). queues q.0) (sym h.block));
         });
@@ -149,12 +149,12 @@ module _ {F R I O D : Type 0} (f : files.Ghosts F) (r : roads.Ghosts R I O) (i :
       some_same : (a b : OfficeState) → Some a ≡ Some b → a ≡ b
       some_same a b e = cc
 
-  client_caused : (old new : Player F I O) (road road' : R) (why : ClientFault) → clients.IsCaused r road road' why → IsCaused f r old new road road' (of_client why)
+  pub client_caused : (old new : Player F I O) (road road' : R) (why : ClientFault) → clients.IsCaused r road road' why → IsCaused f r old new road road' (of_client why)
   client_caused old new road road' client_fault.LinkFailed h = inl h
   client_caused old new road road' client_fault.RoadsFailed h = inr h
   client_caused old new road road' client_fault.Memory h = tt
 
-  same_client : (a b : Client I O) → Some a ≡ Some b → a ≡ b
+  pub same_client : (a b : Client I O) → Some a ≡ Some b → a ≡ b
   same_client a b e = cc
 
   heard_as : (conn : ConnId) (place : ℕ) (old mid new : Player F I O) (c c' : Client I O) (w : World) (net : Net) (queues : Queues) (road road' : R) (desk desk' : D) → d.office desk ≡ Some old.office.office → d.office desk' ≡ Some mid.office.office → clients.HearKeepsOffice d r i o c desk desk' road → mid.nodes ≡ old.nodes

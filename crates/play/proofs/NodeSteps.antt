@@ -1,5 +1,5 @@
 -- An event of the nodes, and what it leaves of the clients and the office.
-use Rattle.std.proofs.Common.{◌≡◌, inl, inr, ℕ, true, [], ◌∷◌, ◌++◌, Option, Some, None, IfSome, Result, Ok, Err, sym, ◌∙◌, subst}
+use Rattle.std.proofs.Common.{◌≡◌, inl, inr, refl, ℕ, true, false, [], ◌∷◌, ◌++◌, Option, Some, None, IfSome, Result, Ok, Err, sym, ◌∙◌, subst}
 use Rattle.hd_base.specs.declared.files.Files as files
 use Rattle.hd_base.specs.declared.links.LinkIn as link_in
 use Rattle.hd_base.specs.declared.links.LinkOut as link_out
@@ -10,6 +10,7 @@ use Rattle.world.specs.declared.events.Event.{Event}
 use Rattle.world.specs.declared.events.Event.TheVariants as event
 use Rattle.world.specs.Parts.{Dialled, Marks, Writing, by_writer}
 use Rattle.world.specs.Worlds.{World}
+use Rattle.world.specs.Connections.{Next, down_taken}
 use Rattle.world.specs.Events.{happens}
 use Rattle.world_orders.specs.Orders.{Ordered, IsWriterConn}
 use Rattle.play_model.specs.Dues.{Queues}
@@ -17,6 +18,8 @@ use Rattle.play_clients.specs.Staying.{KeepsClient, ClientsStay}
 use Rattle.play_nodes.specs.declared.faults.NodesFault.{NodesFault}
 use Rattle.play_nodes.specs.declared.faults.NodesFault.TheVariants as nodes_fault
 use Rattle.play_nodes.specs.declared.nodes.Nodes.{Nodes}
+use Rattle.member_events.specs.Joining.{write_next, IsUnasked}
+use Rattle.play_nodes.specs.Beginning as beginning
 use Rattle.play_nodes.specs.Events as nodes
 use Rattle.play_nodes.specs.Frames.{KeepsWriters, DownKeeps, ReadyKeeps, MirrorKeeps}
 use Rattle.play_nodes.specs.Showing.{NodesLeft, WritersStay}
@@ -25,7 +28,7 @@ use Rattle.play.specs.declared.faults.PlayFault.TheVariants as fault
 use Rattle.play.specs.declared.player.Player.{Player}
 use Rattle.play.specs.Faults.{of_nodes}
 use Rattle.play.specs.Showing.{PlayerShows}
-use Rattle.play.specs.Events.{IsKept, Keeps, IsCaused, ReadyShows, DownShows, MirrorShows}
+use Rattle.play.specs.Events.{IsKept, Keeps, RoadsFailed, IsCaused, CanBegin, BeginShows, ReadyShows, DownShows, MirrorShows}
 
 pub dialled_there : (dialled : ℕ → Dialled) (marks : ℕ → Marks) (b c : ℕ) (x : Writing) (n : Option ℕ) → n ≡ Some c → IfSome n (λ c. IsWriterConn (dialled c) (marks c).taken b x.known) → (dialled c).upper ≡ by_writer b
 dialled_there dialled marks b c x None is h = cc
@@ -33,6 +36,13 @@ dialled_there dialled marks b c x (Some d) is h = subst (λ (m : ℕ). (dialled 
   where
     some_is : (a b : ℕ) → Some a ≡ Some b → a ≡ b
     some_is a b e = cc
+
+taken_runs : (w : World) (c : ℕ) (x : Next) (n : ℕ) → (down_taken w c x).running n ≡ w.running n
+unfolding down_taken
+taken_runs w c x n = refl
+
+true_false : true ≡ false → ⊥
+true_false e = cc
 
 module _ {F R I O : Type 0} (f : files.Ghosts F) (r : roads.Ghosts R I O) (i : link_in.Ghosts I) (o : link_out.Ghosts O) where
   keeps_client : (w v : World) (net made : Net) → Ordered w → KeepsWriters w v → WritersStay i o w net v made → (b : ℕ) → KeepsClient i o w net v made b
@@ -115,3 +125,25 @@ module _ {F R I O : Type 0} (f : files.Ghosts F) (r : roads.Ghosts R I O) (i : l
   pub mirror_failed : (conn : ConnId) (old new : Player F I O) (road road' : R) (why : NodesFault) → nodes.UpShows f r i o conn old.nodes new.nodes road road' (Err why)
       → MirrorShows f r i o conn old new road road' (Err (of_nodes why))
   mirror_failed conn old new road road' why shows = λ w net queues d p lawful is above. caused old new road road' why (shows w net queues d p.nodes lawful is above)
+
+  pub begin_left : (conn : ConnId) (old : Player F I O) (n' : Nodes F I O) (new : Player F I O) (road road' : R) (result : Result (Unit {0}) PlayFault) → ClientsStay i o → DownKeeps → beginning.BeginShows f r i o conn old.nodes n' road road' (Ok true) → Keeps (record old { nodes = n' }) new (event.Down conn true) result
+      → BeginShows f r i o conn old new road road' result
+  begin_left conn old n' new road road' (Ok u) stay keeps shows kept = λ w net queues p can is idle_is.
+      let l : Left (happens w (event.Down conn true)) queues old new (event.Down conn true) road' =
+      left_of w (happens w (event.Down conn true)) net queues old n' new (event.Down conn true) road road' stay p (can.lawful true).ordered (keeps w conn true) (shows w net queues p.nodes can.lawful can.fit is idle_is) kept in
+      record { made = l.made; shows = l.shows; events = l.events }
+  begin_left conn old n' new road road' (Err why) stay keeps shows kept = λ w net queues p can is idle_is. out_of_memory old new road road' why kept
+
+  pub begin_unanswered : (conn : ConnId) (old new : Player F I O) (road road' : R) → beginning.BeginShows f r i o conn old.nodes new.nodes road road' (Ok false) → BeginShows f r i o conn old new road road' (Err fault.RoadFault)
+  begin_unanswered conn old new road road' shows = λ w net queues p can is idle_is. rose w can (shows w net queues p.nodes can.lawful can.fit is idle_is).1
+    where
+      rose : (w : World) → CanBegin w conn old.nodes → beginning.IsUnanswered r w conn.0 road road' → RoadsFailed r road road'
+      rose w can x = by x.unasked
+        where
+          by : IsUnasked r (down_taken w conn.0 (write_next x.fields)) x.fields road road' → RoadsFailed r road road'
+          by (inl z) = absurd (true_false (sym (can.run x.fields z.number x.comes z.node_is) ∙ (sym (taken_runs w conn.0 (write_next x.fields) z.number) ∙ z.stopped)))
+          by (inr z) = inr z
+
+  pub begin_failed : (conn : ConnId) (old new : Player F I O) (road road' : R) (why : NodesFault) → beginning.BeginShows f r i o conn old.nodes new.nodes road road' (Err why)
+      → BeginShows f r i o conn old new road road' (Err (of_nodes why))
+  begin_failed conn old new road road' why shows = λ w net queues p can is idle_is. caused old new road road' why (shows w net queues p.nodes can.lawful can.fit is idle_is)

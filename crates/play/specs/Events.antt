@@ -1,5 +1,5 @@
 -- What the events of a play make of a player and roads that show a world.
-use Rattle.std.specs.Prelude.{◌≡◌, ◌⊎◌, ℕ, true, ◌++◌, [], ◌∷◌, slice_get, Some, Result, Ok, Err}
+use Rattle.std.specs.Prelude.{◌≡◌, ◌⊎◌, ℕ, Bool, true, ◌++◌, [], ◌∷◌, slice_get, Some, Result, Ok, Err}
 use Rattle.hd_base.specs.Faults.{FaultsIncreased}
 use Rattle.hd_base.specs.declared.files.Files as files
 use Rattle.hd_base.specs.declared.links.LinkIn as link_in
@@ -9,14 +9,20 @@ use Rattle.hd_base.specs.declared.roads.Roads as roads
 use Rattle.road_traffic.specs.Showing.{Net}
 use Rattle.world.specs.declared.events.Event.{Event}
 use Rattle.world.specs.declared.events.Event.TheVariants as event
-use Rattle.world.specs.Parts.{by_member, by_writer}
+use Rattle.world.specs.Parts.{by_member, by_writer, idle}
 use Rattle.world.specs.Worlds.{World}
+use Rattle.world.specs.Nodes.{mirror_node}
 use Rattle.world.specs.Events.{run}
+use Rattle.world_nets.specs.Drawn.{ComesDown}
 use Rattle.play_model.specs.declared.dues.Due.{Due}
 use Rattle.play_model.specs.declared.dues.Due.TheVariants as due
 use Rattle.play_model.specs.Dues.{Queues, is_due, due_events, queues_after}
 use Rattle.play_clients.specs.declared.clients.Client.{Client}
 use Rattle.play_clients.specs.Events.{HearIsLawful, AcceptedIsQuiet}
+use Rattle.member_events.specs.Joining.{write_next}
+use Rattle.op_headers.specs.Values.{WriteFields}
+use Rattle.play_nodes.specs.declared.nodes.Nodes.{Nodes}
+use Rattle.play_nodes.specs.Beginning.{RequestsFit}
 use Rattle.play_nodes.specs.Events.{IsLawful, IsBusy, DrawerFailed}
 use Rattle.play.specs.declared.faults.PlayFault.{PlayFault}
 use Rattle.play.specs.declared.faults.PlayFault.TheVariants as fault
@@ -85,3 +91,19 @@ HeardShows {F} {R} {I} {O} f r i o conn place old new road road' result =
     slice_get old.clients.items place ≡ Some c → HearIsLawful w c.block.0 → is_due w queues (due.Up conn) ≡ true →
     (w.dialled conn.0).upper ≡ by_writer c.block.0 → AcceptedIsQuiet w c.block.0
     → PlayEnds f r i o w queues (due.Up conn) old new road road' result
+
+-- What is asked of the world where an end takes its first message: each request is for a block of the play, and the nodes
+-- that requests name run (requests_are_among, targets_are_nodes, nodes_run).
+pub record CanBegin {F I O : Type 0} (w : World) (conn : ConnId) (n : Nodes F I O) : Type 0 where
+  pub lawful : (answered : Bool) → IsLawful w (event.Down conn answered)
+  pub fit : RequestsFit w n
+  pub run : (fields : WriteFields) (number : ℕ) → ComesDown w conn.0 (write_next fields) →
+      mirror_node fields.targets ≡ Some number
+      → w.running number ≡ true
+
+abbrev pub BeginShows : {F R I O : Type 0} → files.Ghosts F → roads.Ghosts R I O → link_in.Ghosts I →
+    link_out.Ghosts O → ConnId → Player F I O → Player F I O → R → R → Result (Unit {0}) PlayFault → Type 0
+BeginShows f r i o conn old new road road' result =
+    (w : World) (net : Net) (queues : Queues) → PlayerShows r i o w net queues road old →
+    CanBegin w conn old.nodes → is_due w queues (due.Down conn) ≡ true → w.lowers conn.0 ≡ idle
+    → PlayEnds f r i o w queues (due.Down conn) old new road road' result

@@ -3,7 +3,7 @@
 ghost use Rattle.std.specs.Prelude.{◌<◌, length};
 ghost use Rattle.play_nodes.specs.Showing.{Stand};
 ghost use Rattle.play.specs.Showing.{PlayerStands};
-ghost use Rattle.play.specs.Events.{Keeps, ReadyShows, DownShows, MirrorShows, HeardShows};
+ghost use Rattle.play.specs.Events.{Keeps, BeginShows, ReadyShows, DownShows, MirrorShows, HeardShows};
 
 use crate::faults::{PlayFault, of_client, of_nodes};
 use crate::player::Player;
@@ -28,6 +28,29 @@ impl<F: Files, I: LinkIn, O: LinkOut> Player<F, I, O> {
         clients_stay::<I, O>();
         match self.nodes.ready(alloc, roads, conn) {
             Ok(()) => self.keep(Event::Ready { conn }),
+            Err(fault) => Err(of_nodes(fault)),
+        }
+    }
+
+    /// The lower end of a connection that has taken nothing yet takes what stands next. A node that doesn't answer the dial
+    /// of a member runs all the same, so the roads have failed.
+    pub fn begin<R: Roads<Inward = I, Outward = O>>(
+        &mut self,
+        alloc: Global,
+        roads: &mut R,
+        conn: ConnId,
+    ) -> Result<(), PlayFault>
+        requires { Stand R.Roads I.LinkIn O.LinkOut roads.old self.old.nodes }
+        ensures { BeginShows F.Files R.Roads I.LinkIn O.LinkOut conn self.old self.new roads.old roads.new result }
+    {
+        nodes_keep_writers();
+        clients_stay::<I, O>();
+        match self.nodes.begin(alloc, roads, conn) {
+            Ok(true) => self.keep(Event::Down {
+                conn,
+                answered: true,
+            }),
+            Ok(false) => Err(PlayFault::RoadFault),
             Err(fault) => Err(of_nodes(fault)),
         }
     }
@@ -95,7 +118,7 @@ impl<F: Files, I: LinkIn, O: LinkOut> Player<F, I, O> {
     }
 
     /// Keeps an event that happened.
-    fn keep(&mut self, event: Event) -> Result<(), PlayFault>
+    pub(crate) fn keep(&mut self, event: Event) -> Result<(), PlayFault>
         ensures { Keeps self.old self.new event result }
     {
         match self.events.push(event) {

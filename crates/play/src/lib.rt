@@ -4,6 +4,7 @@
 
 mod events;
 mod faults;
+mod owning;
 mod player;
 
 pub use faults::PlayFault;

@@ -122,9 +122,9 @@ module _ {F R I O : Type 0} (f : files.Ghosts F) (r : roads.Ghosts R I O) (i : l
   caused_from old new first road road' (fault.FilesFailed node) le h = h
   caused_from old new first road road' fault.Memory le h = h
 
-  unasked_from : (w : World) (c : ℕ) (fields : WriteFields) (first road road' : R) → r.faults first ≤ r.faults road → IsUnasked r w c fields road road' → IsUnasked r w c fields first road'
-  unasked_from w c fields first road road' le (inl h) = inl h
-  unasked_from w c fields first road road' le (inr h) = inr (rises_from (r.faults first) (r.faults road) (r.faults road') le h)
+  unasked_from : (w : World) (fields : WriteFields) (first road road' : R) → r.faults first ≤ r.faults road → IsUnasked r w fields road road' → IsUnasked r w fields first road'
+  unasked_from w fields first road road' le (inl h) = inl h
+  unasked_from w fields first road road' le (inr h) = inr (rises_from (r.faults first) (r.faults road) (r.faults road') le h)
 
   -- BEFORE THE EVENT
 
@@ -256,7 +256,7 @@ module _ {F R I O : Type 0} (f : files.Ghosts F) (r : roads.Ghosts R I O) (i : l
       dial_ends left dial.Unanswered middle put joins adds =
           subst ends (sym adds.1) (
             alone_left r i o w taken (happens w (event.Down conn false)) net n1 conn.0 fields None s book' road' left old mid set middle at end (set_up false None left middle put joins.1) new adds.0 refl,
-            (fields, unasked_from taken conn.0 fields road first road' h.never_falls joins.0),
+            record { fields = fields; comes = h.comes; unasked = unasked_from taken fields road first road' h.never_falls joins.0 },
           )
       dial_ends left (dial.Reached reached) middle put joins adds = reached_ends left reached middle result put joins adds
 

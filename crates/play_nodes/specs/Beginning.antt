@@ -12,6 +12,7 @@ use Rattle.world.specs.Parts.{idle}
 use Rattle.world.specs.Worlds.{World}
 use Rattle.world.specs.Connections.{down_taken}
 use Rattle.world.specs.Events.{happens}
+use Rattle.world_nets.specs.Drawn.{ComesDown}
 use Rattle.world_requests.specs.Requests.{AllAsked, IsAmong}
 use Rattle.play_model.specs.declared.dues.Due.TheVariants as due
 use Rattle.play_model.specs.Dues.{Queues, is_due}
@@ -26,10 +27,11 @@ use Rattle.play_nodes.specs.Events.{IsLawful, IsCaused}
 abbrev pub RequestsFit : {F I O : Type 0} → World → Nodes F I O → Type 0
 RequestsFit w n = AllAsked (IsAmong n.blocks.items) w
 
--- The dial of the mirror of the request that was taken couldn't be answered.
-abbrev pub IsUnanswered : {R I O : Type 0} → roads.Ghosts R I O → World → ℕ → R → R → Type 0
-IsUnanswered r w c road road' = (fields : WriteFields) ×
-    IsUnasked r (down_taken w c (write_next fields)) c fields road road'
+-- A request to write was taken, and its mirror couldn't be asked.
+pub record IsUnanswered {R I O : Type 0} (r : roads.Ghosts R I O) (w : World) (c : ℕ) (road road' : R) : Type 0 where
+  pub fields : WriteFields
+  pub comes : ComesDown w c (write_next fields)
+  pub unasked : IsUnasked r (down_taken w c (write_next fields)) fields road road'
 
 abbrev pub BeginEnds : {F R I O : Type 0} → files.Ghosts F → roads.Ghosts R I O → link_in.Ghosts I →
     link_out.Ghosts O → World → Net → ConnId → Nodes F I O → Nodes F I O → R → R → Result Bool NodesFault → Type 0
