@@ -14,3 +14,5 @@ pub mod Asides
 pub mod Sending
 pub mod Early
 pub mod Untold
+pub mod Intakes
+pub mod Stamps

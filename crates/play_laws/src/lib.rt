@@ -3,8 +3,10 @@
 #![tactic(auto)]
 
 ghost use Rattle.play_laws.specs.Early.{NothingEarly};
+ghost use Rattle.play_laws.specs.Intakes.{OwnStepsKeepIntakes, HearingKeepsIntakes};
 ghost use Rattle.play_laws.specs.Members.{MembersAre, TargetsAre};
 ghost use Rattle.play_laws.specs.Nodes.{AllRun};
+ghost use Rattle.play_laws.specs.Stamps.{StampsAreFew};
 ghost use Rattle.play_laws.specs.Taking.{CommandsTaken, CreatesFirst};
 ghost use Rattle.play_laws.specs.Untold.{StaysQuiet};
 ghost use Rattle.play_laws.specs.Writers.{AllRest, WritersOpen};
@@ -53,4 +55,15 @@ pub fn creates_come_first()
 /// Where no answer of the office waits for a writer before the events of what is due, none waits after them.
 pub fn plays_stay_quiet()
     ensures { StaysQuiet }
+{}
+
+/// Where a writer takes no command, but has something to do or hears something, what it was given stays.
+pub fn intakes_stay()
+    ensures own { OwnStepsKeepIntakes }
+    ensures heard { HearingKeepsIntakes }
+{}
+
+/// The office has given no more stamps than there are events.
+pub fn stamps_are_few()
+    ensures { StampsAreFew }
 {}
