@@ -1,8 +1,10 @@
 -- What a writer hears, and what it leaves of the nodes and the other clients.
-use Rattle.std.proofs.Common.{◌≡◌, ◌≢◌, inl, inr, ℕ, true, false, List, [], ◌∷◌, ◌++◌, slice_get, slice_set, Option, Some, None, IfSome, Result, Ok, Err, refl, sym, ap, ◌∙◌, subst}
+use Rattle.std.proofs.Common.{◌≡◌, ◌≢◌, inl, inr, ℕ, zero, suc, true, false, List, [], ◌∷◌, ◌++◌, slice_get, slice_set, Option, Some, None, IfSome, Result, Ok, Err, refl, sym, ap, ◌∙◌, subst}
 use Rattle.hd_base.specs.declared.files.Files as files
 use Rattle.hd_base.specs.declared.links.LinkIn as link_in
 use Rattle.hd_base.specs.declared.links.LinkOut as link_out
+use Rattle.hd_base.proofs.OptionLaws.{some_value}
+use Rattle.hd_base.specs.declared.numbers.BlockId.{BlockId}
 use Rattle.hd_base.specs.declared.numbers.ConnId.{ConnId}
 use Rattle.hd_base.specs.declared.roads.Roads as roads
 use Rattle.name_core.specs.declared.desks.Desk as desks
@@ -39,11 +41,17 @@ use Rattle.play.specs.declared.faults.PlayFault.{PlayFault}
 use Rattle.play.specs.declared.player.Player.{Player}
 use Rattle.play.specs.Faults.{of_client}
 use Rattle.play.specs.Showing.{IsClient, AreApart, PlayerShows, PlayerStands}
-use Rattle.play.specs.Events.{IsKept, Keeps, IsCaused, PlayerLeft, HeardShows}
+use Rattle.play.specs.Events.{IsKept, Keeps, IsCaused, writer_at, StaysAt, blocks_of, KeepsPlaces, PlayerLeft, HeardShows}
 use Rattle.play.proofs.NodeSteps.{dialled_there, out_of_memory}
 
 writer_same : (a b : ℕ) → by_writer a ≡ by_writer b → a ≡ b
 writer_same a b e = cc
+
+-- another client of the same block leaves the blocks
+set_blocks : {I O : Type 0} (xs : List (Client I O)) (k : ℕ) (c c' : Client I O) → slice_get xs k ≡ Some c → c'.block ≡ c.block → blocks_of (slice_set xs k c') ≡ blocks_of xs
+set_blocks [] k c c' at e = refl
+set_blocks {I} {O} (x ∷ xs) zero c c' at e = ap (λ (b : BlockId). b ∷ blocks_of xs) (e ∙ sym (ap (λ (y : Client I O). y.block) (some_value x c at)))
+set_blocks (x ∷ xs) (suc k) c c' at e = ap (λ (bs : List BlockId). x.block ∷ bs) (set_blocks xs k c c' at e)
 
 module _ {R I O : Type 0} (r : roads.Ghosts R I O) (i : link_in.Ghosts I) (o : link_out.Ghosts O) where
   -- THE ROADS KNOW A CLIENT'S CONNECTION
@@ -126,6 +134,29 @@ module _ {F R I O D : Type 0} (f : files.Ghosts F) (r : roads.Ghosts R I O) (i :
             queue = was.queue ∙ sym (queues_stay a.block.0 blocks);
           }
 
+  -- the client that stood there before, the same one unless it is the one that acted
+  stays_at : (old mid : Player F I O) (place : ℕ) (c c' : Client I O) → IsReplaced old mid place c c' → slice_get old.clients.items place ≡ Some c → (k : ℕ) (a : Client I O) → slice_get mid.clients.items k ≡ Some a → StaysAt old.clients.items (Some c.block.0) k a
+  stays_at old mid place c c' h at k a is = by (set_or old.clients.items place c' k a (sym (ap (λ (xs : List (Client I O)). slice_get xs k) h.clients) ∙ is))
+    where
+      by : SetOr old.clients.items place c' k a → StaysAt old.clients.items (Some c.block.0) k a
+      by (inl x) = record { was = c; at = ap (λ (n : ℕ). slice_get old.clients.items n) x.0 ∙ at; block = ap (λ (y : Client I O). y.block) x.1 ∙ h.block; same = λ no. absurd (no refl) }
+      by (inr x) = record { was = a; at = x.1; block = refl; same = λ no. refl }
+
+  -- what was kept leaves the places
+  same_places : (actor : Option ℕ) (old mid new : Player F I O) (e : Event) → IsKept mid new e → KeepsPlaces actor old mid → KeepsPlaces actor old new
+  same_places actor old mid new e kept h = record {
+    blocks = ap (λ (p : Player F I O). p.nodes.blocks.items) kept.same ∙ h.blocks;
+    order = ap (λ (p : Player F I O). blocks_of p.clients.items) kept.same ∙ h.order;
+    each = λ k c at. h.each k c (sym (ap (λ (p : Player F I O). slice_get p.clients.items k) kept.same) ∙ at);
+  }
+
+  pub kept_places : (old mid : Player F I O) (place : ℕ) (c c' : Client I O) → IsReplaced old mid place c c' → slice_get old.clients.items place ≡ Some c → KeepsPlaces (Some c.block.0) old mid
+  kept_places old mid place c c' h at = record {
+    blocks = ap (λ (n : Nodes F I O). n.blocks.items) h.nodes;
+    order = ap (λ (xs : List (Client I O)). blocks_of xs) h.clients ∙ set_blocks old.clients.items place c c' at h.block;
+    each = stays_at old mid place c c' h at;
+  }
+
   pub heard_shows : (conn : ConnId) (place : ℕ) (old mid : Player F I O) (c c' : Client I O) (w : World) (net : Net) (queues : Queues) (road road' : R) (desk : D) → d.office desk ≡ Some mid.office.office
       → ClientsStay i o → NodesStay f i o → NodesEndsStay i o → HearingKeeps → HeardKeeps → PlayerShows r i o w net queues road old → slice_get old.clients.items place ≡ Some c → IsReplaced old mid place c c' → Ordered w → (w.dialled conn.0).upper ≡ by_writer c.block.0
       → (left : clients.HearLeft d r i o w net (happens w (event.Up conn)) c c' desk road') → PlayerShows r i o (happens w (event.Up conn)) left.made queues road' mid
@@ -171,6 +202,7 @@ module _ {F R I O D : Type 0} (f : files.Ghosts F) (r : roads.Ghosts R I O) (i :
         made = left.made;
         shows = subst (λ (x : Player F I O). PlayerShows r i o (happens w (event.Up conn)) left.made queues road' x) (sym kept.same) (record { nodes = q.nodes; clients = q.clients; apart = q.apart; office = q.office });
         events = kept.events ∙ ap (λ (es : List Event). es ++ event.Up conn ∷ []) events;
+        places = subst (λ (u : Option ℕ). KeepsPlaces u old new) (sym (ap writer_at upper)) (same_places (Some c.block.0) old mid new (event.Up conn) kept (kept_places old mid place c c' (record { nodes = nodes; clients = set; block = left.left.block }) at));
       }
 
   pub heard_left : (conn : ConnId) (place : ℕ) (old mid new : Player F I O) (c c' : Client I O) (road road' : R) (desk desk' : D) (result : Result (Unit {0}) PlayFault) → d.office desk ≡ Some old.office.office → d.office desk' ≡ Some mid.office.office → clients.HearKeepsOffice d r i o c desk desk' road → mid.nodes ≡ old.nodes

@@ -35,8 +35,8 @@ use Rattle.play_nodes.specs.declared.nodes.Nodes.{Nodes}
 use Rattle.play_nodes.specs.Frames.{IsKept, DialShows, IsFirst, WriterKeeps, NodesStay, NodesEndsStay, OwnKeeps}
 use Rattle.play_nodes.specs.Showing.{NodesShow}
 use Rattle.play.specs.Showing.{PlayerShows}
-use Rattle.play.specs.Events.{PlayerLeft, IsCaused}
-use Rattle.play.proofs.HearSteps.{IsReplaced, keeps_other, clients_after, still_apart, same_client, client_caused}
+use Rattle.play.specs.Events.{PlayerLeft, IsCaused, blocks_of, KeepsPlaces}
+use Rattle.play.proofs.HearSteps.{IsReplaced, kept_places, keeps_other, clients_after, still_apart, same_client, client_caused}
 use Rattle.play.proofs.NodeSteps.{out_of_memory}
 use Rattle.play.specs.Faults.{of_client}
 use Rattle.client_events.specs.declared.faults.ClientFault.{ClientFault}
@@ -70,13 +70,22 @@ queues_other w queues block b apart = put_other queues block.0 (queue_left (acti
 module _ {F R I O D : Type 0} (f : files.Ghosts F) (r : roads.Ghosts R I O) (i : link_in.Ghosts I) (o : link_out.Ghosts O) (d : desks.Ghosts D) where
   -- What was dialled changes only the nodes.
   record OnlyNodes (mid middle : Player F I O) : Type 0 where
+    blocks : middle.nodes.blocks.items ≡ mid.nodes.blocks.items
     clients : middle.clients.items ≡ mid.clients.items
     office : middle.office.office ≡ mid.office.office
     events : middle.events.items ≡ mid.events.items
 
   only_nodes : (mid middle : Player F I O) (block : BlockId) (first : Option (First I O)) → IsDialled i o mid middle block first (Ok tt) → OnlyNodes mid middle
-  only_nodes mid middle block None h = record { clients = ap (λ (p : Player F I O). p.clients.items) h.0; office = ap (λ (p : Player F I O). p.office.office) h.0; events = ap (λ (p : Player F I O). p.events.items) h.0 }
-  only_nodes mid middle block (Some first) h = record { clients = ap (λ (p : Player F I O). p.clients.items) h.same; office = ap (λ (p : Player F I O). p.office.office) h.same; events = ap (λ (p : Player F I O). p.events.items) h.same }
+  only_nodes mid middle block None h = record { blocks = ap (λ (p : Player F I O). p.nodes.blocks.items) h.0; clients = ap (λ (p : Player F I O). p.clients.items) h.0; office = ap (λ (p : Player F I O). p.office.office) h.0; events = ap (λ (p : Player F I O). p.events.items) h.0 }
+  only_nodes mid middle block (Some first) h = record { blocks = h.blocks; clients = ap (λ (p : Player F I O). p.clients.items) h.same; office = ap (λ (p : Player F I O). p.office.office) h.same; events = ap (λ (p : Player F I O). p.events.items) h.same }
+
+  -- what was dialled and kept leaves the places
+  own_places : (old mid middle new : Player F I O) (es : List Event) (actor : Option ℕ) → HasMore middle new es → OnlyNodes mid middle → KeepsPlaces actor old mid → KeepsPlaces actor old new
+  own_places old mid middle new es actor more same h = record {
+    blocks = ap (λ (p : Player F I O). p.nodes.blocks.items) more.same ∙ (same.blocks ∙ h.blocks);
+    order = ap (λ (p : Player F I O). blocks_of p.clients.items) more.same ∙ (ap (λ (xs : List (Client I O)). blocks_of xs) same.clients ∙ h.order);
+    each = λ k c at. h.each k c (sym (ap (λ (p : Player F I O). slice_get p.clients.items k) more.same ∙ ap (λ (xs : List (Client I O)). slice_get xs k) same.clients) ∙ at);
+  }
 
   less_more : (n m : ℕ) → m ≡ n + 1 → n < m
   less_more n m e = omega (arith, e)
@@ -128,6 +137,7 @@ module _ {F R I O D : Type 0} (f : files.Ghosts F) (r : roads.Ghosts R I O) (i :
         made = l.made;
         shows = subst (λ (es : List Event). PlayerShows r i o (run w es) l.made (queues_after w queues (due.Own c.block)) road' new) (sym l.events) (subst (λ (x : Player F I O). PlayerShows r i o v l.made (queues_after w queues (due.Own c.block)) road' x) (sym owned.more.same) q);
         events = owned.more.events ∙ (ap (λ (es : List Event). es ++ owned_events c.block left) (same.events ∙ events) ∙ ap (λ (es : List Event). old.events.items ++ es) (sym l.events));
+        places = own_places old mid owned.middle new (owned_events c.block left) (Some c.block.0) owned.more same (kept_places f r i o d old mid place c c' h at);
       }
     where
       some_same : (a b : OfficeState) → Some a ≡ Some b → a ≡ b

@@ -1,15 +1,16 @@
 -- What the events of a play make of a player and roads that show a world.
-use Rattle.std.specs.Prelude.{◌≡◌, ◌⊎◌, ℕ, Bool, true, ◌++◌, [], ◌∷◌, slice_get, Some, Result, Ok, Err}
+use Rattle.std.specs.Prelude.{◌≡◌, ◌⊎◌, ℕ, Bool, true, List, ◌++◌, [], ◌∷◌, map, slice_get, Option, Some, None, Result, Ok, Err}
 use Rattle.hd_base.specs.Faults.{FaultsIncreased}
 use Rattle.hd_base.specs.declared.files.Files as files
 use Rattle.hd_base.specs.declared.links.LinkIn as link_in
 use Rattle.hd_base.specs.declared.links.LinkOut as link_out
+use Rattle.hd_base.specs.declared.numbers.BlockId.{BlockId}
 use Rattle.hd_base.specs.declared.numbers.ConnId.{ConnId}
 use Rattle.hd_base.specs.declared.roads.Roads as roads
 use Rattle.road_traffic.specs.Showing.{Net}
 use Rattle.world.specs.declared.events.Event.{Event}
 use Rattle.world.specs.declared.events.Event.TheVariants as event
-use Rattle.world.specs.Parts.{by_member, by_writer, idle}
+use Rattle.world.specs.Parts.{Upper, by_member, by_writer, idle}
 use Rattle.world.specs.Worlds.{World}
 use Rattle.world.specs.Nodes.{mirror_node}
 use Rattle.world.specs.Events.{run}
@@ -50,12 +51,41 @@ IsCaused f r old new road road' fault.RoadFault = RoadsFailed r road road'
 IsCaused f r old new road road' (fault.ShelfFault node) = DrawerFailed f old.nodes new.nodes node
 IsCaused f r old new road road' fault.Memory = Unit {0}
 
+-- the writer at an upper end
+abbrev pub writer_at : Upper → Option ℕ
+writer_at (by_writer b) = Some b
+writer_at other = None
+
+-- the block whose writer acts, or takes what stands next, if one does
+abbrev pub actor_of : World → Due → Option ℕ
+actor_of w (due.Own b) = Some b.0
+actor_of w (due.Up c) = writer_at (w.dialled c.0).upper
+actor_of w other = None
+
+-- A client stood at the place before, for the same block; it is the same one, unless its writer is this one.
+pub record StaysAt {I O : Type 0} (olds : List (Client I O)) (actor : Option ℕ) (k : ℕ) (c : Client I O) : Type 0 where
+  pub was : Client I O
+  pub at : slice_get olds k ≡ Some was
+  pub block : c.block ≡ was.block
+  pub same : (actor ≡ Some was.block.0 → ⊥) → c ≡ was
+
+-- the blocks of clients
+abbrev pub blocks_of : {I O : Type 0} → List (Client I O) → List BlockId
+blocks_of clients = map (λ c. c.block) clients
+
+-- The blocks of the nodes stay, and the clients at their places, for the same blocks.
+pub record KeepsPlaces {F I O : Type 0} (actor : Option ℕ) (old new : Player F I O) : Type 0 where
+  pub blocks : new.nodes.blocks.items ≡ old.nodes.blocks.items
+  pub order : blocks_of new.clients.items ≡ blocks_of old.clients.items
+  pub each : (k : ℕ) (c : Client I O) → slice_get new.clients.items k ≡ Some c → StaysAt old.clients.items actor k c
+
 -- What is left once something that is due has happened: its events were kept, and the player shows the world after them.
 pub record PlayerLeft {F R I O : Type 0} (r : roads.Ghosts R I O) (i : link_in.Ghosts I) (o : link_out.Ghosts O)
     (w : World) (queues : Queues) (d : Due) (old new : Player F I O) (road : R) : Type 0 where
   pub made : Net
   pub shows : PlayerShows r i o (run w (due_events w queues d)) made (queues_after w queues d) road new
   pub events : new.events.items ≡ old.events.items ++ due_events w queues d
+  pub places : KeepsPlaces (actor_of w d) old new
 
 -- How it ends: so, or by a fault that has its cause.
 abbrev pub PlayEnds : {F R I O : Type 0} → files.Ghosts F → roads.Ghosts R I O → link_in.Ghosts I → link_out.Ghosts O →

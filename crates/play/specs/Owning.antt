@@ -29,6 +29,7 @@ pub record IsDialledBy {F I O : Type 0} (i : link_in.Ghosts I) (o : link_out.Gho
     (block : BlockId) (first : First I O) : Type 0 where
   pub same : new ≡ record old { nodes = new.nodes }
   pub dialled : DialledShows i o block first.node first.end old.nodes new.nodes (Ok tt)
+  pub blocks : new.nodes.blocks.items ≡ old.nodes.blocks.items
 
 abbrev pub IsDialled : {F I O : Type 0} → link_in.Ghosts I → link_out.Ghosts O → Player F I O → Player F I O →
     BlockId → Option (First I O) → Result (Unit {0}) PlayFault → Type 0

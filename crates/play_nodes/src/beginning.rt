@@ -1,6 +1,6 @@
 //! A connection's first message.
 
-ghost use Rattle.std.specs.Prelude.{◌≡◌, ◌<◌, ◌⊎◌, length};
+ghost use Rattle.std.specs.Prelude.{◌≡◌, ◌<◌, ◌⊎◌, length, IfOk};
 ghost use Rattle.hd_base.specs.Ends.{IsKnown};
 ghost use Rattle.member_events.specs.Roads.{RoadsPass};
 ghost use Rattle.play_nodes.specs.Showing.{Stand};
@@ -28,6 +28,7 @@ impl<F: Files, I: LinkIn, O: LinkOut> Nodes<F, I, O> {
     ) -> Result<bool, NodesFault>
         requires { Stand R.Roads I.LinkIn O.LinkOut roads.old self.old }
         ensures shows { BeginShows F.Files R.Roads I.LinkIn O.LinkOut conn self.old self.new roads.old roads.new result }
+        ensures blocks { IfOk result (λ _. self.new.blocks.items ≡ self.old.blocks.items) }
         ensures pass { RoadsPass R.Roads roads.old roads.new }
     {
         let index = conn.0 as usize;

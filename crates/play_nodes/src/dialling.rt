@@ -1,5 +1,6 @@
 //! The connections that writers dial.
 
+ghost use Rattle.std.specs.Prelude.{◌≡◌, OnOk};
 ghost use Rattle.play_nodes.specs.Frames.{DialledShows};
 
 use crate::connections::{Connection, Lower, Upper};
@@ -15,7 +16,8 @@ impl<F: Files, I: LinkIn, O: LinkOut> Nodes<F, I, O> {
         node: NodeId,
         end: Conn<I, O>,
     ) -> Result<(), NodesFault>
-        ensures { DialledShows I.LinkIn O.LinkOut block node end self.old self.new result }
+        ensures shows { DialledShows I.LinkIn O.LinkOut block node end self.old self.new result }
+        ensures blocks { OnOk result (self.new.blocks.items ≡ self.old.blocks.items) }
     {
         let connection = Connection {
             upper: Upper::Writer { block },

@@ -8,7 +8,7 @@ use Rattle.play.proofs.player.Player.begin.Goals as goal
 
 pub returns-in-Ok-true : goal.returns-in-Ok-true
 returns-in-Ok-true g c =
-    begin_left g.F.Files g.R.Roads g.I.LinkIn g.O.LinkOut c.args.conn c.args.self.now c.begin.new.self c.keep.new.self c.args.roads.now c.begin.new.roads c.keep.result c.clients_stay.ensures c.nodes_keep_writers.ensures.down
+    begin_left g.F.Files g.R.Roads g.I.LinkIn g.O.LinkOut c.args.conn c.args.self.now c.begin.new.self c.keep.new.self c.args.roads.now c.begin.new.roads c.keep.result c.in-Ok-true.ensures.blocks c.clients_stay.ensures c.nodes_keep_writers.ensures.down
     (subst (λ (b : Bool). beginning.BeginShows g.F.Files g.R.Roads g.I.LinkIn g.O.LinkOut c.args.conn c.args.self.now.nodes c.begin.new.self c.args.roads.now c.begin.new.roads (Ok b)) c.in-Ok-true.field-0-test c.in-Ok-true.ensures.shows) c.keep.ensures
 
 pub returns-in-Ok-false : goal.returns-in-Ok-false

@@ -7,7 +7,7 @@ use Rattle.play.proofs.player.Player.member_down.Goals as goal
 
 pub returns-in-Ok : goal.returns-in-Ok
 returns-in-Ok g c =
-    down_left g.F.Files g.R.Roads g.I.LinkIn g.O.LinkOut c.args.conn c.args.self.now c.member_down.new.self c.keep.new.self c.args.roads.now c.member_down.new.roads c.keep.result c.clients_stay.ensures c.nodes_keep_writers.ensures.down c.in-Ok.ensures.shows c.keep.ensures
+    down_left g.F.Files g.R.Roads g.I.LinkIn g.O.LinkOut c.args.conn c.args.self.now c.member_down.new.self c.keep.new.self c.args.roads.now c.member_down.new.roads c.keep.result c.in-Ok.ensures.blocks c.clients_stay.ensures c.nodes_keep_writers.ensures.down c.in-Ok.ensures.shows c.keep.ensures
 
 pub returns-in-Err : goal.returns-in-Err
 returns-in-Err g c =

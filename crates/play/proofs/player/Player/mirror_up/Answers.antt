@@ -7,7 +7,7 @@ use Rattle.play.proofs.player.Player.mirror_up.Goals as goal
 
 pub returns-in-Ok : goal.returns-in-Ok
 returns-in-Ok g c =
-    mirror_left g.F.Files g.R.Roads g.I.LinkIn g.O.LinkOut c.args.conn c.args.self.now c.mirror_up.new.self c.keep.new.self c.args.roads.now c.mirror_up.new.roads c.keep.result c.clients_stay.ensures c.nodes_keep_writers.ensures.up c.in-Ok.ensures.shows c.keep.ensures
+    mirror_left g.F.Files g.R.Roads g.I.LinkIn g.O.LinkOut c.args.conn c.args.self.now c.mirror_up.new.self c.keep.new.self c.args.roads.now c.mirror_up.new.roads c.keep.result c.in-Ok.ensures.blocks c.clients_stay.ensures c.nodes_keep_writers.ensures.up c.in-Ok.ensures.shows c.keep.ensures
 
 pub returns-in-Err : goal.returns-in-Err
 returns-in-Err g c =

@@ -7,7 +7,7 @@ use Rattle.play.proofs.player.Player.ready.Goals as goal
 
 pub returns-in-Ok : goal.returns-in-Ok
 returns-in-Ok g c =
-    ready_left g.F.Files g.R.Roads g.I.LinkIn g.O.LinkOut c.args.conn c.args.self.now c.ready.new.self c.keep.new.self c.args.roads.now c.ready.new.roads c.keep.result c.clients_stay.ensures c.nodes_keep_writers.ensures.ready c.in-Ok.ensures.shows c.keep.ensures
+    ready_left g.F.Files g.R.Roads g.I.LinkIn g.O.LinkOut c.args.conn c.args.self.now c.ready.new.self c.keep.new.self c.args.roads.now c.ready.new.roads c.keep.result c.in-Ok.ensures.blocks c.clients_stay.ensures c.nodes_keep_writers.ensures.ready c.in-Ok.ensures.shows c.keep.ensures
 
 pub returns-in-Err : goal.returns-in-Err
 returns-in-Err g c =
