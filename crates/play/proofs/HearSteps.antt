@@ -3,7 +3,7 @@ use Rattle.std.proofs.Common.{◌≡◌, ◌≢◌, inl, inr, ℕ, zero, suc, tr
 use Rattle.hd_base.specs.declared.files.Files as files
 use Rattle.hd_base.specs.declared.links.LinkIn as link_in
 use Rattle.hd_base.specs.declared.links.LinkOut as link_out
-use Rattle.hd_base.proofs.OptionLaws.{some_value}
+use Rattle.std.proofs.lemmas.Option.{same_Some}
 use Rattle.hd_base.specs.declared.numbers.BlockId.{BlockId}
 use Rattle.hd_base.specs.declared.numbers.ConnId.{ConnId}
 use Rattle.hd_base.specs.declared.roads.Roads as roads
@@ -50,7 +50,7 @@ writer_same a b e = cc
 -- another client of the same block leaves the blocks
 set_blocks : {I O : Type 0} (xs : List (Client I O)) (k : ℕ) (c c' : Client I O) → slice_get xs k ≡ Some c → c'.block ≡ c.block → blocks_of (slice_set xs k c') ≡ blocks_of xs
 set_blocks [] k c c' at e = refl
-set_blocks {I} {O} (x ∷ xs) zero c c' at e = ap (λ (b : BlockId). b ∷ blocks_of xs) (e ∙ sym (ap (λ (y : Client I O). y.block) (some_value x c at)))
+set_blocks {I} {O} (x ∷ xs) zero c c' at e = ap (λ (b : BlockId). b ∷ blocks_of xs) (e ∙ sym (ap (λ (y : Client I O). y.block) (same_Some x c at)))
 set_blocks (x ∷ xs) (suc k) c c' at e = ap (λ (bs : List BlockId). x.block ∷ bs) (set_blocks xs k c c' at e)
 
 module _ {R I O : Type 0} (r : roads.Ghosts R I O) (i : link_in.Ghosts I) (o : link_out.Ghosts O) where
