@@ -24,6 +24,7 @@ use Rattle.writer_core.specs.declared.phases.Waiting.{Waiting}
 use Rattle.writer_core.specs.declared.records.WriterRecord.{WriterRecord}
 use Rattle.writer_core.specs.Commands.{admitted, is_unmade, is_closed}
 use Rattle.writer_core.specs.Transitions.{Step, fresh, given, given_as, taken_as, free_step_as, failed_first, failed_step_as, accepted_step, due_step, due_now, reach_step_as, reached_length, stream_step_as, step_in, own_step, has_step, is_action, is_connected, granted}
+use Rattle.world.specs.declared.events.Event.{Event}
 use Rattle.world.specs.declared.events.TakenCommand.{TakenCommand}
 use Rattle.world.specs.Parts.{Told, Writing}
 use Rattle.world.specs.Worlds.{World, Change, apply, put, start}
@@ -33,7 +34,7 @@ use Rattle.world_laws.specs.Stamping.{known_heard}
 use Rattle.world_laws.proofs.AllRecorded.{all-recorded}
 use Rattle.world_laws.proofs.StampGivens.{put-here}
 use Rattle.world_laws.proofs.FactTables.{and-left}
-use Rattle.play_laws.specs.Taking.{MayTake, IsTaken, CommandsTaken, CreatesFirst, taking}
+use Rattle.play_laws.specs.Taking.{MayTake, IsTaken, CommandsTaken, CreatesFirst, UnmadeAreFresh, taking}
 use Rattle.play_laws.specs.Writers.{is_settled}
 use Rattle.play_laws.proofs.Standing.{is_close, is_live, shut-closes}
 use Rattle.play_laws.proofs.Taking.{Kept, admitted-is, fresh-granted}
@@ -293,9 +294,17 @@ heard-first : (x : WriterRecord) (o : Option Told) → x ≡ fresh x.block defau
 heard-first x None e = refl
 heard-first x (Some t) e = ap (λ (z : WriterRecord). granted z t) e ∙ (fresh-granted x.block t ∙ sym e)
 
+-- one that is fresh is that of its block
+fresh-at : (nodes : ℕ) (events : List Event) (b : ℕ) → ((run (start nodes) events).writers b).known ≡ fresh ((run (start nodes) events).writers b).known.block default_rule → ((run (start nodes) events).writers b).known ≡ fresh (record { 0 = b }) default_rule
+fresh-at nodes events b f =
+    let v : Writing = (run (start nodes) events).writers b in
+    let at : v.known.block ≡ record { 0 = b } = ap (λ (z : WriterRecord). z.block) (sym (heard-first v.known v.told f)) ∙ (all-recorded nodes events).writers b in
+    f ∙ ap (λ (a : BlockId). fresh a default_rule) at
+
 pub creates-first : CreatesFirst
 creates-first nodes events b members i e =
     let v : Writing = (run (start nodes) events).writers b in
-    let f : v.known ≡ fresh v.known.block default_rule = made-first v.known members i (all-stand Any nodes events (any-events events) b).kept e in
-    let at : v.known.block ≡ record { 0 = b } = ap (λ (z : WriterRecord). z.block) (sym (heard-first v.known v.told f)) ∙ (all-recorded nodes events).writers b in
-    f ∙ ap (λ (a : BlockId). fresh a default_rule) at
+    fresh-at nodes events b (made-first v.known members i (all-stand Any nodes events (any-events events) b).kept e)
+
+pub unmade-fresh : UnmadeAreFresh
+unmade-fresh nodes events b e = fresh-at nodes events b ((all-stand Any nodes events (any-events events) b).kept.unmade e)

@@ -4,7 +4,7 @@ use Rattle.hd_base.specs.declared.numbers.NodeId.{NodeId}
 use Rattle.hd_base.specs.SumRules.{default_rule}
 use Rattle.writer_core.specs.declared.commands.Command.TheVariants as command
 use Rattle.writer_core.specs.declared.intake.Intake.{Intake}
-use Rattle.writer_core.specs.Commands.{admitted}
+use Rattle.writer_core.specs.Commands.{admitted, is_unmade}
 use Rattle.writer_core.specs.Transitions.{fresh, given, own_step, has_step, is_connected}
 use Rattle.world.specs.declared.events.Event.{Event}
 use Rattle.world.specs.declared.events.Event.TheVariants as event
@@ -43,4 +43,10 @@ CommandsTaken = (nodes : ℕ) (events : List Event) (b : ℕ) (t : TakenCommand)
 abbrev pub CreatesFirst : Type 0
 CreatesFirst = (nodes : ℕ) (events : List Event) (b : ℕ) (members : List NodeId) (i : Intake) →
     admitted ((run (start nodes) events).writers b).known.intake (command.Create members) ≡ Ok i →
+    ((run (start nodes) events).writers b).known ≡ fresh (record { 0 = b }) default_rule
+
+-- So is a writer whose block wasn't made.
+abbrev pub UnmadeAreFresh : Type 0
+UnmadeAreFresh = (nodes : ℕ) (events : List Event) (b : ℕ) →
+    is_unmade ((run (start nodes) events).writers b).known.intake.stand ≡ true →
     ((run (start nodes) events).writers b).known ≡ fresh (record { 0 = b }) default_rule

@@ -7,7 +7,7 @@ ghost use Rattle.play_laws.specs.Intakes.{OwnStepsKeepIntakes, HearingKeepsIntak
 ghost use Rattle.play_laws.specs.Members.{MembersAre, TargetsAre};
 ghost use Rattle.play_laws.specs.Nodes.{AllRun};
 ghost use Rattle.play_laws.specs.Stamps.{StampsAreFew};
-ghost use Rattle.play_laws.specs.Taking.{CommandsTaken, CreatesFirst};
+ghost use Rattle.play_laws.specs.Taking.{CommandsTaken, CreatesFirst, UnmadeAreFresh};
 ghost use Rattle.play_laws.specs.Untold.{StaysQuiet};
 ghost use Rattle.play_laws.specs.Writers.{AllRest, WritersOpen};
 
@@ -50,6 +50,11 @@ pub fn commands_are_taken()
 /// Only a writer that was given nothing may be given a create.
 pub fn creates_come_first()
     ensures { CreatesFirst }
+{}
+
+/// A writer whose block wasn't made was given nothing.
+pub fn unmade_writers_are_fresh()
+    ensures { UnmadeAreFresh }
 {}
 
 /// Where no answer of the office waits for a writer before the events of what is due, none waits after them.
