@@ -43,12 +43,13 @@ use Rattle.play_nodes.specs.declared.connections.Upper.{Upper}
 use Rattle.play_nodes.specs.declared.connections.Upper.TheVariants as upper
 use Rattle.play_nodes.specs.declared.nodes.Nodes.{Nodes}
 use Rattle.play_nodes.specs.declared.nodes.Seat.{Seat}
-use Rattle.play_nodes.specs.Dues.{stands, is_idle, TellsReady, TellsDown, TellsUp}
+use Rattle.play_nodes.specs.Dues.{stands, is_idle, TellsIdle, TellsReady, TellsDown, TellsUp}
 use Rattle.play_nodes.specs.Places.{book_at, IsSeated, IsUnseated, member_above}
 use Rattle.play_nodes.specs.Showing.{UpperShows, has_events, LowerShows, NodesShow, NodesStand}
 use Rattle.play_nodes.proofs.PlaceLaws.{element_within, same_some}
 use Rattle.play_nodes.proofs.MemberNodes.{IsMember, member_shown}
-use Rattle.play_nodes.proofs.ReadyNodes.{acts_at, acts_busy, seated_shown}
+use Rattle.play_nodes.proofs.ReadyNodes.{served_within, acts_at, acts_busy, seated_shown}
+use Rattle.play_nodes.proofs.Tables.{element}
 use Rattle.play_nodes.proofs.TakeNodes.{takes_at, mirror_of_upper, above_needed, above_seated}
 use Rattle.play_nodes.proofs.BeginNodes.{IdleAt, idle_at}
 
@@ -178,6 +179,24 @@ module _ {F I O : Type 0} (i : link_in.Ghosts I) (o : link_out.Ghosts O) where
   idle_found : (w : World) (net : Net) (c : ℕ) (n : Nodes F I O) (x : Option (Connection I O)) → NodesShow i o w net n → slice_get n.connections.items c ≡ x → is_idle (option_map (λ y. y.lower) x) ≡ true → (end : Conn I O) × IsIdleOf i o w net c end
   idle_found w net c n None nodes found is = cc
   idle_found w net c n (Some at) nodes found is = idle_by w net c n at.lower (nodes.each c at found).lower_is is
+
+  idle_lower : (w : World) (net : Net) (c : ℕ) (n : Nodes F I O) (l : parts.Lower) (real : Lower I O) → l ≡ idle → has_events w c ≡ true → LowerShows i o w net c n l real → is_idle (Some real) ≡ true
+  idle_lower w net c n idle (lower.Idle end) is e h = refl
+  idle_lower w net c n idle (lower.Member m place) is e h = absurd h
+  idle_lower w net c n idle lower.Ended is e h = absurd (true_false (has_events w c) e h)
+  idle_lower w net c n l real is e h = cc
+
+  -- an end of the world that has taken nothing is told
+  idle_needed : (w : World) (net : Net) (c : ℕ) (n : Nodes F I O) → NodesShow i o w net n → has_events w c ≡ true → w.lowers c ≡ idle → is_idle (option_map (λ x. x.lower) (slice_get n.connections.items c)) ≡ true
+  idle_needed w net c n nodes events is =
+      let before : c < w.next_conn = served_within w c (and-left (is_served w c) (is_open (w.lowers c)) events) in
+      let at = element n.connections.items c (subst (λ (k : ℕ). c < k) (sym nodes.count) before) in
+      let told : is_idle (Some at.0.lower) ≡ true = idle_lower w net c n (w.lowers c) at.0.lower is events (nodes.each c at.0 at.1).lower_is in
+      ap (λ (x : Option (Connection I O)). is_idle (option_map (λ y. y.lower) x)) at.1 ∙ told
+
+  pub told_idle : (n : Nodes F I O) (conn : ConnId) (result : Bool) → result ≡ is_idle (option_map (λ x. x.lower) (slice_get n.connections.items conn.0)) → TellsIdle i o conn n result
+  told_idle n conn true told = λ w net queues nodes due. (idle_found w net conn.0 n (slice_get n.connections.items conn.0) nodes refl (sym told)).1.lower
+  told_idle n conn false told = λ w net queues nodes due is. true_false (is_idle (option_map (λ x. x.lower) (slice_get n.connections.items conn.0))) (idle_needed w net conn.0 n nodes (takes_at w conn queues due).events is) (sym told)
 
 module _ {R I O : Type 0} (r : roads.Ghosts R I O) where
   -- What the roads tell of a direction.

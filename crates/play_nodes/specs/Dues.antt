@@ -7,7 +7,7 @@ use Rattle.hd_base.specs.declared.links.LinkOut as link_out
 use Rattle.hd_base.specs.declared.numbers.ConnId.{ConnId}
 use Rattle.hd_base.specs.declared.roads.Roads as roads
 use Rattle.road_traffic.specs.Showing.{Net}
-use Rattle.world.specs.Parts.{by_member}
+use Rattle.world.specs.Parts.{by_member, idle}
 use Rattle.world.specs.Worlds.{World}
 use Rattle.world_laws.specs.Placing.{Placed}
 use Rattle.world_orders.specs.Open.{OpenEnds}
@@ -17,6 +17,7 @@ use Rattle.play_model.specs.Dues.{Queues, is_due}
 use Rattle.play_nodes.specs.declared.connections.Lower.{Lower}
 use Rattle.play_nodes.specs.declared.connections.Lower.TheVariants as lower
 use Rattle.play_nodes.specs.declared.nodes.Nodes.{Nodes}
+use Rattle.play_nodes.specs.Events.{IsBusy}
 use Rattle.play_nodes.specs.Showing.{NodesShow, NodesStand}
 
 -- something stands next
@@ -35,6 +36,16 @@ pub record IsOrderly (w : World) : Type 0 where
   pub ordered : Ordered w
   pub placed : Placed w
   pub open_ends : OpenEnds w
+
+-- Where it is due that a lower end takes what stands next: whether it has taken nothing yet.
+abbrev pub IdleIs : Bool → World → ℕ → Type 0
+IdleIs true w c = w.lowers c ≡ idle
+IdleIs false w c = IsBusy w c
+
+abbrev pub TellsIdle : {F I O : Type 0} → link_in.Ghosts I → link_out.Ghosts O → ConnId → Nodes F I O → Bool → Type 0
+TellsIdle i o conn n result =
+    (w : World) (net : Net) (queues : Queues) → NodesShow i o w net n → is_due w queues (due.Down conn) ≡ true
+    → IdleIs result w conn.0
 
 -- Whether it is due that a lower end acts without a message.
 abbrev pub TellsReady : {F I O : Type 0} → link_in.Ghosts I → link_out.Ghosts O → ConnId → Nodes F I O → Bool → Type 0

@@ -2,7 +2,7 @@
 
 ghost use Rattle.std.specs.Prelude.{◌≡◌, option_map, slice_get};
 ghost use Rattle.member_events.specs.Roads.{RoadsPass};
-ghost use Rattle.play_nodes.specs.Dues.{stands, is_idle, TellsReady, TellsDown, TellsUp};
+ghost use Rattle.play_nodes.specs.Dues.{stands, is_idle, TellsIdle, TellsReady, TellsDown, TellsUp};
 
 use crate::connections::Lower;
 use crate::nodes::Nodes;
@@ -10,6 +10,13 @@ use hd_base::{ConnId, Files, LinkIn, LinkOut, Roads, Standing};
 use road_traffic::standing;
 
 impl<F: Files, I: LinkIn, O: LinkOut> Nodes<F, I, O> {
+    /// Whether the lower end of a connection takes its first message next, if it takes one.
+    pub fn takes_first(&self, conn: ConnId) -> bool
+        ensures { TellsIdle I.LinkIn O.LinkOut conn self.now result }
+    {
+        self.is_idle(conn)
+    }
+
     /// Whether the lower end of a connection takes what stands next.
     pub fn can_down<R: Roads<Inward = I, Outward = O>>(&self, roads: &mut R, conn: ConnId) -> bool
         ensures tells { TellsDown R.Roads I.LinkIn O.LinkOut conn self.now roads.old roads.new result }

@@ -1,0 +1,99 @@
+-- A player, with its roads, shows the world of the events that happened, and its commands fit.
+use Rattle.std.specs.Prelude.{ℕ, ◌≡◌, ◌≤◌, ◌<◌, ◌+◌, ◌^◌, true, false, List, [], ◌∷◌, slice_get, Option, Some, IfSome, Result, Ok, Err}
+use Rattle.hd_base.specs.declared.files.Files as files
+use Rattle.hd_base.specs.declared.links.LinkIn as link_in
+use Rattle.hd_base.specs.declared.links.LinkOut as link_out
+use Rattle.hd_base.specs.declared.numbers.BlockId.{BlockId}
+use Rattle.hd_base.specs.declared.roads.Roads as roads
+use Rattle.hd_base.specs.declared.roads.TheConstants.{FIRST_PORT}
+use Rattle.member_core.specs.declared.requests.TheConstants.{MAX_PORT}
+use Rattle.road_traffic.specs.Showing.{Net}
+use Rattle.writer_core.specs.declared.intake.Intake.{Intake}
+use Rattle.writer_core.specs.Commands.{admitted, intake_after, is_unmade}
+use Rattle.world.specs.declared.events.Event.{Event}
+use Rattle.world.specs.declared.events.TakenCommand.{TakenCommand}
+use Rattle.world.specs.Worlds.{World, start}
+use Rattle.world.specs.Clients.{is_formed}
+use Rattle.world.specs.Events.{run}
+use Rattle.world_requests.specs.Requests.{IsAmong, AllAmong}
+use Rattle.world_texts.specs.Texts.{AllFit}
+use Rattle.play_model.specs.declared.dues.Due.{Due}
+use Rattle.play_model.specs.Dues.{Queues, is_due, due_events, queues_after}
+use Rattle.play_laws.specs.Intakes.{intake_of}
+use Rattle.play_laws.specs.Members.{IsNode, Names, AllName}
+use Rattle.play_laws.specs.Nodes.{AllKeepNodes}
+use Rattle.play_clients.specs.declared.clients.Client.{Client}
+use Rattle.play_dues.specs.Showing.{HasClient}
+use Rattle.play.specs.declared.faults.PlayFault.{PlayFault}
+use Rattle.play.specs.declared.player.Player.{Player}
+use Rattle.play.specs.Showing.{PlayerShows}
+use Rattle.play.specs.Events.{IsCaused, KeepsPlaces, actor_of}
+
+-- COMMANDS
+
+-- It is formed, names only the first nodes, so many, and fits what was given before.
+pub record CommandFits (nodes : ℕ) (i : Intake) (t : TakenCommand) : Type 0 where
+  pub formed : is_formed t.command t.rule ≡ true
+  pub names : Names (IsNode nodes) t.command
+  pub admits : admitted i t.command ≡ Ok (intake_after i t.command)
+
+-- So do all, each behind those before it.
+abbrev pub CommandsFit : ℕ → Intake → List TakenCommand → Type 0
+CommandsFit nodes i [] = Unit {0}
+CommandsFit nodes i (t ∷ queue) = CommandFits nodes i t × CommandsFit nodes (intake_after i t.command) queue
+
+-- The block of a client is among these, and has a number of 64 bits; its queue fits; and its writer, once it is there, was
+-- given a create.
+pub record ClientFits {I O : Type 0} (nodes : ℕ) (blocks : List BlockId) (w : World) (c : Client I O) : Type 0 where
+  pub among : IsAmong blocks c.block.0
+  pub width : c.block.0 < 2 ^ 64
+  pub queue : CommandsFit nodes (intake_of w c.block.0) c.queue.items
+  pub made : IfSome c.writer (λ x. is_unmade x.intake.stand ≡ false)
+
+-- EVENTS
+
+-- Events of writers of these blocks, whose commands name only the first nodes, so many; no node stops.
+pub record EventsFit (nodes : ℕ) (blocks : List BlockId) (events : List Event) : Type 0 where
+  pub widths : AllFit events
+  pub runs : AllKeepNodes events
+  pub names : AllName (IsNode nodes) events
+  pub among : AllAmong blocks events
+
+-- PLAYS
+
+-- the world after the events that happened, of so many nodes
+abbrev pub world_of : {F I O : Type 0} → ℕ → Player F I O → World
+world_of nodes p = run (start nodes) p.events.items
+
+-- The player shows this world; each node has a port; the events and the commands fit; and a writer that has a connection is
+-- that of a client.
+pub record PlayStands {F R I O : Type 0} (r : roads.Ghosts R I O) (i : link_in.Ghosts I) (o : link_out.Ghosts O)
+    (nodes : ℕ) (queues : Queues) (road : R) (p : Player F I O) : Type 0 where
+  pub net : Net
+  pub shows : PlayerShows r i o (world_of nodes p) net queues road p
+  pub ports : FIRST_PORT + nodes ≤ MAX_PORT
+  pub events : EventsFit nodes p.nodes.blocks.items p.events.items
+  pub clients : (k : ℕ) (c : Client I O) → slice_get p.clients.items k ≡ Some c →
+      ClientFits nodes p.nodes.blocks.items (world_of nodes p) c
+  pub connected : (b c : ℕ) → ((world_of nodes p).writers b).conn ≡ Some c → HasClient p.clients.items b
+
+-- What is left of a play in which something that is due has happened: its events stand behind the others.
+pub record HasHappened {F R I O : Type 0} (r : roads.Ghosts R I O) (i : link_in.Ghosts I) (o : link_out.Ghosts O)
+    (nodes : ℕ) (queues : Queues) (d : Due) (old new : Player F I O) (road : R) : Type 0 where
+  pub stands : PlayStands r i o nodes (queues_after (world_of nodes old) queues d) road new
+  pub events : new.events.items ≡ old.events.items ++ due_events (world_of nodes old) queues d
+  pub places : KeepsPlaces (actor_of (world_of nodes old) d) old new
+
+-- How it ends: so, or by a fault that has its cause.
+abbrev pub HappenEnds : {F R I O : Type 0} → files.Ghosts F → roads.Ghosts R I O → link_in.Ghosts I →
+    link_out.Ghosts O → ℕ → Queues → Due → Player F I O → Player F I O → R → R → Result (Unit {0}) PlayFault → Type 0
+HappenEnds f r i o nodes queues d old new road road' (Ok u) = HasHappened r i o nodes queues d old new road'
+HappenEnds f r i o nodes queues d old new road road' (Err why) = IsCaused f r old new road road' why
+
+-- Something that is due happens.
+abbrev pub HappenShows : {F R I O : Type 0} → files.Ghosts F → roads.Ghosts R I O → link_in.Ghosts I →
+    link_out.Ghosts O → Due → Player F I O → Player F I O → R → R → Result (Unit {0}) PlayFault → Type 0
+HappenShows f r i o d old new road road' result =
+    (nodes : ℕ) (queues : Queues) → PlayStands r i o nodes queues road old →
+    is_due (world_of nodes old) queues d ≡ true → HasActor (world_of nodes old) d old
+    → HappenEnds f r i o nodes queues d old new road road' result
