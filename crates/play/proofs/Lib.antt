@@ -1,3 +1,6 @@
 pub mod NodeSteps
 pub mod HearSteps
 pub mod OwnSteps
+pub mod Lawful
+pub mod CanOwning
+pub mod Happened

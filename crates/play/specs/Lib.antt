@@ -2,3 +2,5 @@ pub mod Faults
 pub mod Showing
 pub mod Events
 pub mod Owning
+pub mod Laws
+pub mod Standing

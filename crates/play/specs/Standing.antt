@@ -1,5 +1,5 @@
 -- A player, with its roads, shows the world of the events that happened, and its commands fit.
-use Rattle.std.specs.Prelude.{ℕ, ◌≡◌, ◌≤◌, ◌<◌, ◌+◌, ◌^◌, true, false, List, [], ◌∷◌, slice_get, Option, Some, IfSome, Result, Ok, Err}
+use Rattle.std.specs.Prelude.{ℕ, ◌≡◌, ◌≤◌, ◌<◌, ◌+◌, ◌^◌, true, false, List, [], ◌∷◌, ◌++◌, slice_get, Option, Some, IfSome, Result, Ok, Err}
 use Rattle.hd_base.specs.declared.files.Files as files
 use Rattle.hd_base.specs.declared.links.LinkIn as link_in
 use Rattle.hd_base.specs.declared.links.LinkOut as link_out
@@ -18,6 +18,7 @@ use Rattle.world.specs.Events.{run}
 use Rattle.world_requests.specs.Requests.{IsAmong, AllAmong}
 use Rattle.world_texts.specs.Texts.{AllFit}
 use Rattle.play_model.specs.declared.dues.Due.{Due}
+use Rattle.play_model.specs.declared.dues.Due.TheVariants as due
 use Rattle.play_model.specs.Dues.{Queues, is_due, due_events, queues_after}
 use Rattle.play_laws.specs.Intakes.{intake_of}
 use Rattle.play_laws.specs.Members.{IsNode, Names, AllName}
@@ -90,10 +91,15 @@ abbrev pub HappenEnds : {F R I O : Type 0} → files.Ghosts F → roads.Ghosts R
 HappenEnds f r i o nodes queues d old new road road' (Ok u) = HasHappened r i o nodes queues d old new road'
 HappenEnds f r i o nodes queues d old new road road' (Err why) = IsCaused f r old new road road' why
 
+-- a writer that takes its own step has a client
+abbrev pub ActorIsClient : {F I O : Type 0} → Player F I O → Due → Type 0
+ActorIsClient p (due.Own b) = HasClient p.clients.items b.0
+ActorIsClient p other = Unit {0}
+
 -- Something that is due happens.
 abbrev pub HappenShows : {F R I O : Type 0} → files.Ghosts F → roads.Ghosts R I O → link_in.Ghosts I →
     link_out.Ghosts O → Due → Player F I O → Player F I O → R → R → Result (Unit {0}) PlayFault → Type 0
 HappenShows f r i o d old new road road' result =
     (nodes : ℕ) (queues : Queues) → PlayStands r i o nodes queues road old →
-    is_due (world_of nodes old) queues d ≡ true → HasActor (world_of nodes old) d old
+    is_due (world_of nodes old) queues d ≡ true → ActorIsClient old d
     → HappenEnds f r i o nodes queues d old new road road' result

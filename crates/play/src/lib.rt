@@ -4,6 +4,8 @@
 
 mod events;
 mod faults;
+mod happening;
+mod laws;
 mod owning;
 mod player;
 

@@ -7,7 +7,7 @@ use writer_core::{Phase, Setup, Writer};
 
 /// What a writer's own step is.
 #[derive(Clone, Copy, Debug, PartialEq, Eq)]
-pub(crate) enum Course {
+pub enum Course {
     /// It takes a command.
     Takes,
     /// It asks the office for a stamp, and then the first member.

@@ -9,4 +9,5 @@ mod others;
 mod owning;
 
 pub use clients::{Client, First, Owned};
+pub use courses::Course;
 pub use others::{clients_stay, hearing_keeps_others, own_steps_keep_others};

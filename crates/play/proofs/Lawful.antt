@@ -1,0 +1,141 @@
+-- What a play's events ask of the world holds of it.
+use Rattle.std.proofs.Common.{◌≡◌, ◌≢◌, ℕ, zero, suc, ◌≤◌, ◌<◌, ◌+◌, ◌^◌, Bool, true, false, List, [], ◌∷◌, ◌++◌, length, slice_get, Option, Some, None, IfSome, Result, Ok, Err, refl, sym, ap, ◌∙◌, subst, arith}
+use Rattle.std.specs.Prelude.{◌-◌, ◌&&◌, ◌||◌, nat_le, is_some, is_none, if◌then◌else◌}
+use Rattle.std.proofs.lemmas.List.{length-append}
+use Rattle.std.proofs.lemmas.Option.{none-some, same_Some}
+use Rattle.hd_base.specs.declared.numbers.BlockId.{BlockId}
+use Rattle.hd_base.specs.declared.numbers.ConnId.{ConnId}
+use Rattle.hd_base.specs.declared.numbers.NodeId.{NodeId}
+use Rattle.hd_base.specs.declared.roads.TheConstants.{FIRST_PORT}
+use Rattle.member_core.specs.declared.requests.TheConstants.{MAX_PORT}
+use Rattle.op_headers.specs.declared.nodes.NodeRef.{NodeRef}
+use Rattle.op_headers.specs.declared.ops.Op.TheVariants as op
+use Rattle.op_headers.specs.Values.{WriteFields}
+use Rattle.node_refs.specs.NodeRefs.{port_of, ref_of}
+use Rattle.name_core.specs.declared.office.TheConstants.{FIRST_STAMP}
+use Rattle.world.specs.declared.events.Event.{Event}
+use Rattle.world.specs.declared.events.Event.TheVariants as event
+use Rattle.world.specs.Parts.{request}
+use Rattle.world.specs.Worlds.{World, start}
+use Rattle.world.specs.Connections.{message, next_down}
+use Rattle.world.specs.Nodes.{node_on, mirror_node}
+use Rattle.world.specs.Events.{happens, run}
+use Rattle.world_laws.proofs.AllCarried.{next-sent}
+use Rattle.world_nets.specs.Drawn.{ComesDown}
+use Rattle.world_requests.specs.Requests.{AllAmong}
+use Rattle.world_texts.specs.Texts.{Written, AllFit}
+use Rattle.writer_core.specs.declared.phases.Setup.{Setup}
+use Rattle.hd_base.specs.declared.numbers.Stamp.{Stamp}
+use Rattle.writer_core.specs.declared.phases.Phase.{Phase}
+use Rattle.writer_core.specs.declared.phases.Phase.TheVariants as phase
+use Rattle.member_events.specs.Joining.{write_next}
+use Rattle.play_laws.specs.Members.{IsNode, AllName, IsRef, AreRefs}
+use Rattle.play_laws.specs.Nodes.{AllKeepNodes, NodesRun}
+use Rattle.play_laws.specs.Writers.{needs_members, Rests}
+use Rattle.play_clients.specs.Events.{HearIsLawful, AcceptedIsQuiet}
+use Rattle.play_nodes.specs.declared.nodes.Nodes.{Nodes}
+use Rattle.play_nodes.specs.Events.{IsLawful}
+use Rattle.play.specs.declared.player.Player.{Player}
+use Rattle.play.specs.Events.{CanBegin}
+use Rattle.play.specs.Laws.{Laws}
+use Rattle.play.specs.Standing.{EventsFit, world_of}
+
+-- MORE EVENTS
+
+widths_more : (es fs : List Event) → AllFit es → AllFit fs → AllFit (es ++ fs)
+widths_more [] fs h k = k
+widths_more (e ∷ es) fs h k = (h.0, widths_more es fs h.1 k)
+
+runs_more : (es fs : List Event) → AllKeepNodes es → AllKeepNodes fs → AllKeepNodes (es ++ fs)
+runs_more [] fs h k = k
+runs_more (e ∷ es) fs h k = (h.0, runs_more es fs h.1 k)
+
+names_more : (Of : NodeId → Type 0) (es fs : List Event) → AllName Of es → AllName Of fs → AllName Of (es ++ fs)
+names_more Of [] fs h k = k
+names_more Of (e ∷ es) fs h k = (h.0, names_more Of es fs h.1 k)
+
+among_more : (blocks : List BlockId) (es fs : List Event) → AllAmong blocks es → AllAmong blocks fs → AllAmong blocks (es ++ fs)
+among_more blocks [] fs h k = k
+among_more blocks (e ∷ es) fs h k = (h.0, among_more blocks es fs h.1 k)
+
+pub fits_more : (nodes : ℕ) (blocks : List BlockId) (es fs : List Event) → EventsFit nodes blocks es → EventsFit nodes blocks fs → EventsFit nodes blocks (es ++ fs)
+fits_more nodes blocks es fs h k = record {
+  widths = widths_more es fs h.widths k.widths;
+  runs = runs_more es fs h.runs k.runs;
+  names = names_more (IsNode nodes) es fs h.names k.names;
+  among = among_more blocks es fs h.among k.among;
+}
+
+-- There is room for stamps of as many events as a list can have, and more.
+pub room : {F I O : Type 0} (p : Player F I O) (fs : List Event) → length fs ≤ 2 → FIRST_STAMP + length (p.events.items ++ fs) ≤ 2 ^ 64
+room p fs few =
+    let len = length-append p.events.items fs in
+    let at = p.events.ok.0 in
+    let within = p.events.ok.1 in
+    let small = p.events.small in
+    omega (arith, len, at, within, small, few)
+
+-- WHAT THE EVENTS ASK
+
+few_stamps : (a b c : ℕ) → a ≤ b → b ≤ c → a ≤ c
+few_stamps a b c h k = omega (arith, h, k)
+
+written_after : Laws → (nodes : ℕ) (es fs : List Event) → AllFit es → AllFit fs → FIRST_STAMP + length (es ++ fs) ≤ 2 ^ 64 → Written (run (run (start nodes) es) fs)
+written_after L nodes es fs fit more small =
+    subst Written (L.joined (start nodes) es fs) (L.written nodes (es ++ fs) (widths_more es fs fit more) (few_stamps (run (start nodes) (es ++ fs)).office.next.0 (FIRST_STAMP + length (es ++ fs)) (2 ^ 64) (L.few nodes (es ++ fs)) small))
+
+module _ {F I O : Type 0} (L : Laws) (nodes : ℕ) (p : Player F I O) (h : EventsFit nodes p.nodes.blocks.items p.events.items) where
+  pub spelled : (fs : List Event) → AllFit fs → length fs ≤ 2 → Written (run (world_of nodes p) fs)
+  spelled fs fit few = written_after L nodes p.events.items fs h.widths fit (room p fs few)
+
+  pub lawful : (e : Event) → AllFit (e ∷ []) → IsLawful (world_of nodes p) e
+  lawful e fit = record {
+    ordered = L.ordered nodes p.events.items;
+    taken = L.taken nodes p.events.items;
+    placed = L.placed nodes p.events.items;
+    before = spelled [] tt (omega arith);
+    after = spelled (e ∷ []) fit (omega arith);
+  }
+
+  -- THE FIRST MESSAGE
+
+  port_as : (b : Bool) (port number : ℕ) → (if b then Some (port - FIRST_PORT) else None) ≡ Some number → port - FIRST_PORT ≡ number
+  port_as true port number is = same_Some (port - FIRST_PORT) number is
+  port_as false port number is = absurd (none-some number is)
+
+  port_is : (n : NodeId) → FIRST_PORT + nodes ≤ MAX_PORT → n.0 < nodes → port_of n - FIRST_PORT ≡ n.0
+  port_is n ports within = grind (arith, ports, within)
+
+  port_node : (n : NodeId) (port number : ℕ) → FIRST_PORT + nodes ≤ MAX_PORT → n.0 < nodes → port ≡ port_of n → node_on port ≡ Some number → number ≡ n.0
+  port_node n port number ports within is at = sym (port_as (nat_le FIRST_PORT port) port number at) ∙ (ap (λ (m : ℕ). m - FIRST_PORT) is ∙ port_is n ports within)
+
+  mirror_is : (ts : List NodeRef) (number : ℕ) → FIRST_PORT + nodes ≤ MAX_PORT → ((k : ℕ) (t : NodeRef) → slice_get ts k ≡ Some t → IsRef (IsNode nodes) t) → mirror_node ts ≡ Some number → number < nodes
+  mirror_is [] number ports refs is = absurd (none-some number is)
+  mirror_is (t ∷ ts) number ports refs is =
+      let k : IsRef (IsNode nodes) t = refs 0 t refl in
+      subst (λ (m : ℕ). m < nodes) (sym (port_node k.node t.xfer number ports k.of (ap (λ (x : NodeRef). x.xfer) k.is) is)) k.of
+
+  pub can_begin : (conn : ConnId) → FIRST_PORT + nodes ≤ MAX_PORT → CanBegin (world_of nodes p) conn p.nodes
+  can_begin conn ports = record {
+    lawful = λ answered. lawful (event.Down conn answered) (tt, tt);
+    fit = L.among nodes p.nodes.blocks.items p.events.items h.among;
+    run = λ fields number comes is.
+        let w : World = world_of nodes p in
+        (L.run nodes p.events.items h.runs).runs number (mirror_is fields.targets number ports (L.targets nodes p.events.items conn.0 (w.down_marks conn.0).taken fields h.names (next-sent (w.downs conn.0) (w.down_marks conn.0) (request (op.Write fields)) comes.next)) is);
+  }
+
+  -- WHAT A WRITER HEARS
+
+  pub can_hear : (b : ℕ) → HearIsLawful (world_of nodes p) b
+  can_hear b = record {
+    ordered = L.ordered nodes p.events.items;
+    taken = L.taken nodes p.events.items;
+    written = spelled [] tt (omega arith);
+    rests = (L.rest nodes p.events.items b).alone;
+  }
+
+  pub hears_quiet : (b : ℕ) → AcceptedIsQuiet (world_of nodes p) b
+  hears_quiet b = record {
+    members = λ s stamp is. (L.rest nodes p.events.items b).members (ap needs_members is);
+    quiet = λ c s stamp m is conn next. L.early nodes p.events.items b c s stamp m is conn next;
+  }

@@ -1,0 +1,31 @@
+use Rattle.play.proofs.laws.laws.Goals as goal
+
+pub returns : goal.returns
+returns c = record {
+  joined = c.runs_join.ensures.joined;
+  ended = c.runs_join.ensures.ended;
+  tested = c.enabled_events_are_tested.ensures;
+  placed = c.indices_are_in_range.ensures;
+  undialled = c.only_dialled_connections_carry.ensures;
+  ordered = c.messages_come_in_order.ensures;
+  taken = c.messages_are_taken_in_order.ensures;
+  written = c.messages_are_written.ensures;
+  few = c.stamps_are_few.ensures;
+  among = c.requests_are_among.ensures;
+  run = c.nodes_run.ensures;
+  members = c.members_are_nodes.ensures;
+  targets = c.targets_are_nodes.ensures;
+  rest = c.writers_rest.ensures;
+  opened = c.writers_are_open.ensures;
+  early = c.nothing_comes_early.ensures;
+  acts = c.writers_act_or_ask.ensures;
+  takes = c.commands_are_taken.ensures;
+  fresh = c.unmade_writers_are_fresh.ensures;
+  own_intakes = c.intakes_stay.ensures.own;
+  heard_intakes = c.intakes_stay.ensures.heard;
+  own_keeps = c.own_steps_keep_others.ensures;
+  heard_keeps = c.hearing_keeps_others.ensures;
+  down_keeps = c.nodes_keep_writers.ensures.down;
+  ready_keeps = c.nodes_keep_writers.ensures.ready;
+  mirror_keeps = c.nodes_keep_writers.ensures.up;
+}

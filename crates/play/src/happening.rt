@@ -1,0 +1,106 @@
+//! What is due in a play happens.
+
+ghost use Rattle.play.specs.Showing.{PlayerStands};
+ghost use Rattle.play.specs.Standing.{HappenShows};
+
+use crate::faults::PlayFault;
+use crate::laws::laws;
+use crate::player::Player;
+use hd_base::{BlockId, ConnId, Files, LinkIn, LinkOut, Roads};
+use play_dues::{client_of, writer_of};
+use play_model::Due;
+use std::alloc::Global;
+
+impl<F: Files, I: LinkIn, O: LinkOut> Player<F, I, O> {
+    /// Something that is due happens: a writer takes its own step, or an end takes what stands next or acts without a
+    /// message. Its events stand behind those that happened then.
+    pub fn happen<R: Roads<Inward = I, Outward = O>>(
+        &mut self,
+        alloc: Global,
+        roads: &mut R,
+        due: Due,
+    ) -> Result<(), PlayFault>
+        requires { PlayerStands R.Roads I.LinkIn O.LinkOut roads.old self.old }
+        ensures { HappenShows F.Files R.Roads I.LinkIn O.LinkOut due self.old self.new roads.old roads.new result }
+    {
+        match due {
+            Due::Own { block } => self.step(alloc, roads, block),
+            Due::Down { conn } => self.take_down(alloc, roads, conn),
+            Due::Ready { conn } => self.act(alloc, roads, conn),
+            Due::Up { conn } => self.take_up(alloc, roads, conn),
+        }
+    }
+
+    /// The writer of a block takes its own step.
+    fn step<R: Roads<Inward = I, Outward = O>>(
+        &mut self,
+        alloc: Global,
+        roads: &mut R,
+        block: BlockId,
+    ) -> Result<(), PlayFault>
+        requires { PlayerStands R.Roads I.LinkIn O.LinkOut roads.old self.old }
+        ensures { HappenShows F.Files R.Roads I.LinkIn O.LinkOut (Due.Own block)
+            self.old self.new roads.old roads.new result }
+    {
+        laws();
+        let Some(place) = client_of(self.clients.as_slice(), block) else {
+            return Ok(());
+        };
+        self.own(alloc, roads, place)
+    }
+
+    /// The lower end of a connection takes what stands next.
+    fn take_down<R: Roads<Inward = I, Outward = O>>(
+        &mut self,
+        alloc: Global,
+        roads: &mut R,
+        conn: ConnId,
+    ) -> Result<(), PlayFault>
+        requires { PlayerStands R.Roads I.LinkIn O.LinkOut roads.old self.old }
+        ensures { HappenShows F.Files R.Roads I.LinkIn O.LinkOut (Due.Down conn)
+            self.old self.new roads.old roads.new result }
+    {
+        laws();
+        if self.nodes.takes_first(conn) {
+            self.begin(alloc, roads, conn)
+        } else {
+            self.member_down(alloc, roads, conn)
+        }
+    }
+
+    /// The lower end of a connection acts without a message.
+    fn act<R: Roads<Inward = I, Outward = O>>(
+        &mut self,
+        alloc: Global,
+        roads: &mut R,
+        conn: ConnId,
+    ) -> Result<(), PlayFault>
+        requires { PlayerStands R.Roads I.LinkIn O.LinkOut roads.old self.old }
+        ensures { HappenShows F.Files R.Roads I.LinkIn O.LinkOut (Due.Ready conn)
+            self.old self.new roads.old roads.new result }
+    {
+        laws();
+        self.ready(alloc, roads, conn)
+    }
+
+    /// The upper end of a connection takes what stands next.
+    fn take_up<R: Roads<Inward = I, Outward = O>>(
+        &mut self,
+        alloc: Global,
+        roads: &mut R,
+        conn: ConnId,
+    ) -> Result<(), PlayFault>
+        requires { PlayerStands R.Roads I.LinkIn O.LinkOut roads.old self.old }
+        ensures { HappenShows F.Files R.Roads I.LinkIn O.LinkOut (Due.Up conn)
+            self.old self.new roads.old roads.new result }
+    {
+        laws();
+        let Some(block) = writer_of(&self.nodes, conn) else {
+            return self.mirror_up(alloc, roads, conn);
+        };
+        let Some(place) = client_of(self.clients.as_slice(), block) else {
+            return Ok(());
+        };
+        self.hear(alloc, roads, conn, place)
+    }
+}

@@ -1,0 +1,45 @@
+//! What a play takes of the world.
+
+ghost use Rattle.play.specs.Laws.{Laws};
+
+use play_clients::{hearing_keeps_others, own_steps_keep_others};
+use play_laws::{
+    commands_are_taken, intakes_stay, members_are_nodes, nodes_run, nothing_comes_early,
+    stamps_are_few, targets_are_nodes, unmade_writers_are_fresh, writers_are_open, writers_rest,
+};
+use play_nodes::nodes_keep_writers;
+use play_settling::writers_act_or_ask;
+use world_laws::{
+    enabled_events_are_tested, indices_are_in_range, only_dialled_connections_carry, runs_join,
+};
+use world_orders::{messages_are_taken_in_order, messages_come_in_order};
+use world_requests::requests_are_among;
+use world_texts::messages_are_written;
+
+/// What holds of the world after every list of events.
+pub(crate) fn laws()
+    ensures { Laws }
+{
+    runs_join();
+    enabled_events_are_tested();
+    indices_are_in_range();
+    only_dialled_connections_carry();
+    messages_come_in_order();
+    messages_are_taken_in_order();
+    messages_are_written();
+    stamps_are_few();
+    requests_are_among();
+    nodes_run();
+    members_are_nodes();
+    targets_are_nodes();
+    writers_rest();
+    writers_are_open();
+    nothing_comes_early();
+    writers_act_or_ask();
+    commands_are_taken();
+    unmade_writers_are_fresh();
+    intakes_stay();
+    own_steps_keep_others();
+    hearing_keeps_others();
+    nodes_keep_writers();
+}
