@@ -146,3 +146,276 @@ up_at w queues conn is =
       within = within_so c w.next_conn (and-left (nat_lt c w.next_conn) (is_some (next_up w c)) (and-left (nat_lt c w.next_conn && is_some (next_up w c)) (takes_above (w.dialled c).upper w c) can));
       takes = and-right (nat_lt c w.next_conn && is_some (next_up w c)) (takes_above (w.dialled c).upper w c) can;
     }
+
+-- WHAT IS DUE
+
+module _ {F R I O : Type 0} (r : roads.Ghosts R I O) (i : link_in.Ghosts I) (o : link_out.Ghosts O) (L : Laws) (nodes : ℕ) (queues : Queues) (old : Player F I O) (road : R) (s : PlayStands r i o nodes queues road old) where
+  -- the world of the play
+  abbrev here : World
+  here = world_of nodes old
+
+  -- who dialled a connection
+  pub upper_here : (c : ℕ) → c < here.next_conn → UpperKind (here.dialled c).upper
+  upper_here c within =
+      let n : NodesShow i o here s.net old.nodes = s.shows.nodes.nodes_are in
+      let at = element old.nodes.connections.items c (subst (λ (k : ℕ). c < k) (sym n.count) within) in
+      upper_kind (here.dialled c).upper at.0.upper (n.each c at.0 at.1).upper_is
+
+  -- A WRITER'S OWN STEP
+
+  module _ (c : Client I O) (shows : IsClient i o here s.net queues c) (fits : ClientFits nodes old.nodes.blocks.items here c) (is : is_due here queues (due.Own c.block) ≡ true) where
+    abbrev known : WriterRecord
+    known = (here.writers c.block.0).known
+
+    abbrev act : Action
+    act = (own_step known).action
+
+    -- the world after it, and the queue
+    abbrev later : World
+    later = run here (own_events act c.block.0 (queues c.block.0))
+
+    -- The commands that are left fit, and the block was made.
+    record Goes (a : Action) (queue : List TakenCommand) : Type 0 where
+      fit : CommandsFit nodes (intake_of (run here (own_events a c.block.0 queue)) c.block.0) (queue_left a queue)
+      made : is_unmade (intake_of (run here (own_events a c.block.0 queue)) c.block.0).stand ≡ false
+
+    takes_goes : (queue : List TakenCommand) → has_step known ≡ false → is_some (slice_get queue 0) ≡ true → CommandsFit nodes known.intake queue → Goes action.Wait queue
+    takes_goes [] idle some fit = cc
+    takes_goes (t ∷ queue) idle some fit =
+        let k = takes_so i o L nodes old s.events s.ports s.net queues c shows fits is t idle fit.0 in
+        record {
+          fit = subst (λ (j : Intake). CommandsFit nodes j queue) (sym k.intake) fit.1;
+          made = ap (λ (j : Intake). is_unmade j.stand) k.intake ∙ made_by nodes known.intake t.command fit.0.admits;
+        }
+
+    -- one that has something to do isn't new
+    not_new : has_step known ≡ true → is_unmade known.intake.stand ≡ false
+    not_new steps = go (is_unmade known.intake.stand) refl
+      where
+        go : (q : Bool) → is_unmade known.intake.stand ≡ q → q ≡ false
+        go false e = refl
+        go true e = true_false (has_step known) steps (ap has_step (L.fresh nodes old.events.items c.block.0 e) ∙ fresh_waits (record { 0 = c.block.0 }))
+
+    left_queue : (a : Action) (queue : List TakenCommand) → is_wait a ≡ false → queue_left a queue ≡ queue
+    left_queue action.Wait queue e = cc
+    left_queue (action.Ask call) queue e = refl
+    left_queue action.Took queue e = refl
+    left_queue (action.Dial to req) queue e = refl
+    left_queue (action.Send p) queue e = refl
+    left_queue (action.Answered n said) queue e = refl
+    left_queue action.Memory queue e = refl
+
+    acts_goes : is_wait act ≡ false → CommandsFit nodes known.intake (queues c.block.0) → Goes act (queues c.block.0)
+    acts_goes apart fit =
+        let same : intake_of later c.block.0 ≡ known.intake = L.own_intakes nodes old.events.items queues c.block apart in
+        record {
+          fit = subst (λ (q : List TakenCommand). CommandsFit nodes (intake_of later c.block.0) q) (sym (left_queue act (queues c.block.0) apart)) (subst (λ (j : Intake). CommandsFit nodes j (queues c.block.0)) (sym same) fit);
+          made = ap (λ (j : Intake). is_unmade j.stand) same ∙ not_new (no_wait_step known apart);
+        }
+
+    wait_is : (a : Action) → is_wait a ≡ true → action.Wait ≡ a
+    wait_is action.Wait e = refl
+    wait_is a e = cc
+
+    own_goes : CommandsFit nodes known.intake (queues c.block.0) → Goes act (queues c.block.0)
+    own_goes fit = go (is_wait act) refl
+      where
+        go : (q : Bool) → is_wait act ≡ q → Goes act (queues c.block.0)
+        go false e = acts_goes e fit
+        go true e = subst (λ (a : Action). Goes a (queues c.block.0)) (wait_is act e)
+            (takes_goes (queues c.block.0) (wait_no_step known e) (due_some (has_step known) (is_none known.waiting) (is_some (slice_get (queues c.block.0) 0)) is (wait_no_step known e)) fit)
+
+    -- ITS EVENTS
+
+    first_names : (queue : List TakenCommand) → CommandsFit nodes known.intake queue → IfSome (slice_get queue 0) (λ t. Names (IsNode nodes) t.command)
+    first_names [] fit = tt
+    first_names (t ∷ queue) fit = fit.0.names
+
+    -- one event that takes this command, if any
+    acting_fits : (takes : Option TakenCommand) → IfSome takes (λ t. Names (IsNode nodes) t.command) → EventsFit nodes old.nodes.blocks.items (acting c.block.0 takes ∷ [])
+    acting_fits takes names = record { widths = (fits.width, tt); runs = (tt, tt); names = (names, tt); among = (fits.among, tt) }
+
+    own_fits : (a : Action) (queue : List TakenCommand) → CommandsFit nodes known.intake queue → EventsFit nodes old.nodes.blocks.items (own_events a c.block.0 queue)
+    own_fits action.Wait queue fit = acting_fits (slice_get queue 0) (first_names queue fit)
+    own_fits (action.Ask call) queue fit = record { widths = (tt, (fits.width, tt)); runs = (tt, (tt, tt)); names = (tt, (tt, tt)); among = (tt, (fits.among, tt)) }
+    own_fits action.Took queue fit = acting_fits None tt
+    own_fits (action.Dial to req) queue fit = acting_fits None tt
+    own_fits (action.Send p) queue fit = acting_fits None tt
+    own_fits (action.Answered n said) queue fit = acting_fits None tt
+    own_fits action.Memory queue fit = acting_fits None tt
+
+  -- the commands of a client fit what is known of its writer
+  queue_fits : (c : Client I O) → IsClient i o here s.net queues c → ClientFits nodes old.nodes.blocks.items here c → CommandsFit nodes (intake_of here c.block.0) (queues c.block.0)
+  queue_fits c shows fits = subst (λ (q : List TakenCommand). CommandsFit nodes (intake_of here c.block.0) q) shows.queue fits.queue
+
+  -- ANY EVENT
+
+  -- a due event of the client of a block
+  record Actor (b : BlockId) : Type 0 where
+    client : Client I O
+    shows : IsClient i o here s.net queues client
+    fits : ClientFits nodes old.nodes.blocks.items here client
+    block : client.block ≡ b
+
+  actor_of_block : (b : BlockId) → HasClient old.clients.items b.0 → Actor b
+  actor_of_block b h = record {
+    client = h.client;
+    shows = s.shows.clients h.place h.client h.found;
+    fits = s.clients h.place h.client h.found;
+    block = ap (λ (n : ℕ). record { 0 = n }) h.block;
+  }
+
+  events_fit : (d : Due) → is_due here queues d ≡ true → ActorIsClient old d → EventsFit nodes old.nodes.blocks.items (due_events here queues d)
+  events_fit (due.Own b) is actor =
+      let k : Actor b = actor_of_block b actor in
+      subst (λ (a : BlockId). EventsFit nodes old.nodes.blocks.items (due_events here queues (due.Own a))) k.block
+      (own_fits k.client k.shows k.fits (subst (λ (a : BlockId). is_due here queues (due.Own a) ≡ true) (sym k.block) is) (action_of here k.client.block) (queues k.client.block.0) (queue_fits k.client k.shows k.fits))
+  events_fit (due.Down c) is actor = record { widths = (tt, tt); runs = (tt, tt); names = (tt, tt); among = (tt, tt) }
+  events_fit (due.Ready c) is actor = record { widths = (tt, tt); runs = (tt, tt); names = (tt, tt); among = (tt, tt) }
+  events_fit (due.Up c) is actor = record { widths = (tt, tt); runs = (tt, tt); names = (tt, tt); among = (tt, tt) }
+
+  -- writers that don't act stay
+  writers_stay : (d : Due) → is_due here queues d ≡ true → (b : ℕ) → (actor_of here d ≡ Some b → ⊥) → (run here (due_events here queues d)).writers b ≡ here.writers b
+  writers_stay (due.Own a) is b apart = (L.own_keeps here queues a).0.writers b (λ same. apart (ap (λ (n : ℕ). Some n) (sym same)))
+  writers_stay (due.Down c) is b apart = (L.down_keeps here c true).writers b
+  writers_stay (due.Ready c) is b apart = (L.ready_keeps here c).writers b
+  writers_stay (due.Up c) is b apart = by (upper_here c.0 (up_at here queues c is).within)
+    where
+      by : UpperKind (here.dialled c.0).upper → (happens here (event.Up c)).writers b ≡ here.writers b
+      by (of_writer a e) = (L.heard_keeps here c a e).0.writers b (λ same. apart (ap writer_at e ∙ ap (λ (n : ℕ). Some n) (sym same)))
+      by (of_member m e) = (L.mirror_keeps here c m e).writers b
+
+  -- What is left of a writer's commands fits; once it has acted its block was made.
+  record Fits (d : Due) (b : ℕ) : Type 0 where
+    fit : CommandsFit nodes (intake_of (run here (due_events here queues d)) b) (queues_after here queues d b)
+    made : actor_of here d ≡ Some b → is_unmade (intake_of (run here (due_events here queues d)) b).stand ≡ false
+
+  still_fits : (d : Due) → is_due here queues d ≡ true → (b : ℕ) → (actor_of here d ≡ Some b → ⊥) → queues_after here queues d b ≡ queues b → CommandsFit nodes (intake_of here b) (queues b) → Fits d b
+  still_fits d is b apart same fit = record {
+    fit = subst (λ (q : List TakenCommand). CommandsFit nodes (intake_of (run here (due_events here queues d)) b) q) (sym same)
+        (subst (λ (x : Writing). CommandsFit nodes x.known.intake (queues b)) (sym (writers_stay d is b apart)) fit);
+    made = λ e. absurd (apart e);
+  }
+
+  -- a writer that hears something has the connection
+  pub heard_conn : (c : ConnId) (b : ℕ) → is_due here queues (due.Up c) ≡ true → (here.dialled c.0).upper ≡ by_writer b → (here.writers b).conn ≡ Some c.0
+  heard_conn c b is e = conn_some (here.writers b).conn c.0 (and-left (is_conn (here.writers b).conn c.0) (is_none (here.writers b).told) (subst (λ (u : parts.Upper). takes_above u here c.0 ≡ true) e (up_at here queues c is).takes))
+
+  -- and was given a create
+  heard_made : (c : ConnId) (b : ℕ) → is_due here queues (due.Up c) ≡ true → (here.dialled c.0).upper ≡ by_writer b → is_unmade (intake_of here b).stand ≡ false
+  heard_made c b is e = go (is_unmade (intake_of here b).stand) refl
+    where
+      go : (q : Bool) → is_unmade (intake_of here b).stand ≡ q → q ≡ false
+      go false k = refl
+      go true k = absurd (none-some c.0 (sym ((L.rest nodes old.events.items b).alone (ap (λ (x : WriterRecord). is_connected x.phase) (L.fresh nodes old.events.items b k))) ∙ heard_conn c b is e))
+
+  fits_after : (d : Due) → is_due here queues d ≡ true → ActorIsClient old d → (b : ℕ) → CommandsFit nodes (intake_of here b) (queues b) → Fits d b
+  fits_after (due.Down c) is actor b fit = still_fits (due.Down c) is b (λ e. none-some b e) refl fit
+  fits_after (due.Ready c) is actor b fit = still_fits (due.Ready c) is b (λ e. none-some b e) refl fit
+  fits_after (due.Up c) is actor b fit = by (upper_here c.0 (up_at here queues c is).within)
+    where
+      hears : (a : ℕ) → (here.dialled c.0).upper ≡ by_writer a → (q : Bool) → (a == b) ≡ q → Fits (due.Up c) b
+      hears a e false k = still_fits (due.Up c) is b (λ z. eqb-false a b k (same_Some a b (sym (ap writer_at e) ∙ z))) refl fit
+      hears a e true k =
+          let upper_is : (here.dialled c.0).upper ≡ by_writer b = e ∙ ap by_writer (eqb-true a b k) in
+          let same = L.heard_intakes nodes old.events.items c b upper_is in
+          record {
+            fit = subst (λ (j : Intake). CommandsFit nodes j (queues b)) (sym same) fit;
+            made = λ z. ap (λ (j : Intake). is_unmade j.stand) same ∙ heard_made c b is upper_is;
+          }
+
+      by : UpperKind (here.dialled c.0).upper → Fits (due.Up c) b
+      by (of_writer a e) = hears a e (a == b) refl
+      by (of_member m e) = still_fits (due.Up c) is b (λ z. none-some b (sym (ap writer_at e) ∙ z)) refl fit
+  fits_after (due.Own a) is actor b fit = go (a.0 == b) refl
+    where
+      go : (q : Bool) → (a.0 == b) ≡ q → Fits (due.Own a) b
+      go false k = still_fits (due.Own a) is b (λ z. eqb-false a.0 b k (same_Some a.0 b z)) (put-there queues a.0 (queue_left (action_of here a) (queues a.0)) b (λ same. eqb-false a.0 b k (sym same))) fit
+      go true k =
+          let x : Actor a = actor_of_block a actor in
+          subst (λ (n : ℕ). Fits (due.Own a) n) (eqb-true a.0 b k) (subst (λ (m : BlockId). Fits (due.Own m) m.0) x.block (acts x (queue_fits x.client x.shows x.fits)))
+        where
+          acts : (x : Actor a) → CommandsFit nodes (intake_of here x.client.block.0) (queues x.client.block.0) → Fits (due.Own x.client.block) x.client.block.0
+          acts x fit =
+              let z = own_goes x.client x.shows x.fits (subst (λ (m : BlockId). is_due here queues (due.Own m) ≡ true) (sym x.block) is) fit in
+              record {
+                fit = subst (λ (q : List TakenCommand). CommandsFit nodes (intake_of (run here (due_events here queues (due.Own x.client.block))) x.client.block.0) q) (sym (put-here queues x.client.block.0 (queue_left (action_of here x.client.block) (queues x.client.block.0)))) z.fit;
+                made = λ e. z.made;
+              }
+
+  -- WHAT IS LEFT
+
+  module _ (d : Due) (is : is_due here queues d ≡ true) (actor : ActorIsClient old d) (new : Player F I O) (road' : R) (left : PlayerLeft r i o here queues d old new road') where
+    abbrev there : World
+    there = run here (due_events here queues d)
+
+    world_is : world_of nodes new ≡ there
+    world_is = ap (λ (es : List Event). run (start nodes) es) left.events ∙ L.joined (start nodes) old.events.items (due_events here queues d)
+
+    made_so : (writer : Option WriterRecord) (b : BlockId) (x : WriterRecord) → x ≡ known_of b writer → is_unmade x.intake.stand ≡ false → IfSome writer (λ y. is_unmade y.intake.stand ≡ false)
+    made_so None b x same made = tt
+    made_so (Some y) b x same made = ap (λ (z : WriterRecord). is_unmade z.intake.stand) (sym same) ∙ made
+
+    actor_or : (x : Option ℕ) (b : ℕ) → (x ≡ Some b) ⊎ (x ≡ Some b → ⊥)
+    actor_or None b = inr (λ e. none-some b e)
+    actor_or (Some a) b = go (a == b) refl
+      where
+        go : (q : Bool) → (a == b) ≡ q → (Some a ≡ Some b) ⊎ (Some a ≡ Some b → ⊥)
+        go true e = inl (ap (λ (n : ℕ). Some n) (eqb-true a b e))
+        go false e = inr (λ z. eqb-false a b e (same_Some a b z))
+
+    client_fits : (k : ℕ) (c : Client I O) → slice_get new.clients.items k ≡ Some c → ClientFits nodes new.nodes.blocks.items there c
+    client_fits k c at =
+        let z : StaysAt old.clients.items (actor_of here d) k c = left.places.each k c at in
+        let fits : ClientFits nodes old.nodes.blocks.items here z.was = s.clients k z.was z.at in
+        let number : c.block.0 ≡ z.was.block.0 = ap (λ (b : BlockId). b.0) z.block in
+        let now : IsClient i o there left.made (queues_after here queues d) c = left.shows.clients k c at in
+        let after : Fits d z.was.block.0 = fits_after d is actor z.was.block.0 (queue_fits z.was (s.shows.clients k z.was z.at) fits) in
+        let after' : Fits d c.block.0 = subst (λ (n : ℕ). Fits d n) (sym number) after in
+        record {
+          among = subst (λ (bs : List BlockId). IsAmong bs c.block.0) (sym left.places.blocks) (subst (λ (n : ℕ). IsAmong old.nodes.blocks.items n) (sym number) fits.among);
+          width = subst (λ (n : ℕ). n < 2 ^ 64) (sym number) fits.width;
+          queue = subst (λ (q : List TakenCommand). CommandsFit nodes (intake_of there c.block.0) q) (sym now.queue) after'.fit;
+          made = by z (actor_or (actor_of here d) z.was.block.0) fits now after';
+        }
+      where
+        by : (q : StaysAt old.clients.items (actor_of here d) k c) → (actor_of here d ≡ Some q.was.block.0) ⊎ (actor_of here d ≡ Some q.was.block.0 → ⊥) → ClientFits nodes old.nodes.blocks.items here q.was → IsClient i o there left.made (queues_after here queues d) c → Fits d c.block.0 → IfSome c.writer (λ x. is_unmade x.intake.stand ≡ false)
+        by q (inl e) fits now after = made_so c.writer c.block (there.writers c.block.0).known now.shows.writer (after.made (e ∙ ap (λ (b : BlockId). Some b.0) (sym q.block)))
+        by q (inr apart) fits now after = subst (λ (y : Client I O). IfSome y.writer (λ x. is_unmade x.intake.stand ≡ false)) (sym (q.same apart)) fits.made
+
+    -- a writer that acts, or hears something, has a client
+    actor_client : (d : Due) → is_due here queues d ≡ true → ActorIsClient old d → (b : ℕ) → actor_of here d ≡ Some b → HasClient old.clients.items b
+    actor_client (due.Own a) is actor b e = subst (λ (n : ℕ). HasClient old.clients.items n) (same_Some a.0 b e) actor
+    actor_client (due.Down c) is actor b e = absurd (none-some b e)
+    actor_client (due.Ready c) is actor b e = absurd (none-some b e)
+    actor_client (due.Up c) is actor b e = by (upper_here c.0 (up_at here queues c is).within)
+      where
+        by : UpperKind (here.dialled c.0).upper → HasClient old.clients.items b
+        by (of_writer a k) = s.connected b c.0 (heard_conn c b is (k ∙ ap by_writer (same_Some a b (sym (ap writer_at k) ∙ e))))
+        by (of_member m k) = absurd (none-some b (sym (ap writer_at k) ∙ e))
+
+    connected : (b c : ℕ) → (there.writers b).conn ≡ Some c → HasClient new.clients.items b
+    connected b c has = has_moved new.clients.items old.clients.items b left.places.order (by (actor_or (actor_of here d) b))
+      where
+        by : (actor_of here d ≡ Some b) ⊎ (actor_of here d ≡ Some b → ⊥) → HasClient old.clients.items b
+        by (inl e) = actor_client d is actor b e
+        by (inr apart) = s.connected b c (sym (ap (λ (x : Writing). x.conn) (writers_stay d is b apart)) ∙ has)
+
+    pub has_happened : HasHappened r i o nodes queues d old new road'
+    has_happened = record {
+      stands = record {
+        net = left.made;
+        shows = subst (λ (v : World). PlayerShows r i o v left.made (queues_after here queues d) road' new) (sym world_is) left.shows;
+        ports = s.ports;
+        events = subst (λ (bs : List BlockId). EventsFit nodes bs new.events.items) (sym left.places.blocks)
+            (subst (λ (es : List Event). EventsFit nodes old.nodes.blocks.items es) (sym left.events) (fits_more nodes old.nodes.blocks.items old.events.items (due_events here queues d) s.events (events_fit d is actor)));
+        clients = λ k c at. subst (λ (v : World). ClientFits nodes new.nodes.blocks.items v c) (sym world_is) (client_fits k c at);
+        connected = λ b c has. connected b c (sym (ap (λ (v : World). (v.writers b).conn) world_is) ∙ has);
+      };
+      events = left.events;
+      places = left.places;
+    }
+
+  pub happened_so : (f : files.Ghosts F) (d : Due) → is_due here queues d ≡ true → ActorIsClient old d → (new : Player F I O) (road' : R) (result : Result (Unit {0}) PlayFault) → PlayEnds f r i o here queues d old new road road' result → HappenEnds f r i o nodes queues d old new road road' result
+  happened_so f d is actor new road' (Ok u) left = has_happened d is actor new road' left
+  happened_so f d is actor new road' (Err why) h = h

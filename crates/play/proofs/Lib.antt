@@ -4,3 +4,4 @@ pub mod OwnSteps
 pub mod Lawful
 pub mod CanOwning
 pub mod Happened
+pub mod Dispatch

@@ -22,7 +22,7 @@ use Rattle.play_nodes.specs.declared.nodes.Nodes.{Nodes}
 use Rattle.play_nodes.specs.Dues.{TellsUp}
 use Rattle.play_nodes.specs.Showing.{UpperShows, NodesStand}
 use Rattle.play_nodes.proofs.JoinNodes.{passes_at, place_there}
-use Rattle.play_nodes.proofs.PlaceLaws.{same_some}
+use Rattle.play_nodes.proofs.PlaceLaws.{element_within, same_some}
 use Rattle.play_nodes.proofs.Tables.{element}
 use Rattle.play_dues.specs.Conns.{writer_above, TellsUpper}
 use Rattle.play_dues.specs.Places.{client_place}
@@ -36,15 +36,21 @@ shut_so true false x takes h = refl
 shut_so false within x takes h = refl
 
 -- a connection that no writer dialled was dialled by a member
-member_upper : (u : parts.Upper) (x : Upper) → UpperShows u x → writer_above (Some x) ≡ None → (d : ℕ) × (u ≡ by_member d)
+pub member_upper : (u : parts.Upper) (x : Upper) → UpperShows u x → writer_above (Some x) ≡ None → (d : ℕ) × (u ≡ by_member d)
 member_upper (by_member d) x h is = (d, refl)
 member_upper (by_writer b) (upper.Writer block) h is = cc
 member_upper u x h is = absurd h
 
-writer_upper : (u : parts.Upper) (x : Upper) (block : BlockId) → UpperShows u x → writer_above (Some x) ≡ Some block → u ≡ by_writer block.0
+pub writer_upper : (u : parts.Upper) (x : Upper) (block : BlockId) → UpperShows u x → writer_above (Some x) ≡ Some block → u ≡ by_writer block.0
 writer_upper (by_writer b) (upper.Writer known) block h is = ap by_writer (sym h ∙ ap (λ (y : BlockId). y.0) (same_some known block is))
 writer_upper (by_member d) (upper.Member conn) block h is = cc
 writer_upper u x block h is = absurd h
+
+-- The place of a client is within the clients.
+pub client_within : {I O : Type 0} (clients : List (Client I O)) (b place : ℕ) → client_place clients b ≡ Some place → place < length clients
+client_within {I} {O} clients b place there =
+    let p = passes_at (λ (x : Client I O). x.block.0 == b) clients place there in
+    element_within clients place p.at p.found
 
 none_is_some : {A : Type 0} (x : Option A) (a : A) → x ≡ None → x ≡ Some a → ⊥
 none_is_some x a none some = cc
