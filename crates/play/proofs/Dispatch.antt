@@ -25,7 +25,7 @@ use Rattle.play_nodes.proofs.Tables.{element}
 use Rattle.play_dues.specs.Conns.{writer_above}
 use Rattle.play_dues.specs.Places.{client_place}
 use Rattle.play_dues.specs.Showing.{HasClient}
-use Rattle.play_dues.proofs.UpperLaws.{member_upper, writer_upper}
+use Rattle.play_dues.proofs.UpperLaws.{up_at, heard_conn, member_upper, writer_upper}
 use Rattle.play.specs.declared.faults.PlayFault.{PlayFault}
 use Rattle.play.specs.declared.player.Player.{Player}
 use Rattle.play.specs.Laws.{Laws}
@@ -35,7 +35,7 @@ use Rattle.play.specs.Events.{IsCaused, BeginShows, DownShows, MirrorShows, Hear
 use Rattle.play.specs.Owning.{OwnShows}
 use Rattle.play.specs.Standing.{ClientFits, world_of, PlayStands, HappenEnds, HappenShows, ActorIsClient}
 use Rattle.play.proofs.CanOwning.{can_own}
-use Rattle.play.proofs.Happened.{UpAt, up_at, heard_conn, happened_so}
+use Rattle.play.proofs.Happened.{happened_so}
 use Rattle.play.proofs.Lawful.{lawful, can_begin, can_hear, hears_quiet}
 
 -- a block that has a client has its place
@@ -119,4 +119,4 @@ module _ {F R I O : Type 0} (f : files.Ghosts F) (r : roads.Ghosts R I O) (i : l
 
   pub nobody_hears : (conn : ConnId) (block : BlockId) → writer_above (option_map (λ x. x.upper) (slice_get old.nodes.connections.items conn.0)) ≡ Some block → client_place old.clients.items block.0 ≡ None → HappenShows f r i o (due.Up conn) old new road road' result
   nobody_hears conn block some none = λ nodes queues s is actor.
-      absurd (has_place old.clients.items block.0 (s.connected block.0 conn.0 (heard_conn r i o L nodes queues old road s conn block.0 is (writer_up conn nodes queues s is block some))) none)
+      absurd (has_place old.clients.items block.0 (s.connected block.0 conn.0 (heard_conn (world_of nodes old) queues conn block.0 is (writer_up conn nodes queues s is block some))) none)

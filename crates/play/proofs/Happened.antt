@@ -52,6 +52,7 @@ use Rattle.play_nodes.specs.declared.nodes.Nodes.{Nodes}
 use Rattle.play_nodes.specs.Showing.{UpperShows, NodesShow}
 use Rattle.play_nodes.proofs.Tables.{element}
 use Rattle.play_dues.specs.Showing.{HasClient}
+use Rattle.play_dues.proofs.UpperLaws.{up_at, heard_conn}
 use Rattle.play.specs.declared.faults.PlayFault.{PlayFault}
 use Rattle.play.specs.declared.player.Player.{Player}
 use Rattle.play.specs.Laws.{Laws}
@@ -126,26 +127,6 @@ upper_kind (by_writer b) x h = of_writer b refl
 upper_kind (by_member d) x h = of_member d refl
 upper_kind (by_reader n) x h = absurd h
 upper_kind (by_primary n place) x h = absurd h
-
-conn_some : (x : Option ℕ) (c : ℕ) → is_conn x c ≡ true → x ≡ Some c
-conn_some None c e = cc
-conn_some (Some d) c e = ap (λ (n : ℕ). Some n) (sym (eqb-true c d e))
-
-within_so : (a b : ℕ) → nat_lt a b ≡ true → a < b
-within_so a b h = grind (arith, nat_tests, h)
-
-pub record UpAt (w : World) (c : ℕ) : Type 0 where
-  pub within : c < w.next_conn
-  pub takes : takes_above (w.dialled c).upper w c ≡ true
-
-pub up_at : (w : World) (queues : Queues) (conn : ConnId) → is_due w queues (due.Up conn) ≡ true → UpAt w conn.0
-up_at w queues conn is =
-    let c : ℕ = conn.0 in
-    let can : can_up w c ≡ true = and-right (is_open_above w (w.dialled c).upper) (can_up w c) is in
-    record {
-      within = within_so c w.next_conn (and-left (nat_lt c w.next_conn) (is_some (next_up w c)) (and-left (nat_lt c w.next_conn && is_some (next_up w c)) (takes_above (w.dialled c).upper w c) can));
-      takes = and-right (nat_lt c w.next_conn && is_some (next_up w c)) (takes_above (w.dialled c).upper w c) can;
-    }
 
 -- WHAT IS DUE
 
@@ -297,17 +278,13 @@ module _ {F R I O : Type 0} (r : roads.Ghosts R I O) (i : link_in.Ghosts I) (o :
     made = λ e. absurd (apart e);
   }
 
-  -- a writer that hears something has the connection
-  pub heard_conn : (c : ConnId) (b : ℕ) → is_due here queues (due.Up c) ≡ true → (here.dialled c.0).upper ≡ by_writer b → (here.writers b).conn ≡ Some c.0
-  heard_conn c b is e = conn_some (here.writers b).conn c.0 (and-left (is_conn (here.writers b).conn c.0) (is_none (here.writers b).told) (subst (λ (u : parts.Upper). takes_above u here c.0 ≡ true) e (up_at here queues c is).takes))
-
-  -- and was given a create
+  -- a writer that hears something was given a create
   heard_made : (c : ConnId) (b : ℕ) → is_due here queues (due.Up c) ≡ true → (here.dialled c.0).upper ≡ by_writer b → is_unmade (intake_of here b).stand ≡ false
   heard_made c b is e = go (is_unmade (intake_of here b).stand) refl
     where
       go : (q : Bool) → is_unmade (intake_of here b).stand ≡ q → q ≡ false
       go false k = refl
-      go true k = absurd (none-some c.0 (sym ((L.rest nodes old.events.items b).alone (ap (λ (x : WriterRecord). is_connected x.phase) (L.fresh nodes old.events.items b k))) ∙ heard_conn c b is e))
+      go true k = absurd (none-some c.0 (sym ((L.rest nodes old.events.items b).alone (ap (λ (x : WriterRecord). is_connected x.phase) (L.fresh nodes old.events.items b k))) ∙ heard_conn here queues c b is e))
 
   fits_after : (d : Due) → is_due here queues d ≡ true → ActorIsClient old d → (b : ℕ) → CommandsFit nodes (intake_of here b) (queues b) → Fits d b
   fits_after (due.Down c) is actor b fit = still_fits (due.Down c) is b (λ e. none-some b e) refl fit
@@ -391,7 +368,7 @@ module _ {F R I O : Type 0} (r : roads.Ghosts R I O) (i : link_in.Ghosts I) (o :
     actor_client (due.Up c) is actor b e = by (upper_here c.0 (up_at here queues c is).within)
       where
         by : UpperKind (here.dialled c.0).upper → HasClient old.clients.items b
-        by (of_writer a k) = s.connected b c.0 (heard_conn c b is (k ∙ ap by_writer (same_Some a b (sym (ap writer_at k) ∙ e))))
+        by (of_writer a k) = s.connected b c.0 (heard_conn here queues c b is (k ∙ ap by_writer (same_Some a b (sym (ap writer_at k) ∙ e))))
         by (of_member m k) = absurd (none-some b (sym (ap writer_at k) ∙ e))
 
     connected : (b c : ℕ) → (there.writers b).conn ≡ Some c → HasClient new.clients.items b

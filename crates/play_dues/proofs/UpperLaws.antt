@@ -1,6 +1,7 @@
 -- Whether the upper end of a connection takes what stands next: the member or the writer that dialled it.
-use Rattle.std.proofs.Common.{◌≡◌, ◌<◌, ◌≤◌, ℕ, Bool, true, false, List, length, get_or, slice_get, option_map, Option, Some, None, is_some, refl, sym, ap, ◌∙◌, subst, eqb-true, eq-eqb, le-ltb}
-use Rattle.std.specs.Prelude.{◌&&◌, ◌==◌, nat_lt}
+use Rattle.std.proofs.Common.{◌≡◌, ◌<◌, ◌≤◌, ℕ, Bool, true, false, List, length, get_or, slice_get, option_map, Option, Some, None, is_some, refl, sym, ap, ◌∙◌, subst, eqb-true, eq-eqb, le-ltb, arith}
+use Rattle.std.specs.Prelude.{◌&&◌, ◌==◌, nat_lt, is_none}
+use Rattle.std.proofs.lemmas.Bool.Decides.{nat_tests}
 use Rattle.std.proofs.lemmas.Option.{get_or_from_slice_get}
 use Rattle.hd_base.specs.declared.links.LinkIn as link_in
 use Rattle.hd_base.specs.declared.links.LinkOut as link_out
@@ -8,12 +9,14 @@ use Rattle.hd_base.specs.declared.numbers.BlockId.{BlockId}
 use Rattle.hd_base.specs.declared.numbers.ConnId.{ConnId}
 use Rattle.hd_base.specs.declared.roads.Roads as roads
 use Rattle.road_traffic.specs.Showing.{Net}
-use Rattle.world.specs.Connections.{next_up}
-use Rattle.world.specs.Enabled.{takes_above}
+use Rattle.world.specs.Connections.{is_conn, next_up}
+use Rattle.world.specs.Enabled.{can_up, takes_above}
 use Rattle.world.specs.Parts as parts
 use Rattle.world.specs.Parts.{by_writer, by_member}
 use Rattle.world.specs.Worlds.{World}
-use Rattle.play_model.specs.Dues.{Queues, is_open_above}
+use Rattle.world_laws.proofs.FactTables.{and-left, and-right}
+use Rattle.play_model.specs.declared.dues.Due.TheVariants as due
+use Rattle.play_model.specs.Dues.{Queues, is_due, is_open_above}
 use Rattle.play_clients.specs.declared.clients.Client.{Client}
 use Rattle.play_nodes.specs.declared.connections.Connection.{Connection}
 use Rattle.play_nodes.specs.declared.connections.Upper.{Upper}
@@ -52,13 +55,42 @@ client_within {I} {O} clients b place there =
     let p = passes_at (λ (x : Client I O). x.block.0 == b) clients place there in
     element_within clients place p.at p.found
 
+-- Something is due on a connection: it was dialled, and its upper end takes what stands next.
+pub record UpAt (w : World) (c : ℕ) : Type 0 where
+  pub within : c < w.next_conn
+  pub takes : takes_above (w.dialled c).upper w c ≡ true
+
+within_so : (a b : ℕ) → nat_lt a b ≡ true → a < b
+within_so a b h = grind (arith, nat_tests, h)
+
+pub up_at : (w : World) (queues : Queues) (conn : ConnId) → is_due w queues (due.Up conn) ≡ true → UpAt w conn.0
+up_at w queues conn is =
+    let c : ℕ = conn.0 in
+    let can : can_up w c ≡ true = and-right (is_open_above w (w.dialled c).upper) (can_up w c) is in
+    record {
+      within = within_so c w.next_conn (and-left (nat_lt c w.next_conn) (is_some (next_up w c)) (and-left (nat_lt c w.next_conn && is_some (next_up w c)) (takes_above (w.dialled c).upper w c) can));
+      takes = and-right (nat_lt c w.next_conn && is_some (next_up w c)) (takes_above (w.dialled c).upper w c) can;
+    }
+
+conn_some : (x : Option ℕ) (c : ℕ) → is_conn x c ≡ true → x ≡ Some c
+conn_some None c e = cc
+conn_some (Some d) c e = ap (λ (n : ℕ). Some n) (sym (eqb-true c d e))
+
+-- a writer that hears something has the connection
+pub heard_conn : (w : World) (queues : Queues) (c : ConnId) (b : ℕ) → is_due w queues (due.Up c) ≡ true → (w.dialled c.0).upper ≡ by_writer b → (w.writers b).conn ≡ Some c.0
+heard_conn w queues c b is e = conn_some (w.writers b).conn c.0 (and-left (is_conn (w.writers b).conn c.0) (is_none (w.writers b).told) (subst (λ (u : parts.Upper). takes_above u w c.0 ≡ true) e (up_at w queues c is).takes))
+
+not_true : (b : Bool) → (b ≡ true → ⊥) → false ≡ b
+not_true true h = absurd (h refl)
+not_true false h = refl
+
 none_is_some : {A : Type 0} (x : Option A) (a : A) → x ≡ None → x ≡ Some a → ⊥
 none_is_some x a none some = cc
 
 module _ {F R I O : Type 0} (r : roads.Ghosts R I O) (i : link_in.Ghosts I) (o : link_out.Ghosts O) where
   -- The roads show it, and all else is as it was.
   pub dues_with : (w : World) (net : Net) (queues : Queues) (road road' : R) (n : Nodes F I O) (clients : List (Client I O)) → DuesShow r i o w net queues road n clients → NodesStand r i o w net road' n → DuesShow r i o w net queues road' n clients
-  dues_with w net queues road road' n clients h stands = record { stands = stands; orderly = h.orderly; each = h.each; known = h.known }
+  dues_with w net queues road road' n clients h stands = record { stands = stands; orderly = h.orderly; each = h.each; connected = h.connected }
 
   pub upper_outside : (n : Nodes F I O) (clients : List (Client I O)) (conn : ConnId) (road : R) → length n.connections.items ≤ conn.0 → TellsUpper r i o conn n clients road road false
   upper_outside n clients conn road outside = λ w net queues h. (
@@ -94,9 +126,9 @@ module _ {F R I O : Type 0} (r : roads.Ghosts R I O) (i : link_in.Ghosts I) (o :
       let t = tells w net queues h.stands.roads_are shown.client_is h.orderly.open_ends (writer_so w net n conn block road within some h.stands ∙ ap by_writer (sym block_is)) in
       (dues_with w net queues road road' n clients h (record { roads_are = t.0; nodes_are = h.stands.nodes_are }), t.1)
 
-  -- each writer that dialled has a client
+  -- each writer that has a connection has a client
   pub upper_nobody : (n : Nodes F I O) (clients : List (Client I O)) (conn : ConnId) (block : BlockId) (road : R) → conn.0 < length n.connections.items
       → writer_above (option_map (λ x. x.upper) (slice_get n.connections.items conn.0)) ≡ Some block → client_place clients block.0 ≡ None → TellsUpper r i o conn n clients road road false
-  upper_nobody n clients conn block road within some none = λ w net queues h.
-      let k = h.known block.0 conn.0 (subst (λ (m : ℕ). conn.0 < m) h.stands.nodes_are.count within) (writer_so w net n conn block road within some h.stands) in
-      absurd (none_is_some (client_place clients block.0) _ none (place_there (λ (x : Client I O). x.block.0 == block.0) clients k.place k.client k.found (eq-eqb k.client.block.0 block.0 k.block)))
+  upper_nobody n clients conn block road within some none = λ w net queues h. (h, not_true (is_due w queues (due.Up conn)) (λ is.
+      let k = h.connected block.0 conn.0 (heard_conn w queues conn block.0 is (writer_so w net n conn block road within some h.stands)) in
+      none_is_some (client_place clients block.0) _ none (place_there (λ (x : Client I O). x.block.0 == block.0) clients k.place k.client k.found (eq-eqb k.client.block.0 block.0 k.block))))

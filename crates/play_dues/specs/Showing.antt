@@ -1,10 +1,9 @@
 -- The nodes, the clients and the roads of a play show a world and the queues.
-use Rattle.std.specs.Prelude.{◌≡◌, ◌<◌, ℕ, List, slice_get, Some}
+use Rattle.std.specs.Prelude.{◌≡◌, ℕ, List, slice_get, Some}
 use Rattle.hd_base.specs.declared.links.LinkIn as link_in
 use Rattle.hd_base.specs.declared.links.LinkOut as link_out
 use Rattle.hd_base.specs.declared.roads.Roads as roads
 use Rattle.road_traffic.specs.Showing.{Net}
-use Rattle.world.specs.Parts.{by_writer}
 use Rattle.world.specs.Worlds.{World}
 use Rattle.play_model.specs.Dues.{Queues}
 use Rattle.play_clients.specs.declared.clients.Client.{Client}
@@ -26,14 +25,15 @@ pub record HasClient {I O : Type 0} (clients : List (Client I O)) (b : ℕ) : Ty
   pub found : slice_get clients place ≡ Some client
   pub block : client.block.0 ≡ b
 
--- The nodes and the roads show an orderly world, each client shows it with its queue, and who dialled has a client.
+-- The nodes and the roads show an orderly world, each client shows it with its queue, and a writer that has a connection
+-- is that of a client.
 pub record DuesShow {F R I O : Type 0} (r : roads.Ghosts R I O) (i : link_in.Ghosts I) (o : link_out.Ghosts O)
     (w : World) (net : Net) (queues : Queues) (road : R) (n : Nodes F I O) (clients : List (Client I O)) : Type 0
   where
     pub stands : NodesStand r i o w net road n
     pub orderly : IsOrderly w
     pub each : (k : ℕ) (c : Client I O) → slice_get clients k ≡ Some c → QueueShows i o w net queues c
-    pub known : (b c : ℕ) → c < w.next_conn → (w.dialled c).upper ≡ by_writer b → HasClient clients b
+    pub connected : (b c : ℕ) → (w.writers b).conn ≡ Some c → HasClient clients b
 
 -- The roads show what they showed, and this holds of each world and the queues that are shown.
 abbrev pub Tells : {F R I O : Type 0} → roads.Ghosts R I O → link_in.Ghosts I → link_out.Ghosts O → Nodes F I O →
