@@ -97,6 +97,7 @@ module _ {F R I O D : Type 0} (f : files.Ghosts F) (r : roads.Ghosts R I O) (i :
     pub nodes : mid.nodes ≡ old.nodes
     pub clients : mid.clients.items ≡ slice_set old.clients.items place c'
     pub block : c'.block ≡ c.block
+    pub rule : c'.rule ≡ c.rule
 
   -- the client that stood there before, of the same block
   record WasThere (old : Player F I O) (k : ℕ) (a : Client I O) : Type 0 where
@@ -139,8 +140,8 @@ module _ {F R I O D : Type 0} (f : files.Ghosts F) (r : roads.Ghosts R I O) (i :
   stays_at old mid place c c' h at k a is = by (set_or old.clients.items place c' k a (sym (ap (λ (xs : List (Client I O)). slice_get xs k) h.clients) ∙ is))
     where
       by : SetOr old.clients.items place c' k a → StaysAt old.clients.items (Some c.block.0) k a
-      by (inl x) = record { was = c; at = ap (λ (n : ℕ). slice_get old.clients.items n) x.0 ∙ at; block = ap (λ (y : Client I O). y.block) x.1 ∙ h.block; same = λ no. absurd (no refl) }
-      by (inr x) = record { was = a; at = x.1; block = refl; same = λ no. refl }
+      by (inl x) = record { was = c; at = ap (λ (n : ℕ). slice_get old.clients.items n) x.0 ∙ at; block = ap (λ (y : Client I O). y.block) x.1 ∙ h.block; rule = ap (λ (y : Client I O). y.rule) x.1 ∙ h.rule; same = λ other. absurd (other refl) }
+      by (inr x) = record { was = a; at = x.1; block = refl; rule = refl; same = λ other. refl }
 
   -- what was kept leaves the places
   same_places : (actor : Option ℕ) (old mid new : Player F I O) (e : Event) → IsKept mid new e → KeepsPlaces actor old mid → KeepsPlaces actor old new
@@ -197,12 +198,12 @@ module _ {F R I O D : Type 0} (f : files.Ghosts F) (r : roads.Ghosts R I O) (i :
       let left : clients.HearLeft d r i o w net (happens w (event.Up conn)) c c' desk road' = shows w net queues conn stands lawful is upper quiet in
       let now : d.office desk ≡ Some mid.office.office = sym (ap (λ (x : D). d.office x) (same w net queues conn stands lawful is upper quiet)) ∙ office_mid in
       let q : PlayerShows r i o (happens w (event.Up conn)) left.made queues road' mid =
-      heard_shows conn place old mid c c' w net queues road road' desk now stay nodes_stay ends_stay hearing heard p at (record { nodes = nodes; clients = set; block = left.left.block }) lawful.ordered upper left in
+      heard_shows conn place old mid c c' w net queues road road' desk now stay nodes_stay ends_stay hearing heard p at (record { nodes = nodes; clients = set; block = left.left.block; rule = left.left.rule }) lawful.ordered upper left in
       record {
         made = left.made;
         shows = subst (λ (x : Player F I O). PlayerShows r i o (happens w (event.Up conn)) left.made queues road' x) (sym kept.same) (record { nodes = q.nodes; clients = q.clients; apart = q.apart; office = q.office });
         events = kept.events ∙ ap (λ (es : List Event). es ++ event.Up conn ∷ []) events;
-        places = subst (λ (u : Option ℕ). KeepsPlaces u old new) (sym (ap writer_at upper)) (same_places (Some c.block.0) old mid new (event.Up conn) kept (kept_places old mid place c c' (record { nodes = nodes; clients = set; block = left.left.block }) at));
+        places = subst (λ (u : Option ℕ). KeepsPlaces u old new) (sym (ap writer_at upper)) (same_places (Some c.block.0) old mid new (event.Up conn) kept (kept_places old mid place c c' (record { nodes = nodes; clients = set; block = left.left.block; rule = left.left.rule }) at));
       }
 
   pub heard_left : (conn : ConnId) (place : ℕ) (old mid new : Player F I O) (c c' : Client I O) (road road' : R) (desk desk' : D) (result : Result (Unit {0}) PlayFault) → d.office desk ≡ Some old.office.office → d.office desk' ≡ Some mid.office.office → clients.HearKeepsOffice d r i o c desk desk' road → mid.nodes ≡ old.nodes

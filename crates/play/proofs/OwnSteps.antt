@@ -122,7 +122,7 @@ module _ {F R I O D : Type 0} (f : files.Ghosts F) (r : roads.Ghosts R I O) (i :
       let n : WriterKeeps w v c.block.0 = subst (λ (es : List Event). WriterKeeps w (run w es) c.block.0) l.events (own_keeps w queues c.block) in
       let kept : IsKept i o w net v l.made mid.nodes = subst (λ (x : Nodes F I O). IsKept i o w net v l.made x) (sym nodes) (record { nodes_are = p.nodes.nodes_are; ordered = ordered; keeps = n.keeps; ends = ends_stay w net v l.made c.block.0 ordered l.shows.others }) in
       let same : OnlyNodes mid owned.middle = only_nodes mid owned.middle c.block left.first owned.dialled in
-      let h : IsReplaced f r i o d old mid place c c' = record { nodes = nodes; clients = set; block = l.shows.block } in
+      let h : IsReplaced f r i o d old mid place c c' = record { nodes = nodes; clients = set; block = l.shows.block; rule = l.shows.rule } in
       let q : PlayerShows r i o v l.made (queues_after w queues (due.Own c.block)) road' (record owned.middle { events = new.events }) = record {
         nodes = record {
           roads_are = l.shows.stands.roads_are;

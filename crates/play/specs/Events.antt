@@ -62,11 +62,13 @@ actor_of w (due.Own b) = Some b.0
 actor_of w (due.Up c) = writer_at (w.dialled c.0).upper
 actor_of w other = None
 
--- A client stood at the place before, for the same block; it is the same one, unless its writer is this one.
+-- A client stood at the place before, for the same block and with the same rule; it is the same one, unless its writer is
+-- this one.
 pub record StaysAt {I O : Type 0} (olds : List (Client I O)) (actor : Option ℕ) (k : ℕ) (c : Client I O) : Type 0 where
   pub was : Client I O
   pub at : slice_get olds k ≡ Some was
   pub block : c.block ≡ was.block
+  pub rule : c.rule ≡ was.rule
   pub same : (actor ≡ Some was.block.0 → ⊥) → c ≡ was
 
 -- the blocks of clients

@@ -1,6 +1,7 @@
 //! The events of a play.
 
 ghost use Rattle.std.specs.Prelude.{◌<◌, length};
+ghost use Rattle.member_events.specs.Roads.{RoadsPass};
 ghost use Rattle.play_nodes.specs.Showing.{Stand};
 ghost use Rattle.play.specs.Showing.{PlayerStands};
 ghost use Rattle.play.specs.Events.{Keeps, BeginShows, ReadyShows, DownShows, MirrorShows, HeardShows};
@@ -22,7 +23,8 @@ impl<F: Files, I: LinkIn, O: LinkOut> Player<F, I, O> {
         conn: ConnId,
     ) -> Result<(), PlayFault>
         requires { Stand R.Roads I.LinkIn O.LinkOut roads.old self.old.nodes }
-        ensures { ReadyShows F.Files R.Roads I.LinkIn O.LinkOut conn self.old self.new roads.old roads.new result }
+        ensures shows { ReadyShows F.Files R.Roads I.LinkIn O.LinkOut conn self.old self.new roads.old roads.new result }
+        ensures pass { RoadsPass R.Roads roads.old roads.new }
     {
         nodes_keep_writers();
         clients_stay::<I, O>();
@@ -41,7 +43,8 @@ impl<F: Files, I: LinkIn, O: LinkOut> Player<F, I, O> {
         conn: ConnId,
     ) -> Result<(), PlayFault>
         requires { Stand R.Roads I.LinkIn O.LinkOut roads.old self.old.nodes }
-        ensures { BeginShows F.Files R.Roads I.LinkIn O.LinkOut conn self.old self.new roads.old roads.new result }
+        ensures shows { BeginShows F.Files R.Roads I.LinkIn O.LinkOut conn self.old self.new roads.old roads.new result }
+        ensures pass { RoadsPass R.Roads roads.old roads.new }
     {
         nodes_keep_writers();
         clients_stay::<I, O>();
@@ -63,7 +66,8 @@ impl<F: Files, I: LinkIn, O: LinkOut> Player<F, I, O> {
         conn: ConnId,
     ) -> Result<(), PlayFault>
         requires { Stand R.Roads I.LinkIn O.LinkOut roads.old self.old.nodes }
-        ensures { DownShows F.Files R.Roads I.LinkIn O.LinkOut conn self.old self.new roads.old roads.new result }
+        ensures shows { DownShows F.Files R.Roads I.LinkIn O.LinkOut conn self.old self.new roads.old roads.new result }
+        ensures pass { RoadsPass R.Roads roads.old roads.new }
     {
         nodes_keep_writers();
         clients_stay::<I, O>();
@@ -84,7 +88,8 @@ impl<F: Files, I: LinkIn, O: LinkOut> Player<F, I, O> {
         conn: ConnId,
     ) -> Result<(), PlayFault>
         requires { Stand R.Roads I.LinkIn O.LinkOut roads.old self.old.nodes }
-        ensures { MirrorShows F.Files R.Roads I.LinkIn O.LinkOut conn self.old self.new roads.old roads.new result }
+        ensures shows { MirrorShows F.Files R.Roads I.LinkIn O.LinkOut conn self.old self.new roads.old roads.new result }
+        ensures pass { RoadsPass R.Roads roads.old roads.new }
     {
         nodes_keep_writers();
         clients_stay::<I, O>();
@@ -104,7 +109,8 @@ impl<F: Files, I: LinkIn, O: LinkOut> Player<F, I, O> {
     ) -> Result<(), PlayFault>
         requires stands { PlayerStands R.Roads I.LinkIn O.LinkOut roads.old self.old }
         requires within { place < length self.old.clients.items }
-        ensures { HeardShows F.Files R.Roads I.LinkIn O.LinkOut conn place self.old self.new roads.old roads.new result }
+        ensures shows { HeardShows F.Files R.Roads I.LinkIn O.LinkOut conn place self.old self.new roads.old roads.new result }
+        ensures pass { RoadsPass R.Roads roads.old roads.new }
     {
         writers_keep_nodes();
         nodes_stay::<F, I, O>();

@@ -1,5 +1,6 @@
 //! What is due in a play happens.
 
+ghost use Rattle.member_events.specs.Roads.{RoadsPass};
 ghost use Rattle.play.specs.Showing.{PlayerStands};
 ghost use Rattle.play.specs.Standing.{HappenShows};
 
@@ -21,7 +22,8 @@ impl<F: Files, I: LinkIn, O: LinkOut> Player<F, I, O> {
         due: Due,
     ) -> Result<(), PlayFault>
         requires { PlayerStands R.Roads I.LinkIn O.LinkOut roads.old self.old }
-        ensures { HappenShows F.Files R.Roads I.LinkIn O.LinkOut due self.old self.new roads.old roads.new result }
+        ensures shows { HappenShows F.Files R.Roads I.LinkIn O.LinkOut due self.old self.new roads.old roads.new result }
+        ensures pass { RoadsPass R.Roads roads.old roads.new }
     {
         match due {
             Due::Own { block } => self.step(alloc, roads, block),
@@ -39,8 +41,9 @@ impl<F: Files, I: LinkIn, O: LinkOut> Player<F, I, O> {
         block: BlockId,
     ) -> Result<(), PlayFault>
         requires { PlayerStands R.Roads I.LinkIn O.LinkOut roads.old self.old }
-        ensures { HappenShows F.Files R.Roads I.LinkIn O.LinkOut (Due.Own block)
+        ensures shows { HappenShows F.Files R.Roads I.LinkIn O.LinkOut (Due.Own block)
             self.old self.new roads.old roads.new result }
+        ensures pass { RoadsPass R.Roads roads.old roads.new }
     {
         laws();
         let Some(place) = client_of(self.clients.as_slice(), block) else {
@@ -57,8 +60,9 @@ impl<F: Files, I: LinkIn, O: LinkOut> Player<F, I, O> {
         conn: ConnId,
     ) -> Result<(), PlayFault>
         requires { PlayerStands R.Roads I.LinkIn O.LinkOut roads.old self.old }
-        ensures { HappenShows F.Files R.Roads I.LinkIn O.LinkOut (Due.Down conn)
+        ensures shows { HappenShows F.Files R.Roads I.LinkIn O.LinkOut (Due.Down conn)
             self.old self.new roads.old roads.new result }
+        ensures pass { RoadsPass R.Roads roads.old roads.new }
     {
         laws();
         if self.nodes.takes_first(conn) {
@@ -76,8 +80,9 @@ impl<F: Files, I: LinkIn, O: LinkOut> Player<F, I, O> {
         conn: ConnId,
     ) -> Result<(), PlayFault>
         requires { PlayerStands R.Roads I.LinkIn O.LinkOut roads.old self.old }
-        ensures { HappenShows F.Files R.Roads I.LinkIn O.LinkOut (Due.Ready conn)
+        ensures shows { HappenShows F.Files R.Roads I.LinkIn O.LinkOut (Due.Ready conn)
             self.old self.new roads.old roads.new result }
+        ensures pass { RoadsPass R.Roads roads.old roads.new }
     {
         laws();
         self.ready(alloc, roads, conn)
@@ -91,8 +96,9 @@ impl<F: Files, I: LinkIn, O: LinkOut> Player<F, I, O> {
         conn: ConnId,
     ) -> Result<(), PlayFault>
         requires { PlayerStands R.Roads I.LinkIn O.LinkOut roads.old self.old }
-        ensures { HappenShows F.Files R.Roads I.LinkIn O.LinkOut (Due.Up conn)
+        ensures shows { HappenShows F.Files R.Roads I.LinkIn O.LinkOut (Due.Up conn)
             self.old self.new roads.old roads.new result }
+        ensures pass { RoadsPass R.Roads roads.old roads.new }
     {
         laws();
         let Some(block) = writer_of(&self.nodes, conn) else {

@@ -1,6 +1,7 @@
 //! The own steps of the writers of a play.
 
 ghost use Rattle.std.specs.Prelude.{◌<◌, length};
+ghost use Rattle.member_events.specs.Roads.{RoadsPass};
 ghost use Rattle.play.specs.Showing.{PlayerStands};
 ghost use Rattle.play.specs.Owning.{IsDialled, IsAsked, IsOwned, OwnShows};
 
@@ -23,7 +24,8 @@ impl<F: Files, I: LinkIn, O: LinkOut> Player<F, I, O> {
     ) -> Result<(), PlayFault>
         requires stands { PlayerStands R.Roads I.LinkIn O.LinkOut roads.old self.old }
         requires within { place < length self.old.clients.items }
-        ensures { OwnShows F.Files R.Roads I.LinkIn O.LinkOut place self.old self.new roads.old roads.new result }
+        ensures shows { OwnShows F.Files R.Roads I.LinkIn O.LinkOut place self.old self.new roads.old roads.new result }
+        ensures pass { RoadsPass R.Roads roads.old roads.new }
     {
         writers_keep_nodes();
         nodes_stay::<F, I, O>();

@@ -12,15 +12,15 @@ hear-requires-after_bounds g c κs within =
     client_known g.R.Roads g.I.LinkIn g.O.LinkOut c.args.roads.now c.args.self.now c.args.place c.index_mut.result.now c.requires.stands
     (element_some c.args.self.now.clients.items c.args.place c.index_mut.result.now c.requires.within c.index_mut.ensures.value)
 
-pub returns-in-Ok : goal.returns-in-Ok
-returns-in-Ok g c =
+pub returns-in-Ok-clause-shows : goal.returns-in-Ok-clause-shows
+returns-in-Ok-clause-shows g c =
     let x = c.args.self.now in
     heard_left g.F.Files g.R.Roads g.I.LinkIn g.O.LinkOut _ c.args.conn c.args.place x _ c.keep.new.self c.index_mut.result.now c.hear.new.self c.args.roads.now c.hear.new.roads x.office c.hear.new.office c.keep.result refl refl c.hear.ensures.office refl refl refl
     c.clients_stay.ensures c.nodes_stay.ensures c.nodes_ends_stay.ensures c.hearing_keeps_others.ensures c.writers_keep_nodes.ensures.heard
     (element_some x.clients.items c.args.place c.index_mut.result.now c.requires.within c.index_mut.ensures.value) c.in-Ok.ensures.shows c.keep.ensures
 
-pub returns-in-Err : goal.returns-in-Err
-returns-in-Err g c =
+pub returns-in-Err-clause-shows : goal.returns-in-Err-clause-shows
+returns-in-Err-clause-shows g c =
     let x = c.args.self.now in
     let now = record x { clients = with_item x.clients c.args.place c.hear.new.self; office = c.hear.new.office } in
     subst (λ (y : PlayFault). HeardShows g.F.Files g.R.Roads g.I.LinkIn g.O.LinkOut c.args.conn c.args.place x now c.args.roads.now c.hear.new.roads (Err y)) (sym c.of_client.ensures)

@@ -5,12 +5,12 @@ use Rattle.play.specs.Events.{MirrorShows}
 use Rattle.play.proofs.NodeSteps.{mirror_left, mirror_failed}
 use Rattle.play.proofs.player.Player.mirror_up.Goals as goal
 
-pub returns-in-Ok : goal.returns-in-Ok
-returns-in-Ok g c =
+pub returns-in-Ok-clause-shows : goal.returns-in-Ok-clause-shows
+returns-in-Ok-clause-shows g c =
     mirror_left g.F.Files g.R.Roads g.I.LinkIn g.O.LinkOut c.args.conn c.args.self.now c.mirror_up.new.self c.keep.new.self c.args.roads.now c.mirror_up.new.roads c.keep.result c.in-Ok.ensures.blocks c.clients_stay.ensures c.nodes_keep_writers.ensures.up c.in-Ok.ensures.shows c.keep.ensures
 
-pub returns-in-Err : goal.returns-in-Err
-returns-in-Err g c =
+pub returns-in-Err-clause-shows : goal.returns-in-Err-clause-shows
+returns-in-Err-clause-shows g c =
     let new = record c.args.self.now { nodes = c.mirror_up.new.self } in
     subst (λ (x : PlayFault). MirrorShows g.F.Files g.R.Roads g.I.LinkIn g.O.LinkOut c.args.conn c.args.self.now new c.args.roads.now c.mirror_up.new.roads (Err x)) (sym c.of_nodes.ensures)
     (mirror_failed g.F.Files g.R.Roads g.I.LinkIn g.O.LinkOut c.args.conn c.args.self.now new c.args.roads.now c.mirror_up.new.roads c.in-Err.fault c.in-Err.ensures.shows)
