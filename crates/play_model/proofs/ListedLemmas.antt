@@ -9,6 +9,7 @@ use Rattle.name_core.specs.declared.calls.OfficeCall.{OfficeCall}
 use Rattle.name_core.specs.Offices.{answer_to}
 use Rattle.world.specs.declared.events.TakenCommand.{TakenCommand}
 use Rattle.world.specs.Parts.{Told, Writing}
+use Rattle.world.specs.Safe.{Has}
 use Rattle.world.specs.Worlds.{World, apply}
 use Rattle.world.specs.Primaries.{writer_asks}
 use Rattle.world.specs.Events.{happens, outcome, changed, after_event}
@@ -20,7 +21,7 @@ use Rattle.play_model.specs.declared.dues.Due.{Due}
 use Rattle.play_model.specs.declared.dues.Due.TheVariants as due
 use Rattle.play_model.specs.States.{PlayState, world_of}
 use Rattle.play_model.specs.Dues.{Queues, is_open, is_open_above, is_due, when, when_due, upto, own_dues, conn_dues, dues, asking, acting, own_events, action_of, due_events}
-use Rattle.play_model.specs.Laws.{AreEnabled, IsDeed, IsQuiet}
+use Rattle.play_model.specs.Laws.{AreEnabled, IsDeed, IsQuiet, OwnAmong, IsListed}
 
 -- all of the list are such
 abbrev All : (Due → Type 0) → List Due → Type 0
@@ -122,3 +123,34 @@ pub listed_enabled : (blocks : List ℕ) (p : PlayState) (i : ℕ) (d : Due) →
     → AreEnabled (world_of p) (due_events (world_of p) p.queues d)
 listed_enabled blocks p i d quiet found deed =
     due_enabled (world_of p) p.queues d quiet (at (Is (world_of p) p.queues) (dues blocks p) i d (all_due blocks p) found) deed
+
+-- ---- whose steps are listed
+
+has_more : (b : ℕ) (blocks : List ℕ) (a : ℕ) → Has blocks a → Has (b ∷ blocks) a
+has_more b blocks a h = record { place = suc h.place; there = h.there }
+
+own_among : (w : World) (queues : Queues) (all blocks : List ℕ) → ((b : ℕ) → Has blocks b → Has all b) → All (OwnAmong all) (own_dues w queues blocks)
+own_among w queues all [] within = tt
+own_among w queues all (b ∷ blocks) within =
+    both (OwnAmong all) (when_due w queues (due.Own (record { 0 = b }))) (own_dues w queues blocks)
+    (when_is (OwnAmong all) (is_due w queues (due.Own (record { 0 = b }))) (due.Own (record { 0 = b })) (λ e. within b (record { place = 0; there = refl })))
+    (own_among w queues all blocks (λ a h. within a (has_more b blocks a h)))
+
+conn_among : (w : World) (queues : Queues) (all : List ℕ) (c : ℕ) → All (OwnAmong all) (conn_dues w queues c)
+conn_among w queues all c =
+    both (OwnAmong all) (when_due w queues (due.Down (record { 0 = c }))) _ (when_is (OwnAmong all) _ (due.Down (record { 0 = c })) (λ e. tt))
+    (both (OwnAmong all) (when_due w queues (due.Ready (record { 0 = c }))) _ (when_is (OwnAmong all) _ (due.Ready (record { 0 = c })) (λ e. tt))
+    (when_is (OwnAmong all) _ (due.Up (record { 0 = c })) (λ e. tt)))
+
+all_among : (blocks : List ℕ) (p : PlayState) → All (OwnAmong blocks) (dues blocks p)
+unfolding dues
+all_among blocks p =
+    let w = world_of p in
+    both (OwnAmong blocks) (own_dues w p.queues blocks) (upto (conn_dues w p.queues) w.next_conn) (own_among w p.queues blocks blocks (λ b h. h))
+    (upto_all (OwnAmong blocks) (conn_dues w p.queues) w.next_conn (conn_among w p.queues blocks))
+
+pub listed_due : (blocks : List ℕ) (p : PlayState) (i : ℕ) (d : Due) → slice_get (dues blocks p) i ≡ Some d → IsListed blocks p d
+listed_due blocks p i d found = record {
+  is = at (Is (world_of p) p.queues) (dues blocks p) i d (all_due blocks p) found;
+  among = at (OwnAmong blocks) (dues blocks p) i d (all_among blocks p) found;
+}

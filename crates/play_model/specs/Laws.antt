@@ -2,13 +2,14 @@
 use Rattle.std.specs.Prelude.{◌≡◌, ℕ, ◌||◌, true, List, [], ◌∷◌, slice_get, Some, None}
 use Rattle.script_lang.specs.declared.instructions.ScriptLine.{ScriptLine}
 use Rattle.world.specs.declared.events.Event.{Event}
+use Rattle.world.specs.Safe.{Has}
 use Rattle.world.specs.Worlds.{World}
 use Rattle.world.specs.Enabled.{is_deed, is_question}
 use Rattle.world.specs.Events.{is_enabled, happens}
 use Rattle.play_model.specs.declared.dues.Due.{Due}
 use Rattle.play_model.specs.declared.dues.Due.TheVariants as due
 use Rattle.play_model.specs.States.{PlayState, world_of}
-use Rattle.play_model.specs.Dues.{dues, due_events, action_of}
+use Rattle.play_model.specs.Dues.{dues, is_due, due_events, action_of}
 use Rattle.play_model.specs.Lines.{Plays}
 
 -- A script is played to one end.
@@ -34,3 +35,17 @@ AreEnabledWhereListed =
     (blocks : List ℕ) (p : PlayState) (i : ℕ) (d : Due) → IsQuiet (world_of p) → slice_get (dues blocks p) i ≡ Some d →
     IsDeed (world_of p) d
     → AreEnabled (world_of p) (due_events (world_of p) p.queues d)
+
+-- a writer's step is of one of these blocks
+abbrev pub OwnAmong : List ℕ → Due → Type 0
+OwnAmong blocks (due.Own b) = Has blocks b.0
+OwnAmong blocks other = Unit {0}
+
+-- It is due, and a writer that takes a step in it is of one of these blocks.
+pub record IsListed (blocks : List ℕ) (p : PlayState) (d : Due) : Type 0 where
+  pub is : is_due (world_of p) p.queues d ≡ true
+  pub among : OwnAmong blocks d
+
+abbrev pub ListedAreDue : Type 0
+ListedAreDue = (blocks : List ℕ) (p : PlayState) (i : ℕ) (d : Due) → slice_get (dues blocks p) i ≡ Some d
+    → IsListed blocks p d

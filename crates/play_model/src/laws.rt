@@ -1,6 +1,6 @@
 //! Laws of plays.
 
-ghost use Rattle.play_model.specs.Laws.{HaveOneEnd, AreEnabledWhereListed};
+ghost use Rattle.play_model.specs.Laws.{HaveOneEnd, AreEnabledWhereListed, ListedAreDue};
 
 /// A script is played to one end: the events, the queues and the generator are settled by its lines alone.
 pub fn plays_have_one_end()
@@ -11,4 +11,9 @@ pub fn plays_have_one_end()
 /// unless it is a writer's step that takes a command.
 pub fn drawn_events_are_enabled()
     ensures { AreEnabledWhereListed }
+{}
+
+/// What is listed to be drawn is due, and a writer that takes a step in it is of one of the play's blocks.
+pub fn listed_dues_are_due()
+    ensures { ListedAreDue }
 {}

@@ -5,4 +5,4 @@ mod dues;
 mod laws;
 
 pub use dues::Due;
-pub use laws::{drawn_events_are_enabled, plays_have_one_end};
+pub use laws::{drawn_events_are_enabled, listed_dues_are_due, plays_have_one_end};
