@@ -5,7 +5,7 @@ ghost use Rattle.play.specs.Showing.{PlayerStands};
 ghost use Rattle.play.specs.Standing.{HappenShows};
 
 use crate::faults::PlayFault;
-use crate::laws::laws;
+use crate::laws::worlds_are_lawful;
 use crate::player::Player;
 use hd_base::{BlockId, ConnId, Files, LinkIn, LinkOut, Roads};
 use play_dues::{client_of, writer_of};
@@ -45,7 +45,7 @@ impl<F: Files, I: LinkIn, O: LinkOut> Player<F, I, O> {
             self.old self.new roads.old roads.new result }
         ensures pass { RoadsPass R.Roads roads.old roads.new }
     {
-        laws();
+        worlds_are_lawful();
         let Some(place) = client_of(self.clients.as_slice(), block) else {
             return Ok(());
         };
@@ -64,7 +64,7 @@ impl<F: Files, I: LinkIn, O: LinkOut> Player<F, I, O> {
             self.old self.new roads.old roads.new result }
         ensures pass { RoadsPass R.Roads roads.old roads.new }
     {
-        laws();
+        worlds_are_lawful();
         if self.nodes.takes_first(conn) {
             self.begin(alloc, roads, conn)
         } else {
@@ -84,7 +84,7 @@ impl<F: Files, I: LinkIn, O: LinkOut> Player<F, I, O> {
             self.old self.new roads.old roads.new result }
         ensures pass { RoadsPass R.Roads roads.old roads.new }
     {
-        laws();
+        worlds_are_lawful();
         self.ready(alloc, roads, conn)
     }
 
@@ -100,7 +100,7 @@ impl<F: Files, I: LinkIn, O: LinkOut> Player<F, I, O> {
             self.old self.new roads.old roads.new result }
         ensures pass { RoadsPass R.Roads roads.old roads.new }
     {
-        laws();
+        worlds_are_lawful();
         let Some(block) = writer_of(&self.nodes, conn) else {
             return self.mirror_up(alloc, roads, conn);
         };

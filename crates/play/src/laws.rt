@@ -17,7 +17,7 @@ use world_requests::requests_are_among;
 use world_texts::messages_are_written;
 
 /// What holds of the world after every list of events.
-pub(crate) fn laws()
+pub fn worlds_are_lawful()
     ensures { Laws }
 {
     runs_join();

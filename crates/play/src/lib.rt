@@ -10,4 +10,5 @@ mod owning;
 mod player;
 
 pub use faults::PlayFault;
+pub use laws::worlds_are_lawful;
 pub use player::Player;

@@ -11,5 +11,5 @@ pub returns-clause-shows : goal.returns-clause-shows
 returns-clause-shows g c = λ nodes queues s is actor.
     let old = c.args.self.now in
     let conn = c.args.conn in
-    happened_so g.R.Roads g.I.LinkIn g.O.LinkOut c.laws.ensures nodes queues old c.args.roads.now s g.F.Files (due.Ready conn) is actor c.ready.new.self c.ready.new.roads c.ready.result
-    (c.ready.ensures.shows (world_of nodes old) s.net queues s.shows (lawful c.laws.ensures nodes old s.events (event.Ready conn) (tt, tt)) is)
+    happened_so g.R.Roads g.I.LinkIn g.O.LinkOut c.worlds_are_lawful.ensures nodes queues old c.args.roads.now s g.F.Files (due.Ready conn) is actor c.ready.new.self c.ready.new.roads c.ready.result
+    (c.ready.ensures.shows (world_of nodes old) s.net queues s.shows (lawful c.worlds_are_lawful.ensures nodes old s.events (event.Ready conn) (tt, tt)) is)

@@ -4,8 +4,8 @@ use Rattle.play.proofs.player.Player.take_down.Goals as goal
 
 pub returns-then-takes_first-clause-shows : goal.returns-then-takes_first-clause-shows
 returns-then-takes_first-clause-shows g c =
-    begins g.F.Files g.R.Roads g.I.LinkIn g.O.LinkOut c.laws.ensures c.args.self.now c.begin.new.self c.args.roads.now c.begin.new.roads c.begin.result c.args.conn c.takes_first.result c.if-takes_first.true c.takes_first.ensures c.begin.ensures.shows
+    begins g.F.Files g.R.Roads g.I.LinkIn g.O.LinkOut c.worlds_are_lawful.ensures c.args.self.now c.begin.new.self c.args.roads.now c.begin.new.roads c.begin.result c.args.conn c.takes_first.result c.if-takes_first.true c.takes_first.ensures c.begin.ensures.shows
 
 pub returns-else-takes_first-clause-shows : goal.returns-else-takes_first-clause-shows
 returns-else-takes_first-clause-shows g c =
-    members g.F.Files g.R.Roads g.I.LinkIn g.O.LinkOut c.laws.ensures c.args.self.now c.member_down.new.self c.args.roads.now c.member_down.new.roads c.member_down.result c.args.conn c.takes_first.result c.if-takes_first.false c.takes_first.ensures c.member_down.ensures.shows
+    members g.F.Files g.R.Roads g.I.LinkIn g.O.LinkOut c.worlds_are_lawful.ensures c.args.self.now c.member_down.new.self c.args.roads.now c.member_down.new.roads c.member_down.result c.args.conn c.takes_first.result c.if-takes_first.false c.takes_first.ensures c.member_down.ensures.shows

@@ -8,11 +8,11 @@ use Rattle.play.proofs.player.Player.take_up.Goals as goal
 
 pub returns-in_default-clause-shows : goal.returns-in_default-clause-shows
 returns-in_default-clause-shows g c =
-    mirrors g.F.Files g.R.Roads g.I.LinkIn g.O.LinkOut c.laws.ensures c.args.self.now c.mirror_up.new.self c.args.roads.now c.mirror_up.new.roads c.mirror_up.result c.args.conn (sym c.writer_of.ensures ∙ none_so c.writer_of.result c.in_default.not-Some) c.mirror_up.ensures.shows
+    mirrors g.F.Files g.R.Roads g.I.LinkIn g.O.LinkOut c.worlds_are_lawful.ensures c.args.self.now c.mirror_up.new.self c.args.roads.now c.mirror_up.new.roads c.mirror_up.result c.args.conn (sym c.writer_of.ensures ∙ none_so c.writer_of.result c.in_default.not-Some) c.mirror_up.ensures.shows
 
 pub returns-in_default-client_of-clause-shows : goal.returns-in_default-client_of-clause-shows
 returns-in_default-client_of-clause-shows g c =
-    nobody_hears g.F.Files g.R.Roads g.I.LinkIn g.O.LinkOut c.laws.ensures c.args.self.now c.args.self.now c.args.roads.now c.args.roads.now (Ok tt) c.args.conn c.in-Some.block (sym c.in-Some.ensures)
+    nobody_hears g.F.Files g.R.Roads g.I.LinkIn g.O.LinkOut c.worlds_are_lawful.ensures c.args.self.now c.args.self.now c.args.roads.now c.args.roads.now (Ok tt) c.args.conn c.in-Some.block (sym c.in-Some.ensures)
     (ap (λ xs. client_place xs c.in-Some.block.0) (sym c.as_slice.ensures.value) ∙ (sym c.client_of.ensures ∙ none_so c.client_of.result c.in_default-client_of.not-Some))
 
 pub hear-requires-clause-within : goal.hear-requires-clause-within
@@ -20,4 +20,4 @@ hear-requires-clause-within g c κs within = client_within c.args.self.now.clien
 
 pub returns-clause-shows : goal.returns-clause-shows
 returns-clause-shows g c =
-    hears g.F.Files g.R.Roads g.I.LinkIn g.O.LinkOut c.laws.ensures c.args.self.now c.hear.new.self c.args.roads.now c.hear.new.roads c.hear.result c.args.conn c.in-Some.block c.in-Some-client_of.place (sym c.in-Some.ensures) (ap (λ xs. client_place xs c.in-Some.block.0) (sym c.as_slice.ensures.value) ∙ sym c.in-Some-client_of.ensures) c.hear.ensures.shows
+    hears g.F.Files g.R.Roads g.I.LinkIn g.O.LinkOut c.worlds_are_lawful.ensures c.args.self.now c.hear.new.self c.args.roads.now c.hear.new.roads c.hear.result c.args.conn c.in-Some.block c.in-Some-client_of.place (sym c.in-Some.ensures) (ap (λ xs. client_place xs c.in-Some.block.0) (sym c.as_slice.ensures.value) ∙ sym c.in-Some-client_of.ensures) c.hear.ensures.shows

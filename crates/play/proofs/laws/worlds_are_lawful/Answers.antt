@@ -1,4 +1,4 @@
-use Rattle.play.proofs.laws.laws.Goals as goal
+use Rattle.play.proofs.laws.worlds_are_lawful.Goals as goal
 
 pub returns : goal.returns
 returns c = record {

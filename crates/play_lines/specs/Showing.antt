@@ -1,0 +1,23 @@
+-- A play, with its roads, is one so far of the model.
+use Rattle.std.specs.Prelude.{◌≡◌, ℕ, slice_get, Some}
+use Rattle.hd_base.specs.declared.links.LinkIn as link_in
+use Rattle.hd_base.specs.declared.links.LinkOut as link_out
+use Rattle.hd_base.specs.declared.roads.Roads as roads
+use Rattle.play_model.specs.States.{PlayState}
+use Rattle.play_clients.specs.declared.clients.Client.{Client}
+use Rattle.play.specs.Standing.{PlayStands}
+use Rattle.play_lines.specs.declared.playing.Playing.{Playing}
+
+-- The player stands for its events and queues; the generator is the same, and each client has the rule of its block.
+pub record PlayIs {F R I O : Type 0} (r : roads.Ghosts R I O) (i : link_in.Ghosts I) (o : link_out.Ghosts O)
+    (p : PlayState) (road : R) (x : Playing F I O) : Type 0 where
+  pub stands : PlayStands r i o p.nodes p.queues road x.player
+  pub events : p.events ≡ x.player.events.items
+  pub generator : x.generator ≡ p.generator
+  pub rules : (k : ℕ) (c : Client I O) → slice_get x.player.clients.items k ≡ Some c → c.rule ≡ p.rules c.block.0
+
+-- It is some play.
+pub record IsPlaying {F R I O : Type 0} (r : roads.Ghosts R I O) (i : link_in.Ghosts I) (o : link_out.Ghosts O)
+    (road : R) (x : Playing F I O) : Type 0 where
+  pub p : PlayState
+  pub is : PlayIs r i o p road x

@@ -1,0 +1,48 @@
+//! What happens next is drawn.
+
+ghost use Rattle.member_events.specs.Roads.{RoadsPass};
+ghost use Rattle.play_lines.specs.Showing.{IsPlaying};
+ghost use Rattle.play_lines.specs.Drawing.{DrawShows};
+
+use crate::playing::Playing;
+use hd_base::{Files, LinkIn, LinkOut, Roads};
+use play::{PlayFault, worlds_are_lawful};
+use play_dues::{count_dues, dues_are_listed, pick_dues};
+use play_model::listed_dues_are_due;
+use rand_core::utils::NextWord;
+use std::alloc::Global;
+use world_orders::takers_are_open;
+
+impl<F: Files, I: LinkIn, O: LinkOut> Playing<F, I, O> {
+    /// Where something is due, one word of the generator is taken, and what it draws happens. Answers whether something
+    /// was due.
+    pub fn draw<R: Roads<Inward = I, Outward = O>>(
+        &mut self,
+        alloc: Global,
+        roads: &mut R,
+    ) -> Result<bool, PlayFault>
+        requires { IsPlaying R.Roads I.LinkIn O.LinkOut roads.old self.old }
+        ensures shows { DrawShows F.Files R.Roads I.LinkIn O.LinkOut self.old self.new roads.old roads.new result }
+        ensures pass { RoadsPass R.Roads roads.old roads.new }
+    {
+        worlds_are_lawful();
+        takers_are_open();
+        dues_are_listed();
+        listed_dues_are_due();
+        let count = count_dues(&self.player.nodes, self.player.clients.as_slice(), roads);
+        if count == 0 {
+            return Ok(false);
+        }
+        let number = u128::from(self.generator.next_word()) % count;
+        let Some(due) = pick_dues(
+            &self.player.nodes,
+            self.player.clients.as_slice(),
+            roads,
+            number,
+        ) else {
+            return Ok(true);
+        };
+        self.player.happen(alloc, roads, due)?;
+        Ok(true)
+    }
+}

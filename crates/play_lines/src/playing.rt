@@ -1,0 +1,14 @@
+//! A play so far.
+
+use hd_base::Files;
+use play::Player;
+use rand_pcg::Lcg64Xsh32;
+
+/// A play so far.
+#[derive(Drop)]
+pub struct Playing<F: Files, I, O> {
+    /// The nodes, the clients, the office, and what happened.
+    pub player: Player<F, I, O>,
+    /// Draws what happens next.
+    pub generator: Lcg64Xsh32,
+}
