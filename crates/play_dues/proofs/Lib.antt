@@ -1,4 +1,7 @@
-pub mod Standings
 pub mod WriterLaws
 pub mod CountLaws
 pub mod OwnLaws
+pub mod ListLaws
+pub mod UpperLaws
+pub mod ConnLaws
+pub mod ListingLaws

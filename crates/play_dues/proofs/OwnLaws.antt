@@ -17,7 +17,7 @@ use Rattle.play_dues.specs.Own.{own_listed, blocks_of}
 use Rattle.play_dues.specs.Showing.{QueueShows}
 
 module _ {I O : Type 0} (i : link_in.Ghosts I) (o : link_out.Ghosts O) where
-  own_so : (w : World) (net : Net) (queues : Queues) (c : Client I O) → QueueShows i o w net queues c → client_has_step c ≡ own_due (w.writers c.block.0) (queues c.block.0)
+  pub own_so : (w : World) (net : Net) (queues : Queues) (c : Client I O) → QueueShows i o w net queues c → client_has_step c ≡ own_due (w.writers c.block.0) (queues c.block.0)
   own_so w net queues c h =
       ap (λ (x : WriterRecord). has_step x || (is_none x.waiting && is_some (slice_get c.queue.items 0))) (sym h.client_is.writer)
       ∙ ap (λ (q : List TakenCommand). own_due (w.writers c.block.0) q) h.queue

@@ -1,9 +1,6 @@
 -- A writer takes what stands next on the connection that it has.
-use Rattle.std.proofs.Common.{◌≡◌, ◌<◌, ◌≤◌, ◌⊎◌, inl, inr, ℕ, Bool, true, false, Option, Some, None, is_some, option_map, refl, sym, ap, ◌∙◌, subst, arith}
+use Rattle.std.proofs.Common.{◌≡◌, ◌<◌, ◌≤◌, ◌⊎◌, inl, inr, ℕ, Bool, true, false, Option, Some, None, is_some, option_map, refl, sym, ap, ◌∙◌, subst, eqb-true, lt-ltb}
 use Rattle.std.specs.Prelude.{◌&&◌, ◌==◌, nat_lt, is_none}
-use Rattle.std.proofs.lemmas.Bool.Decides.{nat_tests}
-use Rattle.hd_base.specs.Channels.{Plain}
-use Rattle.hd_base.specs.Ends.{IsKnown}
 use Rattle.hd_base.specs.declared.ends.Conn.{Conn}
 use Rattle.hd_base.specs.declared.ends.Standing.{Standing}
 use Rattle.hd_base.specs.declared.ends.Standing.TheVariants as standing
@@ -16,30 +13,18 @@ use Rattle.road_traffic.specs.Showing.{Net, RoadsShow, ShowsStanding}
 use Rattle.world.specs.Parts as parts
 use Rattle.world.specs.Parts.{by_writer}
 use Rattle.world.specs.Worlds.{World}
-use Rattle.world.specs.Connections.{Next, message, the_end, next_up, is_conn}
+use Rattle.world.specs.Connections.{next_up, is_conn}
 use Rattle.world.specs.Enabled.{takes_above}
 use Rattle.world_nets.specs.Nets.{IsEndOf}
 use Rattle.world_nets.specs.Rows.{rows_of}
 use Rattle.play_model.specs.Dues.{is_open_above}
-use Rattle.member_events.specs.Roads.{RoadsPass}
 use Rattle.client_events.specs.declared.pipes.Pipe.{Pipe}
 use Rattle.client_events.specs.declared.pipes.Pipe.TheVariants as pipe
 use Rattle.client_events.specs.Showing.{LinkShows, PipeShows}
 use Rattle.play_clients.specs.declared.clients.Client.{Client}
 use Rattle.play_nodes.specs.Dues.{stands}
+use Rattle.play_nodes.proofs.DueNodes.{row_standing, stands_as, hears_next}
 use Rattle.play_dues.specs.Writers.{conn_of, TellsWriter}
-use Rattle.play_dues.proofs.Standings.{standing_for, row_standing}
-
-stands_as : (x : Option Next) → stands (standing_for x) ≡ is_some x
-stands_as None = refl
-stands_as (Some (message m)) = refl
-stands_as (Some the_end) = refl
-
-same_number : (c d : ℕ) → (c == d) ≡ true → c ≡ d
-same_number c d h = grind (arith, nat_tests, h)
-
-below_so : (a b : ℕ) → a < b → nat_lt a b ≡ true
-below_so a b h = grind (arith, nat_tests, h)
 
 -- what is due of a writer of which no answer waits
 due_so : (within x has told : Bool) → (has ≡ true → within ≡ true) → told ≡ true → (has && x) ≡ (true && ((within && x) && (has && told)))
@@ -69,17 +54,6 @@ pub stands_so : (s : Standing) → (s ≡ standing.Piece) ⊎ (s ≡ standing.En
 stands_so s (inl h) = ap stands h
 stands_so s (inr h) = ap stands h
 
-hears_next : (b x y : Bool) → (b ≡ true → x ≡ y) → (b && x) ≡ (b && y)
-hears_next true x y h = h refl
-hears_next false x y h = refl
-
--- roads that hold what they held
-pub roads_pass : {R I O : Type 0} (r : roads.Ghosts R I O) (road road' : R) → r.plain road' ≡ r.plain road → r.faults road ≤ r.faults road' → RoadsPass r road road'
-roads_pass r road road' plain faults = record {
-  knows = λ c h. subst (λ (x : Option Plain). IsKnown x c) (sym plain) h;
-  never_falls = faults;
-}
-
 -- A connection from which may be taken.
 record IsTaking (net : Net) (c : ℕ) : Type 0 where
   pub within : c < net.conns
@@ -87,7 +61,7 @@ record IsTaking (net : Net) (c : ℕ) : Type 0 where
 
 module _ {I O : Type 0} (i : link_in.Ghosts I) (o : link_out.Ghosts O) where
   taking_end : (w : World) (net : Net) (c : ℕ) (e : Conn I O) → IsEndOf i o w net e.id.0 false e → (c == e.id.0) ≡ true → IsTaking net c
-  taking_end w net c e h is = subst (λ (q : ℕ). IsTaking net q) (sym (same_number c e.id.0 is)) (record { within = h.within; taking = h.taking })
+  taking_end w net c e h is = subst (λ (q : ℕ). IsTaking net q) (sym (eqb-true c e.id.0 is)) (record { within = h.within; taking = h.taking })
 
   taking_link : (w : World) (net : Net) (conn : Option ℕ) (c : ℕ) (x : Option (Link I O)) → LinkShows i o w net conn x → is_conn (option_map (λ l. l.end.id.0) x) c ≡ true → IsTaking net c
   taking_link w net conn c None h is = cc
@@ -110,7 +84,7 @@ module _ {I O : Type 0} (i : link_in.Ghosts I) (o : link_out.Ghosts O) where
   -- the connection that a writer has is this one
   conn_so : (x : Option ℕ) (c : ℕ) → is_conn x c ≡ true → x ≡ Some c
   conn_so None c is = cc
-  conn_so (Some d) c is = ap (λ (q : ℕ). Some q) (sym (same_number c d is))
+  conn_so (Some d) c is = ap (λ (q : ℕ). Some q) (sym (eqb-true c d is))
 
 module _ {R I O : Type 0} (r : roads.Ghosts R I O) (i : link_in.Ghosts I) (o : link_out.Ghosts O) where
   pub writer_tells : (client : Client I O) (conn : ConnId) (road road' : R) (s : Standing) (result : Bool) → ((net : Net) → RoadsShow r net road → ShowsStanding r net conn.0 false road' s)
@@ -125,7 +99,7 @@ module _ {R I O : Type 0} (r : roads.Ghosts R I O) (i : link_in.Ghosts I) (o : l
       (λ is. ap stands ((tells net h.shows).is (taking is).taking
       ∙ row_standing (rows_of w c false) (net.traffic c false) (h.is_net.rows_are c false) (h.sane.fits c false) (taking is).taking (open_ends.writers b c (conn_is ∙ conn_so i o (conn_of client.pipe) c is)))
       ∙ stands_as (next_up w c)) in
-      let within : has ≡ true → nat_lt c w.next_conn ≡ true = λ is. below_so c w.next_conn (subst (λ (k : ℕ). c < k) h.is_net.conns (taking is).within) in (
+      let within : has ≡ true → nat_lt c w.next_conn ≡ true = λ is. lt-ltb c w.next_conn (subst (λ (k : ℕ). c < k) h.is_net.conns (taking is).within) in (
         record { is_net = h.is_net; sane = h.sane; shows = (tells net h.shows).road_shows },
         told ∙ (next ∙ (due_so (nat_lt c w.next_conn) (is_some (next_up w c)) has (is_none (w.writers b).told) within (ap (λ x. is_none x) shows.told)
             ∙ (ap (λ (x : Option ℕ). true && ((nat_lt c w.next_conn && is_some (next_up w c)) && (is_conn x c && is_none (w.writers b).told))) (sym conn_is)

@@ -34,3 +34,10 @@ pub record DuesShow {F R I O : Type 0} (r : roads.Ghosts R I O) (i : link_in.Gho
     pub orderly : IsOrderly w
     pub each : (k : ℕ) (c : Client I O) → slice_get clients k ≡ Some c → QueueShows i o w net queues c
     pub known : (b c : ℕ) → c < w.next_conn → (w.dialled c).upper ≡ by_writer b → HasClient clients b
+
+-- The roads show what they showed, and this holds of each world and the queues that are shown.
+abbrev pub Tells : {F R I O : Type 0} → roads.Ghosts R I O → link_in.Ghosts I → link_out.Ghosts O → Nodes F I O →
+    List (Client I O) → R → R → (World → Queues → Type 0) → Type 0
+Tells r i o n clients road road' P =
+    (w : World) (net : Net) (queues : Queues) → DuesShow r i o w net queues road n clients
+    → DuesShow r i o w net queues road' n clients × P w queues

@@ -1,9 +1,13 @@
 //! Which events of a connection are due.
 
 ghost use Rattle.std.specs.Prelude.{◌≡◌, length, option_map, slice_get};
-ghost use Rattle.play_dues.specs.Conns.{listed, writer_above};
+ghost use Rattle.member_events.specs.Roads.{RoadsPass};
+ghost use Rattle.play_dues.specs.Conns.{listed, writer_above, TellsUpper, TellsConn};
 
-use hd_base::{BlockId, ConnId, Files};
+use crate::places::client_of;
+use crate::writers::can_up;
+use hd_base::{BlockId, ConnId, Files, LinkIn, LinkOut, Roads};
+use play_clients::Client;
 use play_model::Due;
 use play_nodes::{Nodes, Upper};
 
@@ -49,6 +53,44 @@ impl ConnDues {
             None
         }
     }
+}
+
+/// Which events of a connection are due.
+pub fn dues_of<F: Files, I: LinkIn, O: LinkOut, R: Roads<Inward = I, Outward = O>>(
+    nodes: &Nodes<F, I, O>,
+    clients: &[Client<I, O>],
+    roads: &mut R,
+    conn: ConnId,
+) -> ConnDues
+    ensures tells { TellsConn R.Roads I.LinkIn O.LinkOut conn nodes.now clients.now roads.old roads.new result }
+    ensures pass { RoadsPass R.Roads roads.old roads.new }
+{
+    let down = nodes.can_down(roads, conn);
+    let ready = nodes.can_ready(conn);
+    let up = upper_takes(nodes, clients, roads, conn);
+    ConnDues { down, ready, up }
+}
+
+/// Whether the upper end of a connection takes what stands next: the member or the writer that dialled it.
+pub fn upper_takes<F: Files, I: LinkIn, O: LinkOut, R: Roads<Inward = I, Outward = O>>(
+    nodes: &Nodes<F, I, O>,
+    clients: &[Client<I, O>],
+    roads: &mut R,
+    conn: ConnId,
+) -> bool
+    ensures tells { TellsUpper R.Roads I.LinkIn O.LinkOut conn nodes.now clients.now roads.old roads.new result }
+    ensures pass { RoadsPass R.Roads roads.old roads.new }
+{
+    if conn.0 as usize >= nodes.connections.len() {
+        return false;
+    }
+    let Some(block) = writer_of(nodes, conn) else {
+        return nodes.can_up(roads, conn);
+    };
+    let Some(place) = client_of(clients, block) else {
+        return false;
+    };
+    can_up(&clients[place], roads, conn)
 }
 
 /// The block whose writer dialled a connection, if a writer did.

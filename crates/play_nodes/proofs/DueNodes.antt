@@ -55,7 +55,7 @@ use Rattle.play_nodes.proofs.BeginNodes.{IdleAt, idle_at}
 -- WHAT STANDS NEXT
 
 -- what stands next where this does
-abbrev standing_for : Option Next → Standing
+abbrev pub standing_for : Option Next → Standing
 standing_for None = standing.Nothing
 standing_for (Some (message m)) = standing.Piece
 standing_for (Some the_end) = standing.End
@@ -95,7 +95,7 @@ fits_so : (x y : Option ℕ) (a b l m : ℕ) → x ≡ y → a ≡ b → l ≡ m
 fits_so x y a b l m e f g h =
     subst (λ (z : Option ℕ). IfSome z (λ n. (b ≤ n) × (n ≤ m))) e (subst (λ (k : ℕ). IfSome x (λ n. (k ≤ n) × (n ≤ m))) f (subst (λ (k : ℕ). IfSome x (λ n. (a ≤ n) × (n ≤ k))) g h))
 
-row_standing : (r : Row) (t : Traffic) → IsRow r t → Fits t → t.over ≡ false → r.marks.over ≡ false → standing_on t ≡ standing_for (next_on r.sent r.marks)
+pub row_standing : (r : Row) (t : Traffic) → IsRow r t → Fits t → t.over ≡ false → r.marks.over ≡ false → standing_on t ≡ standing_for (next_on r.sent r.marks)
 row_standing r t is fits taking taken =
     let taken_is : t.taken ≡ r.marks.taken = is.taken taking in
     let end_is : t.end ≡ r.marks.end = is.end taking in
@@ -104,7 +104,7 @@ row_standing r t is fits taking taken =
     ∙ (standing_by r.sent r.marks.taken r.marks.end bounds
     ∙ sym (ap (λ (b : Bool). standing_for (if b then None else (if ends_at r.marks.end r.marks.taken then Some the_end else option_map message (slice_get r.sent r.marks.taken)))) taken))
 
-stands_as : (x : Option Next) → stands (standing_for x) ≡ is_some x
+pub stands_as : (x : Option Next) → stands (standing_for x) ≡ is_some x
 stands_as None = refl
 stands_as (Some (message m)) = refl
 stands_as (Some the_end) = refl
@@ -243,7 +243,7 @@ upper_as : (d : ℕ) (u : Upper) (above : ConnId) → UpperShows (by_member d) u
 upper_as d (upper.Member conn) above h is = ap (λ (x : ConnId). x.0) (same_some above conn (sym is)) ∙ h
 upper_as d (upper.Writer block) above h is = absurd h
 
-hears_next : (b x y : Bool) → (b ≡ true → x ≡ y) → (b && x) ≡ (b && y)
+pub hears_next : (b x y : Bool) → (b ≡ true → x ≡ y) → (b && x) ≡ (b && y)
 hears_next true x y h = h refl
 hears_next false x y h = refl
 

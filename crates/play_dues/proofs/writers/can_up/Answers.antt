@@ -1,8 +1,9 @@
 -- A writer takes what stands next on the connection that it has.
 use Rattle.std.proofs.Common.{false}
+use Rattle.client_events.proofs.SetUpPass.{pass_plain}
 use Rattle.world.specs.Connections.{is_conn}
 use Rattle.play_dues.specs.Writers.{conn_of}
-use Rattle.play_dues.proofs.WriterLaws.{nothing_so, something_so, stands_so, roads_pass, writer_tells}
+use Rattle.play_dues.proofs.WriterLaws.{nothing_so, something_so, stands_so, writer_tells}
 use Rattle.play_dues.proofs.writers.can_up.Goals as goal
 
 pub returns-in-Nothing-clause-tells : goal.returns-in-Nothing-clause-tells
@@ -13,5 +14,5 @@ pub returns-in-Piece : goal.returns-in-Piece
 returns-in-Piece g c = record {
   tells = writer_tells g.R.Roads g.I.LinkIn g.O.LinkOut c.args.client.now c.args.conn c.args.roads.now c.standing.new.roads c.standing.result c.has_conn.result c.standing.ensures.shows
       (something_so (is_conn (conn_of c.args.client.now.pipe) c.args.conn.0) c.has_conn.result c.standing.result (stands_so c.standing.result c.in-Piece.is) c.has_conn.ensures);
-  pass = roads_pass g.R.Roads c.args.roads.now c.standing.new.roads c.standing.ensures.plain c.standing.ensures.faults;
+  pass = pass_plain g.R.Roads g.I.LinkIn g.O.LinkOut c.args.roads.now c.standing.new.roads c.standing.ensures.plain c.standing.ensures.faults;
 }

@@ -1,0 +1,102 @@
+-- Whether the upper end of a connection takes what stands next: the member or the writer that dialled it.
+use Rattle.std.proofs.Common.{◌≡◌, ◌<◌, ◌≤◌, ℕ, Bool, true, false, List, length, get_or, slice_get, option_map, Option, Some, None, is_some, refl, sym, ap, ◌∙◌, subst, eqb-true, eq-eqb, le-ltb}
+use Rattle.std.specs.Prelude.{◌&&◌, ◌==◌, nat_lt}
+use Rattle.std.proofs.lemmas.Option.{get_or_from_slice_get}
+use Rattle.hd_base.specs.declared.links.LinkIn as link_in
+use Rattle.hd_base.specs.declared.links.LinkOut as link_out
+use Rattle.hd_base.specs.declared.numbers.BlockId.{BlockId}
+use Rattle.hd_base.specs.declared.numbers.ConnId.{ConnId}
+use Rattle.hd_base.specs.declared.roads.Roads as roads
+use Rattle.road_traffic.specs.Showing.{Net}
+use Rattle.world.specs.Connections.{next_up}
+use Rattle.world.specs.Enabled.{takes_above}
+use Rattle.world.specs.Parts as parts
+use Rattle.world.specs.Parts.{by_writer, by_member}
+use Rattle.world.specs.Worlds.{World}
+use Rattle.play_model.specs.Dues.{Queues, is_open_above}
+use Rattle.play_clients.specs.declared.clients.Client.{Client}
+use Rattle.play_nodes.specs.declared.connections.Connection.{Connection}
+use Rattle.play_nodes.specs.declared.connections.Upper.{Upper}
+use Rattle.play_nodes.specs.declared.connections.Upper.TheVariants as upper
+use Rattle.play_nodes.specs.declared.nodes.Nodes.{Nodes}
+use Rattle.play_nodes.specs.Dues.{TellsUp}
+use Rattle.play_nodes.specs.Showing.{UpperShows, NodesStand}
+use Rattle.play_nodes.proofs.JoinNodes.{passes_at, place_there}
+use Rattle.play_nodes.proofs.PlaceLaws.{element_within, same_some}
+use Rattle.play_nodes.proofs.Tables.{element}
+use Rattle.play_dues.specs.Conns.{writer_above, TellsUpper}
+use Rattle.play_dues.specs.Places.{client_place}
+use Rattle.play_dues.specs.Showing.{DuesShow}
+use Rattle.play_dues.specs.Writers.{TellsWriter}
+
+-- where a connection is none
+shut_so : (open_above within x takes : Bool) → within ≡ false → false ≡ (open_above && ((within && x) && takes))
+shut_so true true x takes h = cc
+shut_so true false x takes h = refl
+shut_so false within x takes h = refl
+
+-- a connection that no writer dialled was dialled by a member
+member_upper : (u : parts.Upper) (x : Upper) → UpperShows u x → writer_above (Some x) ≡ None → (d : ℕ) × (u ≡ by_member d)
+member_upper (by_member d) x h is = (d, refl)
+member_upper (by_writer b) (upper.Writer block) h is = cc
+member_upper u x h is = absurd h
+
+writer_upper : (u : parts.Upper) (x : Upper) (block : BlockId) → UpperShows u x → writer_above (Some x) ≡ Some block → u ≡ by_writer block.0
+writer_upper (by_writer b) (upper.Writer known) block h is = ap by_writer (sym h ∙ ap (λ (y : BlockId). y.0) (same_some known block is))
+writer_upper (by_member d) (upper.Member conn) block h is = cc
+writer_upper u x block h is = absurd h
+
+-- The place of a client is within the clients.
+pub client_within : {I O : Type 0} (clients : List (Client I O)) (b place : ℕ) → client_place clients b ≡ Some place → place < length clients
+client_within {I} {O} clients b place there =
+    let p = passes_at (λ (x : Client I O). x.block.0 == b) clients place there in
+    element_within clients place p.at p.found
+
+none_is_some : {A : Type 0} (x : Option A) (a : A) → x ≡ None → x ≡ Some a → ⊥
+none_is_some x a none some = cc
+
+module _ {F R I O : Type 0} (r : roads.Ghosts R I O) (i : link_in.Ghosts I) (o : link_out.Ghosts O) where
+  -- The roads show it, and all else is as it was.
+  pub dues_with : (w : World) (net : Net) (queues : Queues) (road road' : R) (n : Nodes F I O) (clients : List (Client I O)) → DuesShow r i o w net queues road n clients → NodesStand r i o w net road' n → DuesShow r i o w net queues road' n clients
+  dues_with w net queues road road' n clients h stands = record { stands = stands; orderly = h.orderly; each = h.each; known = h.known }
+
+  pub upper_outside : (n : Nodes F I O) (clients : List (Client I O)) (conn : ConnId) (road : R) → length n.connections.items ≤ conn.0 → TellsUpper r i o conn n clients road road false
+  upper_outside n clients conn road outside = λ w net queues h. (
+    h,
+    shut_so (is_open_above w (w.dialled conn.0).upper) (nat_lt conn.0 w.next_conn) (is_some (next_up w conn.0)) (takes_above (w.dialled conn.0).upper w conn.0)
+        (le-ltb conn.0 w.next_conn (subst (λ (k : ℕ). k ≤ conn.0) h.stands.nodes_are.count outside)),
+  )
+
+  pub upper_member : (n : Nodes F I O) (clients : List (Client I O)) (conn : ConnId) (road road' : R) (result : Bool) → conn.0 < length n.connections.items → writer_above (option_map (λ x. x.upper) (slice_get n.connections.items conn.0)) ≡ None
+      → TellsUp r i o conn n road road' result → TellsUpper r i o conn n clients road road' result
+  upper_member n clients conn road road' result within none tells = λ w net queues h.
+      let c : ℕ = conn.0 in
+      let at = element n.connections.items c within in
+      let u = member_upper (w.dialled c).upper at.0.upper (h.stands.nodes_are.each c at.0 at.1).upper_is (ap (λ (x : Option (Connection I O)). writer_above (option_map (λ y. y.upper) x)) (sym at.1) ∙ none) in
+      let t = tells w net queues u.0 h.stands h.orderly u.1 in
+      (dues_with w net queues road road' n clients h t.0, t.1)
+
+  -- the writer of this block dialled
+  writer_so : (w : World) (net : Net) (n : Nodes F I O) (conn : ConnId) (block : BlockId) (road : R) → conn.0 < length n.connections.items → writer_above (option_map (λ x. x.upper) (slice_get n.connections.items conn.0)) ≡ Some block
+      → NodesStand r i o w net road n → (w.dialled conn.0).upper ≡ by_writer block.0
+  writer_so w net n conn block road within some h =
+      let at = element n.connections.items conn.0 within in
+      writer_upper (w.dialled conn.0).upper at.0.upper block (h.nodes_are.each conn.0 at.0 at.1).upper_is (ap (λ (x : Option (Connection I O)). writer_above (option_map (λ y. y.upper) x)) (sym at.1) ∙ some)
+
+  pub upper_writer : (n : Nodes F I O) (clients : List (Client I O)) (conn : ConnId) (block : BlockId) (place : ℕ) (client : Client I O) (road road' : R) (result : Bool) → conn.0 < length n.connections.items
+      → writer_above (option_map (λ x. x.upper) (slice_get n.connections.items conn.0)) ≡ Some block → client_place clients block.0 ≡ Some place → client ≡ get_or clients place client
+      → TellsWriter r i o conn client road road' result → TellsUpper r i o conn n clients road road' result
+  upper_writer n clients conn block place client road road' result within some there read tells = λ w net queues h.
+      let p = passes_at (λ (x : Client I O). x.block.0 == block.0) clients place there in
+      let same : client ≡ p.at = read ∙ get_or_from_slice_get clients place p.at client p.found in
+      let block_is : client.block.0 ≡ block.0 = ap (λ (x : Client I O). x.block.0) same ∙ eqb-true p.at.block.0 block.0 p.passes in
+      let shown = h.each place client (p.found ∙ ap Some (sym same)) in
+      let t = tells w net queues h.stands.roads_are shown.client_is h.orderly.open_ends (writer_so w net n conn block road within some h.stands ∙ ap by_writer (sym block_is)) in
+      (dues_with w net queues road road' n clients h (record { roads_are = t.0; nodes_are = h.stands.nodes_are }), t.1)
+
+  -- each writer that dialled has a client
+  pub upper_nobody : (n : Nodes F I O) (clients : List (Client I O)) (conn : ConnId) (block : BlockId) (road : R) → conn.0 < length n.connections.items
+      → writer_above (option_map (λ x. x.upper) (slice_get n.connections.items conn.0)) ≡ Some block → client_place clients block.0 ≡ None → TellsUpper r i o conn n clients road road false
+  upper_nobody n clients conn block road within some none = λ w net queues h.
+      let k = h.known block.0 conn.0 (subst (λ (m : ℕ). conn.0 < m) h.stands.nodes_are.count within) (writer_so w net n conn block road within some h.stands) in
+      absurd (none_is_some (client_place clients block.0) _ none (place_there (λ (x : Client I O). x.block.0 == block.0) clients k.place k.client k.found (eq-eqb k.client.block.0 block.0 k.block)))
