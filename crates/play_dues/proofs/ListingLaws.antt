@@ -1,5 +1,5 @@
 -- All that is due is counted and sought: the own steps, and then connection by connection.
-use Rattle.std.proofs.Common.{◌≡◌, ◌<◌, ◌≤◌, ◌+◌, ◌-◌, ◌%◌, ℕ, Bool, List, ◌++◌, length, slice_get, Option, Some, None, refl, sym, ap, ◌∙◌, subst, arith, append-nil, eqb-true, eq-eqb}
+use Rattle.std.proofs.Common.{◌≡◌, ◌<◌, ◌≤◌, ◌+◌, ◌-◌, ◌*◌, ◌^◌, ◌%◌, ℕ, Bool, false, List, ◌++◌, length, slice_get, Option, Some, None, refl, sym, ap, ◌∙◌, subst, arith, append-nil, eqb-true, eq-eqb}
 use Rattle.std.specs.Prelude.{◌==◌}
 use Rattle.std.specs.List.{position_or_len}
 use Rattle.std.proofs.lemmas.Option.{slice_get_past}
@@ -14,20 +14,43 @@ use Rattle.play_model.specs.declared.dues.Due.TheVariants as due
 use Rattle.play_model.specs.Dues.{Queues, own_due, own_dues, conn_dues, upto}
 use Rattle.play_clients.specs.declared.clients.Client.{Client}
 use Rattle.play_nodes.specs.declared.nodes.Nodes.{Nodes}
+use Rattle.play_nodes.specs.Dues.{TellsReady, TellsDown}
 use Rattle.play_nodes.proofs.JoinNodes.{passes_at, place_there}
 use Rattle.play_dues.specs.declared.conns.ConnDues.{ConnDues}
-use Rattle.play_dues.specs.Conns.{listed, TellsConn}
-use Rattle.play_dues.specs.Listing.{dues_below, all_dues, CountsBelow, StandsBehind, CountsDues, PicksDue, DrawsDue, TellsDue}
+use Rattle.play_dues.specs.Conns.{listed, TellsUpper, TellsConn}
+use Rattle.play_dues.specs.Listing.{dues_below, all_dues, CountsBelow, StandsBehind, CountsDues, PicksDue, DrawsDue, TellsDue, IsAlone}
 use Rattle.play_dues.specs.Own.{own_listed, blocks_of}
 use Rattle.play_dues.specs.Places.{client_place, has_step_of, has_step_at}
 use Rattle.play_dues.proofs.ListLaws.{get_front, get_upto, count_upto, left_behind}
 use Rattle.play_dues.proofs.OwnLaws.{own_so, own_listed_so}
-
-at_zero : (k : ℕ) → k ≡ 0 → k ≤ 0
-at_zero k h = omega arith
+use Rattle.play_dues.proofs.UpperLaws.{dues_with}
 
 not_before : (n m rest : ℕ) → n ≡ m + rest → m ≤ n
 not_before n m rest h = omega arith
+
+-- where a test says no
+none_then : {I O : Type 0} (clients : List (Client I O)) (b : ℕ) (result : Bool) → result ≡ has_step_at clients (client_place clients b) → client_place clients b ≡ None → result ≡ false
+none_then clients b result told none = told ∙ ap (λ (x : Option ℕ). has_step_at clients x) none
+
+module _ {I O : Type 0} (clients : List (Client I O)) where
+  pub own_alone : (d : Due) (block : BlockId) (result : Bool) → d ≡ due.Own block → result ≡ has_step_at clients (client_place clients block.0) → IsAlone clients d → result ≡ false
+  own_alone d block result is told = subst (λ (e : Due). IsAlone clients e → result ≡ false) (sym is) (λ none. none_then clients block.0 result told none)
+
+  pub never_alone : (d e : Due) (result : Bool) → d ≡ e → (IsAlone clients e → ⊥) → IsAlone clients d → result ≡ false
+  never_alone d e result is never alone = absurd (never (subst (λ (x : Due). IsAlone clients x) is alone))
+
+-- The count is below this, with three of each connection.
+pub count_below : (count here index most : ℕ) → count < most + 3 * index → here ≤ 3 → count + here < most + 3 * (index + 1)
+count_below count here index most h few = omega arith
+
+pub count_fits : (count here index len : ℕ) → count < 2 ^ 64 + 3 * index → here ≤ 3 → index < len → len < 2 ^ 64 → count + here < 2 ^ 128
+count_fits count here index len h few within fits = omega arith
+
+pub at_end : (index len n : ℕ) → index ≤ len → len ≤ index → len ≡ n → index ≡ n
+at_end index len n a b c = omega arith
+
+pub behind_first : (number own n : ℕ) → own ≤ number → own ≡ n → number ≡ n + (number - own)
+behind_first number own n a b = omega arith
 
 module _ {F R I O : Type 0} (r : roads.Ghosts R I O) (i : link_in.Ghosts I) (o : link_out.Ghosts O) (n : Nodes F I O) (clients : List (Client I O)) where
   -- the own steps are those of the writers
@@ -36,8 +59,8 @@ module _ {F R I O : Type 0} (r : roads.Ghosts R I O) (i : link_in.Ghosts I) (o :
 
   -- OWN STEPS
 
-  pub own_tells : (block : BlockId) (road : R) (result : Bool) → result ≡ has_step_at clients (client_place clients block.0) → TellsDue r i o (due.Own block) n clients road road result
-  own_tells block road result is = λ played w net queues h.
+  own_told : (block : BlockId) (road : R) (result : Bool) → result ≡ has_step_at clients (client_place clients block.0) → TellsDue r i o (due.Own block) n clients road road result
+  own_told block road result is = λ played w net queues h.
       let test : Client I O → Bool = λ c. c.block.0 == block.0 in
       let place : ℕ = position_or_len test clients in
       let there : client_place clients block.0 ≡ Some place = place_there test clients played.place played.client played.found (eq-eqb played.client.block.0 block.0 played.block) in
@@ -46,6 +69,23 @@ module _ {F R I O : Type 0} (r : roads.Ghosts R I O) (i : link_in.Ghosts I) (o :
         is ∙ (ap (λ (x : Option ℕ). has_step_at clients x) there ∙ (ap (λ (x : Option (Client I O)). has_step_of x) p.found ∙ (own_so i o w net queues p.at (h.each place p.at p.found)
             ∙ ap (λ (b : ℕ). own_due (w.writers b) (queues b)) (eqb-true p.at.block.0 block.0 p.passes)))),
       )
+
+  pub own_tells : (d : Due) (block : BlockId) (road : R) (result : Bool) → d ≡ due.Own block → result ≡ has_step_at clients (client_place clients block.0) → TellsDue r i o d n clients road road result
+  own_tells d block road result is told = subst (λ (e : Due). TellsDue r i o e n clients road road result) (sym is) (own_told block road result told)
+
+  -- ONE THING
+
+  pub down_tells : (d : Due) (conn : ConnId) (road road' : R) (result : Bool) → d ≡ due.Down conn → TellsDown r i o conn n road road' result → TellsDue r i o d n clients road road' result
+  down_tells d conn road road' result is tells = subst (λ (e : Due). TellsDue r i o e n clients road road' result) (sym is) (λ played w net queues h.
+      let t = tells w net queues h.stands h.orderly in
+      (dues_with r i o w net queues road road' n clients h t.0, t.1))
+
+  pub ready_tells : (d : Due) (conn : ConnId) (road : R) (result : Bool) → d ≡ due.Ready conn → TellsReady i o conn n result → TellsDue r i o d n clients road road result
+  ready_tells d conn road result is tells = subst (λ (e : Due). TellsDue r i o e n clients road road result) (sym is) (λ played w net queues h.
+      (h, tells w net queues h.stands.nodes_are h.orderly))
+
+  pub up_tells : (d : Due) (conn : ConnId) (road road' : R) (result : Bool) → d ≡ due.Up conn → TellsUpper r i o conn n clients road road' result → TellsDue r i o d n clients road road' result
+  up_tells d conn road road' result is tells = subst (λ (e : Due). TellsDue r i o e n clients road road' result) (sym is) (λ played w net queues h. tells w net queues h)
 
   -- COUNTING
 
