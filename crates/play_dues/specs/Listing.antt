@@ -59,8 +59,7 @@ CountsBelow r i o k n clients road road' count =
 abbrev pub StandsBehind : {F R I O : Type 0} → roads.Ghosts R I O → link_in.Ghosts I → link_out.Ghosts O → ℕ → ℕ →
     Nodes F I O → List (Client I O) → R → R → ℕ → Type 0
 StandsBehind r i o k number n clients road road' rest =
-    Tells r i o n clients road road' (λ w queues.
-        number ≡ length (dues_below w queues (blocks_of clients) k) + rest)
+    Tells r i o n clients road road' (λ w queues. number ≡ length (dues_below w queues (blocks_of clients) k) + rest)
 
 -- This is the number of all that is due.
 abbrev pub CountsDues : {F R I O : Type 0} → roads.Ghosts R I O → link_in.Ghosts I → link_out.Ghosts O → Nodes F I O →
