@@ -5,3 +5,4 @@ pub mod ListLaws
 pub mod UpperLaws
 pub mod ConnLaws
 pub mod ListingLaws
+pub mod DrawingLaws

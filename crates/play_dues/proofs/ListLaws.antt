@@ -45,7 +45,7 @@ pub get_upto : {A : Type 0} (own : List A) (f : ℕ → List A) (k n number rest
 get_upto own f k n number rest below behind within =
     let t = upto_splits f (suc k) (n - suc k) n (omega arith) in
     let split : own ++ upto f n ≡ (own ++ upto f k) ++ (f k ++ t.0) =
-        ap (λ xs. own ++ xs) (t.1 ∙ append_assoc (upto f k) (f k) t.0) ∙ sym (append_assoc own (upto f k) (f k ++ t.0)) in
+    ap (λ xs. own ++ xs) (t.1 ∙ append_assoc (upto f k) (f k) t.0) ∙ sym (append_assoc own (upto f k) (f k ++ t.0)) in
     sym (ap (λ xs. slice_get xs number) split ∙ (get_behind (own ++ upto f k) (f k ++ t.0) number rest behind ∙ get_front (f k) t.0 rest within))
 
 pub count_upto : {A : Type 0} (own : List A) (f : ℕ → List A) (k : ℕ) → length (own ++ upto f (k + 1)) ≡ length (own ++ upto f k) + length (f k)

@@ -1,5 +1,5 @@
 -- All that is due is counted and sought: the own steps, and then connection by connection.
-use Rattle.std.proofs.Common.{◌≡◌, ◌<◌, ◌≤◌, ◌+◌, ◌-◌, ◌*◌, ◌^◌, ◌%◌, ℕ, Bool, false, List, ◌++◌, length, slice_get, Option, Some, None, refl, sym, ap, ◌∙◌, subst, arith, append-nil, eqb-true, eq-eqb}
+use Rattle.std.proofs.Common.{◌≡◌, ◌<◌, ◌≤◌, ◌+◌, ◌-◌, ◌*◌, ◌^◌, ℕ, Bool, false, List, ◌++◌, length, slice_get, Option, Some, None, sym, ap, ◌∙◌, subst, arith, append-nil, eqb-true, eq-eqb}
 use Rattle.std.specs.Prelude.{◌==◌}
 use Rattle.std.specs.List.{position_or_len}
 use Rattle.std.proofs.lemmas.Option.{slice_get_past}
@@ -18,7 +18,7 @@ use Rattle.play_nodes.specs.Dues.{TellsReady, TellsDown}
 use Rattle.play_nodes.proofs.JoinNodes.{passes_at, place_there}
 use Rattle.play_dues.specs.declared.conns.ConnDues.{ConnDues}
 use Rattle.play_dues.specs.Conns.{listed, TellsUpper, TellsConn}
-use Rattle.play_dues.specs.Listing.{dues_below, all_dues, CountsBelow, StandsBehind, CountsDues, PicksDue, DrawsDue, TellsDue, IsAlone}
+use Rattle.play_dues.specs.Listing.{dues_below, all_dues, CountsBelow, StandsBehind, CountsDues, PicksDue, TellsDue, IsAlone}
 use Rattle.play_dues.specs.Own.{own_listed, blocks_of}
 use Rattle.play_dues.specs.Places.{client_place, has_step_of, has_step_at}
 use Rattle.play_dues.proofs.ListLaws.{get_front, get_upto, count_upto, left_behind}
@@ -143,20 +143,3 @@ module _ {F R I O : Type 0} (r : roads.Ghosts R I O) (i : link_in.Ghosts I) (o :
       let end_is : k ≡ w.next_conn = is ∙ h.stands.nodes_are.count in
       let past : length (dues_below w queues (blocks_of clients) k) ≤ number = not_before number (length (dues_below w queues (blocks_of clients) k)) rest a.1 in
       (a.0, sym (slice_get_past (all_dues w queues (blocks_of clients)) number (subst (λ (m : ℕ). length (dues_below w queues (blocks_of clients) m) ≤ number) end_is past)))
-
-  -- DRAWING
-
-  pub draws_none : (road road' : R) (word count : ℕ) → CountsDues r i o n clients road road' count → count ≡ 0 → DrawsDue r i o word n clients road road' None
-  draws_none road road' word count counts is = λ w net queues h.
-      let a = counts w net queues h in
-      let all : List Due = all_dues w queues (blocks_of clients) in
-      (a.0, sym (slice_get_past all (word % length all) (none (length all) (word % length all) (sym a.1 ∙ is))))
-    where
-      none : (k i : ℕ) → k ≡ 0 → k ≤ i
-      none k i h = omega arith
-
-  pub draws_so : (road mid road' : R) (word count : ℕ) (result : Option Due) → CountsDues r i o n clients road mid count → PicksDue r i o (word % count) n clients mid road' result → DrawsDue r i o word n clients road road' result
-  draws_so road mid road' word count result counts picks = λ w net queues h.
-      let a = counts w net queues h in
-      let b = picks w net queues a.0 in
-      (b.0, b.1 ∙ ap (λ (m : ℕ). slice_get (all_dues w queues (blocks_of clients)) (word % m)) a.1)

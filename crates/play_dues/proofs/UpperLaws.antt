@@ -50,9 +50,9 @@ writer_upper (by_member d) (upper.Member conn) block h is = cc
 writer_upper u x block h is = absurd h
 
 -- The place of a client is within the clients.
-pub client_within : {I O : Type 0} (clients : List (Client I O)) (b place : ℕ) → client_place clients b ≡ Some place → place < length clients
-client_within {I} {O} clients b place there =
-    let p = passes_at (λ (x : Client I O). x.block.0 == b) clients place there in
+pub client_within : {I O : Type 0} (clients : List (Client I O)) (b place : ℕ) (sought : Option ℕ) → sought ≡ client_place clients b → sought ≡ Some place → place < length clients
+client_within {I} {O} clients b place sought told there =
+    let p = passes_at (λ (x : Client I O). x.block.0 == b) clients place (sym told ∙ there) in
     element_within clients place p.at p.found
 
 -- Something is due on a connection: it was dialled, and its upper end takes what stands next.
@@ -99,36 +99,36 @@ module _ {F R I O : Type 0} (r : roads.Ghosts R I O) (i : link_in.Ghosts I) (o :
         (le-ltb conn.0 w.next_conn (subst (λ (k : ℕ). k ≤ conn.0) h.stands.nodes_are.count outside)),
   )
 
-  pub upper_member : (n : Nodes F I O) (clients : List (Client I O)) (conn : ConnId) (road road' : R) (result : Bool) → conn.0 < length n.connections.items → writer_above (option_map (λ x. x.upper) (slice_get n.connections.items conn.0)) ≡ None
+  pub upper_member : (n : Nodes F I O) (clients : List (Client I O)) (conn : ConnId) (asked : Option BlockId) (road road' : R) (result : Bool) → conn.0 < length n.connections.items → asked ≡ writer_above (option_map (λ x. x.upper) (slice_get n.connections.items conn.0)) → asked ≡ None
       → TellsUp r i o conn n road road' result → TellsUpper r i o conn n clients road road' result
-  upper_member n clients conn road road' result within none tells = λ w net queues h.
+  upper_member n clients conn asked road road' result within told none tells = λ w net queues h.
       let c : ℕ = conn.0 in
       let at = element n.connections.items c within in
-      let u = member_upper (w.dialled c).upper at.0.upper (h.stands.nodes_are.each c at.0 at.1).upper_is (ap (λ (x : Option (Connection I O)). writer_above (option_map (λ y. y.upper) x)) (sym at.1) ∙ none) in
+      let u = member_upper (w.dialled c).upper at.0.upper (h.stands.nodes_are.each c at.0 at.1).upper_is (ap (λ (x : Option (Connection I O)). writer_above (option_map (λ y. y.upper) x)) (sym at.1) ∙ (sym told ∙ none)) in
       let t = tells w net queues u.0 h.stands h.orderly u.1 in
       (dues_with w net queues road road' n clients h t.0, t.1)
 
   -- the writer of this block dialled
-  writer_so : (w : World) (net : Net) (n : Nodes F I O) (conn : ConnId) (block : BlockId) (road : R) → conn.0 < length n.connections.items → writer_above (option_map (λ x. x.upper) (slice_get n.connections.items conn.0)) ≡ Some block
+  writer_so : (w : World) (net : Net) (n : Nodes F I O) (conn : ConnId) (asked : Option BlockId) (block : BlockId) (road : R) → conn.0 < length n.connections.items → asked ≡ writer_above (option_map (λ x. x.upper) (slice_get n.connections.items conn.0)) → asked ≡ Some block
       → NodesStand r i o w net road n → (w.dialled conn.0).upper ≡ by_writer block.0
-  writer_so w net n conn block road within some h =
+  writer_so w net n conn asked block road within told some h =
       let at = element n.connections.items conn.0 within in
-      writer_upper (w.dialled conn.0).upper at.0.upper block (h.nodes_are.each conn.0 at.0 at.1).upper_is (ap (λ (x : Option (Connection I O)). writer_above (option_map (λ y. y.upper) x)) (sym at.1) ∙ some)
+      writer_upper (w.dialled conn.0).upper at.0.upper block (h.nodes_are.each conn.0 at.0 at.1).upper_is (ap (λ (x : Option (Connection I O)). writer_above (option_map (λ y. y.upper) x)) (sym at.1) ∙ (sym told ∙ some))
 
-  pub upper_writer : (n : Nodes F I O) (clients : List (Client I O)) (conn : ConnId) (block : BlockId) (place : ℕ) (client : Client I O) (road road' : R) (result : Bool) → conn.0 < length n.connections.items
-      → writer_above (option_map (λ x. x.upper) (slice_get n.connections.items conn.0)) ≡ Some block → client_place clients block.0 ≡ Some place → client ≡ get_or clients place client
+  pub upper_writer : (n : Nodes F I O) (clients : List (Client I O)) (conn : ConnId) (asked : Option BlockId) (sought : Option ℕ) (block : BlockId) (place : ℕ) (client : Client I O) (road road' : R) (result : Bool) → conn.0 < length n.connections.items
+      → asked ≡ writer_above (option_map (λ x. x.upper) (slice_get n.connections.items conn.0)) → asked ≡ Some block → sought ≡ client_place clients block.0 → sought ≡ Some place → client ≡ get_or clients place client
       → TellsWriter r i o conn client road road' result → TellsUpper r i o conn n clients road road' result
-  upper_writer n clients conn block place client road road' result within some there read tells = λ w net queues h.
-      let p = passes_at (λ (x : Client I O). x.block.0 == block.0) clients place there in
+  upper_writer n clients conn asked sought block place client road road' result within told some sought_is there read tells = λ w net queues h.
+      let p = passes_at (λ (x : Client I O). x.block.0 == block.0) clients place (sym sought_is ∙ there) in
       let same : client ≡ p.at = read ∙ get_or_from_slice_get clients place p.at client p.found in
       let block_is : client.block.0 ≡ block.0 = ap (λ (x : Client I O). x.block.0) same ∙ eqb-true p.at.block.0 block.0 p.passes in
       let shown = h.each place client (p.found ∙ ap Some (sym same)) in
-      let t = tells w net queues h.stands.roads_are shown.client_is h.orderly.open_ends (writer_so w net n conn block road within some h.stands ∙ ap by_writer (sym block_is)) in
+      let t = tells w net queues h.stands.roads_are shown.client_is h.orderly.open_ends (writer_so w net n conn asked block road within told some h.stands ∙ ap by_writer (sym block_is)) in
       (dues_with w net queues road road' n clients h (record { roads_are = t.0; nodes_are = h.stands.nodes_are }), t.1)
 
   -- each writer that has a connection has a client
-  pub upper_nobody : (n : Nodes F I O) (clients : List (Client I O)) (conn : ConnId) (block : BlockId) (road : R) → conn.0 < length n.connections.items
-      → writer_above (option_map (λ x. x.upper) (slice_get n.connections.items conn.0)) ≡ Some block → client_place clients block.0 ≡ None → TellsUpper r i o conn n clients road road false
-  upper_nobody n clients conn block road within some none = λ w net queues h. (h, not_true (is_due w queues (due.Up conn)) (λ is.
-      let k = h.connected block.0 conn.0 (heard_conn w queues conn block.0 is (writer_so w net n conn block road within some h.stands)) in
-      none_is_some (client_place clients block.0) _ none (place_there (λ (x : Client I O). x.block.0 == block.0) clients k.place k.client k.found (eq-eqb k.client.block.0 block.0 k.block))))
+  pub upper_nobody : (n : Nodes F I O) (clients : List (Client I O)) (conn : ConnId) (asked : Option BlockId) (sought : Option ℕ) (block : BlockId) (road : R) → conn.0 < length n.connections.items
+      → asked ≡ writer_above (option_map (λ x. x.upper) (slice_get n.connections.items conn.0)) → asked ≡ Some block → sought ≡ client_place clients block.0 → sought ≡ None → TellsUpper r i o conn n clients road road false
+  upper_nobody n clients conn asked sought block road within told some sought_is none = λ w net queues h. (h, not_true (is_due w queues (due.Up conn)) (λ is.
+      let k = h.connected block.0 conn.0 (heard_conn w queues conn block.0 is (writer_so w net n conn asked block road within told some h.stands)) in
+      none_is_some (client_place clients block.0) _ (sym sought_is ∙ none) (place_there (λ (x : Client I O). x.block.0 == block.0) clients k.place k.client k.found (eq-eqb k.client.block.0 block.0 k.block))))

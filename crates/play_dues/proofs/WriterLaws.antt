@@ -1,5 +1,5 @@
 -- A writer takes what stands next on the connection that it has.
-use Rattle.std.proofs.Common.{◌≡◌, ◌<◌, ◌≤◌, ◌⊎◌, inl, inr, ℕ, Bool, true, false, Option, Some, None, is_some, option_map, refl, sym, ap, ◌∙◌, subst, eqb-true, lt-ltb}
+use Rattle.std.proofs.Common.{◌≡◌, ◌<◌, ◌⊎◌, inl, inr, ℕ, Bool, true, false, Option, Some, None, is_some, option_map, refl, sym, ap, ◌∙◌, subst, eqb-true, lt-ltb}
 use Rattle.std.specs.Prelude.{◌&&◌, ◌==◌, nat_lt, is_none}
 use Rattle.hd_base.specs.declared.ends.Conn.{Conn}
 use Rattle.hd_base.specs.declared.ends.Standing.{Standing}
@@ -11,7 +11,6 @@ use Rattle.hd_base.specs.declared.roads.Roads as roads
 use Rattle.pipe_recovery.specs.declared.links.Link.{Link}
 use Rattle.road_traffic.specs.Showing.{Net, RoadsShow, ShowsStanding}
 use Rattle.world.specs.Parts as parts
-use Rattle.world.specs.Parts.{by_writer}
 use Rattle.world.specs.Worlds.{World}
 use Rattle.world.specs.Connections.{next_up, is_conn}
 use Rattle.world.specs.Enabled.{takes_above}

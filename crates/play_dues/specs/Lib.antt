@@ -4,3 +4,4 @@ pub mod Writers
 pub mod Own
 pub mod Places
 pub mod Listing
+pub mod Drawing

@@ -6,7 +6,6 @@ use Rattle.hd_base.specs.declared.roads.Roads as roads
 use Rattle.world.specs.Worlds.{World}
 use Rattle.play_model.specs.declared.dues.Due.{Due}
 use Rattle.play_model.specs.declared.dues.Due.TheVariants as due
-use Rattle.play_model.specs.Draws.{drawn}
 use Rattle.play_model.specs.Dues.{Queues, own_dues, conn_dues, upto, is_due, dues}
 use Rattle.play_model.specs.States.{PlayState, world_of}
 use Rattle.play_clients.specs.declared.clients.Client.{Client}
@@ -59,8 +58,7 @@ CountsBelow r i o k n clients road road' count =
 abbrev pub StandsBehind : {F R I O : Type 0} → roads.Ghosts R I O → link_in.Ghosts I → link_out.Ghosts O → ℕ → ℕ →
     Nodes F I O → List (Client I O) → R → R → ℕ → Type 0
 StandsBehind r i o k number n clients road road' rest =
-    Tells r i o n clients road road' (λ w queues.
-        number ≡ length (dues_below w queues (blocks_of clients) k) + rest)
+    Tells r i o n clients road road' (λ w queues. number ≡ length (dues_below w queues (blocks_of clients) k) + rest)
 
 -- This is the number of all that is due.
 abbrev pub CountsDues : {F R I O : Type 0} → roads.Ghosts R I O → link_in.Ghosts I → link_out.Ghosts O → Nodes F I O →
@@ -73,9 +71,3 @@ abbrev pub PicksDue : {F R I O : Type 0} → roads.Ghosts R I O → link_in.Ghos
     Nodes F I O → List (Client I O) → R → R → Option Due → Type 0
 PicksDue r i o number n clients road road' result =
     Tells r i o n clients road road' (λ w queues. result ≡ slice_get (all_dues w queues (blocks_of clients)) number)
-
--- This is what a word draws of all that is due.
-abbrev pub DrawsDue : {F R I O : Type 0} → roads.Ghosts R I O → link_in.Ghosts I → link_out.Ghosts O → ℕ →
-    Nodes F I O → List (Client I O) → R → R → Option Due → Type 0
-DrawsDue r i o word n clients road road' result =
-    Tells r i o n clients road road' (λ w queues. result ≡ drawn (all_dues w queues (blocks_of clients)) word)

@@ -22,7 +22,8 @@ conn_of pipe.Closed = None
 conn_of (pipe.SettingUp setup) = option_map (λ l. l.end.id.0) setup.link
 conn_of (pipe.Streaming end incoming) = Some end.id.0
 
--- Whether it is due that a writer takes what stands next on a connection that it dialled; the roads show what they showed.
+-- Whether it is due that a writer takes what stands next on a connection that it dialled; the roads show what they
+-- showed.
 abbrev pub TellsWriter : {R I O : Type 0} → roads.Ghosts R I O → link_in.Ghosts I → link_out.Ghosts O → ConnId →
     Client I O → R → R → Bool → Type 0
 TellsWriter r i o conn client road road' result =

@@ -2,7 +2,7 @@
 
 ghost use Rattle.std.specs.Prelude.{◌≡◌, false};
 ghost use Rattle.member_events.specs.Roads.{RoadsPass};
-ghost use Rattle.play_dues.specs.Listing.{DuesAreListed, TellsDue, IsAlone, CountsDues, PicksDue, DrawsDue};
+ghost use Rattle.play_dues.specs.Listing.{DuesAreListed, TellsDue, IsAlone, CountsDues, PicksDue};
 
 use crate::conns::{dues_of, upper_takes};
 use crate::own::{count_own, pick_own};
@@ -74,23 +74,6 @@ pub fn pick_dues<F: Files, I: LinkIn, O: LinkOut, R: Roads<Inward = I, Outward =
         rest -= count;
     }
     None
-}
-
-/// What a word draws of all that is due, if anything is.
-pub fn draw_due<F: Files, I: LinkIn, O: LinkOut, R: Roads<Inward = I, Outward = O>>(
-    nodes: &Nodes<F, I, O>,
-    clients: &[Client<I, O>],
-    roads: &mut R,
-    word: u32,
-) -> Option<Due>
-    ensures draws { DrawsDue R.Roads I.LinkIn O.LinkOut word nodes.now clients.now roads.old roads.new result }
-    ensures pass { RoadsPass R.Roads roads.old roads.new }
-{
-    let count = count_dues(nodes, clients, roads);
-    if count == 0 {
-        return None;
-    }
-    pick_dues(nodes, clients, roads, word as u128 % count)
 }
 
 /// What is due in a play is what is due in its world, with its queues.

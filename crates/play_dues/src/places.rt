@@ -10,9 +10,7 @@ use play_clients::Client;
 pub fn client_of<I: LinkIn, O: LinkOut>(clients: &[Client<I, O>], block: BlockId) -> Option<usize>
     ensures { result ≡ client_place clients.now block.0 }
 {
-    clients
-        .iter()
-        .position(|client| client.block.0 == block.0)
+    clients.iter().position(|client| client.block.0 == block.0)
 }
 
 /// Whether the writer of a block has an own step; it has none where the block has no client.

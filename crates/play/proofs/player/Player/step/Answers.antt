@@ -1,5 +1,5 @@
 -- A writer took its own step.
-use Rattle.std.proofs.Common.{Ok, sym, ap, ◌∙◌}
+use Rattle.std.proofs.Common.{Ok, refl, sym, ap, ◌∙◌}
 use Rattle.play_nodes.proofs.PlaceLaws.{none_so}
 use Rattle.play_dues.specs.Places.{client_place}
 use Rattle.play_dues.proofs.UpperLaws.{client_within}
@@ -12,7 +12,7 @@ returns-in_default-clause-shows g c =
     (ap (λ xs. client_place xs c.args.block.0) (sym c.as_slice.ensures.value) ∙ (sym c.client_of.ensures ∙ none_so c.client_of.result c.in_default.not-Some))
 
 pub own-requires-clause-within : goal.own-requires-clause-within
-own-requires-clause-within g c κs within = client_within c.args.self.now.clients.items c.args.block.0 c.in-Some.place (ap (λ xs. client_place xs c.args.block.0) (sym c.as_slice.ensures.value) ∙ sym c.in-Some.ensures)
+own-requires-clause-within g c κs within = client_within c.args.self.now.clients.items c.args.block.0 c.in-Some.place (client_place c.args.self.now.clients.items c.args.block.0) refl (ap (λ xs. client_place xs c.args.block.0) (sym c.as_slice.ensures.value) ∙ sym c.in-Some.ensures)
 
 pub returns-clause-shows : goal.returns-clause-shows
 returns-clause-shows g c =

@@ -1,5 +1,5 @@
 -- An end took what stood next from below.
-use Rattle.std.proofs.Common.{Ok, sym, ap, ◌∙◌}
+use Rattle.std.proofs.Common.{Ok, refl, sym, ap, ◌∙◌}
 use Rattle.play_nodes.proofs.PlaceLaws.{none_so}
 use Rattle.play_dues.specs.Places.{client_place}
 use Rattle.play_dues.proofs.UpperLaws.{client_within}
@@ -16,7 +16,7 @@ returns-in_default-client_of-clause-shows g c =
     (ap (λ xs. client_place xs c.in-Some.block.0) (sym c.as_slice.ensures.value) ∙ (sym c.client_of.ensures ∙ none_so c.client_of.result c.in_default-client_of.not-Some))
 
 pub hear-requires-clause-within : goal.hear-requires-clause-within
-hear-requires-clause-within g c κs within = client_within c.args.self.now.clients.items c.in-Some.block.0 c.in-Some-client_of.place (ap (λ xs. client_place xs c.in-Some.block.0) (sym c.as_slice.ensures.value) ∙ sym c.in-Some-client_of.ensures)
+hear-requires-clause-within g c κs within = client_within c.args.self.now.clients.items c.in-Some.block.0 c.in-Some-client_of.place (client_place c.args.self.now.clients.items c.in-Some.block.0) refl (ap (λ xs. client_place xs c.in-Some.block.0) (sym c.as_slice.ensures.value) ∙ sym c.in-Some-client_of.ensures)
 
 pub returns-clause-shows : goal.returns-clause-shows
 returns-clause-shows g c =
