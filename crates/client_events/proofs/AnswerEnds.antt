@@ -1,5 +1,6 @@
 -- The world after a writer heard the answer to its request, or the end.
 use Rattle.std.proofs.Common.{◌≡◌, ◌≢◌, inl, inr, ◌⊎◌, ℕ, not, Bool, true, false, if◌then◌else◌, [], is_err, option_map, Option, Some, None, Result, Ok, Err, refl, sym, ap, ◌∙◌, subst}
+use Rattle.std.proofs.lemmas.Option.{same_Some}
 use Rattle.hd_base.specs.Ends.{has_failed}
 use Rattle.hd_base.specs.Faults.{FaultsIncreased}
 use Rattle.hd_base.specs.Links.{Inbox}
@@ -359,9 +360,6 @@ module _ {R I O : Type 0} (r : roads.Ghosts R I O) (i : link_in.Ghosts I) (o : l
   conn_same : (a c : ConnId) → a.0 ≡ c.0 → a ≡ c
   conn_same a c e = λ j. record { 0 = e j }
 
-  some_conn : (a c : ℕ) → Some a ≡ Some c → a ≡ c
-  some_conn a c h = cc
-
   no_conn_some : (c : ℕ) → Some c ≡ None → ⊥
   no_conn_some c h = cc
 
@@ -376,7 +374,7 @@ module _ {R I O : Type 0} (r : roads.Ghosts R I O) (i : link_in.Ghosts I) (o : l
   by_links d w net b office conn x (Some l) None setup setup' ends left known known' desk desk' road middle road' at stands can ex risen steps is = absurd ex
   by_links d w net b office conn x (Some l) (Some l') setup setup' ends left known known' desk desk' road middle road' at stands can ex risen steps is =
       let s : LinkStands i o w net (w.writers b).conn l = subst (λ (n : Option (Link I O)). LinkShows i o w net (w.writers b).conn n) at stands.pipe_is in
-      let same : l.end.id ≡ conn = conn_same l.end.id conn (some_conn l.end.id.0 conn.0 (sym s.conn_is ∙ can.conn_is)) in
+      let same : l.end.id ≡ conn = conn_same l.end.id conn (same_Some l.end.id.0 conn.0 (sym s.conn_is ∙ can.conn_is)) in
       subst (λ (n : ConnId). ClientLeft r i o w net (happens w (event.Up n)) b office known' left road') same
       (by_step d w net b office x l l' setup setup' ends left known known' desk desk' road middle road' stands s (subst (λ (n : ConnId). CanHearAnswer w n b known x) (sym same) can) ex risen steps is)
 
@@ -423,7 +421,7 @@ module _ {R I O : Type 0} (r : roads.Ghosts R I O) (i : link_in.Ghosts I) (o : l
   links_keep d w net b office conn x (Some l) None link' setup lost ends known known' desk desk' road middle road' at stands can ex steps = absurd ex
   links_keep d w net b office conn x (Some l) (Some l') link' setup lost ends known known' desk desk' road middle road' at stands can ex steps =
       let s : LinkStands i o w net (w.writers b).conn l = subst (λ (n : Option (Link I O)). LinkShows i o w net (w.writers b).conn n) at stands.pipe_is in
-      let same : l.end.id ≡ conn = conn_same l.end.id conn (some_conn l.end.id.0 conn.0 (sym s.conn_is ∙ can.conn_is)) in
+      let same : l.end.id ≡ conn = conn_same l.end.id conn (same_Some l.end.id.0 conn.0 (sym s.conn_is ∙ can.conn_is)) in
       (step_acts d w net b office x l l' setup link' lost ends known known' desk desk' road middle road' stands s (subst (λ (n : ConnId). CanHearAnswer w n b known x) (sym same) can) ex steps).0
 
   -- The office is as it was, where something stands next.

@@ -1,5 +1,6 @@
 -- The world after a writer that wants a pipeline was refused a stamp, or has asked its first member.
 use Rattle.std.proofs.Common.{◌≡◌, ◌≢◌, ◌<◌, ◌≤◌, ◌+◌, ◌-◌, ◌==◌, inl, inr, ◌⊎◌, ℕ, Bool, true, false, if◌then◌else◌, List, [], ◌∷◌, ◌++◌, length, slice_get, is_err, Option, Some, None, IfSome, Result, Ok, Err, refl, sym, ap, ◌∙◌, subst, arith, eqb-true}
+use Rattle.std.proofs.lemmas.Option.{same_Some}
 use Rattle.std.proofs.lemmas.Bool.Decides.{nat_tests}
 use Rattle.std.proofs.lemmas.List.{append-nil}
 use Rattle.std.specs.Prelude.{cond, min, nat_le}
@@ -105,15 +106,12 @@ none_first : (l : List ℕ) (n : ℕ) → l ≡ [] → slice_get l 0 ≡ Some n 
 none_first [] n is h = cc
 none_first (x ∷ xs) n is h = cc
 
-same_some : (a b : ℕ) → Some a ≡ Some b → a ≡ b
-same_some a b h = cc
-
 -- the port that is dialled, and no other one
 port_is : (first : NodeId) (port : ℕ) → dial_port first ≡ Some port → port ≡ FIRST_PORT + first.0
 port_is first port h = by_test (nat_le (FIRST_PORT + first.0) 65535) h
   where
     by_test : (q : Bool) → (if q then Some (FIRST_PORT + first.0) else None) ≡ Some port → port ≡ FIRST_PORT + first.0
-    by_test true e = sym (same_some _ _ e)
+    by_test true e = sym (same_Some _ _ e)
     by_test false e = cc
 
 has_port : (first : NodeId) → FIRST_PORT + first.0 ≤ MAX_PORT → dial_port first ≡ None → ⊥
@@ -436,7 +434,7 @@ module _ {R I O D : Type 0} (r : roads.Ghosts R I O) (i : link_in.Ghosts I) (o :
           let ends = ends-made r i o told_world net dial_change dial port [] net_told roads_here.sane by in
           let waiting : slice_get (p.roads_at.shows.plain.waiting port) 0 ≡ Some at_end.id.0 = subst (λ (q : Option Plain). IfSome q (λ z. slice_get (z.waiting port) 0 ≡ Some at_end.id.0)) p.roads_at.shows.is acc.number in
           let accepted : IsAccepted i o n at_end = record {
-            number = same_some at_end.id.0 net.conns (sym waiting ∙ first_waiting f) ∙ sym last;
+            number = same_Some at_end.id.0 net.conns (sym waiting ∙ first_waiting f) ∙ sym last;
             lower = acc.lower;
             fresh = acc.fresh;
             observable = subst (λ (q : Option Plain). IfSome q (λ _. IsObservable i o at_end)) p.roads_at.shows.is acc.observable;

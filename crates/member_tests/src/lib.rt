@@ -23,3 +23,5 @@ mod receiving;
 mod refusing;
 #[cfg(test)]
 mod responding;
+#[cfg(test)]
+mod writing;

@@ -129,7 +129,7 @@ pub(crate) fn up(alloc: Global, node: &mut Node) -> Stepped {
 }
 
 /// Whether the roads gave the ends of this connection, if there is one.
-fn knows_any(roads: &MemRoads, conn: Option<ConnId>) -> bool
+pub(crate) fn knows_any(roads: &MemRoads, conn: Option<ConnId>) -> bool
     ensures { IsTrue result → IfSome conn (λ c. IsKnown (⟦<MemRoads as Roads>⟧.plain roads.now) c.0) }
 {
     match conn {

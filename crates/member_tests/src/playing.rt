@@ -12,7 +12,7 @@ use std::alloc::Global;
 use std::process::Abort;
 
 /// The member without a mirror that the request makes which comes at an end.
-fn made(
+pub(crate) fn made(
     rt: &impl Abort,
     alloc: Global,
     roads: &mut MemRoads,
@@ -30,7 +30,7 @@ fn made(
 }
 
 /// The member takes what stands next from above.
-fn takes(
+pub(crate) fn takes(
     rt: &impl Abort,
     alloc: Global,
     roads: &mut MemRoads,
@@ -43,18 +43,16 @@ fn takes(
         .expect(rt, "a member")
 }
 
-/// The member does what it does by itself.
-fn acts(
+/// The member does what it does by itself. It is left unless it has shut.
+pub(crate) fn acts(
     rt: &impl Abort,
     alloc: Global,
     roads: &mut MemRoads,
     book: &mut Book,
     member: Member<MemIn, MemOut>,
-) -> Member<MemIn, MemOut> {
+) -> Option<Member<MemIn, MemOut>> {
     assert!(rt; knows(roads, &member));
-    member_ready(alloc, roads, book, member)
-        .expect(rt, "memory")
-        .expect(rt, "a member")
+    member_ready(alloc, roads, book, member).expect(rt, "memory")
 }
 
 /// A request makes a member, which answers it, takes a packet, and acks it.

@@ -1,11 +1,10 @@
 //! The setup of a pipeline, over roads in memory and an office.
 
-ghost use Rattle.std.specs.Prelude.{◌≡◌, true, is_some, IsTrue, IfSome};
-ghost use Rattle.hd_base.specs.Ends.{IsKnown};
+ghost use Rattle.std.specs.Prelude.{IsTrue};
 ghost use Rattle.pipe_recovery.specs.Dialling.{LinkIsKnown};
 
 use crate::helpers::BLOCK;
-use crate::nodes::{accepted, received, sent};
+use crate::nodes::{accepted, knows_any, received, sent};
 use hd_base::{ConnId, Members, NodeId, Roads, SumKind, SumRule};
 use mem_ports::{MemIn, MemOut, MemRoads};
 use name_core::OfficeBook;
@@ -50,21 +49,11 @@ fn begun(rt: &impl Abort, alloc: Global) -> Scene {
     }
 }
 
-/// Whether the roads know the connection, if there is one.
-fn is_known(roads: &MemRoads, conn: Option<ConnId>) -> bool
-    ensures { IsTrue result → IfSome conn (λ c. IsKnown (⟦<MemRoads as Roads>⟧.plain roads.now) c.0) }
-{
-    match conn {
-        Some(conn) => roads.knows(conn),
-        None => true,
-    }
-}
-
 /// Whether the roads know the connection of the setup, if there is one.
 fn knows(roads: &MemRoads, setup: &Rebuild<MemIn, MemOut>) -> bool
     ensures { IsTrue result → LinkIsKnown (⟦<MemRoads as Roads>⟧.plain roads.now) setup.now.link }
 {
-    is_known(roads, setup.conn())
+    knows_any(roads, setup.conn())
 }
 
 /// One step of the setup.

@@ -1,5 +1,6 @@
 -- A client that hears, and the world after it.
 use Rattle.std.proofs.Common.{◌≡◌, ◌≢◌, ℕ, Bool, true, false, List, [], ◌∷◌, ◌++◌, map, if◌then◌else◌, Option, Some, None, Result, Ok, Err, IfSome, refl, sym, ap, ◌∙◌, subst, append-nil, eqb-true}
+use Rattle.std.proofs.lemmas.Option.{same_Some}
 use Rattle.std.specs.Prelude.{◌==◌, ◌&&◌, is_some, is_none, nat_lt}
 use Rattle.hd_base.specs.declared.numbers.ConnId.{ConnId}
 use Rattle.hd_base.specs.declared.numbers.NodeId.{NodeId}
@@ -18,6 +19,7 @@ use Rattle.world.specs.Worlds.{World, apply}
 use Rattle.world.specs.Connections.{Next, message, the_end, next_up, up_taken, is_conn}
 use Rattle.world.specs.Events.{happens}
 use Rattle.world.specs.Enabled.{takes_above}
+use Rattle.world_laws.proofs.FactTables.{and-left, and-right}
 use Rattle.world_nets.specs.Drawn.{ComesUp, HearsPipe, hears_as}
 use Rattle.world_nets.proofs.DrawnLemmas.{up-makes}
 use Rattle.world_orders.specs.Orders as orders
@@ -59,14 +61,6 @@ next_so : {A : Type 0} (x : Option A) → is_some x ≡ true → (a : A) × (x �
 next_so None h = cc
 next_so (Some a) h = (a, refl)
 
-left_of : (a b : Bool) → (a && b) ≡ true → a ≡ true
-left_of true b h = refl
-left_of false b h = h
-
-right_of : (a b : Bool) → (a && b) ≡ true → b ≡ true
-right_of true b h = h
-right_of false b h = cc
-
 both_of : (a b : Bool) → a ≡ true → b ≡ true → (a && b) ≡ true
 both_of true b h k = k
 both_of false b h k = h
@@ -82,16 +76,16 @@ pub hears_at : (w : World) (conn : ConnId) (b : ℕ) (queues : Queues) → (w.di
 hears_at w conn b queues upper h =
     let c : ℕ = conn.0 in
     let q : Bool = takes_above (w.dialled c).upper w c in
-    let up : (nat_lt c w.next_conn && is_some (next_up w c) && q) ≡ true = right_of (is_open_above w (w.dialled c).upper) (nat_lt c w.next_conn && is_some (next_up w c) && q) h in
-    let front : (nat_lt c w.next_conn && is_some (next_up w c)) ≡ true = left_of (nat_lt c w.next_conn && is_some (next_up w c)) q up in
-    let found = next_so (next_up w c) (right_of (nat_lt c w.next_conn) (is_some (next_up w c)) front) in
-    let takes : (is_conn (w.writers b).conn c && is_none (w.writers b).told) ≡ true = ap (λ (u : Upper). takes_above u w c) (sym upper) ∙ right_of (nat_lt c w.next_conn && is_some (next_up w c)) q up in
-    let conn_is : is_conn (w.writers b).conn c ≡ true = left_of (is_conn (w.writers b).conn c) (is_none (w.writers b).told) takes in
+    let up : (nat_lt c w.next_conn && is_some (next_up w c) && q) ≡ true = and-right (is_open_above w (w.dialled c).upper) (nat_lt c w.next_conn && is_some (next_up w c) && q) h in
+    let front : (nat_lt c w.next_conn && is_some (next_up w c)) ≡ true = and-left (nat_lt c w.next_conn && is_some (next_up w c)) q up in
+    let found = next_so (next_up w c) (and-right (nat_lt c w.next_conn) (is_some (next_up w c)) front) in
+    let takes : (is_conn (w.writers b).conn c && is_none (w.writers b).told) ≡ true = ap (λ (u : Upper). takes_above u w c) (sym upper) ∙ and-right (nat_lt c w.next_conn && is_some (next_up w c)) q up in
+    let conn_is : is_conn (w.writers b).conn c ≡ true = and-left (is_conn (w.writers b).conn c) (is_none (w.writers b).told) takes in
     record {
       next = found.0;
-      comes = record { known = left_of (nat_lt c w.next_conn) (is_some (next_up w c)) front; next = found.1 };
+      comes = record { known = and-left (nat_lt c w.next_conn) (is_some (next_up w c)) front; next = found.1 };
       conn = conn_so (w.writers b).conn c conn_is;
-      heard = record { upper = upper; conn = conn_is; told = told_so (w.writers b).told (right_of (is_conn (w.writers b).conn c) (is_none (w.writers b).told) takes) };
+      heard = record { upper = upper; conn = conn_is; told = told_so (w.writers b).told (and-right (is_conn (w.writers b).conn c) (is_none (w.writers b).told) takes) };
     }
 
 -- WHAT COMES
@@ -154,10 +148,7 @@ members_so p members taken w h = cc
 
 writer_conn : (w : World) (b c : ℕ) (o : Option ℕ) (p : WriterRecord) → o ≡ Some c → IfSome o (λ d. IsWriterConn (w.dialled d) (w.up_marks d).taken b p) → IsWriterConn (w.dialled c) (w.up_marks c).taken b p
 writer_conn w b c None p e h = cc
-writer_conn w b c (Some d) p e h = subst (λ (n : ℕ). IsWriterConn (w.dialled n) (w.up_marks n).taken b p) (same d c e) h
-  where
-    same : (a b : ℕ) → Some a ≡ Some b → a ≡ b
-    same a b e = cc
+writer_conn w b c (Some d) p e h = subst (λ (n : ℕ). IsWriterConn (w.dialled n) (w.up_marks n).taken b p) (same_Some d c e) h
 
 requested_members : (w : World) (b c : ℕ) → Ordered w → (w.writers b).conn ≡ Some c → is_requested (w.writers b).known.phase ≡ true → (w.writers b).known.members ≢ []
 requested_members w b c ordered conn waits =
@@ -234,7 +225,7 @@ module _ {D R I O : Type 0} (d : desks.Ghosts D) (r : roads.Ghosts R I O) (i : l
       → HearsAt w conn.0 b → (w.dialled conn.0).upper ≡ by_writer b → AcceptedIsQuiet w b → PipeHears r i o known known' p desk desk' road road' result → PipeEnds w net (happens w (event.Up conn)) b known' road road' result
   pipe_ends w net queues conn b known known' pipe.Closed desk desk' road road' result stands fits lawful at upper quiet hears = absurd (none_some conn.0 (sym stands.pipe_is ∙ at.conn))
   pipe_ends w net queues conn b known known' (pipe.Streaming end incoming) desk desk' road road' result stands fits lawful at upper quiet hears =
-      let same : conn ≡ end.id = conn_same conn end.id (some_same conn.0 end.id.0 (sym at.conn ∙ stands.pipe_is.conn_is)) in
+      let same : conn ≡ end.id = conn_same conn end.id (same_Some conn.0 end.id.0 (sym at.conn ∙ stands.pipe_is.conn_is)) in
       ends_with w net (happens w (event.Up conn)) b known known' (pipe.Streaming end incoming) road road' result fits hears.1
       (subst (λ (e : ConnId). events.EventEnds r i o w net (happens w (event.Up e)) b w.office known' road road' result) (sym same)
       (hears.0 w net b w.office at.next stands (subst (λ (e : ConnId). events.CanHear w e b at.next) same (record {
@@ -243,9 +234,6 @@ module _ {D R I O : Type 0} (d : desks.Ghosts D) (r : roads.Ghosts R I O) (i : l
         acks = acks_next w b conn.0 at.next lawful.taken lawful.written at.conn (ap (λ (x : WriterRecord). is_requested x.phase) (sym stands.writer) ∙ free_so known.phase fits) at.comes.next;
       }))))
     where
-      some_same : (a b : ℕ) → Some a ≡ Some b → a ≡ b
-      some_same a b e = cc
-
       conn_same : (a b : ConnId) → a.0 ≡ b.0 → a ≡ b
       conn_same a b e = ap (λ (n : ℕ). record { 0 = n }) e
   pipe_ends w net queues conn b known known' (pipe.SettingUp setup) desk desk' road road' result stands fits lawful at upper quiet hears =

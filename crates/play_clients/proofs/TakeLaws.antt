@@ -17,6 +17,7 @@ use Rattle.world.specs.Worlds.{World, Change, apply}
 use Rattle.world.specs.Events.{happens, is_enabled, outcome}
 use Rattle.world.specs.Enabled.{is_deed}
 use Rattle.world.specs.Clients.{is_formed, ruled, is_empty, did, takes_given, takes_command, writer_step, own_writer}
+use Rattle.world_laws.proofs.FactTables.{and-right}
 use Rattle.world_orders.specs.Orders.{is_requested}
 use Rattle.writer_core.specs.declared.actions.Action.{Action}
 use Rattle.writer_core.specs.declared.actions.Action.TheVariants as action
@@ -102,11 +103,7 @@ takes_it w b t told h =
     let both = some_when (is_formed t.command t.rule && not (is_empty (given x t.command).queue)) (takes_given w b.0 (ruled x t.command t.rule) t.command) taken in
     let s : Step = own_step (given (ruled x t.command t.rule) t.command) in
     let did_so = some_when (is_empty s.writer.queue) _ both.1 in
-    record { deed = did_deed w b.0 _ s.action s.writer _ did_so.1; filled = right_of (is_formed t.command t.rule) (not (is_empty (given x t.command).queue)) both.0 }
-  where
-    right_of : (a b : Bool) → (a && b) ≡ true → b ≡ true
-    right_of true b h = h
-    right_of false b h = cc
+    record { deed = did_deed w b.0 _ s.action s.writer _ did_so.1; filled = and-right (is_formed t.command t.rule) (not (is_empty (given x t.command).queue)) both.0 }
 
 -- THE WRITER THAT IS GIVEN IT
 

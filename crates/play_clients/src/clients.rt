@@ -1,6 +1,6 @@
 //! The client of a block.
 
-ghost use Rattle.std.specs.Prelude.{◌≡◌, IfOk};
+ghost use Rattle.std.specs.Prelude.{◌≡◌, true, false, None};
 ghost use Rattle.play_clients.specs.Clients.{IsNew, client_has_step};
 
 use client_events::{Pipe, Said};
@@ -45,6 +45,30 @@ pub struct Owned<I, O> {
     pub asked: bool,
     /// The lower end of the connection that the writer dialled, if it did.
     pub first: Option<First<I, O>>,
+}
+
+impl<I: LinkIn, O: LinkOut> Owned<I, O> {
+    /// What a step leaves that the writer took alone, with a command if it took one.
+    pub(crate) fn alone(took: Option<TakenCommand>) -> Owned<I, O>
+        ensures { result ≡ record { took = took; asked = false; first = None } }
+    {
+        Owned {
+            took,
+            asked: false,
+            first: None,
+        }
+    }
+
+    /// What a step leaves in which the office was asked, with the first member's end if that was asked too.
+    pub(crate) fn asking(first: Option<First<I, O>>) -> Owned<I, O>
+        ensures { result ≡ record { took = None; asked = true; first = first } }
+    {
+        Owned {
+            took: None,
+            asked: true,
+            first,
+        }
+    }
 }
 
 impl<I: LinkIn, O: LinkOut> Client<I, O> {

@@ -41,43 +41,23 @@ impl<I: LinkIn, O: LinkOut> Client<I, O> {
         match self.course() {
             Course::Takes => {
                 let took = self.take(alloc, roads)?;
-                Ok(Owned {
-                    took,
-                    asked: false,
-                    first: None,
-                })
+                Ok(Owned::alone(took))
             }
             Course::SetsUp => {
                 let first = self.set_up(alloc, roads, office, next)?;
-                Ok(Owned {
-                    took: None,
-                    asked: true,
-                    first,
-                })
+                Ok(Owned::asking(first))
             }
             Course::Commits => {
                 self.commit(alloc, roads, office)?;
-                Ok(Owned {
-                    took: None,
-                    asked: true,
-                    first: None,
-                })
+                Ok(Owned::asking(None))
             }
             Course::Completes => {
                 self.complete(office)?;
-                Ok(Owned {
-                    took: None,
-                    asked: true,
-                    first: None,
-                })
+                Ok(Owned::asking(None))
             }
             Course::Acts => {
                 self.act(alloc, roads)?;
-                Ok(Owned {
-                    took: None,
-                    asked: false,
-                    first: None,
-                })
+                Ok(Owned::alone(None))
             }
         }
     }

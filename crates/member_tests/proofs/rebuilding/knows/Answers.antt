@@ -17,4 +17,4 @@ pub returns : goal.returns
 returns c = λ t.
     link_is_known (plain_shown c.args.roads.now) c.args.setup.now.link
     (subst (λ conn. IfSome conn (λ d. IsKnown (plain_shown c.args.roads.now) d.0))
-    c.conn.ensures (c.is_known.ensures t))
+    c.conn.ensures (c.knows_any.ensures t))
