@@ -1,5 +1,5 @@
 -- Shelves lend the files of blocks, and books are made over them.
-use Rattle.std.specs.Prelude.{◌≡◌, ◌++◌, ℕ, List, [], ◌∷◌, length, slice_get, option_map, Some, Result, Ok, Err}
+use Rattle.std.specs.Prelude.{◌≡◌, ◌≤◌, ◌==◌, ◌++◌, ℕ, false, true, List, [], ◌∷◌, length, slice_get, option_map, Some, Result, Ok, Err}
 use Rattle.hd_base.specs.FileMaps.{no_files, part_of, rest_of, marked}
 use Rattle.hd_base.specs.declared.numbers.BlockId.{BlockId}
 use Rattle.hd_base.specs.declared.files.Files as files
@@ -52,10 +52,17 @@ pub record IsLent {S D : Type 0} (s : shelves.Ghosts S D) (d : files.Ghosts D) (
   pub lent : s.lent new ≡ marked (s.lent old) block.0 true
   pub faults : s.faults new ≡ s.faults old
 
+-- The files are the same, the other blocks are lent as before, this one isn't where it wasn't, and the count of faults hasn't fallen.
+pub record IsUnlent {S D : Type 0} (s : shelves.Ghosts S D) (block : BlockId) (old new : S) : Type 0 where
+  pub files : s.files new ≡ s.files old
+  pub others : (b : ℕ) → (b == block.0) ≡ false → s.lent new b ≡ s.lent old b
+  pub here : s.lent old block.0 ≡ false → s.lent new block.0 ≡ false
+  pub never_falls : s.faults old ≤ s.faults new
+
 abbrev pub LendsBook : {S D E : Type 0} → shelves.Ghosts S D → files.Ghosts D → BlockId → S → S →
     Result (BookState D) E → Type 0
 LendsBook s d block old new (Ok book) = IsLent s d block old new book
-LendsBook s d block old new (Err _) = IsGivenBack s old new
+LendsBook s d block old new (Err _) = IsUnlent s block old new
 
 -- The block was lent, and its book stands behind the others.
 pub record IsLentNext {S D : Type 0} (s : shelves.Ghosts S D) (d : files.Ghosts D) (block : BlockId) (old new : S)
@@ -67,7 +74,7 @@ pub record IsLentNext {S D : Type 0} (s : shelves.Ghosts S D) (d : files.Ghosts 
 abbrev pub LendsNext : {S D E : Type 0} → shelves.Ghosts S D → files.Ghosts D → BlockId → S → S →
     List (BookState D) → List (BookState D) → Result (Unit {0}) E → Type 0
 LendsNext s d block old new books books' (Ok _) = IsLentNext s d block old new books books'
-LendsNext s d block old new books books' (Err _) = IsGivenBack s old new × (books' ≡ books)
+LendsNext s d block old new books books' (Err _) = IsUnlent s block old new × (books' ≡ books)
 
 -- ALL BLOCKS
 

@@ -1,0 +1,112 @@
+-- Nodes that were opened show the first world.
+use Rattle.std.proofs.Common.{◌≡◌, ◌<◌, ◌≤◌, ℕ, zero, suc, List, [], ◌∷◌, length, map, slice_get, Option, Some, None, option_and_then, IsSome, refl, sym, ap, subst, ◌∙◌, arith}
+use Rattle.hd_base.specs.declared.numbers.BlockId.{BlockId}
+use Rattle.hd_base.specs.declared.files.Files as files
+use Rattle.hd_base.specs.declared.links.LinkIn as link_in
+use Rattle.hd_base.specs.declared.links.LinkOut as link_out
+use Rattle.hd_base.specs.declared.roads.Roads as roads
+use Rattle.hd_base.specs.declared.shelves.Shelf as shelves
+use Rattle.road_traffic.specs.Showing.{Net, RoadsShow}
+use Rattle.replica_model.specs.Rows.{FullReplica, nothing}
+use Rattle.replica_model.specs.Histories.{replay, begun}
+use Rattle.replica_model.specs.declared.histories.Start.{Start}
+use Rattle.replica_model.specs.declared.histories.Entry.{Entry}
+use Rattle.replica_files.specs.declared.book_state.BookState.{BookState}
+use Rattle.replica_files.specs.Books.{replica_of}
+use Rattle.replica_files.specs.Endings.{IsNew}
+use Rattle.play_nodes.specs.declared.nodes.NodeBooks.{NodeBooks}
+use Rattle.play_nodes.specs.declared.nodes.Nodes.{Nodes}
+use Rattle.play_nodes.specs.declared.connections.Connection.{Connection}
+use Rattle.play_nodes.specs.Places.{book_at}
+use Rattle.play_nodes.specs.Showing.{NodesShow, NodesStand, ConnectionShows}
+use Rattle.play_nodes.proofs.Tables.{element}
+use Rattle.play_nodes.proofs.PlaceLaws.{element_within, same_some, book_found, book_missing}
+use Rattle.member_events.specs.Showing.{ShowsWorld}
+use Rattle.world.specs.Worlds.{World, start}
+use Rattle.world_nets.specs.Starts.{StartsAreNets}
+use Rattle.node_opening.specs.Shelves.{AreDistinct}
+use Rattle.node_opening.specs.Closing.{blocks_of}
+use Rattle.node_opening.specs.Lending.{AreNewBooks, HasBooks, HaveBooks}
+use Rattle.node_opening.specs.Listening.{opened_net}
+use Rattle.node_opening.specs.Opening.{IsOpened}
+use Rattle.node_opening.proofs.ListenLemmas.{net_unused}
+
+-- BOOKS
+
+new_replica : {D : Type 0} (x : BookState D) (block : BlockId) (drawer : D) → IsNew x block drawer → replica_of x ≡ nothing block
+new_replica x block drawer n =
+    ap (λ (es : List Entry). replay (begun x.block x.history.start) es) n.entries ∙
+    (ap (λ (s : Start). begun x.block s) n.start ∙ ap nothing n.of_block)
+
+block_at : {D : Type 0} (books : List (BookState D)) (k : ℕ) (x : BookState D) → slice_get books k ≡ Some x → slice_get (blocks_of books) k ≡ Some x.block
+block_at [] k x h = cc
+block_at (y ∷ books) zero x h = ap (λ q. Some q.block) (same_some y x h)
+block_at (y ∷ books) (suc k) x h = block_at books k x h
+
+place_at : {D : Type 0} (books : List (BookState D)) (k : ℕ) (block : BlockId) → slice_get (blocks_of books) k ≡ Some block → IsSome (slice_get books k)
+place_at [] k block h = cc
+place_at (y ∷ books) zero block h = refl
+place_at (y ∷ books) (suc k) block h = place_at books k block h
+
+-- What the book at a place is of, where the place is within the books of a node.
+pub record FoundAt {D : Type 0} (nodes : List (NodeBooks D)) (node place : ℕ) (book : BookState D) : Type 0 where
+  pub at : NodeBooks D
+  pub here : slice_get nodes node ≡ Some at
+  pub there : slice_get at.books.items place ≡ Some book
+
+found_by : {D : Type 0} (nodes : List (NodeBooks D)) (node place : ℕ) (book : BookState D) (x : Option (NodeBooks D)) → slice_get nodes node ≡ x → option_and_then (λ y. slice_get y.books.items place) x ≡ Some book → FoundAt nodes node place book
+found_by nodes node place book None e h = cc
+found_by nodes node place book (Some y) e h = record { at = y; here = e; there = h }
+
+module _ {S D : Type 0} (s : shelves.Ghosts S D) (d : files.Ghosts D) where
+  books_new : (blocks : List BlockId) (old new : List S) (nodes : List (NodeBooks D)) → HaveBooks s d blocks old new nodes → (node : ℕ) (x : NodeBooks D) → slice_get nodes node ≡ Some x
+      → (blocks_of x.books.items ≡ blocks) × ((k : ℕ) (y : BookState D) → slice_get x.books.items k ≡ Some y → IsNew y y.block y.drawer)
+  books_new blocks old new nodes h node x here =
+      let within : node < length old = subst (λ (n : ℕ). node < n) h.count (element_within nodes node x here) in
+      let a = element old node within in
+      let b = element new node (subst (λ (n : ℕ). node < n) (sym h.shelves_stay) within) in
+      let has = h.each node a.0 b.0 x a.1 b.1 here in
+      (has.are.blocks_are, λ k y at. (has.are.each k y at).absent)
+
+  book_replica : (blocks : List BlockId) (old new : List S) (nodes : List (NodeBooks D)) → HaveBooks s d blocks old new nodes → (node place : ℕ) (block : BlockId) (book : BookState D) → slice_get blocks place ≡ Some block → book_at nodes node place ≡ Some book
+      → replica_of book ≡ nothing block
+  book_replica blocks old new nodes h node place block book at is =
+      let f : FoundAt nodes node place book = found_by nodes node place book (slice_get nodes node) refl is in
+      let n = books_new blocks old new nodes h node f.at f.here in
+      let same : book.block ≡ block = same_some book.block block (sym (block_at f.at.books.items place book f.there) ∙ (ap (λ (bs : List BlockId). slice_get bs place) n.0 ∙ at)) in
+      new_replica book book.block book.drawer (n.1 place book f.there) ∙ ap nothing same
+
+  book_there : (blocks : List BlockId) (old new : List S) (nodes : List (NodeBooks D)) → HaveBooks s d blocks old new nodes → (node place : ℕ) (block : BlockId) → node < length old → slice_get blocks place ≡ Some block → IsSome (book_at nodes node place)
+  book_there blocks old new nodes h node place block within at =
+      let x = element nodes node (subst (λ (n : ℕ). node < n) (sym h.count) within) in
+      let n = books_new blocks old new nodes h node x.0 x.1 in
+      subst IsSome (sym (book_found nodes node place x.0 x.1)) (place_at x.0.books.items place block (ap (λ (bs : List BlockId). slice_get bs place) n.0 ∙ at))
+
+-- THE FIRST WORLD
+
+none_show : {D I O : Type 0} (i : link_in.Ghosts I) (o : link_out.Ghosts O) (w : World) (net : Net) (n : Nodes D I O) → n.connections.items ≡ [] → (c : ℕ) (x : Connection I O) → slice_get n.connections.items c ≡ Some x → ConnectionShows i o w net c n x
+none_show i o w net n none c x h = absurd (nothing_at (sym (ap (λ xs. slice_get xs c) none) ∙ h))
+  where
+    nothing_at : None ≡ Some x → ⊥
+    nothing_at e = cc
+
+module _ {S D I O : Type 0} (s : shelves.Ghosts S D) (d : files.Ghosts D) (i : link_in.Ghosts I) (o : link_out.Ghosts O) where
+  first_nodes : (blocks : List BlockId) (old new : List S) (n : Nodes D I O) → AreDistinct blocks → IsOpened s d blocks old new n → NodesShow i o (start (length old)) (opened_net (length old)) n
+  unfolding start
+  first_nodes blocks old new n distinct h = record {
+    count = ap length h.none_dialled;
+    distinct = subst (λ (bs : List BlockId). AreDistinct bs) (sym h.blocks_are) distinct;
+    each = none_show i o (start (length old)) (opened_net (length old)) n h.none_dialled;
+    books = λ node place block book at is. book_replica s d blocks old new n.nodes.items h.have_books node place block book (sym (ap (λ (bs : List BlockId). slice_get bs place) h.blocks_are) ∙ at) is;
+    has_books = λ node place block within at. book_there s d blocks old new n.nodes.items h.have_books node place block within (sym (ap (λ (bs : List BlockId). slice_get bs place) h.blocks_are) ∙ at);
+  }
+
+module _ {S D R I O : Type 0} (s : shelves.Ghosts S D) (d : files.Ghosts D) (r : roads.Ghosts R I O) (i : link_in.Ghosts I) (o : link_out.Ghosts O) where
+  pub first_stand : StartsAreNets → (blocks : List BlockId) (old new : List S) (n : Nodes D I O) (road : R) → AreDistinct blocks → IsOpened s d blocks old new n → RoadsShow r (opened_net (length old)) road
+      → NodesStand r i o (start (length old)) (opened_net (length old)) road n
+  first_stand starts blocks old new n road distinct h shows =
+      let net = starts (length old) (opened_net (length old)) (net_unused (length old)) in
+      record {
+        roads_are = record { is_net = net.is_net; sane = net.sane; shows = shows };
+        nodes_are = first_nodes s d i o blocks old new n distinct h;
+      }
