@@ -15,6 +15,9 @@ use Rattle.node_opening.specs.Closing.{blocks_of, faults_of, files_with, AreLent
 use Rattle.node_opening.proofs.ListLemmas.{get_front, get_end}
 use Rattle.node_opening.proofs.ShelfLemmas.{among_more}
 use Rattle.node_opening.proofs.FileLemmas.{with_end}
+use Rattle.hd_base.specs.FileMaps.{OnlyOf}
+use Rattle.replica_core.specs.declared.records.ReplicaRecord.{ReplicaRecord}
+use Rattle.replica_files.specs.Books.{IsBookOf}
 
 -- BLOCKS
 
@@ -31,6 +34,7 @@ among_at (x ∷ xs) b h = first (b == x.0) refl h (among_at xs b)
   where
     later : StandsAt xs b → StandsAt (x ∷ xs) b
     later s = record { place = suc s.place; block = s.block; at = s.at; same = s.same }
+
     first : (q : Bool) → (b == x.0) ≡ q → (q || is_among xs b) ≡ true → (is_among xs b ≡ true → StandsAt xs b) → StandsAt (x ∷ xs) b
     first true e h f = record { place = zero; block = x; at = refl; same = eqb-true b x.0 e }
     first false e h f = later (f h)
@@ -85,6 +89,7 @@ carried_more a b c x y p q = record { never_falls = up p.never_falls q.never_fal
   where
     up : a ≤ b → b ≤ c → a ≤ c
     up h k = omega arith
+
     counts : min (a + x) (2 ^ 64 - 1) ≤ b → min (b + y) (2 ^ 64 - 1) ≤ c → min (a + (y + x)) (2 ^ 64 - 1) ≤ c
     counts h k = omega arith
 
@@ -114,6 +119,7 @@ module _ {S D : Type 0} (s : shelves.Ghosts S D) (d : files.Ghosts D) where
       and_true : (p : Bool) → p ≡ (p && true)
       and_true true = refl
       and_true false = refl
+
       least : (n : ℕ) → min (n + 0) (2 ^ 64 - 1) ≤ n
       least n = omega arith
 
@@ -176,6 +182,7 @@ module _ {S D : Type 0} (s : shelves.Ghosts S D) (d : files.Ghosts D) where
     where
       after : (k : ℕ) → length (nodes ++ x ∷ []) ≤ k → length nodes ≤ k
       after k h = omega (arith, length-append nodes (x ∷ []))
+
       past : (k : ℕ) → length (nodes ++ x ∷ []) ≤ k → k ≡ length nodes → ⊥
       past k h e = omega (arith, length-append nodes (x ∷ []))
 
@@ -199,5 +206,21 @@ module _ {S D : Type 0} (s : shelves.Ghosts S D) where
     where
       less : length nodes < length xs → length (slice_set xs (length nodes) b) ≡ length xs → length nodes ≤ length (slice_set xs (length nodes) b)
       less h e = omega arith
+
       apart : (k : ℕ) → k < length nodes → k ≡ length nodes → ⊥
       apart k h e = omega arith
+
+-- WHAT A BOOK HOLDS
+
+pub book_block : {D : Type 0} (d : files.Ghosts D) (x : BookState D) → IsBookOf d x → x.replica.block ≡ x.block
+book_block d x h = ap (λ (r : ReplicaRecord). r.block) h.known ∙ h.held.of_block
+
+pub gives : {S D : Type 0} (s : shelves.Ghosts S D) (d : files.Ghosts D) (x : BookState D) (a b : S) (block : BlockId) (drawer : D) → block ≡ x.block → drawer ≡ x.drawer → IsBookOf d x
+    → (OnlyOf block.0 (d.files drawer) → s.files b ≡ both_observable (s.files a) (d.files drawer)) → s.lent b ≡ marked (s.lent a) block.0 false → CarriesFaults (s.faults a) (d.faults drawer) (s.faults b) → Gives s d x a b
+gives {S} {D} s d x a b block drawer same is h f l n =
+    let only : OnlyOf block.0 (d.files drawer) = subst (λ (q : D). OnlyOf block.0 (d.files q)) (sym is) (subst (λ (q : BlockId). OnlyOf q.0 (d.files x.drawer)) (sym same) h.held.only) in
+    record {
+      files_are = subst (λ (q : D). s.files b ≡ both_observable (s.files a) (d.files q)) is (f only);
+      lent = subst (λ (q : BlockId). s.lent b ≡ marked (s.lent a) q.0 false) same l;
+      count = subst (λ (q : D). CarriesFaults (s.faults a) (d.faults q) (s.faults b)) is n;
+    }

@@ -19,6 +19,12 @@ use Rattle.node_opening.proofs.ListLemmas.{UpTo, up_to_map, up_to_next, up_to_he
 use Rattle.node_opening.proofs.ShelfLemmas.{among_more, empty_is, lent_none, given_none}
 use Rattle.node_opening.proofs.FileLemmas.{both_parts, part_none, rest_none, with_none}
 use Rattle.node_opening.proofs.CloseLemmas.{among_apart, blocks_end, same_eqb}
+use Rattle.std.proofs.Common.{take, add-one, length-append, length-set}
+use Rattle.std.proofs.lemmas.List.{take_all}
+use Rattle.std.specs.Prelude.{Result, Ok, Err, IsErr}
+use Rattle.node_opening.specs.Lending.{LendsNext, LendsNode}
+use Rattle.node_opening.proofs.ListLemmas.{take_next, up_to_none}
+use Rattle.node_opening.proofs.ShelfLemmas.{distinct_front}
 
 -- ONE BLOCK
 
@@ -130,6 +136,7 @@ module _ {S D : Type 0} (s : shelves.Ghosts S D) (d : files.Ghosts D) where
     where
       later : (p q r : ℕ) → p ≤ q → q ≤ r → p ≤ r
       later p q r h k = omega arith
+
       free : (y : ℕ) (q : Bool) → is_among blocks y ≡ q → s.lent a y ≡ false → (s.lent b y && not (is_among blocks y)) ≡ false
       free y true e none = and_none (s.lent b y) (is_among blocks y) e
       free y false e none = and_false (s.lent b y) (is_among blocks y) (lent y e none)
@@ -202,6 +209,7 @@ module _ {S D : Type 0} (s : shelves.Ghosts S D) (d : files.Ghosts D) where
     where
       less : (n m k : ℕ) → n < m → k ≡ m → n ≤ k
       less n m k h e = omega arith
+
       apart : (k n : ℕ) → k < n → k ≡ n → ⊥
       apart k n h e = omega arith
 
@@ -233,3 +241,92 @@ module _ {S D : Type 0} (s : shelves.Ghosts S D) (d : files.Ghosts D) where
     count = n.count ∙ (same ∙ u.count);
     each = λ k p q was is. back_each blocks old new end nodes a b empty u at g n k p q was is (same_or k (length nodes)) (cases_lt k (length nodes));
   }
+
+-- STEPS OF THE LOOPS
+
+module _ {S D : Type 0} (s : shelves.Ghosts S D) (d : files.Ghosts D) where
+  pub lent_so : (block : BlockId) (a b : S) (drawer : D) (x : BookState D) → IsNew x block drawer → d.files drawer ≡ option_map (part_of block.0) (s.files a) → d.faults drawer ≡ 0 → s.files b ≡ option_map (rest_of block.0) (s.files a)
+      → s.lent b ≡ marked (s.lent a) block.0 true → s.faults b ≡ s.faults a → IsLent s d block a b x
+  lent_so block a b drawer x n part none rest lent same = record {
+    absent = subst (λ (q : D). IsNew x block q) (sym n.with_drawer) n;
+    part = ap d.files n.with_drawer ∙ part;
+    no_faults = ap d.faults n.with_drawer ∙ none;
+    rest = rest;
+    lent = lent;
+    faults = same;
+  }
+
+  front_next : (blocks : List BlockId) (k : ℕ) (block : BlockId) → slice_get blocks k ≡ Some block → take k blocks ++ block ∷ [] ≡ take (k + 1) blocks
+  front_next blocks k block at = sym (ap (λ (n : ℕ). take n blocks) (add-one k) ∙ take_next blocks k block at)
+
+  pub books_step : (blocks : List BlockId) (k : ℕ) (block : BlockId) (a b c : S) (books books' : List (BookState D)) → slice_get blocks k ≡ Some block → IsEmpty s a → HasBooks s d (take k blocks) a b books → IsLentNext s d block b c books books'
+      → HasBooks s d (take (k + 1) blocks) a c books'
+  books_step blocks k block a b c books books' at empty h n =
+      subst (λ (bs : List BlockId). HasBooks s d bs a c books') (front_next blocks k block at) (books_more s d (take k blocks) block a b c books books' empty h n)
+
+  pub books_end : (blocks : List BlockId) (k : ℕ) (a b : S) (books : List (BookState D)) → length blocks ≤ k → HasBooks s d (take k blocks) a b books → HasBooks s d blocks a b books
+  books_end blocks k a b books h has = subst (λ (bs : List BlockId). HasBooks s d bs a b books) (take_all k blocks h) has
+
+  pub fail_out : (blocks : List BlockId) (k : ℕ) (block : BlockId) (a b c : S) (books books' : List (BookState D)) → AreDistinct blocks → slice_get blocks k ≡ Some block → HasBooks s d (take k blocks) a b books → IsUnlent s block b c × (books' ≡ books)
+      → AreLentOut s c books'
+  fail_out blocks k block a b c books books' distinct at h u =
+      subst (λ (xs : List (BookState D)). AreLentOut s c xs) (sym u.1)
+      (unlent_out s d (take k blocks) block a b c books (subst AreDistinct (sym (front_next blocks k block at)) (distinct_front blocks (k + 1) distinct))
+      (books_out s d (take k blocks) a b books (distinct_front blocks k distinct) h) h.are.blocks_are u.0)
+
+  pub fail_back : (blocks : List BlockId) (k : ℕ) (block : BlockId) (a b c e : S) (books books' : List (BookState D)) → IsEmpty s a → HasBooks s d (take k blocks) a b books → IsUnlent s block b c × (books' ≡ books) → NodeCloses s d books' c e → IsGivenBack s a e
+  fail_back blocks k block a b c e books books' empty h u n =
+      unlent_back_all s d (take k blocks) block a b c e books empty h u.0 (subst (λ (xs : List (BookState D)). NodeCloses s d xs c e) u.1 n)
+
+  longer : (nodes nodes' : List (NodeBooks D)) (x : NodeBooks D) → nodes' ≡ nodes ++ x ∷ [] → length nodes' ≡ length nodes + 1
+  longer nodes nodes' x e = ap length e ∙ length-append nodes (x ∷ [])
+
+  -- The nodes so far, and as many shelves.
+  pub record NodesUpTo (blocks : List BlockId) (n : ℕ) (old new : List S) (nodes : List (NodeBooks D)) : Type 0 where
+    pub lent : UpTo (HasNode s d blocks nodes) (length nodes) old new
+    pub count : length nodes ≡ n
+
+  pub nodes_start : (blocks : List BlockId) (xs : List S) → NodesUpTo blocks 0 xs xs []
+  nodes_start blocks xs = record { lent = up_to_none (HasNode s d blocks []) xs; count = refl }
+
+  pub nodes_step : (blocks : List BlockId) (n : ℕ) (old new : List S) (nodes nodes' : List (NodeBooks D)) (a b : S) → NodesUpTo blocks n old new nodes → slice_get new n ≡ Some a → IsNodeLent s d blocks a b nodes nodes' → NodesUpTo blocks (n + 1) old (slice_set new n b) nodes'
+  nodes_step blocks n old new nodes nodes' a b u at l = record {
+    lent = subst (λ (m : ℕ). UpTo (HasNode s d blocks nodes') m old (slice_set new n b)) (sym (longer nodes nodes' l.node l.behind))
+        (subst (λ (m : ℕ). UpTo (HasNode s d blocks nodes') (length nodes + 1) old (slice_set new m b)) u.count
+        (nodes_next s d blocks old new nodes nodes' a b u.lent (ap (slice_get new) u.count ∙ at) l));
+    count = longer nodes nodes' l.node l.behind ∙ ap (λ (m : ℕ). m + 1) u.count;
+  }
+
+  pub nodes_whole : (blocks : List BlockId) (n : ℕ) (old new : List S) (nodes : List (NodeBooks D)) → NodesUpTo blocks n old new nodes → n ≡ length old → HaveBooks s d blocks old new nodes
+  nodes_whole blocks n old new nodes u e = nodes_all s d blocks old new nodes u.lent (u.count ∙ e)
+
+  pub nodes_fail_out : (blocks : List BlockId) (n : ℕ) (old new : List S) (nodes nodes' : List (NodeBooks D)) (a b : S) → AreDistinct blocks → NodesUpTo blocks n old new nodes → slice_get new n ≡ Some a → nodes' ≡ nodes → NodesAreLentOut s (slice_set new n b) nodes'
+  nodes_fail_out blocks n old new nodes nodes' a b distinct u at same =
+      let within : length nodes < length new = subst (λ (m : ℕ). m < length new) (sym u.count) (element_within new n a at) in
+      subst (λ (xs : List (NodeBooks D)). NodesAreLentOut s (slice_set new n b) xs) (sym same)
+      (subst (λ (m : ℕ). NodesAreLentOut s (slice_set new m b) nodes) u.count (nodes_out s d blocks old new nodes b distinct u.lent within (length-set new (length nodes) b)))
+
+  pub nodes_fail_back : (blocks : List BlockId) (n : ℕ) (old new end : List S) (nodes nodes' : List (NodeBooks D)) (a b : S) → AllEmpty s old → NodesUpTo blocks n old new nodes → slice_get new n ≡ Some a → IsGivenBack s a b × (nodes' ≡ nodes)
+      → NodesClose s d nodes' (slice_set new n b) end → EachShelf (IsGivenBack s) old end
+  nodes_fail_back blocks n old new end nodes nodes' a b empty u at g c =
+      nodes_back s d blocks old new end nodes a b empty u.lent (ap (slice_get new) u.count ∙ at) g.0 (length-set new (length nodes) b)
+      (subst (λ (m : ℕ). NodesClose s d nodes (slice_set new m b) end) (sym u.count) (subst (λ (xs : List (NodeBooks D)). NodesClose s d xs (slice_set new n b) end) g.1 c))
+
+  -- A shelf that is to lend is one of those that were there first.
+  pub next_empty : (blocks : List BlockId) (n : ℕ) (old new : List S) (nodes : List (NodeBooks D)) (a : S) → AllEmpty s old → NodesUpTo blocks n old new nodes → slice_get new n ≡ Some a → IsEmpty s a
+  next_empty blocks n old new nodes a empty u at =
+      empty n a (subst (λ (m : ℕ). slice_get old m ≡ Some a) u.count (up_to_here (HasNode s d blocks nodes) (length nodes) old new a u.lent (ap (slice_get new) u.count ∙ at)))
+
+-- FAILURES
+
+module _ {S D E : Type 0} (s : shelves.Ghosts S D) (d : files.Ghosts D) where
+  pub next_failed : (block : BlockId) (a b : S) (books books' : List (BookState D)) (r : Result (Unit {0}) E) → IsErr r → IsUnlent s block a b × (books' ≡ books) → LendsNext s d block a b books books' r
+  next_failed block a b books books' (Ok x) e h = cc
+  next_failed block a b books books' (Err x) e h = h
+
+  pub node_failed : (blocks : List BlockId) (a b : S) (nodes nodes' : List (NodeBooks D)) (r : Result (Unit {0}) E) → IsErr r → IsGivenBack s a b × (nodes' ≡ nodes) → LendsNode s d blocks a b nodes nodes' r
+  node_failed blocks a b nodes nodes' (Ok x) e h = cc
+  node_failed blocks a b nodes nodes' (Err x) e h = h
+
+pub marked_here : (marks : ℕ → Bool) (b : ℕ) → marked marks b true b ≡ true
+marked_here marks b = ap (λ (q : Bool). cond q true (marks b)) (same_eqb b)

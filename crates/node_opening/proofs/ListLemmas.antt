@@ -1,5 +1,6 @@
 -- Elements of lists that grow or shrink at their end, and lists of which each element in turn is set.
 use Rattle.std.proofs.Common.{◌≡◌, ◌<◌, ◌≤◌, ◌+◌, ℕ, zero, suc, List, [], ◌∷◌, ◌++◌, length, take, get_or, slice_get, slice_set, Some, None, ◌⊎◌, inl, inr, refl, sym, ap, subst, ◌∙◌, arith, add-one, length-set}
+use Rattle.std.specs.Prelude.{Result, Ok, Err, IfErr, OnErr}
 use Rattle.std.proofs.lemmas.Bool.{cases_lt}
 use Rattle.play_nodes.proofs.Tables.{set_here, set_there, element, same_or}
 use Rattle.play_nodes.proofs.PlaceLaws.{element_within, same_some}
@@ -67,6 +68,7 @@ module _ {S : Type 0} where
     where
       past : (k : ℕ) → n + 1 ≤ k → k ≡ n → ⊥
       past k h e = omega arith
+
       after : (k : ℕ) → n + 1 ≤ k → n ≤ k
       after k h = omega arith
 
@@ -108,3 +110,31 @@ each_after {S} P Q R old mid new f p q = record {
 
 pub each_map : {S : Type 0} (P Q : S → S → Type 0) (old new : List S) → ((a b : S) → P a b → Q a b) → EachShelf P old new → EachShelf Q old new
 each_map P Q old new f p = record { count = p.count; each = λ k a b was is. f a b (p.each k a b was is) }
+
+-- ELEMENTS AND RESULTS
+
+pub element_or : {A : Type 0} (xs : List A) (i : ℕ) (d : A) → i < length xs → slice_get xs i ≡ Some (get_or xs i d)
+element_or [] i d h = absurd (none h)
+  where
+    none : i < 0 → ⊥
+    none h = omega arith
+element_or (a ∷ xs) zero d h = refl
+element_or (a ∷ xs) (suc i) d h = element_or xs i d (omega arith)
+
+pub none_left : {A : Type 0} (xs : List A) → length xs ≡ 0 → xs ≡ []
+none_left [] h = refl
+none_left (x ∷ xs) h = absurd (some (length xs) h)
+  where
+    some : (n : ℕ) → suc n ≡ 0 → ⊥
+    some n h = omega arith
+
+same_err : {T E : Type 0} (a b : E) → ◌≡◌ {A = Result T E} (Err a) (Err b) → a ≡ b
+same_err a b e = cc
+
+pub if_err : {T E : Type 0} (r : Result T E) (y : E) (P : E → Type 0) → r ≡ Err y → P y → IfErr r P
+if_err (Ok x) y P e p = tt
+if_err (Err z) y P e p = subst P (sym (same_err z y e)) p
+
+pub on_err : {T E : Type 0} (r : Result T E) (X : Type 0) → X → OnErr r X
+on_err (Ok x) X p = tt
+on_err (Err z) X p = p

@@ -9,6 +9,13 @@ use Rattle.hd_base.specs.declared.roads.TheConstants.{FIRST_PORT}
 use Rattle.road_traffic.specs.Showing.{Net, PlainShows, RoadsShow, listened_net}
 use Rattle.world_nets.specs.Starts.{IsUnused}
 use Rattle.node_opening.specs.Listening.{AreUnused, opened_net, ListensAt, ListenAll}
+use Rattle.std.specs.Prelude.{Result, Ok, Err}
+use Rattle.hd_base.specs.RoadCauses.{RoadCause}
+use Rattle.hd_base.specs.declared.ends.RoadError.{RoadError}
+use Rattle.hd_base.specs.declared.ends.RoadError.TheVariants as road
+use Rattle.node_opening.specs.Listening.{IsRoadFault, road_fault}
+use Rattle.node_opening.specs.declared.faults.OpenFault.{OpenFault}
+use Rattle.node_opening.specs.declared.faults.OpenFault.TheVariants as fault
 
 -- the ports that so many nodes listen on
 abbrev listens : ℕ → ℕ → Bool
@@ -30,7 +37,6 @@ pub rose_after : (a b c : ℕ) → a ≤ b → FaultsIncreased b c → FaultsInc
 rose_after a b c p q = omega arith
 
 module _ {R I O : Type 0} (r : roads.Ghosts R I O) where
-
   first_net : (road : R) → AreUnused r road → RoadsShow r (opened_net 0) road
   first_net road u = record {
     plain = u.plain;
@@ -62,3 +68,16 @@ module _ {R I O : Type 0} (r : roads.Ghosts R I O) where
 
   pub listen_next : (nodes : ℕ) (old mid new : R) → ListenAll r nodes old mid → ListensAt r nodes mid new → ListenAll r (nodes + 1) old new
   listen_next nodes old mid new p q = λ u. next_net nodes new (q (opened_net nodes) (p u))
+
+-- FAULTS
+
+pub road_caused : {T : Type 0} (before now : ℕ) (e : RoadError) → RoadCause {T = T} before now (Err e) → IsRoadFault before now (road_fault e)
+road_caused before now road.Memory c = tt
+road_caused before now road.NotListening c = absurd (c.no_dial refl)
+road_caused before now road.Failed c = c.failed refl
+
+pub fault_later : (a b c : ℕ) (why : OpenFault) → a ≤ b → IsRoadFault b c why → IsRoadFault a c why
+fault_later a b c fault.RoadFault p q = rose_after a b c p q
+fault_later a b c fault.Memory p q = tt
+fault_later a b c (fault.ShelfFault node) p q = q
+fault_later a b c (fault.NotEmpty node name) p q = q

@@ -30,6 +30,16 @@ use Rattle.node_opening.specs.Lending.{AreNewBooks, HasBooks, HaveBooks}
 use Rattle.node_opening.specs.Listening.{opened_net}
 use Rattle.node_opening.specs.Opening.{IsOpened}
 use Rattle.node_opening.proofs.ListenLemmas.{net_unused}
+use Rattle.std.specs.Prelude.{IfSome, option_map, Result, Ok, Err}
+use Rattle.hd_base.specs.FileMaps.{FileMap, no_files}
+use Rattle.node_opening.specs.declared.faults.OpenFault.{OpenFault}
+use Rattle.node_opening.specs.declared.faults.OpenFault.TheVariants as fault
+use Rattle.node_opening.specs.Shelves.{HasLent, IsGivenBack, EachShelf, AllEmpty}
+use Rattle.node_opening.specs.Emptiness.{IsFaultOf}
+use Rattle.node_opening.specs.Listening.{IsRoadFault}
+use Rattle.node_opening.specs.Opening.{HasOpenCause}
+use Rattle.node_opening.proofs.ListLemmas.{each_map, each_after}
+use Rattle.node_opening.proofs.ShelfLemmas.{lent_after, given_none, given_lent, given_after}
 
 -- BOOKS
 
@@ -110,3 +120,57 @@ module _ {S D R I O : Type 0} (s : shelves.Ghosts S D) (d : files.Ghosts D) (r :
         roads_are = record { is_net = net.is_net; sane = net.sane; shows = shows };
         nodes_are = first_nodes s d i o blocks old new n distinct h;
       }
+
+-- ONE AFTER THE OTHER
+
+module _ {S D : Type 0} (s : shelves.Ghosts S D) (d : files.Ghosts D) where
+  pub still_empty : (old mid : List S) → EachShelf (HasLent s []) old mid → AllEmpty s old → AllEmpty s mid
+  still_empty old mid h empty k b at =
+      let a = element old k (subst (λ (n : ℕ). k < n) h.count (element_within mid k b at)) in
+      subst (λ (f : Option FileMap). IfSome f (λ m. m ≡ no_files)) (sym (h.each k a.0 b a.1 at).files) (empty k a.0 a.1)
+
+  has_after : (blocks : List BlockId) (a b c : S) (books : List (BookState D)) → HasLent s [] a b → HasBooks s d blocks b c books → HasBooks s d blocks a c books
+  has_after blocks a b c books p h = record {
+    has_lent = lent_after s blocks a b c p h.has_lent;
+    are = record {
+      blocks_are = h.are.blocks_are;
+      each = λ k x at.
+          let n = h.are.each k x at in
+          record { absent = n.absent; files_are = n.files_are ∙ ap (λ (f : Option FileMap). option_map (λ _. no_files) f) p.files; no_faults = n.no_faults };
+    };
+  }
+
+  pub books_after : (blocks : List BlockId) (old mid new : List S) (nodes : List (NodeBooks D)) → EachShelf (HasLent s []) old mid → HaveBooks s d blocks mid new nodes → HaveBooks s d blocks old new nodes
+  books_after blocks old mid new nodes p h = record {
+    shelves_stay = h.shelves_stay ∙ p.count;
+    count = h.count ∙ p.count;
+    each = λ k a c x was is here.
+        let m = element mid k (subst (λ (n : ℕ). k < n) (sym p.count) (element_within old k a was)) in
+        has_after blocks a m.0 c x.books.items (p.each k a m.0 was m.1) (h.each k m.0 c x m.1 is here);
+  }
+
+module _ {S D : Type 0} (s : shelves.Ghosts S D) where
+  pub given_same : (xs : List S) → EachShelf (IsGivenBack s) xs xs
+  given_same xs = record { count = refl; each = λ k a b was is. subst (λ (q : S). IsGivenBack s a q) (same_some a b (sym was ∙ is)) (given_none s a) }
+
+  pub given_checked : (old mid : List S) → EachShelf (HasLent s []) old mid → EachShelf (IsGivenBack s) old mid
+  given_checked old mid h = each_map (HasLent s []) (IsGivenBack s) old mid (given_lent s) h
+
+  pub given_both : (old mid new : List S) → EachShelf (HasLent s []) old mid → EachShelf (IsGivenBack s) mid new → EachShelf (IsGivenBack s) old new
+  given_both old mid new p q = each_after (HasLent s []) (IsGivenBack s) (IsGivenBack s) old mid new (λ a b c h g. given_after s a b c (given_lent s a b h) g) p q
+
+module _ {R I O S D : Type 0} (r : roads.Ghosts R I O) (s : shelves.Ghosts S D) where
+  pub cause_road : (road road' : R) (old new : List S) (why : OpenFault) → IsRoadFault (r.faults road) (r.faults road') why → HasOpenCause r s road road' old new why
+  cause_road road road' old new fault.RoadFault h = h
+  cause_road road road' old new fault.Memory h = tt
+  cause_road road road' old new (fault.ShelfFault node) h = absurd h
+  cause_road road road' old new (fault.NotEmpty node name) h = absurd h
+
+  pub cause_shelf : (road road' : R) (old new : List S) (why : OpenFault) → IsFaultOf s old new why → HasOpenCause r s road road' old new why
+  cause_shelf road road' old new fault.RoadFault h = absurd h
+  cause_shelf road road' old new fault.Memory h = tt
+  cause_shelf road road' old new (fault.ShelfFault node) h = h
+  cause_shelf road road' old new (fault.NotEmpty node name) h = h
+
+  pub cause_memory : (road road' : R) (old new : List S) (why : OpenFault) → why ≡ fault.Memory → HasOpenCause r s road road' old new why
+  cause_memory road road' old new why e = subst (λ (q : OpenFault). HasOpenCause r s road road' old new q) (sym e) tt

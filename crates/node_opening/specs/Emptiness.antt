@@ -4,6 +4,8 @@ use Rattle.std.specs.Ordering.{nat_cmp, is_lt}
 use Rattle.std.specs.Cmp.Lexicographic.{slice_cmp}
 use Rattle.hd_base.specs.Faults.{FaultsIncreased}
 use Rattle.hd_base.specs.FileMaps.{FileMap}
+use Rattle.hd_base.specs.declared.files.FileError.{FileError}
+use Rattle.hd_base.specs.declared.files.FileError.TheVariants as file
 use Rattle.hd_base.specs.declared.numbers.NodeId.{NodeId}
 use Rattle.hd_base.specs.declared.shelves.Shelf as shelves
 use Rattle.node_opening.specs.Shelves.{IsEmpty, HasLent, EachShelf, AllEmpty}
@@ -16,6 +18,12 @@ pub record IsFirstName (files : FileMap) (name : List ℕ) : Type 0 where
   pub first : (other : List ℕ) → IsSome (files other) → (other ≡ name) ⊎ (is_lt (slice_cmp nat_cmp name other) ≡ true)
 
 -- ONE SHELF
+
+-- the fault of a node's shelf that failed
+abbrev pub shelf_fault : NodeId → FileError → OpenFault
+shelf_fault node file.Memory = fault.Memory
+shelf_fault node file.Absent = fault.ShelfFault node
+shelf_fault node file.Failed = fault.ShelfFault node
 
 -- The shelf of a node failed, or has this file, or memory ran out.
 abbrev pub IsShelfFault : {S D : Type 0} → shelves.Ghosts S D → NodeId → S → S → OpenFault → Type 0

@@ -2,6 +2,8 @@
 use Rattle.std.specs.Prelude.{◌≡◌, ◌+◌, ◌&&◌, ℕ, Bool, true, false, [], nat_le, nat_lt, option_map, Some}
 use Rattle.hd_base.specs.Channels.{Plain, empty_channel, nothing_carried}
 use Rattle.hd_base.specs.Faults.{FaultsIncreased}
+use Rattle.hd_base.specs.declared.ends.RoadError.{RoadError}
+use Rattle.hd_base.specs.declared.ends.RoadError.TheVariants as road
 use Rattle.hd_base.specs.declared.roads.Roads as roads
 use Rattle.hd_base.specs.declared.roads.TheConstants.{FIRST_PORT}
 use Rattle.road_traffic.specs.Traffic.{no_traffic}
@@ -35,6 +37,12 @@ ListensAt r node old new = (net : Net) → RoadsShow r net old → RoadsShow r (
 -- Where the roads were unused, so many nodes listen, and that is all.
 abbrev pub ListenAll : {R I O : Type 0} → roads.Ghosts R I O → ℕ → R → R → Type 0
 ListenAll r nodes old new = AreUnused r old → RoadsShow r (opened_net nodes) new
+
+-- the fault of roads that failed
+abbrev pub road_fault : RoadError → OpenFault
+road_fault road.Memory = fault.Memory
+road_fault road.NotListening = fault.RoadFault
+road_fault road.Failed = fault.RoadFault
 
 -- The roads failed, and their count rose; or memory ran out.
 abbrev pub IsRoadFault : ℕ → ℕ → OpenFault → Type 0

@@ -4,8 +4,8 @@ ghost use Rattle.std.specs.Prelude.{◌≤◌, length, List, ℕ};
 ghost use Rattle.hd_base.specs.declared.roads.TheConstants.{MAX_NODES};
 ghost use Rattle.node_opening.specs.Emptiness.{ChecksShelf, ChecksAll};
 
-use crate::faults::OpenFault;
-use hd_base::{FileError, NodeId, Shelf};
+use crate::faults::{OpenFault, shelf_fault};
+use hd_base::{NodeId, Shelf};
 use std::alloc::Global;
 
 /// The shelf of a node has no files.
@@ -14,8 +14,7 @@ fn check_shelf<S: Shelf>(alloc: Global, node: NodeId, shelf: &mut S) -> Result<(
 {
     let names = match shelf.list(alloc) {
         Ok(names) => names,
-        Err(FileError::Memory) => return Err(OpenFault::Memory),
-        Err(_) => return Err(OpenFault::ShelfFault { node }),
+        Err(error) => return Err(shelf_fault(node, error)),
     };
     match names.first() {
         Some(name) => Err(OpenFault::NotEmpty {

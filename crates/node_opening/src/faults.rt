@@ -1,6 +1,10 @@
 //! Why the nodes of a play aren't opened.
 
-use hd_base::{FileName, NodeId};
+ghost use Rattle.std.specs.Prelude.{◌≡◌};
+ghost use Rattle.node_opening.specs.Emptiness.{shelf_fault};
+ghost use Rattle.node_opening.specs.Listening.{road_fault};
+
+use hd_base::{FileError, FileName, NodeId, RoadError};
 use std::alloc::AllocError;
 use thiserror::Error;
 
@@ -29,5 +33,25 @@ impl From<AllocError> for OpenFault {
 
     fn from(_: AllocError) -> OpenFault {
         OpenFault::Memory
+    }
+}
+
+/// The fault of roads that failed.
+pub(crate) fn road_fault(error: RoadError) -> OpenFault
+    ensures { result ≡ road_fault error }
+{
+    match error {
+        RoadError::Memory => OpenFault::Memory,
+        RoadError::NotListening | RoadError::Failed => OpenFault::RoadFault,
+    }
+}
+
+/// The fault of a node's shelf that failed.
+pub(crate) fn shelf_fault(node: NodeId, error: FileError) -> OpenFault
+    ensures { result ≡ shelf_fault node error }
+{
+    match error {
+        FileError::Memory => OpenFault::Memory,
+        FileError::Absent | FileError::Failed => OpenFault::ShelfFault { node },
     }
 }

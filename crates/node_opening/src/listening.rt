@@ -4,8 +4,8 @@ ghost use Rattle.std.specs.Prelude.{◌≡◌, ◌≤◌, ◌<◌, ◌+◌, IfEr
 ghost use Rattle.hd_base.specs.declared.roads.TheConstants.{MAX_NODES};
 ghost use Rattle.node_opening.specs.Listening.{ListensAt, ListenAll, IsRoadFault};
 
-use crate::faults::OpenFault;
-use hd_base::{NodeId, RoadError, Roads};
+use crate::faults::{OpenFault, road_fault};
+use hd_base::{NodeId, Roads};
 use road_traffic::listen;
 use std::alloc::Global;
 
@@ -19,8 +19,7 @@ fn listen_at<R: Roads>(alloc: Global, roads: &mut R, node: NodeId) -> Result<(),
 {
     match listen(alloc, roads, node) {
         Ok(_) => Ok(()),
-        Err(RoadError::Memory) => Err(OpenFault::Memory),
-        Err(_) => Err(OpenFault::RoadFault),
+        Err(error) => Err(road_fault(error)),
     }
 }
 

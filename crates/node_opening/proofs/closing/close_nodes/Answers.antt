@@ -1,18 +1,57 @@
--- ..
-use Rattle.std.proofs.Common.{◌≡◌, ◌≤◌, ◌<◌, ◌+◌, ℕ, List, [], ◌∷◌, ◌++◌, length, refl, sym, ap, subst, ◌∙◌, arith}
+-- The last of the nodes that are left is closed.
+use Rattle.std.proofs.Common.{◌≡◌, ◌<◌, ℕ, List, [], Some, get_or, slice_get, slice_set, length, refl, sym, ap, subst, ◌∙◌, arith}
+use Rattle.play_nodes.specs.declared.nodes.NodeBooks.{NodeBooks}
+use Rattle.node_opening.specs.Closing.{NodesAreLentOut, NodesClose}
+use Rattle.node_opening.proofs.ListLemmas.{none_left, element_or}
+use Rattle.node_opening.proofs.CloseLemmas.{nodes_none, nodes_more, nodes_within, nodes_last, nodes_less}
 use Rattle.node_opening.proofs.closing.close_nodes.Goals as goal
 
 pub loop-node-init : goal.loop-node-init
-loop-node-init g c = ?
+loop-node-init g c = record { lent = c.requires; closes = λ end n. n }
 
 pub bounds-shelves-len : goal.bounds-shelves-len
-bounds-shelves-len g c = ?
+bounds-shelves-len g c =
+    let s = g.S.Shelf in
+    let at : c.len.result ≡ length c.pop.new.self.items = c.len.ensures ∙ c.pop.new.self.ok.0 in
+    let lent = subst (λ (ys : List (NodeBooks g.row.S-Drawer.Denot)). NodesAreLentOut s c.loop-node.shelves ys) c.in-Some.ensures.items c.loop-node.invariant.lent in
+    subst (λ (n : ℕ). n < length c.loop-node.shelves) (sym at) (nodes_within s c.pop.new.self.items c.in-Some.node c.loop-node.shelves lent)
 
 pub give_back_books-requires-after_bounds : goal.give_back_books-requires-after_bounds
-give_back_books-requires-after_bounds g c κs within = ?
+give_back_books-requires-after_bounds g c κs within =
+    let s = g.S.Shelf in
+    let xs = c.loop-node.shelves in
+    let nodes = c.pop.new.self.items in
+    let r = c.index-shelves-len.result in
+    let at : c.len.result ≡ length nodes = c.len.ensures ∙ c.pop.new.self.ok.0 in
+    let lent = subst (λ (ys : List (NodeBooks g.row.S-Drawer.Denot)). NodesAreLentOut s xs ys) c.in-Some.ensures.items c.loop-node.invariant.lent in
+    let below : c.len.result < length xs = subst (λ (n : ℕ). n < length xs) (sym at) (nodes_within s nodes c.in-Some.node xs lent) in
+    nodes_last s nodes c.in-Some.node xs (get_or xs c.len.result r) lent (subst (λ (n : ℕ). slice_get xs n ≡ Some (get_or xs c.len.result r)) at (element_or xs c.len.result r below))
 
 pub loop-node-preserved : goal.loop-node-preserved
-loop-node-preserved g c = ?
+loop-node-preserved g c =
+    let s = g.S.Shelf in
+    let d = g.S.Drawer.Files in
+    let xs = c.loop-node.shelves in
+    let nodes = c.pop.new.self.items in
+    let x = c.in-Some.node in
+    let r = c.index-shelves-len.result in
+    let a = get_or xs c.len.result r in
+    let b = c.give_back_books.new.shelf in
+    let items = c.in-Some.ensures.items in
+    let at : c.len.result ≡ length nodes = c.len.ensures ∙ c.pop.new.self.ok.0 in
+    let lent = subst (λ (ys : List (NodeBooks g.row.S-Drawer.Denot)). NodesAreLentOut s xs ys) items c.loop-node.invariant.lent in
+    let below : c.len.result < length xs = subst (λ (n : ℕ). n < length xs) (sym at) (nodes_within s nodes x xs lent) in
+    let here = subst (λ (n : ℕ). slice_get xs n ≡ Some (get_or xs c.len.result r)) at (element_or xs c.len.result r below) in
+    record {
+      lent = subst (λ (n : ℕ). NodesAreLentOut s (slice_set xs n b) nodes) (sym at) (nodes_less s nodes x xs b lent);
+      closes = λ end n. c.loop-node.invariant.closes end (subst (λ (ys : List (NodeBooks g.row.S-Drawer.Denot)). NodesClose s d ys xs end) (sym items)
+          (nodes_more s d nodes x xs end a b here c.give_back_books.ensures (subst (λ (m : ℕ). NodesClose s d nodes (slice_set xs m b) end) at n)));
+    }
 
 pub returns : goal.returns
-returns g c = ?
+returns g c =
+    let s = g.S.Shelf in
+    let d = g.S.Drawer.Files in
+    let xs = c.loop-node.shelves in
+    let none : length c.loop-node.nodes.items ≡ 0 = omega (arith, c.loop-node.nodes.ok.0, c.in_default.ensures.cases.0) in
+    c.loop-node.invariant.closes xs (subst (λ (ys : List (NodeBooks g.row.S-Drawer.Denot)). NodesClose s d ys xs xs) (sym (none_left c.loop-node.nodes.items none)) (nodes_none s d xs))
