@@ -1,5 +1,5 @@
 -- Books that are given back one by one, the last of them first.
-use Rattle.std.proofs.Common.{◌≡◌, ◌<◌, ◌≤◌, ◌+◌, ℕ, zero, suc, Bool, true, false, cond, List, [], ◌∷◌, ◌++◌, length, map, slice_get, slice_set, Option, Some, None, ◌⊎◌, inl, inr, refl, sym, ap, subst, ◌∙◌, arith, eqb-true, eq-eqb, length-set, length-append}
+use Rattle.std.proofs.Common.{◌≡◌, ◌<◌, ◌≤◌, ◌+◌, ℕ, zero, suc, Bool, true, false, cond, List, [], ◌∷◌, ◌++◌, length, slice_get, slice_set, Option, Some, ◌⊎◌, inl, inr, refl, sym, ap, subst, ◌∙◌, arith, eqb-true, eq-eqb, length-set, length-append}
 use Rattle.std.specs.Prelude.{◌||◌, ◌&&◌, not, ◌==◌, min, ◌^◌, ◌-◌}
 use Rattle.hd_base.specs.Faults.{CarriesFaults}
 use Rattle.hd_base.specs.FileMaps.{FileMap, both_observable, marked}

@@ -1,11 +1,10 @@
 -- Shelves whose names were listed.
-use Rattle.std.proofs.Common.{◌≡◌, ◌≢◌, ◌<◌, ◌≤◌, ◌+◌, ℕ, zero, suc, true, List, [], ◌∷◌, length, get_or, slice_get, Option, Some, None, IsSome, IfSome, Contains, ◌⊎◌, inl, inr, refl, sym, ap, subst, ◌∙◌, arith}
+use Rattle.std.proofs.Common.{◌≡◌, ◌<◌, ◌≤◌, ◌+◌, ℕ, zero, suc, Bool, true, List, [], ◌∷◌, length, get_or, slice_get, slice_set, Option, Some, None, IsSome, IfSome, Contains, ◌⊎◌, inl, inr, refl, sym, ap, subst, ◌∙◌, arith}
 use Rattle.std.specs.Ordering.{nat_cmp, is_lt}
 use Rattle.std.specs.Cmp.Lexicographic.{slice_cmp}
 use Rattle.hd_base.specs.FileMaps.{FileMap, no_files, AreNamesOf}
 use Rattle.node_opening.specs.Emptiness.{IsFirstName}
-use Rattle.std.specs.Prelude.{Result, Ok, Err}
-use Rattle.hd_base.specs.Faults.{FaultsIncreased}
+use Rattle.std.specs.Prelude.{Err}
 use Rattle.hd_base.specs.FileCauses.{MemoryCause}
 use Rattle.hd_base.specs.declared.files.FileError.{FileError}
 use Rattle.hd_base.specs.declared.files.FileError.TheVariants as file

@@ -1,9 +1,9 @@
 -- Blocks that are lent one by one, and books that are given back after a failure.
-use Rattle.std.proofs.Common.{◌≡◌, ◌<◌, ◌≤◌, ◌+◌, ℕ, zero, suc, Bool, true, false, cond, List, [], ◌∷◌, ◌++◌, length, slice_get, slice_set, Option, Some, None, option_map, ◌⊎◌, inl, inr, refl, sym, ap, subst, ◌∙◌, arith, eqb-true}
+use Rattle.std.proofs.Common.{◌≡◌, ◌<◌, ◌≤◌, ◌+◌, ℕ, zero, suc, Bool, true, false, cond, List, [], ◌∷◌, ◌++◌, length, slice_get, slice_set, Option, Some, option_map, ◌⊎◌, inl, inr, refl, sym, ap, subst, ◌∙◌, arith, eqb-true}
 use Rattle.std.proofs.lemmas.Bool.{cases_lt}
 use Rattle.std.specs.Prelude.{◌||◌, ◌&&◌, not, ◌==◌}
 use Rattle.hd_base.specs.Faults.{CarriesFaults}
-use Rattle.hd_base.specs.FileMaps.{FileMap, no_files, part_of, rest_of, both_observable, marked, OnlyOf}
+use Rattle.hd_base.specs.FileMaps.{FileMap, part_of, rest_of, both_observable, marked}
 use Rattle.hd_base.specs.declared.numbers.BlockId.{BlockId}
 use Rattle.hd_base.specs.declared.files.Files as files
 use Rattle.hd_base.specs.declared.shelves.Shelf as shelves
@@ -13,9 +13,9 @@ use Rattle.play_nodes.proofs.PlaceLaws.{element_within, same_some}
 use Rattle.replica_files.specs.declared.book_state.BookState.{BookState}
 use Rattle.replica_files.specs.Endings.{IsNew}
 use Rattle.node_opening.specs.Shelves.{is_among, AreDistinct, IsEmpty, HasLent, IsGivenBack, EachShelf, AllEmpty}
-use Rattle.node_opening.specs.Closing.{blocks_of, faults_of, files_with, AreLentOut, NodeCloses, NodesAreLentOut, NodesClose}
+use Rattle.node_opening.specs.Closing.{blocks_of, AreLentOut, NodeCloses, NodesAreLentOut, NodesClose}
 use Rattle.node_opening.specs.Lending.{IsNewBook, AreNewBooks, HasBooks, HaveBooks, IsLent, IsUnlent, IsLentNext, IsNodeLent}
-use Rattle.node_opening.proofs.ListLemmas.{UpTo, up_to_map, up_to_next, up_to_here, up_to_end, up_to_all, get_front, get_end}
+use Rattle.node_opening.proofs.ListLemmas.{UpTo, up_to_map, up_to_next, up_to_here, up_to_end, get_front, get_end}
 use Rattle.node_opening.proofs.ShelfLemmas.{among_more, empty_is, lent_none, given_none}
 use Rattle.node_opening.proofs.FileLemmas.{both_parts, part_none, rest_none, with_none}
 use Rattle.node_opening.proofs.CloseLemmas.{among_apart, blocks_end, same_eqb}

@@ -1,15 +1,14 @@
 -- Roads on which nodes listen.
-use Rattle.std.proofs.Common.{◌≡◌, ◌≤◌, ◌<◌, ◌+◌, ℕ, Bool, true, false, cond, [], option_map, Option, Some, refl, sym, ap, subst, ◌∙◌, arith}
-use Rattle.std.specs.Prelude.{◌==◌, ◌&&◌, nat_le, nat_lt, min, ◌^◌, ◌-◌}
+use Rattle.std.proofs.Common.{◌≡◌, ◌≤◌, ◌+◌, ℕ, Bool, true, false, cond, refl, sym, ◌∙◌, arith}
+use Rattle.std.specs.Prelude.{◌==◌, ◌&&◌, nat_le, nat_lt}
 use Rattle.std.proofs.lemmas.Bool.Decides.{nat_tests}
-use Rattle.hd_base.specs.Channels.{Plain, Carried, nothing_carried, empty_channel}
 use Rattle.hd_base.specs.Faults.{FaultsIncreased}
 use Rattle.hd_base.specs.declared.roads.Roads as roads
 use Rattle.hd_base.specs.declared.roads.TheConstants.{FIRST_PORT}
-use Rattle.road_traffic.specs.Showing.{Net, PlainShows, RoadsShow, listened_net}
+use Rattle.road_traffic.specs.Showing.{RoadsShow, listened_net}
 use Rattle.world_nets.specs.Starts.{IsUnused}
 use Rattle.node_opening.specs.Listening.{AreUnused, opened_net, ListensAt, ListenAll}
-use Rattle.std.specs.Prelude.{Result, Ok, Err}
+use Rattle.std.specs.Prelude.{Err}
 use Rattle.hd_base.specs.RoadCauses.{RoadCause}
 use Rattle.hd_base.specs.declared.ends.RoadError.{RoadError}
 use Rattle.hd_base.specs.declared.ends.RoadError.TheVariants as road

@@ -1,5 +1,5 @@
 -- Nodes that were opened show the first world.
-use Rattle.std.proofs.Common.{◌≡◌, ◌<◌, ◌≤◌, ℕ, zero, suc, List, [], ◌∷◌, length, map, slice_get, Option, Some, None, option_and_then, IsSome, refl, sym, ap, subst, ◌∙◌, arith}
+use Rattle.std.proofs.Common.{◌≡◌, ◌<◌, ℕ, zero, suc, List, [], ◌∷◌, length, slice_get, Option, Some, None, option_and_then, IsSome, refl, sym, ap, subst, ◌∙◌}
 use Rattle.hd_base.specs.declared.numbers.BlockId.{BlockId}
 use Rattle.hd_base.specs.declared.files.Files as files
 use Rattle.hd_base.specs.declared.links.LinkIn as link_in
@@ -7,7 +7,7 @@ use Rattle.hd_base.specs.declared.links.LinkOut as link_out
 use Rattle.hd_base.specs.declared.roads.Roads as roads
 use Rattle.hd_base.specs.declared.shelves.Shelf as shelves
 use Rattle.road_traffic.specs.Showing.{Net, RoadsShow}
-use Rattle.replica_model.specs.Rows.{FullReplica, nothing}
+use Rattle.replica_model.specs.Rows.{nothing}
 use Rattle.replica_model.specs.Histories.{replay, begun}
 use Rattle.replica_model.specs.declared.histories.Start.{Start}
 use Rattle.replica_model.specs.declared.histories.Entry.{Entry}
@@ -20,17 +20,16 @@ use Rattle.play_nodes.specs.declared.connections.Connection.{Connection}
 use Rattle.play_nodes.specs.Places.{book_at}
 use Rattle.play_nodes.specs.Showing.{NodesShow, NodesStand, ConnectionShows}
 use Rattle.play_nodes.proofs.Tables.{element}
-use Rattle.play_nodes.proofs.PlaceLaws.{element_within, same_some, book_found, book_missing}
-use Rattle.member_events.specs.Showing.{ShowsWorld}
+use Rattle.play_nodes.proofs.PlaceLaws.{element_within, same_some, book_found}
 use Rattle.world.specs.Worlds.{World, start}
 use Rattle.world_nets.specs.Starts.{StartsAreNets}
 use Rattle.node_opening.specs.Shelves.{AreDistinct}
 use Rattle.node_opening.specs.Closing.{blocks_of}
-use Rattle.node_opening.specs.Lending.{AreNewBooks, HasBooks, HaveBooks}
+use Rattle.node_opening.specs.Lending.{HasBooks, HaveBooks}
 use Rattle.node_opening.specs.Listening.{opened_net}
 use Rattle.node_opening.specs.Opening.{IsOpened}
 use Rattle.node_opening.proofs.ListenLemmas.{net_unused}
-use Rattle.std.specs.Prelude.{IfSome, option_map, Result, Ok, Err}
+use Rattle.std.specs.Prelude.{IfSome, option_map}
 use Rattle.hd_base.specs.FileMaps.{FileMap, no_files}
 use Rattle.node_opening.specs.declared.faults.OpenFault.{OpenFault}
 use Rattle.node_opening.specs.declared.faults.OpenFault.TheVariants as fault

@@ -1,5 +1,5 @@
 -- The last of the nodes that are left is closed.
-use Rattle.std.proofs.Common.{◌≡◌, ◌<◌, ℕ, List, [], Some, get_or, slice_get, slice_set, length, refl, sym, ap, subst, ◌∙◌, arith}
+use Rattle.std.proofs.Common.{◌≡◌, ◌<◌, ℕ, List, Some, get_or, slice_get, slice_set, length, sym, subst, ◌∙◌, arith}
 use Rattle.play_nodes.specs.declared.nodes.NodeBooks.{NodeBooks}
 use Rattle.node_opening.specs.Closing.{NodesAreLentOut, NodesClose}
 use Rattle.node_opening.proofs.ListLemmas.{none_left, element_or}
@@ -44,7 +44,7 @@ loop-node-preserved g c =
     let here = subst (λ (n : ℕ). slice_get xs n ≡ Some (get_or xs c.len.result r)) at (element_or xs c.len.result r below) in
     record {
       lent = subst (λ (n : ℕ). NodesAreLentOut s (slice_set xs n b) nodes) (sym at) (nodes_less s nodes x xs b lent);
-      closes = λ end n. c.loop-node.invariant.closes end (subst (λ (ys : List (NodeBooks g.row.S-Drawer.Denot)). NodesClose s d ys xs end) (sym items)
+      closes = λ end n. c.loop-node.invariant.closes end (subst (λ (ys : List (NodeBooks g.row.S-Drawer.Denot)). NodesClose s d ys xs end) (sym {A = List (NodeBooks g.row.S-Drawer.Denot)} items)
           (nodes_more s d nodes x xs end a b here c.give_back_books.ensures (subst (λ (m : ℕ). NodesClose s d nodes (slice_set xs m b) end) at n)));
     }
 

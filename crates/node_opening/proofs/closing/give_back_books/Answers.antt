@@ -1,5 +1,5 @@
 -- The last of the books that are left is given back.
-use Rattle.std.proofs.Common.{◌≡◌, List, [], length, refl, sym, ap, subst, ◌∙◌, arith}
+use Rattle.std.proofs.Common.{◌≡◌, List, length, sym, ap, subst, ◌∙◌, arith}
 use Rattle.hd_base.specs.declared.numbers.BlockId.{BlockId}
 use Rattle.replica_core.specs.declared.records.ReplicaRecord.{ReplicaRecord}
 use Rattle.replica_files.specs.declared.book_state.BookState.{BookState}
@@ -33,7 +33,7 @@ loop-book-preserved g c =
     let given = gives s d x a b c.block-block.result c.close_book-drawer.result.0 same c.close_book-drawer.ensures.drawer c.close_book-drawer.ensures.kept c.give_back.ensures.files c.give_back.ensures.lent c.give_back.ensures.count in
     record {
       lent = lent_less s xs x a b (subst (λ (ys : List (BookState g.row.S-Drawer.Denot)). AreLentOut s a ys) items c.loop-book.invariant.lent) given.lent;
-      closes = λ end n. c.loop-book.invariant.closes end (subst (λ (ys : List (BookState g.row.S-Drawer.Denot)). NodeCloses s d ys a end) (sym items) (close_more s d xs x a b end given n));
+      closes = λ end n. c.loop-book.invariant.closes end (subst (λ (ys : List (BookState g.row.S-Drawer.Denot)). NodeCloses s d ys a end) (sym {A = List (BookState g.row.S-Drawer.Denot)} items) (close_more s d xs x a b end given n));
     }
 
 pub returns : goal.returns

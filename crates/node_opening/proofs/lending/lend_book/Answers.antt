@@ -1,5 +1,5 @@
 -- A block was lent, or given back.
-use Rattle.std.proofs.Common.{◌≡◌, ℕ, Bool, Option, option_map, refl, sym, ap, subst, ◌∙◌}
+use Rattle.std.proofs.Common.{◌≡◌, ℕ, Bool, Option, option_map, sym, ap, subst, ◌∙◌}
 use Rattle.hd_base.specs.FileMaps.{FileMap, OnlyOf, part_of}
 use Rattle.node_opening.proofs.FileLemmas.{part_only}
 use Rattle.node_opening.proofs.LendLemmas.{unlent_none, unlent_back, lent_so, marked_here}

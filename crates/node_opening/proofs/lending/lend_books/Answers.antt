@@ -1,5 +1,5 @@
 -- One block more is lent, or all are given back.
-use Rattle.std.proofs.Common.{◌≡◌, ◌<◌, List, [], Some, get_or, slice_get, length, sym, subst}
+use Rattle.std.proofs.Common.{List, [], get_or, sym, subst}
 use Rattle.hd_base.specs.declared.numbers.BlockId.{BlockId}
 use Rattle.replica_files.specs.declared.book_state.BookState.{BookState}
 use Rattle.node_opening.specs.Lending.{HasBooks}

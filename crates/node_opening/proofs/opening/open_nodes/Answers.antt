@@ -1,5 +1,5 @@
 -- The nodes listen, their shelves are empty, and have lent all blocks; or one of these failed.
-use Rattle.std.proofs.Common.{List, Err, length, refl, sym, ap, subst, ◌∙◌}
+use Rattle.std.proofs.Common.{List, Err, refl, ap, subst, ◌∙◌}
 use Rattle.std.proofs.lemmas.Result.{err_from_is_err_and}
 use Rattle.hd_base.specs.declared.numbers.BlockId.{BlockId}
 use Rattle.node_opening.specs.Shelves.{EachShelf, IsGivenBack}
