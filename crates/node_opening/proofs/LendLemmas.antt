@@ -13,12 +13,17 @@ use Rattle.play_nodes.proofs.PlaceLaws.{element_within, same_some}
 use Rattle.replica_files.specs.declared.book_state.BookState.{BookState}
 use Rattle.replica_files.specs.Endings.{IsNew}
 use Rattle.node_opening.specs.Shelves.{is_among, AreDistinct, IsEmpty, HasLent, IsGivenBack, EachShelf, AllEmpty}
-use Rattle.node_opening.specs.Closing.{blocks_of, AreLentOut, NodeCloses, NodesAreLentOut, NodesClose}
+use Rattle.replica_files.specs.Books.{replica_of}
+use Rattle.replica_model.specs.Rows.{FullReplica, nothing}
+use Rattle.replica_model.specs.Histories.{replay, begun}
+use Rattle.replica_model.specs.declared.histories.Start.{Start}
+use Rattle.replica_model.specs.declared.histories.Entry.{Entry}
+use Rattle.node_opening.specs.Closing.{block_of, blocks_of, books_within, AreLentOut, TheyLend, NodesFit, NodeCloses, NodesClose}
 use Rattle.node_opening.specs.Lending.{IsNewBook, AreNewBooks, HasBooks, HaveBooks, IsLent, IsUnlent, IsLentNext, IsNodeLent}
 use Rattle.node_opening.proofs.ListLemmas.{UpTo, up_to_map, up_to_next, up_to_here, up_to_end, get_front, get_end}
 use Rattle.node_opening.proofs.ShelfLemmas.{among_more, empty_is, lent_none, given_none}
 use Rattle.node_opening.proofs.FileLemmas.{both_parts, part_none, rest_none, with_none}
-use Rattle.node_opening.proofs.CloseLemmas.{among_apart, blocks_end, same_eqb}
+use Rattle.node_opening.proofs.CloseLemmas.{among_apart, blocks_end, same_eqb, FoundAt, found_by, block_at, length_blocks}
 use Rattle.std.proofs.Common.{take, add-one, length-append, length-set}
 use Rattle.std.proofs.lemmas.List.{take_all}
 use Rattle.std.specs.Prelude.{Result, Ok, Err, IsErr}
@@ -63,6 +68,16 @@ module _ {S D : Type 0} (s : shelves.Ghosts S D) (d : files.Ghosts D) where
       least : (m k : ℕ) → k ≡ m → m ≤ k
       least m k e = omega arith
 
+-- NEW BOOKS
+
+pub new_replica : {D : Type 0} (x : BookState D) (block : BlockId) (drawer : D) → IsNew x block drawer → replica_of x ≡ nothing block
+new_replica x block drawer n =
+    ap (λ (es : List Entry). replay (begun x.block x.history.start) es) n.entries ∙
+    (ap (λ (s : Start). begun x.block s) n.start ∙ ap nothing n.of_block)
+
+pub new_block : {D : Type 0} (x : BookState D) (block : BlockId) (drawer : D) → IsNew x block drawer → block_of x ≡ block
+new_block x block drawer n = ap (λ (r : FullReplica). r.known.block) (new_replica x block drawer n)
+
 -- ONE NODE
 
 module _ {S D : Type 0} (s : shelves.Ghosts S D) (d : files.Ghosts D) where
@@ -97,7 +112,7 @@ module _ {S D : Type 0} (s : shelves.Ghosts S D) (d : files.Ghosts D) where
   books_more blocks block a b c books books' empty h n = record {
     has_lent = more_lent blocks block a b c n.book empty h.has_lent n.is_lent;
     are = subst (λ (xs : List (BookState D)). AreNewBooks s d a (blocks ++ block ∷ []) xs) (sym n.behind) (record {
-      blocks_are = blocks_end books n.book ∙ (ap (λ (q : BlockId). blocks_of books ++ q ∷ []) n.is_lent.absent.of_block ∙ ap (λ (bs : List BlockId). bs ++ block ∷ []) h.are.blocks_are);
+      blocks_are = blocks_end books n.book ∙ (ap (λ (q : BlockId). blocks_of books ++ q ∷ []) (new_block n.book block n.book.drawer n.is_lent.absent) ∙ ap (λ (bs : List BlockId). bs ++ block ∷ []) h.are.blocks_are);
       each = λ k y at. more_each a books n.book h.are.each (new_book block a b c n.book empty h.has_lent.files n.is_lent) k y (joined_or books (n.book ∷ []) k y at);
     });
   }
@@ -195,34 +210,43 @@ module _ {S D : Type 0} (s : shelves.Ghosts S D) (d : files.Ghosts D) where
       least : (n m : ℕ) → n ≡ m → m ≤ n
       least n m h = omega arith
 
-  -- The shelves of the nodes so far, beside one that was given back, have lent their blocks.
-  pub nodes_out : (blocks : List BlockId) (old new : List S) (nodes : List (NodeBooks D)) (b : S) → AreDistinct blocks → UpTo (HasNode blocks nodes) (length nodes) old new → length nodes < length new → length (slice_set new (length nodes) b) ≡ length new
-      → NodesAreLentOut s (slice_set new (length nodes) b) nodes
-  nodes_out blocks old new nodes b distinct u within same = record {
-    fewer = less (length nodes) (length new) (length (slice_set new (length nodes) b)) within same;
-    each = λ k q x at here.
-        let below = element_within nodes k x here in
-        let now = sym (set_there new (length nodes) b k (apart k (length nodes) below)) ∙ at in
-        let was = element old k (subst (λ (n : ℕ). k < n) u.count (element_within new k q now)) in
-        books_out s d blocks was.0 q x.books.items distinct (u.done k was.0 q below was.1 now x here);
-  }
+  -- The shelves of the nodes so far lend their blocks, whatever became of the next one.
+  pub nodes_lend : (blocks : List BlockId) (old new : List S) (nodes : List (NodeBooks D)) (b : S) → UpTo (HasNode blocks nodes) (length nodes) old new → TheyLend s blocks (length nodes) (slice_set new (length nodes) b)
+  nodes_lend blocks old new nodes b u = λ k q y below at h.
+      let x = element nodes k below in
+      let now = sym (set_there new (length nodes) b k (apart k (length nodes) below)) ∙ at in
+      let was = element old k (subst (λ (n : ℕ). k < n) u.count (element_within new k q now)) in
+      among_true s d (s.lent q y) (is_among blocks y) (s.lent was.0 y) ((u.done k was.0 q below was.1 now x.0 x.1).has_lent.lent y) h
     where
-      less : (n m k : ℕ) → n < m → k ≡ m → n ≤ k
-      less n m k h e = omega arith
-
       apart : (k n : ℕ) → k < n → k ≡ n → ⊥
       apart k n h e = omega arith
+
+  pub nodes_fit : (blocks : List BlockId) (old new : List S) (nodes : List (NodeBooks D)) → UpTo (HasNode blocks nodes) (length nodes) old new → length nodes ≤ length new → NodesFit blocks nodes
+  nodes_fit blocks old new nodes u fewer = λ node place block x at is.
+      let f : FoundAt nodes node place x = found_by nodes node place x (slice_get nodes node) refl is in
+      let below = element_within nodes node f.at f.here in
+      let q = element new node (within node below fewer) in
+      let was = element old node (subst (λ (n : ℕ). node < n) u.count (element_within new node q.0 q.1)) in
+      let h = u.done node was.0 q.0 below was.1 q.1 f.at f.here in
+      same_some (block_of x) block (sym (block_at f.at.books.items place x f.there) ∙ (ap (λ (bs : List BlockId). slice_get bs place) h.are.blocks_are ∙ at))
+    where
+      within : (k : ℕ) → k < length nodes → length nodes ≤ length new → k < length new
+      within k h e = omega arith
 
   among_false : (p q r : Bool) → p ≡ (q || r) → q ≡ false → r ≡ false → p ≡ false
   among_false p true r e h k = cc
   among_false p false r e h k = e ∙ k
 
-  back_one : (blocks : List BlockId) (a b c : S) (x : NodeBooks D) → IsEmpty s a → HasBooks s d blocks a b x.books.items → NodeCloses s d x.books.items b c → IsGivenBack s a c
+  back_one : (blocks : List BlockId) (a b c : S) (x : NodeBooks D) → IsEmpty s a → HasBooks s d blocks a b x.books.items → NodeCloses s d (books_within (length blocks) x) b c → IsGivenBack s a c
   back_one blocks a b c x empty h n =
-      books_back s d blocks a b c x.books.items empty h.has_lent.files (λ y out none. among_false (s.lent b y) (is_among blocks y) (s.lent a y) (h.has_lent.lent y) out none) h.has_lent.never_falls h.are n
+      let whole : NodeCloses s d x.books.items b c = subst (λ (bs : List (BookState D)). NodeCloses s d bs b c) (take_all (length blocks) x.books.items (few (length_blocks x.books.items) (ap length h.are.blocks_are))) n in
+      books_back s d blocks a b c x.books.items empty h.has_lent.files (λ y out none. among_false (s.lent b y) (is_among blocks y) (s.lent a y) (h.has_lent.lent y) out none) h.has_lent.never_falls h.are whole
+    where
+      few : length (blocks_of x.books.items) ≡ length x.books.items → length (blocks_of x.books.items) ≡ length blocks → length x.books.items ≤ length blocks
+      few p q = omega arith
 
   back_each : (blocks : List BlockId) (old new end : List S) (nodes : List (NodeBooks D)) (a b : S) → AllEmpty s old → UpTo (HasNode blocks nodes) (length nodes) old new → slice_get new (length nodes) ≡ Some a → IsGivenBack s a b
-      → NodesClose s d nodes (slice_set new (length nodes) b) end → (k : ℕ) (p q : S) → slice_get old k ≡ Some p → slice_get end k ≡ Some q → ((k ≡ length nodes) ⊎ (k ≡ length nodes → ⊥)) → ((k < length nodes) ⊎ (length nodes ≤ k)) → IsGivenBack s p q
+      → NodesClose s d (length blocks) nodes (slice_set new (length nodes) b) end → (k : ℕ) (p q : S) → slice_get old k ≡ Some p → slice_get end k ≡ Some q → ((k ≡ length nodes) ⊎ (k ≡ length nodes → ⊥)) → ((k < length nodes) ⊎ (length nodes ≤ k)) → IsGivenBack s p q
   back_each blocks old new end nodes a b empty u at g n k p q was is (inl same) side =
       let is_a : a ≡ p = same_some a p (sym at ∙ (u.rest (length nodes) (omega arith) ∙ (ap (slice_get old) (sym same) ∙ was))) in
       let is_b : b ≡ q = same_some b q (sym (set_here new (length nodes) a b at) ∙ (sym (n.others (length nodes) (omega arith)) ∙ (ap (slice_get end) (sym same) ∙ is))) in
@@ -236,7 +260,7 @@ module _ {S D : Type 0} (s : shelves.Ghosts S D) (d : files.Ghosts D) where
 
   -- After a failure each shelf was given back what it lent.
   pub nodes_back : (blocks : List BlockId) (old new end : List S) (nodes : List (NodeBooks D)) (a b : S) → AllEmpty s old → UpTo (HasNode blocks nodes) (length nodes) old new → slice_get new (length nodes) ≡ Some a → IsGivenBack s a b
-      → length (slice_set new (length nodes) b) ≡ length new → NodesClose s d nodes (slice_set new (length nodes) b) end → EachShelf (IsGivenBack s) old end
+      → length (slice_set new (length nodes) b) ≡ length new → NodesClose s d (length blocks) nodes (slice_set new (length nodes) b) end → EachShelf (IsGivenBack s) old end
   nodes_back blocks old new end nodes a b empty u at g same n = record {
     count = n.count ∙ (same ∙ u.count);
     each = λ k p q was is. back_each blocks old new end nodes a b empty u at g n k p q was is (same_or k (length nodes)) (cases_lt k (length nodes));
@@ -300,17 +324,24 @@ module _ {S D : Type 0} (s : shelves.Ghosts S D) (d : files.Ghosts D) where
   pub nodes_whole : (blocks : List BlockId) (n : ℕ) (old new : List S) (nodes : List (NodeBooks D)) → NodesUpTo blocks n old new nodes → n ≡ length old → HaveBooks s d blocks old new nodes
   nodes_whole blocks n old new nodes u e = nodes_all s d blocks old new nodes u.lent (u.count ∙ e)
 
-  pub nodes_fail_out : (blocks : List BlockId) (n : ℕ) (old new : List S) (nodes nodes' : List (NodeBooks D)) (a b : S) → AreDistinct blocks → NodesUpTo blocks n old new nodes → slice_get new n ≡ Some a → nodes' ≡ nodes → NodesAreLentOut s (slice_set new n b) nodes'
-  nodes_fail_out blocks n old new nodes nodes' a b distinct u at same =
-      let within : length nodes < length new = subst (λ (m : ℕ). m < length new) (sym u.count) (element_within new n a at) in
-      subst (λ (xs : List (NodeBooks D)). NodesAreLentOut s (slice_set new n b) xs) (sym same)
-      (subst (λ (m : ℕ). NodesAreLentOut s (slice_set new m b) nodes) u.count (nodes_out s d blocks old new nodes b distinct u.lent within (length-set new (length nodes) b)))
+  pub nodes_fail_lend : (blocks : List BlockId) (n : ℕ) (old new : List S) (nodes nodes' : List (NodeBooks D)) (b : S) → NodesUpTo blocks n old new nodes → nodes' ≡ nodes → TheyLend s blocks (length nodes') (slice_set new n b)
+  nodes_fail_lend blocks n old new nodes nodes' b u same =
+      subst (λ (xs : List (NodeBooks D)). TheyLend s blocks (length xs) (slice_set new n b)) (sym same)
+      (subst (λ (m : ℕ). TheyLend s blocks (length nodes) (slice_set new m b)) u.count (nodes_lend s d blocks old new nodes b u.lent))
+
+  pub nodes_fail_fit : (blocks : List BlockId) (n : ℕ) (old new : List S) (nodes nodes' : List (NodeBooks D)) (a : S) → NodesUpTo blocks n old new nodes → slice_get new n ≡ Some a → nodes' ≡ nodes → NodesFit blocks nodes'
+  nodes_fail_fit blocks n old new nodes nodes' a u at same =
+      subst (λ (xs : List (NodeBooks D)). NodesFit blocks xs) (sym same)
+      (nodes_fit s d blocks old new nodes u.lent (less (length nodes) n (length new) u.count (element_within new n a at)))
+    where
+      less : (k n m : ℕ) → k ≡ n → n < m → k ≤ m
+      less k n m e h = omega arith
 
   pub nodes_fail_back : (blocks : List BlockId) (n : ℕ) (old new end : List S) (nodes nodes' : List (NodeBooks D)) (a b : S) → AllEmpty s old → NodesUpTo blocks n old new nodes → slice_get new n ≡ Some a → IsGivenBack s a b × (nodes' ≡ nodes)
-      → NodesClose s d nodes' (slice_set new n b) end → EachShelf (IsGivenBack s) old end
+      → NodesClose s d (length blocks) nodes' (slice_set new n b) end → EachShelf (IsGivenBack s) old end
   nodes_fail_back blocks n old new end nodes nodes' a b empty u at g c =
       nodes_back s d blocks old new end nodes a b empty u.lent (ap (slice_get new) u.count ∙ at) g.0 (length-set new (length nodes) b)
-      (subst (λ (m : ℕ). NodesClose s d nodes (slice_set new m b) end) (sym u.count) (subst (λ (xs : List (NodeBooks D)). NodesClose s d xs (slice_set new n b) end) g.1 c))
+      (subst (λ (m : ℕ). NodesClose s d (length blocks) nodes (slice_set new m b) end) (sym u.count) (subst (λ (xs : List (NodeBooks D)). NodesClose s d (length blocks) xs (slice_set new n b) end) g.1 c))
 
   -- A shelf that is to lend is one of those that were there first.
   pub next_empty : (blocks : List BlockId) (n : ℕ) (old new : List S) (nodes : List (NodeBooks D)) (a : S) → AllEmpty s old → NodesUpTo blocks n old new nodes → slice_get new n ≡ Some a → IsEmpty s a

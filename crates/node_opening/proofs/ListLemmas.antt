@@ -15,6 +15,15 @@ get_take [] (suc n) k a h = cc
 get_take (x ∷ xs) (suc n) zero a h = h
 get_take (x ∷ xs) (suc n) (suc k) a h = get_take xs n k a h
 
+pub get_within : {A : Type 0} (xs : List A) (n k : ℕ) → k < n → slice_get (take n xs) k ≡ slice_get xs k
+get_within xs zero k h = absurd (none h)
+  where
+    none : k < 0 → ⊥
+    none h = omega arith
+get_within [] (suc n) k h = refl
+get_within (x ∷ xs) (suc n) zero h = refl
+get_within (x ∷ xs) (suc n) (suc k) h = get_within xs n k (omega arith)
+
 pub take_next : {A : Type 0} (xs : List A) (k : ℕ) (x : A) → slice_get xs k ≡ Some x → take (suc k) xs ≡ take k xs ++ x ∷ []
 take_next [] k x h = cc
 take_next {A} (a ∷ xs) zero x h = ap (λ (y : A). y ∷ []) (same_some a x h)

@@ -7,7 +7,8 @@ use Rattle.hd_base.specs.declared.links.LinkOut as link_out
 use Rattle.hd_base.specs.declared.roads.Roads as roads
 use Rattle.hd_base.specs.declared.shelves.Shelf as shelves
 use Rattle.road_traffic.specs.Showing.{Net, RoadsShow}
-use Rattle.replica_model.specs.Rows.{nothing}
+use Rattle.std.specs.Prelude.{Bool, true, false, ◌||◌}
+use Rattle.replica_model.specs.Rows.{FullReplica, nothing}
 use Rattle.replica_model.specs.Histories.{replay, begun}
 use Rattle.replica_model.specs.declared.histories.Start.{Start}
 use Rattle.replica_model.specs.declared.histories.Entry.{Entry}
@@ -24,7 +25,9 @@ use Rattle.play_nodes.proofs.PlaceLaws.{element_within, same_some, book_found}
 use Rattle.world.specs.Worlds.{World, start}
 use Rattle.world_nets.specs.Starts.{StartsAreNets}
 use Rattle.node_opening.specs.Shelves.{AreDistinct}
-use Rattle.node_opening.specs.Closing.{blocks_of}
+use Rattle.node_opening.specs.Closing.{block_of, blocks_of, TheyLend, NodesFit}
+use Rattle.node_opening.proofs.CloseLemmas.{FoundAt, found_by, block_at}
+use Rattle.node_opening.proofs.LendLemmas.{new_replica, new_block}
 use Rattle.node_opening.specs.Lending.{HasBooks, HaveBooks}
 use Rattle.node_opening.specs.Listening.{opened_net}
 use Rattle.node_opening.specs.Opening.{IsOpened}
@@ -33,7 +36,7 @@ use Rattle.std.specs.Prelude.{IfSome, option_map}
 use Rattle.hd_base.specs.FileMaps.{FileMap, no_files}
 use Rattle.node_opening.specs.declared.faults.OpenFault.{OpenFault}
 use Rattle.node_opening.specs.declared.faults.OpenFault.TheVariants as fault
-use Rattle.node_opening.specs.Shelves.{HasLent, IsGivenBack, EachShelf, AllEmpty}
+use Rattle.node_opening.specs.Shelves.{is_among, HasLent, IsGivenBack, EachShelf, AllEmpty}
 use Rattle.node_opening.specs.Emptiness.{IsFaultOf}
 use Rattle.node_opening.specs.Listening.{IsRoadFault}
 use Rattle.node_opening.specs.Opening.{HasOpenCause}
@@ -42,30 +45,10 @@ use Rattle.node_opening.proofs.ShelfLemmas.{lent_after, given_none, given_lent, 
 
 -- BOOKS
 
-new_replica : {D : Type 0} (x : BookState D) (block : BlockId) (drawer : D) → IsNew x block drawer → replica_of x ≡ nothing block
-new_replica x block drawer n =
-    ap (λ (es : List Entry). replay (begun x.block x.history.start) es) n.entries ∙
-    (ap (λ (s : Start). begun x.block s) n.start ∙ ap nothing n.of_block)
-
-block_at : {D : Type 0} (books : List (BookState D)) (k : ℕ) (x : BookState D) → slice_get books k ≡ Some x → slice_get (blocks_of books) k ≡ Some x.block
-block_at [] k x h = cc
-block_at (y ∷ books) zero x h = ap (λ q. Some q.block) (same_some y x h)
-block_at (y ∷ books) (suc k) x h = block_at books k x h
-
 place_at : {D : Type 0} (books : List (BookState D)) (k : ℕ) (block : BlockId) → slice_get (blocks_of books) k ≡ Some block → IsSome (slice_get books k)
 place_at [] k block h = cc
 place_at (y ∷ books) zero block h = refl
 place_at (y ∷ books) (suc k) block h = place_at books k block h
-
--- What the book at a place is of, where the place is within the books of a node.
-pub record FoundAt {D : Type 0} (nodes : List (NodeBooks D)) (node place : ℕ) (book : BookState D) : Type 0 where
-  pub at : NodeBooks D
-  pub here : slice_get nodes node ≡ Some at
-  pub there : slice_get at.books.items place ≡ Some book
-
-found_by : {D : Type 0} (nodes : List (NodeBooks D)) (node place : ℕ) (book : BookState D) (x : Option (NodeBooks D)) → slice_get nodes node ≡ x → option_and_then (λ y. slice_get y.books.items place) x ≡ Some book → FoundAt nodes node place book
-found_by nodes node place book None e h = cc
-found_by nodes node place book (Some y) e h = record { at = y; here = e; there = h }
 
 module _ {S D : Type 0} (s : shelves.Ghosts S D) (d : files.Ghosts D) where
   books_new : (blocks : List BlockId) (old new : List S) (nodes : List (NodeBooks D)) → HaveBooks s d blocks old new nodes → (node : ℕ) (x : NodeBooks D) → slice_get nodes node ≡ Some x
@@ -82,8 +65,9 @@ module _ {S D : Type 0} (s : shelves.Ghosts S D) (d : files.Ghosts D) where
   book_replica blocks old new nodes h node place block book at is =
       let f : FoundAt nodes node place book = found_by nodes node place book (slice_get nodes node) refl is in
       let n = books_new blocks old new nodes h node f.at f.here in
-      let same : book.block ≡ block = same_some book.block block (sym (block_at f.at.books.items place book f.there) ∙ (ap (λ (bs : List BlockId). slice_get bs place) n.0 ∙ at)) in
-      new_replica book book.block book.drawer (n.1 place book f.there) ∙ ap nothing same
+      let same : block_of book ≡ block = same_some (block_of book) block (sym (block_at f.at.books.items place book f.there) ∙ (ap (λ (bs : List BlockId). slice_get bs place) n.0 ∙ at)) in
+      let fresh = n.1 place book f.there in
+      new_replica book book.block book.drawer fresh ∙ ap nothing (sym (new_block book book.block book.drawer fresh) ∙ same)
 
   book_there : (blocks : List BlockId) (old new : List S) (nodes : List (NodeBooks D)) → HaveBooks s d blocks old new nodes → (node place : ℕ) (block : BlockId) → node < length old → slice_get blocks place ≡ Some block → IsSome (book_at nodes node place)
   book_there blocks old new nodes h node place block within at =
@@ -173,3 +157,32 @@ module _ {R I O S D : Type 0} (r : roads.Ghosts R I O) (s : shelves.Ghosts S D) 
 
   pub cause_memory : (road road' : R) (old new : List S) (why : OpenFault) → why ≡ fault.Memory → HasOpenCause r s road road' old new why
   cause_memory road road' old new why e = subst (λ (q : OpenFault). HasOpenCause r s road road' old new q) (sym e) tt
+
+-- THE WHOLE
+
+module _ {S D I O : Type 0} (s : shelves.Ghosts S D) (d : files.Ghosts D) where
+  pub opened : (blocks : List BlockId) (old mid new : List S) (n : Nodes D I O) → n.blocks.items ≡ blocks → n.connections.items ≡ [] → EachShelf (HasLent s []) old mid × AllEmpty s old → HaveBooks s d blocks mid new n.nodes.items → IsOpened s d blocks old new n
+  opened blocks old mid new n same none checked h = record {
+    blocks_are = same;
+    none_dialled = none;
+    empty = checked.1;
+    have_books = books_after s d blocks old mid new n.nodes.items checked.0 h;
+  }
+
+  -- The shelves of opened nodes lend the blocks.
+  pub opened_lend : (blocks : List BlockId) (old new : List S) (n : Nodes D I O) (nodes : ℕ) → IsOpened s d blocks old new n → TheyLend s blocks nodes new
+  opened_lend blocks old new n nodes h = λ k b y within at among.
+      let books = h.have_books in
+      let below : k < length old = subst (λ (m : ℕ). k < m) books.shelves_stay (element_within new k b at) in
+      let a = element old k below in
+      let x = element n.nodes.items k (subst (λ (m : ℕ). k < m) (sym books.count) below) in
+      lent_of (s.lent b y) (is_among blocks y) (s.lent a.0 y) ((books.each k a.0 b x.0 a.1 at x.1).has_lent.lent y) among
+    where
+      lent_of : (p q r : Bool) → p ≡ (q || r) → q ≡ true → p ≡ true
+      lent_of p true r e m = e
+      lent_of p false r e m = cc
+
+  -- Their books are of the blocks at their places.
+  pub opened_fit : (blocks : List BlockId) (old new : List S) (n : Nodes D I O) → IsOpened s d blocks old new n → NodesFit blocks n.nodes.items
+  opened_fit blocks old new n h = λ node place block x at is.
+      ap (λ (r : FullReplica). r.known.block) (book_replica s d blocks old new n.nodes.items h.have_books node place block x at is)

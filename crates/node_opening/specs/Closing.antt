@@ -1,17 +1,23 @@
 -- Books are closed, and their drawers given back.
-use Rattle.std.specs.Prelude.{◌≡◌, ◌≤◌, ◌+◌, ◌&&◌, not, ℕ, true, List, [], ◌∷◌, length, map, slice_get, Option, Some}
+use Rattle.std.specs.Prelude.{◌≡◌, ◌<◌, ◌≤◌, ◌+◌, ◌&&◌, not, ℕ, true, List, [], ◌∷◌, length, map, take, slice_get, Option, Some}
 use Rattle.hd_base.specs.Faults.{CarriesFaults}
 use Rattle.hd_base.specs.FileMaps.{FileMap, both_observable}
 use Rattle.hd_base.specs.declared.numbers.BlockId.{BlockId}
 use Rattle.hd_base.specs.declared.files.Files as files
 use Rattle.hd_base.specs.declared.shelves.Shelf as shelves
 use Rattle.play_nodes.specs.declared.nodes.NodeBooks.{NodeBooks}
+use Rattle.play_nodes.specs.Places.{book_at}
+use Rattle.replica_files.specs.Books.{replica_of}
 use Rattle.replica_files.specs.declared.book_state.BookState.{BookState}
 use Rattle.node_opening.specs.Shelves.{is_among, AreDistinct}
 
--- the blocks of books
+-- the block of a book's replica
+abbrev pub block_of : {D : Type 0} → BookState D → BlockId
+block_of x = (replica_of x).known.block
+
+-- those of books
 abbrev pub blocks_of : {D : Type 0} → List (BookState D) → List BlockId
-blocks_of books = map (λ x. x.block) books
+blocks_of books = map (λ x. block_of x) books
 
 -- The books are of blocks that are apart, and that the shelf has lent.
 pub record AreLentOut {S D : Type 0} (s : shelves.Ghosts S D) (shelf : S) (books : List (BookState D)) : Type 0 where
@@ -37,18 +43,27 @@ pub record NodeCloses {S D : Type 0} (s : shelves.Ghosts S D) (d : files.Ghosts 
 
 -- ALL NODES
 
--- There is a shelf for each node, which has lent the blocks of the node's books.
-pub record NodesAreLentOut {S D : Type 0} (s : shelves.Ghosts S D) (xs : List S) (nodes : List (NodeBooks D)) : Type 0
-  where
-    pub fewer : length nodes ≤ length xs
-    pub each : (k : ℕ) (a : S) (x : NodeBooks D) → slice_get xs k ≡ Some a → slice_get nodes k ≡ Some x →
-        AreLentOut s a x.books.items
+-- The shelves of so many nodes lend these blocks.
+abbrev pub TheyLend : {S D : Type 0} → shelves.Ghosts S D → List BlockId → ℕ → List S → Type 0
+TheyLend {S} s blocks nodes xs = (k : ℕ) (a : S) (b : ℕ) → k < nodes → slice_get xs k ≡ Some a →
+    is_among blocks b ≡ true
+    → s.lent a b ≡ true
+
+-- Each book at the place of a block is of that block.
+abbrev pub NodesFit : {D : Type 0} → List BlockId → List (NodeBooks D) → Type 0
+NodesFit {D} blocks nodes = (node place : ℕ) (block : BlockId) (x : BookState D) → slice_get blocks place ≡ Some block →
+    book_at nodes node place ≡ Some x
+    → block_of x ≡ block
+
+-- the books of a node at so many places
+abbrev pub books_within : {D : Type 0} → ℕ → NodeBooks D → List (BookState D)
+books_within places x = take places x.books.items
 
 -- The shelf of each node has the files of its books back, and the shelves beyond are as they were.
-pub record NodesClose {S D : Type 0} (s : shelves.Ghosts S D) (d : files.Ghosts D) (nodes : List (NodeBooks D))
-    (old new : List S) : Type 0 where
+pub record NodesClose {S D : Type 0} (s : shelves.Ghosts S D) (d : files.Ghosts D) (places : ℕ)
+    (nodes : List (NodeBooks D)) (old new : List S) : Type 0 where
   pub count : length new ≡ length old
   pub each : (k : ℕ) (a b : S) (x : NodeBooks D) → slice_get old k ≡ Some a → slice_get new k ≡ Some b →
       slice_get nodes k ≡ Some x
-      → NodeCloses s d x.books.items a b
+      → NodeCloses s d (books_within places x) a b
   pub others : (k : ℕ) → length nodes ≤ k → slice_get new k ≡ slice_get old k

@@ -97,7 +97,7 @@ pub(crate) fn lend_all<S: Shelf>(
     let mut nodes = Vec::new(alloc);
     for node in 0..shelves.len() {
         if let Err(error) = lend_node(alloc, &mut shelves[node], blocks, &mut nodes) {
-            close_nodes(nodes, shelves);
+            close_nodes(blocks, nodes, shelves);
             return Err(error);
         }
     }

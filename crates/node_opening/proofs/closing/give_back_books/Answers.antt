@@ -3,7 +3,7 @@ use Rattle.std.proofs.Common.{◌≡◌, List, length, sym, ap, subst, ◌∙◌
 use Rattle.hd_base.specs.declared.numbers.BlockId.{BlockId}
 use Rattle.replica_core.specs.declared.records.ReplicaRecord.{ReplicaRecord}
 use Rattle.replica_files.specs.declared.book_state.BookState.{BookState}
-use Rattle.node_opening.specs.Closing.{AreLentOut, NodeCloses}
+use Rattle.node_opening.specs.Closing.{block_of, AreLentOut, NodeCloses}
 use Rattle.node_opening.proofs.ListLemmas.{none_left}
 use Rattle.node_opening.proofs.CloseLemmas.{book_block, gives, close_none, close_more, lent_last, lent_less}
 use Rattle.node_opening.proofs.closing.give_back_books.Goals as goal
@@ -17,7 +17,7 @@ give_back-requires g c =
     let x = c.in-Some.book in
     let a = c.loop-book.shelf in
     let xs = c.pop.new.self.items in
-    let same : c.block-block.result ≡ x.block = c.block-block.ensures ∙ (ap (λ (r : ReplicaRecord). r.block) c.replica.ensures.replica ∙ book_block g.S.Drawer.Files x c.replica.ensures.kept) in
+    let same : c.block-block.result ≡ block_of x = c.block-block.ensures ∙ (ap (λ (r : ReplicaRecord). r.block) c.replica.ensures.replica ∙ book_block g.S.Drawer.Files x c.replica.ensures.kept) in
     ap (λ (b : BlockId). s.lent a b.0) same ∙ lent_last s xs x a (subst (λ (ys : List (BookState g.row.S-Drawer.Denot)). AreLentOut s a ys) c.in-Some.ensures.items c.loop-book.invariant.lent)
 
 pub loop-book-preserved : goal.loop-book-preserved
@@ -29,7 +29,7 @@ loop-book-preserved g c =
     let b = c.give_back.new.self in
     let xs = c.pop.new.self.items in
     let items = c.in-Some.ensures.items in
-    let same : c.block-block.result ≡ x.block = c.block-block.ensures ∙ (ap (λ (r : ReplicaRecord). r.block) c.replica.ensures.replica ∙ book_block d x c.replica.ensures.kept) in
+    let same : c.block-block.result ≡ block_of x = c.block-block.ensures ∙ (ap (λ (r : ReplicaRecord). r.block) c.replica.ensures.replica ∙ book_block d x c.replica.ensures.kept) in
     let given = gives s d x a b c.block-block.result c.close_book-drawer.result.0 same c.close_book-drawer.ensures.drawer c.close_book-drawer.ensures.kept c.give_back.ensures.files c.give_back.ensures.lent c.give_back.ensures.count in
     record {
       lent = lent_less s xs x a b (subst (λ (ys : List (BookState g.row.S-Drawer.Denot)). AreLentOut s a ys) items c.loop-book.invariant.lent) given.lent;

@@ -6,7 +6,7 @@ use Rattle.node_opening.specs.Shelves.{EachShelf, IsGivenBack}
 use Rattle.node_opening.specs.Lending.{HaveBooks}
 use Rattle.node_opening.specs.Opening.{IsOpened, HasOpenCause}
 use Rattle.node_opening.proofs.ListLemmas.{if_err, on_err}
-use Rattle.node_opening.proofs.OpenLemmas.{first_stand, still_empty, books_after, given_same, given_checked, given_both, cause_road, cause_shelf, cause_memory}
+use Rattle.node_opening.proofs.OpenLemmas.{opened, first_stand, still_empty, books_after, given_same, given_checked, given_both, cause_road, cause_shelf, cause_memory}
 use Rattle.node_opening.proofs.opening.open_nodes.Goals as goal
 
 pub returns-in_err-listen_all-clause-cause : goal.returns-in_err-listen_all-clause-cause
@@ -62,28 +62,10 @@ returns-clause-opened g c =
     let d = g.S.Drawer.Files in
     let mid = c.check_all.new.shelves in
     let new = c.lend_all.new.shelves in
-    let nodes = c.in_ok-nodes.nodes.items in
-    record {
-      blocks_are = refl;
-      none_dialled = c.new.ensures.items;
-      empty = c.in_ok-check_all.ensures.1;
-      have_books = books_after s d c.args.blocks.items c.args.shelves.now mid new nodes c.in_ok-check_all.ensures.0
-          (subst (λ (bs : List BlockId). HaveBooks s d bs mid new nodes) c.deref.ensures.value c.in_ok-nodes.ensures.lent);
-    }
+    opened s d c.args.blocks.items c.args.shelves.now mid new (record { blocks = c.args.blocks; connections = c.new.result; nodes = c.in_ok-nodes.nodes }) refl c.new.ensures.items c.in_ok-check_all.ensures
+    (subst (λ (bs : List BlockId). HaveBooks s d bs mid new c.in_ok-nodes.nodes.items) c.deref.ensures.value c.in_ok-nodes.ensures.lent)
 
 pub returns-clause-stands : goal.returns-clause-stands
 returns-clause-stands g c = λ unused.
-    let s = g.S.Shelf in
-    let d = g.S.Drawer.Files in
-    let mid = c.check_all.new.shelves in
-    let new = c.lend_all.new.shelves in
-    let nodes = c.in_ok-nodes.nodes.items in
-    let opened : IsOpened s d c.args.blocks.items c.args.shelves.now new (record { blocks = c.args.blocks; connections = c.new.result; nodes = c.in_ok-nodes.nodes }) = record {
-      blocks_are = refl;
-      none_dialled = c.new.ensures.items;
-      empty = c.in_ok-check_all.ensures.1;
-      have_books = books_after s d c.args.blocks.items c.args.shelves.now mid new nodes c.in_ok-check_all.ensures.0
-          (subst (λ (bs : List BlockId). HaveBooks s d bs mid new nodes) c.deref.ensures.value c.in_ok-nodes.ensures.lent);
-    } in
-    first_stand s d g.R.Roads g.R.Inward.LinkIn g.R.Outward.LinkOut c.starts_are_nets.ensures c.args.blocks.items c.args.shelves.now new (record { blocks = c.args.blocks; connections = c.new.result; nodes = c.in_ok-nodes.nodes }) c.listen_all.new.roads
-    c.requires.distinct opened (c.in_ok-listen_all.ensures.shows unused)
+    first_stand g.S.Shelf g.S.Drawer.Files g.R.Roads g.R.Inward.LinkIn g.R.Outward.LinkOut c.starts_are_nets.ensures c.args.blocks.items c.args.shelves.now c.lend_all.new.shelves
+    (record { blocks = c.args.blocks; connections = c.new.result; nodes = c.in_ok-nodes.nodes }) c.listen_all.new.roads c.requires.distinct (returns-clause-opened g c) (c.in_ok-listen_all.ensures.shows unused)
