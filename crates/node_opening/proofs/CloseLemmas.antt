@@ -14,7 +14,7 @@ use Rattle.play_nodes.proofs.PlaceLaws.{element_within, same_some, book_found}
 use Rattle.replica_files.specs.declared.book_state.BookState.{BookState}
 use Rattle.node_opening.specs.Shelves.{is_among, AreDistinct}
 use Rattle.node_opening.specs.Closing.{block_of, blocks_of, faults_of, files_with, books_within, AreLentOut, TheyLend, NodesFit, NodeCloses, NodesClose}
-use Rattle.node_opening.proofs.ListLemmas.{get_front, get_end, get_take, get_within}
+use Rattle.node_opening.proofs.ListLemmas.{get_front, get_end, get_take, get_within, none_left}
 use Rattle.node_opening.proofs.ShelfLemmas.{among_more}
 use Rattle.node_opening.proofs.FileLemmas.{with_end}
 use Rattle.hd_base.specs.FileMaps.{OnlyOf}
@@ -303,6 +303,10 @@ module _ {S D : Type 0} (s : shelves.Ghosts S D) where
       less : length (take (length xs) nodes) ≡ min (length xs) (length nodes) → length (take (length xs) nodes) ≤ length xs
       less e = omega arith
 
+  pub fit_start : (blocks : List BlockId) (nodes nodes' : List (NodeBooks D)) (xs : List S) → nodes' ≡ take (length xs) nodes → AreDistinct blocks → TheyLend s blocks (length nodes) xs → NodesFit blocks nodes → NodesAreLentOut s (length blocks) xs nodes'
+  fit_start blocks nodes nodes' xs e distinct lend fit =
+      subst (λ (ys : List (NodeBooks D)). NodesAreLentOut s (length blocks) xs ys) (sym {A = List (NodeBooks D)} e) (fit_out blocks nodes xs distinct lend fit)
+
 module _ {S D : Type 0} (s : shelves.Ghosts S D) (d : files.Ghosts D) (m : ℕ) where
   -- Nodes past the shelves have none.
   pub close_whole : (nodes : List (NodeBooks D)) (old new : List S) → NodesClose s d m (take (length old) nodes) old new → NodesClose s d m nodes old new
@@ -314,3 +318,10 @@ module _ {S D : Type 0} (s : shelves.Ghosts S D) (d : files.Ghosts D) (m : ℕ) 
     where
       less : (k : ℕ) → length (take (length old) nodes) ≡ min (length old) (length nodes) → length nodes ≤ k → length (take (length old) nodes) ≤ k
       less k e h = omega arith
+
+  -- Nothing is left, and all were closed.
+  pub close_end : (nodes nodes' left : List (NodeBooks D)) (old now : List S) → nodes' ≡ take (length old) nodes → length left ≡ 0 → (NodesClose s d m left now now → NodesClose s d m nodes' old now) → NodesClose s d m nodes old now
+  close_end nodes nodes' left old now e none closes =
+      let rest : left ≡ [] = none_left left none in
+      close_whole nodes old now (subst (λ (ys : List (NodeBooks D)). NodesClose s d m ys old now) e
+      (closes (subst (λ (ys : List (NodeBooks D)). NodesClose s d m ys now now) (sym {A = List (NodeBooks D)} rest) (nodes_none s d m now))))

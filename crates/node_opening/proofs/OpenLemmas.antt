@@ -1,5 +1,5 @@
 -- Nodes that were opened show the first world.
-use Rattle.std.proofs.Common.{◌≡◌, ◌<◌, ℕ, zero, suc, List, [], ◌∷◌, length, slice_get, Option, Some, None, option_and_then, IsSome, refl, sym, ap, subst, ◌∙◌}
+use Rattle.std.proofs.Common.{◌≡◌, ◌<◌, ℕ, zero, suc, List, [], ◌∷◌, length, slice_get, Option, Some, None, IsSome, refl, sym, ap, subst, ◌∙◌}
 use Rattle.hd_base.specs.declared.numbers.BlockId.{BlockId}
 use Rattle.hd_base.specs.declared.files.Files as files
 use Rattle.hd_base.specs.declared.links.LinkIn as link_in
@@ -9,9 +9,6 @@ use Rattle.hd_base.specs.declared.shelves.Shelf as shelves
 use Rattle.road_traffic.specs.Showing.{Net, RoadsShow}
 use Rattle.std.specs.Prelude.{Bool, true, false, ◌||◌}
 use Rattle.replica_model.specs.Rows.{FullReplica, nothing}
-use Rattle.replica_model.specs.Histories.{replay, begun}
-use Rattle.replica_model.specs.declared.histories.Start.{Start}
-use Rattle.replica_model.specs.declared.histories.Entry.{Entry}
 use Rattle.replica_files.specs.declared.book_state.BookState.{BookState}
 use Rattle.replica_files.specs.Books.{replica_of}
 use Rattle.replica_files.specs.Endings.{IsNew}

@@ -2,17 +2,15 @@
 use Rattle.std.proofs.Common.{◌≡◌, ◌<◌, ℕ, List, Some, get_or, slice_get, slice_set, length, sym, subst, ◌∙◌, arith}
 use Rattle.play_nodes.specs.declared.nodes.NodeBooks.{NodeBooks}
 use Rattle.node_opening.specs.Closing.{NodesClose}
-use Rattle.node_opening.proofs.ListLemmas.{none_left, element_or}
-use Rattle.node_opening.proofs.CloseLemmas.{NodesAreLentOut, fit_out, close_whole, nodes_none, nodes_more, nodes_within, nodes_last, nodes_less}
+use Rattle.node_opening.proofs.ListLemmas.{element_or}
+use Rattle.node_opening.proofs.CloseLemmas.{NodesAreLentOut, fit_start, close_end, nodes_more, nodes_within, nodes_last, nodes_less}
 use Rattle.node_opening.proofs.closing.close_nodes.Goals as goal
 
 pub loop-node-init : goal.loop-node-init
 loop-node-init g c =
-    let s = g.S.Shelf in
-    let xs = c.args.shelves.now in
     let r = c.requires in
     record {
-      lent = subst (λ (ys : List (NodeBooks g.row.S-Drawer.Denot)). NodesAreLentOut s (length c.args.blocks.now) xs ys) (sym {A = List (NodeBooks g.row.S-Drawer.Denot)} c.truncate.ensures.items) (fit_out s c.args.blocks.now c.args.nodes.items xs r.distinct r.lent r.fit);
+      lent = fit_start g.S.Shelf c.args.blocks.now c.args.nodes.items c.truncate.new.self.items c.args.shelves.now c.truncate.ensures.items r.distinct r.lent r.fit;
       closes = λ end n. n;
     }
 
@@ -60,10 +58,5 @@ loop-node-preserved g c =
 
 pub returns : goal.returns
 returns g c =
-    let m = length c.args.blocks.now in
-    let s = g.S.Shelf in
-    let d = g.S.Drawer.Files in
-    let xs = c.loop-node.shelves in
     let none : length c.loop-node.nodes.items ≡ 0 = omega (arith, c.loop-node.nodes.ok.0, c.in_default.ensures.cases.0) in
-    close_whole s d m c.args.nodes.items c.args.shelves.now xs (subst (λ (ys : List (NodeBooks g.row.S-Drawer.Denot)). NodesClose s d m ys c.args.shelves.now xs) c.truncate.ensures.items
-    (c.loop-node.invariant.closes xs (subst (λ (ys : List (NodeBooks g.row.S-Drawer.Denot)). NodesClose s d m ys xs xs) (sym {A = List (NodeBooks g.row.S-Drawer.Denot)} (none_left c.loop-node.nodes.items none)) (nodes_none s d m xs))))
+    close_end g.S.Shelf g.S.Drawer.Files (length c.args.blocks.now) c.args.nodes.items c.truncate.new.self.items c.loop-node.nodes.items c.args.shelves.now c.loop-node.shelves c.truncate.ensures.items none (c.loop-node.invariant.closes c.loop-node.shelves)

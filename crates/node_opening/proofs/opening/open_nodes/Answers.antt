@@ -4,9 +4,9 @@ use Rattle.std.proofs.lemmas.Result.{err_from_is_err_and}
 use Rattle.hd_base.specs.declared.numbers.BlockId.{BlockId}
 use Rattle.node_opening.specs.Shelves.{EachShelf, IsGivenBack}
 use Rattle.node_opening.specs.Lending.{HaveBooks}
-use Rattle.node_opening.specs.Opening.{IsOpened, HasOpenCause}
+use Rattle.node_opening.specs.Opening.{HasOpenCause}
 use Rattle.node_opening.proofs.ListLemmas.{if_err, on_err}
-use Rattle.node_opening.proofs.OpenLemmas.{opened, first_stand, still_empty, books_after, given_same, given_checked, given_both, cause_road, cause_shelf, cause_memory}
+use Rattle.node_opening.proofs.OpenLemmas.{opened, first_stand, still_empty, given_same, given_checked, given_both, cause_road, cause_shelf, cause_memory}
 use Rattle.node_opening.proofs.opening.open_nodes.Goals as goal
 
 pub returns-in_err-listen_all-clause-cause : goal.returns-in_err-listen_all-clause-cause
