@@ -34,7 +34,8 @@ abbrev pub faults_of : {D : Type 0} → files.Ghosts D → List (BookState D) �
 faults_of d [] = 0
 faults_of d (x ∷ xs) = d.faults x.drawer + faults_of d xs
 
--- The shelf has the files of these books beside its own, lends none of their blocks, and their counts are added to its own.
+-- The shelf has the files of these books beside its own, lends none of their blocks, and their counts are added to its
+-- own.
 pub record NodeCloses {S D : Type 0} (s : shelves.Ghosts S D) (d : files.Ghosts D) (books : List (BookState D))
     (old new : S) : Type 0 where
   pub files_are : s.files new ≡ files_with d (s.files old) books

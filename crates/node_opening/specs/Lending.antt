@@ -12,7 +12,8 @@ use Rattle.node_opening.specs.Closing.{blocks_of}
 
 -- BOOKS
 
--- The book of an absent replica, over a drawer without files or faults. Its files are told where those of the shelf are.
+-- The book of an absent replica, over a drawer without files or faults. Its files are told where those of the shelf
+-- are.
 pub record IsNewBook {S D : Type 0} (s : shelves.Ghosts S D) (d : files.Ghosts D) (shelf : S) (book : BookState D) :
     Type 0 where
   pub absent : IsNew book book.block book.drawer
@@ -52,7 +53,8 @@ pub record IsLent {S D : Type 0} (s : shelves.Ghosts S D) (d : files.Ghosts D) (
   pub lent : s.lent new ≡ marked (s.lent old) block.0 true
   pub faults : s.faults new ≡ s.faults old
 
--- The files are the same, the other blocks are lent as before, this one isn't where it wasn't, and the count of faults hasn't fallen.
+-- The files are the same, the other blocks are lent as before, this one isn't where it wasn't, and the count of faults
+-- hasn't fallen.
 pub record IsUnlent {S D : Type 0} (s : shelves.Ghosts S D) (block : BlockId) (old new : S) : Type 0 where
   pub files : s.files new ≡ s.files old
   pub others : (b : ℕ) → (b == block.0) ≡ false → s.lent new b ≡ s.lent old b

@@ -32,7 +32,8 @@ opened_net nodes = record {
 
 -- Whatever connections the roads show: a node's port is listened on.
 abbrev pub ListensAt : {R I O : Type 0} → roads.Ghosts R I O → ℕ → R → R → Type 0
-ListensAt r node old new = (net : Net) → RoadsShow r net old → RoadsShow r (listened_net net (FIRST_PORT + node) true) new
+ListensAt r node old new = (net : Net) → RoadsShow r net old →
+    RoadsShow r (listened_net net (FIRST_PORT + node) true) new
 
 -- Where the roads were unused, so many nodes listen, and that is all.
 abbrev pub ListenAll : {R I O : Type 0} → roads.Ghosts R I O → ℕ → R → R → Type 0

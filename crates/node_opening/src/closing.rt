@@ -29,10 +29,10 @@ fn close_node<S: Shelf>(shelf: &mut S, mut books: Vec<ReplicaBook<S::Drawer>>, p
     give_back_books(shelf, books);
 }
 
-/// The books of nodes are closed, and their drawers given back to the shelves, of which each node has that of its number.
-/// Each book is of the block at its place, and each block stands once and is lent by the shelf. Each shelf then has the
-/// files of its node's books beside its own; none of their blocks is lent any more; and the counts of the drawers are added
-/// to its own. Takes no memory.
+/// The books of nodes are closed, and their drawers given back to the shelves, of which each node has that of its
+/// number. Each book is of the block at its place, and each block stands once and is lent by the shelf. Each shelf then
+/// has the files of its node's books beside its own; none of their blocks is lent any more; and the counts of the drawers
+/// are added to its own. Takes no memory.
 pub fn close_nodes<S: Shelf>(
     blocks: &[BlockId],
     mut nodes: Vec<NodeBooks<S::Drawer>>,

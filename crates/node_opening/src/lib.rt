@@ -1,5 +1,5 @@
-//! The start of a play: its nodes listen on the roads, and have the books of its blocks over files that their shelves lend.
-//! And its end: the books are closed, and their files are given back.
+//! The start of a play: its nodes listen on the roads, and have the books of its blocks over files that their shelves
+//! lend. And its end: the books are closed, and their files are given back.
 #![tactic(auto)]
 
 mod closing;
