@@ -1,0 +1,30 @@
+-- A block was lent, or given back.
+use Rattle.std.proofs.Common.{◌≡◌, ℕ, Bool, Option, option_map, sym, ap, subst, ◌∙◌}
+use Rattle.hd_base.specs.FileMaps.{FileMap, OnlyOf, part_of}
+use Rattle.node_opening.proofs.FileLemmas.{part_only}
+use Rattle.node_opening.proofs.LendLemmas.{unlent_none, unlent_back, lent_so, marked_here}
+use Rattle.node_opening.proofs.lending.lend_book.Goals as goal
+
+pub returns-in_default : goal.returns-in_default
+returns-in_default g c = unlent_none g.S.Shelf g.S.Drawer.Files c.args.block c.args.shelf.now c.lend.new.self c.in_default.ensures.err c.in_default.ensures.err_lent c.in_default.ensures.faults
+
+pub new-requires : goal.new-requires
+new-requires g c = subst (λ (f : Option FileMap). OnlyOf c.args.block.0 f) (sym c.in-Ok.ensures.drawer) (part_only c.args.block.0 (g.S.Shelf.files c.args.shelf.now))
+
+pub give_back-requires : goal.give_back-requires
+give_back-requires g c = ap (λ (f : ℕ → Bool). f c.args.block.0) c.in-Ok.ensures.lent ∙ marked_here (g.S.Shelf.lent c.args.shelf.now) c.args.block.0
+
+pub returns-in-Ok-new : goal.returns-in-Ok-new
+returns-in-Ok-new g c =
+    let l = c.in-Ok.ensures in
+    lent_so g.S.Shelf g.S.Drawer.Files c.args.block c.args.shelf.now c.lend.new.self c.in-Ok.drawer c.in-Ok-new.book c.in-Ok-new.ensures.made l.drawer l.fresh l.rest l.lent l.faults
+
+pub returns-in-Err : goal.returns-in-Err
+returns-in-Err g c =
+    let s = g.S.Shelf in
+    let d = g.S.Drawer.Files in
+    let l = c.in-Ok.ensures in
+    let block = c.args.block in
+    let part : d.files c.in-Err.drawer ≡ option_map (part_of block.0) (s.files c.args.shelf.now) = ap d.files c.in-Err.ensures.given_back ∙ l.drawer in
+    let only : OnlyOf block.0 (d.files c.in-Err.drawer) = subst (λ (f : Option FileMap). OnlyOf block.0 f) (sym part) (part_only block.0 (s.files c.args.shelf.now)) in
+    unlent_back s d block c.args.shelf.now c.lend.new.self c.give_back.new.self c.in-Err.drawer l.rest l.lent l.faults part (c.give_back.ensures.files only) c.give_back.ensures.lent c.give_back.ensures.count

@@ -1,0 +1,70 @@
+-- Books are closed, and their drawers given back.
+use Rattle.std.specs.Prelude.{◌≡◌, ◌<◌, ◌≤◌, ◌+◌, ◌&&◌, not, ℕ, true, List, [], ◌∷◌, length, map, take, slice_get, Option, Some}
+use Rattle.hd_base.specs.Faults.{CarriesFaults}
+use Rattle.hd_base.specs.FileMaps.{FileMap, both_observable}
+use Rattle.hd_base.specs.declared.numbers.BlockId.{BlockId}
+use Rattle.hd_base.specs.declared.files.Files as files
+use Rattle.hd_base.specs.declared.shelves.Shelf as shelves
+use Rattle.play_nodes.specs.declared.nodes.NodeBooks.{NodeBooks}
+use Rattle.play_nodes.specs.Places.{book_at}
+use Rattle.replica_files.specs.Books.{replica_of}
+use Rattle.replica_files.specs.declared.book_state.BookState.{BookState}
+use Rattle.node_opening.specs.Shelves.{is_among, AreDistinct}
+
+-- the block of a book's replica
+abbrev pub block_of : {D : Type 0} → BookState D → BlockId
+block_of x = (replica_of x).known.block
+
+-- those of books
+abbrev pub blocks_of : {D : Type 0} → List (BookState D) → List BlockId
+blocks_of books = map (λ x. block_of x) books
+
+-- The books are of blocks that are apart, and that the shelf has lent.
+pub record AreLentOut {S D : Type 0} (s : shelves.Ghosts S D) (shelf : S) (books : List (BookState D)) : Type 0 where
+  pub distinct : AreDistinct (blocks_of books)
+  pub lent : (b : ℕ) → is_among (blocks_of books) b ≡ true → s.lent shelf b ≡ true
+
+-- the files of all books beside those that are there, where all are observable
+abbrev pub files_with : {D : Type 0} → files.Ghosts D → Option FileMap → List (BookState D) → Option FileMap
+files_with d files [] = files
+files_with d files (x ∷ xs) = both_observable (files_with d files xs) (d.files x.drawer)
+
+-- the counts of the drawers of all books
+abbrev pub faults_of : {D : Type 0} → files.Ghosts D → List (BookState D) → ℕ
+faults_of d [] = 0
+faults_of d (x ∷ xs) = d.faults x.drawer + faults_of d xs
+
+-- The shelf has the files of these books beside its own, lends none of their blocks, and their counts are added to its
+-- own.
+pub record NodeCloses {S D : Type 0} (s : shelves.Ghosts S D) (d : files.Ghosts D) (books : List (BookState D))
+    (old new : S) : Type 0 where
+  pub files_are : s.files new ≡ files_with d (s.files old) books
+  pub lent : (b : ℕ) → s.lent new b ≡ s.lent old b && not (is_among (blocks_of books) b)
+  pub count : CarriesFaults (s.faults old) (faults_of d books) (s.faults new)
+
+-- ALL NODES
+
+-- The shelves of so many nodes lend these blocks.
+abbrev pub TheyLend : {S D : Type 0} → shelves.Ghosts S D → List BlockId → ℕ → List S → Type 0
+TheyLend {S} s blocks nodes xs = (k : ℕ) (a : S) (b : ℕ) → k < nodes → slice_get xs k ≡ Some a →
+    is_among blocks b ≡ true
+    → s.lent a b ≡ true
+
+-- Each book at the place of a block is of that block.
+abbrev pub NodesFit : {D : Type 0} → List BlockId → List (NodeBooks D) → Type 0
+NodesFit {D} blocks nodes = (node place : ℕ) (block : BlockId) (x : BookState D) → slice_get blocks place ≡ Some block →
+    book_at nodes node place ≡ Some x
+    → block_of x ≡ block
+
+-- the books of a node at so many places
+abbrev pub books_within : {D : Type 0} → ℕ → NodeBooks D → List (BookState D)
+books_within places x = take places x.books.items
+
+-- The shelf of each node has the files of its books back, and the shelves beyond are as they were.
+pub record NodesClose {S D : Type 0} (s : shelves.Ghosts S D) (d : files.Ghosts D) (places : ℕ)
+    (nodes : List (NodeBooks D)) (old new : List S) : Type 0 where
+  pub count : length new ≡ length old
+  pub each : (k : ℕ) (a b : S) (x : NodeBooks D) → slice_get old k ≡ Some a → slice_get new k ≡ Some b →
+      slice_get nodes k ≡ Some x
+      → NodeCloses s d (books_within places x) a b
+  pub others : (k : ℕ) → length nodes ≤ k → slice_get new k ≡ slice_get old k

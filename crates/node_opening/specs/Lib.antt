@@ -1,0 +1,6 @@
+pub mod Shelves
+pub mod Listening
+pub mod Emptiness
+pub mod Closing
+pub mod Lending
+pub mod Opening

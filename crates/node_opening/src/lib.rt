@@ -1,0 +1,14 @@
+//! The start of a play: its nodes listen on the roads, and have the books of its blocks over files that their shelves
+//! lend. And its end: the books are closed, and their files are given back.
+#![tactic(auto)]
+
+mod closing;
+mod emptiness;
+mod faults;
+mod lending;
+mod listening;
+mod opening;
+
+pub use closing::close_nodes;
+pub use faults::OpenFault;
+pub use opening::open_nodes;
