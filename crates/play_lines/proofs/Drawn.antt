@@ -2,6 +2,7 @@
 use Rattle.std.proofs.Common.{◌≡◌, ◌⊎◌, inl, inr, ℕ, zero, suc, ◌≤◌, ◌<◌, ◌%◌, Bool, true, false, List, [], ◌∷◌, ◌++◌, drop, length, map, slice_get, Option, Some, None, Result, Ok, Err, refl, sym, ap, ◌∙◌, subst, arith}
 use Rattle.std.specs.Prelude.{is_some}
 use Rattle.std.proofs.lemmas.Option.{none-some, same_Some}
+use Rattle.hd_base.specs.Faults.{FaultsIncreased}
 use Rattle.hd_base.specs.declared.files.Files as files
 use Rattle.hd_base.specs.declared.links.LinkIn as link_in
 use Rattle.hd_base.specs.declared.links.LinkOut as link_out
@@ -26,8 +27,8 @@ use Rattle.member_events.specs.Roads.{RoadsPass}
 use Rattle.play_clients.specs.declared.clients.Client.{Client}
 use Rattle.play_nodes.specs.declared.nodes.Nodes.{Nodes}
 use Rattle.play_nodes.specs.Events.{DrawerFailed}
-use Rattle.play_nodes.proofs.Tables.{element}
-use Rattle.play_dues.specs.Listing.{all_dues, DuesAreListed, CountsDues, PicksDue}
+use Rattle.play_dues.specs.Drawing.{DrawsFrom, DrawsDue, PlaysAreDrawn, PlaysEnd}
+use Rattle.play_dues.specs.Listing.{all_dues, DuesAreListed}
 use Rattle.play_dues.specs.Own.{blocks_of}
 use Rattle.play_dues.specs.Showing.{HasClient, DuesShow}
 use Rattle.play.specs.declared.faults.PlayFault.{PlayFault}
@@ -58,30 +59,6 @@ client_of_block (c ∷ clients) b zero e = record { place = 0; client = c; found
 client_of_block (c ∷ clients) b (suc k) e =
     let h = client_of_block clients b k e in
     record { place = suc h.place; client = h.client; found = h.found; block = h.block }
-
--- THE LIST OF WHAT IS DUE
-
-length_none : {A : Type 0} (xs : List A) → length xs ≡ 0 → xs ≡ []
-length_none [] e = refl
-length_none (x ∷ xs) e = cc
-
--- a word draws one where there are some
-drawn_some : (ds : List Due) (word : ℕ) → (length ds ≡ 0 → ⊥) → drawn ds word ≡ None → ⊥
-drawn_some ds word some none = never (found ds (word % length ds) (mod_within word (length ds) some)) none
-  where
-    mod_within : (a n : ℕ) → (n ≡ 0 → ⊥) → a % n < n
-    mod_within a n e = ?
-
-    found : (xs : List Due) (k : ℕ) → k < length xs → (d : Due) × (slice_get xs k ≡ Some d)
-    found xs k h = element xs k h
-
-    never : (k : (d : Due) × (slice_get ds (word % length ds) ≡ Some d)) → slice_get ds (word % length ds) ≡ None → ⊥
-    never k e = none-some k.0 (sym e ∙ k.1)
-
--- what comes of a list that isn't empty
-drawn_so : (ds : List Due) (p : PlayState) → (length ds ≡ 0 → ⊥) → drawn_from ds p ≡ happened (advanced p) (drawn ds (pcg32 p.generator).0)
-drawn_so [] p some = absurd (some refl)
-drawn_so (d ∷ ds) p some = refl
 
 module _ {F R I O : Type 0} (f : files.Ghosts F) (r : roads.Ghosts R I O) (i : link_in.Ghosts I) (o : link_out.Ghosts O) where
   -- THE WORLD OF A PLAY
@@ -120,17 +97,32 @@ module _ {F R I O : Type 0} (f : files.Ghosts F) (r : roads.Ghosts R I O) (i : l
   listed_so : DuesAreListed → (p : PlayState) (road : R) (x : Playing F I O) → PlayIs r i o p road x → all_dues (world_of p.nodes x.player) p.queues (blocks_in x) ≡ dues (blocks_in x) p
   listed_so listed p road x h = ap (λ (w : World). all_dues w p.queues (blocks_in x)) (sym (world_same p road x h)) ∙ listed (blocks_in x) p
 
+  -- what is drawn of the play's list
+  drawn_of : DuesAreListed → (p : PlayState) (road road' : R) (x : Playing F I O) (h : PlayIs r i o p road x) (after : Lcg) (result : Option Due) → DrawsFrom (all_dues (world_of p.nodes x.player) p.queues (blocks_in x)) x.generator after result → DrawsFrom (dues (blocks_in x) p) p.generator after result
+  drawn_of listed p road road' x h after result draws =
+      subst (λ (ds : List Due). DrawsFrom ds p.generator after result) (listed_so listed p road x h)
+      (subst (λ (g : Lcg). DrawsFrom (all_dues (world_of p.nodes x.player) p.queues (blocks_in x)) g after result) h.generator draws)
+
+  same_none : (ds : List Due) (old after : Lcg) → ds ≡ [] → DrawsFrom ds old after None → after ≡ old
+  same_none [] old after e h = h.0
+  same_none (d ∷ ds) old after e h = cc
+
   -- NOTHING IS DUE
 
-  pub nothing_drawn : (L : Laws) → AllOpen → DuesAreListed → (x : Playing F I O) (road road' : R) (count : ℕ) → CountsDues r i o x.player.nodes x.player.clients.items road road' count → count ≡ 0 → DrawShows f r i o x x road road' (Ok false)
-  nothing_drawn L opens listed x road road' count counts is = λ p h.
-      let t = counts (world_of p.nodes x.player) h.stands.net p.queues (dues_show L opens p road x h) in
-      let none : dues (blocks_in x) p ≡ [] = length_none (dues (blocks_in x) p) (ap length (sym (listed_so listed p road x h)) ∙ (sym t.1 ∙ is)) in (
+  pub nothing_drawn : (L : Laws) → AllOpen → DuesAreListed → PlaysAreDrawn → PlaysEnd → (old new : Playing F I O) (road road' : R) (result : Option Due) → new ≡ record old { generator = new.generator } → result ≡ None → DrawsDue r i o old.player.nodes old.player.clients.items road road' old.generator new.generator result
+      → DrawShows f r i o old new road road' (Ok false)
+  nothing_drawn L opens listed plays ends old new road road' result same none draws = λ p h.
+      let t = draws (world_of p.nodes old.player) h.stands.net p.queues (dues_show L opens p road old h) in
+      let k : DrawsFrom (dues (blocks_in old) p) p.generator new.generator None = subst (λ (x : Option Due). DrawsFrom (dues (blocks_in old) p) p.generator new.generator x) none (drawn_of listed p road road' old h new.generator result t.1) in
+      let empty : dues (blocks_in old) p ≡ [] = ends (blocks_in old) p new.generator k in
+      let gen : new.generator ≡ p.generator = same_none (dues (blocks_in old) p) p.generator new.generator empty k in
+      let is : PlayIs r i o p road' old = with_roads p road road' old h t.0 in (
         record {
-          is = subst (λ (q : PlayState). PlayIs r i o q road' x) (sym (ap (λ (ds : List Due). drawn_from ds p) none)) (with_roads p road road' x h t.0);
-          blocks = refl;
+          is = subst (λ (q : PlayState). PlayIs r i o q road' new) (sym (plays (blocks_in old) p new.generator None k ∙ ap (λ (g : Lcg). record p { generator = g }) gen))
+              (subst (λ (x : Playing F I O). PlayIs r i o p road' x) (sym same) (record { stands = is.stands; events = is.events; generator = gen; rules = is.rules }));
+          blocks = ap blocks_in same;
         },
-        sym (ap (λ (ds : List Due). is_some (slice_get ds 0)) none),
+        sym (ap (λ (ds : List Due). is_some (slice_get ds 0)) empty),
       )
 
   -- SOMETHING HAPPENS
@@ -150,3 +142,78 @@ module _ {F R I O : Type 0} (f : files.Ghosts F) (r : roads.Ghosts R I O) (i : l
         generator = generator;
         rules = rules_after p old new _ has.places h.rules;
       }
+
+  some_listed : (ds : List Due) (old after : Lcg) (d : Due) → DrawsFrom ds old after (Some d) → (k : ℕ) × (slice_get ds k ≡ Some d)
+  some_listed [] old after d h = absurd (none-some d (sym h.1))
+  some_listed (x ∷ ds) old after d h = ((pcg32 old).0 % length (x ∷ ds), sym h.1)
+
+  some_first : (ds : List Due) (k : ℕ) (d : Due) → slice_get ds k ≡ Some d → true ≡ is_some (slice_get ds 0)
+  some_first [] k d e = absurd (none-some d e)
+  some_first (x ∷ ds) k d e = refl
+
+  -- a fault in what happens is one of the draw
+  failed_book : (before now : ℕ) → FaultsIncreased before now → 0 < now
+  failed_book before now h = grind (arith, h)
+
+  more_faults : (a b c : ℕ) → a ≤ b → FaultsIncreased b c → FaultsIncreased a c
+  more_faults a b c h k = grind (arith, h, k)
+
+  caused : (old mid new : Playing F I O) (road first road' : R) (why : PlayFault) → r.faults road ≤ r.faults first → player.IsCaused f r mid.player new.player first road' why → IsCaused f r new road road' why
+  caused old mid new road first road' fault.RoadFault h (inl risen) = inl risen
+  caused old mid new road first road' fault.RoadFault h (inr rose) = inr (more_faults (r.faults road) (r.faults first) (r.faults road') h rose)
+  caused old mid new road first road' (fault.ShelfFault node) h c = record { place = c.place; book = c.book'; at_place = c.now; failed = failed_book (f.faults c.book.drawer) (f.faults c.book'.drawer) c.rose }
+  caused old mid new road first road' fault.Memory h c = tt
+
+  -- SOMETHING IS DUE
+
+  actor_of : (clients : List (Client I O)) (p : Player F I O) (d : Due) → clients ≡ p.clients.items → OwnAmong (blocks_of clients) d → ActorIsClient p d
+  actor_of clients p (due.Own b) e h = subst (λ (cs : List (Client I O)). HasClient cs b.0) e (client_of_block clients b.0 h.place h.there)
+  actor_of clients p (due.Down c) e h = tt
+  actor_of clients p (due.Ready c) e h = tt
+  actor_of clients p (due.Up c) e h = tt
+
+  -- what is drawn, and happens
+  record Draws (p : PlayState) (old mid : Playing F I O) (d : Due) (first : R) : Type 0 where
+    is : PlayIs r i o p first old
+    play_is : draw (blocks_in old) p ≡ after_due (record p { generator = mid.generator }) d
+    due_is : is_due (world_of p.nodes old.player) p.queues d ≡ true
+    actor : ActorIsClient old.player d
+    more : true ≡ is_some (slice_get (dues (blocks_in old) p) 0)
+
+  draws_so : (L : Laws) → AllOpen → DuesAreListed → PlaysAreDrawn → ListedAreDue → (old mid : Playing F I O) (road first : R) (d : Due) → DrawsDue r i o old.player.nodes old.player.clients.items road first old.generator mid.generator (Some d) → (p : PlayState) → PlayIs r i o p road old → Draws p old mid d first
+  draws_so L opens listed plays due old mid road first d draws p h =
+      let t = draws (world_of p.nodes old.player) h.stands.net p.queues (dues_show L opens p road old h) in
+      let k : DrawsFrom (dues (blocks_in old) p) p.generator mid.generator (Some d) = drawn_of listed p road first old h mid.generator (Some d) t.1 in
+      let at = some_listed (dues (blocks_in old) p) p.generator mid.generator d k in
+      let x : IsListed (blocks_in old) p d = due (blocks_in old) p at.0 d at.1 in
+      record {
+        is = with_roads p road first old h t.0;
+        play_is = plays (blocks_in old) p mid.generator (Some d) k;
+        due_is = subst (λ (w : World). is_due w p.queues d ≡ true) (world_same p road old h) x.is;
+        actor = actor_of old.player.clients.items old.player d refl x.among;
+        more = some_first (dues (blocks_in old) p) at.0 d at.1;
+      }
+
+  pub drew : (L : Laws) → AllOpen → DuesAreListed → PlaysAreDrawn → ListedAreDue → (old mid new : Playing F I O) (road first road' : R) (d : Due) → mid.player ≡ old.player → new.generator ≡ mid.generator → DrawsDue r i o old.player.nodes old.player.clients.items road first old.generator mid.generator (Some d)
+      → HappenShows f r i o d old.player new.player first road' (Ok tt) → DrawShows f r i o old new road road' (Ok true)
+  drew L opens listed plays due old mid new road first road' d same gen draws happens = λ p h.
+      let z : Draws p old mid d first = draws_so L opens listed plays due old mid road first d draws p h in
+      let has : HasHappened r i o p.nodes p.queues d old.player new.player road' = happens p.nodes p.queues z.is.stands z.due_is z.actor in (
+        record {
+          is = subst (λ (q : PlayState). PlayIs r i o q road' new) (sym z.play_is) (after p first road' old new d mid.generator z.is has gen);
+          blocks = numbers_same new.player.clients.items old.player.clients.items has.places.order;
+        },
+        z.more,
+      )
+
+  pub drew_failed : (L : Laws) → AllOpen → DuesAreListed → PlaysAreDrawn → ListedAreDue → (old mid new : Playing F I O) (road first road' : R) (d : Due) (why : PlayFault) → r.faults road ≤ r.faults first → DrawsDue r i o old.player.nodes old.player.clients.items road first old.generator mid.generator (Some d)
+      → HappenShows f r i o d old.player new.player first road' (Err why) → DrawShows f r i o old new road road' (Err why)
+  drew_failed L opens listed plays due old mid new road first road' d why faults draws happens = λ p h.
+      let z : Draws p old mid d first = draws_so L opens listed plays due old mid road first d draws p h in
+      caused old old new road first road' why faults (happens p.nodes p.queues z.is.stands z.due_is z.actor)
+
+  -- the player stands on the roads that were asked
+  pub stands_there : (L : Laws) → AllOpen → (old mid : Playing F I O) (road first : R) (result : Option Due) → mid.player ≡ old.player → IsPlaying r i o road old → DrawsDue r i o old.player.nodes old.player.clients.items road first old.generator mid.generator result → PlayerStands r i o first mid.player
+  stands_there L opens old mid road first result same playing draws =
+      let t = draws (world_of playing.p.nodes old.player) playing.is.stands.net playing.p.queues (dues_show L opens playing.p road old playing.is) in
+      subst (λ (x : Player F I O). PlayerStands r i o first x) (sym same) (player_stands playing.p first old (with_roads playing.p road first old playing.is t.0))

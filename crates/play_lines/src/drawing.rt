@@ -7,9 +7,8 @@ ghost use Rattle.play_lines.specs.Drawing.{DrawShows};
 use crate::playing::Playing;
 use hd_base::{Files, LinkIn, LinkOut, Roads};
 use play::{PlayFault, worlds_are_lawful};
-use play_dues::{count_dues, dues_are_listed, pick_dues};
+use play_dues::{draw_due, dues_are_listed, plays_are_drawn};
 use play_model::listed_dues_are_due;
-use rand_core::utils::NextWord;
 use std::alloc::Global;
 use world_orders::takers_are_open;
 
@@ -28,19 +27,16 @@ impl<F: Files, I: LinkIn, O: LinkOut> Playing<F, I, O> {
         worlds_are_lawful();
         takers_are_open();
         dues_are_listed();
+        plays_are_drawn();
         listed_dues_are_due();
-        let count = count_dues(&self.player.nodes, self.player.clients.as_slice(), roads);
-        if count == 0 {
-            return Ok(false);
-        }
-        let number = u128::from(self.generator.next_word()) % count;
-        let Some(due) = pick_dues(
+        let drawn = draw_due(
             &self.player.nodes,
             self.player.clients.as_slice(),
             roads,
-            number,
-        ) else {
-            return Ok(true);
+            &mut self.generator,
+        );
+        let Some(due) = drawn else {
+            return Ok(false);
         };
         self.player.happen(alloc, roads, due)?;
         Ok(true)
