@@ -206,11 +206,11 @@ module _ {F R I O : Type 0} (f : files.Ghosts F) (r : roads.Ghosts R I O) (i : l
         z.more,
       )
 
-  pub drew_failed : (L : Laws) → AllOpen → DuesAreListed → PlaysAreDrawn → ListedAreDue → (old mid new : Playing F I O) (road first road' : R) (d : Due) (why : PlayFault) → r.faults road ≤ r.faults first → DrawsDue r i o old.player.nodes old.player.clients.items road first old.generator mid.generator (Some d)
-      → HappenShows f r i o d old.player new.player first road' (Err why) → DrawShows f r i o old new road road' (Err why)
-  drew_failed L opens listed plays due old mid new road first road' d why faults draws happens = λ p h.
+  pub drew_failed : (L : Laws) → AllOpen → DuesAreListed → PlaysAreDrawn → ListedAreDue → (old mid new : Playing F I O) (road first road' : R) (d : Due) (why : PlayFault) (result : Result Bool PlayFault) → result ≡ Err why → r.faults road ≤ r.faults first → DrawsDue r i o old.player.nodes old.player.clients.items road first old.generator mid.generator (Some d)
+      → HappenShows f r i o d old.player new.player first road' (Err why) → DrawShows f r i o old new road road' result
+  drew_failed L opens listed plays due old mid new road first road' d why result failed faults draws happens = λ p h.
       let z : Draws p old mid d first = draws_so L opens listed plays due old mid road first d draws p h in
-      caused old old new road first road' why faults (happens p.nodes p.queues z.is.stands z.due_is z.actor)
+      subst (λ (x : Result Bool PlayFault). DrawEnds f r i o p old new road road' x) (sym failed) (caused old old new road first road' why faults (happens p.nodes p.queues z.is.stands z.due_is z.actor))
 
   -- the player stands on the roads that were asked
   pub stands_there : (L : Laws) → AllOpen → (old mid : Playing F I O) (road first : R) (result : Option Due) → mid.player ≡ old.player → IsPlaying r i o road old → DrawsDue r i o old.player.nodes old.player.clients.items road first old.generator mid.generator result → PlayerStands r i o first mid.player
