@@ -1,5 +1,5 @@
 -- What is drawn happens.
-use Rattle.std.proofs.Common.{◌≡◌, ◌⊎◌, inl, inr, ℕ, zero, suc, ◌≤◌, ◌<◌, ◌%◌, Bool, true, false, List, [], ◌∷◌, ◌++◌, drop, length, map, slice_get, Option, Some, None, Result, Ok, Err, refl, sym, ap, ◌∙◌, subst, arith}
+use Rattle.std.proofs.Common.{◌≡◌, inl, inr, ℕ, zero, suc, ◌≤◌, ◌<◌, ◌%◌, Bool, true, false, List, [], ◌∷◌, ◌++◌, drop, length, slice_get, Option, Some, None, Result, Ok, Err, refl, sym, ap, ◌∙◌, subst, arith}
 use Rattle.std.specs.Prelude.{is_some}
 use Rattle.std.proofs.lemmas.Option.{none-some, same_Some}
 use Rattle.hd_base.specs.Faults.{FaultsIncreased}
@@ -10,23 +10,18 @@ use Rattle.hd_base.specs.declared.numbers.BlockId.{BlockId}
 use Rattle.hd_base.specs.declared.roads.Roads as roads
 use Rattle.rand_pcg.specs.Lcg.{Lcg}
 use Rattle.rand_pcg.specs.Pcg.{pcg32}
-use Rattle.road_traffic.specs.Showing.{Net}
 use Rattle.world.specs.declared.events.Event.{Event}
-use Rattle.world.specs.Safe.{Has}
 use Rattle.world.specs.Worlds.{World, start}
 use Rattle.world.specs.Events.{run}
 use Rattle.world_orders.specs.Open.{AllOpen}
 use Rattle.play_model.specs.declared.dues.Due.{Due}
 use Rattle.play_model.specs.declared.dues.Due.TheVariants as due
-use Rattle.play_model.specs.Draws.{drawn, happened, advanced, drawn_from, draw}
-use Rattle.play_model.specs.Dues.{Queues, is_due, dues, due_events, queues_after, after_due}
+use Rattle.play_model.specs.Draws.{draw}
+use Rattle.play_model.specs.Dues.{is_due, dues, due_events, queues_after, after_due}
 use Rattle.play_model.specs.Laws.{OwnAmong, IsListed, ListedAreDue}
 use Rattle.play_model.specs.States as states
 use Rattle.play_model.specs.States.{PlayState}
-use Rattle.member_events.specs.Roads.{RoadsPass}
 use Rattle.play_clients.specs.declared.clients.Client.{Client}
-use Rattle.play_nodes.specs.declared.nodes.Nodes.{Nodes}
-use Rattle.play_nodes.specs.Events.{DrawerFailed}
 use Rattle.play_dues.specs.Drawing.{DrawsFrom, DrawsDue, PlaysAreDrawn, PlaysEnd}
 use Rattle.play_dues.specs.Listing.{all_dues, DuesAreListed}
 use Rattle.play_dues.specs.Own.{blocks_of}
@@ -37,10 +32,10 @@ use Rattle.play.specs.declared.player.Player.{Player}
 use Rattle.play.specs.Events as player
 use Rattle.play.specs.Events.{RoadsFailed, KeepsPlaces}
 use Rattle.play.specs.Laws.{Laws}
-use Rattle.play.specs.Showing.{PlayerShows, PlayerStands}
+use Rattle.play.specs.Showing.{PlayerStands}
 use Rattle.play.specs.Standing.{world_of, PlayStands, HasHappened, HappenShows, ActorIsClient}
 use Rattle.play_lines.specs.declared.playing.Playing.{Playing}
-use Rattle.play_lines.specs.Drawing.{HasFailed, IsCaused, blocks_in, IsLeft, DrawEnds, DrawShows}
+use Rattle.play_lines.specs.Drawing.{IsCaused, blocks_in, DrawEnds, DrawShows}
 use Rattle.play_lines.specs.Showing.{PlayIs, IsPlaying}
 
 -- the numbers of the same blocks
@@ -85,6 +80,7 @@ module _ {F R I O : Type 0} (f : files.Ghosts F) (r : roads.Ghosts R I O) (i : l
       clients = h.stands.clients;
       connected = h.stands.connected;
     };
+    nodes_are = h.nodes_are;
     events = h.events;
     generator = h.generator;
     rules = h.rules;
@@ -119,7 +115,7 @@ module _ {F R I O : Type 0} (f : files.Ghosts F) (r : roads.Ghosts R I O) (i : l
       let is : PlayIs r i o p road' old = with_roads p road road' old h t.0 in (
         record {
           is = subst (λ (q : PlayState). PlayIs r i o q road' new) (sym (plays (blocks_in old) p new.generator None k ∙ ap (λ (g : Lcg). record p { generator = g }) gen))
-              (subst (λ (x : Playing F I O). PlayIs r i o p road' x) (sym same) (record { stands = is.stands; events = is.events; generator = gen; rules = is.rules }));
+              (subst (λ (x : Playing F I O). PlayIs r i o p road' x) (sym same) (record { stands = is.stands; nodes_are = is.nodes_are; events = is.events; generator = gen; rules = is.rules }));
           blocks = ap blocks_in same;
         },
         sym (ap (λ (ds : List Due). is_some (slice_get ds 0)) empty),
@@ -132,12 +128,13 @@ module _ {F R I O : Type 0} (f : files.Ghosts F) (r : roads.Ghosts R I O) (i : l
       let z = places.each k c at in
       z.rule ∙ (rules k z.was z.at ∙ ap (λ (b : BlockId). p.rules b.0) (sym z.block))
 
-  after : (p : PlayState) (road road' : R) (old new : Playing F I O) (d : Due) (g : Lcg) → PlayIs r i o p road old → HasHappened r i o p.nodes p.queues d old.player new.player road' → new.generator ≡ g → PlayIs r i o (after_due (record p { generator = g }) d) road' new
+  after : (p : PlayState) (road road' : R) (old new : Playing F I O) (d : Due) (g : Lcg) → new.nodes ≡ old.nodes → PlayIs r i o p road old → HasHappened r i o p.nodes p.queues d old.player new.player road' → new.generator ≡ g → PlayIs r i o (after_due (record p { generator = g }) d) road' new
   unfolding after_due
-  after p road road' old new d g h has generator =
+  after p road road' old new d g nodes h has generator =
       let same : states.world_of p ≡ world_of p.nodes old.player = world_same p road old h in
       record {
         stands = subst (λ (w : World). PlayStands r i o p.nodes (queues_after w p.queues d) road' new.player) (sym same) has.stands;
+        nodes_are = h.nodes_are ∙ sym nodes;
         events = ap (λ (w : World). p.events ++ due_events w p.queues d) same ∙ (ap (λ (es : List Event). es ++ due_events (world_of p.nodes old.player) p.queues d) h.events ∙ sym has.events);
         generator = generator;
         rules = rules_after p old new _ has.places h.rules;
@@ -155,7 +152,7 @@ module _ {F R I O : Type 0} (f : files.Ghosts F) (r : roads.Ghosts R I O) (i : l
   failed_book : (before now : ℕ) → FaultsIncreased before now → 0 < now
   failed_book before now h = grind (arith, h)
 
-  more_faults : (a b c : ℕ) → a ≤ b → FaultsIncreased b c → FaultsIncreased a c
+  pub more_faults : (a b c : ℕ) → a ≤ b → FaultsIncreased b c → FaultsIncreased a c
   more_faults a b c h k = grind (arith, h, k)
 
   caused : (old mid new : Playing F I O) (road first road' : R) (why : PlayFault) → r.faults road ≤ r.faults first → player.IsCaused f r mid.player new.player first road' why → IsCaused f r new road road' why
@@ -194,13 +191,13 @@ module _ {F R I O : Type 0} (f : files.Ghosts F) (r : roads.Ghosts R I O) (i : l
         more = some_first (dues (blocks_in old) p) at.0 d at.1;
       }
 
-  pub drew : (L : Laws) → AllOpen → DuesAreListed → PlaysAreDrawn → ListedAreDue → (old mid new : Playing F I O) (road first road' : R) (d : Due) → mid.player ≡ old.player → new.generator ≡ mid.generator → DrawsDue r i o old.player.nodes old.player.clients.items road first old.generator mid.generator (Some d)
+  pub drew : (L : Laws) → AllOpen → DuesAreListed → PlaysAreDrawn → ListedAreDue → (old mid new : Playing F I O) (road first road' : R) (d : Due) → new.nodes ≡ old.nodes → new.generator ≡ mid.generator → DrawsDue r i o old.player.nodes old.player.clients.items road first old.generator mid.generator (Some d)
       → HappenShows f r i o d old.player new.player first road' (Ok tt) → DrawShows f r i o old new road road' (Ok true)
-  drew L opens listed plays due old mid new road first road' d same gen draws happens = λ p h.
+  drew L opens listed plays due old mid new road first road' d nodes gen draws happens = λ p h.
       let z : Draws p old mid d first = draws_so L opens listed plays due old mid road first d draws p h in
       let has : HasHappened r i o p.nodes p.queues d old.player new.player road' = happens p.nodes p.queues z.is.stands z.due_is z.actor in (
         record {
-          is = subst (λ (q : PlayState). PlayIs r i o q road' new) (sym z.play_is) (after p first road' old new d mid.generator z.is has gen);
+          is = subst (λ (q : PlayState). PlayIs r i o q road' new) (sym z.play_is) (after p first road' old new d mid.generator nodes z.is has gen);
           blocks = numbers_same new.player.clients.items old.player.clients.items has.places.order;
         },
         z.more,

@@ -1,13 +1,12 @@
 -- What a draw makes of a play.
-use Rattle.std.specs.Prelude.{◌≡◌, ◌<◌, ◌⊎◌, ℕ, Bool, true, false, List, [], ◌∷◌, is_some, slice_get, Some, Result, Ok, Err}
-use Rattle.hd_base.specs.Faults.{FaultsIncreased}
+use Rattle.std.specs.Prelude.{◌≡◌, ◌<◌, ℕ, Bool, List, is_some, slice_get, Some, Result, Ok, Err}
 use Rattle.hd_base.specs.declared.files.Files as files
 use Rattle.hd_base.specs.declared.links.LinkIn as link_in
 use Rattle.hd_base.specs.declared.links.LinkOut as link_out
 use Rattle.hd_base.specs.declared.numbers.NodeId.{NodeId}
 use Rattle.hd_base.specs.declared.roads.Roads as roads
 use Rattle.replica_files.specs.declared.book_state.BookState.{BookState}
-use Rattle.play_model.specs.Draws.{draw}
+use Rattle.play_model.specs.Draws.{draw, draws, Settles}
 use Rattle.play_model.specs.Dues.{dues}
 use Rattle.play_model.specs.States.{PlayState}
 use Rattle.play_dues.specs.Own.{blocks_of}
@@ -57,3 +56,33 @@ abbrev pub DrawShows : {F R I O : Type 0} → files.Ghosts F → roads.Ghosts R 
     link_out.Ghosts O → Playing F I O → Playing F I O → R → R → Result Bool PlayFault → Type 0
 DrawShows f r i o old new road road' result =
     (p : PlayState) → PlayIs r i o p road old → DrawEnds f r i o p old new road road' result
+
+-- MORE DRAWS
+
+-- What is left is the play after up to so many draws.
+abbrev pub RunEnds : {F R I O : Type 0} → files.Ghosts F → roads.Ghosts R I O → link_in.Ghosts I → link_out.Ghosts O →
+    ℕ → PlayState → Playing F I O → Playing F I O → R → R → Result (Unit {0}) PlayFault → Type 0
+RunEnds f r i o count p old new road road' (Ok u) = IsLeft r i o (draws (blocks_in old) count p) old new road'
+RunEnds f r i o count p old new road road' (Err why) = IsCaused f r new road road' why
+
+abbrev pub RunShows : {F R I O : Type 0} → files.Ghosts F → roads.Ghosts R I O → link_in.Ghosts I → link_out.Ghosts O →
+    ℕ → Playing F I O → Playing F I O → R → R → Result (Unit {0}) PlayFault → Type 0
+RunShows f r i o count old new road road' result =
+    (p : PlayState) → PlayIs r i o p road old → RunEnds f r i o count p old new road road' result
+
+-- What is left is the play that settled, in which nothing is due.
+pub record HasSettled {F R I O : Type 0} (r : roads.Ghosts R I O) (i : link_in.Ghosts I) (o : link_out.Ghosts O)
+    (p : PlayState) (old new : Playing F I O) (road : R) : Type 0 where
+  pub after : PlayState
+  pub settles : Settles (blocks_in old) p after
+  pub left : IsLeft r i o after old new road
+
+abbrev pub SettleEnds : {F R I O : Type 0} → files.Ghosts F → roads.Ghosts R I O → link_in.Ghosts I →
+    link_out.Ghosts O → PlayState → Playing F I O → Playing F I O → R → R → Result (Unit {0}) PlayFault → Type 0
+SettleEnds f r i o p old new road road' (Ok u) = HasSettled r i o p old new road'
+SettleEnds f r i o p old new road road' (Err why) = IsCaused f r new road road' why
+
+abbrev pub SettleShows : {F R I O : Type 0} → files.Ghosts F → roads.Ghosts R I O → link_in.Ghosts I →
+    link_out.Ghosts O → Playing F I O → Playing F I O → R → R → Result (Unit {0}) PlayFault → Type 0
+SettleShows f r i o old new road road' result =
+    (p : PlayState) → PlayIs r i o p road old → SettleEnds f r i o p old new road road' result

@@ -8,10 +8,12 @@ use Rattle.play_clients.specs.declared.clients.Client.{Client}
 use Rattle.play.specs.Standing.{PlayStands}
 use Rattle.play_lines.specs.declared.playing.Playing.{Playing}
 
--- The player stands for its events and queues; the generator is the same, and each client has the rule of its block.
+-- The player stands for its events and queues, with as many nodes; the generator is the same, and each client has the rule
+-- of its block.
 pub record PlayIs {F R I O : Type 0} (r : roads.Ghosts R I O) (i : link_in.Ghosts I) (o : link_out.Ghosts O)
     (p : PlayState) (road : R) (x : Playing F I O) : Type 0 where
   pub stands : PlayStands r i o p.nodes p.queues road x.player
+  pub nodes_are : p.nodes ≡ x.nodes
   pub events : p.events ≡ x.player.events.items
   pub generator : x.generator ≡ p.generator
   pub rules : (k : ℕ) (c : Client I O) → slice_get x.player.clients.items k ≡ Some c → c.rule ≡ p.rules c.block.0

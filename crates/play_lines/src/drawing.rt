@@ -2,13 +2,14 @@
 
 ghost use Rattle.member_events.specs.Roads.{RoadsPass};
 ghost use Rattle.play_lines.specs.Showing.{IsPlaying};
-ghost use Rattle.play_lines.specs.Drawing.{DrawShows};
+ghost use Rattle.play_lines.specs.Drawing.{DrawShows, RunShows, SettleShows};
 
 use crate::playing::Playing;
 use hd_base::{Files, LinkIn, LinkOut, Roads};
 use play::{PlayFault, worlds_are_lawful};
 use play_dues::{draw_due, dues_are_listed, plays_are_drawn};
 use play_model::listed_dues_are_due;
+use play_settling::plays_lower;
 use std::alloc::Global;
 use world_orders::takers_are_open;
 
@@ -40,5 +41,41 @@ impl<F: Files, I: LinkIn, O: LinkOut> Playing<F, I, O> {
         };
         self.player.happen(alloc, roads, due)?;
         Ok(true)
+    }
+
+    /// Up to so many draws: fewer where nothing is due any more.
+    pub fn run<R: Roads<Inward = I, Outward = O>>(
+        &mut self,
+        alloc: Global,
+        roads: &mut R,
+        count: u64,
+    ) -> Result<(), PlayFault>
+        requires { IsPlaying R.Roads I.LinkIn O.LinkOut roads.old self.old }
+        ensures shows { RunShows F.Files R.Roads I.LinkIn O.LinkOut count self.old self.new roads.old roads.new result }
+        ensures pass { RoadsPass R.Roads roads.old roads.new }
+    {
+        for _ in 0..count {
+            if !self.draw(alloc, roads)? {
+                return Ok(());
+            }
+        }
+        Ok(())
+    }
+
+    /// Draws until nothing is due.
+    pub fn settle<R: Roads<Inward = I, Outward = O>>(
+        &mut self,
+        alloc: Global,
+        roads: &mut R,
+    ) -> Result<(), PlayFault>
+        requires { IsPlaying R.Roads I.LinkIn O.LinkOut roads.old self.old }
+        ensures shows { SettleShows F.Files R.Roads I.LinkIn O.LinkOut self.old self.new roads.old roads.new result }
+        ensures pass { RoadsPass R.Roads roads.old roads.new }
+    {
+        worlds_are_lawful();
+        listed_dues_are_due();
+        plays_lower();
+        while self.draw(alloc, roads)? {}
+        Ok(())
     }
 }

@@ -7,6 +7,8 @@ use rand_pcg::Lcg64Xsh32;
 /// A play so far.
 #[derive(Drop)]
 pub struct Playing<F: Files, I, O> {
+    /// How many nodes there are.
+    pub nodes: u32,
     /// The nodes, the clients, the office, and what happened.
     pub player: Player<F, I, O>,
     /// Draws what happens next.
