@@ -1,7 +1,0 @@
-//! A play of a script: what happens next is drawn, and the lines of the script are played one after the other.
-#![tactic(auto)]
-
-mod drawing;
-mod playing;
-
-pub use playing::Playing;
