@@ -1,14 +1,11 @@
 -- What a writer's own step asks of the world of a play holds of it.
-use Rattle.std.proofs.Common.{◌≡◌, ◌≢◌, ℕ, ◌≤◌, ◌<◌, ◌+◌, ◌^◌, Bool, true, false, List, [], ◌∷◌, ◌++◌, slice_get, Option, Some, None, IfSome, Result, Ok, Err, refl, sym, ap, ◌∙◌, subst, arith}
-use Rattle.std.specs.Prelude.{◌==◌, ◌&&◌, ◌||◌, not, length, is_some, is_none, if◌then◌else◌}
+use Rattle.std.proofs.Common.{◌≡◌, ℕ, ◌≤◌, ◌<◌, ◌+◌, Bool, true, false, List, [], ◌∷◌, slice_get, Option, Some, None, IfSome, Ok, refl, sym, ap, ◌∙◌, subst, arith}
+use Rattle.std.specs.Prelude.{◌==◌, ◌&&◌, ◌||◌, not, length, is_some, is_none}
 use Rattle.hd_base.specs.declared.links.LinkIn as link_in
 use Rattle.hd_base.specs.declared.links.LinkOut as link_out
-use Rattle.hd_base.specs.declared.numbers.BlockId.{BlockId}
 use Rattle.hd_base.specs.declared.numbers.ConnId.{ConnId}
 use Rattle.hd_base.specs.declared.numbers.NodeId.{NodeId}
-use Rattle.hd_base.specs.declared.numbers.Stamp.{Stamp}
 use Rattle.hd_base.specs.declared.roads.TheConstants.{FIRST_PORT}
-use Rattle.hd_base.specs.SumRules.{default_rule}
 use Rattle.member_core.specs.declared.requests.TheConstants.{MAX_PORT}
 use Rattle.road_traffic.specs.Showing.{Net}
 use Rattle.writer_core.specs.declared.actions.Action.{Action}
@@ -18,39 +15,33 @@ use Rattle.writer_core.specs.declared.commands.Command.TheVariants as command
 use Rattle.writer_core.specs.declared.intake.Intake.{Intake}
 use Rattle.writer_core.specs.declared.phases.Phase.{Phase}
 use Rattle.writer_core.specs.declared.phases.Phase.TheVariants as phase
-use Rattle.writer_core.specs.declared.phases.Setup.{Setup}
 use Rattle.writer_core.specs.declared.phases.Setup.TheVariants as setup
 use Rattle.writer_core.specs.declared.records.WriterRecord.{WriterRecord}
 use Rattle.writer_core.specs.Commands.{admitted, intake_after, is_unmade}
-use Rattle.writer_core.specs.Transitions.{own_step, given, fresh, has_step, has_command_due, is_connected}
-use Rattle.pipe_recovery.specs.Steps.{fits_accepted}
-use Rattle.world.specs.declared.events.Caller.TheVariants as caller
+use Rattle.writer_core.specs.Transitions.{own_step, has_step, is_connected}
 use Rattle.world.specs.declared.events.Event.{Event}
-use Rattle.world.specs.declared.events.Event.TheVariants as event
 use Rattle.world.specs.declared.events.TakenCommand.{TakenCommand}
-use Rattle.world.specs.Worlds.{World, start}
+use Rattle.world.specs.Worlds.{World}
 use Rattle.world.specs.Parts.{Told}
 use Rattle.world.specs.Enabled.{is_deed, is_question, acts_with}
-use Rattle.world.specs.Events.{happens, run, is_enabled}
-use Rattle.world_laws.proofs.FactTables.{and-left, and-right}
-use Rattle.world_texts.specs.Texts.{Written, AllFit}
+use Rattle.world.specs.Events.{happens, is_enabled}
+use Rattle.world_laws.proofs.FactTables.{and-left}
+use Rattle.world_texts.specs.Texts.{AllFit}
 use Rattle.play_model.specs.declared.dues.Due.TheVariants as due
 use Rattle.play_model.specs.Dues.{Queues, is_due, asking, acting, own_events}
-use Rattle.play_laws.specs.Intakes.{intake_of}
-use Rattle.play_laws.specs.Members.{IsNode}
 use Rattle.play_laws.specs.Taking.{MayTake, IsTaken}
 use Rattle.play_laws.specs.Writers.{needs_members, Rests}
 use Rattle.play_laws.proofs.Taking.{admitted-is}
 use Rattle.world_nets.specs.Nets.{is_over}
 use Rattle.member_events.specs.Joining.{SpellDown}
-use Rattle.client_events.specs.Events.{own_event, given_to, asked_world}
+use Rattle.client_events.specs.Events.{own_event}
 use Rattle.client_events.specs.Showing.{awaits}
 use Rattle.play_clients.specs.declared.clients.Client.{Client}
 use Rattle.play_clients.specs.declared.courses.Course.{Course}
 use Rattle.play_clients.specs.declared.courses.Course.TheVariants as course
 use Rattle.play_clients.specs.Clients.{known_of}
-use Rattle.play_clients.specs.Courses.{course_of, course_in}
-use Rattle.play_clients.specs.Events.{IsFirst, CanTake, CanActAlone, CanHaveCommitted, CanAskFirst, CanOwnAs, CanOwn}
+use Rattle.play_clients.specs.Courses.{course_of}
+use Rattle.play_clients.specs.Events.{IsFirst, CanTake, CanActAlone, CanAskFirst, CanOwnAs, CanOwn}
 use Rattle.play_clients.proofs.CourseLaws.{IsCourse, course_is, takes_is, wanted_so, accepted_so, acts_done}
 use Rattle.client_events.specs.SettingUp.{IsWanted}
 use Rattle.client_events.specs.Committing.{IsAccepted}
@@ -58,7 +49,7 @@ use Rattle.play.specs.declared.player.Player.{Player}
 use Rattle.play.specs.Laws.{Laws}
 use Rattle.play.specs.Showing.{IsClient}
 use Rattle.play.specs.Standing.{CommandFits, CommandsFit, ClientFits, EventsFit, world_of}
-use Rattle.play.proofs.Lawful.{spelled, lawful}
+use Rattle.play.proofs.Lawful.{spelled}
 
 -- WHAT IT IS
 

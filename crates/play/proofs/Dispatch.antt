@@ -1,5 +1,5 @@
 -- Who acts in what is due.
-use Rattle.std.proofs.Common.{◌≡◌, ℕ, ◌<◌, Bool, true, false, List, [], ◌∷◌, length, slice_get, option_map, Option, Some, None, Result, Ok, Err, refl, sym, ap, ◌∙◌, subst, eqb-true, eq-eqb}
+use Rattle.std.proofs.Common.{◌≡◌, ℕ, ◌<◌, Bool, true, false, List, slice_get, option_map, Option, Some, None, Result, refl, sym, ap, ◌∙◌, subst, eqb-true, eq-eqb}
 use Rattle.std.specs.Prelude.{◌==◌}
 use Rattle.hd_base.specs.declared.files.Files as files
 use Rattle.hd_base.specs.declared.links.LinkIn as link_in
@@ -11,12 +11,10 @@ use Rattle.world.specs.declared.events.Event.TheVariants as event
 use Rattle.world.specs.Parts as parts
 use Rattle.world.specs.Parts.{by_writer, by_member}
 use Rattle.world.specs.Worlds.{World}
-use Rattle.play_model.specs.declared.dues.Due.{Due}
 use Rattle.play_model.specs.declared.dues.Due.TheVariants as due
 use Rattle.play_model.specs.Dues.{Queues, is_due}
 use Rattle.play_clients.specs.declared.clients.Client.{Client}
 use Rattle.play_nodes.specs.declared.connections.Upper.{Upper}
-use Rattle.play_nodes.specs.declared.nodes.Nodes.{Nodes}
 use Rattle.play_nodes.specs.Dues.{IdleIs, TellsIdle}
 use Rattle.play_nodes.specs.declared.connections.Connection.{Connection}
 use Rattle.play_nodes.specs.Showing.{UpperShows, NodesShow}
@@ -29,11 +27,10 @@ use Rattle.play_dues.proofs.UpperLaws.{up_at, heard_conn, member_upper, writer_u
 use Rattle.play.specs.declared.faults.PlayFault.{PlayFault}
 use Rattle.play.specs.declared.player.Player.{Player}
 use Rattle.play.specs.Laws.{Laws}
-use Rattle.play.specs.Showing.{IsClient, PlayerShows, PlayerStands}
-use Rattle.play.specs.Events as events
-use Rattle.play.specs.Events.{IsCaused, BeginShows, DownShows, MirrorShows, HeardShows, PlayEnds}
+use Rattle.play.specs.Showing.{IsClient}
+use Rattle.play.specs.Events.{BeginShows, DownShows, MirrorShows, HeardShows, PlayEnds}
 use Rattle.play.specs.Owning.{OwnShows}
-use Rattle.play.specs.Standing.{ClientFits, world_of, PlayStands, HappenEnds, HappenShows, ActorIsClient}
+use Rattle.play.specs.Standing.{world_of, PlayStands, HappenShows}
 use Rattle.play.proofs.CanOwning.{can_own}
 use Rattle.play.proofs.Happened.{happened_so}
 use Rattle.play.proofs.Lawful.{lawful, can_begin, can_hear, hears_quiet}
@@ -66,7 +63,7 @@ module _ {F R I O : Type 0} (f : files.Ghosts F) (r : roads.Ghosts R I O) (i : l
       let client : IsClient i o w s.net queues k.client = s.shows.clients place k.client k.found in
       let is' : is_due w queues (due.Own k.client.block) ≡ true = subst (λ (b : BlockId). is_due w queues (due.Own b) ≡ true) (sym k.block) is in
       let ends : PlayEnds f r i o w queues (due.Own k.client.block) old new road road' result =
-          shows w s.net queues k.client s.shows k.found (L.ordered nodes old.events.items) is' (can_own i o L nodes old s.events s.ports s.net queues k.client client (s.clients place k.client k.found) is' (record { 0 = w.next_conn }) refl) in
+      shows w s.net queues k.client s.shows k.found (L.ordered nodes old.events.items) is' (can_own i o L nodes old s.events s.ports s.net queues k.client client (s.clients place k.client k.found) is' (record { 0 = w.next_conn }) refl) in
       happened_so r i o L nodes queues old road s f (due.Own block) is actor new road' result (subst (λ (b : BlockId). PlayEnds f r i o w queues (due.Own b) old new road road' result) k.block ends)
 
   -- WHAT COMES DOWN

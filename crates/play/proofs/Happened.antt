@@ -1,17 +1,14 @@
 -- What has happened leaves a play whose events and commands fit.
-use Rattle.std.proofs.Common.{◌≡◌, ◌≢◌, ◌⊎◌, inl, inr, ℕ, zero, suc, ◌≤◌, ◌<◌, ◌+◌, ◌^◌, Bool, true, false, List, [], ◌∷◌, ◌++◌, drop, length, slice_get, Option, Some, None, IfSome, Result, Ok, Err, refl, sym, ap, ◌∙◌, subst, arith, eqb-true}
-use Rattle.std.specs.Prelude.{◌==◌, ◌&&◌, ◌||◌, not, nat_lt, is_some, is_none}
+use Rattle.std.proofs.Common.{◌≡◌, ◌⊎◌, inl, inr, ℕ, zero, suc, ◌<◌, ◌^◌, Bool, true, false, List, [], ◌∷◌, drop, slice_get, Option, Some, None, IfSome, Result, Ok, Err, refl, sym, ap, ◌∙◌, subst, eqb-true}
+use Rattle.std.specs.Prelude.{◌==◌, ◌&&◌, ◌||◌, is_some, is_none}
 use Rattle.std.proofs.lemmas.Bool.{eqb-false}
-use Rattle.std.proofs.lemmas.Bool.Decides.{nat_tests}
 use Rattle.std.proofs.lemmas.Option.{none-some, same_Some}
 use Rattle.hd_base.specs.declared.files.Files as files
 use Rattle.hd_base.specs.declared.links.LinkIn as link_in
 use Rattle.hd_base.specs.declared.links.LinkOut as link_out
 use Rattle.hd_base.specs.declared.numbers.BlockId.{BlockId}
 use Rattle.hd_base.specs.declared.numbers.ConnId.{ConnId}
-use Rattle.hd_base.specs.declared.numbers.NodeId.{NodeId}
 use Rattle.hd_base.specs.declared.roads.Roads as roads
-use Rattle.hd_base.specs.SumRules.{default_rule}
 use Rattle.writer_core.specs.declared.actions.Action.{Action}
 use Rattle.writer_core.specs.declared.actions.Action.TheVariants as action
 use Rattle.writer_core.specs.declared.commands.Command.{Command}
@@ -19,36 +16,28 @@ use Rattle.writer_core.specs.declared.commands.Command.TheVariants as command
 use Rattle.writer_core.specs.declared.intake.Intake.{Intake}
 use Rattle.writer_core.specs.declared.intake.Stand.{Stand}
 use Rattle.writer_core.specs.declared.intake.Stand.TheVariants as stand
-use Rattle.writer_core.specs.declared.phases.Phase.{Phase}
 use Rattle.writer_core.specs.declared.records.WriterRecord.{WriterRecord}
 use Rattle.writer_core.specs.Commands.{admitted, intake_after, is_unmade, is_open}
-use Rattle.writer_core.specs.Transitions.{own_step, fresh, has_step, is_action, is_connected}
+use Rattle.writer_core.specs.Transitions.{own_step, has_step, is_action, is_connected}
 use Rattle.world.specs.declared.events.Event.{Event}
 use Rattle.world.specs.declared.events.Event.TheVariants as event
 use Rattle.world.specs.declared.events.TakenCommand.{TakenCommand}
 use Rattle.world.specs.Parts as parts
 use Rattle.world.specs.Parts.{by_writer, by_member, by_reader, by_primary, Writing}
-use Rattle.world.specs.Worlds.{World, start, put}
-use Rattle.world.specs.Connections.{is_conn, next_up}
-use Rattle.world.specs.Enabled.{can_up, takes_above}
+use Rattle.world.specs.Worlds.{World, start}
 use Rattle.world.specs.Events.{happens, run}
-use Rattle.world_laws.proofs.FactTables.{and-left, and-right}
 use Rattle.world_laws.proofs.StampGivens.{put-here, put-there}
-use Rattle.world_requests.specs.Requests.{IsAmong, AllAmong}
-use Rattle.world_texts.specs.Texts.{AllFit}
+use Rattle.world_requests.specs.Requests.{IsAmong}
 use Rattle.play_model.specs.declared.dues.Due.{Due}
 use Rattle.play_model.specs.declared.dues.Due.TheVariants as due
-use Rattle.play_model.specs.Dues.{Queues, is_due, is_open_above, due_events, queues_after, own_events, queue_left, action_of, acting, asking}
+use Rattle.play_model.specs.Dues.{Queues, is_due, due_events, queues_after, own_events, queue_left, action_of, acting}
 use Rattle.play_laws.specs.Intakes.{intake_of, is_wait}
-use Rattle.play_laws.specs.Members.{IsNode, Names, AllName}
-use Rattle.play_laws.specs.Nodes.{AllKeepNodes}
+use Rattle.play_laws.specs.Members.{IsNode, Names}
 use Rattle.play_laws.proofs.Taking.{admitted-is}
 use Rattle.play_clients.specs.declared.clients.Client.{Client}
 use Rattle.play_clients.specs.Clients.{known_of}
 use Rattle.play_clients.proofs.CourseLaws.{fresh_waits}
 use Rattle.play_nodes.specs.declared.connections.Upper.{Upper}
-use Rattle.play_nodes.specs.declared.connections.Upper.TheVariants as upper
-use Rattle.play_nodes.specs.declared.nodes.Nodes.{Nodes}
 use Rattle.play_nodes.specs.Showing.{UpperShows, NodesShow}
 use Rattle.play_nodes.proofs.Tables.{element}
 use Rattle.play_dues.specs.Showing.{HasClient}
@@ -57,8 +46,8 @@ use Rattle.play.specs.declared.faults.PlayFault.{PlayFault}
 use Rattle.play.specs.declared.player.Player.{Player}
 use Rattle.play.specs.Laws.{Laws}
 use Rattle.play.specs.Showing.{IsClient, PlayerShows}
-use Rattle.play.specs.Events.{writer_at, actor_of, StaysAt, blocks_of, KeepsPlaces, PlayerLeft, PlayEnds}
-use Rattle.play.specs.Standing.{CommandFits, CommandsFit, ClientFits, EventsFit, world_of, PlayStands, HasHappened, HappenEnds, ActorIsClient}
+use Rattle.play.specs.Events.{writer_at, actor_of, StaysAt, blocks_of, PlayerLeft, PlayEnds}
+use Rattle.play.specs.Standing.{CommandsFit, ClientFits, EventsFit, world_of, PlayStands, HasHappened, HappenEnds, ActorIsClient}
 use Rattle.play.proofs.Lawful.{fits_more}
 use Rattle.play.proofs.CanOwning.{takes_so}
 

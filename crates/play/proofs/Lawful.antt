@@ -1,6 +1,6 @@
 -- What a play's events ask of the world holds of it.
-use Rattle.std.proofs.Common.{◌≡◌, ◌≢◌, ℕ, zero, suc, ◌≤◌, ◌<◌, ◌+◌, ◌^◌, Bool, true, false, List, [], ◌∷◌, ◌++◌, length, slice_get, Option, Some, None, IfSome, Result, Ok, Err, refl, sym, ap, ◌∙◌, subst, arith}
-use Rattle.std.specs.Prelude.{◌-◌, ◌&&◌, ◌||◌, nat_le, is_some, is_none, if◌then◌else◌}
+use Rattle.std.proofs.Common.{◌≡◌, ℕ, ◌≤◌, ◌<◌, ◌+◌, ◌^◌, Bool, true, false, List, [], ◌∷◌, ◌++◌, length, slice_get, Some, None, refl, sym, ap, ◌∙◌, subst, arith}
+use Rattle.std.specs.Prelude.{◌-◌, nat_le, if◌then◌else◌}
 use Rattle.std.proofs.lemmas.List.{length-append}
 use Rattle.std.proofs.lemmas.Option.{none-some, same_Some}
 use Rattle.hd_base.specs.declared.numbers.BlockId.{BlockId}
@@ -10,30 +10,21 @@ use Rattle.hd_base.specs.declared.roads.TheConstants.{FIRST_PORT}
 use Rattle.member_core.specs.declared.requests.TheConstants.{MAX_PORT}
 use Rattle.op_headers.specs.declared.nodes.NodeRef.{NodeRef}
 use Rattle.op_headers.specs.declared.ops.Op.TheVariants as op
-use Rattle.op_headers.specs.Values.{WriteFields}
-use Rattle.node_refs.specs.NodeRefs.{port_of, ref_of}
+use Rattle.node_refs.specs.NodeRefs.{port_of}
 use Rattle.name_core.specs.declared.office.TheConstants.{FIRST_STAMP}
 use Rattle.world.specs.declared.events.Event.{Event}
 use Rattle.world.specs.declared.events.Event.TheVariants as event
 use Rattle.world.specs.Parts.{request}
 use Rattle.world.specs.Worlds.{World, start}
-use Rattle.world.specs.Connections.{message, next_down}
 use Rattle.world.specs.Nodes.{node_on, mirror_node}
-use Rattle.world.specs.Events.{happens, run}
+use Rattle.world.specs.Events.{run}
 use Rattle.world_laws.proofs.AllCarried.{next-sent}
-use Rattle.world_nets.specs.Drawn.{ComesDown}
 use Rattle.world_requests.specs.Requests.{AllAmong}
 use Rattle.world_texts.specs.Texts.{Written, AllFit}
-use Rattle.writer_core.specs.declared.phases.Setup.{Setup}
-use Rattle.hd_base.specs.declared.numbers.Stamp.{Stamp}
-use Rattle.writer_core.specs.declared.phases.Phase.{Phase}
-use Rattle.writer_core.specs.declared.phases.Phase.TheVariants as phase
-use Rattle.member_events.specs.Joining.{write_next}
-use Rattle.play_laws.specs.Members.{IsNode, AllName, IsRef, AreRefs}
-use Rattle.play_laws.specs.Nodes.{AllKeepNodes, NodesRun}
-use Rattle.play_laws.specs.Writers.{needs_members, Rests}
+use Rattle.play_laws.specs.Members.{IsNode, AllName, IsRef}
+use Rattle.play_laws.specs.Nodes.{AllKeepNodes}
+use Rattle.play_laws.specs.Writers.{needs_members}
 use Rattle.play_clients.specs.Events.{HearIsLawful, AcceptedIsQuiet}
-use Rattle.play_nodes.specs.declared.nodes.Nodes.{Nodes}
 use Rattle.play_nodes.specs.Events.{IsLawful}
 use Rattle.play.specs.declared.player.Player.{Player}
 use Rattle.play.specs.Events.{CanBegin}

@@ -129,6 +129,9 @@ module _ {F R I O : Type 0} (r : roads.Ghosts R I O) (i : link_in.Ghosts I) (o :
   -- each writer that has a connection has a client
   pub upper_nobody : (n : Nodes F I O) (clients : List (Client I O)) (conn : ConnId) (asked : Option BlockId) (sought : Option ℕ) (block : BlockId) (road : R) → conn.0 < length n.connections.items
       → asked ≡ writer_above (option_map (λ x. x.upper) (slice_get n.connections.items conn.0)) → asked ≡ Some block → sought ≡ client_place clients block.0 → sought ≡ None → TellsUpper r i o conn n clients road road false
-  upper_nobody n clients conn asked sought block road within told some sought_is none = λ w net queues h. (h, not_true (is_due w queues (due.Up conn)) (λ is.
-      let k = h.connected block.0 conn.0 (heard_conn w queues conn block.0 is (writer_so w net n conn asked block road within told some h.stands)) in
-      none_is_some (client_place clients block.0) _ (sym sought_is ∙ none) (place_there (λ (x : Client I O). x.block.0 == block.0) clients k.place k.client k.found (eq-eqb k.client.block.0 block.0 k.block))))
+  upper_nobody n clients conn asked sought block road within told some sought_is none = λ w net queues h. (
+    h,
+    not_true (is_due w queues (due.Up conn)) (λ is.
+        let k = h.connected block.0 conn.0 (heard_conn w queues conn block.0 is (writer_so w net n conn asked block road within told some h.stands)) in
+        none_is_some (client_place clients block.0) _ (sym sought_is ∙ none) (place_there (λ (x : Client I O). x.block.0 == block.0) clients k.place k.client k.found (eq-eqb k.client.block.0 block.0 k.block))),
+  )

@@ -1,5 +1,4 @@
 -- An end acted.
-use Rattle.std.proofs.Common.{refl}
 use Rattle.world.specs.declared.events.Event.TheVariants as event
 use Rattle.play_model.specs.declared.dues.Due.TheVariants as due
 use Rattle.play.specs.Standing.{world_of}
