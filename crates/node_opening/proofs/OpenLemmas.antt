@@ -27,6 +27,8 @@ use Rattle.node_opening.proofs.CloseLemmas.{FoundAt, found_by, block_at}
 use Rattle.node_opening.proofs.LendLemmas.{new_replica, new_block}
 use Rattle.node_opening.specs.Lending.{HasBooks, HaveBooks}
 use Rattle.node_opening.specs.Listening.{opened_net}
+use Rattle.node_opening.specs.Laws.{CanClose}
+use Rattle.world_laws.specs.Filling.{Filled}
 use Rattle.node_opening.specs.Opening.{IsOpened}
 use Rattle.node_opening.proofs.ListenLemmas.{net_unused}
 use Rattle.std.specs.Prelude.{IfSome, option_map}
@@ -166,8 +168,7 @@ module _ {S D I O : Type 0} (s : shelves.Ghosts S D) (d : files.Ghosts D) where
     have_books = books_after s d blocks old mid new n.nodes.items checked.0 h;
   }
 
-  -- The shelves of opened nodes lend the blocks.
-  pub opened_lend : (blocks : List BlockId) (old new : List S) (n : Nodes D I O) (nodes : ℕ) → IsOpened s d blocks old new n → TheyLend s blocks nodes new
+  opened_lend : (blocks : List BlockId) (old new : List S) (n : Nodes D I O) (nodes : ℕ) → IsOpened s d blocks old new n → TheyLend s blocks nodes new
   opened_lend blocks old new n nodes h = λ k b y within at among.
       let books = h.have_books in
       let below : k < length old = subst (λ (m : ℕ). k < m) books.shelves_stay (element_within new k b at) in
@@ -179,7 +180,15 @@ module _ {S D I O : Type 0} (s : shelves.Ghosts S D) (d : files.Ghosts D) where
       lent_of p true r e m = e
       lent_of p false r e m = cc
 
-  -- Their books are of the blocks at their places.
-  pub opened_fit : (blocks : List BlockId) (old new : List S) (n : Nodes D I O) → IsOpened s d blocks old new n → NodesFit blocks n.nodes.items
-  opened_fit blocks old new n h = λ node place block x at is.
-      ap (λ (r : FullReplica). r.known.block) (book_replica s d blocks old new n.nodes.items h.have_books node place block x at is)
+  -- The shelves of opened nodes lend their blocks, and their books are of the blocks at their places.
+  pub opened_close : (blocks : List BlockId) (old new : List S) (n : Nodes D I O) → IsOpened s d blocks old new n → CanClose s new n
+  opened_close blocks old new n h = record {
+    lend = λ nodes. subst (λ (xs : List BlockId). TheyLend s xs nodes new) (sym h.blocks_are) (opened_lend blocks old new n nodes h);
+    fit = subst (λ (xs : List BlockId). NodesFit xs n.nodes.items) (sym h.blocks_are) (λ node place block x at is.
+        ap (λ (r : FullReplica). r.known.block) (book_replica s d blocks old new n.nodes.items h.have_books node place block x at is));
+  }
+
+-- So are those of nodes that show a world.
+pub shown_fit : {F I O : Type 0} (i : link_in.Ghosts I) (o : link_out.Ghosts O) (w : World) (net : Net) (n : Nodes F I O) → Filled w → NodesShow i o w net n → NodesFit n.blocks.items n.nodes.items
+shown_fit i o w net n filled shows = λ node place block x at is.
+    ap (λ (r : FullReplica). r.known.block) (shows.books node place block x at is) ∙ (filled.replicas node block.0).block_is

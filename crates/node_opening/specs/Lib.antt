@@ -4,3 +4,4 @@ pub mod Emptiness
 pub mod Closing
 pub mod Lending
 pub mod Opening
+pub mod Laws

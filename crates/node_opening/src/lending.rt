@@ -45,7 +45,7 @@ fn lend_next<S: Shelf>(
     Ok(())
 }
 
-/// All blocks are lent, and their books made. After an error none is lent.
+/// All blocks are lent, and their books made. After an error none is lent that wasn't before.
 fn lend_books<S: Shelf>(
     alloc: Global,
     shelf: &mut S,
@@ -82,7 +82,7 @@ fn lend_node<S: Shelf>(
     Ok(())
 }
 
-/// Each shelf lends all blocks to its node. After an error none is lent.
+/// Each shelf lends all blocks to its node. After an error none is lent that wasn't before.
 pub(crate) fn lend_all<S: Shelf>(
     alloc: Global,
     shelves: &mut [S],

@@ -5,10 +5,12 @@
 mod closing;
 mod emptiness;
 mod faults;
+mod laws;
 mod lending;
 mod listening;
 mod opening;
 
 pub use closing::close_nodes;
 pub use faults::OpenFault;
+pub use laws::{opened_nodes_close, shown_nodes_fit};
 pub use opening::open_nodes;

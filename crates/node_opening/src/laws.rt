@@ -1,0 +1,15 @@
+//! What nodes of a play are closed with.
+
+ghost use Rattle.node_opening.specs.Laws.{OpenedClose, ShownFit};
+
+use hd_base::{Files, LinkIn, LinkOut, Shelf};
+
+/// The shelves of nodes that were opened lend their blocks, and their books are of the blocks at their places.
+pub fn opened_nodes_close<S: Shelf, I: LinkIn, O: LinkOut>()
+    ensures { OpenedClose S S.Drawer I O S.Shelf S.Drawer.Files }
+{}
+
+/// The books of nodes that show a world are of the blocks at their places.
+pub fn shown_nodes_fit<F: Files, I: LinkIn, O: LinkOut>()
+    ensures { ShownFit F I O I.LinkIn O.LinkOut }
+{}
