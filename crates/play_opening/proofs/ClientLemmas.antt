@@ -1,5 +1,5 @@
 -- New clients, one for each block.
-use Rattle.std.proofs.Common.{◌≡◌, ◌≤◌, ◌+◌, ◌<◌, ◌^◌, ℕ, zero, suc, List, [], ◌∷◌, ◌++◌, length, take, map, slice_get, Option, Some, None, refl, sym, ap, subst, ◌∙◌, arith, add-one}
+use Rattle.std.proofs.Common.{◌≡◌, ◌≤◌, ◌+◌, ℕ, zero, suc, List, [], ◌∷◌, ◌++◌, length, take, map, slice_get, Some, refl, sym, ap, subst, ◌∙◌, add-one}
 use Rattle.std.proofs.lemmas.List.{take_all, map-append}
 use Rattle.hd_base.specs.declared.numbers.BlockId.{BlockId}
 use Rattle.play_nodes.proofs.PlaceLaws.{same_some}
@@ -35,7 +35,7 @@ module _ {I O : Type 0} where
       (subst (λ (bs : List BlockId). AreNewClients bs (clients ++ c ∷ [])) (sym (ap (λ (m : ℕ). take m blocks) (add-one k) ∙ take_next blocks k block at)) (clients_more (take k blocks) block clients c h n))
 
   pub clients_end : (blocks : List BlockId) (k : ℕ) (clients : List (Client I O)) → length blocks ≤ k → AreNewClients (take k blocks) clients → AreNewClients blocks clients
-  clients_end blocks k clients e h = subst (λ (bs : List BlockId). AreNewClients bs clients) (take_all blocks k e) h
+  clients_end blocks k clients e h = subst (λ (bs : List BlockId). AreNewClients bs clients) (take_all k blocks e) h
 
   -- The client at a place is of the block there.
   pub block_there : (clients : List (Client I O)) (k : ℕ) (c : Client I O) → slice_get clients k ≡ Some c → slice_get (blocks_of clients) k ≡ Some c.block

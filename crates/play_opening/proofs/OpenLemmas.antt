@@ -1,6 +1,5 @@
 -- A player that was opened shows the first world.
-use Rattle.std.proofs.Common.{◌≡◌, ◌≤◌, ◌<◌, ◌+◌, ◌^◌, ℕ, List, [], ◌∷◌, map, slice_get, Option, Some, None, IfSome, refl, sym, ap, subst, ◌∙◌, arith}
-use Rattle.std.specs.Prelude.{Result, Ok, Err, IfErr}
+use Rattle.std.proofs.Common.{◌≡◌, ◌≤◌, ◌+◌, ℕ, false, List, [], map, slice_get, Option, Some, None, IfSome, refl, sym, ap, subst, ◌∙◌, arith}
 use Rattle.hd_base.specs.SumRules.{default_rule}
 use Rattle.hd_base.specs.declared.files.Files as files
 use Rattle.hd_base.specs.declared.links.LinkIn as link_in
@@ -12,7 +11,6 @@ use Rattle.hd_base.specs.declared.shelves.Shelf as shelves
 use Rattle.member_core.specs.declared.requests.TheConstants.{MAX_PORT}
 use Rattle.name_core.specs.Books.{BookState, new_book}
 use Rattle.road_traffic.specs.Showing.{Net}
-use Rattle.writer_core.specs.declared.intake.Intake.{Intake}
 use Rattle.writer_core.specs.declared.records.WriterRecord.{WriterRecord}
 use Rattle.writer_core.specs.Commands.{is_unmade}
 use Rattle.writer_core.specs.Transitions.{fresh}
@@ -20,7 +18,6 @@ use Rattle.world.specs.declared.events.Event.{Event}
 use Rattle.world.specs.declared.events.TakenCommand.{TakenCommand}
 use Rattle.world.specs.Worlds.{World, start}
 use Rattle.world.specs.Events.{run}
-use Rattle.world_requests.specs.Requests.{IsAmong}
 use Rattle.play_laws.specs.Intakes.{intake_of}
 use Rattle.client_events.specs.declared.acting.Said.{Said}
 use Rattle.client_events.specs.declared.pipes.Pipe.{Pipe}
@@ -28,11 +25,10 @@ use Rattle.client_events.specs.Showing.{PipeShows, PipeFits}
 use Rattle.play_clients.specs.declared.clients.Client.{Client}
 use Rattle.play_clients.specs.Clients.{IsNew, ClientShows, known_of, said_as}
 use Rattle.play_nodes.specs.Showing.{NodesStand}
-use Rattle.play_dues.specs.Showing.{HasClient}
 use Rattle.node_opening.specs.Shelves.{AreDistinct}
 use Rattle.node_opening.specs.Listening.{opened_net}
 use Rattle.play.specs.declared.player.Player.{Player}
-use Rattle.play.specs.Showing.{IsClient, AreApart, PlayerShows}
+use Rattle.play.specs.Showing.{AreApart, PlayerShows}
 use Rattle.play.specs.Standing.{CommandsFit, ClientFits, EventsFit, world_of, PlayStands}
 use Rattle.play_opening.specs.Opening.{IsNewClient, AreNewClients, IsOpenedPlay, no_commands}
 use Rattle.play_opening.proofs.ClientLemmas.{block_here}
@@ -65,9 +61,12 @@ module _ {I O : Type 0} where
 
 -- THE FIRST WORLD
 
+none_some : (c : ℕ) → None ≡ Some c → ⊥
+none_some c h = cc
+
 not_connected : (nodes b c : ℕ) → ((start nodes).writers b).conn ≡ Some c → ⊥
 unfolding start
-not_connected nodes b c h = cc
+not_connected nodes b c h = none_some c h
 
 no_office : (nodes : ℕ) → new_book.office ≡ (start nodes).office
 unfolding start

@@ -37,10 +37,11 @@ pub fn open_player<S: Shelf, R: Roads>(
     let clients = new_clients(alloc, &blocks)?;
     let office = OfficeBook::new(alloc)?;
     let nodes = open_nodes(alloc, roads, shelves, blocks)?;
+    let events = Vec::new(alloc);
     Ok(Player {
         nodes,
         clients,
         office,
-        events: Vec::new(alloc),
+        events,
     })
 }
