@@ -1,0 +1,47 @@
+//! The player of a play is opened.
+
+ghost use Rattle.std.specs.Prelude.{◌≡◌, ◌≤◌, length, IfOk, IfErr, OnErr};
+ghost use Rattle.hd_base.specs.declared.roads.TheConstants.{MAX_NODES};
+ghost use Rattle.node_opening.specs.Shelves.{AreDistinct, EachShelf, IsGivenBack};
+ghost use Rattle.node_opening.specs.Opening.{HasOpenCause};
+ghost use Rattle.play_opening.specs.Opening.{IsOpenedPlay, OpensPlay};
+
+use crate::clients::new_clients;
+use hd_base::{BlockId, Roads, Shelf};
+use name_core::OfficeBook;
+use node_opening::{OpenFault, open_nodes};
+use play::Player;
+use std::alloc::Global;
+
+/// Opens the player of a play, with as many nodes as there are shelves: the nodes are opened, as `open_nodes` does it, each
+/// block has a new client, in the order of the blocks, the office knows no block, and no event has happened. There are
+/// ports for all nodes, and each block stands once.
+///
+/// After a fault no block is lent that wasn't before, and the shelves' files are as they were.
+pub fn open_player<S: Shelf, R: Roads>(
+    alloc: Global,
+    roads: &mut R,
+    shelves: &mut [S],
+    blocks: Vec<BlockId>,
+) -> Result<Player<S::Drawer, R::Inward, R::Outward>, OpenFault>
+    requires ports { length shelves.old ≤ MAX_NODES }
+    requires distinct { AreDistinct blocks.items }
+    ensures opened { IfOk result (IsOpenedPlay S.Shelf S.Drawer.Files blocks.items shelves.old shelves.new) }
+    ensures stands { OpensPlay R.Roads R.Inward.LinkIn R.Outward.LinkOut
+        (length shelves.old) roads.old roads.new result }
+    ensures cause { IfErr result (HasOpenCause R.Roads S.Shelf roads.old roads.new shelves.old shelves.new) }
+    ensures given_back { OnErr result (EachShelf (IsGivenBack S.Shelf) shelves.old shelves.new) }
+    ensures never_falls { R.faults roads.old ≤ R.faults roads.new }
+    ensures risen { R.risen roads.new ≡ R.risen roads.old }
+{
+    let clients = new_clients(alloc, &blocks)?;
+    let office = OfficeBook::new(alloc)?;
+    let nodes = open_nodes(alloc, roads, shelves, blocks)?;
+    let events = Vec::new(alloc);
+    Ok(Player {
+        nodes,
+        clients,
+        office,
+        events,
+    })
+}
