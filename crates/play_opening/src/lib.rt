@@ -1,5 +1,5 @@
-//! The start of a play: its player, with the nodes opened, a new client for each block, an office that knows no block, and
-//! no events.
+//! The start of a play: its player, with the nodes opened, a new client for each block, an office that knows no block,
+//! and no events.
 #![tactic(auto)]
 
 mod clients;

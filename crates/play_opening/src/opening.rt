@@ -13,9 +13,9 @@ use node_opening::{OpenFault, open_nodes};
 use play::Player;
 use std::alloc::Global;
 
-/// Opens the player of a play, with as many nodes as there are shelves: the nodes are opened, as `open_nodes` does it, each
-/// block has a new client, in the order of the blocks, the office knows no block, and no event has happened. There are
-/// ports for all nodes, and each block stands once.
+/// Opens the player of a play, with as many nodes as there are shelves: the nodes are opened, as `open_nodes` does it,
+/// each block has a new client, in the order of the blocks, the office knows no block, and no event has happened. There
+/// are ports for all nodes, and each block stands once.
 ///
 /// After a fault no block is lent that wasn't before, and the shelves' files are as they were.
 pub fn open_player<S: Shelf, R: Roads>(
