@@ -47,7 +47,7 @@ use Rattle.play.specs.declared.player.Player.{Player}
 use Rattle.play.specs.Laws.{Laws}
 use Rattle.play.specs.Showing.{IsClient, PlayerShows}
 use Rattle.play.specs.Events.{writer_at, actor_of, StaysAt, blocks_of, PlayerLeft, PlayEnds}
-use Rattle.play.specs.Standing.{CommandsFit, ClientFits, EventsFit, world_of, PlayStands, HasHappened, HappenEnds, ActorIsClient}
+use Rattle.play.specs.Standing.{given_with, CommandsFit, ClientFits, EventsFit, world_of, PlayStands, HasHappened, HappenEnds, ActorIsClient}
 use Rattle.play.proofs.Lawful.{fits_more}
 use Rattle.play.proofs.CanOwning.{takes_so}
 
@@ -148,6 +148,7 @@ module _ {F R I O : Type 0} (r : roads.Ghosts R I O) (i : link_in.Ghosts I) (o :
     record Goes (a : Action) (queue : List TakenCommand) : Type 0 where
       fit : CommandsFit nodes (intake_of (run here (own_events a c.block.0 queue)) c.block.0) (queue_left a queue)
       made : is_unmade (intake_of (run here (own_events a c.block.0 queue)) c.block.0).stand ≡ false
+      given : given_with (intake_of (run here (own_events a c.block.0 queue)) c.block.0) (queue_left a queue) ≡ given_with known.intake queue
 
     takes_goes : (queue : List TakenCommand) → has_step known ≡ false → is_some (slice_get queue 0) ≡ true → CommandsFit nodes known.intake queue → Goes action.Wait queue
     takes_goes [] idle some fit = cc
@@ -156,6 +157,7 @@ module _ {F R I O : Type 0} (r : roads.Ghosts R I O) (i : link_in.Ghosts I) (o :
         record {
           fit = subst (λ (j : Intake). CommandsFit nodes j queue) (sym k.intake) fit.1;
           made = ap (λ (j : Intake). is_unmade j.stand) k.intake ∙ made_by nodes known.intake t.command fit.0.admits;
+          given = ap (λ (j : Intake). given_with j queue) k.intake;
         }
 
     -- one that has something to do isn't new
@@ -181,6 +183,7 @@ module _ {F R I O : Type 0} (r : roads.Ghosts R I O) (i : link_in.Ghosts I) (o :
         record {
           fit = subst (λ (q : List TakenCommand). CommandsFit nodes (intake_of later c.block.0) q) (sym (left_queue act (queues c.block.0) apart)) (subst (λ (j : Intake). CommandsFit nodes j (queues c.block.0)) (sym same) fit);
           made = ap (λ (j : Intake). is_unmade j.stand) same ∙ not_new (no_wait_step known apart);
+          given = ap (λ (q : List TakenCommand). given_with (intake_of later c.block.0) q) (left_queue act (queues c.block.0) apart) ∙ ap (λ (j : Intake). given_with j (queues c.block.0)) same;
         }
 
     wait_is : (a : Action) → is_wait a ≡ true → action.Wait ≡ a
@@ -259,12 +262,14 @@ module _ {F R I O : Type 0} (r : roads.Ghosts R I O) (i : link_in.Ghosts I) (o :
   record Fits (d : Due) (b : ℕ) : Type 0 where
     fit : CommandsFit nodes (intake_of (run here (due_events here queues d)) b) (queues_after here queues d b)
     made : actor_of here d ≡ Some b → is_unmade (intake_of (run here (due_events here queues d)) b).stand ≡ false
+    given : given_with (intake_of (run here (due_events here queues d)) b) (queues_after here queues d b) ≡ given_with (intake_of here b) (queues b)
 
   still_fits : (d : Due) → is_due here queues d ≡ true → (b : ℕ) → (actor_of here d ≡ Some b → ⊥) → queues_after here queues d b ≡ queues b → CommandsFit nodes (intake_of here b) (queues b) → Fits d b
   still_fits d is b apart same fit = record {
     fit = subst (λ (q : List TakenCommand). CommandsFit nodes (intake_of (run here (due_events here queues d)) b) q) (sym same)
         (subst (λ (x : Writing). CommandsFit nodes x.known.intake (queues b)) (sym (writers_stay d is b apart)) fit);
     made = λ e. absurd (apart e);
+    given = ap (λ (q : List TakenCommand). given_with (intake_of (run here (due_events here queues d)) b) q) same ∙ ap (λ (x : Writing). given_with x.known.intake (queues b)) (writers_stay d is b apart);
   }
 
   -- a writer that hears something was given a create
@@ -288,6 +293,7 @@ module _ {F R I O : Type 0} (r : roads.Ghosts R I O) (i : link_in.Ghosts I) (o :
           record {
             fit = subst (λ (j : Intake). CommandsFit nodes j (queues b)) (sym same) fit;
             made = λ z. ap (λ (j : Intake). is_unmade j.stand) same ∙ heard_made c b is upper_is;
+            given = ap (λ (j : Intake). given_with j (queues b)) same;
           }
 
       by : UpperKind (here.dialled c.0).upper → Fits (due.Up c) b
@@ -307,6 +313,7 @@ module _ {F R I O : Type 0} (r : roads.Ghosts R I O) (i : link_in.Ghosts I) (o :
               record {
                 fit = subst (λ (q : List TakenCommand). CommandsFit nodes (intake_of (run here (due_events here queues (due.Own x.client.block))) x.client.block.0) q) (sym (put-here queues x.client.block.0 (queue_left (action_of here x.client.block) (queues x.client.block.0)))) z.fit;
                 made = λ e. z.made;
+                given = ap (λ (q : List TakenCommand). given_with (intake_of (run here (due_events here queues (due.Own x.client.block))) x.client.block.0) q) (put-here queues x.client.block.0 (queue_left (action_of here x.client.block) (queues x.client.block.0))) ∙ z.given;
               }
 
   -- WHAT IS LEFT
@@ -367,6 +374,11 @@ module _ {F R I O : Type 0} (r : roads.Ghosts R I O) (i : link_in.Ghosts I) (o :
         by (inl e) = actor_client d is actor b e
         by (inr apart) = s.connected b c (sym (ap (λ (x : Writing). x.conn) (writers_stay d is b apart)) ∙ has)
 
+    -- the commands that are queued for a client's block
+    client_queue : (b : ℕ) → HasClient old.clients.items b → CommandsFit nodes (intake_of here b) (queues b)
+    client_queue b h =
+        subst (λ (n : ℕ). CommandsFit nodes (intake_of here n) (queues n)) h.block (queue_fits h.client (s.shows.clients h.place h.client h.found) (s.clients h.place h.client h.found))
+
     pub has_happened : HasHappened r i o nodes queues d old new road'
     has_happened = record {
       stands = record {
@@ -380,6 +392,7 @@ module _ {F R I O : Type 0} (r : roads.Ghosts R I O) (i : link_in.Ghosts I) (o :
       };
       events = left.events;
       places = left.places;
+      given = λ b h. ap (λ (v : World). given_with (intake_of v b) (queues_after here queues d b)) world_is ∙ (fits_after d is actor b (client_queue b h)).given;
     }
 
   pub happened_so : (f : files.Ghosts F) (d : Due) → is_due here queues d ≡ true → ActorIsClient old d → (new : Player F I O) (road' : R) (result : Result (Unit {0}) PlayFault) → PlayEnds f r i o here queues d old new road road' result → HappenEnds f r i o nodes queues d old new road road' result

@@ -43,6 +43,11 @@ abbrev pub CommandsFit : ℕ → Intake → List TakenCommand → Type 0
 CommandsFit nodes i [] = Unit {0}
 CommandsFit nodes i (t ∷ queue) = CommandFits nodes i t × CommandsFit nodes (intake_after i t.command) queue
 
+-- what a writer was given, with what is queued for it
+abbrev pub given_with : Intake → List TakenCommand → Intake
+given_with i [] = i
+given_with i (t ∷ queue) = given_with (intake_after i t.command) queue
+
 -- The block of a client is among these, and has a number of 64 bits; its queue fits; and its writer, once it is there, was
 -- given a create.
 pub record ClientFits {I O : Type 0} (nodes : ℕ) (blocks : List BlockId) (w : World) (c : Client I O) : Type 0 where
@@ -78,12 +83,16 @@ pub record PlayStands {F R I O : Type 0} (r : roads.Ghosts R I O) (i : link_in.G
       ClientFits nodes p.nodes.blocks.items (world_of nodes p) c
   pub connected : (b c : ℕ) → ((world_of nodes p).writers b).conn ≡ Some c → HasClient p.clients.items b
 
--- What is left of a play in which something that is due has happened: its events stand behind the others.
+-- What is left of a play in which something that is due has happened: its events stand behind the others, and what each
+-- client's writer was given, with what is queued for it, is as before.
 pub record HasHappened {F R I O : Type 0} (r : roads.Ghosts R I O) (i : link_in.Ghosts I) (o : link_out.Ghosts O)
     (nodes : ℕ) (queues : Queues) (d : Due) (old new : Player F I O) (road : R) : Type 0 where
   pub stands : PlayStands r i o nodes (queues_after (world_of nodes old) queues d) road new
   pub events : new.events.items ≡ old.events.items ++ due_events (world_of nodes old) queues d
   pub places : KeepsPlaces (actor_of (world_of nodes old) d) old new
+  pub given : (b : ℕ) → HasClient old.clients.items b →
+      given_with (intake_of (world_of nodes new) b) (queues_after (world_of nodes old) queues d b) ≡
+      given_with (intake_of (world_of nodes old) b) (queues b)
 
 -- How it ends: so, or by a fault that has its cause.
 abbrev pub HappenEnds : {F R I O : Type 0} → files.Ghosts F → roads.Ghosts R I O → link_in.Ghosts I →
