@@ -2,6 +2,8 @@
 #![tactic(auto)]
 
 mod drawing;
+mod ordering;
 mod playing;
 
+pub use ordering::orders_are_plays;
 pub use playing::Playing;
