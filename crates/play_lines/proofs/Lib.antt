@@ -2,3 +2,4 @@ pub mod Drawn
 pub mod Runs
 pub mod Lowers
 pub mod Ordered
+pub mod Ruled

@@ -1,7 +1,6 @@
 -- A command that a client was given.
-use Rattle.std.proofs.Common.{◌≡◌, ◌⊎◌, inl, inr, ℕ, zero, suc, ◌<◌, ◌^◌, Bool, true, false, List, [], ◌∷◌, ◌++◌, drop, slice_get, slice_set, Option, Some, None, IfSome, Result, Ok, Err, refl, sym, ap, ◌∙◌, subst, eqb-true, eq-eqb}
+use Rattle.std.proofs.Common.{◌≡◌, inl, inr, ℕ, zero, suc, ◌<◌, ◌^◌, Bool, true, false, List, [], ◌∷◌, ◌++◌, drop, slice_get, slice_set, Option, Some, None, IfSome, Result, Ok, Err, refl, sym, ap, ◌∙◌, subst, eqb-true, eq-eqb}
 use Rattle.std.specs.Prelude.{◌==◌, if◌then◌else◌, OnOk, IfErr}
-use Rattle.std.proofs.lemmas.Bool.{eqb-false}
 use Rattle.std.proofs.lemmas.Option.{same_Some}
 use Rattle.hd_base.specs.declared.links.LinkIn as link_in
 use Rattle.hd_base.specs.declared.links.LinkOut as link_out
@@ -18,19 +17,17 @@ use Rattle.world.specs.Worlds.{World, start, add}
 use Rattle.world.specs.Events.{run}
 use Rattle.world_requests.specs.Requests.{IsAmong}
 use Rattle.play_model.specs.Dues.{Queues}
-use Rattle.play_model.specs.States as states
 use Rattle.play_model.specs.States.{PlayState, ordered}
 use Rattle.play_laws.specs.Intakes.{intake_of}
 use Rattle.play_clients.specs.declared.clients.Client.{Client}
 use Rattle.play_clients.specs.Clients.{ClientShows}
-use Rattle.play_nodes.proofs.Tables.{SetOr, set_or, set_here, set_there}
+use Rattle.play_nodes.proofs.Tables.{SetOr, set_or}
 use Rattle.play_dues.specs.Own.{blocks_of}
 use Rattle.play_dues.specs.Showing.{HasClient}
-use Rattle.play.specs.declared.player.Player.{Player}
-use Rattle.play.specs.Showing.{IsClient, AreApart, PlayerShows}
-use Rattle.play.specs.Standing.{CommandFits, CommandsFit, ClientFits, world_of, PlayStands, given_with}
+use Rattle.play.specs.Showing.{IsClient, AreApart}
+use Rattle.play.specs.Standing.{CommandFits, CommandsFit, ClientFits, world_of, given_with}
 use Rattle.play_lines.specs.declared.playing.Playing.{Playing}
-use Rattle.play_lines.specs.Drawing.{blocks_in, IsLeft}
+use Rattle.play_lines.specs.Drawing.{IsLeft}
 use Rattle.play.specs.declared.faults.PlayFault.{PlayFault}
 use Rattle.play.specs.declared.faults.PlayFault.TheVariants as fault
 use Rattle.play.proofs.Dispatch.{client_at}
@@ -55,7 +52,7 @@ add_other queues b more j other = go (j == b) refl
     go true e = absurd (other (eqb-true j b e))
     go false e = ap (λ (q : Bool). if q then queues j ++ more else queues j) e
 
-set_numbers : {I O : Type 0} (xs : List (Client I O)) (k : ℕ) (a b : Client I O) → slice_get xs k ≡ Some a → b.block.0 ≡ a.block.0 → blocks_of (slice_set xs k b) ≡ blocks_of xs
+pub set_numbers : {I O : Type 0} (xs : List (Client I O)) (k : ℕ) (a b : Client I O) → slice_get xs k ≡ Some a → b.block.0 ≡ a.block.0 → blocks_of (slice_set xs k b) ≡ blocks_of xs
 set_numbers [] k a b at e = refl
 set_numbers {I} {O} (x ∷ xs) zero a b at e = ap (λ (n : ℕ). n ∷ blocks_of xs) (e ∙ sym (ap (λ (y : Client I O). y.block.0) (same_Some x a at)))
 set_numbers (x ∷ xs) (suc k) a b at e = ap (λ (ns : List ℕ). x.block.0 ∷ ns) (set_numbers xs k a b at e)
@@ -66,7 +63,7 @@ same_place [] (z ∷ ys) e k y at = cc
 same_place (x ∷ xs) (z ∷ ys) e zero y at = (x, (refl, same_Some x.block.0 y.block.0 (ap (λ (ns : List ℕ). slice_get ns 0) e ∙ ap (λ (a : _). Some a.block.0) (same_Some z y at))))
 same_place (x ∷ xs) (z ∷ ys) e (suc k) y at = same_place xs ys (ap (λ (ns : List ℕ). drop 1 ns) e) k y at
 
-moved : {I O : Type 0} (xs ys : List (Client I O)) (b : ℕ) → blocks_of xs ≡ blocks_of ys → HasClient ys b → HasClient xs b
+pub moved : {I O : Type 0} (xs ys : List (Client I O)) (b : ℕ) → blocks_of xs ≡ blocks_of ys → HasClient ys b → HasClient xs b
 moved xs ys b e h =
     let k = same_place xs ys e h.place h.client h.found in
     record { place = h.place; client = k.0; found = k.1.0; block = k.1.1 ∙ h.block }

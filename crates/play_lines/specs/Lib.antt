@@ -1,3 +1,4 @@
 pub mod Showing
 pub mod Drawing
 pub mod Ordering
+pub mod Ruling

@@ -4,6 +4,8 @@
 mod drawing;
 mod ordering;
 mod playing;
+mod ruling;
 
 pub use ordering::orders_are_plays;
 pub use playing::Playing;
+pub use ruling::rules_are_plays;

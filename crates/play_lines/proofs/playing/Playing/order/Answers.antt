@@ -1,5 +1,4 @@
 -- The client of the block was given the command.
-use Rattle.std.specs.Vec.{with_item}
 use Rattle.std.proofs.Common.{◌<◌, ℕ, refl, sym, ap, ◌∙◌, subst}
 use Rattle.play_nodes.proofs.PlaceLaws.{none_so, element_some}
 use Rattle.play_dues.specs.Places.{client_place}
