@@ -19,6 +19,7 @@ use Rattle.play_model.specs.declared.dues.Due.TheVariants as due
 use Rattle.play_model.specs.Draws.{draw}
 use Rattle.play_model.specs.Dues.{is_due, dues, due_events, queues_after, after_due}
 use Rattle.play_model.specs.Laws.{OwnAmong, IsListed, ListedAreDue}
+use Rattle.play_laws.specs.Intakes.{intake_of}
 use Rattle.play_model.specs.States as states
 use Rattle.play_model.specs.States.{PlayState}
 use Rattle.play_clients.specs.declared.clients.Client.{Client}
@@ -33,10 +34,10 @@ use Rattle.play.specs.Events as player
 use Rattle.play.specs.Events.{RoadsFailed, KeepsPlaces}
 use Rattle.play.specs.Laws.{Laws}
 use Rattle.play.specs.Showing.{PlayerStands}
-use Rattle.play.specs.Standing.{world_of, PlayStands, HasHappened, HappenShows, ActorIsClient}
+use Rattle.play.specs.Standing.{given_with, world_of, PlayStands, HasHappened, HappenShows, ActorIsClient}
 use Rattle.play_lines.specs.declared.playing.Playing.{Playing}
 use Rattle.play_lines.specs.Drawing.{IsCaused, blocks_in, DrawEnds, DrawShows}
-use Rattle.play_lines.specs.Showing.{PlayIs, IsPlaying}
+use Rattle.play_lines.specs.Showing.{PlayIs, IsPlaying, given_in}
 
 -- the numbers of the same blocks
 pub numbers_same : {I O : Type 0} (xs ys : List (Client I O)) → player.blocks_of xs ≡ player.blocks_of ys → blocks_of xs ≡ blocks_of ys
@@ -117,6 +118,7 @@ module _ {F R I O : Type 0} (f : files.Ghosts F) (r : roads.Ghosts R I O) (i : l
           is = subst (λ (q : PlayState). PlayIs r i o q road' new) (sym (plays (blocks_in old) p new.generator None k ∙ ap (λ (g : Lcg). record p { generator = g }) gen))
               (subst (λ (x : Playing F I O). PlayIs r i o p road' x) (sym same) (record { stands = is.stands; nodes_are = is.nodes_are; events = is.events; generator = gen; rules = is.rules }));
           blocks = ap blocks_in same;
+          given = λ b h'. ap (λ (q : PlayState). given_in q b) (plays (blocks_in old) p new.generator None k ∙ ap (λ (g : Lcg). record p { generator = g }) gen);
         },
         sym (ap (λ (ds : List Due). is_some (slice_get ds 0)) empty),
       )
@@ -139,6 +141,16 @@ module _ {F R I O : Type 0} (f : files.Ghosts F) (r : roads.Ghosts R I O) (i : l
         generator = generator;
         rules = rules_after p old new _ has.places h.rules;
       }
+
+  -- what was given stays
+  given_after : (p : PlayState) (road road' : R) (old new : Playing F I O) (d : Due) (g : Lcg) → PlayIs r i o p road old → PlayIs r i o (after_due (record p { generator = g }) d) road' new → HasHappened r i o p.nodes p.queues d old.player new.player road' → (b : ℕ) → HasClient old.player.clients.items b → given_in (after_due (record p { generator = g }) d) b ≡ given_in p b
+  unfolding after_due
+  given_after p road road' old new d g before now has b k =
+      let was : states.world_of p ≡ world_of p.nodes old.player = world_same p road old before in
+      let is : states.world_of (after_due (record p { generator = g }) d) ≡ world_of p.nodes new.player = world_same (after_due (record p { generator = g }) d) road' new now in
+      ap (λ (w : World). given_with (intake_of w b) (queues_after (states.world_of p) p.queues d b)) is ∙
+      (ap (λ (w : World). given_with (intake_of (world_of p.nodes new.player) b) (queues_after w p.queues d b)) was ∙
+      (has.given b k ∙ ap (λ (w : World). given_with (intake_of w b) (p.queues b)) (sym was)))
 
   some_listed : (ds : List Due) (old after : Lcg) (d : Due) → DrawsFrom ds old after (Some d) → (k : ℕ) × (slice_get ds k ≡ Some d)
   some_listed [] old after d h = absurd (none-some d (sym h.1))
@@ -199,6 +211,7 @@ module _ {F R I O : Type 0} (f : files.Ghosts F) (r : roads.Ghosts R I O) (i : l
         record {
           is = subst (λ (q : PlayState). PlayIs r i o q road' new) (sym z.play_is) (after p first road' old new d mid.generator nodes z.is has gen);
           blocks = numbers_same new.player.clients.items old.player.clients.items has.places.order;
+          given = λ b k. ap (λ (q : PlayState). given_in q b) z.play_is ∙ given_after p first road' old new d mid.generator z.is (after p first road' old new d mid.generator nodes z.is has gen) has b k;
         },
         z.more,
       )

@@ -1,3 +1,4 @@
+pub mod Places
 pub mod Drawn
 pub mod Runs
 pub mod Lowers

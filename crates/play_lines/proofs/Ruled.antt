@@ -22,7 +22,7 @@ use Rattle.play_lines.specs.declared.playing.Playing.{Playing}
 use Rattle.play_lines.specs.Drawing.{IsLeft}
 use Rattle.play_lines.specs.Ruling.{IsRuled, RulesAt, Rules, RulesArePlays}
 use Rattle.play_lines.specs.Showing.{PlayIs}
-use Rattle.play_lines.proofs.Ordered.{set_numbers, moved}
+use Rattle.play_lines.proofs.Places.{set_numbers, moved}
 
 module _ {F R I O : Type 0} (r : roads.Ghosts R I O) (i : link_in.Ghosts I) (o : link_out.Ghosts O) (old new : Playing F I O) (block : BlockId) (rule : Rule) (place : ℕ) (p : PlayState) (road : R) (h : IsRuled block rule place old new) (is : PlayIs r i o p road old) where
   -- the world of the play, and the rules

@@ -10,13 +10,14 @@ use Rattle.play_model.specs.Draws.{draw, draws, Settles}
 use Rattle.play_model.specs.Dues.{dues}
 use Rattle.play_model.specs.States.{PlayState}
 use Rattle.play_dues.specs.Own.{blocks_of}
+use Rattle.play_dues.specs.Showing.{HasClient}
 use Rattle.play_nodes.specs.declared.nodes.Nodes.{Nodes}
 use Rattle.play_nodes.specs.Places.{book_at}
 use Rattle.play.specs.declared.faults.PlayFault.{PlayFault}
 use Rattle.play.specs.declared.faults.PlayFault.TheVariants as fault
 use Rattle.play.specs.Events.{RoadsFailed}
 use Rattle.play_lines.specs.declared.playing.Playing.{Playing}
-use Rattle.play_lines.specs.Showing.{PlayIs}
+use Rattle.play_lines.specs.Showing.{PlayIs, given_in}
 
 -- FAULTS
 
@@ -46,10 +47,17 @@ pub record IsLeft {F R I O : Type 0} (r : roads.Ghosts R I O) (i : link_in.Ghost
   pub is : PlayIs r i o p road new
   pub blocks : blocks_in new ≡ blocks_in old
 
+-- What was drawn leaves another play, in which what each client's writer was given, with what is queued for it, is as before.
+pub record IsDrawn {F R I O : Type 0} (r : roads.Ghosts R I O) (i : link_in.Ghosts I) (o : link_out.Ghosts O)
+    (p after : PlayState) (old new : Playing F I O) (road : R) : Type 0 where
+  pub is : PlayIs r i o after road new
+  pub blocks : blocks_in new ≡ blocks_in old
+  pub given : (b : ℕ) → HasClient old.player.clients.items b → given_in after b ≡ given_in p b
+
 abbrev pub DrawEnds : {F R I O : Type 0} → files.Ghosts F → roads.Ghosts R I O → link_in.Ghosts I → link_out.Ghosts O →
     PlayState → Playing F I O → Playing F I O → R → R → Result Bool PlayFault → Type 0
 DrawEnds f r i o p old new road road' (Ok more) =
-    IsLeft r i o (draw (blocks_in old) p) old new road' × (more ≡ is_some (slice_get (dues (blocks_in old) p) 0))
+    IsDrawn r i o p (draw (blocks_in old) p) old new road' × (more ≡ is_some (slice_get (dues (blocks_in old) p) 0))
 DrawEnds f r i o p old new road road' (Err why) = IsCaused f r new road road' why
 
 abbrev pub DrawShows : {F R I O : Type 0} → files.Ghosts F → roads.Ghosts R I O → link_in.Ghosts I →
@@ -62,7 +70,8 @@ DrawShows f r i o old new road road' result =
 -- What is left is the play after up to so many draws.
 abbrev pub RunEnds : {F R I O : Type 0} → files.Ghosts F → roads.Ghosts R I O → link_in.Ghosts I → link_out.Ghosts O →
     ℕ → PlayState → Playing F I O → Playing F I O → R → R → Result (Unit {0}) PlayFault → Type 0
-RunEnds f r i o count p old new road road' (Ok u) = IsLeft r i o (draws (blocks_in old) count p) old new road'
+RunEnds f r i o count p old new road road' (Ok u) =
+    IsDrawn r i o p (draws (blocks_in old) count p) old new road'
 RunEnds f r i o count p old new road road' (Err why) = IsCaused f r new road road' why
 
 abbrev pub RunShows : {F R I O : Type 0} → files.Ghosts F → roads.Ghosts R I O → link_in.Ghosts I → link_out.Ghosts O →
@@ -75,7 +84,7 @@ pub record HasSettled {F R I O : Type 0} (r : roads.Ghosts R I O) (i : link_in.G
     (p : PlayState) (old new : Playing F I O) (road : R) : Type 0 where
   pub after : PlayState
   pub settles : Settles (blocks_in old) p after
-  pub left : IsLeft r i o after old new road
+  pub left : IsDrawn r i o p after old new road
 
 abbrev pub SettleEnds : {F R I O : Type 0} → files.Ghosts F → roads.Ghosts R I O → link_in.Ghosts I →
     link_out.Ghosts O → PlayState → Playing F I O → Playing F I O → R → R → Result (Unit {0}) PlayFault → Type 0

@@ -5,22 +5,15 @@ use Rattle.hd_base.specs.declared.links.LinkOut as link_out
 use Rattle.hd_base.specs.declared.numbers.BlockId.{BlockId}
 use Rattle.hd_base.specs.declared.roads.Roads as roads
 use Rattle.writer_core.specs.declared.commands.Command.{Command}
-use Rattle.writer_core.specs.declared.intake.Intake.{Intake}
-use Rattle.play_model.specs.States as states
 use Rattle.play_model.specs.States.{PlayState, ordered}
-use Rattle.play_laws.specs.Intakes.{intake_of}
 use Rattle.play_clients.specs.declared.clients.Client.{Client}
 use Rattle.play_dues.specs.Places.{client_place}
 use Rattle.play.specs.declared.faults.PlayFault.{PlayFault}
 use Rattle.play.specs.declared.faults.PlayFault.TheVariants as fault
-use Rattle.play.specs.Standing.{CommandFits, given_with}
+use Rattle.play.specs.Standing.{CommandFits}
 use Rattle.play_lines.specs.declared.playing.Playing.{Playing}
 use Rattle.play_lines.specs.Drawing.{IsLeft}
-use Rattle.play_lines.specs.Showing.{PlayIs}
-
--- what the writer of a block was given, with what is queued for it
-abbrev pub given_in : PlayState → ℕ → Intake
-given_in p b = given_with (intake_of (states.world_of p) b) (p.queues b)
+use Rattle.play_lines.specs.Showing.{PlayIs, given_in}
 
 -- The client at a place has the command behind those of its queue, with its rule, and all else is as it was.
 pub record IsOrdered {F I O : Type 0} (block : BlockId) (c : Command) (place : ℕ) (old new : Playing F I O) : Type 0 where

@@ -3,9 +3,12 @@ use Rattle.std.specs.Prelude.{◌≡◌, ℕ, slice_get, Some}
 use Rattle.hd_base.specs.declared.links.LinkIn as link_in
 use Rattle.hd_base.specs.declared.links.LinkOut as link_out
 use Rattle.hd_base.specs.declared.roads.Roads as roads
+use Rattle.writer_core.specs.declared.intake.Intake.{Intake}
+use Rattle.play_model.specs.States as states
 use Rattle.play_model.specs.States.{PlayState}
+use Rattle.play_laws.specs.Intakes.{intake_of}
 use Rattle.play_clients.specs.declared.clients.Client.{Client}
-use Rattle.play.specs.Standing.{PlayStands}
+use Rattle.play.specs.Standing.{PlayStands, given_with}
 use Rattle.play_lines.specs.declared.playing.Playing.{Playing}
 
 -- The player stands for its events and queues, with as many nodes; the generator is the same, and each client has the rule
@@ -23,3 +26,7 @@ pub record IsPlaying {F R I O : Type 0} (r : roads.Ghosts R I O) (i : link_in.Gh
     (road : R) (x : Playing F I O) : Type 0 where
   pub p : PlayState
   pub is : PlayIs r i o p road x
+
+-- what the writer of a block was given, with what is queued for it
+abbrev pub given_in : PlayState → ℕ → Intake
+given_in p b = given_with (intake_of (states.world_of p) b) (p.queues b)

@@ -1,5 +1,5 @@
 -- Nothing is due any more.
-use Rattle.std.proofs.Common.{rules, Bool, Ok, subst}
+use Rattle.std.proofs.Common.{rules, Bool, Ok, refl, subst, arith}
 use Rattle.play_lines.specs.Drawing.{DrawShows}
 use Rattle.play_lines.proofs.Runs.{passes, still_playing, after_more, settle_ended, settle_failed}
 use Rattle.play_lines.proofs.Lowers.{smaller}
@@ -30,3 +30,9 @@ pub returns-clause-shows : goal.returns-clause-shows
 returns-clause-shows g c =
     settle_ended g.F.Files g.R.Roads g.I.LinkIn g.O.LinkOut c.args.self.now c.loop.self c.draw.new.self c.args.roads.now c.loop.roads c.draw.new.roads c.loop.invariant.left
     (subst (λ (b : Bool). DrawShows g.F.Files g.R.Roads g.I.LinkIn g.O.LinkOut c.loop.self c.draw.new.self c.loop.roads c.draw.new.roads (Ok b)) c.if-branch.false c.in_ok-draw.ensures.shows)
+
+pub loop-init : goal.loop-init
+loop-init g c = record {
+  left = λ p h. record { count = 0; left = record { is = h; blocks = refl; given = λ b k. refl } };
+  pass = record { knows = λ n e. e; never_falls = omega arith };
+}
