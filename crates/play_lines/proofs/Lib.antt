@@ -1,3 +1,4 @@
 pub mod Drawn
 pub mod Runs
 pub mod Lowers
+pub mod Stepped

@@ -3,5 +3,6 @@
 
 mod drawing;
 mod playing;
+mod stepping;
 
 pub use playing::Playing;
