@@ -75,7 +75,7 @@ module _ {I O : Type 0} (i : link_in.Ghosts I) (o : link_out.Ghosts O) where
   link_conn w net conn None h = h
   link_conn w net conn (Some l) h = h.conn_is
 
-  pipe_conn : (w : World) (net : Net) (conn : Option ℕ) (x : Pipe I O) → PipeShows i o w net conn x → conn ≡ conn_of x
+  pub pipe_conn : (w : World) (net : Net) (conn : Option ℕ) (x : Pipe I O) → PipeShows i o w net conn x → conn ≡ conn_of x
   pipe_conn w net conn pipe.Closed h = h
   pipe_conn w net conn (pipe.SettingUp setup) h = link_conn w net conn setup.link h
   pipe_conn w net conn (pipe.Streaming end incoming) h = h.conn_is

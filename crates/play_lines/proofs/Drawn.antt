@@ -130,7 +130,7 @@ module _ {F R I O : Type 0} (f : files.Ghosts F) (r : roads.Ghosts R I O) (i : l
       let z = places.each k c at in
       z.rule ∙ (rules k z.was z.at ∙ ap (λ (b : BlockId). p.rules b.0) (sym z.block))
 
-  after : (p : PlayState) (road road' : R) (old new : Playing F I O) (d : Due) (g : Lcg) → new.nodes ≡ old.nodes → PlayIs r i o p road old → HasHappened r i o p.nodes p.queues d old.player new.player road' → new.generator ≡ g → PlayIs r i o (after_due (record p { generator = g }) d) road' new
+  pub after : (p : PlayState) (road road' : R) (old new : Playing F I O) (d : Due) (g : Lcg) → new.nodes ≡ old.nodes → PlayIs r i o p road old → HasHappened r i o p.nodes p.queues d old.player new.player road' → new.generator ≡ g → PlayIs r i o (after_due (record p { generator = g }) d) road' new
   unfolding after_due
   after p road road' old new d g nodes h has generator =
       let same : states.world_of p ≡ world_of p.nodes old.player = world_same p road old h in
@@ -167,7 +167,7 @@ module _ {F R I O : Type 0} (f : files.Ghosts F) (r : roads.Ghosts R I O) (i : l
   pub more_faults : (a b c : ℕ) → a ≤ b → FaultsIncreased b c → FaultsIncreased a c
   more_faults a b c h k = grind (arith, h, k)
 
-  caused : (old mid new : Playing F I O) (road first road' : R) (why : PlayFault) → r.faults road ≤ r.faults first → player.IsCaused f r mid.player new.player first road' why → IsCaused f r new road road' why
+  pub caused : (old mid new : Playing F I O) (road first road' : R) (why : PlayFault) → r.faults road ≤ r.faults first → player.IsCaused f r mid.player new.player first road' why → IsCaused f r new road road' why
   caused old mid new road first road' fault.RoadFault h (inl risen) = inl risen
   caused old mid new road first road' fault.RoadFault h (inr rose) = inr (more_faults (r.faults road) (r.faults first) (r.faults road') h rose)
   caused old mid new road first road' (fault.ShelfFault node) h c = record { place = c.place; book = c.book'; at_place = c.now; failed = failed_book (f.faults c.book.drawer) (f.faults c.book'.drawer) c.rose }

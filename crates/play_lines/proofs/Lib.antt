@@ -4,3 +4,4 @@ pub mod Runs
 pub mod Lowers
 pub mod Ordered
 pub mod Ruled
+pub mod Stepped

@@ -2,3 +2,4 @@ pub mod Showing
 pub mod Drawing
 pub mod Ordering
 pub mod Ruling
+pub mod Stepping

@@ -5,6 +5,7 @@ mod drawing;
 mod ordering;
 mod playing;
 mod ruling;
+mod stepping;
 
 pub use ordering::orders_are_plays;
 pub use playing::Playing;
