@@ -143,7 +143,7 @@ module _ {F R I O : Type 0} (f : files.Ghosts F) (r : roads.Ghosts R I O) (i : l
       }
 
   -- what was given stays
-  given_after : (p : PlayState) (road road' : R) (old new : Playing F I O) (d : Due) (g : Lcg) → PlayIs r i o p road old → PlayIs r i o (after_due (record p { generator = g }) d) road' new → HasHappened r i o p.nodes p.queues d old.player new.player road' → (b : ℕ) → HasClient old.player.clients.items b → given_in (after_due (record p { generator = g }) d) b ≡ given_in p b
+  pub given_after : (p : PlayState) (road road' : R) (old new : Playing F I O) (d : Due) (g : Lcg) → PlayIs r i o p road old → PlayIs r i o (after_due (record p { generator = g }) d) road' new → HasHappened r i o p.nodes p.queues d old.player new.player road' → (b : ℕ) → HasClient old.player.clients.items b → given_in (after_due (record p { generator = g }) d) b ≡ given_in p b
   unfolding after_due
   given_after p road road' old new d g before now has b k =
       let was : states.world_of p ≡ world_of p.nodes old.player = world_same p road old before in

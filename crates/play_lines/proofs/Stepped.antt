@@ -1,6 +1,5 @@
 -- One event of a pipeline happens, where it is due.
-use Rattle.std.proofs.Common.{◌≡◌, ◌⊎◌, inl, inr, ℕ, zero, suc, ◌≤◌, ◌<◌, ◌+◌, ◌-◌, Bool, true, false, if◌then◌else◌, List, [], ◌∷◌, length, get_or, slice_get, Option, Some, None, option_map, option_and_then, Result, Ok, Err, refl, sym, ap, ◌∙◌, subst, arith}
-use Rattle.std.proofs.lemmas.Option.{none-some}
+use Rattle.std.proofs.Common.{◌≡◌, ℕ, zero, suc, ◌≤◌, ◌<◌, ◌+◌, ◌-◌, Bool, true, false, if◌then◌else◌, List, [], ◌∷◌, length, get_or, slice_get, Option, Some, None, option_map, option_and_then, Result, Ok, Err, refl, sym, ap, ◌∙◌, subst, arith}
 use Rattle.hd_base.specs.declared.files.Files as files
 use Rattle.hd_base.specs.declared.links.LinkIn as link_in
 use Rattle.hd_base.specs.declared.links.LinkOut as link_out
@@ -10,7 +9,6 @@ use Rattle.hd_base.specs.declared.roads.Roads as roads
 use Rattle.script_lang.specs.declared.instructions.StepEvent.{StepEvent}
 use Rattle.script_lang.specs.declared.instructions.StepEvent.TheVariants as step
 use Rattle.road_traffic.specs.Showing.{Net}
-use Rattle.world.specs.Parts as parts
 use Rattle.world.specs.Worlds.{World}
 use Rattle.world_laws.specs.Placing.{Placed}
 use Rattle.world_orders.specs.Open.{AllOpen}
@@ -27,7 +25,7 @@ use Rattle.play_nodes.specs.Showing.{NodesShow}
 use Rattle.play_nodes.proofs.PlaceLaws.{element_some}
 use Rattle.play_dues.specs.Listing.{IsPlayed, IsAlone, TellsDue}
 use Rattle.play_dues.specs.Places.{client_place}
-use Rattle.play_dues.specs.Showing.{HasClient, DuesShow}
+use Rattle.play_dues.specs.Showing.{HasClient}
 use Rattle.play_dues.specs.Writers.{conn_of}
 use Rattle.play_dues.proofs.UpperLaws.{client_within}
 use Rattle.play_dues.proofs.WriterLaws.{pipe_conn}
@@ -35,13 +33,13 @@ use Rattle.play.specs.declared.faults.PlayFault.{PlayFault}
 use Rattle.play.specs.declared.player.Player.{Player}
 use Rattle.play.specs.Laws.{Laws}
 use Rattle.play.specs.Showing.{PlayerStands}
-use Rattle.play.specs.Standing.{world_of, HasHappened, HappenEnds, HappenShows, ActorIsClient}
+use Rattle.play.specs.Standing.{world_of, HappenEnds, HappenShows, ActorIsClient}
 use Rattle.play.proofs.Dispatch.{has_place, client_at}
 use Rattle.play_lines.specs.declared.playing.Playing.{Playing}
-use Rattle.play_lines.specs.Drawing.{blocks_in, IsLeft}
+use Rattle.play_lines.specs.Drawing.{IsDrawn}
 use Rattle.play_lines.specs.Showing.{PlayIs, IsPlaying}
 use Rattle.play_lines.specs.Stepping.{number_of, mirror_at, conn_at, due_behind, client_for, due_for, StepEnds, StepShows}
-use Rattle.play_lines.proofs.Drawn.{numbers_same, world_same, dues_show, with_roads, player_stands, after, caused}
+use Rattle.play_lines.proofs.Drawn.{numbers_same, world_same, dues_show, with_roads, player_stands, after, caused, given_after}
 
 -- CONNECTIONS
 
@@ -217,15 +215,15 @@ module _ {F R I O : Type 0} (f : files.Ghosts F) (r : roads.Ghosts R I O) (i : l
 
   pub nothing_there : (old : Playing F I O) (road : R) (found : Option Due) → found ≡ due_for old block event → found ≡ None → StepShows f r i o block event old old road road (Ok tt)
   nothing_there old road found for none = λ p h has.
-      subst (λ (x : Option Due). IsLeft r i o (stepped p x) old old road) (sym none ∙ (for ∙ for_told p road old h has)) (record { is = h; blocks = refl })
+      subst (λ (x : Option Due). IsDrawn r i o p (stepped p x) old old road) (sym none ∙ (for ∙ for_told p road old h has)) (record { is = h; blocks = refl; given = λ b k. refl })
 
   pub not_due : (old : Playing F I O) (road road' : R) (found : Option Due) (d : Due) (result : Bool) → result ≡ false → found ≡ due_for old block event → found ≡ Some d → TellsDue r i o d old.player.nodes old.player.clients.items road road' result → StepShows f r i o block event old old road road' (Ok tt)
   not_due old road road' found d result fails for there tells = λ p h has.
       let is : due_for old block event ≡ Some d = sym for ∙ there in
       let t = tells (played old block event d is has) (world_of p.nodes old.player) h.stands.net p.queues (dues_show f r i o L opens p road old h) in
       let never : false ≡ is_due (states.world_of p) p.queues d = sym fails ∙ (t.1 ∙ ap (λ (w : World). is_due w p.queues d) (sym (world_same f r i o p road old h))) in
-      subst (λ (x : Option Due). IsLeft r i o (stepped p x) old old road') (sym is ∙ for_told p road old h has)
-      (subst (λ (b : Bool). IsLeft r i o (if b then after_due p d else p) old old road') never (record { is = with_roads f r i o p road road' old h t.0; blocks = refl }))
+      subst (λ (x : Option Due). IsDrawn r i o p (stepped p x) old old road') (sym is ∙ for_told p road old h has)
+      (subst (λ (b : Bool). IsDrawn r i o p (if b then after_due p d else p) old old road') never (record { is = with_roads f r i o p road road' old h t.0; blocks = refl; given = λ b k. refl }))
 
   pub stands_here : (old : Playing F I O) (road first : R) (d : Due) (result : Bool) → result ≡ true → (IsAlone old.player.clients.items d → result ≡ false) → IsPlaying r i o road old → TellsDue r i o d old.player.nodes old.player.clients.items road first result → PlayerStands r i o first old.player
   stands_here old road first d result holds alone playing tells =
@@ -236,9 +234,10 @@ module _ {F R I O : Type 0} (f : files.Ghosts F) (r : roads.Ghosts R I O) (i : l
       → HasClient old.player.clients.items block.0 → is_due (world_of p.nodes old.player) p.queues d ≡ true → HappenEnds f r i o p.nodes p.queues d old.player new.player first road' result → StepEnds f r i o block event p old new road road' result
   happens_so p old new road first road' d (Ok u) nodes gen faults is h here has holds ends =
       let due_is : true ≡ is_due (states.world_of p) p.queues d = sym holds ∙ ap (λ (w : World). is_due w p.queues d) (sym (world_same f r i o p road old h)) in
-      subst (λ (x : Option Due). IsLeft r i o (stepped p x) old new road') (sym is ∙ for_told p road old h has)
-      (subst (λ (b : Bool). IsLeft r i o (if b then after_due p d else p) old new road') due_is (record {
+      subst (λ (x : Option Due). IsDrawn r i o p (stepped p x) old new road') (sym is ∙ for_told p road old h has)
+      (subst (λ (b : Bool). IsDrawn r i o p (if b then after_due p d else p) old new road') due_is (record {
         is = after f r i o p first road' old new d p.generator nodes here ends (gen ∙ h.generator);
+        given = λ b k. given_after f r i o p first road' old new d p.generator here (after f r i o p first road' old new d p.generator nodes here ends (gen ∙ h.generator)) ends b k;
         blocks = numbers_same new.player.clients.items old.player.clients.items ends.places.order;
       }))
   happens_so p old new road first road' d (Err why) nodes gen faults is h here has holds ends = caused f r i o old old new road first road' why faults ends

@@ -19,7 +19,7 @@ use Rattle.play_dues.specs.Showing.{HasClient}
 use Rattle.play_dues.specs.Writers.{conn_of}
 use Rattle.play.specs.declared.faults.PlayFault.{PlayFault}
 use Rattle.play_lines.specs.declared.playing.Playing.{Playing}
-use Rattle.play_lines.specs.Drawing.{IsCaused, IsLeft}
+use Rattle.play_lines.specs.Drawing.{IsCaused, IsDrawn}
 use Rattle.play_lines.specs.Showing.{PlayIs}
 
 -- CONNECTIONS
@@ -64,7 +64,7 @@ due_for x block event =
 abbrev pub StepEnds : {F R I O : Type 0} → files.Ghosts F → roads.Ghosts R I O → link_in.Ghosts I → link_out.Ghosts O →
     BlockId → StepEvent → PlayState → Playing F I O → Playing F I O → R → R → Result (Unit {0}) PlayFault → Type 0
 StepEnds f r i o block event p old new road road' (Ok u) =
-    IsLeft r i o (stepped p (step_due (world_of p) block.0 event)) old new road'
+    IsDrawn r i o p (stepped p (step_due (world_of p) block.0 event)) old new road'
 StepEnds f r i o block event p old new road road' (Err why) = IsCaused f r new road road' why
 
 -- So it is of each block that has a client.
