@@ -1,6 +1,5 @@
 -- One event of a pipeline happens, where it is due.
-use Rattle.std.proofs.Common.{◌≡◌, ◌⊎◌, inl, inr, ℕ, zero, suc, ◌≤◌, ◌<◌, ◌+◌, ◌-◌, Bool, true, false, if◌then◌else◌, List, [], ◌∷◌, length, get_or, slice_get, Option, Some, None, option_map, option_and_then, Result, Ok, Err, refl, sym, ap, ◌∙◌, subst, arith}
-use Rattle.std.proofs.lemmas.Option.{none-some}
+use Rattle.std.proofs.Common.{◌≡◌, ℕ, zero, suc, ◌≤◌, ◌<◌, ◌+◌, ◌-◌, Bool, true, false, if◌then◌else◌, List, [], ◌∷◌, length, get_or, slice_get, Option, Some, None, option_map, option_and_then, Result, Ok, Err, refl, sym, ap, ◌∙◌, subst, arith}
 use Rattle.hd_base.specs.declared.files.Files as files
 use Rattle.hd_base.specs.declared.links.LinkIn as link_in
 use Rattle.hd_base.specs.declared.links.LinkOut as link_out
@@ -10,7 +9,6 @@ use Rattle.hd_base.specs.declared.roads.Roads as roads
 use Rattle.script_lang.specs.declared.instructions.StepEvent.{StepEvent}
 use Rattle.script_lang.specs.declared.instructions.StepEvent.TheVariants as step
 use Rattle.road_traffic.specs.Showing.{Net}
-use Rattle.world.specs.Parts as parts
 use Rattle.world.specs.Worlds.{World}
 use Rattle.world_laws.specs.Placing.{Placed}
 use Rattle.world_orders.specs.Open.{AllOpen}
@@ -27,7 +25,7 @@ use Rattle.play_nodes.specs.Showing.{NodesShow}
 use Rattle.play_nodes.proofs.PlaceLaws.{element_some}
 use Rattle.play_dues.specs.Listing.{IsPlayed, IsAlone, TellsDue}
 use Rattle.play_dues.specs.Places.{client_place}
-use Rattle.play_dues.specs.Showing.{HasClient, DuesShow}
+use Rattle.play_dues.specs.Showing.{HasClient}
 use Rattle.play_dues.specs.Writers.{conn_of}
 use Rattle.play_dues.proofs.UpperLaws.{client_within}
 use Rattle.play_dues.proofs.WriterLaws.{pipe_conn}
@@ -35,10 +33,10 @@ use Rattle.play.specs.declared.faults.PlayFault.{PlayFault}
 use Rattle.play.specs.declared.player.Player.{Player}
 use Rattle.play.specs.Laws.{Laws}
 use Rattle.play.specs.Showing.{PlayerStands}
-use Rattle.play.specs.Standing.{world_of, HasHappened, HappenEnds, HappenShows, ActorIsClient}
+use Rattle.play.specs.Standing.{world_of, HappenEnds, HappenShows, ActorIsClient}
 use Rattle.play.proofs.Dispatch.{has_place, client_at}
 use Rattle.play_lines.specs.declared.playing.Playing.{Playing}
-use Rattle.play_lines.specs.Drawing.{blocks_in, IsLeft}
+use Rattle.play_lines.specs.Drawing.{IsLeft}
 use Rattle.play_lines.specs.Showing.{PlayIs, IsPlaying}
 use Rattle.play_lines.specs.Stepping.{number_of, mirror_at, conn_at, due_behind, client_for, due_for, StepEnds, StepShows}
 use Rattle.play_lines.proofs.Drawn.{numbers_same, world_same, dues_show, with_roads, player_stands, after, caused}
@@ -72,20 +70,10 @@ module _ {I O : Type 0} (conns : List (Connection I O)) where
   pub behind_first : (place : ℕ) (conn : ConnId) (first : Option ConnId) → first ≡ Some conn → conn_at conns (place - 0) (Some conn.0) ≡ conn_at conns place (number_of first)
   behind_first place conn first is = ap (λ (n : ℕ). conn_at conns n (Some conn.0)) (all_left place) ∙ ap (λ (x : Option ConnId). conn_at conns place (number_of x)) (sym is)
 
-  pub behind_none : (place : ℕ) (first result : Option ConnId) → first ≡ None → result ≡ None → number_of result ≡ conn_at conns place (number_of first)
-  behind_none place first result is ends = ap number_of ends ∙ sym (ap (λ (x : Option ConnId). conn_at conns place (number_of x)) is ∙ none_behind place)
-
   pub behind_last : (place k c : ℕ) (whole : Option ℕ) → k ≤ place → (k < place → ⊥) → conn_at conns (place - k) (Some c) ≡ whole → Some c ≡ whole
   behind_last place k c whole h past is = sym (ap (λ (n : ℕ). conn_at conns n (Some c)) (none_left k place h past)) ∙ is
 
 -- EVENTS
-
--- an event of the connection that was found
-pub named : (make : ℕ → Due) (found : Option ConnId) (sought : Option ℕ) (conn : ConnId) → number_of found ≡ sought → found ≡ Some conn → Some (make conn.0) ≡ option_map make sought
-named make found sought conn told is = ap (option_map make) (sym (ap number_of is) ∙ told)
-
-pub nameless : (make : ℕ → Due) (found : Option ConnId) (sought : Option ℕ) → number_of found ≡ sought → found ≡ None → None ≡ option_map make sought
-nameless make found sought told is = ap (option_map make) (sym (ap number_of is) ∙ told)
 
 down_not : (x : Option ℕ) (b : BlockId) → option_map (λ c. due.Down (record { 0 = c })) x ≡ Some (due.Own b) → ⊥
 down_not None b e = cc
@@ -164,6 +152,7 @@ played_so {I} {O} clients (due.Own b) result is alone = by (client_place clients
     never : (result : Bool) → result ≡ true → result ≡ false → ⊥
     never true is fails = cc
     never false is fails = cc
+
     by : (sought : Option ℕ) → client_place clients b.0 ≡ sought → HasClient clients b.0
     by None none = absurd (never result is (alone none))
     by (Some place) there =

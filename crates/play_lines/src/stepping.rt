@@ -6,7 +6,13 @@ ghost use Rattle.play_dues.specs.Places.{client_place};
 ghost use Rattle.play_dues.specs.Writers.{conn_of};
 ghost use Rattle.play_lines.specs.Showing.{IsPlaying};
 ghost use Rattle.play_lines.specs.Stepping.{
-    number_of, mirror_at, conn_at, due_behind, due_for, StepShows, StaysAlone
+  number_of,
+  mirror_at,
+  conn_at,
+  due_behind,
+  due_for,
+  StepShows,
+  StaysAlone,
 };
 
 use crate::playing::Playing;
@@ -42,7 +48,12 @@ impl<F: Files, I: LinkIn, O: LinkOut> Playing<F, I, O> {
         let Some(due) = self.due_for(block, event) else {
             return Ok(());
         };
-        if !is_due(&self.player.nodes, self.player.clients.as_slice(), roads, due) {
+        if !is_due(
+            &self.player.nodes,
+            self.player.clients.as_slice(),
+            roads,
+            due,
+        ) {
             return Ok(());
         }
         self.player.happen(alloc, roads, due)
@@ -111,7 +122,10 @@ fn connection_behind<F: Files, I: LinkIn, O: LinkOut>(
 }
 
 /// The connection to a member's mirror.
-fn mirror_of<F: Files, I: LinkIn, O: LinkOut>(nodes: &Nodes<F, I, O>, conn: ConnId) -> Option<ConnId>
+fn mirror_of<F: Files, I: LinkIn, O: LinkOut>(
+    nodes: &Nodes<F, I, O>,
+    conn: ConnId,
+) -> Option<ConnId>
     ensures { number_of result ≡ mirror_at nodes.now.connections.items conn.0 }
 {
     let conn = conn.0 as usize;
