@@ -74,9 +74,15 @@ StepShows f r i o block event old new road road' result =
     (p : PlayState) → PlayIs r i o p road old → HasClient old.player.clients.items block.0
     → StepEnds f r i o block event p old new road road' result
 
--- Nothing happens to a block that has no client.
-pub record StaysAlone {F R I O : Type 0} (old new : Playing F I O) (road road' : R)
+-- Nothing was done.
+pub record IsUndone {F R I O : Type 0} (old new : Playing F I O) (road road' : R)
     (result : Result (Unit {0}) PlayFault) : Type 0 where
   pub ends : result ≡ Ok tt
   pub same : new ≡ old
   pub roads_same : road' ≡ road
+
+-- Nothing is done where the block has no client.
+abbrev pub StaysAlone : {F R I O : Type 0} → BlockId → Playing F I O → Playing F I O → R → R →
+    Result (Unit {0}) PlayFault → Type 0
+StaysAlone block old new road road' result =
+    client_place old.player.clients.items block.0 ≡ None → IsUndone old new road road' result
