@@ -43,7 +43,8 @@ conn_at conns (suc place) (Some c) = conn_at conns place (mirror_at conns c)
 -- what an event is, of the pipeline of a block whose writer has this connection
 abbrev pub due_behind : {I O : Type 0} → List (Connection I O) → BlockId → Option ℕ → StepEvent → Option Due
 due_behind conns block first step.Writer = Some (due.Own block)
-due_behind conns block first (step.Down place) = option_map (λ c. due.Down (record { 0 = c })) (conn_at conns place first)
+due_behind conns block first (step.Down place) =
+    option_map (λ c. due.Down (record { 0 = c })) (conn_at conns place first)
 due_behind conns block first (step.Ready place) =
     option_map (λ c. due.Ready (record { 0 = c })) (conn_at conns place first)
 due_behind conns block first (step.Up place) = option_map (λ c. due.Up (record { 0 = c })) (conn_at conns place first)
