@@ -70,20 +70,10 @@ module _ {I O : Type 0} (conns : List (Connection I O)) where
   pub behind_first : (place : ℕ) (conn : ConnId) (first : Option ConnId) → first ≡ Some conn → conn_at conns (place - 0) (Some conn.0) ≡ conn_at conns place (number_of first)
   behind_first place conn first is = ap (λ (n : ℕ). conn_at conns n (Some conn.0)) (all_left place) ∙ ap (λ (x : Option ConnId). conn_at conns place (number_of x)) (sym is)
 
-  pub behind_none : (place : ℕ) (first result : Option ConnId) → first ≡ None → result ≡ None → number_of result ≡ conn_at conns place (number_of first)
-  behind_none place first result is ends = ap number_of ends ∙ sym (ap (λ (x : Option ConnId). conn_at conns place (number_of x)) is ∙ none_behind place)
-
   pub behind_last : (place k c : ℕ) (whole : Option ℕ) → k ≤ place → (k < place → ⊥) → conn_at conns (place - k) (Some c) ≡ whole → Some c ≡ whole
   behind_last place k c whole h past is = sym (ap (λ (n : ℕ). conn_at conns n (Some c)) (none_left k place h past)) ∙ is
 
 -- EVENTS
-
--- an event of the connection that was found
-pub named : (make : ℕ → Due) (found : Option ConnId) (sought : Option ℕ) (conn : ConnId) → number_of found ≡ sought → found ≡ Some conn → Some (make conn.0) ≡ option_map make sought
-named make found sought conn told is = ap (option_map make) (sym (ap number_of is) ∙ told)
-
-pub nameless : (make : ℕ → Due) (found : Option ConnId) (sought : Option ℕ) → number_of found ≡ sought → found ≡ None → None ≡ option_map make sought
-nameless make found sought told is = ap (option_map make) (sym (ap number_of is) ∙ told)
 
 down_not : (x : Option ℕ) (b : BlockId) → option_map (λ c. due.Down (record { 0 = c })) x ≡ Some (due.Own b) → ⊥
 down_not None b e = cc
@@ -162,6 +152,7 @@ played_so {I} {O} clients (due.Own b) result is alone = by (client_place clients
     never : (result : Bool) → result ≡ true → result ≡ false → ⊥
     never true is fails = cc
     never false is fails = cc
+
     by : (sought : Option ℕ) → client_place clients b.0 ≡ sought → HasClient clients b.0
     by None none = absurd (never result is (alone none))
     by (Some place) there =

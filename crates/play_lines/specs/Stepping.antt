@@ -43,7 +43,8 @@ conn_at conns (suc place) (Some c) = conn_at conns place (mirror_at conns c)
 -- what an event is, of the pipeline of a block whose writer has this connection
 abbrev pub due_behind : {I O : Type 0} → List (Connection I O) → BlockId → Option ℕ → StepEvent → Option Due
 due_behind conns block first step.Writer = Some (due.Own block)
-due_behind conns block first (step.Down place) = option_map (λ c. due.Down (record { 0 = c })) (conn_at conns place first)
+due_behind conns block first (step.Down place) =
+    option_map (λ c. due.Down (record { 0 = c })) (conn_at conns place first)
 due_behind conns block first (step.Ready place) =
     option_map (λ c. due.Ready (record { 0 = c })) (conn_at conns place first)
 due_behind conns block first (step.Up place) = option_map (λ c. due.Up (record { 0 = c })) (conn_at conns place first)
@@ -74,9 +75,15 @@ StepShows f r i o block event old new road road' result =
     (p : PlayState) → PlayIs r i o p road old → HasClient old.player.clients.items block.0
     → StepEnds f r i o block event p old new road road' result
 
--- Nothing happens to a block that has no client.
-pub record StaysAlone {F R I O : Type 0} (old new : Playing F I O) (road road' : R)
+-- Nothing was done.
+pub record IsUndone {F R I O : Type 0} (old new : Playing F I O) (road road' : R)
     (result : Result (Unit {0}) PlayFault) : Type 0 where
   pub ends : result ≡ Ok tt
   pub same : new ≡ old
   pub roads_same : road' ≡ road
+
+-- Nothing is done where the block has no client.
+abbrev pub StaysAlone : {F R I O : Type 0} → BlockId → Playing F I O → Playing F I O → R → R →
+    Result (Unit {0}) PlayFault → Type 0
+StaysAlone block old new road road' result =
+    client_place old.player.clients.items block.0 ≡ None → IsUndone old new road road' result

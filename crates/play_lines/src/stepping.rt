@@ -1,13 +1,11 @@
 //! One event of a block's pipeline happens.
 
-ghost use Rattle.std.specs.Prelude.{◌≡◌, None};
+ghost use Rattle.std.specs.Prelude.{◌≡◌};
 ghost use Rattle.member_events.specs.Roads.{RoadsPass};
-ghost use Rattle.play_dues.specs.Places.{client_place};
 ghost use Rattle.play_dues.specs.Writers.{conn_of};
 ghost use Rattle.play_lines.specs.Showing.{IsPlaying};
-ghost use Rattle.play_lines.specs.Stepping.{
-    number_of, mirror_at, conn_at, due_behind, due_for, StepShows, StaysAlone
-};
+ghost use Rattle.play_lines.specs.Stepping.{number_of, mirror_at, conn_at, due_behind, due_for};
+ghost use Rattle.play_lines.specs.Stepping.{StepShows, StaysAlone};
 
 use crate::playing::Playing;
 use client_events::Pipe;
@@ -33,8 +31,7 @@ impl<F: Files, I: LinkIn, O: LinkOut> Playing<F, I, O> {
         requires { IsPlaying R.Roads I.LinkIn O.LinkOut roads.old self.old }
         ensures shows { StepShows F.Files R.Roads I.LinkIn O.LinkOut block event
             self.old self.new roads.old roads.new result }
-        ensures alone { client_place self.old.player.clients.items block.0 ≡ None →
-            StaysAlone self.old self.new roads.old roads.new result }
+        ensures alone { StaysAlone block self.old self.new roads.old roads.new result }
         ensures pass { RoadsPass R.Roads roads.old roads.new }
     {
         worlds_are_lawful();
@@ -42,7 +39,12 @@ impl<F: Files, I: LinkIn, O: LinkOut> Playing<F, I, O> {
         let Some(due) = self.due_for(block, event) else {
             return Ok(());
         };
-        if !is_due(&self.player.nodes, self.player.clients.as_slice(), roads, due) {
+        if !is_due(
+            &self.player.nodes,
+            self.player.clients.as_slice(),
+            roads,
+            due,
+        ) {
             return Ok(());
         }
         self.player.happen(alloc, roads, due)
@@ -111,7 +113,10 @@ fn connection_behind<F: Files, I: LinkIn, O: LinkOut>(
 }
 
 /// The connection to a member's mirror.
-fn mirror_of<F: Files, I: LinkIn, O: LinkOut>(nodes: &Nodes<F, I, O>, conn: ConnId) -> Option<ConnId>
+fn mirror_of<F: Files, I: LinkIn, O: LinkOut>(
+    nodes: &Nodes<F, I, O>,
+    conn: ConnId,
+) -> Option<ConnId>
     ensures { number_of result ≡ mirror_at nodes.now.connections.items conn.0 }
 {
     let conn = conn.0 as usize;
