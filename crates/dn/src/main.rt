@@ -1,8 +1,7 @@
 //! The program `dn`: the write path of HDFS DataNodes, run in one process.
 #![tactic(auto)]
 
-use dn_run::exits::Exit;
-use dn_run::standard::run_in_memory;
+use dn_run::{Exit, run_in_memory};
 use std::process::ExitCode;
 use std::{env, io};
 

@@ -1,8 +1,2 @@
-pub mod StreamLaws
-pub mod ScriptLaws
-pub mod ReportLaws
-pub mod ReplicaLaws
-pub mod ReceiptLaws
-pub mod SendingLaws
-pub mod DeliveryLaws
-pub mod RunLaws
+mod StreamLaws
+mod RunLaws

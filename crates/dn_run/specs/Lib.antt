@@ -1,11 +1,4 @@
 pub mod Streams
-pub mod Scripts
-pub mod Reports
-pub mod Sums
-pub mod Faults
-pub mod Replicas
-pub mod Sendings
-pub mod Members
-pub mod Connections
 pub mod Exits
+pub mod Reading
 pub mod Runs

@@ -1,106 +1,147 @@
--- A run of one first write: its words, its script, and what it leaves.
-use Rattle.std.specs.Prelude.{◌≡◌, ℕ, ◌+◌, ◌<◌, ◌≤◌, ◌⊎◌, true, false, List, [], ◌∷◌, length, take, Option, Some, None, IsSome}
-use Rattle.std.specs.Option.{is_some}
+-- What a run does, and how it ends.
+use Rattle.std.specs.Prelude.{◌≡◌, ◌⊎◌, ℕ, List, length, Option, Some, None, IfSome, Result, Ok, Err}
 use Rattle.hd_base.specs.Faults.{FaultsIncreased}
-use Rattle.dn_run.specs.Exits.{script_limit}
-use Rattle.dn_run.specs.Scripts.{SpellsScript}
-use Rattle.dn_run.specs.Sums.{crc32c}
-use Rattle.hd_base.specs.FileMaps.{FileMap, no_files}
-use Rattle.hd_base.specs.Lists.{joined}
-use Rattle.hd_base.specs.Channels.{Plain, Carried}
-use Rattle.hd_base.specs.declared.states.ReplicaState.TheVariants as state
-use Rattle.meta_file.specs.declared.names.Folder.TheVariants as folder
-use Rattle.dn_run.specs.Replicas.{with_replica}
-use Rattle.dn_run.specs.Sendings.{first_stamp, bytes_of, sent_down, sent_up}
-use Rattle.dn_run.specs.declared.report.CloseAnswer.{CloseAnswer}
-use Rattle.dn_run.specs.declared.report.CloseAnswer.TheVariants as answer
-use Rattle.dn_run.specs.declared.report.CreateAnswer.TheVariants as creation
-use Rattle.dn_run.specs.declared.report.ReplicaEntry.{ReplicaEntry}
-use Rattle.dn_run.specs.declared.report.WriteReport.{WriteReport}
-use Rattle.dn_run.specs.declared.script.FirstWrite.{FirstWrite}
+use Rattle.hd_base.specs.Streams.{Wrote}
+use Rattle.hd_base.specs.declared.files.Files as files
+use Rattle.hd_base.specs.declared.roads.Roads as roads
+use Rattle.hd_base.specs.declared.shelves.Shelf as shelves
+use Rattle.hd_base.specs.declared.streams.Sink as sinks
+use Rattle.hd_base.specs.declared.streams.Source as sources
+use Rattle.script_lang.specs.declared.faults.BadKind.{BadKind}
+use Rattle.script_lang.specs.declared.instructions.ScriptLine.{ScriptLine}
+use Rattle.node_opening.specs.Emptiness.{ShelfRose, HasFirstFile}
+use Rattle.play.specs.Events.{RoadsFailed}
+use Rattle.play_report.specs.declared.expecting.Difference.{Difference}
+use Rattle.run_words.specs.Calls.{words_of}
+use Rattle.run_words.specs.declared.call.Mode.{Mode}
+use Rattle.run_words.specs.declared.call.Mode.TheVariants as mode
+use Rattle.run_words.specs.declared.call.Words.{Words}
+use Rattle.run_words.specs.declared.faults.UsageRule.{UsageRule}
+use Rattle.run_words.specs.declared.faults.UsageRule.TheVariants as rule
+use Rattle.whole_play.specs.declared.playing.Played.{Played}
+use Rattle.whole_play.specs.Playing.{IsPlayed}
+use Rattle.dn_run.specs.declared.exits.Exit.{Exit}
+use Rattle.dn_run.specs.declared.exits.Exit.TheVariants as exit
+use Rattle.dn_run.specs.Reading.{IsRefused, IsRefusal, HasRead}
+use Rattle.dn_run.specs.Streams.{WroteFront}
 
--- what the report tells of the replica: node 0 has it finalized, with all bytes
-abbrev pub entry_for : FirstWrite → ReplicaEntry
-entry_for s = record {
-  node = record { 0 = 0 };
-  block = s.block;
-  state = state.Finalized;
-  stamp = record { 0 = first_stamp };
-  written = length (bytes_of s.body);
-  acked = length (bytes_of s.body);
-  sum = crc32c (bytes_of s.body);
-}
+-- WORDS
 
--- how close is answered
-abbrev pub close_for : Option (List ℕ) → CloseAnswer
-close_for body = answer.Closed (length (bytes_of body)) (record { 0 = first_stamp }) (record { 0 = 0 })
+-- of the modes only `play` is run so far
+abbrev pub mode_usage : Mode → Option UsageRule
+mode_usage mode.Play = None
+mode_usage other = Some rule.Mode
 
--- What the report of a script tells: the replica, and that create and close were answered ok.
-abbrev pub report_for : FirstWrite → WriteReport
-report_for s = record {
-  block = s.block;
-  replica = Some (entry_for s);
-  create = creation.Created (record { 0 = first_stamp });
-  wrote = is_some s.body;
-  close = close_for s.body;
-}
+abbrev pub said_usage : Result Words UsageRule → Option UsageRule
+said_usage (Ok words) = mode_usage words.mode
+said_usage (Err r) = Some r
 
--- What the report tells where the node isn't reached.
-abbrev pub abandoned_report : FirstWrite → WriteReport
-abandoned_report s = record {
-  block = s.block;
-  replica = None;
-  create = creation.Abandoned (record { 0 = 0 });
-  wrote = is_some s.body;
-  close = answer.Abandoned (record { 0 = 0 });
-}
+-- the first rule that the words break, if they break one
+abbrev pub usage_of : List (List ℕ) → Option UsageRule
+usage_of words = said_usage (words_of words)
 
--- What the report tells where the member took no request.
-abbrev pub unanswered_report : FirstWrite → WriteReport
-unanswered_report s = record {
-  block = s.block;
-  replica = None;
-  create = creation.Waiting;
-  wrote = is_some s.body;
-  close = answer.Waiting;
-}
+-- Usage comes exactly where the words break a rule, but for want of memory.
+abbrev pub UsageFor : Option UsageRule → Exit → Type 0
+UsageFor (Some r) ended = (ended ≡ exit.Usage r) ⊎ (ended ≡ exit.Memory)
+UsageFor None ended = (r : UsageRule) → ended ≡ exit.Usage r → ⊥
 
--- the files that the script leaves on an empty shelf: those of the finalized replica, and no other
-abbrev pub files_for : FirstWrite → FileMap
-files_for s = with_replica folder.Finalized s.block.0 first_stamp (bytes_of s.body) no_files
+-- The same of what is read and played.
+abbrev pub UsageIn : {T : Type 0} → Option UsageRule → Result T Exit → Type 0
+UsageIn usage (Ok x) = usage ≡ None
+UsageIn usage (Err ended) = UsageFor usage ended
 
--- Roads and a shelf tell what they hold, and the shelf has no file.
-pub record TellEmpty (plain : Option Plain) (carried : Option Carried) (files : Option FileMap) : Type 0 where
-  pub net : IsSome plain
-  pub trace : IsSome carried
-  pub none : files ≡ Some no_files
+-- The words are `play`, or they break a rule, or memory ran out.
+abbrev pub ReadsWords : Option UsageRule → Result (Unit {0}) Exit → Type 0
+ReadsWords None (Ok u) = Unit {0}
+ReadsWords None (Err ended) = ended ≡ exit.Memory
+ReadsWords (Some r) (Ok u) = ⊥
+ReadsWords (Some r) (Err ended) = (ended ≡ exit.Usage r) ⊎ (ended ≡ exit.Memory)
 
--- Connection 0 carried the request and the script's packets down, and the answer and the acks up, one message behind the other.
-pub record CarriedFor (s : FirstWrite) (carried : Carried) : Type 0 where
-  pub down : carried 0 true ≡ joined (sent_down s.block.0 s.body)
-  pub up : carried 0 false ≡ joined (sent_up s.body)
+-- SCRIPTS
 
--- The run stopped for a failing shelf: so many messages were answered, and the next one was sent down, where there is one. Unless all were answered the block isn't closed; where all were, the replica is stored.
-pub record StoppedAt (s : FirstWrite) (files : Option FileMap) (carried : Carried) : Type 0 where
-  pub answers : ℕ
-  pub down : carried 0 true ≡ joined (take (answers + 1) (sent_down s.block.0 s.body))
-  pub up : carried 0 false ≡ joined (take answers (sent_up s.body))
-  pub stored : (answers < length (sent_up s.body)) ⊎ (files ≡ Some (files_for s))
+-- A script is refused only where, if told, the text is so,
+abbrev pub IsBadIn : Option (List ℕ) → ℕ → Exit → Type 0
+IsBadIn left shelves (exit.BadScript line why) = IfSome left (λ text. IsRefused shelves text line why)
+IsBadIn left shelves other = Unit {0}
 
--- what the first of the shelves tells, where there is one
-abbrev pub first_files : {S : Type 0} → (S → Option FileMap) → List S → Option FileMap
-first_files files [] = None
-first_files files (shelf ∷ shelves) = files shelf
+-- and a text that is so is refused, but for want of memory or a source that failed.
+abbrev pub RefusesIn : Option (List ℕ) → ℕ → Exit → Type 0
+RefusesIn left shelves ended = IfSome left (λ text. (line : ℕ) (why : BadKind) → IsRefused shelves text line why →
+    IsRefusal line why ended)
 
--- The first shelf's count has risen.
-abbrev pub FirstRose : {S : Type 0} → (S → ℕ) → List S → List S → Type 0
-FirstRose faults (old ∷ olds) (new ∷ news) = FaultsIncreased (faults old) (faults new)
-FirstRose faults _ _ = ⊥
+-- FAULTS
 
--- The source tells a text that spells this script, and the roads and the first shelf tell that nothing is on them yet.
-pub record IsGiven (first : FirstWrite) (left : Option (List ℕ)) (plain : Option Plain) (carried : Option Carried) (files : Option FileMap) : Type 0 where
-  pub text : List ℕ
-  pub left_is : left ≡ Some text
-  pub spelled : SpellsScript first text
-  pub few : length text ≤ script_limit
-  pub empty : TellEmpty plain carried files
+-- Each fault of a play has its cause in this call: the count of the source, the shelf or the roads rose; or this is the
+-- first file of a shelf that isn't empty. None is of a report.
+abbrev pub HasPlayCause : {I S D R L M : Type 0} → sources.Ghosts I → shelves.Ghosts S D → roads.Ghosts R L M → I → I →
+    List S → List S → R → R → Exit → Type 0
+HasPlayCause i s r script script' old new road road' exit.ScriptFault =
+    FaultsIncreased (i.faults script) (i.faults script')
+HasPlayCause i s r script script' old new road road' (exit.ShelfFault node) = ShelfRose s old new node
+HasPlayCause i s r script script' old new road road' exit.RoadFault = RoadsFailed r road road'
+HasPlayCause i s r script script' old new road road' (exit.NotEmpty node name) = HasFirstFile s old new node name
+HasPlayCause i s r script script' old new road road' exit.Done = ⊥
+HasPlayCause i s r script script' old new road road' (exit.Differs line want got) = ⊥
+HasPlayCause i s r script script' old new road road' exit.ReportFault = ⊥
+HasPlayCause i s r script script' old new road road' other = Unit {0}
+
+-- The same of a run, where the count of the sink may have risen too.
+abbrev pub HasExitCause : {I O S D R L M : Type 0} → sources.Ghosts I → sinks.Ghosts O → shelves.Ghosts S D →
+    roads.Ghosts R L M → I → I → O → O → List S → List S → R → R → Exit → Type 0
+HasExitCause i o s r script script' report report' old new road road' exit.Done = Unit {0}
+HasExitCause i o s r script script' report report' old new road road' (exit.Differs line want got) = Unit {0}
+HasExitCause i o s r script script' report report' old new road road' exit.ReportFault =
+    FaultsIncreased (o.faults report) (o.faults report')
+HasExitCause i o s r script script' report report' old new road road' other =
+    HasPlayCause i s r script script' old new road road' other
+
+-- ENDS
+
+-- The source was read to its end, and what it gave is a script, which was played.
+pub record HasRun {I S D R L M : Type 0} (i : sources.Ghosts I) (s : shelves.Ghosts S D) (d : files.Ghosts D)
+    (r : roads.Ghosts R L M) (script script' : I) (old new : List S) (road : R) (p : Played) : Type 0 where
+  pub lines : List ScriptLine
+  pub read : HasRead (i.left script) (i.left script') (length old) lines
+  pub played : IsPlayed s d r lines old new road p
+
+-- So it was; the whole report was written, and this is the first difference from what is expected, if there is one.
+pub record IsDone {I O S D R L M : Type 0} (i : sources.Ghosts I) (o : sinks.Ghosts O) (s : shelves.Ghosts S D)
+    (d : files.Ghosts D) (r : roads.Ghosts R L M) (script script' : I) (report report' : O) (old new : List S) (road : R)
+    (difference : Option Difference) : Type 0 where
+  pub p : Played
+  pub has_run : HasRun i s d r script script' old new road p
+  pub written : Wrote (o.written report) (o.written report') p.report.items
+  pub differs : p.difference ≡ difference
+
+-- So it was, and a front of the report was written.
+pub record IsCutShort {I O S D R L M : Type 0} (i : sources.Ghosts I) (o : sinks.Ghosts O) (s : shelves.Ghosts S D)
+    (d : files.Ghosts D) (r : roads.Ghosts R L M) (script script' : I) (report report' : O) (old new : List S) (road : R) :
+    Type 0 where
+  pub p : Played
+  pub has_run : HasRun i s d r script script' old new road p
+  pub written : WroteFront (o.written report) (o.written report') p.report.items
+
+-- After Done and Differs the script was played and its whole report written, after ReportFault a front of it, and after
+-- any other exit nothing was written.
+abbrev pub IsOver : {I O S D R L M : Type 0} → sources.Ghosts I → sinks.Ghosts O → shelves.Ghosts S D →
+    files.Ghosts D → roads.Ghosts R L M → I → I → O → O → List S → List S → R → Exit → Type 0
+IsOver i o s d r script script' report report' old new road exit.Done =
+    IsDone i o s d r script script' report report' old new road None
+IsOver i o s d r script script' report report' old new road (exit.Differs line want got) =
+    IsDone i o s d r script script' report report' old new road (Some (record { line = line; want = want; got = got }))
+IsOver i o s d r script script' report report' old new road exit.ReportFault =
+    IsCutShort i o s d r script script' report report' old new road
+IsOver i o s d r script script' report report' old new road other = o.written report' ≡ o.written report
+
+-- what the end of writing a report says
+abbrev pub WritesReport : {O : Type 0} → sinks.Ghosts O → O → O → Played → Exit → Type 0
+WritesReport o report report' p exit.Done =
+    Wrote (o.written report) (o.written report') p.report.items × (p.difference ≡ None)
+WritesReport o report report' p (exit.Differs line want got) =
+    Wrote (o.written report) (o.written report') p.report.items ×
+    (p.difference ≡ Some (record { line = line; want = want; got = got }))
+WritesReport o report report' p exit.ReportFault =
+    WroteFront (o.written report) (o.written report') p.report.items ×
+    FaultsIncreased (o.faults report) (o.faults report')
+WritesReport o report report' p exit.Memory = o.written report' ≡ o.written report
+WritesReport o report report' p other = ⊥

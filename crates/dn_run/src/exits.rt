@@ -3,52 +3,56 @@
 ghost use Rattle.std.specs.Prelude.{◌≡◌, codes};
 ghost use Rattle.dn_run.specs.Exits.{status_of, name_of};
 
-use crate::faults::RunFault;
 use crate::streams::ReadFault;
-use hd_base::NodeId;
+use hd_base::{FileName, NodeId};
+use play_report::Expected;
+use run_words::{UsageRule, WordsFault};
+use script_lang::{BadKind, ScriptError};
 use std::alloc::AllocError;
+use whole_play::RunFault;
 
-/// Why words are unfit.
-#[derive(Clone, Copy, Debug, PartialEq, Eq, PartialOrd, Ord, Hash)]
-pub enum UsageRule {
-    /// The words aren't those of a mode: so far the only one is the single word `play`.
-    Mode,
-}
-
-/// Why a script is refused.
-#[derive(Clone, Copy, Debug, PartialEq, Eq, PartialOrd, Ord, Hash)]
-pub enum BadKind {
-    /// It has over 16,777,216 bytes. The line is 0.
-    TooLong,
-    /// It hasn't the form of a script. The line is 0 so far.
-    Word,
-    /// It names more nodes than there are shelves.
-    TooManyNodes,
-}
-
-/// How a run ended.
-#[derive(Clone, Copy, Debug, PartialEq, Eq, PartialOrd, Ord, Hash)]
+/// How a run ended. After `Done` and `Differs` the whole report was written; after `ReportFault` a front of it; after any
+/// other exit nothing.
+#[derive(Debug, PartialEq, Eq, Drop)]
 pub enum Exit {
-    /// The script was run, and the whole report was written.
+    /// The script was played, and each `expect` line has what it expects.
     Done,
-    /// The words are unfit.
-    Usage { rule: UsageRule },
-    /// The script is refused, at this line (0 is the script as a whole).
-    BadScript { line: u64, kind: BadKind },
+    /// The words break this rule.
+    Usage {
+        rule: UsageRule,
+    },
+    /// The script breaks a rule at this line, from 1; 0 is the script as a whole.
+    BadScript {
+        line: u64,
+        kind: BadKind,
+    },
     /// The script couldn't be read: the source failed.
     ScriptFault,
-    /// The report couldn't be written whole: the sink failed, behind a front of the report.
+    /// The report couldn't be written whole: the sink failed.
     ReportFault,
     /// Memory ran out.
     Memory,
-    /// The shelf of a node, or its drawer, failed.
-    ShelfFault { node: NodeId },
+    /// This `expect` line is the first that wants another replica than there is; there may be none.
+    Differs {
+        line: u64,
+        want: Expected,
+        got: Option<Expected>,
+    },
+    /// The shelf of a node, or the drawer of one of its replicas, failed.
+    ShelfFault {
+        node: NodeId,
+    },
     /// The roads or a link failed.
     RoadFault,
+    /// The shelf of a node isn't empty. This is the first of its files by name.
+    NotEmpty {
+        node: NodeId,
+        name: FileName,
+    },
 }
 
 impl Exit {
-    /// The exit status of the program.
+    /// The exit status of the program: 0 to 11. 9 and 10 are no exit's so far.
     pub fn status(&self) -> u8
         ensures { result ≡ status_of self.now }
     {
@@ -59,8 +63,10 @@ impl Exit {
             Exit::ScriptFault => 3,
             Exit::ReportFault => 4,
             Exit::Memory => 5,
+            Exit::Differs { .. } => 6,
             Exit::ShelfFault { .. } => 7,
             Exit::RoadFault => 8,
+            Exit::NotEmpty { .. } => 11,
         }
     }
 
@@ -75,20 +81,25 @@ impl Exit {
             Exit::ScriptFault => "ScriptFault",
             Exit::ReportFault => "ReportFault",
             Exit::Memory => "Memory",
+            Exit::Differs { .. } => "Differs",
             Exit::ShelfFault { .. } => "ShelfFault",
             Exit::RoadFault => "RoadFault",
+            Exit::NotEmpty { .. } => "NotEmpty",
         }
     }
 }
 
-impl From<AllocError> for Exit {
+impl From<WordsFault> for Exit {
     ghost use Rattle.std.specs.Prelude.{◌≡◌};
-    ghost use Rattle.dn_run.specs.declared.exits.Exit.TheVariants.{Memory};
+    ghost use Rattle.dn_run.specs.Exits.{words_exit};
 
-    ghost from_gives = { λ _ exit. exit ≡ Memory };
+    ghost from_gives = { λ fault exit. exit ≡ words_exit fault };
 
-    fn from(_error: AllocError) -> Exit {
-        Exit::Memory
+    fn from(fault: WordsFault) -> Exit {
+        match fault {
+            WordsFault::Usage { rule } => Exit::Usage { rule },
+            WordsFault::Memory => Exit::Memory,
+        }
     }
 }
 
@@ -110,6 +121,20 @@ impl From<ReadFault> for Exit {
     }
 }
 
+impl From<ScriptError> for Exit {
+    ghost use Rattle.std.specs.Prelude.{◌≡◌};
+    ghost use Rattle.dn_run.specs.Exits.{script_exit};
+
+    ghost from_gives = { λ error exit. exit ≡ script_exit error };
+
+    fn from(error: ScriptError) -> Exit {
+        match error {
+            ScriptError::Bad { line, kind } => Exit::BadScript { line, kind },
+            ScriptError::Memory => Exit::Memory,
+        }
+    }
+}
+
 impl From<RunFault> for Exit {
     ghost use Rattle.std.specs.Prelude.{◌≡◌};
     ghost use Rattle.dn_run.specs.Exits.{run_exit};
@@ -118,8 +143,9 @@ impl From<RunFault> for Exit {
 
     fn from(fault: RunFault) -> Exit {
         match fault {
-            RunFault::Road => Exit::RoadFault,
-            RunFault::Shelf => Exit::ShelfFault { node: NodeId(0) },
+            RunFault::RoadFault => Exit::RoadFault,
+            RunFault::ShelfFault { node } => Exit::ShelfFault { node },
+            RunFault::NotEmpty { node, name } => Exit::NotEmpty { node, name },
             RunFault::Memory => Exit::Memory,
         }
     }

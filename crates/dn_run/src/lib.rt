@@ -1,20 +1,13 @@
-//! The run of a script: one block is created, written and closed, on one node and over roads; what
-//! was carried and stored is reported.
+//! The top call: a script is read and played over shelves and roads, and its report written.
 #![tactic(auto)]
 
-mod client;
-mod connection;
-pub mod exits;
-pub mod faults;
-mod member;
-pub mod messages;
-mod play;
-mod receiving;
-pub mod replica_files;
-pub mod report;
-pub mod run;
-pub mod script;
-pub mod sending;
-pub mod standard;
-pub mod streams;
-mod writing;
+mod exits;
+mod reading;
+mod running;
+mod standard;
+mod streams;
+
+pub use exits::Exit;
+pub use running::run;
+pub use standard::run_in_memory;
+pub use streams::{ReadFault, WriteFault, read_to_end, write_all};

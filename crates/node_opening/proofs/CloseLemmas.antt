@@ -1,5 +1,5 @@
 -- Books that are given back one by one, the last of them first.
-use Rattle.std.proofs.Common.{◌≡◌, ◌<◌, ◌≤◌, ◌+◌, ℕ, zero, suc, Bool, true, false, cond, List, [], ◌∷◌, ◌++◌, length, take, slice_get, slice_set, Option, Some, None, ◌⊎◌, inl, inr, refl, sym, ap, subst, ◌∙◌, arith, eqb-true, eq-eqb, length-set, length-append}
+use Rattle.std.proofs.Common.{◌≡◌, ◌<◌, ◌≤◌, ◌+◌, ℕ, zero, suc, Bool, true, false, cond, List, [], ◌∷◌, ◌++◌, length, take, slice_get, slice_set, Option, Some, None, ◌⊎◌, inl, inr, refl, sym, ap, subst, ◌∙◌, arith, eqb-true, eq-eqb, length-set, length-append, add-one}
 use Rattle.std.specs.Prelude.{◌||◌, ◌&&◌, not, ◌==◌, min, ◌^◌, ◌-◌}
 use Rattle.hd_base.specs.Faults.{CarriesFaults}
 use Rattle.hd_base.specs.FileMaps.{FileMap, both_observable, marked}
@@ -13,12 +13,11 @@ use Rattle.play_nodes.proofs.Tables.{set_here, set_there, same_or, element}
 use Rattle.play_nodes.proofs.PlaceLaws.{element_within, same_some, book_found}
 use Rattle.replica_files.specs.declared.book_state.BookState.{BookState}
 use Rattle.node_opening.specs.Shelves.{is_among, AreDistinct}
-use Rattle.node_opening.specs.Closing.{block_of, blocks_of, faults_of, files_with, books_within, AreLentOut, TheyLend, NodesFit, NodeCloses, NodesClose}
-use Rattle.node_opening.proofs.ListLemmas.{get_front, get_end, get_take, get_within, none_left}
-use Rattle.node_opening.proofs.ShelfLemmas.{among_more}
+use Rattle.node_opening.specs.Closing.{block_of, blocks_of, faults_of, files_with, books_within, AreLentOut, AreOf, TheyLend, NodesFit, NodeCloses, NodesClose}
+use Rattle.node_opening.proofs.ListLemmas.{get_front, get_end, get_take, get_within, take_next, none_left}
+use Rattle.node_opening.proofs.ShelfLemmas.{among_more, distinct_front}
 use Rattle.node_opening.proofs.FileLemmas.{with_end}
 use Rattle.hd_base.specs.FileMaps.{OnlyOf}
-use Rattle.replica_core.specs.declared.records.ReplicaRecord.{ReplicaRecord}
 use Rattle.replica_files.specs.Books.{IsBookOf}
 
 -- BLOCKS
@@ -104,16 +103,26 @@ faults_end d (y ∷ xs) x = more (d.faults y.drawer) (faults_of d (xs ++ x ∷ [
 
 -- ONE NODE
 
--- A book's drawer was given back.
-pub record Gives {S D : Type 0} (s : shelves.Ghosts S D) (d : files.Ghosts D) (x : BookState D) (old new : S) : Type 0 where
-  pub files_are : s.files new ≡ both_observable (s.files old) (d.files x.drawer)
-  pub lent : s.lent new ≡ marked (s.lent old) (block_of x).0 false
+-- A book's drawer was given back under this block.
+pub record Gives {S D : Type 0} (s : shelves.Ghosts S D) (d : files.Ghosts D) (block : BlockId) (x : BookState D) (old new : S) : Type 0 where
+  pub files_are : block_of x ≡ block → s.files new ≡ both_observable (s.files old) (d.files x.drawer)
+  pub lent : s.lent new ≡ marked (s.lent old) block.0 false
   pub count : CarriesFaults (s.faults old) (d.faults x.drawer) (s.faults new)
 
-module _ {S D : Type 0} (s : shelves.Ghosts S D) (d : files.Ghosts D) where
-  pub close_none : (a : S) → NodeCloses s d [] a a
+-- The last of books has the block at its place, and those before it have theirs.
+pub front_end : {A : Type 0} (blocks : List BlockId) (xs : List A) (x : A) (block : BlockId) → slice_get blocks (length xs) ≡ Some block → take (length (xs ++ x ∷ [])) blocks ≡ take (length xs) blocks ++ block ∷ []
+front_end blocks xs x block at = ap (λ (n : ℕ). take n blocks) (length-append xs (x ∷ []) ∙ add-one (length xs)) ∙ take_next blocks (length xs) block at
+
+of_less : {D : Type 0} (blocks : List BlockId) (xs : List (BookState D)) (x : BookState D) → AreOf blocks (xs ++ x ∷ []) → AreOf blocks xs
+of_less blocks xs x h = λ place block y at here. h place block y at (get_front xs x place (element_within xs place y here) ∙ here)
+
+of_last : {D : Type 0} (blocks : List BlockId) (xs : List (BookState D)) (x : BookState D) (block : BlockId) → slice_get blocks (length xs) ≡ Some block → AreOf blocks (xs ++ x ∷ []) → block_of x ≡ block
+of_last blocks xs x block at h = h (length xs) block x at (get_end xs x)
+
+module _ {S D : Type 0} (s : shelves.Ghosts S D) (d : files.Ghosts D) (blocks : List BlockId) where
+  pub close_none : (a : S) → NodeCloses s d blocks [] a a
   close_none a = record {
-    files_are = refl;
+    files_are = λ of. refl;
     lent = λ b. and_true (s.lent a b);
     count = record { never_falls = omega arith; counted = least (s.faults a) };
   }
@@ -125,48 +134,95 @@ module _ {S D : Type 0} (s : shelves.Ghosts S D) (d : files.Ghosts D) where
       least : (n : ℕ) → min (n + 0) (2 ^ 64 - 1) ≤ n
       least n = omega arith
 
-  pub close_more : (xs : List (BookState D)) (x : BookState D) (a b c : S) → Gives s d x a b → NodeCloses s d xs b c → NodeCloses s d (xs ++ x ∷ []) a c
-  close_more xs x a b c g n = record {
-    files_are = n.files_are ∙ (ap (λ (f : Option FileMap). files_with d f xs) g.files_are ∙ sym (with_end d (s.files a) xs x));
-    lent = λ y. n.lent y ∙ (ap (λ (f : ℕ → Bool). f y && not (is_among (blocks_of xs) y)) g.lent ∙
-        (unlent (y == (block_of x).0) (s.lent a y) (is_among (blocks_of xs) y) ∙
-        ap (λ (q : Bool). s.lent a y && not q) (sym (ap (λ (bs : List BlockId). is_among bs y) (blocks_end xs x) ∙ among_more (blocks_of xs) (block_of x) y))));
-    count = subst (λ (q : ℕ). CarriesFaults (s.faults a) q (s.faults c)) (sym (faults_end d xs x))
-        (carried_more (s.faults a) (s.faults b) (s.faults c) (d.faults x.drawer) (faults_of d xs) g.count n.count);
-  }
+  pub close_more : (xs : List (BookState D)) (x : BookState D) (block : BlockId) (a b c : S) → slice_get blocks (length xs) ≡ Some block → Gives s d block x a b → NodeCloses s d blocks xs b c → NodeCloses s d blocks (xs ++ x ∷ []) a c
+  close_more xs x block a b c at g n =
+      let front = take (length xs) blocks in
+      record {
+        files_are = λ of. n.files_are (of_less blocks xs x of) ∙ (ap (λ (f : Option FileMap). files_with d f xs) (g.files_are (of_last blocks xs x block at of)) ∙ sym (with_end d (s.files a) xs x));
+        lent = λ y. n.lent y ∙ (ap (λ (f : ℕ → Bool). f y && not (is_among front y)) g.lent ∙
+            (unlent (y == block.0) (s.lent a y) (is_among front y) ∙
+            ap (λ (q : Bool). s.lent a y && not q) (sym (ap (λ (bs : List BlockId). is_among bs y) (front_end blocks xs x block at) ∙ among_more front block y))));
+        count = subst (λ (q : ℕ). CarriesFaults (s.faults a) q (s.faults c)) (sym (faults_end d xs x))
+            (carried_more (s.faults a) (s.faults b) (s.faults c) (d.faults x.drawer) (faults_of d xs) g.count n.count);
+      }
+
+-- LENT BLOCKS
+
+among_in : (xs : List BlockId) (k : ℕ) (a : BlockId) (b : ℕ) → slice_get xs k ≡ Some a → b ≡ a.0 → is_among xs b ≡ true
+among_in [] k a b h e = cc
+among_in (x ∷ xs) zero a b h e = or_left (b == x.0) (is_among xs b) (eq-eqb b x.0 (e ∙ ap (λ (q : BlockId). q.0) (same_some a x (sym h))))
+among_in (x ∷ xs) (suc k) a b h e = or_right (b == x.0) (is_among xs b) (among_in xs k a b h e)
+
+among_front : (xs : List BlockId) (n b : ℕ) → is_among (take n xs) b ≡ true → is_among xs b ≡ true
+among_front xs n b h =
+    let f = among_at (take n xs) b h in
+    among_in xs f.place f.block b (get_take xs n f.place f.block f.at) f.same
 
 module _ {S D : Type 0} (s : shelves.Ghosts S D) where
-  distinct_books : (xs : List (BookState D)) (x : BookState D) (a : S) → AreLentOut s a (xs ++ x ∷ []) → AreDistinct (blocks_of xs ++ block_of x ∷ [])
-  distinct_books xs x a l = subst (λ (bs : List BlockId). AreDistinct bs) (blocks_end xs x) l.distinct
+  pub lent_last : (bs : List BlockId) (block : BlockId) (a : S) → AreLentOut s a (bs ++ block ∷ []) → s.lent a block.0 ≡ true
+  lent_last bs block a l = l.lent block.0 (among_more bs block block.0 ∙ or_left (block.0 == block.0) (is_among bs block.0) (same_eqb block.0))
 
-  lent_books : (xs : List (BookState D)) (x : BookState D) (a : S) → AreLentOut s a (xs ++ x ∷ []) → (b : ℕ) → ((b == (block_of x).0) || is_among (blocks_of xs) b) ≡ true → s.lent a b ≡ true
-  lent_books xs x a l b h = l.lent b (ap (λ (bs : List BlockId). is_among bs b) (blocks_end xs x) ∙ (among_more (blocks_of xs) (block_of x) b ∙ h))
-
-  pub lent_last : (xs : List (BookState D)) (x : BookState D) (a : S) → AreLentOut s a (xs ++ x ∷ []) → s.lent a (block_of x).0 ≡ true
-  lent_last xs x a l = lent_books xs x a l (block_of x).0 (or_left ((block_of x).0 == (block_of x).0) (is_among (blocks_of xs) (block_of x).0) (same_eqb (block_of x).0))
-
-  pub lent_less : (xs : List (BookState D)) (x : BookState D) (a b : S) → AreLentOut s a (xs ++ x ∷ []) → s.lent b ≡ marked (s.lent a) (block_of x).0 false → AreLentOut s b xs
-  lent_less xs x a b l e = record {
-    distinct = distinct_less (blocks_of xs) (block_of x) (distinct_books xs x a l);
+  pub lent_less : (bs : List BlockId) (block : BlockId) (a b : S) → AreLentOut s a (bs ++ block ∷ []) → s.lent b ≡ marked (s.lent a) block.0 false → AreLentOut s b bs
+  lent_less bs block a b l e = record {
+    distinct = distinct_less bs block l.distinct;
     lent = λ y h. ap (λ (f : ℕ → Bool). f y) e ∙
-        cond_other (y == (block_of x).0) (s.lent a y) (among_apart (blocks_of xs) (block_of x) y (distinct_books xs x a l) h)
-        (lent_books xs x a l y (or_right (y == (block_of x).0) (is_among (blocks_of xs) y) h));
+        cond_other (y == block.0) (s.lent a y) (among_apart bs block y l.distinct h)
+        (l.lent y (among_more bs block y ∙ or_right (y == block.0) (is_among bs y) h));
   }
+
+  -- Of blocks that the shelf has lent it has lent those of a front.
+  pub lent_front : (bs : List BlockId) (n : ℕ) (a : S) → AreLentOut s a bs → AreLentOut s a (take n bs)
+  lent_front bs n a l = record {
+    distinct = distinct_front bs n l.distinct;
+    lent = λ y h. l.lent y (among_front bs n y h);
+  }
+
+-- What is left of a node's books: none stands past the blocks, and the blocks at their places are lent.
+pub record IsLeft {S D : Type 0} (s : shelves.Ghosts S D) (blocks : List BlockId) (a : S) (books : List (BookState D)) : Type 0 where
+  pub within : length books ≤ length blocks
+  pub lent : AreLentOut s a (take (length books) blocks)
+
+-- Of what is left the last book, with the block at its place.
+pub record LastBook {S D : Type 0} (s : shelves.Ghosts S D) (blocks : List BlockId) (a : S) (xs : List (BookState D)) (block : BlockId) : Type 0 where
+  pub at : slice_get blocks (length xs) ≡ Some block
+  pub lent : AreLentOut s a (take (length xs) blocks ++ block ∷ [])
+
+module _ {S D : Type 0} (s : shelves.Ghosts S D) (blocks : List BlockId) where
+  pub left_within : (xs books : List (BookState D)) (x : BookState D) (a : S) → books ≡ xs ++ x ∷ [] → IsLeft s blocks a books → length xs < length blocks
+  left_within xs books x a e l = below (ap length e ∙ length-append xs (x ∷ [])) l.within
+    where
+      below : length books ≡ length xs + 1 → length books ≤ length blocks → length xs < length blocks
+      below h k = omega arith
+
+  pub left_last : (xs books : List (BookState D)) (x : BookState D) (block : BlockId) (a : S) → books ≡ xs ++ x ∷ [] → slice_get blocks (length xs) ≡ Some block → IsLeft s blocks a books → LastBook s blocks a xs block
+  left_last xs books x block a e at l = record {
+    at = at;
+    lent = subst (λ (bs : List BlockId). AreLentOut s a bs) (ap (λ (ys : List (BookState D)). take (length ys) blocks) e ∙ front_end blocks xs x block at) l.lent;
+  }
+
+  pub left_less : (xs : List (BookState D)) (block : BlockId) (a b : S) → LastBook s blocks a xs block → s.lent b ≡ marked (s.lent a) block.0 false → IsLeft s blocks b xs
+  left_less xs block a b l e = record {
+    within = under (element_within blocks (length xs) block l.at);
+    lent = lent_less s (take (length xs) blocks) block a b l.lent e;
+  }
+    where
+      under : length xs < length blocks → length xs ≤ length blocks
+      under h = omega arith
 
 -- ALL NODES
 
-module _ {S D : Type 0} (s : shelves.Ghosts S D) (d : files.Ghosts D) (m : ℕ) where
-  pub nodes_none : (xs : List S) → NodesClose s d m [] xs xs
+module _ {S D : Type 0} (s : shelves.Ghosts S D) (d : files.Ghosts D) (blocks : List BlockId) where
+  pub nodes_none : (xs : List S) → NodesClose s d blocks [] xs xs
   nodes_none xs = record { count = refl; each = λ k a b x was is at. cc; others = λ k h. refl }
 
-  more_each : (nodes : List (NodeBooks D)) (x : NodeBooks D) (xs end : List S) (a b : S) → slice_get xs (length nodes) ≡ Some a → NodeCloses s d (books_within m x) a b →
-      NodesClose s d m nodes (slice_set xs (length nodes) b) end →
-      (k : ℕ) (p q : S) (y : NodeBooks D) → slice_get xs k ≡ Some p → slice_get end k ≡ Some q → slice_get (nodes ++ x ∷ []) k ≡ Some y → ((k ≡ length nodes) ⊎ (k ≡ length nodes → ⊥)) → NodeCloses s d (books_within m y) p q
+  more_each : (nodes : List (NodeBooks D)) (x : NodeBooks D) (xs end : List S) (a b : S) → slice_get xs (length nodes) ≡ Some a → NodeCloses s d blocks (books_within (length blocks) x) a b →
+      NodesClose s d blocks nodes (slice_set xs (length nodes) b) end →
+      (k : ℕ) (p q : S) (y : NodeBooks D) → slice_get xs k ≡ Some p → slice_get end k ≡ Some q → slice_get (nodes ++ x ∷ []) k ≡ Some y → ((k ≡ length nodes) ⊎ (k ≡ length nodes → ⊥)) → NodeCloses s d blocks (books_within (length blocks) y) p q
   more_each nodes x xs end a b at c n k p q y was is here (inl same) =
       let is_x : x ≡ y = same_some x y (sym (get_end nodes x) ∙ (ap (slice_get (nodes ++ x ∷ [])) (sym same) ∙ here)) in
       let is_a : a ≡ p = same_some a p (sym at ∙ (ap (slice_get xs) (sym same) ∙ was)) in
       let is_b : b ≡ q = same_some b q (sym (set_here xs (length nodes) a b at) ∙ (sym (n.others (length nodes) (omega arith)) ∙ (ap (slice_get end) (sym same) ∙ is))) in
-      subst (λ (z : NodeBooks D). NodeCloses s d (books_within m z) p q) is_x (subst (λ (z : S). NodeCloses s d (books_within m x) z q) is_a (subst (λ (z : S). NodeCloses s d (books_within m x) a z) is_b c))
+      subst (λ (z : NodeBooks D). NodeCloses s d blocks (books_within (length blocks) z) p q) is_x (subst (λ (z : S). NodeCloses s d blocks (books_within (length blocks) x) z q) is_a (subst (λ (z : S). NodeCloses s d blocks (books_within (length blocks) x) a z) is_b c))
   more_each nodes x xs end a b at c n k p q y was is here (inr away) =
       let within : k < length nodes = below (element_within (nodes ++ x ∷ []) k y here) away in
       n.each k p q y (set_there xs (length nodes) b k away ∙ was) is (sym (get_front nodes x k within) ∙ here)
@@ -174,8 +230,8 @@ module _ {S D : Type 0} (s : shelves.Ghosts S D) (d : files.Ghosts D) (m : ℕ) 
       below : k < length (nodes ++ x ∷ []) → (k ≡ length nodes → ⊥) → k < length nodes
       below h away = omega (arith, length-append nodes (x ∷ []))
 
-  pub nodes_more : (nodes : List (NodeBooks D)) (x : NodeBooks D) (xs end : List S) (a b : S) → slice_get xs (length nodes) ≡ Some a → NodeCloses s d (books_within m x) a b →
-      NodesClose s d m nodes (slice_set xs (length nodes) b) end → NodesClose s d m (nodes ++ x ∷ []) xs end
+  pub nodes_more : (nodes : List (NodeBooks D)) (x : NodeBooks D) (xs end : List S) (a b : S) → slice_get xs (length nodes) ≡ Some a → NodeCloses s d blocks (books_within (length blocks) x) a b →
+      NodesClose s d blocks nodes (slice_set xs (length nodes) b) end → NodesClose s d blocks (nodes ++ x ∷ []) xs end
   nodes_more nodes x xs end a b at c n = record {
     count = n.count ∙ length-set xs (length nodes) b;
     each = λ k p q y was is here. more_each nodes x xs end a b at c n k p q y was is here (same_or k (length nodes));
@@ -188,27 +244,31 @@ module _ {S D : Type 0} (s : shelves.Ghosts S D) (d : files.Ghosts D) (m : ℕ) 
       past : (k : ℕ) → length (nodes ++ x ∷ []) ≤ k → k ≡ length nodes → ⊥
       past k h e = omega (arith, length-append nodes (x ∷ []))
 
--- There is a shelf for each node, which has lent the blocks of the node's books at so many places.
-pub record NodesAreLentOut {S D : Type 0} (s : shelves.Ghosts S D) (m : ℕ) (xs : List S) (nodes : List (NodeBooks D)) : Type 0 where
+-- There is a shelf for each node, and each has lent these blocks.
+pub record NodesAreLentOut {S D : Type 0} (s : shelves.Ghosts S D) (blocks : List BlockId) (xs : List S) (nodes : List (NodeBooks D)) : Type 0 where
   pub fewer : length nodes ≤ length xs
-  pub each : (k : ℕ) (a : S) (x : NodeBooks D) → slice_get xs k ≡ Some a → slice_get nodes k ≡ Some x → AreLentOut s a (books_within m x)
+  pub lend : TheyLend s blocks (length nodes) xs
 
-module _ {S D : Type 0} (s : shelves.Ghosts S D) (m : ℕ) where
-  pub nodes_within : (nodes : List (NodeBooks D)) (x : NodeBooks D) (xs : List S) → NodesAreLentOut s m xs (nodes ++ x ∷ []) → length nodes < length xs
+module _ {S D : Type 0} (s : shelves.Ghosts S D) (blocks : List BlockId) where
+  pub nodes_within : (nodes : List (NodeBooks D)) (x : NodeBooks D) (xs : List S) → NodesAreLentOut s blocks xs (nodes ++ x ∷ []) → length nodes < length xs
   nodes_within nodes x xs l = within l.fewer
     where
       within : length (nodes ++ x ∷ []) ≤ length xs → length nodes < length xs
       within h = omega (arith, length-append nodes (x ∷ []))
 
-  pub nodes_last : (nodes : List (NodeBooks D)) (x : NodeBooks D) (xs : List S) (a : S) → NodesAreLentOut s m xs (nodes ++ x ∷ []) → slice_get xs (length nodes) ≡ Some a → AreLentOut s a (books_within m x)
-  nodes_last nodes x xs a l at = l.each (length nodes) a x at (get_end nodes x)
+  longer : (nodes : List (NodeBooks D)) (x : NodeBooks D) (k : ℕ) → k ≤ length nodes → k < length (nodes ++ x ∷ [])
+  longer nodes x k h = omega (arith, length-append nodes (x ∷ []))
 
-  pub nodes_less : (nodes : List (NodeBooks D)) (x : NodeBooks D) (xs : List S) (b : S) → NodesAreLentOut s m xs (nodes ++ x ∷ []) → NodesAreLentOut s m (slice_set xs (length nodes) b) nodes
+  pub nodes_last : (nodes : List (NodeBooks D)) (x : NodeBooks D) (xs : List S) (a : S) → AreDistinct blocks → NodesAreLentOut s blocks xs (nodes ++ x ∷ []) → slice_get xs (length nodes) ≡ Some a → AreLentOut s a blocks
+  nodes_last nodes x xs a distinct l at = record {
+    distinct = distinct;
+    lent = λ b h. l.lend (length nodes) a b (longer nodes x (length nodes) (omega arith)) at h;
+  }
+
+  pub nodes_less : (nodes : List (NodeBooks D)) (x : NodeBooks D) (xs : List S) (b : S) → NodesAreLentOut s blocks xs (nodes ++ x ∷ []) → NodesAreLentOut s blocks (slice_set xs (length nodes) b) nodes
   nodes_less nodes x xs b l = record {
     fewer = less (nodes_within nodes x xs l) (length-set xs (length nodes) b);
-    each = λ k a y at here.
-        let within = element_within nodes k y here in
-        l.each k a y (sym (set_there xs (length nodes) b k (apart k within)) ∙ at) (get_front nodes x k within ∙ here);
+    lend = λ k a y within at h. l.lend k a y (longer nodes x k (omega (arith, within))) (sym (set_there xs (length nodes) b k (apart k within)) ∙ at) h;
   }
     where
       less : length nodes < length xs → length (slice_set xs (length nodes) b) ≡ length xs → length nodes ≤ length (slice_set xs (length nodes) b)
@@ -219,18 +279,16 @@ module _ {S D : Type 0} (s : shelves.Ghosts S D) (m : ℕ) where
 
 -- WHAT A BOOK HOLDS
 
-pub book_block : {D : Type 0} (d : files.Ghosts D) (x : BookState D) → IsBookOf d x → x.replica.block ≡ block_of x
-book_block d x h = ap (λ (r : ReplicaRecord). r.block) h.known
-
-pub gives : {S D : Type 0} (s : shelves.Ghosts S D) (d : files.Ghosts D) (x : BookState D) (a b : S) (block : BlockId) (drawer : D) → block ≡ block_of x → drawer ≡ x.drawer → IsBookOf d x
-    → (OnlyOf block.0 (d.files drawer) → s.files b ≡ both_observable (s.files a) (d.files drawer)) → s.lent b ≡ marked (s.lent a) block.0 false → CarriesFaults (s.faults a) (d.faults drawer) (s.faults b) → Gives s d x a b
-gives {S} {D} s d x a b block drawer same is h f l n =
-    let only : OnlyOf block.0 (d.files drawer) = subst (λ (q : D). OnlyOf block.0 (d.files q)) (sym is) (subst (λ (q : BlockId). OnlyOf q.0 (d.files x.drawer)) (sym (same ∙ h.held.of_block)) h.held.only) in
-    record {
-      files_are = subst (λ (q : D). s.files b ≡ both_observable (s.files a) (d.files q)) is (f only);
-      lent = subst (λ (q : BlockId). s.lent b ≡ marked (s.lent a) q.0 false) same l;
-      count = subst (λ (q : D). CarriesFaults (s.faults a) (d.faults q) (s.faults b)) is n;
-    }
+pub gives : {S D : Type 0} (s : shelves.Ghosts S D) (d : files.Ghosts D) (x : BookState D) (a b : S) (block : BlockId) (drawer : D) → drawer ≡ x.drawer → IsBookOf d x
+    → (OnlyOf block.0 (d.files drawer) → s.files b ≡ both_observable (s.files a) (d.files drawer)) → s.lent b ≡ marked (s.lent a) block.0 false → CarriesFaults (s.faults a) (d.faults drawer) (s.faults b) → Gives s d block x a b
+gives {S} {D} s d x a b block drawer is h f l n = record {
+  files_are = λ of. subst (λ (q : D). s.files b ≡ both_observable (s.files a) (d.files q)) is (f (only of));
+  lent = l;
+  count = subst (λ (q : D). CarriesFaults (s.faults a) (d.faults q) (s.faults b)) is n;
+}
+  where
+    only : block_of x ≡ block → OnlyOf block.0 (d.files drawer)
+    only of = subst (λ (q : D). OnlyOf block.0 (d.files q)) (sym is) (subst (λ (q : BlockId). OnlyOf q.0 (d.files x.drawer)) (sym h.held.of_block ∙ of) h.held.only)
 
 -- WHAT STANDS AT PLACES
 
@@ -253,63 +311,36 @@ pub length_blocks : {D : Type 0} (books : List (BookState D)) → length (blocks
 length_blocks [] = refl
 length_blocks (x ∷ books) = ap suc (length_blocks books)
 
--- A block at a place of so many books is that of the book there.
-pub record BookOf {D : Type 0} (n : ℕ) (books : List (BookState D)) (k : ℕ) (block : BlockId) : Type 0 where
-  pub book : BookState D
-  pub at : slice_get books k ≡ Some book
-  pub is : block ≡ block_of book
-  pub within : k < n
+-- Books whose blocks are a front of these are of the blocks at their places.
+pub are_of : {D : Type 0} (blocks : List BlockId) (n : ℕ) (books : List (BookState D)) → blocks_of books ≡ take n blocks → AreOf blocks books
+are_of blocks n books e = λ place block x at here.
+    let there = ap (λ (bs : List BlockId). slice_get bs place) (sym e) ∙ block_at books place x here in
+    same_some (block_of x) block (sym (get_take blocks n place (block_of x) there) ∙ at)
 
-book_of : {D : Type 0} (n : ℕ) (books : List (BookState D)) (k : ℕ) (block : BlockId) → slice_get (blocks_of (take n books)) k ≡ Some block → BookOf n books k block
-book_of zero books k block h = cc
-book_of (suc n) [] k block h = cc
-book_of (suc n) (x ∷ books) zero block h = record { book = x; at = refl; is = same_some block (block_of x) (sym h); within = omega arith }
-book_of (suc n) (x ∷ books) (suc k) block h = later (book_of n books k block h)
+-- Where nodes fit, the books of each are of the blocks at their places.
+pub fit_each : {D : Type 0} (blocks : List BlockId) (nodes : List (NodeBooks D)) (node : ℕ) (x : NodeBooks D) → NodesFit blocks nodes → slice_get nodes node ≡ Some x → AreOf blocks (books_within (length blocks) x)
+fit_each blocks nodes node x fit here = λ place block y at there.
+    fit node place block y at (book_found nodes node place x here ∙ get_take x.books.items (length blocks) place y there)
+
+pub taken_within : {A : Type 0} (xs ys : List A) (n : ℕ) → ys ≡ take n xs → length ys ≤ n
+taken_within xs ys n e = few (ap length e ∙ length-take n xs)
   where
-    later : BookOf n books k block → BookOf (suc n) (x ∷ books) (suc k) block
-    later f = record { book = f.book; at = f.at; is = f.is; within = omega (arith, f.within) }
+    few : length ys ≡ min n (length xs) → length ys ≤ n
+    few e = omega arith
 
-among_in : (xs : List BlockId) (k : ℕ) (a : BlockId) (b : ℕ) → slice_get xs k ≡ Some a → b ≡ a.0 → is_among xs b ≡ true
-among_in [] k a b h e = cc
-among_in (x ∷ xs) zero a b h e = or_left (b == x.0) (is_among xs b) (eq-eqb b x.0 (e ∙ ap (λ (q : BlockId). q.0) (same_some a x (sym h))))
-among_in (x ∷ xs) (suc k) a b h e = or_right (b == x.0) (is_among xs b) (among_in xs k a b h e)
+-- As many nodes as there are shelves at most.
+pub lent_start : {S D : Type 0} (s : shelves.Ghosts S D) (blocks : List BlockId) (nodes nodes' : List (NodeBooks D)) (xs : List S) → nodes' ≡ take (length xs) nodes → TheyLend s blocks (length nodes) xs → NodesAreLentOut s blocks xs nodes'
+lent_start s blocks nodes nodes' xs e lend = record {
+  fewer = taken_within nodes nodes' (length xs) e;
+  lend = λ k a b within at h. lend k a b (less k (ap length e ∙ length-take (length xs) nodes) within) at h;
+}
+  where
+    less : (k : ℕ) → length nodes' ≡ min (length xs) (length nodes) → k < length nodes' → k < length nodes
+    less k e h = omega arith
 
-module _ {S D : Type 0} (s : shelves.Ghosts S D) where
-  -- The block at a place of a node's books is the play's at that place.
-  placed : (blocks : List BlockId) (nodes : List (NodeBooks D)) (node : ℕ) (x : NodeBooks D) → NodesFit blocks nodes → slice_get nodes node ≡ Some x → (k : ℕ) (p : BlockId) → slice_get (blocks_of (books_within (length blocks) x)) k ≡ Some p → slice_get blocks k ≡ Some p
-  placed blocks nodes node x fit here k p h =
-      let f = book_of (length blocks) x.books.items k p h in
-      let b = element blocks k f.within in
-      let same : p ≡ b.0 = f.is ∙ fit node k b.0 f.book b.1 (book_found nodes node k x here ∙ f.at) in
-      b.1 ∙ ap Some (sym same)
-
-  fit_node : (blocks : List BlockId) (nodes : List (NodeBooks D)) (node : ℕ) (x : NodeBooks D) (a : S) → AreDistinct blocks → NodesFit blocks nodes → slice_get nodes node ≡ Some x → ((b : ℕ) → is_among blocks b ≡ true → s.lent a b ≡ true) → AreLentOut s a (books_within (length blocks) x)
-  fit_node blocks nodes node x a distinct fit here lent = record {
-    distinct = λ j k p q at at' same. distinct j k p q (placed blocks nodes node x fit here j p at) (placed blocks nodes node x fit here k q at') same;
-    lent = λ b h.
-        let f = among_at (blocks_of (books_within (length blocks) x)) b h in
-        lent b (among_in blocks f.place f.block b (placed blocks nodes node x fit here f.place f.block f.at) f.same);
-  }
-
-  -- Nodes whose books are of the blocks at their places have lent these.
-  pub fit_out : (blocks : List BlockId) (nodes : List (NodeBooks D)) (xs : List S) → AreDistinct blocks → TheyLend s blocks (length nodes) xs → NodesFit blocks nodes → NodesAreLentOut s (length blocks) xs (take (length xs) nodes)
-  fit_out blocks nodes xs distinct lend fit = record {
-    fewer = less (length-take (length xs) nodes);
-    each = λ k a x at here.
-        let there = get_take nodes (length xs) k x here in
-        fit_node blocks nodes k x a distinct fit there (λ b h. lend k a b (element_within nodes k x there) at h);
-  }
-    where
-      less : length (take (length xs) nodes) ≡ min (length xs) (length nodes) → length (take (length xs) nodes) ≤ length xs
-      less e = omega arith
-
-  pub fit_start : (blocks : List BlockId) (nodes nodes' : List (NodeBooks D)) (xs : List S) → nodes' ≡ take (length xs) nodes → AreDistinct blocks → TheyLend s blocks (length nodes) xs → NodesFit blocks nodes → NodesAreLentOut s (length blocks) xs nodes'
-  fit_start blocks nodes nodes' xs e distinct lend fit =
-      subst (λ (ys : List (NodeBooks D)). NodesAreLentOut s (length blocks) xs ys) (sym {A = List (NodeBooks D)} e) (fit_out blocks nodes xs distinct lend fit)
-
-module _ {S D : Type 0} (s : shelves.Ghosts S D) (d : files.Ghosts D) (m : ℕ) where
+module _ {S D : Type 0} (s : shelves.Ghosts S D) (d : files.Ghosts D) (blocks : List BlockId) where
   -- Nodes past the shelves have none.
-  pub close_whole : (nodes : List (NodeBooks D)) (old new : List S) → NodesClose s d m (take (length old) nodes) old new → NodesClose s d m nodes old new
+  pub close_whole : (nodes : List (NodeBooks D)) (old new : List S) → NodesClose s d blocks (take (length old) nodes) old new → NodesClose s d blocks nodes old new
   close_whole nodes old new n = record {
     count = n.count;
     each = λ k a b x was is here. n.each k a b x was is (get_within nodes (length old) k (element_within old k a was) ∙ here);
@@ -320,8 +351,8 @@ module _ {S D : Type 0} (s : shelves.Ghosts S D) (d : files.Ghosts D) (m : ℕ) 
       less k e h = omega arith
 
   -- Nothing is left, and all were closed.
-  pub close_end : (nodes nodes' left : List (NodeBooks D)) (old now : List S) → nodes' ≡ take (length old) nodes → length left ≡ 0 → (NodesClose s d m left now now → NodesClose s d m nodes' old now) → NodesClose s d m nodes old now
+  pub close_end : (nodes nodes' left : List (NodeBooks D)) (old now : List S) → nodes' ≡ take (length old) nodes → length left ≡ 0 → (NodesClose s d blocks left now now → NodesClose s d blocks nodes' old now) → NodesClose s d blocks nodes old now
   close_end nodes nodes' left old now e none closes =
       let rest : left ≡ [] = none_left left none in
-      close_whole nodes old now (subst (λ (ys : List (NodeBooks D)). NodesClose s d m ys old now) e
-      (closes (subst (λ (ys : List (NodeBooks D)). NodesClose s d m ys now now) (sym {A = List (NodeBooks D)} rest) (nodes_none s d m now))))
+      close_whole nodes old now (subst (λ (ys : List (NodeBooks D)). NodesClose s d blocks ys old now) e
+      (closes (subst (λ (ys : List (NodeBooks D)). NodesClose s d blocks ys now now) (sym {A = List (NodeBooks D)} rest) (nodes_none s d blocks now))))

@@ -18,15 +18,15 @@ use Rattle.replica_model.specs.Rows.{FullReplica, nothing}
 use Rattle.replica_model.specs.Histories.{replay, begun}
 use Rattle.replica_model.specs.declared.histories.Start.{Start}
 use Rattle.replica_model.specs.declared.histories.Entry.{Entry}
-use Rattle.node_opening.specs.Closing.{block_of, blocks_of, books_within, AreLentOut, TheyLend, NodesFit, NodeCloses, NodesClose}
+use Rattle.node_opening.specs.Closing.{block_of, blocks_of, books_within, AreLentOut, TheyLend, NodeCloses, NodesClose}
 use Rattle.node_opening.specs.Lending.{IsNewBook, AreNewBooks, HasBooks, HaveBooks, IsLent, IsUnlent, IsLentNext, IsNodeLent}
 use Rattle.node_opening.proofs.ListLemmas.{UpTo, up_to_map, up_to_next, up_to_here, up_to_end, get_front, get_end}
 use Rattle.node_opening.proofs.ShelfLemmas.{among_more, empty_is, lent_none, given_none}
 use Rattle.node_opening.proofs.FileLemmas.{both_parts, part_none, rest_none, with_none}
-use Rattle.node_opening.proofs.CloseLemmas.{among_apart, blocks_end, same_eqb, FoundAt, found_by, block_at, length_blocks}
+use Rattle.node_opening.proofs.CloseLemmas.{among_apart, blocks_end, same_eqb, length_blocks, are_of}
 use Rattle.std.proofs.Common.{take, add-one, length-append, length-set}
-use Rattle.std.proofs.lemmas.List.{take_all}
-use Rattle.std.specs.Prelude.{Result, Ok, Err, IsErr}
+use Rattle.std.proofs.lemmas.List.{take_all, length-take}
+use Rattle.std.specs.Prelude.{Result, Ok, Err, IsErr, min}
 use Rattle.node_opening.specs.Lending.{LendsNext, LendsNode}
 use Rattle.node_opening.proofs.ListLemmas.{take_next, up_to_none}
 use Rattle.node_opening.proofs.ShelfLemmas.{distinct_front}
@@ -78,6 +78,17 @@ new_replica x block drawer n =
 pub new_block : {D : Type 0} (x : BookState D) (block : BlockId) (drawer : D) → IsNew x block drawer → block_of x ≡ block
 new_block x block drawer n = ap (λ (r : FullReplica). r.known.block) (new_replica x block drawer n)
 
+-- FRONTS
+
+front_same : {A : Type 0} (xs : List A) (n : ℕ) → take (length (take n xs)) xs ≡ take n xs
+front_same xs zero = refl
+front_same [] (suc n) = refl
+front_same {A} (x ∷ xs) (suc n) = ap (λ (ys : List A). x ∷ ys) (front_same xs n)
+
+-- Of books whose blocks are a front of these the blocks at their places are that front.
+pub front_of : {D : Type 0} (blocks : List BlockId) (n : ℕ) (books : List (BookState D)) → blocks_of books ≡ take n blocks → take (length books) blocks ≡ take n blocks
+front_of blocks n books e = ap (λ (k : ℕ). take k blocks) (sym (length_blocks books) ∙ ap length e) ∙ front_same blocks n
+
 -- ONE NODE
 
 module _ {S D : Type 0} (s : shelves.Ghosts S D) (d : files.Ghosts D) where
@@ -121,15 +132,12 @@ module _ {S D : Type 0} (s : shelves.Ghosts S D) (d : files.Ghosts D) where
   among_true p true r e h = e
   among_true p false r e h = cc
 
-  -- The blocks of the books are those that are lent.
-  pub books_out : (blocks : List BlockId) (a b : S) (books : List (BookState D)) → AreDistinct blocks → HasBooks s d blocks a b books → AreLentOut s b books
+  -- The blocks that were lent are apart.
+  pub books_out : (blocks : List BlockId) (a b : S) (books : List (BookState D)) → AreDistinct blocks → HasBooks s d blocks a b books → AreLentOut s b blocks
   books_out blocks a b books distinct h = record {
-    distinct = subst (λ (bs : List BlockId). AreDistinct bs) (sym h.are.blocks_are) distinct;
-    lent = subst (λ (bs : List BlockId). (y : ℕ) → is_among bs y ≡ true → s.lent b y ≡ true) (sym h.are.blocks_are) lent;
+    distinct = distinct;
+    lent = λ y m. among_true (s.lent b y) (is_among blocks y) (s.lent a y) (h.has_lent.lent y) m;
   }
-    where
-      lent : (y : ℕ) → is_among blocks y ≡ true → s.lent b y ≡ true
-      lent y m = among_true (s.lent b y) (is_among blocks y) (s.lent a y) (h.has_lent.lent y) m
 
   and_none : (p q : Bool) → q ≡ true → (p && not q) ≡ false
   and_none true true h = refl
@@ -140,31 +148,31 @@ module _ {S D : Type 0} (s : shelves.Ghosts S D) (d : files.Ghosts D) where
   and_false true q h = cc
   and_false false q h = refl
 
-  -- Books without files are given back: the shelf's files are as they were.
-  pub books_back : (blocks : List BlockId) (a b c : S) (books : List (BookState D)) → IsEmpty s a → s.files b ≡ s.files a → ((y : ℕ) → is_among blocks y ≡ false → s.lent a y ≡ false → s.lent b y ≡ false) → s.faults a ≤ s.faults b
-      → AreNewBooks s d a blocks books → NodeCloses s d books b c → IsGivenBack s a c
-  books_back blocks a b c books empty same lent up are n = record {
-    files = n.files_are ∙ (with_none d (s.files b) (s.files a) books (same ∙ empty_is s a empty) (λ k x at. (are.each k x at).files_are) ∙ same);
-    lent = λ y none. n.lent y ∙ (ap (λ (bs : List BlockId). s.lent b y && not (is_among bs y)) are.blocks_are ∙ free y (is_among blocks y) refl none);
-    never_falls = later (s.faults a) (s.faults b) (s.faults c) up n.count.never_falls;
+  -- Books without files, of the first of these blocks, are given back: the shelf's files are as they were.
+  pub books_back : (blocks : List BlockId) (n : ℕ) (a b c : S) (books : List (BookState D)) → IsEmpty s a → s.files b ≡ s.files a → ((y : ℕ) → is_among (take n blocks) y ≡ false → s.lent a y ≡ false → s.lent b y ≡ false) → s.faults a ≤ s.faults b
+      → AreNewBooks s d a (take n blocks) books → NodeCloses s d blocks books b c → IsGivenBack s a c
+  books_back blocks n a b c books empty same lent up are closes = record {
+    files = closes.files_are (are_of blocks n books are.blocks_are) ∙ (with_none d (s.files b) (s.files a) books (same ∙ empty_is s a empty) (λ k x at. (are.each k x at).files_are) ∙ same);
+    lent = λ y none. closes.lent y ∙ (ap (λ (bs : List BlockId). s.lent b y && not (is_among bs y)) (front_of blocks n books are.blocks_are) ∙ free y (is_among (take n blocks) y) refl none);
+    never_falls = later (s.faults a) (s.faults b) (s.faults c) up closes.count.never_falls;
   }
     where
       later : (p q r : ℕ) → p ≤ q → q ≤ r → p ≤ r
       later p q r h k = omega arith
 
-      free : (y : ℕ) (q : Bool) → is_among blocks y ≡ q → s.lent a y ≡ false → (s.lent b y && not (is_among blocks y)) ≡ false
-      free y true e none = and_none (s.lent b y) (is_among blocks y) e
-      free y false e none = and_false (s.lent b y) (is_among blocks y) (lent y e none)
+      free : (y : ℕ) (q : Bool) → is_among (take n blocks) y ≡ q → s.lent a y ≡ false → (s.lent b y && not (is_among (take n blocks) y)) ≡ false
+      free y true e none = and_none (s.lent b y) (is_among (take n blocks) y) e
+      free y false e none = and_false (s.lent b y) (is_among (take n blocks) y) (lent y e none)
 
   lent_false : (p q r : Bool) → p ≡ (q || r) → q ≡ false → r ≡ false → p ≡ false
   lent_false p true r e h k = cc
   lent_false p false r e h k = e ∙ k
 
   -- The next block wasn't lent: those before it still are.
-  pub unlent_out : (blocks : List BlockId) (block : BlockId) (a b c : S) (books : List (BookState D)) → AreDistinct (blocks ++ block ∷ []) → AreLentOut s b books → blocks_of books ≡ blocks → IsUnlent s block b c → AreLentOut s c books
-  unlent_out blocks block a b c books distinct out are u = record {
+  pub unlent_out : (blocks : List BlockId) (block : BlockId) (b c : S) → AreDistinct (blocks ++ block ∷ []) → AreLentOut s b blocks → IsUnlent s block b c → AreLentOut s c blocks
+  unlent_out blocks block b c distinct out u = record {
     distinct = out.distinct;
-    lent = λ y m. u.others y (among_apart blocks block y distinct (subst (λ (bs : List BlockId). is_among bs y ≡ true) are m)) ∙ out.lent y m;
+    lent = λ y m. u.others y (among_apart blocks block y distinct m) ∙ out.lent y m;
   }
 
   unlent_one : (block : BlockId) (b c : S) (y : ℕ) → IsUnlent s block b c → s.lent b y ≡ false → ((y ≡ block.0) ⊎ ((y == block.0) ≡ false)) → s.lent c y ≡ false
@@ -175,11 +183,11 @@ module _ {S D : Type 0} (s : shelves.Ghosts S D) (d : files.Ghosts D) where
   by_test a b true e = inl (eqb-true a b e)
   by_test a b false e = inr e
 
-  pub unlent_back_all : (blocks : List BlockId) (block : BlockId) (a b c e : S) (books : List (BookState D)) → IsEmpty s a → HasBooks s d blocks a b books → IsUnlent s block b c → NodeCloses s d books c e → IsGivenBack s a e
-  unlent_back_all blocks block a b c e books empty h u n =
-      books_back blocks a c e books empty (u.files ∙ h.has_lent.files)
-      (λ y out none. unlent_one block b c y u (lent_false (s.lent b y) (is_among blocks y) (s.lent a y) (h.has_lent.lent y) out none) (by_test y block.0 (y == block.0) refl))
-      (later (s.faults a) (s.faults b) (s.faults c) h.has_lent.never_falls u.never_falls) h.are n
+  pub unlent_back_all : (blocks : List BlockId) (n : ℕ) (block : BlockId) (a b c e : S) (books : List (BookState D)) → IsEmpty s a → HasBooks s d (take n blocks) a b books → IsUnlent s block b c → NodeCloses s d blocks books c e → IsGivenBack s a e
+  unlent_back_all blocks n block a b c e books empty h u closes =
+      books_back blocks n a c e books empty (u.files ∙ h.has_lent.files)
+      (λ y out none. unlent_one block b c y u (lent_false (s.lent b y) (is_among (take n blocks) y) (s.lent a y) (h.has_lent.lent y) out none) (by_test y block.0 (y == block.0) refl))
+      (later (s.faults a) (s.faults b) (s.faults c) h.has_lent.never_falls u.never_falls) h.are closes
     where
       later : (p q r : ℕ) → p ≤ q → q ≤ r → p ≤ r
       later p q r h k = omega arith
@@ -221,32 +229,22 @@ module _ {S D : Type 0} (s : shelves.Ghosts S D) (d : files.Ghosts D) where
       apart : (k n : ℕ) → k < n → k ≡ n → ⊥
       apart k n h e = omega arith
 
-  pub nodes_fit : (blocks : List BlockId) (old new : List S) (nodes : List (NodeBooks D)) → UpTo (HasNode blocks nodes) (length nodes) old new → length nodes ≤ length new → NodesFit blocks nodes
-  nodes_fit blocks old new nodes u fewer = λ node place block x at is.
-      let f : FoundAt nodes node place x = found_by nodes node place x (slice_get nodes node) refl is in
-      let below = element_within nodes node f.at f.here in
-      let q = element new node (within node below fewer) in
-      let was = element old node (subst (λ (n : ℕ). node < n) u.count (element_within new node q.0 q.1)) in
-      let h = u.done node was.0 q.0 below was.1 q.1 f.at f.here in
-      same_some (block_of x) block (sym (block_at f.at.books.items place x f.there) ∙ (ap (λ (bs : List BlockId). slice_get bs place) h.are.blocks_are ∙ at))
-    where
-      within : (k : ℕ) → k < length nodes → length nodes ≤ length new → k < length new
-      within k h e = omega arith
-
   among_false : (p q r : Bool) → p ≡ (q || r) → q ≡ false → r ≡ false → p ≡ false
   among_false p true r e h k = cc
   among_false p false r e h k = e ∙ k
 
-  back_one : (blocks : List BlockId) (a b c : S) (x : NodeBooks D) → IsEmpty s a → HasBooks s d blocks a b x.books.items → NodeCloses s d (books_within (length blocks) x) b c → IsGivenBack s a c
+  back_one : (blocks : List BlockId) (a b c : S) (x : NodeBooks D) → IsEmpty s a → HasBooks s d blocks a b x.books.items → NodeCloses s d blocks (books_within (length blocks) x) b c → IsGivenBack s a c
   back_one blocks a b c x empty h n =
-      let whole : NodeCloses s d x.books.items b c = subst (λ (bs : List (BookState D)). NodeCloses s d bs b c) (take_all (length blocks) x.books.items (few (length_blocks x.books.items) (ap length h.are.blocks_are))) n in
-      books_back s d blocks a b c x.books.items empty h.has_lent.files (λ y out none. among_false (s.lent b y) (is_among blocks y) (s.lent a y) (h.has_lent.lent y) out none) h.has_lent.never_falls h.are whole
+      let whole : NodeCloses s d blocks x.books.items b c = subst (λ (bs : List (BookState D)). NodeCloses s d blocks bs b c) (take_all (length blocks) x.books.items (few (length_blocks x.books.items) (ap length h.are.blocks_are))) n in
+      let all : take (length blocks) blocks ≡ blocks = take_all (length blocks) blocks (omega arith) in
+      let has = subst (λ (bs : List BlockId). HasBooks s d bs a b x.books.items) (sym all) h in
+      books_back s d blocks (length blocks) a b c x.books.items empty h.has_lent.files (λ y out none. among_false (s.lent b y) (is_among (take (length blocks) blocks) y) (s.lent a y) (has.has_lent.lent y) out none) h.has_lent.never_falls has.are whole
     where
       few : length (blocks_of x.books.items) ≡ length x.books.items → length (blocks_of x.books.items) ≡ length blocks → length x.books.items ≤ length blocks
       few p q = omega arith
 
   back_each : (blocks : List BlockId) (old new end : List S) (nodes : List (NodeBooks D)) (a b : S) → AllEmpty s old → UpTo (HasNode blocks nodes) (length nodes) old new → slice_get new (length nodes) ≡ Some a → IsGivenBack s a b
-      → NodesClose s d (length blocks) nodes (slice_set new (length nodes) b) end → (k : ℕ) (p q : S) → slice_get old k ≡ Some p → slice_get end k ≡ Some q → ((k ≡ length nodes) ⊎ (k ≡ length nodes → ⊥)) → ((k < length nodes) ⊎ (length nodes ≤ k)) → IsGivenBack s p q
+      → NodesClose s d blocks nodes (slice_set new (length nodes) b) end → (k : ℕ) (p q : S) → slice_get old k ≡ Some p → slice_get end k ≡ Some q → ((k ≡ length nodes) ⊎ (k ≡ length nodes → ⊥)) → ((k < length nodes) ⊎ (length nodes ≤ k)) → IsGivenBack s p q
   back_each blocks old new end nodes a b empty u at g n k p q was is (inl same) side =
       let is_a : a ≡ p = same_some a p (sym at ∙ (u.rest (length nodes) (omega arith) ∙ (ap (slice_get old) (sym same) ∙ was))) in
       let is_b : b ≡ q = same_some b q (sym (set_here new (length nodes) a b at) ∙ (sym (n.others (length nodes) (omega arith)) ∙ (ap (slice_get end) (sym same) ∙ is))) in
@@ -260,7 +258,7 @@ module _ {S D : Type 0} (s : shelves.Ghosts S D) (d : files.Ghosts D) where
 
   -- After a failure each shelf was given back what it lent.
   pub nodes_back : (blocks : List BlockId) (old new end : List S) (nodes : List (NodeBooks D)) (a b : S) → AllEmpty s old → UpTo (HasNode blocks nodes) (length nodes) old new → slice_get new (length nodes) ≡ Some a → IsGivenBack s a b
-      → length (slice_set new (length nodes) b) ≡ length new → NodesClose s d (length blocks) nodes (slice_set new (length nodes) b) end → EachShelf (IsGivenBack s) old end
+      → length (slice_set new (length nodes) b) ≡ length new → NodesClose s d blocks nodes (slice_set new (length nodes) b) end → EachShelf (IsGivenBack s) old end
   nodes_back blocks old new end nodes a b empty u at g same n = record {
     count = n.count ∙ (same ∙ u.count);
     each = λ k p q was is. back_each blocks old new end nodes a b empty u at g n k p q was is (same_or k (length nodes)) (cases_lt k (length nodes));
@@ -291,16 +289,22 @@ module _ {S D : Type 0} (s : shelves.Ghosts S D) (d : files.Ghosts D) where
   pub books_end : (blocks : List BlockId) (k : ℕ) (a b : S) (books : List (BookState D)) → length blocks ≤ k → HasBooks s d (take k blocks) a b books → HasBooks s d blocks a b books
   books_end blocks k a b books h has = subst (λ (bs : List BlockId). HasBooks s d bs a b books) (take_all k blocks h) has
 
-  pub fail_out : (blocks : List BlockId) (k : ℕ) (block : BlockId) (a b c : S) (books books' : List (BookState D)) → AreDistinct blocks → slice_get blocks k ≡ Some block → HasBooks s d (take k blocks) a b books → IsUnlent s block b c × (books' ≡ books)
-      → AreLentOut s c books'
-  fail_out blocks k block a b c books books' distinct at h u =
-      subst (λ (xs : List (BookState D)). AreLentOut s c xs) (sym u.1)
-      (unlent_out s d (take k blocks) block a b c books (subst AreDistinct (sym (front_next blocks k block at)) (distinct_front blocks (k + 1) distinct))
-      (books_out s d (take k blocks) a b books (distinct_front blocks k distinct) h) h.are.blocks_are u.0)
+  pub fail_within : (blocks : List BlockId) (k : ℕ) (a b c : S) (block : BlockId) (books books' : List (BookState D)) → HasBooks s d (take k blocks) a b books → IsUnlent s block b c × (books' ≡ books) → length books' ≤ length blocks
+  fail_within blocks k a b c block books books' h u = few (ap length u.1) (length_blocks books) (ap length h.are.blocks_are) (length-take k blocks)
+    where
+      few : length books' ≡ length books → length (blocks_of books) ≡ length books → length (blocks_of books) ≡ length (take k blocks) → length (take k blocks) ≡ min k (length blocks) → length books' ≤ length blocks
+      few p q r t = omega arith
 
-  pub fail_back : (blocks : List BlockId) (k : ℕ) (block : BlockId) (a b c e : S) (books books' : List (BookState D)) → IsEmpty s a → HasBooks s d (take k blocks) a b books → IsUnlent s block b c × (books' ≡ books) → NodeCloses s d books' c e → IsGivenBack s a e
+  pub fail_out : (blocks : List BlockId) (k : ℕ) (block : BlockId) (a b c : S) (books books' : List (BookState D)) → AreDistinct blocks → slice_get blocks k ≡ Some block → HasBooks s d (take k blocks) a b books → IsUnlent s block b c × (books' ≡ books)
+      → AreLentOut s c (take (length books') blocks)
+  fail_out blocks k block a b c books books' distinct at h u =
+      subst (λ (bs : List BlockId). AreLentOut s c bs) (sym (front_of blocks k books h.are.blocks_are) ∙ ap (λ (xs : List (BookState D)). take (length xs) blocks) (sym u.1))
+      (unlent_out s d (take k blocks) block b c (subst AreDistinct (sym (front_next blocks k block at)) (distinct_front blocks (k + 1) distinct))
+      (books_out s d (take k blocks) a b books (distinct_front blocks k distinct) h) u.0)
+
+  pub fail_back : (blocks : List BlockId) (k : ℕ) (block : BlockId) (a b c e : S) (books books' : List (BookState D)) → IsEmpty s a → HasBooks s d (take k blocks) a b books → IsUnlent s block b c × (books' ≡ books) → NodeCloses s d blocks books' c e → IsGivenBack s a e
   fail_back blocks k block a b c e books books' empty h u n =
-      unlent_back_all s d (take k blocks) block a b c e books empty h u.0 (subst (λ (xs : List (BookState D)). NodeCloses s d xs c e) u.1 n)
+      unlent_back_all s d blocks k block a b c e books empty h u.0 (subst (λ (xs : List (BookState D)). NodeCloses s d blocks xs c e) u.1 n)
 
   longer : (nodes nodes' : List (NodeBooks D)) (x : NodeBooks D) → nodes' ≡ nodes ++ x ∷ [] → length nodes' ≡ length nodes + 1
   longer nodes nodes' x e = ap length e ∙ length-append nodes (x ∷ [])
@@ -329,19 +333,11 @@ module _ {S D : Type 0} (s : shelves.Ghosts S D) (d : files.Ghosts D) where
       subst (λ (xs : List (NodeBooks D)). TheyLend s blocks (length xs) (slice_set new n b)) (sym same)
       (subst (λ (m : ℕ). TheyLend s blocks (length nodes) (slice_set new m b)) u.count (nodes_lend s d blocks old new nodes b u.lent))
 
-  pub nodes_fail_fit : (blocks : List BlockId) (n : ℕ) (old new : List S) (nodes nodes' : List (NodeBooks D)) (a : S) → NodesUpTo blocks n old new nodes → slice_get new n ≡ Some a → nodes' ≡ nodes → NodesFit blocks nodes'
-  nodes_fail_fit blocks n old new nodes nodes' a u at same =
-      subst (λ (xs : List (NodeBooks D)). NodesFit blocks xs) (sym same)
-      (nodes_fit s d blocks old new nodes u.lent (less (length nodes) n (length new) u.count (element_within new n a at)))
-    where
-      less : (k n m : ℕ) → k ≡ n → n < m → k ≤ m
-      less k n m e h = omega arith
-
   pub nodes_fail_back : (blocks : List BlockId) (n : ℕ) (old new end : List S) (nodes nodes' : List (NodeBooks D)) (a b : S) → AllEmpty s old → NodesUpTo blocks n old new nodes → slice_get new n ≡ Some a → IsGivenBack s a b × (nodes' ≡ nodes)
-      → NodesClose s d (length blocks) nodes' (slice_set new n b) end → EachShelf (IsGivenBack s) old end
+      → NodesClose s d blocks nodes' (slice_set new n b) end → EachShelf (IsGivenBack s) old end
   nodes_fail_back blocks n old new end nodes nodes' a b empty u at g c =
       nodes_back s d blocks old new end nodes a b empty u.lent (ap (slice_get new) u.count ∙ at) g.0 (length-set new (length nodes) b)
-      (subst (λ (m : ℕ). NodesClose s d (length blocks) nodes (slice_set new m b) end) (sym u.count) (subst (λ (xs : List (NodeBooks D)). NodesClose s d (length blocks) xs (slice_set new n b) end) g.1 c))
+      (subst (λ (m : ℕ). NodesClose s d blocks nodes (slice_set new m b) end) (sym u.count) (subst (λ (xs : List (NodeBooks D)). NodesClose s d blocks xs (slice_set new n b) end) g.1 c))
 
   -- A shelf that is to lend is one of those that were there first.
   pub next_empty : (blocks : List BlockId) (n : ℕ) (old new : List S) (nodes : List (NodeBooks D)) (a : S) → AllEmpty s old → NodesUpTo blocks n old new nodes → slice_get new n ≡ Some a → IsEmpty s a

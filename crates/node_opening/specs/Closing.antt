@@ -19,10 +19,16 @@ block_of x = (replica_of x).known.block
 abbrev pub blocks_of : {D : Type 0} → List (BookState D) → List BlockId
 blocks_of books = map (λ x. block_of x) books
 
--- The books are of blocks that are apart, and that the shelf has lent.
-pub record AreLentOut {S D : Type 0} (s : shelves.Ghosts S D) (shelf : S) (books : List (BookState D)) : Type 0 where
-  pub distinct : AreDistinct (blocks_of books)
-  pub lent : (b : ℕ) → is_among (blocks_of books) b ≡ true → s.lent shelf b ≡ true
+-- The blocks are apart, and the shelf has lent them.
+pub record AreLentOut {S D : Type 0} (s : shelves.Ghosts S D) (shelf : S) (blocks : List BlockId) : Type 0 where
+  pub distinct : AreDistinct blocks
+  pub lent : (b : ℕ) → is_among blocks b ≡ true → s.lent shelf b ≡ true
+
+-- Each book at the place of a block is of that block.
+abbrev pub AreOf : {D : Type 0} → List BlockId → List (BookState D) → Type 0
+AreOf {D} blocks books =
+    (place : ℕ) (block : BlockId) (x : BookState D) → slice_get blocks place ≡ Some block → slice_get books place ≡ Some x
+    → block_of x ≡ block
 
 -- the files of all books beside those that are there, where all are observable
 abbrev pub files_with : {D : Type 0} → files.Ghosts D → Option FileMap → List (BookState D) → Option FileMap
@@ -34,12 +40,12 @@ abbrev pub faults_of : {D : Type 0} → files.Ghosts D → List (BookState D) �
 faults_of d [] = 0
 faults_of d (x ∷ xs) = d.faults x.drawer + faults_of d xs
 
--- The shelf has the files of these books beside its own, lends none of their blocks, and their counts are added to its
--- own.
-pub record NodeCloses {S D : Type 0} (s : shelves.Ghosts S D) (d : files.Ghosts D) (books : List (BookState D))
-    (old new : S) : Type 0 where
-  pub files_are : s.files new ≡ files_with d (s.files old) books
-  pub lent : (b : ℕ) → s.lent new b ≡ s.lent old b && not (is_among (blocks_of books) b)
+-- The shelf has the files of these books beside its own, where they are of the blocks at their places. It lends none of
+-- these blocks, and the books' counts are added to its own.
+pub record NodeCloses {S D : Type 0} (s : shelves.Ghosts S D) (d : files.Ghosts D) (blocks : List BlockId)
+    (books : List (BookState D)) (old new : S) : Type 0 where
+  pub files_are : AreOf blocks books → s.files new ≡ files_with d (s.files old) books
+  pub lent : (b : ℕ) → s.lent new b ≡ s.lent old b && not (is_among (take (length books) blocks) b)
   pub count : CarriesFaults (s.faults old) (faults_of d books) (s.faults new)
 
 -- ALL NODES
@@ -50,7 +56,7 @@ TheyLend {S} s blocks nodes xs = (k : ℕ) (a : S) (b : ℕ) → k < nodes → s
     is_among blocks b ≡ true
     → s.lent a b ≡ true
 
--- Each book at the place of a block is of that block.
+-- Each book of a node is of the block at its place.
 abbrev pub NodesFit : {D : Type 0} → List BlockId → List (NodeBooks D) → Type 0
 NodesFit {D} blocks nodes = (node place : ℕ) (block : BlockId) (x : BookState D) → slice_get blocks place ≡ Some block →
     book_at nodes node place ≡ Some x
@@ -60,11 +66,11 @@ NodesFit {D} blocks nodes = (node place : ℕ) (block : BlockId) (x : BookState 
 abbrev pub books_within : {D : Type 0} → ℕ → NodeBooks D → List (BookState D)
 books_within places x = take places x.books.items
 
--- The shelf of each node has the files of its books back, and the shelves beyond are as they were.
-pub record NodesClose {S D : Type 0} (s : shelves.Ghosts S D) (d : files.Ghosts D) (places : ℕ)
+-- The shelf of each node has its books' drawers back, and the shelves beyond are as they were.
+pub record NodesClose {S D : Type 0} (s : shelves.Ghosts S D) (d : files.Ghosts D) (blocks : List BlockId)
     (nodes : List (NodeBooks D)) (old new : List S) : Type 0 where
   pub count : length new ≡ length old
   pub each : (k : ℕ) (a b : S) (x : NodeBooks D) → slice_get old k ≡ Some a → slice_get new k ≡ Some b →
       slice_get nodes k ≡ Some x
-      → NodeCloses s d (books_within places x) a b
+      → NodeCloses s d blocks (books_within (length blocks) x) a b
   pub others : (k : ℕ) → length nodes ≤ k → slice_get new k ≡ slice_get old k

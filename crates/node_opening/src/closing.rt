@@ -1,38 +1,45 @@
 //! The books of a play are closed, and their files given back.
 
-ghost use Rattle.std.specs.Prelude.{length, take};
-ghost use Rattle.node_opening.specs.Closing.{AreLentOut, TheyLend, NodesFit, NodeCloses, NodesClose};
+ghost use Rattle.std.specs.Prelude.{◌≤◌, length, take};
+ghost use Rattle.node_opening.specs.Closing.{AreLentOut, TheyLend, NodeCloses, NodesClose};
 ghost use Rattle.node_opening.specs.Shelves.{AreDistinct};
 
 use hd_base::{BlockId, Shelf};
 use play_nodes::NodeBooks;
 use replica_files::ReplicaBook;
 
-/// The books of a node are closed, and their drawers given back to its shelf.
-pub(crate) fn give_back_books<S: Shelf>(shelf: &mut S, mut books: Vec<ReplicaBook<S::Drawer>>)
-    requires { AreLentOut S.Shelf shelf.old books.items }
-    ensures { NodeCloses S.Shelf S.Drawer.Files books.items shelf.old shelf.new }
+/// The books of a node, of which none stands past the blocks, are closed, and their drawers given back to its shelf, each
+/// under the block at the book's place.
+pub(crate) fn give_back_books<S: Shelf>(
+    shelf: &mut S,
+    blocks: &[BlockId],
+    mut books: Vec<ReplicaBook<S::Drawer>>,
+)
+    requires within { length books.items ≤ length blocks.now }
+    requires lent { AreLentOut S.Shelf shelf.old (take (length books.items) blocks.now) }
+    ensures { NodeCloses S.Shelf S.Drawer.Files blocks.now books.items shelf.old shelf.new }
 {
     while let Some(book) = books.pop() {
-        let block = book.replica().block();
+        let block = blocks[books.len()];
         let (drawer, _) = book.close_book();
         shelf.give_back(block, drawer);
     }
 }
 
-/// The books of a node at so many places are closed, and their drawers given back to its shelf.
-fn close_node<S: Shelf>(shelf: &mut S, mut books: Vec<ReplicaBook<S::Drawer>>, places: usize)
-    requires { AreLentOut S.Shelf shelf.old (take places books.items) }
-    ensures { NodeCloses S.Shelf S.Drawer.Files (take places books.items) shelf.old shelf.new }
+/// The books of a node at the places of the blocks are closed, and their drawers given back to its shelf.
+fn close_node<S: Shelf>(shelf: &mut S, blocks: &[BlockId], mut books: Vec<ReplicaBook<S::Drawer>>)
+    requires { AreLentOut S.Shelf shelf.old blocks.now }
+    ensures { NodeCloses S.Shelf S.Drawer.Files blocks.now (take (length blocks.now) books.items)
+        shelf.old shelf.new }
 {
-    books.truncate(places);
-    give_back_books(shelf, books);
+    books.truncate(blocks.len());
+    give_back_books(shelf, blocks, books);
 }
 
 /// The books of nodes are closed, and their drawers given back to the shelves, of which each node has that of its
-/// number. Each book is of the block at its place, and each block stands once and is lent by the shelf. Each shelf then
-/// has the files of its node's books beside its own; none of their blocks is lent any more; and the counts of the drawers
-/// are added to its own. Takes no memory.
+/// number, each under the block at the book's place. Each block stands once and is lent by the shelf. None of these
+/// blocks is lent any more, and the counts of the drawers are added to the shelf's. Where the books are of the blocks at
+/// their places, the shelf then has their files beside its own. Takes no memory.
 pub fn close_nodes<S: Shelf>(
     blocks: &[BlockId],
     mut nodes: Vec<NodeBooks<S::Drawer>>,
@@ -40,11 +47,10 @@ pub fn close_nodes<S: Shelf>(
 )
     requires distinct { AreDistinct blocks.now }
     requires lent { TheyLend S.Shelf blocks.now (length nodes.items) shelves.old }
-    requires fit { NodesFit blocks.now nodes.items }
-    ensures { NodesClose S.Shelf S.Drawer.Files (length blocks.now) nodes.items shelves.old shelves.new }
+    ensures { NodesClose S.Shelf S.Drawer.Files blocks.now nodes.items shelves.old shelves.new }
 {
     nodes.truncate(shelves.len());
     while let Some(node) = nodes.pop() {
-        close_node(&mut shelves[nodes.len()], node.books, blocks.len());
+        close_node(&mut shelves[nodes.len()], blocks, node.books);
     }
 }

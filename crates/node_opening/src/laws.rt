@@ -1,6 +1,6 @@
 //! What nodes of a play are closed with.
 
-ghost use Rattle.node_opening.specs.Laws.{OpenedClose, ShownFit};
+ghost use Rattle.node_opening.specs.Laws.{OpenedClose, ShownFit, FitEach};
 
 use hd_base::{Files, LinkIn, LinkOut, Shelf};
 
@@ -12,4 +12,9 @@ pub fn opened_nodes_close<S: Shelf, I: LinkIn, O: LinkOut>()
 /// The books of nodes that show a world are of the blocks at their places.
 pub fn shown_nodes_fit<F: Files, I: LinkIn, O: LinkOut>()
     ensures { ShownFit F I O I.LinkIn O.LinkOut }
+{}
+
+/// Where books fit, those of each node are of the blocks at their places, also without those past the blocks.
+pub fn fitting_books_are_of_blocks<F: Files>()
+    ensures { FitEach F }
 {}

@@ -58,7 +58,7 @@ fn lend_books<S: Shelf>(
     let mut books = Vec::new(alloc);
     for block in blocks {
         if let Err(error) = lend_next(alloc, shelf, *block, &mut books) {
-            give_back_books(shelf, books);
+            give_back_books(shelf, blocks, books);
             return Err(error);
         }
     }

@@ -12,5 +12,5 @@ mod opening;
 
 pub use closing::close_nodes;
 pub use faults::OpenFault;
-pub use laws::{opened_nodes_close, shown_nodes_fit};
+pub use laws::{fitting_books_are_of_blocks, opened_nodes_close, shown_nodes_fit};
 pub use opening::open_nodes;

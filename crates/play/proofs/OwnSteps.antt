@@ -77,7 +77,7 @@ module _ {F R I O D : Type 0} (f : files.Ghosts F) (r : roads.Ghosts R I O) (i :
 
   only_nodes : (mid middle : Player F I O) (block : BlockId) (first : Option (First I O)) → IsDialled i o mid middle block first (Ok tt) → OnlyNodes mid middle
   only_nodes mid middle block None h = record { blocks = ap (λ (p : Player F I O). p.nodes.blocks.items) h.0; clients = ap (λ (p : Player F I O). p.clients.items) h.0; office = ap (λ (p : Player F I O). p.office.office) h.0; events = ap (λ (p : Player F I O). p.events.items) h.0 }
-  only_nodes mid middle block (Some first) h = record { blocks = h.blocks; clients = ap (λ (p : Player F I O). p.clients.items) h.same; office = ap (λ (p : Player F I O). p.office.office) h.same; events = ap (λ (p : Player F I O). p.events.items) h.same }
+  only_nodes mid middle block (Some first) h = record { blocks = h.sizes.blocks; clients = ap (λ (p : Player F I O). p.clients.items) h.same; office = ap (λ (p : Player F I O). p.office.office) h.same; events = ap (λ (p : Player F I O). p.events.items) h.same }
 
   -- what was dialled and kept leaves the places
   own_places : (old mid middle new : Player F I O) (es : List Event) (actor : Option ℕ) → HasMore middle new es → OnlyNodes mid middle → KeepsPlaces actor old mid → KeepsPlaces actor old new

@@ -18,6 +18,7 @@ use Rattle.play_clients.specs.declared.clients.First.{First}
 use Rattle.play_clients.specs.declared.clients.Owned.{Owned}
 use Rattle.play_clients.specs.Events.{CanOwn, owned_events}
 use Rattle.play_nodes.specs.Frames.{DialledShows}
+use Rattle.play_nodes.specs.Places.{KeepsSizes}
 use Rattle.play.specs.declared.faults.PlayFault.{PlayFault}
 use Rattle.play.specs.declared.faults.PlayFault.TheVariants as fault
 use Rattle.play.specs.declared.player.Player.{Player}
@@ -29,7 +30,7 @@ pub record IsDialledBy {F I O : Type 0} (i : link_in.Ghosts I) (o : link_out.Gho
     (block : BlockId) (first : First I O) : Type 0 where
   pub same : new ≡ record old { nodes = new.nodes }
   pub dialled : DialledShows i o block first.node first.end old.nodes new.nodes (Ok tt)
-  pub blocks : new.nodes.blocks.items ≡ old.nodes.blocks.items
+  pub sizes : KeepsSizes old.nodes new.nodes
 
 abbrev pub IsDialled : {F I O : Type 0} → link_in.Ghosts I → link_out.Ghosts O → Player F I O → Player F I O →
     BlockId → Option (First I O) → Result (Unit {0}) PlayFault → Type 0

@@ -2,6 +2,7 @@
 
 ghost use Rattle.std.specs.Prelude.{◌<◌, length};
 ghost use Rattle.member_events.specs.Roads.{RoadsPass};
+ghost use Rattle.play_nodes.specs.Places.{KeepsSizes};
 ghost use Rattle.play_nodes.specs.Showing.{Stand};
 ghost use Rattle.play.specs.Showing.{PlayerStands};
 ghost use Rattle.play.specs.Events.{Keeps, BeginShows, ReadyShows, DownShows, MirrorShows, HeardShows};
@@ -24,6 +25,7 @@ impl<F: Files, I: LinkIn, O: LinkOut> Player<F, I, O> {
     ) -> Result<(), PlayFault>
         requires { Stand R.Roads I.LinkIn O.LinkOut roads.old self.old.nodes }
         ensures shows { ReadyShows F.Files R.Roads I.LinkIn O.LinkOut conn self.old self.new roads.old roads.new result }
+        ensures sizes { KeepsSizes self.old.nodes self.new.nodes }
         ensures pass { RoadsPass R.Roads roads.old roads.new }
     {
         nodes_keep_writers();
@@ -44,6 +46,7 @@ impl<F: Files, I: LinkIn, O: LinkOut> Player<F, I, O> {
     ) -> Result<(), PlayFault>
         requires { Stand R.Roads I.LinkIn O.LinkOut roads.old self.old.nodes }
         ensures shows { BeginShows F.Files R.Roads I.LinkIn O.LinkOut conn self.old self.new roads.old roads.new result }
+        ensures sizes { KeepsSizes self.old.nodes self.new.nodes }
         ensures pass { RoadsPass R.Roads roads.old roads.new }
     {
         nodes_keep_writers();
@@ -67,6 +70,7 @@ impl<F: Files, I: LinkIn, O: LinkOut> Player<F, I, O> {
     ) -> Result<(), PlayFault>
         requires { Stand R.Roads I.LinkIn O.LinkOut roads.old self.old.nodes }
         ensures shows { DownShows F.Files R.Roads I.LinkIn O.LinkOut conn self.old self.new roads.old roads.new result }
+        ensures sizes { KeepsSizes self.old.nodes self.new.nodes }
         ensures pass { RoadsPass R.Roads roads.old roads.new }
     {
         nodes_keep_writers();
@@ -89,6 +93,7 @@ impl<F: Files, I: LinkIn, O: LinkOut> Player<F, I, O> {
     ) -> Result<(), PlayFault>
         requires { Stand R.Roads I.LinkIn O.LinkOut roads.old self.old.nodes }
         ensures shows { MirrorShows F.Files R.Roads I.LinkIn O.LinkOut conn self.old self.new roads.old roads.new result }
+        ensures sizes { KeepsSizes self.old.nodes self.new.nodes }
         ensures pass { RoadsPass R.Roads roads.old roads.new }
     {
         nodes_keep_writers();
@@ -110,6 +115,7 @@ impl<F: Files, I: LinkIn, O: LinkOut> Player<F, I, O> {
         requires stands { PlayerStands R.Roads I.LinkIn O.LinkOut roads.old self.old }
         requires within { place < length self.old.clients.items }
         ensures shows { HeardShows F.Files R.Roads I.LinkIn O.LinkOut conn place self.old self.new roads.old roads.new result }
+        ensures sizes { KeepsSizes self.old.nodes self.new.nodes }
         ensures pass { RoadsPass R.Roads roads.old roads.new }
     {
         writers_keep_nodes();
@@ -125,7 +131,8 @@ impl<F: Files, I: LinkIn, O: LinkOut> Player<F, I, O> {
 
     /// Keeps an event that happened.
     pub(crate) fn keep(&mut self, event: Event) -> Result<(), PlayFault>
-        ensures { Keeps self.old self.new event result }
+        ensures kept { Keeps self.old self.new event result }
+        ensures sizes { KeepsSizes self.old.nodes self.new.nodes }
     {
         match self.events.push(event) {
             Ok(()) => Ok(()),

@@ -1,6 +1,7 @@
 //! What is due in a play happens.
 
 ghost use Rattle.member_events.specs.Roads.{RoadsPass};
+ghost use Rattle.play_nodes.specs.Places.{KeepsSizes};
 ghost use Rattle.play.specs.Showing.{PlayerStands};
 ghost use Rattle.play.specs.Standing.{HappenShows};
 
@@ -23,6 +24,7 @@ impl<F: Files, I: LinkIn, O: LinkOut> Player<F, I, O> {
     ) -> Result<(), PlayFault>
         requires { PlayerStands R.Roads I.LinkIn O.LinkOut roads.old self.old }
         ensures shows { HappenShows F.Files R.Roads I.LinkIn O.LinkOut due self.old self.new roads.old roads.new result }
+        ensures sizes { KeepsSizes self.old.nodes self.new.nodes }
         ensures pass { RoadsPass R.Roads roads.old roads.new }
     {
         match due {
@@ -43,6 +45,7 @@ impl<F: Files, I: LinkIn, O: LinkOut> Player<F, I, O> {
         requires { PlayerStands R.Roads I.LinkIn O.LinkOut roads.old self.old }
         ensures shows { HappenShows F.Files R.Roads I.LinkIn O.LinkOut (Due.Own block)
             self.old self.new roads.old roads.new result }
+        ensures sizes { KeepsSizes self.old.nodes self.new.nodes }
         ensures pass { RoadsPass R.Roads roads.old roads.new }
     {
         worlds_are_lawful();
@@ -62,6 +65,7 @@ impl<F: Files, I: LinkIn, O: LinkOut> Player<F, I, O> {
         requires { PlayerStands R.Roads I.LinkIn O.LinkOut roads.old self.old }
         ensures shows { HappenShows F.Files R.Roads I.LinkIn O.LinkOut (Due.Down conn)
             self.old self.new roads.old roads.new result }
+        ensures sizes { KeepsSizes self.old.nodes self.new.nodes }
         ensures pass { RoadsPass R.Roads roads.old roads.new }
     {
         worlds_are_lawful();
@@ -82,6 +86,7 @@ impl<F: Files, I: LinkIn, O: LinkOut> Player<F, I, O> {
         requires { PlayerStands R.Roads I.LinkIn O.LinkOut roads.old self.old }
         ensures shows { HappenShows F.Files R.Roads I.LinkIn O.LinkOut (Due.Ready conn)
             self.old self.new roads.old roads.new result }
+        ensures sizes { KeepsSizes self.old.nodes self.new.nodes }
         ensures pass { RoadsPass R.Roads roads.old roads.new }
     {
         worlds_are_lawful();
@@ -98,6 +103,7 @@ impl<F: Files, I: LinkIn, O: LinkOut> Player<F, I, O> {
         requires { PlayerStands R.Roads I.LinkIn O.LinkOut roads.old self.old }
         ensures shows { HappenShows F.Files R.Roads I.LinkIn O.LinkOut (Due.Up conn)
             self.old self.new roads.old roads.new result }
+        ensures sizes { KeepsSizes self.old.nodes self.new.nodes }
         ensures pass { RoadsPass R.Roads roads.old roads.new }
     {
         worlds_are_lawful();

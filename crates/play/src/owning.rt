@@ -2,6 +2,7 @@
 
 ghost use Rattle.std.specs.Prelude.{◌<◌, length};
 ghost use Rattle.member_events.specs.Roads.{RoadsPass};
+ghost use Rattle.play_nodes.specs.Places.{KeepsSizes};
 ghost use Rattle.play.specs.Showing.{PlayerStands};
 ghost use Rattle.play.specs.Owning.{IsDialled, IsAsked, IsOwned, OwnShows};
 
@@ -25,6 +26,7 @@ impl<F: Files, I: LinkIn, O: LinkOut> Player<F, I, O> {
         requires stands { PlayerStands R.Roads I.LinkIn O.LinkOut roads.old self.old }
         requires within { place < length self.old.clients.items }
         ensures shows { OwnShows F.Files R.Roads I.LinkIn O.LinkOut place self.old self.new roads.old roads.new result }
+        ensures sizes { KeepsSizes self.old.nodes self.new.nodes }
         ensures pass { RoadsPass R.Roads roads.old roads.new }
     {
         writers_keep_nodes();
@@ -42,7 +44,8 @@ impl<F: Files, I: LinkIn, O: LinkOut> Player<F, I, O> {
 
     /// Keeps what an own step of the writer of a block left.
     fn owned(&mut self, block: BlockId, left: Owned<I, O>) -> Result<(), PlayFault>
-        ensures { IsOwned I.LinkIn O.LinkOut self.old self.new block left result }
+        ensures owned { IsOwned I.LinkIn O.LinkOut self.old self.new block left result }
+        ensures sizes { KeepsSizes self.old.nodes self.new.nodes }
     {
         self.dialled(block, left.first)?;
         self.asked(block, left.asked)?;
@@ -55,7 +58,8 @@ impl<F: Files, I: LinkIn, O: LinkOut> Player<F, I, O> {
 
     /// Gives the node that the writer of a block dialled, if it dialled one, the lower end of the connection.
     fn dialled(&mut self, block: BlockId, first: Option<First<I, O>>) -> Result<(), PlayFault>
-        ensures { IsDialled I.LinkIn O.LinkOut self.old self.new block first result }
+        ensures dialled { IsDialled I.LinkIn O.LinkOut self.old self.new block first result }
+        ensures sizes { KeepsSizes self.old.nodes self.new.nodes }
     {
         let Some(first) = first else {
             return Ok(());
@@ -68,7 +72,8 @@ impl<F: Files, I: LinkIn, O: LinkOut> Player<F, I, O> {
 
     /// Keeps the office's answer to the writer of a block, if it was asked.
     fn asked(&mut self, block: BlockId, asked: bool) -> Result<(), PlayFault>
-        ensures { IsAsked self.old self.new block asked result }
+        ensures asked { IsAsked self.old self.new block asked result }
+        ensures sizes { KeepsSizes self.old.nodes self.new.nodes }
     {
         if asked {
             self.keep(Event::Office {

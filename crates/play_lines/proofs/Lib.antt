@@ -5,3 +5,6 @@ pub mod Lowers
 pub mod Ordered
 pub mod Ruled
 pub mod Stepped
+pub mod Commands
+pub mod Lined
+pub mod LineRuns

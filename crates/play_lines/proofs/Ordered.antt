@@ -43,10 +43,10 @@ fit_more nodes i [] t h k = (k, tt)
 fit_more nodes i (x ∷ queue) t h k = (h.0, fit_more nodes (intake_after i x.command) queue t h.1 k)
 
 -- the queue of the block has more, and the others are as they were
-add_at : (queues : Queues) (b : ℕ) (more : List TakenCommand) (j : ℕ) → j ≡ b → add queues b more j ≡ queues j ++ more
+pub add_at : (queues : Queues) (b : ℕ) (more : List TakenCommand) (j : ℕ) → j ≡ b → add queues b more j ≡ queues j ++ more
 add_at queues b more j same = ap (λ (q : Bool). if q then queues j ++ more else queues j) (eq-eqb j b same)
 
-add_other : (queues : Queues) (b : ℕ) (more : List TakenCommand) (j : ℕ) → (j ≡ b → ⊥) → add queues b more j ≡ queues j
+pub add_other : (queues : Queues) (b : ℕ) (more : List TakenCommand) (j : ℕ) → (j ≡ b → ⊥) → add queues b more j ≡ queues j
 add_other queues b more j other = go (j == b) refl
   where
     go : (q : Bool) → (j == b) ≡ q → add queues b more j ≡ queues j

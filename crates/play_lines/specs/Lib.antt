@@ -3,3 +3,4 @@ pub mod Drawing
 pub mod Ordering
 pub mod Ruling
 pub mod Stepping
+pub mod Lines

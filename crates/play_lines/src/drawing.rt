@@ -1,6 +1,7 @@
 //! What happens next is drawn.
 
 ghost use Rattle.member_events.specs.Roads.{RoadsPass};
+ghost use Rattle.play_nodes.specs.Places.{KeepsSizes};
 ghost use Rattle.play_lines.specs.Showing.{IsPlaying};
 ghost use Rattle.play_lines.specs.Drawing.{DrawShows, RunShows, SettleShows};
 
@@ -23,6 +24,7 @@ impl<F: Files, I: LinkIn, O: LinkOut> Playing<F, I, O> {
     ) -> Result<bool, PlayFault>
         requires { IsPlaying R.Roads I.LinkIn O.LinkOut roads.old self.old }
         ensures shows { DrawShows F.Files R.Roads I.LinkIn O.LinkOut self.old self.new roads.old roads.new result }
+        ensures sizes { KeepsSizes self.old.player.nodes self.new.player.nodes }
         ensures pass { RoadsPass R.Roads roads.old roads.new }
     {
         worlds_are_lawful();
@@ -52,6 +54,7 @@ impl<F: Files, I: LinkIn, O: LinkOut> Playing<F, I, O> {
     ) -> Result<(), PlayFault>
         requires { IsPlaying R.Roads I.LinkIn O.LinkOut roads.old self.old }
         ensures shows { RunShows F.Files R.Roads I.LinkIn O.LinkOut count self.old self.new roads.old roads.new result }
+        ensures sizes { KeepsSizes self.old.player.nodes self.new.player.nodes }
         ensures pass { RoadsPass R.Roads roads.old roads.new }
     {
         for _ in 0..count {
@@ -70,6 +73,7 @@ impl<F: Files, I: LinkIn, O: LinkOut> Playing<F, I, O> {
     ) -> Result<(), PlayFault>
         requires { IsPlaying R.Roads I.LinkIn O.LinkOut roads.old self.old }
         ensures shows { SettleShows F.Files R.Roads I.LinkIn O.LinkOut self.old self.new roads.old roads.new result }
+        ensures sizes { KeepsSizes self.old.player.nodes self.new.player.nodes }
         ensures pass { RoadsPass R.Roads roads.old roads.new }
     {
         worlds_are_lawful();

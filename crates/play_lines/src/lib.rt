@@ -2,6 +2,7 @@
 #![tactic(auto)]
 
 mod drawing;
+mod lines;
 mod ordering;
 mod playing;
 mod ruling;

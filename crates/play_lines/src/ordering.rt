@@ -1,6 +1,7 @@
 //! The clients are given commands.
 
 ghost use Rattle.std.specs.Prelude.{◌≡◌, ◌++◌, [], ◌∷◌, OnOk, IfErr};
+ghost use Rattle.play_nodes.specs.Places.{KeepsSizes};
 ghost use Rattle.play_lines.specs.Ordering.{Orders, OrdersArePlays};
 
 use crate::playing::Playing;
@@ -14,7 +15,8 @@ use writer_core::Command;
 impl<F: Files, I: LinkIn, O: LinkOut> Playing<F, I, O> {
     /// A command joins the queue of its block, with the rule that the block's sums have. The block has a client.
     pub fn order(&mut self, block: BlockId, command: Command) -> Result<(), PlayFault>
-        ensures { Orders block command self.old self.new result }
+        ensures orders { Orders block command self.old self.new result }
+        ensures sizes { KeepsSizes self.old.player.nodes self.new.player.nodes }
     {
         let Some(place) = client_of(self.player.clients.as_slice(), block) else {
             return Ok(());

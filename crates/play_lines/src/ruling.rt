@@ -1,5 +1,6 @@
 //! The rules of sums of the blocks.
 
+ghost use Rattle.play_nodes.specs.Places.{KeepsSizes};
 ghost use Rattle.play_lines.specs.Ruling.{Rules, RulesArePlays};
 
 use crate::playing::Playing;
@@ -9,7 +10,8 @@ use play_dues::client_of;
 impl<F: Files, I: LinkIn, O: LinkOut> Playing<F, I, O> {
     /// The rule of the sums of a block that is created next. The block has a client.
     pub fn rule(&mut self, block: BlockId, rule: SumRule)
-        ensures { Rules block rule self.old self.new }
+        ensures rules { Rules block rule self.old self.new }
+        ensures sizes { KeepsSizes self.old.player.nodes self.new.player.nodes }
     {
         let Some(place) = client_of(self.player.clients.as_slice(), block) else {
             return;

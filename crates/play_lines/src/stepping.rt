@@ -3,6 +3,7 @@
 ghost use Rattle.std.specs.Prelude.{◌≡◌};
 ghost use Rattle.member_events.specs.Roads.{RoadsPass};
 ghost use Rattle.play_dues.specs.Writers.{conn_of};
+ghost use Rattle.play_nodes.specs.Places.{KeepsSizes};
 ghost use Rattle.play_lines.specs.Showing.{IsPlaying};
 ghost use Rattle.play_lines.specs.Stepping.{number_of, mirror_at, conn_at, due_behind, due_for};
 ghost use Rattle.play_lines.specs.Stepping.{StepShows, StaysAlone};
@@ -32,6 +33,7 @@ impl<F: Files, I: LinkIn, O: LinkOut> Playing<F, I, O> {
         ensures shows { StepShows F.Files R.Roads I.LinkIn O.LinkOut block event
             self.old self.new roads.old roads.new result }
         ensures alone { StaysAlone block self.old self.new roads.old roads.new result }
+        ensures sizes { KeepsSizes self.old.player.nodes self.new.player.nodes }
         ensures pass { RoadsPass R.Roads roads.old roads.new }
     {
         worlds_are_lawful();

@@ -1,5 +1,5 @@
 -- Members and books in their places among the nodes of a play.
-use Rattle.std.specs.Prelude.{◌==◌, length, position, ◌++◌, ◌-◌, [], ◌∷◌, Bool, true, false, ◌≡◌, ℕ, List, slice_get, slice_set, Option, Some, None, IsSome, option_and_then, Result, Ok, Err}
+use Rattle.std.specs.Prelude.{◌==◌, length, map, position, ◌++◌, ◌-◌, [], ◌∷◌, Bool, true, false, ◌≡◌, ℕ, List, slice_get, slice_set, Option, Some, None, IsSome, option_and_then, Result, Ok, Err}
 use Rattle.hd_base.specs.declared.ends.Conn.{Conn}
 use Rattle.hd_base.specs.declared.files.Files as files
 use Rattle.hd_base.specs.declared.links.LinkIn as link_in
@@ -36,6 +36,15 @@ use Rattle.play_nodes.specs.Faults.{fault_at}
 -- the book at a place of a node
 abbrev pub book_at : {F : Type 0} → List (NodeBooks F) → ℕ → ℕ → Option (BookState F)
 book_at nodes node place = option_and_then (λ x. slice_get x.books.items place) (slice_get nodes node)
+
+-- how many books each node has
+abbrev pub book_counts : {F : Type 0} → List (NodeBooks F) → List ℕ
+book_counts nodes = map (λ x. length x.books.items) nodes
+
+-- The blocks are the same, and so is how many nodes there are, and how many books each has.
+pub record KeepsSizes {F I O : Type 0} (old new : Nodes F I O) : Type 0 where
+  pub blocks : new.blocks.items ≡ old.blocks.items
+  pub books : book_counts new.nodes.items ≡ book_counts old.nodes.items
 
 -- MEMBERS
 

@@ -1,10 +1,10 @@
 //! A connection's first message.
 
-ghost use Rattle.std.specs.Prelude.{◌≡◌, ◌<◌, ◌⊎◌, length, IfOk};
+ghost use Rattle.std.specs.Prelude.{◌≡◌, ◌<◌, ◌⊎◌, length};
 ghost use Rattle.hd_base.specs.Ends.{IsKnown};
 ghost use Rattle.member_events.specs.Roads.{RoadsPass};
 ghost use Rattle.play_nodes.specs.Showing.{Stand};
-ghost use Rattle.play_nodes.specs.Places.{TakesIdle, IsMirrorNode, Adds, IsSettled, place_of, IsJoined, HasNoBook};
+ghost use Rattle.play_nodes.specs.Places.{KeepsSizes, TakesIdle, IsMirrorNode, Adds, IsSettled, place_of, IsJoined, HasNoBook};
 ghost use Rattle.play_nodes.specs.Beginning.{BeginShows};
 
 use crate::connections::{Connection, Lower, Upper};
@@ -28,7 +28,7 @@ impl<F: Files, I: LinkIn, O: LinkOut> Nodes<F, I, O> {
     ) -> Result<bool, NodesFault>
         requires { Stand R.Roads I.LinkIn O.LinkOut roads.old self.old }
         ensures shows { BeginShows F.Files R.Roads I.LinkIn O.LinkOut conn self.old self.new roads.old roads.new result }
-        ensures blocks { IfOk result (λ _. self.new.blocks.items ≡ self.old.blocks.items) }
+        ensures sizes { KeepsSizes self.old self.new }
         ensures pass { RoadsPass R.Roads roads.old roads.new }
     {
         let index = conn.0 as usize;
@@ -60,6 +60,7 @@ impl<F: Files, I: LinkIn, O: LinkOut> Nodes<F, I, O> {
         ensures joins { IsJoined F.Files R.Roads I.LinkIn O.LinkOut
             self.old self.new conn node requested roads.old roads.new result
             ⊎ HasNoBook self.old self.new node requested.op roads.old roads.new result }
+        ensures sizes { KeepsSizes self.old self.new }
         ensures pass { RoadsPass R.Roads roads.old roads.new }
     {
         let Some(place) = self.place_of(&requested.op) else {
@@ -87,7 +88,8 @@ impl<F: Files, I: LinkIn, O: LinkOut> Nodes<F, I, O> {
         joined: Joined<I, O>,
     ) -> Result<bool, NodesFault>
         requires { seat.conn < length self.old.connections.items }
-        ensures { IsSettled self.old self.new seat next mirror joined result }
+        ensures settled { IsSettled self.old self.new seat next mirror joined result }
+        ensures sizes { KeepsSizes self.old self.new }
     {
         self.put_back(seat, joined.member);
         match joined.mirror {
@@ -106,7 +108,8 @@ impl<F: Files, I: LinkIn, O: LinkOut> Nodes<F, I, O> {
         end: Conn<I, O>,
     ) -> Result<bool, NodesFault>
         requires { seat.conn < length self.old.connections.items }
-        ensures { Adds self.old self.new seat next mirror end result }
+        ensures adds { Adds self.old self.new seat next mirror end result }
+        ensures sizes { KeepsSizes self.old self.new }
     {
         self.connections[seat.conn].mirror = Some(next);
         let connection = Connection {

@@ -1,6 +1,6 @@
 //! The connections that writers dial.
 
-ghost use Rattle.std.specs.Prelude.{◌≡◌, OnOk};
+ghost use Rattle.play_nodes.specs.Places.{KeepsSizes};
 ghost use Rattle.play_nodes.specs.Frames.{DialledShows};
 
 use crate::connections::{Connection, Lower, Upper};
@@ -17,7 +17,7 @@ impl<F: Files, I: LinkIn, O: LinkOut> Nodes<F, I, O> {
         end: Conn<I, O>,
     ) -> Result<(), NodesFault>
         ensures shows { DialledShows I.LinkIn O.LinkOut block node end self.old self.new result }
-        ensures blocks { OnOk result (self.new.blocks.items ≡ self.old.blocks.items) }
+        ensures sizes { KeepsSizes self.old self.new }
     {
         let connection = Connection {
             upper: Upper::Writer { block },

@@ -1,8 +1,8 @@
 //! The events of the nodes.
 
-ghost use Rattle.std.specs.Prelude.{◌≡◌, OnOk};
 ghost use Rattle.member_events.specs.Roads.{RoadsPass};
 ghost use Rattle.play_nodes.specs.Showing.{Stand};
+ghost use Rattle.play_nodes.specs.Places.{KeepsSizes};
 ghost use Rattle.play_nodes.specs.Events.{ReadyShows, DownShows, UpShows};
 
 use crate::faults::NodesFault;
@@ -21,7 +21,7 @@ impl<F: Files, I: LinkIn, O: LinkOut> Nodes<F, I, O> {
     ) -> Result<(), NodesFault>
         requires { Stand R.Roads I.LinkIn O.LinkOut roads.old self.old }
         ensures shows { ReadyShows F.Files R.Roads I.LinkIn O.LinkOut conn self.old self.new roads.old roads.new result }
-        ensures blocks { OnOk result (self.new.blocks.items ≡ self.old.blocks.items) }
+        ensures sizes { KeepsSizes self.old self.new }
         ensures pass { RoadsPass R.Roads roads.old roads.new }
     {
         let Some(seat) = self.seat_of(conn) else {
@@ -45,7 +45,7 @@ impl<F: Files, I: LinkIn, O: LinkOut> Nodes<F, I, O> {
     ) -> Result<(), NodesFault>
         requires { Stand R.Roads I.LinkIn O.LinkOut roads.old self.old }
         ensures shows { DownShows F.Files R.Roads I.LinkIn O.LinkOut conn self.old self.new roads.old roads.new result }
-        ensures blocks { OnOk result (self.new.blocks.items ≡ self.old.blocks.items) }
+        ensures sizes { KeepsSizes self.old self.new }
         ensures pass { RoadsPass R.Roads roads.old roads.new }
     {
         let Some(seat) = self.seat_of(conn) else {
@@ -69,7 +69,7 @@ impl<F: Files, I: LinkIn, O: LinkOut> Nodes<F, I, O> {
     ) -> Result<(), NodesFault>
         requires { Stand R.Roads I.LinkIn O.LinkOut roads.old self.old }
         ensures shows { UpShows F.Files R.Roads I.LinkIn O.LinkOut conn self.old self.new roads.old roads.new result }
-        ensures blocks { OnOk result (self.new.blocks.items ≡ self.old.blocks.items) }
+        ensures sizes { KeepsSizes self.old self.new }
         ensures pass { RoadsPass R.Roads roads.old roads.new }
     {
         let Some(above) = self.above(conn) else {

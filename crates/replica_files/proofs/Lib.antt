@@ -11,3 +11,4 @@ pub mod ReadLemmas
 pub mod SettleLemmas
 pub mod ShapeLemmas
 pub mod StepLemmas
+pub mod SumLemmas

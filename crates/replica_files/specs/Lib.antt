@@ -8,3 +8,4 @@ pub mod Endings
 pub mod Reads
 pub mod Finding
 pub mod Laws
+pub mod Summing

@@ -9,10 +9,11 @@ ghost use Rattle.replica_files.specs.Books.{IsBookOf, replica_of};
 ghost use Rattle.replica_files.specs.Finding.{HoldsFound, IsFound, GivesBack};
 ghost use Rattle.replica_files.specs.Reads.{ReadsBytes};
 ghost use Rattle.replica_files.specs.Steps.{KeepsRest};
+ghost use Rattle.replica_files.specs.Summing.{SumsWritten, LeavesBook, SumsFor};
 ghost use Rattle.replica_files.specs.Endings.{BookEnds, InitEnds, IsReceiptOf, IsNew};
 
 use crate::book_state::{BookState, Taken};
-use crate::faults::{BookFault, FoundFault};
+use crate::faults::{BookFault, FoundFault, SumFault};
 use crate::finding::read_found;
 use hd_base::{Armed, BlockId, ConnId, Files, Receipt, ReplicaState, Stamp, SumRule};
 use packet_codec::Packet;
@@ -23,8 +24,8 @@ use std::alloc::{AllocError, Global};
 use std::marker::Model;
 
 /// One replica of a block with its two files and its history, as one value. The replica is always the one
-/// that the history leads to, and the files hold it unless it is absent or broken. Each call takes its
-/// memory first; one that doesn't end in `Memory` adds an entry, which its receipt names.
+/// that the history leads to, and the files hold it unless it is absent or broken. Each call for an event takes
+/// its memory first; one that doesn't end in `Memory` adds an entry, which its receipt names.
 #[derive(Drop)]
 pub struct ReplicaBook<F: Files> {
     state: BookState<F>,
@@ -227,6 +228,16 @@ impl<F: Files> ReplicaBook<F> {
             length,
         };
         receipt_of(self.state.read(event, offset, length, into))
+    }
+
+    /// The CRC32C of all written bytes, which are read from the data file piece by piece; none where the replica
+    /// is absent or broken. The book stays as it was, without an entry more, and so do its files.
+    pub fn written_sum(&mut self, alloc: Global) -> Result<Option<u32>, SumFault>
+        ensures sum { IfOk result (SumsWritten (F.files self.old.drawer) (replica_of self.old)) }
+        ensures kept { LeavesBook F.Files self.old self.new }
+        ensures cause { SumsFor (F.faults self.old.drawer) (F.faults self.new.drawer) result }
+    {
+        self.state.written_sum(alloc)
     }
 
     /// The replica.

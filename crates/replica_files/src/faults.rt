@@ -45,6 +45,30 @@ impl From<FileError> for FoundFault {
     }
 }
 
+/// Why the sum of a replica's bytes isn't told. Nothing changed.
+#[derive(Clone, Copy, Debug, PartialEq, Eq, PartialOrd, Ord, Hash, Error)]
+pub enum SumFault {
+    /// A call on the replica's files failed.
+    #[error("a call on the replica's files failed")]
+    Files,
+    /// Memory ran out.
+    #[error("out of memory")]
+    Memory,
+}
+
+impl From<FileError> for SumFault {
+    ghost use Rattle.replica_files.specs.Summing.{sum_fault};
+
+    ghost from_gives = { λ error fault. fault ≡ sum_fault error };
+
+    fn from(error: FileError) -> SumFault {
+        match error {
+            FileError::Memory => SumFault::Memory,
+            FileError::Absent | FileError::Failed => SumFault::Files,
+        }
+    }
+}
+
 impl From<AllocError> for BookFault {
     ghost use Rattle.replica_files.specs.declared.faults.BookFault.TheVariants as book_fault;
 

@@ -12,8 +12,9 @@ mod held;
 mod laws;
 mod reading;
 mod settling;
+mod summing;
 
 pub use book::ReplicaBook;
-pub use faults::{BookFault, FoundFault};
+pub use faults::{BookFault, FoundFault, SumFault};
 pub use held::Held;
 pub use laws::{acked_bytes_stay, histories_determine_files};

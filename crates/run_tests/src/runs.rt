@@ -1,15 +1,18 @@
-//! Whole runs over memory: the worked examples with what they carry and store, and each call that
-//! can fail failing in turn.
+//! Whole runs over memory: worked examples with what they carry and store, and each call that can fail failing in turn.
 
-ghost use Rattle.std.specs.Prelude.{◌<◌, length, IfOk};
+ghost use Rattle.std.specs.Prelude.{IfOk};
+ghost use Rattle.node_opening.specs.Listening.{AreUnused};
 
-use dn_run::exits::{BadKind, Exit, UsageRule};
-use dn_run::run::run;
-use hd_base::{BlockId, ConnId, FileName, Files, NodeId, Shelf};
+use dn_run::{Exit, run};
+use hd_base::{BlockId, ConnId, FileName, Files, NodeId, ReplicaState, Roads, Shelf, Stamp};
 use mem_ports::{MemRoads, MemShelf, MemSink, MemSource};
-use std::alloc::Global;
+use play_report::Expected;
+use run_words::UsageRule;
+use script_lang::BadKind;
+use std::alloc::{AllocError, Global};
 use std::process::Abort;
 use std::test::Fail;
+use whole_play::new_roads_are_unused;
 
 /// A script of one write of nine bytes.
 const NINE: &[u8] =
@@ -25,9 +28,26 @@ const EMPTY: &[u8] = b"nodes 1\nseed 0\ncreate 1073741825 0\nclose 1073741825\n"
 const EMPTY_REPORT: &[u8] =
     b"replica 0 1073741825 FINALIZED 1001 0 0 00000000 ok\nanswer 1073741825 0 create ok 1001\nanswer 1073741825 1 close ok 0 1001 0\nend\n";
 
-/// The report of 64,512 bytes 5a.
-const LONG_REPORT: &[u8] =
-    b"replica 0 7 FINALIZED 1001 64512 64512 4c3561b8 ok\nanswer 7 0 create ok 1001\nanswer 7 2 close ok 64512 1001 0\nend\n";
+/// A closed block is appended to.
+const APPEND: &[u8] =
+    b"nodes 1\nseed 0\ncreate 1 0\nfill 1 600\nclose 1\nappend 1 0\nfill 1 1000\nclose 1\n";
+
+const APPEND_REPORT: &[u8] =
+    b"replica 0 1 FINALIZED 1002 1600 1600 6698c984 ok\nanswer 1 0 create ok 1001\nanswer 1 2 close ok 600 1001 0\nanswer 1 3 append ok 1002\nanswer 1 5 close ok 1600 1002 0\nend\n";
+
+/// Two flushes in the middle of chunks, at three members.
+const FLUSHES: &[u8] =
+    b"nodes 3\nseed 0\ncreate 1 0,1,2\nfill 1 600\nhflush 1\nfill 1 100\nhflush 1\n";
+
+const FLUSHES_REPORT: &[u8] =
+    b"replica 0 1 RBW 1001 700 700 3d0abcfd ok\nreplica 1 1 RBW 1001 700 700 3d0abcfd ok\nreplica 2 1 RBW 1001 700 700 3d0abcfd ok\nanswer 1 0 create ok 1001\nanswer 1 2 hflush ok 600 1001 0,1,2\nanswer 1 4 hflush ok 700 1001 0,1,2\nend\n";
+
+/// A block without sums.
+const UNSUMMED: &[u8] =
+    b"nodes 2\nseed 0\nsums 1073741825 null 512\ncreate 1073741825 0,1\nwrite 1073741825 313233343536373839\nclose 1073741825\n";
+
+const UNSUMMED_REPORT: &[u8] =
+    b"replica 0 1073741825 FINALIZED 1001 9 9 e3069283 ok\nreplica 1 1073741825 FINALIZED 1001 9 9 e3069283 ok\nanswer 1073741825 0 create ok 1001\nanswer 1073741825 2 close ok 9 1001 0,1\nend\n";
 
 /// What goes down of a run: the request to write the block, the packet of the nine bytes and the last
 /// packet.
@@ -42,6 +62,9 @@ const EMPTY_DOWN: &[u8] =
     b"\x00\x1c\x50\x4a\x0a\x37\x0a\x1f\x0a\x1d\x0a\x10\x42\x50\x2d\x31\x2d\x31\x32\x37\x2e\x30\x2e\x30\x2e\x31\x2d\x31\x10\x81\x80\x80\x80\x04\x18\xe9\x07\x20\x00\x12\x14\x44\x46\x53\x43\x6c\x69\x65\x6e\x74\x5f\x31\x30\x37\x33\x37\x34\x31\x38\x32\x35\x20\x06\x28\x01\x30\x00\x38\x00\x40\x00\x4a\x05\x08\x02\x10\x80\x04\x00\x00\x00\x04\x00\x19\x09\x00\x00\x00\x00\x00\x00\x00\x00\x11\x00\x00\x00\x00\x00\x00\x00\x00\x18\x01\x25\x00\x00\x00\x00";
 
 const EMPTY_UP: &[u8] = b"\x04\x08\x00\x12\x00\x04\x08\x00\x10\x00";
+
+/// More calls than any port of a run of nine bytes has.
+const MOST_CALLS: u64 = 1000;
 
 /// What a run stands on.
 #[derive(Clone, Copy, PartialEq, Eq)]
@@ -81,12 +104,17 @@ struct Left {
     roads: MemRoads,
 }
 
-/// Runs a script on one shelf.
+/// Runs a script on three shelves.
 fn run_one(alloc: Global, word: &str, text: &[u8], failing: Failing) -> Result<Left, Fail> {
+    new_roads_are_unused::<MemRoads>();
     let words = vec![in alloc; String::from_str(alloc, word)?]?;
     let mut source = MemSource::new(alloc, text, &[failing.at(Port::Script)])?;
     let mut report = MemSink::new(alloc, &[failing.at(Port::Report)])?;
-    let mut shelves = vec![in alloc; MemShelf::new(alloc, &[failing.at(Port::Shelf)])?]?;
+    let mut shelves = vec![in alloc;
+        MemShelf::new(alloc, &[failing.at(Port::Shelf)])?,
+        MemShelf::new(alloc, &[])?,
+        MemShelf::new(alloc, &[])?,
+    ]?;
     let mut roads = MemRoads::new(alloc, &[failing.at(Port::Roads)])?;
     let exit = run(
         alloc,
@@ -104,32 +132,58 @@ fn run_one(alloc: Global, word: &str, text: &[u8], failing: Failing) -> Result<L
     })
 }
 
-/// The script that writes 64,512 bytes 5a.
-fn long_script(alloc: Global) -> Result<Vec<u8>, Fail> {
-    let mut text = Vec::new(alloc);
-    text.extend_from_slice(b"nodes 1\nseed 0\ncreate 7 0\nwrite 7 ")?;
-    for _ in 0..64_512u32 {
-        text.extend_from_slice(b"5A")?;
-    }
-    text.extend_from_slice(b"\nclose 7\n")?;
-    Ok(text)
-}
-
+/// What each of the examples reports.
 #[test]
-fn examples_are_run(rt: HostRuntime) -> Result<(), Fail> {
-    let table = [
-        (NINE, NINE_REPORT, NINE_DOWN, NINE_UP),
-        (EMPTY, EMPTY_REPORT, EMPTY_DOWN, EMPTY_UP),
+fn examples_are_reported(rt: HostRuntime) -> Result<(), Fail> {
+    let table: [(&[u8], &[u8]); 5] = [
+        (NINE, NINE_REPORT),
+        (EMPTY, EMPTY_REPORT),
+        (APPEND, APPEND_REPORT),
+        (FLUSHES, FLUSHES_REPORT),
+        (UNSUMMED, UNSUMMED_REPORT),
     ];
-    for (script, report, down, up) in table {
+    for (script, report) in table {
         let left = run_one(rt.alloc(), "play", script, NONE)?;
         assert_eq!(rt; left.exit, Exit::Done);
         assert_eq!(rt; left.report.bytes(), report);
+    }
+    Ok(())
+}
+
+/// What two of them carry.
+#[test]
+fn examples_are_carried(rt: HostRuntime) -> Result<(), Fail> {
+    let table = [(NINE, NINE_DOWN, NINE_UP), (EMPTY, EMPTY_DOWN, EMPTY_UP)];
+    for (script, down, up) in table {
+        let left = run_one(rt.alloc(), "play", script, NONE)?;
         let carried = left.roads.carried_bytes(rt.alloc(), ConnId(0), true)?;
         assert_eq!(rt; carried.as_slice(), down);
         let carried = left.roads.carried_bytes(rt.alloc(), ConnId(0), false)?;
         assert_eq!(rt; carried.as_slice(), up);
     }
+    Ok(())
+}
+
+/// The replica is finalized with nine bytes, and ten are expected.
+#[test]
+fn a_difference_is_told(rt: HostRuntime) -> Result<(), Fail> {
+    let mut script = Vec::new(rt.alloc());
+    script.extend_from_slice(NINE)?;
+    script.extend_from_slice(b"expect 0 1073741825 FINALIZED 1001 10\n")?;
+    let left = run_one(rt.alloc(), "play", &script, NONE)?;
+    let finalized = |length| Expected {
+        state: ReplicaState::Finalized,
+        stamp: Stamp(1001),
+        length,
+    };
+    let differs = Exit::Differs {
+        line: 6,
+        want: finalized(10),
+        got: Some(finalized(9)),
+    };
+    assert_eq!(rt; (left.exit.status(), left.exit.name()), (6, "Differs"));
+    assert_eq!(rt; left.exit, differs);
+    assert_eq!(rt; left.report.bytes(), NINE_REPORT);
     Ok(())
 }
 
@@ -167,64 +221,46 @@ fn both_files_are_stored(rt: HostRuntime) -> Result<(), Fail> {
     Ok(())
 }
 
-/// Runs a script with each call of a port failing in turn, and then with the call behind the last
-/// one failing, which is never made. Gives what that run leaves.
-fn fail_in_turn(
-    rt: &impl Abort,
-    alloc: Global,
-    script: &[u8],
-    port: Port,
-    end: u64,
-    fault: Exit,
-) -> Result<Left, Fail> {
-    for number in 1..end {
-        let left = run_one(alloc, "play", script, Failing { port, number })?;
-        assert_eq!(rt; left.exit, fault, "call {number}");
+/// Runs a script with each call of a port failing in turn, until the one that fails is never made.
+fn fail_in_turn(rt: &impl Abort, alloc: Global, port: Port, fault: &Exit) -> Result<(), Fail> {
+    for number in 1..MOST_CALLS {
+        let left = run_one(alloc, "play", NINE, Failing { port, number })?;
+        if left.exit == Exit::Done {
+            assert!(rt; number > 1);
+            return Ok(());
+        }
+        assert_eq!(rt; &left.exit, fault, "call {number}");
     }
-    let left = run_one(alloc, "play", script, Failing { port, number: end })?;
-    assert_eq!(rt; left.exit, Exit::Done);
-    Ok(left)
+    Err(Fail::from("a call always fails"))
 }
 
+/// Each port's fault is told as its own.
 #[test]
 fn each_call_fails_in_turn(rt: HostRuntime) -> Result<(), Fail> {
     let shelf = Exit::ShelfFault { node: NodeId(0) };
-    fail_in_turn(&rt, rt.alloc(), NINE, Port::Script, 3, Exit::ScriptFault)?;
-    fail_in_turn(&rt, rt.alloc(), NINE, Port::Report, 2, Exit::ReportFault)?;
-    fail_in_turn(&rt, rt.alloc(), NINE, Port::Shelf, 13, shelf)?;
-    Ok(())
+    fail_in_turn(&rt, rt.alloc(), Port::Script, &Exit::ScriptFault)?;
+    fail_in_turn(&rt, rt.alloc(), Port::Report, &Exit::ReportFault)?;
+    fail_in_turn(&rt, rt.alloc(), Port::Shelf, &shelf)?;
+    fail_in_turn(&rt, rt.alloc(), Port::Roads, &Exit::RoadFault)
 }
 
-/// Roads count their calls, and each half of an end its own, from the three on that make the
-/// connection. The member receives the long script's messages in 34 calls: byte by byte until a
-/// message's length shows, and then 4,096 bytes at most.
-#[test]
-fn each_call_on_the_roads_fails_in_turn(rt: HostRuntime) -> Result<(), Fail> {
-    let long = long_script(rt.alloc())?;
-    let left = fail_in_turn(&rt, rt.alloc(), &long, Port::Roads, 38, Exit::RoadFault)?;
-    assert_eq!(rt; left.report.bytes(), LONG_REPORT);
-    Ok(())
-}
-
+/// Words that aren't `play`, texts that are no script, and a line that plays don't have yet.
 #[test]
 fn words_and_scripts_are_refused(rt: HostRuntime) -> Result<(), Fail> {
-    let usage = Exit::Usage {
-        rule: UsageRule::Mode,
-    };
-    let word = Exit::BadScript {
-        line: 0,
-        kind: BadKind::Word,
-    };
-    let table: [(&str, &[u8], Exit); 3] = [
-        ("walk", NINE, usage),
-        ("play", b"nodes 1\n", word),
-        ("play", b"", word),
+    let usage = |rule| Exit::Usage { rule };
+    let bad = |line, kind| Exit::BadScript { line, kind };
+    let table: [(&str, &[u8], Exit); 6] = [
+        ("walk", NINE, usage(UsageRule::Mode)),
+        ("live", NINE, usage(UsageRule::Mode)),
+        ("play", b"nodes 1\n", bad(2, BadKind::Head)),
+        ("play", b"", bad(1, BadKind::Head)),
+        ("play", b"nodes 4\nseed 0\n", bad(1, BadKind::TooManyNodes)),
+        ("play", b"nodes 1\nseed 0\nstop 0\n", bad(3, BadKind::Word)),
     ];
     for (mode, script, wanted) in table {
         let left = run_one(rt.alloc(), mode, script, NONE)?;
         assert_eq!(rt; left.exit, wanted);
+        assert_eq!(rt; left.report.bytes(), b"".as_slice());
     }
-    assert_eq!(rt; (usage.status(), usage.name()), (1, "Usage"));
-    assert_eq!(rt; (word.status(), word.name()), (2, "BadScript"));
     Ok(())
 }

@@ -6,8 +6,8 @@ use Rattle.node_opening.proofs.closing.close_nodes.Given as goal
 
 abbrev pub invariant-loop-node : goal.invariant-loop-node
 invariant-loop-node g l = record {
-  lent : NodesAreLentOut g.S.Shelf (length l.blocks) l.shelves l.nodes.items;
-  closes : (end : _) → NodesClose g.S.Shelf g.S.Drawer.Files (length l.blocks) l.nodes.items l.shelves end → NodesClose g.S.Shelf g.S.Drawer.Files (length l.blocks) l.initial.nodes.items l.initial.shelves end;
+  lent : NodesAreLentOut g.S.Shelf l.blocks l.shelves l.nodes.items;
+  closes : (end : _) → NodesClose g.S.Shelf g.S.Drawer.Files l.blocks l.nodes.items l.shelves end → NodesClose g.S.Shelf g.S.Drawer.Files l.blocks l.initial.nodes.items l.initial.shelves end;
 }
 
 abbrev pub decreases-loop-node : goal.decreases-loop-node

@@ -1,12 +1,13 @@
 -- What is left closes the node.
 use Rattle.std.proofs.Common.{length}
-use Rattle.node_opening.specs.Closing.{AreLentOut, NodeCloses}
+use Rattle.node_opening.specs.Closing.{NodeCloses}
+use Rattle.node_opening.proofs.CloseLemmas.{IsLeft}
 use Rattle.node_opening.proofs.closing.give_back_books.Given as goal
 
 abbrev pub invariant-loop-book : goal.invariant-loop-book
 invariant-loop-book g l = record {
-  lent : AreLentOut g.S.Shelf l.shelf l.books.items;
-  closes : (end : _) → NodeCloses g.S.Shelf g.S.Drawer.Files l.books.items l.shelf end → NodeCloses g.S.Shelf g.S.Drawer.Files l.initial.books.items l.initial.shelf end;
+  left : IsLeft g.S.Shelf l.blocks l.shelf l.books.items;
+  closes : (end : _) → NodeCloses g.S.Shelf g.S.Drawer.Files l.blocks l.books.items l.shelf end → NodeCloses g.S.Shelf g.S.Drawer.Files l.blocks l.initial.books.items l.initial.shelf end;
 }
 
 abbrev pub decreases-loop-book : goal.decreases-loop-book

@@ -2,7 +2,7 @@
 use Rattle.std.proofs.Common.{◌≡◌, ◌<◌, List, get_or, length, sym, subst, arith}
 use Rattle.play_nodes.specs.declared.nodes.NodeBooks.{NodeBooks}
 use Rattle.node_opening.proofs.ListLemmas.{element_or}
-use Rattle.node_opening.proofs.LendLemmas.{NodesUpTo, nodes_start, nodes_step, nodes_whole, nodes_fail_lend, nodes_fail_fit, nodes_fail_back, next_empty}
+use Rattle.node_opening.proofs.LendLemmas.{NodesUpTo, nodes_start, nodes_step, nodes_whole, nodes_fail_lend, nodes_fail_back, next_empty}
 use Rattle.node_opening.proofs.lending.lend_all.Goals as goal
 
 pub loop-node-init : goal.loop-node-init
@@ -22,14 +22,6 @@ lend_node-requires-clause-empty g c = λ κs inside.
 pub close_nodes-requires-clause-lent : goal.close_nodes-requires-clause-lent
 close_nodes-requires-clause-lent g c = λ κs inside.
     nodes_fail_lend g.S.Shelf g.S.Drawer.Files c.args.blocks.now c.loop-node.node c.args.shelves.now c.loop-node.shelves c.loop-node.nodes.items c.lend_node.new.nodes.items c.lend_node.new.shelf c.loop-node.invariant c.in-Err.ensures.1
-
-pub close_nodes-requires-clause-fit : goal.close_nodes-requires-clause-fit
-close_nodes-requires-clause-fit g c = λ κs inside.
-    let xs = c.loop-node.shelves in
-    let n = c.loop-node.node in
-    let within : n < length xs = omega (arith, c.loop-node-test.true, c.loop-node.auto.shelves) in
-    nodes_fail_fit g.S.Shelf g.S.Drawer.Files c.args.blocks.now n c.args.shelves.now xs c.loop-node.nodes.items c.lend_node.new.nodes.items (get_or xs n c.index-shelves-node.result)
-    c.loop-node.invariant (element_or xs n c.index-shelves-node.result within) c.in-Err.ensures.1
 
 pub returns-in-Err-clause-given_back : goal.returns-in-Err-clause-given_back
 returns-in-Err-clause-given_back g c =

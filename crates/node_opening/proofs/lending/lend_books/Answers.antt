@@ -4,7 +4,7 @@ use Rattle.hd_base.specs.declared.numbers.BlockId.{BlockId}
 use Rattle.replica_files.specs.declared.book_state.BookState.{BookState}
 use Rattle.node_opening.specs.Lending.{HasBooks}
 use Rattle.node_opening.proofs.ListLemmas.{element_or}
-use Rattle.node_opening.proofs.LendLemmas.{books_none, books_step, books_end, fail_out, fail_back}
+use Rattle.node_opening.proofs.LendLemmas.{books_none, books_step, books_end, fail_within, fail_out, fail_back}
 use Rattle.node_opening.proofs.lending.lend_books.Goals as goal
 
 pub loop-block-init : goal.loop-block-init
@@ -14,8 +14,14 @@ loop-block-init g c =
     let a = c.args.shelf.now in
     subst (λ (xs : List (BookState g.row.S-Drawer.Denot)). HasBooks s d [] a a xs) (sym c.new-books.ensures.items) (books_none s d a)
 
-pub give_back_books-requires-after_bounds : goal.give_back_books-requires-after_bounds
-give_back_books-requires-after_bounds g c κs within =
+pub give_back_books-requires-clause-within : goal.give_back_books-requires-clause-within
+give_back_books-requires-clause-within g c κs within =
+    let k = c.loop-block.block-index in
+    let none : BlockId = record { 0 = 0 } in
+    fail_within g.S.Shelf g.S.Drawer.Files c.args.blocks.now k c.args.shelf.now c.loop-block.shelf c.lend_next.new.shelf (get_or c.args.blocks.now k none) c.loop-block.books.items c.lend_next.new.books.items c.loop-block.invariant c.in-Err.ensures
+
+pub give_back_books-requires-clause-lent : goal.give_back_books-requires-clause-lent
+give_back_books-requires-clause-lent g c κs within =
     let k = c.loop-block.block-index in
     let none : BlockId = record { 0 = 0 } in
     fail_out g.S.Shelf g.S.Drawer.Files c.args.blocks.now k (get_or c.args.blocks.now k none) c.args.shelf.now c.loop-block.shelf c.lend_next.new.shelf c.loop-block.books.items c.lend_next.new.books.items c.requires.distinct

@@ -1,7 +1,6 @@
 -- Nodes that were opened can be closed.
-use Rattle.std.proofs.Common.{◌≡◌, true, List, length, sym, subst}
+use Rattle.std.proofs.Common.{◌≡◌, true, List, length, subst}
 use Rattle.hd_base.specs.declared.numbers.BlockId.{BlockId}
-use Rattle.node_opening.specs.Closing.{NodesFit}
 use Rattle.node_opening.specs.Shelves.{is_among}
 use Rattle.opening_tests.proofs.opening.two_nodes_open_and_close.Goals as goal
 
@@ -10,9 +9,3 @@ close_nodes-requires-clause-lent g c κs =
     let n = c.in_ok-blocks.field-0 in
     let can = c.opened_nodes_close.ensures c.in_ok-two_blocks.field-0.items _ c.open_nodes.new.shelves n c.in_ok-blocks.ensures.opened in
     λ k a b within at among. can.lend (length n.nodes.items) k a b within at (subst (λ (bs : List BlockId). is_among bs b ≡ true) c.deref-2.ensures.value among)
-
-pub close_nodes-requires-clause-fit : goal.close_nodes-requires-clause-fit
-close_nodes-requires-clause-fit g c κs =
-    let n = c.in_ok-blocks.field-0 in
-    let can = c.opened_nodes_close.ensures c.in_ok-two_blocks.field-0.items _ c.open_nodes.new.shelves n c.in_ok-blocks.ensures.opened in
-    subst (λ (bs : List BlockId). NodesFit bs n.nodes.items) (sym c.deref-2.ensures.value) can.fit

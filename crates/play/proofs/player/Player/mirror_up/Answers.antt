@@ -3,14 +3,18 @@ use Rattle.std.proofs.Common.{sym, subst, Err}
 use Rattle.play.specs.declared.faults.PlayFault.{PlayFault}
 use Rattle.play.specs.Events.{MirrorShows}
 use Rattle.play.proofs.NodeSteps.{mirror_left, mirror_failed}
+use Rattle.play_nodes.proofs.SizeLaws.{sizes_after}
 use Rattle.play.proofs.player.Player.mirror_up.Goals as goal
 
 pub returns-in-Ok-clause-shows : goal.returns-in-Ok-clause-shows
 returns-in-Ok-clause-shows g c =
-    mirror_left g.F.Files g.R.Roads g.I.LinkIn g.O.LinkOut c.args.conn c.args.self.now c.mirror_up.new.self c.keep.new.self c.args.roads.now c.mirror_up.new.roads c.keep.result c.in-Ok.ensures.blocks c.clients_stay.ensures c.nodes_keep_writers.ensures.up c.in-Ok.ensures.shows c.keep.ensures
+    mirror_left g.F.Files g.R.Roads g.I.LinkIn g.O.LinkOut c.args.conn c.args.self.now c.mirror_up.new.self c.keep.new.self c.args.roads.now c.mirror_up.new.roads c.keep.result c.in-Ok.ensures.sizes.blocks c.clients_stay.ensures c.nodes_keep_writers.ensures.up c.in-Ok.ensures.shows c.keep.ensures.kept
 
 pub returns-in-Err-clause-shows : goal.returns-in-Err-clause-shows
 returns-in-Err-clause-shows g c =
     let new = record c.args.self.now { nodes = c.mirror_up.new.self } in
     subst (λ (x : PlayFault). MirrorShows g.F.Files g.R.Roads g.I.LinkIn g.O.LinkOut c.args.conn c.args.self.now new c.args.roads.now c.mirror_up.new.roads (Err x)) (sym c.of_nodes.ensures)
     (mirror_failed g.F.Files g.R.Roads g.I.LinkIn g.O.LinkOut c.args.conn c.args.self.now new c.args.roads.now c.mirror_up.new.roads c.in-Err.fault c.in-Err.ensures.shows)
+
+pub returns-in-Ok-clause-sizes : goal.returns-in-Ok-clause-sizes
+returns-in-Ok-clause-sizes g c = sizes_after c.args.self.now.nodes c.mirror_up.new.self c.keep.new.self.nodes c.mirror_up.ensures.sizes c.keep.ensures.sizes

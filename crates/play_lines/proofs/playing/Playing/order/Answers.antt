@@ -6,8 +6,8 @@ use Rattle.play_dues.proofs.UpperLaws.{client_within}
 use Rattle.play_lines.proofs.Ordered.{order_so, order_none}
 use Rattle.play_lines.proofs.playing.Playing.order.Goals as goal
 
-pub returns-in_default : goal.returns-in_default
-returns-in_default g c =
+pub returns-in_default-clause-orders : goal.returns-in_default-clause-orders
+returns-in_default-clause-orders g c =
     order_none c.args.block c.args.command c.args.self.now (ap (λ xs. client_place xs c.args.block.0) (sym c.as_slice.ensures.value) ∙ (sym c.client_of.ensures ∙ none_so c.client_of.result c.in_default.not-Some))
 
 pub index-requires : goal.index-requires
@@ -20,8 +20,8 @@ index_mut-requires g c =
     let clients = c.args.self.now.player.clients in
     subst (λ (k : ℕ). c.in-Some.place < k) (sym clients.ok.0) (client_within clients.items c.args.block.0 c.in-Some.place (client_place clients.items c.args.block.0) refl (ap (λ xs. client_place xs c.args.block.0) (sym c.as_slice.ensures.value) ∙ sym c.in-Some.ensures))
 
-pub returns : goal.returns
-returns g c =
+pub returns-clause-orders : goal.returns-clause-orders
+returns-clause-orders g c =
     let old = c.args.self.now in
     let clients = old.player.clients in
     let there = ap (λ xs. client_place xs c.args.block.0) (sym c.as_slice.ensures.value) ∙ sym c.in-Some.ensures in

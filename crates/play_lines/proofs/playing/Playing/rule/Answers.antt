@@ -6,8 +6,8 @@ use Rattle.play_dues.proofs.UpperLaws.{client_within}
 use Rattle.play_lines.proofs.Ruled.{rule_so, rule_none}
 use Rattle.play_lines.proofs.playing.Playing.rule.Goals as goal
 
-pub returns-in_default : goal.returns-in_default
-returns-in_default g c =
+pub returns-in_default-clause-rules : goal.returns-in_default-clause-rules
+returns-in_default-clause-rules g c =
     rule_none c.args.block c.args.rule c.args.self.now (ap (λ xs. client_place xs c.args.block.0) (sym c.as_slice.ensures.value) ∙ (sym c.client_of.ensures ∙ none_so c.client_of.result c.in_default.not-Some))
 
 pub index_mut-requires : goal.index_mut-requires
@@ -15,8 +15,8 @@ index_mut-requires g c =
     let clients = c.args.self.now.player.clients in
     subst (λ (k : ℕ). c.in-Some.place < k) (sym clients.ok.0) (client_within clients.items c.args.block.0 c.in-Some.place (client_place clients.items c.args.block.0) refl (ap (λ xs. client_place xs c.args.block.0) (sym c.as_slice.ensures.value) ∙ sym c.in-Some.ensures))
 
-pub returns : goal.returns
-returns g c =
+pub returns-clause-rules : goal.returns-clause-rules
+returns-clause-rules g c =
     let old = c.args.self.now in
     let clients = old.player.clients in
     let there = ap (λ xs. client_place xs c.args.block.0) (sym c.as_slice.ensures.value) ∙ sym c.in-Some.ensures in

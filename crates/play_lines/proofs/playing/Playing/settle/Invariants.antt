@@ -1,6 +1,7 @@
 -- Draws were made, each of which leaves less to be done.
 use Rattle.member_events.specs.Roads.{RoadsPass}
 use Rattle.play_model.specs.States.{PlayState}
+use Rattle.play_nodes.specs.Places.{KeepsSizes}
 use Rattle.play_lines.specs.Showing.{PlayIs}
 use Rattle.play_lines.proofs.Lowers.{weight_in}
 use Rattle.play_lines.proofs.Runs.{AfterDraws}
@@ -9,6 +10,7 @@ use Rattle.play_lines.proofs.playing.Playing.settle.Given as goal
 abbrev pub invariant-loop : goal.invariant-loop
 invariant-loop g l = record {
   left : (p : PlayState) → PlayIs g.R.Roads g.I.LinkIn g.O.LinkOut p l.fn.roads l.fn.self → AfterDraws g.F.Files g.R.Roads g.I.LinkIn g.O.LinkOut p l.fn.self l.self l.roads;
+  sizes : KeepsSizes l.fn.self.player.nodes l.self.player.nodes;
   pass : RoadsPass g.R.Roads l.fn.roads l.roads;
 }
 

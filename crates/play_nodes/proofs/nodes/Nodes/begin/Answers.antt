@@ -2,6 +2,7 @@
 use Rattle.std.proofs.Common.{Some, None, true, Ok, Err, ap, subst, arith}
 use Rattle.play_nodes.specs.Places.{TakesIdle}
 use Rattle.play_nodes.proofs.PlaceLaws.{none_so, element_some}
+use Rattle.play_nodes.proofs.SizeLaws.{sizes_after, idle_sizes}
 use Rattle.play_nodes.proofs.LiftLaws.{idle_within, idle_known}
 use Rattle.play_nodes.proofs.BeginEnds.{shows_as, begin_outside, begin_taken, begin_ended, begin_failed, begin_joined}
 use Rattle.play_nodes.proofs.nodes.Nodes.begin.Goals as goal
@@ -38,3 +39,15 @@ returns-in-Ok-None-clause-shows g c = begin_ended g.F.Files g.R.Roads g.I.LinkIn
 pub returns-in-Err-clause-shows : goal.returns-in-Err-clause-shows
 returns-in-Err-clause-shows g c = begin_failed g.F.Files g.R.Roads g.I.LinkIn g.O.LinkOut c.args.self.now c.take_idle.new.self c.args.conn c.index.result.now.node c.in-Some.end c.args.roads.now c.begin.new.roads c.in-Err.fault (Err c.fault_at.result)
     (ap Err c.fault_at.ensures) c.in-Some.ensures c.in-Err.ensures.shows
+
+pub returns-in_default-clause-sizes : goal.returns-in_default-clause-sizes
+returns-in_default-clause-sizes g c = idle_sizes c.args.self.now c.take_idle.new.self c.args.conn.0 c.take_idle.result c.take_idle.ensures
+
+pub returns-in-Ok-None-clause-sizes : goal.returns-in-Ok-None-clause-sizes
+returns-in-Ok-None-clause-sizes g c = idle_sizes c.args.self.now c.take_idle.new.self c.args.conn.0 c.take_idle.result c.take_idle.ensures
+
+pub returns-in-Err-clause-sizes : goal.returns-in-Err-clause-sizes
+returns-in-Err-clause-sizes g c = idle_sizes c.args.self.now c.take_idle.new.self c.args.conn.0 c.take_idle.result c.take_idle.ensures
+
+pub returns-in-Ok-Some-clause-sizes : goal.returns-in-Ok-Some-clause-sizes
+returns-in-Ok-Some-clause-sizes g c = sizes_after c.args.self.now c.take_idle.new.self c.join.new.self (idle_sizes c.args.self.now c.take_idle.new.self c.args.conn.0 c.take_idle.result c.take_idle.ensures) c.join.ensures.sizes

@@ -3,6 +3,7 @@ use Rattle.std.specs.Vec.{with_item}
 use Rattle.std.proofs.Common.{◌<◌, ℕ, Ok, Err, length, inl, inr, refl, sym, ap, ◌∙◌, subst}
 use Rattle.play_nodes.specs.Places.{book_at}
 use Rattle.play_nodes.proofs.PlaceLaws.{none_if, same_some, element_some, element_within, book_within, book_found, book_set}
+use Rattle.play_nodes.proofs.SizeLaws.{sizes_after, book_sizes}
 use Rattle.play_nodes.proofs.nodes.Nodes.join.Goals as goal
 
 pub returns-in_default-clause-joins : goal.returns-in_default-clause-joins
@@ -51,7 +52,7 @@ returns-in-Ok-clause-joins g c =
       is_set = book_set c.args.self.now _ c.args.node.0 c.in-Some.place x (record { books = with_item x.books c.in-Some.place c.join.new.book }) was c.join.new.book refl refl found at refl refl;
       joined = Ok c.in-Ok.joined;
       shows = c.in-Ok.ensures.shows;
-      follows = c.settle.ensures;
+      follows = c.settle.ensures.settled;
     })
 
 pub returns-in-Err-clause-joins : goal.returns-in-Err-clause-joins
@@ -78,3 +79,17 @@ returns-in-Err-clause-joins g c =
       shows = c.in-Err.ensures.shows;
       follows = (refl, ap Err c.fault_at.ensures);
     })
+
+pub returns-in-Ok-clause-sizes : goal.returns-in-Ok-clause-sizes
+returns-in-Ok-clause-sizes g c =
+    let b = book_within c.args.self.now.nodes.items c.args.node.0 c.in-Some.place (sym c.has_book.ensures ∙ c.if-not-has_book.false) in
+    let x = c.index_mut.result.now in
+    let found = element_some c.args.self.now.nodes.items c.args.node.0 x (element_within c.args.self.now.nodes.items c.args.node.0 b.at b.found) c.index_mut.ensures.value in
+    sizes_after c.args.self.now _ c.settle.new.self (book_sizes c.args.self.now _ c.args.node.0 c.in-Some.place x (record { books = with_item x.books c.in-Some.place c.join.new.book }) c.join.new.book refl found refl refl) c.settle.ensures.sizes
+
+pub returns-in-Err-clause-sizes : goal.returns-in-Err-clause-sizes
+returns-in-Err-clause-sizes g c =
+    let b = book_within c.args.self.now.nodes.items c.args.node.0 c.in-Some.place (sym c.has_book.ensures ∙ c.if-not-has_book.false) in
+    let x = c.index_mut.result.now in
+    let found = element_some c.args.self.now.nodes.items c.args.node.0 x (element_within c.args.self.now.nodes.items c.args.node.0 b.at b.found) c.index_mut.ensures.value in
+    book_sizes c.args.self.now _ c.args.node.0 c.in-Some.place x (record { books = with_item x.books c.in-Some.place c.join.new.book }) c.join.new.book refl found refl refl

@@ -3,6 +3,7 @@ use Rattle.std.specs.Vec.{with_item}
 use Rattle.std.proofs.Common.{refl, subst, ◌<◌, ℕ, sym, ◌∙◌}
 use Rattle.play_nodes.specs.Places.{IsSeat, Takes}
 use Rattle.play_nodes.proofs.PlaceLaws.{none_so, element_some, element_within, book_found, book_set}
+use Rattle.play_nodes.proofs.SizeLaws.{take_sizes, event_sizes}
 use Rattle.play_nodes.proofs.LiftLaws.{seat_within, taken_within, books_of, place_within, lifted_known}
 use Rattle.play_nodes.proofs.ReadyNodes.{acts_at, acts_busy, is_seated, taken_none, ready_shows}
 use Rattle.play_nodes.proofs.nodes.Nodes.ready.Goals as goal
@@ -52,3 +53,15 @@ returns-clause-shows g c =
     c.args.roads.now c.member_ready-left.new.roads c.in-Some.ensures c.in-Some-take.ensures (book_found c.take.new.self.nodes.items s.node.0 s.place x found ∙ at)
     (book_set c.take.new.self _ s.node.0 s.place x (record { books = with_item x.books s.place c.member_ready-left.new.book }) was c.member_ready-left.new.book refl refl found at refl refl)
     c.member_ready-left.ensures.shows c.follow.ensures
+
+pub returns-in_default-take-clause-sizes : goal.returns-in_default-take-clause-sizes
+returns-in_default-take-clause-sizes g c = take_sizes c.args.self.now c.take.new.self c.in-Some.seat.conn c.take.result c.take.ensures
+
+pub returns-clause-sizes : goal.returns-clause-sizes
+returns-clause-sizes g c =
+    let s = c.in-Some.seat in
+    let b = books_of c.args.self.now c.take.new.self c.args.conn.0 s c.take.result c.in-Some.ensures c.take.ensures in
+    let x = c.index_mut.result.now in
+    let found = element_some c.take.new.self.nodes.items s.node.0 x (element_within c.take.new.self.nodes.items s.node.0 b.at b.found) c.index_mut.ensures.value in
+    event_sizes c.args.self.now c.take.new.self _ c.follow.new.self s c.take.result x (record { books = with_item x.books s.place c.member_ready-left.new.book }) c.member_ready-left.new.book c.member_ready-left.result c.follow.result
+    c.take.ensures refl found refl refl c.follow.ensures

@@ -2,28 +2,39 @@
 use Rattle.std.proofs.Common.{Ok, true, false, refl, sym, subst}
 use Rattle.play_nodes.specs.Places.{AddsDial}
 use Rattle.play_nodes.proofs.PlaceLaws.{put_within}
+use Rattle.play_nodes.proofs.SizeLaws.{put_sizes, sizes_after}
 use Rattle.play_nodes.proofs.nodes.Nodes.settle.Goals as goal
 
 pub add-requires : goal.add-requires
 add-requires g c = put_within c.args.self.now c.put_back.new.self c.args.seat c.args.joined.member c.put_back.ensures c.requires
 
-pub returns-in-NotDialled : goal.returns-in-NotDialled
-returns-in-NotDialled g c = record {
+pub returns-in-NotDialled-clause-settled : goal.returns-in-NotDialled-clause-settled
+returns-in-NotDialled-clause-settled g c = record {
   middle = c.put_back.new.self;
   put = c.put_back.ensures;
   adds = subst (λ x. AddsDial c.put_back.new.self c.put_back.new.self c.args.seat c.args.next c.args.mirror x (Ok true)) (sym c.in-NotDialled.is) (refl, refl);
 }
 
-pub returns-in-Unanswered : goal.returns-in-Unanswered
-returns-in-Unanswered g c = record {
+pub returns-in-Unanswered-clause-settled : goal.returns-in-Unanswered-clause-settled
+returns-in-Unanswered-clause-settled g c = record {
   middle = c.put_back.new.self;
   put = c.put_back.ensures;
   adds = subst (λ x. AddsDial c.put_back.new.self c.put_back.new.self c.args.seat c.args.next c.args.mirror x (Ok false)) (sym c.in-Unanswered.is) (refl, refl);
 }
 
-pub returns-in-Reached : goal.returns-in-Reached
-returns-in-Reached g c = record {
+pub returns-in-Reached-clause-settled : goal.returns-in-Reached-clause-settled
+returns-in-Reached-clause-settled g c = record {
   middle = c.put_back.new.self;
   put = c.put_back.ensures;
-  adds = subst (λ x. AddsDial c.put_back.new.self c.add.new.self c.args.seat c.args.next c.args.mirror x c.add.result) (sym c.in-Reached.is) (rw c.in-Reached.is at c.add.ensures);
+  adds = subst (λ x. AddsDial c.put_back.new.self c.add.new.self c.args.seat c.args.next c.args.mirror x c.add.result) (sym c.in-Reached.is) (rw c.in-Reached.is at c.add.ensures.adds);
 }
+
+pub returns-in-NotDialled-clause-sizes : goal.returns-in-NotDialled-clause-sizes
+returns-in-NotDialled-clause-sizes g c = put_sizes c.args.self.now c.put_back.new.self c.args.seat c.args.joined.member c.put_back.ensures
+
+pub returns-in-Unanswered-clause-sizes : goal.returns-in-Unanswered-clause-sizes
+returns-in-Unanswered-clause-sizes g c = put_sizes c.args.self.now c.put_back.new.self c.args.seat c.args.joined.member c.put_back.ensures
+
+pub returns-in-Reached-clause-sizes : goal.returns-in-Reached-clause-sizes
+returns-in-Reached-clause-sizes g c =
+    sizes_after c.args.self.now c.put_back.new.self c.add.new.self (put_sizes c.args.self.now c.put_back.new.self c.args.seat c.args.joined.member c.put_back.ensures) c.add.ensures.sizes

@@ -1,0 +1,38 @@
+#!/usr/bin/env bash
+# Plays each script of a folder, and compares report and status with those that stand beside it: NAME.script,
+# NAME.report, and NAME.status where the status isn't 0. Scripts with lines that plays don't have yet are left out.
+# Usage: bench/cases/run.sh FOLDER
+set -u
+top=$(cd "$(dirname "$0")/../.." && pwd)
+folder=${1:?a folder of cases}
+agree=0 differ=0 left_out=0
+report=$(mktemp)
+trap 'rm -f "$report"' EXIT
+
+# The status that a case has: its file's, or 6 of the case `differs`, or 0.
+wanted_status() {
+    if [ -f "${1%.script}.status" ]; then
+        cat "${1%.script}.status"
+    elif [ "$(basename "$1")" = differs.script ]; then
+        echo 6
+    else
+        echo 0
+    fi
+}
+
+for script in "$folder"/*.script; do
+    if grep -qE '^[[:space:]]*(cut|fault|stop|start|recover|read)[[:space:]]' "$script"; then
+        left_out=$((left_out + 1))
+        continue
+    fi
+    "$top/dn" play < "$script" > "$report" 2> /dev/null
+    status=$?
+    if [ "$status" = "$(wanted_status "$script")" ] && cmp -s "$report" "${script%.script}.report"; then
+        agree=$((agree + 1))
+    else
+        differ=$((differ + 1))
+        echo "differs: $script (status $status)"
+    fi
+done
+echo "$agree agree, $differ differ ($left_out left out)"
+[ "$differ" -eq 0 ]

@@ -1,0 +1,61 @@
+#!/usr/bin/env bash
+# Times plays of two scripts with the built program, against a yardstick in the same run: as many passes of sums (zlib's
+# CRC32) and copies of the same bytes as the members need, two and four each. It prints the best time of each, and the
+# ratio of the yardstick to the play. Usage: bench/play/run.sh [RUNS], 3 if left out.
+set -euo pipefail
+top=$(cd "$(dirname "$0")/../.." && pwd)
+runs=${1:-3}
+work=$(mktemp -d)
+trap 'rm -rf "$work"' EXIT
+
+# Three members, 16 flushes of 64 KiB each.
+{
+    printf 'nodes 3\nseed 5\ncreate 1 0,1,2\n'
+    for ((n = 0; n < 16; n++)); do
+        printf 'fill 1 65536\nhflush 1\n'
+    done
+    printf 'close 1\n'
+} > "$work/flushes"
+
+# 16 members, 32 MiB in one write.
+{
+    printf 'nodes 16\nseed 5\ncreate 1 0,1,2,3,4,5,6,7,8,9,10,11,12,13,14,15\n'
+    printf 'fill 1 33554432\nclose 1\n'
+} > "$work/wide"
+
+# The first play builds the program.
+"$top/dn" play < "$work/flushes" > /dev/null
+
+python3 - "$top/dn" "$work" "$runs" <<'PY'
+import subprocess, sys, time, zlib
+
+program, work, runs = sys.argv[1], sys.argv[2], int(sys.argv[3])
+
+
+def best(action):
+    times = []
+    for _ in range(runs):
+        begin = time.perf_counter()
+        action()
+        times.append(time.perf_counter() - begin)
+    return min(times)
+
+
+def play(name):
+    with open(f"{work}/{name}") as script:
+        subprocess.run([program, "play"], stdin=script, stdout=subprocess.DEVNULL, check=True)
+
+
+def passes(size, members):
+    data = bytes(size)
+    for _ in range(members):
+        for _ in range(2):
+            zlib.crc32(data)
+        for _ in range(4):
+            bytearray(data)
+
+
+for name, size, members in [("flushes", 16 * 65536, 3), ("wide", 33554432, 16)]:
+    played, yardstick = best(lambda: play(name)), best(lambda: passes(size, members))
+    print(f"{name}: {played:.3f} s, yardstick {yardstick:.3f} s, ratio {yardstick / played:.2f}")
+PY

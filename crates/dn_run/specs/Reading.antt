@@ -1,0 +1,61 @@
+-- The script is read from its source.
+use Rattle.std.specs.Prelude.{◌≡◌, ◌⊎◌, ℕ, List, [], Option, Some, IfSome, Result, Ok, Err}
+use Rattle.hd_base.specs.Faults.{FaultsIncreased}
+use Rattle.hd_base.specs.Streams.{Took}
+use Rattle.script_lang.specs.declared.faults.BadKind.{BadKind}
+use Rattle.script_lang.specs.declared.faults.BadKind.TheVariants as kind
+use Rattle.script_lang.specs.declared.instructions.ScriptLine.{ScriptLine}
+use Rattle.script_lang.specs.Grammar.{IsScript, IsBad}
+use Rattle.play_scripts.specs.Unplayed.{first_unplayed, ArePlayed}
+use Rattle.dn_run.specs.declared.exits.Exit.{Exit}
+use Rattle.dn_run.specs.declared.exits.Exit.TheVariants as exit
+
+-- the most bytes of a script
+abbrev pub script_limit : ℕ
+script_limit = 16777216
+
+-- TEXTS
+
+-- It is a script for so many shelves, and plays have all its lines.
+pub record IsPlayable (shelves : ℕ) (text : List ℕ) (lines : List ScriptLine) : Type 0 where
+  pub script : IsScript shelves text lines
+  pub played : ArePlayed lines
+
+-- It is a script for so many shelves, and the first line that plays don't have yet is this one.
+pub record IsUnplayed (shelves : ℕ) (text : List ℕ) (line : ℕ) (why : BadKind) : Type 0 where
+  pub lines : List ScriptLine
+  pub script : IsScript shelves text lines
+  pub first : first_unplayed lines ≡ Some line
+  pub word : why ≡ kind.Word
+
+-- It is no script for so many shelves, and this is its first bad line; or it is one that plays don't have yet.
+abbrev pub IsRefused : ℕ → List ℕ → ℕ → BadKind → Type 0
+IsRefused shelves text line why = IsBad shelves text line why ⊎ IsUnplayed shelves text line why
+
+-- The source, where it tells, is read to its end, and what it gave is a script with these lines.
+pub record HasRead (old new : Option (List ℕ)) (shelves : ℕ) (lines : List ScriptLine) : Type 0 where
+  pub text : List ℕ
+  pub took : Took old new text
+  pub to_end : IfSome new (λ rest. rest ≡ [])
+  pub playable : IsPlayable shelves text lines
+
+-- EXITS
+
+-- A script is refused only where, if told, the text is so; the source failed only where its count rose.
+abbrev pub IsReadExit : Option (List ℕ) → ℕ → ℕ → ℕ → Exit → Type 0
+IsReadExit left before now shelves (exit.BadScript line why) = IfSome left (λ text. IsRefused shelves text line why)
+IsReadExit left before now shelves exit.ScriptFault = FaultsIncreased before now
+IsReadExit left before now shelves exit.Memory = Unit {0}
+IsReadExit left before now shelves other = ⊥
+
+-- It is this refusal, or no script was read.
+abbrev pub IsRefusal : ℕ → BadKind → Exit → Type 0
+IsRefusal line why (exit.BadScript n k) = (n ≡ line) × (k ≡ why)
+IsRefusal line why exit.ScriptFault = Unit {0}
+IsRefusal line why exit.Memory = Unit {0}
+IsRefusal line why other = ⊥
+
+-- A text that is refused isn't read.
+abbrev pub Refuses : {T : Type 0} → ℕ → List ℕ → Result T Exit → Type 0
+Refuses shelves text (Ok x) = (line : ℕ) (why : BadKind) → IsRefused shelves text line why → ⊥
+Refuses shelves text (Err ended) = (line : ℕ) (why : BadKind) → IsRefused shelves text line why → IsRefusal line why ended

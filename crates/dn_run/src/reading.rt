@@ -1,0 +1,36 @@
+//! The script is read from its source.
+
+ghost use Rattle.std.specs.Prelude.{◌+◌, ◌≤◌, IfOk, IfErr, IfSome};
+ghost use Rattle.dn_run.specs.Reading.{HasRead, IsReadExit, Refuses, script_limit};
+ghost use Rattle.dn_run.specs.Streams.{TookSome};
+
+use crate::exits::Exit;
+use crate::streams::read_to_end;
+use hd_base::Source;
+use play_scripts::first_unplayed;
+use script_lang::{BadKind, MAX_SCRIPT_SIZE, Script, read_script};
+use std::alloc::Global;
+
+/// Reads a source to its end, and the script in it for so many shelves. A line that plays don't have yet is one with an
+/// unknown word.
+pub(crate) fn read_lines<I: Source>(
+    alloc: Global,
+    source: &mut I,
+    shelves: usize,
+) -> Result<Script, Exit>
+    ensures found { IfOk result (HasRead (I.left source.old) (I.left source.new) shelves) }
+    ensures cause { IfErr result (IsReadExit (I.left source.old) (I.faults source.old) (I.faults source.new) shelves) }
+    ensures refused { IfSome (I.left source.old) (λ text. Refuses shelves text result) }
+    ensures taken { TookSome (I.left source.old) (I.left source.new) (script_limit + 1) }
+    ensures never_falls { I.faults source.old ≤ I.faults source.new }
+{
+    let text = read_to_end(alloc, source, MAX_SCRIPT_SIZE)?;
+    let script = read_script(alloc, &text, shelves as u64)?;
+    match first_unplayed(script.as_slice()) {
+        Some(line) => Err(Exit::BadScript {
+            line,
+            kind: BadKind::Word,
+        }),
+        None => Ok(script),
+    }
+}

@@ -1,0 +1,109 @@
+//! The top call.
+
+ghost use Rattle.std.specs.Prelude.{◌≡◌, ◌+◌, length, map, None, IfOk, IfErr, IfSome};
+ghost use Rattle.std.specs.String.{string_bytes};
+ghost use Rattle.node_opening.specs.Listening.{AreUnused};
+ghost use Rattle.dn_run.specs.Reading.{Refuses, script_limit};
+ghost use Rattle.dn_run.specs.Runs.{usage_of, UsageFor, UsageIn, ReadsWords, IsBadIn, RefusesIn};
+ghost use Rattle.dn_run.specs.Runs.{HasPlayCause, HasExitCause, HasRun, IsOver, WritesReport};
+ghost use Rattle.dn_run.specs.Streams.{TookSome};
+
+use crate::exits::Exit;
+use crate::reading::read_lines;
+use crate::streams::{WriteFault, write_all};
+use hd_base::{Roads, Shelf, Sink, Source};
+use play_scripts::scripts_fit;
+use run_words::{Mode, UsageRule, read_words};
+use std::alloc::Global;
+use whole_play::{Played, play_script};
+
+/// Runs the script that a source gives over shelves, one for each node, and roads, and writes its report to a sink. The
+/// words are those of the program's call, without its name. So far they must be `play`: `live` and `storm` are `Usage`.
+///
+/// The roads of a play are over plain memory and new: no connection was made on them, nobody listens, and they have
+/// carried nothing.
+///
+/// The exits are tried in the order `Usage`, `ScriptFault`, `BadScript`, `RoadFault`, `NotEmpty` and `ShelfFault` node by
+/// node, `ReportFault`, `Differs`; `Memory` may come at any point.
+pub fn run<I: Source, O: Sink, S: Shelf, R: Roads>(
+    alloc: Global,
+    words: &[String],
+    script: &mut I,
+    report: &mut O,
+    shelves: &mut Vec<S>,
+    roads: &mut R,
+) -> Exit
+    requires unused { usage_of (map string_bytes words.now) ≡ None → AreUnused R.Roads roads.old }
+    ensures usage { UsageFor (usage_of (map string_bytes words.now)) result }
+    ensures bad { IsBadIn (I.left script.old) (length shelves.old.items) result }
+    ensures refused { usage_of (map string_bytes words.now) ≡ None →
+        RefusesIn (I.left script.old) (length shelves.old.items) result }
+    ensures taken { TookSome (I.left script.old) (I.left script.new) (script_limit + 1) }
+    ensures cause { HasExitCause I.Source O.Sink S.Shelf R.Roads script.old script.new report.old report.new
+        shelves.old.items shelves.new.items roads.old roads.new result }
+    ensures over { IsOver I.Source O.Sink S.Shelf S.Drawer.Files R.Roads script.old script.new report.old report.new
+        shelves.old.items shelves.new.items roads.new result }
+{
+    match play(alloc, words, script, shelves, roads) {
+        Ok(played) => write_report(alloc, report, played),
+        Err(exit) => exit,
+    }
+}
+
+/// Reads the words, and the script, and plays it.
+fn play<I: Source, S: Shelf, R: Roads>(
+    alloc: Global,
+    words: &[String],
+    script: &mut I,
+    shelves: &mut Vec<S>,
+    roads: &mut R,
+) -> Result<Played, Exit>
+    requires unused { usage_of (map string_bytes words.now) ≡ None → AreUnused R.Roads roads.old }
+    ensures played { IfOk result (HasRun I.Source S.Shelf S.Drawer.Files R.Roads script.old script.new
+        shelves.old.items shelves.new.items roads.new) }
+    ensures usage { UsageIn (usage_of (map string_bytes words.now)) result }
+    ensures bad { IfErr result (IsBadIn (I.left script.old) (length shelves.old.items)) }
+    ensures refused { usage_of (map string_bytes words.now) ≡ None →
+        IfSome (I.left script.old) (λ text. Refuses (length shelves.old.items) text result) }
+    ensures taken { TookSome (I.left script.old) (I.left script.new) (script_limit + 1) }
+    ensures cause { IfErr result (HasPlayCause I.Source S.Shelf R.Roads script.old script.new
+        shelves.old.items shelves.new.items roads.old roads.new) }
+{
+    scripts_fit();
+    read_mode(alloc, words)?;
+    let lines = read_lines(alloc, script, shelves.len())?;
+    let played = play_script(alloc, roads, shelves.as_mut_slice(), lines.as_slice())?;
+    Ok(played)
+}
+
+/// Reads the words, which must be `play` so far.
+fn read_mode(alloc: Global, words: &[String]) -> Result<(), Exit>
+    ensures { ReadsWords (usage_of (map string_bytes words.now)) result }
+{
+    match read_words(alloc, words)?.mode {
+        Mode::Play => Ok(()),
+        Mode::Live | Mode::Storm => Err(Exit::Usage {
+            rule: UsageRule::Mode,
+        }),
+    }
+}
+
+/// Writes the report of what was played.
+fn write_report<O: Sink>(alloc: Global, sink: &mut O, played: Played) -> Exit
+    ensures { WritesReport O.Sink sink.old sink.new played result }
+{
+    if let Err(fault) = write_all(alloc, sink, &played.report) {
+        return match fault {
+            WriteFault::Failed => Exit::ReportFault,
+            WriteFault::Memory => Exit::Memory,
+        };
+    }
+    match played.difference {
+        None => Exit::Done,
+        Some(difference) => Exit::Differs {
+            line: difference.line,
+            want: difference.want,
+            got: difference.got,
+        },
+    }
+}

@@ -1,0 +1,163 @@
+-- The lines of a script are played, one after the other.
+use Rattle.std.proofs.Common.{arith, ◌≡◌, ℕ, suc, ◌≤◌, ◌<◌, ◌+◌, List, [], ◌∷◌, length, drop, get_or, zero, Result, Ok, Err, refl, sym, ap, ◌∙◌, subst}
+use Rattle.hd_base.specs.declared.files.Files as files
+use Rattle.hd_base.specs.declared.links.LinkIn as link_in
+use Rattle.hd_base.specs.declared.links.LinkOut as link_out
+use Rattle.hd_base.specs.declared.roads.Roads as roads
+use Rattle.script_lang.specs.declared.instructions.Instruction.{Instruction}
+use Rattle.script_lang.specs.declared.instructions.Instruction.TheVariants as says
+use Rattle.script_lang.specs.declared.instructions.ScriptLine.{ScriptLine}
+use Rattle.script_lang.specs.Fits.{Before, after}
+use Rattle.play_model.specs.Lines.{PlaysLine, PlaysLines}
+use Rattle.play_model.specs.Draws.{Settles}
+use Rattle.play_model.specs.States.{PlayState}
+use Rattle.play.specs.declared.faults.PlayFault.{PlayFault}
+use Rattle.play_lines.specs.declared.playing.Playing.{Playing}
+use Rattle.play_lines.specs.Drawing.{blocks_in, SettleEnds, SettleShows}
+use Rattle.play_lines.specs.Showing.{PlayIs, IsPlaying}
+use Rattle.play_lines.specs.Lines.{CreatesHere, AllCreateHere, CanPlay, IsReady, LineLeft, LineShows, LinesEnd, LinesShow}
+use Rattle.writer_core.specs.declared.intake.TheConstants.{MAX_COMMANDS}
+use Rattle.play_lines.proofs.Places.{moved}
+use Rattle.play_lines.proofs.Runs.{caused_from}
+
+-- Lines that were played, up to these that are left: what these make of the play is what all make of it.
+pub record Reached {F R I O : Type 0} (r : roads.Ghosts R I O) (i : link_in.Ghosts I) (o : link_out.Ghosts O) (lines left : List ScriptLine) (p : PlayState) (old x : Playing F I O) (road : R) : Type 0 where
+  pub now : PlayState
+  pub before : Before
+  pub count : ℕ
+  pub is : PlayIs r i o now road x
+  pub can : CanPlay left before count now x
+  pub blocks : blocks_in x ≡ blocks_in old
+  pub rest : (end : PlayState) → PlaysLines (blocks_in old) left now end → PlaysLines (blocks_in old) lines p end
+
+abbrev pub Continues : {F R I O : Type 0} → roads.Ghosts R I O → link_in.Ghosts I → link_out.Ghosts O → List ScriptLine → List ScriptLine → Playing F I O → Playing F I O → R → R → Type 0
+Continues r i o lines left old x road road' = (before : Before) (count : ℕ) (p : PlayState) → PlayIs r i o p road old → CanPlay lines before count p old → Reached r i o lines left p old x road'
+
+-- the lines from a place on
+one_more : (k : ℕ) → suc k + 1 ≡ suc (k + 1)
+one_more k = omega arith
+
+pub drop_here : (xs : List ScriptLine) (k : ℕ) (x : ScriptLine) → x ≡ get_or xs k x → k < length xs → drop k xs ≡ x ∷ drop (k + 1) xs
+drop_here [] k x e within = absurd (never within)
+  where
+    never : k < 0 → ⊥
+    never h = omega (arith, h)
+drop_here (y ∷ ys) zero x e within = ap (λ (z : ScriptLine). z ∷ ys) (sym e)
+drop_here (y ∷ ys) (suc k) x e within = drop_here ys k x e (less within) ∙ ap (λ (n : ℕ). x ∷ drop n (y ∷ ys)) (sym (one_more k))
+  where
+    less : suc k < suc (length ys) → k < length ys
+    less h = omega (arith, h)
+
+pub drop_end : (xs : List ScriptLine) (k : ℕ) → length xs ≤ k → drop k xs ≡ []
+drop_end [] k h = drop_none k
+  where
+    drop_none : (k : ℕ) → drop {A = ScriptLine} k [] ≡ []
+    drop_none zero = refl
+    drop_none (suc k) = refl
+drop_end (y ∷ ys) zero h = absurd (never h)
+  where
+    never : suc (length ys) ≤ 0 → ⊥
+    never h = omega (arith, h)
+drop_end (y ∷ ys) (suc k) h = drop_end ys k (less h)
+  where
+    less : suc (length ys) ≤ suc k → length ys ≤ k
+    less h = omega (arith, h)
+
+creates_move : {F I O : Type 0} (x y : Playing F I O) (line : Instruction) → blocks_in y ≡ blocks_in x → CreatesHere x line → CreatesHere y line
+creates_move x y (says.Create b members) e h = moved y.player.clients.items x.player.clients.items b.0 e h
+creates_move x y (says.Append b members) e h = tt
+creates_move x y (says.Write b bytes) e h = tt
+creates_move x y (says.Fill b count) e h = tt
+creates_move x y (says.Hflush b) e h = tt
+creates_move x y (says.Hsync b) e h = tt
+creates_move x y (says.Close b) e h = tt
+creates_move x y (says.Nodes count) e h = tt
+creates_move x y (says.Seed seed) e h = tt
+creates_move x y (says.Sums b rule) e h = tt
+creates_move x y (says.Read b n offset count) e h = tt
+creates_move x y (says.Recover b n members) e h = tt
+creates_move x y (says.Cut b conn down up) e h = tt
+creates_move x y (says.Fault n nth) e h = tt
+creates_move x y (says.Stop n) e h = tt
+creates_move x y (says.Start n) e h = tt
+creates_move x y (says.Run count) e h = tt
+creates_move x y says.Settle e h = tt
+creates_move x y (says.Step b event) e h = tt
+creates_move x y (says.Expect n b state stamp written) e h = tt
+
+all_move : {F I O : Type 0} (x y : Playing F I O) (lines : List ScriptLine) → blocks_in y ≡ blocks_in x → AllCreateHere x lines → AllCreateHere y lines
+all_move x y [] e h = tt
+all_move x y (l ∷ lines) e h = (creates_move x y l.instruction e h.0, all_move x y lines e h.1)
+
+module _ {F R I O : Type 0} (f : files.Ghosts F) (r : roads.Ghosts R I O) (i : link_in.Ghosts I) (o : link_out.Ghosts O) where
+  -- none yet
+  pub none_played : (lines : List ScriptLine) (old : Playing F I O) (road : R) → Continues r i o lines lines old old road road
+  none_played lines old road before count p stands can = record { now = p; before = before; count = count; is = stands; can = can; blocks = refl; rest = λ end h. h }
+
+  pub reached_ready : (lines left : List ScriptLine) (old x : Playing F I O) (road road' : R) → IsReady r i o lines road old → Continues r i o lines left old x road road' → IsReady r i o left road' x
+  reached_ready lines left old x road road' h goes =
+      let z = goes h.before h.count h.p h.is h.can in
+      record { p = z.now; is = z.is; before = z.before; count = z.count; can = z.can }
+
+  pub ready_playing : (lines : List ScriptLine) (x : Playing F I O) (road : R) → IsReady r i o lines road x → IsPlaying r i o road x
+  ready_playing lines x road h = record { p = h.p; is = h.is }
+
+  -- one line more
+  can_line : (l : ScriptLine) (left : List ScriptLine) (before : Before) (count : ℕ) (p : PlayState) (x : Playing F I O) → CanPlay (l ∷ left) before count p x → count < MAX_COMMANDS
+  can_line l left before count p x can = omega (arith, can.few)
+
+  fewer : (left : List ScriptLine) (count : ℕ) → count + suc (length left) ≤ MAX_COMMANDS → suc count + length left ≤ MAX_COMMANDS
+  fewer left count h = omega (arith, h)
+
+  pub one_played : (lines : List ScriptLine) (l : ScriptLine) (left : List ScriptLine) (old x y : Playing F I O) (road road' road'' : R) → Continues r i o lines (l ∷ left) old x road road' → LineShows f r i o l.instruction x y road' road'' (Ok tt)
+      → Continues r i o lines left old y road road''
+  one_played lines l left old x y road road' road'' goes shows before count p stands can =
+      let z = goes before count p stands can in
+      let d : LineLeft r i o l.instruction z.before z.count z.now x y road'' = shows z.before z.count z.now z.is z.can.behind z.can.fit.0 z.can.here.0 (can_line l left z.before z.count z.now x z.can) in
+      record {
+        now = d.left;
+        before = after z.before l.instruction;
+        count = suc z.count;
+        is = d.is;
+        can = record { behind = d.behind; fit = z.can.fit.1; here = all_move x y left d.blocks z.can.here.1; few = fewer left z.count z.can.few };
+        blocks = d.blocks ∙ z.blocks;
+        rest = λ end h. z.rest end (d.left, (subst (λ (bs : List ℕ). PlaysLine bs l.instruction z.now d.left) z.blocks d.plays, h));
+      }
+
+  pub one_next : (lines : List ScriptLine) (k : ℕ) (l : ScriptLine) (old x y : Playing F I O) (road road' road'' : R) → l ≡ get_or lines k l → k < length lines → Continues r i o lines (drop k lines) old x road road' → LineShows f r i o l.instruction x y road' road'' (Ok tt)
+      → Continues r i o lines (drop (k + 1) lines) old y road road''
+  one_next lines k l old x y road road' road'' at within goes shows =
+      one_played lines l (drop (k + 1) lines) old x y road road' road'' (subst (λ (left : List ScriptLine). Continues r i o lines left old x road road') (drop_here lines k l at within) goes) shows
+
+  pub one_failed : (lines : List ScriptLine) (l : ScriptLine) (left : List ScriptLine) (old x y : Playing F I O) (road road' road'' : R) (why : PlayFault) → r.faults road ≤ r.faults road' → Continues r i o lines (l ∷ left) old x road road' → LineShows f r i o l.instruction x y road' road'' (Err why)
+      → LinesShow f r i o lines old y road road'' (Err why)
+  one_failed lines l left old x y road road' road'' why faults goes shows before count p stands can =
+      let z = goes before count p stands can in
+      caused_from f r i o y road road' road'' why faults (shows z.before z.count z.now z.is z.can.behind z.can.fit.0 z.can.here.0 (can_line l left z.before z.count z.now x z.can))
+
+  pub failed_at : (lines : List ScriptLine) (k : ℕ) (l : ScriptLine) (old x y : Playing F I O) (road road' road'' : R) (why : PlayFault) (result : Result (Unit {0}) PlayFault) → result ≡ Err why → l ≡ get_or lines k l → k < length lines → r.faults road ≤ r.faults road' → Continues r i o lines (drop k lines) old x road road'
+      → LineShows f r i o l.instruction x y road' road'' (Err why) → LinesShow f r i o lines old y road road'' result
+  failed_at lines k l old x y road road' road'' why result is at within faults goes shows =
+      subst (λ (z : Result (Unit {0}) PlayFault). LinesShow f r i o lines old y road road'' z) (sym is)
+      (one_failed lines l (drop (k + 1) lines) old x y road road' road'' why faults (subst (λ (left : List ScriptLine). Continues r i o lines left old x road road') (drop_here lines k l at within) goes) shows)
+
+  -- all are played, and it settles
+  settled : (lines : List ScriptLine) (p : PlayState) (old x y : Playing F I O) (road road' road'' : R) (z : Reached r i o lines [] p old x road') → r.faults road ≤ r.faults road' → (result : Result (Unit {0}) PlayFault) → SettleEnds f r i o z.now x y road' road'' result
+      → LinesEnd f r i o lines p old y road road'' result
+  settled lines p old x y road road' road'' z faults (Ok u) d = record {
+    left = d.after;
+    plays = z.rest d.after (subst (λ (bs : List ℕ). Settles bs z.now d.after) z.blocks d.settles);
+    is = d.left.is;
+    blocks = d.left.blocks ∙ z.blocks;
+  }
+  settled lines p old x y road road' road'' z faults (Err why) cause = caused_from f r i o y road road' road'' why faults cause
+
+  pub all_played : (lines : List ScriptLine) (old x y : Playing F I O) (road road' road'' : R) (result : Result (Unit {0}) PlayFault) → r.faults road ≤ r.faults road' → Continues r i o lines [] old x road road' → SettleShows f r i o x y road' road'' result → LinesShow f r i o lines old y road road'' result
+  all_played lines old x y road road' road'' result faults goes shows before count p stands can =
+      let z = goes before count p stands can in
+      settled lines p old x y road road' road'' z faults result (shows z.now z.is)
+
+  pub played_at : (lines : List ScriptLine) (k : ℕ) (old x y : Playing F I O) (road road' road'' : R) (result : Result (Unit {0}) PlayFault) → length lines ≤ k → r.faults road ≤ r.faults road' → Continues r i o lines (drop k lines) old x road road' → SettleShows f r i o x y road' road'' result
+      → LinesShow f r i o lines old y road road'' result
+  played_at lines k old x y road road' road'' result end faults goes shows =
+      all_played lines old x y road road' road'' result faults (subst (λ (left : List ScriptLine). Continues r i o lines left old x road road') (drop_end lines k end) goes) shows

@@ -1,0 +1,310 @@
+-- A line that gives no command is played.
+use Rattle.std.proofs.Common.{arith, ◌≡◌, ℕ, suc, ◌==◌, Bool, true, false, List, [], ◌∷◌, Option, Some, None, Result, Ok, Err, refl, sym, ap, ◌∙◌, subst, eqb-true}
+use Rattle.std.specs.Prelude.{is_none, zero, if◌then◌else◌, ◌||◌}
+use Rattle.hd_base.specs.declared.files.Files as files
+use Rattle.hd_base.specs.declared.links.LinkIn as link_in
+use Rattle.hd_base.specs.declared.links.LinkOut as link_out
+use Rattle.hd_base.specs.declared.numbers.BlockId.{BlockId}
+use Rattle.hd_base.specs.declared.roads.Roads as roads
+use Rattle.hd_base.specs.SumRules.{Rule, IsChunkSize}
+use Rattle.rand_pcg.specs.Pcg.{pcg32}
+use Rattle.script_lang.specs.declared.instructions.Instruction.{Instruction}
+use Rattle.script_lang.specs.declared.instructions.Instruction.TheVariants as says
+use Rattle.script_lang.specs.declared.instructions.StepEvent.{StepEvent}
+use Rattle.script_lang.specs.Fits.{Before, is_open, is_closed, is_created, after}
+use Rattle.world.specs.Worlds.{put}
+use Rattle.world_laws.proofs.StampGivens.{put-there}
+use Rattle.writer_core.specs.declared.intake.Intake.{Intake}
+use Rattle.play_model.specs.declared.dues.Due.{Due}
+use Rattle.play_model.specs.Draws.{draw, draws, drawn_from, drawn, happened, advanced}
+use Rattle.play_model.specs.Dues.{dues, after_due, is_due}
+use Rattle.play_model.specs.Lines.{PlaysLine, stepped, step_due}
+use Rattle.play_model.specs.States.{PlayState, ruled, world_of}
+use Rattle.play_dues.specs.Places.{client_place}
+use Rattle.play_dues.specs.Showing.{HasClient}
+use Rattle.play_scripts.specs.Fitting.{LineFits, WordsFit}
+use Rattle.play.specs.declared.faults.PlayFault.{PlayFault}
+use Rattle.play.proofs.Dispatch.{has_place}
+use Rattle.play_lines.specs.declared.playing.Playing.{Playing}
+use Rattle.play_lines.specs.Drawing.{IsLeft, IsDrawn, RunEnds, RunShows, SettleEnds, SettleShows, blocks_in}
+use Rattle.play_lines.specs.Ruling.{RulesAt, Rules, RulesArePlays}
+use Rattle.play_lines.specs.Showing.{PlayIs, given_in}
+use Rattle.play_lines.specs.Stepping.{StepEnds, StepShows}
+use Rattle.play_lines.specs.Lines.{ordered_by, StandIs, GivenIs, is_made, IsBehind, LineLeft, LineEnds, LineShows}
+use Rattle.play_lines.proofs.Commands.{same_stand, created_made}
+use Rattle.play_lines.proofs.Places.{moved}
+
+-- THE MODEL
+
+-- Nodes and rules of a play stay.
+record Stays (p q : PlayState) : Type 0 where
+  nodes : q.nodes ≡ p.nodes
+  rules : q.rules ≡ p.rules
+
+happened_stays : (p : PlayState) (d : Option Due) → Stays p (happened p d)
+unfolding after_due
+happened_stays p None = record { nodes = refl; rules = refl }
+happened_stays p (Some d) = record { nodes = refl; rules = refl }
+
+drawn_stays : (due : List Due) (p : PlayState) → Stays p (drawn_from due p)
+drawn_stays [] p = record { nodes = refl; rules = refl }
+drawn_stays (d ∷ due) p =
+    let s : Stays (advanced p) (drawn_from (d ∷ due) p) = happened_stays (advanced p) (drawn (d ∷ due) (pcg32 p.generator).0) in
+    record { nodes = s.nodes; rules = s.rules }
+
+draws_stay : (blocks : List ℕ) (n : ℕ) (p : PlayState) → Stays p (draws blocks n p)
+draws_stay blocks zero p = record { nodes = refl; rules = refl }
+draws_stay blocks (suc n) p =
+    let s : Stays p (draw blocks p) = drawn_stays (dues blocks p) p in
+    let t : Stays (draw blocks p) (draws blocks (suc n) p) = draws_stay blocks n (draw blocks p) in
+    record { nodes = t.nodes ∙ s.nodes; rules = t.rules ∙ s.rules }
+
+stepped_stays : (p : PlayState) (d : Option Due) → Stays p (stepped p d)
+stepped_stays p None = record { nodes = refl; rules = refl }
+stepped_stays p (Some d) = by (is_due (world_of p) p.queues d) refl
+  where
+    by : (q : Bool) → is_due (world_of p) p.queues d ≡ q → Stays p (stepped p (Some d))
+    by true e = subst (λ (x : Bool). Stays p (if x then after_due p d else p)) (sym e) (happened_stays p (Some d))
+    by false e = subst (λ (x : Bool). Stays p (if x then after_due p d else p)) (sym e) (record { nodes = refl; rules = refl })
+
+-- THE LINES BEFORE
+
+true_false : true ≡ false → ⊥
+true_false e = cc
+
+-- A line that leaves nodes, stages and what was written as they were.
+record Passes (before next : Before) : Type 0 where
+  nodes : next.nodes ≡ before.nodes
+  written : next.written ≡ before.written
+  stage : (x : ℕ) → next.stage x ≡ before.stage x
+
+same_given : (before next : Before) (lines x : ℕ) (j : Intake) → Passes before next → GivenIs before lines x j → GivenIs next (suc lines) x j
+same_given before next lines x j same g = record {
+  stand = same_stand before next x j.stand (same.stage x) g.stand;
+  bytes = omega (arith, g.bytes, same.written);
+  commands = omega (arith, g.commands);
+}
+
+module _ {F R I O : Type 0} (r : roads.Ghosts R I O) (i : link_in.Ghosts I) (o : link_out.Ghosts O) (before next : Before) (lines : ℕ) (p q : PlayState) (old new : Playing F I O) (same : Passes before next) (stays : Stays p q) (blocks : blocks_in new ≡ blocks_in old)
+    (given : (b : ℕ) → HasClient old.player.clients.items b → given_in q b ≡ given_in p b) (behind : IsBehind before lines p old) where
+  behind_next : IsBehind next (suc lines) q new
+  behind_next = record {
+    nodes = same.nodes ∙ (behind.nodes ∙ sym stays.nodes);
+    written = omega (arith, behind.written, same.written);
+    chunks = λ b. subst (λ (rules : ℕ → Rule). IsChunkSize (rules b).chunk) (sym stays.rules) (behind.chunks b);
+    clients = λ b made. moved new.player.clients.items old.player.clients.items b blocks
+        (behind.clients b (sym (ap (λ s. is_created s || (is_open s || is_closed s)) (same.stage b)) ∙ made));
+    given = λ b h.
+        let was : HasClient old.player.clients.items b = moved old.player.clients.items new.player.clients.items b (sym blocks) h in
+        subst (λ (j : Intake). GivenIs next (suc lines) b j) (sym (given b was)) (same_given before next lines b (given_in p b) same (behind.given b was));
+  }
+
+module _ {F R I O : Type 0} (f : files.Ghosts F) (r : roads.Ghosts R I O) (i : link_in.Ghosts I) (o : link_out.Ghosts O) (old new : Playing F I O) (road road' : R) where
+  -- what was drawn, or stepped
+  drawn_left : (line : Instruction) (before : Before) (lines : ℕ) (p q : PlayState) → Passes before (after before line) → Stays p q → PlaysLine (blocks_in old) line p q → IsBehind before lines p old → IsDrawn r i o p q old new road'
+      → LineLeft r i o line before lines p old new road'
+  drawn_left line before lines p q same stays plays behind d = record {
+    left = q;
+    plays = plays;
+    is = d.is;
+    blocks = d.blocks;
+    behind = behind_next r i o before (after before line) lines p q old new same stays d.blocks d.given behind;
+  }
+
+  pub run_shows : (line : Instruction) (count : ℕ) (result : Result (Unit {0}) PlayFault) → line ≡ says.Run count → RunShows f r i o count old new road road' result → LineShows f r i o line old new road road' result
+  run_shows line count result e shows = subst (λ (x : Instruction). LineShows f r i o x old new road road' result) (sym e) (λ before lines p stands behind l here few. by before lines p behind result (shows p stands))
+    where
+      by : (before : Before) (lines : ℕ) (p : PlayState) → IsBehind before lines p old → (result : Result (Unit {0}) PlayFault) → RunEnds f r i o count p old new road road' result → LineEnds f r i o (says.Run count) before lines p old new road road' result
+      by before lines p behind (Ok u) d = drawn_left (says.Run count) before lines p (draws (blocks_in old) count p) (record { nodes = refl; written = refl; stage = λ x. refl }) (draws_stay (blocks_in old) count p) refl behind d
+      by before lines p behind (Err why) cause = cause
+
+  pub settle_shows : (line : Instruction) (result : Result (Unit {0}) PlayFault) → line ≡ says.Settle → SettleShows f r i o old new road road' result → LineShows f r i o line old new road road' result
+  settle_shows line result e shows = subst (λ (x : Instruction). LineShows f r i o x old new road road' result) (sym e) (λ before lines p stands behind l here few. by before lines p behind result (shows p stands))
+    where
+      by : (before : Before) (lines : ℕ) (p : PlayState) → IsBehind before lines p old → (result : Result (Unit {0}) PlayFault) → SettleEnds f r i o p old new road road' result → LineEnds f r i o says.Settle before lines p old new road road' result
+      by before lines p behind (Ok u) d = drawn_left says.Settle before lines p d.after (record { nodes = refl; written = refl; stage = λ x. refl })
+          (subst (λ (q : PlayState). Stays p q) d.settles.drawn_so (draws_stay (blocks_in old) d.settles.count p)) d.settles behind d.left
+      by before lines p behind (Err why) cause = cause
+
+  pub step_shows : (line : Instruction) (block : BlockId) (event : StepEvent) (result : Result (Unit {0}) PlayFault) → line ≡ says.Step block event → StepShows f r i o block event old new road road' result → LineShows f r i o line old new road road' result
+  step_shows line block event result e shows = subst (λ (x : Instruction). LineShows f r i o x old new road road' result) (sym e)
+      (λ before lines p stands behind l here few. by before lines p behind result (shows p stands (behind.clients block.0 (created_made before block.0 l.kept.0))))
+    where
+      by : (before : Before) (lines : ℕ) (p : PlayState) → IsBehind before lines p old → (result : Result (Unit {0}) PlayFault) → StepEnds f r i o block event p old new road road' result → LineEnds f r i o (says.Step block event) before lines p old new road road' result
+      by before lines p behind (Ok u) d = drawn_left (says.Step block event) before lines p (stepped p (step_due (world_of p) block.0 event)) (record { nodes = refl; written = refl; stage = λ x. refl }) (stepped_stays p (step_due (world_of p) block.0 event)) refl behind d
+      by before lines p behind (Err why) cause = cause
+
+-- NO EVENT
+
+-- The line is none of these.
+abbrev pub IsOther : Instruction → Type 0
+IsOther (says.Sums b rule) = ⊥
+IsOther (says.Run count) = ⊥
+IsOther says.Settle = ⊥
+IsOther (says.Step b event) = ⊥
+IsOther line = Unit {0}
+
+pub is_other : (line : Instruction) → ((b : BlockId) (rule : Rule) → line ≡ says.Sums b rule → ⊥) → ((count : ℕ) → line ≡ says.Run count → ⊥) → (line ≡ says.Settle → ⊥) → ((b : BlockId) (event : StepEvent) → line ≡ says.Step b event → ⊥) → IsOther line
+is_other (says.Sums b rule) sums runs settles steps = sums b rule refl
+is_other (says.Run count) sums runs settles steps = runs count refl
+is_other says.Settle sums runs settles steps = settles refl
+is_other (says.Step b event) sums runs settles steps = steps b event refl
+is_other (says.Read b n offset count) sums runs settles steps = tt
+is_other (says.Recover b n members) sums runs settles steps = tt
+is_other (says.Cut b conn down up) sums runs settles steps = tt
+is_other (says.Fault n nth) sums runs settles steps = tt
+is_other (says.Stop n) sums runs settles steps = tt
+is_other (says.Start n) sums runs settles steps = tt
+is_other (says.Expect n b state stamp written) sums runs settles steps = tt
+is_other (says.Nodes count) sums runs settles steps = tt
+is_other (says.Seed seed) sums runs settles steps = tt
+is_other (says.Create b members) sums runs settles steps = tt
+is_other (says.Append b members) sums runs settles steps = tt
+is_other (says.Write b bytes) sums runs settles steps = tt
+is_other (says.Fill b count) sums runs settles steps = tt
+is_other (says.Hflush b) sums runs settles steps = tt
+is_other (says.Hsync b) sums runs settles steps = tt
+is_other (says.Close b) sums runs settles steps = tt
+
+idle_passes : (before : Before) (line : Instruction) → ordered_by line ≡ None → IsOther line → WordsFit before.nodes line → Passes before (after before line)
+idle_passes before (says.Read b n offset count) none other words = record { nodes = refl; written = refl; stage = λ x. refl }
+idle_passes before (says.Recover b n members) none other words = record { nodes = refl; written = refl; stage = λ x. refl }
+idle_passes before (says.Cut b conn down up) none other words = record { nodes = refl; written = refl; stage = λ x. refl }
+idle_passes before (says.Fault n nth) none other words = record { nodes = refl; written = refl; stage = λ x. refl }
+idle_passes before (says.Stop n) none other words = record { nodes = refl; written = refl; stage = λ x. refl }
+idle_passes before (says.Start n) none other words = record { nodes = refl; written = refl; stage = λ x. refl }
+idle_passes before (says.Expect n b state stamp written) none other words = record { nodes = refl; written = refl; stage = λ x. refl }
+idle_passes before (says.Nodes count) none other words = absurd words
+idle_passes before (says.Seed seed) none other words = absurd words
+idle_passes before (says.Sums b rule) none other words = absurd other
+idle_passes before (says.Run count) none other words = absurd other
+idle_passes before says.Settle none other words = absurd other
+idle_passes before (says.Step b event) none other words = absurd other
+idle_passes before (says.Create b members) none other words = cc
+idle_passes before (says.Append b members) none other words = cc
+idle_passes before (says.Write b bytes) none other words = cc
+idle_passes before (says.Fill b count) none other words = cc
+idle_passes before (says.Hflush b) none other words = cc
+idle_passes before (says.Hsync b) none other words = cc
+idle_passes before (says.Close b) none other words = cc
+
+idle_plays : (blocks : List ℕ) (p : PlayState) (line : Instruction) → ordered_by line ≡ None → IsOther line → PlaysLine blocks line p p
+idle_plays blocks p (says.Read b n offset count) none other = refl
+idle_plays blocks p (says.Recover b n members) none other = refl
+idle_plays blocks p (says.Cut b conn down up) none other = refl
+idle_plays blocks p (says.Fault n nth) none other = refl
+idle_plays blocks p (says.Stop n) none other = refl
+idle_plays blocks p (says.Start n) none other = refl
+idle_plays blocks p (says.Expect n b state stamp written) none other = refl
+idle_plays blocks p (says.Nodes count) none other = refl
+idle_plays blocks p (says.Seed seed) none other = refl
+idle_plays blocks p (says.Sums b rule) none other = absurd other
+idle_plays blocks p (says.Run count) none other = absurd other
+idle_plays blocks p says.Settle none other = absurd other
+idle_plays blocks p (says.Step b event) none other = absurd other
+idle_plays blocks p (says.Create b members) none other = cc
+idle_plays blocks p (says.Append b members) none other = cc
+idle_plays blocks p (says.Write b bytes) none other = cc
+idle_plays blocks p (says.Fill b count) none other = cc
+idle_plays blocks p (says.Hflush b) none other = cc
+idle_plays blocks p (says.Hsync b) none other = cc
+idle_plays blocks p (says.Close b) none other = cc
+
+module _ {F R I O : Type 0} (f : files.Ghosts F) (r : roads.Ghosts R I O) (i : link_in.Ghosts I) (o : link_out.Ghosts O) (old : Playing F I O) (road : R) where
+  -- a line that plays don't have does nothing
+  idle_left : (line : Instruction) (before : Before) (lines : ℕ) (p : PlayState) → Passes before (after before line) → PlaysLine (blocks_in old) line p p → IsBehind before lines p old → PlayIs r i o p road old
+      → LineLeft r i o line before lines p old old road
+  idle_left line before lines p same plays behind stands = record {
+    left = p;
+    plays = plays;
+    is = stands;
+    blocks = refl;
+    behind = behind_next r i o before (after before line) lines p p old old same (record { nodes = refl; rules = refl }) refl (λ b h. refl) behind;
+  }
+
+  pub idle_shows : (line : Instruction) → ordered_by line ≡ None → IsOther line → LineShows f r i o line old old road road (Ok tt)
+  idle_shows line none other = λ before lines p stands behind l here few. idle_left line before lines p (idle_passes before line none other l.words) (idle_plays (blocks_in old) p line none other) behind stands
+
+-- RULES
+
+none_created : (before : Before) (b : ℕ) → is_none (before.stage b) ≡ true → is_created (before.stage b) ≡ false
+none_created before b e = by (before.stage b) e
+  where
+    by : (s : _) → is_none s ≡ true → is_created s ≡ false
+    by None e = refl
+    by (Some s) e = absurd (true_false (sym e))
+
+module _ {F R I O : Type 0} (f : files.Ghosts F) (r : roads.Ghosts R I O) (i : link_in.Ghosts I) (o : link_out.Ghosts O) (old new : Playing F I O) (road : R) (block : BlockId) (rule : Rule) where
+  -- a rule of a block that has no client
+  ruled_alone : (p : PlayState) → client_place old.player.clients.items block.0 ≡ None → PlayIs r i o p road old → PlayIs r i o (ruled p block.0 rule) road old
+  ruled_alone p none stands = record {
+    stands = stands.stands;
+    nodes_are = stands.nodes_are;
+    events = stands.events;
+    generator = stands.generator;
+    rules = λ k c at. stands.rules k c at ∙ sym (put-there p.rules block.0 rule c.block.0 (λ same. has_place old.player.clients.items block.0 (record { place = k; client = c; found = at; block = same }) none));
+  }
+
+  module _ (before : Before) (lines : ℕ) (p : PlayState) (behind : IsBehind before lines p old) (l : LineFits before (says.Sums block rule)) (blocks : blocks_in new ≡ blocks_in old) where
+    abbrev next : Before
+    next = after before (says.Sums block rule)
+
+    made_not : (x : ℕ) → (x == block.0) ≡ true → is_made next x ≡ false
+    made_not x e = rw (e) refl
+
+    stage_there : (x : ℕ) → (x == block.0) ≡ false → next.stage x ≡ before.stage x
+    stage_there x e = rw (e) refl
+
+    stand_here : (x : ℕ) (j : Intake) → (x == block.0) ≡ true → GivenIs before lines x j → StandIs next x j.stand
+    stand_here x j e g = record {
+      unmade = λ _. g.stand.unmade (subst (λ (n : ℕ). is_created (before.stage n) ≡ false) (sym (eqb-true x block.0 e)) (none_created before block.0 l.kept.0));
+      open_is = λ k. absurd (true_false (sym k ∙ rw (e) refl));
+      closed = λ k. absurd (true_false (sym k ∙ rw (e) refl));
+    }
+
+    given_next : (x : ℕ) (j : Intake) → GivenIs before lines x j → GivenIs next (suc lines) x j
+    given_next x j g = by (x == block.0) refl
+      where
+        by : (q : Bool) → (x == block.0) ≡ q → GivenIs next (suc lines) x j
+        by true e = record { stand = stand_here x j e g; bytes = g.bytes; commands = omega (arith, g.commands) }
+        by false e = record { stand = same_stand before next x j.stand (stage_there x e) g.stand; bytes = g.bytes; commands = omega (arith, g.commands) }
+
+    clients_next : (x : ℕ) → is_made next x ≡ true → HasClient old.player.clients.items x
+    clients_next x made = by (x == block.0) refl
+      where
+        by : (q : Bool) → (x == block.0) ≡ q → HasClient old.player.clients.items x
+        by true e = absurd (true_false (sym made ∙ made_not x e))
+        by false e = behind.clients x (sym (ap (λ s. is_created s || (is_open s || is_closed s)) (stage_there x e)) ∙ made)
+
+    rules_next : (x : ℕ) → IsChunkSize (put p.rules block.0 rule x).chunk
+    rules_next x = by (x == block.0) refl
+      where
+        by : (q : Bool) → (x == block.0) ≡ q → IsChunkSize (put p.rules block.0 rule x).chunk
+        by true e = subst (λ (y : Bool). IsChunkSize (if y then rule else p.rules x).chunk) (sym e) l.words
+        by false e = subst (λ (y : Bool). IsChunkSize (if y then rule else p.rules x).chunk) (sym e) (behind.chunks x)
+
+    behind_rule : IsBehind next (suc lines) (ruled p block.0 rule) new
+    behind_rule = record {
+      nodes = behind.nodes;
+      written = behind.written;
+      chunks = rules_next;
+      clients = λ x made. moved new.player.clients.items old.player.clients.items x blocks (clients_next x made);
+      given = λ x h. given_next x (given_in p x) (behind.given x (moved old.player.clients.items new.player.clients.items x (sym blocks) h));
+    }
+
+    ruled_left : PlayIs r i o (ruled p block.0 rule) road new → LineLeft r i o (says.Sums block rule) before lines p old new road
+    ruled_left stands = record { left = ruled p block.0 rule; plays = refl; is = stands; blocks = blocks; behind = behind_rule }
+
+module _ {F R I O : Type 0} (f : files.Ghosts F) (r : roads.Ghosts R I O) (i : link_in.Ghosts I) (o : link_out.Ghosts O) (old new : Playing F I O) (road : R) (block : BlockId) (rule : Rule) (plays : RulesArePlays F r i o) where
+  rule_left : (before : Before) (lines : ℕ) (p : PlayState) → PlayIs r i o p road old → IsBehind before lines p old → LineFits before (says.Sums block rule) → (place : Option ℕ) → client_place old.player.clients.items block.0 ≡ place → RulesAt block rule place old new
+      → LineLeft r i o (says.Sums block rule) before lines p old new road
+  rule_left before lines p stands behind l None none h =
+      ruled_left f r i o old new road block rule before lines p behind l (ap (λ (x : Playing F I O). blocks_in x) h)
+      (subst (λ (x : Playing F I O). PlayIs r i o (ruled p block.0 rule) road x) (sym h) (ruled_alone f r i o old new road block rule p none stands))
+  rule_left before lines p stands behind l (Some place) there h =
+      let left : IsLeft r i o (ruled p block.0 rule) old new road = plays old new block rule place p road h stands in
+      ruled_left f r i o old new road block rule before lines p behind l left.blocks left.is
+
+  pub rule_shows : (line : Instruction) → line ≡ says.Sums block rule → Rules block rule old new → LineShows f r i o line old new road road (Ok tt)
+  rule_shows line e h = subst (λ (x : Instruction). LineShows f r i o x old new road road (Ok tt)) (sym e)
+      (λ before lines p stands behind l here few. rule_left before lines p stands behind l (client_place old.player.clients.items block.0) refl h)

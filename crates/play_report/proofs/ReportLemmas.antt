@@ -1,0 +1,199 @@
+-- What is written is the report of each world that nodes and clients show.
+use Rattle.std.proofs.Common.{◌≡◌, ◌<◌, ◌≤◌, ℕ, zero, suc, Bool, true, cond, List, [], ◌∷◌, ◌++◌, length, slice_get, Option, Some, None, IsSome, ◌⊎◌, inl, inr, refl, sym, ap, subst, ◌∙◌, arith}
+use Rattle.std.specs.Prelude.{flat_map, unwrap_or, IfSome, min}
+use Rattle.std.specs.Global.{Vec}
+use Rattle.std.proofs.lemmas.Bool.{cases_lt}
+use Rattle.std.proofs.lemmas.List.{append-nil}
+use Rattle.chunk_sums.specs.Crc.{sum_of}
+use Rattle.hd_base.specs.FileMaps.{FileMap}
+use Rattle.hd_base.specs.declared.files.Files as files
+use Rattle.hd_base.specs.declared.links.LinkIn as link_in
+use Rattle.hd_base.specs.declared.links.LinkOut as link_out
+use Rattle.hd_base.specs.declared.numbers.BlockId.{BlockId}
+use Rattle.hd_base.specs.declared.sum_rule.SumKind.TheVariants as kind
+use Rattle.play_clients.specs.declared.clients.Client.{Client}
+use Rattle.play_dues.specs.Own.{blocks_of}
+use Rattle.play_nodes.specs.declared.nodes.NodeBooks.{NodeBooks}
+use Rattle.play_nodes.specs.declared.nodes.Nodes.{Nodes}
+use Rattle.play_nodes.specs.Places.{book_at}
+use Rattle.play_nodes.specs.Showing.{NodesShow}
+use Rattle.play_nodes.proofs.PlaceLaws.{element_within, same_some, book_found, book_missing, book_within}
+use Rattle.play_nodes.proofs.Tables.{element}
+use Rattle.play_scripts.specs.Blocks.{numbers}
+use Rattle.replica_files.specs.Books.{replica_of}
+use Rattle.replica_files.specs.Laws.{IsWhole}
+use Rattle.replica_files.specs.Summing.{SumsWritten}
+use Rattle.replica_files.specs.declared.book_state.BookState.{BookState}
+use Rattle.replica_model.specs.Rows.{FullReplica}
+use Rattle.road_traffic.specs.Showing.{Net}
+use Rattle.script_lang.specs.Reports.{printed}
+use Rattle.script_lang.specs.declared.instructions.ScriptLine.{ScriptLine}
+use Rattle.script_lang.specs.declared.report.ReportLine.{ReportLine}
+use Rattle.script_lang.specs.declared.report.ReportLine.TheVariants as line
+use Rattle.world.specs.Parts as parts
+use Rattle.world.specs.Worlds.{World}
+use Rattle.play_report.specs.declared.rows.Row.{Row}
+use Rattle.play_report.specs.Answers.{lines_text, answer_lines, said_in, client_lines}
+use Rattle.play_report.specs.Replicas.{SumTable, info_lines, replica_lines, replicas_lines, node_lines, nodes_lines, rows_lines, all_lines}
+use Rattle.play_report.specs.Reports.{all_answers, AreSums, Reports}
+use Rattle.play_report.specs.Rows.{IsRow, AreRows, NodesHaveRows}
+use Rattle.play_report.proofs.ReplicaLemmas.{row_is, sum_found, found_at, rows_are}
+use Rattle.play_report.proofs.TextLemmas.{text_more, upto_same}
+use Rattle.play_model.specs.Dues.{upto}
+
+-- ANSWERS
+
+-- What the clients were answered is what the world tells of their blocks.
+pub clients_are : {I O : Type 0} (w : World) (lines : List ScriptLine) (clients : List (Client I O)) → ((k : ℕ) (c : Client I O) → slice_get clients k ≡ Some c → said_in c.said.items ≡ w.said c.block.0)
+    → flat_map (λ (c : Client I O). client_lines lines c) clients ≡ all_answers w (blocks_of clients) lines
+clients_are w lines [] said = refl
+clients_are {I} {O} w lines (c ∷ clients) said =
+    ap (λ (s : List parts.Said). answer_lines c.block.0 s 0 lines ++ flat_map (λ (c : Client I O). client_lines lines c) clients) (said zero c refl) ∙
+    ap (λ (xs : List ReportLine). answer_lines c.block.0 (w.said c.block.0) 0 lines ++ xs) (clients_are w lines clients (λ k d at. said (suc k) d at))
+
+-- NODES
+
+-- the rows of a node, none where nothing was read
+abbrev pub rows_of : Option (Vec Row) → List Row
+rows_of None = []
+rows_of (Some v) = v.items
+
+abbrev pub table : List BlockId → List (Vec Row) → SumTable
+table blocks all node b = sum_found blocks (rows_of (slice_get all node)) b
+
+module _ {F I O : Type 0} (f : files.Ghosts F) (i : link_in.Ghosts I) (o : link_out.Ghosts O) (w : World) (net : Net) (n : Nodes F I O) (show : NodesShow i o w net n) where
+  -- a row of the book at a place shows the replica
+  row_shows : (node place : ℕ) (b : BlockId) (book : BookState F) (row : Row) → slice_get n.blocks.items place ≡ Some b → book_at n.nodes.items node place ≡ Some book → IsRow f book row
+      → info_lines node b.0 row.sum row.info ≡ replica_lines node b.0 (w.replicas node b.0) (unwrap_or row.sum 0)
+  row_shows node place b book row at at_book is =
+      let same = show.books node place b book at at_book in
+      ap (λ h. info_lines node b.0 row.sum h) is.info ∙
+      (row_is node b.0 (f.files book.drawer) (replica_of book) row.sum is.sum ∙ ap (λ (r : FullReplica). replica_lines node b.0 r (unwrap_or row.sum 0)) same)
+
+  -- there is a node for each place
+  places : (node : ℕ) (x : NodeBooks F) → node < w.nodes → slice_get n.nodes.items node ≡ Some x → length n.blocks.items ≤ length x.books.items
+  places node x below at = least (length n.blocks.items) (λ k h. within k h)
+    where
+      within : (k : ℕ) → k < length n.blocks.items → k < length x.books.items
+      within k h =
+          let b = element n.blocks.items k h in
+          let at_book = book_within n.nodes.items node k (show.has_books node k b.0 below b.1) in
+          subst (λ (y : NodeBooks F). k < length y.books.items) (same_some at_book.at x (sym at_book.found ∙ at)) at_book.within
+
+      least : (m : ℕ) → ((k : ℕ) → k < m → k < length x.books.items) → m ≤ length x.books.items
+      least zero h = omega arith
+      least (suc m) h = up (h m (omega arith))
+        where
+          up : m < length x.books.items → suc m ≤ length x.books.items
+          up e = omega arith
+
+  module _ (count : ℕ) (all : List (Vec Row)) (rows : NodesHaveRows f count n.nodes.items all) (count_is : w.nodes ≡ count) where
+    -- what was read at a node that has books
+    pub node_so : (node : ℕ) (x : NodeBooks F) (v : Vec Row) → node < w.nodes → slice_get n.nodes.items node ≡ Some x → slice_get all node ≡ Some v
+        → rows_lines node n.blocks.items (slice_get all node) ≡ replicas_lines w (table n.blocks.items all) (numbers n.blocks.items) node
+    node_so node x v below at at' =
+        let are = rows.each node x v at at' in
+        ap (λ (q : Option (Vec Row)). rows_lines node n.blocks.items q) at' ∙
+        rows_are node (w.replicas node) (table n.blocks.items all node) n.blocks.items v.items (subst (λ (m : ℕ). length n.blocks.items ≤ m) (sym are.count) (places node x below at))
+        (λ k b row p q. one are k b row p q)
+      where
+        one : AreRows f x.books.items v.items → (k : ℕ) (b : BlockId) (row : Row) → slice_get n.blocks.items k ≡ Some b → slice_get v.items k ≡ Some row
+            → info_lines node b.0 row.sum row.info ≡ replica_lines node b.0 (w.replicas node b.0) (table n.blocks.items all node b.0)
+        one are k b row p q =
+            let book = element x.books.items k (subst (λ (m : ℕ). k < m) are.count (element_within v.items k row q)) in
+            row_shows node k b book.0 row p (book_found n.nodes.items node k x at ∙ book.1) (are.each k book.0 row book.1 q) ∙
+            ap (λ (s : ℕ). replica_lines node b.0 (w.replicas node b.0) s)
+            (sym (ap (λ (r : Option (Vec Row)). sum_found n.blocks.items (rows_of r) b.0) at' ∙ found_at n.blocks.items v.items k b row show.distinct p q))
+
+    -- where a node isn't there, there is no block
+    no_node : (node : ℕ) → node < w.nodes → length n.nodes.items ≤ node → (blocks : List BlockId) → n.blocks.items ≡ blocks → blocks ≡ []
+    no_node node below past [] e = refl
+    no_node node below past (b ∷ blocks) e =
+        let has = show.has_books node 0 b below (ap (λ (bs : List BlockId). slice_get bs 0) e) in
+        absurd (none (subst (λ (q : Option (BookState F)). IsSome q) (book_missing n.nodes.items node 0 past) has))
+      where
+        none : IsSome {T = BookState F} None → ⊥
+        none h = cc
+
+    node_is : (node : ℕ) → node < count → ((node < length n.nodes.items) ⊎ (length n.nodes.items ≤ node))
+        → rows_lines node n.blocks.items (slice_get all node) ≡ replicas_lines w (table n.blocks.items all) (numbers n.blocks.items) node
+    node_is node below (inl within) =
+        let x = element n.nodes.items node within in
+        let v = element all node (subst (λ (m : ℕ). node < m) (sym rows.count_is) (least below within)) in
+        node_so node x.0 v.0 (subst (λ (m : ℕ). node < m) (sym count_is) below) x.1 v.1
+      where
+        least : node < count → node < length n.nodes.items → node < min count (length n.nodes.items)
+        least p q = omega arith
+    node_is node below (inr past) =
+        let none = no_node node (subst (λ (m : ℕ). node < m) (sym count_is) below) past n.blocks.items refl in
+        ap (λ (bs : List BlockId). rows_lines node bs (slice_get all node)) none ∙ (nothing (slice_get all node) ∙
+        ap (λ (bs : List BlockId). replicas_lines w (table n.blocks.items all) (numbers bs) node) (sym none))
+      where
+        nothing : (q : Option (Vec Row)) → rows_lines node [] q ≡ []
+        nothing None = refl
+        nothing (Some v) = refl
+
+    -- all nodes run
+    pub nodes_are : ((node : ℕ) → node < w.nodes → w.running node ≡ true) → all_lines n.blocks.items all count ≡ nodes_lines w (table n.blocks.items all) (numbers n.blocks.items)
+    nodes_are running =
+        upto_same (λ node. rows_lines node n.blocks.items (slice_get all node)) (node_lines w (table n.blocks.items all) (numbers n.blocks.items)) count
+        (λ node h. node_is node h (cases_lt node (length n.nodes.items)) ∙ sym (runs node h)) ∙
+        ap (λ (m : ℕ). upto (node_lines w (table n.blocks.items all) (numbers n.blocks.items)) m) (sym count_is)
+      where
+        runs : (node : ℕ) → node < count → node_lines w (table n.blocks.items all) (numbers n.blocks.items) node ≡ replicas_lines w (table n.blocks.items all) (numbers n.blocks.items) node
+        runs node h = ap (λ (t : Bool). cond t (replicas_lines w (table n.blocks.items all) (numbers n.blocks.items) node) (line.Down (record { 0 = node }) ∷ [])) (running node (subst (λ (m : ℕ). node < m) (sym count_is) h))
+
+    -- the sums that were read are those of the bytes
+    pub sums_are : AreSums f w n (table n.blocks.items all)
+    sums_are node place b book at at_book below whole =
+        let found = book_within n.nodes.items node place (subst (λ (q : Option (BookState F)). IsSome q) (sym at_book) refl) in
+        let v = element all node (subst (λ (m : ℕ). node < m) (sym rows.count_is) (least (subst (λ (m : ℕ). node < m) count_is below) (element_within n.nodes.items node found.at found.found))) in
+        let are = rows.each node found.at v.0 found.found v.1 in
+        let row = element v.0.items place (subst (λ (m : ℕ). place < m) (sym are.count) found.within) in
+        let at_place : slice_get found.at.books.items place ≡ Some book = sym (book_found n.nodes.items node place found.at found.found) ∙ at_book in
+        let is = are.each place book row.0 at_place row.1 in
+        let same = show.books node place b book at at_book in
+        let told : table n.blocks.items all node b.0 ≡ unwrap_or row.0.sum 0 =
+        ap (λ (r : Option (Vec Row)). sum_found n.blocks.items (rows_of r) b.0) v.1 ∙ found_at n.blocks.items v.0.items place b row.0 show.distinct at row.1 in
+        subst (λ (r : FullReplica). IfSome (f.files book.drawer) (λ _. table n.blocks.items all node b.0 ≡ sum_of kind.Crc32c r.bytes)) same
+        (value (f.files book.drawer) (replica_of book) row.0.sum is.sum (subst (λ (r : FullReplica). IsWhole r) (sym same) whole) (table n.blocks.items all node b.0) told)
+      where
+        least : node < count → node < length n.nodes.items → node < min count (length n.nodes.items)
+        least p q = omega arith
+
+        value : (files : Option FileMap) (r : FullReplica) (sum : Option ℕ) → SumsWritten files r sum → IsWhole r → (s : ℕ) → s ≡ unwrap_or sum 0 → IfSome files (λ _. s ≡ sum_of kind.Crc32c r.bytes)
+        value files r None h whole s e = absurd (none (h.some.1 whole))
+          where
+            none : IsSome {T = ℕ} None → ⊥
+            none h = cc
+        value files r (Some t) h whole s e = subst (λ (q : ℕ). IfSome files (λ _. q ≡ sum_of kind.Crc32c r.bytes)) (sym e) h.value
+
+-- THE TEXT
+
+pub report_is : {F I O : Type 0} (f : files.Ghosts F) (i : link_in.Ghosts I) (o : link_out.Ghosts O) (count : ℕ) (n : Nodes F I O) (clients : List (Client I O)) (lines : List ScriptLine) (all : List (Vec Row)) (text : List ℕ)
+    → NodesHaveRows f count n.nodes.items all
+    → text ≡ (lines_text (all_lines n.blocks.items all count) ++ lines_text (flat_map (λ (c : Client I O). client_lines lines c) clients)) ++ printed line.End
+    → Reports f i o count n clients lines text
+report_is {F} {I} {O} f i o count n clients lines all text rows is = λ w net na ca.
+    let sums = table n.blocks.items all in
+    let blocks = numbers n.blocks.items in
+    let answers = clients_are w lines clients ca.said ∙ ap (λ (bs : List ℕ). all_answers w bs lines) ca.blocks in
+    record {
+      sums = sums;
+      are = sums_are f i o w net n na.show count all rows na.count_is;
+      text_is = is ∙ (ap (λ (xs : List ReportLine). (lines_text xs ++ lines_text (flat_map (λ (c : Client I O). client_lines lines c) clients)) ++ printed line.End) (nodes_are f i o w net n na.show count all rows na.count_is na.running) ∙
+          (ap (λ (xs : List ReportLine). (lines_text (nodes_lines w sums blocks) ++ lines_text xs) ++ printed line.End) answers ∙
+          whole (nodes_lines w sums blocks) (all_answers w blocks lines)));
+    }
+  where
+    whole : (xs ys : List ReportLine) → (lines_text xs ++ lines_text ys) ++ printed line.End ≡ lines_text ((xs ++ ys) ++ line.End ∷ [])
+    whole xs ys = ap (λ (t : List ℕ). t ++ printed line.End) (sym (text_more xs ys)) ∙ (ap (λ (t : List ℕ). lines_text (xs ++ ys) ++ t) (sym (append-nil (printed line.End))) ∙ sym (text_more (xs ++ ys) (line.End ∷ [])))
+
+-- Three parts are appended to nothing.
+pub three_parts : (t0 t1 t2 t3 xs ys zs end : List ℕ) → t0 ≡ [] → t1 ≡ t0 ++ xs → xs ≡ zs → t2 ≡ t1 ++ ys → t3 ≡ t2 ++ end → t3 ≡ (zs ++ ys) ++ end
+three_parts t0 t1 t2 t3 xs ys zs end none one same two three =
+    three ∙ ap (λ (t : List ℕ). t ++ end) (two ∙ ap (λ (t : List ℕ). t ++ ys) (one ∙ (ap (λ (t : List ℕ). t ++ xs) none ∙ same)))
+
+pub same_lines : (blocks bs : List BlockId) (all rs : List (Vec Row)) (count : ℕ) → bs ≡ blocks → rs ≡ all → lines_text (all_lines bs rs count) ≡ lines_text (all_lines blocks all count)
+same_lines blocks bs all rs count e f =
+    ap (λ (b : List BlockId). lines_text (all_lines b rs count)) e ∙ ap (λ (r : List (Vec Row)). lines_text (all_lines blocks r count)) f

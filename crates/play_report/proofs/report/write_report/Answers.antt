@@ -1,0 +1,83 @@
+-- The report is written, or a fault has its cause.
+use Rattle.std.proofs.Common.{◌≡◌, Err, length, refl, ap, ◌∙◌, arith}
+use Rattle.std.specs.Prelude.{flat_map}
+use Rattle.std.proofs.lemmas.Result.{err_from_is_err_and}
+use Rattle.node_opening.proofs.ListLemmas.{if_err}
+use Rattle.script_lang.specs.Reports.{printed}
+use Rattle.script_lang.specs.declared.report.ReportLine.TheVariants as line
+use Rattle.play_report.specs.declared.faults.ReportFault.TheVariants as fault
+use Rattle.play_report.specs.Answers.{lines_text, client_lines}
+use Rattle.play_report.specs.Replicas.{all_lines}
+use Rattle.play_report.specs.Rows.{IsNodesFault}
+use Rattle.play_report.proofs.ReportLemmas.{report_is, three_parts, same_lines}
+use Rattle.play_report.proofs.RowLemmas.{rewritten, nodes_left_as, nodes_fault_as, nodes_rows_as}
+use Rattle.play_report.proofs.report.write_report.Goals as goal
+
+pub returns-in_err-all-clause-kept : goal.returns-in_err-all-clause-kept
+returns-in_err-all-clause-kept g c =
+    let v = c.args.nodes.now.nodes in
+    let is : v.len ≡ length v.items = omega (arith, v.ok.0) in
+    record { blocks = refl; connections = refl; nodes = nodes_left_as g.F.Files v.len c.as_mut_slice.result.now v.items c.all_rows.new.nodes c.as_mut_slice.ensures.value is c.all_rows.ensures.kept }
+
+pub returns-in_err-all-clause-cause : goal.returns-in_err-all-clause-cause
+returns-in_err-all-clause-cause g c =
+    let v = c.args.nodes.now.nodes in
+    let is : v.len ≡ length v.items = omega (arith, v.ok.0) in
+    let why = c.in_err-all.field-0.0 in
+    let e = err_from_is_err_and c.from_residual.result c.from_residual.ensures.1 in
+    if_err c.from_residual.result why (IsNodesFault g.F.Files v.items (rewritten v.len v.items c.all_rows.new.nodes)) (e.1 ∙ ap Err e.2)
+    (nodes_fault_as g.F.Files v.len c.as_mut_slice.result.now v.items c.all_rows.new.nodes why c.as_mut_slice.ensures.value is c.all_rows.ensures.kept c.in_err-all.ensures.cause)
+
+pub returns-in_err-push_nodes-clause-kept : goal.returns-in_err-push_nodes-clause-kept
+returns-in_err-push_nodes-clause-kept g c =
+    let v = c.args.nodes.now.nodes in
+    let is : v.len ≡ length v.items = omega (arith, v.ok.0) in
+    record { blocks = refl; connections = refl; nodes = nodes_left_as g.F.Files v.len c.as_mut_slice.result.now v.items c.all_rows.new.nodes c.as_mut_slice.ensures.value is c.all_rows.ensures.kept }
+
+pub returns-in_err-push_nodes-clause-cause : goal.returns-in_err-push_nodes-clause-cause
+returns-in_err-push_nodes-clause-cause g c =
+    let v = c.args.nodes.now.nodes in
+    let e = err_from_is_err_and c.from_residual-in_err-push_nodes.result c.from_residual-in_err-push_nodes.ensures.1 in
+    if_err c.from_residual-in_err-push_nodes.result fault.Memory (IsNodesFault g.F.Files v.items (rewritten v.len v.items c.all_rows.new.nodes)) (e.1 ∙ ap Err e.2) tt
+
+pub returns-in_err-push_clients-clause-kept : goal.returns-in_err-push_clients-clause-kept
+returns-in_err-push_clients-clause-kept g c =
+    let v = c.args.nodes.now.nodes in
+    let is : v.len ≡ length v.items = omega (arith, v.ok.0) in
+    record { blocks = refl; connections = refl; nodes = nodes_left_as g.F.Files v.len c.as_mut_slice.result.now v.items c.all_rows.new.nodes c.as_mut_slice.ensures.value is c.all_rows.ensures.kept }
+
+pub returns-in_err-push_clients-clause-cause : goal.returns-in_err-push_clients-clause-cause
+returns-in_err-push_clients-clause-cause g c =
+    let v = c.args.nodes.now.nodes in
+    let e = err_from_is_err_and c.from_residual-in_err-push_clients.result c.from_residual-in_err-push_clients.ensures.1 in
+    if_err c.from_residual-in_err-push_clients.result fault.Memory (IsNodesFault g.F.Files v.items (rewritten v.len v.items c.all_rows.new.nodes)) (e.1 ∙ ap Err e.2) tt
+
+pub returns-in_err-print_line-clause-kept : goal.returns-in_err-print_line-clause-kept
+returns-in_err-print_line-clause-kept g c =
+    let v = c.args.nodes.now.nodes in
+    let is : v.len ≡ length v.items = omega (arith, v.ok.0) in
+    record { blocks = refl; connections = refl; nodes = nodes_left_as g.F.Files v.len c.as_mut_slice.result.now v.items c.all_rows.new.nodes c.as_mut_slice.ensures.value is c.all_rows.ensures.kept }
+
+pub returns-in_err-print_line-clause-cause : goal.returns-in_err-print_line-clause-cause
+returns-in_err-print_line-clause-cause g c =
+    let v = c.args.nodes.now.nodes in
+    let e = err_from_is_err_and c.from_residual-in_err-print_line.result c.from_residual-in_err-print_line.ensures.1 in
+    if_err c.from_residual-in_err-print_line.result fault.Memory (IsNodesFault g.F.Files v.items (rewritten v.len v.items c.all_rows.new.nodes)) (e.1 ∙ ap Err e.2) tt
+
+pub returns-clause-report : goal.returns-clause-report
+returns-clause-report g c =
+    let n = c.args.nodes.now in
+    let lines = c.args.lines.now in
+    let all = c.in_ok-all.all.items in
+    report_is g.F.Files g.I.LinkIn g.O.LinkOut c.args.count n c.args.clients.now lines all c.print_line.new.out.items
+    (nodes_rows_as g.F.Files c.args.count c.as_mut_slice.result.now n.nodes.items all c.as_mut_slice.ensures.value c.in_ok-all.ensures.rows)
+    (three_parts c.new-text.result.items c.push_nodes.new.out.items c.push_clients.new.out.items c.print_line.new.out.items
+    (lines_text (all_lines c.as_slice.result.now c.as_slice-2.result.now c.args.count)) (lines_text (flat_map (λ x. client_lines lines x) c.args.clients.now)) (lines_text (all_lines n.blocks.items all c.args.count)) (printed line.End)
+    c.new-text.ensures.items c.in_ok-push_nodes.ensures (same_lines n.blocks.items c.as_slice.result.now all c.as_slice-2.result.now c.args.count c.as_slice.ensures.value c.as_slice-2.ensures.value)
+    c.in_ok-push_clients.ensures c.in_ok-print_line.ensures.printed)
+
+pub returns-clause-kept : goal.returns-clause-kept
+returns-clause-kept g c =
+    let v = c.args.nodes.now.nodes in
+    let is : v.len ≡ length v.items = omega (arith, v.ok.0) in
+    record { blocks = refl; connections = refl; nodes = nodes_left_as g.F.Files v.len c.as_mut_slice.result.now v.items c.all_rows.new.nodes c.as_mut_slice.ensures.value is c.all_rows.ensures.kept }

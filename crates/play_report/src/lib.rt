@@ -1,0 +1,17 @@
+//! The report of a play: what the replicas and the answers to the commands were in the end, and whether the replicas
+//! are as a script expects them.
+#![tactic(auto)]
+
+mod answers;
+mod expecting;
+mod faults;
+mod laws;
+mod replicas;
+mod report;
+mod results;
+mod rows;
+
+pub use expecting::{Difference, Expected, first_difference};
+pub use faults::ReportFault;
+pub use laws::{reports_are_true, reports_keep_nodes};
+pub use report::write_report;

@@ -1,0 +1,37 @@
+//! The report of a play.
+
+ghost use Rattle.std.specs.Prelude.{IfOk, IfErr};
+ghost use Rattle.play_report.specs.Reports.{Reports};
+ghost use Rattle.play_report.specs.Rows.{LeavesAll, IsNodesFault};
+
+use crate::answers::push_clients;
+use crate::faults::ReportFault;
+use crate::replicas::push_nodes;
+use crate::rows::all_rows;
+use hd_base::{Files, LinkIn, LinkOut};
+use play_clients::Client;
+use play_nodes::Nodes;
+use script_lang::{ReportLine, ScriptLine, print_line};
+use std::alloc::Global;
+
+/// The text of the report of a play with so many nodes, of which all run, after these lines of its script. The files of
+/// each replica are read once, piece by piece. Plays have no reads and recoveries yet, and so has the report.
+pub fn write_report<F: Files, I: LinkIn, O: LinkOut>(
+    alloc: Global,
+    count: u32,
+    nodes: &mut Nodes<F, I, O>,
+    clients: &[Client<I, O>],
+    lines: &[ScriptLine],
+) -> Result<Vec<u8>, ReportFault>
+    ensures report { IfOk result (λ text.
+        Reports F.Files I.LinkIn O.LinkOut count nodes.old clients.now lines.now text.items) }
+    ensures kept { LeavesAll F.Files nodes.old nodes.new }
+    ensures cause { IfErr result (IsNodesFault F.Files nodes.old.nodes.items nodes.new.nodes.items) }
+{
+    let all = all_rows(alloc, count, nodes.nodes.as_mut_slice())?;
+    let mut text = Vec::new(alloc);
+    push_nodes(count, nodes.blocks.as_slice(), all.as_slice(), &mut text)?;
+    push_clients(clients, lines, &mut text)?;
+    print_line(&ReportLine::End, &mut text)?;
+    Ok(text)
+}

@@ -1,0 +1,4 @@
+pub mod Fitting
+pub mod Heads
+pub mod Blocks
+pub mod Unplayed

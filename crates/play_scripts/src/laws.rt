@@ -1,0 +1,12 @@
+//! What the lines of each script keep.
+
+ghost use Rattle.play_scripts.specs.Fitting.{ScriptsFit};
+
+use script_lang::script_names_its_nodes;
+
+/// The lines of each script fit: a play can take them.
+pub fn scripts_fit()
+    ensures { ScriptsFit }
+{
+    script_names_its_nodes();
+}

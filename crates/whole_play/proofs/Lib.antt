@@ -1,0 +1,5 @@
+mod OpenLemmas
+mod ThroughLemmas
+mod ClosedLemmas
+mod FaultLemmas
+mod ToldLemmas

@@ -1,0 +1,126 @@
+-- A script whose lines were played was played to an end of its play.
+use Rattle.std.proofs.Common.{◌≡◌, ◌<◌, ◌≤◌, ℕ, suc, Bool, List, [], ◌∷◌, length, map, drop, Option, Some, None, IfSome, Result, refl, sym, ap, subst, ◌∙◌, arith}
+use Rattle.std.specs.Prelude.{option_map}
+use Rattle.std.proofs.lemmas.Option.{same_Some}
+use Rattle.hd_base.specs.Channels.{Carried}
+use Rattle.hd_base.specs.Lists.{joined}
+use Rattle.hd_base.specs.declared.files.Files as files
+use Rattle.hd_base.specs.declared.links.LinkIn as link_in
+use Rattle.hd_base.specs.declared.links.LinkOut as link_out
+use Rattle.hd_base.specs.declared.roads.Roads as roads
+use Rattle.road_traffic.specs.Traffic.{carried_of}
+use Rattle.road_traffic.specs.Showing.{Net}
+use Rattle.script_lang.specs.declared.instructions.ScriptLine.{ScriptLine}
+use Rattle.world.specs.declared.events.Event.{Event}
+use Rattle.world.specs.Worlds.{World, start}
+use Rattle.world.specs.Events.{run}
+use Rattle.world_nets.specs.Nets.{IsNetOf}
+use Rattle.world_nets.specs.Rows.{rows_of, text_of}
+use Rattle.world_nets.specs.Starts.{NetsCarry}
+use Rattle.play_model.specs.States.{PlayState, opened}
+use Rattle.play_model.specs.States as states
+use Rattle.play_model.specs.Lines.{Plays, PlaysLines, blocks_of}
+use Rattle.play_laws.specs.Nodes.{AllRun, AllKeepNodes, NodesRun}
+use Rattle.play_clients.specs.declared.clients.Client.{Client}
+use Rattle.play_dues.specs.Own as own
+use Rattle.play_nodes.specs.Showing.{NodesShow}
+use Rattle.play.specs.Events as events
+use Rattle.play.specs.declared.faults.PlayFault.{PlayFault}
+use Rattle.play_scripts.specs.declared.heads.Head.{Head}
+use Rattle.play_scripts.specs.Blocks.{numbers}
+use Rattle.play_scripts.specs.Fitting.{begun}
+use Rattle.play_lines.specs.declared.playing.Playing.{Playing}
+use Rattle.play_lines.specs.Drawing.{blocks_in}
+use Rattle.play_lines.specs.Lines.{LinesLeft, LinesEnd, LinesShow, IsReady}
+use Rattle.play_lines.specs.Showing.{PlayIs}
+use Rattle.play_report.specs.Reports.{NodesAre, ClientsAre}
+use Rattle.whole_play.specs.declared.playing.Played.{Played}
+use Rattle.whole_play.specs.Opening.{HasHead, first_of}
+use Rattle.whole_play.specs.Playing.{BeginsScript, IsTold, IsToldOf, HaveCarried, IsThrough}
+
+-- SCRIPTS
+
+-- there are the two lines of the head
+pub head_within : (head : Head) (body script : List ScriptLine) → HasHead head body script → 2 ≤ length script
+head_within head body script h = subst (λ (ls : List ScriptLine). 2 ≤ length ls) (sym h.parts) (two (length body))
+  where
+    two : (n : ℕ) → 2 ≤ suc (suc n)
+    two n = omega arith
+
+head_blocks : (head : Head) (body script : List ScriptLine) → HasHead head body script → blocks_of script ≡ blocks_of body
+head_blocks head body script h = ap blocks_of h.parts
+
+plays_script : (head : Head) (body script : List ScriptLine) (end : PlayState) → HasHead head body script → PlaysLines (blocks_of body) body (first_of head) end → Plays script end
+plays_script head body script end h p = subst (λ (ls : List ScriptLine). Plays ls end) (sym h.parts) p
+
+-- CLIENTS
+
+same_numbers : {I O : Type 0} (clients : List (Client I O)) → numbers (events.blocks_of clients) ≡ own.blocks_of clients
+same_numbers [] = refl
+same_numbers (c ∷ clients) = ap (λ (bs : List ℕ). c.block.0 ∷ bs) (same_numbers clients)
+
+-- ROADS
+
+have_carried : {R I O : Type 0} (r : roads.Ghosts R I O) (w : World) (net : Net) (road : R) → NetsCarry → IsNetOf w net → r.carried road ≡ option_map (λ _. carried_of net.traffic) (r.carried road) → HaveCarried r w road
+have_carried r w net road carry is e = by (r.carried road) e
+  where
+    by : (x : Option Carried) → x ≡ option_map (λ _. carried_of net.traffic) x → IfSome x (λ carried. (c : ℕ) (d : Bool) → carried c d ≡ joined (map text_of (rows_of w c d).sent))
+    by None e = tt
+    by (Some k) e = λ c d. ap (λ (f : Carried). f c d) (same_Some k (carried_of net.traffic) e) ∙ carry w net is c d
+
+-- THE END
+
+module _ {F R I O : Type 0} (f : files.Ghosts F) (r : roads.Ghosts R I O) (i : link_in.Ghosts I) (o : link_out.Ghosts O) where
+  is_ready : (script : List ScriptLine) (road : R) (x : Playing F I O) → BeginsScript r i o script road x → IsReady r i o (drop 2 script) road x
+  is_ready script road x b = record {
+    p = first_of b.head;
+    is = b.begins.is;
+    before = begun b.head.nodes b.head.seed;
+    count = 0;
+    can = b.begins.can;
+  }
+
+  -- The lines behind the head were played.
+  pub lines_end : (lines script : List ScriptLine) (road road' : R) (old x : Playing F I O) (result : Result (Unit {0}) PlayFault) → lines ≡ drop 2 script → (b : BeginsScript r i o script road old) → LinesShow f r i o lines old x road road' result
+      → LinesEnd f r i o (drop 2 script) (first_of b.head) old x road road' result
+  lines_end lines script road road' old x result e b shows =
+      subst (λ (ls : List ScriptLine). LinesShow f r i o ls old x road road' result) e shows (begun b.head.nodes b.head.seed) 0 (first_of b.head) b.begins.is b.begins.can
+
+  pub lines_ready : (lines script : List ScriptLine) (road : R) (x : Playing F I O) → lines ≡ drop 2 script → BeginsScript r i o script road x → IsReady r i o lines road x
+  lines_ready lines script road x e b = subst (λ (ls : List ScriptLine). IsReady r i o ls road x) (sym e) (is_ready script road x b)
+
+  same_blocks : (script : List ScriptLine) (road : R) (x : Playing F I O) → BeginsScript r i o script road x → blocks_in x ≡ blocks_of (drop 2 script)
+  same_blocks script road x b = sym (same_numbers x.player.clients.items) ∙ (ap numbers b.begins.clients ∙ b.begins.are.are)
+
+  nodes_are : (end : PlayState) (x : Playing F I O) (road : R) → (is : PlayIs r i o end road x) → AllRun → NodesAre i o x.nodes (states.world_of end) is.stands.net x.player.nodes
+  nodes_are end x road is all =
+      let keeps : AllKeepNodes end.events = subst (λ (es : List Event). AllKeepNodes es) (sym is.events) is.stands.events.runs in
+      let n : NodesRun end.nodes (states.world_of end) = all end.nodes end.events keeps in
+      record {
+        show = subst (λ (es : List Event). NodesShow i o (run (start end.nodes) es) is.stands.net x.player.nodes) (sym is.events) is.stands.shows.nodes.nodes_are;
+        count_is = n.nodes_are ∙ is.nodes_are;
+        running = λ node within. n.runs node (subst (λ (k : ℕ). node < k) n.nodes_are within);
+      }
+
+  clients_are : (end : PlayState) (x : Playing F I O) (road : R) → (is : PlayIs r i o end road x) → blocks_in x ≡ numbers x.player.nodes.blocks.items → ClientsAre (states.world_of end) x.player.nodes x.player.clients.items
+  clients_are end x road is blocks = record {
+    blocks = blocks;
+    said = λ k c at. (is.stands.shows.clients k c at).shows.said ∙ ap (λ (es : List Event). (run (start end.nodes) es).said c.block.0) (sym is.events);
+  }
+
+  pub through : (script : List ScriptLine) (road road' : R) (old x : Playing F I O) (p : Played) → (b : BeginsScript r i o script road old) → (left : LinesLeft r i o (drop 2 script) (first_of b.head) old x road') → x.player.nodes.blocks.items ≡ old.player.nodes.blocks.items → AllRun → NetsCarry → IsToldOf f i o x script p
+      → IsThrough f r script road' p
+  through script road road' old x p b left same all carry told =
+      let end : PlayState = left.left in
+      let blocks : blocks_in old ≡ blocks_of (drop 2 script) = same_blocks script road old b in
+      let here : numbers x.player.nodes.blocks.items ≡ blocks_of (drop 2 script) = ap numbers same ∙ b.begins.are.are in
+      let is : PlayIs r i o end road' x = left.is in
+      let shown : IsTold f (states.world_of end) (numbers x.player.nodes.blocks.items) script p =
+      told (states.world_of end) is.stands.net (nodes_are end x road' is all) (clients_are end x road' is (left.blocks ∙ (blocks ∙ sym here))) in
+      record {
+        end = end;
+        plays = plays_script b.head (drop 2 script) script end b.has_head (subst (λ (bs : List ℕ). PlaysLines bs (drop 2 script) (first_of b.head) end) blocks left.plays);
+        told = subst (λ (bs : List ℕ). IsTold f (states.world_of end) bs script p) (here ∙ sym (head_blocks b.head (drop 2 script) script b.has_head)) shown;
+        carried = have_carried r (states.world_of end) is.stands.net road' carry
+            (subst (λ (es : List Event). IsNetOf (run (start end.nodes) es) is.stands.net) (sym is.events) is.stands.shows.nodes.roads_are.is_net) is.stands.shows.nodes.roads_are.shows.carried;
+      }

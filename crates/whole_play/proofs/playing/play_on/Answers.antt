@@ -1,0 +1,46 @@
+-- The play was opened, played, told and closed.
+use Rattle.std.proofs.Common.{List, length, sym, subst, ◌∙◌}
+use Rattle.hd_base.specs.declared.numbers.BlockId.{BlockId}
+use Rattle.script_lang.specs.declared.instructions.ScriptLine.{ScriptLine}
+use Rattle.node_opening.specs.Closing.{TheyLend, NodesClose}
+use Rattle.node_opening.specs.Shelves.{AreDistinct}
+use Rattle.whole_play.specs.Opening.{Begins}
+use Rattle.whole_play.specs.Playing.{IsThroughFault, HasCause}
+use Rattle.whole_play.proofs.FaultLemmas.{closed_fault}
+use Rattle.whole_play.proofs.ToldLemmas.{err_map}
+use Rattle.whole_play.proofs.playing.play_on.Goals as goal
+
+pub play_through-played-requires-after_bounds : goal.play_through-played-requires-after_bounds
+play_through-played-requires-after_bounds g c κs within = record {
+  head = c.args.head;
+  has_head = c.requires.head;
+  begins = subst (λ (ls : List ScriptLine). Begins g.R.Roads g.R.Inward.LinkIn g.R.Outward.LinkOut c.args.head ls c.open_play.new.roads c.in_ok-playing.playing) c.split_at.ensures.back c.in_ok-playing.ensures.begins;
+}
+
+pub close_nodes-requires-clause-distinct : goal.close_nodes-requires-clause-distinct
+close_nodes-requires-clause-distinct g c κs within =
+    subst (λ (bs : List BlockId). AreDistinct bs) (sym (c.deref.ensures.value ∙ c.play_through-played.ensures.sizes.blocks)) c.in_ok-playing.ensures.opened.distinct
+
+pub close_nodes-requires-clause-lent : goal.close_nodes-requires-clause-lent
+close_nodes-requires-clause-lent g c κs within =
+    let x = c.in_ok-playing.playing in
+    let nodes = length c.play_through-played.new.playing.player.nodes.nodes.items in
+    let can = c.opened_nodes_close.ensures x.player.nodes.blocks.items c.args.shelves.now c.open_play.new.shelves x.player.nodes c.in_ok-playing.ensures.opened.opened_so.nodes in
+    subst (λ (bs : List BlockId). TheyLend g.S.Shelf bs nodes c.open_play.new.shelves) (sym (c.deref.ensures.value ∙ c.play_through-played.ensures.sizes.blocks)) (can.lend nodes)
+
+pub returns-clause-cause : goal.returns-clause-cause
+returns-clause-cause g c =
+    let s = g.S.Shelf in
+    let d = g.S.Drawer.Files in
+    let r = g.R.Roads in
+    let x = c.in_ok-playing.playing in
+    let y = c.play_through-played.new.playing in
+    let old = c.args.shelves.now in
+    let after = c.open_play.new.shelves in
+    let closed = c.close_nodes.new.shelves in
+    let road = c.args.roads.now in
+    let mid = c.open_play.new.roads in
+    let road' = c.play_through-played.new.roads in
+    let close = subst (λ (bs : List BlockId). NodesClose s d bs y.player.nodes.nodes.items after closed) c.deref.ensures.value c.close_nodes.ensures in
+    err_map c.play_through-played.result (IsThroughFault d r y mid road') (HasCause s r old closed road road')
+    (λ why cause. closed_fault s d r road mid road' old after closed x y why c.in_ok-playing.ensures.never_falls c.in_ok-playing.ensures.opened c.play_through-played.ensures.sizes close cause) c.play_through-played.ensures.cause

@@ -1,0 +1,38 @@
+-- The report, and the first difference, are those of the world that is shown.
+use Rattle.std.proofs.Common.{List, ap, subst, sym, ◌∙◌}
+use Rattle.std.proofs.lemmas.Result.{err_from_is_err_and}
+use Rattle.hd_base.specs.declared.numbers.BlockId.{BlockId}
+use Rattle.node_opening.proofs.ListLemmas.{if_err}
+use Rattle.play_scripts.specs.Blocks.{numbers}
+use Rattle.play_clients.specs.declared.clients.Client.{Client}
+use Rattle.play_report.specs.Expecting.{differing}
+use Rattle.play_report.specs.Reports.{ClientsAre}
+use Rattle.whole_play.specs.declared.faults.RunFault.{RunFault}
+use Rattle.whole_play.specs.Playing.{IsReportFault}
+use Rattle.whole_play.proofs.FaultLemmas.{report_fault}
+use Rattle.whole_play.proofs.ToldLemmas.{report_sizes}
+use Rattle.whole_play.proofs.playing.report_of.Goals as goal
+
+pub returns-in_err-report-clause-cause : goal.returns-in_err-report-clause-cause
+returns-in_err-report-clause-cause g c =
+    let old = c.args.playing.now in
+    let new = record old { player = record old.player { nodes = c.write_report.new.nodes } } in
+    let e = err_from_is_err_and c.from_residual.result c.from_residual.ensures.1 in
+    if_err c.from_residual.result e.0 (IsReportFault g.F.Files new) e.1 (subst (λ (why : RunFault). IsReportFault g.F.Files new why) (sym e.2) (report_fault g.F.Files old new c.in_err-report.field-0.0 c.in_err-report.ensures.cause))
+
+pub returns-in_err-report-clause-sizes : goal.returns-in_err-report-clause-sizes
+returns-in_err-report-clause-sizes g c = report_sizes g.F.Files c.args.playing.now.player.nodes c.write_report.new.nodes c.in_err-report.ensures.kept
+
+pub returns-clause-told : goal.returns-clause-told
+returns-clause-told g c = λ w net are clients.
+    let old = c.args.playing.now.player.nodes in
+    let new = c.write_report.new.nodes in
+    let kept = c.in_ok-report.ensures.kept in
+    record {
+      report = λ tell. c.reports_are_true.ensures c.args.playing.now.nodes w net old c.args.script.now c.in_ok-report.report.items are (λ node place book at. tell book.drawer) (c.in_ok-report.ensures.report w net are (subst (λ (cs : List (Client g.row.I.Denot g.row.O.Denot)). ClientsAre w old cs) (sym c.deref.ensures.value) clients));
+      difference = c.first_difference-difference.ensures w net (record { show = c.reports_keep_nodes.ensures.show w net old new kept are.show; count_is = are.count_is; running = are.running })
+          ∙ ap (λ (bs : List BlockId). differing w (numbers bs) c.args.script.now) kept.blocks;
+    }
+
+pub returns-clause-sizes : goal.returns-clause-sizes
+returns-clause-sizes g c = report_sizes g.F.Files c.args.playing.now.player.nodes c.write_report.new.nodes c.in_ok-report.ensures.kept

@@ -1,0 +1,59 @@
+-- The play of a script is opened.
+use Rattle.std.specs.Prelude.{◌≡◌, ◌≤◌, ℕ, List, ◌∷◌, length}
+use Rattle.hd_base.specs.declared.files.Files as files
+use Rattle.hd_base.specs.declared.links.LinkIn as link_in
+use Rattle.hd_base.specs.declared.links.LinkOut as link_out
+use Rattle.hd_base.specs.declared.roads.Roads as roads
+use Rattle.hd_base.specs.declared.roads.TheConstants.{MAX_NODES}
+use Rattle.hd_base.specs.declared.shelves.Shelf as shelves
+use Rattle.script_lang.specs.declared.instructions.Instruction.TheVariants as says
+use Rattle.script_lang.specs.declared.instructions.ScriptLine.{ScriptLine}
+use Rattle.script_lang.specs.Grammar.{numbered}
+use Rattle.writer_core.specs.declared.intake.TheConstants.{MAX_COMMANDS}
+use Rattle.node_opening.specs.Shelves.{AreDistinct}
+use Rattle.play.specs.Events as events
+use Rattle.play_model.specs.States.{PlayState, opened}
+use Rattle.play_opening.specs.Opening.{IsOpenedPlay}
+use Rattle.play_scripts.specs.declared.heads.Head.{Head}
+use Rattle.play_scripts.specs.Blocks.{AreBlocks}
+use Rattle.play_scripts.specs.Fitting.{LinesFit, begun}
+use Rattle.play_lines.specs.declared.playing.Playing.{Playing}
+use Rattle.play_lines.specs.Lines.{CanPlay}
+use Rattle.play_lines.specs.Showing.{PlayIs}
+
+-- HEADS
+
+-- The script has this head, and this body behind it.
+pub record HasHead (head : Head) (body script : List ScriptLine) : Type 0 where
+  pub first : ℕ
+  pub second : ℕ
+  pub parts : script ≡ numbered first (says.Nodes head.nodes) ∷ numbered second (says.Seed head.seed) ∷ body
+
+-- The head gives as many nodes as there are shelves, for which there are ports, and the lines behind it, which are few,
+-- fit.
+pub record HeadFits (shelves : ℕ) (head : Head) (lines : List ScriptLine) : Type 0 where
+  pub nodes : head.nodes ≡ shelves
+  pub few : shelves ≤ MAX_NODES
+  pub fit : LinesFit (begun head.nodes head.seed) lines
+  pub count : length lines ≤ MAX_COMMANDS
+
+-- PLAYS
+
+-- the play before the first line behind the head
+abbrev pub first_of : Head → PlayState
+first_of head = opened head.nodes head.seed
+
+-- The play is the model's before the first line behind the head, its blocks are those that the lines create, and it can
+-- play them.
+pub record Begins {F R I O : Type 0} (r : roads.Ghosts R I O) (i : link_in.Ghosts I) (o : link_out.Ghosts O)
+    (head : Head) (lines : List ScriptLine) (road : R) (x : Playing F I O) : Type 0 where
+  pub are : AreBlocks lines x.player.nodes.blocks.items
+  pub clients : events.blocks_of x.player.clients.items ≡ x.player.nodes.blocks.items
+  pub is : PlayIs r i o (first_of head) road x
+  pub can : CanPlay lines (begun head.nodes head.seed) 0 (first_of head) x
+
+-- Its shelves have lent the files of its blocks, each of which stands once.
+pub record HasOpened {S D I O : Type 0} (s : shelves.Ghosts S D) (d : files.Ghosts D) (old new : List S)
+    (x : Playing D I O) : Type 0 where
+  pub distinct : AreDistinct x.player.nodes.blocks.items
+  pub opened_so : IsOpenedPlay s d x.player.nodes.blocks.items old new x.player

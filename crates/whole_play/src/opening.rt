@@ -1,0 +1,46 @@
+//! The play of a script is opened.
+
+ghost use Rattle.std.specs.Prelude.{◌≡◌, ◌≤◌, length, IfOk, IfErr, OnErr};
+ghost use Rattle.node_opening.specs.Listening.{AreUnused};
+ghost use Rattle.node_opening.specs.Opening.{HasOpenCause};
+ghost use Rattle.node_opening.specs.Shelves.{EachShelf, IsGivenBack};
+ghost use Rattle.whole_play.specs.Opening.{HeadFits, Begins, HasOpened};
+
+use hd_base::{Roads, Shelf};
+use node_opening::OpenFault;
+use play_lines::Playing;
+use play_opening::open_player;
+use play_scripts::{Head, blocks_of};
+use rand_pcg::Lcg64Xsh32;
+use script_lang::ScriptLine;
+use std::alloc::Global;
+
+/// The stream of the generator that draws events.
+const EVENT_STREAM: u64 = 1;
+
+/// Opens the play of a script with this head and these lines behind it, which fit: there is a shelf for each node.
+pub(crate) fn open_play<S: Shelf, R: Roads>(
+    alloc: Global,
+    roads: &mut R,
+    shelves: &mut [S],
+    head: Head,
+    lines: &[ScriptLine],
+) -> Result<Playing<S::Drawer, R::Inward, R::Outward>, OpenFault>
+    requires unused { AreUnused R.Roads roads.old }
+    requires fits { HeadFits (length shelves.old) head lines.now }
+    ensures begins { IfOk result (Begins R.Roads R.Inward.LinkIn R.Outward.LinkOut head lines.now roads.new) }
+    ensures opened { IfOk result (HasOpened S.Shelf S.Drawer.Files shelves.old shelves.new) }
+    ensures cause { IfErr result (HasOpenCause R.Roads S.Shelf roads.old roads.new shelves.old shelves.new) }
+    ensures given_back { OnErr result (EachShelf (IsGivenBack S.Shelf) shelves.old shelves.new) }
+    ensures never_falls { R.faults roads.old ≤ R.faults roads.new }
+    ensures risen { R.risen roads.new ≡ R.risen roads.old }
+{
+    let blocks = blocks_of(alloc, lines)?;
+    let player = open_player(alloc, roads, shelves, blocks)?;
+    let generator = Lcg64Xsh32::new(head.seed, EVENT_STREAM);
+    Ok(Playing {
+        nodes: head.nodes,
+        player,
+        generator,
+    })
+}

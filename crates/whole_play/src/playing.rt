@@ -1,0 +1,125 @@
+//! A script is played.
+
+ghost use Rattle.std.specs.Prelude.{◌≡◌, ◌≤◌, length, drop, IfOk, IfErr, OnOk};
+ghost use Rattle.member_events.specs.Roads.{RoadsPass};
+ghost use Rattle.node_opening.specs.Listening.{AreUnused};
+ghost use Rattle.node_opening.specs.Shelves.{AllEmpty};
+ghost use Rattle.play_nodes.specs.Places.{KeepsSizes};
+ghost use Rattle.play_scripts.specs.Fitting.{ScriptFits};
+ghost use Rattle.whole_play.specs.Opening.{HasHead, HeadFits};
+ghost use Rattle.whole_play.specs.Playing.{BeginsScript, IsThrough, IsThroughFault, IsToldOf, IsReportFault, IsPlayed, HasCause};
+
+use crate::faults::RunFault;
+use crate::opening::open_play;
+use hd_base::{Files, LinkIn, LinkOut, Roads, Shelf};
+use node_opening::{close_nodes, opened_nodes_close};
+use play_laws::nodes_run;
+use play_lines::Playing;
+use play_nodes::Nodes;
+use play_report::{
+    Difference, first_difference, reports_are_true, reports_keep_nodes, write_report,
+};
+use play_scripts::{Head, head_of};
+use script_lang::ScriptLine;
+use std::alloc::Global;
+use world_nets::nets_carry;
+
+/// How many lines the head has.
+const HEAD_LINES: usize = 2;
+
+/// What is told of a script that was played.
+#[derive(Debug, Drop)]
+pub struct Played {
+    /// The report.
+    pub report: Vec<u8>,
+    /// The first line that expects another replica than there is.
+    pub difference: Option<Difference>,
+}
+
+/// Plays a script over the first of the shelves, one for each node, and over roads that are unused. Lines that plays don't
+/// have yet do nothing. What the shelves have lent is given back, whatever the result is.
+pub fn play_script<S: Shelf, R: Roads>(
+    alloc: Global,
+    roads: &mut R,
+    shelves: &mut [S],
+    script: &[ScriptLine],
+) -> Result<Played, RunFault>
+    requires unused { AreUnused R.Roads roads.old }
+    requires fits { ScriptFits (length shelves.old) script.now }
+    ensures played { IfOk result (IsPlayed S.Shelf S.Drawer.Files R.Roads script.now shelves.old shelves.new roads.new) }
+    ensures cause { IfErr result (HasCause S.Shelf R.Roads shelves.old shelves.new roads.old roads.new) }
+{
+    let Some(head) = head_of(script) else {
+        unreachable!();
+    };
+    play_on(
+        alloc,
+        roads,
+        &mut shelves[..head.nodes as usize],
+        head,
+        script,
+    )
+}
+
+/// Plays a script with this head over as many shelves as it has nodes.
+fn play_on<S: Shelf, R: Roads>(
+    alloc: Global,
+    roads: &mut R,
+    shelves: &mut [S],
+    head: Head,
+    script: &[ScriptLine],
+) -> Result<Played, RunFault>
+    requires unused { AreUnused R.Roads roads.old }
+    requires head { HasHead head (drop HEAD_LINES script.now) script.now }
+    requires fits { HeadFits (length shelves.old) head (drop HEAD_LINES script.now) }
+    ensures through { IfOk result (IsThrough S.Drawer.Files R.Roads script.now roads.new) }
+    ensures empty { OnOk result (AllEmpty S.Shelf shelves.old) }
+    ensures cause { IfErr result (HasCause S.Shelf R.Roads shelves.old shelves.new roads.old roads.new) }
+{
+    opened_nodes_close::<S, R::Inward, R::Outward>();
+    let (_, lines) = script.split_at(HEAD_LINES);
+    let mut playing = open_play(alloc, roads, shelves, head, lines)?;
+    let played = play_through(alloc, roads, &mut playing, script);
+    let Nodes { blocks, nodes, .. } = playing.player.nodes;
+    close_nodes(&blocks, nodes, shelves);
+    played
+}
+
+/// Plays the lines behind the head of a script, and makes the report.
+fn play_through<F: Files, I: LinkIn, O: LinkOut, R: Roads<Inward = I, Outward = O>>(
+    alloc: Global,
+    roads: &mut R,
+    playing: &mut Playing<F, I, O>,
+    script: &[ScriptLine],
+) -> Result<Played, RunFault>
+    requires { BeginsScript R.Roads I.LinkIn O.LinkOut script.now roads.old playing.old }
+    ensures through { IfOk result (IsThrough F.Files R.Roads script.now roads.new) }
+    ensures cause { IfErr result (IsThroughFault F.Files R.Roads playing.new roads.old roads.new) }
+    ensures sizes { KeepsSizes playing.old.player.nodes playing.new.player.nodes }
+    ensures pass { RoadsPass R.Roads roads.old roads.new }
+{
+    nodes_run();
+    nets_carry();
+    let (_, lines) = script.split_at(HEAD_LINES);
+    playing.lines(alloc, roads, lines)?;
+    report_of(alloc, playing, script)
+}
+
+/// The report of a play that is over, and the first difference from what is expected.
+fn report_of<F: Files, I: LinkIn, O: LinkOut>(
+    alloc: Global,
+    playing: &mut Playing<F, I, O>,
+    script: &[ScriptLine],
+) -> Result<Played, RunFault>
+    ensures told { IfOk result (IsToldOf F.Files I.LinkIn O.LinkOut playing.old script.now) }
+    ensures cause { IfErr result (IsReportFault F.Files playing.new) }
+    ensures sizes { KeepsSizes playing.old.player.nodes playing.new.player.nodes }
+{
+    reports_keep_nodes::<F, I, O>();
+    reports_are_true::<F, I, O>();
+    let count = playing.nodes;
+    let player = &mut playing.player;
+    let report = write_report(alloc, count, &mut player.nodes, &player.clients, script)?;
+    let difference = first_difference(count, &player.nodes, script);
+    Ok(Played { report, difference })
+}
