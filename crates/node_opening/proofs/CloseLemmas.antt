@@ -9,7 +9,7 @@ use Rattle.hd_base.specs.declared.shelves.Shelf as shelves
 use Rattle.play_nodes.specs.declared.nodes.NodeBooks.{NodeBooks}
 use Rattle.std.specs.Prelude.{option_and_then}
 use Rattle.std.proofs.lemmas.List.{length-take}
-use Rattle.play_nodes.proofs.Tables.{set_here, set_there, same_or, element}
+use Rattle.play_nodes.proofs.Tables.{set_here, set_there, same_or}
 use Rattle.play_nodes.proofs.PlaceLaws.{element_within, same_some, book_found}
 use Rattle.replica_files.specs.declared.book_state.BookState.{BookState}
 use Rattle.node_opening.specs.Shelves.{is_among, AreDistinct}
@@ -108,10 +108,21 @@ pub record Gives {S D : Type 0} (s : shelves.Ghosts S D) (d : files.Ghosts D) (b
   pub files_are : block_of x ≡ block → s.files new ≡ both_observable (s.files old) (d.files x.drawer)
   pub lent : s.lent new ≡ marked (s.lent old) block.0 false
   pub count : CarriesFaults (s.faults old) (d.faults x.drawer) (s.faults new)
+  pub held : IsBookOf d x
 
 -- The last of books has the block at its place, and those before it have theirs.
 pub front_end : {A : Type 0} (blocks : List BlockId) (xs : List A) (x : A) (block : BlockId) → slice_get blocks (length xs) ≡ Some block → take (length (xs ++ x ∷ [])) blocks ≡ take (length xs) blocks ++ block ∷ []
 front_end blocks xs x block at = ap (λ (n : ℕ). take n blocks) (length-append xs (x ∷ []) ∙ add-one (length xs)) ∙ take_next blocks (length xs) block at
+
+none_there : {A : Type 0} (k : ℕ) (a : A) → slice_get [] k ≡ Some a → ⊥
+none_there k a e = cc
+
+-- What is so of each, and of one more, is so of each once this stands behind them.
+each_more : {A : Type 0} (P : A → Type 0) (xs : List A) (x : A) → ((k : ℕ) (a : A) → slice_get xs k ≡ Some a → P a) → P x → (k : ℕ) (a : A) → slice_get (xs ++ x ∷ []) k ≡ Some a → P a
+each_more P [] x f p zero a h = subst P (same_some x a h) p
+each_more P [] x f p (suc k) a h = cc
+each_more P (y ∷ ys) x f p zero a h = f 0 a h
+each_more P (y ∷ ys) x f p (suc k) a h = each_more P ys x (λ j b at. f (suc j) b at) p k a h
 
 of_less : {D : Type 0} (blocks : List BlockId) (xs : List (BookState D)) (x : BookState D) → AreOf blocks (xs ++ x ∷ []) → AreOf blocks xs
 of_less blocks xs x h = λ place block y at here. h place block y at (get_front xs x place (element_within xs place y here) ∙ here)
@@ -125,6 +136,7 @@ module _ {S D : Type 0} (s : shelves.Ghosts S D) (d : files.Ghosts D) (blocks : 
     files_are = λ of. refl;
     lent = λ b. and_true (s.lent a b);
     count = record { never_falls = omega arith; counted = least (s.faults a) };
+    held = λ place x at. absurd (none_there place x at);
   }
     where
       and_true : (p : Bool) → p ≡ (p && true)
@@ -144,6 +156,7 @@ module _ {S D : Type 0} (s : shelves.Ghosts S D) (d : files.Ghosts D) (blocks : 
             ap (λ (q : Bool). s.lent a y && not q) (sym (ap (λ (bs : List BlockId). is_among bs y) (front_end blocks xs x block at) ∙ among_more front block y))));
         count = subst (λ (q : ℕ). CarriesFaults (s.faults a) q (s.faults c)) (sym (faults_end d xs x))
             (carried_more (s.faults a) (s.faults b) (s.faults c) (d.faults x.drawer) (faults_of d xs) g.count n.count);
+        held = each_more (λ (y : BookState D). IsBookOf d y) xs x n.held g.held;
       }
 
 -- LENT BLOCKS
@@ -285,6 +298,7 @@ gives {S} {D} s d x a b block drawer is h f l n = record {
   files_are = λ of. subst (λ (q : D). s.files b ≡ both_observable (s.files a) (d.files q)) is (f (only of));
   lent = l;
   count = subst (λ (q : D). CarriesFaults (s.faults a) (d.faults q) (s.faults b)) is n;
+  held = h;
 }
   where
     only : block_of x ≡ block → OnlyOf block.0 (d.files drawer)

@@ -7,7 +7,7 @@ use Rattle.hd_base.specs.declared.files.Files as files
 use Rattle.hd_base.specs.declared.shelves.Shelf as shelves
 use Rattle.play_nodes.specs.declared.nodes.NodeBooks.{NodeBooks}
 use Rattle.play_nodes.specs.Places.{book_at}
-use Rattle.replica_files.specs.Books.{replica_of}
+use Rattle.replica_files.specs.Books.{replica_of, IsBookOf}
 use Rattle.replica_files.specs.declared.book_state.BookState.{BookState}
 use Rattle.node_opening.specs.Shelves.{is_among, AreDistinct}
 
@@ -41,12 +41,13 @@ faults_of d [] = 0
 faults_of d (x ∷ xs) = d.faults x.drawer + faults_of d xs
 
 -- The shelf has the files of these books beside its own, where they are of the blocks at their places. It lends none of
--- these blocks, and the books' counts are added to its own.
+-- these blocks, and the books' counts are added to its own. What each book holds is what its files hold.
 pub record NodeCloses {S D : Type 0} (s : shelves.Ghosts S D) (d : files.Ghosts D) (blocks : List BlockId)
     (books : List (BookState D)) (old new : S) : Type 0 where
   pub files_are : AreOf blocks books → s.files new ≡ files_with d (s.files old) books
   pub lent : (b : ℕ) → s.lent new b ≡ s.lent old b && not (is_among (take (length books) blocks) b)
   pub count : CarriesFaults (s.faults old) (faults_of d books) (s.faults new)
+  pub held : (place : ℕ) (x : BookState D) → slice_get books place ≡ Some x → IsBookOf d x
 
 -- ALL NODES
 

@@ -35,6 +35,16 @@ const APPEND: &[u8] =
 const APPEND_REPORT: &[u8] =
     b"replica 0 1 FINALIZED 1002 1600 1600 6698c984 ok\nanswer 1 0 create ok 1001\nanswer 1 2 close ok 600 1001 0\nanswer 1 3 append ok 1002\nanswer 1 5 close ok 1600 1002 0\nend\n";
 
+/// A byte more than a packet takes.
+const TWO_PACKETS: &[u8] = b"nodes 1\nseed 0\ncreate 7 0\nfill 7 64513\nclose 7\n";
+
+const TWO_PACKETS_REPORT: &[u8] =
+    b"replica 0 7 FINALIZED 1001 64513 64513 914506a5 ok\nanswer 7 0 create ok 1001\nanswer 7 2 close ok 64513 1001 0\nend\n";
+
+/// What goes up where two packets with bytes were sent, and the last one: the answer, and the acks of the packets 0 to 2.
+const THREE_ACKS: &[u8] =
+    b"\x04\x08\x00\x12\x00\x04\x08\x00\x10\x00\x04\x08\x02\x10\x00\x04\x08\x04\x10\x00";
+
 /// Two flushes in the middle of chunks, at three members.
 const FLUSHES: &[u8] =
     b"nodes 3\nseed 0\ncreate 1 0,1,2\nfill 1 600\nhflush 1\nfill 1 100\nhflush 1\n";
@@ -62,6 +72,9 @@ const EMPTY_DOWN: &[u8] =
     b"\x00\x1c\x50\x4a\x0a\x37\x0a\x1f\x0a\x1d\x0a\x10\x42\x50\x2d\x31\x2d\x31\x32\x37\x2e\x30\x2e\x30\x2e\x31\x2d\x31\x10\x81\x80\x80\x80\x04\x18\xe9\x07\x20\x00\x12\x14\x44\x46\x53\x43\x6c\x69\x65\x6e\x74\x5f\x31\x30\x37\x33\x37\x34\x31\x38\x32\x35\x20\x06\x28\x01\x30\x00\x38\x00\x40\x00\x4a\x05\x08\x02\x10\x80\x04\x00\x00\x00\x04\x00\x19\x09\x00\x00\x00\x00\x00\x00\x00\x00\x11\x00\x00\x00\x00\x00\x00\x00\x00\x18\x01\x25\x00\x00\x00\x00";
 
 const EMPTY_UP: &[u8] = b"\x04\x08\x00\x12\x00\x04\x08\x00\x10\x00";
+
+/// How many flushes are told of one block.
+const FLUSHES_IN_A_ROW: usize = 16;
 
 /// More calls than any port of a run of nine bytes has.
 const MOST_CALLS: u64 = 1000;
@@ -104,10 +117,13 @@ struct Left {
     roads: MemRoads,
 }
 
-/// Runs a script on three shelves.
-fn run_one(alloc: Global, word: &str, text: &[u8], failing: Failing) -> Result<Left, Fail> {
+/// Runs a script on three shelves, with the words of this line.
+fn run_one(alloc: Global, line: &str, text: &[u8], failing: Failing) -> Result<Left, Fail> {
     new_roads_are_unused::<MemRoads>();
-    let words = vec![in alloc; String::from_str(alloc, word)?]?;
+    let mut words = Vec::new(alloc);
+    for word in line.split_whitespace() {
+        words.push(String::from_str(alloc, word)?)?;
+    }
     let mut source = MemSource::new(alloc, text, &[failing.at(Port::Script)])?;
     let mut report = MemSink::new(alloc, &[failing.at(Port::Report)])?;
     let mut shelves = vec![in alloc;
@@ -135,8 +151,9 @@ fn run_one(alloc: Global, word: &str, text: &[u8], failing: Failing) -> Result<L
 /// What each of the examples reports.
 #[test]
 fn examples_are_reported(rt: HostRuntime) -> Result<(), Fail> {
-    let table: [(&[u8], &[u8]); 5] = [
+    let table: [(&[u8], &[u8]); 6] = [
         (NINE, NINE_REPORT),
+        (TWO_PACKETS, TWO_PACKETS_REPORT),
         (EMPTY, EMPTY_REPORT),
         (APPEND, APPEND_REPORT),
         (FLUSHES, FLUSHES_REPORT),
@@ -161,6 +178,36 @@ fn examples_are_carried(rt: HostRuntime) -> Result<(), Fail> {
         let carried = left.roads.carried_bytes(rt.alloc(), ConnId(0), false)?;
         assert_eq!(rt; carried.as_slice(), up);
     }
+    Ok(())
+}
+
+/// The numbers of packets: they begin anew with each setup.
+#[test]
+fn packets_are_numbered(rt: HostRuntime) -> Result<(), Fail> {
+    for (script, conn) in [(TWO_PACKETS, 0), (APPEND, 1)] {
+        let left = run_one(rt.alloc(), "play", script, NONE)?;
+        let carried = left.roads.carried_bytes(rt.alloc(), ConnId(conn), false)?;
+        assert_eq!(rt; carried.as_slice(), THREE_ACKS);
+    }
+    Ok(())
+}
+
+/// Three members, and sixteen flushes of 64 KiB.
+#[test]
+fn flushes_are_answered(rt: HostRuntime) -> Result<(), Fail> {
+    let mut script = Vec::new(rt.alloc());
+    script.extend_from_slice(b"nodes 3\nseed 5\ncreate 1 0,1,2\n")?;
+    for _ in 0..FLUSHES_IN_A_ROW {
+        script.extend_from_slice(b"fill 1 65536\nhflush 1\n")?;
+    }
+    script.extend_from_slice(b"close 1\nexpect 0 1 FINALIZED 1001 1048576\n")?;
+    script.extend_from_slice(b"expect 1 1 FINALIZED 1001 1048576\n")?;
+    script.extend_from_slice(b"expect 2 1 FINALIZED 1001 1048576\n")?;
+    let left = run_one(rt.alloc(), "play", &script, NONE)?;
+    assert_eq!(rt; left.exit, Exit::Done);
+    let lines = left.report.bytes().split(|byte| *byte == b'\n');
+    let flushed = lines.filter(|line| line.ends_with(b" 1001 0,1,2")).count();
+    assert_eq!(rt; flushed, FLUSHES_IN_A_ROW + 1);
     Ok(())
 }
 
@@ -249,9 +296,17 @@ fn each_call_fails_in_turn(rt: HostRuntime) -> Result<(), Fail> {
 fn words_and_scripts_are_refused(rt: HostRuntime) -> Result<(), Fail> {
     let usage = |rule| Exit::Usage { rule };
     let bad = |line, kind| Exit::BadScript { line, kind };
-    let table: [(&str, &[u8], Exit); 6] = [
+    let table: [(&str, &[u8], Exit); 10] = [
+        ("", NINE, usage(UsageRule::Words)),
         ("walk", NINE, usage(UsageRule::Mode)),
         ("live", NINE, usage(UsageRule::Mode)),
+        ("storm", NINE, usage(UsageRule::Number)),
+        ("play --loopback", NINE, usage(UsageRule::Loopback)),
+        (
+            "play",
+            b"nodes 1\nseed 0\nwrite 1 00\n",
+            bad(3, BadKind::Block),
+        ),
         ("play", b"nodes 1\n", bad(2, BadKind::Head)),
         ("play", b"", bad(1, BadKind::Head)),
         ("play", b"nodes 4\nseed 0\n", bad(1, BadKind::TooManyNodes)),

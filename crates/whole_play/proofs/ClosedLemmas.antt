@@ -46,11 +46,11 @@ module _ {D : Type 0} (d : files.Ghosts D) where
 -- LISTS
 
 -- What stands at a place that is there.
-record Stands {A : Type 0} (xs : List A) (k : ℕ) : Type 0 where
-  x : A
-  at : slice_get xs k ≡ Some x
+pub record Stands {A : Type 0} (xs : List A) (k : ℕ) : Type 0 where
+  pub x : A
+  pub at : slice_get xs k ≡ Some x
 
-stands : {A : Type 0} (xs : List A) (k : ℕ) → k < length xs → Stands xs k
+pub stands : {A : Type 0} (xs : List A) (k : ℕ) → k < length xs → Stands xs k
 stands [] k h = absurd (never k h)
   where
     never : (k : ℕ) → k < 0 → ⊥
@@ -72,10 +72,10 @@ map_at f (y ∷ ys) (suc k) x e = map_at f ys k x e
 -- NODES
 
 module _ {D : Type 0} where
-  count_same : (old new : List (NodeBooks D)) → book_counts new ≡ book_counts old → length new ≡ length old
+  pub count_same : (old new : List (NodeBooks D)) → book_counts new ≡ book_counts old → length new ≡ length old
   count_same old new e = sym (length-map new (λ (x : NodeBooks D). length x.books.items)) ∙ (ap length e ∙ length-map old (λ (x : NodeBooks D). length x.books.items))
 
-  books_same : (old new : List (NodeBooks D)) (k : ℕ) (x y : NodeBooks D) → book_counts new ≡ book_counts old → slice_get old k ≡ Some x → slice_get new k ≡ Some y → length y.books.items ≡ length x.books.items
+  pub books_same : (old new : List (NodeBooks D)) (k : ℕ) (x y : NodeBooks D) → book_counts new ≡ book_counts old → slice_get old k ≡ Some x → slice_get new k ≡ Some y → length y.books.items ≡ length x.books.items
   books_same old new k x y e at at' =
       same_some (length y.books.items) (length x.books.items)
       (sym (map_at (λ (z : NodeBooks D). length z.books.items) new k y at') ∙ (ap (λ (ns : List ℕ). slice_get ns k) e ∙ map_at (λ (z : NodeBooks D). length z.books.items) old k x at))

@@ -3,3 +3,6 @@ mod ThroughLemmas
 mod ClosedLemmas
 mod FaultLemmas
 mod ToldLemmas
+mod HeldLemmas
+mod HoldLemmas
+mod FrontLemmas

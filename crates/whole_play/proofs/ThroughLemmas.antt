@@ -33,10 +33,12 @@ use Rattle.play_lines.specs.declared.playing.Playing.{Playing}
 use Rattle.play_lines.specs.Drawing.{blocks_in}
 use Rattle.play_lines.specs.Lines.{LinesLeft, LinesEnd, LinesShow, IsReady}
 use Rattle.play_lines.specs.Showing.{PlayIs}
+use Rattle.play_report.specs.Laws.{StillShow}
 use Rattle.play_report.specs.Reports.{NodesAre, ClientsAre}
+use Rattle.play_report.specs.Rows.{LeavesAll}
 use Rattle.whole_play.specs.declared.playing.Played.{Played}
 use Rattle.whole_play.specs.Opening.{HasHead, first_of}
-use Rattle.whole_play.specs.Playing.{BeginsScript, IsTold, IsToldOf, HaveCarried, IsThrough}
+use Rattle.whole_play.specs.Playing.{BeginsScript, IsTold, IsToldOf, HaveCarried, IsThrough, IsOver}
 
 -- SCRIPTS
 
@@ -47,7 +49,7 @@ head_within head body script h = subst (λ (ls : List ScriptLine). 2 ≤ length 
     two : (n : ℕ) → 2 ≤ suc (suc n)
     two n = omega arith
 
-head_blocks : (head : Head) (body script : List ScriptLine) → HasHead head body script → blocks_of script ≡ blocks_of body
+pub head_blocks : (head : Head) (body script : List ScriptLine) → HasHead head body script → blocks_of script ≡ blocks_of body
 head_blocks head body script h = ap blocks_of h.parts
 
 plays_script : (head : Head) (body script : List ScriptLine) (end : PlayState) → HasHead head body script → PlaysLines (blocks_of body) body (first_of head) end → Plays script end
@@ -108,7 +110,7 @@ module _ {F R I O : Type 0} (f : files.Ghosts F) (r : roads.Ghosts R I O) (i : l
     said = λ k c at. (is.stands.shows.clients k c at).shows.said ∙ ap (λ (es : List Event). (run (start end.nodes) es).said c.block.0) (sym is.events);
   }
 
-  pub through : (script : List ScriptLine) (road road' : R) (old x : Playing F I O) (p : Played) → (b : BeginsScript r i o script road old) → (left : LinesLeft r i o (drop 2 script) (first_of b.head) old x road') → x.player.nodes.blocks.items ≡ old.player.nodes.blocks.items → AllRun → NetsCarry → IsToldOf f i o x script p
+  through : (script : List ScriptLine) (road road' : R) (old x : Playing F I O) (p : Played) → (b : BeginsScript r i o script road old) → (left : LinesLeft r i o (drop 2 script) (first_of b.head) old x road') → x.player.nodes.blocks.items ≡ old.player.nodes.blocks.items → AllRun → NetsCarry → IsToldOf f i o x script p
       → IsThrough f r script road' p
   through script road road' old x p b left same all carry told =
       let end : PlayState = left.left in
@@ -123,4 +125,16 @@ module _ {F R I O : Type 0} (f : files.Ghosts F) (r : roads.Ghosts R I O) (i : l
         told = subst (λ (bs : List ℕ). IsTold f (states.world_of end) bs script p) (here ∙ sym (head_blocks b.head (drop 2 script) script b.has_head)) shown;
         carried = have_carried r (states.world_of end) is.stands.net road' carry
             (subst (λ (es : List Event). IsNetOf (run (start end.nodes) es) is.stands.net) (sym is.events) is.stands.shows.nodes.roads_are.is_net) is.stands.shows.nodes.roads_are.shows.carried;
+      }
+
+  -- Once the report was made the nodes show the world still.
+  pub over : (script : List ScriptLine) (road road' : R) (old x y : Playing F I O) (p : Played) → (b : BeginsScript r i o script road old) → (left : LinesLeft r i o (drop 2 script) (first_of b.head) old x road') → x.player.nodes.blocks.items ≡ old.player.nodes.blocks.items → AllRun → NetsCarry → StillShow F I O f i o
+      → LeavesAll f x.player.nodes y.player.nodes → IsToldOf f i o x script p → IsOver f r i o script road' y p
+  unfolding through
+  over script road road' old x y p b left same all carry still kept told =
+      let are : NodesAre i o x.nodes (states.world_of left.left) left.is.stands.net x.player.nodes = nodes_are left.left x road' left.is all in
+      record {
+        through = through script road road' old x p b left same all carry told;
+        net = left.is.stands.net;
+        show = still (states.world_of left.left) left.is.stands.net x.player.nodes y.player.nodes kept are.show;
       }

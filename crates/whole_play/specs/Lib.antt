@@ -1,4 +1,5 @@
 pub mod Faults
+pub mod Holding
 pub mod Opening
 pub mod Playing
 pub mod Unused

@@ -18,6 +18,7 @@ use Rattle.play_model.specs.Lines.{Plays, blocks_of}
 use Rattle.play_scripts.specs.declared.heads.Head.{Head}
 use Rattle.play_scripts.specs.Blocks.{numbers}
 use Rattle.play_scripts.specs.Heads.{head_of}
+use Rattle.play_nodes.specs.Showing.{NodesShow}
 use Rattle.play_lines.specs.declared.playing.Playing.{Playing}
 use Rattle.play_lines.specs.Drawing.{HasFailed}
 use Rattle.play_report.specs.Expecting.{differing}
@@ -26,6 +27,7 @@ use Rattle.play_report.specs.Reports.{report_text, NodesAre, ClientsAre}
 use Rattle.whole_play.specs.declared.faults.RunFault.{RunFault}
 use Rattle.whole_play.specs.declared.faults.RunFault.TheVariants as fault
 use Rattle.whole_play.specs.declared.playing.Played.{Played}
+use Rattle.whole_play.specs.Holding.{ShelvesHold}
 use Rattle.whole_play.specs.Opening.{HasHead, Begins}
 
 -- THE BEGINNING
@@ -69,13 +71,26 @@ pub record IsThrough {D R I O : Type 0} (d : files.Ghosts D) (r : roads.Ghosts R
   pub told : IsTold d (world_of end) (blocks_of script) script p
   pub carried : HaveCarried r (world_of end) road
 
--- So it was; the shelves of its nodes were empty, and those beyond are as they were.
-pub record IsPlayed {S D R I O : Type 0} (s : shelves.Ghosts S D) (d : files.Ghosts D) (r : roads.Ghosts R I O)
+-- So it was, and the nodes show that world.
+pub record IsOver {F R I O : Type 0} (f : files.Ghosts F) (r : roads.Ghosts R I O) (i : link_in.Ghosts I)
+    (o : link_out.Ghosts O) (script : List ScriptLine) (road : R) (x : Playing F I O) (p : Played) : Type 0 where
+  pub through : IsThrough f r script road p
+  pub net : Net
+  pub show : NodesShow i o (world_of through.end) net x.player.nodes
+
+-- So it was; the shelves, one for each node, were empty, and hold the replicas of that world.
+pub record IsClosed {S D R I O : Type 0} (s : shelves.Ghosts S D) (d : files.Ghosts D) (r : roads.Ghosts R I O)
     (script : List ScriptLine) (old new : List S) (road : R) (p : Played) : Type 0 where
   pub through : IsThrough d r script road p
+  pub empty : AllEmpty s old
+  pub hold : ShelvesHold s (world_of through.end) (blocks_of script) new
+
+-- So it is of the first shelves, one for each node, and those beyond are as they were.
+pub record IsPlayed {S D R I O : Type 0} (s : shelves.Ghosts S D) (d : files.Ghosts D) (r : roads.Ghosts R I O)
+    (script : List ScriptLine) (old new : List S) (road : R) (p : Played) : Type 0 where
   pub head : Head
   pub head_is : head_of script ≡ Some head
-  pub empty : AllEmpty s (take head.nodes old)
+  pub closed : IsClosed s d r script (take head.nodes old) (take head.nodes new) road p
   pub others : (k : ℕ) → head.nodes ≤ k → slice_get new k ≡ slice_get old k
 
 -- FAULTS

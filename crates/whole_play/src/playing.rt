@@ -1,18 +1,18 @@
 //! A script is played.
 
-ghost use Rattle.std.specs.Prelude.{◌≡◌, ◌≤◌, length, drop, IfOk, IfErr, OnOk};
+ghost use Rattle.std.specs.Prelude.{◌≡◌, length, drop, IfOk, IfErr};
 ghost use Rattle.member_events.specs.Roads.{RoadsPass};
 ghost use Rattle.node_opening.specs.Listening.{AreUnused};
-ghost use Rattle.node_opening.specs.Shelves.{AllEmpty};
 ghost use Rattle.play_nodes.specs.Places.{KeepsSizes};
+ghost use Rattle.play_report.specs.Rows.{LeavesAll};
 ghost use Rattle.play_scripts.specs.Fitting.{ScriptFits};
 ghost use Rattle.whole_play.specs.Opening.{HasHead, HeadFits};
-ghost use Rattle.whole_play.specs.Playing.{BeginsScript, IsThrough, IsThroughFault, IsToldOf, IsReportFault, IsPlayed, HasCause};
+ghost use Rattle.whole_play.specs.Playing.{BeginsScript, IsOver, IsThroughFault, IsToldOf, IsReportFault, IsClosed, IsPlayed, HasCause};
 
 use crate::faults::RunFault;
 use crate::opening::open_play;
 use hd_base::{Files, LinkIn, LinkOut, Roads, Shelf};
-use node_opening::{close_nodes, opened_nodes_close};
+use node_opening::{close_nodes, fitting_books_are_of_blocks, opened_nodes_close, shown_nodes_fit};
 use play_laws::nodes_run;
 use play_lines::Playing;
 use play_nodes::Nodes;
@@ -22,6 +22,7 @@ use play_report::{
 use play_scripts::{Head, head_of};
 use script_lang::ScriptLine;
 use std::alloc::Global;
+use world_laws::replicas_have_their_bytes;
 use world_nets::nets_carry;
 
 /// How many lines the head has.
@@ -72,11 +73,14 @@ fn play_on<S: Shelf, R: Roads>(
     requires unused { AreUnused R.Roads roads.old }
     requires head { HasHead head (drop HEAD_LINES script.now) script.now }
     requires fits { HeadFits (length shelves.old) head (drop HEAD_LINES script.now) }
-    ensures through { IfOk result (IsThrough S.Drawer.Files R.Roads script.now roads.new) }
-    ensures empty { OnOk result (AllEmpty S.Shelf shelves.old) }
+    ensures closed { IfOk result (IsClosed S.Shelf S.Drawer.Files R.Roads script.now shelves.old shelves.new roads.new) }
+    ensures count { length shelves.new ≡ length shelves.old }
     ensures cause { IfErr result (HasCause S.Shelf R.Roads shelves.old shelves.new roads.old roads.new) }
 {
     opened_nodes_close::<S, R::Inward, R::Outward>();
+    shown_nodes_fit::<S::Drawer, R::Inward, R::Outward>();
+    fitting_books_are_of_blocks::<S::Drawer>();
+    replicas_have_their_bytes();
     let (_, lines) = script.split_at(HEAD_LINES);
     let mut playing = open_play(alloc, roads, shelves, head, lines)?;
     let played = play_through(alloc, roads, &mut playing, script);
@@ -93,13 +97,14 @@ fn play_through<F: Files, I: LinkIn, O: LinkOut, R: Roads<Inward = I, Outward = 
     script: &[ScriptLine],
 ) -> Result<Played, RunFault>
     requires { BeginsScript R.Roads I.LinkIn O.LinkOut script.now roads.old playing.old }
-    ensures through { IfOk result (IsThrough F.Files R.Roads script.now roads.new) }
+    ensures through { IfOk result (IsOver F.Files R.Roads I.LinkIn O.LinkOut script.now roads.new playing.new) }
     ensures cause { IfErr result (IsThroughFault F.Files R.Roads playing.new roads.old roads.new) }
     ensures sizes { KeepsSizes playing.old.player.nodes playing.new.player.nodes }
     ensures pass { RoadsPass R.Roads roads.old roads.new }
 {
     nodes_run();
     nets_carry();
+    reports_keep_nodes::<F, I, O>();
     let (_, lines) = script.split_at(HEAD_LINES);
     playing.lines(alloc, roads, lines)?;
     report_of(alloc, playing, script)
@@ -113,7 +118,7 @@ fn report_of<F: Files, I: LinkIn, O: LinkOut>(
 ) -> Result<Played, RunFault>
     ensures told { IfOk result (IsToldOf F.Files I.LinkIn O.LinkOut playing.old script.now) }
     ensures cause { IfErr result (IsReportFault F.Files playing.new) }
-    ensures sizes { KeepsSizes playing.old.player.nodes playing.new.player.nodes }
+    ensures kept { LeavesAll F.Files playing.old.player.nodes playing.new.player.nodes }
 {
     reports_keep_nodes::<F, I, O>();
     reports_are_true::<F, I, O>();

@@ -10,7 +10,6 @@ use Rattle.play_report.specs.Reports.{ClientsAre}
 use Rattle.whole_play.specs.declared.faults.RunFault.{RunFault}
 use Rattle.whole_play.specs.Playing.{IsReportFault}
 use Rattle.whole_play.proofs.FaultLemmas.{report_fault}
-use Rattle.whole_play.proofs.ToldLemmas.{report_sizes}
 use Rattle.whole_play.proofs.playing.report_of.Goals as goal
 
 pub returns-in_err-report-clause-cause : goal.returns-in_err-report-clause-cause
@@ -19,9 +18,6 @@ returns-in_err-report-clause-cause g c =
     let new = record old { player = record old.player { nodes = c.write_report.new.nodes } } in
     let e = err_from_is_err_and c.from_residual.result c.from_residual.ensures.1 in
     if_err c.from_residual.result e.0 (IsReportFault g.F.Files new) e.1 (subst (λ (why : RunFault). IsReportFault g.F.Files new why) (sym e.2) (report_fault g.F.Files old new c.in_err-report.field-0.0 c.in_err-report.ensures.cause))
-
-pub returns-in_err-report-clause-sizes : goal.returns-in_err-report-clause-sizes
-returns-in_err-report-clause-sizes g c = report_sizes g.F.Files c.args.playing.now.player.nodes c.write_report.new.nodes c.in_err-report.ensures.kept
 
 pub returns-clause-told : goal.returns-clause-told
 returns-clause-told g c = λ w net are clients.
@@ -33,6 +29,3 @@ returns-clause-told g c = λ w net are clients.
       difference = c.first_difference-difference.ensures w net (record { show = c.reports_keep_nodes.ensures.show w net old new kept are.show; count_is = are.count_is; running = are.running })
           ∙ ap (λ (bs : List BlockId). differing w (numbers bs) c.args.script.now) kept.blocks;
     }
-
-pub returns-clause-sizes : goal.returns-clause-sizes
-returns-clause-sizes g c = report_sizes g.F.Files c.args.playing.now.player.nodes c.write_report.new.nodes c.in_ok-report.ensures.kept
