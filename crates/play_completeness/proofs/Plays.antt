@@ -1,0 +1,125 @@
+-- What each line keeps and all that is due keeps, a play keeps; and the events of plays are plain.
+use Rattle.std.proofs.Common.{◌≡◌, ℕ, zero, suc, true, List, [], ◌∷◌, ◌++◌, slice_get, Option, Some, None, refl, sym, ◌∙◌, ap, subst}
+use Rattle.std.specs.Prelude.{◌%◌, length}
+use Rattle.hd_base.specs.SumRules.{Rule}
+use Rattle.rand_pcg.specs.Pcg.{pcg32}
+use Rattle.script_lang.specs.declared.instructions.Instruction.{Instruction}
+use Rattle.script_lang.specs.declared.instructions.Instruction.TheVariants as line
+use Rattle.script_lang.specs.declared.instructions.ScriptLine.{ScriptLine}
+use Rattle.writer_core.specs.declared.actions.Action.{Action}
+use Rattle.writer_core.specs.declared.actions.Action.TheVariants as action
+use Rattle.writer_core.specs.declared.commands.Command.{Command}
+use Rattle.writer_core.specs.declared.commands.Command.TheVariants as command
+use Rattle.world.specs.declared.events.Event.{Event}
+use Rattle.world.specs.declared.events.TakenCommand.{TakenCommand}
+use Rattle.world.specs.Worlds.{World}
+use Rattle.world_laws.proofs.FactTables.{if-each}
+use Rattle.play_model.specs.declared.dues.Due.{Due}
+use Rattle.play_model.specs.declared.dues.Due.TheVariants as due
+use Rattle.play_model.specs.States.{PlayState, world_of, opened, ordered, ruled}
+use Rattle.play_model.specs.Dues.{Queues, is_due, dues, own_events, action_of, due_events, after_due}
+use Rattle.play_model.specs.Draws.{drawn, happened, advanced, drawn_from, draw, draws}
+use Rattle.play_model.specs.Lines.{stepped, step_due, PlaysLine, PlaysLines, PlaysFrom, Plays}
+use Rattle.play_model.proofs.ListedLemmas.{listed_due}
+use Rattle.play_completeness.specs.Plain.{ArePlain, PlaysArePlain}
+
+module _ (Q : PlayState → Type 0) where
+  pub record Keeps : Type 0 where
+    pub advances : (p : PlayState) → Q p → Q (advanced p)
+    pub orders : (p : PlayState) (b : ℕ) (c : Command) → Q p → Q (ordered p b c)
+    pub rules : (p : PlayState) (b : ℕ) (r : Rule) → Q p → Q (ruled p b r)
+    pub goes : (p : PlayState) (d : Due) → is_due (world_of p) p.queues d ≡ true → Q p → Q (after_due p d)
+
+  happened-keeps : Keeps → (p : PlayState) (o : Option Due) → ((d : Due) → o ≡ Some d → is_due (world_of p) p.queues d ≡ true) → Q p → Q (happened p o)
+  happened-keeps k p None due q = q
+  happened-keeps k p (Some d) due q = k.goes p d (due d refl) q
+
+  draw-keeps : Keeps → (blocks : List ℕ) (p : PlayState) → Q p → Q (draw blocks p)
+  draw-keeps k blocks p q = go (dues blocks p) refl
+    where
+      go : (ds : List Due) → dues blocks p ≡ ds → Q (drawn_from ds p)
+      go [] e = q
+      go (d ∷ ds) e =
+          happened-keeps k (advanced p) (drawn (d ∷ ds) (pcg32 p.generator).0)
+          (λ x found. (listed_due blocks p ((pcg32 p.generator).0 % length (d ∷ ds)) x (ap (λ (xs : List Due). slice_get xs ((pcg32 p.generator).0 % length (d ∷ ds))) e ∙ found)).is)
+          (k.advances p q)
+
+  draws-keep : Keeps → (blocks : List ℕ) (n : ℕ) (p : PlayState) → Q p → Q (draws blocks n p)
+  draws-keep k blocks zero p q = q
+  draws-keep k blocks (suc n) p q = draws-keep k blocks n (draw blocks p) (draw-keeps k blocks p q)
+
+  stepped-keeps : Keeps → (p : PlayState) (o : Option Due) → Q p → Q (stepped p o)
+  stepped-keeps k p None q = q
+  stepped-keeps k p (Some d) q = if-each Q (is_due (world_of p) p.queues d) (after_due p d) p (λ e. k.goes p d e q) (λ _. q)
+
+  line-keeps : Keeps → (blocks : List ℕ) (i : Instruction) (p new : PlayState) → PlaysLine blocks i p new → Q p → Q new
+  line-keeps k blocks (line.Settle) p new s q = subst Q s.drawn_so (draws-keep k blocks s.count p q)
+  line-keeps k blocks (line.Nodes count) p new s q = subst Q (sym s) q
+  line-keeps k blocks (line.Seed seed) p new s q = subst Q (sym s) q
+  line-keeps k blocks (line.Sums b r) p new s q = subst Q (sym s) (k.rules p b.0 r q)
+  line-keeps k blocks (line.Create b members) p new s q = subst Q (sym s) (k.orders p b.0 (command.Create members) q)
+  line-keeps k blocks (line.Append b members) p new s q = subst Q (sym s) (k.orders p b.0 (command.Append members) q)
+  line-keeps k blocks (line.Write b bytes) p new s q = subst Q (sym s) (k.orders p b.0 (command.Write bytes) q)
+  line-keeps k blocks (line.Fill b count) p new s q = subst Q (sym s) (k.orders p b.0 (command.Fill count) q)
+  line-keeps k blocks (line.Hflush b) p new s q = subst Q (sym s) (k.orders p b.0 command.Hflush q)
+  line-keeps k blocks (line.Hsync b) p new s q = subst Q (sym s) (k.orders p b.0 command.Hsync q)
+  line-keeps k blocks (line.Close b) p new s q = subst Q (sym s) (k.orders p b.0 command.Close q)
+  line-keeps k blocks (line.Read b n from count) p new s q = subst Q (sym s) q
+  line-keeps k blocks (line.Recover b n members) p new s q = subst Q (sym s) q
+  line-keeps k blocks (line.Cut b conn down up) p new s q = subst Q (sym s) q
+  line-keeps k blocks (line.Fault n nth) p new s q = subst Q (sym s) q
+  line-keeps k blocks (line.Stop n) p new s q = subst Q (sym s) q
+  line-keeps k blocks (line.Start n) p new s q = subst Q (sym s) q
+  line-keeps k blocks (line.Run count) p new s q = subst Q (sym s) (draws-keep k blocks count p q)
+  line-keeps k blocks (line.Step b e) p new s q = subst Q (sym s) (stepped-keeps k p (step_due (world_of p) b.0 e) q)
+  line-keeps k blocks (line.Expect n b state stamp written) p new s q = subst Q (sym s) q
+
+  pub lines-keep : Keeps → (blocks : List ℕ) (lines : List ScriptLine) (p new : PlayState) → PlaysLines blocks lines p new → Q p → Q new
+  lines-keep k blocks [] p new s q = subst Q s.drawn_so (draws-keep k blocks s.count p q)
+  lines-keep k blocks (l ∷ lines) p new s q = lines-keep k blocks lines s.0 new s.1.1 (line-keeps k blocks l.instruction p s.0 s.1.0 q)
+
+  from-keeps : Keeps → ((nodes seed : ℕ) → Q (opened nodes seed)) → (first second : Instruction) (lines : List ScriptLine) (new : PlayState) → PlaysFrom first second lines new → Q new
+  from-keeps k begins (line.Nodes count) (line.Seed seed) lines new s = lines-keep k _ lines _ new s (begins _ _)
+  from-keeps k begins first second lines new s = absurd s
+
+  -- What holds of an opened play, and is kept, holds at the end of each.
+  pub play-keeps : Keeps → ((nodes seed : ℕ) → Q (opened nodes seed)) → (script : List ScriptLine) (new : PlayState) → Plays script new → Q new
+  play-keeps k begins (first ∷ (second ∷ lines)) new s = from-keeps k begins first.instruction second.instruction lines new s
+  play-keeps k begins [] new s = absurd s
+  play-keeps k begins (first ∷ []) new s = absurd s
+
+-- PLAIN EVENTS
+
+pub plain-join : (events others : List Event) → ArePlain events → ArePlain others → ArePlain (events ++ others)
+plain-join [] others p q = q
+plain-join (e ∷ events) others p q = (p.0, plain-join events others p.1 q)
+
+own-plain : (a : Action) (b : ℕ) (queue : List TakenCommand) → ArePlain (own_events a b queue)
+own-plain action.Wait b queue = (refl, tt)
+own-plain (action.Ask c) b queue = (refl, (refl, tt))
+own-plain action.Took b queue = (refl, tt)
+own-plain (action.Dial to r) b queue = (refl, tt)
+own-plain (action.Send p) b queue = (refl, tt)
+own-plain (action.Answered n a) b queue = (refl, tt)
+own-plain action.Memory b queue = (refl, tt)
+
+due-plain : (w : World) (queues : Queues) (d : Due) → ArePlain (due_events w queues d)
+due-plain w queues (due.Own b) = own-plain (action_of w b) b.0 (queues b.0)
+due-plain w queues (due.Down c) = (refl, tt)
+due-plain w queues (due.Ready c) = (refl, tt)
+due-plain w queues (due.Up c) = (refl, tt)
+
+abbrev Plain : PlayState → Type 0
+Plain p = ArePlain p.events
+
+after-plain : (p : PlayState) (d : Due) → Plain p → Plain (after_due p d)
+unfolding after_due
+after-plain p d h = plain-join p.events (due_events (world_of p) p.queues d) h (due-plain (world_of p) p.queues d)
+
+pub plays-plain : PlaysArePlain
+plays-plain script end s = play-keeps Plain (record {
+  advances = λ p h. h;
+  orders = λ p b c h. h;
+  rules = λ p b r h. h;
+  goes = λ p d _ h. after-plain p d h;
+}) (λ nodes seed. tt) script end s

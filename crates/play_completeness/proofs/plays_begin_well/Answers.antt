@@ -1,0 +1,5 @@
+use Rattle.play_completeness.proofs.Beginning.{opened-played, commands-join}
+use Rattle.play_completeness.proofs.plays_begin_well.Goals as goal
+
+pub returns : goal.returns
+returns c = record { opened = opened-played; joined = commands-join }

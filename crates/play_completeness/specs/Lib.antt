@@ -1,0 +1,9 @@
+pub mod Plain
+pub mod Streams
+pub mod Links
+pub mod Waiting
+pub mod Turning
+pub mod Writers
+pub mod Hearing
+pub mod Complete
+pub mod Played

@@ -1,0 +1,32 @@
+-- What is due of members keeps the connections of a play without failures.
+use Rattle.std.specs.Prelude.{ℕ, ◌≡◌, true, List}
+use Rattle.hd_base.specs.declared.numbers.ConnId.{ConnId}
+use Rattle.world.specs.declared.events.Event.{Event}
+use Rattle.world.specs.declared.events.Event.TheVariants as event
+use Rattle.world.specs.Parts.{by_member, FullMember, writes}
+use Rattle.world.specs.Worlds.{start}
+use Rattle.world.specs.Events.{run, happens}
+use Rattle.play_model.specs.Dues.{is_open}
+use Rattle.play_completeness.specs.Plain.{ArePlain}
+use Rattle.play_completeness.specs.Links.{Links}
+
+-- A member that acts takes what stands next from above.
+abbrev pub PacketsKeepLinks : Type 0
+PacketsKeepLinks = (nodes : ℕ) (events : List Event) (c : ConnId) (m : FullMember) → ArePlain events →
+    Links (run (start nodes) events) → (run (start nodes) events).lowers c.0 ≡ writes m →
+    is_open (writes m) ≡ true
+    → Links (happens (run (start nodes) events) (event.Down c true))
+
+-- A member that acts does something without a message.
+abbrev pub ReadyKeepsLinks : Type 0
+ReadyKeepsLinks = (nodes : ℕ) (events : List Event) (c : ConnId) (m : FullMember) → ArePlain events →
+    Links (run (start nodes) events) → (run (start nodes) events).lowers c.0 ≡ writes m →
+    is_open (writes m) ≡ true
+    → Links (happens (run (start nodes) events) (event.Ready c))
+
+-- A member that acts takes what stands next on the connection to its mirror.
+abbrev pub HearingKeepsLinks : Type 0
+HearingKeepsLinks = (nodes : ℕ) (events : List Event) (c : ConnId) (d : ℕ) (m : FullMember) → ArePlain events →
+    Links (run (start nodes) events) → ((run (start nodes) events).dialled c.0).upper ≡ by_member d →
+    (run (start nodes) events).lowers d ≡ writes m → is_open (writes m) ≡ true
+    → Links (happens (run (start nodes) events) (event.Up c))

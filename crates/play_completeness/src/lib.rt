@@ -1,0 +1,63 @@
+//! Plays without failures complete: their laws, step by step. Each function has an empty body; its clause says what holds.
+#![tactic(auto)]
+
+ghost use Rattle.play_completeness.specs.Plain.{PlaysArePlain, AllPeaceful};
+ghost use Rattle.play_completeness.specs.Played.{CommandsJoin, OpenedArePlayed, SettledIsComplete};
+ghost use Rattle.play_completeness.specs.Hearing.{WritersHear};
+ghost use Rattle.play_completeness.specs.Turning.{HearingKeepsLinks, PacketsKeepLinks, ReadyKeepsLinks};
+ghost use Rattle.play_completeness.specs.Waiting.{AwaitedIsDue};
+
+/// All that happens in a play is a writer's step or the office's answer to it, each dial answered, or what an end of a
+/// connection does, and no call on files fails.
+pub fn plays_are_plain()
+    ensures { PlaysArePlain }
+{}
+
+/// Where only such things happen, no reader and no primary begins, each connection is one of a pipeline, and no replica
+/// breaks or comes into a recovery; nor does the office know of one.
+pub fn plain_events_keep_peace()
+    ensures { AllPeaceful }
+{}
+
+/// Where whoever dialled a connection awaits an answer or an ack on it, something is due of this connection or of one
+/// below it: so a play in which nothing is due awaits nothing.
+pub fn what_is_awaited_is_due()
+    ensures { AwaitedIsDue }
+{}
+
+/// Where nothing is due in a play without failures, each command was taken and answered well; and where the last one of a
+/// block is a close, each member of its create has a finalized replica with all bytes, under the committed stamp.
+pub fn settled_plays_are_complete()
+    ensures { SettledIsComplete }
+{}
+
+/// Where a member that acts takes what stands next from above, that is a packet that its replica takes, and all connections
+/// fit their ends as before.
+pub fn packets_keep_links()
+    ensures { PacketsKeepLinks }
+{}
+
+/// Where a member that acts does something without a message, it has no mirror and acks its oldest packet, and all
+/// connections fit their ends as before. With the ack of the last packet it is over.
+pub fn acks_at_the_end_keep_links()
+    ensures { ReadyKeepsLinks }
+{}
+
+/// Where a member that acts takes what stands next from its mirror, that is the mirror's answer, which is SUCCESS, or an ack
+/// of its oldest packet by all below, which it passes up, and all connections fit their ends as before.
+pub fn hearing_keeps_links()
+    ensures { HearingKeepsLinks }
+{}
+
+/// Where each writer is as it should be, and one takes what stands next on its connection, that is the answer to its request,
+/// which is SUCCESS, or an ack of its oldest packet by all members, and all connections fit their ends as before. With the
+/// ack of the last packet it gives its connection up.
+pub fn writers_hear_good_news()
+    ensures { WritersHear }
+{}
+
+/// A play that was only opened is as it should be, and stays so where a command joins a queue that fits those before it.
+pub fn plays_begin_well()
+    ensures opened { OpenedArePlayed }
+    ensures joined { CommandsJoin }
+{}

@@ -1,0 +1,17 @@
+pub mod PairLemmas
+pub mod KeptLemmas
+pub mod PieceLemmas
+pub mod CallLemmas
+pub mod ReadLemmas
+pub mod FrontLemmas
+pub mod RemovalLemmas
+pub mod SettleLemmas
+pub mod DrawerLemmas
+pub mod ShelfLemmas
+pub mod NumberLemmas
+pub mod GoingLemmas
+pub mod StrayLemmas
+pub mod ScanLemmas
+pub mod WholeLemmas
+pub mod StopLemmas
+pub mod CreateLemmas

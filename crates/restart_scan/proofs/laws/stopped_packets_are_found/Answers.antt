@@ -1,0 +1,6 @@
+-- The law is proved of definitions alone.
+use Rattle.restart_scan.proofs.StopLemmas.{stopped_packets_are_found}
+use Rattle.restart_scan.proofs.laws.stopped_packets_are_found.Goals as goal
+
+pub returns : goal.returns
+returns c = stopped_packets_are_found

@@ -1,0 +1,1 @@
+-- One of two names is the data file's.
