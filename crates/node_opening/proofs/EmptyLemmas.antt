@@ -77,23 +77,26 @@ module _ {S D : Type 0} (s : shelves.Ghosts S D) where
   listed a b f l n = record { files = f; lent = λ x. ap (λ (g : ℕ → Bool). g x) l; never_falls = n }
 
   -- The fault of one shelf is that of all.
-  pub fault_at : (old new : List S) (n : ℕ) (node : NodeId) (a b : S) (why : OpenFault) → node.0 ≡ n → slice_get old n ≡ Some a → slice_get new n ≡ Some b → IsShelfFault s node a b why → IsFaultOf s old new why
-  fault_at old new n node a b fault.RoadFault e was is h = h
-  fault_at old new n node a b (fault.ShelfFault k) e was is h = record {
+  pub fault_at : (old new : List S) (n : ℕ) (node : NodeId) (a b : S) (why : OpenFault) → node.0 ≡ n → slice_get old n ≡ Some a → slice_get new n ≡ Some b → ((k : ℕ) (c : S) → k < n → slice_get old k ≡ Some c → IsEmpty s c) → IsShelfFault s node a b why → IsFaultOf s old new why
+  fault_at old new n node a b fault.RoadFault e was is none h = h
+  fault_at old new n node a b (fault.ShelfFault k) e was is none h = record {
     before = a;
     after = b;
     was = ap (λ (q : NodeId). slice_get old q.0) h.0 ∙ (ap (slice_get old) e ∙ was);
     is = ap (λ (q : NodeId). slice_get new q.0) h.0 ∙ (ap (slice_get new) e ∙ is);
     so = h.1;
   }
-  fault_at old new n node a b (fault.NotEmpty k name) e was is h = record {
-    before = a;
-    after = b;
-    was = ap (λ (q : NodeId). slice_get old q.0) h.0 ∙ (ap (slice_get old) e ∙ was);
-    is = ap (λ (q : NodeId). slice_get new q.0) h.0 ∙ (ap (slice_get new) e ∙ is);
-    so = h.1;
+  fault_at old new n node a b (fault.NotEmpty k name) e was is none h = record {
+    here = record {
+      before = a;
+      after = b;
+      was = ap (λ (q : NodeId). slice_get old q.0) h.0 ∙ (ap (slice_get old) e ∙ was);
+      is = ap (λ (q : NodeId). slice_get new q.0) h.0 ∙ (ap (slice_get new) e ∙ is);
+      so = h.1;
+    };
+    empty = λ j c within at. none j c (subst (λ (q : ℕ). j < q) (ap (λ (q : NodeId). q.0) h.0 ∙ e) within) at;
   }
-  fault_at old new n node a b fault.Memory e was is h = tt
+  fault_at old new n node a b fault.Memory e was is none h = tt
 
   abbrev pub Checked : ℕ → S → S → Type 0
   Checked k a b = HasLent s [] a b × IsEmpty s a
@@ -114,5 +117,10 @@ module _ {S D : Type 0} (s : shelves.Ghosts S D) where
       → EachShelf (HasLent s []) old (slice_set new n b) × IsFaultOf s old (slice_set new n b) why
   check_stop old new n node a b why u e at h = (
     up_to_all (HasLent s []) (n + 1) old (slice_set new n b) (up_to_next (λ _. HasLent s []) n old new a b (up_to_map Checked (λ _. HasLent s []) n old new (λ k p q _ c. c.0) u) at h.0) (lent_none s),
-    fault_at old (slice_set new n b) n node a b why e (up_to_here Checked n old new a u at) (set_here new n a b at) h.1,
+    fault_at old (slice_set new n b) n node a b why e (up_to_here Checked n old new a u at) (set_here new n a b at) none h.1,
   )
+    where
+      none : (k : ℕ) (c : S) → k < n → slice_get old k ≡ Some c → IsEmpty s c
+      none k c within was =
+          let m = element new k (subst (λ (q : ℕ). k < q) (sym u.count) (element_within old k c was)) in
+          (u.done k c m.0 within was m.1).1

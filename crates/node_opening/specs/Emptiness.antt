@@ -1,5 +1,5 @@
 -- The shelves of nodes are looked at for files.
-use Rattle.std.specs.Prelude.{◌≡◌, ◌⊎◌, ℕ, true, List, [], slice_get, Some, IsSome, IfSome, Result, Ok, Err}
+use Rattle.std.specs.Prelude.{◌≡◌, ◌<◌, ◌⊎◌, ℕ, true, List, [], slice_get, Some, IsSome, IfSome, Result, Ok, Err}
 use Rattle.std.specs.Ordering.{nat_cmp, is_lt}
 use Rattle.std.specs.Cmp.Lexicographic.{slice_cmp}
 use Rattle.hd_base.specs.Faults.{FaultsIncreased}
@@ -51,9 +51,11 @@ pub record ShelfOf {S : Type 0} (P : S → S → Type 0) (old new : List S) (nod
 abbrev pub ShelfRose : {S D : Type 0} → shelves.Ghosts S D → List S → List S → NodeId → Type 0
 ShelfRose s old new node = ShelfOf (λ a b. FaultsIncreased (s.faults a) (s.faults b)) old new node.0
 
--- Where the shelf of this node tells its files, this is the first of them.
-abbrev pub HasFirstFile : {S D : Type 0} → shelves.Ghosts S D → List S → List S → NodeId → List ℕ → Type 0
-HasFirstFile s old new node name = ShelfOf (λ a b. IfSome (s.files a) (λ m. IsFirstName m name)) old new node.0
+-- Where the shelf of this node tells its files, this is the first of them. The shelves of nodes before it have none.
+pub record HasFirstFile {S D : Type 0} (s : shelves.Ghosts S D) (old new : List S) (node : NodeId) (name : List ℕ) :
+    Type 0 where
+  pub here : ShelfOf (λ a b. IfSome (s.files a) (λ m. IsFirstName m name)) old new node.0
+  pub empty : (k : ℕ) (a : S) → k < node.0 → slice_get old k ≡ Some a → IsEmpty s a
 
 -- A shelf failed, or has a file, or memory ran out.
 abbrev pub IsFaultOf : {S D : Type 0} → shelves.Ghosts S D → List S → List S → OpenFault → Type 0

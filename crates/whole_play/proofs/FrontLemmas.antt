@@ -1,5 +1,5 @@
 -- What is so of the first shelves, and of those beyond.
-use Rattle.std.proofs.Common.{◌≡◌, ◌≤◌, ℕ, zero, suc, List, [], ◌∷◌, ◌++◌, length, take, drop, slice_get, Some, None, refl, sym, ap, subst, ◌∙◌, arith}
+use Rattle.std.proofs.Common.{◌≡◌, ◌<◌, ◌≤◌, ℕ, zero, suc, List, [], ◌∷◌, ◌++◌, length, take, drop, slice_get, Some, None, refl, sym, ap, subst, ◌∙◌, arith}
 use Rattle.std.proofs.Math.Seq.{take-append_seam}
 use Rattle.std.proofs.lemmas.List.{length-take}
 use Rattle.std.proofs.lemmas.Option.{same_Some}
@@ -8,8 +8,8 @@ use Rattle.hd_base.specs.declared.roads.Roads as roads
 use Rattle.hd_base.specs.declared.shelves.Shelf as shelves
 use Rattle.script_lang.specs.declared.instructions.ScriptLine.{ScriptLine}
 use Rattle.node_opening.specs.Emptiness.{ShelfOf}
-use Rattle.node_opening.proofs.ListLemmas.{get_take}
-use Rattle.play_nodes.proofs.PlaceLaws.{element_none}
+use Rattle.node_opening.proofs.ListLemmas.{get_take, get_within}
+use Rattle.play_nodes.proofs.PlaceLaws.{element_none, element_within}
 use Rattle.play_scripts.specs.declared.heads.Head.{Head}
 use Rattle.play_scripts.specs.Fitting.{ScriptFits}
 use Rattle.play_scripts.specs.Heads.{head_of}
@@ -82,5 +82,11 @@ module _ {S D R I O : Type 0} (s : shelves.Ghosts S D) (d : files.Ghosts D) (r :
   pub cause_front : (n : ℕ) (old new : List S) (road road' : R) (why : RunFault) → HasCause s r (take n old) new road road' why → HasCause s r old (new ++ drop n old) road road' why
   cause_front n old new road road' fault.RoadFault c = c
   cause_front n old new road road' (fault.ShelfFault node) c = shelf_front _ n node.0 old new c
-  cause_front n old new road road' (fault.NotEmpty node name) c = shelf_front _ n node.0 old new c
+  cause_front n old new road road' (fault.NotEmpty node name) c = record {
+    here = shelf_front _ n node.0 old new c.here;
+    empty = λ k a within at. c.empty k a within (get_within old n k (before k node.0 (element_within (take n old) node.0 c.here.before c.here.was) within) ∙ at);
+  }
+    where
+      before : (k node : ℕ) → node < length (take n old) → k < node → k < n
+      before k node h h' = omega (arith, h, h', length-take n old)
   cause_front n old new road road' fault.Memory c = tt
