@@ -1,2 +1,3 @@
 mod StreamLaws
+mod AnswerLaws
 mod RunLaws

@@ -1,21 +1,30 @@
 -- What a run says of its exit, by what was played and how writing its report ended.
-use Rattle.std.proofs.Common.{◌≡◌, inl, inr, ℕ, List, Option, Some, None, IfSome, Result, Ok, Err, true, false, refl, sym, ap, subst, ◌∙◌}
+use Rattle.std.proofs.lemmas.Option.{same_Some}
+use Rattle.play_scripts.specs.declared.heads.Head.{Head}
+use Rattle.play_scripts.specs.Fitting.{ScriptFits}
+use Rattle.play_scripts.specs.Heads.{head_of}
+use Rattle.std.proofs.Common.{◌≡◌, ◌≤◌, length, take, slice_get, inl, inr, ℕ, List, Option, Some, None, IfSome, Result, Ok, Err, true, false, refl, sym, ap, subst, ◌∙◌}
 use Rattle.hd_base.specs.declared.files.Files as files
 use Rattle.hd_base.specs.declared.roads.Roads as roads
 use Rattle.hd_base.specs.declared.shelves.Shelf as shelves
 use Rattle.hd_base.specs.declared.streams.Sink as sinks
 use Rattle.hd_base.specs.declared.streams.Source as sources
+use Rattle.hd_base.specs.Faults.{FaultsIncreased}
+use Rattle.hd_base.specs.FileMaps.{FileMap, no_files}
+use Rattle.hd_base.specs.declared.numbers.NodeId.{NodeId}
+use Rattle.node_opening.specs.Emptiness.{IsFirstName, HasFirstFile, ShelfOf}
+use Rattle.node_opening.proofs.ListLemmas.{get_take}
 use Rattle.script_lang.specs.declared.instructions.ScriptLine.{ScriptLine}
 use Rattle.run_words.specs.declared.faults.UsageRule.{UsageRule}
 use Rattle.whole_play.specs.declared.faults.RunFault.{RunFault}
 use Rattle.whole_play.specs.declared.faults.RunFault.TheVariants as fault
 use Rattle.whole_play.specs.declared.playing.Played.{Played}
-use Rattle.whole_play.specs.Playing.{HasCause}
+use Rattle.whole_play.specs.Playing.{LeavesShelves, HasCause, HasUsedCause}
 use Rattle.dn_run.specs.declared.exits.Exit.{Exit}
 use Rattle.dn_run.specs.declared.exits.Exit.TheVariants as exit
 use Rattle.dn_run.specs.Exits.{is_told, run_exit}
-use Rattle.dn_run.specs.Reading.{IsReadExit, Refuses}
-use Rattle.dn_run.specs.Runs.{UsageFor, ReadsWords, IsBadIn, RefusesIn, HasPlayCause, HasExitCause, HasRun, IsOver, WritesReport}
+use Rattle.dn_run.specs.Reading.{IsPlayable, HasRead, IsReadExit, Accepts, Refuses}
+use Rattle.dn_run.specs.Runs.{IsBadText, OfUsed, NoneRose, CanRun, IsPlainExit, IsUntouched, LeavesOthers, KeepsShelves, UsageFor, ReadsWords, IsBadIn, RefusesIn, HasPlayCause, HasExitCause, HasRun, IsOver, WritesReport}
 
 -- WRITING
 
@@ -106,14 +115,37 @@ pub refuses_written : (left : Option (List ℕ)) (n : ℕ) (p : Played) (ended :
 refuses_written None n p ended h = tt
 refuses_written (Some text) n p ended h = λ line why bad. absurd (h line why bad)
 
+-- a text that is refused isn't a script that plays have
+pub bad_text : (left : Option (List ℕ)) (before now n : ℕ) (ended : Exit) → IsReadExit left before now n ended → IfSome left (λ text. Accepts n text (Err ended)) → IsBadIn left n ended
+bad_text left before now n exit.Done c a = tt
+bad_text left before now n (exit.Differs line want got) c a = tt
+bad_text left before now n exit.ReportFault c a = tt
+bad_text left before now n exit.Memory c a = tt
+bad_text left before now n (exit.Usage u) c a = tt
+bad_text None before now n (exit.BadScript line why) c a = tt
+bad_text (Some text) before now n (exit.BadScript line why) c a = record { refused = c; unplayable = a }
+bad_text left before now n exit.ScriptFault c a = tt
+bad_text left before now n (exit.ShelfFault node) c a = tt
+bad_text left before now n exit.RoadFault c a = tt
+bad_text left before now n (exit.NotEmpty node name) c a = tt
+
 -- FAULTS OF A PLAY
 
 module _ {I S D R L M : Type 0} (i : sources.Ghosts I) (s : shelves.Ghosts S D) (r : roads.Ghosts R L M) (script script' : I) (old new : List S) (road road' : R) where
-  pub fault_cause : (why : RunFault) → HasCause s r old new road road' why → HasPlayCause i s r script script' old new road road' (run_exit why)
-  fault_cause fault.RoadFault c = c
-  fault_cause (fault.ShelfFault node) c = c
-  fault_cause (fault.NotEmpty node name) c = c
-  fault_cause fault.Memory c = tt
+  pub fault_cause : (lines : List ScriptLine) → HasRead (i.left script) (i.left script') (length old) lines → ScriptFits (length old) lines → (why : RunFault) → HasUsedCause s r lines old new road road' why → HasPlayCause i s r script script' old new road road' (run_exit why)
+  fault_cause lines read fits why cause = by why (cause head is)
+    where
+      head : Head
+      head = record { nodes = fits.nodes; seed = fits.seed }
+
+      is : head_of lines ≡ Some head
+      is = ap head_of fits.parts
+
+      by : (w : RunFault) → HasCause s r (take head.nodes old) (take head.nodes new) road road' w → HasPlayCause i s r script script' old new road road' (run_exit w)
+      by fault.RoadFault c = c
+      by (fault.ShelfFault node) c = record { lines = lines; read = read; head = head; head_is = is; so = c }
+      by (fault.NotEmpty node name) c = record { lines = lines; read = read; head = head; head_is = is; so = c }
+      by fault.Memory c = tt
 
   pub read_cause : (left : Option (List ℕ)) (shelves : ℕ) (ended : Exit) → IsReadExit left (i.faults script) (i.faults script') shelves ended → HasPlayCause i s r script script' old new road road' ended
   read_cause left shelves exit.Done c = c
@@ -175,3 +207,134 @@ told_usage (Some r) ended t (inr e) = absurd (never (ap is_told (sym e) ∙ t))
   where
     never : false ≡ true → ⊥
     never e = cc
+
+-- WHAT IS LEFT AS IT WAS
+
+module _ {I S R : Type 0} (script script' : I) (old new : List S) (road road' : R) where
+  pub untouched_words : (ended : Exit) → IsUntouched script script old old road road ended
+  untouched_words exit.Done = tt
+  untouched_words (exit.Differs line want got) = tt
+  untouched_words exit.ReportFault = tt
+  untouched_words exit.Memory = tt
+  untouched_words (exit.Usage u) = (refl, refl, refl)
+  untouched_words (exit.BadScript line why) = (refl, refl)
+  untouched_words exit.ScriptFault = (refl, refl)
+  untouched_words (exit.ShelfFault node) = tt
+  untouched_words exit.RoadFault = tt
+  untouched_words (exit.NotEmpty node name) = tt
+
+  pub untouched_read : (left : Option (List ℕ)) (before now shelves : ℕ) (ended : Exit) → IsReadExit left before now shelves ended → IsUntouched script script' old old road road ended
+  untouched_read left before now shelves exit.Done c = tt
+  untouched_read left before now shelves (exit.Differs line want got) c = tt
+  untouched_read left before now shelves exit.ReportFault c = tt
+  untouched_read left before now shelves exit.Memory c = tt
+  untouched_read left before now shelves (exit.Usage u) c = absurd c
+  untouched_read left before now shelves (exit.BadScript line why) c = (refl, refl)
+  untouched_read left before now shelves exit.ScriptFault c = (refl, refl)
+  untouched_read left before now shelves (exit.ShelfFault node) c = tt
+  untouched_read left before now shelves exit.RoadFault c = tt
+  untouched_read left before now shelves (exit.NotEmpty node name) c = tt
+
+  pub untouched_fault : (why : RunFault) → IsUntouched script script' old new road road' (run_exit why)
+  untouched_fault fault.RoadFault = tt
+  untouched_fault (fault.ShelfFault node) = tt
+  untouched_fault (fault.NotEmpty node name) = tt
+  untouched_fault fault.Memory = tt
+
+module _ {O : Type 0} (o : sinks.Ghosts O) (report report' : O) (p : Played) where
+  pub untouched_written : {I S R : Type 0} (script script' : I) (old new : List S) (road road' : R) (ended : Exit) → WritesReport o report report' p ended → IsUntouched script script' old new road road' ended
+  untouched_written script script' old new road road' exit.Done w = tt
+  untouched_written script script' old new road road' (exit.Differs line want got) w = tt
+  untouched_written script script' old new road road' exit.ReportFault w = tt
+  untouched_written script script' old new road road' exit.Memory w = tt
+  untouched_written script script' old new road road' (exit.Usage u) w = absurd w
+  untouched_written script script' old new road road' (exit.BadScript line why) w = absurd w
+  untouched_written script script' old new road road' exit.ScriptFault w = absurd w
+  untouched_written script script' old new road road' (exit.ShelfFault node) w = absurd w
+  untouched_written script script' old new road road' exit.RoadFault w = absurd w
+  untouched_written script script' old new road road' (exit.NotEmpty node name) w = absurd w
+
+-- SHELVES
+
+module _ {S D : Type 0} (s : shelves.Ghosts S D) where
+  -- Shelves that weren't touched are as they were.
+  pub keeps_all : (left : Option (List ℕ)) (xs : List S) → KeepsShelves s left xs xs
+  keeps_all left xs = record {
+    lent = record { count = refl; each = λ k a b at at' n none. subst (λ (x : S). s.lent x n ≡ false) (same_Some a b (sym at ∙ at')) none };
+    others = rest left;
+  }
+    where
+      rest : (l : Option (List ℕ)) → LeavesOthers l xs xs
+      rest None = tt
+      rest (Some text) = λ lines head k playable is within. refl
+
+  -- The shelves of a play are those of its script.
+  pub keeps_played : (left : Option (List ℕ)) (old new : List S) (lines : List ScriptLine) → ScriptFits (length old) lines → IfSome left (λ text. Accepts (length old) text (Ok lines)) → IfSome (head_of lines) (LeavesShelves s old new) → KeepsShelves s left old new
+  keeps_played left old new lines fits accepts leaves = record { lent = here.lent; others = rest left accepts }
+    where
+      head : Head
+      head = record { nodes = fits.nodes; seed = fits.seed }
+
+      is : head_of lines ≡ Some head
+      is = ap head_of fits.parts
+
+      here : LeavesShelves s old new head
+      here = subst (λ (h : Option Head). IfSome h (LeavesShelves s old new)) is leaves
+
+      rest : (l : Option (List ℕ)) → IfSome l (λ text. Accepts (length old) text (Ok lines)) → LeavesOthers l old new
+      rest None a = tt
+      rest (Some text) a = λ ls other k playable so within.
+          let same : lines ≡ ls = a ls playable in
+          let heads : head ≡ other = same_Some head other (sym is ∙ (ap head_of same ∙ so)) in
+          here.others k (subst (λ (h : Head). h.nodes ≤ k) (sym heads) within)
+
+-- RUNS WITHOUT FAULTS
+
+-- a report that was written, but for a sink that failed
+pub plain_written : {O : Type 0} (o : sinks.Ghosts O) (report report' : O) (p : Played) (ended : Exit) → WritesReport o report report' p ended → (FaultsIncreased (o.faults report) (o.faults report') → ⊥) → IsPlainExit ended
+plain_written o report report' p exit.Done w none = tt
+plain_written o report report' p (exit.Differs line want got) w none = tt
+plain_written o report report' p exit.ReportFault w none = absurd (none w.1)
+plain_written o report report' p exit.Memory w none = tt
+plain_written o report report' p (exit.Usage u) w none = absurd w
+plain_written o report report' p (exit.BadScript line why) w none = absurd w
+plain_written o report report' p exit.ScriptFault w none = absurd w
+plain_written o report report' p (exit.ShelfFault node) w none = absurd w
+plain_written o report report' p exit.RoadFault w none = absurd w
+plain_written o report report' p (exit.NotEmpty node name) w none = absurd w
+
+-- the shelf of one of the first nodes
+used_shelf : {S : Type 0} (P : S → S → Type 0) (n node : ℕ) (old new : List S) → ShelfOf P (take n old) (take n new) node → ShelfOf P old new node
+used_shelf P n node old new h = record { before = h.before; after = h.after; was = get_take old n node h.before h.was; is = get_take new n node h.after h.is; so = h.so }
+
+none_first : (name : List ℕ) → IsFirstName no_files name → ⊥
+none_first name h = never h.there
+  where
+    never : false ≡ true → ⊥
+    never e = cc
+
+module _ {I O S D R L M : Type 0} (i : sources.Ghosts I) (o : sinks.Ghosts O) (s : shelves.Ghosts S D) (r : roads.Ghosts R L M) (script script' : I) (report report' : O) (old new : List S) (road road' : R)
+    (can : CanRun s (i.left script) old) (none : NoneRose i o s r script script' report report' old new road road') where
+  -- the shelves that the script uses are empty
+  never_files : (node : NodeId) (name : List ℕ) → OfUsed i script script' old new (λ a b. HasFirstFile s a b node name) → ⊥
+  never_files node name c =
+      let only = subst (λ (l : Option (List ℕ)). IfSome l (λ told. (ls : List ScriptLine) → IsPlayable (length old) told ls → ls ≡ c.lines)) can.told c.read.only in
+      let same : c.head ≡ can.head = same_Some c.head can.head (sym c.head_is ∙ (ap head_of (sym (only can.lines can.playable)) ∙ can.head_is)) in
+      let here = c.so.here in
+      let at : slice_get (take can.head.nodes old) node.0 ≡ Some here.before = subst (λ (h : Head). slice_get (take h.nodes old) node.0 ≡ Some here.before) same here.was in
+      none_first name (subst (λ (f : Option FileMap). IfSome f (λ m. IsFirstName m name)) (can.empty node.0 here.before at) here.so)
+
+  -- where nothing was played, memory ran out
+  pub plain_unplayed : (ended : Exit) → UsageFor None ended → IsBadIn (i.left script) (length old) ended → HasPlayCause i s r script script' old new road road' ended → IsPlainExit ended
+  plain_unplayed exit.Done u b c = tt
+  plain_unplayed (exit.Differs line want got) u b c = tt
+  plain_unplayed exit.ReportFault u b c = absurd c
+  plain_unplayed exit.Memory u b c = tt
+  plain_unplayed (exit.Usage x) u b c = absurd (u x refl)
+  plain_unplayed (exit.BadScript line why) u b c =
+      let bad = subst (λ (l : Option (List ℕ)). IfSome l (λ text. IsBadText (length old) text line why)) can.told b in
+      absurd (bad.unplayable can.lines can.playable)
+  plain_unplayed exit.ScriptFault u b c = absurd (none.source c)
+  plain_unplayed (exit.ShelfFault node) u b c = absurd (none.shelves node (used_shelf _ c.head.nodes node.0 old new c.so))
+  plain_unplayed exit.RoadFault u b c = absurd (none.roads c)
+  plain_unplayed (exit.NotEmpty node name) u b c = absurd (never_files node name c)

@@ -1,4 +1,5 @@
 pub mod Streams
 pub mod Exits
 pub mod Reading
+pub mod Answers
 pub mod Runs

@@ -32,12 +32,13 @@ pub record IsUnplayed (shelves : ℕ) (text : List ℕ) (line : ℕ) (why : BadK
 abbrev pub IsRefused : ℕ → List ℕ → ℕ → BadKind → Type 0
 IsRefused shelves text line why = IsBad shelves text line why ⊎ IsUnplayed shelves text line why
 
--- The source, where it tells, is read to its end, and what it gave is a script with these lines.
+-- The source, where it tells, is read to its end, and what it gave is a script with these lines, and no others.
 pub record HasRead (old new : Option (List ℕ)) (shelves : ℕ) (lines : List ScriptLine) : Type 0 where
   pub text : List ℕ
   pub took : Took old new text
   pub to_end : IfSome new (λ rest. rest ≡ [])
   pub playable : IsPlayable shelves text lines
+  pub only : IfSome old (λ told. (ls : List ScriptLine) → IsPlayable shelves told ls → ls ≡ lines)
 
 -- EXITS
 
@@ -54,6 +55,17 @@ IsRefusal line why (exit.BadScript n k) = (n ≡ line) × (k ≡ why)
 IsRefusal line why exit.ScriptFault = Unit {0}
 IsRefusal line why exit.Memory = Unit {0}
 IsRefusal line why other = ⊥
+
+-- These lines are read, or nothing is, but not because they were refused.
+abbrev pub ReadsLines : List ScriptLine → Result (List ScriptLine) Exit → Type 0
+ReadsLines lines (Ok read) = read ≡ lines
+ReadsLines lines (Err exit.ScriptFault) = Unit {0}
+ReadsLines lines (Err exit.Memory) = Unit {0}
+ReadsLines lines (Err other) = ⊥
+
+-- A script of lines that plays have is read.
+abbrev pub Accepts : ℕ → List ℕ → Result (List ScriptLine) Exit → Type 0
+Accepts shelves text result = (lines : List ScriptLine) → IsPlayable shelves text lines → ReadsLines lines result
 
 -- A text that is refused isn't read.
 abbrev pub Refuses : {T : Type 0} → ℕ → List ℕ → Result T Exit → Type 0

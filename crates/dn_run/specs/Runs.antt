@@ -1,6 +1,8 @@
 -- What a run does, and how it ends.
-use Rattle.std.specs.Prelude.{◌≡◌, ◌⊎◌, ℕ, List, length, Option, Some, None, IfSome, Result, Ok, Err}
+use Rattle.std.specs.Prelude.{◌≡◌, ◌≤◌, ◌⊎◌, ℕ, List, length, take, slice_get, Option, Some, None, IfSome, Result, Ok, Err}
 use Rattle.hd_base.specs.Faults.{FaultsIncreased}
+use Rattle.hd_base.specs.FileMaps.{no_files}
+use Rattle.hd_base.specs.declared.numbers.NodeId.{NodeId}
 use Rattle.hd_base.specs.Streams.{Wrote}
 use Rattle.hd_base.specs.declared.files.Files as files
 use Rattle.hd_base.specs.declared.roads.Roads as roads
@@ -10,8 +12,12 @@ use Rattle.hd_base.specs.declared.streams.Source as sources
 use Rattle.script_lang.specs.declared.faults.BadKind.{BadKind}
 use Rattle.script_lang.specs.declared.instructions.ScriptLine.{ScriptLine}
 use Rattle.node_opening.specs.Emptiness.{ShelfRose, HasFirstFile}
+use Rattle.node_opening.specs.Shelves.{EachShelf, LendsNoMore}
 use Rattle.play.specs.Events.{RoadsFailed}
+use Rattle.play_model.specs.States.{world_of}
 use Rattle.play_report.specs.declared.expecting.Difference.{Difference}
+use Rattle.play_scripts.specs.declared.heads.Head.{Head}
+use Rattle.play_scripts.specs.Heads.{head_of}
 use Rattle.run_words.specs.Calls.{words_of}
 use Rattle.run_words.specs.declared.call.Mode.{Mode}
 use Rattle.run_words.specs.declared.call.Mode.TheVariants as mode
@@ -22,7 +28,8 @@ use Rattle.whole_play.specs.declared.playing.Played.{Played}
 use Rattle.whole_play.specs.Playing.{IsPlayed}
 use Rattle.dn_run.specs.declared.exits.Exit.{Exit}
 use Rattle.dn_run.specs.declared.exits.Exit.TheVariants as exit
-use Rattle.dn_run.specs.Reading.{IsRefused, IsRefusal, HasRead}
+use Rattle.dn_run.specs.Answers.{AppendsKeepMembers, Completes}
+use Rattle.dn_run.specs.Reading.{IsPlayable, IsRefused, IsRefusal, HasRead}
 use Rattle.dn_run.specs.Streams.{WroteFront}
 
 -- WORDS
@@ -39,6 +46,15 @@ said_usage (Err r) = Some r
 -- the first rule that the words break, if they break one
 abbrev pub usage_of : List (List ℕ) → Option UsageRule
 usage_of words = said_usage (words_of words)
+
+-- the folder that was said
+abbrev pub said_folder : Result Words UsageRule → Option (List ℕ)
+said_folder (Ok words) = words.folder
+said_folder (Err r) = None
+
+-- the folder that the words name, if they break no rule and name one
+abbrev pub folder_named : List (List ℕ) → Option (List ℕ)
+folder_named words = said_folder (words_of words)
 
 -- Usage comes exactly where the words break a rule, but for want of memory.
 abbrev pub UsageFor : Option UsageRule → Exit → Type 0
@@ -59,9 +75,14 @@ ReadsWords (Some r) (Err ended) = (ended ≡ exit.Usage r) ⊎ (ended ≡ exit.M
 
 -- SCRIPTS
 
+-- The text is refused so, and isn't a script that plays have.
+pub record IsBadText (shelves : ℕ) (text : List ℕ) (line : ℕ) (why : BadKind) : Type 0 where
+  pub refused : IsRefused shelves text line why
+  pub unplayable : (lines : List ScriptLine) → IsPlayable shelves text lines → ⊥
+
 -- A script is refused only where, if told, the text is so,
 abbrev pub IsBadIn : Option (List ℕ) → ℕ → Exit → Type 0
-IsBadIn left shelves (exit.BadScript line why) = IfSome left (λ text. IsRefused shelves text line why)
+IsBadIn left shelves (exit.BadScript line why) = IfSome left (λ text. IsBadText shelves text line why)
 IsBadIn left shelves other = Unit {0}
 
 -- and a text that is so is refused, but for want of memory or a source that failed.
@@ -69,17 +90,47 @@ abbrev pub RefusesIn : Option (List ℕ) → ℕ → Exit → Type 0
 RefusesIn left shelves ended = IfSome left (λ text. (line : ℕ) (why : BadKind) → IsRefused shelves text line why →
     IsRefusal line why ended)
 
+-- WHAT IS LEFT AS IT WAS
+
+-- Words that break a rule leave all as it was, and a script that isn't played all but its source.
+abbrev pub IsUntouched : {I S R : Type 0} → I → I → List S → List S → R → R → Exit → Type 0
+IsUntouched script script' old new road road' (exit.Usage r) = (script' ≡ script) × (new ≡ old) × (road' ≡ road)
+IsUntouched script script' old new road road' (exit.BadScript line why) = (new ≡ old) × (road' ≡ road)
+IsUntouched script script' old new road road' exit.ScriptFault = (new ≡ old) × (road' ≡ road)
+IsUntouched script script' old new road road' other = Unit {0}
+
+-- Where a told text is a script that plays have, the shelves beyond its nodes are as they were.
+abbrev pub LeavesOthers : {S : Type 0} → Option (List ℕ) → List S → List S → Type 0
+LeavesOthers left old new = IfSome left (λ text. (lines : List ScriptLine) (head : Head) (k : ℕ) →
+    IsPlayable (length old) text lines → head_of lines ≡ Some head → head.nodes ≤ k → slice_get new k ≡ slice_get old k)
+
+-- Whatever the exit: no shelf lends a block that it didn't, and those that the script doesn't use are as they were.
+pub record KeepsShelves {S D : Type 0} (s : shelves.Ghosts S D) (left : Option (List ℕ)) (old new : List S) : Type 0 where
+  pub lent : EachShelf (LendsNoMore s) old new
+  pub others : LeavesOthers left old new
+
 -- FAULTS
 
--- Each fault of a play has its cause in this call: the count of the source, the shelf or the roads rose; or this is the
--- first file of a shelf that isn't empty. None is of a report.
+-- The source was read to its end and gave a script, and this is so of the shelves of its nodes, before and after.
+pub record OfUsed {I S : Type 0} (i : sources.Ghosts I) (script script' : I) (old new : List S)
+    (P : List S → List S → Type 0) : Type 0 where
+  pub lines : List ScriptLine
+  pub read : HasRead (i.left script) (i.left script') (length old) lines
+  pub head : Head
+  pub head_is : head_of lines ≡ Some head
+  pub so : P (take head.nodes old) (take head.nodes new)
+
+-- Each fault of a play has its cause in this call: the count of the source, of a shelf that the script uses, or of the
+-- roads rose; or this is the first file of such a shelf that isn't empty. None is of a report.
 abbrev pub HasPlayCause : {I S D R L M : Type 0} → sources.Ghosts I → shelves.Ghosts S D → roads.Ghosts R L M → I → I →
     List S → List S → R → R → Exit → Type 0
 HasPlayCause i s r script script' old new road road' exit.ScriptFault =
     FaultsIncreased (i.faults script) (i.faults script')
-HasPlayCause i s r script script' old new road road' (exit.ShelfFault node) = ShelfRose s old new node
+HasPlayCause i s r script script' old new road road' (exit.ShelfFault node) =
+    OfUsed i script script' old new (λ a b. ShelfRose s a b node)
 HasPlayCause i s r script script' old new road road' exit.RoadFault = RoadsFailed r road road'
-HasPlayCause i s r script script' old new road road' (exit.NotEmpty node name) = HasFirstFile s old new node name
+HasPlayCause i s r script script' old new road road' (exit.NotEmpty node name) =
+    OfUsed i script script' old new (λ a b. HasFirstFile s a b node name)
 HasPlayCause i s r script script' old new road road' exit.Done = ⊥
 HasPlayCause i s r script script' old new road road' (exit.Differs line want got) = ⊥
 HasPlayCause i s r script script' old new road road' exit.ReportFault = ⊥
@@ -95,14 +146,42 @@ HasExitCause i o s r script script' report report' old new road road' exit.Repor
 HasExitCause i o s r script script' report report' old new road road' other =
     HasPlayCause i s r script script' old new road road' other
 
+-- RUNS WITHOUT FAULTS
+
+-- No count rose: not that of the source, of the sink, of a shelf, of the roads or of a link.
+pub record NoneRose {I O S D R L M : Type 0} (i : sources.Ghosts I) (o : sinks.Ghosts O) (s : shelves.Ghosts S D)
+    (r : roads.Ghosts R L M) (script script' : I) (report report' : O) (old new : List S) (road road' : R) : Type 0 where
+  pub source : FaultsIncreased (i.faults script) (i.faults script') → ⊥
+  pub sink : FaultsIncreased (o.faults report) (o.faults report') → ⊥
+  pub shelves : (node : NodeId) → ShelfRose s old new node → ⊥
+  pub roads : RoadsFailed r road road' → ⊥
+
+-- The source tells a script that plays have, and the shelves that it uses tell that they have no files.
+pub record CanRun {S D : Type 0} (s : shelves.Ghosts S D) (left : Option (List ℕ)) (old : List S) : Type 0 where
+  pub text : List ℕ
+  pub told : left ≡ Some text
+  pub lines : List ScriptLine
+  pub playable : IsPlayable (length old) text lines
+  pub head : Head
+  pub head_is : head_of lines ≡ Some head
+  pub empty : (node : ℕ) (a : S) → slice_get (take head.nodes old) node ≡ Some a → s.files a ≡ Some no_files
+
+-- Such a run plays its script to the end, or memory runs out.
+abbrev pub IsPlainExit : Exit → Type 0
+IsPlainExit exit.Done = Unit {0}
+IsPlainExit (exit.Differs line want got) = Unit {0}
+IsPlainExit exit.Memory = Unit {0}
+IsPlainExit other = ⊥
+
 -- ENDS
 
--- The source was read to its end, and what it gave is a script, which was played.
+-- The source was read to its end, and what it gave is a script, which was played. Where appends keep members, it completes.
 pub record HasRun {I S D R L M : Type 0} (i : sources.Ghosts I) (s : shelves.Ghosts S D) (d : files.Ghosts D)
     (r : roads.Ghosts R L M) (script script' : I) (old new : List S) (road : R) (p : Played) : Type 0 where
   pub lines : List ScriptLine
   pub read : HasRead (i.left script) (i.left script') (length old) lines
   pub played : IsPlayed s d r lines old new road p
+  pub complete : AppendsKeepMembers lines → Completes lines (world_of played.closed.through.end)
 
 -- So it was; the whole report was written, and this is the first difference from what is expected, if there is one.
 pub record IsDone {I O S D R L M : Type 0} (i : sources.Ghosts I) (o : sinks.Ghosts O) (s : shelves.Ghosts S D)
@@ -121,8 +200,8 @@ pub record IsCutShort {I O S D R L M : Type 0} (i : sources.Ghosts I) (o : sinks
   pub has_run : HasRun i s d r script script' old new road p
   pub written : WroteFront (o.written report) (o.written report') p.report.items
 
--- After Done and Differs the script was played and its whole report written, after ReportFault a front of it, and after
--- any other exit nothing was written.
+-- After Done and Differs the script was played and its whole report written, after ReportFault a front of it. After want of
+-- memory nothing was written, and after any other exit the sink is as it was.
 abbrev pub IsOver : {I O S D R L M : Type 0} → sources.Ghosts I → sinks.Ghosts O → shelves.Ghosts S D →
     files.Ghosts D → roads.Ghosts R L M → I → I → O → O → List S → List S → R → Exit → Type 0
 IsOver i o s d r script script' report report' old new road exit.Done =
@@ -131,7 +210,8 @@ IsOver i o s d r script script' report report' old new road (exit.Differs line w
     IsDone i o s d r script script' report report' old new road (Some (record { line = line; want = want; got = got }))
 IsOver i o s d r script script' report report' old new road exit.ReportFault =
     IsCutShort i o s d r script script' report report' old new road
-IsOver i o s d r script script' report report' old new road other = o.written report' ≡ o.written report
+IsOver i o s d r script script' report report' old new road exit.Memory = o.written report' ≡ o.written report
+IsOver i o s d r script script' report report' old new road other = report' ≡ report
 
 -- what the end of writing a report says
 abbrev pub WritesReport : {O : Type 0} → sinks.Ghosts O → O → O → Played → Exit → Type 0

@@ -9,5 +9,5 @@ mod streams;
 
 pub use exits::Exit;
 pub use running::run;
-pub use standard::run_in_memory;
+pub use standard::{folder_of, folder_shelves, run_in_memory, run_over};
 pub use streams::{ReadFault, WriteFault, read_to_end, write_all};

@@ -1,7 +1,7 @@
 //! The script is read from its source.
 
 ghost use Rattle.std.specs.Prelude.{◌+◌, ◌≤◌, IfOk, IfErr, IfSome};
-ghost use Rattle.dn_run.specs.Reading.{HasRead, IsReadExit, Refuses, script_limit};
+ghost use Rattle.dn_run.specs.Reading.{HasRead, IsReadExit, Accepts, Refuses, script_limit};
 ghost use Rattle.dn_run.specs.Streams.{TookSome};
 
 use crate::exits::Exit;
@@ -20,6 +20,7 @@ pub(crate) fn read_lines<I: Source>(
 ) -> Result<Script, Exit>
     ensures found { IfOk result (HasRead (I.left source.old) (I.left source.new) shelves) }
     ensures cause { IfErr result (IsReadExit (I.left source.old) (I.faults source.old) (I.faults source.new) shelves) }
+    ensures accepted { IfSome (I.left source.old) (λ text. Accepts shelves text result) }
     ensures refused { IfSome (I.left source.old) (λ text. Refuses shelves text result) }
     ensures taken { TookSome (I.left source.old) (I.left source.new) (script_limit + 1) }
     ensures never_falls { I.faults source.old ≤ I.faults source.new }

@@ -5,12 +5,14 @@ ghost use Rattle.std.specs.String.{string_bytes};
 ghost use Rattle.node_opening.specs.Listening.{AreUnused};
 ghost use Rattle.dn_run.specs.Reading.{Refuses, script_limit};
 ghost use Rattle.dn_run.specs.Runs.{usage_of, UsageFor, UsageIn, ReadsWords, IsBadIn, RefusesIn};
-ghost use Rattle.dn_run.specs.Runs.{HasPlayCause, HasExitCause, HasRun, IsOver, WritesReport};
+ghost use Rattle.dn_run.specs.Runs.{HasPlayCause, HasExitCause, HasRun, IsOver, IsUntouched, KeepsShelves, WritesReport};
+ghost use Rattle.dn_run.specs.Runs.{CanRun, NoneRose, IsPlainExit};
 ghost use Rattle.dn_run.specs.Streams.{TookSome};
 
 use crate::exits::Exit;
 use crate::reading::read_lines;
 use crate::streams::{WriteFault, write_all};
+use completing_lines::plays_complete;
 use hd_base::{Roads, Shelf, Sink, Source};
 use play_scripts::scripts_fit;
 use run_words::{Mode, UsageRule, read_words};
@@ -20,8 +22,8 @@ use whole_play::{Played, play_script};
 /// Runs the script that a source gives over shelves, one for each node, and roads, and writes its report to a sink. The
 /// words are those of the program's call, without its name. So far they must be `play`: `live` and `storm` are `Usage`.
 ///
-/// The roads of a play are over plain memory and new: no connection was made on them, nobody listens, and they have
-/// carried nothing.
+/// The roads of a play are over plain memory and new: no connection was made on them, nobody listens, they have carried
+/// nothing, and no end's count has risen. What shelves lend is given back, whatever the exit is.
 ///
 /// The exits are tried in the order `Usage`, `ScriptFault`, `BadScript`, `RoadFault`, `NotEmpty` and `ShelfFault` node by
 /// node, `ReportFault`, `Differs`; `Memory` may come at any point.
@@ -39,8 +41,14 @@ pub fn run<I: Source, O: Sink, S: Shelf, R: Roads>(
     ensures refused { usage_of (map string_bytes words.now) ≡ None →
         RefusesIn (I.left script.old) (length shelves.old.items) result }
     ensures taken { TookSome (I.left script.old) (I.left script.new) (script_limit + 1) }
+    ensures untouched { IsUntouched script.old script.new shelves.old.items shelves.new.items roads.old roads.new result }
+    ensures shelves { KeepsShelves S.Shelf (I.left script.old) shelves.old.items shelves.new.items }
     ensures cause { HasExitCause I.Source O.Sink S.Shelf R.Roads script.old script.new report.old report.new
         shelves.old.items shelves.new.items roads.old roads.new result }
+    ensures faultless { usage_of (map string_bytes words.now) ≡ None →
+        CanRun S.Shelf (I.left script.old) shelves.old.items →
+        NoneRose I.Source O.Sink S.Shelf R.Roads script.old script.new report.old report.new
+        shelves.old.items shelves.new.items roads.old roads.new → IsPlainExit result }
     ensures over { IsOver I.Source O.Sink S.Shelf S.Drawer.Files R.Roads script.old script.new report.old report.new
         shelves.old.items shelves.new.items roads.new result }
 {
@@ -66,10 +74,14 @@ fn play<I: Source, S: Shelf, R: Roads>(
     ensures refused { usage_of (map string_bytes words.now) ≡ None →
         IfSome (I.left script.old) (λ text. Refuses (length shelves.old.items) text result) }
     ensures taken { TookSome (I.left script.old) (I.left script.new) (script_limit + 1) }
+    ensures untouched { IfErr result (IsUntouched script.old script.new
+        shelves.old.items shelves.new.items roads.old roads.new) }
+    ensures shelves { KeepsShelves S.Shelf (I.left script.old) shelves.old.items shelves.new.items }
     ensures cause { IfErr result (HasPlayCause I.Source S.Shelf R.Roads script.old script.new
         shelves.old.items shelves.new.items roads.old roads.new) }
 {
     scripts_fit();
+    plays_complete();
     read_mode(alloc, words)?;
     let lines = read_lines(alloc, script, shelves.len())?;
     let played = play_script(alloc, roads, shelves.as_mut_slice(), lines.as_slice())?;

@@ -1,20 +1,71 @@
-//! A run over memory, from a reader to a writer.
+//! The program's run, over the ports that its words name.
 
-ghost use Rattle.std.specs.Prelude.{◌≡◌, IfOk, map};
+ghost use Rattle.std.specs.Prelude.{◌≡◌, IfOk, length, map};
 ghost use Rattle.std.specs.String.{string_bytes};
+ghost use Rattle.hd_base.specs.declared.roads.TheConstants.{MAX_NODES};
 ghost use Rattle.dn_run.specs.Exits.{is_told};
-ghost use Rattle.dn_run.specs.Runs.{usage_of, UsageFor};
+ghost use Rattle.dn_run.specs.Runs.{usage_of, folder_named, UsageFor};
 
 use crate::exits::Exit;
 use crate::running::run;
-use hd_base::MAX_NODES;
+use hd_base::{MAX_NODES, Shelf};
+use itoa::Buffer;
 use mem_ports::{MemRoads, MemShelf};
-use real_ports::{StdSink, StdSource};
+use real_ports::{FolderShelf, StdSink, StdSource};
+use run_words::{FolderText, WordsFault, read_words};
 use std::alloc::{AllocError, Global};
+use std::fs::{File, Files as System};
 use std::io::{Read, Write};
 use whole_play::new_roads_are_unused;
 
-/// Runs the script that a reader gives, over 16 empty shelves and roads in memory, and writes its report to a writer.
+/// The folder that the words name for the nodes' files; none where they name none or break a rule.
+pub fn folder_of(alloc: Global, words: &[String]) -> Result<Option<FolderText>, AllocError>
+    ensures { IfOk result (λ folder. folder ≡ folder_named (map string_bytes words.now)) }
+{
+    match read_words(alloc, words) {
+        Ok(said) => Ok(said.folder),
+        Err(WordsFault::Usage { .. }) => Ok(None),
+        Err(WordsFault::Memory) => Err(AllocError),
+    }
+}
+
+/// Shelves for all the nodes that there may be, in this folder: node k has its files in the folder `dnk`. An empty path is
+/// the present folder.
+pub fn folder_shelves<H>(rt: H, folder: &str) -> Result<Vec<FolderShelf<H>>, AllocError>
+where
+    H: System<File = File> + AllocGlobal + Clone + Drop + Send,
+    ensures { IfOk result (λ shelves. length shelves.items ≡ MAX_NODES) }
+{
+    let alloc = rt.alloc();
+    let mut shelves = Vec::new(alloc);
+    for node in 0..MAX_NODES {
+        let path = node_folder(alloc, folder, node)?;
+        shelves.push(FolderShelf::new(alloc, rt.clone()?, path.as_str())?)?;
+    }
+    Ok(shelves)
+}
+
+/// The path of a node's folder in this one.
+fn node_folder(alloc: Global, folder: &str, node: u32) -> Result<String, AllocError> {
+    let mut path = String::from_str(alloc, folder)?;
+    if !folder.is_empty() {
+        path.push('/')?;
+    }
+    path.push_str("dn")?;
+    path.push_str(Buffer::new().format(node))?;
+    Ok(path)
+}
+
+/// Empty shelves in memory for all the nodes that there may be.
+fn memory_shelves(alloc: Global) -> Result<Vec<MemShelf>, AllocError> {
+    let mut shelves = Vec::new(alloc);
+    for _ in 0..MAX_NODES {
+        shelves.push(MemShelf::new(alloc, &[])?)?;
+    }
+    Ok(shelves)
+}
+
+/// Runs the script that a reader gives, over empty shelves and roads in memory, and writes its report to a writer.
 pub fn run_in_memory<R: Read + Drop, W: Write + Drop>(
     alloc: Global,
     words: &[String],
@@ -23,37 +74,46 @@ pub fn run_in_memory<R: Read + Drop, W: Write + Drop>(
 ) -> Exit
     ensures { UsageFor (usage_of (map string_bytes words.now)) result }
 {
-    match run_with(alloc, words, input, output) {
+    match memory_shelves(alloc) {
+        Ok(shelves) => run_over(alloc, words, input, output, shelves),
+        Err(_) => Exit::Memory,
+    }
+}
+
+/// Runs the script that a reader gives, over these shelves and roads in memory, and writes its report to a writer.
+pub fn run_over<S: Shelf, R: Read + Drop, W: Write + Drop>(
+    alloc: Global,
+    words: &[String],
+    input: R,
+    output: W,
+    mut shelves: Vec<S>,
+) -> Exit
+    ensures { UsageFor (usage_of (map string_bytes words.now)) result }
+{
+    match run_with(alloc, words, input, output, &mut shelves) {
         Ok(exit) => exit,
         Err(_) => Exit::Memory,
     }
 }
 
-/// The same, where memory for the ports may run out.
-fn run_with<R: Read + Drop, W: Write + Drop>(
+/// The same, where memory for the other ports may run out.
+fn run_with<S: Shelf, R: Read + Drop, W: Write + Drop>(
     alloc: Global,
     words: &[String],
     input: R,
     output: W,
+    shelves: &mut Vec<S>,
 ) -> Result<Exit, AllocError>
     ensures { IfOk result (UsageFor (usage_of (map string_bytes words.now))) }
 {
     new_roads_are_unused::<MemRoads>();
-    let mut shelves = empty_shelves(alloc)?;
     let mut roads = MemRoads::new(alloc, &[])?;
     let mut source = StdSource {
         inner: input,
         faults: 0,
     };
     let mut sink = StdSink::new(alloc, output)?;
-    let exit = run(
-        alloc,
-        words,
-        &mut source,
-        &mut sink,
-        &mut shelves,
-        &mut roads,
-    );
+    let exit = run(alloc, words, &mut source, &mut sink, shelves, &mut roads);
     if is_told(&exit) && sink.flush().is_err() {
         return Ok(Exit::ReportFault);
     }
@@ -65,13 +125,4 @@ fn is_told(exit: &Exit) -> bool
     ensures { result ≡ is_told exit.now }
 {
     matches!(exit, Exit::Done | Exit::Differs { .. })
-}
-
-/// A shelf in memory for each node that there may be.
-fn empty_shelves(alloc: Global) -> Result<Vec<MemShelf>, AllocError> {
-    let mut shelves = Vec::new(alloc);
-    for _ in 0..MAX_NODES {
-        shelves.push(MemShelf::new(alloc, &[])?)?;
-    }
-    Ok(shelves)
 }

@@ -11,7 +11,8 @@ use Rattle.road_traffic.specs.Showing.{Net, RoadsShow, listened_net}
 use Rattle.node_opening.specs.declared.faults.OpenFault.{OpenFault}
 use Rattle.node_opening.specs.declared.faults.OpenFault.TheVariants as fault
 
--- Roads over plain memory on which nobody listens, nothing was dialled, and, where they tell it, nothing was carried.
+-- Roads over plain memory on which nobody listens, nothing was dialled, no end's count has risen, and, where they tell it,
+-- nothing was carried.
 pub record AreUnused {R I O : Type 0} (r : roads.Ghosts R I O) (road : R) : Type 0 where
   pub plain : Plain
   pub is : r.plain road ≡ Some plain
@@ -19,6 +20,7 @@ pub record AreUnused {R I O : Type 0} (r : roads.Ghosts R I O) (road : R) : Type
   pub listening : (port : ℕ) → plain.listening port ≡ false
   pub waiting : (port : ℕ) → plain.waiting port ≡ []
   pub channels : (c : ℕ) (d : Bool) → plain.channels c d ≡ empty_channel
+  pub none_risen : (c : ℕ) → r.risen road c ≡ false
   pub carried : r.carried road ≡ option_map (λ _. nothing_carried) (r.carried road)
 
 -- the connections where nothing was dialled, and so many nodes listen, each on its port

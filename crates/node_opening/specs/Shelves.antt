@@ -28,10 +28,14 @@ pub record HasLent {S D : Type 0} (s : shelves.Ghosts S D) (blocks : List BlockI
   pub lent : (b : ℕ) → s.lent new b ≡ is_among blocks b || s.lent old b
   pub never_falls : s.faults old ≤ s.faults new
 
+-- The shelf lends no block that it didn't.
+abbrev pub LendsNoMore : {S D : Type 0} → shelves.Ghosts S D → S → S → Type 0
+LendsNoMore s old new = (b : ℕ) → s.lent old b ≡ false → s.lent new b ≡ false
+
 -- The files are the same, no block is lent that wasn't, and the count of faults hasn't fallen.
 pub record IsGivenBack {S D : Type 0} (s : shelves.Ghosts S D) (old new : S) : Type 0 where
   pub files : s.files new ≡ s.files old
-  pub lent : (b : ℕ) → s.lent old b ≡ false → s.lent new b ≡ false
+  pub lent : LendsNoMore s old new
   pub never_falls : s.faults old ≤ s.faults new
 
 -- ALL SHELVES

@@ -11,6 +11,8 @@ use Rattle.world.specs.Worlds.{World, start}
 use Rattle.world_orders.proofs.Lists.{Behind, get-append}
 use Rattle.play_completeness.specs.Complete.{WritesBytes}
 use Rattle.play_model.specs.States.{world_of}
+use Rattle.play_completeness.specs.Formed.{Ruled}
+use Rattle.play_completeness.specs.Keeping.{OpenedPlayOn, CommandsJoinOn}
 use Rattle.play_completeness.specs.Links.{Links}
 use Rattle.play_completeness.specs.Writers.{Writers}
 use Rattle.play_completeness.specs.Played.{QueueFits, BlockPlayed, OpenedArePlayed, CommandsJoin}
@@ -93,3 +95,23 @@ commands-join p commands b c h bytes fits = record {
     go j true e =
         more-queued (world_of p) j (p.queues j) (commands j) t (h.blocks j) bytes
         (subst (λ (k : ℕ). QueueFits (world_of p).nodes ((world_of p).writers k).known.intake (p.queues k ++ t ∷ [])) (sym (eqb-true j b e)) fits)
+
+-- WITH NAMES AND RULES
+
+start-ruled : (nodes : ℕ) → Ruled (start nodes)
+unfolding start
+start-ruled nodes b = record { each = λ n. tt }
+
+pub opened-on : OpenedPlayOn
+opened-on nodes seed few = record {
+  played = opened-played nodes seed;
+  names = record { few = few; named = tt };
+  ruled = start-ruled nodes;
+}
+
+pub join-on : CommandsJoinOn
+join-on p commands b c h bytes fits = record {
+  played = commands-join p commands b c h.played bytes fits;
+  names = record { few = h.names.few; named = h.names.named };
+  ruled = h.ruled;
+}

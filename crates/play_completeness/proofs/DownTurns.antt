@@ -49,7 +49,8 @@ use Rattle.play_completeness.proofs.Peace.{all-peaceful}
 use Rattle.play_completeness.proofs.Rows.{IsWritten, stream_with, packet-taken}
 use Rattle.play_completeness.proofs.Turned.{Turned, other-kept}
 use Rattle.play_completeness.proofs.TurnWorld.{named, Takes, turned-by, down-taken-at, up-taken-at}
-use Rattle.play_completeness.proofs.PacketTurn.{drop-found, own-kept, mirror-kept}
+use Rattle.play_completeness.proofs.PacketTurn.{drop-found, own-kept, grows}
+use Rattle.play_completeness.proofs.PacketMirror.{mirror-kept}
 
 -- THE MEMBER'S STEP
 
@@ -199,7 +200,8 @@ module _ (w : World) (o : Ordered w) (takes : TakesInOrder w) (placed : Placed w
     mirrors : (c : ℕ) → m.mirror ≡ Some c → Link v c
     mirrors c at =
         let z : m.state.mirror ≡ mirror.Open = open-mirror m.state.mirror c (well.acts responds).mirror at answered in
-        mirror-kept w v placed links d m lt is responds (row R (replica_event.Packet m.state.conn p)) (passed (has_mirror m.state.mirror) (message (packet p))) turned off-own answered p found one-more is-written.info is-written.is is-written.stream is-written.written grown
+        mirror-kept w v placed links d m lt is responds (row R (replica_event.Packet m.state.conn p)) (passed (has_mirror m.state.mirror) (message (packet p))) turned p
+        (grows w v placed links d m lt is responds (row R (replica_event.Packet m.state.conn p)) (passed (has_mirror m.state.mirror) (message (packet p))) turned off-own answered p found one-more is-written.info is-written.is is-written.stream is-written.written grown)
         c at (mirror-known c at) (mirror-other c at) (mirror-of c at).upper (heard-some c at z)
         (up-taken-at w d m (message (packet p)) (taken_step m.state R p) b e dm w.up_marks (one-taken w.down_marks d (packet p)) (same-marks w.up_marks (is_conn m.mirror)) c)
         (ap (λ (y : Mirror). passed (has_mirror y) (message (packet p))) z)

@@ -18,11 +18,11 @@ ack_seqno a = a.seqno
 
 -- LISTS
 
-one-place : {A : Type 0} (x y : A) (i : ℕ) → slice_get (x ∷ []) i ≡ Some y → (i ≡ 0) × (x ≡ y)
+pub one-place : {A : Type 0} (x y : A) (i : ℕ) → slice_get (x ∷ []) i ≡ Some y → (i ≡ 0) × (x ≡ y)
 one-place x y zero e = (refl, same_Some x y e)
 one-place x y (suc i) e = absurd (none-some y e)
 
-end-found : {A : Type 0} (xs : List A) (x : A) → slice_get (xs ++ x ∷ []) (length xs) ≡ Some x
+pub end-found : {A : Type 0} (xs : List A) (x : A) → slice_get (xs ++ x ∷ []) (length xs) ≡ Some x
 end-found [] x = refl
 end-found (y ∷ xs) x = end-found xs x
 
@@ -36,7 +36,7 @@ get-front [] ys i x e = absurd (none-some x e)
 get-front (y ∷ xs) ys zero x e = e
 get-front (y ∷ xs) ys (suc i) x e = get-front xs ys i x e
 
-get-behind : {A : Type 0} (xs ys : List A) (i : ℕ) (x : A) → slice_get ys i ≡ Some x → slice_get (xs ++ ys) (length xs + i) ≡ Some x
+pub get-behind : {A : Type 0} (xs ys : List A) (i : ℕ) (x : A) → slice_get ys i ≡ Some x → slice_get (xs ++ ys) (length xs + i) ≡ Some x
 get-behind [] ys i x e = let n : 0 + i ≡ i = omega arith in subst (λ (k : ℕ). slice_get ys k ≡ Some x) (sym n) e
 get-behind (y ∷ xs) ys i x e = let n : length (y ∷ xs) + i ≡ suc (length xs + i) = omega arith in subst (λ (k : ℕ). slice_get (y ∷ (xs ++ ys)) k ≡ Some x) (sym n) (get-behind xs ys i x e)
 

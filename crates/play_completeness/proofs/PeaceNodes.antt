@@ -10,6 +10,7 @@ use Rattle.node_refs.specs.NodeRefs.{ref_of}
 use Rattle.request_refusals.specs.declared.refusals.RequestRefusal.{RequestRefusal}
 use Rattle.replica_core.specs.declared.ack_queue.PendingPacket.{PendingPacket}
 use Rattle.replica_core.specs.declared.events.Event.{Event}
+use Rattle.replica_core.specs.declared.events.Event.TheVariants as core
 use Rattle.replica_core.specs.Transitions.{is_written_by}
 use Rattle.replica_core.specs.Views.{rule_in}
 use Rattle.replica_model.specs.declared.events.ReplicaEvent.{ReplicaEvent}
@@ -38,6 +39,7 @@ use Rattle.world_laws.proofs.FactTables.{if-each, when-each}
 use Rattle.world_laws.proofs.ByteFrame.{Each, each-nil, each-one}
 use Rattle.play_completeness.specs.Plain.{is_of_write, Peaceful}
 use Rattle.play_completeness.proofs.OwnReplicas.{Calm, IsPipedCall, row-calm, IsPiped, request-piped}
+use Rattle.play_completeness.proofs.RowRules.{IsMemberEvent, IsMemberCall}
 use Rattle.play_completeness.proofs.PeaceFrame.{IsGood, IsGoodDial, Brings, calm-at, each-sent}
 
 -- MESSAGES
@@ -61,9 +63,9 @@ each-up fields (Some (upward.Ack a)) = each-one IsGood _ refl
 -- CALLS
 
 abbrev Piped : Option ReplicaEvent → Type 0
-Piped o = IfSome o IsPipedCall
+Piped o = IfSome o IsMemberCall
 
-down-piped : (m : MemberState) (x : FromAbove) → Piped (down_turn m x).call
+pub down-piped : (m : MemberState) (x : FromAbove) → Piped (down_turn m x).call
 down-piped m (above.Packet p) = tt
 down-piped m above.Unreadable = tt
 down-piped m above.End = tt
@@ -97,7 +99,7 @@ up-at-piped mirror.Nobody m o x = tt
 up-at-piped mirror.Unreachable m o x = tt
 up-at-piped mirror.Ended m o x = tt
 
-up-piped : (m : MemberState) (o : Option PendingPacket) (x : FromBelow) → Piped (up_turn m o x).call
+pub up-piped : (m : MemberState) (o : Option PendingPacket) (x : FromBelow) → Piped (up_turn m o x).call
 up-piped m o x = up-at-piped m.mirror m o x
 
 abbrev PipedTurn : Option Turn → Type 0
@@ -125,14 +127,35 @@ ready-at-piped mirror.Open m None by = patient-piped m m.bad
 ready-at-piped mirror.Ended m (Some e) by = tt
 ready-at-piped mirror.Ended m None by = quiet-piped m m.bad by
 
-ready-piped : (m : MemberState) (o : Option PendingPacket) (by : Bool) → PipedTurn (ready_turn m o by)
+pub ready-piped : (m : MemberState) (o : Option PendingPacket) (by : Bool) → PipedTurn (ready_turn m o by)
 ready-piped m o by = when-each (λ (t : Turn). Piped t.call) m.responds _ (λ _. ready-at-piped m.mirror m o by)
+
+-- what a member books is of a pipeline
+event-piped : (e : Event) → IsMemberEvent e → IsPiped e
+event-piped (core.Packet conn seqno offset n sums last sync bad) h = tt
+event-piped (core.Ack conn seqno good) h = tt
+event-piped (core.Ended conn) h = tt
+event-piped (core.Create conn t r) h = absurd h
+event-piped (core.Temporary conn t r) h = absurd h
+event-piped (core.Append conn named new n) h = absurd h
+event-piped (core.AppendRecovery conn named new n) h = absurd h
+event-piped (core.StreamRecovery conn named new low high) h = absurd h
+event-piped (core.CloseRecovery named new n) h = absurd h
+event-piped (core.Init named id) h = absurd h
+event-piped (core.Update id n) h = absurd h
+event-piped (core.Read named offset n) h = absurd h
+event-piped (core.Give named offset n) h = absurd h
+event-piped core.FileFault h = absurd h
+
+member-piped : (e : ReplicaEvent) → IsMemberCall e → IsPipedCall e
+member-piped (replica_event.Packet conn p) h = tt
+member-piped (replica_event.Other e) h = event-piped e h
 
 -- MEMBERS
 
 after-calm : (r : FullReplica) (o : Option ReplicaEvent) → Piped o → Calm r.known → Calm (replica_after r o).known
 after-calm r None p h = h
-after-calm r (Some e) p h = row-calm r e p h
+after-calm r (Some e) p h = row-calm r e (member-piped e p) h
 
 module _ (w : World) (h : Peaceful w) (c : ℕ) where
   member-brings : (m : FullMember) (x : Next) (s : Step) → NextIsGood x → Calm s.replica.known → Brings (member_change w c m x s (w.breaks (node_of w c) (block_of m.fields)))

@@ -103,7 +103,7 @@ own-plain (action.Send p) b queue = (refl, tt)
 own-plain (action.Answered n a) b queue = (refl, tt)
 own-plain action.Memory b queue = (refl, tt)
 
-due-plain : (w : World) (queues : Queues) (d : Due) → ArePlain (due_events w queues d)
+pub due-plain : (w : World) (queues : Queues) (d : Due) → ArePlain (due_events w queues d)
 due-plain w queues (due.Own b) = own-plain (action_of w b) b.0 (queues b.0)
 due-plain w queues (due.Down c) = (refl, tt)
 due-plain w queues (due.Ready c) = (refl, tt)

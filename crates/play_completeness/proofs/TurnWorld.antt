@@ -36,10 +36,10 @@ put-same f i j = if-each (λ x. x ≡ f j) (j == i) (f i) (f j) (λ e. ap f (sym
 pub put-else : {A : Type 0} (f : ℕ → A) (i : ℕ) (x : A) (j : ℕ) → (j == i) ≡ false → put f i x j ≡ f j
 put-else f i x j e = ap (λ (b : Bool). if b then x else f j) e
 
-at-here : {A : Type 0} (f : ℕ → ℕ → A) (i k : ℕ) (x : A) → put_at f i k x i k ≡ x
+pub at-here : {A : Type 0} (f : ℕ → ℕ → A) (i k : ℕ) (x : A) → put_at f i k x i k ≡ x
 at-here f i k x = rw (eqb-itself i, eqb-itself k) refl
 
-at-else : {A : Type 0} (f : ℕ → ℕ → A) (i k : ℕ) (x : A) (j l : ℕ) → (j == i && l == k) ≡ false → put_at f i k x j l ≡ f j l
+pub at-else : {A : Type 0} (f : ℕ → ℕ → A) (i k : ℕ) (x : A) (j l : ℕ) → (j == i && l == k) ≡ false → put_at f i k x j l ≡ f j l
 at-else f i k x j l e = ap (λ (b : Bool). if b then x else f j l) e
 
 no-dial : (next c : ℕ) → dial_at next [] c ≡ None

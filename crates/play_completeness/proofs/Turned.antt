@@ -29,8 +29,8 @@ use Rattle.play_completeness.specs.Streams.{packets_in, acks_in, as_pending, rea
 use Rattle.play_completeness.specs.Links.{MemberAwaits, Awaits, pending_below, awaited, member_reach, member_rule, reach_below, reach_above, rule_above, MayTake, WaitsWell, WritesWell, MemberWell, LowerWell, Link, Links}
 use Rattle.play_completeness.proofs.LinkFrame.{SameBelow, link-same}
 
--- What a turn of the member at the lower end of a connection makes of the world: its state, its replica, what it sends to
--- its mirror and up, and which connections it shuts.
+-- What a turn of the member at the lower end of a connection makes of the world: its state, its replica, what it sends
+-- to its mirror and up, and which connections it shuts.
 pub record Turned (w v : World) (d : ℕ) (m : FullMember) (new : MemberState) (r : FullReplica) (forwarded sent : List Message) (shut : Shuts) : Type 0 where
   pub conns : v.next_conn ≡ w.next_conn
   pub dialled : (c : ℕ) → c < w.next_conn → v.dialled c ≡ w.dialled c
@@ -59,11 +59,11 @@ shut-off shuts.Nothing d o c e f = refl
 shut-off shuts.Mirror d o c e f = f
 shut-off shuts.Both d o c e f = rw (e, f) refl
 
-same-writes : (m n : FullMember) → writes m ≡ writes n → m ≡ n
+pub same-writes : (m n : FullMember) → writes m ≡ writes n → m ≡ n
 same-writes m n e = cc
 
 -- a FINALIZED or absent replica isn't one that is written
-never-both : (o : Option SetupKind) (f : WriteFields) (rule rule' : Rule) (d : ℕ) (g : WriteFields) (r : FullReplica) → MayTake o f rule r → WritesWell d g rule' r → ⊥
+pub never-both : (o : Option SetupKind) (f : WriteFields) (rule rule' : Rule) (d : ℕ) (g : WriteFields) (r : FullReplica) → MayTake o f rule r → WritesWell d g rule' r → ⊥
 never-both (Some kind.Create) f rule rule' d g r x y = none-some y.info (sym x ∙ y.is)
 never-both (Some kind.Append) f rule rule' d g r x y = clash (sym (sym (ap (λ (i : ReplicaInfo). i.original) (same_Some x.1.info y.info (sym x.1.is ∙ y.is))) ∙ x.1.final) ∙ y.rbw)
   where

@@ -56,7 +56,7 @@ all-done taken said waits none d = record { each = λ k c found answered. go k c
 none-done : (said : List Said) → ((s : Said) → Has said s → IsGood [] s) → AllDone [] said
 none-done said only = record { each = λ k c found answered. absurd (none-some c found); only = only }
 
-stand-end : (s : Stand) (before : List Command) (c : Command) → stand_of s (before ++ c ∷ []) ≡ stand_after (stand_of s before) c
+pub stand-end : (s : Stand) (before : List Command) (c : Command) → stand_of s (before ++ c ∷ []) ≡ stand_after (stand_of s before) c
 stand-end s [] c = refl
 stand-end s (d ∷ before) c = stand-end (stand_after s d) before c
 

@@ -61,7 +61,7 @@ module _ (nodes : ℕ) (events : List Event) (quiet : IsQuiet (run (start nodes)
   Named v = Links (named x v)
 
   -- the members are the node at the lower end and the targets
-  members-are : is_connected X.phase ≡ true → length X.members ≡ suc (length (links c lc).fields.targets)
+  pub members-are : is_connected X.phase ≡ true → length X.members ≡ suc (length (links c lc).fields.targets)
   members-are connected =
       let same : heard (w.writers b) ≡ X = ap (known_heard X) (quiet b) in
       let piped : Piped w.past b (heard (w.writers b)) (w.writers b).conn = all-piped nodes events b (ap (λ (k : WriterRecord). is_connected k.phase) same ∙ connected) in
@@ -111,7 +111,7 @@ module _ (nodes : ℕ) (events : List Event) (quiet : IsQuiet (run (start nodes)
   old : Carries w c (links c lc).fields (links c lc).rule (by_writer b) (w.lowers c)
   old = subst (λ (u : Upper). Carries w c (links c lc).fields (links c lc).rule u (w.lowers c)) upper ((links c lc).carries (subst (λ (u : Upper). Awaits w c u) (sym upper) conn))
 
-  no-writer-end : next_up w c ≡ Some the_end → ⊥
+  pub no-writer-end : next_up w c ≡ Some the_end → ⊥
   no-writer-end next = go (is_open (w.lowers c)) refl
     where
       none-last : (acked : List PendingPacket) → map (λ (e : PendingPacket). e.seqno) acked ≡ [] → HasLast acked → ⊥
@@ -129,7 +129,7 @@ module _ (nodes : ℕ) (events : List Event) (quiet : IsQuiet (run (start nodes)
   heard-next (message y) next = took y next X.phase refl (well b).phase_is
   heard-next the_end next = absurd (no-writer-end next)
 
-conn-is : (o : Option ℕ) (c : ℕ) → is_conn o c ≡ true → o ≡ Some c
+pub conn-is : (o : Option ℕ) (c : ℕ) → is_conn o c ≡ true → o ≡ Some c
 conn-is None c e = absurd (false≢true e)
 conn-is (Some n) c e = ap (λ (k : ℕ). Some k) (sym (eqb-true c n e))
 

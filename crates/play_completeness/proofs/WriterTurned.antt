@@ -16,8 +16,8 @@ use Rattle.play_completeness.specs.Streams.{packets_in, acks_in, as_pending, rea
 use Rattle.play_completeness.specs.Links.{Awaits, pending_below, awaited, member_reach, member_rule, reach_below, reach_above, rule_above, Link, Links}
 use Rattle.play_completeness.proofs.LinkFrame.{link-same}
 
--- What a turn of the writer of a block, which has a connection, makes of the world: the writer, and whether the connection
--- is shut.
+-- What a turn of the writer of a block, which has a connection, makes of the world: the writer, and whether the
+-- connection is shut.
 pub record WriterTurned (w v : World) (b c : ℕ) (new : Writing) : Type 0 where
   pub conns : v.next_conn ≡ w.next_conn
   pub dialled : (k : ℕ) → k < w.next_conn → v.dialled k ≡ w.dialled k

@@ -83,14 +83,14 @@ stays-formed x p ps e phase.Finished at a = absurd (false≢true a)
 stays-formed x p ps e phase.Completed at a = absurd (false≢true a)
 stays-formed x p ps e (phase.Failed f) at a = absurd (false≢true a)
 
-rule-stays : (x : WriterRecord) (p : Packet) (ps : List Packet) → x.stream.unacked ≡ p ∷ ps → (oldest_acked x.stream).rule ≡ x.stream.rule
+pub rule-stays : (x : WriterRecord) (p : Packet) (ps : List Packet) → x.stream.unacked ≡ p ∷ ps → (oldest_acked x.stream).rule ≡ x.stream.rule
 rule-stays x p ps e = rw e refl
 
 same-success : (s : Status) → is_success s ≡ writer_success s
 same-success s = refl
 
 -- an answer that is SUCCESS is taken so
-answered-is : (x : WriterRecord) (r : Response) (bad : Option NodeId) (s : Setup) (stamp : Stamp) → x.phase ≡ phase.Requested s stamp → is_success r.status ≡ true → setup_answered x r bad ≡ record x { phase = phase.Accepted s stamp }
+pub answered-is : (x : WriterRecord) (r : Response) (bad : Option NodeId) (s : Setup) (stamp : Stamp) → x.phase ≡ phase.Requested s stamp → is_success r.status ≡ true → setup_answered x r bad ≡ record x { phase = phase.Accepted s stamp }
 unfolding setup_answered
 answered-is x r bad s stamp at good =
     ap (λ (p : Phase). setup_answered_in x p (writer_success r.status) bad) at ∙ ap (λ (k : Bool). setup_answered_in x (phase.Requested s stamp) k bad) (sym (same-success r.status) ∙ good)
@@ -187,12 +187,15 @@ module _ (w : World) (o : Ordered w) (placed : Placed w) (links : Links w) (b c 
     by-last false q = stays q
     by-last true q = ends q
 
-    pub acks-links : length X.members ≡ suc (length (links c lc).fields.targets) → Links (after w b c (acked X a) (ack a) x conn)
-    acks-links members =
+    -- what the ack makes of the writer
+    pub acked-as : length X.members ≡ suc (length (links c lc).fields.targets) → acked X a ≡ acked_now split.0.last
+    acked-as members =
         let number : split.0.seqno ≡ a.seqno = ap (λ (e : PendingPacket). e.seqno) split.3 ∙ heard.number in
         let verdict_is = good-verdict X.stream split.0 split.1 (length X.members) a split.2 number good.good (good.whole ∙ sym members) (positive (length X.members) (length (links c lc).fields.targets) members) in
-        subst (λ (n : WriterRecord). Links (after w b c n (ack a) x conn)) (sym (acked-is X a taking verdict_is ∙ ap (acked_so X) (oldest-last X.stream split.0 split.1 split.2)))
-        (by-last split.0.last refl)
+        acked-is X a taking verdict_is ∙ ap (acked_so X) (oldest-last X.stream split.0 split.1 split.2)
+
+    pub acks-links : length X.members ≡ suc (length (links c lc).fields.targets) → Links (after w b c (acked X a) (ack a) x conn)
+    acks-links members = subst (λ (n : WriterRecord). Links (after w b c n (ack a) x conn)) (sym (acked-as members)) (by-last split.0.last refl)
 
   -- THE ANSWER TO THE REQUEST
 

@@ -30,7 +30,7 @@ use Rattle.play_completeness.proofs.DownTurns.{one-taken}
 use Rattle.play_completeness.proofs.WriterHears.{Hears}
 use Rattle.play_completeness.proofs.WriterTurned.{WriterTurned}
 
-at-same : {A : Type 0} (f : ℕ → ℕ → A) (i k j l : ℕ) → put_at f i k (f i k) j l ≡ f j l
+pub at-same : {A : Type 0} (f : ℕ → ℕ → A) (i k j l : ℕ) → put_at f i k (f i k) j l ≡ f j l
 at-same f i k j l = if-each (λ x. x ≡ f j l) (j == i && l == k) (f i k) (f j l) (λ e. both (j == i) (l == k) refl refl e) (λ e. refl)
   where
     both : (p q : Bool) → (j == i) ≡ p → (l == k) ≡ q → (j == i && l == k) ≡ true → f i k ≡ f j l

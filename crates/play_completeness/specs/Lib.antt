@@ -7,3 +7,6 @@ pub mod Writers
 pub mod Hearing
 pub mod Complete
 pub mod Played
+pub mod Formed
+pub mod Keeping
+pub mod Blocks

@@ -2,12 +2,12 @@
 -- that still acts, is awaited by whoever dialled it. What it carries is taken at both ends.
 --
 -- What keeps it, by what happens:
--- * A request is taken at an idle end: its replica may take it, so the end is a member, and its mirror's connection is live
---   and awaited by it. No other live connection reaches that replica: all live connections of a block are of one stamp
---   (whoever dialled one awaits it, up to the writer), at most one of a stamp waits to be taken, and that one reaches no
---   node that has accepted the stamp.
--- * A packet is taken: it is the next one (`Leads`), so nothing is refused; it joins what the member awaits of its mirror,
---   and what is on its way there.
+-- * A request is taken at an idle end: its replica may take it, so the end is a member, and its mirror's connection is
+--   live and awaited by it. No other live connection reaches that replica: all live connections of a block are of the
+--   stamp of its writer's setup (whoever dialled one awaits it, up to the writer), and at most one of a stamp waits to
+--   be taken. That one reaches no node twice, so those behind its first still may take it.
+-- * A packet is taken: it is the next one (`Leads`), so nothing is refused; it joins what the member awaits of its
+--   mirror, and what is on its way there.
 -- * A member without a mirror acks its oldest packet: it joins the acks on their way. The last packet is behind all
 --   others, so with its ack nothing is pending or on its way, and the member is over.
 -- * A member takes its mirror's answer, which is SUCCESS, and answers so; or an ack, whose number is that of its oldest
@@ -201,8 +201,8 @@ IsGoodUp f (response r) = is_success r.status ≡ true
 IsGoodUp f (ack a) = IsGoodAck f a
 IsGoodUp f other = ⊥
 
--- No more was taken than was sent. No end stands on a live connection; on another one the end stands behind all that went
--- up.
+-- No more was taken than was sent. No end stands on a live connection; on another one the end stands behind all that
+-- went up.
 pub record EndsWell (w : World) (c : ℕ) : Type 0 where
   pub sent_down : (w.down_marks c).taken ≤ length (w.downs c)
   pub sent_up : (w.up_marks c).taken ≤ length (w.ups c)

@@ -28,8 +28,8 @@ abbrev pub is_plain_call : Caller → Bool
 is_plain_call (caller.Writer b) = true
 is_plain_call other = false
 
--- An own step of a writer or what the office answers one, or what an end of a connection does; each dial is answered, and
--- no call on files fails.
+-- An own step of a writer or what the office answers one, or what an end of a connection does; each dial is answered,
+-- and no call on files fails.
 abbrev pub is_plain : Event → Bool
 is_plain (event.Own s) = is_plain_step s
 is_plain (event.Office c) = is_plain_call c
@@ -75,8 +75,8 @@ pub record IsOwn (i : ReplicaInfo) : Type 0 where
 pub record IsLeased (r : BlockRecord) : Type 0 where
   pub free : r.recovery ≡ None
 
--- All nodes are in their first life. No reader and no primary began, each connection is one of a pipeline and carries no
--- request but one to write, no replica is broken or held by a recovery, and the office knows of no recovery.
+-- All nodes are in their first life. No reader and no primary began, each connection is one of a pipeline and carries
+-- no request but one to write, no replica is broken or held by a recovery, and the office knows of no recovery.
 pub record Peaceful (w : World) : Type 0 where
   pub lives : (n : ℕ) → w.lives n ≡ 0
   pub born : (c : ℕ) → (w.dialled c).to.life ≡ 0

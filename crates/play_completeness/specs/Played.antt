@@ -1,22 +1,21 @@
 -- A play without failures between the things that are due: what its world is, and what was done of its commands.
 --
 -- From here to the promise (`PlaysComplete`):
--- 1. `Played` holds of an opened play, and each line, each draw and each step keeps it. A command that joins a queue fits
---    those before it, as the script's lines do. What is due keeps `Links` and `Writers` by the cases that stand there.
---    Of the cases there those of members past their requests stand, and those of what writers hear. For a request that an end
---    takes: no other connection that waits reaches its node, since at most one of a stamp waits and reaches no node that
---    has accepted it (`AllJoin` of `world_writers`), and all live connections of a block are of one stamp, by induction from
---    whoever dialled them. For a packet that a writer sends: it is the next one, since its sums are those that its bytes
---    have, as long as these are below 256.
--- 2. Where something is awaited on a connection, something is due. By induction from the last connection up: an idle end
---    that awaits to be asked takes its request; a member whose mirror hasn't answered leads on to the mirror's connection;
---    where the answer, or an ack, is on its way, it is taken; where a packet is pending at a member without a mirror, that
---    acks it; where one is pending at another, that awaits it on its mirror's connection; where one is on its way and none
---    is pending, it is taken.
--- 3. So where nothing is due no writer has packets that aren't acked, none awaits the answer to its request, and none has
---    a step: its block is closed or streams with no command that waits, and its queue is empty. So each command was taken,
---    and answered where it is to be; and where the last one was a close, the members are whole (`RestsWell`), with the
---    bytes of all commands.
+-- 1. `Played` holds of an opened play, and each line, each draw and each step keeps it. A command that joins a queue
+--    fits those before it, as the script's lines do. What is due of connections keeps it (specs/Keeping), as long as
+--    commands name nodes of the world, and replicas have their writers' rules, which both stay so. What a writer does
+--    is to keep `Links` and `Writers` by the cases that stand there. For a packet that a writer sends: it is the next
+--    one, since its sums are those that its bytes have, as long as these are below 256. From what writers do, and from
+--    what lines keep, the promise follows.
+-- 2. Where something is awaited on a connection, something is due. By induction from the last connection up: an idle
+--    end that awaits to be asked takes its request; a member whose mirror hasn't answered leads on to the mirror's
+--    connection; where the answer, or an ack, is on its way, it is taken; where a packet is pending at a member without
+--    a mirror, that acks it; where one is pending at another, that awaits it on its mirror's connection; where one is
+--    on its way and none is pending, it is taken.
+-- 3. So where nothing is due no writer has packets that aren't acked, none awaits the answer to its request, and none
+--    has a step: its block is closed or streams with no command that waits, and its queue is empty. So each command was
+--    taken, and answered where it is to be; and where the last one was a close, the members are whole (`RestsWell`),
+--    with the bytes of all commands.
 use Rattle.std.specs.Prelude.{ℕ, suc, ◌≡◌, ◌⊎◌, true, List, [], ◌∷◌, ◌++◌, length, map, slice_get, Option, Some, None, IfSome, Ok}
 use Rattle.hd_base.specs.declared.numbers.NodeId.{NodeId}
 use Rattle.writer_core.specs.declared.commands.Command.{Command}
@@ -46,8 +45,8 @@ use Rattle.play_completeness.specs.Writers.{Writers}
 -- Queued commands are formed as commands are, name nodes, and fit one after the other.
 abbrev pub QueueFits : ℕ → Intake → List TakenCommand → Type 0
 QueueFits nodes i [] = Unit {0}
-QueueFits nodes i (t ∷ queue) = (is_formed t.command t.rule ≡ true) × Names (IsNode nodes) t.command × (after : Intake) ×
-    (admitted i t.command ≡ Ok after) × QueueFits nodes after queue
+QueueFits nodes i (t ∷ queue) = (is_formed t.command t.rule ≡ true) × Names (IsNode nodes) t.command ×
+    (after : Intake) × (admitted i t.command ≡ Ok after) × QueueFits nodes after queue
 
 -- COMMANDS THAT WERE TAKEN
 
@@ -68,8 +67,8 @@ pub record WaitsLast (taken : List Command) (x : Waiting) : Type 0 where
   pub last : suc place ≡ length taken
   pub of : IsOf x command
 
--- Each command that was taken and is answered was answered well, but for the one that waits, the last; and nothing else was
--- answered.
+-- Each command that was taken and is answered was answered well, but for the one that waits, the last; and nothing else
+-- was answered.
 pub record DoneSoFar (taken : List Command) (said : List Said) (waits : Option Waiting) : Type 0 where
   pub each : (k : ℕ) (c : Command) → slice_get taken k ≡ Some c → is_answered c ≡ true →
       IsDone said k c ⊎ ((suc k ≡ length taken) × (waits ≡ None → ⊥))
@@ -81,8 +80,8 @@ abbrev pub stand_of : Stand → List Command → Stand
 stand_of s [] = s
 stand_of s (c ∷ commands) = stand_of (stand_after s c) commands
 
--- The commands of a block write bytes. Some of them were taken, the others are queued. Those taken have left the block where its writer has
--- it, with the members of its create, and have written what its latest session has.
+-- The commands of a block write bytes. Some of them were taken, the others are queued. Those taken have left the block
+-- where its writer has it, with the members of its create, and have written what its latest session has.
 pub record BlockPlayed (w : World) (b : ℕ) (queue : List TakenCommand) (commands : List Command) : Type 0 where
   pub taken : List Command
   pub are : commands ≡ taken ++ map (λ (t : TakenCommand). t.command) queue

@@ -60,8 +60,8 @@ pub record Flows (awaited : List PendingPacket) (acks : List Ack) (pending : Lis
 
 -- HOW FAR A STREAM HAS COME
 
--- The number of the last packet that was taken, if one was; whether it was the last one of its block; and how many bytes
--- are written.
+-- The number of the last packet that was taken, if one was; whether it was the last one of its block; and how many
+-- bytes are written.
 pub record Reach : Type 0 where
   pub previous : Option ℤ
   pub over : Bool

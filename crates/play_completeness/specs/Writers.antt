@@ -1,14 +1,16 @@
--- The writer of each block in a play without failures, with what the office has of the block, and what stands at its members.
+-- The writer of each block in a play without failures, with what the office has of the block, and what stands at its
+-- members.
 --
 -- What keeps it, by the step that the writer takes:
--- * It takes a create: nothing is known of the block, so the office grants it, and the first member is dialled; all nodes
---   run. It takes an append: the office has closed the block, grants it with the length that it has, which is that of each
---   member's replica, and the request asks for just that.
--- * The request was answered SUCCESS: a create is answered; of an append the new stamp is committed first, which is above
---   the committed one, and no recovery holds the lease.
+-- * It takes a create: nothing is known of the block, so the office grants it, and the first member is dialled; all
+--   nodes run. It takes an append: the office has closed the block, grants it with the length that it has, which is
+--   that of each member's replica, and the request asks for just that.
+-- * The request was answered SUCCESS: a create is answered; of an append the new stamp is committed first, which is
+--   above the committed one, and no recovery holds the lease.
 -- * It streams: it forms what is due, answers what is reached, and takes what fits.
--- * With the ack of the last packet all members are FINALIZED with all bytes, under its stamp, and the office grants the
---   completion; from then until the next append no connection of the block is live, so they stay as they are.
+-- * With the ack of the last packet all members are FINALIZED with all bytes, under its stamp, and the office grants
+--   the completion; from then until the next append no connection of the block is live, so they stay as they are.
+--
 -- It never fails, since each answer and each ack that it takes is good, and takes no end (`Links`); and a setup that
 -- recovers something follows only a failure.
 use Rattle.std.specs.Prelude.{ℕ, suc, ◌≡◌, ◌≤◌, ◌⊎◌, true, false, [], length, slice_get, Option, Some, None}
@@ -64,8 +66,8 @@ pub record IsClosed (w : World) (b : ℕ) (x : WriterRecord) : Type 0 where
 
 -- STREAMS
 
--- What was formed and isn't acked ends where the packets end that were sent; where nothing is left, all that was sent is
--- acked.
+-- What was formed and isn't acked ends where the packets end that were sent; where nothing is left, all that was sent
+-- is acked.
 pub record StreamWell (s : StreamState) : Type 0 where
   pub all : s.unacked ≡ [] → s.acked ≡ s.sent
   pub ends : (i : ℕ) (p : Packet) → slice_get s.unacked i ≡ Some p → suc i ≡ length s.unacked →

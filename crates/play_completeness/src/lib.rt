@@ -1,10 +1,14 @@
-//! Plays without failures complete: their laws, step by step. Each function has an empty body; its clause says what holds.
+//! Plays without failures complete: their laws, step by step. Each function has an empty body; its clause says what
+//! holds.
 #![tactic(auto)]
 
 ghost use Rattle.play_completeness.specs.Plain.{PlaysArePlain, AllPeaceful};
 ghost use Rattle.play_completeness.specs.Played.{CommandsJoin, OpenedArePlayed, SettledIsComplete};
+ghost use Rattle.play_completeness.specs.Blocks.{CommandsAreOfBlocks};
+ghost use Rattle.play_completeness.specs.Formed.{AllFormed};
 ghost use Rattle.play_completeness.specs.Hearing.{WritersHear};
-ghost use Rattle.play_completeness.specs.Turning.{HearingKeepsLinks, PacketsKeepLinks, ReadyKeepsLinks};
+ghost use Rattle.play_completeness.specs.Keeping.{CommandsJoinOn, ConnsKeepPlays, OpenedPlayOn, OwnKeepsNames};
+ghost use Rattle.play_completeness.specs.Turning.{HearingKeepsLinks, PacketsKeepLinks, ReadyKeepsLinks, RequestsKeepLinks};
 ghost use Rattle.play_completeness.specs.Waiting.{AwaitedIsDue};
 
 /// All that happens in a play is a writer's step or the office's answer to it, each dial answered, or what an end of a
@@ -25,14 +29,20 @@ pub fn what_is_awaited_is_due()
     ensures { AwaitedIsDue }
 {}
 
-/// Where nothing is due in a play without failures, each command was taken and answered well; and where the last one of a
-/// block is a close, each member of its create has a finalized replica with all bytes, under the committed stamp.
+/// Where nothing is due in a play without failures, each command was taken and answered well; and where the last one of
+/// a block is a close, each member of its create has a finalized replica with all bytes, under the committed stamp.
 pub fn settled_plays_are_complete()
     ensures { SettledIsComplete }
 {}
 
-/// Where a member that acts takes what stands next from above, that is a packet that its replica takes, and all connections
-/// fit their ends as before.
+/// Where an end that has taken nothing takes its request, its replica takes it too, so it is a member; its mirror is
+/// asked, if it has one; and all connections fit their ends as before.
+pub fn requests_keep_links()
+    ensures { RequestsKeepLinks }
+{}
+
+/// Where a member that acts takes what stands next from above, that is a packet that its replica takes, and all
+/// connections fit their ends as before.
 pub fn packets_keep_links()
     ensures { PacketsKeepLinks }
 {}
@@ -43,21 +53,47 @@ pub fn acks_at_the_end_keep_links()
     ensures { ReadyKeepsLinks }
 {}
 
-/// Where a member that acts takes what stands next from its mirror, that is the mirror's answer, which is SUCCESS, or an ack
-/// of its oldest packet by all below, which it passes up, and all connections fit their ends as before.
+/// Where a member that acts takes what stands next from its mirror, that is the mirror's answer, which is SUCCESS, or
+/// an ack of its oldest packet by all below, which it passes up, and all connections fit their ends as before.
 pub fn hearing_keeps_links()
     ensures { HearingKeepsLinks }
 {}
 
-/// Where each writer is as it should be, and one takes what stands next on its connection, that is the answer to its request,
-/// which is SUCCESS, or an ack of its oldest packet by all members, and all connections fit their ends as before. With the
-/// ack of the last packet it gives its connection up.
+/// Where each writer is as it should be, and one takes what stands next on its connection, that is the answer to its
+/// request, which is SUCCESS, or an ack of its oldest packet by all members, and all connections fit their ends as
+/// before. With the ack of the last packet it gives its connection up.
 pub fn writers_hear_good_news()
     ensures { WritersHear }
 {}
 
-/// A play that was only opened is as it should be, and stays so where a command joins a queue that fits those before it.
+/// A play that was only opened is as it should be, and stays so where a command joins a queue that fits those before
+/// it.
 pub fn plays_begin_well()
     ensures opened { OpenedArePlayed }
     ensures joined { CommandsJoin }
+    ensures opened_on { OpenedPlayOn }
+    ensures joined_on { CommandsJoinOn }
+{}
+
+/// No packet that a writer has formed and that isn't acked ends behind what it sent, and the last one isn't acked as
+/// long as a close waits for that.
+pub fn writers_have_formed_their_packets()
+    ensures { AllFormed }
+{}
+
+/// A play of few nodes stays as it should be where what is due of a connection happens: a lower end takes something or
+/// acts, or a member or a writer hears something.
+pub fn connections_keep_plays()
+    ensures { ConnsKeepPlays }
+{}
+
+/// What a writer does keeps that the commands taken name nodes of the world, and that replicas have their writers'
+/// rules.
+pub fn writers_keep_names()
+    ensures { OwnKeepsNames }
+{}
+
+/// A block that a script which fits has commands of is made by one of its lines.
+pub fn commands_are_of_blocks()
+    ensures { CommandsAreOfBlocks }
 {}

@@ -3,6 +3,7 @@ use Rattle.std.proofs.Common.{◌≡◌, ◌<◌, ◌%◌, ℕ, suc, List, [], �
 use Rattle.std.proofs.Math.Nat.{mod-lt}
 use Rattle.hd_base.specs.declared.links.LinkIn as link_in
 use Rattle.hd_base.specs.declared.links.LinkOut as link_out
+use Rattle.hd_base.specs.declared.numbers.ConnId.{ConnId}
 use Rattle.hd_base.specs.declared.roads.Roads as roads
 use Rattle.rand_pcg.specs.Lcg.{Lcg}
 use Rattle.rand_pcg.specs.Pcg.{pcg32}
@@ -12,9 +13,11 @@ use Rattle.play_model.specs.States.{PlayState}
 use Rattle.play_clients.specs.declared.clients.Client.{Client}
 use Rattle.play_nodes.specs.declared.nodes.Nodes.{Nodes}
 use Rattle.play_nodes.proofs.Tables.{element}
+use Rattle.play_dues.specs.declared.live.LiveConns.{LiveConns}
 use Rattle.play_dues.specs.Drawing.{DrawsFrom, DrawsDue}
-use Rattle.play_dues.specs.Listing.{all_dues, CountsDues, PicksDue}
+use Rattle.play_dues.specs.Listing.{dues_among, all_dues, CountsDues, PicksDue}
 use Rattle.play_dues.specs.Own.{blocks_of}
+use Rattle.play_dues.proofs.LiveLaws.{live_dues}
 
 none_drawn : (xs : List Due) (g : Lcg) → length xs ≡ 0 → DrawsFrom xs g g None
 none_drawn [] g h = (refl, refl)
@@ -28,18 +31,22 @@ some_drawn [] g after word count result is some step told = absurd (some is)
 some_drawn (d ∷ due) g after word count result is some step told =
     (ap (λ (x : ℕ × Lcg). x.1) step, told ∙ (λ j. slice_get (d ∷ due) ((step j).0 % is j)))
 
-module _ {F R I O : Type 0} (r : roads.Ghosts R I O) (i : link_in.Ghosts I) (o : link_out.Ghosts O) (n : Nodes F I O) (clients : List (Client I O)) where
-  pub draws_none : (road road' : R) (g : Lcg) (count : ℕ) → CountsDues r i o n clients road road' count → count ≡ 0 → DrawsDue r i o n clients road road' g g None
+module _ {F R I O : Type 0} (r : roads.Ghosts R I O) (i : link_in.Ghosts I) (o : link_out.Ghosts O) (live : LiveConns) (conns : List ConnId) (same : conns ≡ live.conns.items) (n : Nodes F I O) (clients : List (Client I O)) where
+  pub draws_none : (road road' : R) (g : Lcg) (count : ℕ) → CountsDues r i o conns n clients road road' count → count ≡ 0 → DrawsDue r i o live n clients road road' g g None
   draws_none road road' g count counts is = λ w net queues h.
       let a = counts w net queues h in
-      (a.0, none_drawn (all_dues w queues (blocks_of clients)) g (sym a.1 ∙ is))
+      (a.0, λ current. none_drawn (all_dues w queues (blocks_of clients)) g (ap length (sym (live_dues w queues (blocks_of clients) conns live h.orderly.placed same current)) ∙ (sym a.1 ∙ is)))
 
-  pub draws_some : (road mid road' : R) (g after : Lcg) (word count : ℕ) (result : Option Due) → CountsDues r i o n clients road mid count → (count ≡ 0 → ⊥) → (word, after) ≡ pcg32 g → PicksDue r i o (word % count) n clients mid road' result
-      → DrawsDue r i o n clients road road' g after result
+  pub draws_some : (road mid road' : R) (g after : Lcg) (word count : ℕ) (result : Option Due) → CountsDues r i o conns n clients road mid count → (count ≡ 0 → ⊥) → (word, after) ≡ pcg32 g → PicksDue r i o (word % count) conns n clients mid road' result
+      → DrawsDue r i o live n clients road road' g after result
   draws_some road mid road' g after word count result counts some step picks = λ w net queues h.
       let a = counts w net queues h in
-      let b = picks w net queues a.0 in
-      (b.0, some_drawn (all_dues w queues (blocks_of clients)) g after word count result a.1 some step b.1)
+      let b = picks w net queues a.0 in (
+        b.0,
+        λ current.
+            let all : dues_among w queues (blocks_of clients) conns ≡ all_dues w queues (blocks_of clients) = live_dues w queues (blocks_of clients) conns live h.orderly.placed same current in
+            some_drawn (all_dues w queues (blocks_of clients)) g after word count result (a.1 ∙ ap length all) some step (b.1 ∙ ap (λ (xs : List Due). slice_get xs (word % count)) all),
+      )
 
 -- PLAYS
 

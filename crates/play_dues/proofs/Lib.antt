@@ -5,4 +5,7 @@ pub mod ListLaws
 pub mod UpperLaws
 pub mod ConnLaws
 pub mod ListingLaws
+pub mod SpentStays
+pub mod SpentLaws
+pub mod LiveLaws
 pub mod DrawingLaws

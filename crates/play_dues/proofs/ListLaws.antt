@@ -1,13 +1,14 @@
 -- Lists that stand one behind the other, and what is at a place of them.
-use Rattle.std.proofs.Common.{◌≡◌, ◌<◌, ◌≤◌, ◌+◌, ◌-◌, ℕ, zero, suc, List, [], ◌∷◌, ◌++◌, length, slice_get, refl, sym, ap, ◌∙◌, arith, add-one, append_assoc, append-nil, length-append}
-use Rattle.play_model.specs.Dues.{upto}
+use Rattle.std.proofs.Common.{◌≡◌, ◌<◌, ◌≤◌, ◌+◌, ◌-◌, ℕ, zero, suc, List, [], ◌∷◌, ◌++◌, length, drop, get_or, slice_get, refl, sym, ap, ◌∙◌, arith, add-one}
+use Rattle.std.specs.List.{flat_map}
+use Rattle.std.proofs.Math.Seq.{drop-cons}
 
 pub get_front : {A : Type 0} (xs ys : List A) (i : ℕ) → i < length xs → slice_get (xs ++ ys) i ≡ slice_get xs i
 get_front [] ys i within = absurd (omega arith)
 get_front (x ∷ xs) ys zero within = refl
 get_front (x ∷ xs) ys (suc i) within = get_front xs ys i (omega arith)
 
-get_behind : {A : Type 0} (xs ys : List A) (n i : ℕ) → n ≡ length xs + i → slice_get (xs ++ ys) n ≡ slice_get ys i
+pub get_behind : {A : Type 0} (xs ys : List A) (n i : ℕ) → n ≡ length xs + i → slice_get (xs ++ ys) n ≡ slice_get ys i
 get_behind [] ys n i h = ap (λ (k : ℕ). slice_get ys k) (same h)
   where
     same : n ≡ 0 + i → n ≡ i
@@ -21,36 +22,20 @@ get_behind (x ∷ xs) ys (suc n) i h = get_behind xs ys n i (less h)
     less : suc n ≡ suc (length xs) + i → n ≡ length xs + i
     less h = omega arith
 
--- What those of the numbers below n give begins with what those below k give.
-upto_splits : {A : Type 0} (f : ℕ → List A) (k d n : ℕ) → n ≡ k + d → (tail : List A) × (upto f n ≡ upto f k ++ tail)
-upto_splits f k zero n h = ([], ap (λ (m : ℕ). upto f m) (same h) ∙ sym (append-nil (upto f k)))
-  where
-    same : n ≡ k + 0 → n ≡ k
-    same h = omega arith
-upto_splits f k (suc d) zero h = absurd (none h)
-  where
-    none : 0 ≡ k + suc d → ⊥
-    none h = omega arith
-upto_splits f k (suc d) (suc n) h =
-    let t = upto_splits f k d n (less h) in (
-      t.0 ++ f n,
-      ap (λ xs. xs ++ f n) t.1 ∙ append_assoc (upto f k) t.0 (f n),
-    )
-  where
-    less : suc n ≡ k + suc d → n ≡ k + d
-    less h = omega arith
+-- What the elements give that are left, of which this one is the first.
+pub next_left : {A B : Type 0} (f : A → List B) (xs : List A) (i : ℕ) (d : A) → i < length xs → flat_map f (drop i xs) ≡ f (get_or xs i d) ++ flat_map f (drop (i + 1) xs)
+next_left {A} f xs i d within =
+    let next : drop i xs ≡ get_or xs i d ∷ drop (i + 1) xs = rw (add-one) (drop-cons xs i d within) in
+    ap (λ (ys : List A). flat_map f ys) next
 
--- What stands this far behind the first list and what the numbers below k give is one that k gives.
-pub get_upto : {A : Type 0} (own : List A) (f : ℕ → List A) (k n number rest : ℕ) → k < n → number ≡ length (own ++ upto f k) + rest → rest < length (f k) → slice_get (f k) rest ≡ slice_get (own ++ upto f n) number
-get_upto own f k n number rest below behind within =
-    let t = upto_splits f (suc k) (n - suc k) n (omega arith) in
-    let split : own ++ upto f n ≡ (own ++ upto f k) ++ (f k ++ t.0) =
-    ap (λ xs. own ++ xs) (t.1 ∙ append_assoc (upto f k) (f k) t.0) ∙ sym (append_assoc own (upto f k) (f k ++ t.0)) in
-    sym (ap (λ xs. slice_get xs number) split ∙ (get_behind (own ++ upto f k) (f k ++ t.0) number rest behind ∙ get_front (f k) t.0 rest within))
+pub counted_on : (count here more left before total : ℕ) → count + before ≡ total → before ≡ more + left → here ≡ more → (count + here) + left ≡ total
+counted_on count here more left before total a b c = omega arith
 
-pub count_upto : {A : Type 0} (own : List A) (f : ℕ → List A) (k : ℕ) → length (own ++ upto f (k + 1)) ≡ length (own ++ upto f k) + length (f k)
-count_upto own f k =
-    rw (add-one) (ap length (sym (append_assoc own (upto f k) (f k))) ∙ length-append (own ++ upto f k) (f k))
+pub all_counted : {A : Type 0} (count : ℕ) (xs : List A) (total : ℕ) → xs ≡ [] → count + length xs ≡ total → count ≡ total
+all_counted {A} count xs total none is = none_more count ∙ (ap (λ (ys : List A). count + length ys) (sym none) ∙ is)
+  where
+    none_more : (n : ℕ) → n ≡ n + 0
+    none_more n = omega arith
 
-pub left_behind : (number before more rest here after : ℕ) → number ≡ before + rest → here ≡ more → here ≤ rest → after ≡ before + more → number ≡ after + (rest - here)
-left_behind number before more rest here after a b c d = omega arith
+pub left_behind : (more rest here : ℕ) → here ≡ more → here ≤ rest → rest ≡ more + (rest - here)
+left_behind more rest here a b = omega arith

@@ -1,8 +1,10 @@
--- All that is due is counted and sought: the own steps, and then connection by connection.
-use Rattle.std.proofs.Common.{◌≡◌, ◌<◌, ◌≤◌, ◌+◌, ◌-◌, ◌*◌, ◌^◌, ℕ, Bool, false, List, ◌++◌, length, slice_get, Option, Some, None, sym, ap, ◌∙◌, subst, arith, append-nil, eqb-true, eq-eqb}
+-- What is due is counted and sought: the own steps, and then connection by connection.
+use Rattle.std.proofs.Common.{◌≡◌, ◌<◌, ◌≤◌, ◌+◌, ◌-◌, ◌*◌, ℕ, Bool, false, List, [], ◌++◌, length, drop, get_or, slice_get, Option, Some, None, sym, ap, ◌∙◌, subst, arith, length-append, eqb-true, eq-eqb}
 use Rattle.std.specs.Prelude.{◌==◌}
 use Rattle.std.specs.List.{position_or_len}
-use Rattle.std.proofs.lemmas.Option.{slice_get_past}
+use Rattle.std.specs.List.{flat_map}
+use Rattle.std.proofs.lemmas.List.{drop_all}
+use Rattle.road_traffic.specs.Showing.{Net}
 use Rattle.hd_base.specs.declared.links.LinkIn as link_in
 use Rattle.hd_base.specs.declared.links.LinkOut as link_out
 use Rattle.hd_base.specs.declared.numbers.BlockId.{BlockId}
@@ -11,22 +13,20 @@ use Rattle.hd_base.specs.declared.roads.Roads as roads
 use Rattle.world.specs.Worlds.{World}
 use Rattle.play_model.specs.declared.dues.Due.{Due}
 use Rattle.play_model.specs.declared.dues.Due.TheVariants as due
-use Rattle.play_model.specs.Dues.{Queues, own_due, own_dues, conn_dues, upto}
+use Rattle.play_model.specs.Dues.{Queues, own_due, own_dues, conn_dues}
 use Rattle.play_clients.specs.declared.clients.Client.{Client}
 use Rattle.play_nodes.specs.declared.nodes.Nodes.{Nodes}
 use Rattle.play_nodes.specs.Dues.{TellsReady, TellsDown}
 use Rattle.play_nodes.proofs.JoinNodes.{passes_at, place_there}
 use Rattle.play_dues.specs.declared.conns.ConnDues.{ConnDues}
 use Rattle.play_dues.specs.Conns.{listed, TellsUpper, TellsConn}
-use Rattle.play_dues.specs.Listing.{dues_below, all_dues, CountsBelow, StandsBehind, CountsDues, PicksDue, TellsDue, IsAlone}
+use Rattle.play_dues.specs.Listing.{CountsFront, StandsBehind, CountsDues, PicksDue, TellsDue, IsAlone}
 use Rattle.play_dues.specs.Own.{own_listed, blocks_of}
 use Rattle.play_dues.specs.Places.{client_place, has_step_of, has_step_at}
-use Rattle.play_dues.proofs.ListLaws.{get_front, get_upto, count_upto, left_behind}
+use Rattle.play_dues.specs.Showing.{DuesShow}
+use Rattle.play_dues.proofs.ListLaws.{get_front, get_behind, next_left, counted_on, all_counted, left_behind}
 use Rattle.play_dues.proofs.OwnLaws.{own_so, own_listed_so}
 use Rattle.play_dues.proofs.UpperLaws.{dues_with}
-
-not_before : (n m rest : ℕ) → n ≡ m + rest → m ≤ n
-not_before n m rest h = omega arith
 
 -- where a test says no
 none_then : {I O : Type 0} (clients : List (Client I O)) (b : ℕ) (result : Bool) → result ≡ has_step_at clients (client_place clients b) → client_place clients b ≡ None → result ≡ false
@@ -43,19 +43,13 @@ module _ {I O : Type 0} (clients : List (Client I O)) where
 pub count_below : (count here index most : ℕ) → count < most + 3 * index → here ≤ 3 → count + here < most + 3 * (index + 1)
 count_below count here index most h few = omega arith
 
-pub count_fits : (count here index len : ℕ) → count < 2 ^ 64 + 3 * index → here ≤ 3 → index < len → len < 2 ^ 64 → count + here < 2 ^ 128
-count_fits count here index len h few within fits = omega arith
-
-pub at_end : (index len n : ℕ) → index ≤ len → len ≤ index → len ≡ n → index ≡ n
-at_end index len n a b c = omega arith
-
 pub behind_first : (number own n : ℕ) → own ≤ number → own ≡ n → number ≡ n + (number - own)
 behind_first number own n a b = omega arith
 
 module _ {F R I O : Type 0} (r : roads.Ghosts R I O) (i : link_in.Ghosts I) (o : link_out.Ghosts O) (n : Nodes F I O) (clients : List (Client I O)) where
   -- the own steps are those of the writers
-  own_count : (w : World) (queues : Queues) → own_listed clients ≡ own_dues w queues (blocks_of clients) → length (own_listed clients) ≡ length (dues_below w queues (blocks_of clients) 0)
-  own_count w queues is = ap length (is ∙ sym (append-nil (own_dues w queues (blocks_of clients))))
+  own_count : (w : World) (net : Net) (queues : Queues) (road : R) (h : DuesShow r i o w net queues road n clients) → length (own_listed clients) ≡ length (own_dues w queues (blocks_of clients))
+  own_count w net queues road h = ap length (own_listed_so i o w net queues clients h.each)
 
   -- OWN STEPS
 
@@ -89,57 +83,79 @@ module _ {F R I O : Type 0} (r : roads.Ghosts R I O) (i : link_in.Ghosts I) (o :
 
   -- COUNTING
 
-  pub counts_own : (road : R) (count : ℕ) → count ≡ length (own_listed clients) → CountsBelow r i o 0 n clients road road count
-  counts_own road count is = λ w net queues h. (h, is ∙ own_count w queues (own_listed_so i o w net queues clients h.each))
+  -- what is due of these connections
+  abbrev dues_in : World → Queues → List ConnId → List Due
+  dues_in w queues conns = flat_map (λ c. conn_dues w queues c.0) conns
 
-  pub counts_more : (conn : ConnId) (road mid road' : R) (x : ConnDues) (count here : ℕ) → CountsBelow r i o conn.0 n clients road mid count → TellsConn r i o conn n clients mid road' x → here ≡ length (listed conn x)
-      → CountsBelow r i o (conn.0 + 1) n clients road road' (count + here)
-  counts_more conn road mid road' x count here so_far tells is = λ w net queues h.
-      let a = so_far w net queues h in
-      let b = tells w net queues a.0 in
-      let more : here ≡ length (conn_dues w queues conn.0) = is ∙ ap length b.1 in
-      (b.0, (λ j. a.1 j + more j) ∙ sym (count_upto (own_dues w queues (blocks_of clients)) (conn_dues w queues) conn.0))
+  pub counts_own : (conns : List ConnId) (road : R) (count : ℕ) → count ≡ length (own_listed clients) → CountsFront r i o conns conns n clients road road count
+  counts_own conns road count is = λ w net queues h. (
+    h,
+    ap (λ (k : ℕ). k + length (dues_in w queues conns)) (is ∙ own_count w net queues road h) ∙ sym (length-append (own_dues w queues (blocks_of clients)) (dues_in w queues conns)),
+  )
 
-  pub counts_all : (k : ℕ) (road road' : R) (count : ℕ) → k ≡ length n.connections.items → CountsBelow r i o k n clients road road' count → CountsDues r i o n clients road road' count
-  counts_all k road road' count is so_far = λ w net queues h.
-      let a = so_far w net queues h in
-      (a.0, a.1 ∙ ap (λ (m : ℕ). length (dues_below w queues (blocks_of clients) m)) (is ∙ h.stands.nodes_are.count))
+  module _ (conns : List ConnId) (index : ℕ) (d : ConnId) where
+    -- the first of those that are left
+    abbrev conn : ConnId
+    conn = get_or conns index d
 
-  -- PICKING
+    next_dues : (w : World) (queues : Queues) → index < length conns → dues_in w queues (drop index conns) ≡ conn_dues w queues conn.0 ++ dues_in w queues (drop (index + 1) conns)
+    next_dues w queues within = next_left (λ (c : ConnId). conn_dues w queues c.0) conns index d within
 
-  pub behind_own : (road : R) (number rest : ℕ) → number ≡ length (own_listed clients) + rest → StandsBehind r i o 0 number n clients road road rest
-  behind_own road number rest is = λ w net queues h. (h, is ∙ ap (λ (m : ℕ). m + rest) (own_count w queues (own_listed_so i o w net queues clients h.each)))
+    none_after : (w : World) (queues : Queues) → length conns ≤ index → dues_in w queues (drop index conns) ≡ []
+    none_after w queues past = ap (dues_in w queues) (drop_all index conns past)
 
-  pub behind_more : (conn : ConnId) (road mid road' : R) (x : ConnDues) (number rest here : ℕ) → StandsBehind r i o conn.0 number n clients road mid rest → TellsConn r i o conn n clients mid road' x → here ≡ length (listed conn x) → here ≤ rest
-      → StandsBehind r i o (conn.0 + 1) number n clients road road' (rest - here)
-  behind_more conn road mid road' x number rest here so_far tells is past = λ w net queues h.
-      let a = so_far w net queues h in
-      let b = tells w net queues a.0 in
-      let own : List Due = own_dues w queues (blocks_of clients) in
-      let f : ℕ → List Due = conn_dues w queues in
-      (b.0, left_behind number (length (own ++ upto f conn.0)) (length (f conn.0)) rest here (length (own ++ upto f (conn.0 + 1))) a.1 (is ∙ ap length b.1) past (count_upto own f conn.0))
+    pub counts_more : (road mid road' : R) (x : ConnDues) (count here : ℕ) → index < length conns → CountsFront r i o (drop index conns) conns n clients road mid count → TellsConn r i o conn n clients mid road' x → here ≡ length (listed conn x)
+        → CountsFront r i o (drop (index + 1) conns) conns n clients road road' (count + here)
+    counts_more road mid road' x count here within so_far tells told = λ w net queues h.
+        let a = so_far w net queues h in
+        let b = tells w net queues a.0 in
+        let rest : List Due = dues_in w queues (drop (index + 1) conns) in
+        let next : length (dues_in w queues (drop index conns)) ≡ length (conn_dues w queues conn.0) + length rest = ap length (next_dues w queues within) ∙ length-append (conn_dues w queues conn.0) rest in
+        (b.0, counted_on count here (length (conn_dues w queues conn.0)) (length rest) (length (dues_in w queues (drop index conns))) _ a.1 next (told ∙ ap length b.1))
 
-  pub picks_own : (road : R) (number : ℕ) (result : Option Due) → number < length (own_listed clients) → result ≡ slice_get (own_listed clients) number → PicksDue r i o number n clients road road result
-  picks_own road number result within is = λ w net queues h.
+    pub counts_all : (road road' : R) (count : ℕ) → length conns ≤ index → CountsFront r i o (drop index conns) conns n clients road road' count → CountsDues r i o conns n clients road road' count
+    counts_all road road' count past so_far = λ w net queues h.
+        let a = so_far w net queues h in
+        (a.0, all_counted count (dues_in w queues (drop index conns)) _ (none_after w queues past) a.1)
+
+    -- PICKING
+
+    pub behind_more : (road mid road' : R) (x : ConnDues) (number rest here : ℕ) → index < length conns → StandsBehind r i o number (drop index conns) conns n clients road mid rest → TellsConn r i o conn n clients mid road' x → here ≡ length (listed conn x) → here ≤ rest
+        → StandsBehind r i o number (drop (index + 1) conns) conns n clients road road' (rest - here)
+    behind_more road mid road' x number rest here within so_far tells told past = λ w net queues h.
+        let a = so_far w net queues h in
+        let b = tells w net queues a.0 in (
+          b.0,
+          sym (ap (λ (xs : List Due). slice_get xs rest) (next_dues w queues within)
+              ∙ get_behind (conn_dues w queues conn.0) (dues_in w queues (drop (index + 1) conns)) rest (rest - here) (left_behind (length (conn_dues w queues conn.0)) rest here (told ∙ ap length b.1) past)) ∙ a.1,
+        )
+
+    pub picks_here : (road mid road' : R) (x : ConnDues) (number rest : ℕ) (result : Option Due) → index < length conns → StandsBehind r i o number (drop index conns) conns n clients road mid rest → TellsConn r i o conn n clients mid road' x
+        → rest < length (listed conn x) → result ≡ slice_get (listed conn x) rest → PicksDue r i o number conns n clients road road' result
+    picks_here road mid road' x number rest result within so_far tells few told = λ w net queues h.
+        let a = so_far w net queues h in
+        let b = tells w net queues a.0 in (
+          b.0,
+          told ∙ (ap (λ (xs : List Due). slice_get xs rest) b.1
+              ∙ (sym (get_front (conn_dues w queues conn.0) (dues_in w queues (drop (index + 1) conns)) rest (subst (λ (xs : List Due). rest < length xs) b.1 few))
+              ∙ (ap (λ (xs : List Due). slice_get xs rest) (sym (next_dues w queues within)) ∙ a.1))),
+        )
+
+    pub picks_none : (road road' : R) (number rest : ℕ) → length conns ≤ index → StandsBehind r i o number (drop index conns) conns n clients road road' rest → PicksDue r i o number conns n clients road road' None
+    picks_none road road' number rest past so_far = λ w net queues h.
+        let a = so_far w net queues h in
+        (a.0, ap (λ (xs : List Due). slice_get xs rest) (sym (none_after w queues past)) ∙ a.1)
+
+  pub behind_own : (conns : List ConnId) (road : R) (number rest : ℕ) → number ≡ length (own_listed clients) + rest → StandsBehind r i o number conns conns n clients road road rest
+  behind_own conns road number rest is = λ w net queues h. (
+    h,
+    sym (get_behind (own_dues w queues (blocks_of clients)) (dues_in w queues conns) number rest (is ∙ ap (λ (m : ℕ). m + rest) (own_count w net queues road h))),
+  )
+
+  pub picks_own : (conns : List ConnId) (road : R) (number : ℕ) (result : Option Due) → number < length (own_listed clients) → result ≡ slice_get (own_listed clients) number → PicksDue r i o number conns n clients road road result
+  picks_own conns road number result within is = λ w net queues h.
       let own : List Due = own_dues w queues (blocks_of clients) in
       let same : own_listed clients ≡ own = own_listed_so i o w net queues clients h.each in (
         h,
-        is ∙ (ap (λ (xs : List Due). slice_get xs number) same ∙ sym (get_front own (upto (conn_dues w queues) w.next_conn) number (subst (λ (xs : List Due). number < length xs) same within))),
+        is ∙ (ap (λ (xs : List Due). slice_get xs number) same ∙ sym (get_front own (dues_in w queues conns) number (subst (λ (xs : List Due). number < length xs) same within))),
       )
-
-  pub picks_here : (conn : ConnId) (road mid road' : R) (x : ConnDues) (number rest : ℕ) (result : Option Due) → StandsBehind r i o conn.0 number n clients road mid rest → TellsConn r i o conn n clients mid road' x
-      → conn.0 < length n.connections.items → rest < length (listed conn x) → result ≡ slice_get (listed conn x) rest → PicksDue r i o number n clients road road' result
-  picks_here conn road mid road' x number rest result so_far tells below within is = λ w net queues h.
-      let a = so_far w net queues h in
-      let b = tells w net queues a.0 in (
-        b.0,
-        is ∙ (ap (λ (xs : List Due). slice_get xs rest) b.1 ∙ get_upto (own_dues w queues (blocks_of clients)) (conn_dues w queues) conn.0 w.next_conn number rest
-            (subst (λ (m : ℕ). conn.0 < m) h.stands.nodes_are.count below) a.1 (subst (λ (xs : List Due). rest < length xs) b.1 within)),
-      )
-
-  pub picks_none : (k : ℕ) (road road' : R) (number rest : ℕ) → k ≡ length n.connections.items → StandsBehind r i o k number n clients road road' rest → PicksDue r i o number n clients road road' None
-  picks_none k road road' number rest is so_far = λ w net queues h.
-      let a = so_far w net queues h in
-      let end_is : k ≡ w.next_conn = is ∙ h.stands.nodes_are.count in
-      let past : length (dues_below w queues (blocks_of clients) k) ≤ number = not_before number (length (dues_below w queues (blocks_of clients) k)) rest a.1 in
-      (a.0, sym (slice_get_past (all_dues w queues (blocks_of clients)) number (subst (λ (m : ℕ). length (dues_below w queues (blocks_of clients) m) ≤ number) end_is past)))

@@ -72,7 +72,7 @@ up_at w queues conn is =
       takes = and-right (nat_lt c w.next_conn && is_some (next_up w c)) (takes_above (w.dialled c).upper w c) can;
     }
 
-conn_some : (x : Option ℕ) (c : ℕ) → is_conn x c ≡ true → x ≡ Some c
+pub conn_some : (x : Option ℕ) (c : ℕ) → is_conn x c ≡ true → x ≡ Some c
 conn_some None c e = cc
 conn_some (Some d) c e = ap (λ (n : ℕ). Some n) (sym (eqb-true c d e))
 
@@ -80,11 +80,11 @@ conn_some (Some d) c e = ap (λ (n : ℕ). Some n) (sym (eqb-true c d e))
 pub heard_conn : (w : World) (queues : Queues) (c : ConnId) (b : ℕ) → is_due w queues (due.Up c) ≡ true → (w.dialled c.0).upper ≡ by_writer b → (w.writers b).conn ≡ Some c.0
 heard_conn w queues c b is e = conn_some (w.writers b).conn c.0 (and-left (is_conn (w.writers b).conn c.0) (is_none (w.writers b).told) (subst (λ (u : parts.Upper). takes_above u w c.0 ≡ true) e (up_at w queues c is).takes))
 
-not_true : (b : Bool) → (b ≡ true → ⊥) → false ≡ b
+pub not_true : (b : Bool) → (b ≡ true → ⊥) → false ≡ b
 not_true true h = absurd (h refl)
 not_true false h = refl
 
-none_is_some : {A : Type 0} (x : Option A) (a : A) → x ≡ None → x ≡ Some a → ⊥
+pub none_is_some : {A : Type 0} (x : Option A) (a : A) → x ≡ None → x ≡ Some a → ⊥
 none_is_some x a none some = cc
 
 module _ {F R I O : Type 0} (r : roads.Ghosts R I O) (i : link_in.Ghosts I) (o : link_out.Ghosts O) where

@@ -11,7 +11,9 @@ use Rattle.play_model.specs.Dues.{dues}
 use Rattle.play_model.specs.States.{PlayState}
 use Rattle.play_clients.specs.declared.clients.Client.{Client}
 use Rattle.play_nodes.specs.declared.nodes.Nodes.{Nodes}
+use Rattle.play_dues.specs.declared.live.LiveConns.{LiveConns}
 use Rattle.play_dues.specs.Listing.{all_dues}
+use Rattle.play_dues.specs.Live.{IsCurrent}
 use Rattle.play_dues.specs.Own.{blocks_of}
 use Rattle.play_dues.specs.Showing.{Tells}
 
@@ -20,11 +22,12 @@ abbrev pub DrawsFrom : List Due → Lcg → Lcg → Option Due → Type 0
 DrawsFrom [] old new result = (new ≡ old) × (result ≡ None)
 DrawsFrom (d ∷ due) old new result = (new ≡ (pcg32 old).1) × (result ≡ drawn (d ∷ due) (pcg32 old).0)
 
--- The generator draws this of all that is due.
-abbrev pub DrawsDue : {F R I O : Type 0} → roads.Ghosts R I O → link_in.Ghosts I → link_out.Ghosts O → Nodes F I O →
-    List (Client I O) → R → R → Lcg → Lcg → Option Due → Type 0
-DrawsDue r i o n clients road road' old new result =
-    Tells r i o n clients road road' (λ w queues. DrawsFrom (all_dues w queues (blocks_of clients)) old new result)
+-- The generator draws this of all that is due, where the list of live connections is up to date.
+abbrev pub DrawsDue : {F R I O : Type 0} → roads.Ghosts R I O → link_in.Ghosts I → link_out.Ghosts O → LiveConns →
+    Nodes F I O → List (Client I O) → R → R → Lcg → Lcg → Option Due → Type 0
+DrawsDue r i o live n clients road road' old new result =
+    Tells r i o n clients road road' (λ w queues. IsCurrent w live
+    → DrawsFrom (all_dues w queues (blocks_of clients)) old new result)
 
 -- What a play's generator draws of what is due in the play is what happens in its next draw.
 abbrev pub PlaysAreDrawn : Type 0

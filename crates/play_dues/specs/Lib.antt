@@ -3,5 +3,7 @@ pub mod Conns
 pub mod Writers
 pub mod Own
 pub mod Places
+pub mod Spent
+pub mod Live
 pub mod Listing
 pub mod Drawing

@@ -1,7 +1,9 @@
--- All that is due in a play, counted and picked by number.
+-- What is due in a play, counted and picked by number.
 use Rattle.std.specs.Prelude.{◌≡◌, ◌+◌, ℕ, Bool, List, ◌++◌, length, slice_get, Option, None}
+use Rattle.std.specs.List.{flat_map}
 use Rattle.hd_base.specs.declared.links.LinkIn as link_in
 use Rattle.hd_base.specs.declared.links.LinkOut as link_out
+use Rattle.hd_base.specs.declared.numbers.ConnId.{ConnId}
 use Rattle.hd_base.specs.declared.roads.Roads as roads
 use Rattle.world.specs.Worlds.{World}
 use Rattle.play_model.specs.declared.dues.Due.{Due}
@@ -16,13 +18,13 @@ use Rattle.play_dues.specs.Showing.{HasClient, Tells}
 
 -- THE LIST
 
--- what is due of the writers of these blocks, and of the connections below k
-abbrev pub dues_below : World → Queues → List ℕ → ℕ → List Due
-dues_below w queues blocks k = own_dues w queues blocks ++ upto (conn_dues w queues) k
+-- what is due of the writers of these blocks, and of these connections
+abbrev pub dues_among : World → Queues → List ℕ → List ConnId → List Due
+dues_among w queues blocks conns = own_dues w queues blocks ++ flat_map (λ c. conn_dues w queues c.0) conns
 
 -- all that is due in a world, with the writers of these blocks
 abbrev pub all_dues : World → Queues → List ℕ → List Due
-all_dues w queues blocks = dues_below w queues blocks w.next_conn
+all_dues w queues blocks = own_dues w queues blocks ++ upto (conn_dues w queues) w.next_conn
 
 -- What is due in a play is what is due in its world, with its queues.
 abbrev pub DuesAreListed : Type 0
@@ -46,28 +48,33 @@ abbrev pub TellsDue : {F R I O : Type 0} → roads.Ghosts R I O → link_in.Ghos
 TellsDue r i o d n clients road road' result =
     IsPlayed clients d → Tells r i o n clients road road' (λ w queues. result ≡ is_due w queues d)
 
--- ALL OF THEM
+-- THOSE OF SOME CONNECTIONS
 
--- This is the number of those of the writers and of the connections below k.
-abbrev pub CountsBelow : {F R I O : Type 0} → roads.Ghosts R I O → link_in.Ghosts I → link_out.Ghosts O → ℕ →
-    Nodes F I O → List (Client I O) → R → R → ℕ → Type 0
-CountsBelow r i o k n clients road road' count =
-    Tells r i o n clients road road' (λ w queues. count ≡ length (dues_below w queues (blocks_of clients) k))
+-- This is the number of those of the writers and of these connections.
+abbrev pub CountsDues : {F R I O : Type 0} → roads.Ghosts R I O → link_in.Ghosts I → link_out.Ghosts O →
+    List ConnId → Nodes F I O → List (Client I O) → R → R → ℕ → Type 0
+CountsDues r i o conns n clients road road' count =
+    Tells r i o n clients road road' (λ w queues. count ≡ length (dues_among w queues (blocks_of clients) conns))
 
--- The one with a number stands this far behind those of the writers and of the connections below k.
-abbrev pub StandsBehind : {F R I O : Type 0} → roads.Ghosts R I O → link_in.Ghosts I → link_out.Ghosts O → ℕ → ℕ →
-    Nodes F I O → List (Client I O) → R → R → ℕ → Type 0
-StandsBehind r i o k number n clients road road' rest =
-    Tells r i o n clients road road' (λ w queues. number ≡ length (dues_below w queues (blocks_of clients) k) + rest)
-
--- This is the number of all that is due.
-abbrev pub CountsDues : {F R I O : Type 0} → roads.Ghosts R I O → link_in.Ghosts I → link_out.Ghosts O → Nodes F I O →
-    List (Client I O) → R → R → ℕ → Type 0
-CountsDues r i o n clients road road' count =
-    Tells r i o n clients road road' (λ w queues. count ≡ length (all_dues w queues (blocks_of clients)))
-
--- This is the one with a number, of all that is due.
+-- This is the one of them with a number.
 abbrev pub PicksDue : {F R I O : Type 0} → roads.Ghosts R I O → link_in.Ghosts I → link_out.Ghosts O → ℕ →
-    Nodes F I O → List (Client I O) → R → R → Option Due → Type 0
-PicksDue r i o number n clients road road' result =
-    Tells r i o n clients road road' (λ w queues. result ≡ slice_get (all_dues w queues (blocks_of clients)) number)
+    List ConnId → Nodes F I O → List (Client I O) → R → R → Option Due → Type 0
+PicksDue r i o number conns n clients road road' result =
+    Tells r i o n clients road road'
+    (λ w queues. result ≡ slice_get (dues_among w queues (blocks_of clients) conns) number)
+
+-- So many, with those of the connections that are left, are those of all.
+abbrev pub CountsFront : {F R I O : Type 0} → roads.Ghosts R I O → link_in.Ghosts I → link_out.Ghosts O →
+    List ConnId → List ConnId → Nodes F I O → List (Client I O) → R → R → ℕ → Type 0
+CountsFront r i o left conns n clients road road' count =
+    Tells r i o n clients road road' (λ w queues.
+    count + length (flat_map (λ c. conn_dues w queues c.0) left) ≡
+    length (dues_among w queues (blocks_of clients) conns))
+
+-- The one with a number among all is this one of the connections that are left.
+abbrev pub StandsBehind : {F R I O : Type 0} → roads.Ghosts R I O → link_in.Ghosts I → link_out.Ghosts O → ℕ →
+    List ConnId → List ConnId → Nodes F I O → List (Client I O) → R → R → ℕ → Type 0
+StandsBehind r i o number left conns n clients road road' rest =
+    Tells r i o n clients road road' (λ w queues.
+    slice_get (flat_map (λ c. conn_dues w queues c.0) left) rest ≡
+    slice_get (dues_among w queues (blocks_of clients) conns) number)

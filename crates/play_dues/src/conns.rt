@@ -1,6 +1,6 @@
 //! Which events of a connection are due.
 
-ghost use Rattle.std.specs.Prelude.{◌≡◌, length, option_map, slice_get};
+ghost use Rattle.std.specs.Prelude.{◌≡◌, ◌≤◌, length, option_map, slice_get};
 ghost use Rattle.member_events.specs.Roads.{RoadsPass};
 ghost use Rattle.play_dues.specs.Conns.{listed, writer_above, TellsUpper, TellsConn};
 
@@ -23,9 +23,10 @@ pub struct ConnDues {
 }
 
 impl ConnDues {
-    /// How many are due.
+    /// How many are due: three at most.
     pub fn count(self, conn: ConnId) -> usize
-        ensures { result ≡ length (listed conn self) }
+        ensures listed { result ≡ length (listed conn self) }
+        ensures few { result ≤ 3 }
     {
         usize::from(self.down) + usize::from(self.ready) + usize::from(self.up)
     }

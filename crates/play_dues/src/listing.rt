@@ -1,4 +1,4 @@
-//! All that is due in a play, counted and picked by number.
+//! What is due in a play, counted and picked by number.
 
 ghost use Rattle.std.specs.Prelude.{◌≡◌, false};
 ghost use Rattle.member_events.specs.Roads.{RoadsPass};
@@ -31,32 +31,36 @@ pub fn is_due<F: Files, I: LinkIn, O: LinkOut, R: Roads<Inward = I, Outward = O>
     }
 }
 
-/// How many things are due. Three of a connection may be, so that a `usize` may not hold the count.
+/// How many things are due of the writers and of these connections. Three of a connection may be, so that a `usize` may not
+/// hold the count.
 pub fn count_dues<F: Files, I: LinkIn, O: LinkOut, R: Roads<Inward = I, Outward = O>>(
     nodes: &Nodes<F, I, O>,
     clients: &[Client<I, O>],
+    conns: &[ConnId],
     roads: &mut R,
 ) -> u128
-    ensures counts { CountsDues R.Roads I.LinkIn O.LinkOut nodes.now clients.now roads.old roads.new result }
+    ensures counts { CountsDues R.Roads I.LinkIn O.LinkOut conns.now
+        nodes.now clients.now roads.old roads.new result }
     ensures pass { RoadsPass R.Roads roads.old roads.new }
 {
     let mut count = count_own(clients) as u128;
-    for index in 0..nodes.connections.len() {
-        let conn = ConnId(index as u64);
-        let due = dues_of(nodes, clients, roads, conn);
-        count += due.count(conn) as u128;
+    for conn in conns {
+        let due = dues_of(nodes, clients, roads, *conn);
+        count += due.count(*conn) as u128;
     }
     count
 }
 
-/// The thing with this number, of all that are due.
+/// The thing with this number, of all that are due of the writers and of these connections.
 pub fn pick_dues<F: Files, I: LinkIn, O: LinkOut, R: Roads<Inward = I, Outward = O>>(
     nodes: &Nodes<F, I, O>,
     clients: &[Client<I, O>],
+    conns: &[ConnId],
     roads: &mut R,
     number: u128,
 ) -> Option<Due>
-    ensures picks { PicksDue R.Roads I.LinkIn O.LinkOut number nodes.now clients.now roads.old roads.new result }
+    ensures picks { PicksDue R.Roads I.LinkIn O.LinkOut number conns.now
+        nodes.now clients.now roads.old roads.new result }
     ensures pass { RoadsPass R.Roads roads.old roads.new }
 {
     let own = count_own(clients) as u128;
@@ -64,12 +68,11 @@ pub fn pick_dues<F: Files, I: LinkIn, O: LinkOut, R: Roads<Inward = I, Outward =
         return pick_own(clients, number as usize);
     }
     let mut rest = number - own;
-    for index in 0..nodes.connections.len() {
-        let conn = ConnId(index as u64);
-        let due = dues_of(nodes, clients, roads, conn);
-        let count = due.count(conn) as u128;
+    for conn in conns {
+        let due = dues_of(nodes, clients, roads, *conn);
+        let count = due.count(*conn) as u128;
         if rest < count {
-            return due.pick(conn, rest as usize);
+            return due.pick(*conn, rest as usize);
         }
         rest -= count;
     }

@@ -25,6 +25,8 @@ use Rattle.play_model.specs.States.{PlayState}
 use Rattle.play_clients.specs.declared.clients.Client.{Client}
 use Rattle.play_dues.specs.Drawing.{DrawsFrom, DrawsDue, PlaysAreDrawn, PlaysEnd}
 use Rattle.play_dues.specs.Listing.{all_dues, DuesAreListed}
+use Rattle.play_dues.specs.declared.live.LiveConns.{LiveConns}
+use Rattle.play_dues.specs.Live.{Covers, IsCurrent, IsRefreshed, CurrentCovers, CoversOn}
 use Rattle.play_dues.specs.Own.{blocks_of}
 use Rattle.play_dues.specs.Showing.{HasClient, DuesShow}
 use Rattle.play.specs.declared.faults.PlayFault.{PlayFault}
@@ -70,6 +72,19 @@ module _ {F R I O : Type 0} (f : files.Ghosts F) (r : roads.Ghosts R I O) (i : l
     connected = h.stands.connected;
   }
 
+  -- the list of live connections is up to date once it was refreshed
+  pub refreshed_so : (L : Laws) → AllOpen → (p : PlayState) (road : R) (x : Playing F I O) (live : LiveConns) → PlayIs r i o p road x → IsRefreshed i o x.live live x.player.nodes x.player.clients.items → IsCurrent (world_of p.nodes x.player) live
+  refreshed_so L opens p road x live h refreshed =
+      let d = dues_show L opens p road x h in
+      refreshed (world_of p.nodes x.player) h.stands.net (record { nodes_are = d.stands.nodes_are; placed = d.orderly.placed; each = λ k c at. (d.each k c at).client_is; connected = d.connected }) h.live
+
+  -- it covers the world after what was due, too
+  pub covers_after : (L : Laws) → AllOpen → CoversOn → (p : PlayState) (road road' : R) (old new : Playing F I O) (d : Due) (live : LiveConns) → PlayIs r i o p road old → is_due (world_of p.nodes old.player) p.queues d ≡ true → HasHappened r i o p.nodes p.queues d old.player new.player road' → Covers (world_of p.nodes old.player) live → Covers (world_of p.nodes new.player) live
+  covers_after L opens on p road road' old new d live h is has covers =
+      let w : World = world_of p.nodes old.player in
+      let joined : world_of p.nodes new.player ≡ run w (due_events w p.queues d) = ap (λ (es : List Event). run (start p.nodes) es) has.events ∙ L.joined (start p.nodes) old.player.events.items (due_events w p.queues d) in
+      subst (λ (v : World). Covers v live) (sym joined) (on w p.queues d live (dues_show L opens p road old h).orderly is covers)
+
   -- the same play, whose roads were asked
   pub with_roads : (p : PlayState) (road road' : R) (x : Playing F I O) (h : PlayIs r i o p road x) → DuesShow r i o (world_of p.nodes x.player) h.stands.net p.queues road' x.player.nodes x.player.clients.items → PlayIs r i o p road' x
   with_roads p road road' x h shows = record {
@@ -85,6 +100,7 @@ module _ {F R I O : Type 0} (f : files.Ghosts F) (r : roads.Ghosts R I O) (i : l
     events = h.events;
     generator = h.generator;
     rules = h.rules;
+    live = h.live;
   }
 
   -- with another generator its player is the same
@@ -106,17 +122,18 @@ module _ {F R I O : Type 0} (f : files.Ghosts F) (r : roads.Ghosts R I O) (i : l
 
   -- NOTHING IS DUE
 
-  pub nothing_drawn : (L : Laws) → AllOpen → DuesAreListed → PlaysAreDrawn → PlaysEnd → (old new : Playing F I O) (road road' : R) (result : Option Due) → new ≡ record old { generator = new.generator } → result ≡ None → DrawsDue r i o old.player.nodes old.player.clients.items road road' old.generator new.generator result
-      → DrawShows f r i o old new road road' (Ok false)
-  nothing_drawn L opens listed plays ends old new road road' result same none draws = λ p h.
+  pub nothing_drawn : (L : Laws) → AllOpen → DuesAreListed → PlaysAreDrawn → PlaysEnd → CurrentCovers → (old new : Playing F I O) (road road' : R) (result : Option Due) → new ≡ record old { generator = new.generator; live = new.live } → result ≡ None → IsRefreshed i o old.live new.live old.player.nodes old.player.clients.items
+      → DrawsDue r i o new.live old.player.nodes old.player.clients.items road road' old.generator new.generator result → DrawShows f r i o old new road road' (Ok false)
+  nothing_drawn L opens listed plays ends covered old new road road' result same none refreshed draws = λ p h.
       let t = draws (world_of p.nodes old.player) h.stands.net p.queues (dues_show L opens p road old h) in
-      let k : DrawsFrom (dues (blocks_in old) p) p.generator new.generator None = subst (λ (x : Option Due). DrawsFrom (dues (blocks_in old) p) p.generator new.generator x) none (drawn_of listed p road road' old h new.generator result t.1) in
+      let current : IsCurrent (world_of p.nodes old.player) new.live = refreshed_so L opens p road old new.live h refreshed in
+      let k : DrawsFrom (dues (blocks_in old) p) p.generator new.generator None = subst (λ (x : Option Due). DrawsFrom (dues (blocks_in old) p) p.generator new.generator x) none (drawn_of listed p road road' old h new.generator result (t.1 current)) in
       let empty : dues (blocks_in old) p ≡ [] = ends (blocks_in old) p new.generator k in
       let gen : new.generator ≡ p.generator = same_none (dues (blocks_in old) p) p.generator new.generator empty k in
       let is : PlayIs r i o p road' old = with_roads p road road' old h t.0 in (
         record {
           is = subst (λ (q : PlayState). PlayIs r i o q road' new) (sym (plays (blocks_in old) p new.generator None k ∙ ap (λ (g : Lcg). record p { generator = g }) gen))
-              (subst (λ (x : Playing F I O). PlayIs r i o p road' x) (sym same) (record { stands = is.stands; nodes_are = is.nodes_are; events = is.events; generator = gen; rules = is.rules }));
+              (subst (λ (x : Playing F I O). PlayIs r i o p road' x) (sym same) (record { stands = is.stands; nodes_are = is.nodes_are; events = is.events; generator = gen; rules = is.rules; live = covered (world_of p.nodes old.player) new.live current }));
           blocks = ap blocks_in same;
           given = λ b h'. ap (λ (q : PlayState). given_in q b) (plays (blocks_in old) p new.generator None k ∙ ap (λ (g : Lcg). record p { generator = g }) gen);
         },
@@ -130,9 +147,9 @@ module _ {F R I O : Type 0} (f : files.Ghosts F) (r : roads.Ghosts R I O) (i : l
       let z = places.each k c at in
       z.rule ∙ (rules k z.was z.at ∙ ap (λ (b : BlockId). p.rules b.0) (sym z.block))
 
-  pub after : (p : PlayState) (road road' : R) (old new : Playing F I O) (d : Due) (g : Lcg) → new.nodes ≡ old.nodes → PlayIs r i o p road old → HasHappened r i o p.nodes p.queues d old.player new.player road' → new.generator ≡ g → PlayIs r i o (after_due (record p { generator = g }) d) road' new
+  pub after : (p : PlayState) (road road' : R) (old new : Playing F I O) (d : Due) (g : Lcg) → new.nodes ≡ old.nodes → PlayIs r i o p road old → HasHappened r i o p.nodes p.queues d old.player new.player road' → new.generator ≡ g → Covers (world_of p.nodes new.player) new.live → PlayIs r i o (after_due (record p { generator = g }) d) road' new
   unfolding after_due
-  after p road road' old new d g nodes h has generator =
+  after p road road' old new d g nodes h has generator covers =
       let same : states.world_of p ≡ world_of p.nodes old.player = world_same p road old h in
       record {
         stands = subst (λ (w : World). PlayStands r i o p.nodes (queues_after w p.queues d) road' new.player) (sym same) has.stands;
@@ -140,6 +157,7 @@ module _ {F R I O : Type 0} (f : files.Ghosts F) (r : roads.Ghosts R I O) (i : l
         events = ap (λ (w : World). p.events ++ due_events w p.queues d) same ∙ (ap (λ (es : List Event). es ++ due_events (world_of p.nodes old.player) p.queues d) h.events ∙ sym has.events);
         generator = generator;
         rules = rules_after p old new _ has.places h.rules;
+        live = covers;
       }
 
   -- what was given stays
@@ -184,46 +202,52 @@ module _ {F R I O : Type 0} (f : files.Ghosts F) (r : roads.Ghosts R I O) (i : l
   -- what is drawn, and happens
   record Draws (p : PlayState) (old mid : Playing F I O) (d : Due) (first : R) : Type 0 where
     is : PlayIs r i o p first old
+    current : IsCurrent (world_of p.nodes old.player) mid.live
     play_is : draw (blocks_in old) p ≡ after_due (record p { generator = mid.generator }) d
     due_is : is_due (world_of p.nodes old.player) p.queues d ≡ true
     actor : ActorIsClient old.player d
     more : true ≡ is_some (slice_get (dues (blocks_in old) p) 0)
 
-  draws_so : (L : Laws) → AllOpen → DuesAreListed → PlaysAreDrawn → ListedAreDue → (old mid : Playing F I O) (road first : R) (d : Due) → DrawsDue r i o old.player.nodes old.player.clients.items road first old.generator mid.generator (Some d) → (p : PlayState) → PlayIs r i o p road old → Draws p old mid d first
-  draws_so L opens listed plays due old mid road first d draws p h =
+  draws_so : (L : Laws) → AllOpen → DuesAreListed → PlaysAreDrawn → ListedAreDue → (old mid : Playing F I O) (road first : R) (d : Due) → IsRefreshed i o old.live mid.live old.player.nodes old.player.clients.items → DrawsDue r i o mid.live old.player.nodes old.player.clients.items road first old.generator mid.generator (Some d) → (p : PlayState) → PlayIs r i o p road old → Draws p old mid d first
+  draws_so L opens listed plays due old mid road first d refreshed draws p h =
       let t = draws (world_of p.nodes old.player) h.stands.net p.queues (dues_show L opens p road old h) in
-      let k : DrawsFrom (dues (blocks_in old) p) p.generator mid.generator (Some d) = drawn_of listed p road first old h mid.generator (Some d) t.1 in
+      let current : IsCurrent (world_of p.nodes old.player) mid.live = refreshed_so L opens p road old mid.live h refreshed in
+      let k : DrawsFrom (dues (blocks_in old) p) p.generator mid.generator (Some d) = drawn_of listed p road first old h mid.generator (Some d) (t.1 current) in
       let at = some_listed (dues (blocks_in old) p) p.generator mid.generator d k in
       let x : IsListed (blocks_in old) p d = due (blocks_in old) p at.0 d at.1 in
       record {
         is = with_roads p road first old h t.0;
+        current = current;
         play_is = plays (blocks_in old) p mid.generator (Some d) k;
         due_is = subst (λ (w : World). is_due w p.queues d ≡ true) (world_same p road old h) x.is;
         actor = actor_of old.player.clients.items old.player d refl x.among;
         more = some_first (dues (blocks_in old) p) at.0 d at.1;
       }
 
-  pub drew : (L : Laws) → AllOpen → DuesAreListed → PlaysAreDrawn → ListedAreDue → (old mid new : Playing F I O) (road first road' : R) (d : Due) → new.nodes ≡ old.nodes → new.generator ≡ mid.generator → DrawsDue r i o old.player.nodes old.player.clients.items road first old.generator mid.generator (Some d)
-      → HappenShows f r i o d old.player new.player first road' (Ok tt) → DrawShows f r i o old new road road' (Ok true)
-  drew L opens listed plays due old mid new road first road' d nodes gen draws happens = λ p h.
-      let z : Draws p old mid d first = draws_so L opens listed plays due old mid road first d draws p h in
-      let has : HasHappened r i o p.nodes p.queues d old.player new.player road' = happens p.nodes p.queues z.is.stands z.due_is z.actor in (
+  pub drew : (L : Laws) → AllOpen → DuesAreListed → PlaysAreDrawn → ListedAreDue → CurrentCovers → CoversOn → (old mid new : Playing F I O) (road first road' : R) (d : Due) → new.nodes ≡ old.nodes → new.generator ≡ mid.generator → new.live ≡ mid.live → IsRefreshed i o old.live mid.live old.player.nodes old.player.clients.items
+      → DrawsDue r i o mid.live old.player.nodes old.player.clients.items road first old.generator mid.generator (Some d) → HappenShows f r i o d old.player new.player first road' (Ok tt) → DrawShows f r i o old new road road' (Ok true)
+  drew L opens listed plays due covered on old mid new road first road' d nodes gen live refreshed draws happens = λ p h.
+      let z : Draws p old mid d first = draws_so L opens listed plays due old mid road first d refreshed draws p h in
+      let has : HasHappened r i o p.nodes p.queues d old.player new.player road' = happens p.nodes p.queues z.is.stands z.due_is z.actor in
+      let covers : Covers (world_of p.nodes new.player) new.live = subst (λ (l : LiveConns). Covers (world_of p.nodes new.player) l) (sym live)
+      (covers_after L opens on p first road' old new d mid.live z.is z.due_is has (covered (world_of p.nodes old.player) mid.live z.current)) in
+      let now : PlayIs r i o (after_due (record p { generator = mid.generator }) d) road' new = after p first road' old new d mid.generator nodes z.is has gen covers in (
         record {
-          is = subst (λ (q : PlayState). PlayIs r i o q road' new) (sym z.play_is) (after p first road' old new d mid.generator nodes z.is has gen);
+          is = subst (λ (q : PlayState). PlayIs r i o q road' new) (sym z.play_is) now;
           blocks = numbers_same new.player.clients.items old.player.clients.items has.places.order;
-          given = λ b k. ap (λ (q : PlayState). given_in q b) z.play_is ∙ given_after p first road' old new d mid.generator z.is (after p first road' old new d mid.generator nodes z.is has gen) has b k;
+          given = λ b k. ap (λ (q : PlayState). given_in q b) z.play_is ∙ given_after p first road' old new d mid.generator z.is now has b k;
         },
         z.more,
       )
 
-  pub drew_failed : (L : Laws) → AllOpen → DuesAreListed → PlaysAreDrawn → ListedAreDue → (old mid new : Playing F I O) (road first road' : R) (d : Due) (why : PlayFault) (result : Result Bool PlayFault) → result ≡ Err why → r.faults road ≤ r.faults first → DrawsDue r i o old.player.nodes old.player.clients.items road first old.generator mid.generator (Some d)
-      → HappenShows f r i o d old.player new.player first road' (Err why) → DrawShows f r i o old new road road' result
-  drew_failed L opens listed plays due old mid new road first road' d why result failed faults draws happens = λ p h.
-      let z : Draws p old mid d first = draws_so L opens listed plays due old mid road first d draws p h in
+  pub drew_failed : (L : Laws) → AllOpen → DuesAreListed → PlaysAreDrawn → ListedAreDue → (old mid new : Playing F I O) (road first road' : R) (d : Due) (why : PlayFault) (result : Result Bool PlayFault) → result ≡ Err why → r.faults road ≤ r.faults first → IsRefreshed i o old.live mid.live old.player.nodes old.player.clients.items
+      → DrawsDue r i o mid.live old.player.nodes old.player.clients.items road first old.generator mid.generator (Some d) → HappenShows f r i o d old.player new.player first road' (Err why) → DrawShows f r i o old new road road' result
+  drew_failed L opens listed plays due old mid new road first road' d why result failed faults refreshed draws happens = λ p h.
+      let z : Draws p old mid d first = draws_so L opens listed plays due old mid road first d refreshed draws p h in
       subst (λ (x : Result Bool PlayFault). DrawEnds f r i o p old new road road' x) (sym failed) (caused old old new road first road' why faults (happens p.nodes p.queues z.is.stands z.due_is z.actor))
 
   -- the player stands on the roads that were asked
-  pub stands_there : (L : Laws) → AllOpen → (old mid : Playing F I O) (road first : R) (result : Option Due) → mid.player ≡ old.player → IsPlaying r i o road old → DrawsDue r i o old.player.nodes old.player.clients.items road first old.generator mid.generator result → PlayerStands r i o first mid.player
+  pub stands_there : (L : Laws) → AllOpen → (old mid : Playing F I O) (road first : R) (result : Option Due) → mid.player ≡ old.player → IsPlaying r i o road old → DrawsDue r i o mid.live old.player.nodes old.player.clients.items road first old.generator mid.generator result → PlayerStands r i o first mid.player
   stands_there L opens old mid road first result same playing draws =
       let t = draws (world_of playing.p.nodes old.player) playing.is.stands.net playing.p.queues (dues_show L opens playing.p road old playing.is) in
       subst (λ (x : Player F I O). PlayerStands r i o first x) (sym same) (player_stands playing.p first old (with_roads playing.p road first old playing.is t.0))

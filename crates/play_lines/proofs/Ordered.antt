@@ -169,6 +169,7 @@ module _ {F R I O : Type 0} (r : roads.Ghosts R I O) (i : link_in.Ghosts I) (o :
       events = is.events;
       generator = is.generator;
       rules = rules;
+      live = is.live;
     });
     blocks = same_blocks;
   }

@@ -23,7 +23,9 @@ use Rattle.play_nodes.specs.declared.connections.Connection.{Connection}
 use Rattle.play_nodes.specs.declared.nodes.Nodes.{Nodes}
 use Rattle.play_nodes.specs.Showing.{NodesShow}
 use Rattle.play_nodes.proofs.PlaceLaws.{element_some}
+use Rattle.play_dues.specs.declared.live.LiveConns.{LiveConns}
 use Rattle.play_dues.specs.Listing.{IsPlayed, IsAlone, TellsDue}
+use Rattle.play_dues.specs.Live.{Covers, CoversOn}
 use Rattle.play_dues.specs.Places.{client_place}
 use Rattle.play_dues.specs.Showing.{HasClient}
 use Rattle.play_dues.specs.Writers.{conn_of}
@@ -39,7 +41,7 @@ use Rattle.play_lines.specs.declared.playing.Playing.{Playing}
 use Rattle.play_lines.specs.Drawing.{IsDrawn}
 use Rattle.play_lines.specs.Showing.{PlayIs, IsPlaying}
 use Rattle.play_lines.specs.Stepping.{number_of, mirror_at, conn_at, due_behind, client_for, due_for, StepEnds, StepShows}
-use Rattle.play_lines.proofs.Drawn.{numbers_same, world_same, dues_show, with_roads, player_stands, after, caused, given_after}
+use Rattle.play_lines.proofs.Drawn.{numbers_same, world_same, dues_show, with_roads, player_stands, covers_after, after, caused, given_after}
 
 -- CONNECTIONS
 
@@ -221,24 +223,26 @@ module _ {F R I O : Type 0} (f : files.Ghosts F) (r : roads.Ghosts R I O) (i : l
       let t = tells (played_so old.player.clients.items d result holds alone) (world_of playing.p.nodes old.player) playing.is.stands.net playing.p.queues (dues_show f r i o L opens playing.p road old playing.is) in
       player_stands f r i o playing.p first old (with_roads f r i o playing.p road first old playing.is t.0)
 
-  happens_so : (p : PlayState) (old new : Playing F I O) (road first road' : R) (d : Due) (result : Result (Unit {0}) PlayFault) → new.nodes ≡ old.nodes → new.generator ≡ old.generator → r.faults road ≤ r.faults first → due_for old block event ≡ Some d → PlayIs r i o p road old → PlayIs r i o p first old
+  happens_so : CoversOn → (p : PlayState) (old new : Playing F I O) (road first road' : R) (d : Due) (result : Result (Unit {0}) PlayFault) → new.nodes ≡ old.nodes → new.generator ≡ old.generator → new.live ≡ old.live → r.faults road ≤ r.faults first → due_for old block event ≡ Some d → PlayIs r i o p road old → PlayIs r i o p first old
       → HasClient old.player.clients.items block.0 → is_due (world_of p.nodes old.player) p.queues d ≡ true → HappenEnds f r i o p.nodes p.queues d old.player new.player first road' result → StepEnds f r i o block event p old new road road' result
-  happens_so p old new road first road' d (Ok u) nodes gen faults is h here has holds ends =
+  happens_so on p old new road first road' d (Ok u) nodes gen live faults is h here has holds ends =
+      let covers : Covers (world_of p.nodes new.player) new.live = subst (λ (l : LiveConns). Covers (world_of p.nodes new.player) l) (sym live) (covers_after f r i o L opens on p first road' old new d old.live here holds ends here.live) in
+      let now : PlayIs r i o (after_due (record p { generator = p.generator }) d) road' new = after f r i o p first road' old new d p.generator nodes here ends (gen ∙ h.generator) covers in
       let due_is : true ≡ is_due (states.world_of p) p.queues d = sym holds ∙ ap (λ (w : World). is_due w p.queues d) (sym (world_same f r i o p road old h)) in
       subst (λ (x : Option Due). IsDrawn r i o p (stepped p x) old new road') (sym is ∙ for_told p road old h has)
       (subst (λ (b : Bool). IsDrawn r i o p (if b then after_due p d else p) old new road') due_is (record {
-        is = after f r i o p first road' old new d p.generator nodes here ends (gen ∙ h.generator);
-        given = λ b k. given_after f r i o p first road' old new d p.generator here (after f r i o p first road' old new d p.generator nodes here ends (gen ∙ h.generator)) ends b k;
+        is = now;
+        given = λ b k. given_after f r i o p first road' old new d p.generator here now ends b k;
         blocks = numbers_same new.player.clients.items old.player.clients.items ends.places.order;
       }))
-  happens_so p old new road first road' d (Err why) nodes gen faults is h here has holds ends = caused f r i o old old new road first road' why faults ends
+  happens_so on p old new road first road' d (Err why) nodes gen live faults is h here has holds ends = caused f r i o old old new road first road' why faults ends
 
-  pub happened : (old new : Playing F I O) (road first road' : R) (found : Option Due) (d : Due) (told : Bool) (result : Result (Unit {0}) PlayFault) → new.nodes ≡ old.nodes → new.generator ≡ old.generator → r.faults road ≤ r.faults first → told ≡ true → found ≡ due_for old block event → found ≡ Some d
+  pub happened : CoversOn → (old new : Playing F I O) (road first road' : R) (found : Option Due) (d : Due) (told : Bool) (result : Result (Unit {0}) PlayFault) → new.nodes ≡ old.nodes → new.generator ≡ old.generator → new.live ≡ old.live → r.faults road ≤ r.faults first → told ≡ true → found ≡ due_for old block event → found ≡ Some d
       → TellsDue r i o d old.player.nodes old.player.clients.items road first told → HappenShows f r i o d old.player new.player first road' result → StepShows f r i o block event old new road road' result
-  happened old new road first road' found d told result nodes gen faults holds for there tells happens = λ p h has.
+  happened on old new road first road' found d told result nodes gen live faults holds for there tells happens = λ p h has.
       let is : due_for old block event ≡ Some d = sym for ∙ there in
       let here = played old block event d is has in
       let t = tells here (world_of p.nodes old.player) h.stands.net p.queues (dues_show f r i o L opens p road old h) in
       let standing = with_roads f r i o p road first old h t.0 in
       let now : is_due (world_of p.nodes old.player) p.queues d ≡ true = sym t.1 ∙ holds in
-      happens_so p old new road first road' d result nodes gen faults is h standing has now (happens p.nodes p.queues standing.stands now (actor_so old.player d here))
+      happens_so on p old new road first road' d result nodes gen live faults is h standing has now (happens p.nodes p.queues standing.stands now (actor_so old.player d here))

@@ -8,11 +8,12 @@ use Rattle.play_model.specs.States as states
 use Rattle.play_model.specs.States.{PlayState}
 use Rattle.play_laws.specs.Intakes.{intake_of}
 use Rattle.play_clients.specs.declared.clients.Client.{Client}
-use Rattle.play.specs.Standing.{PlayStands, given_with}
+use Rattle.play_dues.specs.Live.{Covers}
+use Rattle.play.specs.Standing.{PlayStands, given_with, world_of}
 use Rattle.play_lines.specs.declared.playing.Playing.{Playing}
 
--- The player stands for its events and queues, with as many nodes; the generator is the same, and each client has the rule
--- of its block.
+-- The player stands for its events and queues, with as many nodes; the generator is the same, each client has the rule of
+-- its block, and of connections that aren't listed as live nothing will ever be due.
 pub record PlayIs {F R I O : Type 0} (r : roads.Ghosts R I O) (i : link_in.Ghosts I) (o : link_out.Ghosts O)
     (p : PlayState) (road : R) (x : Playing F I O) : Type 0 where
   pub stands : PlayStands r i o p.nodes p.queues road x.player
@@ -20,6 +21,7 @@ pub record PlayIs {F R I O : Type 0} (r : roads.Ghosts R I O) (i : link_in.Ghost
   pub events : p.events ≡ x.player.events.items
   pub generator : x.generator ≡ p.generator
   pub rules : (k : ℕ) (c : Client I O) → slice_get x.player.clients.items k ≡ Some c → c.rule ≡ p.rules c.block.0
+  pub live : Covers (world_of p.nodes x.player) x.live
 
 -- It is some play.
 pub record IsPlaying {F R I O : Type 0} (r : roads.Ghosts R I O) (i : link_in.Ghosts I) (o : link_out.Ghosts O)

@@ -8,7 +8,7 @@ ghost use Rattle.play_lines.specs.Drawing.{DrawShows, RunShows, SettleShows};
 use crate::playing::Playing;
 use hd_base::{Files, LinkIn, LinkOut, Roads};
 use play::{PlayFault, worlds_are_lawful};
-use play_dues::{draw_due, dues_are_listed, plays_are_drawn};
+use play_dues::{draw_due, dues_are_listed, live_connections_are_covered, plays_are_drawn};
 use play_model::listed_dues_are_due;
 use play_settling::plays_lower;
 use std::alloc::Global;
@@ -32,9 +32,15 @@ impl<F: Files, I: LinkIn, O: LinkOut> Playing<F, I, O> {
         dues_are_listed();
         plays_are_drawn();
         listed_dues_are_due();
+        live_connections_are_covered();
+        let clients = self.player.clients.as_slice();
+        let Ok(()) = self.live.refresh(&self.player.nodes, clients) else {
+            return Err(PlayFault::Memory);
+        };
         let drawn = draw_due(
             &self.player.nodes,
-            self.player.clients.as_slice(),
+            clients,
+            &self.live,
             roads,
             &mut self.generator,
         );

@@ -2,6 +2,7 @@
 
 use hd_base::Files;
 use play::Player;
+use play_dues::LiveConns;
 use rand_pcg::Lcg64Xsh32;
 
 /// A play so far.
@@ -13,4 +14,6 @@ pub struct Playing<F: Files, I, O> {
     pub player: Player<F, I, O>,
     /// Draws what happens next.
     pub generator: Lcg64Xsh32,
+    /// The connections of which something may still be due: a draw asks no others.
+    pub live: LiveConns,
 }

@@ -13,7 +13,7 @@ use client_events::Pipe;
 use hd_base::{BlockId, ConnId, Files, LinkIn, LinkOut, Roads};
 use play::{PlayFault, worlds_are_lawful};
 use play_clients::Client;
-use play_dues::{client_of, is_due};
+use play_dues::{client_of, is_due, live_connections_are_covered};
 use play_model::Due;
 use play_nodes::Nodes;
 use script_lang::StepEvent;
@@ -38,6 +38,7 @@ impl<F: Files, I: LinkIn, O: LinkOut> Playing<F, I, O> {
     {
         worlds_are_lawful();
         takers_are_open();
+        live_connections_are_covered();
         let Some(due) = self.due_for(block, event) else {
             return Ok(());
         };

@@ -2,6 +2,12 @@
 use Rattle.std.proofs.Common.{◌≡◌, ◌==◌, ℕ, ◌-◌, ◌^◌, ◌&&◌, nat_le, Bool, true, false, cond, List, [], ◌∷◌, ◌⊎◌, length, codes, bytes_eq, find, Some, None, Result, Ok, Err, inl, inr, refl, sym, ◌∙◌, ap, subst}
 use Rattle.std.specs.Option.{ok_or}
 use Rattle.std.proofs.lemmas.Bool.{and_parts, leb-true}
+use Rattle.std.specs.Prelude.{not}
+use Rattle.std.specs.Result.{is_ok, result_unwrap_or}
+use Rattle.hex.specs.Hex.{decode_of}
+use Rattle.hex.specs.declared.error.FromHexError.{FromHexError}
+use Rattle.hex.proofs.HexLemmas.{decode_of-ok}
+use Rattle.hd_base.specs.Bytes.{IsBytes}
 use Rattle.hd_base.specs.Results.{◌>>=◌}
 use Rattle.hd_base.specs.SumRules.{Rule, IsChunkSize}
 use Rattle.hd_base.specs.Wire.{state_name}
@@ -14,7 +20,7 @@ use Rattle.script_lang.specs.declared.instructions.Instruction.TheVariants as sa
 use Rattle.script_lang.specs.declared.instructions.StepEvent.{StepEvent}
 use Rattle.script_lang.specs.declared.instructions.StepEvent.TheVariants as step
 use Rattle.script_lang.specs.Rules.{by_rules, AllKept}
-use Rattle.script_lang.specs.Words.{words_of}
+use Rattle.script_lang.specs.Words.{is_nothing, words_of}
 use Rattle.script_lang.specs.Names.{named, keyword_name, keywords, sum_name, sum_kinds, states, event_name, events}
 use Rattle.script_lang.specs.Numbers.{value_of, is_number, is_number_within, is_hex, bytes_of, are_items, are_members, members_of}
 use Rattle.script_lang.specs.Said
@@ -33,6 +39,7 @@ abbrev pub IsFormed : Instruction → Type 0
 IsFormed (says.Sums block rule) = IsChunkSize rule.chunk
 IsFormed (says.Create block members) = AreFormed members
 IsFormed (says.Append block members) = AreFormed members
+IsFormed (says.Write block bytes) = IsBytes bytes
 IsFormed other = Unit {0}
 
 -- NAMES
@@ -69,6 +76,17 @@ chunk_formed chunk e =
     let least = and_parts (is_number chunk) (nat_le 16 (value_of chunk)) most.0 in
     record { least = leb-true 16 (value_of chunk) least.1; greatest = leb-true (value_of chunk) 65536 most.1 }
 
+-- what pairs of hexadecimal digits spell
+spelled_bytes : (word : List ℕ) → is_hex word ≡ true → IsBytes (bytes_of word)
+spelled_bytes word e = by (decode_of word) refl (and_parts (not (is_nothing word)) (is_ok (decode_of word)) e).1
+  where
+    by : (r : Result (List ℕ) FromHexError) → decode_of word ≡ r → is_ok r ≡ true → IsBytes (result_unwrap_or r [])
+    by (Ok bytes) is ok = (decode_of-ok word bytes is).3
+    by (Err why) is ok = absurd (never ok)
+      where
+        never : false ≡ true → ⊥
+        never e = cc
+
 -- WORDS
 
 sums_formed : (words : List (List ℕ)) (i : Instruction) → Said.sums_said words ≡ Ok i → IsFormed i
@@ -98,7 +116,7 @@ write_formed : (words : List (List ℕ)) (i : Instruction) → Said.write_said w
 unfolding Said.write_said
 write_formed words i e =
     let w = bind_ok (Said.two_of words) _ i e in
-    said ((kind.Number, is_number w.0.0) ∷ (kind.Hex, is_hex w.0.1) ∷ []) (says.Write (Said.block_of w.0.0) (bytes_of w.0.1)) i (λ _. tt) w.1.1
+    said ((kind.Number, is_number w.0.0) ∷ (kind.Hex, is_hex w.0.1) ∷ []) (says.Write (Said.block_of w.0.0) (bytes_of w.0.1)) i (λ k. spelled_bytes w.0.1 k.1.0) w.1.1
 
 fill_formed : (words : List (List ℕ)) (i : Instruction) → Said.fill_said words ≡ Ok i → IsFormed i
 unfolding Said.fill_said

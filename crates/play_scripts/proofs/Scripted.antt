@@ -66,6 +66,7 @@ words_fit nodes (says.Seed seed) f names = names
 words_fit nodes (says.Sums block rule) f names = f
 words_fit nodes (says.Create block members) f names = members_fit nodes members f names
 words_fit nodes (says.Append block members) f names = members_fit nodes members f names
+words_fit nodes (says.Write block bytes) f names = f
 words_fit nodes _ f names = tt
 
 -- a line behind the head leaves the number of nodes

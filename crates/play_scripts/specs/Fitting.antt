@@ -1,5 +1,6 @@
 -- What the lines of a script keep, so that a play can take them.
 use Rattle.std.specs.Prelude.{ℕ, ◌≡◌, ◌==◌, ◌≤◌, true, false, List, [], ◌∷◌, length}
+use Rattle.hd_base.specs.Bytes.{IsBytes}
 use Rattle.hd_base.specs.SumRules.{IsChunkSize}
 use Rattle.hd_base.specs.declared.numbers.NodeId.{NodeId}
 use Rattle.script_lang.specs.declared.instructions.Instruction.{Instruction}
@@ -20,13 +21,14 @@ pub record MembersFit (nodes : ℕ) (members : List NodeId) : Type 0 where
   pub formed : are_members members ≡ true
   pub below : AreAll (IsNode nodes) members
 
--- A line behind the first two: the members that it names are so, and so is the size of a chunk.
+-- A line behind the first two: the members that it names are so, it has a chunk size that there is, and it writes bytes.
 abbrev pub WordsFit : ℕ → Instruction → Type 0
 WordsFit nodes (says.Nodes count) = ⊥
 WordsFit nodes (says.Seed seed) = ⊥
 WordsFit nodes (says.Sums block rule) = IsChunkSize rule.chunk
 WordsFit nodes (says.Create block members) = MembersFit nodes members
 WordsFit nodes (says.Append block members) = MembersFit nodes members
+WordsFit nodes (says.Write block bytes) = IsBytes bytes
 WordsFit nodes other = Unit {0}
 
 -- A line keeps this, and fits those before it.

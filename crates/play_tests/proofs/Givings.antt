@@ -22,10 +22,12 @@ use Rattle.play_laws.specs.Intakes.{intake_of}
 use Rattle.play_laws.specs.Members.{AreAll, IsNode}
 use Rattle.play_clients.specs.declared.clients.Client.{Client}
 use Rattle.play_dues.specs.Own.{blocks_of}
+use Rattle.play_dues.specs.declared.live.LiveConns.{LiveConns}
+use Rattle.play_dues.specs.Live.{CoversNone}
 use Rattle.play_dues.specs.Places.{client_place}
 use Rattle.play.specs.declared.faults.PlayFault.{PlayFault}
 use Rattle.play.specs.Events as events
-use Rattle.play.specs.Standing.{CommandFits, given_with, PlayStands}
+use Rattle.play.specs.Standing.{CommandFits, given_with, world_of, PlayStands}
 use Rattle.play.specs.declared.player.Player.{Player}
 use Rattle.play_lines.specs.declared.playing.Playing.{Playing}
 use Rattle.play_lines.specs.Drawing.{HasSettled}
@@ -110,11 +112,18 @@ close_fits = record { formed = refl; names = tt; admits = refl }
 -- PLAYS
 
 module _ {F R I O : Type 0} (r : roads.Ghosts R I O) (i : link_in.Ghosts I) (o : link_out.Ghosts O) where
-  pub starts : (blocks : List BlockId) (player : Player F I O) (road : R) (g : Lcg) → blocks ≡ BLOCK ∷ [] → AreNewClients blocks player.clients.items → player.events.items ≡ [] → PlayStands r i o NODES no_commands road player → g ≡ (opened NODES SEED).generator
-      → HasGiven r i o nothing_given road (record { nodes = NODES; player = player; generator = g })
-  starts blocks player road g one clients none stands drawn = record {
+  pub starts : (blocks : List BlockId) (player : Player F I O) (road : R) (g : Lcg) (live : LiveConns) → blocks ≡ BLOCK ∷ [] → AreNewClients blocks player.clients.items → player.events.items ≡ [] → PlayStands r i o NODES no_commands road player → g ≡ (opened NODES SEED).generator
+      → CoversNone live → HasGiven r i o nothing_given road (record { nodes = NODES; player = player; generator = g; live = live })
+  starts blocks player road g live one clients none stands drawn covers = record {
     p = opened NODES SEED;
-    is = record { stands = stands; nodes_are = refl; events = sym none; generator = drawn; rules = λ k c at. (clients.each k c at).is_new.rule };
+    is = record {
+      stands = stands;
+      nodes_are = refl;
+      events = sym none;
+      generator = drawn;
+      rules = λ k c at. (clients.each k c at).is_new.rule;
+      live = covers (world_of NODES player);
+    };
     nodes = refl;
     blocks = one_number player.clients.items (clients.order ∙ one);
     rule = refl;

@@ -11,6 +11,7 @@ use hd_base::{BlockId, LinkIn, LinkOut, Members, NodeId, ReplicaState, Roads, St
 use mem_ports::{MemDrawer, MemIn, MemOut, MemRoads, MemShelf};
 use node_opening::OpenFault;
 use play::PlayFault;
+use play_dues::LiveConns;
 use play_lines::{Playing, orders_are_plays};
 use play_opening::open_player;
 use rand_pcg::Lcg64Xsh32;
@@ -54,10 +55,12 @@ fn opened(alloc: Global, roads: &mut MemRoads) -> Result<Play, OpenFault>
     let blocks = one_block(alloc)?;
     let player = open_player(alloc, roads, &mut shelves, blocks)?;
     let generator = Lcg64Xsh32::new(SEED, EVENT_STREAM);
+    let live = LiveConns::new(alloc);
     Ok(Playing {
         nodes: NODES,
         player,
         generator,
+        live,
     })
 }
 

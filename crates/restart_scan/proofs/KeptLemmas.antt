@@ -76,7 +76,7 @@ at_place : (c i : ℕ) (body : List ℕ) → chunk_at c c body i ≡ take c (dro
 at_place c zero body = let none : c * 0 ≡ 0 = omega arith in ap (λ n. take c (drop n body)) (sym none)
 at_place c (suc i) body = let more : c + c * i ≡ c * suc i = omega arith in ap (λ n. take c (drop n body)) more
 
-inside : (i n c : ℕ) → i < n → c * i + c ≤ c * n
+pub inside : (i n c : ℕ) → i < n → c * i + c ≤ c * n
 inside i zero c h = absurd (omega arith)
 inside i (suc n) c h = elim (last h) [
   | inl e ↦ let more : c * suc n ≡ c * n + c = omega arith in omega (arith, more, ap (λ k. c * k) e)

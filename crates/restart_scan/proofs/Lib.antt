@@ -15,3 +15,8 @@ pub mod ScanLemmas
 pub mod WholeLemmas
 pub mod StopLemmas
 pub mod CreateLemmas
+pub mod OnceLemmas
+pub mod FurtherLemmas
+pub mod EventLemmas
+pub mod RestartLemmas
+pub mod AllAgainLemmas

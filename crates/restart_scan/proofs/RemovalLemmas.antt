@@ -15,7 +15,7 @@ use Rattle.file_calls.specs.Plans.{FindFiles}
 use Rattle.replica_calls.specs.CallLists.{remove_list}
 use Rattle.restart_scan.specs.Pairs.{is_temporary, temporary_part, without_temporary, not_temporary}
 
-abbrev IsBelow : List ℕ → List ℕ → Type 0
+abbrev pub IsBelow : List ℕ → List ℕ → Type 0
 IsBelow a b = is_lt (slice_cmp nat_cmp a b) ≡ true
 
 less_differs : (o : Ordering) → is_lt o ≡ true → is_eq o ≡ false
@@ -121,7 +121,7 @@ other_names m names are = filtered m (without_temporary m) (λ name. not (is_tem
 
 -- ---- all files in tmp
 
-part_some : (b : Bool) (o : Option (List ℕ)) → IsSome (cond b o None) → IsSome o
+pub part_some : (b : Bool) (o : Option (List ℕ)) → IsSome (cond b o None) → IsSome o
 part_some true o h = h
 part_some false o h = by h where
   by : IsSome (cond false o None) → IsSome o

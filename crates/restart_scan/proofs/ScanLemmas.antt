@@ -24,10 +24,10 @@ true_false e = cc
 
 -- ---- lists
 
-later : {A : Type 0} (p : A) (xs : List A) (q : A) → Contains xs q → Contains (p ∷ xs) q
+pub later : {A : Type 0} (p : A) (xs : List A) (q : A) → Contains xs q → Contains (p ∷ xs) q
 later p xs q at = (suc at.0, omega (arith, at.1), at.2)
 
-contains_back : {A : Type 0} (xs ys : List A) (q : A) → Contains ys q → Contains (xs ++ ys) q
+pub contains_back : {A : Type 0} (xs ys : List A) (q : A) → Contains ys q → Contains (xs ++ ys) q
 contains_back [] ys q at = at
 contains_back (x ∷ xs) ys q at = later x (xs ++ ys) q (contains_back xs ys q at)
 
@@ -51,13 +51,13 @@ numbers_to (x ∷ names) b name (suc k, within, is) e = contains_back (number_li
 
 -- ---- what was found of a block
 
-same_some : {A : Type 0} (x y : A) → ◌≡◌ {A = Option A} (Some x) (Some y) → x ≡ y
+pub same_some : {A : Type 0} (x y : A) → ◌≡◌ {A = Option A} (Some x) (Some y) → x ≡ y
 same_some x y e = cc
 
-none_some : {A : Type 0} (x : A) → ◌≡◌ {A = Option A} None (Some x) → ⊥
+pub none_some : {A : Type 0} (x : A) → ◌≡◌ {A = Option A} None (Some x) → ⊥
 none_some x e = cc
 
-seen_block : (block : BlockId) (p q : FileMap) (x : Scanned) (s : Seen) → ScansBlock block p q x → x.seen ≡ Some s → s.block ≡ block
+pub seen_block : (block : BlockId) (p q : FileMap) (x : Scanned) (s : Seen) → ScansBlock block p q x → x.seen ≡ Some s → s.block ≡ block
 seen_block block p q x s (inl pair) is = ap (λ (t : Seen). t.block) (sym (same_some _ s (ap (λ (y : Scanned). y.seen) (sym pair.found) ∙ is)))
 seen_block block p q x s (inr others) is = absurd (none_some s (ap (λ (y : Scanned). y.seen) (sym others.found) ∙ is))
 
@@ -79,11 +79,11 @@ seen_from m n (b ∷ bs) (x ∷ xs) c h at = by (λ one. seen_from m n bs xs c h
   by rest (Some s) e (suc k, within, is) = later b bs c (rest (k, omega (arith, within), is))
 
 -- each number is below all later ones
-abbrev Rises : List ℕ → Type 0
+abbrev pub Rises : List ℕ → Type 0
 Rises [] = Unit {0}
 Rises (x ∷ xs) = ((c : ℕ) → Contains xs c → x < c) × Rises xs
 
-rises_from : (xs : List ℕ) → AllPairs (λ x y. x < y) xs → Rises xs
+pub rises_from : (xs : List ℕ) → AllPairs (λ x y. x < y) xs → Rises xs
 rises_from [] h = tt
 rises_from (x ∷ xs) h = (
   λ c at. subst (λ y. x < y) at.2 (h 0 (suc at.0) c (omega arith) (omega (arith, at.1))),
@@ -205,7 +205,7 @@ left_at m n b q e left =
     ap (λ (t : Bool). cond t (n q) None) (sym of) ∙ (ap (λ (f : FileMap). f q) left ∙ ap (λ (t : Bool). cond (is_temporary q) None (cond t (m q) None)) of)
 
 -- a list that has a number, or not
-has_or_not : (blocks : List ℕ) (b : ℕ) → Contains blocks b ⊎ ((c : ℕ) → Contains blocks c → c ≡ b → ⊥)
+pub has_or_not : (blocks : List ℕ) (b : ℕ) → Contains blocks b ⊎ ((c : ℕ) → Contains blocks c → c ≡ b → ⊥)
 has_or_not [] b = inr (λ c at e. omega (arith, at.1))
 has_or_not (x ∷ xs) b = by (x == b) refl (has_or_not xs b) where
   by : (t : Bool) → (x == b) ≡ t → Contains xs b ⊎ ((c : ℕ) → Contains xs c → c ≡ b → ⊥) → Contains (x ∷ xs) b ⊎ ((c : ℕ) → Contains (x ∷ xs) c → c ≡ b → ⊥)
@@ -216,7 +216,7 @@ has_or_not (x ∷ xs) b = by (x == b) refl (has_or_not xs b) where
     other c (zero, within, is) same = true_false (sym ((Decides-eqb x b).1 (is ∙ same)) ∙ e)
     other c (suc k, within, is) same = none c (k, omega (arith, within), is) same
 
-no_file : (o : Option (List ℕ)) → (IsSome o → ⊥) → o ≡ None
+pub no_file : (o : Option (List ℕ)) → (IsSome o → ⊥) → o ≡ None
 no_file None h = refl
 no_file (Some x) h = absurd (h refl)
 

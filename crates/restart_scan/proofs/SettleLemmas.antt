@@ -93,10 +93,10 @@ leads_moves f mf k mk g d m =
     (λ go. leads_one (Both f d mk g m) (MoveData k) (Both k d mk g m) tt refl)
     (λ stay. ap (λ x. Both x d mk g m) (same_is f k (not_false (same_folder f k) stay))))
 
-is_less : (n m : ℕ) → nat_lt n m ≡ true → n < m
+pub is_less : (n m : ℕ) → nat_lt n m ≡ true → n < m
 is_less n m e = grind (arith, common_steps, nat_tests)
 
-not_less : (n m : ℕ) → nat_lt n m ≡ false → m ≤ n
+pub not_less : (n m : ℕ) → nat_lt n m ≡ false → m ≤ n
 not_less n m e = grind (arith, common_steps, nat_tests)
 
 leads_cuts : (f mf : Folder) (g : ℕ) (d m : List ℕ) (data_len stored_len len left : ℕ) → data_len ≡ length d → stored_len ≡ length m
@@ -182,7 +182,7 @@ list_by block x y s r data_len stored_len len =
     move_list (pair_names block x) (pair_names block y) x y
     ++ (move_list (pair_names block y) (pair_names block (last_places s x)) y (last_places s x) ++ cut_list (pair_names block (last_places s x)) r data_len stored_len len)
 
-settled_leads : (p : Pair) (len : ℕ) → Leads (placement_of p) (pair_calls p len) (Both (folder_of (state_of p)) (take len p.bytes) (folder_of (state_of p)) p.places.stamp.0 (left_of p len))
+pub settled_leads : (p : Pair) (len : ℕ) → Leads (placement_of p) (pair_calls p len) (Both (folder_of (state_of p)) (take len p.bytes) (folder_of (state_of p)) p.places.stamp.0 (left_of p len))
 settled_leads p len =
     let rest = cuts p.rule (length p.bytes) (header_len + length p.stored) len in
     let end = Both (folder_of (state_of p)) (take len p.bytes) (folder_of (state_of p)) p.places.stamp.0 (left_of p len) in

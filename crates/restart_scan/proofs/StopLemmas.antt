@@ -1,8 +1,7 @@
 -- What is found after a stop at one of the calls that settle a replica.
 use Rattle.std.proofs.Common.{◌≡◌, ◌⊎◌, inl, inr, ℕ, zero, suc, ◌+◌, ◌*◌, ◌/◌, ◌%◌, ◌^◌, ◌<◌, ◌≤◌, ◌==◌, ◌&&◌, not, nat_lt, Bool, true, false, List, [], ◌∷◌, ◌++◌, length, take, drop, Option, None, refl, sym, ap, subst, ◌∙◌, arith, append_assoc}
 use Rattle.std.proofs.lemmas.List.{take_all, drop-drop, take-append-drop}
-use Rattle.std.proofs.lemmas.Grind.{common_steps}
-use Rattle.std.proofs.lemmas.Bool.Decides.{nat_tests, Decides-eqb}
+use Rattle.std.proofs.lemmas.Bool.Decides.{Decides-eqb}
 use Rattle.std.proofs.Math.Seq.{take-append-add, drop-append_seam}
 use Rattle.hd_base.specs.FileMaps.{overwritten}
 use Rattle.hd_base.proofs.FileLaws.{overwritten-end}
@@ -24,7 +23,7 @@ use Rattle.replica_model.specs.Plans.{when, grow_calls, sync_calls, packet_calls
 use Rattle.replica_model.specs.Found.{Found, found_as, IsWaiting, MayFindReceived, MayFindBetween, waits_old_before, waits_old_after, waits_new_after, stays_final, becomes_final, cut_final}
 use Rattle.replica_model.proofs.PlacementLemmas.{leads_cut}
 use Rattle.restart_scan.specs.Laws.{FindsBlock, finds, finds_none, IsPlain, IsFoundFinal, StoppedSettlingsAreFound, StoppedPacketsAreFound, StoppedTransfersAreFound}
-use Rattle.restart_scan.proofs.SettleLemmas.{same_is, not_false}
+use Rattle.restart_scan.proofs.SettleLemmas.{same_is, not_false, is_less, not_less}
 use Rattle.restart_scan.proofs.WholeLemmas.{two_files_are_found, temporary_found, plain_found, plain_rbw, no_pair}
 
 true_false : true ≡ false → ⊥
@@ -33,24 +32,24 @@ true_false e = cc
 -- ---- stops
 
 -- Wherever some calls are stopped, this holds of where the files lie.
-abbrev Stops : (Placement → Type 0) → List BlockCall → Placement → Type 0
+abbrev pub Stops : (Placement → Type 0) → List BlockCall → Placement → Type 0
 Stops S calls p = (i n : ℕ) → S (all_placed (stopped i n calls) p)
 
-stops_append : (S : Placement → Type 0) (xs ys : List BlockCall) (p : Placement) → Stops S xs p → Stops S ys (all_placed xs p) → Stops S (xs ++ ys) p
+pub stops_append : (S : Placement → Type 0) (xs ys : List BlockCall) (p : Placement) → Stops S xs p → Stops S ys (all_placed xs p) → Stops S (xs ++ ys) p
 stops_append S [] ys p a b i n = b i n
 stops_append S (x ∷ xs) ys p a b zero n = a zero n
 stops_append S (x ∷ xs) ys p a b (suc i) n = stops_append S xs ys (placed x p) (λ j m. a (suc j) m) b i n
 
-stops_when : (S : Placement → Type 0) (t : Bool) (calls : List BlockCall) (p : Placement) → (t ≡ true → Stops S calls p) → S p → Stops S (when t calls) p
+pub stops_when : (S : Placement → Type 0) (t : Bool) (calls : List BlockCall) (p : Placement) → (t ≡ true → Stops S calls p) → S p → Stops S (when t calls) p
 stops_when S true calls p a s i n = a refl i n
 stops_when S false calls p a s i n = s
 
-stops_cut_data : (S : Placement → Type 0) (len : ℕ) (p : Placement) → S p → S (placed (CutData len) p) → Stops S (CutData len ∷ []) p
+pub stops_cut_data : (S : Placement → Type 0) (len : ℕ) (p : Placement) → S p → S (placed (CutData len) p) → Stops S (CutData len ∷ []) p
 stops_cut_data S len p a b zero zero = a
 stops_cut_data S len p a b zero (suc n) = b
 stops_cut_data S len p a b (suc i) n = b
 
-stops_cut_meta : (S : Placement → Type 0) (len : ℕ) (p : Placement) → S p → S (placed (CutMeta len) p) → Stops S (CutMeta len ∷ []) p
+pub stops_cut_meta : (S : Placement → Type 0) (len : ℕ) (p : Placement) → S p → S (placed (CutMeta len) p) → Stops S (CutMeta len ∷ []) p
 stops_cut_meta S len p a b zero zero = a
 stops_cut_meta S len p a b zero (suc n) = b
 stops_cut_meta S len p a b (suc i) n = b
@@ -60,12 +59,12 @@ stops_write S place z p a b zero zero = a
 stops_write S place z p a b zero (suc n) = b (take n z)
 stops_write S place z p a b (suc i) n = b z
 
-stops_move_meta : (S : Placement → Type 0) (f : Folder) (g : ℕ) (p : Placement) → S p → S (placed (MoveMeta f g) p) → Stops S (MoveMeta f g ∷ []) p
+pub stops_move_meta : (S : Placement → Type 0) (f : Folder) (g : ℕ) (p : Placement) → S p → S (placed (MoveMeta f g) p) → Stops S (MoveMeta f g ∷ []) p
 stops_move_meta S f g p a b zero zero = a
 stops_move_meta S f g p a b zero (suc n) = b
 stops_move_meta S f g p a b (suc i) n = b
 
-stops_move_data : (S : Placement → Type 0) (f : Folder) (p : Placement) → S p → S (placed (MoveData f) p) → Stops S (MoveData f ∷ []) p
+pub stops_move_data : (S : Placement → Type 0) (f : Folder) (p : Placement) → S p → S (placed (MoveData f) p) → Stops S (MoveData f ∷ []) p
 stops_move_data S f p a b zero zero = a
 stops_move_data S f p a b zero (suc n) = b
 stops_move_data S f p a b (suc i) n = b
@@ -99,12 +98,6 @@ data Amid (h k : ReplicaInfo) (bytes : List ℕ) (p : Placement) : Type 0 where
   cut : (s : List ℕ) → k.written < h.written → p ≡ Both (folder_of h.original) (after_of k bytes) (folder_of h.original) h.stamp.0 (header_of h.sums ++ s) → Amid h k bytes p
   moving : p ≡ Both (folder_of h.original) (after_of k bytes) (folder_of k.original) k.stamp.0 (meta_of h.sums (after_of k bytes)) → Amid h k bytes p
   moved : p ≡ Both (folder_of k.original) (after_of k bytes) (folder_of k.original) k.stamp.0 (meta_of h.sums (after_of k bytes)) → Amid h k bytes p
-
-is_less : (n m : ℕ) → nat_lt n m ≡ true → n < m
-is_less n m e = grind (arith, common_steps, nat_tests)
-
-not_less : (n m : ℕ) → nat_lt n m ≡ false → m ≤ n
-not_less n m e = grind (arith, common_steps, nat_tests)
 
 module _ (h k : ReplicaInfo) (bytes : List ℕ) (some : 1 ≤ h.sums.chunk) (all : length bytes ≡ h.written) (within : k.written ≤ h.written) where
   -- the files while bytes are cut off
@@ -347,7 +340,7 @@ stopped_packets_are_found block h bytes more sync i n found fits hs size rbw f =
 
 -- ---- a TEMPORARY replica becomes another
 
-temporary_folder : (s : ReplicaState) → is_temporary s ≡ true → folder_of s ≡ Tmp
+pub temporary_folder : (s : ReplicaState) → is_temporary s ≡ true → folder_of s ≡ Tmp
 temporary_folder state.Finalized e = absurd (true_false (sym e))
 temporary_folder state.Rbw e = absurd (true_false (sym e))
 temporary_folder state.Rwr e = absurd (true_false (sym e))
@@ -383,3 +376,28 @@ stopped_transfers_are_found block h k bytes i n found fits stamp size all step f
       by (moved e) f = inr (plain_found block Rbw k.stamp h.sums (take k.written bytes) found fits (subst (λ (g : Stamp). g.0 < 2 ^ 64) (sym step.stamp) stamp) size (plain_rbw block k.stamp)
           (subst (λ q. FindsBlock block (files_of block.0 (Both q (take k.written bytes) q k.stamp.0 (meta_of h.sums (take k.written bytes)))) found) step.after (subst (λ q. FindsBlock block (files_of block.0 q) found) e f))
           ∙ (ap (λ g. found_as state.Rwr g h.sums (take k.written bytes)) step.stamp ∙ ap (found_as state.Rwr h.stamp h.sums) front))
+
+-- ---- a TEMPORARY replica stays so
+
+pub temporary_settling_found : (block : BlockId) (h k : ReplicaInfo) (bytes : List ℕ) (i n : ℕ) (found : Option Found) → 1 ≤ h.sums.chunk → length bytes ≡ h.written → k.written ≤ h.written → is_temporary h.original ≡ true → is_temporary k.original ≡ true
+    → FindsBlock block (files_of block.0 (all_placed (stopped i n (settle_calls h k bytes)) (placed_info h bytes))) found → found ≡ None
+temporary_settling_found block h k bytes i n found some all within ht kt f = by (settle_stops h k bytes some all within i n) f where
+  tmp : folder_of h.original ≡ Tmp
+  tmp = temporary_folder h.original ht
+
+  also : folder_of k.original ≡ Tmp
+  also = temporary_folder k.original kt
+
+  by : {p : Placement} → Amid h k bytes p → FindsBlock block (files_of block.0 p) found → found ≡ None
+  by (whole s e) f = of_tmp h block (folder_of h.original) bytes (header_of h.sums ++ s) found tmp (subst (λ q. FindsBlock block (files_of block.0 q) found) e f)
+  by (cut s less e) f = of_tmp h block (folder_of h.original) (take k.written bytes) (header_of h.sums ++ s) found tmp (subst (λ q. FindsBlock block (files_of block.0 q) found) e f)
+  by (moving e) f = of_tmp k block (folder_of k.original) (take k.written bytes) (meta_of h.sums (take k.written bytes)) found also
+      (subst (λ q. FindsBlock block (files_of block.0 (Both q (take k.written bytes) (folder_of k.original) k.stamp.0 (meta_of h.sums (take k.written bytes)))) found) (tmp ∙ sym also)
+      (subst (λ q. FindsBlock block (files_of block.0 q) found) e f))
+  by (moved e) f = of_tmp k block (folder_of k.original) (take k.written bytes) (meta_of h.sums (take k.written bytes)) found also (subst (λ q. FindsBlock block (files_of block.0 q) found) e f)
+
+pub temporary_packet_found : (block : BlockId) (h : ReplicaInfo) (bytes more : List ℕ) (sync : Bool) (i n : ℕ) (found : Option Found) → is_temporary h.original ≡ true
+    → FindsBlock block (files_of block.0 (all_placed (stopped i n (packet_calls h.sums bytes more sync)) (placed_info h bytes))) found → found ≡ None
+temporary_packet_found block h bytes more sync i n found ht f =
+    let g = packet_stops h bytes more sync i n in
+    of_tmp h block (folder_of h.original) (bytes ++ take g.front more) (header_of h.sums ++ g.stored) found (temporary_folder h.original ht) (subst (λ q. FindsBlock block (files_of block.0 q) found) g.is f)

@@ -42,7 +42,7 @@ use Rattle.restart_scan.proofs.FrontLemmas.{whole_by}
 true_false : true ≡ false → ⊥
 true_false e = cc
 
-same_name : (a b : List ℕ) → bytes_eq a b ≡ true → a ≡ b
+pub same_name : (a b : List ℕ) → bytes_eq a b ≡ true → a ≡ b
 same_name a b e = grind (arith, common_steps, bytes_eq-Decides a b)
 
 -- ---- which names lie in tmp
@@ -108,13 +108,13 @@ two_go a x c y e f = λ i q. at q i where
 
 -- ---- which pair there is
 
-first_there : (a x c y : List ℕ) → two_files a x c y a ≡ Some x
+pub first_there : (a x c y : List ℕ) → two_files a x c y a ≡ Some x
 first_there a x c y = let e : bytes_eq a a ≡ true = bytes_eq-same a in rw e refl
 
-second_there : (a x c y : List ℕ) → bytes_eq a c ≡ false → two_files a x c y c ≡ Some y
+pub second_there : (a x c y : List ℕ) → bytes_eq a c ≡ false → two_files a x c y c ≡ Some y
 second_there a x c y e = let f : bytes_eq c c ≡ true = bytes_eq-same c in rw (e, f) refl
 
-none_some : (x : List ℕ) → ◌≡◌ {A = Option (List ℕ)} None (Some x) → ⊥
+pub none_some : (x : List ℕ) → ◌≡◌ {A = Option (List ℕ)} None (Some x) → ⊥
 none_some x e = cc
 
 some_of : (o : Option (List ℕ)) (x : List ℕ) → o ≡ Some x → IsSome o
@@ -168,24 +168,24 @@ these block m p f mf g x y fits there is =
 same_named : (a b : Named) → ◌≡◌ {A = Option Named} (Some a) (Some b) → a ≡ b
 same_named a b e = cc
 
-printed_body : (block : BlockId) (f : Folder) → printed (Body block f) ≡ data_name f block.0
+pub printed_body : (block : BlockId) (f : Folder) → printed (Body block f) ≡ data_name f block.0
 unfolding data_name
 printed_body block f = refl
 
-printed_sums : (block : BlockId) (s : Stamp) (f : Folder) → printed (Sums block s f) ≡ meta_name f s.0 block.0
+pub printed_sums : (block : BlockId) (s : Stamp) (f : Folder) → printed (Sums block s f) ≡ meta_name f s.0 block.0
 unfolding meta_name
 printed_sums block s f = refl
 
-present_of : (a b : Named) → IsNamed a → IsNamed b → printed a ≡ printed b → in_present_layout a ≡ in_present_layout b
+pub present_of : (a b : Named) → IsNamed a → IsNamed b → printed a ≡ printed b → in_present_layout a ≡ in_present_layout b
 present_of a b fa fb e = same_named _ _ (sym (candidate_of-printed a fa) ∙ (ap candidate_of e ∙ candidate_of-printed b fb))
 
-body_folder : (b c : BlockId) (f k : Folder) → Body b f ≡ Body c k → f ≡ k
+pub body_folder : (b c : BlockId) (f k : Folder) → Body b f ≡ Body c k → f ≡ k
 body_folder b c f k e = cc
 
-sums_folder : (b c : BlockId) (s t : Stamp) (f k : Folder) → Sums b s f ≡ Sums c t k → f ≡ k
+pub sums_folder : (b c : BlockId) (s t : Stamp) (f k : Folder) → Sums b s f ≡ Sums c t k → f ≡ k
 sums_folder b c s t f k e = cc
 
-sums_stamp : (b c : BlockId) (s t : Stamp) (f k : Folder) → Sums b s f ≡ Sums c t k → s ≡ t
+pub sums_stamp : (b c : BlockId) (s t : Stamp) (f k : Folder) → Sums b s f ≡ Sums c t k → s ≡ t
 sums_stamp b c s t f k e = cc
 
 -- the folder is that of layout -57
@@ -204,7 +204,7 @@ fin_differs b e = cc
 fin_sums_differs : (b : BlockId) (s : Stamp) → Sums b s Finalized ≡ Sums b s Finalized56 → ⊥
 fin_sums_differs b s e = cc
 
-body_same : (block : BlockId) (f k : Folder) → block.0 < 2 ^ 64 → as_read (Body block f) ≡ Body block f → IsPresent k → data_name f block.0 ≡ data_name k block.0 → f ≡ k
+pub body_same : (block : BlockId) (f k : Folder) → block.0 < 2 ^ 64 → as_read (Body block f) ≡ Body block f → IsPresent k → data_name f block.0 ≡ data_name k block.0 → f ≡ k
 body_same block f k fits read h e =
     let here : printed (Body block f) ≡ printed (Body block k) = printed_body block f ∙ (e ∙ sym (printed_body block k)) in
     by (same_folder_of f k (body_folder block block (present_folder f) (present_folder k) (present_of (Body block f) (Body block k) fits fits here)) h) here read where
@@ -217,11 +217,11 @@ body_same block f k fits read h e =
           let test : bytes_eq (printed (Body block Finalized)) (printed (Body block Finalized56)) ≡ true = ap (bytes_eq (printed (Body block Finalized))) (sym same) ∙ bytes_eq-same (printed (Body block Finalized)) in
           absurd (fin_differs block (sym (ap (λ (t : Bool). cond t (Body block Finalized) (Body block Finalized56)) test) ∙ read56))
 
-record SameSums (s t : Stamp) (f k : Folder) : Type 0 where
-  stamp : s ≡ t
-  folder : f ≡ k
+pub record SameSums (s t : Stamp) (f k : Folder) : Type 0 where
+  pub stamp : s ≡ t
+  pub folder : f ≡ k
 
-sums_same : (block : BlockId) (s t : Stamp) (f k : Folder) → block.0 < 2 ^ 64 → s.0 < 2 ^ 64 → t.0 < 2 ^ 64 → as_read (Sums block s f) ≡ Sums block s f → IsPresent k → meta_name f s.0 block.0 ≡ meta_name k t.0 block.0 → SameSums s t f k
+pub sums_same : (block : BlockId) (s t : Stamp) (f k : Folder) → block.0 < 2 ^ 64 → s.0 < 2 ^ 64 → t.0 < 2 ^ 64 → as_read (Sums block s f) ≡ Sums block s f → IsPresent k → meta_name f s.0 block.0 ≡ meta_name k t.0 block.0 → SameSums s t f k
 sums_same block s t f k fits fs ft read h e =
     let here : printed (Sums block s f) ≡ printed (Sums block t k) = printed_sums block s f ∙ (e ∙ sym (printed_sums block t k)) in
     let present = present_of (Sums block s f) (Sums block t k) (fits, fs) (fits, ft) here in
@@ -259,14 +259,14 @@ same_head x y xs ys e = cc
 header_kind : (r : Rule) → drop 2 (header_of r) ≡ kind_number r.kind ∷ to_be_bytes w32 r.chunk
 header_kind r = refl
 
-header_says : (p r : Rule) → IsChunkSize p.chunk → IsChunkSize r.chunk → header_of p ≡ header_of r → p ≡ r
+pub header_says : (p r : Rule) → IsChunkSize p.chunk → IsChunkSize r.chunk → header_of p ≡ header_of r → p ≡ r
 header_says p r fp fr e =
     let back : kind_number p.kind ∷ to_be_bytes w32 p.chunk ≡ kind_number r.kind ∷ to_be_bytes w32 r.chunk = ap (drop 2) e in
     let chunk : p.chunk ≡ r.chunk =
     sym (from_be_bytes-to_be_bytes_4 p.chunk (omega (arith, fp.greatest))) ∙ (ap (λ l. from_be_bytes w32 (drop 1 l)) back ∙ from_be_bytes-to_be_bytes_4 r.chunk (omega (arith, fr.greatest))) in
     rule_of p.kind r.kind p.chunk r.chunk (kinds_differ p.kind r.kind (same_head _ _ _ _ back)) chunk
 
-stored_says : (p r : Rule) (s t : List ℕ) → header_of p ++ s ≡ header_of r ++ t → (header_of p ≡ header_of r) × (s ≡ t)
+pub stored_says : (p r : Rule) (s t : List ℕ) → header_of p ++ s ≡ header_of r ++ t → (header_of p ≡ header_of r) × (s ≡ t)
 stored_says p r s t e = (
   sym (take-append_seam (header_of p) s) ∙ (ap (take 7) e ∙ take-append_seam (header_of r) t),
   sym (drop-append_seam (header_of p) s) ∙ (ap (drop 7) e ∙ drop-append_seam (header_of r) t),
@@ -295,7 +295,7 @@ plain_rbw block stamp = record {
   sums_read = same_either (bytes_eq (printed (Sums block stamp Rbw)) (printed (Sums block stamp Rbw))) (Sums block stamp Rbw);
 }
 
-plain_final : (block : BlockId) (stamp : Stamp) → IsPlain block Finalized stamp
+pub plain_final : (block : BlockId) (stamp : Stamp) → IsPlain block Finalized stamp
 plain_final block stamp = record {
   present = refl;
   body_apart = data_in_final block.0;
@@ -395,11 +395,11 @@ two_pair block f mf stamp r bytes stored fits size a c = record {
   places_are = record { body_at = record { named = refl; read = a.body_read }; sums_at = record { stamp_fits = fits; named = refl; read = c.sums_read } };
 }
 
-and_left : (p q : Bool) → (p && q) ≡ true → p ≡ true
+pub and_left : (p q : Bool) → (p && q) ≡ true → p ≡ true
 and_left true q e = refl
 and_left false q e = e
 
-and_right : (p q : Bool) → (p && q) ≡ true → q ≡ true
+pub and_right : (p q : Bool) → (p && q) ≡ true → q ≡ true
 and_right true q e = e
 and_right false q e = absurd (no e) where
   no : false ≡ true → ⊥

@@ -6,3 +6,5 @@ pub mod Reading
 pub mod Settling
 pub mod Shelves
 pub mod Laws
+pub mod Further
+pub mod Restarts

@@ -3,6 +3,10 @@
 ghost use Rattle.restart_scan.specs.Laws.{WholeReplicasAreFound, TwoFilesAreFound};
 ghost use Rattle.restart_scan.specs.Laws.{StoppedCreatesAreFound, StoppedPacketsAreFound};
 ghost use Rattle.restart_scan.specs.Laws.{StoppedSettlingsAreFound, StoppedTransfersAreFound};
+ghost use Rattle.restart_scan.specs.Further.{FurtherScansFindTheSame, FurtherShelfScansFindTheSame};
+ghost use Rattle.restart_scan.specs.Restarts.{RestartRule, FailedCallsAreFound, TemporaryReplicasAreFree};
+
+use hd_base::Files;
 
 /// Of the files that hold a replica which isn't broken, just that is found which the model of replicas says of it.
 pub fn whole_replicas_are_found()
@@ -35,4 +39,23 @@ pub fn stopped_settlings_are_found()
 /// bytes as RWR.
 pub fn stopped_transfers_are_found()
     ensures { StoppedTransfersAreFound }
+{}
+
+/// After a scan that stopped at any of its calls, a further scan finds the replicas that the first would have found,
+/// and leaves the same files. It names as moved just the blocks whose files weren't moved yet.
+pub fn further_scans_find_the_same()
+    ensures block { FurtherScansFindTheSame }
+    ensures shelf { FurtherShelfScansFindTheSame }
+{}
+
+/// After a stop at any file call of any event of a book, or a failure of it, with any part of that call done, a scan
+/// finds what the model of replicas allows. An absent replica's block is to have no files before.
+pub fn restart_rule<F: Files>()
+    ensures stopped { RestartRule F.Files }
+    ensures failed { FailedCallsAreFound F.Files }
+{}
+
+/// No TEMPORARY replica to which a history leads is under a recovery.
+pub fn temporary_replicas_are_free()
+    ensures { TemporaryReplicasAreFree }
 {}

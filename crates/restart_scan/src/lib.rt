@@ -18,7 +18,8 @@ mod strays;
 pub use faults::ScanFault;
 pub use found::{Found, Seen};
 pub use laws::{
-    stopped_creates_are_found, stopped_packets_are_found, stopped_settlings_are_found,
-    stopped_transfers_are_found, two_files_are_found, whole_replicas_are_found,
+    further_scans_find_the_same, restart_rule, stopped_creates_are_found,
+    stopped_packets_are_found, stopped_settlings_are_found, stopped_transfers_are_found,
+    temporary_replicas_are_free, two_files_are_found, whole_replicas_are_found,
 };
 pub use scanning::scan;

@@ -88,14 +88,14 @@ fn sums_at(block: BlockId, name: &FileName) -> Option<(Folder, Stamp)>
     sums_in(block, named)
 }
 
-/// Where a block's data file and its metadata file of these names lie.
-fn places_of(block: BlockId, data: &FileName, meta: &FileName) -> Option<PairPlaces>
-    ensures { ReadsBoth block data.now meta.now result }
+/// Where a block's files lie, if the first of these names is its data file's and the second its metadata file's.
+fn places_of(block: BlockId, first: &FileName, second: &FileName) -> Option<PairPlaces>
+    ensures { ReadsBoth block first.now second.now result }
 {
-    let Some(folder) = body_at(block, data) else {
+    let Some(folder) = body_at(block, first) else {
         return None;
     };
-    let Some((meta_folder, stamp)) = sums_at(block, meta) else {
+    let Some((meta_folder, stamp)) = sums_at(block, second) else {
         return None;
     };
     Some(PairPlaces {

@@ -55,19 +55,19 @@ fn reach_piece<F: Files>(
     rule: SumRule,
     len: u64,
     kept: u64,
-    data: &mut [u8],
+    buffer: &mut [u8],
     sums: &mut [u8],
 ) -> Result<Reached, FileError>
     requires has { has_sums rule.kind ≡ true }
     requires there { AreThere (F.files drawer.old) names.now }
     requires within { kept < len }
-    requires room { HaveRoom rule data.old sums.old }
+    requires room { HaveRoom rule buffer.old sums.old }
     ensures value { IfOk result (ReachesOn (F.files drawer.old) names.now rule len kept) }
     ensures kept { KeepsAll F.Files drawer.old drawer.new }
     ensures cause { FailsFor (F.faults drawer.old) (F.faults drawer.new) result }
 {
-    let room = (len - kept).min(data.len() as u64) as usize;
-    let body = &mut data[..room];
+    let room = (len - kept).min(buffer.len() as u64) as usize;
+    let body = &mut buffer[..room];
     let count = drawer.read_at(&names.data, kept, body)?;
     let stored = drawer.read_at(&names.meta, sum_place(rule, kept), sums)?;
     let more = kept_of(rule, &body[..count], &sums[..stored]);
@@ -83,19 +83,19 @@ fn reach_all<F: Files>(
     names: &FileNames,
     rule: SumRule,
     len: u64,
-    data: &mut [u8],
+    buffer: &mut [u8],
     sums: &mut [u8],
 ) -> Result<u64, FileError>
     requires has { has_sums rule.kind ≡ true }
     requires there { AreThere (F.files drawer.old) names.now }
-    requires room { HaveRoom rule data.old sums.old }
+    requires room { HaveRoom rule buffer.old sums.old }
     ensures value { IfOk result (KeepsLen (F.files drawer.old) names.now rule len) }
     ensures kept { KeepsAll F.Files drawer.old drawer.new }
     ensures cause { FailsFor (F.faults drawer.old) (F.faults drawer.new) result }
 {
     let mut kept = 0;
     'pieces: while kept < len {
-        let next = reach_piece(drawer, names, rule, len, kept, data, sums)?;
+        let next = reach_piece(drawer, names, rule, len, kept, buffer, sums)?;
         if !next.goes_on {
             return Ok(next.len);
         }
@@ -122,7 +122,7 @@ pub(crate) fn kept_in<F: Files>(
     }
     let chunk = rule.chunk() as usize;
     let count = PIECE / chunk;
-    let mut data = vec![in alloc; 0; chunk * count]?;
+    let mut buffer = vec![in alloc; 0; chunk * count]?;
     let mut sums = vec![in alloc; 0; SUM_LEN * count]?;
-    reach_all(drawer, names, rule, len, &mut data, &mut sums)
+    reach_all(drawer, names, rule, len, &mut buffer, &mut sums)
 }

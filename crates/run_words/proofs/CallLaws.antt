@@ -16,8 +16,9 @@ use Rattle.run_words.specs.declared.call.Mode.{Mode}
 use Rattle.run_words.specs.declared.call.Words.{Words}
 use Rattle.run_words.specs.declared.faults.UsageRule.{UsageRule}
 use Rattle.run_words.specs.declared.faults.UsageRule.TheVariants as rule
-use Rattle.run_words.specs.Commands.{words_rows, are_taken, mode_word, number_word, has_loopback, is_said, source_of}
-use Rattle.run_words.specs.Calls.{arguments_say, mode_said, number_said, say_behind_mode, say_behind_number, words_of, words_said}
+use Rattle.run_words.specs.declared.faults.WordsFault.{WordsFault}
+use Rattle.run_words.specs.Commands.{words_rows, are_taken, mode_word, number_word, folder_word, has_loopback, is_said, source_of}
+use Rattle.run_words.specs.Calls.{Reads, arguments_say, mode_said, number_said, loopback_said, say_behind_mode, say_behind_number, say_behind_loopback, words_of}
 
 -- ---- what is found
 
@@ -25,24 +26,32 @@ word_at : (m : ArgMatches) (words : List (List ℕ)) (id : List ℕ) (o : Option
 word_at m words id o rows e = e ∙ first_value-rows (found_of m) id ∙ ap (first_of id) rows
 
 -- what is read of the arguments that are found is what the words say
-pub words_read : (words : List (List ℕ)) (m : ArgMatches) (mode number : Option (Bor (List ℕ))) (flag : Bool) (r : Result Words UsageRule) → are_taken words ≡ true → rows_of (found_of m) ≡ words_rows words → option_copied mode ≡ first_value (found_of m) (codes "mode") → option_copied number ≡ first_value (found_of m) (codes "number") → flag ≡ is_said (source_of (codes "loopback") (rows_of (found_of m))) → r ≡ arguments_say (option_copied mode) (option_copied number) flag → words_of words ≡ r
-words_read words m mode number flag r taken rows mode_is number_is flag_is said =
+pub words_read : (words : List (List ℕ)) (m : ArgMatches) (mode number folder : Option (Bor (List ℕ))) (flag : Bool) (r : Result Words WordsFault) → are_taken words ≡ true → rows_of (found_of m) ≡ words_rows words → option_copied mode ≡ first_value (found_of m) (codes "mode") → option_copied number ≡ first_value (found_of m) (codes "number") → option_copied folder ≡ first_value (found_of m) (codes "folder")
+    → flag ≡ is_said (source_of (codes "loopback") (rows_of (found_of m))) → Reads r (arguments_say (option_copied mode) (option_copied number) (option_copied folder) flag) → Reads r (words_of words)
+words_read words m mode number folder flag r taken rows mode_is number_is folder_is flag_is said =
     let m_is = word_at m words (codes "mode") mode rows mode_is in
     let n_is = word_at m words (codes "number") number rows number_is in
+    let d_is = word_at m words (codes "folder") folder rows folder_is in
     let f_is : flag ≡ has_loopback words = flag_is ∙ ap (λ rs. is_said (source_of (codes "loopback") rs)) rows in
-    ap (λ (t : Bool). cond t (arguments_say (mode_word words) (number_word words) (has_loopback words)) (Err rule.Words)) taken
-    ∙ sym (said ∙ ap (λ o. arguments_say o (option_copied number) flag) m_is ∙ ap (λ o. arguments_say (mode_word words) o flag) n_is ∙ ap (arguments_say (mode_word words) (number_word words)) f_is)
+    let same : arguments_say (option_copied mode) (option_copied number) (option_copied folder) flag ≡ arguments_say (mode_word words) (number_word words) (folder_word words) (has_loopback words) =
+    ap (λ o. arguments_say o (option_copied number) (option_copied folder) flag) m_is ∙ ap (λ o. arguments_say (mode_word words) o (option_copied folder) flag) n_is
+    ∙ ap (λ o. arguments_say (mode_word words) (number_word words) o flag) d_is ∙ ap (arguments_say (mode_word words) (number_word words) (folder_word words)) f_is in
+    let all : words_of words ≡ arguments_say (mode_word words) (number_word words) (folder_word words) (has_loopback words) =
+    ap (λ (t : Bool). cond t (arguments_say (mode_word words) (number_word words) (folder_word words) (has_loopback words)) (Err rule.Words)) taken in
+    subst (Reads r) (same ∙ sym all) said
 
 -- ---- rules, one behind the other
 
-pub mode_breaks : (word number : Option (List ℕ)) (flag : Bool) (r : UsageRule) → Err r ≡ mode_said word → Err r ≡ arguments_say word number flag
-mode_breaks word number flag r e = ap (say_behind_mode number flag) e
+pub mode_breaks : (word number folder : Option (List ℕ)) (flag : Bool) (r : UsageRule) → Err r ≡ mode_said word → arguments_say word number folder flag ≡ Err r
+mode_breaks word number folder flag r e = sym (ap (say_behind_mode number folder flag) e)
 
-pub number_breaks : (word number : Option (List ℕ)) (flag : Bool) (m : Mode) (r : UsageRule) → Ok m ≡ mode_said word → Err r ≡ number_said m number → Err r ≡ arguments_say word number flag
-number_breaks word number flag m r e f = ap (say_behind_number m flag) f ∙ ap (say_behind_mode number flag) e
+pub number_breaks : (word number folder : Option (List ℕ)) (flag : Bool) (m : Mode) (r : UsageRule) → Ok m ≡ mode_said word → Err r ≡ number_said m number → arguments_say word number folder flag ≡ Err r
+number_breaks word number folder flag m r e f = sym (ap (say_behind_number m folder flag) f ∙ ap (say_behind_mode number folder flag) e)
 
-pub number_kept : (word number : Option (List ℕ)) (flag : Bool) (m : Mode) (n : Option ℕ) → Ok m ≡ mode_said word → Ok n ≡ number_said m number → words_said m n flag ≡ arguments_say word number flag
-number_kept word number flag m n e f = ap (say_behind_number m flag) f ∙ ap (say_behind_mode number flag) e
+pub all_kept : (word number folder read : Option (List ℕ)) (flag : Bool) (m : Mode) (n : Option ℕ) → Ok m ≡ mode_said word → Ok n ≡ number_said m number → Ok tt ≡ loopback_said m flag → read ≡ folder → arguments_say word number folder flag ≡ Ok (record { mode = m; number = n; folder = read; loopback = flag })
+all_kept word number folder read flag m n e f h is =
+    sym (ap (say_behind_loopback m n folder flag) h ∙ ap (say_behind_number m folder flag) f ∙ ap (say_behind_mode number folder flag) e)
+    ∙ ap (λ (d : Option (List ℕ)). Ok (record { mode = m; number = n; folder = d; loopback = flag })) (sym is)
 
 -- ---- numbers
 

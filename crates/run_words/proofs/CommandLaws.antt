@@ -22,7 +22,7 @@ use Rattle.run_words.specs.declared.call.Words.{Words}
 use Rattle.run_words.specs.declared.faults.UsageRule.{UsageRule}
 use Rattle.run_words.specs.declared.faults.WordsFault.{WordsFault}
 use Rattle.run_words.specs.declared.faults.UsageRule.TheVariants as rule
-use Rattle.run_words.specs.Commands.{words_app, words_fault, words_rows, is_faultless, source_of, mode_word, number_word, has_loopback}
+use Rattle.run_words.specs.Commands.{words_app, words_fault, words_rows, is_faultless, source_of, mode_word, number_word, folder_word, has_loopback}
 use Rattle.run_words.specs.Calls.{Reads, refusal_of, arguments_say, words_of}
 
 -- `clap` is exact about the command
@@ -62,7 +62,7 @@ pub refused_by : {T : Type 0} (words : List (List ℕ)) (r : Result T Error) (e 
 refused_by words r e k f h is kind refusal =
     let has : HasKind (words_fault words) e = subst (FailsBy (words_fault words)) is h in
     subst (λ (x : WordsFault). Reads (Err x) (words_of words)) (sym (refusal ∙ ap refusal_of kind))
-    (refused_read (words_fault words) (kind_of e) (arguments_say (mode_word words) (number_word words) (has_loopback words)) has)
+    (refused_read (words_fault words) (kind_of e) (arguments_say (mode_word words) (number_word words) (folder_word words) (has_loopback words)) has)
 
 -- where a value comes from stands in its row
 pub source_at : (f : Found) (id : List ℕ) → option_and_then (λ (a : MatchedArg). a.source) (matched_of f id) ≡ source_of id (rows_of f)

@@ -11,7 +11,7 @@ use Rattle.run_words.specs.declared.faults.UsageRule.{UsageRule}
 use Rattle.run_words.specs.declared.faults.UsageRule.TheVariants as rule
 use Rattle.run_words.specs.declared.faults.WordsFault.{WordsFault}
 use Rattle.run_words.specs.declared.faults.WordsFault.TheVariants as fault
-use Rattle.run_words.specs.Commands.{are_taken, mode_word, number_word, has_loopback}
+use Rattle.run_words.specs.Commands.{are_taken, mode_word, number_word, folder_word, has_loopback}
 
 -- the word of each mode
 abbrev pub mode_name : Mode → List ℕ
@@ -42,33 +42,39 @@ abbrev pub keeps_loopback : Mode → Bool → Bool
 keeps_loopback mode.Live loopback = true
 keeps_loopback _ loopback = not loopback
 
--- what is said where the rule Loopback is kept
-abbrev pub words_said : Mode → Option ℕ → Bool → Result Words UsageRule
-words_said m number loopback =
-    if keeps_loopback m loopback then Ok (record { mode = m; number = number; loopback = loopback })
-    else Err rule.Loopback
+-- what the rule Loopback says
+abbrev pub loopback_said : Mode → Bool → Result (Unit {0}) UsageRule
+loopback_said m loopback = if keeps_loopback m loopback then Ok tt else Err rule.Loopback
 
 -- the mode that a word names, if there is a word
 abbrev pub mode_said : Option (List ℕ) → Result Mode UsageRule
 mode_said word = ok_or (option_and_then mode_named word) rule.Mode
 
--- by the rules in their order: what is said behind a number, and behind a mode
-abbrev pub say_behind_number : Mode → Bool → Result (Option ℕ) UsageRule → Result Words UsageRule
-say_behind_number m loopback (Ok number) = words_said m number loopback
-say_behind_number m loopback (Err r) = Err r
+-- by the rules in their order: what is said behind the flag, behind a number, and behind a mode
+abbrev pub say_behind_loopback : Mode → Option ℕ → Option (List ℕ) → Bool → Result (Unit {0}) UsageRule →
+    Result Words UsageRule
+say_behind_loopback m number folder loopback (Ok _) =
+    Ok (record { mode = m; number = number; folder = folder; loopback = loopback })
+say_behind_loopback m number folder loopback (Err r) = Err r
 
-abbrev pub say_behind_mode : Option (List ℕ) → Bool → Result Mode UsageRule → Result Words UsageRule
-say_behind_mode number loopback (Ok m) = say_behind_number m loopback (number_said m number)
-say_behind_mode number loopback (Err r) = Err r
+abbrev pub say_behind_number : Mode → Option (List ℕ) → Bool → Result (Option ℕ) UsageRule → Result Words UsageRule
+say_behind_number m folder loopback (Ok number) =
+    say_behind_loopback m number folder loopback (loopback_said m loopback)
+say_behind_number m folder loopback (Err r) = Err r
 
--- What the two words and the flag say, or the first rule that they break.
-abbrev pub arguments_say : Option (List ℕ) → Option (List ℕ) → Bool → Result Words UsageRule
-arguments_say word number loopback = say_behind_mode number loopback (mode_said word)
+abbrev pub say_behind_mode : Option (List ℕ) → Option (List ℕ) → Bool → Result Mode UsageRule → Result Words UsageRule
+say_behind_mode number folder loopback (Ok m) = say_behind_number m folder loopback (number_said m number)
+say_behind_mode number folder loopback (Err r) = Err r
+
+-- What the words for the mode, the number and the folder and the flag say, or the first rule that they break.
+abbrev pub arguments_say : Option (List ℕ) → Option (List ℕ) → Option (List ℕ) → Bool → Result Words UsageRule
+arguments_say word number folder loopback = say_behind_mode number folder loopback (mode_said word)
 
 -- What the words of a call say, or the first rule that they break.
 abbrev pub words_of : List (List ℕ) → Result Words UsageRule
 words_of words =
-    if are_taken words then arguments_say (mode_word words) (number_word words) (has_loopback words)
+    if are_taken words then
+    arguments_say (mode_word words) (number_word words) (folder_word words) (has_loopback words)
     else Err rule.Words
 
 -- The result is what was said, or memory ran out.

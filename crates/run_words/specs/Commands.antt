@@ -17,6 +17,10 @@ mode_rule = record (new_rule (codes "mode")) { required = true }
 abbrev pub number_rule : Rule
 number_rule = new_rule (codes "number")
 
+-- and the option --folder with a path
+abbrev pub folder_rule : Rule
+folder_rule = record (new_rule (codes "folder")) { long = Some (codes "folder") }
+
 -- and the flag --loopback
 abbrev pub loopback_rule : Rule
 loopback_rule = record (new_rule (codes "loopback")) { long = Some (codes "loopback"); action = Some SetTrue }
@@ -27,7 +31,9 @@ without_name = on_top (λ s. record s { no_binary_name = true })
 
 -- the command of a call
 unfoldable pub words_app : App
-words_app = with_rule (with_rule (with_rule (without_name (new_app (codes "dn"))) mode_rule) number_rule) loopback_rule
+words_app =
+    with_rule (with_rule (with_rule (with_rule (without_name (new_app (codes "dn"))) mode_rule) number_rule) folder_rule)
+    loopback_rule
 
 -- no kind of fault
 abbrev pub is_faultless : Kinds → Bool
@@ -52,6 +58,10 @@ mode_word words = first_of (codes "mode") (words_rows words)
 
 abbrev pub number_word : List (List ℕ) → Option (List ℕ)
 number_word words = first_of (codes "number") (words_rows words)
+
+-- the path behind --folder
+abbrev pub folder_word : List (List ℕ) → Option (List ℕ)
+folder_word words = first_of (codes "folder") (words_rows words)
 
 -- whether a value stands in the words, and isn't a default
 abbrev pub is_said : Option ValueSource → Bool

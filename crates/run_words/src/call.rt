@@ -1,7 +1,10 @@
 //! What the words of a call say.
 
-ghost use Rattle.std.specs.Prelude.{◌≡◌, find, bytes_eq};
+ghost use Rattle.std.specs.Prelude.{◌≡◌, IfOk, find, bytes_eq};
 ghost use Rattle.run_words.specs.Calls.{mode_name, mode_named};
+
+use std::alloc::{AllocError, Global};
+use std::marker::Model;
 
 /// What the program is to do.
 #[derive(Clone, Copy, Debug, PartialEq, Eq, Hash)]
@@ -14,12 +17,46 @@ pub enum Mode {
     Storm,
 }
 
+/// The path of a folder, seen as the list of its bytes.
+#[derive(Debug, Drop)]
+pub struct FolderText {
+    text: String,
+}
+
+impl Model for FolderText {
+    ghost use Rattle.std.specs.Prelude.{ℕ, List};
+    ghost use Rattle.std.specs.String.{string_bytes};
+
+    ghost Value = { List ℕ };
+
+    ghost view = { λ folder. string_bytes folder.text };
+}
+
+impl FolderText {
+    /// The folder with this path, which is copied.
+    pub fn new(alloc: Global, path: &str) -> Result<FolderText, AllocError>
+        ensures { IfOk result (λ folder. folder ≡ path.now) }
+    {
+        let text = String::from_str(alloc, path)?;
+        Ok(FolderText { text })
+    }
+
+    /// The path.
+    pub fn as_str(&self) -> &str
+        ensures { result.now ≡ self.now }
+    {
+        self.text.as_str()
+    }
+}
+
 /// What the words of a call say.
-#[derive(Clone, Copy, Debug, PartialEq, Eq, Hash)]
+#[derive(Debug, Drop)]
 pub struct Words {
     pub mode: Mode,
     /// The number of a storm; other modes have none.
     pub number: Option<u64>,
+    /// The folder in which the nodes have their files; without one they have them in memory.
+    pub folder: Option<FolderText>,
     /// Whether connections go over the machine's loopback; only live runs may.
     pub loopback: bool,
 }

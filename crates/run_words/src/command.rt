@@ -17,22 +17,27 @@ pub(crate) const MODE: &str = "mode";
 /// The argument for a number.
 pub(crate) const NUMBER: &str = "number";
 
+/// The option for the folder of the nodes' files.
+pub(crate) const FOLDER: &str = "folder";
+
 /// The flag for connections over the loopback.
 pub(crate) const LOOPBACK: &str = "loopback";
 
-/// The command: a mode, perhaps a number, and a flag.
+/// The command: a mode, perhaps a number, an option and a flag.
 fn command<'a>(alloc: Global) -> Result<Command<'a>, AllocError>
     ensures { IfOk result (λ command. app_of command ≡ words_app) }
 {
     let mode = Arg::new(alloc, MODE).required(true);
     let number = Arg::new(alloc, NUMBER);
+    let folder = Arg::new(alloc, FOLDER).long(FOLDER);
     let loopback = Arg::new(alloc, LOOPBACK)
         .long(LOOPBACK)
         .action(ArgAction::SetTrue);
     let plain = Command::new(alloc, "dn").no_binary_name(true);
     let with_mode = plain.arg(mode)?;
     let with_number = with_mode.arg(number)?;
-    with_number.arg(loopback)
+    let with_folder = with_number.arg(folder)?;
+    with_folder.arg(loopback)
 }
 
 /// What `clap` finds in the words, where it takes them.

@@ -6,8 +6,8 @@ use thiserror::Error;
 /// The rule that the words break, in the order in which the rules are tried.
 #[derive(Clone, Copy, Debug, PartialEq, Eq, PartialOrd, Ord, Hash, Error)]
 pub enum UsageRule {
-    /// They aren't one word or two and at most once `--loopback`, or ask for help.
-    #[error("the words are not a mode, a number and --loopback")]
+    /// They aren't one word or two, at most one `--folder` with a path, and at most one `--loopback`, or ask for help.
+    #[error("the words are not a mode, a number, --folder and --loopback")]
     Words,
     /// The first is no mode.
     #[error("the mode is not play, live or storm")]

@@ -1,4 +1,4 @@
-//! The words of the program's call, without the program's name: a mode, a number, and the flag
+//! The words of the program's call, without the program's name: a mode, a number, the option `--folder` and the flag
 //! `--loopback`.
 #![tactic(auto)]
 
@@ -7,6 +7,6 @@ mod command;
 mod faults;
 mod reading;
 
-pub use call::{Mode, Words};
+pub use call::{FolderText, Mode, Words};
 pub use faults::{UsageRule, WordsFault};
 pub use reading::read_words;

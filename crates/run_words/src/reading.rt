@@ -1,30 +1,30 @@
 //! What the words of a call say.
 
-ghost use Rattle.std.specs.Prelude.{◌≡◌, Some, None, map, option_copied, codes, if◌then◌else◌};
+ghost use Rattle.std.specs.Prelude.{◌≡◌, Some, None, IfOk, map, option_copied, codes, if◌then◌else◌};
 ghost use Rattle.std.specs.String.{string_bytes};
 ghost use Rattle.script_lang.specs.Numbers.{is_number, value_of};
 ghost use Rattle.clap.specs.Words.{found_of, rows_of};
 ghost use Rattle.run_words.specs.Commands.{is_said, source_of};
-ghost use Rattle.run_words.specs.Calls.{Reads, words_of, arguments_say, mode_said, number_said, words_said};
+ghost use Rattle.run_words.specs.Calls.{Reads, words_of, arguments_say, mode_said, number_said, loopback_said};
 
-use crate::call::{Mode, Words};
-use crate::command::{LOOPBACK, MODE, NUMBER, parse};
+use crate::call::{FolderText, Mode, Words};
+use crate::command::{FOLDER, LOOPBACK, MODE, NUMBER, parse};
 use crate::faults::{UsageRule, WordsFault};
 use clap::ArgMatches;
 use clap::parser::ValueSource;
-use std::alloc::Global;
+use std::alloc::{AllocError, Global};
 
-/// What the words of the program's call say, without the program's name: `play`, `live`, with or
-/// without `--loopback`, or `storm` with a number. Words that break a rule are refused by the first
-/// one, in the order of `UsageRule`.
+/// What the words of the program's call say, without the program's name: `play`, `live`, with or without `--loopback`, or
+/// `storm` with a number, and each of them with or without a folder. Words that break a rule are refused by the first one,
+/// in the order of `UsageRule`.
 pub fn read_words(alloc: Global, words: &[String]) -> Result<Words, WordsFault>
     ensures { Reads result (words_of (map string_bytes words.now)) }
 {
     let matches = parse(alloc, words)?;
     let mode = matches.get_str(MODE);
     let number = matches.get_str(NUMBER);
-    let read = arguments(mode, number, has_loopback(&matches))?;
-    Ok(read)
+    let folder = matches.get_str(FOLDER);
+    arguments(alloc, mode, number, folder, has_loopback(&matches))
 }
 
 /// Whether the words have the flag.
@@ -41,15 +41,25 @@ fn is_said(source: Option<ValueSource>) -> bool
     matches!(source, Some(ValueSource::CommandLine))
 }
 
-/// What the words for the mode and the number say, and the flag.
-fn arguments(mode: Option<&str>, number: Option<&str>, loopback: bool) -> Result<Words, UsageRule>
-    ensures { result ≡ arguments_say (option_copied mode.entry) (option_copied number.entry) loopback }
+/// What the words for the mode, the number and the folder say, and the flag.
+fn arguments(
+    alloc: Global,
+    mode: Option<&str>,
+    number: Option<&str>,
+    folder: Option<&str>,
+    loopback: bool,
+) -> Result<Words, WordsFault>
+    ensures { Reads result (arguments_say
+        (option_copied mode.entry) (option_copied number.entry) (option_copied folder.entry) loopback) }
 {
     let mode = read_mode(mode)?;
     let number = read_number(mode, number)?;
-    checked(Words {
+    check_loopback(mode, loopback)?;
+    let folder = read_folder(alloc, folder)?;
+    Ok(Words {
         mode,
         number,
+        folder,
         loopback,
     })
 }
@@ -83,12 +93,22 @@ fn decimal(word: &str) -> Option<u64>
     word.parse().ok()
 }
 
-/// These words, unless they have the flag for another mode than live.
-fn checked(words: Words) -> Result<Words, UsageRule>
-    ensures { result ≡ words_said words.mode words.number words.loopback }
+/// Only live runs may have the flag.
+fn check_loopback(mode: Mode, loopback: bool) -> Result<(), UsageRule>
+    ensures { result ≡ loopback_said mode loopback }
 {
-    match (words.mode, words.loopback) {
+    match (mode, loopback) {
         (Mode::Play | Mode::Storm, true) => Err(UsageRule::Loopback),
-        _ => Ok(words),
+        _ => Ok(()),
     }
+}
+
+/// The folder with this path, if one is given.
+fn read_folder(alloc: Global, path: Option<&str>) -> Result<Option<FolderText>, AllocError>
+    ensures { IfOk result (λ folder. folder ≡ option_copied path.entry) }
+{
+    let Some(path) = path else {
+        return Ok(None);
+    };
+    Ok(Some(FolderText::new(alloc, path)?))
 }

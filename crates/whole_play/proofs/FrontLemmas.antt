@@ -1,22 +1,22 @@
 -- What is so of the first shelves, and of those beyond.
-use Rattle.std.proofs.Common.{◌≡◌, ◌<◌, ◌≤◌, ℕ, zero, suc, List, [], ◌∷◌, ◌++◌, length, take, drop, slice_get, Some, None, refl, sym, ap, subst, ◌∙◌, arith}
+use Rattle.std.proofs.Common.{◌≡◌, ◌<◌, ◌≤◌, ℕ, zero, suc, List, [], ◌∷◌, ◌++◌, length, take, drop, slice_get, Some, None, refl, sym, ap, subst, ◌∙◌, arith, length-append}
 use Rattle.std.proofs.Math.Seq.{take-append_seam}
-use Rattle.std.proofs.lemmas.List.{length-take}
+use Rattle.std.proofs.lemmas.List.{length-take, length-drop}
 use Rattle.std.proofs.lemmas.Option.{same_Some}
 use Rattle.hd_base.specs.declared.files.Files as files
 use Rattle.hd_base.specs.declared.roads.Roads as roads
 use Rattle.hd_base.specs.declared.shelves.Shelf as shelves
 use Rattle.script_lang.specs.declared.instructions.ScriptLine.{ScriptLine}
-use Rattle.node_opening.specs.Emptiness.{ShelfOf}
-use Rattle.node_opening.proofs.ListLemmas.{get_take, get_within}
-use Rattle.play_nodes.proofs.PlaceLaws.{element_none, element_within}
+use Rattle.node_opening.specs.Shelves.{EachShelf, LendsNoMore}
+use Rattle.node_opening.proofs.ListLemmas.{UpTo, get_within, up_to_all}
+use Rattle.play_nodes.proofs.PlaceLaws.{element_none}
 use Rattle.play_scripts.specs.declared.heads.Head.{Head}
 use Rattle.play_scripts.specs.Fitting.{ScriptFits}
 use Rattle.play_scripts.specs.Heads.{head_of}
 use Rattle.whole_play.specs.declared.faults.RunFault.{RunFault}
-use Rattle.whole_play.specs.declared.faults.RunFault.TheVariants as fault
 use Rattle.whole_play.specs.declared.playing.Played.{Played}
-use Rattle.whole_play.specs.Playing.{IsClosed, IsPlayed, HasCause}
+use Rattle.whole_play.specs.Playing.{IsClosed, IsPlayed, LeavesShelves, HasCause, HasUsedCause}
+use Rattle.whole_play.proofs.ClosedLemmas.{Stands, stands}
 
 -- LISTS
 
@@ -55,12 +55,26 @@ get_before [] ys k x h = cc
 get_before (y ∷ xs) ys zero x h = h
 get_before (y ∷ xs) ys (suc k) x h = get_before xs ys k x h
 
+-- Where each of the first elements is so with what is now at its place: so it is of all, those beyond being as they were.
+front_done : {S : Type 0} (P : S → S → Type 0) (n : ℕ) (old new : List S) → length new ≡ n → EachShelf P (take n old) new → (k : ℕ) (a b : S) → k < n → slice_get old k ≡ Some a → slice_get (new ++ drop n old) k ≡ Some b → P a b
+front_done {S} P n old new count h k a b within at at' =
+    let here : Stands new k = stands new k (subst (λ (m : ℕ). k < m) (sym count) within) in
+    let is : here.x ≡ b = same_Some here.x b (sym (get_before new (drop n old) k here.x here.at) ∙ at') in
+    h.each k a b (get_within old n k within ∙ at) (here.at ∙ ap (λ (x : S). Some x) is)
+
+beyond : {S : Type 0} (n : ℕ) (old new : List S) → length new ≡ n → (k : ℕ) → n ≤ k → slice_get (new ++ drop n old) k ≡ slice_get old k
+beyond n old new count k within =
+    subst (λ (m : ℕ). slice_get (new ++ drop m old) k ≡ slice_get old k) count (get_behind new old k (subst (λ (m : ℕ). m ≤ k) (sym count) within))
+
 -- HEADS
 
 -- A script that fits gives no more nodes than there are shelves.
 pub nodes_within : (count : ℕ) (script : List ScriptLine) (head : Head) → ScriptFits count script → Some head ≡ head_of script → head.nodes ≤ count
 nodes_within count script head f e =
     subst (λ (h : Head). h.nodes ≤ count) (sym (same_Some head (record { nodes = f.nodes; seed = f.seed }) (e ∙ ap head_of f.parts))) f.shelved
+
+all_count : {A : Type 0} (n : ℕ) (old new : List A) → length new ≡ n → n ≤ length old → length (new ++ drop n old) ≡ length old
+all_count n old new e h = omega (arith, length-append new (drop n old), length-drop n old, e, h)
 
 pub count_so : {A : Type 0} (n : ℕ) (old new : List A) → length new ≡ length (take n old) → n ≤ length old → length new ≡ n
 count_so n old new e h = omega (arith, e, length-take n old, h)
@@ -73,20 +87,20 @@ module _ {S D R I O : Type 0} (s : shelves.Ghosts S D) (d : files.Ghosts D) (r :
     head = head;
     head_is = is;
     closed = subst (λ (xs : List S). IsClosed s d r script (take head.nodes old) xs road p) (sym (take_front head.nodes new (drop head.nodes old) count)) closed;
-    others = λ k within. subst (λ (n : ℕ). slice_get (new ++ drop n old) k ≡ slice_get old k) count (get_behind new old k (subst (λ (n : ℕ). n ≤ k) (sym count) within));
+    others = beyond head.nodes old new count;
   }
 
-  shelf_front : (P : S → S → Type 0) (n node : ℕ) (old new : List S) → ShelfOf P (take n old) new node → ShelfOf P old (new ++ drop n old) node
-  shelf_front P n node old new h = record { before = h.before; after = h.after; was = get_take old n node h.before h.was; is = get_before new (drop n old) node h.after h.is; so = h.so }
-
-  pub cause_front : (n : ℕ) (old new : List S) (road road' : R) (why : RunFault) → HasCause s r (take n old) new road road' why → HasCause s r old (new ++ drop n old) road road' why
-  cause_front n old new road road' fault.RoadFault c = c
-  cause_front n old new road road' (fault.ShelfFault node) c = shelf_front _ n node.0 old new c
-  cause_front n old new road road' (fault.NotEmpty node name) c = record {
-    here = shelf_front _ n node.0 old new c.here;
-    empty = λ k a within at. c.empty k a within (get_within old n k (before k node.0 (element_within (take n old) node.0 c.here.before c.here.was) within) ∙ at);
+  pub leaves_front : (head : Head) (old new : List S) → length new ≡ head.nodes → head.nodes ≤ length old → EachShelf (LendsNoMore s) (take head.nodes old) new → LeavesShelves s old (new ++ drop head.nodes old) head
+  leaves_front head old new count few h = record {
+    lent = up_to_all (LendsNoMore s) head.nodes old (new ++ drop head.nodes old) up (λ x n e. e);
+    others = beyond head.nodes old new count;
   }
     where
-      before : (k node : ℕ) → node < length (take n old) → k < node → k < n
-      before k node h h' = omega (arith, h, h', length-take n old)
-  cause_front n old new road road' fault.Memory c = tt
+      up : UpTo (λ _. LendsNoMore s) head.nodes old (new ++ drop head.nodes old)
+      up = record { count = all_count head.nodes old new count few; done = front_done (LendsNoMore s) head.nodes old new count h; rest = beyond head.nodes old new count }
+
+  -- a cause among the first shelves
+  pub cause_front : (script : List ScriptLine) (head : Head) (old new : List S) (road road' : R) (why : RunFault) → head_of script ≡ Some head → length new ≡ head.nodes → HasCause s r (take head.nodes old) new road road' why → HasUsedCause s r script old (new ++ drop head.nodes old) road road' why
+  cause_front script head old new road road' why is count cause = λ other so.
+      subst (λ (h : Head). HasCause s r (take h.nodes old) (take h.nodes (new ++ drop head.nodes old)) road road' why) (same_Some head other (sym is ∙ so))
+      (subst (λ (xs : List S). HasCause s r (take head.nodes old) xs road road' why) (sym (take_front head.nodes new (drop head.nodes old) count)) cause)

@@ -5,4 +5,5 @@ mod FaultLemmas
 mod ToldLemmas
 mod HeldLemmas
 mod HoldLemmas
+mod LentLemmas
 mod FrontLemmas

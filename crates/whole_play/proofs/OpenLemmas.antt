@@ -17,10 +17,12 @@ use Rattle.writer_core.specs.declared.intake.TheConstants.{MAX_COMMANDS}
 use Rattle.node_opening.specs.Shelves.{AreDistinct}
 use Rattle.play_model.specs.States.{opened}
 use Rattle.play_clients.specs.declared.clients.Client.{Client}
+use Rattle.play_dues.specs.declared.live.LiveConns.{LiveConns}
+use Rattle.play_dues.specs.Live.{CoversNone}
 use Rattle.play_dues.specs.Showing.{HasClient}
 use Rattle.play.specs.declared.player.Player.{Player}
 use Rattle.play.specs.Events.{blocks_of}
-use Rattle.play.specs.Standing.{PlayStands}
+use Rattle.play.specs.Standing.{PlayStands, world_of}
 use Rattle.play_opening.specs.Opening.{IsOpenedPlay, no_commands}
 use Rattle.play_scripts.specs.declared.heads.Head.{Head}
 use Rattle.play_scripts.specs.Blocks.{AreAllCreated, AreBlocks}
@@ -95,10 +97,10 @@ module _ {S D R I O : Type 0} (s : shelves.Ghosts S D) (d : files.Ghosts D) (r :
         opened_so = subst (λ (bs : List BlockId). IsOpenedPlay s d bs old new x.player) (sym same) h;
       }
 
-  pub begins : (head : Head) (lines : List ScriptLine) (old new : List S) (road : R) (blocks : List BlockId) (player : Player D I O) (generator : Lcg) → HeadFits (length old) head lines → AreBlocks lines blocks → IsOpenedPlay s d blocks old new player → PlayStands r i o (length old) no_commands road player → generator ≡ (first_of head).generator
-      → Begins r i o head lines road (record { nodes = head.nodes; player = player; generator = generator })
-  begins head lines old new road blocks player generator fits are h stands drawn =
-      let x : Playing D I O = record { nodes = head.nodes; player = player; generator = generator } in
+  pub begins : (head : Head) (lines : List ScriptLine) (old new : List S) (road : R) (blocks : List BlockId) (player : Player D I O) (generator : Lcg) (live : LiveConns) → HeadFits (length old) head lines → AreBlocks lines blocks → IsOpenedPlay s d blocks old new player → PlayStands r i o (length old) no_commands road player → generator ≡ (first_of head).generator
+      → CoversNone live → Begins r i o head lines road (record { nodes = head.nodes; player = player; generator = generator; live = live })
+  begins head lines old new road blocks player generator live fits are h stands drawn covers =
+      let x : Playing D I O = record { nodes = head.nodes; player = player; generator = generator; live = live } in
       record {
         are = subst (λ (bs : List BlockId). AreBlocks lines bs) (sym h.nodes.blocks_are) are;
         clients = h.clients.order ∙ sym h.nodes.blocks_are;
@@ -108,6 +110,7 @@ module _ {S D R I O : Type 0} (s : shelves.Ghosts S D) (d : files.Ghosts D) (r :
           events = sym h.events;
           generator = drawn;
           rules = λ k c at. (h.clients.each k c at).is_new.rule;
+          live = covers (world_of head.nodes player);
         };
         can = record {
           behind = is_behind head.nodes head.seed x;

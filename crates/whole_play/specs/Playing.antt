@@ -11,7 +11,7 @@ use Rattle.script_lang.specs.declared.instructions.ScriptLine.{ScriptLine}
 use Rattle.world.specs.Worlds.{World}
 use Rattle.world_nets.specs.Rows.{rows_of, text_of}
 use Rattle.node_opening.specs.Emptiness.{ShelfRose, HasFirstFile}
-use Rattle.node_opening.specs.Shelves.{AllEmpty}
+use Rattle.node_opening.specs.Shelves.{AllEmpty, EachShelf, LendsNoMore}
 use Rattle.play.specs.Events.{RoadsFailed}
 use Rattle.play_model.specs.States.{PlayState, world_of}
 use Rattle.play_model.specs.Lines.{Plays, blocks_of}
@@ -93,6 +93,14 @@ pub record IsPlayed {S D R I O : Type 0} (s : shelves.Ghosts S D) (d : files.Gho
   pub closed : IsClosed s d r script (take head.nodes old) (take head.nodes new) road p
   pub others : (k : ℕ) → head.nodes ≤ k → slice_get new k ≡ slice_get old k
 
+-- SHELVES
+
+-- Whatever came of the play: no shelf lends a block that it didn't, and those beyond the nodes of the script are as they
+-- were.
+pub record LeavesShelves {S D : Type 0} (s : shelves.Ghosts S D) (old new : List S) (head : Head) : Type 0 where
+  pub lent : EachShelf (LendsNoMore s) old new
+  pub others : (k : ℕ) → head.nodes ≤ k → slice_get new k ≡ slice_get old k
+
 -- FAULTS
 
 -- The files of a node have failed, or memory ran out.
@@ -115,3 +123,9 @@ HasCause s r old new road road' fault.RoadFault = RoadsFailed r road road'
 HasCause s r old new road road' (fault.ShelfFault node) = ShelfRose s old new node
 HasCause s r old new road road' (fault.NotEmpty node name) = HasFirstFile s old new node name
 HasCause s r old new road road' fault.Memory = Unit {0}
+
+-- So it has among the first shelves, one for each node of the script.
+abbrev pub HasUsedCause : {S D R I O : Type 0} → shelves.Ghosts S D → roads.Ghosts R I O → List ScriptLine → List S →
+    List S → R → R → RunFault → Type 0
+HasUsedCause s r script old new road road' why = (head : Head) → head_of script ≡ Some head →
+    HasCause s r (take head.nodes old) (take head.nodes new) road road' why

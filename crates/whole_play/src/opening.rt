@@ -8,6 +8,7 @@ ghost use Rattle.whole_play.specs.Opening.{HeadFits, Begins, HasOpened};
 
 use hd_base::{Roads, Shelf};
 use node_opening::OpenFault;
+use play_dues::LiveConns;
 use play_lines::Playing;
 use play_opening::open_player;
 use play_scripts::{Head, blocks_of};
@@ -42,5 +43,6 @@ pub(crate) fn open_play<S: Shelf, R: Roads>(
         nodes: head.nodes,
         player,
         generator,
+        live: LiveConns::new(alloc),
     })
 }

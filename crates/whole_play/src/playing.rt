@@ -1,13 +1,16 @@
 //! A script is played.
 
-ghost use Rattle.std.specs.Prelude.{◌≡◌, length, drop, IfOk, IfErr};
+ghost use Rattle.std.specs.Prelude.{length, drop, IfOk, IfErr, IfSome};
 ghost use Rattle.member_events.specs.Roads.{RoadsPass};
 ghost use Rattle.node_opening.specs.Listening.{AreUnused};
+ghost use Rattle.node_opening.specs.Shelves.{EachShelf, LendsNoMore};
 ghost use Rattle.play_nodes.specs.Places.{KeepsSizes};
 ghost use Rattle.play_report.specs.Rows.{LeavesAll};
 ghost use Rattle.play_scripts.specs.Fitting.{ScriptFits};
+ghost use Rattle.play_scripts.specs.Heads.{head_of};
 ghost use Rattle.whole_play.specs.Opening.{HasHead, HeadFits};
-ghost use Rattle.whole_play.specs.Playing.{BeginsScript, IsOver, IsThroughFault, IsToldOf, IsReportFault, IsClosed, IsPlayed, HasCause};
+ghost use Rattle.whole_play.specs.Playing.{BeginsScript, IsOver, IsThroughFault, IsToldOf, IsReportFault};
+ghost use Rattle.whole_play.specs.Playing.{IsClosed, IsPlayed, LeavesShelves, HasCause, HasUsedCause};
 
 use crate::faults::RunFault;
 use crate::opening::open_play;
@@ -48,7 +51,9 @@ pub fn play_script<S: Shelf, R: Roads>(
     requires unused { AreUnused R.Roads roads.old }
     requires fits { ScriptFits (length shelves.old) script.now }
     ensures played { IfOk result (IsPlayed S.Shelf S.Drawer.Files R.Roads script.now shelves.old shelves.new roads.new) }
-    ensures cause { IfErr result (HasCause S.Shelf R.Roads shelves.old shelves.new roads.old roads.new) }
+    ensures cause { IfErr result (HasUsedCause S.Shelf R.Roads script.now
+        shelves.old shelves.new roads.old roads.new) }
+    ensures shelves { IfSome (head_of script.now) (LeavesShelves S.Shelf shelves.old shelves.new) }
 {
     let Some(head) = head_of(script) else {
         unreachable!();
@@ -74,8 +79,8 @@ fn play_on<S: Shelf, R: Roads>(
     requires head { HasHead head (drop HEAD_LINES script.now) script.now }
     requires fits { HeadFits (length shelves.old) head (drop HEAD_LINES script.now) }
     ensures closed { IfOk result (IsClosed S.Shelf S.Drawer.Files R.Roads script.now shelves.old shelves.new roads.new) }
-    ensures count { length shelves.new ≡ length shelves.old }
     ensures cause { IfErr result (HasCause S.Shelf R.Roads shelves.old shelves.new roads.old roads.new) }
+    ensures lent { EachShelf (LendsNoMore S.Shelf) shelves.old shelves.new }
 {
     opened_nodes_close::<S, R::Inward, R::Outward>();
     shown_nodes_fit::<S::Drawer, R::Inward, R::Outward>();

@@ -15,38 +15,47 @@ fn read(alloc: Global, call: &[&str]) -> Result<Result<Words, WordsFault>, Fail>
 
 #[test]
 fn calls_are_read(rt: HostRuntime) -> Result<(), Fail> {
-    let table: [(&[&str], Mode, Option<u64>, bool); 6] = [
-        (&["play"], Mode::Play, None, false),
-        (&["live"], Mode::Live, None, false),
-        (&["live", "--loopback"], Mode::Live, None, true),
-        (&["--loopback", "live"], Mode::Live, None, true),
-        (&["storm", "7"], Mode::Storm, Some(7), false),
+    let table: [(&[&str], Mode, Option<u64>, &str, bool); 7] = [
+        (&["play"], Mode::Play, None, "", false),
+        (&["play", "--folder", "out"], Mode::Play, None, "out", false),
+        (&["--folder=a/b", "live"], Mode::Live, None, "a/b", false),
+        (&["live", "--loopback"], Mode::Live, None, "", true),
+        (&["--loopback", "live"], Mode::Live, None, "", true),
+        (&["storm", "7"], Mode::Storm, Some(7), "", false),
         (
             &["storm", "018446744073709551615"],
             Mode::Storm,
             Some(u64::MAX),
+            "",
             false,
         ),
     ];
-    for (call, mode, number, loopback) in table {
-        let words = Words {
-            mode,
-            number,
-            loopback,
+    for (call, mode, number, folder, loopback) in table {
+        let Ok(words) = read(rt.alloc(), call)? else {
+            return Err(Fail::new("words"));
         };
-        assert_eq!(rt; read(rt.alloc(), call)?, Ok(words));
+        let path = match &words.folder {
+            Some(folder) => folder.as_str(),
+            None => "",
+        };
+        assert_eq!(rt;
+            (words.mode, words.number, path, words.loopback),
+            (mode, number, folder, loopback)
+        );
     }
     Ok(())
 }
 
 #[test]
 fn the_first_rule_is_told(rt: HostRuntime) -> Result<(), Fail> {
-    let table: [(&[&str], UsageRule); 16] = [
+    let table: [(&[&str], UsageRule); 18] = [
         (&[], UsageRule::Words),
         (&["--help"], UsageRule::Words),
         (&["--version"], UsageRule::Words),
         (&["storm", "7", "8"], UsageRule::Words),
         (&["live", "--loopback", "--loopback"], UsageRule::Words),
+        (&["play", "--folder"], UsageRule::Words),
+        (&["live", "--folder", "--loopback"], UsageRule::Words),
         (&["fly"], UsageRule::Mode),
         (&["fly", "x", "--loopback"], UsageRule::Mode),
         (&["play", "3"], UsageRule::Number),
@@ -60,7 +69,10 @@ fn the_first_rule_is_told(rt: HostRuntime) -> Result<(), Fail> {
         (&["storm", "7", "--loopback"], UsageRule::Loopback),
     ];
     for (call, rule) in table {
-        assert_eq!(rt; read(rt.alloc(), call)?, Err(WordsFault::Usage { rule }));
+        let Err(fault) = read(rt.alloc(), call)? else {
+            return Err(Fail::new("no rule is broken"));
+        };
+        assert_eq!(rt; fault, WordsFault::Usage { rule });
     }
     Ok(())
 }

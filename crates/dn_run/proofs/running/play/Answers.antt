@@ -1,5 +1,6 @@
 -- The words are read, then the script, and then it is played; each may end the run.
-use Rattle.std.proofs.Common.{◌≡◌, ℕ, List, length, map, IfSome, Result, Ok, Err, sym, ap, subst, ◌∙◌}
+use Rattle.std.proofs.Common.{rules, ◌≡◌, ◌++◌, take, drop, ℕ, List, length, map, IfSome, Result, Ok, Err, sym, ap, subst, ◌∙◌}
+use Rattle.std.proofs.Math.Seq.{take-append_seam}
 use Rattle.std.proofs.lemmas.Result.{err_from_is_err_and}
 use Rattle.std.specs.String.{string_bytes}
 use Rattle.std.specs.Global.{Global}
@@ -7,9 +8,14 @@ use Rattle.node_opening.proofs.ListLemmas.{if_err}
 use Rattle.script_lang.specs.declared.instructions.ScriptLine.{ScriptLine}
 use Rattle.whole_play.specs.declared.playing.Played.{Played}
 use Rattle.dn_run.specs.declared.exits.Exit.{Exit}
-use Rattle.dn_run.specs.Reading.{Refuses}
-use Rattle.dn_run.specs.Runs.{usage_of, UsageIn, HasPlayCause}
-use Rattle.dn_run.proofs.RunLaws.{mode_usage, mode_cause, none_broken, fault_usage, refuses_any}
+use Rattle.play_scripts.specs.Fitting.{ScriptFits}
+use Rattle.play_scripts.specs.Heads.{head_of}
+use Rattle.whole_play.specs.Playing.{IsPlayed, LeavesShelves}
+use Rattle.dn_run.specs.Reading.{HasRead, IsReadExit, Accepts, Refuses}
+use Rattle.dn_run.specs.Runs.{usage_of, UsageIn, IsBadIn, KeepsShelves, HasPlayCause}
+use Rattle.play_model.specs.States.{world_of}
+use Rattle.dn_run.proofs.AnswerLaws.{completes}
+use Rattle.dn_run.proofs.RunLaws.{bad_text, keeps_played, mode_usage, mode_cause, none_broken, fault_usage, refuses_any}
 use Rattle.dn_run.proofs.running.play.Goals as goal
 
 pub returns-in_err-read_mode-clause-usage : goal.returns-in_err-read_mode-clause-usage
@@ -58,3 +64,75 @@ returns-clause-refused g c = λ none.
     let same : c.len.result ≡ n = c.len.ensures ∙ c.args.shelves.now.ok.0 in
     refuses_any left n c.in_ok-lines.lines (Ok c.in_ok-played.played)
     (subst (λ (m : ℕ). IfSome left (λ text. Refuses {T = List ScriptLine} m text (Ok c.in_ok-lines.lines))) same c.in_ok-lines.ensures.refused)
+
+pub returns-in_err-lines-clause-bad : goal.returns-in_err-lines-clause-bad
+returns-in_err-lines-clause-bad g c =
+    let i = g.I.Source in
+    let left = i.left c.args.script.now in
+    let n = length c.args.shelves.now.items in
+    let ended = c.in_err-lines.field-0.0 in
+    let before = i.faults c.args.script.now in
+    let now = i.faults c.read_lines.new.source in
+    let same : c.len.result ≡ n = c.len.ensures ∙ c.args.shelves.now.ok.0 in
+    let e = err_from_is_err_and c.from_residual-in_err-lines.result c.from_residual-in_err-lines.ensures.1 in
+    if_err c.from_residual-in_err-lines.result ended (IsBadIn left n) (e.1 ∙ ap Err e.2)
+    (bad_text left before now n ended (subst (λ (m : ℕ). IsReadExit left before now m ended) same c.in_err-lines.ensures.cause)
+    (subst (λ (m : ℕ). IfSome left (λ text. Accepts m text (Err ended))) same c.in_err-lines.ensures.accepted))
+
+pub returns-clause-shelves : goal.returns-clause-shelves
+returns-clause-shelves g c =
+    let left = g.I.Source.left c.args.script.now in
+    let old = c.args.shelves.now.items in
+    let n = length old in
+    let lines = c.in_ok-lines.lines in
+    let same : c.len.result ≡ n = c.len.ensures ∙ c.args.shelves.now.ok.0 in
+    let read = c.in_ok-lines.ensures.found in
+    let fits : ScriptFits n lines = subst (λ (m : ℕ). ScriptFits m lines) same (c.scripts_fit.ensures c.len.result read.text lines read.playable.script) in
+    let new = c.play_script.new.shelves in
+    let played : c.as_slice.result.now ≡ lines = search rules in
+    let given : c.as_mut_slice.result.now ≡ old = search rules in
+    let left_so : IfSome (head_of lines) (LeavesShelves g.S.Shelf c.as_mut_slice.result.now new) =
+    subst (λ (ls : List ScriptLine). IfSome (head_of ls) (LeavesShelves g.S.Shelf c.as_mut_slice.result.now new)) played c.in_ok-played.ensures.shelves in
+    let kept : KeepsShelves g.S.Shelf left old new =
+    keeps_played g.S.Shelf left old new lines fits
+    (subst (λ (m : ℕ). IfSome left (λ text. Accepts m text (Ok lines))) same c.in_ok-lines.ensures.accepted)
+    (subst (λ (xs : List _). IfSome (head_of lines) (LeavesShelves g.S.Shelf xs new)) given left_so) in
+    let count : c.args.shelves.now.len ≡ length new = c.args.shelves.now.ok.0 ∙ (ap length (sym given) ∙ sym c.play_script.auto.shelves) in
+    let all : new ≡ take c.args.shelves.now.len (new ++ drop (length new) old) =
+    sym (ap (λ (k : ℕ). take k (new ++ drop (length new) old)) count ∙ take-append_seam new (drop (length new) old)) in
+    subst (λ (xs : List _). KeepsShelves g.S.Shelf left old xs) all kept
+
+pub returns-clause-played : goal.returns-clause-played
+returns-clause-played g c =
+    let i = g.I.Source in
+    let s = g.S.Shelf in
+    let d = g.S.Drawer.Files in
+    let r = g.R.Roads in
+    let script = c.args.script.now in
+    let script' = c.read_lines.new.source in
+    let old = c.args.shelves.now.items in
+    let n = length old in
+    let lines = c.in_ok-lines.lines in
+    let p = c.in_ok-played.played in
+    let new = c.play_script.new.shelves in
+    let road = c.play_script.new.roads in
+    let same : c.len.result ≡ n = c.len.ensures ∙ c.args.shelves.now.ok.0 in
+    let found = c.in_ok-lines.ensures.found in
+    let read : HasRead (i.left script) (i.left script') n lines = subst (λ (m : ℕ). HasRead (i.left script) (i.left script') m lines) same found in
+    let fits : ScriptFits n lines = subst (λ (m : ℕ). ScriptFits m lines) same (c.scripts_fit.ensures c.len.result found.text lines found.playable.script) in
+    let said : c.as_slice.result.now ≡ lines = search rules in
+    let given : c.as_mut_slice.result.now ≡ old = search rules in
+    let count : c.args.shelves.now.len ≡ length new = c.args.shelves.now.ok.0 ∙ (ap length (sym given) ∙ sym c.play_script.auto.shelves) in
+    let all : new ≡ take c.args.shelves.now.len (new ++ drop (length new) old) =
+    sym (ap (λ (k : ℕ). take k (new ++ drop (length new) old)) count ∙ take-append_seam new (drop (length new) old)) in
+    let first : IsPlayed s d r lines c.as_mut_slice.result.now new road p =
+    subst (λ (ls : List ScriptLine). IsPlayed s d r ls c.as_mut_slice.result.now new road p) said c.in_ok-played.ensures.played in
+    let second : IsPlayed s d r lines old new road p = subst (λ (xs : List _). IsPlayed s d r lines xs new road p) given first in
+    let played : IsPlayed s d r lines old (take c.args.shelves.now.len (new ++ drop (length new) old)) road p =
+    subst (λ (xs : List _). IsPlayed s d r lines old xs road p) all second in
+    record {
+      lines = lines;
+      read = read;
+      played = played;
+      complete = λ members. completes lines (world_of played.closed.through.end) (c.plays_complete.ensures n lines played.closed.through.end fits read.playable.played members played.closed.through.plays);
+    }

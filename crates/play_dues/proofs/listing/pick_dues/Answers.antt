@@ -1,39 +1,38 @@
 -- One connection more.
-use Rattle.std.proofs.Common.{◌<◌, ◌∙◌, ℕ, length, refl, subst}
+use Rattle.std.proofs.Common.{◌<◌, ℕ, length, refl, subst}
 use Rattle.member_events.proofs.SetupKnown.{pass_same, pass_on}
-use Rattle.play_dues.proofs.ListingLaws.{at_end, behind_first, behind_own, behind_more, picks_own, picks_here, picks_none}
+use Rattle.play_dues.proofs.ListingLaws.{behind_first, behind_own, behind_more, picks_own, picks_here, picks_none}
 use Rattle.play_dues.specs.Own.{own_listed}
 use Rattle.play_dues.proofs.listing.pick_dues.Goals as goal
 
-pub loop-index-init : goal.loop-index-init
-loop-index-init g c = record {
-  behind = behind_own g.R.Roads g.I.LinkIn g.O.LinkOut c.args.nodes.now c.args.clients.now c.args.roads.now c.args.number _
+pub loop-conn-init : goal.loop-conn-init
+loop-conn-init g c = record {
+  behind = behind_own g.R.Roads g.I.LinkIn g.O.LinkOut c.args.nodes.now c.args.clients.now c.args.conns.now c.args.roads.now c.args.number _
       (behind_first c.args.number c.count_own-own.result (length (own_listed c.args.clients.now)) c.if-number-own.false c.count_own-own.ensures);
   pass = pass_same g.R.Roads g.I.LinkIn g.O.LinkOut c.args.roads.now c.args.roads.now refl;
 }
 
-pub loop-index-preserved : goal.loop-index-preserved
-loop-index-preserved g c = record {
-  behind = behind_more g.R.Roads g.I.LinkIn g.O.LinkOut c.args.nodes.now c.args.clients.now (record { 0 = c.loop-index.index }) c.args.roads.now c.loop-index.roads c.dues_of-due.new.roads c.dues_of-due.result c.args.number c.loop-index.rest c.count-count.result
-      c.loop-index.invariant.behind c.dues_of-due.ensures.tells c.count-count.ensures c.if-rest-count.false;
-  pass = pass_on g.R.Roads g.I.LinkIn g.O.LinkOut c.args.roads.now c.loop-index.roads c.dues_of-due.new.roads c.loop-index.invariant.pass c.dues_of-due.ensures.pass;
+pub loop-conn-preserved : goal.loop-conn-preserved
+loop-conn-preserved g c = record {
+  behind = behind_more g.R.Roads g.I.LinkIn g.O.LinkOut c.args.nodes.now c.args.clients.now c.args.conns.now c.loop-conn.conn-index _ c.args.roads.now c.loop-conn.roads c.dues_of-due.new.roads c.dues_of-due.result c.args.number c.loop-conn.rest c.count-count.result
+      c.loop-conn-test.true c.loop-conn.invariant.behind c.dues_of-due.ensures.tells c.count-count.ensures.listed c.if-rest-count.false;
+  pass = pass_on g.R.Roads g.I.LinkIn g.O.LinkOut c.args.roads.now c.loop-conn.roads c.dues_of-due.new.roads c.loop-conn.invariant.pass c.dues_of-due.ensures.pass;
 }
 
 pub returns-then-number-own-clause-picks : goal.returns-then-number-own-clause-picks
 returns-then-number-own-clause-picks g c =
-    picks_own g.R.Roads g.I.LinkIn g.O.LinkOut c.args.nodes.now c.args.clients.now c.args.roads.now c.args.number c.pick_own.result
+    picks_own g.R.Roads g.I.LinkIn g.O.LinkOut c.args.nodes.now c.args.clients.now c.args.conns.now c.args.roads.now c.args.number c.pick_own.result
     (subst (λ (k : ℕ). c.args.number < k) c.count_own-own.ensures c.if-number-own.true) c.pick_own.ensures
 
 pub returns-then-rest-count : goal.returns-then-rest-count
 returns-then-rest-count g c = record {
-  picks = picks_here g.R.Roads g.I.LinkIn g.O.LinkOut c.args.nodes.now c.args.clients.now (record { 0 = c.loop-index.index }) c.args.roads.now c.loop-index.roads c.dues_of-due.new.roads c.dues_of-due.result c.args.number c.loop-index.rest c.pick.result
-      c.loop-index.invariant.behind c.dues_of-due.ensures.tells
-      (subst (λ (k : ℕ). c.loop-index.index < k) (c.len-index-end.ensures ∙ c.args.nodes.now.connections.ok.0) c.loop-index-test.true)
-      (subst (λ (k : ℕ). c.loop-index.rest < k) c.count-count.ensures c.if-rest-count.true) c.pick.ensures;
-  pass = pass_on g.R.Roads g.I.LinkIn g.O.LinkOut c.args.roads.now c.loop-index.roads c.dues_of-due.new.roads c.loop-index.invariant.pass c.dues_of-due.ensures.pass;
+  picks = picks_here g.R.Roads g.I.LinkIn g.O.LinkOut c.args.nodes.now c.args.clients.now c.args.conns.now c.loop-conn.conn-index _ c.args.roads.now c.loop-conn.roads c.dues_of-due.new.roads c.dues_of-due.result c.args.number c.loop-conn.rest c.pick.result
+      c.loop-conn-test.true c.loop-conn.invariant.behind c.dues_of-due.ensures.tells
+      (subst (λ (k : ℕ). c.loop-conn.rest < k) c.count-count.ensures.listed c.if-rest-count.true) c.pick.ensures;
+  pass = pass_on g.R.Roads g.I.LinkIn g.O.LinkOut c.args.roads.now c.loop-conn.roads c.dues_of-due.new.roads c.loop-conn.invariant.pass c.dues_of-due.ensures.pass;
 }
 
 pub returns-clause-picks : goal.returns-clause-picks
 returns-clause-picks g c =
-    picks_none g.R.Roads g.I.LinkIn g.O.LinkOut c.args.nodes.now c.args.clients.now c.loop-index.index c.args.roads.now c.loop-index.roads c.args.number c.loop-index.rest
-    (at_end c.loop-index.index c.len-index-end.result (length c.args.nodes.now.connections.items) c.loop-index.auto.index-end c.loop-index-test.false (c.len-index-end.ensures ∙ c.args.nodes.now.connections.ok.0)) c.loop-index.invariant.behind
+    picks_none g.R.Roads g.I.LinkIn g.O.LinkOut c.args.nodes.now c.args.clients.now c.args.conns.now c.loop-conn.conn-index (record { 0 = 0 }) c.args.roads.now c.loop-conn.roads c.args.number c.loop-conn.rest
+    c.loop-conn-test.false c.loop-conn.invariant.behind

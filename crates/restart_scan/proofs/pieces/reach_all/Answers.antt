@@ -16,7 +16,7 @@ pieces-preserved g c =
     subst (λ f. ReachesOn f c.args.names.now c.args.rule c.args.len c.pieces.kept c.in_ok-next.next) c.pieces.invariant.kept.same c.in_ok-next.ensures.value in
     record {
       within = on.within;
-      room = room_stays c.args.rule c.pieces.data c.pieces.sums c.reach_piece.new.data c.reach_piece.new.sums c.pieces.invariant.room c.reach_piece.auto.data c.reach_piece.auto.sums;
+      room = room_stays c.args.rule c.pieces.buffer c.pieces.sums c.reach_piece.new.buffer c.reach_piece.new.sums c.pieces.invariant.room c.reach_piece.auto.buffer c.reach_piece.auto.sums;
       so_far = matches_next (g.F.Files.files c.args.drawer.now) c.args.names.now c.args.rule c.args.len c.pieces.kept c.in_ok-next.next c.pieces.invariant.so_far on (search rules);
       kept = search rules;
       never_falls = omega (arith, c.pieces.invariant.never_falls, c.reach_piece.ensures.cause.never_falls);

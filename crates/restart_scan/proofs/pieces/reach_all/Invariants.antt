@@ -7,7 +7,7 @@ use Rattle.restart_scan.proofs.pieces.reach_all.Given as goal
 abbrev pub invariant-pieces : goal.invariant-pieces
 invariant-pieces g l = record {
   within : l.kept ≤ l.len;
-  room : HaveRoom l.rule l.data l.sums;
+  room : HaveRoom l.rule l.buffer l.sums;
   so_far : (bytes stored : List ℕ) → AreStored (g.F.Files.files l.initial.drawer) l.names l.rule l.len bytes stored →
       IfSome (g.F.Files.files l.initial.drawer) (λ _. IsMatchingTo l.rule bytes stored l.kept);
   kept : KeepsAll g.F.Files l.initial.drawer l.drawer;

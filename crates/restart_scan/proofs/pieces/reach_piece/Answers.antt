@@ -10,10 +10,10 @@ pub returns-clause-value : goal.returns-clause-value
 returns-clause-value g c =
     let body = take c.in_ok-count.count c.read_at.new.into in
     let sums = take c.in_ok-stored.stored c.read_at-2.new.into in
-    let room_le : c.min-room.result ≤ length c.args.data.now = omega (arith, c.min-room.ensures) in
-    let room : length c.read_at.new.into ≡ c.min-room.result = c.read_at.auto.into ∙ length-take-le c.min-room.result c.args.data.now room_le in
+    let room_le : c.min-room.result ≤ length c.args.buffer.now = omega (arith, c.min-room.ensures) in
+    let room : length c.read_at.new.into ≡ c.min-room.result = c.read_at.auto.into ∙ length-take-le c.min-room.result c.args.buffer.now room_le in
     let sum_room : length c.read_at-2.new.into ≡ length c.args.sums.now = c.read_at-2.auto.into in
-    reached (g.F.Files.files c.args.drawer.now) c.args.names.now c.args.rule c.args.len c.args.kept c.min-room.result c.kept_of-more.result c.args.data.now c.args.sums.now body sums
+    reached (g.F.Files.files c.args.drawer.now) c.args.names.now c.args.rule c.args.len c.args.kept c.min-room.result c.kept_of-more.result c.args.buffer.now c.args.sums.now body sums
     (record {
       some = c.requires.room.chunk_some;
       within = c.requires.within;

@@ -6,12 +6,13 @@ use Rattle.mem_ports.specs.Roads.{nothing_held}
 use Rattle.whole_play.proofs.laws.new_roads_are_unused.Goals as goal
 
 pub returns : goal.returns
-returns g c = λ road plain carried. record {
+returns g c = λ road plain carried none. record {
   plain = nothing_held;
   is = plain;
   dialled = refl;
   listening = λ port. refl;
   waiting = λ port. refl;
   channels = λ k d. refl;
+  none_risen = none;
   carried = carried ∙ sym (ap (λ (x : Option Carried). option_map (λ _. nothing_carried) x) carried);
 }

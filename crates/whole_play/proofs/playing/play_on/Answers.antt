@@ -9,6 +9,7 @@ use Rattle.whole_play.specs.Playing.{IsOver, IsClosed, IsThroughFault, HasCause}
 use Rattle.whole_play.proofs.FaultLemmas.{closed_fault}
 use Rattle.whole_play.proofs.ToldLemmas.{ok_map, err_map}
 use Rattle.whole_play.proofs.HoldLemmas.{closed_so}
+use Rattle.whole_play.proofs.LentLemmas.{given_lends, closed_lends}
 use Rattle.whole_play.proofs.ThroughLemmas.{head_blocks}
 use Rattle.play_scripts.specs.Blocks.{numbers}
 use Rattle.play_model.specs.Lines.{blocks_of}
@@ -68,3 +69,18 @@ returns-clause-closed g c =
     ap numbers c.play_through-played.ensures.sizes.blocks ∙ (c.in_ok-playing.ensures.begins.are.are ∙ (ap blocks_of c.split_at.ensures.back ∙ sym (head_blocks c.args.head (drop 2 script) script c.requires.head))) in
     ok_map c.play_through-played.result (IsOver d r i o script road y) (IsClosed s d r script old closed road)
     (λ p over. closed_so s d r i o script old after closed road x y p c.in_ok-playing.ensures.opened c.play_through-played.ensures.sizes close c.replicas_have_their_bytes.ensures c.shown_nodes_fit.ensures c.fitting_books_are_of_blocks.ensures blocks over) c.play_through-played.ensures.through
+
+pub returns-in_err-playing-clause-lent : goal.returns-in_err-playing-clause-lent
+returns-in_err-playing-clause-lent g c =
+    given_lends g.S.Shelf g.S.Drawer.Files c.args.shelves.now c.open_play.new.shelves c.in_err-playing.ensures.given_back
+
+pub returns-clause-lent : goal.returns-clause-lent
+returns-clause-lent g c =
+    let s = g.S.Shelf in
+    let d = g.S.Drawer.Files in
+    let x = c.in_ok-playing.playing in
+    let y = c.play_through-played.new.playing in
+    let after = c.open_play.new.shelves in
+    let closed = c.close_nodes.new.shelves in
+    let close = subst (λ (bs : List BlockId). NodesClose s d bs y.player.nodes.nodes.items after closed) c.deref.ensures.value c.close_nodes.ensures in
+    closed_lends s d c.args.shelves.now after closed x y c.in_ok-playing.ensures.opened c.play_through-played.ensures.sizes close

@@ -274,12 +274,12 @@ returns-clause-taken g c =
     let O = g.R.Outward.LinkOut in
     let now = g.R.Inward.LinkIn.held c.exchange-done.new.end.inward in
     let T : Option Plain → Bool → Type 0 = λ q b. IfSome q (λ p. IfSome S (λ sent. IfSome H (λ inbox. b ≡ true → now ≡ Some (filled inbox ((with_flushed p conn lower (unflushed sent fl lo) shut).channels conn lower))))) in
-    let T1 : Option Plain → Type 0 = λ q. T q c.passes.result in
-    let T2 : Bool → Type 0 = λ b. T P b in
+    let OfPlain : Option Plain → Type 0 = λ q. T q c.passes.result in
+    let OfPasses : Bool → Type 0 = λ b. T P b in
     let U : Bool → Type 0 = λ b. b ≡ false → now ≡ H in
     let M0 : Bool → Type 0 = λ e. IfSome (option_map (seen_plain old) P) (λ p. IfSome S (λ sent. IfSome (option_map (inbox_behind half.first half.ended) H) (λ inbox. c.args.take ≡ true → option_map (inbox_behind half.first e) now ≡ Some (filled inbox ((with_flushed p conn lower (unflushed sent fl lo) shut).channels conn lower))))) in
     let M1 : Option Inbox → Type 0 = λ hc. IfSome (option_map (seen_plain old) P) (λ p. IfSome S (λ sent. IfSome hc (λ inbox. c.args.take ≡ true → option_map (inbox_behind half.first c.ends-cut_in.result) now ≡ Some (filled inbox ((with_flushed p conn lower (unflushed sent fl lo) shut).channels conn lower))))) in
     let M2 : Bool → Type 0 = λ b. IfSome (option_map (seen_plain old) P) (λ p. IfSome S (λ sent. IfSome (held_behind g.R.Inward.LinkIn.held end.inward.inner end.inward.first end.inward.ended) (λ inbox. c.args.take ≡ true → option_map (inbox_behind half.first c.ends-cut_in.result) now ≡ Some (filled inbox ((with_flushed p conn lower (unflushed sent fl lo) (b || O.shut out)).channels conn lower))))) in
     let M3 : Option _ → Type 0 = λ o. IfSome (option_map (seen_plain old) P) (λ p. IfSome (option_and_then O.sent o) (λ sent. IfSome (held_behind g.R.Inward.LinkIn.held end.inward.inner end.inward.first end.inward.ended) (λ inbox. c.args.take ≡ true → option_map (inbox_behind half.first c.ends-cut_in.result) now ≡ Some (filled inbox ((with_flushed p conn lower (unflushed sent (number_of O.flushed o) (number_of O.lost o)) (test_of g.R.Inward.LinkIn.shut end.inward.inner || test_of O.shut o)).channels conn lower))))) in
     subst M3 (sym is_out) (subst M2 (sym shut_in) (subst M1 (sym held_in) (subst M0 (sym c.ends-cut_in.ensures)
-    (taken-after P' old new half.first half.ended fl lo end.outward.pending conn shut lower c.args.take off c.in-Ok.grown P S H now h (subst T2 c.passes.ensures (subst T1 c.standing-standing.ensures.plain c.in_default-done.ensures.taken)) (subst U c.passes.ensures c.in_default-done.ensures.untaken)))))
+    (taken-after P' old new half.first half.ended fl lo end.outward.pending conn shut lower c.args.take off c.in-Ok.grown P S H now h (subst OfPasses c.passes.ensures (subst OfPlain c.standing-standing.ensures.plain c.in_default-done.ensures.taken)) (subst U c.passes.ensures c.in_default-done.ensures.untaken)))))

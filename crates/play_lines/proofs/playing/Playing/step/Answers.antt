@@ -25,7 +25,7 @@ pub returns-clause-shows : goal.returns-clause-shows
 returns-clause-shows g c =
     let old = c.args.self.now in
     let new = record old { player = c.happen.new.self } in
-    happened g.F.Files g.R.Roads g.I.LinkIn g.O.LinkOut c.worlds_are_lawful.ensures c.takers_are_open.ensures c.args.block c.args.event old new c.args.roads.now c.is_due.new.roads c.happen.new.roads c.due_for.result c.in-Some.due c.is_due.result c.happen.result refl refl c.is_due.ensures.pass.never_falls c.if-not-is_due.false
+    happened g.F.Files g.R.Roads g.I.LinkIn g.O.LinkOut c.worlds_are_lawful.ensures c.takers_are_open.ensures c.args.block c.args.event c.live_connections_are_covered.ensures.on old new c.args.roads.now c.is_due.new.roads c.happen.new.roads c.due_for.result c.in-Some.due c.is_due.result c.happen.result refl refl refl c.is_due.ensures.pass.never_falls c.if-not-is_due.false
     c.due_for.ensures c.in-Some.is
     (subst (λ xs. TellsDue g.R.Roads g.I.LinkIn g.O.LinkOut c.in-Some.due old.player.nodes xs c.args.roads.now c.is_due.new.roads c.is_due.result) c.as_slice.ensures.value c.is_due.ensures.tells)
     c.happen.ensures.shows

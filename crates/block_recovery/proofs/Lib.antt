@@ -1,0 +1,3 @@
+pub mod ServingLaws
+pub mod ActionLaws
+pub mod DrivingLaws

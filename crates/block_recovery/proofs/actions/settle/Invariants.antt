@@ -1,0 +1,14 @@
+-- The connections so far are kept or given up.
+use Rattle.std.proofs.Common.{◌≡◌, ◌≤◌, length, All}
+use Rattle.block_recovery.specs.Actions.{Passes, SettlesAt}
+use Rattle.block_recovery.specs.Dialling.{LinkIsKnown}
+use Rattle.block_recovery.proofs.actions.settle.Given as goal
+
+abbrev pub invariant-loop-place : goal.invariant-loop-place
+invariant-loop-place g l = record {
+  settled : Passes (SettlesAt g.R.Roads g.R.Inward.LinkIn g.R.Outward.LinkOut l.standings) l.place
+      (record { links = l.fn.links; road = l.fn.roads }) (record { links = l.links; road = l.roads });
+  count : length l.links ≡ length l.fn.links;
+  within : l.place ≤ length l.fn.links;
+  known : All (LinkIsKnown (g.R.Roads.plain l.roads)) l.links;
+}

@@ -1,0 +1,19 @@
+-- The chosen members were sent the UPDATE, or memory ran out.
+use Rattle.std.proofs.Common.{Ok, Err, refl}
+use Rattle.block_recovery.proofs.primary.update.Goals as goal
+
+pub returns-in-Ok-clause-updates : goal.returns-in-Ok-clause-updates
+returns-in-Ok-clause-updates g c = record {
+  held = c.send_request.new.links;
+  sending = Ok tt;
+  sends = c.in-Ok.ensures.sends;
+  ends = (rw c.standings.ensures at c.settle.ensures.settles, refl);
+}
+
+pub returns-in-Err-clause-updates : goal.returns-in-Err-clause-updates
+returns-in-Err-clause-updates g c = record {
+  held = c.send_request.new.links;
+  sending = Err c.in-Err.field-0;
+  sends = c.in-Err.ensures.sends;
+  ends = c.end.ensures.ends;
+}

@@ -1,0 +1,9 @@
+pub mod Serving
+pub mod Hearing
+pub mod Links
+pub mod Dialling
+pub mod Actions
+pub mod Requests
+pub mod Steps
+pub mod Driving
+pub mod Exchanging

@@ -1,0 +1,35 @@
+//! A block recovery, waited for.
+
+ghost use Rattle.block_recovery.specs.Driving.{Recovers};
+
+use crate::primary::{Primary, PrimaryStep};
+use hd_base::{BlockId, Members, Roads};
+use name_core::Desk;
+use recovery_core::Recovered;
+use std::alloc::Global;
+use std::sync::Wait;
+
+/// Recovers a block at these members, step by step, and waits where the answer of a member isn't there yet. All connections
+/// are given up at the end.
+pub fn recover<H: Wait, D: Desk, R: Roads>(
+    rt: &H,
+    alloc: Global,
+    block: BlockId,
+    members: &Members,
+    office: &mut D,
+    roads: &mut R,
+) -> Recovered
+    ensures { Recovers D.Desk R.Roads R.Inward.LinkIn R.Outward.LinkOut block members.now
+        office.old office.new roads.old roads.new result }
+{
+    let Ok(made) = Primary::new(alloc, block, members) else {
+        return Recovered::Memory;
+    };
+    let mut primary = made;
+    'steps: for _ in rt.forever() {
+        if let PrimaryStep::Ended(recovered) = primary.step(alloc, office, roads) {
+            return recovered;
+        }
+    }
+    unreachable!()
+}

@@ -1,0 +1,19 @@
+//! Block recovery over links: what a member answers to its steps, over its book, and the primary, which runs it over its
+//! connections to the members, the name office and the roads.
+#![tactic(auto)]
+
+mod actions;
+mod dialling;
+mod driving;
+mod exchanging;
+mod foretelling;
+mod hearing;
+mod links;
+mod primary;
+mod requests;
+mod serving;
+
+pub use driving::recover;
+pub use links::Link;
+pub use primary::{Primary, PrimaryStep};
+pub use serving::{RecoveryServed, answer_recovery};

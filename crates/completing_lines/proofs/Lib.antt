@@ -1,0 +1,4 @@
+pub mod Queues
+pub mod Following
+pub mod Happening
+pub mod Assembly

@@ -1,0 +1,72 @@
+-- What each thing that is due keeps, draws and named events keep: so a play stays as it should be in them, as long as it
+-- does where what is due of a writer happens.
+use Rattle.std.proofs.Common.{◌≡◌, ℕ, zero, suc, Bool, true, false, List, [], ◌∷◌, length, slice_get, Option, Some, None, refl, ◌∙◌, ap}
+use Rattle.std.specs.Prelude.{◌%◌, if◌then◌else◌}
+use Rattle.hd_base.specs.declared.numbers.BlockId.{BlockId}
+use Rattle.rand_pcg.specs.Pcg.{pcg32}
+use Rattle.writer_core.specs.declared.commands.Command.{Command}
+use Rattle.play_model.specs.declared.dues.Due.{Due}
+use Rattle.play_model.specs.declared.dues.Due.TheVariants as due
+use Rattle.play_model.specs.States.{PlayState, world_of}
+use Rattle.play_model.specs.Dues.{is_due, dues, after_due}
+use Rattle.play_model.specs.Draws.{drawn, happened, advanced, drawn_from, draw, draws}
+use Rattle.play_model.specs.Lines.{stepped}
+use Rattle.play_model.proofs.ListedLemmas.{listed_due}
+use Rattle.play_completeness.specs.Complete.{KeepsMembers}
+use Rattle.play_completeness.specs.Keeping.{PlayedOn}
+use Rattle.play_completeness.specs.Played.{Played}
+use Rattle.play_completeness.proofs.Keeping.{conns-keep}
+use Rattle.play_completeness.proofs.OwnFacts.{own-keeps}
+
+-- DRAWS
+
+module _ (P : PlayState → Type 0) (happens : (p : PlayState) (d : Due) → P p → is_due (world_of p) p.queues d ≡ true → P (after_due p d)) (words : (p : PlayState) → P p → P (advanced p)) where
+  happened-keeps : (p : PlayState) (o : Option Due) → ((d : Due) → o ≡ Some d → is_due (world_of p) p.queues d ≡ true) → P p → P (happened p o)
+  happened-keeps p None is h = h
+  happened-keeps p (Some d) is h = happens p d h (is d refl)
+
+  -- what is drawn is due
+  drawn-is : (blocks : List ℕ) (p : PlayState) (ds : List Due) → dues blocks p ≡ ds → (word : ℕ) (d : Due) → drawn ds word ≡ Some d → is_due (world_of p) p.queues d ≡ true
+  drawn-is blocks p ds are word d found = (listed_due blocks p (word % length ds) d (ap (λ (xs : List Due). slice_get xs (word % length ds)) are ∙ found)).is
+
+  drawn-keeps : (blocks : List ℕ) (p : PlayState) (ds : List Due) → dues blocks p ≡ ds → P p → P (drawn_from ds p)
+  drawn-keeps blocks p [] are h = h
+  drawn-keeps blocks p (d ∷ ds) are h =
+      happened-keeps (advanced p) (drawn (d ∷ ds) (pcg32 p.generator).0) (λ x found. drawn-is blocks p (d ∷ ds) are (pcg32 p.generator).0 x found) (words p h)
+
+  pub draws-keep : (blocks : List ℕ) (count : ℕ) (p : PlayState) → P p → P (draws blocks count p)
+  draws-keep blocks zero p h = h
+  draws-keep blocks (suc count) p h = draws-keep blocks count (draw blocks p) (drawn-keeps blocks p (dues blocks p) refl h)
+
+  -- a named event happens where it is due
+  pub stepped-keeps : (p : PlayState) (o : Option Due) → P p → P (stepped p o)
+  stepped-keeps p None h = h
+  stepped-keeps p (Some d) h = go (is_due (world_of p) p.queues d) refl
+    where
+      go : (q : Bool) → is_due (world_of p) p.queues d ≡ q → P (if q then after_due p d else p)
+      go true is = happens p d h is
+      go false is = h
+
+-- PLAYS
+
+-- A play stays as it should be where what is due of a writer happens, as long as each append among the commands of its
+-- block names the members of the create.
+abbrev pub OwnKeepsPlays : Type 0
+OwnKeepsPlays = (p : PlayState) (commands : ℕ → List Command) (b : BlockId) → KeepsMembers (commands b.0) → PlayedOn p commands → is_due (world_of p) p.queues (due.Own b) ≡ true → Played (after_due p (due.Own b)) commands
+
+-- whatever is due
+pub due-keeps : OwnKeepsPlays → (commands : ℕ → List Command) → ((b : ℕ) → KeepsMembers (commands b)) → (p : PlayState) (d : Due) → PlayedOn p commands → is_due (world_of p) p.queues d ≡ true → PlayedOn (after_due p d) commands
+due-keeps own commands members p (due.Own b) h is =
+    let facts = own-keeps p commands b h.played h.names h.ruled in
+    record { played = own p commands b (members b.0) h is; names = facts.0; ruled = facts.1 }
+due-keeps own commands members p (due.Down c) h is = conns-keep p commands (due.Down c) h is tt
+due-keeps own commands members p (due.Ready c) h is = conns-keep p commands (due.Ready c) h is tt
+due-keeps own commands members p (due.Up c) h is = conns-keep p commands (due.Up c) h is tt
+
+-- a word that is taken from the generator
+pub advanced-keeps : (commands : ℕ → List Command) (p : PlayState) → PlayedOn p commands → PlayedOn (advanced p) commands
+advanced-keeps commands p h = record {
+  played = record { plain = h.played.plain; quiet = h.played.quiet; peaceful = h.played.peaceful; links = h.played.links; writers = h.played.writers; blocks = h.played.blocks };
+  names = record { few = h.names.few; named = h.names.named };
+  ruled = h.ruled;
+}

@@ -1,0 +1,32 @@
+-- Connections of which nothing will ever be due.
+use Rattle.std.specs.Prelude.{◌≡◌, ◌<◌, ℕ, ◌&&◌, not, Bool, true, false, []}
+use Rattle.world.specs.Parts.{Upper, by_writer, by_member}
+use Rattle.world.specs.Worlds.{World}
+use Rattle.world.specs.Connections.{is_conn}
+use Rattle.world.specs.Events.{run}
+use Rattle.play_model.specs.declared.dues.Due.{Due}
+use Rattle.play_model.specs.Dues.{Queues, is_due, conn_dues, due_events}
+use Rattle.play_nodes.specs.Dues.{IsOrderly}
+use Rattle.play_nodes.specs.Showing.{has_events}
+
+-- The upper end takes nothing any more: the member that dialled has no further events, or the writer that did has no
+-- connection or another one.
+abbrev pub is_given_up : World → ℕ → Upper → Bool
+is_given_up w c (by_writer b) = not (is_conn (w.writers b).conn c)
+is_given_up w c (by_member d) = not (has_events w d)
+is_given_up w c other = false
+
+-- neither the lower end nor the upper end has further events
+abbrev pub is_spent : World → ℕ → Bool
+is_spent w c = not (has_events w c) && is_given_up w c (w.dialled c).upper
+
+-- Nothing is due of a connection that is spent.
+abbrev pub NothingDue : Type 0
+NothingDue = (w : World) (queues : Queues) (c : ℕ) → IsOrderly w → c < w.next_conn → is_spent w c ≡ true
+    → conn_dues w queues c ≡ []
+
+-- It stays so in whatever is due.
+abbrev pub SpentStay : Type 0
+SpentStay = (w : World) (queues : Queues) (d : Due) (c : ℕ) → IsOrderly w → is_due w queues d ≡ true →
+    c < w.next_conn → is_spent w c ≡ true
+    → is_spent (run w (due_events w queues d)) c ≡ true

@@ -1,0 +1,7 @@
+//! Tests of block recovery over files, links and roads in memory.
+#![tactic(auto)]
+
+#[cfg(test)]
+mod recovering;
+#[cfg(test)]
+mod serving;

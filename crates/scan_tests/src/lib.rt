@@ -1,0 +1,5 @@
+//! Tests of `restart_scan`.
+#![tactic(auto)]
+
+#[cfg(test)]
+mod scans;

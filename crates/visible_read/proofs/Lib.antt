@@ -1,0 +1,5 @@
+pub mod ReadLemmas
+pub mod PacketLemmas
+pub mod DrivingLaws
+pub mod ReadingLaws
+pub mod VerifiedLaws

@@ -1,0 +1,9 @@
+pub mod Sound
+pub mod Answers
+pub mod Packets
+pub mod Servings
+pub mod Driving
+pub mod Hearing
+pub mod Talking
+pub mod ReadingBack
+pub mod Laws
