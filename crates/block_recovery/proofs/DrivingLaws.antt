@@ -1,5 +1,5 @@
 -- Steps that follow one another.
-use Rattle.std.proofs.Common.{◌≡◌, ℕ, suc, ◌+◌, List, [], ◌∷◌, length, Option, None, All, inl, inr, refl, ap}
+use Rattle.std.proofs.Common.{◌≡◌, ℕ, suc, ◌+◌, List, [], ◌∷◌, length, Option, All, inl, inr, refl, ap}
 use Rattle.std.proofs.lemmas.List.Elements.{All-nil, All-cons}
 use Rattle.hd_base.specs.Channels.{Plain}
 use Rattle.hd_base.specs.declared.links.LinkIn as link_in
@@ -10,6 +10,7 @@ use Rattle.name_core.specs.declared.desks.Desk as desk
 use Rattle.recovery_core.specs.declared.primary.Recovered.{Recovered}
 use Rattle.block_recovery.specs.declared.primary.PrimaryStep.{PrimaryStep}
 use Rattle.block_recovery.specs.declared.primary.PrimaryStep.TheVariants as step
+use Rattle.block_recovery.specs.declared.links.Seat.TheVariants as seat
 use Rattle.block_recovery.specs.Dialling.{LinkIsKnown}
 use Rattle.block_recovery.specs.Driving.{Place, StepLeads, LeadsOn, Comes}
 use Rattle.block_recovery.specs.Steps.{no_links}
@@ -18,7 +19,7 @@ use Rattle.block_recovery.proofs.ActionLaws.{passes_more}
 -- where there is no connection, none is unknown
 pub none_known : {I O : Type 0} (plain : Option Plain) (nodes : List NodeId) → All (LinkIsKnown {I = I} {O = O} plain) (no_links nodes)
 none_known {I} {O} plain [] = All-nil (LinkIsKnown {I = I} {O = O} plain)
-none_known {I} {O} plain (n ∷ ns) = All-cons (LinkIsKnown {I = I} {O = O} plain) None (no_links ns) tt (none_known plain ns)
+none_known {I} {O} plain (n ∷ ns) = All-cons (LinkIsKnown {I = I} {O = O} plain) seat.Empty (no_links ns) tt (none_known plain ns)
 
 pub none_count : (I O : Type 0) (nodes : List NodeId) → length (no_links {I = I} {O = O} nodes) ≡ length nodes
 none_count I O [] = refl

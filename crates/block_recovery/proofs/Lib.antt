@@ -1,3 +1,4 @@
 pub mod ServingLaws
 pub mod ActionLaws
 pub mod DrivingLaws
+pub mod TellingLaws

@@ -1,11 +1,14 @@
 -- What a primary does with the connections to all members, in their order.
-use Rattle.std.specs.Prelude.{◌≡◌, ◌||◌, ℕ, zero, suc, ◌<◌, ◌-◌, Bool, true, false, List, length, slice_get, slice_set, Option, Some, None, Result, Ok, Err}
+use Rattle.std.specs.Prelude.{◌≡◌, ◌||◌, ℕ, zero, suc, ◌<◌, ◌-◌, Bool, true, false, List, length, slice_get, slice_set}
+use Rattle.std.specs.Prelude.{Option, Some, None, Result, Ok, Err}
 use Rattle.std.specs.declared.alloc.AllocError.{AllocError}
+use Rattle.hd_base.specs.declared.ends.Conn.{Conn}
+use Rattle.hd_base.specs.declared.ends.RoadError.{RoadError}
 use Rattle.hd_base.specs.declared.numbers.NodeId.{NodeId}
 use Rattle.hd_base.specs.declared.links.LinkIn as link_in
 use Rattle.hd_base.specs.declared.links.LinkOut as link_out
 use Rattle.hd_base.specs.declared.roads.Roads as roads
-use Rattle.link_pieces.specs.Roads.{KeepsRoads, GivesUp}
+use Rattle.link_pieces.specs.Roads.{KeepsRoads, GivesUp, BringsEnd}
 use Rattle.recovery_core.specs.declared.standings.Standing.{Standing}
 use Rattle.recovery_core.specs.Primaries.{is_among, is_awaited}
 use Rattle.block_recovery.specs.declared.actions.Found.{Found}
@@ -13,6 +16,8 @@ use Rattle.block_recovery.specs.declared.actions.Found.TheVariants as found
 use Rattle.block_recovery.specs.declared.hearing.Looked.{Looked}
 use Rattle.block_recovery.specs.declared.hearing.Looked.TheVariants as looked
 use Rattle.block_recovery.specs.declared.links.Link.{Link}
+use Rattle.block_recovery.specs.declared.links.Seat.{Seat}
+use Rattle.block_recovery.specs.declared.links.Seat.TheVariants as seat
 use Rattle.block_recovery.specs.Dialling.{Dials}
 use Rattle.block_recovery.specs.Links.{LooksAt, SendsOn}
 
@@ -29,22 +34,22 @@ pub record IsAt {L : Type 0} (rel : L → L → Type 0) (k : ℕ) (old new : Lis
   pub stands : new ≡ slice_set old k after
   pub is : rel before after
 
--- The connections, and the roads.
+-- The connections, by the members' places, and the roads.
 pub record Held (R I O : Type 0) : Type 0 where
-  pub links : List (Option (Link I O))
+  pub links : List (Seat I O)
   pub road : R
 
 -- DIALS
 
 -- The member that stands there, if one does, is dialled.
 abbrev pub DialsNode : {R I O : Type 0} → roads.Ghosts R I O → link_in.Ghosts I → link_out.Ghosts O → Option NodeId → R
-    → R → Option (Link I O) → Type 0
-DialsNode r i o None old new after = (new ≡ old) × (after ≡ None)
+    → R → Seat I O → Type 0
+DialsNode r i o None old new after = (new ≡ old) × (after ≡ seat.Empty)
 DialsNode r i o (Some node) old new after = Dials r i o node old new (Ok after)
 
 -- The end of the dial is kept, or there was no memory for it.
 abbrev pub DialsInto : {R I O : Type 0} → roads.Ghosts R I O → link_in.Ghosts I → link_out.Ghosts O → Option NodeId
-    → Option (Link I O) → Option (Link I O) → R → R → Result (Unit {0}) AllocError → Type 0
+    → Seat I O → Seat I O → R → R → Result (Unit {0}) AllocError → Type 0
 DialsInto r i o at before after old new (Ok _) = DialsNode r i o at old new after
 DialsInto r i o at before after old new (Err _) = (after ≡ before) × KeepsRoads r old new
 
@@ -62,7 +67,7 @@ DialsEnd r i o members rest count a b (Err e) = DialsAt r i o members (Err e) co
 
 -- The members were dialled in order, up to one for which there was no memory.
 pub record DialsAll {R I O : Type 0} (r : roads.Ghosts R I O) (i : link_in.Ghosts I) (o : link_out.Ghosts O)
-    (members : List NodeId) (links links' : List (Option (Link I O))) (old new : R) (result : Result (Unit {0}) AllocError)
+    (members : List NodeId) (links links' : List (Seat I O)) (old new : R) (result : Result (Unit {0}) AllocError)
     : Type 0 where
   pub count : ℕ
   pub middle : Held R I O
@@ -72,9 +77,9 @@ pub record DialsAll {R I O : Type 0} (r : roads.Ghosts R I O) (i : link_in.Ghost
 -- SENDS
 
 -- This text is sent on a connection, if it is due there and there is one.
-abbrev pub SendsIf : {I O : Type 0} → link_out.Ghosts O → List ℕ → Bool → Option (Link I O) → Option (Link I O)
+abbrev pub SendsIf : {I O : Type 0} → link_out.Ghosts O → List ℕ → Bool → Seat I O → Seat I O
     → Result (Unit {0}) AllocError → Type 0
-SendsIf o text true (Some old) (Some new) result = SendsOn o text old new result
+SendsIf o text true (seat.Open old) (seat.Open new) result = SendsOn o text old new result
 SendsIf o text due old new result = (new ≡ old) × (result ≡ Ok tt)
 
 -- the member that stands there, if one does, is a chosen one
@@ -84,20 +89,20 @@ is_due chosen (Some node) = is_among chosen node
 
 -- The member at this place is sent the text, where it is a chosen one.
 abbrev pub SendsAt : {I O : Type 0} → link_out.Ghosts O → List ℕ → List NodeId → List NodeId
-    → Result (Unit {0}) AllocError → ℕ → List (Option (Link I O)) → List (Option (Link I O)) → Type 0
+    → Result (Unit {0}) AllocError → ℕ → List (Seat I O) → List (Seat I O) → Type 0
 SendsAt o text members chosen result k old new =
     IsAt (λ before after. SendsIf o text (is_due chosen (slice_get members k)) before after result) k old new
 
 abbrev pub SendsEnd : {I O : Type 0} → link_out.Ghosts O → List ℕ → List NodeId → List NodeId → ℕ → ℕ
-    → List (Option (Link I O)) → List (Option (Link I O)) → Result (Unit {0}) AllocError → Type 0
+    → List (Seat I O) → List (Seat I O) → Result (Unit {0}) AllocError → Type 0
 SendsEnd o text members chosen rest count old new (Ok _) = (new ≡ old) × (rest ≡ 0)
 SendsEnd o text members chosen rest count old new (Err e) = SendsAt o text members chosen (Err e) count old new
 
 -- The chosen members were sent the text in order, up to one for which there was no memory.
 pub record SendsAll {I O : Type 0} (o : link_out.Ghosts O) (text : List ℕ) (members chosen : List NodeId)
-    (old new : List (Option (Link I O))) (result : Result (Unit {0}) AllocError) : Type 0 where
+    (old new : List (Seat I O)) (result : Result (Unit {0}) AllocError) : Type 0 where
   pub count : ℕ
-  pub middle : List (Option (Link I O))
+  pub middle : List (Seat I O)
   pub passes : Passes (SendsAt o text members chosen (Ok tt)) count old middle
   pub ends : SendsEnd o text members chosen (length old - count) count middle new result
 
@@ -111,12 +116,31 @@ keeps_as (Some s) = is_awaited s
 abbrev pub keeps_at : List Standing → ℕ → Bool
 keeps_at standings k = keeps_as (slice_get standings k)
 
+-- the place of an end that was to be brought back: empty where it is back, and else the end is lost
+abbrev pub place_after : {I O : Type 0} → Result (Unit {0}) RoadError → Seat I O
+place_after (Ok _) = seat.Empty
+place_after (Err _) = seat.Lost
+
+-- An end is brought back; where there is no memory for it the end is lost, and its place says so.
+pub record BringsBack {R I O : Type 0} (r : roads.Ghosts R I O) (i : link_in.Ghosts I) (o : link_out.Ghosts O)
+    (end : Conn I O) (place : Seat I O) (old new : R) : Type 0 where
+  pub result : Result (Unit {0}) RoadError
+  pub brings : BringsEnd r i o end old new result
+  pub place_is : place ≡ place_after result
+
+-- An end is shut, and then the same.
+pub record GivesBack {R I O : Type 0} (r : roads.Ghosts R I O) (i : link_in.Ghosts I) (o : link_out.Ghosts O)
+    (end : Conn I O) (place : Seat I O) (old new : R) : Type 0 where
+  pub gives : GivesUp r i o end old new
+  pub place_is : place ≡ place_after gives.result
+
 -- A connection is kept, or given up, if there is one.
 abbrev pub Settles : {R I O : Type 0} → roads.Ghosts R I O → link_in.Ghosts I → link_out.Ghosts O → Bool
-    → Option (Link I O) → Option (Link I O) → R → R → Type 0
+    → Seat I O → Seat I O → R → R → Type 0
 Settles r i o true link link' old new = (link' ≡ link) × (new ≡ old)
-Settles r i o false None link' old new = (link' ≡ None) × (new ≡ old)
-Settles r i o false (Some l) link' old new = (link' ≡ None) × GivesUp r i o l.end old new
+Settles r i o false seat.Empty link' old new = (link' ≡ seat.Empty) × (new ≡ old)
+Settles r i o false seat.Lost link' old new = (link' ≡ seat.Lost) × (new ≡ old)
+Settles r i o false (seat.Open l) link' old new = GivesBack r i o l.end link' old new
 
 -- The connection to the member at this place is kept where an answer is awaited, and else given up.
 abbrev pub SettlesAt : {R I O : Type 0} → roads.Ghosts R I O → link_in.Ghosts I → link_out.Ghosts O → List Standing
@@ -126,7 +150,7 @@ SettlesAt r i o standings k a b =
 
 -- Each connection is.
 abbrev pub SettlesAll : {R I O : Type 0} → roads.Ghosts R I O → link_in.Ghosts I → link_out.Ghosts O → List Standing
-    → List (Option (Link I O)) → List (Option (Link I O)) → R → R → Type 0
+    → List (Seat I O) → List (Seat I O) → R → R → Type 0
 SettlesAll r i o standings links links' old new = Passes (SettlesAt r i o standings) (length links)
     (record { links = links; road = old }) (record { links = links'; road = new })
 
@@ -137,33 +161,35 @@ abbrev pub PollsLink : {I O : Type 0} → link_in.Ghosts I → Bool → Link I O
 PollsLink i true old new result = LooksAt i old new result
 PollsLink i false old new result = (new ≡ old) × (result ≡ looked.Nothing)
 
-abbrev pub Polls : {I O : Type 0} → link_in.Ghosts I → Bool → Option (Link I O) → Option (Link I O) → Looked → Type 0
-Polls i awaited (Some old) (Some new) result = PollsLink i (awaited || old.asked) old new result
-Polls i awaited None None result = result ≡ looked.Nothing
+abbrev pub Polls : {I O : Type 0} → link_in.Ghosts I → Bool → Seat I O → Seat I O → Looked → Type 0
+Polls i awaited (seat.Open old) (seat.Open new) result = PollsLink i (awaited || old.asked) old new result
+Polls i awaited seat.Empty seat.Empty result = result ≡ looked.Nothing
+Polls i awaited seat.Lost seat.Lost result = result ≡ looked.Nothing
 Polls i awaited old new result = ⊥
 
-abbrev pub PollsAt : {I O : Type 0} → link_in.Ghosts I → Option Standing → Option (Link I O) → Option (Link I O)
+abbrev pub PollsAt : {I O : Type 0} → link_in.Ghosts I → Option Standing → Seat I O → Seat I O
     → Looked → Type 0
 PollsAt i None old new result = (new ≡ old) × (result ≡ looked.Nothing)
 PollsAt i (Some s) old new result = Polls i (is_awaited s) old new result
 
 -- The connection to the member at this place is looked at.
-abbrev pub PollsPlace : {I O : Type 0} → link_in.Ghosts I → List Standing → Looked → ℕ → List (Option (Link I O))
-    → List (Option (Link I O)) → Type 0
-PollsPlace i standings result k old new = IsAt (λ before after. PollsAt i (slice_get standings k) before after result) k old new
+abbrev pub PollsPlace : {I O : Type 0} → link_in.Ghosts I → List Standing → Looked → ℕ → List (Seat I O)
+    → List (Seat I O) → Type 0
+PollsPlace i standings result k old new =
+    IsAt (λ before after. PollsAt i (slice_get standings k) before after result) k old new
 
 -- How the looks end: the first that is there is taken, or nothing is at any.
-abbrev pub PollsEnd : {I O : Type 0} → link_in.Ghosts I → List Standing → ℕ → ℕ → List (Option (Link I O))
-    → List (Option (Link I O)) → Found → Type 0
+abbrev pub PollsEnd : {I O : Type 0} → link_in.Ghosts I → List Standing → ℕ → ℕ → List (Seat I O)
+    → List (Seat I O) → Found → Type 0
 PollsEnd i standings rest count old new (found.Heard place h) = (place ≡ count)
     × PollsPlace i standings (looked.Heard h) count old new
 PollsEnd i standings rest count old new found.Nothing = (new ≡ old) × (rest ≡ 0)
 PollsEnd i standings rest count old new found.Memory = PollsPlace i standings looked.Memory count old new
 
 pub record PollsAll {I O : Type 0} (i : link_in.Ghosts I) (standings : List Standing)
-    (old new : List (Option (Link I O))) (result : Found) : Type 0 where
+    (old new : List (Seat I O)) (result : Found) : Type 0 where
   pub count : ℕ
-  pub middle : List (Option (Link I O))
+  pub middle : List (Seat I O)
   pub quiet : Passes (PollsPlace i standings looked.Nothing) count old middle
   pub ends : PollsEnd i standings (length old - count) count middle new result
 

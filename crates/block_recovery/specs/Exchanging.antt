@@ -1,13 +1,15 @@
 -- What an exchange, and giving back, make of the connections of a primary and of the roads.
-use Rattle.std.specs.Prelude.{◌≡◌, ◌||◌, ◌-◌, ℕ, List, length, Option, Some, None, Result, Ok, Err}
+use Rattle.std.specs.Prelude.{◌≡◌, ◌||◌, ◌-◌, ℕ, List, length, Option, Result, Ok, Err}
 use Rattle.hd_base.specs.declared.ends.RoadError.{RoadError}
 use Rattle.hd_base.specs.declared.numbers.ConnId.{ConnId}
 use Rattle.hd_base.specs.declared.links.LinkIn as link_in
 use Rattle.hd_base.specs.declared.links.LinkOut as link_out
 use Rattle.hd_base.specs.declared.roads.Roads as roads
-use Rattle.link_pieces.specs.Roads.{names, ExchangesEnd, BringsEnd}
+use Rattle.link_pieces.specs.Roads.{names, ExchangesEnd}
 use Rattle.block_recovery.specs.declared.links.Link.{Link}
-use Rattle.block_recovery.specs.Actions.{Held, IsAt, Passes}
+use Rattle.block_recovery.specs.declared.links.Seat.{Seat}
+use Rattle.block_recovery.specs.declared.links.Seat.TheVariants as seat
+use Rattle.block_recovery.specs.Actions.{Held, IsAt, Passes, BringsBack}
 
 -- Its end is exchanged, and what was heard on it stays.
 pub record Exchanges {R I O : Type 0} (r : roads.Ghosts R I O) (i : link_in.Ghosts I) (o : link_out.Ghosts O)
@@ -20,9 +22,10 @@ pub record Exchanges {R I O : Type 0} (r : roads.Ghosts R I O) (i : link_in.Ghos
 
 -- The same, if there is one.
 abbrev pub ExchangesLink : {R I O : Type 0} → roads.Ghosts R I O → link_in.Ghosts I → link_out.Ghosts O
-    → Option ConnId → Option (Link I O) → Option (Link I O) → R → R → Result (Unit {0}) RoadError → Type 0
-ExchangesLink r i o take None None old new result = (new ≡ old) × (result ≡ Ok tt)
-ExchangesLink r i o take (Some l) (Some l') old new result = Exchanges r i o take l l' old new result
+    → Option ConnId → Seat I O → Seat I O → R → R → Result (Unit {0}) RoadError → Type 0
+ExchangesLink r i o take seat.Empty seat.Empty old new result = (new ≡ old) × (result ≡ Ok tt)
+ExchangesLink r i o take seat.Lost seat.Lost old new result = (new ≡ old) × (result ≡ Ok tt)
+ExchangesLink r i o take (seat.Open l) (seat.Open l') old new result = Exchanges r i o take l l' old new result
 ExchangesLink r i o take link link' old new result = ⊥
 
 abbrev pub ExchangesAt : {R I O : Type 0} → roads.Ghosts R I O → link_in.Ghosts I → link_out.Ghosts O → Option ConnId
@@ -37,35 +40,27 @@ ExchangesEnded r i o take rest count a b (Err e) = ExchangesAt r i o take (Err e
 
 -- The connections are exchanged in order, up to one for which the roads fail.
 pub record ExchangesAll {R I O : Type 0} (r : roads.Ghosts R I O) (i : link_in.Ghosts I) (o : link_out.Ghosts O)
-    (take : Option ConnId) (links links' : List (Option (Link I O))) (old new : R) (result : Result (Unit {0}) RoadError)
+    (take : Option ConnId) (links links' : List (Seat I O)) (old new : R) (result : Result (Unit {0}) RoadError)
     : Type 0 where
   pub count : ℕ
   pub middle : Held R I O
   pub passes : Passes (ExchangesAt r i o take (Ok tt)) count (record { links = links; road = old }) middle
-  pub ends : ExchangesEnded r i o take (length links - count) count middle (record { links = links'; road = new }) result
+  pub ends : ExchangesEnded r i o take (length links - count) count middle (record { links = links'; road = new })
+      result
 
 -- A connection is brought back, if there is one.
 abbrev pub BringsLink : {R I O : Type 0} → roads.Ghosts R I O → link_in.Ghosts I → link_out.Ghosts O
-    → Option (Link I O) → Option (Link I O) → R → R → Result (Unit {0}) RoadError → Type 0
-BringsLink r i o None link' old new result = (link' ≡ None) × (new ≡ old) × (result ≡ Ok tt)
-BringsLink r i o (Some l) link' old new result = (link' ≡ None) × BringsEnd r i o l.end old new result
+    → Seat I O → Seat I O → R → R → Type 0
+BringsLink r i o seat.Empty link' old new = (link' ≡ seat.Empty) × (new ≡ old)
+BringsLink r i o seat.Lost link' old new = (link' ≡ seat.Lost) × (new ≡ old)
+BringsLink r i o (seat.Open l) link' old new = BringsBack r i o l.end link' old new
 
 abbrev pub BringsAt : {R I O : Type 0} → roads.Ghosts R I O → link_in.Ghosts I → link_out.Ghosts O
-    → Result (Unit {0}) RoadError → ℕ → Held R I O → Held R I O → Type 0
-BringsAt r i o result k a b =
-    IsAt (λ before after. BringsLink r i o before after a.road b.road result) k a.links b.links
+    → ℕ → Held R I O → Held R I O → Type 0
+BringsAt r i o k a b = IsAt (λ before after. BringsLink r i o before after a.road b.road) k a.links b.links
 
-abbrev pub BringsEnded : {R I O : Type 0} → roads.Ghosts R I O → link_in.Ghosts I → link_out.Ghosts O → ℕ → ℕ
-    → Held R I O → Held R I O → Result (Unit {0}) RoadError → Type 0
-BringsEnded r i o rest count a b (Ok _) = (b ≡ a) × (rest ≡ 0)
-BringsEnded r i o rest count a b (Err e) = BringsAt r i o (Err e) count a b
-
--- The connections are brought back in order, up to one for which there is no memory.
-pub record BringsAll {R I O : Type 0} (r : roads.Ghosts R I O) (i : link_in.Ghosts I) (o : link_out.Ghosts O)
-    (links : List (Option (Link I O))) (old new : R) (result : Result (Unit {0}) RoadError) : Type 0 where
-  pub count : ℕ
-  pub middle : Held R I O
-  pub last : Held R I O
-  pub passes : Passes (BringsAt r i o (Ok tt)) count (record { links = links; road = old }) middle
-  pub ends : BringsEnded r i o (length links - count) count middle last result
-  pub roads : last.road ≡ new
+-- The connections are brought back in order, each that there is.
+abbrev pub BringsAll : {R I O : Type 0} → roads.Ghosts R I O → link_in.Ghosts I → link_out.Ghosts O
+    → List (Seat I O) → List (Seat I O) → R → R → Type 0
+BringsAll r i o links links' old new = Passes (BringsAt r i o) (length links)
+    (record { links = links; road = old }) (record { links = links'; road = new })

@@ -7,3 +7,5 @@ pub mod Requests
 pub mod Steps
 pub mod Driving
 pub mod Exchanging
+pub mod Taking
+pub mod Telling

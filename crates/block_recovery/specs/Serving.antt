@@ -31,11 +31,12 @@ abbrev pub IsBooked : {F : Type 0} → files.Ghosts F → BookState F → BookSt
 IsBooked f old new e receipt = BookEnds f old new e (Ok receipt)
     ⊎ ((why : Refusal) × BookEnds f old new e (Err (fault.Refused why receipt)))
 
--- How a step is served that is booked: it is answered as the replica answers it; or a call on the files failed, which is answered with the number of that fault; or memory ran out, and nothing is booked.
+-- How a step is served that is booked: it is answered as the replica answers it; or a call on the files failed, which
+-- is answered with the number of that fault; or memory ran out, and nothing is booked.
 abbrev pub ServesEvent : {F : Type 0} → files.Ghosts F → ReplicaEvent → BookState F → BookState F → RecoveryServed
     → Type 0
-ServesEvent f e old new (served.Answered answer receipt) = (answer ≡ answer_of (reply_to (row_answer (replica_of old) e)))
-    × IsBooked f old new e receipt
+ServesEvent f e old new (served.Answered answer receipt) =
+    (answer ≡ answer_of (reply_to (row_answer (replica_of old) e))) × IsBooked f old new e receipt
 ServesEvent f e old new (served.File answer receipt) = (answer ≡ answer_of (reply.Refused refusal.File))
     × BookEnds f old new e (Err (fault.File receipt))
 ServesEvent f e old new (served.Unbooked answer) = ⊥
@@ -52,6 +53,7 @@ abbrev pub ServesAs : {F : Type 0} → files.Ghosts F → Result Event RecoveryR
 ServesAs f (Ok e) old new result = ServesEvent f (replica_event.Other e) old new result
 ServesAs f (Err said) old new result = (new ≡ old) × AnswersUnbooked said result
 
--- How a step of a block recovery is served, by the event that it is at the replica, or how it is answered where nothing is booked.
+-- How a step of a block recovery is served, by the event that it is at the replica, or how it is answered where nothing
+-- is booked.
 abbrev pub Serves : {F : Type 0} → files.Ghosts F → RecoveryOp → BookState F → BookState F → RecoveryServed → Type 0
 Serves f op old new result = ServesAs f (recovery_event op) old new result

@@ -1,5 +1,5 @@
 -- A primary, step by step.
-use Rattle.std.specs.Prelude.{◌≡◌, ◌⊎◌, ℕ, not, List, [], Option, Some, None, is_some, map, option_map, IfOk, Result, Ok, Err}
+use Rattle.std.specs.Prelude.{◌≡◌, ◌⊎◌, ℕ, not, List, [], Option, Some, None, map, option_map, IfOk, Result, Ok, Err}
 use Rattle.std.specs.declared.alloc.AllocError.{AllocError}
 use Rattle.hd_base.specs.declared.numbers.BlockId.{BlockId}
 use Rattle.hd_base.specs.declared.numbers.NodeId.{NodeId}
@@ -22,19 +22,23 @@ use Rattle.recovery_core.specs.declared.primary.OwnStep.TheVariants as own
 use Rattle.recovery_core.specs.declared.primary.Recovered.{Recovered}
 use Rattle.recovery_core.specs.declared.primary.Recovered.TheVariants as recovered
 use Rattle.recovery_core.specs.declared.standings.Heard.{Heard}
-use Rattle.recovery_core.specs.Primaries.{PrimaryState, begun_with, heard_at, shuts_at, own_step, request_of, sync_call, office_refused, end_with}
+use Rattle.recovery_core.specs.Primaries.{PrimaryState, begun_with, heard_at, shuts_at, own_step, request_of, sync_call}
+use Rattle.recovery_core.specs.Primaries.{office_refused, end_with}
 use Rattle.block_recovery.specs.declared.actions.Found.{Found}
 use Rattle.block_recovery.specs.declared.actions.Found.TheVariants as found
 use Rattle.block_recovery.specs.declared.links.Link.{Link}
+use Rattle.block_recovery.specs.declared.links.Seat.{Seat}
+use Rattle.block_recovery.specs.declared.links.Seat.TheVariants as seat
 use Rattle.block_recovery.specs.declared.primary.Primary.{Primary}
 use Rattle.block_recovery.specs.declared.primary.PrimaryStep.{PrimaryStep}
 use Rattle.block_recovery.specs.declared.primary.PrimaryStep.TheVariants as step
 use Rattle.block_recovery.specs.Actions.{Held, IsAt, DialsAll, Settles, SettlesAll, PollsAll}
+use Rattle.block_recovery.specs.Dialling.{is_open}
 use Rattle.block_recovery.specs.Requests.{SendsRequest}
 
 -- no connection to any of these
-abbrev pub no_links : {I O : Type 0} → List NodeId → List (Option (Link I O))
-no_links nodes = map (λ _. None) nodes
+abbrev pub no_links : {I O : Type 0} → List NodeId → List (Seat I O)
+no_links nodes = map (λ _. seat.Empty) nodes
 
 -- A primary that has done nothing.
 pub record IsNew {I O : Type 0} (block : BlockId) (members : List NodeId) (p : Primary I O) : Type 0 where
@@ -56,12 +60,12 @@ pub record AsksOffice {D : Type 0} (d : desk.Ghosts D) (c : OfficeCall) (old new
 
 -- The recovery ends so, and all connections are given up.
 abbrev pub EndsSo : {R I O : Type 0} → roads.Ghosts R I O → link_in.Ghosts I → link_out.Ghosts O → Recovered
-    → List (Option (Link I O)) → List (Option (Link I O)) → R → R → PrimaryStep → Type 0
+    → List (Seat I O) → List (Seat I O) → R → R → PrimaryStep → Type 0
 EndsSo r i o end links links' old new result = SettlesAll r i o [] links links' old new × (result ≡ step.Ended end)
 
 -- Memory ran out in its first step, and all connections that there are then are given up.
 pub record GivesAllUp {R I O : Type 0} (r : roads.Ghosts R I O) (i : link_in.Ghosts I) (o : link_out.Ghosts O)
-    (links' : List (Option (Link I O))) (new : R) : Type 0 where
+    (links' : List (Seat I O)) (new : R) : Type 0 where
   pub held : Held R I O
   pub settles : SettlesAll r i o [] held.links links' held.road new
 
@@ -69,15 +73,15 @@ pub record GivesAllUp {R I O : Type 0} (r : roads.Ghosts R I O) (i : link_in.Gho
 
 -- Each member was dialled, and those that answered were sent the INIT.
 pub record Reaches {R I O : Type 0} (r : roads.Ghosts R I O) (i : link_in.Ghosts I) (o : link_out.Ghosts O)
-    (block : BlockId) (begun : Begun) (members : List NodeId) (links links' : List (Option (Link I O))) (old new : R)
+    (block : BlockId) (begun : Begun) (members : List NodeId) (links links' : List (Seat I O)) (old new : R)
     (core : PrimaryState) : Type 0 where
-  pub held : List (Option (Link I O))
+  pub held : List (Seat I O)
   pub dials : DialsAll r i o members links held old new (Ok tt)
-  pub begins : core ≡ begun_with block begun members (map is_some held)
+  pub begins : core ≡ begun_with block begun members (map is_open held)
   pub sends : SendsRequest o (op.Recovery (request_of core kind.Init 0)) members members held links' (Ok tt)
 
 abbrev pub BeginsWith : {R I O : Type 0} → roads.Ghosts R I O → link_in.Ghosts I → link_out.Ghosts O → BlockId → Begun
-    → List NodeId → List (Option (Link I O)) → List (Option (Link I O)) → R → R → Result PrimaryState Recovered → Type 0
+    → List NodeId → List (Seat I O) → List (Seat I O) → R → R → Result PrimaryState Recovered → Type 0
 BeginsWith r i o block begun members links links' old new (Ok core) =
     Reaches r i o block begun members links links' old new core
 BeginsWith r i o block begun members links links' old new (Err end) =
@@ -85,7 +89,7 @@ BeginsWith r i o block begun members links links' old new (Err end) =
 
 -- What the office's answer leads to: the recovery begins, or ends by the refusal.
 abbrev pub BeginsAs : {R I O : Type 0} → roads.Ghosts R I O → link_in.Ghosts I → link_out.Ghosts O
-    → Result OfficeAnswer OfficeFault → BlockId → List NodeId → List (Option (Link I O)) → List (Option (Link I O))
+    → Result OfficeAnswer OfficeFault → BlockId → List NodeId → List (Seat I O) → List (Seat I O)
     → R → R → Result PrimaryState Recovered → Type 0
 BeginsAs r i o (Ok (answer.Begun begun)) block members links links' old new result =
     BeginsWith r i o block begun members links links' old new result
@@ -95,7 +99,7 @@ BeginsAs r i o (Err fault) block members links links' old new result =
 
 -- The office is asked to begin.
 pub record Begins {D R I O : Type 0} (d : desk.Ghosts D) (r : roads.Ghosts R I O) (i : link_in.Ghosts I)
-    (o : link_out.Ghosts O) (block : BlockId) (members : List NodeId) (links links' : List (Option (Link I O)))
+    (o : link_out.Ghosts O) (block : BlockId) (members : List NodeId) (links links' : List (Seat I O))
     (office office' : D) (old new : R) (result : Result PrimaryState Recovered) : Type 0 where
   pub said : Result OfficeAnswer OfficeFault
   pub asks : AsksOffice d (call.BeginRecovery block) office office' said
@@ -105,7 +109,7 @@ pub record Begins {D R I O : Type 0} (d : desk.Ghosts D) (r : roads.Ghosts R I O
 
 -- This is taken from the member at this place, whose connection is given up behind the answer to the UPDATE.
 pub record Hears {R I O : Type 0} (r : roads.Ghosts R I O) (i : link_in.Ghosts I) (o : link_out.Ghosts O)
-    (core core' : PrimaryState) (place : ℕ) (h : Heard) (links links' : List (Option (Link I O))) (old new : R)
+    (core core' : PrimaryState) (place : ℕ) (h : Heard) (links links' : List (Seat I O)) (old new : R)
     : Type 0 where
   pub hears : core' ≡ heard_at core place h
   pub settles : IsAt (λ before after. Settles r i o (not (shuts_at core place)) before after old new) place links links'
@@ -113,16 +117,16 @@ pub record Hears {R I O : Type 0} (r : roads.Ghosts R I O) (i : link_in.Ghosts I
 -- ITS FURTHER STEPS
 
 abbrev pub UpdatesEnd : {R I O : Type 0} → roads.Ghosts R I O → link_in.Ghosts I → link_out.Ghosts O → PrimaryState
-    → List (Option (Link I O)) → List (Option (Link I O)) → R → R → Result (Unit {0}) AllocError → PrimaryStep → Type 0
+    → List (Seat I O) → List (Seat I O) → R → R → Result (Unit {0}) AllocError → PrimaryStep → Type 0
 UpdatesEnd r i o core links links' old new (Ok _) result =
     SettlesAll r i o core.standings links links' old new × (result ≡ step.Moved)
 UpdatesEnd r i o core links links' old new (Err _) result = EndsSo r i o recovered.Memory links links' old new result
 
 -- The chosen members are sent the UPDATE, and the connections are given up on which no answer is awaited then.
 pub record Updates {R I O : Type 0} (r : roads.Ghosts R I O) (i : link_in.Ghosts I) (o : link_out.Ghosts O)
-    (core : PrimaryState) (chosen : Chosen) (members : List NodeId) (links links' : List (Option (Link I O)))
+    (core : PrimaryState) (chosen : Chosen) (members : List NodeId) (links links' : List (Seat I O))
     (old new : R) (result : PrimaryStep) : Type 0 where
-  pub held : List (Option (Link I O))
+  pub held : List (Seat I O)
   pub sending : Result (Unit {0}) AllocError
   pub sends : SendsRequest o (op.Recovery (request_of core kind.Update chosen.length)) members chosen.members links held
       sending
@@ -130,14 +134,14 @@ pub record Updates {R I O : Type 0} (r : roads.Ghosts R I O) (i : link_in.Ghosts
 
 -- The office is asked to commit, and the recovery ends by its answer.
 pub record Commits {D R I O : Type 0} (d : desk.Ghosts D) (r : roads.Ghosts R I O) (i : link_in.Ghosts I)
-    (o : link_out.Ghosts O) (core : PrimaryState) (chosen : Chosen) (links links' : List (Option (Link I O)))
+    (o : link_out.Ghosts O) (core : PrimaryState) (chosen : Chosen) (links links' : List (Seat I O))
     (office office' : D) (old new : R) (result : PrimaryStep) : Type 0 where
   pub said : Result OfficeAnswer OfficeFault
   pub asks : AsksOffice d (sync_call core chosen) office office' said
   pub ends : EndsSo r i o (end_with core chosen said) links links' old new result
 
 -- Nothing is done.
-pub record IsIdle {D R I O : Type 0} (links links' : List (Option (Link I O))) (office office' : D) (old new : R)
+pub record IsIdle {D R I O : Type 0} (links links' : List (Seat I O)) (office office' : D) (old new : R)
     (result : PrimaryStep) : Type 0 where
   pub links_same : links' ≡ links
   pub office_same : office' ≡ office
@@ -145,7 +149,7 @@ pub record IsIdle {D R I O : Type 0} (links links' : List (Option (Link I O))) (
   pub waits : result ≡ step.Waiting
 
 abbrev pub OwnsBy : {D R I O : Type 0} → desk.Ghosts D → roads.Ghosts R I O → link_in.Ghosts I → link_out.Ghosts O
-    → OwnStep → PrimaryState → List NodeId → List (Option (Link I O)) → List (Option (Link I O)) → D → D → R → R
+    → OwnStep → PrimaryState → List NodeId → List (Seat I O) → List (Seat I O) → D → D → R → R
     → PrimaryStep → Type 0
 OwnsBy d r i o own.Waits core members links links' office office' old new result =
     IsIdle links links' office office' old new result
@@ -158,7 +162,7 @@ OwnsBy d r i o (own.Ends end) core members links links' office office' old new r
 
 -- Memory ran out before anything was done.
 pub record EndsUndone {D R I O : Type 0} (r : roads.Ghosts R I O) (i : link_in.Ghosts I) (o : link_out.Ghosts O)
-    (core core' : PrimaryState) (links links' : List (Option (Link I O))) (office office' : D) (old new : R)
+    (core core' : PrimaryState) (links links' : List (Seat I O)) (office office' : D) (old new : R)
     (result : PrimaryStep) : Type 0 where
   pub core_same : core' ≡ core
   pub office_same : office' ≡ office
@@ -166,13 +170,13 @@ pub record EndsUndone {D R I O : Type 0} (r : roads.Ghosts R I O) (i : link_in.G
 
 -- Its own step is done.
 pub record OwnsSo {D R I O : Type 0} (d : desk.Ghosts D) (r : roads.Ghosts R I O) (i : link_in.Ghosts I)
-    (o : link_out.Ghosts O) (core core' : PrimaryState) (members : List NodeId) (links links' : List (Option (Link I O)))
+    (o : link_out.Ghosts O) (core core' : PrimaryState) (members : List NodeId) (links links' : List (Seat I O))
     (office office' : D) (old new : R) (result : PrimaryStep) : Type 0 where
   pub core_after : core' ≡ (own_step core).primary
   pub does : OwnsBy d r i o (own_step core).does core' members links links' office office' old new result
 
 abbrev pub Owns : {D R I O : Type 0} → desk.Ghosts D → roads.Ghosts R I O → link_in.Ghosts I → link_out.Ghosts O
-    → PrimaryState → PrimaryState → List NodeId → List (Option (Link I O)) → List (Option (Link I O)) → D → D → R → R
+    → PrimaryState → PrimaryState → List NodeId → List (Seat I O) → List (Seat I O) → D → D → R → R
     → PrimaryStep → Type 0
 Owns d r i o core core' members links links' office office' old new result =
     EndsUndone r i o core core' links links' office office' old new result
@@ -180,7 +184,7 @@ Owns d r i o core core' members links links' office office' old new result =
 
 -- What follows the looks: what was found is taken, or its own step is done where nothing was.
 abbrev pub LeadsBy : {D R I O : Type 0} → desk.Ghosts D → roads.Ghosts R I O → link_in.Ghosts I → link_out.Ghosts O
-    → Found → PrimaryState → PrimaryState → List NodeId → List (Option (Link I O)) → List (Option (Link I O)) → D → D
+    → Found → PrimaryState → PrimaryState → List NodeId → List (Seat I O) → List (Seat I O) → D → D
     → R → R → PrimaryStep → Type 0
 LeadsBy d r i o (found.Heard place h) core core' members links links' office office' old new result =
     Hears r i o core core' place h links links' old new × (office' ≡ office) × (result ≡ step.Moved)
@@ -191,10 +195,10 @@ LeadsBy d r i o found.Memory core core' members links links' office office' old 
 
 -- A step of a primary that has begun.
 pub record Leads {D R I O : Type 0} (d : desk.Ghosts D) (r : roads.Ghosts R I O) (i : link_in.Ghosts I)
-    (o : link_out.Ghosts O) (core core' : PrimaryState) (members : List NodeId) (links links' : List (Option (Link I O)))
+    (o : link_out.Ghosts O) (core core' : PrimaryState) (members : List NodeId) (links links' : List (Seat I O))
     (office office' : D) (old new : R) (result : PrimaryStep) : Type 0 where
   pub looked : Found
-  pub seen : List (Option (Link I O))
+  pub seen : List (Seat I O)
   pub polls : PollsAll i core.standings links seen looked
   pub leads : LeadsBy d r i o looked core core' members seen links' office office' old new result
 
@@ -210,11 +214,12 @@ core_of (Err end) = None
 
 -- Its first step.
 pub record BeginsSo {D R I O : Type 0} (d : desk.Ghosts D) (r : roads.Ghosts R I O) (i : link_in.Ghosts I)
-    (o : link_out.Ghosts O) (p p' : Primary I O) (office office' : D) (old new : R) (result : PrimaryStep) : Type 0 where
-  pub begun : Result PrimaryState Recovered
-  pub begins : Begins d r i o p.block p.members p.links.items p'.links.items office office' old new begun
-  pub core : p'.core ≡ core_of begun
-  pub is : result ≡ begun_as begun
+    (o : link_out.Ghosts O) (p p' : Primary I O) (office office' : D) (old new : R) (result : PrimaryStep) : Type 0
+  where
+    pub begun : Result PrimaryState Recovered
+    pub begins : Begins d r i o p.block p.members p.links.items p'.links.items office office' old new begun
+    pub core : p'.core ≡ core_of begun
+    pub is : result ≡ begun_as begun
 
 abbrev pub StepsAs : {D R I O : Type 0} → desk.Ghosts D → roads.Ghosts R I O → link_in.Ghosts I → link_out.Ghosts O
     → Option PrimaryState → Option PrimaryState → Primary I O → Primary I O → D → D → R → R → PrimaryStep → Type 0

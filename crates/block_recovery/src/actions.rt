@@ -1,6 +1,8 @@
 //! What a primary does with the connections to all members.
 
-ghost use Rattle.std.specs.Prelude.{◌≡◌, ◌||◌, length, All, slice_get};
+ghost use Rattle.std.specs.Prelude.{◌≡◌, ◌||◌, length, All, Option, slice_get};
+ghost use Rattle.hd_base.specs.Channels.{Plain};
+ghost use Rattle.hd_base.specs.Ends.{IsKnown};
 ghost use Rattle.block_recovery.specs.Dialling.{LinkIsKnown, KeepsKnown, SameEnd, KeepsEnds};
 ghost use Rattle.block_recovery.specs.Actions.{
   DialsInto,
@@ -9,6 +11,9 @@ ghost use Rattle.block_recovery.specs.Actions.{
   SendsIf,
   SendsAll,
   keeps_at,
+  place_after,
+  BringsBack,
+  GivesBack,
   Settles,
   SettlesAll,
   Polls,
@@ -20,11 +25,11 @@ ghost use Rattle.block_recovery.specs.Actions.{
 
 use crate::dialling::dial;
 use crate::hearing::Looked;
-use crate::links::Link;
-use hd_base::{LinkIn, LinkOut, Members, Roads};
-use link_pieces::give_up;
+use crate::links::{Link, Seat};
+use hd_base::{Conn, LinkIn, LinkOut, Members, RoadError, Roads};
 use recovery_core::{Heard, Standing, is_among};
 use std::alloc::{AllocError, Global};
+use std::mem;
 
 /// What was found on the connections to all members.
 #[derive(Debug, Drop)]
@@ -41,12 +46,12 @@ pub(crate) enum Found {
 pub(crate) fn dial_all<R: Roads>(
     alloc: Global,
     members: &Members,
-    links: &mut [Option<Link<R::Inward, R::Outward>>],
+    links: &mut [Seat<R::Inward, R::Outward>],
     roads: &mut R,
 ) -> Result<(), AllocError>
     requires { All (LinkIsKnown (R.plain roads.old)) links.old }
-    ensures dials { DialsAll R.Roads R.Inward.LinkIn R.Outward.LinkOut members.now links.old links.new roads.old roads.new
-        result }
+    ensures dials { DialsAll R.Roads R.Inward.LinkIn R.Outward.LinkOut members.now links.old links.new
+        roads.old roads.new result }
     ensures known { All (LinkIsKnown (R.plain roads.new)) links.new }
     ensures count { length links.new ≡ length links.old }
 {
@@ -63,7 +68,7 @@ fn dial_into<R: Roads>(
     alloc: Global,
     members: &Members,
     place: usize,
-    link: &mut Option<Link<R::Inward, R::Outward>>,
+    link: &mut Seat<R::Inward, R::Outward>,
     roads: &mut R,
 ) -> Result<(), AllocError>
     requires { LinkIsKnown (R.plain roads.old) link.old }
@@ -73,7 +78,7 @@ fn dial_into<R: Roads>(
     ensures kept { KeepsKnown (R.plain roads.old) (R.plain roads.new) }
 {
     let Some(node) = members.as_slice().get(place) else {
-        *link = None;
+        *link = Seat::Empty;
         return Ok(());
     };
     *link = dial(alloc, *node, roads)?;
@@ -86,7 +91,7 @@ pub(crate) fn send_all<I: Drop, O: LinkOut>(
     text: &[u8],
     members: &Members,
     chosen: &Members,
-    links: &mut [Option<Link<I, O>>],
+    links: &mut [Seat<I, O>],
 ) -> Result<(), AllocError>
     ensures sends { SendsAll O.LinkOut text.now members.now chosen.now links.old links.new result }
     ensures count { length links.new ≡ length links.old }
@@ -116,7 +121,7 @@ fn send_if<I: Drop, O: LinkOut>(
     alloc: Global,
     text: &[u8],
     due: bool,
-    link: &mut Option<Link<I, O>>,
+    link: &mut Seat<I, O>,
 ) -> Result<(), AllocError>
     ensures sends { SendsIf O.LinkOut text.now due link.old link.new result }
     ensures same { SameEnd link.old link.new }
@@ -125,8 +130,8 @@ fn send_if<I: Drop, O: LinkOut>(
         return Ok(());
     }
     match link {
-        Some(link) => link.send(alloc, text),
-        None => Ok(()),
+        Seat::Open(link) => link.send(alloc, text),
+        Seat::Empty | Seat::Lost => Ok(()),
     }
 }
 
@@ -134,7 +139,7 @@ fn send_if<I: Drop, O: LinkOut>(
 pub(crate) fn settle<R: Roads>(
     alloc: Global,
     standings: &[Standing],
-    links: &mut [Option<Link<R::Inward, R::Outward>>],
+    links: &mut [Seat<R::Inward, R::Outward>],
     roads: &mut R,
 )
     requires { All (LinkIsKnown (R.plain roads.old)) links.old }
@@ -159,11 +164,11 @@ fn keeps_at(standings: &[Standing], place: usize) -> bool
     }
 }
 
-/// Gives up a connection, unless it is kept: shuts it, and brings its end back.
+/// Gives up a connection, unless it is kept.
 pub(crate) fn settle_link<R: Roads>(
     alloc: Global,
     keeps: bool,
-    link: &mut Option<Link<R::Inward, R::Outward>>,
+    link: &mut Seat<R::Inward, R::Outward>,
     roads: &mut R,
 )
     requires { LinkIsKnown (R.plain roads.old) link.old }
@@ -174,8 +179,52 @@ pub(crate) fn settle_link<R: Roads>(
     if keeps {
         return;
     }
-    if let Some(link) = link.take() {
-        give_up(alloc, roads, link.end);
+    *link = match mem::replace(link, Seat::Empty) {
+        Seat::Open(link) => give_back(alloc, roads, link.end),
+        Seat::Lost => Seat::Lost,
+        Seat::Empty => Seat::Empty,
+    };
+}
+
+/// Shuts an end and brings it back, and says what its place is then.
+fn give_back<R: Roads>(
+    alloc: Global,
+    roads: &mut R,
+    end: Conn<R::Inward, R::Outward>,
+) -> Seat<R::Inward, R::Outward>
+    requires { IsKnown (R.plain roads.old) end.id.0 }
+    ensures gives { GivesBack R.Roads R.Inward.LinkIn R.Outward.LinkOut end result roads.old roads.new }
+    ensures known { LinkIsKnown (R.plain roads.new) result }
+    ensures kept { KeepsKnown (R.plain roads.old) (R.plain roads.new) }
+{
+    let mut end = end;
+    end.outward.shut();
+    bring_back(alloc, roads, end)
+}
+
+/// Brings an end back, and says what its place is then.
+pub(crate) fn bring_back<R: Roads>(
+    alloc: Global,
+    roads: &mut R,
+    end: Conn<R::Inward, R::Outward>,
+) -> Seat<R::Inward, R::Outward>
+    requires { IsKnown (R.plain roads.old) end.id.0 }
+    ensures brings { BringsBack R.Roads R.Inward.LinkIn R.Outward.LinkOut end result roads.old roads.new }
+    ensures known { LinkIsKnown (R.plain roads.new) result }
+    ensures kept { KeepsKnown (R.plain roads.old) (R.plain roads.new) }
+{
+    let brought = roads.bring(alloc, end);
+    place_after(brought)
+}
+
+/// The place of an end that was to be brought back.
+fn place_after<I: Drop, O: Drop>(brought: Result<(), RoadError>) -> Seat<I, O>
+    ensures place { result ≡ place_after brought }
+    ensures known { (plain : Option Plain) → LinkIsKnown plain result }
+{
+    match brought {
+        Ok(()) => Seat::Empty,
+        Err(_) => Seat::Lost,
     }
 }
 
@@ -183,7 +232,7 @@ pub(crate) fn settle_link<R: Roads>(
 /// give it, and takes the first that is there.
 pub(crate) fn poll_all<I: LinkIn, O: Drop>(
     standings: &[Standing],
-    links: &mut [Option<Link<I, O>>],
+    links: &mut [Seat<I, O>],
 ) -> Found
     ensures polls { PollsAll I.LinkIn standings.now links.old links.new result }
     ensures within { IsWithin (length standings.now) (length links.new) result }
@@ -204,7 +253,7 @@ pub(crate) fn poll_all<I: LinkIn, O: Drop>(
 fn poll_at<I: LinkIn, O: Drop>(
     standings: &[Standing],
     place: usize,
-    link: &mut Option<Link<I, O>>,
+    link: &mut Seat<I, O>,
 ) -> Looked
     ensures polls { PollsAt I.LinkIn (slice_get standings.now place) link.old link.new result }
     ensures same { SameEnd link.old link.new }
@@ -216,13 +265,13 @@ fn poll_at<I: LinkIn, O: Drop>(
 }
 
 /// Looks at what stands next on a connection, if there is one, where it is awaited or the roads were asked to give it.
-fn poll<I: LinkIn, O: Drop>(awaited: bool, link: &mut Option<Link<I, O>>) -> Looked
+fn poll<I: LinkIn, O: Drop>(awaited: bool, link: &mut Seat<I, O>) -> Looked
     ensures polls { Polls I.LinkIn awaited link.old link.new result }
     ensures same { SameEnd link.old link.new }
 {
     match link {
-        Some(link) => poll_link(awaited, link),
-        None => Looked::Nothing,
+        Seat::Open(link) => poll_link(awaited, link),
+        Seat::Empty | Seat::Lost => Looked::Nothing,
     }
 }
 

@@ -9,8 +9,8 @@ use recovery_core::Recovered;
 use std::alloc::Global;
 use std::sync::Wait;
 
-/// Recovers a block at these members, step by step, and waits where the answer of a member isn't there yet. All connections
-/// are given up at the end.
+/// Recovers a block at these members, step by step, and waits where the answer of a member isn't there yet. All
+/// connections are given up at the end.
 pub fn recover<H: Wait, D: Desk, R: Roads>(
     rt: &H,
     alloc: Global,

@@ -1,18 +1,22 @@
 //! The connections of a primary and the roads.
 
-ghost use Rattle.std.specs.Prelude.{◌≡◌, length, All, Some};
+ghost use Rattle.std.specs.Prelude.{◌≡◌, length, All};
+ghost use Rattle.block_recovery.specs.declared.links.Seat.TheVariants as Seat;
 ghost use Rattle.link_pieces.specs.Roads.{names};
 ghost use Rattle.block_recovery.specs.Dialling.{LinkIsKnown, KeepsKnown};
 ghost use Rattle.block_recovery.specs.Exchanging.{Exchanges, ExchangesLink, ExchangesAll, BringsLink, BringsAll};
 
-use crate::links::Link;
+use crate::actions::bring_back;
+use crate::links::{Link, Seat};
 use crate::primary::Primary;
 use hd_base::{ConnId, LinkIn, LinkOut, RoadError, Roads};
 use link_pieces::exchange_end;
 use std::alloc::Global;
+use std::mem;
 
 impl<I: LinkIn, O: LinkOut> Primary<I, O> {
-    /// Exchanges the connections, in the members' order, with the roads that gave them, with `take` the one that is named.
+    /// Exchanges the connections, in the members' order, with the roads that gave them, with `take` the one that is
+    /// named.
     pub fn exchange<R: Roads<Inward = I, Outward = O>>(
         &mut self,
         alloc: Global,
@@ -30,24 +34,24 @@ impl<I: LinkIn, O: LinkOut> Primary<I, O> {
         exchange_all(alloc, self.links.as_mut_slice(), roads, take)
     }
 
-    /// Brings the connections back to the roads that gave them.
-    pub fn retire<R: Roads<Inward = I, Outward = O>>(
-        self,
-        alloc: Global,
-        roads: &mut R,
-    ) -> Result<(), RoadError>
-        requires { All (LinkIsKnown (R.plain roads.old)) self.links.items }
-        ensures { BringsAll R.Roads I.LinkIn O.LinkOut self.links.items roads.old roads.new result }
+    /// Brings the connections back to the roads that gave them. For which of them there was no memory, `has_lost` says.
+    pub fn retire<R: Roads<Inward = I, Outward = O>>(&mut self, alloc: Global, roads: &mut R)
+        requires { All (LinkIsKnown (R.plain roads.old)) self.old.links.items }
+        ensures brings { BringsAll R.Roads I.LinkIn O.LinkOut self.old.links.items self.new.links.items
+            roads.old roads.new }
+        ensures same { (self.new.block ≡ self.old.block) × (self.new.members ≡ self.old.members)
+            × (self.new.core ≡ self.old.core) }
+        ensures count { length self.new.links.items ≡ length self.old.links.items }
+        ensures known { All (LinkIsKnown (R.plain roads.new)) self.new.links.items }
     {
-        let mut links = self.links;
-        bring_all(alloc, links.as_mut_slice(), roads)
+        bring_all(alloc, self.links.as_mut_slice(), roads);
     }
 }
 
 /// Exchanges the connections in order.
 fn exchange_all<R: Roads>(
     alloc: Global,
-    links: &mut [Option<Link<R::Inward, R::Outward>>],
+    links: &mut [Seat<R::Inward, R::Outward>],
     roads: &mut R,
     take: Option<ConnId>,
 ) -> Result<(), RoadError>
@@ -68,7 +72,7 @@ fn exchange_all<R: Roads>(
 /// Exchanges a connection, if there is one.
 fn exchange_link<R: Roads>(
     alloc: Global,
-    link: &mut Option<Link<R::Inward, R::Outward>>,
+    link: &mut Seat<R::Inward, R::Outward>,
     roads: &mut R,
     take: Option<ConnId>,
 ) -> Result<(), RoadError>
@@ -79,8 +83,8 @@ fn exchange_link<R: Roads>(
     ensures kept { KeepsKnown (R.plain roads.old) (R.plain roads.new) }
 {
     match link {
-        Some(link) => exchange_on(alloc, link, roads, take),
-        None => Ok(()),
+        Seat::Open(link) => exchange_on(alloc, link, roads, take),
+        Seat::Empty | Seat::Lost => Ok(()),
     }
 }
 
@@ -91,10 +95,10 @@ fn exchange_on<R: Roads>(
     roads: &mut R,
     take: Option<ConnId>,
 ) -> Result<(), RoadError>
-    requires { LinkIsKnown (R.plain roads.old) (Some link.old) }
+    requires { LinkIsKnown (R.plain roads.old) (Seat.Open link.old) }
     ensures exchanges { Exchanges R.Roads R.Inward.LinkIn R.Outward.LinkOut take link.old link.new
         roads.old roads.new result }
-    ensures known { LinkIsKnown (R.plain roads.new) (Some link.new) }
+    ensures known { LinkIsKnown (R.plain roads.new) (Seat.Open link.new) }
     ensures kept { KeepsKnown (R.plain roads.old) (R.plain roads.new) }
 {
     if is_named(take, link.end.id) {
@@ -114,35 +118,27 @@ fn is_named(take: Option<ConnId>, conn: ConnId) -> bool
 }
 
 /// Brings the connections back in order.
-fn bring_all<R: Roads>(
-    alloc: Global,
-    links: &mut [Option<Link<R::Inward, R::Outward>>],
-    roads: &mut R,
-) -> Result<(), RoadError>
+fn bring_all<R: Roads>(alloc: Global, links: &mut [Seat<R::Inward, R::Outward>], roads: &mut R)
     requires { All (LinkIsKnown (R.plain roads.old)) links.old }
-    ensures { BringsAll R.Roads R.Inward.LinkIn R.Outward.LinkOut links.old roads.old roads.new result }
+    ensures brings { BringsAll R.Roads R.Inward.LinkIn R.Outward.LinkOut links.old links.new roads.old roads.new }
+    ensures count { length links.new ≡ length links.old }
+    ensures known { All (LinkIsKnown (R.plain roads.new)) links.new }
 {
     for place in 0..links.len() {
-        if let Err(error) = bring_link(alloc, &mut links[place], roads) {
-            return Err(error);
-        }
+        bring_link(alloc, &mut links[place], roads);
     }
-    Ok(())
 }
 
 /// Brings a connection back, if there is one.
-fn bring_link<R: Roads>(
-    alloc: Global,
-    link: &mut Option<Link<R::Inward, R::Outward>>,
-    roads: &mut R,
-) -> Result<(), RoadError>
+fn bring_link<R: Roads>(alloc: Global, link: &mut Seat<R::Inward, R::Outward>, roads: &mut R)
     requires { LinkIsKnown (R.plain roads.old) link.old }
-    ensures brings { BringsLink R.Roads R.Inward.LinkIn R.Outward.LinkOut link.old link.new roads.old roads.new result }
+    ensures brings { BringsLink R.Roads R.Inward.LinkIn R.Outward.LinkOut link.old link.new roads.old roads.new }
     ensures known { LinkIsKnown (R.plain roads.new) link.new }
     ensures kept { KeepsKnown (R.plain roads.old) (R.plain roads.new) }
 {
-    match link.take() {
-        Some(link) => roads.bring(alloc, link.end),
-        None => Ok(()),
-    }
+    *link = match mem::replace(link, Seat::Empty) {
+        Seat::Open(link) => bring_back(alloc, roads, link.end),
+        Seat::Lost => Seat::Lost,
+        Seat::Empty => Seat::Empty,
+    };
 }

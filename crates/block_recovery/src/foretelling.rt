@@ -1,7 +1,8 @@
 //! What a replica will answer to a step of a block recovery, before that is booked.
 
 ghost use Rattle.std.specs.Prelude.{◌≡◌, ◌≤◌};
-ghost use Rattle.replica_core.specs.Transitions.{answer_of, answer_to, present, reply, init_transition, update_transition};
+ghost use Rattle.replica_core.specs.Transitions.{answer_of, answer_to, present, reply};
+ghost use Rattle.replica_core.specs.Transitions.{init_transition, update_transition};
 ghost use Rattle.block_recovery.specs.Serving.{IsStep};
 
 use hd_base::Stamp;

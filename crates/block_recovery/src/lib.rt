@@ -1,5 +1,5 @@
-//! Block recovery over links: what a member answers to its steps, over its book, and the primary, which runs it over its
-//! connections to the members, the name office and the roads.
+//! Block recovery over links: what a member answers to its steps, over its book and its connection, and the primary,
+//! which runs it over its connections to the members, the name office and the roads.
 #![tactic(auto)]
 
 mod actions;
@@ -12,8 +12,12 @@ mod links;
 mod primary;
 mod requests;
 mod serving;
+mod taking;
+mod telling;
 
 pub use driving::recover;
-pub use links::Link;
+pub use links::{Link, Seat};
 pub use primary::{Primary, PrimaryStep};
 pub use serving::{RecoveryServed, answer_recovery};
+pub use taking::{RecoveryCame, next_recovery};
+pub use telling::{RecoveryTold, serve_recovery};

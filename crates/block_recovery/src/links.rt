@@ -1,6 +1,7 @@
 //! The connection to a member.
 
-ghost use Rattle.std.specs.Prelude.{◌≡◌};
+ghost use Rattle.std.specs.Prelude.{◌≡◌, Some};
+ghost use Rattle.block_recovery.specs.Dialling.{is_open, is_lost};
 ghost use Rattle.block_recovery.specs.Links.{LooksAt, Receives, SendsOn};
 
 use crate::hearing::{Looked, TakenAnswer, ends_with, looked_of};
@@ -21,6 +22,39 @@ pub struct Link<I, O> {
     pub(crate) failed: bool,
     /// Whether its end was taken, or what can't be read: nothing more is heard.
     pub(crate) over: bool,
+}
+
+/// What a primary has of the connection to a member.
+#[derive(Drop)]
+pub enum Seat<I, O> {
+    /// Nothing: the member wasn't dialled or didn't answer, or the end is back.
+    Empty,
+    /// Its upper end.
+    Open(Link<I, O>),
+    /// Nothing: there was no memory to bring the end back, and it is lost.
+    Lost,
+}
+
+impl<I: Drop, O: Drop> Seat<I, O> {
+    /// Whether there is a connection.
+    pub(crate) fn is_open(&self) -> bool
+        ensures { result ≡ is_open self.now }
+    {
+        match self {
+            Seat::Open(_) => true,
+            Seat::Empty | Seat::Lost => false,
+        }
+    }
+
+    /// Whether its end is lost.
+    pub(crate) fn is_lost(&self) -> bool
+        ensures { result ≡ is_lost (Some self.now) }
+    {
+        match self {
+            Seat::Lost => true,
+            Seat::Empty | Seat::Open(_) => false,
+        }
+    }
 }
 
 impl<I: LinkIn, O: Drop> Link<I, O> {

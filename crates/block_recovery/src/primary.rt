@@ -1,7 +1,8 @@
 //! A primary, step by step.
 
-ghost use Rattle.std.specs.Prelude.{◌≡◌, ◌<◌, length, All, IfOk, is_some, map};
-ghost use Rattle.block_recovery.specs.Dialling.{LinkIsKnown};
+ghost use Rattle.std.specs.Prelude.{◌≡◌, ◌<◌, length, All, IfOk, map, slice_get, Option};
+ghost use Rattle.hd_base.specs.Channels.{Plain};
+ghost use Rattle.block_recovery.specs.Dialling.{LinkIsKnown, is_open, is_lost};
 ghost use Rattle.block_recovery.specs.Steps.{
   IsNew,
   no_links,
@@ -19,7 +20,7 @@ ghost use Rattle.block_recovery.specs.Steps.{
 };
 
 use crate::actions::{Found, dial_all, poll_all, settle, settle_link};
-use crate::links::Link;
+use crate::links::Seat;
 use crate::requests::send_request;
 use hd_base::{BlockId, LinkIn, LinkOut, Members, NodeId, Roads};
 use name_core::{Begun, Chosen, Desk, OfficeAnswer, OfficeCall};
@@ -35,7 +36,7 @@ pub struct Primary<I, O> {
     /// How far it is, once it has begun.
     pub(crate) core: Option<Core>,
     /// The connections, in the members' order.
-    pub(crate) links: Vec<Option<Link<I, O>>>,
+    pub(crate) links: Vec<Seat<I, O>>,
 }
 
 /// How a step of a primary ended.
@@ -56,7 +57,9 @@ impl<I: LinkIn, O: LinkOut> Primary<I, O> {
         block: BlockId,
         members: &Members,
     ) -> Result<Primary<I, O>, AllocError>
-        ensures { IfOk result (IsNew block members.now) }
+        ensures made { IfOk result (IsNew block members.now) }
+        ensures count { IfOk result (λ made. length made.links.items ≡ length made.members) }
+        ensures known { IfOk result (λ made. (plain : Option Plain) → All (LinkIsKnown plain) made.links.items) }
     {
         Ok(Primary {
             block,
@@ -66,9 +69,21 @@ impl<I: LinkIn, O: LinkOut> Primary<I, O> {
         })
     }
 
-    /// Does one step of its own, or takes one answer or end: it asks the office to begin, dials each member and sends those
-    /// that answered the INIT; takes what they answer; chooses among it, sends the chosen ones the UPDATE and gives up the
-    /// connections of the others; takes their answers; and asks the office to commit. Behind an end there is no further step.
+    /// Whether the end of the connection to the member at this place is lost: it was given up, or was to be brought
+    /// back, and there was no memory for that.
+    pub fn has_lost(&self, place: usize) -> bool
+        ensures { result ≡ is_lost (slice_get self.now.links.items place) }
+    {
+        match self.links.get(place) {
+            Some(link) => link.is_lost(),
+            None => false,
+        }
+    }
+
+    /// Does one step of its own, or takes one answer or end: it asks the office to begin, dials each member and sends
+    /// those that answered the INIT; takes what they answer; chooses among it, sends the chosen ones the UPDATE and
+    /// gives up the connections of the others; takes their answers; and asks the office to commit. Behind an end
+    /// there is no further step.
     pub fn step<D: Desk, R: Roads<Inward = I, Outward = O>>(
         &mut self,
         alloc: Global,
@@ -104,10 +119,10 @@ impl<I: LinkIn, O: LinkOut> Primary<I, O> {
 fn no_links<I: Drop, O: Drop>(
     alloc: Global,
     nodes: &[NodeId],
-) -> Result<Vec<Option<Link<I, O>>>, AllocError>
+) -> Result<Vec<Seat<I, O>>, AllocError>
     ensures { IfOk result (λ links. links.items ≡ no_links nodes.now) }
 {
-    nodes.iter().map(|_node| None).collect(alloc)
+    nodes.iter().map(|_node| Seat::Empty).collect(alloc)
 }
 
 /// Asks the office to begin, and reaches the members.
@@ -115,7 +130,7 @@ fn begin<D: Desk, R: Roads>(
     alloc: Global,
     block: BlockId,
     members: &Members,
-    links: &mut [Option<Link<R::Inward, R::Outward>>],
+    links: &mut [Seat<R::Inward, R::Outward>],
     office: &mut D,
     roads: &mut R,
 ) -> Result<Core, Recovered>
@@ -139,7 +154,7 @@ fn begin_with<R: Roads>(
     block: BlockId,
     begun: Begun,
     members: &Members,
-    links: &mut [Option<Link<R::Inward, R::Outward>>],
+    links: &mut [Seat<R::Inward, R::Outward>],
     roads: &mut R,
 ) -> Result<Core, Recovered>
     requires count { length links.old ≡ length members.now }
@@ -164,7 +179,7 @@ fn reach_all<R: Roads>(
     block: BlockId,
     begun: Begun,
     members: &Members,
-    links: &mut [Option<Link<R::Inward, R::Outward>>],
+    links: &mut [Seat<R::Inward, R::Outward>],
     roads: &mut R,
 ) -> Result<Core, AllocError>
     requires count { length links.old ≡ length members.now }
@@ -182,13 +197,10 @@ fn reach_all<R: Roads>(
 }
 
 /// Which of the dials were answered.
-fn answered<I: Drop, O: Drop>(
-    alloc: Global,
-    links: &[Option<Link<I, O>>],
-) -> Result<Vec<bool>, AllocError>
-    ensures { IfOk result (λ answered. answered.items ≡ map is_some links.now) }
+fn answered<I: Drop, O: Drop>(alloc: Global, links: &[Seat<I, O>]) -> Result<Vec<bool>, AllocError>
+    ensures { IfOk result (λ answered. answered.items ≡ map is_open links.now) }
 {
-    links.iter().map(|link| link.is_some()).collect(alloc)
+    links.iter().map(|link| link.is_open()).collect(alloc)
 }
 
 /// A step of a primary that has begun: takes what is there on a connection, or does its own step where nothing is.
@@ -196,7 +208,7 @@ fn lead<D: Desk, R: Roads>(
     alloc: Global,
     core: &mut Core,
     members: &Members,
-    links: &mut [Option<Link<R::Inward, R::Outward>>],
+    links: &mut [Seat<R::Inward, R::Outward>],
     office: &mut D,
     roads: &mut R,
 ) -> PrimaryStep
@@ -223,7 +235,7 @@ fn hear<R: Roads>(
     core: &mut Core,
     place: usize,
     heard: &Heard,
-    links: &mut [Option<Link<R::Inward, R::Outward>>],
+    links: &mut [Seat<R::Inward, R::Outward>],
     roads: &mut R,
 )
     requires standing { place < length core.old.standings }
@@ -243,7 +255,7 @@ fn own<D: Desk, R: Roads>(
     alloc: Global,
     core: &mut Core,
     members: &Members,
-    links: &mut [Option<Link<R::Inward, R::Outward>>],
+    links: &mut [Seat<R::Inward, R::Outward>],
     office: &mut D,
     roads: &mut R,
 ) -> PrimaryStep
@@ -266,7 +278,7 @@ fn act<D: Desk, R: Roads>(
     does: OwnStep,
     core: &Core,
     members: &Members,
-    links: &mut [Option<Link<R::Inward, R::Outward>>],
+    links: &mut [Seat<R::Inward, R::Outward>],
     office: &mut D,
     roads: &mut R,
 ) -> PrimaryStep
@@ -291,7 +303,7 @@ fn update<R: Roads>(
     core: &Core,
     chosen: &Chosen,
     members: &Members,
-    links: &mut [Option<Link<R::Inward, R::Outward>>],
+    links: &mut [Seat<R::Inward, R::Outward>],
     roads: &mut R,
 ) -> PrimaryStep
     requires count { length links.old ≡ length members.now }
@@ -324,7 +336,7 @@ fn commit<D: Desk, R: Roads>(
     alloc: Global,
     core: &Core,
     chosen: Chosen,
-    links: &mut [Option<Link<R::Inward, R::Outward>>],
+    links: &mut [Seat<R::Inward, R::Outward>],
     office: &mut D,
     roads: &mut R,
 ) -> PrimaryStep
@@ -342,7 +354,7 @@ fn commit<D: Desk, R: Roads>(
 fn end<R: Roads>(
     alloc: Global,
     recovered: Recovered,
-    links: &mut [Option<Link<R::Inward, R::Outward>>],
+    links: &mut [Seat<R::Inward, R::Outward>],
     roads: &mut R,
 ) -> PrimaryStep
     requires { All (LinkIsKnown (R.plain roads.old)) links.old }

@@ -7,7 +7,7 @@ ghost use Rattle.block_recovery.specs.Dialling.{KeepsEnds};
 ghost use Rattle.block_recovery.specs.Requests.{IsText, SendsRequest};
 
 use crate::actions::send_all;
-use crate::links::Link;
+use crate::links::Seat;
 use hd_base::{LinkOut, Members};
 use op_headers::{Op, RecoveryKind, encode_op};
 use recovery_core::Primary as Core;
@@ -21,7 +21,7 @@ pub(crate) fn send_request<I: Drop, O: LinkOut>(
     new_length: u64,
     members: &Members,
     chosen: &Members,
-    links: &mut [Option<Link<I, O>>],
+    links: &mut [Seat<I, O>],
 ) -> Result<(), AllocError>
     ensures sends { SendsRequest O.LinkOut (Op.Recovery (request_of core.now kind new_length)) members.now chosen.now
         links.old links.new result }

@@ -39,8 +39,8 @@ struct Prepared {
     failed: RecoveryAnswer,
 }
 
-/// Serves a step of a block recovery at a member: books it, and says how it is answered. Memory is taken first, so that a
-/// step that was booked has its answer.
+/// Serves a step of a block recovery at a member: books it, and says how it is answered. Memory is taken first, so that
+/// a step that was booked has its answer.
 pub fn answer_recovery<F: Files>(
     alloc: Global,
     book: &mut ReplicaBook<F>,
@@ -92,7 +92,10 @@ fn prepare(alloc: Global, reply: RecoveryReply) -> Result<Prepared, AllocError>
 }
 
 /// Books a step.
-fn book_event<F: Files>(book: &mut ReplicaBook<F>, event: &Event) -> Result<Receipt, BookFault>
+pub(crate) fn book_event<F: Files>(
+    book: &mut ReplicaBook<F>,
+    event: &Event,
+) -> Result<Receipt, BookFault>
     requires { IsStep event.now }
     ensures { BookEnds F.Files book.old book.new (ReplicaEvent.Other event.now) result }
 {

@@ -5,6 +5,7 @@ use Rattle.std.proofs.lemmas.Bool.{false≢true}
 use Rattle.std.proofs.lemmas.List.{append_assoc, append-nil}
 use Rattle.hd_base.specs.Bytes.{IsBytes}
 use Rattle.hd_base.specs.SumRules.{Rule, IsChunkSize}
+use Rattle.hd_base.specs.declared.numbers.NodeId.{NodeId}
 use Rattle.hd_base.specs.declared.numbers.BlockId.{BlockId}
 use Rattle.script_lang.specs.declared.instructions.Instruction.{Instruction}
 use Rattle.script_lang.specs.declared.instructions.Instruction.TheVariants as says
@@ -24,7 +25,7 @@ use Rattle.play_model.specs.Dues.{is_due, dues, after_due}
 use Rattle.play_model.specs.Draws.{advanced, draws, Settles}
 use Rattle.play_model.specs.Lines.{blocks_of, step_due, PlaysLine, PlaysLines, Plays}
 use Rattle.play_scripts.specs.Fitting.{LineFits, LinesFit, begun}
-use Rattle.play_scripts.specs.Unplayed.{is_unplayed, ArePlayed}
+use Rattle.play_scripts.specs.Failures.{is_failure, HaveNoFailures}
 use Rattle.play_lines.specs.Lines.{StandIs, GivenIs}
 use Rattle.play_lines.specs.Showing.{given_in}
 use Rattle.play_lines.proofs.Commands.{same_stand}
@@ -267,7 +268,25 @@ module _ (blocks : List ℕ) (before : Before) (lines : ℕ) (commands : ℕ →
       behind-as (after before i) (suc lines) (ordered p at.0 c) (add commands at.0 (c ∷ [])) (With commands i) all
       (record { on = join-on p commands at.0 c h.on wrote (command-fits before lines i at.0 c p commands h.follows few fits here); follows = next })
 
-  line-behind : (i : Instruction) → is_unplayed i ≡ false → LineFits before i → ((b : ℕ) → KeepsMembers (With commands i b)) → (old new : PlayState) → PlaysLine blocks i old new → Behind before lines commands old → Behind (after before i) (suc lines) (With commands i) new
+  -- a read leaves all that is told of commands
+  read-behind : (at : BlockId) (node : NodeId) (offset count : ℕ) (q : ℕ → List Command) (p : PlayState) → Behind before (suc lines) q p → Behind (after before (says.Read at node offset count)) (suc lines) q p
+  read-behind at node offset count q p h = record {
+    on = h.on;
+    follows = record {
+      well = h.follows.well;
+      nodes = h.follows.nodes;
+      written = h.follows.written;
+      chunks = h.follows.chunks;
+      given = λ b. let g = h.follows.given b in record {
+        stand = record { unmade = g.stand.unmade; open_is = g.stand.open_is; closed = g.stand.closed };
+        bytes = g.bytes;
+        commands = g.commands;
+      };
+      bytes = h.follows.bytes;
+    };
+  }
+
+  line-behind : (i : Instruction) → is_failure i ≡ false → LineFits before i → ((b : ℕ) → KeepsMembers (With commands i b)) → (old new : PlayState) → PlaysLine blocks i old new → Behind before lines commands old → Behind (after before i) (suc lines) (With commands i) new
   line-behind (says.Nodes count) u fits k old new is h = absurd fits.words
   line-behind (says.Seed seed) u fits k old new is h = absurd fits.words
   line-behind (says.Sums at rule) u fits k old new is h =
@@ -288,7 +307,9 @@ module _ (blocks : List ℕ) (before : Before) (lines : ℕ) (commands : ℕ →
       (none-more (says.Step at event) _ (λ b. refl) (stepped-keeps (Behind before lines commands) (due-behind before lines commands) (words-behind before lines commands) old (step_due (world_of old) at.0 event) h))
   line-behind (says.Expect node at state stamp written) u fits k old new is h =
       subst (Behind before (suc lines) (With commands (says.Expect node at state stamp written))) (sym is) (none-more (says.Expect node at state stamp written) old (λ b. refl) h)
-  line-behind (says.Read at node offset count) u fits k old new is h = absurd (false≢true (sym u))
+  line-behind (says.Read at node offset count) u fits k old new is h =
+      subst (Behind (after before (says.Read at node offset count)) (suc lines) (With commands (says.Read at node offset count))) (sym is)
+      (read-behind at node offset count (With commands (says.Read at node offset count)) old (none-more (says.Read at node offset count) old (λ b. refl) h))
   line-behind (says.Recover at node members) u fits k old new is h = absurd (false≢true (sym u))
   line-behind (says.Cut at connection down up) u fits k old new is h = absurd (false≢true (sym u))
   line-behind (says.Fault node nth) u fits k old new is h = absurd (false≢true (sym u))
@@ -297,7 +318,7 @@ module _ (blocks : List ℕ) (before : Before) (lines : ℕ) (commands : ℕ →
 
 -- ALL LINES
 
-lines-behind : (blocks : List ℕ) (said : List ScriptLine) (before : Before) (lines : ℕ) (commands : ℕ → List Command) (old new : PlayState) → lines + length said ≤ MAX_COMMANDS → ArePlayed said → LinesFit before said → ((b : ℕ) → KeepsMembers (commands b ++ commands_of b said)) → PlaysLines blocks said old new
+lines-behind : (blocks : List ℕ) (said : List ScriptLine) (before : Before) (lines : ℕ) (commands : ℕ → List Command) (old new : PlayState) → lines + length said ≤ MAX_COMMANDS → HaveNoFailures said → LinesFit before said → ((b : ℕ) → KeepsMembers (commands b ++ commands_of b said)) → PlaysLines blocks said old new
     → Behind before lines commands old → PlayedOn new (λ b. commands b ++ commands_of b said) × (dues blocks new ≡ [])
 lines-behind blocks [] before lines commands old new few played fits members s h =
     (on-as new commands (λ b. commands b ++ []) (λ b. sym (append-nil (commands b))) (settles-behind before lines commands blocks old new s h).on, s.settled)
@@ -315,7 +336,7 @@ pub plays-complete : PlaysComplete
 plays-complete shelves script end fits played members plays =
     let few : fits.nodes ≤ 16 = fits.few in
     let done : PlayedOn end (λ b. commands_of b script) × (dues (blocks_of script) end ≡ []) =
-    subst (λ (s : List ScriptLine). ArePlayed s → ((b : ℕ) → KeepsMembers (commands_of b s)) → Plays s end → PlayedOn end (λ b. commands_of b s) × (dues (blocks_of s) end ≡ [])) (sym fits.parts)
+    subst (λ (s : List ScriptLine). HaveNoFailures s → ((b : ℕ) → KeepsMembers (commands_of b s)) → Plays s end → PlayedOn end (λ b. commands_of b s) × (dues (blocks_of s) end ≡ [])) (sym fits.parts)
     (λ p m x. lines-behind (blocks_of fits.body) fits.body (begun fits.nodes fits.seed) 0 (λ b. []) (opened fits.nodes fits.seed) end (omega (arith, fits.count)) p.1.1 fits.lines m x (record { on = opened-on fits.nodes fits.seed few; follows = opened-follows fits.nodes fits.seed few }))
     played members plays in
     let of : (b : ℕ) → AllDone (commands_of b script) ((world_of end).said b) × ClosesWhole (world_of end) (record { 0 = b }) (commands_of b script) =

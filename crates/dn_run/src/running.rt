@@ -13,7 +13,9 @@ use crate::exits::Exit;
 use crate::reading::read_lines;
 use crate::streams::{WriteFault, write_all};
 use completing_lines::plays_complete;
-use hd_base::{Roads, Shelf, Sink, Source};
+use fault_ports::CutRoads;
+use hd_base::{Shelf, Sink, Source};
+use play_completeness::plays_are_safe;
 use play_scripts::scripts_fit;
 use run_words::{Mode, UsageRule, read_words};
 use std::alloc::Global;
@@ -22,12 +24,12 @@ use whole_play::{Played, play_script};
 /// Runs the script that a source gives over shelves, one for each node, and roads, and writes its report to a sink. The
 /// words are those of the program's call, without its name. So far they must be `play`: `live` and `storm` are `Usage`.
 ///
-/// The roads of a play are over plain memory and new: no connection was made on them, nobody listens, they have carried
-/// nothing, and no end's count has risen. What shelves lend is given back, whatever the exit is.
+/// The roads are such as can be cut (`Cutting` makes them of any). Those of a play are over plain memory and new: no
+/// connection was made on them, nobody listens, they have carried nothing, and no end's count has risen. What shelves lend is given back, whatever the exit is.
 ///
 /// The exits are tried in the order `Usage`, `ScriptFault`, `BadScript`, `RoadFault`, `NotEmpty` and `ShelfFault` node by
 /// node, `ReportFault`, `Differs`; `Memory` may come at any point.
-pub fn run<I: Source, O: Sink, S: Shelf, R: Roads>(
+pub fn run<I: Source, O: Sink, S: Shelf, R: CutRoads>(
     alloc: Global,
     words: &[String],
     script: &mut I,
@@ -59,7 +61,7 @@ pub fn run<I: Source, O: Sink, S: Shelf, R: Roads>(
 }
 
 /// Reads the words, and the script, and plays it.
-fn play<I: Source, S: Shelf, R: Roads>(
+fn play<I: Source, S: Shelf, R: CutRoads>(
     alloc: Global,
     words: &[String],
     script: &mut I,
@@ -81,6 +83,7 @@ fn play<I: Source, S: Shelf, R: Roads>(
         shelves.old.items shelves.new.items roads.old roads.new) }
 {
     scripts_fit();
+    plays_are_safe();
     plays_complete();
     read_mode(alloc, words)?;
     let lines = read_lines(alloc, script, shelves.len())?;

@@ -8,6 +8,7 @@ ghost use Rattle.dn_run.specs.Runs.{usage_of, folder_named, UsageFor};
 
 use crate::exits::Exit;
 use crate::running::run;
+use fault_ports::Cutting;
 use hd_base::{MAX_NODES, Shelf};
 use itoa::Buffer;
 use mem_ports::{MemRoads, MemShelf};
@@ -106,8 +107,8 @@ fn run_with<S: Shelf, R: Read + Drop, W: Write + Drop>(
 ) -> Result<Exit, AllocError>
     ensures { IfOk result (UsageFor (usage_of (map string_bytes words.now))) }
 {
-    new_roads_are_unused::<MemRoads>();
-    let mut roads = MemRoads::new(alloc, &[])?;
+    new_roads_are_unused::<Cutting<MemRoads>>();
+    let mut roads = Cutting::new(alloc, MemRoads::new(alloc, &[])?);
     let mut source = StdSource {
         inner: input,
         faults: 0,

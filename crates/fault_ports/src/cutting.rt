@@ -6,6 +6,7 @@ ghost use Rattle.hd_base.specs.Channels.{Plain};
 ghost use Rattle.fault_ports.specs.Cuts.{AllObservable, CountsAll};
 ghost use Rattle.fault_ports.specs.PieceCounts.{dialled_by};
 
+use crate::cuts::CutRoads;
 use crate::halves::{CutIn, CutOut};
 use crate::offers::{offer_next, seen_next};
 use crate::passes::{add_risen, counted_fault, has_failed, own_halves, still_pending, wrapped};
@@ -34,9 +35,8 @@ pub struct Cutting<R: Roads> {
 }
 
 impl<R: Roads> Cutting<R> {
-    ghost use Rattle.std.specs.Prelude.{◌≡◌, ℕ, false, None, IfSome, OnOk, OnErr, IsSome, is_some, [], option_map};
-    ghost use Rattle.hd_base.specs.Ends.{IsKnown, KeepsConnections};
-    ghost use Rattle.fault_ports.specs.Cuts.{AllObservable, with_cut};
+    ghost use Rattle.std.specs.Prelude.{◌≡◌, ℕ, false, None, IfSome, IsSome, is_some, []};
+    ghost use Rattle.fault_ports.specs.Cuts.{AllObservable};
 
     /// Roads over plain memory with no connection cut. No connection was made on them, and what
     /// their ends hold and have sent is observable.
@@ -90,22 +90,11 @@ impl<R: Roads> Cutting<R> {
         let Cutting { inner, .. } = self;
         inner
     }
+}
 
-    /// Ends a connection that was dialled on these roads behind so many of the pieces in flight
-    /// down, and up. What is sent on it later is lost. Connections over links that carry by
-    /// themselves stay as they are.
-    pub fn cut(&mut self, conn: ConnId, down: u64, up: u64) -> Result<(), AllocError>
-        requires { IsKnown (⟦<Cutting<R> as Roads>⟧.plain self.old) conn.0 }
-        ensures cut { OnOk result (⟦<Cutting<R> as Roads>⟧.plain self.new
-            ≡ option_map (λ p. with_cut p conn.0 down up) (⟦<Cutting<R> as Roads>⟧.plain self.old)) }
-        ensures err { OnErr result (
-            ⟦<Cutting<R> as Roads>⟧.plain self.new ≡ ⟦<Cutting<R> as Roads>⟧.plain self.old) }
-        ensures connections { KeepsConnections
-            (⟦<Cutting<R> as Roads>⟧.plain self.old) (⟦<Cutting<R> as Roads>⟧.plain self.new) }
-        ensures carried { ⟦<Cutting<R> as Roads>⟧.carried self.new ≡ ⟦<Cutting<R> as Roads>⟧.carried self.old }
-        ensures risen { ⟦<Cutting<R> as Roads>⟧.risen self.new ≡ ⟦<Cutting<R> as Roads>⟧.risen self.old }
-        ensures faults { ⟦<Cutting<R> as Roads>⟧.faults self.new ≡ ⟦<Cutting<R> as Roads>⟧.faults self.old }
-    {
+impl<R: Roads> CutRoads for Cutting<R> {
+    /// Connections over links that carry by themselves stay as they are.
+    fn cut(&mut self, conn: ConnId, down: u64, up: u64) -> Result<(), AllocError> {
         if !self.plain {
             return Ok(());
         }

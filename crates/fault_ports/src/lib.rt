@@ -4,6 +4,7 @@
 
 mod certain;
 mod copies;
+mod cuts;
 mod cutting;
 mod entries;
 mod fused;
@@ -19,6 +20,7 @@ mod piece_counts;
 mod stop_at;
 mod stored_files;
 
+pub use cuts::CutRoads;
 pub use cutting::Cutting;
 pub use fused::FusedDrawer;
 pub use fused_shelves::Fused;

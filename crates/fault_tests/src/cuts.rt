@@ -2,7 +2,7 @@
 
 ghost use Rattle.std.specs.Prelude.{◌≡◌, ◌<◌, IfSome};
 
-use fault_ports::{CutIn, CutOut, Cutting};
+use fault_ports::{CutIn, CutOut, CutRoads, Cutting};
 use hd_base::{Conn, Got, LinkError, LinkIn, LinkOut, NodeId, RoadError, Roads};
 use mem_ports::MemRoads;
 use std::alloc::{AllocError, Global};

@@ -5,3 +5,4 @@ pub mod Lawful
 pub mod CanOwning
 pub mod Happened
 pub mod Dispatch
+pub mod CutPlays

@@ -68,7 +68,7 @@ module _ {F R I O : Type 0} (f : files.Ghosts F) (r : roads.Ghosts R I O) (i : l
     each = λ k c at. record { was = c; at = sym (ap (λ (p : Player F I O). slice_get p.clients.items k) kept.same) ∙ at; block = refl; rule = refl; same = λ other. refl };
   }
 
-  same_left : (w v : World) (net : Net) (queues : Queues) (old : Player F I O) (n' : Nodes F I O) (e : Event) (road road' : R) → ClientsStay i o → PlayerShows r i o w net queues road old → Ordered w → KeepsWriters w v → (left : NodesLeft r i o w net v road' n')
+  pub same_left : (w v : World) (net : Net) (queues : Queues) (old : Player F I O) (n' : Nodes F I O) (e : Event) (road road' : R) → ClientsStay i o → PlayerShows r i o w net queues road old → Ordered w → KeepsWriters w v → (left : NodesLeft r i o w net v road' n')
       → PlayerShows r i o v left.made queues road' (record old { nodes = n' })
   same_left w v net queues old n' e road road' stay p ordered k left = record {
     nodes = left.stands;

@@ -4,3 +4,4 @@ pub mod Events
 pub mod Owning
 pub mod Laws
 pub mod Standing
+pub mod Cutting

@@ -2,6 +2,7 @@
 //! a player that shows a world, on roads that show it, to one that shows the world after the event.
 #![tactic(auto)]
 
+mod cutting;
 mod events;
 mod faults;
 mod happening;

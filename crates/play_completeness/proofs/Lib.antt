@@ -51,3 +51,4 @@ pub mod OwnRules
 pub mod OwnFacts
 pub mod ScriptBlocks
 pub mod Folding
+pub mod SafePlays

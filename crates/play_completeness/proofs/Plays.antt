@@ -1,5 +1,5 @@
 -- What each line keeps and all that is due keeps, a play keeps; and the events of plays are plain.
-use Rattle.std.proofs.Common.{◌≡◌, ℕ, zero, suc, true, List, [], ◌∷◌, ◌++◌, slice_get, Option, Some, None, refl, sym, ◌∙◌, ap, subst}
+use Rattle.std.proofs.Common.{false, ◌≡◌, ℕ, Bool, zero, suc, true, List, [], ◌∷◌, ◌++◌, slice_get, Option, Some, None, refl, sym, ◌∙◌, ap, subst}
 use Rattle.std.specs.Prelude.{◌%◌, length}
 use Rattle.hd_base.specs.SumRules.{Rule}
 use Rattle.rand_pcg.specs.Pcg.{pcg32}
@@ -19,7 +19,8 @@ use Rattle.play_model.specs.declared.dues.Due.TheVariants as due
 use Rattle.play_model.specs.States.{PlayState, world_of, opened, ordered, ruled}
 use Rattle.play_model.specs.Dues.{Queues, is_due, dues, own_events, action_of, due_events, after_due}
 use Rattle.play_model.specs.Draws.{drawn, happened, advanced, drawn_from, draw, draws}
-use Rattle.play_model.specs.Lines.{stepped, step_due, PlaysLine, PlaysLines, PlaysFrom, Plays}
+use Rattle.play_scripts.specs.Failures.{is_failure, HaveNoFailures}
+use Rattle.play_model.specs.Lines.{stepped, step_due, pipeline_conn, cut_at, PlaysLine, PlaysLines, PlaysFrom, Plays}
 use Rattle.play_model.proofs.ListedLemmas.{listed_due}
 use Rattle.play_completeness.specs.Plain.{ArePlain, PlaysArePlain}
 
@@ -52,41 +53,62 @@ module _ (Q : PlayState → Type 0) where
   stepped-keeps k p None q = q
   stepped-keeps k p (Some d) q = if-each Q (is_due (world_of p) p.queues d) (after_due p d) p (λ e. k.goes p d e q) (λ _. q)
 
-  line-keeps : Keeps → (blocks : List ℕ) (i : Instruction) (p new : PlayState) → PlaysLine blocks i p new → Q p → Q new
-  line-keeps k blocks (line.Settle) p new s q = subst Q s.drawn_so (draws-keep k blocks s.count p q)
-  line-keeps k blocks (line.Nodes count) p new s q = subst Q (sym s) q
-  line-keeps k blocks (line.Seed seed) p new s q = subst Q (sym s) q
-  line-keeps k blocks (line.Sums b r) p new s q = subst Q (sym s) (k.rules p b.0 r q)
-  line-keeps k blocks (line.Create b members) p new s q = subst Q (sym s) (k.orders p b.0 (command.Create members) q)
-  line-keeps k blocks (line.Append b members) p new s q = subst Q (sym s) (k.orders p b.0 (command.Append members) q)
-  line-keeps k blocks (line.Write b bytes) p new s q = subst Q (sym s) (k.orders p b.0 (command.Write bytes) q)
-  line-keeps k blocks (line.Fill b count) p new s q = subst Q (sym s) (k.orders p b.0 (command.Fill count) q)
-  line-keeps k blocks (line.Hflush b) p new s q = subst Q (sym s) (k.orders p b.0 command.Hflush q)
-  line-keeps k blocks (line.Hsync b) p new s q = subst Q (sym s) (k.orders p b.0 command.Hsync q)
-  line-keeps k blocks (line.Close b) p new s q = subst Q (sym s) (k.orders p b.0 command.Close q)
-  line-keeps k blocks (line.Read b n from count) p new s q = subst Q (sym s) q
-  line-keeps k blocks (line.Recover b n members) p new s q = subst Q (sym s) q
-  line-keeps k blocks (line.Cut b conn down up) p new s q = subst Q (sym s) q
-  line-keeps k blocks (line.Fault n nth) p new s q = subst Q (sym s) q
-  line-keeps k blocks (line.Stop n) p new s q = subst Q (sym s) q
-  line-keeps k blocks (line.Start n) p new s q = subst Q (sym s) q
-  line-keeps k blocks (line.Run count) p new s q = subst Q (sym s) (draws-keep k blocks count p q)
-  line-keeps k blocks (line.Step b e) p new s q = subst Q (sym s) (stepped-keeps k p (step_due (world_of p) b.0 e) q)
-  line-keeps k blocks (line.Expect n b state stamp written) p new s q = subst Q (sym s) q
+  -- what is kept by a cut, if the line is one
+  abbrev pub CutsKeep : Instruction → Type 0
+  CutsKeep i = (p : PlayState) (c : Option ℕ) (down up : ℕ) → is_failure i ≡ true → Q p → Q (cut_at p c down up)
 
-  pub lines-keep : Keeps → (blocks : List ℕ) (lines : List ScriptLine) (p new : PlayState) → PlaysLines blocks lines p new → Q p → Q new
-  lines-keep k blocks [] p new s q = subst Q s.drawn_so (draws-keep k blocks s.count p q)
-  lines-keep k blocks (l ∷ lines) p new s q = lines-keep k blocks lines s.0 new s.1.1 (line-keeps k blocks l.instruction p s.0 s.1.0 q)
+  abbrev pub AllKeep : List ScriptLine → Type 0
+  AllKeep [] = Unit {0}
+  AllKeep (l ∷ lines) = CutsKeep l.instruction × AllKeep lines
 
-  from-keeps : Keeps → ((nodes seed : ℕ) → Q (opened nodes seed)) → (first second : Instruction) (lines : List ScriptLine) (new : PlayState) → PlaysFrom first second lines new → Q new
-  from-keeps k begins (line.Nodes count) (line.Seed seed) lines new s = lines-keep k _ lines _ new s (begins _ _)
-  from-keeps k begins first second lines new s = absurd s
+  false-true : {A : Type 0} (x : Bool) → x ≡ false → x ≡ true → A
+  false-true true e f = cc
+  false-true false e f = cc
+
+  -- lines that make nothing fail cut nothing
+  pub sound-keep : (lines : List ScriptLine) → HaveNoFailures lines → AllKeep lines
+  sound-keep [] sound = tt
+  sound-keep (l ∷ lines) sound = ((λ p c down up fails q. false-true (is_failure l.instruction) sound.0 fails), sound-keep lines sound.1)
+
+  pub cuts-keep : ((p : PlayState) (c : Option ℕ) (down up : ℕ) → Q p → Q (cut_at p c down up)) → (lines : List ScriptLine) → AllKeep lines
+  cuts-keep cuts [] = tt
+  cuts-keep cuts (l ∷ lines) = ((λ p c down up _ q. cuts p c down up q), cuts-keep cuts lines)
+
+  line-keeps : Keeps → (blocks : List ℕ) (i : Instruction) (p new : PlayState) → CutsKeep i → PlaysLine blocks i p new → Q p → Q new
+  line-keeps k blocks (line.Settle) p new kept s q = subst Q s.drawn_so (draws-keep k blocks s.count p q)
+  line-keeps k blocks (line.Nodes count) p new kept s q = subst Q (sym s) q
+  line-keeps k blocks (line.Seed seed) p new kept s q = subst Q (sym s) q
+  line-keeps k blocks (line.Sums b r) p new kept s q = subst Q (sym s) (k.rules p b.0 r q)
+  line-keeps k blocks (line.Create b members) p new kept s q = subst Q (sym s) (k.orders p b.0 (command.Create members) q)
+  line-keeps k blocks (line.Append b members) p new kept s q = subst Q (sym s) (k.orders p b.0 (command.Append members) q)
+  line-keeps k blocks (line.Write b bytes) p new kept s q = subst Q (sym s) (k.orders p b.0 (command.Write bytes) q)
+  line-keeps k blocks (line.Fill b count) p new kept s q = subst Q (sym s) (k.orders p b.0 (command.Fill count) q)
+  line-keeps k blocks (line.Hflush b) p new kept s q = subst Q (sym s) (k.orders p b.0 command.Hflush q)
+  line-keeps k blocks (line.Hsync b) p new kept s q = subst Q (sym s) (k.orders p b.0 command.Hsync q)
+  line-keeps k blocks (line.Close b) p new kept s q = subst Q (sym s) (k.orders p b.0 command.Close q)
+  line-keeps k blocks (line.Read b n from count) p new kept s q = subst Q (sym s) q
+  line-keeps k blocks (line.Recover b n members) p new kept s q = subst Q (sym s) q
+  line-keeps k blocks (line.Cut b place down up) p new kept s q = subst Q (sym s) (kept p (pipeline_conn (world_of p) b.0 place) down up refl q)
+  line-keeps k blocks (line.Fault n nth) p new kept s q = subst Q (sym s) q
+  line-keeps k blocks (line.Stop n) p new kept s q = subst Q (sym s) q
+  line-keeps k blocks (line.Start n) p new kept s q = subst Q (sym s) q
+  line-keeps k blocks (line.Run count) p new kept s q = subst Q (sym s) (draws-keep k blocks count p q)
+  line-keeps k blocks (line.Step b e) p new kept s q = subst Q (sym s) (stepped-keeps k p (step_due (world_of p) b.0 e) q)
+  line-keeps k blocks (line.Expect n b state stamp written) p new kept s q = subst Q (sym s) q
+
+  pub lines-keep : Keeps → (blocks : List ℕ) (lines : List ScriptLine) (p new : PlayState) → AllKeep lines → PlaysLines blocks lines p new → Q p → Q new
+  lines-keep k blocks [] p new kept s q = subst Q s.drawn_so (draws-keep k blocks s.count p q)
+  lines-keep k blocks (l ∷ lines) p new kept s q = lines-keep k blocks lines s.0 new kept.1 s.1.1 (line-keeps k blocks l.instruction p s.0 kept.0 s.1.0 q)
+
+  from-keeps : Keeps → ((nodes seed : ℕ) → Q (opened nodes seed)) → (first second : Instruction) (lines : List ScriptLine) (new : PlayState) → AllKeep lines → PlaysFrom first second lines new → Q new
+  from-keeps k begins (line.Nodes count) (line.Seed seed) lines new kept s = lines-keep k _ lines _ new kept s (begins _ _)
+  from-keeps k begins first second lines new kept s = absurd s
 
   -- What holds of an opened play, and is kept, holds at the end of each.
-  pub play-keeps : Keeps → ((nodes seed : ℕ) → Q (opened nodes seed)) → (script : List ScriptLine) (new : PlayState) → Plays script new → Q new
-  play-keeps k begins (first ∷ (second ∷ lines)) new s = from-keeps k begins first.instruction second.instruction lines new s
-  play-keeps k begins [] new s = absurd s
-  play-keeps k begins (first ∷ []) new s = absurd s
+  pub play-keeps : Keeps → ((nodes seed : ℕ) → Q (opened nodes seed)) → (script : List ScriptLine) (new : PlayState) → AllKeep script → Plays script new → Q new
+  play-keeps k begins (first ∷ (second ∷ lines)) new kept s = from-keeps k begins first.instruction second.instruction lines new kept.1.1 s
+  play-keeps k begins [] new kept s = absurd s
+  play-keeps k begins (first ∷ []) new kept s = absurd s
 
 -- PLAIN EVENTS
 
@@ -117,9 +139,9 @@ unfolding after_due
 after-plain p d h = plain-join p.events (due_events (world_of p) p.queues d) h (due-plain (world_of p) p.queues d)
 
 pub plays-plain : PlaysArePlain
-plays-plain script end s = play-keeps Plain (record {
+plays-plain script end sound s = play-keeps Plain (record {
   advances = λ p h. h;
   orders = λ p b c h. h;
   rules = λ p b r h. h;
   goes = λ p d _ h. after-plain p d h;
-}) (λ nodes seed. tt) script end s
+}) (λ nodes seed. tt) script end (sound-keep Plain script sound) s

@@ -10,3 +10,4 @@ pub mod Played
 pub mod Formed
 pub mod Keeping
 pub mod Blocks
+pub mod Safety

@@ -16,6 +16,7 @@ use Rattle.world.specs.Parts.{Message, request, Upper, by_writer, by_member, Low
 use Rattle.world.specs.Worlds.{World, start}
 use Rattle.world.specs.Events.{run}
 use Rattle.play_model.specs.States.{PlayState}
+use Rattle.play_scripts.specs.Failures.{HaveNoFailures}
 use Rattle.play_model.specs.Lines.{Plays}
 
 -- EVENTS
@@ -44,7 +45,8 @@ ArePlain (e ∷ events) = (is_plain e ≡ true) × ArePlain events
 
 -- So are the events of each play.
 abbrev pub PlaysArePlain : Type 0
-PlaysArePlain = (script : List ScriptLine) (end : PlayState) → Plays script end → ArePlain end.events
+PlaysArePlain = (script : List ScriptLine) (end : PlayState) → HaveNoFailures script → Plays script end →
+    ArePlain end.events
 
 -- WHAT NEVER HAPPENS
 

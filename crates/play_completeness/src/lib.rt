@@ -3,6 +3,7 @@
 #![tactic(auto)]
 
 ghost use Rattle.play_completeness.specs.Plain.{PlaysArePlain, AllPeaceful};
+ghost use Rattle.play_completeness.specs.Safety.{PlaysAreSafe};
 ghost use Rattle.play_completeness.specs.Played.{CommandsJoin, OpenedArePlayed, SettledIsComplete};
 ghost use Rattle.play_completeness.specs.Blocks.{CommandsAreOfBlocks};
 ghost use Rattle.play_completeness.specs.Formed.{AllFormed};
@@ -11,11 +12,21 @@ ghost use Rattle.play_completeness.specs.Keeping.{CommandsJoinOn, ConnsKeepPlays
 ghost use Rattle.play_completeness.specs.Turning.{HearingKeepsLinks, PacketsKeepLinks, ReadyKeepsLinks, RequestsKeepLinks};
 ghost use Rattle.play_completeness.specs.Waiting.{AwaitedIsDue};
 
+use world_closings::worlds_are_safe;
+
 /// All that happens in a play is a writer's step or the office's answer to it, each dial answered, or what an end of a
 /// connection does, and no call on files fails.
 pub fn plays_are_plain()
     ensures { PlaysArePlain }
 {}
+
+/// The headline, of each play of a script that fits: replicas hold fronts of what was written, answered bytes stay,
+/// FINALIZED replicas agree, and a close that was answered has closed its members.
+pub fn plays_are_safe()
+    ensures { PlaysAreSafe }
+{
+    worlds_are_safe();
+}
 
 /// Where only such things happen, no reader and no primary begins, each connection is one of a pipeline, and no replica
 /// breaks or comes into a recovery; nor does the office know of one.

@@ -4,7 +4,9 @@ pub mod Runs
 pub mod Lowers
 pub mod Ordered
 pub mod Ruled
+pub mod Pipelined
 pub mod Stepped
+pub mod CutLines
 pub mod Commands
 pub mod Lined
 pub mod LineRuns

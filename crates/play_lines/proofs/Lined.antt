@@ -18,7 +18,7 @@ use Rattle.writer_core.specs.declared.intake.Intake.{Intake}
 use Rattle.play_model.specs.declared.dues.Due.{Due}
 use Rattle.play_model.specs.Draws.{draw, draws, drawn_from, drawn, happened, advanced}
 use Rattle.play_model.specs.Dues.{dues, after_due, is_due}
-use Rattle.play_model.specs.Lines.{PlaysLine, stepped, step_due}
+use Rattle.play_model.specs.Lines.{PlaysLine, stepped, step_due, pipeline_conn, cut_at}
 use Rattle.play_model.specs.States.{PlayState, ruled, world_of}
 use Rattle.play_dues.specs.Places.{client_place}
 use Rattle.play_dues.specs.Showing.{HasClient}
@@ -30,6 +30,7 @@ use Rattle.play_lines.specs.Drawing.{IsLeft, IsDrawn, RunEnds, RunShows, SettleE
 use Rattle.play_lines.specs.Ruling.{RulesAt, Rules, RulesArePlays}
 use Rattle.play_lines.specs.Showing.{PlayIs, given_in}
 use Rattle.play_lines.specs.Stepping.{StepEnds, StepShows}
+use Rattle.play_lines.specs.Cutting.{CutEnds, CutShows}
 use Rattle.play_lines.specs.Lines.{ordered_by, StandIs, GivenIs, is_made, IsBehind, LineLeft, LineEnds, LineShows}
 use Rattle.play_lines.proofs.Commands.{same_stand, created_made}
 use Rattle.play_lines.proofs.Places.{moved}
@@ -66,6 +67,9 @@ stepped_stays p (Some d) = by (is_due (world_of p) p.queues d) refl
     by : (q : Bool) → is_due (world_of p) p.queues d ≡ q → Stays p (stepped p (Some d))
     by true e = subst (λ (x : Bool). Stays p (if x then after_due p d else p)) (sym e) (happened_stays p (Some d))
     by false e = subst (λ (x : Bool). Stays p (if x then after_due p d else p)) (sym e) (record { nodes = refl; rules = refl })
+
+cut_stays : (p : PlayState) (conn : Option ℕ) (down up : ℕ) → Stays p (cut_at p conn down up)
+cut_stays p conn down up = record { nodes = refl; rules = refl }
 
 -- THE LINES BEFORE
 
@@ -134,6 +138,13 @@ module _ {F R I O : Type 0} (f : files.Ghosts F) (r : roads.Ghosts R I O) (i : l
       by before lines p behind (Ok u) d = drawn_left (says.Step block event) before lines p (stepped p (step_due (world_of p) block.0 event)) (record { nodes = refl; written = refl; stage = λ x. refl }) (stepped_stays p (step_due (world_of p) block.0 event)) refl behind d
       by before lines p behind (Err why) cause = cause
 
+  pub cut_shows : (line : Instruction) (block : BlockId) (place down up : ℕ) (result : Result (Unit {0}) PlayFault) → line ≡ says.Cut block place down up → CutShows f r i o block place down up old new road road' result → LineShows f r i o line old new road road' result
+  cut_shows line block place down up result e shows = subst (λ (x : Instruction). LineShows f r i o x old new road road' result) (sym e) (λ before lines p stands behind l here few. by before lines p behind result (shows p stands))
+    where
+      by : (before : Before) (lines : ℕ) (p : PlayState) → IsBehind before lines p old → (result : Result (Unit {0}) PlayFault) → CutEnds f r i o block place down up p old new road road' result → LineEnds f r i o (says.Cut block place down up) before lines p old new road road' result
+      by before lines p behind (Ok u) d = drawn_left (says.Cut block place down up) before lines p (cut_at p (pipeline_conn (world_of p) block.0 place) down up) (record { nodes = refl; written = refl; stage = λ x. refl }) (cut_stays p (pipeline_conn (world_of p) block.0 place) down up) refl behind d
+      by before lines p behind (Err why) cause = cause
+
 -- NO EVENT
 
 -- The line is none of these.
@@ -142,34 +153,35 @@ IsOther (says.Sums b rule) = ⊥
 IsOther (says.Run count) = ⊥
 IsOther says.Settle = ⊥
 IsOther (says.Step b event) = ⊥
+IsOther (says.Cut b place down up) = ⊥
 IsOther line = Unit {0}
 
-pub is_other : (line : Instruction) → ((b : BlockId) (rule : Rule) → line ≡ says.Sums b rule → ⊥) → ((count : ℕ) → line ≡ says.Run count → ⊥) → (line ≡ says.Settle → ⊥) → ((b : BlockId) (event : StepEvent) → line ≡ says.Step b event → ⊥) → IsOther line
-is_other (says.Sums b rule) sums runs settles steps = sums b rule refl
-is_other (says.Run count) sums runs settles steps = runs count refl
-is_other says.Settle sums runs settles steps = settles refl
-is_other (says.Step b event) sums runs settles steps = steps b event refl
-is_other (says.Read b n offset count) sums runs settles steps = tt
-is_other (says.Recover b n members) sums runs settles steps = tt
-is_other (says.Cut b conn down up) sums runs settles steps = tt
-is_other (says.Fault n nth) sums runs settles steps = tt
-is_other (says.Stop n) sums runs settles steps = tt
-is_other (says.Start n) sums runs settles steps = tt
-is_other (says.Expect n b state stamp written) sums runs settles steps = tt
-is_other (says.Nodes count) sums runs settles steps = tt
-is_other (says.Seed seed) sums runs settles steps = tt
-is_other (says.Create b members) sums runs settles steps = tt
-is_other (says.Append b members) sums runs settles steps = tt
-is_other (says.Write b bytes) sums runs settles steps = tt
-is_other (says.Fill b count) sums runs settles steps = tt
-is_other (says.Hflush b) sums runs settles steps = tt
-is_other (says.Hsync b) sums runs settles steps = tt
-is_other (says.Close b) sums runs settles steps = tt
+pub is_other : (line : Instruction) → ((b : BlockId) (rule : Rule) → line ≡ says.Sums b rule → ⊥) → ((count : ℕ) → line ≡ says.Run count → ⊥) → (line ≡ says.Settle → ⊥) → ((b : BlockId) (event : StepEvent) → line ≡ says.Step b event → ⊥) → ((b : BlockId) (place down up : ℕ) → line ≡ says.Cut b place down up → ⊥) → IsOther line
+is_other (says.Sums b rule) sums runs settles steps cuts = sums b rule refl
+is_other (says.Run count) sums runs settles steps cuts = runs count refl
+is_other says.Settle sums runs settles steps cuts = settles refl
+is_other (says.Step b event) sums runs settles steps cuts = steps b event refl
+is_other (says.Read b n offset count) sums runs settles steps cuts = tt
+is_other (says.Recover b n members) sums runs settles steps cuts = tt
+is_other (says.Cut b place down up) sums runs settles steps cuts = cuts b place down up refl
+is_other (says.Fault n nth) sums runs settles steps cuts = tt
+is_other (says.Stop n) sums runs settles steps cuts = tt
+is_other (says.Start n) sums runs settles steps cuts = tt
+is_other (says.Expect n b state stamp written) sums runs settles steps cuts = tt
+is_other (says.Nodes count) sums runs settles steps cuts = tt
+is_other (says.Seed seed) sums runs settles steps cuts = tt
+is_other (says.Create b members) sums runs settles steps cuts = tt
+is_other (says.Append b members) sums runs settles steps cuts = tt
+is_other (says.Write b bytes) sums runs settles steps cuts = tt
+is_other (says.Fill b count) sums runs settles steps cuts = tt
+is_other (says.Hflush b) sums runs settles steps cuts = tt
+is_other (says.Hsync b) sums runs settles steps cuts = tt
+is_other (says.Close b) sums runs settles steps cuts = tt
 
 idle_passes : (before : Before) (line : Instruction) → ordered_by line ≡ None → IsOther line → WordsFit before.nodes line → Passes before (after before line)
 idle_passes before (says.Read b n offset count) none other words = record { nodes = refl; written = refl; stage = λ x. refl }
 idle_passes before (says.Recover b n members) none other words = record { nodes = refl; written = refl; stage = λ x. refl }
-idle_passes before (says.Cut b conn down up) none other words = record { nodes = refl; written = refl; stage = λ x. refl }
+idle_passes before (says.Cut b place down up) none other words = absurd other
 idle_passes before (says.Fault n nth) none other words = record { nodes = refl; written = refl; stage = λ x. refl }
 idle_passes before (says.Stop n) none other words = record { nodes = refl; written = refl; stage = λ x. refl }
 idle_passes before (says.Start n) none other words = record { nodes = refl; written = refl; stage = λ x. refl }
@@ -191,7 +203,7 @@ idle_passes before (says.Close b) none other words = cc
 idle_plays : (blocks : List ℕ) (p : PlayState) (line : Instruction) → ordered_by line ≡ None → IsOther line → PlaysLine blocks line p p
 idle_plays blocks p (says.Read b n offset count) none other = refl
 idle_plays blocks p (says.Recover b n members) none other = refl
-idle_plays blocks p (says.Cut b conn down up) none other = refl
+idle_plays blocks p (says.Cut b place down up) none other = absurd other
 idle_plays blocks p (says.Fault n nth) none other = refl
 idle_plays blocks p (says.Stop n) none other = refl
 idle_plays blocks p (says.Start n) none other = refl

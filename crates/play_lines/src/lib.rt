@@ -1,9 +1,11 @@
 //! A play of a script: what happens next is drawn, and the lines of the script are played one after the other.
 #![tactic(auto)]
 
+mod cutting;
 mod drawing;
 mod lines;
 mod ordering;
+mod pipelines;
 mod playing;
 mod ruling;
 mod stepping;

@@ -9,7 +9,8 @@ ghost use Rattle.play_lines.specs.Showing.{IsPlaying};
 use crate::ordering::orders_are_plays;
 use crate::playing::Playing;
 use crate::ruling::rules_are_plays;
-use hd_base::{BlockId, Files, LinkIn, LinkOut, Roads};
+use fault_ports::CutRoads;
+use hd_base::{BlockId, Files, LinkIn, LinkOut};
 use play::PlayFault;
 use script_lang::{Instruction, ScriptLine};
 use std::alloc::{AllocError, Global};
@@ -48,9 +49,9 @@ fn command_of(line: &Instruction) -> Result<Option<Ordered>, AllocError>
 }
 
 impl<F: Files, I: LinkIn, O: LinkOut> Playing<F, I, O> {
-    /// A line behind the first two is played. It fits those before it, and plays have what it says: cuts, faults, stops,
+    /// A line behind the first two is played. It fits those before it, and plays have what it says: faults, stops,
     /// recoveries and reads aren't played yet, and nothing is done.
-    pub fn line<R: Roads<Inward = I, Outward = O>>(
+    pub fn line<R: CutRoads<Inward = I, Outward = O>>(
         &mut self,
         alloc: Global,
         roads: &mut R,
@@ -71,7 +72,7 @@ impl<F: Files, I: LinkIn, O: LinkOut> Playing<F, I, O> {
     }
 
     /// A line that gives no command is played.
-    fn event<R: Roads<Inward = I, Outward = O>>(
+    fn event<R: CutRoads<Inward = I, Outward = O>>(
         &mut self,
         alloc: Global,
         roads: &mut R,
@@ -93,13 +94,19 @@ impl<F: Files, I: LinkIn, O: LinkOut> Playing<F, I, O> {
             Instruction::Run { events } => self.run(alloc, roads, *events),
             Instruction::Settle => self.settle(alloc, roads),
             Instruction::Step { block, event } => self.step(alloc, roads, *block, *event),
+            Instruction::Cut {
+                block,
+                connection,
+                down,
+                up,
+            } => self.cut(roads, *block, *connection, *down, *up),
             _ => Ok(()),
         }
     }
 
     /// The lines behind the first two of a script are played, one after the other; then what is due happens until
     /// nothing is. The lines fit, and each block that they create has a client.
-    pub fn lines<R: Roads<Inward = I, Outward = O>>(
+    pub fn lines<R: CutRoads<Inward = I, Outward = O>>(
         &mut self,
         alloc: Global,
         roads: &mut R,

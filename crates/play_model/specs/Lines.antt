@@ -1,12 +1,15 @@
 -- What the lines of a script do in a play.
-use Rattle.std.specs.Prelude.{zero, suc, ◌≡◌, ℕ, nat_lt, if◌then◌else◌, List, [], ◌∷◌, Option, Some, None, option_map}
+use Rattle.std.specs.Prelude.{zero, suc, ◌≡◌, ℕ, ◌==◌, nat_lt, if◌then◌else◌, Bool, false, List, [], ◌∷◌, ◌++◌, Option, Some, None, option_map}
 use Rattle.script_lang.specs.declared.instructions.Instruction.{Instruction}
 use Rattle.script_lang.specs.declared.instructions.Instruction.TheVariants as line
 use Rattle.script_lang.specs.declared.instructions.ScriptLine.{ScriptLine}
 use Rattle.script_lang.specs.declared.instructions.StepEvent.{StepEvent}
 use Rattle.script_lang.specs.declared.instructions.StepEvent.TheVariants as step
 use Rattle.writer_core.specs.declared.commands.Command.TheVariants as command
-use Rattle.world.specs.Parts.{Lower, writes}
+use Rattle.world.specs.declared.events.Direction.TheVariants as direction
+use Rattle.world.specs.declared.events.Event.{Event}
+use Rattle.world.specs.declared.events.Event.TheVariants as event
+use Rattle.world.specs.Parts.{Upper, by_writer, Lower, writes}
 use Rattle.world.specs.Worlds.{World}
 use Rattle.play_model.specs.declared.dues.Due.{Due}
 use Rattle.play_model.specs.declared.dues.Due.TheVariants as due
@@ -14,7 +17,17 @@ use Rattle.play_model.specs.States.{PlayState, world_of, opened, ordered, ruled}
 use Rattle.play_model.specs.Dues.{is_due, after_due}
 use Rattle.play_model.specs.Draws.{draws, Settles}
 
--- ONE EVENT OF A PIPELINE
+-- THE PRESENT PIPELINE
+
+-- the writer of this block dialled
+abbrev pub is_dial_of : ℕ → Upper → Bool
+is_dial_of b (by_writer c) = c == b
+is_dial_of b other = false
+
+-- of the first connections, so many, the latest that the writer of a block dialled
+abbrev pub latest_dial : World → ℕ → ℕ → Option ℕ
+latest_dial w b zero = None
+latest_dial w b (suc n) = if is_dial_of b (w.dialled n).upper then Some n else latest_dial w b n
 
 -- the connection to the mirror of a member
 abbrev pub mirror_of : Lower → Option ℕ
@@ -27,9 +40,12 @@ conn_behind w zero first = first
 conn_behind w (suc place) None = None
 conn_behind w (suc place) (Some c) = conn_behind w place (mirror_of (w.lowers c))
 
--- the connection at a place of a block's present pipeline, whose first is the writer's
+-- The connection at a place of a block's present pipeline: the first is the latest that the writer dialled, whoever has
+-- shut since.
 abbrev pub pipeline_conn : World → ℕ → ℕ → Option ℕ
-pipeline_conn w b place = conn_behind w place (w.writers b).conn
+pipeline_conn w b place = conn_behind w place (latest_dial w b w.next_conn)
+
+-- ONE EVENT OF A PIPELINE
 
 abbrev pub step_due : World → ℕ → StepEvent → Option Due
 step_due w b step.Writer = Some (due.Own (record { 0 = b }))
@@ -42,9 +58,21 @@ abbrev pub stepped : PlayState → Option Due → PlayState
 stepped p None = p
 stepped p (Some d) = if is_due (world_of p) p.queues d then after_due p d else p
 
+-- CUTS
+
+-- A connection ends: of the messages on their way so many still arrive, down and up.
+abbrev pub cut_events : Option ℕ → ℕ → ℕ → List Event
+cut_events None down up = []
+cut_events (Some c) down up =
+    event.Lost (record { 0 = c }) direction.Down down ∷ (event.Lost (record { 0 = c }) direction.Up up ∷ [])
+
+-- It does, if there is one.
+abbrev pub cut_at : PlayState → Option ℕ → ℕ → ℕ → PlayState
+cut_at p conn down up = record p { events = p.events ++ cut_events conn down up }
+
 -- LINES
 
--- What a line of a script without cuts, faults, stops, recoveries and reads makes of a play with the writers of these blocks.
+-- What a line of a script without faults, stops, recoveries and reads makes of a play with the writers of these blocks.
 abbrev pub PlaysLine : List ℕ → Instruction → PlayState → PlayState → Type 0
 PlaysLine blocks (line.Sums b rule) old new = new ≡ ruled old b.0 rule
 PlaysLine blocks (line.Create b members) old new = new ≡ ordered old b.0 (command.Create members)
@@ -57,6 +85,8 @@ PlaysLine blocks (line.Close b) old new = new ≡ ordered old b.0 command.Close
 PlaysLine blocks (line.Run count) old new = new ≡ draws blocks count old
 PlaysLine blocks line.Settle old new = Settles blocks old new
 PlaysLine blocks (line.Step b event) old new = new ≡ stepped old (step_due (world_of old) b.0 event)
+PlaysLine blocks (line.Cut b place down up) old new =
+    new ≡ cut_at old (pipeline_conn (world_of old) b.0 place) down up
 PlaysLine blocks other old new = new ≡ old
 
 -- one after the other; behind the last one all is settled
@@ -82,7 +112,7 @@ abbrev pub blocks_of : List ScriptLine → List ℕ
 blocks_of [] = []
 blocks_of (l ∷ lines) = with_block l.instruction (blocks_of lines)
 
--- A script without cuts, faults, stops, recoveries and reads is played: its first two lines give the nodes and the seed.
+-- A script without faults, stops, recoveries and reads is played: its first two lines give the nodes and the seed.
 abbrev pub PlaysFrom : Instruction → Instruction → List ScriptLine → PlayState → Type 0
 PlaysFrom (line.Nodes count) (line.Seed seed) lines end = PlaysLines (blocks_of lines) lines (opened count seed) end
 PlaysFrom first second lines end = ⊥

@@ -2,3 +2,4 @@ pub mod Fitting
 pub mod Heads
 pub mod Blocks
 pub mod Unplayed
+pub mod Failures

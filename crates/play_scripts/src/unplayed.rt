@@ -5,7 +5,7 @@ ghost use Rattle.play_scripts.specs.Unplayed.{is_unplayed, first_unplayed, ArePl
 
 use script_lang::{Instruction, ScriptLine};
 
-/// The number of the first line that plays don't have yet: a cut, a fault, a stop, a start, a recovery or a read.
+/// The number of the first line that plays don't have yet: a fault, a stop, a start, a recovery or a read.
 pub fn first_unplayed(lines: &[ScriptLine]) -> Option<u64>
     ensures first { result ≡ first_unplayed lines.now }
     ensures none { IsNone result ↔ ArePlayed lines.now }
@@ -20,8 +20,7 @@ fn is_unplayed(instruction: &Instruction) -> bool
 {
     matches!(
         instruction,
-        Instruction::Cut { .. }
-            | Instruction::Fault { .. }
+        Instruction::Fault { .. }
             | Instruction::Stop { .. }
             | Instruction::Start { .. }
             | Instruction::Recover { .. }

@@ -4,4 +4,8 @@
 #[cfg(test)]
 mod recovering;
 #[cfg(test)]
+mod roads;
+#[cfg(test)]
 mod serving;
+#[cfg(test)]
+mod stepping;

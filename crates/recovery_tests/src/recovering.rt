@@ -1,17 +1,29 @@
 //! A recovery without a pause.
 
 use block_recovery::recover;
-use hd_base::{BlockId, Members, NodeId};
+use hd_base::{BlockId, Members, NodeId, Stamp};
 use mem_ports::MemRoads;
 use name_core::{OfficeBook, OfficeFault};
 use recovery_core::Recovered;
 use std::process::Abort;
 
-const BLOCK: BlockId = BlockId(1_073_741_825);
+pub(crate) const BLOCK: BlockId = BlockId(1_073_741_825);
 
 /// Node 1 alone.
-fn member(rt: &impl Abort) -> Members {
+pub(crate) fn member(rt: &impl Abort) -> Members {
     Members::new(&[NodeId(1)]).expect(rt, "members")
+}
+
+/// Whether a recovery was committed under this id, at this length.
+pub(crate) fn is_done(recovered: &Recovered, id: Stamp, length: u64) -> bool {
+    match recovered {
+        Recovered::Done {
+            id: given,
+            length: kept,
+            ..
+        } => given.0 == id.0 && *kept == length,
+        _ => false,
+    }
 }
 
 #[test]

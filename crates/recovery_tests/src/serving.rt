@@ -11,7 +11,7 @@ use std::process::Abort;
 const BLOCK: BlockId = BlockId(1_073_741_825);
 
 /// The book of the block, of which there is no replica.
-fn absent(alloc: Global) -> Result<ReplicaBook<MemDrawer>, FileError> {
+pub(crate) fn absent(alloc: Global) -> Result<ReplicaBook<MemDrawer>, FileError> {
     let mut shelf = MemShelf::new(alloc, &[])?;
     let drawer = shelf.lend(alloc, BLOCK)?;
     ReplicaBook::new(alloc, BLOCK, drawer)

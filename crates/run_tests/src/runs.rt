@@ -4,6 +4,7 @@ ghost use Rattle.std.specs.Prelude.{IfOk};
 ghost use Rattle.node_opening.specs.Listening.{AreUnused};
 
 use dn_run::{Exit, run};
+use fault_ports::Cutting;
 use hd_base::{BlockId, ConnId, FileName, Files, NodeId, ReplicaState, Roads, Shelf, Stamp};
 use mem_ports::{MemRoads, MemShelf, MemSink, MemSource};
 use play_report::Expected;
@@ -51,6 +52,45 @@ const FLUSHES: &[u8] =
 
 const FLUSHES_REPORT: &[u8] =
     b"replica 0 1 RBW 1001 700 700 3d0abcfd ok\nreplica 1 1 RBW 1001 700 700 3d0abcfd ok\nreplica 2 1 RBW 1001 700 700 3d0abcfd ok\nanswer 1 0 create ok 1001\nanswer 1 2 hflush ok 600 1001 0,1,2\nanswer 1 4 hflush ok 700 1001 0,1,2\nend\n";
+
+/// The connection between the first two of three members is cut behind a packet that all have and no ack of which has come
+/// back: the writer drops the second member, and sends the packet again to the others.
+const CUT_STREAM: &[u8] =
+    b"nodes 3\nseed 1\ncreate 1 0,1,2\nfill 1 512\nhflush 1\nsettle\nfill 1 488\nhflush 1\nstep 1 writer\nstep 1 writer\nstep 1 writer\nstep 1 down 0\nstep 1 down 1\nstep 1 down 2\nstep 1 ready 2\nstep 1 up 2\ncut 1 1 0 0\n";
+
+const CUT_STREAM_REPORT: &[u8] =
+    b"replica 0 1 RBW 1002 1000 1000 78ba7f28 ok\nreplica 1 1 RBW 1001 1000 1000 78ba7f28 ok\nreplica 2 1 RBW 1002 1000 1000 78ba7f28 ok\nanswer 1 0 create ok 1001\nanswer 1 2 hflush ok 512 1001 0,1,2\nanswer 1 4 hflush ok 1000 1002 0,2\nend\n";
+
+/// Where a connection is cut of a pipeline of three members: while it is set up, while it streams, behind its last packet,
+/// and while an append sets it up.
+const CUT_PLACES: [(&[u8], &[u8]); 4] = [
+    (
+        b"create 1 0,1,2\nrun 6\n",
+        b"fill 1 600\nhflush 1\nclose 1\n",
+    ),
+    (
+        b"create 1 0,1,2\nfill 1 600\nhflush 1\nrun 20\n",
+        b"fill 1 600\nclose 1\n",
+    ),
+    (
+        b"create 1 0,1,2\nfill 1 600\nsettle\nclose 1\nrun 6\n",
+        b"append 1 0,1,2\nclose 1\n",
+    ),
+    (
+        b"create 1 0,1,2\nfill 1 600\nclose 1\nsettle\nappend 1 0,1,2\nrun 6\n",
+        b"fill 1 9\nclose 1\n",
+    ),
+];
+
+/// The cuts of each connection: nothing more arrives, or a message down and two up do.
+const CUTS: [&[u8]; 6] = [
+    b"cut 1 0 0 0\n",
+    b"cut 1 0 1 2\n",
+    b"cut 1 1 0 0\n",
+    b"cut 1 1 1 2\n",
+    b"cut 1 2 0 0\n",
+    b"cut 1 2 1 2\n",
+];
 
 /// A block without sums.
 const UNSUMMED: &[u8] =
@@ -119,7 +159,7 @@ struct Left {
 
 /// Runs a script on three shelves, with the words of this line.
 fn run_one(alloc: Global, line: &str, text: &[u8], failing: Failing) -> Result<Left, Fail> {
-    new_roads_are_unused::<MemRoads>();
+    new_roads_are_unused::<Cutting<MemRoads>>();
     let mut words = Vec::new(alloc);
     for word in line.split_whitespace() {
         words.push(String::from_str(alloc, word)?)?;
@@ -131,7 +171,7 @@ fn run_one(alloc: Global, line: &str, text: &[u8], failing: Failing) -> Result<L
         MemShelf::new(alloc, &[])?,
         MemShelf::new(alloc, &[])?,
     ]?;
-    let mut roads = MemRoads::new(alloc, &[failing.at(Port::Roads)])?;
+    let mut roads = Cutting::new(alloc, MemRoads::new(alloc, &[failing.at(Port::Roads)])?);
     let exit = run(
         alloc,
         &words,
@@ -144,19 +184,20 @@ fn run_one(alloc: Global, line: &str, text: &[u8], failing: Failing) -> Result<L
         exit,
         report,
         shelves,
-        roads,
+        roads: roads.into_inner(),
     })
 }
 
 /// What each of the examples reports.
 #[test]
 fn examples_are_reported(rt: HostRuntime) -> Result<(), Fail> {
-    let table: [(&[u8], &[u8]); 6] = [
+    let table: [(&[u8], &[u8]); 7] = [
         (NINE, NINE_REPORT),
         (TWO_PACKETS, TWO_PACKETS_REPORT),
         (EMPTY, EMPTY_REPORT),
         (APPEND, APPEND_REPORT),
         (FLUSHES, FLUSHES_REPORT),
+        (CUT_STREAM, CUT_STREAM_REPORT),
         (UNSUMMED, UNSUMMED_REPORT),
     ];
     for (script, report) in table {
@@ -208,6 +249,25 @@ fn flushes_are_answered(rt: HostRuntime) -> Result<(), Fail> {
     let lines = left.report.bytes().split(|byte| *byte == b'\n');
     let flushed = lines.filter(|line| line.ends_with(b" 1001 0,1,2")).count();
     assert_eq!(rt; flushed, FLUSHES_IN_A_ROW + 1);
+    Ok(())
+}
+
+/// Each connection of a pipeline is cut, at each of its places: the play goes on to its end, and no command waits for an
+/// answer.
+#[test]
+fn each_connection_is_cut(rt: HostRuntime) -> Result<(), Fail> {
+    for (before, behind) in CUT_PLACES {
+        for cut in CUTS {
+            let mut script = Vec::new(rt.alloc());
+            for part in [b"nodes 3\nseed 7\n".as_slice(), before, cut, behind] {
+                script.extend_from_slice(part)?;
+            }
+            let left = run_one(rt.alloc(), "play", &script, NONE)?;
+            assert_eq!(rt; left.exit, Exit::Done);
+            let mut lines = left.report.bytes().split(|byte| *byte == b'\n');
+            assert!(rt; !lines.any(|line| line.ends_with(b" waiting")));
+        }
+    }
     Ok(())
 }
 

@@ -1,12 +1,13 @@
 -- What a reading client does on its connection.
-use Rattle.std.specs.Prelude.{◌≡◌, ◌⊎◌, ℕ, false, true, is_some, List, [], ◌∷◌, Option, Some, None, option_map, Ok, Err}
+use Rattle.std.specs.Prelude.{◌≡◌, ◌≤◌, ◌⊎◌, ℕ, false, true, is_some, List, [], ◌∷◌, length, Option, Some, None, option_map, Ok, Err}
 use Rattle.hd_base.specs.declared.ends.Conn.{Conn}
 use Rattle.hd_base.specs.declared.links.LinkIn as link_in
 use Rattle.hd_base.specs.declared.links.LinkOut as link_out
 use Rattle.link_messages.specs.Incomings.{IncomingState, nothing_received}
 use Rattle.op_headers.specs.declared.ops.Op.TheVariants as op
 use Rattle.op_headers.specs.declared.ops.ReadOp.{ReadOp}
-use Rattle.op_headers.specs.Requests.{op_text}
+use Rattle.op_headers.specs.Requests.{op_message, op_text}
+use Rattle.proto_fields.specs.Frames.{limit}
 use Rattle.read_core.specs.declared.reading.FromNode.{FromNode}
 use Rattle.read_core.specs.declared.reading.ReadTurn.{ReadTurn}
 use Rattle.read_core.specs.declared.reading.ReadTurn.TheVariants as turn
@@ -23,6 +24,10 @@ use Rattle.visible_read.specs.declared.talking.ReadStep.{ReadStep}
 use Rattle.visible_read.specs.declared.talking.ReadStep.TheVariants as step
 use Rattle.visible_read.specs.declared.talking.Talk.{Talk}
 use Rattle.visible_read.specs.Hearing.{Hears}
+
+-- The message of a read's request isn't too long to be sent.
+abbrev pub FitsRequest : ReadOp → Type 0
+FitsRequest r = length (op_message (op.Read r)) ≤ limit
 
 -- CHECKSUM_OK as it is written
 abbrev pub checksum_ok : List ℕ

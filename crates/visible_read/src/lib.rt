@@ -2,6 +2,7 @@
 #![tactic(auto)]
 
 mod answering;
+mod asking;
 mod driving;
 mod hearing;
 mod laws;
@@ -12,6 +13,7 @@ mod serving;
 mod talking;
 
 pub use answering::{Reply, Served};
+pub use asking::fits_request;
 pub use driving::serve_read;
 pub use laws::packets_follow_the_read;
 pub use reading::Reading;

@@ -1,12 +1,9 @@
 //! The reading client, which owns its connection.
 
-ghost use Rattle.std.specs.Prelude.{◌≡◌, ◌≤◌, true, length, is_some, IfOk, IfErr};
+ghost use Rattle.std.specs.Prelude.{◌≡◌, true, is_some, IfOk, IfErr};
 ghost use Rattle.hd_base.specs.Ends.{IsKnown};
 ghost use Rattle.link_pieces.specs.Roads.{names, ExchangesEnd, BringsEnd};
-ghost use Rattle.proto_fields.specs.Frames.{limit};
-ghost use Rattle.op_headers.specs.declared.ops.Op.TheVariants as Op;
-ghost use Rattle.op_headers.specs.Requests.{op_message};
-ghost use Rattle.visible_read.specs.Talking.{Begins, Steps, StaysOpen};
+ghost use Rattle.visible_read.specs.Talking.{FitsRequest, Begins, Steps, StaysOpen};
 
 use crate::talking::{ReadStep, Talk};
 use hd_base::{Conn, ConnId, LinkIn, LinkOut, RoadError, Roads};
@@ -22,14 +19,14 @@ pub struct Reading<I, O> {
 }
 
 impl<I: LinkIn, O: LinkOut> Reading<I, O> {
-    /// A read of which nothing was done, over this end. The request's message has at most 65,536 bytes. Want of memory
-    /// gives the end back.
+    /// A read of which nothing was done, over this end. The request's message has at most 65,536 bytes: `fits_request`
+    /// tests this. Want of memory gives the end back.
     pub fn new(
         alloc: Global,
         end: Conn<I, O>,
         op: ReadOp,
     ) -> Result<Reading<I, O>, (AllocError, Conn<I, O>)>
-        requires { length (op_message (Op.Read op)) ≤ limit }
+        requires { FitsRequest op }
         ensures end { IfOk result (λ reading. reading.end ≡ end) }
         ensures begins { IfOk result (λ reading. Begins op reading.talk) }
         ensures given_back { IfErr result (λ e. e.1 ≡ end) }

@@ -1,10 +1,8 @@
 //! A read, waited for.
 
-ghost use Rattle.std.specs.Prelude.{◌≤◌, length, IfOk};
-ghost use Rattle.proto_fields.specs.Frames.{limit};
-ghost use Rattle.op_headers.specs.declared.ops.Op.TheVariants as Op;
-ghost use Rattle.op_headers.specs.Requests.{op_message};
+ghost use Rattle.std.specs.Prelude.{IfOk};
 ghost use Rattle.visible_read.specs.ReadingBack.{ReadsBack, HasRead};
+ghost use Rattle.visible_read.specs.Talking.{FitsRequest};
 
 use crate::talking::{ReadFault, ReadStep, Talk};
 use hd_base::{Conn, LinkIn, LinkOut};
@@ -14,14 +12,15 @@ use std::sync::Wait;
 
 /// Reads bytes of a block over a connection to a node, and waits where the next message isn't there yet: the bytes
 /// that were asked for, each under a sum that agrees, which CHECKSUM_OK has answered. The request's message has at
-/// most 65,536 bytes. The connection is shut then, unless memory ran out before the request was sent.
+/// most 65,536 bytes: `fits_request` tests this. The connection is shut then, unless memory ran out before the request
+/// was sent.
 pub fn read_back<H: Wait, I: LinkIn, O: LinkOut>(
     rt: &H,
     alloc: Global,
     conn: &mut Conn<I, O>,
     op: &ReadOp,
 ) -> Result<Vec<u8>, ReadFault>
-    requires { length (op_message (Op.Read op.now)) ≤ limit }
+    requires { FitsRequest op.now }
     ensures steps { ReadsBack I.LinkIn O.LinkOut op.now conn.old conn.new (ReadStep.Ended result) }
     ensures read { IfOk result (λ bytes. HasRead O.LinkOut op.now conn.old.outward conn.new.outward bytes.items) }
 {

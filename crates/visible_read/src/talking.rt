@@ -1,9 +1,8 @@
 //! What a reading client does on its connection, step by step.
 
-ghost use Rattle.std.specs.Prelude.{◌≡◌, ◌≤◌, true, length, IfOk, Some, is_some};
-ghost use Rattle.proto_fields.specs.Frames.{limit};
-ghost use Rattle.op_headers.specs.Requests.{op_message};
+ghost use Rattle.std.specs.Prelude.{◌≡◌, true, IfOk, Some, is_some};
 ghost use Rattle.visible_read.specs.Talking.{
+  FitsRequest,
   Begins,
   Steps,
   Asks,
@@ -69,7 +68,7 @@ pub(crate) struct Talk {
 impl Talk {
     /// A read of which nothing was done. The request's message has at most 65,536 bytes.
     pub fn new(alloc: Global, op: ReadOp) -> Result<Talk, AllocError>
-        requires { length (op_message (Op.Read op)) ≤ limit }
+        requires { FitsRequest op }
         ensures { IfOk result (Begins op) }
     {
         let core = CoreReading::new(alloc, &op);

@@ -14,7 +14,8 @@ ghost use Rattle.whole_play.specs.Playing.{IsClosed, IsPlayed, LeavesShelves, Ha
 
 use crate::faults::RunFault;
 use crate::opening::open_play;
-use hd_base::{Files, LinkIn, LinkOut, Roads, Shelf};
+use fault_ports::CutRoads;
+use hd_base::{Files, LinkIn, LinkOut, Shelf};
 use node_opening::{close_nodes, fitting_books_are_of_blocks, opened_nodes_close, shown_nodes_fit};
 use play_laws::nodes_run;
 use play_lines::Playing;
@@ -42,7 +43,7 @@ pub struct Played {
 
 /// Plays a script over the first of the shelves, one for each node, and over roads that are unused. Lines that plays don't
 /// have yet do nothing. What the shelves have lent is given back, whatever the result is.
-pub fn play_script<S: Shelf, R: Roads>(
+pub fn play_script<S: Shelf, R: CutRoads>(
     alloc: Global,
     roads: &mut R,
     shelves: &mut [S],
@@ -68,7 +69,7 @@ pub fn play_script<S: Shelf, R: Roads>(
 }
 
 /// Plays a script with this head over as many shelves as it has nodes.
-fn play_on<S: Shelf, R: Roads>(
+fn play_on<S: Shelf, R: CutRoads>(
     alloc: Global,
     roads: &mut R,
     shelves: &mut [S],
@@ -95,7 +96,7 @@ fn play_on<S: Shelf, R: Roads>(
 }
 
 /// Plays the lines behind the head of a script, and makes the report.
-fn play_through<F: Files, I: LinkIn, O: LinkOut, R: Roads<Inward = I, Outward = O>>(
+fn play_through<F: Files, I: LinkIn, O: LinkOut, R: CutRoads<Inward = I, Outward = O>>(
     alloc: Global,
     roads: &mut R,
     playing: &mut Playing<F, I, O>,

@@ -7,6 +7,7 @@ ghost use Rattle.world.specs.Worlds.{start};
 ghost use Rattle.world.specs.Events.{run};
 ghost use Rattle.world.specs.Safe.{Closed, Safe};
 ghost use Rattle.world_closings.specs.Answering.{AllClose};
+ghost use Rattle.world_closings.specs.Safety.{AllSafe};
 
 use world::Schedule;
 
@@ -31,4 +32,9 @@ pub fn safe_law(schedule: &Schedule)
     requires low { 1 ≤ schedule.now.nodes }
     requires high { schedule.now.nodes ≤ 16 }
     ensures { Safe (run (start schedule.now.nodes) schedule.now.events) }
+{}
+
+/// The headline as a law: it holds after every list of events of at most 16 nodes.
+pub fn worlds_are_safe()
+    ensures { AllSafe }
 {}

@@ -26,3 +26,14 @@ pub mod OwnEvents
 pub mod OfficeAnswers
 pub mod WriterPairs
 pub mod OfficeEvents
+pub mod ManyDials
+pub mod Updates
+pub mod ReaderOwn
+pub mod LeadingWeights
+pub mod LeadingOwn
+pub mod LeadingEvents
+pub mod PrimaryAsides
+pub mod Actors
+pub mod Drawing
+pub mod Telling
+pub mod Runs

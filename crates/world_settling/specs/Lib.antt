@@ -1,2 +1,4 @@
 pub mod Measure
 pub mod Traffic
+pub mod Leading
+pub mod Draws

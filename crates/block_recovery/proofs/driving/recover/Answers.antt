@@ -1,20 +1,18 @@
 -- Steps that follow one another, until one ends the recovery.
-use Rattle.std.proofs.Common.{length, All, inr, ap, sym, subst, ◌∙◌}
-use Rattle.block_recovery.specs.Dialling.{LinkIsKnown}
-use Rattle.block_recovery.proofs.DrivingLaws.{none_known, none_count, comes_nowhere, comes_on}
+use Rattle.std.proofs.Common.{inr}
+use Rattle.block_recovery.proofs.DrivingLaws.{comes_nowhere, comes_on}
 use Rattle.block_recovery.proofs.driving.recover.Goals as goal
 
 pub steps-init : goal.steps-init
 steps-init g c =
     let made = c.in-Ok.made in
-    let n = c.in-Ok.ensures in
     record {
       first = made;
-      is_new = n;
+      is_new = c.in-Ok.ensures.made;
       comes = comes_nowhere g.D.Desk g.R.Roads g.R.Inward.LinkIn g.R.Outward.LinkOut
           (record { primary = made; office = c.args.office.now; road = c.args.roads.now });
-      count = ap length n.no_links ∙ none_count g.row.R-Inward.Denot g.row.R-Outward.Denot c.args.members.now ∙ ap length (sym n.at_members);
-      known = subst (All (LinkIsKnown (g.R.Roads.plain c.args.roads.now))) (sym n.no_links) (none_known (g.R.Roads.plain c.args.roads.now) c.args.members.now);
+      count = c.in-Ok.ensures.count;
+      known = c.in-Ok.ensures.known (g.R.Roads.plain c.args.roads.now);
     }
 
 pub returns-in-Ended : goal.returns-in-Ended

@@ -17,3 +17,9 @@ returns-in-Err-clause-updates g c = record {
   sends = c.in-Err.ensures.sends;
   ends = c.end.ensures.ends;
 }
+
+pub settle-requires-after_bounds : goal.settle-requires-after_bounds
+settle-requires-after_bounds g c κs within = c.send_request.ensures.ends (g.R.Roads.plain c.args.roads.now) c.requires.known
+
+pub end-requires-after_bounds : goal.end-requires-after_bounds
+end-requires-after_bounds g c κs within = c.send_request.ensures.ends (g.R.Roads.plain c.args.roads.now) c.requires.known

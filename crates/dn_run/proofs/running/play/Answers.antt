@@ -134,5 +134,6 @@ returns-clause-played g c =
       lines = lines;
       read = read;
       played = played;
-      complete = λ members. completes lines (world_of played.closed.through.end) (c.plays_complete.ensures n lines played.closed.through.end fits read.playable.played members played.closed.through.plays);
+      safe = c.plays_are_safe.ensures n lines played.closed.through.end fits played.closed.through.plays;
+      complete = λ sound members. completes lines (world_of played.closed.through.end) (c.plays_complete.ensures n lines played.closed.through.end fits sound members played.closed.through.plays);
     }
