@@ -116,11 +116,11 @@ none_part b m none = λ i name. at name i where
 -- ---- what was found of each block
 
 -- What a scan of a shelf found of a block, in its lists.
-record FoundAt (m n : FileMap) (replicas : List Seen) (moved : List BlockId) (b : ℕ) : Type 0 where
-  of : Scanned
-  is : IsScanned m n b of
-  listed : (s : Seen) → of.seen ≡ Some s → Contains replicas s
-  named : of.is_moved ≡ true → Contains moved (block_numbered b)
+pub record FoundAt (m n : FileMap) (replicas : List Seen) (moved : List BlockId) (b : ℕ) : Type 0 where
+  pub of : Scanned
+  pub is : IsScanned m n b of
+  pub listed : (s : Seen) → of.seen ≡ Some s → Contains replicas s
+  pub named : of.is_moved ≡ true → Contains moved (block_numbered b)
 
 front_contains : {A : Type 0} (xs ys : List A) (q : A) → Contains xs q → Contains (xs ++ ys) q
 front_contains [] ys q at = absurd (omega (arith, at.1))
@@ -209,7 +209,7 @@ module _ (m n : FileMap) (found : Found) (s : ScansShelf m n found) where
           at name true e = ap (λ u. cond u (m name) None) e ∙ no_file (m name) (λ there. none (name, of_this b name e, there))
           at name false e = ap (λ u. cond u (m name) None) e
 
-  found_at : (b : ℕ) → FoundAt m n found.replicas.items found.moved.items b
+  pub found_at : (b : ℕ) → FoundAt m n found.replicas.items found.moved.items b
   found_at b = by (has_or_not s.blocks b) where
     by : Contains s.blocks b ⊎ ((c : ℕ) → Contains s.blocks c → c ≡ b → ⊥) → FoundAt m n found.replicas.items found.moved.items b
     by (inl at) = subst (λ l. FoundAt m n l found.moved.items b) (sym s.scans.replicas_are) (subst (λ l. FoundAt m n (seen_all s.scans.results) l b) (sym s.scans.moved_are) (found_listed m n s.blocks s.scans.results b s.scans.each at))
