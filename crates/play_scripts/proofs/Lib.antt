@@ -4,3 +4,4 @@ pub mod Scripted
 pub mod Placed
 pub mod Distinct
 pub mod UnplayedLemmas
+mod StormFits

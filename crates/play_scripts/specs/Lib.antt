@@ -3,3 +3,4 @@ pub mod Heads
 pub mod Blocks
 pub mod Unplayed
 pub mod Failures
+pub mod Storms

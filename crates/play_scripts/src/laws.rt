@@ -1,6 +1,7 @@
 //! What the lines of each script keep.
 
 ghost use Rattle.play_scripts.specs.Fitting.{ScriptsFit};
+ghost use Rattle.play_scripts.specs.Storms.{StormsFit};
 
 use script_lang::script_names_its_nodes;
 
@@ -10,3 +11,8 @@ pub fn scripts_fit()
 {
     script_names_its_nodes();
 }
+
+/// The script of each storm fits, where there are five shelves.
+pub fn storms_fit()
+    ensures { StormsFit }
+{}

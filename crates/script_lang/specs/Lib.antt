@@ -8,4 +8,5 @@ pub mod Reports
 pub mod Rules
 pub mod Said
 pub mod Scripts
+pub mod Storms
 pub mod Words

@@ -14,6 +14,7 @@ mod reading;
 mod report;
 mod report_reading;
 mod report_words;
+mod storms;
 mod words;
 
 pub use faults::{BadKind, LineFault, ScriptError};
@@ -26,3 +27,4 @@ pub use report::{
     SetupResult,
 };
 pub use report_reading::read_line;
+pub use storms::{STORM_NODES, storm_script};

@@ -5,3 +5,5 @@
 mod reports;
 #[cfg(test)]
 mod scripts;
+#[cfg(test)]
+mod storms;
