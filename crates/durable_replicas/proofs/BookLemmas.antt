@@ -24,9 +24,9 @@ use Rattle.durable_replicas.proofs.SyncLemmas.{calls_append, no_strays, none_som
 -- ---- the replica stays there
 
 -- Something is held.
-record IsHeldAfter (q : Option ReplicaInfo) : Type 0 where
-  held : ReplicaInfo
-  there : q ≡ Some held
+pub record IsHeldAfter (q : Option ReplicaInfo) : Type 0 where
+  pub held : ReplicaInfo
+  pub there : q ≡ Some held
 
 turned_held : (o q : Option ReplicaInfo) (h : ReplicaInfo) → o ≡ Some h → Turns o q → IsHeldAfter q
 unfolding Turns
@@ -34,13 +34,13 @@ turned_held None q h there turned = absurd (none_some h there)
 turned_held (Some g) None h there turned = absurd turned
 turned_held (Some g) (Some k) h there turned = record { held = k; there = refl }
 
-outcome_held : (c : ReplicaRecord) (out : Outcome) (h : ReplicaInfo) → c.info ≡ Some h → IfOk out (TurnsTo c) → IsHeldAfter (record_after c out).info
+pub outcome_held : (c : ReplicaRecord) (out : Outcome) (h : ReplicaInfo) → c.info ≡ Some h → IfOk out (TurnsTo c) → IsHeldAfter (record_after c out).info
 outcome_held c (Ok t) h there turned = turned_held c.info t.replica.info h there turned
 outcome_held c (Err e) h there turned = record { held = h; there = there }
 
 -- ---- the calls
 
-later_more : (r : FullReplica) (e : ReplicaEvent) (es : List ReplicaEvent) → IsFull r → IsWithBytes e → later_calls r (e ∷ es) ≡ calls_of r.known.block.0 (plan r e) (placement_of r) ++ later_calls (row r e) es
+pub later_more : (r : FullReplica) (e : ReplicaEvent) (es : List ReplicaEvent) → IsFull r → IsWithBytes e → later_calls r (e ∷ es) ≡ calls_of r.known.block.0 (plan r e) (placement_of r) ++ later_calls (row r e) es
 later_more r e es full with_bytes =
     let b = r.known.block.0 in
     let first = calls_of b (plan r e) (placement_of r) in
@@ -51,10 +51,10 @@ later_more r e es full with_bytes =
 
 -- ---- the log
 
-log_more : (log : Log) (xs ys : List Call) → logged ys (logged xs log) ≡ logged (xs ++ ys) log
+pub log_more : (log : Log) (xs ys : List Call) → logged ys (logged xs log) ≡ logged (xs ++ ys) log
 log_more log xs ys = ap (λ l. let x : Log = record { start = log.start; calls = l } in x) (append_assoc log.calls xs ys)
 
-log_same : (log : Log) → log ≡ logged [] log
+pub log_same : (log : Log) → log ≡ logged [] log
 log_same log = ap (λ l. let x : Log = record { start = log.start; calls = l } in x) (sym (append-nil log.calls))
 
 pub logs_follow_events : {F : Type 0} (f : files.Ghosts F) → LogsFollowEvents f

@@ -6,3 +6,4 @@ pub mod LawLemmas
 pub mod SyncLemmas
 pub mod ShelfLemmas
 pub mod BookLemmas
+pub mod SurvivalLemmas

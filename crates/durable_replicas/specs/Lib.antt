@@ -4,3 +4,4 @@ pub mod Losses
 pub mod Hsyncs
 pub mod Scans
 pub mod Books
+pub mod Survival

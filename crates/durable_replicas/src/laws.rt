@@ -4,6 +4,7 @@ ghost use Rattle.durable_replicas.specs.Books.{LogsFollowEvents};
 ghost use Rattle.durable_replicas.specs.Hsyncs.{PacketsEndSynced};
 ghost use Rattle.durable_replicas.specs.Losses.{LossesKeepChunks, LossesKeepFronts};
 ghost use Rattle.durable_replicas.specs.Scans.{ScansKeepChunks, ScansKeepFronts};
+ghost use Rattle.durable_replicas.specs.Survival.{HsyncsKeepFronts, HsyncsSurvive};
 
 use hd_base::Files;
 
@@ -39,4 +40,16 @@ pub fn losses_keep_fronts()
 /// The same of the scan of a whole shelf.
 pub fn scans_keep_fronts()
     ensures { ScansKeepFronts }
+{}
+
+/// A book takes a packet with sync, and then whatever else, while at least n bytes are left; the power is lost at some
+/// later call on its files. The scan of a restart lists the replica with at least the whole chunks among the first n
+/// bytes that the packet's sync made durable.
+pub fn hsyncs_survive<F: Files>()
+    ensures { HsyncsSurvive F.Files }
+{}
+
+/// It lists a front of what was written, where no torn chunk matches its sum by chance.
+pub fn hsyncs_keep_fronts<F: Files>()
+    ensures { HsyncsKeepFronts F.Files }
 {}

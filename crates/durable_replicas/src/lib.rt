@@ -4,6 +4,6 @@
 mod laws;
 
 pub use laws::{
-    logs_follow_events, losses_keep_chunks, losses_keep_fronts, packets_end_synced,
-    scans_keep_chunks, scans_keep_fronts,
+    hsyncs_keep_fronts, hsyncs_survive, logs_follow_events, losses_keep_chunks, losses_keep_fronts,
+    packets_end_synced, scans_keep_chunks, scans_keep_fronts,
 };

@@ -2,4 +2,6 @@
 #![tactic(auto)]
 
 #[cfg(test)]
+mod losses;
+#[cfg(test)]
 mod scans;
