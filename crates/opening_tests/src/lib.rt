@@ -1,5 +1,7 @@
-//! Tests of `node_opening`: nodes over memory.
+//! Tests of `node_opening` and `node_stops`: nodes over memory.
 #![tactic(auto)]
 
 #[cfg(test)]
 mod opening;
+#[cfg(test)]
+mod stopping;

@@ -15,7 +15,7 @@ const FIRST: BlockId = BlockId(5);
 const SECOND: BlockId = BlockId(8);
 
 /// The blocks of a play.
-fn two_blocks(alloc: Global) -> Result<Vec<BlockId>, AllocError>
+pub(crate) fn two_blocks(alloc: Global) -> Result<Vec<BlockId>, AllocError>
     ensures { IfOk result (λ blocks. AreDistinct blocks.items) }
 {
     let mut blocks = Vec::new(alloc);

@@ -1,0 +1,5 @@
+mod ConnectionLemmas
+mod CutLemmas
+mod EndLemmas
+mod StandLemmas
+mod StopLemmas

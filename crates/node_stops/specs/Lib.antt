@@ -1,0 +1,4 @@
+pub mod Connections
+pub mod Cutting
+pub mod Ending
+pub mod Stopping

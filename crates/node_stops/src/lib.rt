@@ -1,0 +1,10 @@
+//! A node of a play stops between two events: nothing further arrives on its connections, and the ends that it had are
+//! brought back.
+#![tactic(auto)]
+
+mod connections;
+mod cutting;
+mod ending;
+mod stopping;
+
+pub use stopping::stop_node;
