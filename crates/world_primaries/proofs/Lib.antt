@@ -1,0 +1,3 @@
+mod DrawnLemmas
+mod LinkLemmas
+mod DialLemmas
