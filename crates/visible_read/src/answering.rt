@@ -35,7 +35,7 @@ use std::alloc::{AllocError, Global};
 
 /// How far the serving of a read is.
 #[derive(Clone, Copy, Debug)]
-pub(crate) enum Course {
+pub enum Course {
     /// The request is to be answered.
     Asked,
     /// It was answered SUCCESS, and a packet is to be sent.
@@ -73,7 +73,7 @@ pub enum Served {
 
 /// What a step did: the entry of the book, what was sent, how far the read is, and how it ended, where it did.
 #[derive(Debug, Drop)]
-pub(crate) struct Took {
+pub struct Took {
     pub receipt: Option<Receipt>,
     pub reply: Option<Reply>,
     pub course: Course,

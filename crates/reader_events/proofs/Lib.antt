@@ -1,0 +1,11 @@
+pub mod MakeLaws
+pub mod Staying
+pub mod NodesStay
+pub mod ClientsStay
+pub mod OrderLaws
+pub mod AllInOrder
+pub mod HearSteps
+pub mod HearLaws
+pub mod AskSteps
+pub mod AskLaws
+pub mod CanHearLaws

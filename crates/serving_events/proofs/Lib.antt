@@ -1,0 +1,11 @@
+pub mod ReadRows
+pub mod WorldAfter
+pub mod DrawnLaws
+pub mod EndMoves
+pub mod ReadTexts
+pub mod FaultLaws
+pub mod RequestSteps
+pub mod RequestEvents
+pub mod PacketSteps
+pub mod PacketEvents
+pub mod EndEvents

@@ -1,0 +1,147 @@
+-- What a step has done that sends the next packet of a read.
+use Rattle.std.proofs.Common.{◌≡◌, ◌==◌, ℕ, Bool, true, false, if◌then◌else◌, List, length, Option, Some, None, IfSome, Result, Ok, Err, refl, ap, ◌∙◌, arith}
+use Rattle.std.proofs.lemmas.Bool.Decides.{nat_tests}
+use Rattle.hd_base.specs.FileMaps.{FileMap}
+use Rattle.hd_base.specs.Faults.{FaultsIncreased}
+use Rattle.hd_base.specs.declared.files.Files as files
+use Rattle.hd_base.specs.declared.links.LinkOut as link_out
+use Rattle.hd_base.specs.declared.numbers.Receipt.{Receipt}
+use Rattle.packet_codec.specs.Packets.{packet_text}
+use Rattle.replica_core.specs.declared.events.Event.{Event}
+use Rattle.replica_core.specs.declared.refusals.Refusal.{Refusal}
+use Rattle.replica_core.specs.Transitions.{transition}
+use Rattle.replica_model.specs.declared.events.ReplicaEvent.TheVariants as replica_event
+use Rattle.replica_model.specs.Rows.{broken}
+use Rattle.replica_files.specs.declared.book_state.BookState.{BookState}
+use Rattle.replica_files.specs.declared.faults.BookFault.{BookFault}
+use Rattle.replica_files.specs.declared.faults.BookFault.TheVariants as fault
+use Rattle.replica_files.specs.Books.{replica_of, IsBookOf, Takes}
+use Rattle.replica_files.specs.Endings.{BookEnds}
+use Rattle.read_core.specs.declared.serving.ServePhase.{ServePhase}
+use Rattle.read_core.specs.declared.serving.ServePhase.TheVariants as phase
+use Rattle.read_core.specs.Servings.{ServingState, piece_len, piece_event, piece_of, packet_of, call_at, next_call, gone_on, sent_in, sent as sent_on}
+use Rattle.pipe_turns.specs.Turning.{SendsAlone}
+use Rattle.pipe_turns.specs.declared.turning.Done.{Done}
+use Rattle.pipe_turns.specs.declared.turning.Done.TheVariants as done
+use Rattle.visible_read.specs.declared.answering.Served.TheVariants as served
+use Rattle.visible_read.specs.declared.answering.Took.{Took}
+use Rattle.visible_read.specs.Packets.{passed, passed_on, PassesAll, SendsBooked, SendsNext}
+use Rattle.member_events.proofs.TurnEnds.{HasSaid, alone}
+use Rattle.serving_events.proofs.ReadRows.{IsAnswered, answered_same, failed_breaks, answered_whole, failed_broke, all_there}
+use Rattle.serving_events.proofs.RequestSteps.{breaks_in, alone_rose, never_books}
+
+-- THE NEXT CALL
+
+-- This is the call of the next packet, of a read that sends packets.
+pub record IsCall (s : ServingState) (e : Event) : Type 0 where
+  pub sending : s.phase ≡ phase.Sending
+  pub is : e ≡ piece_event s
+
+pub call_is : (s : ServingState) (e : Event) → next_call s ≡ Some e → IsCall s e
+call_is s e h = go s.phase refl h
+  where
+    go : (p : ServePhase) → s.phase ≡ p → call_at p s ≡ Some e → IsCall s e
+    go phase.Sending is k = record { sending = is; is = cc }
+    go phase.Awaiting is k = cc
+    go phase.Over is k = cc
+
+-- behind the empty last packet there is no call
+gone_none : (s : ServingState) → (piece_len s == 0) ≡ true → next_call (gone_on s) ≡ None
+unfolding gone_on
+gone_none s last = ap (λ (b : Bool). call_at (if b then phase.Awaiting else phase.Sending) (gone_on s)) last
+
+pub last_none : (s : ServingState) → s.phase ≡ phase.Sending → (piece_len s == 0) ≡ true → next_call (sent_on s) ≡ None
+last_none s sending last = ap (λ (p : ServePhase). next_call (sent_in p s)) sending ∙ gone_none s last
+
+-- WHAT WAS DONE
+
+-- The replica stays.
+pub record StaysWhole {F : Type 0} (book book' : BookState F) : Type 0 where
+  pub same : replica_of book' ≡ replica_of book
+  pub whole : breaks_in book book' ≡ false
+
+-- A packet with these bytes was sent, which are the replica's where its files are observable.
+pub record SendsPacket {F O : Type 0} (f : files.Ghosts F) (o : link_out.Ghosts O) (s : ServingState) (book book' : BookState F) (out out' : O) (took : Took) : Type 0 where
+  pub body : List ℕ
+  pub receipt : Receipt
+  pub bytes : IfSome (f.files book.drawer) (λ _. body ≡ piece_of (replica_of book) s)
+  pub takes : Takes (replica_of book) (replica_event.Other (piece_event s))
+  pub stays : StaysWhole book book'
+  pub says : HasSaid o (Some (packet_text (packet_of s body))) out out'
+  pub is : took ≡ passed_on s (packet_of s body) receipt
+
+-- The replica has refused the packet.
+pub record IsRefused {F O : Type 0} (s : ServingState) (book book' : BookState F) (out out' : O) (took : Took) : Type 0 where
+  pub why : Refusal
+  pub is : took.served ≡ Some (served.Refused why)
+  pub refused : transition (replica_of book).known (piece_event s) ≡ Err why
+  pub stays : StaysWhole book book'
+  pub none : out' ≡ out
+
+-- The call on the replica's files failed.
+pub record HasFailed {F O : Type 0} (f : files.Ghosts F) (book book' : BookState F) (out out' : O) (took : Took) : Type 0 where
+  pub is : took.served ≡ Some served.File
+  pub breaks : replica_of book' ≡ broken (replica_of book)
+  pub broke : breaks_in book book' ≡ true
+  pub rose : FaultsIncreased (f.faults book.drawer) (f.faults book'.drawer)
+  pub none : out' ≡ out
+
+-- Files that aren't observable gave too few bytes.
+pub record HasTooFew {F : Type 0} (f : files.Ghosts F) (book book' : BookState F) (took : Took) : Type 0 where
+  pub is : took.served ≡ Some served.File
+  pub whole : breaks_in book book' ≡ false
+  pub hidden : f.files book.drawer ≡ None
+
+pub data Sending {F O : Type 0} (f : files.Ghosts F) (o : link_out.Ghosts O) (s : ServingState) (book book' : BookState F) (out out' : O) (took : Took) : Type 0 where
+  sends : SendsPacket f o s book book' out out' took → Sending f o s book book' out out' took
+  refuses : IsRefused s book book' out out' took → Sending f o s book book' out out' took
+  fails : HasFailed f book book' out out' took → Sending f o s book book' out out' took
+  lacks : HasTooFew f book book' took → Sending f o s book book' out out' took
+  unmade : took.served ≡ Some served.Memory → Sending f o s book book' out out' took
+  lost : took.served ≡ Some served.LinkFailed → FaultsIncreased (o.faults out) (o.faults out') → Sending f o s book book' out out' took
+
+not_whole : (n m : ℕ) → n ≡ m → (n == m) ≡ false → ⊥
+not_whole n m h k = grind (arith, nat_tests)
+
+module _ {F O : Type 0} (f : files.Ghosts F) (o : link_out.Ghosts O) (s : ServingState) (book book' : BookState F) (before : IsBookOf f book) (after : IsBookOf f book') (out out' : O) (took : Took) where
+  stays_by : (booked : Result Receipt BookFault) → BookEnds f book book' (replica_event.Other (piece_event s)) booked → IsAnswered booked → StaysWhole book book'
+  stays_by booked ends ok =
+      let same = answered_same f book book' s.named s.at (piece_len s) booked before.held.full ends ok in
+      record { same = same; whole = answered_whole f book book' s.named s.at (piece_len s) before.known after.known same }
+
+  sending_by : (body : List ℕ) (receipt : Receipt) (d : Done) → IfSome (f.files book.drawer) (λ _. body ≡ piece_of (replica_of book) s) → Takes (replica_of book) (replica_event.Other (piece_event s)) → StaysWhole book book'
+      → SendsAlone o (Some (packet_text (packet_of s body))) d out out' → took ≡ passed s (packet_of s body) receipt d → Sending f o s book book' out out' took
+  sending_by body receipt (done.Taken b) bytes takes stays h is =
+      sends (record { body = body; receipt = receipt; bytes = bytes; takes = takes; stays = stays; says = alone o (Some (packet_text (packet_of s body))) b out out' h; is = is })
+  sending_by body receipt (done.LinkFailed b) bytes takes stays h is = lost (ap (λ (t : Took). t.served) is) (alone_rose o (Some (packet_text (packet_of s body))) b out out' h)
+  sending_by body receipt done.Memory bytes takes stays h is = unmade (ap (λ (t : Took). t.served) is)
+  sending_by body receipt (done.Refused why b) bytes takes stays h is = absurd (never_books o (Some (packet_text (packet_of s body))) (done.Refused why b) out out' tt h)
+  sending_by body receipt (done.File b) bytes takes stays h is = absurd (never_books o (Some (packet_text (packet_of s body))) (done.File b) out out' tt h)
+  sending_by body receipt (done.MirrorFailed b) bytes takes stays h is = absurd (never_books o (Some (packet_text (packet_of s body))) (done.MirrorFailed b) out out' tt h)
+
+  hidden_by : (files : Option FileMap) (body : List ℕ) → Takes (replica_of book) (replica_event.Other (piece_event s)) → IfSome files (λ _. body ≡ piece_of (replica_of book) s) → (length body == piece_len s) ≡ false → files ≡ None
+  hidden_by None body takes bytes few = refl
+  hidden_by (Some m) body takes bytes few =
+      absurd (not_whole (length body) (piece_len s) (ap (λ (b : List ℕ). length b) bytes ∙ all_there (replica_of book) s.named s.at (piece_len s) before.held.full takes) few)
+
+  reading_by : (whole : Bool) (body : List ℕ) (receipt : Receipt) → (length body == piece_len s) ≡ whole → IfSome (f.files book.drawer) (λ _. body ≡ piece_of (replica_of book) s) → Takes (replica_of book) (replica_event.Other (piece_event s)) → StaysWhole book book'
+      → PassesAll o whole s receipt body out out' took → Sending f o s book book' out out' took
+  reading_by true body receipt e bytes takes stays p = sending_by body receipt p.done bytes takes stays p.sent p.follows
+  reading_by false body receipt e bytes takes stays p = lacks (record { is = ap (λ (t : Took). t.served) p.0; whole = stays.whole; hidden = hidden_by (f.files book.drawer) body takes bytes e })
+
+  booked_by : (booked : Result Receipt BookFault) → BookEnds f book book' (replica_event.Other (piece_event s)) booked → SendsBooked o (f.files book.drawer) (replica_of book) s booked out out' took → Sending f o s book book' out out' took
+  booked_by (Ok receipt) ends x = reading_by (length x.body == piece_len s) x.body receipt refl x.bytes ends.takes (stays_by (Ok receipt) ends tt) x.passes
+  booked_by (Err (fault.Refused why receipt)) ends x =
+      refuses (record { why = why; is = ap (λ (t : Took). t.served) x.0; refused = ends.refused; stays = stays_by (Err (fault.Refused why receipt)) ends tt; none = x.1 })
+  booked_by (Err (fault.File receipt)) ends x =
+      fails (record {
+        is = ap (λ (t : Took). t.served) x.0;
+        breaks = failed_breaks f book book' s.named s.at (piece_len s) receipt ends;
+        broke = failed_broke f book book' s.named s.at (piece_len s) before.known after.known receipt ends;
+        rose = ends.rose;
+        none = x.1;
+      })
+  booked_by (Err fault.Memory) ends x = unmade (ap (λ (t : Took). t.served) x.0)
+
+  pub sending_of : SendsNext f o s book book' out out' took → Sending f o s book book' out out' took
+  sending_of x = booked_by x.booked x.ends x.sends
