@@ -2,6 +2,8 @@
 #![tactic(auto)]
 
 #[cfg(test)]
+mod playing;
+#[cfg(test)]
 mod recovering;
 #[cfg(test)]
 mod roads;

@@ -20,7 +20,7 @@ pub(crate) fn absent(alloc: Global) -> Result<ReplicaBook<MemDrawer>, FileError>
 }
 
 /// A step of this kind and recovery, for the block in this pool.
-fn step(
+pub(crate) fn step(
     rt: &impl Abort,
     alloc: Global,
     kind: RecoveryKind,
@@ -62,7 +62,7 @@ fn booked(served: &RecoveryServed, message: &[u8]) -> bool {
     }
 }
 
-const POOL: &[u8] = b"BP-1-127.0.0.1-1";
+pub(crate) const POOL: &[u8] = b"BP-1-127.0.0.1-1";
 
 #[test]
 fn another_pool_is_refused(rt: HostRuntime) {

@@ -1,0 +1,9 @@
+pub mod SendingLemmas
+pub mod DrawnLemmas
+pub mod OrderLemmas
+pub mod WorldLemmas
+pub mod ServedLemmas
+pub mod CameLemmas
+pub mod AnswerEvents
+pub mod DownEvents
+pub mod CauseLemmas

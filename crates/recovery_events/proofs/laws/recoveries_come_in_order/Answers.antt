@@ -1,0 +1,7 @@
+use Rattle.world.specs.Worlds.{start}
+use Rattle.world.specs.Events.{run}
+use Rattle.recovery_events.proofs.OrderLemmas.{take_recoveries}
+use Rattle.recovery_events.proofs.laws.recoveries_come_in_order.Goals as goal
+
+pub returns : goal.returns
+returns c nodes events = take_recoveries (run (start nodes) events) (c.messages_come_in_order.ensures nodes events)
