@@ -1,7 +1,9 @@
-//! Tests of `node_opening` and `node_stops`: nodes over memory.
+//! Tests of `node_opening`, `node_stops` and `node_starts`: nodes over memory.
 #![tactic(auto)]
 
 #[cfg(test)]
 mod opening;
+#[cfg(test)]
+mod starting;
 #[cfg(test)]
 mod stopping;

@@ -1,0 +1,10 @@
+//! A node of a play starts again between two events: it listens on its port, and has the books of what its restart finds.
+#![tactic(auto)]
+
+mod faults;
+mod laws;
+mod starting;
+
+pub use faults::StartFault;
+pub use laws::dials_are_of_lives_so_far;
+pub use starting::start_node;
