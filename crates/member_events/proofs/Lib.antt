@@ -14,6 +14,7 @@ pub mod FaultEvents
 pub mod ReadyEvents
 pub mod DownEvents
 pub mod UpEvents
+pub mod FirstEvents
 pub mod BeginEvents
 pub mod SetupKnown
 pub mod PassLaws

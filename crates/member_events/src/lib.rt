@@ -8,7 +8,7 @@ mod faults;
 mod joining;
 mod steps;
 
-pub use beginning::{Requested, begin};
+pub use beginning::{FirstRequest, Requested, begin, first_request};
 pub use events::{member_down, member_ready, mirror_up};
 pub use faults::MemberFault;
 pub use joining::{Joined, MirrorDial, join};
