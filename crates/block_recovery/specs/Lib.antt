@@ -5,6 +5,7 @@ pub mod Dialling
 pub mod Actions
 pub mod Requests
 pub mod Steps
+pub mod Members
 pub mod Driving
 pub mod Exchanging
 pub mod Taking

@@ -12,7 +12,7 @@ use std::marker::Model;
 /// The answer of a member, as it is taken off its connection.
 #[derive(Debug, Drop)]
 pub(crate) struct TakenAnswer {
-    answer: RecoveryAnswer,
+    pub(crate) answer: RecoveryAnswer,
 }
 
 impl Model for TakenAnswer {

@@ -9,6 +9,7 @@ mod exchanging;
 mod foretelling;
 mod hearing;
 mod links;
+mod members;
 mod primary;
 mod requests;
 mod serving;
@@ -17,6 +18,7 @@ mod telling;
 
 pub use driving::recover;
 pub use links::{Link, Seat};
+pub use members::MemberHeard;
 pub use primary::{Primary, PrimaryStep};
 pub use serving::{RecoveryServed, answer_recovery};
 pub use taking::{RecoveryCame, next_recovery};

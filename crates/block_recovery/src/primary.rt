@@ -230,7 +230,7 @@ fn lead<D: Desk, R: Roads>(
 }
 
 /// Takes this from the member at this place, and gives up its connection behind the answer to the UPDATE.
-fn hear<R: Roads>(
+pub(crate) fn hear<R: Roads>(
     alloc: Global,
     core: &mut Core,
     place: usize,

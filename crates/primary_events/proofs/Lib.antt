@@ -1,0 +1,5 @@
+pub mod PlaceLemmas
+pub mod ShutLemmas
+pub mod HearSteps
+pub mod HearLaws
+pub mod CanHearLaws

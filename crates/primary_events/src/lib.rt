@@ -1,0 +1,11 @@
+//! The events of a primary in a play: each takes a primary of a block recovery and its connections that show a world,
+//! on roads that show it, to what shows the world after the event.
+#![tactic(auto)]
+
+mod faults;
+mod hearing;
+mod laws;
+
+pub use faults::PrimaryFault;
+pub use hearing::hear;
+pub use laws::primaries_can_hear;
