@@ -12,6 +12,7 @@ use hd_base::{ConnId, NodeId, Roads, Stamp};
 use link_messages::Incoming;
 use mem_ports::{MemIn, MemOut, MemRoads};
 use name_core::OfficeBook;
+use primary_events::hear;
 use recovery_core::Recovered;
 use std::alloc::Global;
 use std::process::Abort;
@@ -113,6 +114,27 @@ fn a_member_without_a_replica_is_heard(rt: HostRuntime) {
         .expect(&rt, "an exchange");
     let heard = primary.step(alloc, &mut office, &mut roads);
     assert!(rt; matches!(heard, PrimaryStep::Moved));
+    let ended = primary.step(alloc, &mut office, &mut roads);
+    assert!(rt; matches!(ended, PrimaryStep::Ended(Recovered::Nothing)));
+}
+
+#[test]
+fn a_member_is_heard_in_a_play(rt: HostRuntime) {
+    let alloc = rt.alloc();
+    let mut office = office(&rt, alloc);
+    let mut roads = MemRoads::new(alloc, &[]).expect(&rt, "memory");
+    let port = roads.listen(alloc, NodeId(1)).expect(&rt, "a port");
+    let members = member(&rt);
+    let mut primary: Primary<MemIn, MemOut> = Primary::new(alloc, BLOCK, &members).expect(
+        &rt, "memory",
+    );
+    let begun = primary.step(alloc, &mut office, &mut roads);
+    assert!(rt; matches!(begun, PrimaryStep::Moved));
+    primary
+        .exchange(alloc, &mut roads, None)
+        .expect(&rt, "an exchange");
+    serve(&rt, alloc, &mut roads, port);
+    assert!(rt; hear(alloc, &mut roads, &mut primary, 0).is_ok());
     let ended = primary.step(alloc, &mut office, &mut roads);
     assert!(rt; matches!(ended, PrimaryStep::Ended(Recovered::Nothing)));
 }
