@@ -19,11 +19,11 @@ use Rattle.node_stops.proofs.ConnectionLemmas.{among_more}
 
 -- LISTS
 
-or_here : (a b : Bool) → a ≡ true → (a || b) ≡ true
+pub or_here : (a b : Bool) → a ≡ true → (a || b) ≡ true
 or_here true b e = refl
 or_here false b e = cc
 
-or_there : (a b : Bool) → b ≡ true → (a || b) ≡ true
+pub or_there : (a b : Bool) → b ≡ true → (a || b) ≡ true
 or_there true b e = refl
 or_there false b e = e
 

@@ -1,6 +1,6 @@
 -- A node of a play stops.
 use Rattle.std.proofs.Common.{◌≡◌, ℕ, zero, suc, ◌+◌, ◌<◌, Bool, true, false, List, [], ◌∷◌, length, map, Option, Some, None, Result, Ok, Err, IfSome, refl, sym, ap, subst, ◌∙◌, arith}
-use Rattle.std.specs.Prelude.{◌==◌, ◌&&◌, ◌||◌, nat_lt, slice_get, option_map, IsSome, OnOk, if◌then◌else◌}
+use Rattle.std.specs.Prelude.{◌==◌, ◌&&◌, nat_lt, slice_get, option_map, IsSome, OnOk, if◌then◌else◌}
 use Rattle.std.proofs.lemmas.Bool.Decides.{nat_tests}
 use Rattle.std.proofs.lemmas.List.{length-map}
 use Rattle.std.specs.declared.alloc.AllocError.{AllocError}
@@ -41,13 +41,11 @@ use Rattle.node_stops.specs.Cutting.{all_cut_net, AllCutShows}
 use Rattle.node_stops.specs.Ending.{is_ended, is_left_by, is_left, is_gone, EndsStand, EndsLeft, ended_at, AllEnd}
 use Rattle.node_stops.specs.Stopping.{CanStop, StopLeft, StopEnds}
 use Rattle.node_stops.proofs.ConnectionLemmas.{of_node}
-use Rattle.node_stops.proofs.CutLemmas.{nets_cut, ends_cut}
+use Rattle.node_stops.proofs.CutLemmas.{or_here, or_there, nets_cut, ends_cut}
+use Rattle.node_stops.proofs.EndLemmas.{same_some}
 use Rattle.node_stops.proofs.StandLemmas.{at_below, lower_moves, lower_stands, mirror_at}
 
 -- LISTS
-
-same_some : {X : Type 0} (x y : X) → ◌≡◌ {A = Option X} (Some x) (Some y) → x ≡ y
-same_some x y e = cc
 
 get_map : {X Y : Type 0} (f : X → Y) (xs : List X) (c : ℕ) (y : Y) → slice_get (map f xs) c ≡ Some y → (x : X) × ((slice_get xs c ≡ Some x) × (f x ≡ y))
 get_map f [] c y e = cc
@@ -55,14 +53,6 @@ get_map f (x ∷ xs) zero y e = (x, (refl, same_some (f x) y e))
 get_map f (x ∷ xs) (suc c) y e = get_map f xs c y e
 
 -- CUTS
-
-or_here : (a b : Bool) → a ≡ true → (a || b) ≡ true
-or_here true b e = refl
-or_here false b e = cc
-
-or_there : (a b : Bool) → b ≡ true → (a || b) ≡ true
-or_there true b e = refl
-or_there false b e = e
 
 -- No end was taken, or given up, in cuts.
 all_over : CutsAreLosses → (w : World) (net : Net) (conns : List ConnId) → ((c : ℕ) → is_among conns c ≡ true → c < w.next_conn) → (d : ℕ) (l : Bool) → is_over (all_cut w conns) d l ≡ is_over w d l
