@@ -1,6 +1,9 @@
 -- How the first member is reached, by what the parts of it say.
-use Rattle.std.proofs.Common.{◌≡◌, ℕ, false, Option, Some, None, is_some, inl, inr, refl, sym, subst, ◌∙◌}
+use Rattle.std.proofs.Common.{◌≡◌, ℕ, Bool, true, false, Option, Some, None, IfSome, Ok, Err, is_some, inl, inr, refl, sym, subst, ◌∙◌}
+use Rattle.std.specs.Prelude.{IsErrOf}
+use Rattle.hd_base.specs.Channels.{Plain}
 use Rattle.hd_base.specs.declared.ends.Conn.{Conn}
+use Rattle.hd_base.specs.declared.ends.RoadError.TheVariants.{NotListening}
 use Rattle.hd_base.specs.declared.links.LinkIn as link_in
 use Rattle.hd_base.specs.declared.links.LinkOut as link_out
 use Rattle.hd_base.specs.declared.numbers.NodeId.{NodeId}
@@ -17,12 +20,24 @@ use Rattle.pipe_recovery.specs.declared.links.Link.{Link}
 use Rattle.pipe_recovery.specs.Hearing.{HeardState, nothing_heard}
 use Rattle.pipe_recovery.specs.Dialling.{Opens, Reaches, DialsBy, Dials}
 
+-- A dial that was answered is of a port on which somebody listens.
+heard_by : {T : Type 0} (x : T) (p : Plain) (port : ℕ) (listens : Bool) → p.listening port ≡ listens → (p.listening port ≡ false → IsErrOf (Ok x) NotListening) → p.listening port ≡ true
+heard_by x p port true is h = is
+heard_by x p port false is h = absurd (no_error (h is))
+  where
+    no_error : IsErrOf (Ok x) NotListening → ⊥
+    no_error k = let e : Ok x ≡ Err NotListening = k in cc
+
+listened : {T : Type 0} (x : T) (plain : Option Plain) (port : ℕ) → IfSome plain (λ p. p.listening port ≡ false → IsErrOf (Ok x) NotListening) → IfSome plain (λ p. p.listening port ≡ true)
+listened x None port h = tt
+listened x (Some p) port h = heard_by x p port (p.listening port) refl h
+
 module _ {R I O : Type 0} (r : roads.Ghosts R I O) (i : link_in.Ghosts I) (o : link_out.Ghosts O) where
   -- No end was kept, and a dial was answered.
-  pub opens-new : (port : ℕ) (link : Option (Link I O)) (old new : R) (end : Conn I O) (heard : HeardState) → is_some link ≡ false → IsDialled r i o port old new end → heard ≡ nothing_heard
+  pub opens-new : (port : ℕ) (link : Option (Link I O)) (old new : R) (end : Conn I O) (heard : HeardState) → is_some link ≡ false → IfSome (r.plain old) (λ p. p.listening port ≡ false → IsErrOf (Ok end) NotListening) → IsDialled r i o port old new end → heard ≡ nothing_heard
       → Opens r i o port link (Some (record { end = end; heard = heard; asked = false })) old new opened.Answered
-  opens-new port None old new end heard h d q = record { end = end; dialled = d; is = rw q refl }
-  opens-new port (Some l) old new end heard h d q = cc
+  opens-new port None old new end heard h never d q = record { end = end; listening = listened end (r.plain old) port never; dialled = d; is = rw q refl }
+  opens-new port (Some l) old new end heard h never d q = cc
 
   -- The own step dials this node with this request.
   pub dials-so : (s : Step) (a : Action) (to : NodeId) (op : Op) (w x w' : WriterRecord) (link link' : Option (Link I O)) (old new : R) (result : Acted) → NextGives s w a x → a ≡ action.Dial to op

@@ -77,10 +77,11 @@ Sends o text w w' None None result = (w' ≡ w) × (result ≡ acted.Idle)
 Sends o text w w' (Some old) (Some new) result = SendsOn o text w w' old new result
 Sends o text w w' old new result = ⊥
 
--- The dial was answered: its end is fresh, and nothing was heard on it.
+-- The dial was answered, because somebody listens there: its end is fresh, and nothing was heard on it.
 pub record OpensNew {R I O : Type 0} (r : roads.Ghosts R I O) (i : link_in.Ghosts I) (o : link_out.Ghosts O)
     (port : ℕ) (link' : Option (Link I O)) (old new : R) : Type 0 where
   pub end : Conn I O
+  pub listening : IfSome (r.plain old) (λ p. p.listening port ≡ true)
   pub dialled : IsDialled r i o port old new end
   pub is : link' ≡ Some (record { end = end; heard = nothing_heard; asked = false })
 
