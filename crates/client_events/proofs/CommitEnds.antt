@@ -77,12 +77,12 @@ pub record RestGoes (w : World) (b : ℕ) (y z : WriterRecord) (said : Option Sa
   pub office : (apply w change).office ≡ w.office
   pub said_is : (apply w change).said b ≡ w.said b ++ said_in said
 
-pub rest_moves : (w : World) (b : ℕ) (y : WriterRecord) (answered : Bool) → rest_in y.phase w b y answered ≡ Some (writer_change w b y) → RestGoes w b y y None answered
-rest_moves w b y answered is =
-    let to = moved_to w b y in record {
-      change = writer_change w b y;
+pub rest_moves : (w : World) (b : ℕ) (y z : WriterRecord) (answered : Bool) → rest_in y.phase w b y answered ≡ Some (writer_change w b z) → RestGoes w b y z None answered
+rest_moves w b y z answered is =
+    let to = moved_to w b z in record {
+      change = writer_change w b z;
       is = is;
-      sends = (writer-sends w b y).moves;
+      sends = (writer-sends w b z).moves;
       writer = to.writer;
       office = to.office;
       said_is = to.said;
@@ -90,7 +90,7 @@ rest_moves w b y answered is =
 
 rest_stays : (w : World) (b : ℕ) (y z : WriterRecord) (said : Option Said) (answered : Bool) → rest_in y.phase w b y answered ≡ Some (writer_change w b y) → z ≡ y → said ≡ None → RestGoes w b y z said answered
 rest_stays w b y z said answered is same quiet =
-    subst (λ (x : WriterRecord). RestGoes w b y x said answered) (sym same) (subst (λ (x : Option Said). RestGoes w b y y x answered) (sym quiet) (rest_moves w b y answered is))
+    subst (λ (x : WriterRecord). RestGoes w b y x said answered) (sym same) (subst (λ (x : Option Said). RestGoes w b y y x answered) (sym quiet) (rest_moves w b y y answered is))
 
 opened_own : (y : WriterRecord) → y.phase ≡ phase.Opened → own_step y ≡ open_step y
 unfolding own_step

@@ -3,7 +3,7 @@ use Rattle.std.proofs.Common.{◌≡◌, ◌≢◌, ◌<◌, ◌≤◌, ◌+◌,
 use Rattle.std.proofs.lemmas.Option.{same_Some}
 use Rattle.std.proofs.lemmas.Bool.Decides.{nat_tests}
 use Rattle.std.proofs.lemmas.List.{append-nil}
-use Rattle.std.specs.Prelude.{cond, min, nat_le}
+use Rattle.std.specs.Prelude.{cond, min, nat_le, ◌&&◌}
 use Rattle.hd_base.specs.Channels.{Plain}
 use Rattle.hd_base.specs.Ends.{IsObservable}
 use Rattle.hd_base.specs.Faults.{FaultsIncreased}
@@ -38,7 +38,7 @@ use Rattle.pipe_recovery.specs.Hearing.{nothing_heard}
 use Rattle.pipe_recovery.specs.Reports.{Reports, ReportsAt}
 use Rattle.pipe_recovery.specs.Steps.{is_stamped, keeps_link, GoesOn, SettlesTold}
 use Rattle.road_traffic.proofs.CallLemmas.{sent-shows, quiet-shows, dialled-shows}
-use Rattle.road_traffic.proofs.ShowingLemmas.{roads-accepted}
+use Rattle.road_traffic.proofs.ShowingLemmas.{roads-accepted, roads-same}
 use Rattle.road_traffic.proofs.TrafficLemmas.{same-itself}
 use Rattle.road_traffic.specs.Laws.{Took}
 use Rattle.road_traffic.specs.Showing.{Net, IsSane, EndIs, no_inbox, exchanged_net, dialled_net, accepted_net}
@@ -82,11 +82,11 @@ use Rattle.member_events.specs.Joining.{AcceptsDial}
 use Rattle.client_events.specs.declared.pipes.Pipe.{Pipe}
 use Rattle.client_events.specs.declared.pipes.Pipe.TheVariants as pipe
 use Rattle.client_events.specs.Events.{own_event, asked_world}
-use Rattle.client_events.specs.SettingUp.{is_requested, is_unreached, first_port, CanSetUp, SetUpLeft, FirstAsked}
+use Rattle.client_events.specs.SettingUp.{is_requested, is_unreached, first_port, CanSetUp, SetUpLeft, FirstAsked, IsUnasked}
 use Rattle.client_events.specs.Showing.{LinkShows, LinkStands, PipeShows, ClientStands}
 use Rattle.client_events.proofs.ActLaws.{at_add}
 use Rattle.client_events.proofs.AnswerEnds.{no_conn}
-use Rattle.client_events.proofs.AnswerLaws.{true_false, end_leaves}
+use Rattle.client_events.proofs.AnswerLaws.{end_leaves}
 use Rattle.client_events.proofs.CommitEnds.{rest_moves, none_left, past_office}
 use Rattle.client_events.proofs.CompleteLaws.{office_asked, OfficeAsked, put_to, PutTo}
 use Rattle.client_events.proofs.SetUpLaws.{wanted_step, IsGiven, KeepsQueue, keeps_queue, dial_to, dial_none, asked_phase, first_request, Undialled, Unreached, HasDialled, dials_so, dials_none, StampAsked}
@@ -300,19 +300,24 @@ module _ {R I O D : Type 0} (r : roads.Ghosts R I O) (i : link_in.Ghosts I) (o :
   rest_same (inr s) answered =
       ap (λ (p : Phase). rest_in p told_world block.0 x answered) s.1.1.0 ∙ ap (λ (q : Step). Some (dialling told_world block.0 x q.action answered)) (dial_none x s.0 s.1.0 s.1.1.1)
 
-  pub undialled_left : LeftOut x → (left : Pipe I O) → ((z : World) (made : Net) (conn : Option ℕ) → conn ≡ None → PipeShows i o z made conn left) → (answered : Bool) → SetUpLeft d r i o w net (asked_world w block answered) block.0 x desk' left road
-  undialled_left out left shows answered =
+  -- The writer comes into this state after the office's answer, and nothing is dialled.
+  rest_left : (y : WriterRecord) (left : Pipe I O) (road' : R) → RoadsAt r net road' → ((z : World) (made : Net) (conn : Option ℕ) → conn ≡ None → PipeShows i o z made conn left) → (answered : Bool) → rest_in x.phase told_world block.0 x answered ≡ Some (writer_change told_world block.0 y)
+      → SetUpLeft d r i o w net (asked_world w block answered) block.0 y desk' left road'
+  rest_left y left road' at shows answered comes =
       let b : ℕ = block.0 in
       let v : World = asked_world w block answered in
-      let rest = rest_moves told_world b x answered (rest_same out answered) in
+      let rest = rest_moves told_world b x y answered comes in
       let goes_on = goes answered rest.change rest.is in
       let is_v = happened told_world (apply told_world rest.change) (own_event block None answered) goes_on in
       record {
         office = put_in.office ∙ ap Some (sym (asked answered).at.office ∙ (sym rest.office ∙ sym (ap (λ (u : World). u.office) is_v)));
         said = ap (λ (u : World). u.said b) is_v ∙ (rest.said_is ∙ (append-nil (told_world.said b) ∙ (asked answered).at.said));
-        shows = past_office r i o w told_world net v b v.office x left road (asked answered).stay same_conn
-            (no_conn r i o told_world net v b v.office x left road shows (none_left r i o told_world net block answered x x None rest goes_on net_told road roads_here none));
+        shows = past_office r i o w told_world net v b v.office y left road' (asked answered).stay same_conn
+            (no_conn r i o told_world net v b v.office y left road' shows (none_left r i o told_world net block answered x y None rest goes_on net_told road' at none));
       }
+
+  pub undialled_left : LeftOut x → (left : Pipe I O) → ((z : World) (made : Net) (conn : Option ℕ) → conn ≡ None → PipeShows i o z made conn left) → (answered : Bool) → SetUpLeft d r i o w net (asked_world w block answered) block.0 x desk' left road
+  undialled_left out left shows answered = rest_left x left road roads_here shows answered (rest_same out answered)
 
   -- WHERE THE FIRST MEMBER IS DIALLED
 
@@ -329,48 +334,66 @@ module _ {R I O D : Type 0} (r : roads.Ghosts R I O) (i : link_in.Ghosts I) (o :
     abbrev pub dial : Dial
     dial = writer_dial told_world block.0 first op
 
-    runs : w.running first.0 ≡ true
-    runs = subst (λ (ms : List NodeId). IfSome (slice_get ms 0) (λ n. w.running n.0 ≡ true)) (sym queue.members ∙ members) can.runs
-
     few : FIRST_PORT + first.0 ≤ MAX_PORT
     few = subst (λ (ms : List NodeId). IfSome (slice_get ms 0) (λ n. FIRST_PORT + n.0 ≤ MAX_PORT)) (sym queue.members ∙ members) can.has_port
 
     by : DialsBy told_world dial_change dial []
     by = (writer-sends told_world block.0 x).dials first op
 
-    out : outcome told_world (own_event block None true) ≡ Some (apply told_world dial_change)
-    out = goes true dial_change
-        (ap (λ (p : Phase). rest_in p told_world block.0 x true) h
-        ∙ (ap (λ (q : Step). Some (dialling told_world block.0 x q.action true)) (dial_to x s stamp first others members)
-        ∙ ap (λ (q : Bool). Some (dialled_change told_world block.0 x first op q)) (runs_told first.0 ∙ runs)))
+    -- what the writer does once it has its stamp, as its dial is answered or isn't
+    rest_dials : (answered q : Bool) → (answered && w.running first.0) ≡ q → rest_in x.phase told_world block.0 x answered ≡ Some (dialled_change told_world block.0 x first op q)
+    rest_dials answered q is =
+        ap (λ (p : Phase). rest_in p told_world block.0 x answered) h
+        ∙ (ap (λ (k : Step). Some (dialling told_world block.0 x k.action answered)) (dial_to x s stamp first others members)
+        ∙ ap (λ (b : Bool). Some (dialled_change told_world block.0 x first op b)) (ap (λ (b : Bool). answered && b) (runs_told first.0) ∙ is))
 
-    spelled_first : SpellsText (request op)
-    spelled_first =
+    out : w.running first.0 ≡ true → outcome told_world (own_event block None true) ≡ Some (apply told_world dial_change)
+    out on = goes true dial_change (rest_dials true true on)
+
+    spelled_first : w.running first.0 ≡ true → SpellsText (request op)
+    spelled_first on =
         let v : World = answered_world in
-        let sd : SentDown v told_world.next_conn (request op) = sent_down told_world told_world dial_change dial (own_event block None true) by.once out in
+        let sd : SentDown v told_world.next_conn (request op) = sent_down told_world told_world dial_change dial (own_event block None true) by.once (out on) in
         let downs : v.downs next.0 ≡ sd.earlier ++ request op ∷ [] = subst (λ (n : ℕ). v.downs n ≡ sd.earlier ++ request op ∷ []) (next_told ∙ sym can.next_is) sd.downs in
         can.spelled (length sd.earlier) (request op) (ap (λ (ms : List Message). slice_get ms (length sd.earlier)) downs ∙ last_of sd.earlier (request op))
 
-    -- A dial that wasn't answered is one at which the roads' count rose.
-    pub unreached_rose : (y : WriterRecord) (held : Option (Link I O)) (middle : R) → Unreached r i o d first op x y held road middle → FaultsIncreased (r.faults road) (r.faults middle)
-    unreached_rose y held middle u = by_cause u.cause
-      where
-        by_listening : (port : ℕ) → dial_port first ≡ Some port → IfSome (r.plain road) (λ p. p.listening port ≡ false) ⊎ FaultsIncreased (r.faults road) (r.faults middle) → FaultsIncreased (r.faults road) (r.faults middle)
-        by_listening port is (inl q) =
-            let shows = stands.roads_are.shows in
-            let off : shows.plain.listening port ≡ false = subst (λ (y : Option Plain). IfSome y (λ p. p.listening port ≡ false)) shows.is q in
-            let on : shows.plain.listening port ≡ true = shows.holds.listening port ∙ (ap net.listens (port_is first port is) ∙ (stands.roads_are.is_net.listens first.0 ∙ runs)) in
-            absurd (true_false (sym on ∙ off))
-        by_listening port is (inr rose) = rose
+    -- Somebody listens on a node's port where the node runs.
+    pub runs_if : (port : ℕ) → dial_port first ≡ Some port → (b : Bool) → IfSome (r.plain road) (λ p. p.listening port ≡ b) → w.running first.0 ≡ b
+    runs_if port is b heard =
+        let shows = stands.roads_are.shows in
+        let here : shows.plain.listening port ≡ b = subst (λ (y : Option Plain). IfSome y (λ p. p.listening port ≡ b)) shows.is heard in
+        sym (shows.holds.listening port ∙ (ap net.listens (port_is first port is) ∙ stands.roads_are.is_net.listens first.0)) ∙ here
 
-        by_cause : HasNoWay first op ⊎ ((port : ℕ) × ((dial_port first ≡ Some port) × IsUnanswered r port road middle)) → FaultsIncreased (r.faults road) (r.faults middle)
-        by_cause (inl (inl no_text)) = absurd (no_text (encodable_for x.block x.committed x.stream s stamp (length x.members) others spelled_first))
-        by_cause (inl (inr no_port)) = absurd (has_port first few no_port)
+    -- There is a way to a node that runs.
+    stopped_by : (b : Bool) → w.running first.0 ≡ b → HasNoWay first op → w.running first.0 ≡ false
+    stopped_by false is no_way = is
+    stopped_by true is (inl no_text) = absurd (no_text (encodable_for x.block x.committed x.stream s stamp (length x.members) others (spelled_first is)))
+    stopped_by true is (inr no_port) = absurd (has_port first few no_port)
+
+    -- A dial that wasn't answered is that of a node that doesn't run, or the roads' count rose.
+    pub unasked : (y : WriterRecord) (held : Option (Link I O)) (middle : R) → Unreached r i o d first op x y held road middle → IsUnasked r w first road middle
+    unasked y held middle u = by_cause u.cause
+      where
+        by_listening : (port : ℕ) → dial_port first ≡ Some port → IfSome (r.plain road) (λ p. p.listening port ≡ false) ⊎ FaultsIncreased (r.faults road) (r.faults middle) → IsUnasked r w first road middle
+        by_listening port is (inl heard) = inl (runs_if port is false heard)
+        by_listening port is (inr rose) = inr rose
+
+        by_cause : HasNoWay first op ⊎ ((port : ℕ) × ((dial_port first ≡ Some port) × IsUnanswered r port road middle)) → IsUnasked r w first road middle
+        by_cause (inl no_way) = inl (stopped_by (w.running first.0) refl no_way)
         by_cause (inr q) = by_listening q.0 q.1.0 q.1.1.cause
+
+    -- What is left then, in each world in which the dial isn't answered.
+    pub unreached_left : (y : WriterRecord) (held : Option (Link I O)) (middle : R) (left : Pipe I O) → Unreached r i o d first op x y held road middle → ((z : World) (made : Net) (conn : Option ℕ) → conn ≡ None → PipeShows i o z made conn left) → (answered : Bool) → (answered && w.running first.0) ≡ false
+        → SetUpLeft d r i o w net (asked_world w block answered) block.0 y desk' left middle
+    unreached_left y held middle left u shows answered off =
+        let at : RoadsAt r net middle = record { sane = roads_here.sane; shows = roads-same r i o net road middle roads_here.shows u.kept.plain u.kept.carried } in
+        subst (λ (z : WriterRecord). SetUpLeft d r i o w net (asked_world w block answered) block.0 z desk' left middle) (sym u.writer)
+        (rest_left (dialled x false) left middle at shows answered (rest_dials answered false off))
 
     module _ (port : ℕ) (fresh : Conn I O) (half : O) (link held new : Link I O) (middle later : R) where
       -- The first member was asked, nothing came, and the end was exchanged.
       pub record FirstReached : Type 0 where
+        pub runs : w.running first.0 ≡ true
         pub dials : IsDialled r i o port road middle fresh
         pub kept : KeepsInward fresh link.end
         pub room : SendsNothing o fresh.outward half
@@ -424,8 +447,8 @@ module _ {R I O D : Type 0} (r : roads.Ghosts R I O) (i : link_in.Ghosts I) (o :
           let v : World = answered_world in
           let n : ℕ = told_world.next_conn in
           let e : Event = own_event block None true in
-          let follows = followed told_world (apply told_world dial_change) e out in
-          let is_v = happened told_world (apply told_world dial_change) e out in
+          let follows = followed told_world (apply told_world dial_change) e (out f.runs) in
+          let is_v = happened told_world (apply told_world dial_change) e (out f.runs) in
           let to = dialled_to told_world b x first op in
           let own : v.writers b ≡ record { known = dialled x true; conn = Some n; told = None } = ap (λ (u : World). u.writers b) is_v ∙ to.writer in
           let p = passed f in

@@ -62,7 +62,7 @@ use Rattle.client_events.specs.declared.pipes.Pipe.TheVariants as pipe
 use Rattle.client_events.specs.declared.setting_up.SetUp.{SetUp}
 use Rattle.client_events.specs.Answering.{piped}
 use Rattle.client_events.specs.Faults.{IsCaused}
-use Rattle.client_events.specs.SettingUp.{IsWanted, is_requested, is_unreached, first_port, undialled, Accepts, MeetsBy, Meets, GivesUpLink, CanSetUp, SetUpBy, SetUpEnds, SetUpShows, FitsSetUp}
+use Rattle.client_events.specs.SettingUp.{IsWanted, is_requested, is_unreached, first_port, undialled, Accepts, MeetsBy, Meets, GivesUpLink, CanSetUp, FirstUnreached, SetUpBy, SetUpEnds, SetUpShows, FitsSetUp}
 use Rattle.client_events.proofs.PhaseLaws.{ended_unstamped}
 use Rattle.client_events.proofs.FitLaws.{report_fits}
 use Rattle.client_events.specs.Showing.{PipeFits, PipeShows, ClientStands}
@@ -71,7 +71,7 @@ use Rattle.client_events.proofs.AnswerLaws.{true_false}
 use Rattle.client_events.proofs.CommitLaws.{still_empty}
 use Rattle.client_events.proofs.SettleLaws.{road_caused}
 use Rattle.client_events.proofs.SetUpLaws.{WantedIn, wanted_in, IsGiven, after_stamp, KeepsQueue, keeps_queue, refusal_reached, asked_phase, first_request, unreached_phase, no_own_step, some_members, Undialled, Unreached, Asked, HasDialled, StampAsked, stamp_asked}
-use Rattle.client_events.proofs.SetUpEnds.{first_is, not_requested, LeftOut, left_out_requested, DialledSo, GoneOn, goes_by, settle_none, reports_at, lost_risen, undialled_left, unreached_rose, FirstReached, dial_waits, first_left}
+use Rattle.client_events.proofs.SetUpEnds.{first_is, not_requested, LeftOut, left_out_requested, DialledSo, GoneOn, goes_by, settle_none, reports_at, lost_risen, undialled_left, runs_if, unasked, unreached_left, FirstReached, dial_waits, first_left}
 use Rattle.member_events.proofs.FaultEvents.{rises_from}
 
 -- WHAT WAS LOOKED AT
@@ -221,13 +221,9 @@ module _ {R I O D : Type 0} (r : roads.Ghosts R I O) (i : link_in.Ghosts I) (o :
       let same : g.x.members ≡ known.members = ap (λ (q : WriterRecord). q.members) g.asks.puts.writer ∙ (keeps_queue known u.setup g.asks.puts.answer u.is).members in
       gone_unstamped g.x steps.held steps.middle steps.acted g.gone (λ e. some (sym same ∙ e))
 
-  undialled_fits_as : (q : Bool) (left : Pipe I O) → (known.members ≢ [] → PipeFits y.phase left) → FitsSetUp known y setup (if q then Err fault.RoadsFailed else Ok (record { pipe = left; first = None }))
-  undialled_fits_as true left h = tt
-  undialled_fits_as false left h = λ some before. h some
-
-  pub left_fits : (left : Pipe I O) → IsWanted known.phase → fits_in known.phase (is_some setup.link) ≡ true → Steps d r i o known y setup.link setup'.link desk desk' road road' setup'.lost ends → StillFits y.phase (is_some setup'.link) ends → piped setup' ends ≡ Ok left → FitsSetUp known y setup (undialled y.phase left)
-  left_fits left ok fits steps still is = undialled_fits_as (is_unreached y.phase) left (λ some.
-      report_fits i steps.acted y steps.kept setup' ends left steps.reports is still (step_unstamped ok fits steps (λ e. none_ok r i o fault.Memory left (sym (ap (piped setup') e) ∙ is)) some))
+  pub left_fits : (left : Pipe I O) → IsWanted known.phase → fits_in known.phase (is_some setup.link) ≡ true → Steps d r i o known y setup.link setup'.link desk desk' road road' setup'.lost ends → StillFits y.phase (is_some setup'.link) ends → piped setup' ends ≡ Ok left → FitsSetUp known y setup (Ok (undialled y.phase (slice_get known.members 0) left))
+  left_fits left ok fits steps still is = λ some before.
+      report_fits i steps.acted y steps.kept setup' ends left steps.reports is still (step_unstamped ok fits steps (λ e. none_ok r i o fault.Memory left (sym (ap (piped setup') e) ∙ is)) some)
 
   requested_unstamped : (p : Phase) → is_requested p ≡ true → is_stamped p ≡ false
   requested_unstamped (phase.Requested s stamp) h = refl
@@ -262,6 +258,12 @@ module _ {R I O D : Type 0} (r : roads.Ghosts R I O) (i : link_in.Ghosts I) (o :
         let m : EndsAs kept setup'.link (step.Ended (failed_as f)) ends = subst (λ (p : Phase). ReportsAt i p y kept setup'.link ends) h reports in
         subst (λ (q : Pipe I O). PipeShows i o z made conn q) (piped_as r i o setup' ends (step.Ended (failed_as f)) pipe.Closed left m.1 (piped_failed r i o setup' f) is) none
 
+    wanted_at : (u : Setup) (left : Pipe I O) → y.phase ≡ phase.Wanted u → kept ≡ None → piped setup' ends ≡ Ok left → (z : World) (made : Net) (conn : Option ℕ) → conn ≡ None → PipeShows i o z made conn left
+    wanted_at u left h gone is z made conn none =
+        let m : EndsAs kept setup'.link (moved_if (has_own_step y)) ends = subst (λ (p : Phase). ReportsAt i p y kept setup'.link ends) h reports in
+        subst (λ (q : Pipe I O). PipeShows i o z made conn q) (piped_as r i o setup' ends (moved_if (has_own_step y)) (pipe.SettingUp setup') left m.1 (piped_moved r i o setup' (has_own_step y)) is)
+        (setup_none r i o setup' (m.0 ∙ gone) z made conn none)
+
     stamped_at : (u : Setup) (stamp : Stamp) (left : Pipe I O) → y.phase ≡ phase.Stamped u stamp → kept ≡ None → piped setup' ends ≡ Ok left → (z : World) (made : Net) (conn : Option ℕ) → conn ≡ None → PipeShows i o z made conn left
     stamped_at u stamp left h gone is z made conn none =
         let m : EndsAs kept setup'.link (moved_if (has_own_step y)) ends = subst (λ (p : Phase). ReportsAt i p y kept setup'.link ends) h reports in
@@ -272,29 +274,47 @@ module _ {R I O D : Type 0} (r : roads.Ghosts R I O) (i : link_in.Ghosts I) (o :
     left_shown left (inl f) same gone is = failed_at f.0 left (ap (λ (q : WriterRecord). q.phase) same ∙ f.1) is
     left_shown left (inr t) same gone is = stamped_at t.0 t.1.0 left (ap (λ (q : WriterRecord). q.phase) same ∙ t.1.1.0) gone is
 
+    -- a member that wasn't reached leaves no connection either
+    unreached_shown : (p : Phase) (left : Pipe I O) → y.phase ≡ p → is_unreached p ≡ true → kept ≡ None → piped setup' ends ≡ Ok left → (z : World) (made : Net) (conn : Option ℕ) → conn ≡ None → PipeShows i o z made conn left
+    unreached_shown (phase.Wanted u) left h off gone is = wanted_at u left h gone is
+    unreached_shown (phase.Failed f) left h off gone is = failed_at f left h is
+    unreached_shown p left h off gone is = cc
+
     -- it isn't a member that wasn't reached
     left_reached : LeftOut x → is_unreached x.phase ≡ false
     left_reached (inl f) = ap is_unreached f.1 ∙ refusal_reached known s asks.puts.answer f.0 wants (sym asks.puts.ends) asks.fits (ap (λ (q : WriterRecord). q.phase) (sym asks.puts.writer) ∙ f.1)
     left_reached (inr t) = ap is_unreached t.1.1.0
 
-    undialled_ends : (left : Pipe I O) → LeftOut x → Undialled r i o d x y held road middle → piped setup' ends ≡ Ok left → SetUpEnds d r i o w net block next.0 y desk' road road' (undialled y.phase left)
+    -- the first member before the events
+    abbrev first_known : Option NodeId
+    first_known = slice_get known.members 0
+
+    undialled_ends : (left : Pipe I O) → LeftOut x → Undialled r i o d x y held road middle → piped setup' ends ≡ Ok left → SetUpEnds d r i o w net block next.0 known y desk' road road' (Ok (undialled y.phase first_known left))
     undialled_ends left out u is =
         let t = settle_none r i o d (keeps_link y.phase) held kept middle road' u.none settles in
         let reached : is_unreached y.phase ≡ false = ap (λ (q : WriterRecord). is_unreached q.phase) u.same ∙ left_reached out in
-        let ends_so : SetUpBy d r i o w net block next.0 x desk' road left None =
+        let ends_so : SetUpBy d r i o w net block next.0 known x desk' road road left None None =
         undialled_left r i o d w net block setup known x desk desk' road stands next can s wants asks unlinked out left (left_shown left out u.same t.0 is) in
-        let on_road : SetUpBy d r i o w net block next.0 x desk' road' left None = subst (λ (q : R). SetUpBy d r i o w net block next.0 x desk' q left None) (sym (t.1 ∙ u.roads_same)) ends_so in
-        let of_writer : SetUpBy d r i o w net block next.0 y desk' road' left None = subst (λ (q : WriterRecord). SetUpBy d r i o w net block next.0 q desk' road' left None) (sym u.same) on_road in
-        subst (λ (q : Bool). SetUpEnds d r i o w net block next.0 y desk' road road' (if q then Err fault.RoadsFailed else Ok (record { pipe = left; first = None }))) (sym reached) of_writer
+        let on_road : SetUpBy d r i o w net block next.0 known x desk' road road' left None None = subst (λ (q : R). SetUpBy d r i o w net block next.0 known x desk' road q left None None) (sym (t.1 ∙ u.roads_same)) ends_so in
+        let of_writer : SetUpBy d r i o w net block next.0 known y desk' road road' left None None = subst (λ (q : WriterRecord). SetUpBy d r i o w net block next.0 known q desk' road road' left None None) (sym u.same) on_road in
+        subst (λ (q : Bool). SetUpBy d r i o w net block next.0 known y desk' road road' left None (if q then first_known else None)) (sym reached) of_writer
 
-    unreached_ends : (left : Pipe I O) (u : Setup) (stamp : Stamp) (first : NodeId) (others : List NodeId) → x.phase ≡ phase.Stamped u stamp → x.members ≡ first ∷ others → Unreached r i o d first (first_request x u stamp others) x y held road middle
-        → SetUpEnds d r i o w net block next.0 y desk' road road' (undialled y.phase left)
-    unreached_ends left u stamp first others h members un =
+    unreached_ends : (left : Pipe I O) (u : Setup) (stamp : Stamp) (first : NodeId) (others : List NodeId) → x.phase ≡ phase.Stamped u stamp → x.members ≡ first ∷ others → Unreached r i o d first (first_request x u stamp others) x y held road middle → piped setup' ends ≡ Ok left
+        → SetUpEnds d r i o w net block next.0 known y desk' road road' (Ok (undialled y.phase first_known left))
+    unreached_ends left u stamp first others h members un is =
         let t = settle_none r i o d (keeps_link y.phase) held kept middle road' un.none settles in
-        let rose : FaultsIncreased (r.faults road) (r.faults middle) = unreached_rose r i o d w net block setup known x desk desk' road stands next can s wants asks unlinked u stamp first others h members y held middle un in
         let off : is_unreached y.phase ≡ true = ap (λ (q : WriterRecord). is_unreached q.phase) un.writer ∙ unreached_phase x u stamp h (some_members x first others members) in
-        subst (λ (q : Bool). SetUpEnds d r i o w net block next.0 y desk' road road' (if q then Err fault.RoadsFailed else Ok (record { pipe = left; first = None }))) (sym off)
-        (subst (λ (q : R). FaultsIncreased (r.faults road) (r.faults q)) (sym t.1) rose)
+        let kept_queue : KeepsQueue known x = subst (λ (q : WriterRecord). KeepsQueue known q) (sym asks.puts.writer) (keeps_queue known s asks.puts.answer wants) in
+        let was_first : first_known ≡ Some first = ap (λ (ms : List NodeId). slice_get ms 0) (sym kept_queue.members ∙ members) in
+        let named : (if is_unreached y.phase then first_known else None) ≡ Some first = ap (λ (q : Bool). if q then first_known else None) off ∙ was_first in
+        let shown = unreached_shown y.phase left refl off t.0 is in
+        let left_so : FirstUnreached d r i o w net block known y desk' road middle left first = record {
+          first = was_first;
+          cause = unasked r i o d w net block setup known x desk desk' road stands next can s wants asks unlinked u stamp first others h members y held middle un;
+          is_left = unreached_left r i o d w net block setup known x desk desk' road stands next can s wants asks unlinked u stamp first others h members y held middle left un shown;
+        } in
+        subst (λ (q : Option NodeId). SetUpBy d r i o w net block next.0 known y desk' road road' left None q) (sym named)
+        (subst (λ (q : R). FirstUnreached d r i o w net block known y desk' road q left first) (sym t.1) left_so)
 
     -- THE REQUEST THAT WAS SENT
 
@@ -308,6 +328,7 @@ module _ {R I O D : Type 0} (r : roads.Ghosts R I O) (i : link_in.Ghosts I) (o :
       members : x.members ≡ first ∷ others
       port : ℕ
       port_is : dial_port first ≡ Some port
+      listening : IfSome (r.plain road) (λ p. p.listening port ≡ true)
       fresh : Conn I O
       half : O
       link : Link I O
@@ -330,6 +351,7 @@ module _ {R I O D : Type 0} (r : roads.Ghosts R I O) (i : link_in.Ghosts I) (o :
       members = ds.members;
       port = k.port;
       port_is = k.port_is;
+      listening = k.listening;
       fresh = k.fresh;
       half = k.sent.half;
       link = k.link;
@@ -353,17 +375,17 @@ module _ {R I O D : Type 0} (r : roads.Ghosts R I O) (i : link_in.Ghosts I) (o :
     requested_at : (k : AskedNow) → y ≡ record x { phase = phase.Requested k.u k.stamp }
     requested_at k = k.writer ∙ asked_phase x k.u k.stamp k.phase_is
 
-    by_how : (ds : DialledSo r i o d x y held road middle does) (left : Pipe I O) → is_requested y.phase ≡ false → HasDialled r i o d ds.first (first_request x ds.setup ds.stamp ds.others) x y held road middle does
-        → SetUpEnds d r i o w net block next.0 y desk' road road' (undialled y.phase left)
-    by_how ds left off (inl un) = unreached_ends left ds.setup ds.stamp ds.first ds.others ds.phase_is ds.members un
-    by_how ds left off (inr k) =
+    by_how : (ds : DialledSo r i o d x y held road middle does) (left : Pipe I O) → is_requested y.phase ≡ false → piped setup' ends ≡ Ok left → HasDialled r i o d ds.first (first_request x ds.setup ds.stamp ds.others) x y held road middle does
+        → SetUpEnds d r i o w net block next.0 known y desk' road road' (Ok (undialled y.phase first_known left))
+    by_how ds left off is (inl un) = unreached_ends left ds.setup ds.stamp ds.first ds.others ds.phase_is ds.members un is
+    by_how ds left off is (inr k) =
         let now = asked_so ds k in
         absurd (true_false (sym (ap (λ (q : WriterRecord). is_requested q.phase) (requested_at now)) ∙ off))
 
     -- Where no request was sent.
-    not_sent : (left : Pipe I O) → is_requested y.phase ≡ false → piped setup' ends ≡ Ok left → GoneOn r i o d x y held road middle does → SetUpEnds d r i o w net block next.0 y desk' road road' (undialled y.phase left)
+    not_sent : (left : Pipe I O) → is_requested y.phase ≡ false → piped setup' ends ≡ Ok left → GoneOn r i o d x y held road middle does → SetUpEnds d r i o w net block next.0 known y desk' road road' (Ok (undialled y.phase first_known left))
     not_sent left off is (inl g) = undialled_ends left g.0 g.1 is
-    not_sent left off is (inr ds) = by_how ds left off ds.how
+    not_sent left off is (inr ds) = by_how ds left off is ds.how
 
     -- Where it was.
     was_sent : is_requested y.phase ≡ true → GoneOn r i o d x y held road middle does → AskedNow
@@ -429,6 +451,7 @@ module _ {R I O D : Type 0} (r : roads.Ghosts R I O) (i : link_in.Ghosts I) (o :
         let sees : Sees y z.seen z.awaits.found step.Waiting = subst (λ (q : RebuildStep I O). Sees y z.seen z.awaits.found q) is z.awaits.sees in
         let quiet = waits_quiet i y z.awaits.found k.link z.seen (looked_now k z) sees in
         record {
+          runs = runs_if r i o d w net block setup known x desk desk' road stands next can s wants asks unlinked k.u k.stamp k.first k.others k.phase_is k.members k.port k.port_is true k.listening;
           dials = k.dials;
           kept = k.keeps;
           room = k.room;
@@ -448,10 +471,10 @@ module _ {R I O D : Type 0} (r : roads.Ghosts R I O) (i : link_in.Ghosts I) (o :
     before_dial k z = subst (λ (q : R). r.faults road ≤ r.faults q) (sym z.roads_same) k.dials.never_falls
 
     accepts_ends : (k : AskedNow) (z : Awaited k) (setup2 : Rebuild I O) (new : Link I O) (later last : R) (result : Result (SetUp I O) ClientFault) → ends ≡ step.Waiting → setup2.link ≡ Some new → Exchanges r i o None z.seen new road' later (Ok tt)
-        → Accepts r i o k.port setup2 later last result → SetUpEnds d r i o w net block next.0 y desk' road last result
+        → Accepts r i o k.port setup2 later last result → SetUpEnds d r i o w net block next.0 known y desk' road last result
     accepts_ends k z setup2 new later last (Ok left) is link ex acc =
         let f = reached_at k z new later is ex in
-        subst (λ (q : SetUp I O). SetUpEnds d r i o w net block next.0 y desk' road last (Ok q)) (sym acc.is)
+        subst (λ (q : SetUp I O). SetUpEnds d r i o w net block next.0 known y desk' road last (Ok q)) (sym acc.is)
         (first_left r i o d w net block setup known x desk desk' road stands next can s wants asks unlinked k.u k.stamp k.first k.others k.phase_is k.members k.port k.fresh k.half k.link z.seen new middle later f y setup2 acc.at_end last k.writer link acc.accepts)
     accepts_ends k z setup2 new later last (Err fault.RoadsFailed) is link ex (inl none) =
         absurd (dial_waits r i o d w net block setup known x desk desk' road stands next can s wants asks unlinked k.u k.stamp k.first k.others k.phase_is k.members k.port k.fresh k.half k.link z.seen new middle later (reached_at k z new later is ex) none)
@@ -464,14 +487,14 @@ module _ {R I O D : Type 0} (r : roads.Ghosts R I O) (i : link_in.Ghosts I) (o :
     accepts_ends k z setup2 new later last (Err fault.LinkFailed) is link ex acc = absurd acc
 
     by_exchange : (k : AskedNow) (z : Awaited k) (m : MeetsLater R I O) (link2 : Option (Link I O)) → m.setup2.link ≡ link2 → ends ≡ step.Waiting → ExchangesLink r i o None (Some z.seen) link2 road' m.later (Ok tt) → Accepts r i o k.port m.setup2 m.later m.last m.result
-        → SetUpEnds d r i o w net block next.0 y desk' road m.last m.result
+        → SetUpEnds d r i o w net block next.0 known y desk' road m.last m.result
     by_exchange k z m None at is ex acc = absurd ex
     by_exchange k z m (Some new) at is ex acc = accepts_ends k z m.setup2 new m.later m.last m.result is at ex acc
 
-    meets_by : (k : AskedNow) (z : Awaited k) (last : R) (result : Result (SetUp I O) ClientFault) → ends ≡ step.Waiting → MeetsBy r i o k.port (Some z.seen) road' last result → SetUpEnds d r i o w net block next.0 y desk' road last result
+    meets_by : (k : AskedNow) (z : Awaited k) (last : R) (result : Result (SetUp I O) ClientFault) → ends ≡ step.Waiting → MeetsBy r i o k.port (Some z.seen) road' last result → SetUpEnds d r i o w net block next.0 known y desk' road last result
     meets_by k z last result is m = by_exchange k z (record { setup2 = m.setup; later = m.middle; last = last; result = result }) m.setup.link refl is m.flushes m.accepts
 
-    meets_ends : (k : AskedNow) (z : Awaited k) (last : R) (result : Result (SetUp I O) ClientFault) → ends ≡ step.Waiting → Meets r i o k.port (Some z.seen) road' last result → SetUpEnds d r i o w net block next.0 y desk' road last result
+    meets_ends : (k : AskedNow) (z : Awaited k) (last : R) (result : Result (SetUp I O) ClientFault) → ends ≡ step.Waiting → Meets r i o k.port (Some z.seen) road' last result → SetUpEnds d r i o w net block next.0 known y desk' road last result
     meets_ends k z last (Ok left) is m = meets_by k z last (Ok left) is m
     meets_ends k z last (Err why) is (inl failed) = road_caused r i o (Some next.0) road road' last why (before_dial k z) failed
     meets_ends k z last (Err why) is (inr m) = meets_by k z last (Err why) is m
@@ -480,7 +503,7 @@ module _ {R I O D : Type 0} (r : roads.Ghosts R I O) (i : link_in.Ghosts I) (o :
 
   -- No request was sent.
   pub left_shows : (left : Pipe I O) → IsWanted known.phase → fits_in known.phase (is_some setup.link) ≡ true → Steps d r i o known y setup.link setup'.link desk desk' road road' setup'.lost ends → setup'.lost ≡ false → r.risen road' next.0 ≡ false → is_requested y.phase ≡ false
-      → piped setup' ends ≡ Ok left → SetUpShows d r i o next known y setup desk desk' road road' (undialled y.phase left)
+      → piped setup' ends ≡ Ok left → SetUpShows d r i o next known y setup desk desk' road road' (Ok (undialled y.phase (slice_get known.members 0) left))
   left_shows left ok fits steps lost risen off is = λ w net block stands can.
       let u : WantedIn known.phase = wanted_in known.phase ok in
       let unlinked = unlinked_by u.setup setup.link (subst (λ (p : Phase). fits_in p (is_some setup.link) ≡ true) u.is fits) in

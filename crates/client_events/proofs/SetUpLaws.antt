@@ -1,5 +1,5 @@
 -- A writer that wants a pipeline: what it asks of the office, and how its first member is dialled.
-use Rattle.std.proofs.Common.{◌≡◌, ◌≢◌, ◌≤◌, inl, inr, ◌⊎◌, ℕ, not, Bool, true, false, if◌then◌else◌, List, [], ◌∷◌, length, slice_get, is_some, is_none, Option, Some, None, IfOk, Ok, Err, refl, sym, ap, ◌∙◌, subst, arith}
+use Rattle.std.proofs.Common.{◌≡◌, ◌≢◌, ◌≤◌, inl, inr, ◌⊎◌, ℕ, not, Bool, true, false, if◌then◌else◌, List, [], ◌∷◌, length, slice_get, is_some, is_none, Option, Some, None, IfSome, IfOk, Ok, Err, refl, sym, ap, ◌∙◌, subst, arith}
 use Rattle.std.proofs.lemmas.Bool.Decides.{nat_tests}
 use Rattle.std.specs.Prelude.{◌&&◌, nat_le}
 use Rattle.hd_base.specs.declared.ends.Conn.{Conn}
@@ -8,7 +8,7 @@ use Rattle.hd_base.specs.declared.links.LinkOut as link_out
 use Rattle.hd_base.specs.declared.numbers.NodeId.{NodeId}
 use Rattle.hd_base.specs.declared.numbers.Stamp.{Stamp}
 use Rattle.hd_base.specs.declared.roads.Roads as roads
-use Rattle.link_pieces.specs.Roads.{IsDialled, IsUnanswered}
+use Rattle.link_pieces.specs.Roads.{KeepsRoads, IsDialled, IsUnanswered}
 use Rattle.name_core.specs.declared.calls.OfficeAnswer.{OfficeAnswer}
 use Rattle.name_core.specs.declared.calls.OfficeAnswer.TheVariants as granted_as
 use Rattle.name_core.specs.declared.calls.OfficeCall.{OfficeCall}
@@ -227,12 +227,14 @@ module _ {R I O D : Type 0} (r : roads.Ghosts R I O) (i : link_in.Ghosts I) (o :
   pub record Unreached (first : NodeId) (op : Op) (x y : WriterRecord) (held : Option (Link I O)) (road road' : R) : Type 0 where
     pub writer : y ≡ dialled x false
     pub none : held ≡ None
+    pub kept : KeepsRoads r road road'
     pub cause : HasNoWay first op ⊎ ((port : ℕ) × ((dial_port first ≡ Some port) × IsUnanswered r port road road'))
 
   -- The first member was asked, or the link failed.
   pub record Asked (first : NodeId) (op : Op) (x y : WriterRecord) (held : Option (Link I O)) (road road' : R) (does : Acted) : Type 0 where
     pub port : ℕ
     pub port_is : dial_port first ≡ Some port
+    pub listening : IfSome (r.plain road) (λ p. p.listening port ≡ true)
     pub fresh : Conn I O
     pub link : Link I O
     pub dialled : IsDialled r i o port road road' fresh
@@ -244,25 +246,36 @@ module _ {R I O D : Type 0} (r : roads.Ghosts R I O) (i : link_in.Ghosts I) (o :
   abbrev pub HasDialled : NodeId → Op → WriterRecord → WriterRecord → Option (Link I O) → R → R → Acted → Type 0
   HasDialled first op x y held road road' does = Unreached first op x y held road road' ⊎ Asked first op x y held road road' does
 
-  sends_so : (first : NodeId) (op : Op) (port : ℕ) (fresh : Conn I O) (x y : WriterRecord) (held : Option (Link I O)) (road road' : R) (does : Acted) → dial_port first ≡ Some port → IsDialled r i o port road road' fresh → (does ≡ acted.Memory → ⊥)
+  sends_so : (first : NodeId) (op : Op) (port : ℕ) (fresh : Conn I O) (x y : WriterRecord) (held : Option (Link I O)) (road road' : R) (does : Acted) → dial_port first ≡ Some port → IfSome (r.plain road) (λ p. p.listening port ≡ true) → IsDialled r i o port road road' fresh → (does ≡ acted.Memory → ⊥)
       → Sends o (op_text op) x y (Some (record { end = fresh; heard = nothing_heard; asked = false })) held does → HasDialled first op x y held road road' does
-  sends_so first op port fresh x y None road road' does is dialled never s = absurd s
-  sends_so first op port fresh x y (Some link) road road' does is dialled never s = by_sends s.sends
+  sends_so first op port fresh x y None road road' does is heard dialled never s = absurd s
+  sends_so first op port fresh x y (Some link) road road' does is heard dialled never s = by_sends s.sends
     where
       by_sends : SendsTo o (op_text op) x y fresh link.end does → HasDialled first op x y (Some link) road road' does
       by_sends (inl k) = absurd (never k.is)
-      by_sends (inr k) = inr (record { port = port; port_is = is; fresh = fresh; link = link; dialled = dialled; held_is = refl; heard = s.heard; sent = k })
+      by_sends (inr k) = inr (record { port = port; port_is = is; listening = heard; fresh = fresh; link = link; dialled = dialled; held_is = refl; heard = s.heard; sent = k })
 
   opens_so : (first : NodeId) (op : Op) (port : ℕ) (how : Opened) (x y : WriterRecord) (opened_link held : Option (Link I O)) (road road' : R) (does : Acted) → dial_port first ≡ Some port → (does ≡ acted.Memory → ⊥)
       → OpensAs r i o port opened_link road road' how → FollowsDial o (op_text op) x y opened_link held how does → HasDialled first op x y held road road' does
   opens_so first op port opened.Answered x y opened_link held road road' does is never opens follows =
-      sends_so first op port opens.end x y held road road' does is opens.dialled never (subst (λ (l : Option (Link I O)). Sends o (op_text op) x y l held does) opens.is follows)
-  opens_so first op port opened.Unanswered x y opened_link held road road' does is never opens follows = inl (record { writer = follows.0; none = follows.1 ∙ opens.0; cause = inr (port, (is, opens.1)) })
+      sends_so first op port opens.end x y held road road' does is opens.listening opens.dialled never (subst (λ (l : Option (Link I O)). Sends o (op_text op) x y l held does) opens.is follows)
+  opens_so first op port opened.Unanswered x y opened_link held road road' does is never opens follows = inl (record { writer = follows.0; none = follows.1 ∙ opens.0; kept = opens.1.kept; cause = inr (port, (is, opens.1)) })
   opens_so first op port opened.Memory x y opened_link held road road' does is never opens follows = absurd (never follows.2)
+
+  same_roads : (road road' : R) → road' ≡ road → KeepsRoads r road road'
+  same_roads road road' same = record {
+    plain = ap r.plain same;
+    carried = ap r.carried same;
+    risen = ap r.risen same;
+    never_falls = subst (λ (y : R). r.faults road ≤ r.faults y) (sym same) (itself (r.faults road));
+  }
+    where
+      itself : (n : ℕ) → n ≤ n
+      itself n = omega arith
 
   reaches_so : (first : NodeId) (op : Op) (x y : WriterRecord) (held : Option (Link I O)) (road road' : R) (does : Acted) → (does ≡ acted.Memory → ⊥) → Reaches r i o first op x y None held road road' does → HasDialled first op x y held road road' does
   reaches_so first op x y held road road' does never (no_memory u) = absurd (never u.is)
-  reaches_so first op x y held road road' does never (no_way none u) = inl (record { writer = u.writer; none = u.link_same; cause = inl none })
+  reaches_so first op x y held road road' does never (no_way none u) = inl (record { writer = u.writer; none = u.link_same; kept = same_roads road road' u.roads_same; cause = inl none })
   reaches_so first op x y held road road' does never (dials n) = opens_so first op n.port n.reaches.opened x y n.reaches.held held road road' does n.is never n.reaches.opens n.reaches.follows
 
   -- The dial of a writer that was given a stamp and has members.

@@ -1,5 +1,5 @@
 -- Roads know the connections that they knew, and their count of faults never falls, whatever the setup of a pipeline does; and what it leaves is known.
-use Rattle.std.proofs.Common.{◌≡◌, ◌<◌, ◌≤◌, ◌+◌, inl, inr, ℕ, Bool, true, false, if◌then◌else◌, List, Option, Some, None, IfOk, IfSome, MatchOption, option_map, Result, Ok, Err, refl, sym, subst, arith}
+use Rattle.std.proofs.Common.{◌≡◌, ◌<◌, ◌≤◌, ◌+◌, inl, inr, ℕ, Bool, true, false, List, Option, Some, None, IfSome, MatchOption, option_map, Ok, refl, sym, subst, arith}
 use Rattle.hd_base.specs.Channels.{Plain, with_dial, with_accept}
 use Rattle.hd_base.specs.Ends.{IsKnown}
 use Rattle.hd_base.specs.declared.ends.Conn.{Conn}
@@ -29,18 +29,10 @@ use Rattle.writer_core.specs.Transitions as writer
 use Rattle.member_events.specs.Roads.{RoadsPass}
 use Rattle.member_events.proofs.PassLaws.{accept_knows}
 use Rattle.member_events.proofs.SetupKnown.{pass_kept, pass_on}
-use Rattle.client_events.specs.declared.faults.ClientFault.{ClientFault}
-use Rattle.client_events.specs.declared.faults.ClientFault.TheVariants as fault
 use Rattle.client_events.specs.declared.pipes.Pipe.{Pipe}
-use Rattle.client_events.specs.declared.setting_up.SetUp.{SetUp}
 use Rattle.client_events.specs.Answering.{piped}
-use Rattle.client_events.specs.SettingUp.{IsWanted, is_unreached, undialled, SetUpIsKnown}
-use Rattle.client_events.specs.Showing.{PipeIsKnown}
+use Rattle.client_events.specs.SettingUp.{IsWanted, undialled, SetUpIsKnown}
 use Rattle.client_events.proofs.PassLaws.{LinkPasses, stays, passes_on, kept_id, settles_on, by_ends}
-
--- what is left where no request was sent, and the first member was reached or not
-abbrev left_if : {I O : Type 0} → Bool → Pipe I O → Result (SetUp I O) ClientFault
-left_if q left = if q then Err fault.RoadsFailed else Ok (record { pipe = left; first = None })
 
 -- ROADS
 
@@ -146,14 +138,9 @@ module _ {R I O D : Type 0} (r : roads.Ghosts R I O) (i : link_in.Ghosts I) (o :
   first_pass w w' link link' desk desk' road road' lost ends ok s =
       pass_on r i o road s.middle road' (acts_on w.phase w w' link s.held desk desk' road s.middle s.acted ok s.acts).pass (settles_on r i o d (keeps_link w'.phase) s.held s.kept s.middle road' s.settles.settles).pass
 
-  by_reach : (known : Option Plain) (q : Bool) (left : Pipe I O) → PipeIsKnown known left → IfOk (left_if q left) (SetUpIsKnown known)
-  by_reach known true left h = tt
-  by_reach known false left h = (h, tt)
-
   -- The connection is known where no request was sent.
   pub undialled_known : (w w' : WriterRecord) (link : Option (Link I O)) (setup' : Rebuild I O) (desk desk' : D) (road road' : R) (lost : Bool) (ends : RebuildStep I O) (left : Pipe I O) → IsWanted w.phase → Steps d r i o w w' link setup'.link desk desk' road road' lost ends → LinkIsKnown (r.plain road) link
-      → LinkIsKnown (r.plain road') setup'.link → piped setup' ends ≡ Ok left → (p : Phase) → IfOk (undialled p left) (SetUpIsKnown (r.plain road'))
-  undialled_known w w' link setup' desk desk' road road' lost ends left ok s h k is p =
+      → LinkIsKnown (r.plain road') setup'.link → piped setup' ends ≡ Ok left → (p : Phase) (first : Option NodeId) → SetUpIsKnown (r.plain road') (undialled p first left)
+  undialled_known w w' link setup' desk desk' road road' lost ends left ok s h k is p first =
       let held : LinkIsKnown (r.plain s.middle) s.held = (acts_on w.phase w w' link s.held desk desk' road s.middle s.acted ok s.acts).known h in
-      by_reach (r.plain road') (is_unreached p) left
-      (by_ends r i o d s.acted w' (r.plain road') s.kept setup' ends left ((settles_on r i o d (keeps_link w'.phase) s.held s.kept s.middle road' s.settles.settles).known held) k s.reports is)
+      (by_ends r i o d s.acted w' (r.plain road') s.kept setup' ends left ((settles_on r i o d (keeps_link w'.phase) s.held s.kept s.middle road' s.settles.settles).known held) k s.reports is, tt)

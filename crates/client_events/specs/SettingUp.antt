@@ -1,5 +1,5 @@
 -- The setup of a pipeline by the writer of a block: the office gives a stamp, and the first member is asked.
-use Rattle.std.specs.Prelude.{◌≡◌, ◌≢◌, ◌⊎◌, ℕ, ◌+◌, ◌≤◌, min, if◌then◌else◌, Bool, true, false, List, [], ◌∷◌, slice_get, Option, Some, None, IfSome, Result, Ok, Err}
+use Rattle.std.specs.Prelude.{◌≡◌, ◌≢◌, ◌⊎◌, ℕ, ◌+◌, ◌≤◌, min, ◌&&◌, if◌then◌else◌, Bool, true, false, List, [], ◌∷◌, slice_get, Option, Some, None, IfSome, Result, Ok, Err}
 use Rattle.hd_base.specs.Channels.{Plain}
 use Rattle.hd_base.specs.Ends.{IsKnown}
 use Rattle.hd_base.specs.Faults.{FaultsIncreased}
@@ -61,9 +61,10 @@ abbrev pub first_port : List NodeId → ℕ
 first_port [] = FIRST_PORT
 first_port (first ∷ others) = min (FIRST_PORT + first.0) MAX_PORT
 
--- what is left where no request was sent
-abbrev pub undialled : {I O : Type 0} → Phase → Pipe I O → Result (SetUp I O) ClientFault
-undialled p left = if is_unreached p then Err fault.RoadsFailed else Ok (record { pipe = left; first = None })
+-- what is left where no request was sent, to this first member
+abbrev pub undialled : {I O : Type 0} → Phase → Option NodeId → Pipe I O → SetUp I O
+undialled p first left =
+    record { pipe = left; first = None; unreached = if is_unreached p then first else None }
 
 -- The connection of a setup was exchanged without a take.
 abbrev pub FlushesLink : {R I O : Type 0} → roads.Ghosts R I O → link_in.Ghosts I → link_out.Ghosts O →
@@ -82,7 +83,7 @@ GivesUpLink r i o link road road' other = ⊥
 pub record AcceptsFirst {R I O : Type 0} (r : roads.Ghosts R I O) (i : link_in.Ghosts I) (o : link_out.Ghosts O)
     (port : ℕ) (setup : Rebuild I O) (road road' : R) (left : SetUp I O) : Type 0 where
   pub at_end : Conn I O
-  pub is : left ≡ record { pipe = pipe.SettingUp setup; first = Some at_end }
+  pub is : left ≡ record { pipe = pipe.SettingUp setup; first = Some at_end; unreached = None }
   pub accepts : AcceptsDial r i o port road road' at_end
 
 -- Where it isn't, the roads' count rose, or no dial waits there.
@@ -112,14 +113,13 @@ Meets r i o port link road road' (Err why) =
 -- BEFORE THE EVENTS
 
 -- The office answers the writer of a block that wants a pipeline, and takes no command then; the desk is that of the
--- office, and this is the number of the next connection. The node of the first member runs, and has a port. The request
--- is spelled as it is written (messages_are_written).
+-- office, and this is the number of the next connection. The node of the first member has a port. The request is
+-- spelled as it is written (messages_are_written).
 pub record CanSetUp {D : Type 0} (d : desks.Ghosts D) (w : World) (block : BlockId) (next : ConnId)
     (known : WriterRecord) (desk : D) : Type 0 where
   pub office : d.office desk ≡ Some w.office
   pub next_is : next.0 ≡ w.next_conn
   pub no_command : has_command_due known ≡ false
-  pub runs : IfSome (slice_get known.members 0) (λ first. w.running first.0 ≡ true)
   pub has_port : IfSome (slice_get known.members 0) (λ first. FIRST_PORT + first.0 ≤ MAX_PORT)
   pub spelled : SpellDown (asked_world w block true) next.0
 
@@ -145,21 +145,40 @@ pub record FirstAsked {D R I O : Type 0} (d : desks.Ghosts D) (r : roads.Ghosts 
   pub first : slice_get known.members 0 ≡ Some member
   pub node : (v.dialled next).to.node ≡ member.0
 
--- Which world it is: that in which the dial of the first member was answered; where none was made it is the same
--- whether one would be answered or not.
+-- The first member couldn't be asked: its node doesn't run, or the roads' count rose.
+abbrev pub IsUnasked : {R I O : Type 0} → roads.Ghosts R I O → World → NodeId → R → R → Type 0
+IsUnasked r w first road road' = (w.running first.0 ≡ false) ⊎ FaultsIncreased (r.faults road) (r.faults road')
+
+-- The dial of the first member, which the writer had before, wasn't answered. It is the world in which it isn't; where
+-- its node doesn't run, that in which a dial would be answered too.
+pub record FirstUnreached {D R I O : Type 0} (d : desks.Ghosts D) (r : roads.Ghosts R I O) (i : link_in.Ghosts I)
+    (o : link_out.Ghosts O) (w : World) (net : Net) (block : BlockId) (known known' : WriterRecord) (desk : D)
+    (road road' : R) (left : Pipe I O) (member : NodeId) : Type 0 where
+  pub first : slice_get known.members 0 ≡ Some member
+  pub cause : IsUnasked r w member road road'
+  pub is_left : (answered : Bool) → (answered && w.running member.0) ≡ false →
+      SetUpLeft d r i o w net (asked_world w block answered) block.0 known' desk left road'
+
+-- Which world it is: that in which the dial of the first member was answered, or wasn't; where none was made it is the
+-- same whether one would be answered or not.
 abbrev pub SetUpBy : {D R I O : Type 0} → desks.Ghosts D → roads.Ghosts R I O → link_in.Ghosts I →
-    link_out.Ghosts O → World → Net → BlockId → ℕ → WriterRecord → D → R → Pipe I O → Option (Conn I O) → Type 0
-SetUpBy d r i o w net block next known desk road left None =
-    (answered : Bool) → SetUpLeft d r i o w net (asked_world w block answered) block.0 known desk left road
-SetUpBy d r i o w net block next known desk road left (Some at_end) =
-    FirstAsked d r i o w net (asked_world w block true) block.0 next known desk left road at_end
+    link_out.Ghosts O → World → Net → BlockId → ℕ → WriterRecord → WriterRecord → D → R → R → Pipe I O →
+    Option (Conn I O) → Option NodeId → Type 0
+SetUpBy d r i o w net block next known known' desk road road' left None None =
+    (answered : Bool) → SetUpLeft d r i o w net (asked_world w block answered) block.0 known' desk left road'
+SetUpBy d r i o w net block next known known' desk road road' left (Some at_end) None =
+    FirstAsked d r i o w net (asked_world w block true) block.0 next known' desk left road' at_end
+SetUpBy d r i o w net block next known known' desk road road' left None (Some member) =
+    FirstUnreached d r i o w net block known known' desk road road' left member
+SetUpBy d r i o w net block next known known' desk road road' left (Some at_end) (Some member) = ⊥
 
 -- How it ends; a fault has its cause.
 abbrev pub SetUpEnds : {D R I O : Type 0} → desks.Ghosts D → roads.Ghosts R I O → link_in.Ghosts I →
-    link_out.Ghosts O → World → Net → BlockId → ℕ → WriterRecord → D → R → R → Result (SetUp I O) ClientFault → Type 0
-SetUpEnds d r i o w net block next known desk road road' (Ok left) =
-    SetUpBy d r i o w net block next known desk road' left.pipe left.first
-SetUpEnds d r i o w net block next known desk road road' (Err why) = IsCaused r (Some next) road road' why
+    link_out.Ghosts O → World → Net → BlockId → ℕ → WriterRecord → WriterRecord → D → R → R →
+    Result (SetUp I O) ClientFault → Type 0
+SetUpEnds d r i o w net block next known known' desk road road' (Ok left) =
+    SetUpBy d r i o w net block next known known' desk road road' left.pipe left.first left.unreached
+SetUpEnds d r i o w net block next known known' desk road road' (Err why) = IsCaused r (Some next) road road' why
 
 abbrev pub SetUpShows : {D R I O : Type 0} → desks.Ghosts D → roads.Ghosts R I O → link_in.Ghosts I →
     link_out.Ghosts O → ConnId → WriterRecord → WriterRecord → Rebuild I O → D → D → R → R →
@@ -168,7 +187,7 @@ SetUpShows d r i o next known known' setup desk desk' road road' result =
     (w : World) (net : Net) (block : BlockId) →
     ClientStands r i o w net block.0 w.office known (pipe.SettingUp setup) road →
     CanSetUp d w block next known desk
-    → SetUpEnds d r i o w net block next.0 known' desk' road road' result
+    → SetUpEnds d r i o w net block next.0 known known' desk' road road' result
 
 -- The roads know the connection that is left, and the lower end of a new one.
 abbrev pub SetUpIsKnown : {I O : Type 0} → Option Plain → SetUp I O → Type 0

@@ -1,6 +1,6 @@
 //! The setup of a pipeline by the writer of a block.
 
-ghost use Rattle.std.specs.Prelude.{◌≡◌, true, IfOk, is_some};
+ghost use Rattle.std.specs.Prelude.{◌≡◌, true, IfOk, is_some, slice_get};
 ghost use Rattle.pipe_recovery.specs.Dialling.{LinkIsKnown};
 ghost use Rattle.pipe_recovery.specs.Steps.{fits_in};
 ghost use Rattle.member_events.specs.Roads.{RoadsPass};
@@ -36,10 +36,13 @@ pub struct SetUp<I, O> {
     pub pipe: Pipe<I, O>,
     /// The lower end of the connection on which the first member was asked, if it was.
     pub first: Option<Conn<I, O>>,
+    /// The node of the first member, where the dial of it wasn't answered.
+    pub unreached: Option<NodeId>,
 }
 
 /// A writer that wants a pipeline asks the office for a stamp and then the first member, on the connection of this
-/// number, the next one, whose lower end is accepted at the member's port.
+/// number, the next one, whose lower end is accepted at the member's port. Where the member doesn't answer the dial the
+/// writer wants a pipeline without it, or has failed.
 pub fn set_up<D: Desk, I: LinkIn, O: LinkOut, R: Roads<Inward = I, Outward = O>>(
     alloc: Global,
     roads: &mut R,
@@ -57,6 +60,7 @@ pub fn set_up<D: Desk, I: LinkIn, O: LinkOut, R: Roads<Inward = I, Outward = O>>
     ensures pass { RoadsPass R.Roads roads.old roads.new }
     ensures known { IfOk result (λ left. SetUpIsKnown (R.plain roads.new) left) }
 {
+    let first = first_member(writer.members().as_slice());
     let mut setup = setup;
     let step = setup.step(alloc, writer, office, roads);
     if setup.has_lost() {
@@ -68,7 +72,7 @@ pub fn set_up<D: Desk, I: LinkIn, O: LinkOut, R: Roads<Inward = I, Outward = O>>
     let phase = writer.phase();
     if !is_requested(phase) {
         let pipe = piped(setup, step)?;
-        return undialled(phase, pipe);
+        return Ok(undialled(phase, first, pipe));
     }
     let port = first_port(writer.members().as_slice());
     match step {
@@ -78,17 +82,25 @@ pub fn set_up<D: Desk, I: LinkIn, O: LinkOut, R: Roads<Inward = I, Outward = O>>
     }
 }
 
-/// What is left where no request was sent.
+/// The first member, if there is one.
+fn first_member(members: &[NodeId]) -> Option<NodeId>
+    ensures { result ≡ slice_get members.now 0 }
+{
+    members.first().copied()
+}
+
+/// What is left where no request was sent, to this first member.
 fn undialled<I: LinkIn, O: LinkOut>(
     phase: Phase,
+    first: Option<NodeId>,
     pipe: Pipe<I, O>,
-) -> Result<SetUp<I, O>, ClientFault>
-    ensures { result ≡ undialled phase pipe }
+) -> SetUp<I, O>
+    ensures { result ≡ undialled phase first pipe }
 {
-    if is_unreached(phase) {
-        Err(ClientFault::RoadsFailed)
-    } else {
-        Ok(SetUp { pipe, first: None })
+    SetUp {
+        pipe,
+        first: None,
+        unreached: if is_unreached(phase) { first } else { None },
     }
 }
 
@@ -173,6 +185,7 @@ fn accepted<I: LinkIn, O: LinkOut, R: Roads<Inward = I, Outward = O>>(
         Ok(Some(end)) => Ok(SetUp {
             pipe: Pipe::SettingUp(setup),
             first: Some(end),
+            unreached: None,
         }),
         Ok(None) => Err(ClientFault::RoadsFailed),
         Err(error) => Err(road_fault(error)),

@@ -1,5 +1,6 @@
 -- The step of the setup, and what followed.
-use Rattle.std.proofs.Common.{rules, ◌≡◌, IfOk, true, false, sym, ap, ◌∙◌, subst}
+use Rattle.std.proofs.Common.{rules, ◌≡◌, Ok, Option, slice_get, true, false, sym, ap, ◌∙◌, subst}
+use Rattle.hd_base.specs.declared.numbers.NodeId.{NodeId}
 use Rattle.writer_core.specs.declared.phases.Phase.{Phase}
 use Rattle.member_events.proofs.SetupKnown.{pass_on}
 use Rattle.client_events.specs.SettingUp.{is_requested, first_port, undialled, SetUpShows, SetUpIsKnown, FitsSetUp}
@@ -15,8 +16,9 @@ returns-then-risen-clause-shows g c =
 pub returns-then-not-is_requested-clause-shows : goal.returns-then-not-is_requested-clause-shows
 returns-then-not-is_requested-clause-shows g c =
     let off : is_requested c.step-step.new.writer.phase ≡ false = ap is_requested (sym c.phase-phase.ensures) ∙ (sym c.is_requested.ensures ∙ c.if-not-is_requested.true) in
-    subst (λ q. SetUpShows g.D.Desk g.R.Roads g.I.LinkIn g.O.LinkOut c.args.next c.args.writer.now c.step-step.new.writer c.args.setup c.args.office.now c.step-step.new.office c.args.roads.now c.step-step.new.roads q)
-    (sym (c.undialled.ensures ∙ ap (λ (p : Phase). undialled p c.in_ok-pipe.pipe) c.phase-phase.ensures))
+    let was : c.first_member-first.result ≡ slice_get c.args.writer.now.members 0 = search rules in
+    subst (λ q. SetUpShows g.D.Desk g.R.Roads g.I.LinkIn g.O.LinkOut c.args.next c.args.writer.now c.step-step.new.writer c.args.setup c.args.office.now c.step-step.new.office c.args.roads.now c.step-step.new.roads (Ok q))
+    (sym (c.undialled.ensures ∙ (ap (λ (p : Phase). undialled p c.first_member-first.result c.in_ok-pipe.pipe) c.phase-phase.ensures ∙ ap (λ (f : Option NodeId). undialled c.step-step.new.writer.phase f c.in_ok-pipe.pipe) was)))
     (left_shows g.R.Roads g.I.LinkIn g.O.LinkOut g.D.Desk c.args.next c.args.setup c.step-step.new.self c.args.writer.now c.step-step.new.writer c.args.office.now c.step-step.new.office c.args.roads.now c.step-step.new.roads c.step-step.result
     c.in_ok-pipe.pipe c.requires.wanted c.requires.fits c.step-step.ensures.steps (sym c.has_lost.ensures ∙ c.if-has_lost.false) (sym c.risen.ensures ∙ c.if-risen.false) off (sym c.in_ok-pipe.ensures))
 
@@ -35,8 +37,9 @@ returns-in-Moved-clause-shows g c =
 
 pub returns-then-not-is_requested-clause-fits : goal.returns-then-not-is_requested-clause-fits
 returns-then-not-is_requested-clause-fits g c =
-    subst (λ q. FitsSetUp c.args.writer.now c.step-step.new.writer c.args.setup q)
-    (sym (c.undialled.ensures ∙ ap (λ (p : Phase). undialled p c.in_ok-pipe.pipe) c.phase-phase.ensures))
+    let was : c.first_member-first.result ≡ slice_get c.args.writer.now.members 0 = search rules in
+    subst (λ q. FitsSetUp c.args.writer.now c.step-step.new.writer c.args.setup (Ok q))
+    (sym (c.undialled.ensures ∙ (ap (λ (p : Phase). undialled p c.first_member-first.result c.in_ok-pipe.pipe) c.phase-phase.ensures ∙ ap (λ (f : Option NodeId). undialled c.step-step.new.writer.phase f c.in_ok-pipe.pipe) was)))
     (left_fits g.R.Roads g.I.LinkIn g.O.LinkOut g.D.Desk c.args.next c.args.setup c.step-step.new.self c.args.writer.now c.step-step.new.writer c.args.office.now c.step-step.new.office c.args.roads.now c.step-step.new.roads c.step-step.result
     c.in_ok-pipe.pipe c.requires.wanted c.requires.fits c.step-step.ensures.steps c.step-step.ensures.fits (sym c.in_ok-pipe.ensures))
 
@@ -68,9 +71,9 @@ returns-in-Ended-clause-pass g c =
 
 pub returns-then-not-is_requested-clause-known : goal.returns-then-not-is_requested-clause-known
 returns-then-not-is_requested-clause-known g c =
-    subst (λ q. IfOk q (SetUpIsKnown (g.R.Roads.plain c.step-step.new.roads))) (sym c.undialled.ensures)
+    subst (λ q. SetUpIsKnown (g.R.Roads.plain c.step-step.new.roads) q) (sym c.undialled.ensures)
     (undialled_known g.R.Roads g.I.LinkIn g.O.LinkOut g.D.Desk c.args.writer.now c.step-step.new.writer c.args.setup.link c.step-step.new.self c.args.office.now c.step-step.new.office c.args.roads.now c.step-step.new.roads c.step-step.new.self.lost c.step-step.result
-    c.in_ok-pipe.pipe c.requires.wanted c.step-step.ensures.steps c.requires.known c.step-step.ensures.known (sym c.in_ok-pipe.ensures) c.phase-phase.result)
+    c.in_ok-pipe.pipe c.requires.wanted c.step-step.ensures.steps c.requires.known c.step-step.ensures.known (sym c.in_ok-pipe.ensures) c.phase-phase.result c.first_member-first.result)
 
 pub returns-in-Waiting-clause-pass : goal.returns-in-Waiting-clause-pass
 returns-in-Waiting-clause-pass g c =
