@@ -124,6 +124,21 @@ module _ (w : World) (b : ℕ) where
   untold_quiet x None answered = did_quiet x.waiting (own_step x).action (own_step x).writer []
   untold_quiet x (Some t) answered = command_quiet x t
 
+  -- Nor is anything where no dial is answered.
+  dialling_quiet : (x : WriterRecord) (a : Action) → IsQuiet (dialling w b x a false)
+  dialling_quiet x (action.Dial to r) = refl
+  dialling_quiet x a = refl
+
+  rest_quiet : (p : Phase) (x : WriterRecord) → IfSome (rest_in p w b x false) IsQuiet
+  rest_quiet (phase.Stamped s stamp) x = dialling_quiet x (dial_step x s stamp).action
+  rest_quiet phase.Opened x = did_quiet x.waiting (open_step x).action (open_step x).writer []
+  rest_quiet phase.Completed x = did_quiet x.waiting (completed_step x).action (completed_step x).writer []
+  rest_quiet p x = refl
+
+  unanswered_quiet : (x : WriterRecord) (told : Option Told) → IfSome (writer_step w b x told None false) IsQuiet
+  unanswered_quiet x (Some told) = rest_quiet (granted x told).phase (granted x told)
+  unanswered_quiet x None = did_quiet x.waiting (own_step x).action (own_step x).writer []
+
   asks_quiet : (a : Action) → IfSome (writer_asks a w b) IsQuiet
   asks_quiet (action.Ask c) = refl
   asks_quiet a = tt
@@ -180,6 +195,14 @@ known_conns w block same =
 few_conns : (w : World) (block : BlockId) → (happens w (own_event block None true)).next_conn ≤ w.next_conn + 1
 unfolding happens outcome
 few_conns w block = few_world w (own_event block None true) block.0 (own_writer w block.0 None true) (own_writer w block.0 None false) (step_as w block.0 (w.writers block.0).known (w.writers block.0).told)
+
+quiet_conns : (w : World) (block : BlockId) → (happens w (own_event block None false)).next_conn ≡ w.next_conn
+unfolding happens outcome
+quiet_conns w block = quiet_world w (own_event block None false) (own_writer w block.0 None false) (unanswered_quiet w block.0 (w.writers block.0).known (w.writers block.0).told)
+
+-- Where a writer that asked the office has no answer to its dial, nothing is dialled.
+pub unanswered_conns : (w : World) (block : BlockId) → (asked_world w block false).next_conn ≡ w.next_conn
+unanswered_conns w block = quiet_conns (happens w (event.Office (caller.Writer block))) block ∙ asks_conns w block
 
 -- Where a writer that asked the office comes into the same state whether a dial is answered or not, nothing is dialled.
 pub asked_conns : (w : World) (block : BlockId) (x : WriterRecord) → x ≡ ((asked_world w block true).writers block.0).known → x ≡ ((asked_world w block false).writers block.0).known → (asked_world w block true).next_conn ≡ w.next_conn

@@ -1,6 +1,6 @@
 -- A client's own step, and the world after it.
 use Rattle.std.proofs.Common.{◌≡◌, ◌≢◌, ◌≤◌, ◌<◌, ◌+◌, ℕ, Bool, true, false, List, [], ◌∷◌, ◌++◌, map, slice_get, Option, Some, None, IfSome, Result, Ok, Err, refl, sym, ap, ◌∙◌, subst, append-nil}
-use Rattle.std.specs.Prelude.{is_some}
+use Rattle.std.specs.Prelude.{is_some, ◌&&◌}
 use Rattle.hd_base.specs.declared.ends.Conn.{Conn}
 use Rattle.hd_base.specs.declared.numbers.BlockId.{BlockId}
 use Rattle.hd_base.specs.declared.numbers.ConnId.{ConnId}
@@ -45,7 +45,7 @@ use Rattle.client_events.specs.Events as events
 use Rattle.client_events.specs.Events.{own_event, asked_world}
 use Rattle.client_events.specs.Faults as faults
 use Rattle.client_events.specs.SettingUp as setting_up
-use Rattle.client_events.specs.SettingUp.{IsWanted}
+use Rattle.client_events.specs.SettingUp.{IsWanted, IsUnasked}
 use Rattle.client_events.specs.Showing as showing
 use Rattle.client_events.specs.Showing.{PipeShows, PipeFits, OthersStay, awaits}
 use Rattle.play_clients.specs.declared.clients.Client.{Client}
@@ -54,11 +54,11 @@ use Rattle.play_clients.specs.declared.clients.Owned.{Owned}
 use Rattle.play_clients.specs.declared.courses.Course.TheVariants as course
 use Rattle.play_clients.specs.Clients.{known_of, said_as, ClientShows, ClientStands, ClientLeft}
 use Rattle.play_clients.specs.Courses.{course_of, course_in}
-use Rattle.play_clients.specs.Events.{IsCaused, CanActAlone, CanHaveCommitted, CanAskFirst, FirstShows, OwnLeft}
+use Rattle.play_clients.specs.Events.{IsCaused, CanActAlone, CanHaveCommitted, CanAskFirst, Reaches, FirstShows, OwnLeft, OwnDone}
 use Rattle.play_clients.specs.Owning.{IsWith, said_list, FollowsActed, ActsBy, FollowsSaid, CompletesBy, CommitsBy, first_node, first_of, FollowsSetUp, SetsUpBy}
 use Rattle.play_clients.proofs.CourseLaws.{IsCourse, IsDone, course_is, acts_done, commits_done, sets_up_done, completes_done, finished_so}
 use Rattle.play_clients.proofs.HearLaws.{caused}
-use Rattle.play_clients.proofs.DialLaws.{untold_conns, asked_conns, asked_dials}
+use Rattle.play_clients.proofs.DialLaws.{untold_conns, unanswered_conns, asked_conns, asked_dials}
 
 -- ANSWERS
 
@@ -203,19 +203,28 @@ module _ {D R I O : Type 0} (d : desks.Ghosts D) (r : roads.Ghosts R I O) (i : l
 
   -- what was done alone, with no command
   abbrev pub alone : Owned I O
-  alone = record { took = None; asked = false; first = None }
+  alone = record { took = None; asked = false; first = None; unreached = None }
 
   -- where the office was asked, and nothing dialled
   abbrev pub asked : Owned I O
-  asked = record { took = None; asked = true; first = None }
+  asked = record { took = None; asked = true; first = None; unreached = None }
+
+  -- Where no dial was made in vain it is the world in which a dial would be answered.
+  pub done_by : (w : World) (net : Net) (queues : Queues) (next : ConnId) (old new : Client I O) (desk : D) (road road' : R) (left : Owned I O) → left.unreached ≡ None → OwnLeft d r i o w net queues next old new desk road' left true → OwnDone d r i o w net queues next old new desk road road' left
+  done_by w net queues next old new desk road road' left none h = record {
+    cause = subst (λ (u : Option NodeId). IfSome u (λ node. IsUnasked r w node road road')) (sym none) tt;
+    alone = subst (λ (u : Option NodeId). IfSome u (λ node. left.first ≡ None)) (sym none) tt;
+    shows = λ answered reaches.
+        subst (λ (q : Bool). OwnLeft d r i o w net queues next old new desk road' left q) (sym (subst (λ (u : Option NodeId). Reaches w u answered) none reaches)) h;
+  }
 
   pub acts_left : (known : WriterRecord) (old new : Client I O) (next : ConnId) (desk : D) (road road' : R) → old.writer ≡ Some known → ActsBy r i o known old new road road' (Ok tt) → course_of known ≡ course.Acts
-      → (w : World) (net : Net) (queues : Queues) → ClientStands d r i o w net old desk road → old.queue.items ≡ queues old.block.0 → CanActAlone w old → OwnLeft d r i o w net queues next old new desk road' alone
+      → (w : World) (net : Net) (queues : Queues) → ClientStands d r i o w net old desk road → old.queue.items ≡ queues old.block.0 → CanActAlone w old → OwnLeft d r i o w net queues next old new desk road' alone true
   acts_left known old new next desk road road' is acts of w net queues stands queue can =
       acts_by known old new next desk road road' is acts.after acts.acted acts.shows acts.fits acts.follows (course_is known course.Acts of (λ e. cc)) w net queues stands queue can
     where
       acts_by : (known : WriterRecord) (old new : Client I O) (next : ConnId) (desk : D) (road road' : R) → old.writer ≡ Some known → (after : WriterRecord) (acted : Result (Acted I O) ClientFault) → events.ActShows r i o known after old.pipe road road' acted → events.FitsActed known after old.pipe acted
-          → FollowsActed old new after acted (Ok tt) → IsCourse known course.Acts → (w : World) (net : Net) (queues : Queues) → ClientStands d r i o w net old desk road → old.queue.items ≡ queues old.block.0 → CanActAlone w old → OwnLeft d r i o w net queues next old new desk road' alone
+          → FollowsActed old new after acted (Ok tt) → IsCourse known course.Acts → (w : World) (net : Net) (queues : Queues) → ClientStands d r i o w net old desk road → old.queue.items ≡ queues old.block.0 → CanActAlone w old → OwnLeft d r i o w net queues next old new desk road' alone true
       acts_by known old new next desk road road' is after (Err why) shows fits follows k w net queues stands queue can = absurd follows
       acts_by known old new next desk road road' is after (Ok acted) shows fits follows k w net queues stands queue can =
           let c : ClientShows i o w net old = stands.client_is in
@@ -266,10 +275,10 @@ module _ {D R I O : Type 0} (d : desks.Ghosts D) (r : roads.Ghosts R I O) (i : l
 
   pub completes_left : (known : WriterRecord) (old new : Client I O) (next : ConnId) (desk desk' : D) (road : R) → old.writer ≡ Some known → CompletesBy d known old new desk desk' (Ok tt) → course_of known ≡ course.Completes
       → (w : World) (net : Net) (queues : Queues) → ClientStands d r i o w net old desk road → old.queue.items ≡ queues old.block.0 → (is_connected (w.writers old.block.0).known.phase ≡ false → (w.writers old.block.0).conn ≡ None)
-      → OwnLeft d r i o w net queues next old new desk' road asked
+      → OwnLeft d r i o w net queues next old new desk' road asked true
   completes_left known old new next desk desk' road is by of w net queues stands queue rests = completes_as by.after by.said by.shows by.fits by.follows
     where
-      completes_as : (after : WriterRecord) (said : Result (Option Said) ClientFault) → events.CompleteShows d known after desk desk' said → (awaits known.phase ≡ false → awaits after.phase ≡ false) → FollowsSaid old new after said (Ok tt) → OwnLeft d r i o w net queues next old new desk' road asked
+      completes_as : (after : WriterRecord) (said : Result (Option Said) ClientFault) → events.CompleteShows d known after desk desk' said → (awaits known.phase ≡ false → awaits after.phase ≡ false) → FollowsSaid old new after said (Ok tt) → OwnLeft d r i o w net queues next old new desk' road asked true
       completes_as after (Err first) shows fits follows = absurd follows
       completes_as after (Ok said) shows fits follows =
           let c : ClientShows i o w net old = stands.client_is in
@@ -318,11 +327,11 @@ module _ {D R I O : Type 0} (d : desks.Ghosts D) (r : roads.Ghosts R I O) (i : l
 
   pub commits_left : (known : WriterRecord) (setup : Rebuild I O) (old new : Client I O) (next : ConnId) (desk desk' : D) (road road' : R) → old.writer ≡ Some known → CommitsBy d r i o known setup old new desk desk' road road' (Ok tt) → course_of known ≡ course.Commits
       → (w : World) (net : Net) (queues : Queues) → ClientStands d r i o w net old desk road → PipeShows i o w net (w.writers old.block.0).conn (pipe.SettingUp setup) → PipeFits known.phase (pipe.SettingUp setup) → old.queue.items ≡ queues old.block.0 → CanHaveCommitted w old.block.0
-      → OwnLeft d r i o w net queues next old new desk' road' asked
+      → OwnLeft d r i o w net queues next old new desk' road' asked true
   commits_left known setup old new next desk desk' road road' is by of w net queues stands linked fitted queue can = commits_as by.after by.acted by.shows by.fits by.follows
     where
       commits_as : (after : WriterRecord) (acted : Result (Acted I O) ClientFault) → events.CommitShows d r i o known after setup desk desk' road road' acted → events.FitsCommitted known after setup acted → FollowsActed old new after acted (Ok tt)
-          → OwnLeft d r i o w net queues next old new desk' road' asked
+          → OwnLeft d r i o w net queues next old new desk' road' asked true
       commits_as after (Err first) shows fits follows = absurd follows
       commits_as after (Ok acted) shows fits follows =
           let c : ClientShows i o w net old = stands.client_is in
@@ -370,68 +379,98 @@ module _ {D R I O : Type 0} (d : desks.Ghosts D) (r : roads.Ghosts R I O) (i : l
       first_same [] m e = cc
       first_same (n ∷ ns) m e = cc
 
-  -- what was dialled
-  abbrev pub dialled_by : WriterRecord → SetUp I O → Owned I O
-  dialled_by after left = record { took = None; asked = true; first = first_of after left.first }
-
   -- What is left, the lower end that is handed back, and which connections there are.
-  record SetUpSo (w : World) (net : Net) (block : BlockId) (next : ConnId) (after : WriterRecord) (desk' : D) (road' : R) (p : Pipe I O) (first : Option (First I O)) : Type 0 where
-    left : setting_up.SetUpLeft d r i o w net (asked_world w block true) block.0 after desk' p road'
-    shown : IfSome first (FirstShows i o (asked_world w block true) left.shows.made block.0 next)
-    none : first ≡ None → (asked_world w block true).next_conn ≡ w.next_conn
-    more : IfSome first (λ f. (asked_world w block true).next_conn ≡ w.next_conn + 1)
+  record SetUpSo (w : World) (net : Net) (block : BlockId) (next : ConnId) (after : WriterRecord) (desk' : D) (road' : R) (p : Pipe I O) (first : Option (First I O)) (answered : Bool) : Type 0 where
+    left : setting_up.SetUpLeft d r i o w net (asked_world w block answered) block.0 after desk' p road'
+    shown : IfSome first (FirstShows i o (asked_world w block answered) left.shows.made block.0 next)
+    none : first ≡ None → (asked_world w block answered).next_conn ≡ w.next_conn
+    more : IfSome first (λ f. (asked_world w block answered).next_conn ≡ w.next_conn + 1)
+
+  -- The same by the dial of the first member.
+  record SetUpAs (w : World) (net : Net) (block : BlockId) (next : ConnId) (after : WriterRecord) (desk' : D) (road road' : R) (p : Pipe I O) (first : Option (First I O)) (unreached : Option NodeId) : Type 0 where
+    cause : IfSome unreached (λ node. IsUnasked r w node road road')
+    alone_is : IfSome unreached (λ node. first ≡ None)
+    so : (answered : Bool) → Reaches w unreached answered → SetUpSo w net block next after desk' road' p first answered
 
   some_none : (f : First I O) → Some f ≡ None → ⊥
   some_none f e = cc
 
-  set_up_by : (w : World) (net : Net) (block : BlockId) (next : ConnId) (after : WriterRecord) (desk' : D) (road' : R) (p : Pipe I O) (first : Option (Conn I O)) → setting_up.SetUpBy d r i o w net block next.0 after desk' road' p first → w.lowers next.0 ≡ idle → next.0 ≡ w.next_conn
-      → SetUpSo w net block next after desk' road' p (first_of after first)
-  set_up_by w net block next after desk' road' p None h lower is = record {
-    left = h true;
-    shown = tt;
-    none = λ _. asked_conns w block after (h true).shows.stands.writer (h false).shows.stands.writer;
-    more = tt;
-  }
-  set_up_by w net block next after desk' road' p (Some at_end) h lower is = record {
-    left = h.is_left;
-    shown = first_shown (asked_world w block true) h.is_left.shows.made block.0 next after at_end h.member h.end_is h.upper h.first h.node (h.lower_same ∙ lower);
-    none = λ e. absurd (some_none (record { node = first_node after.members; end = at_end }) e);
-    more = asked_dials w block
-        (subst (λ (n : ℕ). w.next_conn < n) h.is_left.shows.stands.roads_are.is_net.conns (subst (λ (n : ℕ). n < h.is_left.shows.made.conns) is h.end_is.within));
-  }
+  -- Nothing was dialled where the first member wasn't reached.
+  unreached_conns : (w : World) (net : Net) (block : BlockId) (known after : WriterRecord) (desk' : D) (road road' : R) (p : Pipe I O) (node : NodeId) → setting_up.FirstUnreached d r i o w net block known after desk' road road' p node → (answered : Bool) → (answered && w.running node.0) ≡ false
+      → (asked_world w block answered).next_conn ≡ w.next_conn
+  unreached_conns w net block known after desk' road road' p node h false off = unanswered_conns w block
+  unreached_conns w net block known after desk' road road' p node h true off = asked_conns w block after (h.is_left true off).shows.stands.writer (h.is_left false refl).shows.stands.writer
 
-  pub sets_up_left : (known : WriterRecord) (setup : Rebuild I O) (old new : Client I O) (next : ConnId) (desk desk' : D) (road road' : R) (result : Result (Option (First I O)) ClientFault) (first : Option (First I O)) → old.writer ≡ Some known → SetsUpBy d r i o next known setup old new desk desk' road road' (Ok first)
+  set_up_by : (w : World) (net : Net) (block : BlockId) (next : ConnId) (known after : WriterRecord) (desk' : D) (road road' : R) (p : Pipe I O) (first : Option (Conn I O)) (unreached : Option NodeId) → setting_up.SetUpBy d r i o w net block next.0 known after desk' road road' p first unreached → w.lowers next.0 ≡ idle
+      → next.0 ≡ w.next_conn → SetUpAs w net block next after desk' road road' p (first_of after first) unreached
+  set_up_by w net block next known after desk' road road' p None None h lower is = record {
+    cause = tt;
+    alone_is = tt;
+    so = λ answered at. subst (λ (q : Bool). SetUpSo w net block next after desk' road' p None q) (sym at) (record {
+      left = h true;
+      shown = tt;
+      none = λ _. asked_conns w block after (h true).shows.stands.writer (h false).shows.stands.writer;
+      more = tt;
+    });
+  }
+  set_up_by w net block next known after desk' road road' p (Some at_end) None h lower is = record {
+    cause = tt;
+    alone_is = tt;
+    so = λ answered at. subst (λ (q : Bool). SetUpSo w net block next after desk' road' p (first_of after (Some at_end)) q) (sym at) (record {
+      left = h.is_left;
+      shown = first_shown (asked_world w block true) h.is_left.shows.made block.0 next after at_end h.member h.end_is h.upper h.first h.node (h.lower_same ∙ lower);
+      none = λ e. absurd (some_none (record { node = first_node after.members; end = at_end }) e);
+      more = asked_dials w block
+          (subst (λ (n : ℕ). w.next_conn < n) h.is_left.shows.stands.roads_are.is_net.conns (subst (λ (n : ℕ). n < h.is_left.shows.made.conns) is h.end_is.within));
+    });
+  }
+  set_up_by w net block next known after desk' road road' p None (Some node) h lower is = record {
+    cause = h.cause;
+    alone_is = refl;
+    so = λ answered off. record {
+      left = h.is_left answered off;
+      shown = tt;
+      none = λ _. unreached_conns w net block known after desk' road road' p node h answered off;
+      more = tt;
+    };
+  }
+  set_up_by w net block next known after desk' road road' p (Some at_end) (Some node) h lower is = absurd h
+
+  pub sets_up_left : (known : WriterRecord) (setup : Rebuild I O) (old new : Client I O) (next : ConnId) (desk desk' : D) (road road' : R) (owned : Owned I O) → old.writer ≡ Some known → SetsUpBy d r i o next known setup old new desk desk' road road' (Ok owned)
       → IsWanted known.phase → (w : World) (net : Net) (queues : Queues) → ClientStands d r i o w net old desk road → PipeShows i o w net (w.writers old.block.0).conn (pipe.SettingUp setup) → PipeFits known.phase (pipe.SettingUp setup) → old.queue.items ≡ queues old.block.0
-      → CanAskFirst w old.block next → OwnLeft d r i o w net queues next old new desk' road' (record { took = None; asked = true; first = first })
-  sets_up_left known setup old new next desk desk' road road' result first is by wanted w net queues stands linked fitted queue can = sets_up_as by.after by.left by.shows by.fits by.follows
+      → CanAskFirst w old.block next → OwnDone d r i o w net queues next old new desk' road road' owned
+  sets_up_left known setup old new next desk desk' road road' owned is by wanted w net queues stands linked fitted queue can = sets_up_as by.after by.left by.shows by.fits by.follows
     where
-      sets_up_as : (after : WriterRecord) (left : Result (SetUp I O) ClientFault) → setting_up.SetUpShows d r i o next known after setup desk desk' road road' left → setting_up.FitsSetUp known after setup left → FollowsSetUp old new after left (Ok first)
-          → OwnLeft d r i o w net queues next old new desk' road' (record { took = None; asked = true; first = first })
+      sets_up_as : (after : WriterRecord) (left : Result (SetUp I O) ClientFault) → setting_up.SetUpShows d r i o next known after setup desk desk' road road' left → setting_up.FitsSetUp known after setup left → FollowsSetUp old new after left (Ok owned)
+          → OwnDone d r i o w net queues next old new desk' road road' owned
       sets_up_as after (Err why) shows fits follows = cc
       sets_up_as after (Ok left) shows fits follows =
           let c : ClientShows i o w net old = stands.client_is in
           let known_is : (w.writers old.block.0).known ≡ known = c.writer ∙ ap (known_of old.block) is in
-          let v : World = asked_world w old.block true in
-          let h = set_up_by w net old.block next after desk' road' left.pipe left.first (shows w net old.block (record { roads_are = stands.roads_are; writer = sym known_is; told = c.told; pipe_is = linked; office_is = refl })
+          let met = set_up_by w net old.block next known after desk' road road' left.pipe left.first left.unreached (shows w net old.block (record { roads_are = stands.roads_are; writer = sym known_is; told = c.told; pipe_is = linked; office_is = refl })
           (record {
             office = stands.office_is;
             next_is = can.next_is;
             no_command = subst (λ (x : WriterRecord). has_command_due x ≡ false) known_is can.no_command;
-            runs = subst (λ (x : WriterRecord). IfSome (slice_get x.members 0) (λ n. w.running n.0 ≡ true)) known_is can.runs;
             has_port = subst (λ (x : WriterRecord). IfSome (slice_get x.members 0) (λ n. FIRST_PORT + n.0 ≤ MAX_PORT)) known_is can.has_port;
             spelled = can.spelled;
           })) can.undialled can.next_is in
           let does : IsDone (own_step known).action old.block.0 (queues old.block.0) (asking old.block.0 ∷ acting old.block.0 None ∷ []) (queues old.block.0) = sets_up_done known old.block.0 (queues old.block.0) wanted in
-          let same : first ≡ first_of after left.first = ap (ok_of first) follows.1 in
-          record {
-            made = h.left.shows.made;
-            events = ap (λ (a : Action). own_events a old.block.0 (queues old.block.0)) (same_action w old.block known known_is) ∙ does.events_are;
-            shows = client_left w net v h.left.shows.made old new after left.pipe None desk' road' follows.0 c h.left.shows.stands h.left.shows.others (fits (subst (λ (x : WriterRecord). x.members ≢ []) known_is can.members) fitted) h.left.office (h.left.said ∙ sym (append-nil (w.said old.block.0)));
-            queue = queue_same w old.block old new queues known (queues old.block.0) known_is follows.0.queue queue does.queue_is;
-            first = subst (λ (x : Option (First I O)). IfSome x (FirstShows i o v h.left.shows.made old.block.0 next)) (sym same) h.shown;
-            none = λ e. h.none (sym same ∙ e);
-            more = subst (λ (x : Option (First I O)). IfSome x (λ f. v.next_conn ≡ w.next_conn + 1)) (sym same) h.more;
-          }
+          subst (λ (q : Owned I O). OwnDone d r i o w net queues next old new desk' road road' q) (sym (ap (ok_of owned) follows.1)) (record {
+            cause = met.cause;
+            alone = met.alone_is;
+            shows = λ answered reaches.
+                let h = met.so answered reaches in
+                record {
+                  made = h.left.shows.made;
+                  events = ap (λ (a : Action). own_events a old.block.0 (queues old.block.0)) (same_action w old.block known known_is) ∙ does.events_are;
+                  shows = client_left w net (asked_world w old.block answered) h.left.shows.made old new after left.pipe None desk' road' follows.0 c h.left.shows.stands h.left.shows.others (fits (subst (λ (x : WriterRecord). x.members ≢ []) known_is can.members) fitted) h.left.office (h.left.said ∙ sym (append-nil (w.said old.block.0)));
+                  queue = queue_same w old.block old new queues known (queues old.block.0) known_is follows.0.queue queue does.queue_is;
+                  first = h.shown;
+                  none = h.none;
+                  more = h.more;
+                };
+          })
 
   pub sets_up_failed : (known : WriterRecord) (setup : Rebuild I O) (old new : Client I O) (next : ConnId) (desk desk' : D) (road road' : R) (why : ClientFault) → old.writer ≡ Some known → SetsUpBy d r i o next known setup old new desk desk' road road' (Err why)
       → (w : World) (net : Net) → ClientStands d r i o w net old desk road → PipeShows i o w net (w.writers old.block.0).conn (pipe.SettingUp setup) → CanAskFirst w old.block next → IsCaused r road road' why
@@ -448,7 +487,6 @@ module _ {D R I O : Type 0} (d : desks.Ghosts D) (r : roads.Ghosts R I O) (i : l
             office = stands.office_is;
             next_is = can.next_is;
             no_command = subst (λ (x : WriterRecord). has_command_due x ≡ false) known_is can.no_command;
-            runs = subst (λ (x : WriterRecord). IfSome (slice_get x.members 0) (λ n. w.running n.0 ≡ true)) known_is can.runs;
             has_port = subst (λ (x : WriterRecord). IfSome (slice_get x.members 0) (λ n. FIRST_PORT + n.0 ≤ MAX_PORT)) known_is can.has_port;
             spelled = can.spelled;
           })))

@@ -28,7 +28,6 @@ use Rattle.client_events.specs.declared.pipes.Pipe.TheVariants as pipe
 use Rattle.client_events.specs.SettingUp.{IsWanted}
 use Rattle.client_events.specs.Showing.{awaits, PipeFits, PipeShows}
 use Rattle.play_clients.specs.declared.clients.Client.{Client}
-use Rattle.play_clients.specs.declared.clients.First.{First}
 use Rattle.play_clients.specs.declared.clients.Owned.{Owned}
 use Rattle.play_clients.specs.declared.courses.Course.{Course}
 use Rattle.play_clients.specs.declared.courses.Course.TheVariants as course
@@ -38,8 +37,8 @@ use Rattle.play_clients.specs.Events.{IsCaused, CanTake, CanOwn, CanOwnAs, OwnEn
 use Rattle.play_clients.specs.Owning.{ActsBy, ActsIf, Acts, taken_of, TakesBy, TakesIf, Takes, CompletesBy, CompletesIf, Completes, setup_of, CommitsBy, CommitsFitting, CommitsIf, Commits, SetsUpBy, SetsUpFitting, SetsUpIf, SetsUp}
 use Rattle.play_clients.proofs.CourseLaws.{fresh_course, course_is, takes_is, wanted_so}
 use Rattle.play_clients.proofs.HearLaws.{FailsAs}
-use Rattle.play_clients.proofs.OwnLaws.{alone, asked, acts_left, acts_failed, completes_left, completes_failed, commits_left, commits_failed, sets_up_left, sets_up_failed, memory_caused}
-use Rattle.play_clients.proofs.TakeLaws.{takes_left, takes_failed}
+use Rattle.play_clients.proofs.OwnLaws.{alone, asked, done_by, acts_left, acts_failed, completes_left, completes_failed, commits_left, commits_failed, sets_up_left, sets_up_failed, memory_caused}
+use Rattle.play_clients.proofs.TakeLaws.{took, takes_left, takes_failed}
 
 -- WHERE THERE IS A WRITER
 
@@ -98,7 +97,8 @@ module _ {D R I O : Type 0} (d : desks.Ghosts D) (r : roads.Ghosts R I O) (i : l
   own_acts next old new desk road road' of acts = λ w net queues stands queue due can.
       let k = writer_by old.block old.writer course.Acts of (λ e. cc) in
       let by : ActsBy r i o k.0 old new road road' (Ok tt) = subst (λ (x : Option WriterRecord). ActsIf r i o x old new road road' (Ok tt)) k.1.0 acts in
-      acts_left d r i o k.0 old new next desk road road' k.1.0 by k.1.1 w net queues stands queue (can_as w old next course.Acts of can)
+      done_by d r i o w net queues next old new desk road road' (alone d r i o) refl
+      (acts_left d r i o k.0 old new next desk road road' k.1.0 by k.1.1 w net queues stands queue (can_as w old next course.Acts of can))
 
   pub own_acts_failed : (next : ConnId) (old new : Client I O) (desk : D) (road road' : R) (why : ClientFault) (end : Result (Owned I O) ClientFault) → course_of (known_of old.block old.writer) ≡ course.Acts → Acts r i o old new road road' (Err why) → FailsAs why end → OwnShows d r i o next old new desk desk road road' end
   own_acts_failed next old new desk road road' why (Ok left) of acts fails = absurd fails
@@ -113,7 +113,7 @@ module _ {D R I O : Type 0} (d : desks.Ghosts D) (r : roads.Ghosts R I O) (i : l
   own_completes next old new desk desk' road of does = λ w net queues stands queue due can.
       let k = writer_by old.block old.writer course.Completes of (λ e. cc) in
       let by : CompletesBy d k.0 old new desk desk' (Ok tt) = subst (λ (x : Option WriterRecord). CompletesIf d x old new desk desk' (Ok tt)) k.1.0 does in
-      completes_left d r i o k.0 old new next desk desk' road k.1.0 by k.1.1 w net queues stands queue can.rests
+      done_by d r i o w net queues next old new desk' road road (asked d r i o) refl (completes_left d r i o k.0 old new next desk desk' road k.1.0 by k.1.1 w net queues stands queue can.rests)
 
   pub own_completes_failed : (next : ConnId) (old new : Client I O) (desk desk' : D) (road : R) (why : ClientFault) (end : Result (Owned I O) ClientFault) → course_of (known_of old.block old.writer) ≡ course.Completes → Completes d old new desk desk' (Err why) → FailsAs why end
       → OwnShows d r i o next old new desk desk' road road end
@@ -144,7 +144,8 @@ module _ {D R I O : Type 0} (d : desks.Ghosts D) (r : roads.Ghosts R I O) (i : l
   own_commits next old new desk desk' road road' of does = λ w net queues stands queue due can.
       let k = writer_by old.block old.writer course.Commits of (λ e. cc) in
       let at : SetupAt i o w net (w.writers old.block.0).conn k.0.phase old.pipe = setup_of_client w net old k.0 k.1.0 stands.client_is can.rests (commits_unlinked k.0.phase (course_is k.0 course.Commits k.1.1 (λ e. cc)).at) in
-      commits_left d r i o k.0 at.going old new next desk desk' road road' k.1.0 (commits_by old new k.0 at.going desk desk' road road' (Ok tt) k.1.0 at.held at.fits.0 does) k.1.1 w net queues stands at.shows at.fits queue (can_as w old next course.Commits of can)
+      done_by d r i o w net queues next old new desk' road road' (asked d r i o) refl
+      (commits_left d r i o k.0 at.going old new next desk desk' road road' k.1.0 (commits_by old new k.0 at.going desk desk' road road' (Ok tt) k.1.0 at.held at.fits.0 does) k.1.1 w net queues stands at.shows at.fits queue (can_as w old next course.Commits of can))
 
   pub own_commits_failed : (next : ConnId) (old new : Client I O) (desk desk' : D) (road road' : R) (why : ClientFault) (end : Result (Owned I O) ClientFault) → course_of (known_of old.block old.writer) ≡ course.Commits → Commits d r i o old new desk desk' road road' (Err why) → FailsAs why end
       → OwnShows d r i o next old new desk desk' road road' end
@@ -157,29 +158,24 @@ module _ {D R I O : Type 0} (d : desks.Ghosts D) (r : roads.Ghosts R I O) (i : l
 
   -- SETTING UP
 
-  sets_up_by : (next : ConnId) (old new : Client I O) (x : WriterRecord) (going : Rebuild I O) (desk desk' : D) (road road' : R) (result : Result (Option (First I O)) ClientFault) → old.writer ≡ Some x → setup_of old.pipe ≡ Some going → fits_in x.phase (is_some going.link) ≡ true → SetsUp d r i o next old new desk desk' road road' result
+  sets_up_by : (next : ConnId) (old new : Client I O) (x : WriterRecord) (going : Rebuild I O) (desk desk' : D) (road road' : R) (result : Result (Owned I O) ClientFault) → old.writer ≡ Some x → setup_of old.pipe ≡ Some going → fits_in x.phase (is_some going.link) ≡ true → SetsUp d r i o next old new desk desk' road road' result
       → SetsUpBy d r i o next x going old new desk desk' road road' result
   sets_up_by next old new x going desk desk' road road' result is held fits h =
       subst (λ (q : Bool). SetsUpFitting d r i o q next x going old new desk desk' road road' result) fits
       (subst (λ (z : Option (Rebuild I O)). SetsUpIf d r i o next (Some x) z old new desk desk' road road' result) held
       (subst (λ (y : Option WriterRecord). SetsUpIf d r i o next y (setup_of old.pipe) old new desk desk' road road' result) is h))
 
-  pub own_sets_up : (next : ConnId) (old new : Client I O) (desk desk' : D) (road road' : R) (first : Option (First I O)) → course_of (known_of old.block old.writer) ≡ course.SetsUp → SetsUp d r i o next old new desk desk' road road' (Ok first) → OwnShows d r i o next old new desk desk' road road' (Ok (record { took = None; asked = true; first = first }))
-  own_sets_up next old new desk desk' road road' first of does = λ w net queues stands queue due can.
+  pub own_sets_up : (next : ConnId) (old new : Client I O) (desk desk' : D) (road road' : R) (end : Result (Owned I O) ClientFault) → course_of (known_of old.block old.writer) ≡ course.SetsUp → SetsUp d r i o next old new desk desk' road road' end → OwnShows d r i o next old new desk desk' road road' end
+  own_sets_up next old new desk desk' road road' (Ok left) of does = λ w net queues stands queue due can.
       let k = writer_by old.block old.writer course.SetsUp of (λ e. cc) in
       let wanted : IsWanted k.0.phase = wanted_so k.0.phase (course_is k.0 course.SetsUp k.1.1 (λ e. cc)).at in
       let at : SetupAt i o w net (w.writers old.block.0).conn k.0.phase old.pipe = setup_of_client w net old k.0 k.1.0 stands.client_is can.rests (wants_unlinked k.0.phase wanted) in
-      sets_up_left d r i o k.0 at.going old new next desk desk' road road' (Ok first) first k.1.0 (sets_up_by next old new k.0 at.going desk desk' road road' (Ok first) k.1.0 at.held at.fits.0 does) wanted w net queues stands at.shows at.fits queue (can_as w old next course.SetsUp of can)
-
-  pub own_sets_up_failed : (next : ConnId) (old new : Client I O) (desk desk' : D) (road road' : R) (why : ClientFault) (end : Result (Owned I O) ClientFault) → course_of (known_of old.block old.writer) ≡ course.SetsUp → SetsUp d r i o next old new desk desk' road road' (Err why) → FailsAs why end
-      → OwnShows d r i o next old new desk desk' road road' end
-  own_sets_up_failed next old new desk desk' road road' why (Ok left) of does fails = absurd fails
-  own_sets_up_failed next old new desk desk' road road' why (Err other) of does fails = λ w net queues stands queue due can.
+      sets_up_left d r i o k.0 at.going old new next desk desk' road road' left k.1.0 (sets_up_by next old new k.0 at.going desk desk' road road' (Ok left) k.1.0 at.held at.fits.0 does) wanted w net queues stands at.shows at.fits queue (can_as w old next course.SetsUp of can)
+  own_sets_up next old new desk desk' road road' (Err why) of does = λ w net queues stands queue due can.
       let k = writer_by old.block old.writer course.SetsUp of (λ e. cc) in
       let wanted : IsWanted k.0.phase = wanted_so k.0.phase (course_is k.0 course.SetsUp k.1.1 (λ e. cc)).at in
       let at : SetupAt i o w net (w.writers old.block.0).conn k.0.phase old.pipe = setup_of_client w net old k.0 k.1.0 stands.client_is can.rests (wants_unlinked k.0.phase wanted) in
-      subst (λ (e : ClientFault). IsCaused r road road' e) (sym fails)
-      (sets_up_failed d r i o k.0 at.going old new next desk desk' road road' why k.1.0 (sets_up_by next old new k.0 at.going desk desk' road road' (Err why) k.1.0 at.held at.fits.0 does) w net stands at.shows (can_as w old next course.SetsUp of can))
+      sets_up_failed d r i o k.0 at.going old new next desk desk' road road' why k.1.0 (sets_up_by next old new k.0 at.going desk desk' road road' (Err why) k.1.0 at.held at.fits.0 does) w net stands at.shows (can_as w old next course.SetsUp of can)
 
   -- TAKING A COMMAND
 
@@ -216,15 +212,16 @@ module _ {D R I O : Type 0} (d : desks.Ghosts D) (r : roads.Ghosts R I O) (i : l
   taken_same t taken (Err why) e = cc
 
   takes_by : (next : ConnId) (old new : Client I O) (desk : D) (road road' : R) (taken : Option TakenCommand) → course_of (known_of old.block old.writer) ≡ course.Takes → (w : World) (net : Net) (queues : Queues) → ClientStands d r i o w net old desk road → old.queue.items ≡ queues old.block.0 → CanOwn w old next
-      → (t : TakenCommand) → slice_get old.queue.items 0 ≡ Some t → (Ok taken ≡ Err fault.Memory) ⊎ TakesBy r i o old new t road road' (Ok taken) → OwnEnds d r i o w net queues next old new desk road road' (Ok (record { took = taken; asked = false; first = None }))
+      → (t : TakenCommand) → slice_get old.queue.items 0 ≡ Some t → (Ok taken ≡ Err fault.Memory) ⊎ TakesBy r i o old new t road road' (Ok taken) → OwnEnds d r i o w net queues next old new desk road road' (Ok (record { took = taken; asked = false; first = None; unreached = None }))
   takes_by next old new desk road road' taken of w net queues stands queue can t front (inl e) = cc
   takes_by next old new desk road road' taken of w net queues stands queue can t front (inr by) =
       let same : taken ≡ Some t = taken_same t taken by.acted by.ends in
-      subst (λ (z : Option TakenCommand). OwnEnds d r i o w net queues next old new desk road road' (Ok (record { took = z; asked = false; first = None }))) (sym same)
+      subst (λ (z : Option TakenCommand). OwnEnds d r i o w net queues next old new desk road road' (Ok (record { took = z; asked = false; first = None; unreached = None }))) (sym same)
+      (done_by d r i o w net queues next old new desk road road' (took d r i o t) refl
       (takes_left d r i o old new t next desk road road' (subst (λ (z : Option TakenCommand). TakesBy r i o old new t road road' (Ok z)) same by) of front w net queues stands queue
-      (can_take w old t (slice_get old.queue.items 0) front (can_as w old next course.Takes of can)))
+      (can_take w old t (slice_get old.queue.items 0) front (can_as w old next course.Takes of can))))
 
-  pub own_takes : (next : ConnId) (old new : Client I O) (desk : D) (road road' : R) (taken : Option TakenCommand) → course_of (known_of old.block old.writer) ≡ course.Takes → Takes r i o old new road road' (Ok taken) → OwnShows d r i o next old new desk desk road road' (Ok (record { took = taken; asked = false; first = None }))
+  pub own_takes : (next : ConnId) (old new : Client I O) (desk : D) (road road' : R) (taken : Option TakenCommand) → course_of (known_of old.block old.writer) ≡ course.Takes → Takes r i o old new road road' (Ok taken) → OwnShows d r i o next old new desk desk road road' (Ok (record { took = taken; asked = false; first = None; unreached = None }))
   own_takes next old new desk road road' taken of does = λ w net queues stands queue due can.
       let k : TookSo old new road road' (Ok taken) = took_so old new (slice_get old.queue.items 0) road road' (Ok taken) refl (queued w net old queues stands.client_is of queue due) does in
       takes_by next old new desk road road' taken of w net queues stands queue can k.taken k.front k.by

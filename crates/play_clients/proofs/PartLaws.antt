@@ -19,8 +19,8 @@ use Rattle.client_events.specs.declared.setting_up.SetUp.{SetUp}
 use Rattle.client_events.specs.Events as events
 use Rattle.client_events.specs.Showing.{awaits}
 use Rattle.play_clients.specs.declared.clients.Client.{Client}
-use Rattle.play_clients.specs.declared.clients.First.{First}
-use Rattle.play_clients.specs.Owning.{IsWith, Keeps, FollowsActed, ActsIf, Acts, Gives, taken_of, TakesIf, Takes, Answers, FollowsSaid, CompletesIf, Completes, setup_of, CommitsBy, CommitsFitting, CommitsIf, Commits, first_of, FollowsSetUp, SetsUpBy, SetsUpFitting, SetsUpIf, SetsUp}
+use Rattle.play_clients.specs.declared.clients.Owned.{Owned}
+use Rattle.play_clients.specs.Owning.{IsWith, Keeps, FollowsActed, ActsIf, Acts, Gives, taken_of, TakesIf, Takes, Answers, FollowsSaid, CompletesIf, Completes, setup_of, CommitsBy, CommitsFitting, CommitsIf, Commits, owned_as, FollowsSetUp, SetsUpBy, SetsUpFitting, SetsUpIf, SetsUp}
 
 module _ {I O : Type 0} where
   -- What stays of a client whose setup was taken off.
@@ -93,12 +93,12 @@ module _ {D R I O : Type 0} (d : desks.Ghosts D) (r : roads.Ghosts R I O) (i : l
       (subst (λ (x : Option (Rebuild I O)). CommitsIf d r i o (Some known) x old new desk desk' road road' result) (sym held)
       (commits_at (fits_in known.phase (is_some setup.link)) known setup old new desk desk' road road' result h))
 
-  sets_up_at : (q : Bool) (next : ConnId) (known : WriterRecord) (setup : Rebuild I O) (old new : Client I O) (desk desk' : D) (road road' : R) (result : Result (Option (First I O)) ClientFault) → SetsUpBy d r i o next known setup old new desk desk' road road' result
+  sets_up_at : (q : Bool) (next : ConnId) (known : WriterRecord) (setup : Rebuild I O) (old new : Client I O) (desk desk' : D) (road road' : R) (result : Result (Owned I O) ClientFault) → SetsUpBy d r i o next known setup old new desk desk' road road' result
       → SetsUpFitting d r i o q next known setup old new desk desk' road road' result
   sets_up_at true next known setup old new desk desk' road road' result h = h
   sets_up_at false next known setup old new desk desk' road road' result h = tt
 
-  pub sets_up_so : (next : ConnId) (old new : Client I O) (known : WriterRecord) (setup : Rebuild I O) (desk desk' : D) (road road' : R) (result : Result (Option (First I O)) ClientFault) → old.writer ≡ Some known → setup_of old.pipe ≡ Some setup
+  pub sets_up_so : (next : ConnId) (old new : Client I O) (known : WriterRecord) (setup : Rebuild I O) (desk desk' : D) (road road' : R) (result : Result (Owned I O) ClientFault) → old.writer ≡ Some known → setup_of old.pipe ≡ Some setup
       → SetsUpBy d r i o next known setup old new desk desk' road road' result → SetsUp d r i o next old new desk desk' road road' result
   sets_up_so next old new known setup desk desk' road road' result is held h =
       subst (λ (x : Option WriterRecord). SetsUpIf d r i o next x (setup_of old.pipe) old new desk desk' road road' result) (sym is)
@@ -106,7 +106,7 @@ module _ {D R I O : Type 0} (d : desks.Ghosts D) (r : roads.Ghosts R I O) (i : l
       (sets_up_at (fits_in known.phase (is_some setup.link)) next known setup old new desk desk' road road' result h))
 
 module _ {I O : Type 0} where
-  pub set_up_follows : (old mid new : Client I O) (known : WriterRecord) (left : SetUp I O) (result : Result (Option (First I O)) ClientFault) → IsKept old mid → new ≡ record mid { writer = Some known; pipe = left.pipe } → result ≡ Ok (first_of known left.first)
+  pub set_up_follows : (old mid new : Client I O) (known : WriterRecord) (left : SetUp I O) (result : Result (Owned I O) ClientFault) → IsKept old mid → new ≡ record mid { writer = Some known; pipe = left.pipe } → result ≡ Ok (owned_as known left)
       → FollowsSetUp old new known (Ok left) result
   set_up_follows old mid new known left result kept is ends = (
     record {

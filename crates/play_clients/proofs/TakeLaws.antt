@@ -187,7 +187,7 @@ module _ {I O : Type 0} where
 module _ {D R I O : Type 0} (d : desks.Ghosts D) (r : roads.Ghosts R I O) (i : link_in.Ghosts I) (o : link_out.Ghosts O) where
   -- what was taken
   abbrev pub took : TakenCommand → Owned I O
-  took t = record { took = Some t; asked = false; first = None }
+  took t = record { took = Some t; asked = false; first = None; unreached = None }
 
   -- What the writer did that was given the command.
   record IsTaken (w : World) (net : Net) (old : Client I O) (t : TakenCommand) (known after : WriterRecord) (acted : Result (Acted I O) ClientFault) (desk : D) (road road' : R) : Type 0 where
@@ -222,7 +222,7 @@ module _ {D R I O : Type 0} (d : desks.Ghosts D) (r : roads.Ghosts R I O) (i : l
 
   left_by : (old new : Client I O) (q : Client I O) (middle : Client I O) (t : TakenCommand) (next : ConnId) (desk : D) (road road' : R) (known after : WriterRecord) (acted : Result (Acted I O) ClientFault) → q ≡ record old { queue = q.queue } → q.queue.items ≡ drop 1 old.queue.items → GivesBy q middle t
       → FollowsActed middle new after acted (Ok tt) → course_of (known_of old.block old.writer) ≡ course.Takes → slice_get old.queue.items 0 ≡ Some t → (w : World) (net : Net) (queues : Queues) → ClientStands d r i o w net old desk road → old.queue.items ≡ queues old.block.0
-      → IsTaken w net old t known after acted desk road road' → OwnLeft d r i o w net queues next old new desk road' (took t)
+      → IsTaken w net old t known after acted desk road road' → OwnLeft d r i o w net queues next old new desk road' (took t) true
   left_by old new q middle t next desk road road' known after (Err why) same rest gives follows of first w net queues stands queue h = absurd follows
   left_by old new q middle t next desk road road' known after (Ok acted) same rest gives follows of first w net queues stands queue h =
       let c : ClientShows i o w net old = stands.client_is in
@@ -252,7 +252,7 @@ module _ {D R I O : Type 0} (d : desks.Ghosts D) (r : roads.Ghosts R I O) (i : l
   ok_taken t (Err why) e = cc
 
   pub takes_left : (old new : Client I O) (t : TakenCommand) (next : ConnId) (desk : D) (road road' : R) → TakesBy r i o old new t road road' (Ok (Some t)) → course_of (known_of old.block old.writer) ≡ course.Takes → slice_get old.queue.items 0 ≡ Some t
-      → (w : World) (net : Net) (queues : Queues) → ClientStands d r i o w net old desk road → old.queue.items ≡ queues old.block.0 → CanTake w old t → OwnLeft d r i o w net queues next old new desk road' (took t)
+      → (w : World) (net : Net) (queues : Queues) → ClientStands d r i o w net old desk road → old.queue.items ≡ queues old.block.0 → CanTake w old t → OwnLeft d r i o w net queues next old new desk road' (took t) true
   takes_left old new t next desk road road' by of first w net queues stands queue can =
       let known : WriterRecord = given (made_as old.block old.writer t) t.command in
       let g : GivesBy by.popped by.middle t = by.gives in

@@ -1,8 +1,9 @@
 -- What the events of a client make of roads, office and client that show a world.
-use Rattle.std.specs.Prelude.{◌≡◌, ◌≢◌, ◌≤◌, ◌+◌, ◌++◌, ℕ, true, false, if◌then◌else◌, List, [], ◌∷◌, slice_get, Option, Some, None, IfSome, Result, Ok, Err}
+use Rattle.std.specs.Prelude.{◌≡◌, ◌≢◌, ◌≤◌, ◌+◌, ◌++◌, ◌&&◌, ℕ, Bool, true, false, if◌then◌else◌, List, [], ◌∷◌, slice_get, Option, Some, None, IfSome, Result, Ok, Err}
 use Rattle.hd_base.specs.Faults.{FaultsIncreased}
 use Rattle.hd_base.specs.declared.numbers.BlockId.{BlockId}
 use Rattle.hd_base.specs.declared.numbers.ConnId.{ConnId}
+use Rattle.hd_base.specs.declared.numbers.NodeId.{NodeId}
 use Rattle.hd_base.specs.declared.numbers.Stamp.{Stamp}
 use Rattle.hd_base.specs.declared.links.LinkIn as link_in
 use Rattle.hd_base.specs.declared.links.LinkOut as link_out
@@ -36,6 +37,7 @@ use Rattle.play_model.specs.Dues.{Queues, is_due, due_events, queues_after}
 use Rattle.client_events.specs.declared.faults.ClientFault.{ClientFault}
 use Rattle.client_events.specs.declared.faults.ClientFault.TheVariants as fault
 use Rattle.client_events.specs.Events.{own_event, asked_world, given_to}
+use Rattle.client_events.specs.SettingUp.{IsUnasked}
 use Rattle.member_events.specs.Joining.{SpellDown}
 use Rattle.client_events.specs.Showing.{awaits}
 use Rattle.play_clients.specs.declared.clients.Client.{Client}
@@ -137,14 +139,13 @@ pub record CanHaveCommitted (w : World) (b : ℕ) : Type 0 where
   pub members : (w.writers b).known.members ≢ []
   pub untaken : IfSome (w.writers b).conn (λ c. is_over w c false ≡ false)
 
--- Where it asks the first member: there is one (writers_rest), whose node runs, and has a port. The request is spelled as
--- it is written (messages_are_written). Nothing was taken on the next connection (only_dialled_connections_carry).
+-- Where it asks the first member: there is one (writers_rest), whose node has a port. The request is spelled as it is
+-- written (messages_are_written). Nothing was taken on the next connection (only_dialled_connections_carry).
 pub record CanAskFirst (w : World) (block : BlockId) (next : ConnId) : Type 0 where
   pub next_is : next.0 ≡ w.next_conn
   pub undialled : w.lowers next.0 ≡ idle
   pub members : (w.writers block.0).known.members ≢ []
   pub no_command : has_command_due (w.writers block.0).known ≡ false
-  pub runs : IfSome (slice_get (w.writers block.0).known.members 0) (λ first. w.running first.0 ≡ true)
   pub has_port : IfSome (slice_get (w.writers block.0).known.members 0) (λ first. FIRST_PORT + first.0 ≤ MAX_PORT)
   pub spelled : SpellDown (asked_world w block true) next.0
 
@@ -161,10 +162,16 @@ pub record CanOwn {I O : Type 0} (w : World) (c : Client I O) (next : ConnId) : 
   pub rests : is_connected (w.writers c.block.0).known.phase ≡ false → (w.writers c.block.0).conn ≡ None
   pub does : CanOwnAs (course_of (known_of c.block c.writer)) w c next
 
--- the events of an own step
-abbrev pub owned_events : {I O : Type 0} → BlockId → Owned I O → List Event
-owned_events block left =
-    (if left.asked then event.Office (caller.Writer block) ∷ [] else []) ++ own_event block left.took true ∷ []
+-- the events of an own step, in which a dial would be answered or not
+abbrev pub owned_events : {I O : Type 0} → BlockId → Owned I O → Bool → List Event
+owned_events block left answered =
+    (if left.asked then event.Office (caller.Writer block) ∷ [] else []) ++ own_event block left.took answered ∷ []
+
+-- A dial is answered in the world that an own step leaves. Where this node was dialled in vain it isn't: the dial finds
+-- no answer, or the node doesn't run.
+abbrev pub Reaches : World → Option NodeId → Bool → Type 0
+Reaches w None answered = answered ≡ true
+Reaches w (Some node) answered = (answered && w.running node.0) ≡ false
 
 -- The lower end of the connection that was dialled, if one was, has the next number; nothing was taken there.
 pub record FirstShows {I O : Type 0} (i : link_in.Ghosts I) (o : link_out.Ghosts O) (v : World) (made : Net) (b : ℕ)
@@ -174,23 +181,34 @@ pub record FirstShows {I O : Type 0} (i : link_in.Ghosts I) (o : link_out.Ghosts
   pub node : (v.dialled next.0).to.node ≡ first.node.0
   pub idle_is : v.lowers next.0 ≡ idle
 
--- What an own step leaves: what was done is what was due, and shows the world after it. Where no lower end is handed
--- back nothing was dialled, else one connection.
+-- What an own step leaves: what was done is what was due, and shows the world after it, in which a dial would be
+-- answered or not. Where no lower end is handed back nothing was dialled, else one connection.
 pub record OwnLeft {D R I O : Type 0} (d : desks.Ghosts D) (r : roads.Ghosts R I O) (i : link_in.Ghosts I)
     (o : link_out.Ghosts O) (w : World) (net : Net) (queues : Queues) (next : ConnId) (old new : Client I O) (desk : D)
-    (road : R) (left : Owned I O) : Type 0 where
+    (road : R) (left : Owned I O) (answered : Bool) : Type 0 where
   pub made : Net
-  pub events : due_events w queues (due.Own old.block) ≡ owned_events old.block left
-  pub shows : ClientLeft d r i o w net (run w (owned_events old.block left)) made old new desk road
+  pub events : due_events w queues (due.Own old.block) ≡ owned_events old.block left true
+  pub shows : ClientLeft d r i o w net (run w (owned_events old.block left answered)) made old new desk road
   pub queue : new.queue.items ≡ queues_after w queues (due.Own old.block) old.block.0
-  pub first : IfSome left.first (FirstShows i o (run w (owned_events old.block left)) made old.block.0 next)
-  pub none : left.first ≡ None → (run w (owned_events old.block left)).next_conn ≡ w.next_conn
-  pub more : IfSome left.first (λ f. (run w (owned_events old.block left)).next_conn ≡ w.next_conn + 1)
+  pub first : IfSome left.first
+      (FirstShows i o (run w (owned_events old.block left answered)) made old.block.0 next)
+  pub none : left.first ≡ None → (run w (owned_events old.block left answered)).next_conn ≡ w.next_conn
+  pub more : IfSome left.first (λ f. (run w (owned_events old.block left answered)).next_conn ≡ w.next_conn + 1)
+
+-- An own step was done. A node that didn't answer the writer's dial doesn't run, or the roads' count rose; no lower end
+-- is handed back then, and what is left shows each world in which that dial isn't answered.
+pub record OwnDone {D R I O : Type 0} (d : desks.Ghosts D) (r : roads.Ghosts R I O) (i : link_in.Ghosts I)
+    (o : link_out.Ghosts O) (w : World) (net : Net) (queues : Queues) (next : ConnId) (old new : Client I O) (desk : D)
+    (road road' : R) (left : Owned I O) : Type 0 where
+  pub cause : IfSome left.unreached (λ node. IsUnasked r w node road road')
+  pub alone : IfSome left.unreached (λ _. left.first ≡ None)
+  pub shows : (answered : Bool) → Reaches w left.unreached answered →
+      OwnLeft d r i o w net queues next old new desk road' left answered
 
 abbrev pub OwnEnds : {D R I O : Type 0} → desks.Ghosts D → roads.Ghosts R I O → link_in.Ghosts I → link_out.Ghosts O →
     World → Net → Queues → ConnId → Client I O → Client I O → D → R → R → Result (Owned I O) ClientFault → Type 0
 OwnEnds d r i o w net queues next old new desk road road' (Ok left) =
-    OwnLeft d r i o w net queues next old new desk road' left
+    OwnDone d r i o w net queues next old new desk road road' left
 OwnEnds d r i o w net queues next old new desk road road' (Err why) = IsCaused r road road' why
 
 abbrev pub OwnShows : {D R I O : Type 0} → desks.Ghosts D → roads.Ghosts R I O → link_in.Ghosts I →

@@ -26,6 +26,7 @@ use Rattle.client_events.specs.SettingUp as setting_up
 use Rattle.client_events.specs.Showing.{awaits}
 use Rattle.play_clients.specs.declared.clients.Client.{Client}
 use Rattle.play_clients.specs.declared.clients.First.{First}
+use Rattle.play_clients.specs.declared.clients.Owned.{Owned}
 
 -- ANSWERS
 
@@ -218,17 +219,22 @@ abbrev pub first_of : {I O : Type 0} → WriterRecord → Option (Conn I O) → 
 first_of known None = None
 first_of known (Some end) = Some (record { node = first_node known.members; end = end })
 
+-- what a setup leaves beside the client: the office was asked, and the first member, or that wasn't reached
+abbrev pub owned_as : {I O : Type 0} → WriterRecord → SetUp I O → Owned I O
+owned_as known left =
+    record { took = None; asked = true; first = first_of known left.first; unreached = left.unreached }
+
 -- How a setup ends of which this is left.
 abbrev pub FollowsSetUp : {I O : Type 0} → Client I O → Client I O → WriterRecord → Result (SetUp I O) ClientFault →
-    Result (Option (First I O)) ClientFault → Type 0
+    Result (Owned I O) ClientFault → Type 0
 FollowsSetUp old new known (Ok left) result =
-    IsWith old new (Some known) left.pipe None × (result ≡ Ok (first_of known left.first))
+    IsWith old new (Some known) left.pipe None × (result ≡ Ok (owned_as known left))
 FollowsSetUp old new known (Err why) result = result ≡ Err why
 
 -- The office was asked for a stamp, and then the first member.
 pub record SetsUpBy {D R I O : Type 0} (d : desks.Ghosts D) (r : roads.Ghosts R I O) (i : link_in.Ghosts I)
     (o : link_out.Ghosts O) (next : ConnId) (known : WriterRecord) (setup : Rebuild I O) (old new : Client I O)
-    (desk desk' : D) (road road' : R) (result : Result (Option (First I O)) ClientFault) : Type 0 where
+    (desk desk' : D) (road road' : R) (result : Result (Owned I O) ClientFault) : Type 0 where
   pub after : WriterRecord
   pub left : Result (SetUp I O) ClientFault
   pub shows : setting_up.SetUpShows d r i o next known after setup desk desk' road road' left
@@ -237,20 +243,20 @@ pub record SetsUpBy {D R I O : Type 0} (d : desks.Ghosts D) (r : roads.Ghosts R 
 
 abbrev pub SetsUpFitting : {D R I O : Type 0} → desks.Ghosts D → roads.Ghosts R I O → link_in.Ghosts I →
     link_out.Ghosts O → Bool → ConnId → WriterRecord → Rebuild I O → Client I O → Client I O → D → D → R → R →
-    Result (Option (First I O)) ClientFault → Type 0
+    Result (Owned I O) ClientFault → Type 0
 SetsUpFitting d r i o true next known setup old new desk desk' road road' result =
     SetsUpBy d r i o next known setup old new desk desk' road road' result
 SetsUpFitting d r i o false next known setup old new desk desk' road road' result = Unit {0}
 
 abbrev pub SetsUpIf : {D R I O : Type 0} → desks.Ghosts D → roads.Ghosts R I O → link_in.Ghosts I →
     link_out.Ghosts O → ConnId → Option WriterRecord → Option (Rebuild I O) → Client I O → Client I O → D → D → R → R →
-    Result (Option (First I O)) ClientFault → Type 0
+    Result (Owned I O) ClientFault → Type 0
 SetsUpIf d r i o next (Some known) (Some setup) old new desk desk' road road' result =
     SetsUpFitting d r i o (fits_in known.phase (is_some setup.link)) next known setup old new desk desk' road road'
     result
 SetsUpIf d r i o next known setup old new desk desk' road road' result = Unit {0}
 
 abbrev pub SetsUp : {D R I O : Type 0} → desks.Ghosts D → roads.Ghosts R I O → link_in.Ghosts I → link_out.Ghosts O →
-    ConnId → Client I O → Client I O → D → D → R → R → Result (Option (First I O)) ClientFault → Type 0
+    ConnId → Client I O → Client I O → D → D → R → R → Result (Owned I O) ClientFault → Type 0
 SetsUp d r i o next old new desk desk' road road' result =
     SetsUpIf d r i o next old.writer (setup_of old.pipe) old new desk desk' road road' result

@@ -45,28 +45,33 @@ pub struct Owned<I, O> {
     pub asked: bool,
     /// The lower end of the connection that the writer dialled, if it did.
     pub first: Option<First<I, O>>,
+    /// The node that didn't answer the writer's dial, if one was dialled in vain.
+    pub unreached: Option<NodeId>,
 }
 
 impl<I: LinkIn, O: LinkOut> Owned<I, O> {
     /// What a step leaves that the writer took alone, with a command if it took one.
     pub(crate) fn alone(took: Option<TakenCommand>) -> Owned<I, O>
-        ensures { result ≡ record { took = took; asked = false; first = None } }
+        ensures { result ≡ record { took = took; asked = false; first = None; unreached = None } }
     {
         Owned {
             took,
             asked: false,
             first: None,
+            unreached: None,
         }
     }
 
-    /// What a step leaves in which the office was asked, with the first member's end if that was asked too.
-    pub(crate) fn asking(first: Option<First<I, O>>) -> Owned<I, O>
-        ensures { result ≡ record { took = None; asked = true; first = first } }
+    /// What a step leaves in which the office was asked, with the first member's end if that was asked too, or its node
+    /// if it didn't answer.
+    pub(crate) fn asking(first: Option<First<I, O>>, unreached: Option<NodeId>) -> Owned<I, O>
+        ensures { result ≡ record { took = None; asked = true; first = first; unreached = unreached } }
     {
         Owned {
             took: None,
             asked: true,
             first,
+            unreached,
         }
     }
 }

@@ -43,17 +43,14 @@ impl<I: LinkIn, O: LinkOut> Client<I, O> {
                 let took = self.take(alloc, roads)?;
                 Ok(Owned::alone(took))
             }
-            Course::SetsUp => {
-                let first = self.set_up(alloc, roads, office, next)?;
-                Ok(Owned::asking(first))
-            }
+            Course::SetsUp => self.set_up(alloc, roads, office, next),
             Course::Commits => {
                 self.commit(alloc, roads, office)?;
-                Ok(Owned::asking(None))
+                Ok(Owned::asking(None, None))
             }
             Course::Completes => {
                 self.complete(office)?;
-                Ok(Owned::asking(None))
+                Ok(Owned::asking(None, None))
             }
             Course::Acts => {
                 self.act(alloc, roads)?;
@@ -193,26 +190,27 @@ impl<I: LinkIn, O: LinkOut> Client<I, O> {
         roads: &mut R,
         office: &mut D,
         next: ConnId,
-    ) -> Result<Option<First<I, O>>, ClientFault>
+    ) -> Result<Owned<I, O>, ClientFault>
         requires known { PipeIsKnown (R.plain roads.old) self.old.pipe }
         requires wanted { IfSome self.old.writer (λ x. IsWanted x.phase) }
         ensures sets_up { SetsUp D.Desk R.Roads I.LinkIn O.LinkOut next
             self.old self.new office.old office.new roads.old roads.new result }
         ensures passes { ClientPasses R.Roads roads.old roads.new self.new result }
-        ensures first { IfOk result (λ first. IfSome first (λ f. IsKnown (R.plain roads.new) f.end.id.0)) }
+        ensures first { IfOk result (λ left. IfSome left.first (λ f. IsKnown (R.plain roads.new) f.end.id.0)) }
     {
         let Some(setup) = self.take_setup() else {
-            return Ok(None);
+            return Ok(Owned::asking(None, None));
         };
         let Some(writer) = &mut self.writer else {
-            return Ok(None);
+            return Ok(Owned::asking(None, None));
         };
         if !setup.fits(writer) {
-            return Ok(None);
+            return Ok(Owned::asking(None, None));
         }
         let left = set_up(alloc, roads, office, writer, setup, next)?;
         self.pipe = left.pipe;
-        Ok(first_of(writer, left.first))
+        let first = first_of(writer, left.first);
+        Ok(Owned::asking(first, left.unreached))
     }
 }
 

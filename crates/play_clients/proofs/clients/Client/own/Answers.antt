@@ -26,14 +26,13 @@ returns-in_ok-took-in-Takes-clause-shows g c =
     rw c.alone.ensures (
     own_takes g.D.Desk g.R.Roads g.I.LinkIn g.O.LinkOut c.args.next c.args.self.now c.take.new.self c.args.office.now c.args.roads.now c.take.new.roads c.in_ok-took-in-Takes.took (sym c.course.ensures ∙ c.in-Takes.is) c.in_ok-took-in-Takes.ensures.takes)
 
-pub returns-in_ok-first-in-SetsUp-clause-shows : goal.returns-in_ok-first-in-SetsUp-clause-shows
-returns-in_ok-first-in-SetsUp-clause-shows g c =
-    rw c.asking.ensures (
-    own_sets_up g.D.Desk g.R.Roads g.I.LinkIn g.O.LinkOut c.args.next c.args.self.now c.set_up.new.self c.args.office.now c.set_up.new.office c.args.roads.now c.set_up.new.roads c.in_ok-first-in-SetsUp.first (sym c.course.ensures ∙ c.in-SetsUp.is) c.in_ok-first-in-SetsUp.ensures.sets_up)
+pub returns-in-SetsUp-clause-shows : goal.returns-in-SetsUp-clause-shows
+returns-in-SetsUp-clause-shows g c =
+    own_sets_up g.D.Desk g.R.Roads g.I.LinkIn g.O.LinkOut c.args.next c.args.self.now c.set_up.new.self c.args.office.now c.set_up.new.office c.args.roads.now c.set_up.new.roads c.set_up.result (sym c.course.ensures ∙ c.in-SetsUp.is) c.set_up.ensures.sets_up
 
 pub returns-in_ok-commit-in-Commits-clause-shows : goal.returns-in_ok-commit-in-Commits-clause-shows
 returns-in_ok-commit-in-Commits-clause-shows g c =
-    rw c.asking-in-Commits.ensures (
+    rw c.asking.ensures (
     own_commits g.D.Desk g.R.Roads g.I.LinkIn g.O.LinkOut c.args.next c.args.self.now c.commit.new.self c.args.office.now c.commit.new.office c.args.roads.now c.commit.new.roads (sym c.course.ensures ∙ c.in-Commits.is) c.in_ok-commit-in-Commits.ensures.commits)
 
 pub returns-in_ok-complete-in-Completes-clause-shows : goal.returns-in_ok-complete-in-Completes-clause-shows
