@@ -1,6 +1,6 @@
 -- How an end that has taken a request becomes a member, or why it doesn't.
 use Rattle.std.proofs.Common.{◌≡◌, ◌≢◌, ◌⊎◌, inl, inr, ◌≤◌, ◌<◌, ◌+◌, ℕ, Bool, true, false, if◌then◌else◌, List, [], ◌∷◌, ◌++◌, length, slice_get, Option, Some, None, IfSome, Result, Ok, Err, refl, sym, ap, ◌∙◌, subst, arith}
-use Rattle.std.specs.Prelude.{nat_le}
+use Rattle.std.specs.Prelude.{◌&&◌, nat_le}
 use Rattle.std.proofs.lemmas.Bool.Decides.{nat_tests}
 use Rattle.hd_base.specs.Channels.{Plain}
 use Rattle.hd_base.specs.Ends.{IsKnown}
@@ -45,7 +45,7 @@ use Rattle.member_events.proofs.JoinAlone.{IsUnset, asked_is_set}
 use Rattle.member_events.proofs.JoinEvents.{unset, end_at, step_at, taken_at, taken_ends}
 use Rattle.member_events.proofs.JoinFaults.{join_link, join_file, both_keep, lost_risen}
 use Rattle.member_events.proofs.JoinMirror.{MirrorDone, asked_setup, asked_dial, mirror_waits, mirror_joins}
-use Rattle.member_events.proofs.JoinWorld.{IsMirror, is_mirror, request_same, setup_out, SentDown, sent_down, never_asked, runs_as, asked_there, unasked_there, dial_is}
+use Rattle.member_events.proofs.JoinWorld.{IsMirror, is_mirror, request_same, setup_out, SentDown, sent_down, runs_as, asked_there, unasked_there, fails_unasked, dial_is}
 use Rattle.member_events.proofs.StepLaws.{last_of}
 use Rattle.op_headers.specs.Requests.{OpSays}
 use Rattle.replica_core.specs.declared.events.Event.{Event}
@@ -88,7 +88,7 @@ use Rattle.member_events.specs.declared.joining.MirrorDial.{MirrorDial}
 use Rattle.member_events.specs.declared.joining.MirrorDial.TheVariants as dial
 use Rattle.member_events.specs.declared.faults.MemberFault.{MemberFault}
 use Rattle.member_events.specs.declared.faults.MemberFault.TheVariants as fault
-use Rattle.member_events.specs.Joining.{IsMirrorPort, MeetsNobody, MeetsMirror, Meets, Accepts, write_next, JoinStands, CanJoin, MemberJoins, MirrorJoins, IsUnheard, IsUnasked, JoinsBy, JoinEnds, JoinShows}
+use Rattle.member_events.specs.Joining.{IsMirrorPort, MeetsNobody, MeetsMirror, Meets, Accepts, write_next, JoinStands, CanJoin, MemberJoins, MirrorJoins, JoinsBy, JoinEnds, JoinShows}
 use Rattle.member_events.specs.Roads.{RoadsPass}
 use Rattle.member_events.specs.Showing.{MirrorShows}
 use Rattle.member_events.specs.Steps as steps
@@ -251,29 +251,48 @@ module _ {F R I O : Type 0} (f : files.Ghosts F) (r : roads.Ghosts R I O) (i : l
         let some' : old.op.targets ≢ [] = λ z. some (sym (ap (λ (x : WriteFields). x.targets) h.is_new.op_is) ∙ z) in
         k.ends.ended ∙ ap (λ (s : Shuts). done_step s k.ends.receipt) (awaits old.upstream.id old.op a some').1
 
-    down_end : (q : Option ℕ) (left : Option (Member I O)) (result : Result (Joined I O) MemberFault) → IsMirrorPort requested.op.targets q → requested.op.targets ≢ [] → HasTaken o false old held book book' ended → held.mirror ≡ None → RoadsAt r net mid
-        → (first_port requested.op.targets ≤ MAX_PORT → IsUnasked r (down_taken w conn.0 (write_next requested.op)) requested.op road mid) → IsPlaced r i o ended held mid later (Ok left) → Meets r i o q left later road' result → result_is result
+    abbrev taken : World
+    taken = down_taken w conn.0 (write_next requested.op)
+
+    same_running : (n : ℕ) → taken.running n ≡ w.running n
+    same_running n = (request_same w conn.0 requested.op).running n
+
+    mirror_is : requested.op.targets ≢ [] → IsMirror requested.op.targets
+    mirror_is some = is_mirror requested.op some can.of_node
+
+    -- why a mirror at this node couldn't be asked
+    abbrev CantAsk : ℕ → R → Type 0
+    CantAsk number after = (w.running number ≡ false) ⊎ FaultsIncreased (r.faults road) (r.faults after)
+
+    down_end : (q : Option ℕ) (left : Option (Member I O)) (result : Result (Joined I O) MemberFault) → IsMirrorPort requested.op.targets q → (some : requested.op.targets ≢ []) → HasTaken o false old held book book' ended → held.mirror ≡ None → RoadsAt r net mid
+        → (first_port requested.op.targets ≤ MAX_PORT → CantAsk (mirror_is some).number mid) → IsPlaced r i o ended held mid later (Ok left) → Meets r i o q left later road' result → result_is result
     down_end None None result port_is some k none at cause p met = absurd (not_over ended k.ends.receipt (waits_open false some k) p)
     down_end None (Some new) result port_is some k none at cause p met =
         undialled (Some new) result (λ answered. down_joins r i o w net conn node next requested old book road stands can h.is_new held book' ended mid later (Some new) some k none at p answered
-        (unasked_there (down_taken w conn.0 (write_next requested.op)) conn.0 requested.op answered (never_goes _ requested.op (port_is some)))) met
+        (unasked_there taken conn.0 requested.op answered (never_goes _ requested.op (port_is some)))) met
     down_end (Some n) None result port_is some k none at cause p met = absurd (not_over ended k.ends.receipt (waits_open false some k) p)
     down_end (Some n) (Some new) result port_is some k none at cause p met =
-        let joins = down_joins r i o w net conn node next requested old book road stands can h.is_new held book' ended mid later (Some new) some k none at p false (never_asked (down_taken w conn.0 (write_next requested.op)) conn.0 requested.op) in
-        let alone : new.mirror ≡ None = mirror_none i o (happens w (event.Down conn false)) joins.made joins.left_is.full.mirror new.mirror joins.left_is.mirror_is joins.left_is.shows.mirror in
+        let m : IsMirror requested.op.targets = mirror_is some in
+        let joins : (answered : Bool) → (answered && w.running m.number) ≡ false → MemberJoins r i o taken net (happens w (event.Down conn answered)) conn.0 requested.op None book' later (Some new) = λ answered fails.
+        down_joins r i o w net conn node next requested old book road stands can h.is_new held book' ended mid later (Some new) some k none at p answered
+        (fails_unasked taken conn.0 requested.op m answered (subst (λ (b : Bool). (answered && b) ≡ false) (sym (same_running m.number)) fails)) in
+        let failed = joins false refl in
+        let alone : new.mirror ≡ None = mirror_none i o (happens w (event.Down conn false)) failed.made failed.left_is.full.mirror new.mirror failed.left_is.mirror_is failed.left_is.shows.mirror in
         let here : MeetsNobody (Some new) dial.Unanswered later road' result = subst (λ (y : Option (Conn I O)). MeetsMirror r i o n new y later road' result) alone met in
         let ex = is_exchanged ended k.ends.receipt new (waits_open false some k) p in
         nobody_met (Some new) dial.Unanswered result
-        (subst (λ (y : R). JoinsBy r i o w net conn next requested.op book' road y (Some new) dial.Unanswered) (sym here.same) (later_cause (cause (subst (λ (q : ℕ). q ≤ MAX_PORT) port_is.1.0 port_is.1.1)) (exchange_never r i o None held new mid later ex), joins)) here.is
+        (subst (λ (y : R). JoinsBy r i o w net conn next requested.op book' road y (Some new) dial.Unanswered) (sym here.same) (record {
+          number = m.number;
+          node_is = m.node_is;
+          cause = later_cause (cause (subst (λ (q : ℕ). q ≤ MAX_PORT) port_is.1.0 port_is.1.1)) (exchange_never r i o None held new mid later ex);
+          joins = joins;
+        })) here.is
       where
-        later_cause : IsUnasked r (down_taken w conn.0 (write_next requested.op)) requested.op road mid → r.faults mid ≤ r.faults later → IsUnasked r (down_taken w conn.0 (write_next requested.op)) requested.op road later
+        later_cause : CantAsk (mirror_is some).number mid → r.faults mid ≤ r.faults later → CantAsk (mirror_is some).number later
         later_cause (inl x) le = inl x
         later_cause (inr x) le = inr (still_risen (r.faults road) (r.faults mid) (r.faults later) x le)
 
     -- THE MIRROR
-
-    abbrev taken : World
-    taken = down_taken w conn.0 (write_next requested.op)
 
     unset_at : IsUnset taken conn.0 requested.op old
     unset_at = unset r i o w net conn node next requested old book road stands can h.is_new
@@ -286,9 +305,6 @@ module _ {F R I O : Type 0} (f : files.Ghosts F) (r : roads.Ghosts R I O) (i : l
 
     request_at_node : mirror_request (ref_of old.node) old.op ≡ mirror_request (ref_of (record { 0 = node_of taken conn.0 })) requested.op
     request_at_node = λ j. mirror_request (ref_of (node_at j)) (h.is_new.op_is j)
-
-    mirror_is : requested.op.targets ≢ [] → IsMirror requested.op.targets
-    mirror_is some = is_mirror requested.op some can.of_node
 
     runs_if : (m : IsMirror requested.op.targets) (b : Bool) → IfSome (r.plain road) (λ p. p.listening (first_port old.op.targets) ≡ b) → runs_there taken (mirror_node requested.op.targets) ≡ b
     runs_if m b heard =
@@ -320,24 +336,20 @@ module _ {F R I O : Type 0} (f : files.Ghosts F) (r : roads.Ghosts R I O) (i : l
         let d = sent_down w taken (setup_change taken conn.0 requested.op (asked_setup k.after conn requested.op) (break_at taken conn.0 requested.op)) (asked_dial taken conn.0 on m.number) (event.Down conn true) (dials_at k.after on m is) (asked_out k.after on k.step_is some is runs) in
         spelled_few on (can.goes_on (length d.earlier) (request (op.Write on)) (last_down (request (op.Write on)) d))
 
-    unheard : requested.op.targets ≢ [] → runs_there taken (mirror_node requested.op.targets) ≡ false → IsUnheard taken requested.op
-    unheard some is = record {
-      number = (mirror_is some).number;
-      node_is = (mirror_is some).node_is;
-      stopped = sym (ap (runs_there taken) (mirror_is some).node_is) ∙ is;
-    }
+    stopped : (some : requested.op.targets ≢ []) → runs_there taken (mirror_node requested.op.targets) ≡ false → w.running (mirror_is some).number ≡ false
+    stopped some is = sym (same_running (mirror_is some).number) ∙ (sym (ap (runs_there taken) (mirror_is some).node_is) ∙ is)
 
     -- a request that couldn't be written isn't for a node that runs
-    unwritten_by_runs : (b : Bool) → HasTaken o false old held book book' ended → requested.op.targets ≢ [] → first_port requested.op.targets ≤ MAX_PORT → request_text old.node old.op ≡ None → runs_there taken (mirror_node requested.op.targets) ≡ b → IsUnheard taken requested.op
-    unwritten_by_runs false k some fits none is = unheard some is
+    unwritten_by_runs : (b : Bool) → HasTaken o false old held book book' ended → (some : requested.op.targets ≢ []) → first_port requested.op.targets ≤ MAX_PORT → request_text old.node old.op ≡ None → runs_there taken (mirror_node requested.op.targets) ≡ b → w.running (mirror_is some).number ≡ false
+    unwritten_by_runs false k some fits none is = stopped some is
     unwritten_by_runs true k some fits none is = absurd (always_goes (ref_of (record { 0 = node_of taken conn.0 })) requested.op some fits (sym request_at_node ∙ unwritten old.node old.op (few_on k some is) none))
 
-    unasked_if : HasTaken o false old held book book' ended → requested.op.targets ≢ [] → IsUnwritten old.node old.op road mid ⊎ IsUnanswered r (first_port old.op.targets) road mid → first_port requested.op.targets ≤ MAX_PORT → IsUnasked r taken requested.op road mid
+    unasked_if : HasTaken o false old held book book' ended → (some : requested.op.targets ≢ []) → IsUnwritten old.node old.op road mid ⊎ IsUnanswered r (first_port old.op.targets) road mid → first_port requested.op.targets ≤ MAX_PORT → CantAsk (mirror_is some).number mid
     unasked_if k some (inl x) fits = inl (unwritten_by_runs (runs_there taken (mirror_node requested.op.targets)) k some fits x.unwritten refl)
     unasked_if k some (inr x) fits = cause_of x.cause
       where
-        cause_of : IfSome (r.plain road) (λ p. p.listening (first_port old.op.targets) ≡ false) ⊎ FaultsIncreased (r.faults road) (r.faults mid) → IsUnasked r taken requested.op road mid
-        cause_of (inl heard) = inl (unheard some (runs_if (mirror_is some) false heard))
+        cause_of : IfSome (r.plain road) (λ p. p.listening (first_port old.op.targets) ≡ false) ⊎ FaultsIncreased (r.faults road) (r.faults mid) → CantAsk (mirror_is some).number mid
+        cause_of (inl heard) = inl (stopped some (runs_if (mirror_is some) false heard))
         cause_of (inr rose) = inr rose
 
     same_roads : mid ≡ road → RoadsAt r net mid

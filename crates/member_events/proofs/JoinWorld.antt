@@ -90,9 +90,6 @@ setup_out w conn answered asked fields s comes lower is leads =
 
 -- WHETHER THE MIRROR IS ASKED
 
-pub never_asked : (w : World) (c : ℕ) (fields : WriteFields) → is_asked w c fields false ≡ false
-never_asked w c fields = refl
-
 and_none : (a b : Bool) → b ≡ false → (a && b) ≡ false
 and_none true b h = h
 and_none false b h = refl
@@ -138,6 +135,11 @@ runs_as w targets m b h = ap (runs_there w) m.node_is ∙ h
 
 pub asked_there : (w : World) (c : ℕ) (fields on : WriteFields) → mirror_request (ref_of (record { 0 = node_of w c })) fields ≡ Some on → runs_there w (mirror_node fields.targets) ≡ true → is_asked w c fields true ≡ true
 asked_there w c fields on is runs = and_three true _ (runs_there w (mirror_node fields.targets)) refl (ap is_some is) runs
+
+-- nor is one whose dial fails
+pub fails_unasked : (w : World) (c : ℕ) (fields : WriteFields) (m : IsMirror fields.targets) (answered : Bool) → (answered && w.running m.number) ≡ false → is_asked w c fields answered ≡ false
+fails_unasked w c fields m false h = refl
+fails_unasked w c fields m true h = not_running w c fields true (runs_as w fields.targets m false h)
 
 pub unasked_there : (w : World) (c : ℕ) (fields : WriteFields) (answered : Bool) → mirror_request (ref_of (record { 0 = node_of w c })) fields ≡ None → is_asked w c fields answered ≡ false
 unasked_there w c fields false is = refl

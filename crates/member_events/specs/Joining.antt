@@ -1,5 +1,5 @@
 -- A request to write makes an end a member.
-use Rattle.std.specs.Prelude.{◌≡◌, ◌≢◌, ◌⊎◌, ◌≤◌, ◌<◌, ℕ, Bool, true, false, List, [], slice_get, Option, Some, None, option_map, IfSome, Result, Ok, Err, ◌+◌}
+use Rattle.std.specs.Prelude.{◌≡◌, ◌≢◌, ◌⊎◌, ◌&&◌, ◌≤◌, ◌<◌, ℕ, Bool, true, false, List, [], slice_get, Option, Some, None, option_map, IfSome, Result, Ok, Err, ◌+◌}
 use Rattle.hd_base.specs.Channels.{with_accept}
 use Rattle.hd_base.specs.Ends.{IsFresh, IsKnown, IsObservable}
 use Rattle.hd_base.specs.Faults.{FaultsIncreased}
@@ -176,15 +176,17 @@ pub record MirrorJoins {F R I O : Type 0} (r : roads.Ghosts R I O) (i : link_in.
   pub dialled : MirrorDialled v c next fields
   pub lower_same : v.lowers next ≡ taken.lowers next
 
--- The request names a mirror, and its node doesn't run.
-pub record IsUnheard (w : World) (fields : WriteFields) : Type 0 where
+-- The mirror at this node couldn't be asked: the node doesn't run, or the roads' count rose. The member goes on without
+-- it, in the world where a dial fails: where it isn't answered, or the node doesn't run.
+pub record UnaskedJoins {F R I O : Type 0} (r : roads.Ghosts R I O) (i : link_in.Ghosts I) (o : link_out.Ghosts O)
+    (w : World) (net : Net) (conn : ConnId) (fields : WriteFields) (book : BookState F) (road road' : R)
+    (left : Option (Member I O)) : Type 0 where
   pub number : ℕ
   pub node_is : mirror_node fields.targets ≡ Some number
-  pub stopped : w.running number ≡ false
-
--- The mirror couldn't be asked: its node doesn't run, or the roads' count rose.
-abbrev pub IsUnasked : {R I O : Type 0} → roads.Ghosts R I O → World → WriteFields → R → R → Type 0
-IsUnasked r w fields road road' = IsUnheard w fields ⊎ FaultsIncreased (r.faults road) (r.faults road')
+  pub cause : (w.running number ≡ false) ⊎ FaultsIncreased (r.faults road) (r.faults road')
+  pub joins : (answered : Bool) → (answered && w.running number) ≡ false →
+      MemberJoins r i o (down_taken w conn.0 (write_next fields)) net (happens w (event.Down conn answered)) conn.0
+      fields None book road' left
 
 -- Which world it is, by the dial of the mirror: where none was made it is the same whether one would be answered or not.
 abbrev pub JoinsBy : {F R I O : Type 0} → roads.Ghosts R I O → link_in.Ghosts I → link_out.Ghosts O → World → Net →
@@ -193,9 +195,7 @@ JoinsBy r i o w net conn next fields book road road' left dial.NotDialled = (ans
     MemberJoins r i o (down_taken w conn.0 (write_next fields)) net (happens w (event.Down conn answered)) conn.0 fields
     None book road' left
 JoinsBy r i o w net conn next fields book road road' left dial.Unanswered =
-    IsUnasked r (down_taken w conn.0 (write_next fields)) fields road road' ×
-    MemberJoins r i o (down_taken w conn.0 (write_next fields)) net (happens w (event.Down conn false)) conn.0 fields
-    None book road' left
+    UnaskedJoins r i o w net conn fields book road road' left
 JoinsBy r i o w net conn next fields book road road' left (dial.Reached at_end) =
     MirrorJoins r i o (down_taken w conn.0 (write_next fields)) net (happens w (event.Down conn true)) conn.0 next.0
     fields book road' left at_end
