@@ -1,8 +1,9 @@
 -- How a connection's first message ends: the end came, a request was set up, or a fault has its cause.
 use Rattle.std.proofs.Common.{◌≡◌, ◌≢◌, [], ◌⊎◌, inl, inr, ◌∷◌, ◌<◌, ◌≤◌, ℕ, Bool, true, false, List, length, slice_get, Option, Some, None, IsSome, Result, Ok, Err, refl, sym, ap, ◌∙◌, subst, arith, length-set, eqb-true}
-use Rattle.std.specs.Prelude.{◌==◌}
+use Rattle.std.specs.Prelude.{◌==◌, ◌&&◌}
 use Rattle.std.specs.List.{position_or_len}
 use Rattle.std.proofs.lemmas.Bool.Decides.{nat_tests}
+use Rattle.hd_base.specs.Faults.{FaultsIncreased}
 use Rattle.hd_base.specs.declared.ends.Conn.{Conn}
 use Rattle.hd_base.specs.declared.files.Files as files
 use Rattle.hd_base.specs.declared.links.LinkIn as link_in
@@ -42,7 +43,7 @@ use Rattle.member_events.specs.declared.joining.MirrorDial.{MirrorDial}
 use Rattle.member_events.specs.declared.joining.MirrorDial.TheVariants as dial
 use Rattle.member_events.specs.Beginning as member_begin
 use Rattle.member_events.specs.Beginning.{IdleStands, CanBegin, HasRequest, IsEndFault}
-use Rattle.member_events.specs.Joining.{write_next, IsUnasked, JoinStands, CanJoin, MemberJoins, JoinsBy, JoinEnds}
+use Rattle.member_events.specs.Joining.{write_next, JoinStands, CanJoin, MemberJoins, JoinsBy, JoinEnds}
 use Rattle.member_events.specs.Showing.{OthersStay}
 use Rattle.member_events.proofs.FaultEvents.{rises_from}
 use Rattle.member_events.proofs.JoinWorld.{setup_out, request_same}
@@ -57,13 +58,13 @@ use Rattle.play_nodes.specs.Faults.{fault_at}
 use Rattle.play_nodes.specs.Places.{book_at, with_lower, TakesIdle, idle_of, PutBack, BookSet, AddsDial, FollowsJoin, place_of, IsMirrorNode, IsJoined, HasNoBook}
 use Rattle.play_nodes.specs.Showing.{NodesStand}
 use Rattle.play_nodes.specs.Events.{IsLawful, IsCaused}
-use Rattle.play_nodes.specs.Beginning.{RequestsFit, BeginEnds, BeginShows}
+use Rattle.play_nodes.specs.Beginning.{RequestsFit, BeginsUnanswered, BeginEnds, BeginShows}
 use Rattle.play_nodes.proofs.PlaceLaws.{same_some}
 use Rattle.play_nodes.proofs.WorldFrames.{KeepsRest, rest_taken}
 use Rattle.play_nodes.proofs.ReadyNodes.{caused, served_within}
 use Rattle.play_nodes.proofs.TakeNodes.{TakesAt, takes_at}
 use Rattle.play_nodes.proofs.BeginNodes.{IdleAt, idle_at, begins, ended_left}
-use Rattle.play_nodes.proofs.JoinNodes.{Passes, passes_at, place_there, setup_rest, IsSetUp, alone_left, mirrored_left}
+use Rattle.play_nodes.proofs.JoinNodes.{Passes, passes_at, place_there, setup_rest, mirror_number, IsSetUp, alone_left, mirrored_left}
 
 -- THE WORLD AFTER A REQUEST
 
@@ -122,9 +123,9 @@ module _ {F R I O : Type 0} (f : files.Ghosts F) (r : roads.Ghosts R I O) (i : l
   caused_from old new first road road' (fault.FilesFailed node) le h = h
   caused_from old new first road road' fault.Memory le h = h
 
-  unasked_from : (w : World) (fields : WriteFields) (first road road' : R) → r.faults first ≤ r.faults road → IsUnasked r w fields road road' → IsUnasked r w fields first road'
-  unasked_from w fields first road road' le (inl h) = inl h
-  unasked_from w fields first road road' le (inr h) = inr (rises_from (r.faults first) (r.faults road) (r.faults road') le h)
+  rose_from : (P : Type 0) (first road road' : R) → r.faults first ≤ r.faults road → P ⊎ FaultsIncreased (r.faults road) (r.faults road') → P ⊎ FaultsIncreased (r.faults first) (r.faults road')
+  rose_from P first road road' le (inl h) = inl h
+  rose_from P first road road' le (inr h) = inr (rises_from (r.faults first) (r.faults road) (r.faults road') le h)
 
   -- BEFORE THE EVENT
 
@@ -155,13 +156,13 @@ module _ {F R I O : Type 0} (f : files.Ghosts F) (r : roads.Ghosts R I O) (i : l
       }
 
   -- It isn't due where there is no such connection, or no such end.
-  pub begin_outside : (old new : Nodes F I O) (conn : ConnId) (road road' : R) (result : Result Bool NodesFault) → length old.connections.items ≤ conn.0 → BeginShows f r i o conn old new road road' result
+  pub begin_outside : (old new : Nodes F I O) (conn : ConnId) (road road' : R) (result : Result (Option NodeId) NodesFault) → length old.connections.items ≤ conn.0 → BeginShows f r i o conn old new road road' result
   begin_outside old new conn road road' result far = λ w net queues stands lawful fits due is.
       let taking : TakesAt w conn.0 = takes_at w conn queues due in
       let before : conn.0 < w.next_conn = served_within w conn.0 taking.comes.served in
       absurd (omega (arith, far, before, stands.nodes_are.count))
 
-  pub begin_taken : (old mid new : Nodes F I O) (conn : ConnId) (road road' : R) (result : Result Bool NodesFault) → TakesIdle old mid conn.0 None → BeginShows f r i o conn old new road road' result
+  pub begin_taken : (old mid new : Nodes F I O) (conn : ConnId) (road road' : R) (result : Result (Option NodeId) NodesFault) → TakesIdle old mid conn.0 None → BeginShows f r i o conn old new road road' result
   begin_taken old mid new conn road road' result t = λ w net queues stands lawful fits due is.
       let k : IdleAt r i o w net conn.0 old = idle_at r i o w net road conn.0 old stands (takes_at w conn queues due).events is in
       absurd (never k.end (t.taken k.at k.found ∙ ap idle_of k.lower))
@@ -171,21 +172,21 @@ module _ {F R I O : Type 0} (f : files.Ghosts F) (r : roads.Ghosts R I O) (i : l
 
   -- THE END CAME, OR A FAULT
 
-  pub begin_ended : (old mid : Nodes F I O) (conn : ConnId) (end : Conn I O) (road road' : R) → TakesIdle old mid conn.0 (Some end) → member_begin.BeginShows r i o end road road' (Ok None) → BeginShows f r i o conn old mid road road' (Ok true)
+  pub begin_ended : (old mid : Nodes F I O) (conn : ConnId) (end : Conn I O) (road road' : R) → TakesIdle old mid conn.0 (Some end) → member_begin.BeginShows r i o end road road' (Ok None) → BeginShows f r i o conn old mid road road' (Ok None)
   begin_ended old mid conn end road road' t shows = λ w net queues stands lawful fits due is.
       let z : IsFirstAt w net conn.0 old end road = first_at w net queues conn old mid end road stands lawful due is t in
       ended_left r i o w net road road' conn z.taking.next old mid (lawful true).ordered stands z.k is z.taking.comes (subst (λ (e : Conn I O). TakesIdle old mid conn.0 (Some e)) z.end_same t)
       (shows w net conn true z.taking.next z.stands z.can)
 
-  pub begin_failed : (old mid : Nodes F I O) (conn : ConnId) (node : NodeId) (end : Conn I O) (road road' : R) (why : MemberFault) (result : Result Bool NodesFault) → result ≡ Err (fault_at node why) → TakesIdle old mid conn.0 (Some end) → member_begin.BeginShows r i o end road road' (Err why) → BeginShows f r i o conn old mid road road' result
+  pub begin_failed : (old mid : Nodes F I O) (conn : ConnId) (node : NodeId) (end : Conn I O) (road road' : R) (why : MemberFault) (result : Result (Option NodeId) NodesFault) → result ≡ Err (fault_at node why) → TakesIdle old mid conn.0 (Some end) → member_begin.BeginShows r i o end road road' (Err why) → BeginShows f r i o conn old mid road road' result
   begin_failed old mid conn node end road road' why result is_err t shows = λ w net queues stands lawful fits due is.
       let z : IsFirstAt w net conn.0 old end road = first_at w net queues conn old mid end road stands lawful due is t in
-      subst (λ (y : Result Bool NodesFault). BeginEnds f r i o w net conn old mid road road' y) (sym is_err)
+      subst (λ (y : Result (Option NodeId) NodesFault). BeginEnds f r i o w net conn old mid road road' y) (sym is_err)
       (end_caused old mid node conn.0 road road' why (shows w net conn true z.taking.next z.stands z.can))
 
   -- A REQUEST CAME
 
-  module _ (w : World) (net n1 : Net) (conn : ConnId) (fields : WriteFields) (next : ConnId) (s : Seat) (of : NodeId) (book book' : BookState F) (old mid set new : Nodes F I O) (at : Connection I O) (end : Conn I O) (road first road' : R) (result : Result Bool NodesFault) where
+  module _ (w : World) (net n1 : Net) (conn : ConnId) (fields : WriteFields) (next : ConnId) (s : Seat) (of : NodeId) (book book' : BookState F) (old mid set new : Nodes F I O) (at : Connection I O) (end : Conn I O) (road first road' : R) (result : Result (Option NodeId) NodesFault) where
     abbrev taken : World
     taken = down_taken w conn.0 (write_next fields)
 
@@ -237,14 +238,14 @@ module _ {F R I O : Type 0} (f : files.Ghosts F) (r : roads.Ghosts R I O) (i : l
             joins = joins;
           }
 
-      abbrev ends : Result Bool NodesFault → Type 0
+      abbrev ends : Result (Option NodeId) NodesFault → Type 0
       ends x = BeginEnds f r i o w net conn old new road road' x
 
       -- the connection to the mirror was added, or memory ran out
-      reached_ends : (left : Option (Member I O)) (reached : Conn I O) (middle : Nodes F I O) (x : Result Bool NodesFault) → PutBack set middle s left → JoinsBy r i o w n1 conn next fields book' first road' left (dial.Reached reached) → AddsDial middle new s next of (dial.Reached reached) x → ends x
+      reached_ends : (left : Option (Member I O)) (reached : Conn I O) (middle : Nodes F I O) (x : Result (Option NodeId) NodesFault) → PutBack set middle s left → JoinsBy r i o w n1 conn next fields book' first road' left (dial.Reached reached) → AddsDial middle new s next of (dial.Reached reached) x → ends x
       unfolding set_up
-      reached_ends left reached middle (Ok answered) put joins adds =
-          subst (λ (b : Bool). ends (Ok b)) (sym adds.0)
+      reached_ends left reached middle (Ok unanswered) put joins adds =
+          subst (λ (n : Option NodeId). ends (Ok n)) (sym adds.0)
           (mirrored_left r i o w taken (happens w (event.Down conn true)) net n1 conn.0 fields (Some next.0) s book' road' left old mid set middle at end (set_up true (Some next.0) left middle put joins.joins)
           new next of reached (h.lawful true).placed adds.1 h.next_is refl h.mirror_is joins.end_is joins.dialled (joins.lower_same ∙ taken_lowers w conn.0 (write_next fields) next.0))
       reached_ends left reached middle (Err why) put joins adds = subst (λ (y : NodesFault). ends (Err y)) (sym adds) tt
@@ -254,10 +255,20 @@ module _ {F R I O : Type 0} (f : files.Ghosts F) (r : roads.Ghosts R I O) (i : l
           subst ends (sym adds.1)
           (alone_left r i o w taken (happens w (event.Down conn true)) net n1 conn.0 fields None s book' road' left old mid set middle at end (set_up true None left middle put (joins true)) new adds.0 refl)
       dial_ends left dial.Unanswered middle put joins adds =
-          subst ends (sym adds.1) (
-            alone_left r i o w taken (happens w (event.Down conn false)) net n1 conn.0 fields None s book' road' left old mid set middle at end (set_up false None left middle put joins.1) new adds.0 refl,
-            record { fields = fields; comes = h.comes; unasked = unasked_from taken fields road first road' h.never_falls joins.0 },
-          )
+          let same : of.0 ≡ joins.number = mirror_number fields.targets of joins.number h.mirror_is joins.node_is in
+          let begins : BeginsUnanswered r i o w net conn of new road road' = record {
+            unanswered = record {
+              fields = fields;
+              comes = h.comes;
+              node_is = joins.node_is ∙ ap Some (sym same);
+              cause = rose_from (w.running of.0 ≡ false) road first road' h.never_falls
+                  (subst (λ (n : ℕ). (w.running n ≡ false) ⊎ FaultsIncreased (r.faults first) (r.faults road')) (sym same) joins.cause);
+            };
+            left = λ answered fails.
+                alone_left r i o w taken (happens w (event.Down conn answered)) net n1 conn.0 fields None s book' road' left old mid set middle at end
+                (set_up answered None left middle put (joins.joins answered (subst (λ (n : ℕ). (answered && w.running n) ≡ false) same fails))) new adds.0 refl;
+          } in
+          subst ends (sym adds.1) begins
       dial_ends left (dial.Reached reached) middle put joins adds = reached_ends left reached middle result put joins adds
 
       join_ends : (joined : Result (Joined I O) MemberFault) → JoinEnds f r i o w n1 conn next fields book book' first road' joined → FollowsJoin set new s next of joined result → ends result
@@ -289,7 +300,7 @@ module _ {F R I O : Type 0} (f : files.Ghosts F) (r : roads.Ghosts R I O) (i : l
       none place (ap (λ (xs : List BlockId). place_of xs fields) blocks ∙ is)))
 
   -- A request was taken, and made a member.
-  pub begin_joined : (old mid new : Nodes F I O) (conn : ConnId) (at : Connection I O) (end : Conn I O) (requested : Requested I O) (road first road' : R) (result : Result Bool NodesFault) → slice_get old.connections.items conn.0 ≡ Some at → TakesIdle old mid conn.0 (Some end)
+  pub begin_joined : (old mid new : Nodes F I O) (conn : ConnId) (at : Connection I O) (end : Conn I O) (requested : Requested I O) (road first road' : R) (result : Result (Option NodeId) NodesFault) → slice_get old.connections.items conn.0 ≡ Some at → TakesIdle old mid conn.0 (Some end)
       → member_begin.BeginShows r i o end road first (Ok (Some requested)) → r.faults road ≤ r.faults first → (IsJoined f r i o mid new conn.0 at.node requested first road' result ⊎ HasNoBook mid new at.node requested.op first road' result)
       → BeginShows f r i o conn old new road road' result
   begin_joined old mid new conn at end requested road first road' result found t shows le (inr none) = λ w net queues stands lawful fits due is.

@@ -119,7 +119,7 @@ node_at : (port number : ℕ) (b : Bool) → (if b then Some (port - FIRST_PORT)
 node_at port number true h = cc
 node_at port number false h = cc
 
-mirror_number : (targets : List NodeRef) (mirror : NodeId) (number : ℕ) → IsMirrorNode targets mirror → mirror_node targets ≡ Some number → mirror.0 ≡ number
+pub mirror_number : (targets : List NodeRef) (mirror : NodeId) (number : ℕ) → IsMirrorNode targets mirror → mirror_node targets ≡ Some number → mirror.0 ≡ number
 mirror_number [] mirror number h is = cc
 mirror_number (first ∷ rest) mirror number h is = h ∙ sym (node_at first.xfer number (nat_le FIRST_PORT first.xfer) is)
 

@@ -1,5 +1,5 @@
 -- Members and books in their places among the nodes of a play.
-use Rattle.std.specs.Prelude.{◌==◌, length, map, position, ◌++◌, ◌-◌, [], ◌∷◌, Bool, true, false, ◌≡◌, ℕ, List, slice_get, slice_set, Option, Some, None, IsSome, option_and_then, Result, Ok, Err}
+use Rattle.std.specs.Prelude.{◌==◌, length, map, position, ◌++◌, ◌-◌, [], ◌∷◌, ◌≡◌, ℕ, List, slice_get, slice_set, Option, Some, None, IsSome, option_and_then, Result, Ok, Err}
 use Rattle.hd_base.specs.declared.ends.Conn.{Conn}
 use Rattle.hd_base.specs.declared.files.Files as files
 use Rattle.hd_base.specs.declared.links.LinkIn as link_in
@@ -154,26 +154,32 @@ pub record IsAdded {F I O : Type 0} (old new : Nodes F I O) (s : Seat) (next : C
       slice_set old.connections.items s.conn (record at { mirror = Some next }) ++ mirror_made s.conn mirror end ∷ []
 
 abbrev pub Adds : {F I O : Type 0} → Nodes F I O → Nodes F I O → Seat → ConnId → NodeId → Conn I O →
-    Result Bool NodesFault → Type 0
-Adds old new s next mirror end (Ok answered) = (answered ≡ true) × IsAdded old new s next mirror end
+    Result (Unit {0}) NodesFault → Type 0
+Adds old new s next mirror end (Ok u) = IsAdded old new s next mirror end
 Adds old new s next mirror end (Err why) = why ≡ fault.Memory
 
+-- The same, where no node was dialled in vain.
+abbrev pub AddsReached : {F I O : Type 0} → Nodes F I O → Nodes F I O → Seat → ConnId → NodeId → Conn I O →
+    Result (Option NodeId) NodesFault → Type 0
+AddsReached old new s next mirror end (Ok unanswered) = (unanswered ≡ None) × IsAdded old new s next mirror end
+AddsReached old new s next mirror end (Err why) = why ≡ fault.Memory
+
 abbrev pub AddsDial : {F I O : Type 0} → Nodes F I O → Nodes F I O → Seat → ConnId → NodeId → MirrorDial I O →
-    Result Bool NodesFault → Type 0
-AddsDial old new s next mirror dial.NotDialled result = (new ≡ old) × (result ≡ Ok true)
-AddsDial old new s next mirror dial.Unanswered result = (new ≡ old) × (result ≡ Ok false)
-AddsDial old new s next mirror (dial.Reached end) result = Adds old new s next mirror end result
+    Result (Option NodeId) NodesFault → Type 0
+AddsDial old new s next mirror dial.NotDialled result = (new ≡ old) × (result ≡ Ok None)
+AddsDial old new s next mirror dial.Unanswered result = (new ≡ old) × (result ≡ Ok (Some mirror))
+AddsDial old new s next mirror (dial.Reached end) result = AddsReached old new s next mirror end result
 
 -- What was made of an end is in its place, and so is the connection to its mirror.
 pub record IsSettled {F I O : Type 0} (old new : Nodes F I O) (s : Seat) (next : ConnId) (mirror : NodeId)
-    (joined : Joined I O) (result : Result Bool NodesFault) : Type 0 where
+    (joined : Joined I O) (result : Result (Option NodeId) NodesFault) : Type 0 where
   pub middle : Nodes F I O
   pub put : PutBack old middle s joined.member
   pub adds : AddsDial middle new s next mirror joined.mirror result
 
 -- What follows the setup of a member.
 abbrev pub FollowsJoin : {F I O : Type 0} → Nodes F I O → Nodes F I O → Seat → ConnId → NodeId →
-    Result (Joined I O) MemberFault → Result Bool NodesFault → Type 0
+    Result (Joined I O) MemberFault → Result (Option NodeId) NodesFault → Type 0
 FollowsJoin old new s next mirror (Ok joined) result = IsSettled old new s next mirror joined result
 FollowsJoin old new s next mirror (Err why) result = (new ≡ old) × (result ≡ Err (fault_at s.node why))
 
@@ -184,7 +190,7 @@ place_of blocks fields = position (λ b. b.0 == fields.block.block.0) blocks
 -- A request was set up with the book of its block at its node.
 pub record IsJoined {F R I O : Type 0} (f : files.Ghosts F) (r : roads.Ghosts R I O) (i : link_in.Ghosts I)
     (o : link_out.Ghosts O) (old new : Nodes F I O) (conn : ℕ) (node : NodeId) (requested : Requested I O)
-    (road road' : R) (result : Result Bool NodesFault) : Type 0 where
+    (road road' : R) (result : Result (Option NodeId) NodesFault) : Type 0 where
   pub place : ℕ
   pub at_place : place_of old.blocks.items requested.op ≡ Some place
   pub book : BookState F
@@ -202,8 +208,8 @@ pub record IsJoined {F R I O : Type 0} (f : files.Ghosts F) (r : roads.Ghosts R 
 
 -- Or there is no such book, and nothing was done.
 pub record HasNoBook {F R I O : Type 0} (old new : Nodes F I O) (node : NodeId) (fields : WriteFields) (road road' : R)
-    (result : Result Bool NodesFault) : Type 0 where
+    (result : Result (Option NodeId) NodesFault) : Type 0 where
   pub same : new ≡ old
   pub roads : road' ≡ road
-  pub is : result ≡ Ok true
+  pub is : result ≡ Ok None
   pub none : (place : ℕ) → place_of old.blocks.items fields ≡ Some place → book_at old.nodes.items node.0 place ≡ None

@@ -1,5 +1,5 @@
 -- The nodes of a play show a world.
-use Rattle.std.specs.Prelude.{◌≡◌, ◌<◌, ℕ, ◌&&◌, Bool, true, false, length, slice_get, option_map, Some, IsSome}
+use Rattle.std.specs.Prelude.{◌≡◌, ◌<◌, ℕ, ◌&&◌, Bool, true, false, List, length, slice_get, option_map, unwrap_or, Some, IsSome}
 use Rattle.hd_base.specs.declared.ends.Conn.{Conn}
 use Rattle.hd_base.specs.declared.numbers.BlockId.{BlockId}
 use Rattle.hd_base.specs.declared.numbers.ConnId.{ConnId}
@@ -103,6 +103,16 @@ pub record Stand {F R I O : Type 0} (r : roads.Ghosts R I O) (i : link_in.Ghosts
   pub w : World
   pub net : Net
   pub stands : NodesStand r i o w net road n
+
+-- WHICH NODES RUN
+
+-- a node of which it isn't told doesn't run
+abbrev pub runs_in : List Bool → ℕ → Bool
+runs_in running n = unwrap_or (slice_get running n) false
+
+-- It is told which nodes of the world run.
+abbrev pub TellsRunning : World → List Bool → Type 0
+TellsRunning w running = (n : ℕ) → runs_in running n ≡ w.running n
 
 -- WHAT AN EVENT LEAVES
 

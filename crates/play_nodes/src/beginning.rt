@@ -18,14 +18,14 @@ use std::mem;
 
 impl<F: Files, I: LinkIn, O: LinkOut> Nodes<F, I, O> {
     /// The lower end of a connection that has taken nothing yet takes what stands next: a request to write makes it a
-    /// member of its node, which asks its mirror; anything else ends the connection. Answers whether the dial of the
-    /// mirror was answered, if one was wanted. Nothing is done where no such end is.
+    /// member of its node, which asks its mirror; anything else ends the connection. Answers the node of the mirror,
+    /// where the dial of it wasn't answered. Nothing is done where no such end is.
     pub fn begin<R: Roads<Inward = I, Outward = O>>(
         &mut self,
         alloc: Global,
         roads: &mut R,
         conn: ConnId,
-    ) -> Result<bool, NodesFault>
+    ) -> Result<Option<NodeId>, NodesFault>
         requires { Stand R.Roads I.LinkIn O.LinkOut roads.old self.old }
         ensures shows { BeginShows F.Files R.Roads I.LinkIn O.LinkOut conn self.old self.new roads.old roads.new result }
         ensures sizes { KeepsSizes self.old self.new }
@@ -33,15 +33,15 @@ impl<F: Files, I: LinkIn, O: LinkOut> Nodes<F, I, O> {
     {
         let index = conn.0 as usize;
         if index >= self.connections.len() {
-            return Ok(true);
+            return Ok(None);
         }
         let node = self.connections[index].node;
         let Some(end) = self.take_idle(index) else {
-            return Ok(true);
+            return Ok(None);
         };
         match begin(alloc, roads, end) {
             Ok(Some(requested)) => self.join(alloc, roads, index, node, requested),
-            Ok(None) => Ok(true),
+            Ok(None) => Ok(None),
             Err(fault) => Err(fault_at(node, fault)),
         }
     }
@@ -54,7 +54,7 @@ impl<F: Files, I: LinkIn, O: LinkOut> Nodes<F, I, O> {
         conn: usize,
         node: NodeId,
         requested: Requested<I, O>,
-    ) -> Result<bool, NodesFault>
+    ) -> Result<Option<NodeId>, NodesFault>
         requires known { IsKnown (R.plain roads.old) requested.end.id.0 }
         requires within { conn < length self.old.connections.items }
         ensures joins { IsJoined F.Files R.Roads I.LinkIn O.LinkOut
@@ -64,10 +64,10 @@ impl<F: Files, I: LinkIn, O: LinkOut> Nodes<F, I, O> {
         ensures pass { RoadsPass R.Roads roads.old roads.new }
     {
         let Some(place) = self.place_of(&requested.op) else {
-            return Ok(true);
+            return Ok(None);
         };
         if !self.has_book(node, place) {
-            return Ok(true);
+            return Ok(None);
         }
         let seat = Seat { conn, node, place };
         let mirror = mirror_node(&requested.op);
@@ -86,16 +86,19 @@ impl<F: Files, I: LinkIn, O: LinkOut> Nodes<F, I, O> {
         next: ConnId,
         mirror: NodeId,
         joined: Joined<I, O>,
-    ) -> Result<bool, NodesFault>
+    ) -> Result<Option<NodeId>, NodesFault>
         requires { seat.conn < length self.old.connections.items }
         ensures settled { IsSettled self.old self.new seat next mirror joined result }
         ensures sizes { KeepsSizes self.old self.new }
     {
         self.put_back(seat, joined.member);
         match joined.mirror {
-            MirrorDial::NotDialled => Ok(true),
-            MirrorDial::Unanswered => Ok(false),
-            MirrorDial::Reached(end) => self.add(seat, next, mirror, end),
+            MirrorDial::NotDialled => Ok(None),
+            MirrorDial::Unanswered => Ok(Some(mirror)),
+            MirrorDial::Reached(end) => {
+                self.add(seat, next, mirror, end)?;
+                Ok(None)
+            }
         }
     }
 
@@ -106,7 +109,7 @@ impl<F: Files, I: LinkIn, O: LinkOut> Nodes<F, I, O> {
         next: ConnId,
         mirror: NodeId,
         end: Conn<I, O>,
-    ) -> Result<bool, NodesFault>
+    ) -> Result<(), NodesFault>
         requires { seat.conn < length self.old.connections.items }
         ensures adds { Adds self.old self.new seat next mirror end result }
         ensures sizes { KeepsSizes self.old self.new }
@@ -121,7 +124,7 @@ impl<F: Files, I: LinkIn, O: LinkOut> Nodes<F, I, O> {
             mirror: None,
         };
         match self.connections.push(connection) {
-            Ok(()) => Ok(true),
+            Ok(()) => Ok(()),
             Err(_) => Err(NodesFault::Memory),
         }
     }

@@ -1,5 +1,5 @@
 -- The end took what stood next, and what followed.
-use Rattle.std.proofs.Common.{Some, None, true, Ok, Err, ap, subst, arith}
+use Rattle.std.proofs.Common.{Some, None, Ok, Err, ap, subst, arith}
 use Rattle.play_nodes.specs.Places.{TakesIdle}
 use Rattle.play_nodes.proofs.PlaceLaws.{none_so, element_some}
 use Rattle.play_nodes.proofs.SizeLaws.{sizes_after, idle_sizes}
@@ -8,13 +8,13 @@ use Rattle.play_nodes.proofs.BeginEnds.{shows_as, begin_outside, begin_taken, be
 use Rattle.play_nodes.proofs.nodes.Nodes.begin.Goals as goal
 
 pub returns-then-index-len-clause-shows : goal.returns-then-index-len-clause-shows
-returns-then-index-len-clause-shows g c = begin_outside g.F.Files g.R.Roads g.I.LinkIn g.O.LinkOut c.args.self.now c.args.self.now c.args.conn c.args.roads.now c.args.roads.now (Ok true) (omega (arith, c.if-index-len.true))
+returns-then-index-len-clause-shows g c = begin_outside g.F.Files g.R.Roads g.I.LinkIn g.O.LinkOut c.args.self.now c.args.self.now c.args.conn c.args.roads.now c.args.roads.now (Ok None) (omega (arith, c.if-index-len.true))
 
 pub take_idle-requires : goal.take_idle-requires
 take_idle-requires g c = omega (arith, c.if-index-len.false)
 
 pub returns-in_default-clause-shows : goal.returns-in_default-clause-shows
-returns-in_default-clause-shows g c = begin_taken g.F.Files g.R.Roads g.I.LinkIn g.O.LinkOut c.args.self.now c.take_idle.new.self c.take_idle.new.self c.args.conn c.args.roads.now c.args.roads.now (Ok true)
+returns-in_default-clause-shows g c = begin_taken g.F.Files g.R.Roads g.I.LinkIn g.O.LinkOut c.args.self.now c.take_idle.new.self c.take_idle.new.self c.args.conn c.args.roads.now c.args.roads.now (Ok None)
     (subst (λ x. TakesIdle c.args.self.now c.take_idle.new.self c.args.conn.0 x) (none_so c.take_idle.result c.in_default.not-Some) c.take_idle.ensures)
 
 pub begin-requires-after_bounds : goal.begin-requires-after_bounds
