@@ -24,6 +24,7 @@ use Rattle.script_lang.specs.declared.instructions.ScriptLine.{ScriptLine}
 use Rattle.world.specs.Worlds.{World}
 use Rattle.play_report.specs.declared.expecting.Difference.{Difference}
 use Rattle.play_report.specs.declared.expecting.Expected.{Expected}
+use Rattle.play_nodes.specs.Showing.{runs_in}
 use Rattle.play_report.specs.Reports.{NodesAre}
 use Rattle.play_report.specs.Expecting.{expected_in, has_block, expected_at, compared, Found, difference_in, or_else, differing_in, told_at, found_in, Differs}
 
@@ -106,7 +107,7 @@ place_so b blocks k e =
 
 -- NODES
 
-module _ {F I O : Type 0} (i : link_in.Ghosts I) (o : link_out.Ghosts O) (count : ℕ) (w : World) (net : Net) (n : Nodes F I O) (are : NodesAre i o count w net n) where
+module _ {F I O : Type 0} (i : link_in.Ghosts I) (o : link_out.Ghosts O) (count : ℕ) (running : List Bool) (w : World) (net : Net) (n : Nodes F I O) (are : NodesAre i o count running w net n) where
   told_so : (node k : ℕ) (x : BlockId) → node < w.nodes → slice_get n.blocks.items k ≡ Some x → told_at n node k ≡ expected_in (w.replicas node x.0).known.info
   told_so node k x below at = book (book_at n.nodes.items node k) refl
     where
@@ -127,19 +128,25 @@ module _ {F I O : Type 0} (i : link_in.Ghosts I) (o : link_out.Ghosts O) (count 
       told_so node k p.block below p.at ∙ (ap (λ (m : ℕ). expected_in (w.replicas node m).known.info) (eqb-true p.block.0 b p.is) ∙
       sym (ap (λ (t : Bool). cond t (expected_in (w.replicas node b).known.info) None) (has_at b n.blocks.items k p.block p.at p.is)))
 
-  found_so : (node b : ℕ) → found_in count n node b ≡ expected_at w (numbers n.blocks.items) node b
-  found_so node b = at (nat_lt node count) refl (nat_lt node w.nodes) (ap (λ (m : ℕ). nat_lt node m) are.count_is)
-    where
-      at : (t : Bool) → nat_lt node count ≡ t → (u : Bool) → u ≡ nat_lt node count
-          → cond t (option_and_then (told_at n node) (position (λ (x : BlockId). x.0 == b) n.blocks.items)) None
-          ≡ cond ((u && w.running node) && has_block (numbers n.blocks.items) b) (expected_in (w.replicas node b).known.info) None
-      at true d u e =
-          let below : node < w.nodes = subst (λ (m : ℕ). node < m) (sym are.count_is) (ltb-true node count d) in
-          at_node node b below (position (λ (x : BlockId). x.0 == b) n.blocks.items) refl ∙
-          sym (ap (λ (v : Bool). cond ((v && w.running node) && has_block (numbers n.blocks.items) b) (expected_in (w.replicas node b).known.info) None) (e ∙ d) ∙
-          ap (λ (v : Bool). cond (v && has_block (numbers n.blocks.items) b) (expected_in (w.replicas node b).known.info) None) (are.running node below))
-      at false d u e = sym (ap (λ (v : Bool). cond ((v && w.running node) && has_block (numbers n.blocks.items) b) (expected_in (w.replicas node b).known.info) None) (e ∙ d))
+  -- where its node is one of the first and runs
+  abbrev Told : ℕ → ℕ → Option Expected
+  Told node b = option_and_then (told_at n node) (position (λ (x : BlockId). x.0 == b) n.blocks.items)
 
-pub differs_so : {F I O : Type 0} (i : link_in.Ghosts I) (o : link_out.Ghosts O) (count : ℕ) (n : Nodes F I O) (lines : List ScriptLine) (result : Option Difference)
-    → result ≡ differing_in (found_in count n) lines → Differs i o count n lines result
-differs_so i o count n lines result is = λ w net are. is ∙ same_differing (found_in count n) (expected_at w (numbers n.blocks.items)) (found_so i o count w net n are) lines
+  abbrev Held : ℕ → ℕ → Bool → Option Expected
+  Held node b there = cond (there && has_block (numbers n.blocks.items) b) (expected_in (w.replicas node b).known.info) None
+
+  found_so : (node b : ℕ) → found_in count running n node b ≡ expected_at w (numbers n.blocks.items) node b
+  found_so node b = at (nat_lt node count) refl (nat_lt node w.nodes) (ap (λ (m : ℕ). nat_lt node m) are.count_is) (w.running node) (are.tells node)
+    where
+      at : (t : Bool) → nat_lt node count ≡ t → (u : Bool) → u ≡ nat_lt node count → (v : Bool) → runs_in running node ≡ v
+          → cond (t && runs_in running node) (Told node b) None ≡ Held node b (u && v)
+      at true d u e true runs =
+          let below : node < w.nodes = subst (λ (m : ℕ). node < m) (sym are.count_is) (ltb-true node count d) in
+          ap (λ (r : Bool). cond r (Told node b) None) runs ∙ (at_node node b below (position (λ (x : BlockId). x.0 == b) n.blocks.items) refl ∙
+          sym (ap (λ (r : Bool). Held node b (r && true)) (e ∙ d)))
+      at true d u e false runs = ap (λ (r : Bool). cond r (Told node b) None) runs ∙ sym (ap (λ (r : Bool). Held node b (r && false)) (e ∙ d))
+      at false d u e v runs = sym (ap (λ (r : Bool). Held node b (r && v)) (e ∙ d))
+
+pub differs_so : {F I O : Type 0} (i : link_in.Ghosts I) (o : link_out.Ghosts O) (count : ℕ) (running : List Bool) (n : Nodes F I O) (lines : List ScriptLine) (result : Option Difference)
+    → result ≡ differing_in (found_in count running n) lines → Differs i o count running n lines result
+differs_so i o count running n lines result is = λ w net are. is ∙ same_differing (found_in count running n) (expected_at w (numbers n.blocks.items)) (found_so i o count running w net n are) lines

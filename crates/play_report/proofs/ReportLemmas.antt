@@ -1,5 +1,5 @@
 -- What is written is the report of each world that nodes and clients show.
-use Rattle.std.proofs.Common.{◌≡◌, ◌<◌, ◌≤◌, ℕ, zero, suc, Bool, true, cond, List, [], ◌∷◌, ◌++◌, length, slice_get, Option, Some, None, IsSome, ◌⊎◌, inl, inr, refl, sym, ap, subst, ◌∙◌, arith}
+use Rattle.std.proofs.Common.{◌≡◌, ◌<◌, ◌≤◌, ℕ, zero, suc, Bool, true, false, cond, List, [], ◌∷◌, ◌++◌, length, slice_get, Option, Some, None, IsSome, ◌⊎◌, inl, inr, refl, sym, ap, subst, ◌∙◌, arith}
 use Rattle.std.specs.Prelude.{flat_map, unwrap_or, IfSome, min}
 use Rattle.std.specs.Global.{Vec}
 use Rattle.std.proofs.lemmas.Bool.{cases_lt}
@@ -16,7 +16,7 @@ use Rattle.play_dues.specs.Own.{blocks_of}
 use Rattle.play_nodes.specs.declared.nodes.NodeBooks.{NodeBooks}
 use Rattle.play_nodes.specs.declared.nodes.Nodes.{Nodes}
 use Rattle.play_nodes.specs.Places.{book_at}
-use Rattle.play_nodes.specs.Showing.{NodesShow}
+use Rattle.play_nodes.specs.Showing.{NodesShow, runs_in, TellsRunning}
 use Rattle.play_nodes.proofs.PlaceLaws.{element_within, same_some, book_found, book_missing, book_within}
 use Rattle.play_nodes.proofs.Tables.{element}
 use Rattle.play_scripts.specs.Blocks.{numbers}
@@ -36,7 +36,7 @@ use Rattle.play_report.specs.declared.rows.Row.{Row}
 use Rattle.play_report.specs.Answers.{lines_text, answer_lines, said_in, client_lines}
 use Rattle.play_report.specs.Replicas.{SumTable, info_lines, replica_lines, replicas_lines, node_lines, nodes_lines, rows_lines, all_lines}
 use Rattle.play_report.specs.Reports.{all_answers, AreSums, Reports}
-use Rattle.play_report.specs.Rows.{IsRow, AreRows, NodesHaveRows}
+use Rattle.play_report.specs.Rows.{IsRow, AreRows, AreRowsIf, NodesHaveRows}
 use Rattle.play_report.proofs.ReplicaLemmas.{row_is, sum_found, found_at, rows_are}
 use Rattle.play_report.proofs.TextLemmas.{text_more, upto_same}
 use Rattle.play_model.specs.Dues.{upto}
@@ -87,13 +87,17 @@ module _ {F I O : Type 0} (f : files.Ghosts F) (i : link_in.Ghosts I) (o : link_
           up : m < length x.books.items → suc m ≤ length x.books.items
           up e = omega arith
 
-  module _ (count : ℕ) (all : List (Vec Row)) (rows : NodesHaveRows f count n.nodes.items all) (count_is : w.nodes ≡ count) where
+  module _ (count : ℕ) (running : List Bool) (all : List (Vec Row)) (rows : NodesHaveRows f count running n.nodes.items all) (count_is : w.nodes ≡ count) where
+    -- the rows of a node that runs
+    read_at : (node : ℕ) (x : NodeBooks F) (v : Vec Row) → runs_in running node ≡ true → slice_get n.nodes.items node ≡ Some x → slice_get all node ≡ Some v → AreRows f x.books.items v.items
+    read_at node x v runs at at' = subst (λ (t : Bool). AreRowsIf f t x.books.items v.items) runs (rows.each node x v at at')
+
     -- what was read at a node that has books
-    pub node_so : (node : ℕ) (x : NodeBooks F) (v : Vec Row) → node < w.nodes → slice_get n.nodes.items node ≡ Some x → slice_get all node ≡ Some v
-        → rows_lines node n.blocks.items (slice_get all node) ≡ replicas_lines w (table n.blocks.items all) (numbers n.blocks.items) node
-    node_so node x v below at at' =
-        let are = rows.each node x v at at' in
-        ap (λ (q : Option (Vec Row)). rows_lines node n.blocks.items q) at' ∙
+    pub node_so : (node : ℕ) (x : NodeBooks F) (v : Vec Row) → runs_in running node ≡ true → node < w.nodes → slice_get n.nodes.items node ≡ Some x → slice_get all node ≡ Some v
+        → rows_lines node true n.blocks.items (slice_get all node) ≡ replicas_lines w (table n.blocks.items all) (numbers n.blocks.items) node
+    node_so node x v runs below at at' =
+        let are = read_at node x v runs at at' in
+        ap (λ (q : Option (Vec Row)). rows_lines node true n.blocks.items q) at' ∙
         rows_are node (w.replicas node) (table n.blocks.items all node) n.blocks.items v.items (subst (λ (m : ℕ). length n.blocks.items ≤ m) (sym are.count) (places node x below at))
         (λ k b row p q. one are k b row p q)
       where
@@ -115,40 +119,43 @@ module _ {F I O : Type 0} (f : files.Ghosts F) (i : link_in.Ghosts I) (o : link_
         none : IsSome {T = BookState F} None → ⊥
         none h = cc
 
-    node_is : (node : ℕ) → node < count → ((node < length n.nodes.items) ⊎ (length n.nodes.items ≤ node))
-        → rows_lines node n.blocks.items (slice_get all node) ≡ replicas_lines w (table n.blocks.items all) (numbers n.blocks.items) node
-    node_is node below (inl within) =
+    node_is : (node : ℕ) → runs_in running node ≡ true → node < count → ((node < length n.nodes.items) ⊎ (length n.nodes.items ≤ node))
+        → rows_lines node true n.blocks.items (slice_get all node) ≡ replicas_lines w (table n.blocks.items all) (numbers n.blocks.items) node
+    node_is node runs below (inl within) =
         let x = element n.nodes.items node within in
         let v = element all node (subst (λ (m : ℕ). node < m) (sym rows.count_is) (least below within)) in
-        node_so node x.0 v.0 (subst (λ (m : ℕ). node < m) (sym count_is) below) x.1 v.1
+        node_so node x.0 v.0 runs (subst (λ (m : ℕ). node < m) (sym count_is) below) x.1 v.1
       where
         least : node < count → node < length n.nodes.items → node < min count (length n.nodes.items)
         least p q = omega arith
-    node_is node below (inr past) =
+    node_is node runs below (inr past) =
         let none = no_node node (subst (λ (m : ℕ). node < m) (sym count_is) below) past n.blocks.items refl in
-        ap (λ (bs : List BlockId). rows_lines node bs (slice_get all node)) none ∙ (nothing (slice_get all node) ∙
+        ap (λ (bs : List BlockId). rows_lines node true bs (slice_get all node)) none ∙ (nothing (slice_get all node) ∙
         ap (λ (bs : List BlockId). replicas_lines w (table n.blocks.items all) (numbers bs) node) (sym none))
       where
-        nothing : (q : Option (Vec Row)) → rows_lines node [] q ≡ []
+        nothing : (q : Option (Vec Row)) → rows_lines node true [] q ≡ []
         nothing None = refl
         nothing (Some v) = refl
 
-    -- all nodes run
-    pub nodes_are : ((node : ℕ) → node < w.nodes → w.running node ≡ true) → all_lines n.blocks.items all count ≡ nodes_lines w (table n.blocks.items all) (numbers n.blocks.items)
-    nodes_are running =
-        upto_same (λ node. rows_lines node n.blocks.items (slice_get all node)) (node_lines w (table n.blocks.items all) (numbers n.blocks.items)) count
-        (λ node h. node_is node h (cases_lt node (length n.nodes.items)) ∙ sym (runs node h)) ∙
+    -- a node runs, or is down
+    node_by : (node : ℕ) (t : Bool) → runs_in running node ≡ t → node < count
+        → rows_lines node t n.blocks.items (slice_get all node) ≡ cond t (replicas_lines w (table n.blocks.items all) (numbers n.blocks.items) node) (line.Down (record { 0 = node }) ∷ [])
+    node_by node true runs below = node_is node runs below (cases_lt node (length n.nodes.items))
+    node_by node false runs below = refl
+
+    pub nodes_are : TellsRunning w running → all_lines running n.blocks.items all count ≡ nodes_lines w (table n.blocks.items all) (numbers n.blocks.items)
+    nodes_are tells =
+        upto_same (λ node. rows_lines node (runs_in running node) n.blocks.items (slice_get all node)) (node_lines w (table n.blocks.items all) (numbers n.blocks.items)) count
+        (λ node h. node_by node (runs_in running node) refl h ∙
+        ap (λ (t : Bool). cond t (replicas_lines w (table n.blocks.items all) (numbers n.blocks.items) node) (line.Down (record { 0 = node }) ∷ [])) (tells node)) ∙
         ap (λ (m : ℕ). upto (node_lines w (table n.blocks.items all) (numbers n.blocks.items)) m) (sym count_is)
-      where
-        runs : (node : ℕ) → node < count → node_lines w (table n.blocks.items all) (numbers n.blocks.items) node ≡ replicas_lines w (table n.blocks.items all) (numbers n.blocks.items) node
-        runs node h = ap (λ (t : Bool). cond t (replicas_lines w (table n.blocks.items all) (numbers n.blocks.items) node) (line.Down (record { 0 = node }) ∷ [])) (running node (subst (λ (m : ℕ). node < m) (sym count_is) h))
 
     -- the sums that were read are those of the bytes
-    pub sums_are : AreSums f w n (table n.blocks.items all)
-    sums_are node place b book at at_book below whole =
+    pub sums_are : TellsRunning w running → AreSums f w n (table n.blocks.items all)
+    sums_are tells node place b book at at_book below runs whole =
         let found = book_within n.nodes.items node place (subst (λ (q : Option (BookState F)). IsSome q) (sym at_book) refl) in
         let v = element all node (subst (λ (m : ℕ). node < m) (sym rows.count_is) (least (subst (λ (m : ℕ). node < m) count_is below) (element_within n.nodes.items node found.at found.found))) in
-        let are = rows.each node found.at v.0 found.found v.1 in
+        let are = read_at node found.at v.0 (tells node ∙ runs) found.found v.1 in
         let row = element v.0.items place (subst (λ (m : ℕ). place < m) (sym are.count) found.within) in
         let at_place : slice_get found.at.books.items place ≡ Some book = sym (book_found n.nodes.items node place found.at found.found) ∙ at_book in
         let is = are.each place book row.0 at_place row.1 in
@@ -170,18 +177,18 @@ module _ {F I O : Type 0} (f : files.Ghosts F) (i : link_in.Ghosts I) (o : link_
 
 -- THE TEXT
 
-pub report_is : {F I O : Type 0} (f : files.Ghosts F) (i : link_in.Ghosts I) (o : link_out.Ghosts O) (count : ℕ) (n : Nodes F I O) (clients : List (Client I O)) (lines : List ScriptLine) (all : List (Vec Row)) (text : List ℕ)
-    → NodesHaveRows f count n.nodes.items all
-    → text ≡ (lines_text (all_lines n.blocks.items all count) ++ lines_text (flat_map (λ (c : Client I O). client_lines lines c) clients)) ++ printed line.End
-    → Reports f i o count n clients lines text
-report_is {F} {I} {O} f i o count n clients lines all text rows is = λ w net na ca.
+pub report_is : {F I O : Type 0} (f : files.Ghosts F) (i : link_in.Ghosts I) (o : link_out.Ghosts O) (count : ℕ) (running : List Bool) (n : Nodes F I O) (clients : List (Client I O)) (lines : List ScriptLine) (all : List (Vec Row)) (text : List ℕ)
+    → NodesHaveRows f count running n.nodes.items all
+    → text ≡ (lines_text (all_lines running n.blocks.items all count) ++ lines_text (flat_map (λ (c : Client I O). client_lines lines c) clients)) ++ printed line.End
+    → Reports f i o count running n clients lines text
+report_is {F} {I} {O} f i o count running n clients lines all text rows is = λ w net na ca.
     let sums = table n.blocks.items all in
     let blocks = numbers n.blocks.items in
     let answers = clients_are w lines clients ca.said ∙ ap (λ (bs : List ℕ). all_answers w bs lines) ca.blocks in
     record {
       sums = sums;
-      are = sums_are f i o w net n na.show count all rows na.count_is;
-      text_is = is ∙ (ap (λ (xs : List ReportLine). (lines_text xs ++ lines_text (flat_map (λ (c : Client I O). client_lines lines c) clients)) ++ printed line.End) (nodes_are f i o w net n na.show count all rows na.count_is na.running) ∙
+      are = sums_are f i o w net n na.show count running all rows na.count_is na.tells;
+      text_is = is ∙ (ap (λ (xs : List ReportLine). (lines_text xs ++ lines_text (flat_map (λ (c : Client I O). client_lines lines c) clients)) ++ printed line.End) (nodes_are f i o w net n na.show count running all rows na.count_is na.tells) ∙
           (ap (λ (xs : List ReportLine). (lines_text (nodes_lines w sums blocks) ++ lines_text xs) ++ printed line.End) answers ∙
           whole (nodes_lines w sums blocks) (all_answers w blocks lines)));
     }
@@ -194,6 +201,6 @@ pub three_parts : (t0 t1 t2 t3 xs ys zs end : List ℕ) → t0 ≡ [] → t1 ≡
 three_parts t0 t1 t2 t3 xs ys zs end none one same two three =
     three ∙ ap (λ (t : List ℕ). t ++ end) (two ∙ ap (λ (t : List ℕ). t ++ ys) (one ∙ (ap (λ (t : List ℕ). t ++ xs) none ∙ same)))
 
-pub same_lines : (blocks bs : List BlockId) (all rs : List (Vec Row)) (count : ℕ) → bs ≡ blocks → rs ≡ all → lines_text (all_lines bs rs count) ≡ lines_text (all_lines blocks all count)
-same_lines blocks bs all rs count e f =
-    ap (λ (b : List BlockId). lines_text (all_lines b rs count)) e ∙ ap (λ (r : List (Vec Row)). lines_text (all_lines blocks r count)) f
+pub same_lines : (running : List Bool) (blocks bs : List BlockId) (all rs : List (Vec Row)) (count : ℕ) → bs ≡ blocks → rs ≡ all → lines_text (all_lines running bs rs count) ≡ lines_text (all_lines running blocks all count)
+same_lines running blocks bs all rs count e f =
+    ap (λ (b : List BlockId). lines_text (all_lines running b rs count)) e ∙ ap (λ (r : List (Vec Row)). lines_text (all_lines running blocks r count)) f

@@ -46,31 +46,36 @@ each_same f g [] same = refl
 each_same f g (b ∷ blocks) same =
     ap (λ (xs : List ReportLine). xs ++ flat_map f (numbers blocks)) (same zero b refl) ∙ ap (λ (xs : List ReportLine). g b.0 ++ xs) (each_same f g blocks (λ k c at. same (suc k) c at))
 
+-- what a node that runs has is told of it alone
+node_same : (t : Bool) (node : ℕ) (xs ys : List ReportLine) → (t ≡ true → xs ≡ ys) → cond t xs (line.Down (record { 0 = node }) ∷ []) ≡ cond t ys (line.Down (record { 0 = node }) ∷ [])
+node_same true node xs ys same = same refl
+node_same false node xs ys same = refl
+
 if_seen : (files : Option FileMap) (X : Type 0) → IsSome files → IfSome files (λ _. X) → X
 if_seen None X h p = cc
 if_seen (Some m) X h p = p
 
-module _ {F I O : Type 0} (f : files.Ghosts F) (i : link_in.Ghosts I) (o : link_out.Ghosts O) (count : ℕ) (w : World) (net : Net) (n : Nodes F I O) where
-  sum_true : NodesAre i o count w net n → AreObservable f n → (sums : SumTable) → AreSums f w n sums → (node place : ℕ) (b : BlockId) → node < w.nodes → slice_get n.blocks.items place ≡ Some b → IsWhole (w.replicas node b.0)
+module _ {F I O : Type 0} (f : files.Ghosts F) (i : link_in.Ghosts I) (o : link_out.Ghosts O) (count : ℕ) (running : List Bool) (w : World) (net : Net) (n : Nodes F I O) where
+  sum_true : NodesAre i o count running w net n → AreObservable f n → (sums : SumTable) → AreSums f w n sums → (node place : ℕ) (b : BlockId) → node < w.nodes → w.running node ≡ true → slice_get n.blocks.items place ≡ Some b → IsWhole (w.replicas node b.0)
       → sums node b.0 ≡ sums_in w node b.0
-  sum_true are seen sums s node place b below at whole = book (book_at n.nodes.items node place) refl
+  sum_true are seen sums s node place b below runs at whole = book (book_at n.nodes.items node place) refl
     where
       none : IsSome {T = BookState F} None → ⊥
       none h = cc
 
       book : (q : Option (BookState F)) → book_at n.nodes.items node place ≡ q → sums node b.0 ≡ sums_in w node b.0
       book None e = absurd (none (subst (λ (q : Option (BookState F)). IsSome q) e (are.show.has_books node place b below at)))
-      book (Some x) e = if_seen (f.files x.drawer) (sums node b.0 ≡ sum_of kind.Crc32c (w.replicas node b.0).bytes) (seen node place x e) (s node place b x at e below whole)
+      book (Some x) e = if_seen (f.files x.drawer) (sums node b.0 ≡ sum_of kind.Crc32c (w.replicas node b.0).bytes) (seen node place x e) (s node place b x at e below runs whole)
 
-  pub reports_true : (lines : List ScriptLine) (text : List ℕ) → NodesAre i o count w net n → AreObservable f n → IsReport f w n lines text → text ≡ report_text w (sums_in w) (numbers n.blocks.items) lines
+  pub reports_true : (lines : List ScriptLine) (text : List ℕ) → NodesAre i o count running w net n → AreObservable f n → IsReport f w n lines text → text ≡ report_text w (sums_in w) (numbers n.blocks.items) lines
   reports_true lines text are seen r =
       r.text_is ∙ ap (λ (xs : List ReportLine). lines_text ((xs ++ all_answers w (numbers n.blocks.items) lines) ++ line.End ∷ [])) nodes
     where
-      replicas : (node : ℕ) → node < w.nodes → replicas_lines w r.sums (numbers n.blocks.items) node ≡ replicas_lines w (sums_in w) (numbers n.blocks.items) node
-      replicas node below =
+      replicas : (node : ℕ) → node < w.nodes → w.running node ≡ true → replicas_lines w r.sums (numbers n.blocks.items) node ≡ replicas_lines w (sums_in w) (numbers n.blocks.items) node
+      replicas node below runs =
           each_same (λ b. replica_lines node b (w.replicas node b) (r.sums node b)) (λ b. replica_lines node b (w.replicas node b) (sums_in w node b)) n.blocks.items
-          (λ k b at. told_same node b.0 (w.replicas node b.0) (r.sums node b.0) (sums_in w node b.0) (λ whole. sum_true are seen r.sums r.are node k b below at whole))
+          (λ k b at. told_same node b.0 (w.replicas node b.0) (r.sums node b.0) (sums_in w node b.0) (λ whole. sum_true are seen r.sums r.are node k b below runs at whole))
 
       nodes : nodes_lines w r.sums (numbers n.blocks.items) ≡ nodes_lines w (sums_in w) (numbers n.blocks.items)
       nodes = upto_same (node_lines w r.sums (numbers n.blocks.items)) (node_lines w (sums_in w) (numbers n.blocks.items)) w.nodes
-          (λ node below. ap (λ (xs : List ReportLine). cond (w.running node) xs (line.Down (record { 0 = node }) ∷ [])) (replicas node below))
+          (λ node below. node_same (w.running node) node (replicas_lines w r.sums (numbers n.blocks.items) node) (replicas_lines w (sums_in w) (numbers n.blocks.items) node) (λ runs. replicas node below runs))

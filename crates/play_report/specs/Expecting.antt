@@ -7,6 +7,7 @@ use Rattle.hd_base.specs.declared.links.LinkOut as link_out
 use Rattle.hd_base.specs.declared.numbers.BlockId.{BlockId}
 use Rattle.play_nodes.specs.declared.nodes.Nodes.{Nodes}
 use Rattle.play_nodes.specs.Places.{book_at}
+use Rattle.play_nodes.specs.Showing.{runs_in}
 use Rattle.play_scripts.specs.Blocks.{numbers}
 use Rattle.replica_core.specs.declared.info.ReplicaInfo.{ReplicaInfo}
 use Rattle.replica_core.specs.Info.{state_of}
@@ -82,14 +83,15 @@ differing w blocks lines = differing_in (expected_at w blocks) lines
 abbrev pub told_at : {F I O : Type 0} → Nodes F I O → ℕ → ℕ → Option Expected
 told_at n node place = option_and_then (λ x. expected_in (replica_of x).known.info) (book_at n.nodes.items node place)
 
--- the replica of a block at a node, which is one of the first, so many
-abbrev pub found_in : {F I O : Type 0} → ℕ → Nodes F I O → Found
-found_in count n node b =
-    if nat_lt node count then option_and_then (told_at n node) (position (λ (x : BlockId). x.0 == b) n.blocks.items)
+-- the replica of a block at a node, which is one of the first, so many, and runs
+abbrev pub found_in : {F I O : Type 0} → ℕ → List Bool → Nodes F I O → Found
+found_in count running n node b =
+    if nat_lt node count && runs_in running node
+    then option_and_then (told_at n node) (position (λ (x : BlockId). x.0 == b) n.blocks.items)
     else None
 
 -- So it is of each world that the nodes show.
-abbrev pub Differs : {F I O : Type 0} → link_in.Ghosts I → link_out.Ghosts O → ℕ → Nodes F I O → List ScriptLine →
-    Option Difference → Type 0
-Differs i o count n lines result =
-    (w : World) (net : Net) → NodesAre i o count w net n → result ≡ differing w (numbers n.blocks.items) lines
+abbrev pub Differs : {F I O : Type 0} → link_in.Ghosts I → link_out.Ghosts O → ℕ → List Bool → Nodes F I O →
+    List ScriptLine → Option Difference → Type 0
+Differs i o count running n lines result =
+    (w : World) (net : Net) → NodesAre i o count running w net n → result ≡ differing w (numbers n.blocks.items) lines

@@ -1,5 +1,5 @@
 -- What a report leaves of the nodes.
-use Rattle.std.specs.Prelude.{ℕ, ◌≡◌, List, Some, IsSome}
+use Rattle.std.specs.Prelude.{ℕ, ◌≡◌, Bool, List, Some, IsSome}
 use Rattle.hd_base.specs.declared.files.Files as files
 use Rattle.hd_base.specs.declared.links.LinkIn as link_in
 use Rattle.hd_base.specs.declared.links.LinkOut as link_out
@@ -33,9 +33,9 @@ abbrev pub AreObservable : {F I O : Type 0} → files.Ghosts F → Nodes F I O �
 AreObservable {F} f n =
     (node place : ℕ) (book : BookState F) → book_at n.nodes.items node place ≡ Some book → IsSome (f.files book.drawer)
 
--- There a report has the CRC32C of the bytes of each replica.
+-- There a report has the CRC32C of the bytes of each replica at a node that runs.
 abbrev pub ReportsAreTrue : (F I O : Type 0) → files.Ghosts F → link_in.Ghosts I → link_out.Ghosts O → Type 0
 ReportsAreTrue F I O f i o =
-    (count : ℕ) (w : World) (net : Net) (n : Nodes F I O) (lines : List ScriptLine) (text : List ℕ) →
-    NodesAre i o count w net n → AreObservable f n → IsReport f w n lines text
+    (count : ℕ) (running : List Bool) (w : World) (net : Net) (n : Nodes F I O) (lines : List ScriptLine)
+    (text : List ℕ) → NodesAre i o count running w net n → AreObservable f n → IsReport f w n lines text
     → text ≡ report_text w (sums_in w) (numbers n.blocks.items) lines

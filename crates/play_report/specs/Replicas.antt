@@ -1,9 +1,10 @@
 -- The replicas of nodes, in a report.
-use Rattle.std.specs.Prelude.{ℕ, if◌then◌else◌, Bool, List, [], ◌∷◌, ◌++◌, flat_map, slice_get, Option, Some, None}
+use Rattle.std.specs.Prelude.{ℕ, if◌then◌else◌, Bool, List, [], ◌∷◌, ◌++◌, true, false, flat_map, slice_get, Option, Some, None}
 use Rattle.chunk_sums.specs.Crc.{sum_of}
 use Rattle.hd_base.specs.declared.numbers.BlockId.{BlockId}
 use Rattle.hd_base.specs.declared.sum_rule.SumKind.TheVariants as kind
 use Rattle.play_model.specs.Dues.{upto}
+use Rattle.play_nodes.specs.Showing.{runs_in}
 use Rattle.replica_core.specs.declared.info.ReplicaInfo.{ReplicaInfo}
 use Rattle.replica_core.specs.Info.{state_of}
 use Rattle.replica_model.specs.Rows.{FullReplica}
@@ -57,11 +58,13 @@ row_lines node [] rows = []
 row_lines node (b ∷ blocks) [] = []
 row_lines node (b ∷ blocks) (row ∷ rows) = info_lines node b.0 row.sum row.info ++ row_lines node blocks rows
 
--- those of a node of which something was read
-abbrev pub rows_lines : ℕ → List BlockId → Option (Vec Row) → List ReportLine
-rows_lines node blocks None = []
-rows_lines node blocks (Some rows) = row_lines node blocks rows.items
+-- those of a node that runs, of which something was read; of another one that it is down
+abbrev pub rows_lines : ℕ → Bool → List BlockId → Option (Vec Row) → List ReportLine
+rows_lines node false blocks rows = line.Down (record { 0 = node }) ∷ []
+rows_lines node true blocks None = []
+rows_lines node true blocks (Some rows) = row_lines node blocks rows.items
 
 -- those of the first nodes
-abbrev pub all_lines : List BlockId → List (Vec Row) → ℕ → List ReportLine
-all_lines blocks all count = upto (λ node. rows_lines node blocks (slice_get all node)) count
+abbrev pub all_lines : List Bool → List BlockId → List (Vec Row) → ℕ → List ReportLine
+all_lines running blocks all count =
+    upto (λ node. rows_lines node (runs_in running node) blocks (slice_get all node)) count

@@ -1,5 +1,5 @@
 -- The report of a play.
-use Rattle.std.specs.Prelude.{ℕ, ◌≡◌, ◌<◌, true, List, [], ◌∷◌, ◌++◌, flat_map, slice_get, Some, IfSome}
+use Rattle.std.specs.Prelude.{ℕ, ◌≡◌, ◌<◌, Bool, true, List, [], ◌∷◌, ◌++◌, flat_map, slice_get, Some, IfSome}
 use Rattle.chunk_sums.specs.Crc.{sum_of}
 use Rattle.hd_base.specs.declared.files.Files as files
 use Rattle.hd_base.specs.declared.links.LinkIn as link_in
@@ -10,7 +10,7 @@ use Rattle.play_clients.specs.declared.clients.Client.{Client}
 use Rattle.play_dues.specs.Own.{blocks_of}
 use Rattle.play_nodes.specs.declared.nodes.Nodes.{Nodes}
 use Rattle.play_nodes.specs.Places.{book_at}
-use Rattle.play_nodes.specs.Showing.{NodesShow}
+use Rattle.play_nodes.specs.Showing.{NodesShow, TellsRunning}
 use Rattle.play_scripts.specs.Blocks.{numbers}
 use Rattle.replica_files.specs.Laws.{IsWhole}
 use Rattle.replica_files.specs.declared.book_state.BookState.{BookState}
@@ -28,7 +28,8 @@ use Rattle.play_report.specs.Replicas.{SumTable, nodes_lines}
 abbrev pub all_answers : World → List ℕ → List ScriptLine → List ReportLine
 all_answers w blocks lines = flat_map (λ b. answer_lines b (w.said b) 0 lines) blocks
 
--- The report of a world, after these lines of a script with these blocks: the replicas node by node, with these sums; the answers block by block; the end.
+-- The report of a world, after these lines of a script with these blocks: the replicas node by node, with these sums, and
+-- which nodes are down; the answers block by block; the end.
 abbrev pub report_lines : World → SumTable → List ℕ → List ScriptLine → List ReportLine
 report_lines w sums blocks lines = (nodes_lines w sums blocks ++ all_answers w blocks lines) ++ line.End ∷ []
 
@@ -38,23 +39,24 @@ report_text w sums blocks lines = lines_text (report_lines w sums blocks lines)
 
 -- WHAT IS SHOWN
 
--- The nodes show the world, in which there are so many nodes, and all run.
-pub record NodesAre {F I O : Type 0} (i : link_in.Ghosts I) (o : link_out.Ghosts O) (count : ℕ) (w : World) (net : Net)
-    (n : Nodes F I O) : Type 0 where
+-- The nodes show the world, in which there are so many nodes, of which these run.
+pub record NodesAre {F I O : Type 0} (i : link_in.Ghosts I) (o : link_out.Ghosts O) (count : ℕ) (running : List Bool)
+    (w : World) (net : Net) (n : Nodes F I O) : Type 0 where
   pub show : NodesShow i o w net n
   pub count_is : w.nodes ≡ count
-  pub running : (node : ℕ) → node < w.nodes → w.running node ≡ true
+  pub tells : TellsRunning w running
 
 -- The clients are those of the nodes' blocks, and have been answered what the world tells.
 pub record ClientsAre {F I O : Type 0} (w : World) (n : Nodes F I O) (clients : List (Client I O)) : Type 0 where
   pub blocks : blocks_of clients ≡ numbers n.blocks.items
   pub said : (k : ℕ) (c : Client I O) → slice_get clients k ≡ Some c → said_in c.said.items ≡ w.said c.block.0
 
--- Where the files of a replica that is neither absent nor broken are observable, its sum is the CRC32C of its bytes.
+-- Where the files of a replica that is neither absent nor broken are observable, and its node runs, its sum is the CRC32C
+-- of its bytes.
 abbrev pub AreSums : {F I O : Type 0} → files.Ghosts F → World → Nodes F I O → SumTable → Type 0
 AreSums {F} f w n sums = (node place : ℕ) (block : BlockId) (book : BookState F) →
     slice_get n.blocks.items place ≡ Some block → book_at n.nodes.items node place ≡ Some book →
-    node < w.nodes → IsWhole (w.replicas node block.0)
+    node < w.nodes → w.running node ≡ true → IsWhole (w.replicas node block.0)
     → IfSome (f.files book.drawer) (λ _. sums node block.0 ≡ sum_of kind.Crc32c (w.replicas node block.0).bytes)
 
 -- The text is the report of the world, with the sums of the replicas' bytes.
@@ -65,7 +67,7 @@ pub record IsReport {F I O : Type 0} (f : files.Ghosts F) (w : World) (n : Nodes
   pub text_is : text ≡ report_text w sums (numbers n.blocks.items) lines
 
 -- So it is of each world that nodes and clients show.
-abbrev pub Reports : {F I O : Type 0} → files.Ghosts F → link_in.Ghosts I → link_out.Ghosts O → ℕ → Nodes F I O →
-    List (Client I O) → List ScriptLine → List ℕ → Type 0
-Reports f i o count n clients lines text =
-    (w : World) (net : Net) → NodesAre i o count w net n → ClientsAre w n clients → IsReport f w n lines text
+abbrev pub Reports : {F I O : Type 0} → files.Ghosts F → link_in.Ghosts I → link_out.Ghosts O → ℕ → List Bool →
+    Nodes F I O → List (Client I O) → List ScriptLine → List ℕ → Type 0
+Reports f i o count running n clients lines text =
+    (w : World) (net : Net) → NodesAre i o count running w net n → ClientsAre w n clients → IsReport f w n lines text

@@ -1,5 +1,5 @@
 -- What is read of replicas for a report, and what that leaves.
-use Rattle.std.specs.Prelude.{ℕ, ◌≡◌, ◌++◌, min, List, [], ◌∷◌, length, slice_get, Some}
+use Rattle.std.specs.Prelude.{ℕ, ◌≡◌, ◌++◌, min, Bool, true, false, List, [], ◌∷◌, length, slice_get, Some}
 use Rattle.hd_base.specs.Faults.{FaultsIncreased}
 use Rattle.hd_base.specs.declared.files.Files as files
 use Rattle.hd_base.specs.declared.numbers.NodeId.{NodeId}
@@ -7,6 +7,7 @@ use Rattle.node_opening.specs.Shelves.{EachShelf}
 use Rattle.play_nodes.specs.declared.nodes.NodeBooks.{NodeBooks}
 use Rattle.play_nodes.specs.declared.nodes.Nodes.{Nodes}
 use Rattle.play_nodes.specs.Places.{book_at}
+use Rattle.play_nodes.specs.Showing.{runs_in}
 use Rattle.replica_files.specs.Books.{replica_of}
 use Rattle.replica_files.specs.Summing.{SumsWritten, LeavesBook}
 use Rattle.replica_files.specs.declared.book_state.BookState.{BookState}
@@ -36,19 +37,24 @@ pub record AreRows {F : Type 0} (f : files.Ghosts F) (books : List (BookState F)
   pub each : (k : ℕ) (x : BookState F) (row : Row) → slice_get books k ≡ Some x → slice_get rows k ≡ Some row →
       IsRow f x row
 
--- The rows of a node stand behind those of others.
-pub record AreRowsBehind {F : Type 0} (f : files.Ghosts F) (books : List (BookState F)) (all all' : List (Vec Row)) :
-    Type 0 where
+-- Those of a node that runs, and none of one that doesn't.
+abbrev pub AreRowsIf : {F : Type 0} → files.Ghosts F → Bool → List (BookState F) → List Row → Type 0
+AreRowsIf f true books rows = AreRows f books rows
+AreRowsIf f false books rows = rows ≡ []
+
+-- They stand behind those of others.
+pub record AreRowsBehind {F : Type 0} (f : files.Ghosts F) (runs : Bool) (books : List (BookState F))
+    (all all' : List (Vec Row)) : Type 0 where
   pub rows : Vec Row
-  pub are : AreRows f books rows.items
+  pub are : AreRowsIf f runs books rows.items
   pub behind : all' ≡ all ++ rows ∷ []
 
 -- The rows of the first nodes, so many, if there are.
-pub record NodesHaveRows {F : Type 0} (f : files.Ghosts F) (count : ℕ) (nodes : List (NodeBooks F))
+pub record NodesHaveRows {F : Type 0} (f : files.Ghosts F) (count : ℕ) (running : List Bool) (nodes : List (NodeBooks F))
     (all : List (Vec Row)) : Type 0 where
   pub count_is : length all ≡ min count (length nodes)
   pub each : (k : ℕ) (x : NodeBooks F) (rows : Vec Row) → slice_get nodes k ≡ Some x → slice_get all k ≡ Some rows →
-      AreRows f x.books.items rows.items
+      AreRowsIf f (runs_in running k) x.books.items rows.items
 
 -- WHAT STAYS
 

@@ -4,6 +4,7 @@ ghost use Rattle.std.specs.Prelude.{◌≡◌, ◌==◌, position};
 ghost use Rattle.play_report.specs.Expecting.{expected_in, told_at, found_in, is_same, is_got, compared};
 ghost use Rattle.play_report.specs.Expecting.{difference_in, differing_in, Differs};
 
+use crate::running::runs_in;
 use hd_base::{BlockId, Files, LinkIn, LinkOut, NodeId, ReplicaState, Stamp};
 use play_nodes::Nodes;
 use replica_core::ReplicaInfo;
@@ -27,7 +28,7 @@ pub struct Difference {
     pub line: u64,
     /// What the line says.
     pub want: Expected,
-    /// What the replica is; none where it is absent.
+    /// What the replica is; none where it is absent, or its node doesn't run.
     pub got: Option<Expected>,
 }
 
@@ -82,16 +83,17 @@ fn told_at<F: Files, I: LinkIn, O: LinkOut>(
     expected_in(book.replica().info())
 }
 
-/// What the replica of a block at a node is, which is one of the first, so many.
+/// What the replica of a block at a node is, which is one of the first, so many, and runs.
 fn found_in<F: Files, I: LinkIn, O: LinkOut>(
     count: u32,
+    running: &[bool],
     nodes: &Nodes<F, I, O>,
     node: NodeId,
     block: BlockId,
 ) -> Option<Expected>
-    ensures { result ≡ found_in count nodes.now node.0 block.0 }
+    ensures { result ≡ found_in count running.now nodes.now node.0 block.0 }
 {
-    if node.0 >= count {
+    if node.0 >= count || !runs_in(running, node) {
         return None;
     }
     let place = place_of(nodes.blocks.as_slice(), block)?;
@@ -111,10 +113,11 @@ fn compared(line: u64, want: Expected, got: Option<Expected>) -> Option<Differen
 /// The difference of a line, if it expects something else.
 fn difference_in<F: Files, I: LinkIn, O: LinkOut>(
     count: u32,
+    running: &[bool],
     nodes: &Nodes<F, I, O>,
     line: &ScriptLine,
 ) -> Option<Difference>
-    ensures { result ≡ difference_in (found_in count nodes.now) line.now.number line.now.instruction }
+    ensures { result ≡ difference_in (found_in count running.now nodes.now) line.now.number line.now.instruction }
 {
     match &line.instruction {
         Instruction::Expect {
@@ -129,7 +132,8 @@ fn difference_in<F: Files, I: LinkIn, O: LinkOut>(
                 stamp: *stamp,
                 length: *written,
             };
-            compared(line.number, want, found_in(count, nodes, *node, *block))
+            let got = found_in(count, running, nodes, *node, *block);
+            compared(line.number, want, got)
         }
         _ => None,
     }
@@ -138,13 +142,14 @@ fn difference_in<F: Files, I: LinkIn, O: LinkOut>(
 /// The first line that differs, as the nodes tell.
 fn differing_in<F: Files, I: LinkIn, O: LinkOut>(
     count: u32,
+    running: &[bool],
     nodes: &Nodes<F, I, O>,
     lines: &[ScriptLine],
 ) -> Option<Difference>
-    ensures { result ≡ differing_in (found_in count nodes.now) lines.now }
+    ensures { result ≡ differing_in (found_in count running.now nodes.now) lines.now }
 {
     for line in lines {
-        let difference = difference_in(count, nodes, line);
+        let difference = difference_in(count, running, nodes, line);
         if difference.is_some() {
             return difference;
         }
@@ -152,14 +157,15 @@ fn differing_in<F: Files, I: LinkIn, O: LinkOut>(
     None
 }
 
-/// The first `expect` line that the replicas of a play with so many nodes differ from; all of them run. Of an absent
-/// replica nothing is got, nor of a block that no line creates.
+/// The first `expect` line that the replicas of a play with so many nodes, of which these run, differ from. Of an absent
+/// replica nothing is got, nor of one at a node that doesn't run, nor of a block that no line creates.
 pub fn first_difference<F: Files, I: LinkIn, O: LinkOut>(
     count: u32,
+    running: &[bool],
     nodes: &Nodes<F, I, O>,
     lines: &[ScriptLine],
 ) -> Option<Difference>
-    ensures { Differs I.LinkIn O.LinkOut count nodes.now lines.now result }
+    ensures { Differs I.LinkIn O.LinkOut count running.now nodes.now lines.now result }
 {
-    differing_in(count, nodes, lines)
+    differing_in(count, running, nodes, lines)
 }

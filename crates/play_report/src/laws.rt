@@ -10,7 +10,7 @@ pub fn reports_keep_nodes<F: Files, I: LinkIn, O: LinkOut>()
     ensures fit { StillFit F I O F.Files }
 {}
 
-/// A report of nodes whose files are observable has the CRC32C of the bytes of each replica.
+/// A report of nodes whose files are observable has the CRC32C of the bytes of each replica at a node that runs.
 pub fn reports_are_true<F: Files, I: LinkIn, O: LinkOut>()
     ensures { ReportsAreTrue F I O F.Files I.LinkIn O.LinkOut }
 {}

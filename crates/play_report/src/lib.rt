@@ -10,6 +10,7 @@ mod replicas;
 mod report;
 mod results;
 mod rows;
+mod running;
 
 pub use expecting::{Difference, Expected, first_difference};
 pub use faults::ReportFault;

@@ -6,6 +6,7 @@ ghost use Rattle.play_report.specs.Answers.{lines_text};
 ghost use Rattle.play_report.specs.Replicas.{info_lines, row_lines, rows_lines, all_lines};
 
 use crate::rows::Row;
+use crate::running::runs_in;
 use hd_base::{BlockId, NodeId};
 use script_lang::{ReportLine, print_line};
 use std::alloc::AllocError;
@@ -49,33 +50,40 @@ fn push_rows(
     Ok(())
 }
 
-/// Appends the lines of a node's replicas, if something was read there.
+/// Appends the lines of a node's replicas, if something was read there; of a node that doesn't run the line that it is
+/// down.
 fn push_node(
     node: NodeId,
+    runs: bool,
     blocks: &[BlockId],
     rows: Option<&Vec<Row>>,
     out: &mut Vec<u8>,
 ) -> Result<(), AllocError>
     ensures { OnOk result (out.new.items ≡
-        out.old.items ++ lines_text (rows_lines node.0 blocks.now (option_copied rows.entry))) }
+        out.old.items ++ lines_text (rows_lines node.0 runs blocks.now (option_copied rows.entry))) }
 {
+    if !runs {
+        return print_line(&ReportLine::Down { node }, out);
+    }
     match rows {
         Some(rows) => push_rows(node, blocks, rows.as_slice(), out),
         None => Ok(()),
     }
 }
 
-/// Appends the lines of the replicas of the first nodes, so many.
+/// Appends the lines of the first nodes, so many.
 pub(crate) fn push_nodes(
     count: u32,
+    running: &[bool],
     blocks: &[BlockId],
     all: &[Vec<Row>],
     out: &mut Vec<u8>,
 ) -> Result<(), AllocError>
-    ensures { OnOk result (out.new.items ≡ out.old.items ++ lines_text (all_lines blocks.now all.now count)) }
+    ensures { OnOk result (out.new.items ≡ out.old.items ++ lines_text (all_lines running.now blocks.now all.now count)) }
 {
     for node in 0..count {
-        push_node(NodeId(node), blocks, all.get(node as usize), out)?;
+        let runs = runs_in(running, NodeId(node));
+        push_node(NodeId(node), runs, blocks, all.get(node as usize), out)?;
     }
     Ok(())
 }

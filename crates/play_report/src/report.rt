@@ -14,23 +14,31 @@ use play_nodes::Nodes;
 use script_lang::{ReportLine, ScriptLine, print_line};
 use std::alloc::Global;
 
-/// The text of the report of a play with so many nodes, of which all run, after these lines of its script. The files of
-/// each replica are read once, piece by piece. Plays have no reads and recoveries yet, and so has the report.
+/// The text of the report of a play with so many nodes, of which these run, after these lines of its script. The files of
+/// each replica at a node that runs are read once, piece by piece. Plays have no reads and recoveries yet, and so has the
+/// report.
 pub fn write_report<F: Files, I: LinkIn, O: LinkOut>(
     alloc: Global,
     count: u32,
+    running: &[bool],
     nodes: &mut Nodes<F, I, O>,
     clients: &[Client<I, O>],
     lines: &[ScriptLine],
 ) -> Result<Vec<u8>, ReportFault>
     ensures report { IfOk result (λ text.
-        Reports F.Files I.LinkIn O.LinkOut count nodes.old clients.now lines.now text.items) }
+        Reports F.Files I.LinkIn O.LinkOut count running.now nodes.old clients.now lines.now text.items) }
     ensures kept { LeavesAll F.Files nodes.old nodes.new }
     ensures cause { IfErr result (IsNodesFault F.Files nodes.old.nodes.items nodes.new.nodes.items) }
 {
-    let all = all_rows(alloc, count, nodes.nodes.as_mut_slice())?;
+    let all = all_rows(alloc, count, running, nodes.nodes.as_mut_slice())?;
     let mut text = Vec::new(alloc);
-    push_nodes(count, nodes.blocks.as_slice(), all.as_slice(), &mut text)?;
+    push_nodes(
+        count,
+        running,
+        nodes.blocks.as_slice(),
+        all.as_slice(),
+        &mut text,
+    )?;
     push_clients(clients, lines, &mut text)?;
     print_line(&ReportLine::End, &mut text)?;
     Ok(text)

@@ -2,10 +2,11 @@
 
 ghost use Rattle.std.specs.Prelude.{◌≡◌, IfOk, OnOk, IfErr};
 ghost use Rattle.replica_files.specs.Summing.{LeavesBook, SumsFor};
-ghost use Rattle.play_report.specs.Rows.{IsRow, IsRowBehind, AreRows, AreRowsBehind, NodesHaveRows, fault_at};
+ghost use Rattle.play_report.specs.Rows.{IsRow, IsRowBehind, AreRows, AreRowsIf, AreRowsBehind, NodesHaveRows, fault_at};
 ghost use Rattle.play_report.specs.Rows.{LeavesBooks, LeavesNodes, IsBookFault, IsBooksFault, IsNodesFault};
 
 use crate::faults::ReportFault;
+use crate::running::runs_in;
 use hd_base::{Files, NodeId};
 use play_nodes::NodeBooks;
 use replica_core::ReplicaInfo;
@@ -78,30 +79,50 @@ fn node_rows<F: Files>(
     Ok(rows)
 }
 
-/// Reads the bytes of the replicas of a node more, whose rows stand behind those of the others.
+/// Reads the bytes of the replicas of a node, if it runs.
+fn rows_if<F: Files>(
+    alloc: Global,
+    runs: bool,
+    node: NodeId,
+    books: &mut [ReplicaBook<F>],
+) -> Result<Vec<Row>, ReportFault>
+    ensures rows { IfOk result (λ rows. AreRowsIf F.Files runs books.old rows.items) }
+    ensures kept { LeavesBooks F.Files books.old books.new }
+    ensures cause { IfErr result (IsBooksFault F.Files node books.old books.new) }
+{
+    if runs {
+        node_rows(alloc, node, books)
+    } else {
+        Ok(Vec::new(alloc))
+    }
+}
+
+/// Reads the bytes of the replicas of a node more, if it runs. The rows stand behind those of the others.
 fn add_rows<F: Files>(
     alloc: Global,
+    runs: bool,
     node: NodeId,
     books: &mut NodeBooks<F>,
     all: &mut Vec<Vec<Row>>,
 ) -> Result<(), ReportFault>
-    ensures rows { OnOk result (AreRowsBehind F.Files books.old.books.items all.old.items all.new.items) }
+    ensures rows { OnOk result (AreRowsBehind F.Files runs books.old.books.items all.old.items all.new.items) }
     ensures kept { LeavesBooks F.Files books.old.books.items books.new.books.items }
     ensures cause { IfErr result (IsBooksFault F.Files node books.old.books.items books.new.books.items) }
 {
     all.reserve(1)?;
-    let rows = node_rows(alloc, node, books.books.as_mut_slice())?;
+    let rows = rows_if(alloc, runs, node, books.books.as_mut_slice())?;
     all.push_reserved(rows);
     Ok(())
 }
 
-/// Reads the bytes of the replicas of the first nodes, so many, if there are.
+/// Reads the bytes of the replicas of the nodes that run, of the first so many, if there are.
 pub(crate) fn all_rows<F: Files>(
     alloc: Global,
     count: u32,
+    running: &[bool],
     nodes: &mut [NodeBooks<F>],
 ) -> Result<Vec<Vec<Row>>, ReportFault>
-    ensures rows { IfOk result (λ all. NodesHaveRows F.Files count nodes.old all.items) }
+    ensures rows { IfOk result (λ all. NodesHaveRows F.Files count running.now nodes.old all.items) }
     ensures kept { LeavesNodes F.Files nodes.old nodes.new }
     ensures cause { IfErr result (IsNodesFault F.Files nodes.old nodes.new) }
 {
@@ -111,7 +132,8 @@ pub(crate) fn all_rows<F: Files>(
         if place >= nodes.len() {
             return Ok(all);
         }
-        add_rows(alloc, NodeId(node), &mut nodes[place], &mut all)?;
+        let runs = runs_in(running, NodeId(node));
+        add_rows(alloc, runs, NodeId(node), &mut nodes[place], &mut all)?;
     }
     Ok(all)
 }

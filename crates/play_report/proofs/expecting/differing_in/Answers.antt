@@ -12,7 +12,7 @@ returns-then-is_some g c =
     let lines = c.args.lines.now in
     let k = c.loop-line.line-index in
     let l = c.line-item.result in
-    let found = found_in c.args.count c.args.nodes.now in
+    let found = found_in c.args.count c.args.running.now c.args.nodes.now in
     line_differs found (drop k lines) (drop (k + 1) lines) l (differing_in found lines) c.difference_in-difference.result (drop_at lines k l (element_some lines k l c.loop-line-test.true c.line-item.is)) c.loop-line.invariant
     c.difference_in-difference.ensures (sym c.is_some.ensures ∙ c.if-is_some.true)
 
@@ -21,11 +21,11 @@ loop-line-preserved g c =
     let lines = c.args.lines.now in
     let k = c.loop-line.line-index in
     let l = c.line-item.result in
-    let found = found_in c.args.count c.args.nodes.now in
+    let found = found_in c.args.count c.args.running.now c.args.nodes.now in
     line_agrees found (drop k lines) (drop (k + 1) lines) l (differing_in found lines) c.difference_in-difference.result (drop_at lines k l (element_some lines k l c.loop-line-test.true c.line-item.is)) c.loop-line.invariant
     c.difference_in-difference.ensures (sym c.is_some.ensures ∙ c.if-is_some.false)
 
 pub returns : goal.returns
 returns g c =
-    let found = found_in c.args.count c.args.nodes.now in
+    let found = found_in c.args.count c.args.running.now c.args.nodes.now in
     sym (at_drop_all (λ ls. differing_in found ls) c.args.lines.now c.loop-line.line-index c.loop-line-test.false) ∙ c.loop-line.invariant

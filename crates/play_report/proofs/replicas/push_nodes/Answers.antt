@@ -1,5 +1,7 @@
 -- One node more.
 use Rattle.std.proofs.Common.{◌++◌, slice_get, ap, ◌∙◌}
+use Rattle.play_nodes.specs.Showing.{runs_in}
+use Rattle.std.specs.Option.{option_copied}
 use Rattle.play_report.specs.Answers.{lines_text}
 use Rattle.play_report.specs.Replicas.{rows_lines}
 use Rattle.play_report.proofs.AnswerLemmas.{got_is}
@@ -12,7 +14,9 @@ loop-node-init c = none_printed c.args.out.now.items
 pub loop-node-preserved : goal.loop-node-preserved
 loop-node-preserved c =
     let blocks = c.args.blocks.now in
+    let running = c.args.running.now in
     let mid = c.loop-node.out.items in
     let k = c.loop-node.node in
-    part_appended c.args.out.now.items mid c.push_node.new.out.items (λ node. rows_lines node blocks (slice_get c.args.all.now node)) k c.loop-node.invariant
-    (c.in_ok-push_node.ensures ∙ ap (λ o. mid ++ lines_text (rows_lines k blocks o)) (got_is c.args.all.now k c.get.result c.get.ensures.lookup.0 c.get.ensures.lookup.1))
+    part_appended c.args.out.now.items mid c.push_node.new.out.items (λ node. rows_lines node (runs_in running node) blocks (slice_get c.args.all.now node)) k c.loop-node.invariant
+    (c.in_ok-push_node.ensures ∙ (ap (λ t. mid ++ lines_text (rows_lines k t blocks (option_copied c.get.result))) c.runs_in-runs.ensures ∙
+    ap (λ o. mid ++ lines_text (rows_lines k (runs_in running k) blocks o)) (got_is c.args.all.now k c.get.result c.get.ensures.lookup.0 c.get.ensures.lookup.1)))

@@ -69,11 +69,11 @@ returns-clause-report g c =
     let n = c.args.nodes.now in
     let lines = c.args.lines.now in
     let all = c.in_ok-all.all.items in
-    report_is g.F.Files g.I.LinkIn g.O.LinkOut c.args.count n c.args.clients.now lines all c.print_line.new.out.items
-    (nodes_rows_as g.F.Files c.args.count c.as_mut_slice.result.now n.nodes.items all c.as_mut_slice.ensures.value c.in_ok-all.ensures.rows)
+    report_is g.F.Files g.I.LinkIn g.O.LinkOut c.args.count c.args.running.now n c.args.clients.now lines all c.print_line.new.out.items
+    (nodes_rows_as g.F.Files c.args.count c.args.running.now c.as_mut_slice.result.now n.nodes.items all c.as_mut_slice.ensures.value c.in_ok-all.ensures.rows)
     (three_parts c.new-text.result.items c.push_nodes.new.out.items c.push_clients.new.out.items c.print_line.new.out.items
-    (lines_text (all_lines c.as_slice.result.now c.as_slice-2.result.now c.args.count)) (lines_text (flat_map (λ x. client_lines lines x) c.args.clients.now)) (lines_text (all_lines n.blocks.items all c.args.count)) (printed line.End)
-    c.new-text.ensures.items c.in_ok-push_nodes.ensures (same_lines n.blocks.items c.as_slice.result.now all c.as_slice-2.result.now c.args.count c.as_slice.ensures.value c.as_slice-2.ensures.value)
+    (lines_text (all_lines c.args.running.now c.as_slice.result.now c.as_slice-2.result.now c.args.count)) (lines_text (flat_map (λ x. client_lines lines x) c.args.clients.now)) (lines_text (all_lines c.args.running.now n.blocks.items all c.args.count)) (printed line.End)
+    c.new-text.ensures.items c.in_ok-push_nodes.ensures (same_lines c.args.running.now n.blocks.items c.as_slice.result.now all c.as_slice-2.result.now c.args.count c.as_slice.ensures.value c.as_slice-2.ensures.value)
     c.in_ok-push_clients.ensures c.in_ok-print_line.ensures.printed)
 
 pub returns-clause-kept : goal.returns-clause-kept

@@ -20,7 +20,7 @@ pub returns-in_err-rows-clause-kept : goal.returns-in_err-rows-clause-kept
 returns-in_err-rows-clause-kept g c =
     let v = c.args.books.now.books in
     let is : v.len ≡ length v.items = omega (arith, v.ok.0) in
-    left_as g.F.Files v.len c.as_mut_slice.result.now v.items c.node_rows.new.books c.as_mut_slice.ensures.value is c.node_rows.ensures.kept
+    left_as g.F.Files v.len c.as_mut_slice.result.now v.items c.rows_if.new.books c.as_mut_slice.ensures.value is c.rows_if.ensures.kept
 
 pub returns-in_err-rows-clause-cause : goal.returns-in_err-rows-clause-cause
 returns-in_err-rows-clause-cause g c =
@@ -28,16 +28,16 @@ returns-in_err-rows-clause-cause g c =
     let is : v.len ≡ length v.items = omega (arith, v.ok.0) in
     let why = c.in_err-rows.field-0.0 in
     let e = err_from_is_err_and c.from_residual-in_err-rows.result c.from_residual-in_err-rows.ensures.1 in
-    if_err c.from_residual-in_err-rows.result why (IsBooksFault g.F.Files c.args.node v.items (rewritten v.len v.items c.node_rows.new.books)) (e.1 ∙ ap Err e.2)
-    (fault_as g.F.Files c.args.node v.len c.as_mut_slice.result.now v.items c.node_rows.new.books why c.as_mut_slice.ensures.value is c.node_rows.ensures.kept c.in_err-rows.ensures.cause)
+    if_err c.from_residual-in_err-rows.result why (IsBooksFault g.F.Files c.args.node v.items (rewritten v.len v.items c.rows_if.new.books)) (e.1 ∙ ap Err e.2)
+    (fault_as g.F.Files c.args.node v.len c.as_mut_slice.result.now v.items c.rows_if.new.books why c.as_mut_slice.ensures.value is c.rows_if.ensures.kept c.in_err-rows.ensures.cause)
 
 pub returns-clause-rows : goal.returns-clause-rows
 returns-clause-rows g c =
-    rows_added g.F.Files c.as_mut_slice.result.now c.args.books.now.books.items c.in_ok-rows.rows c.args.all.now.items c.reserve.new.self.items c.push_reserved.new.self.items c.as_mut_slice.ensures.value c.in_ok-rows.ensures.rows
+    rows_added g.F.Files c.args.runs c.as_mut_slice.result.now c.args.books.now.books.items c.in_ok-rows.rows c.args.all.now.items c.reserve.new.self.items c.push_reserved.new.self.items c.as_mut_slice.ensures.value c.in_ok-rows.ensures.rows
     c.in_ok-reserve.ensures.items c.push_reserved.ensures.items
 
 pub returns-clause-kept : goal.returns-clause-kept
 returns-clause-kept g c =
     let v = c.args.books.now.books in
     let is : v.len ≡ length v.items = omega (arith, v.ok.0) in
-    left_as g.F.Files v.len c.as_mut_slice.result.now v.items c.node_rows.new.books c.as_mut_slice.ensures.value is c.node_rows.ensures.kept
+    left_as g.F.Files v.len c.as_mut_slice.result.now v.items c.rows_if.new.books c.as_mut_slice.ensures.value is c.rows_if.ensures.kept

@@ -6,5 +6,5 @@ use Rattle.play_report.proofs.rows.all_rows.Given as goal
 abbrev pub invariant-loop-node : goal.invariant-loop-node
 invariant-loop-node g l = record {
   within : l.node ≤ length l.initial.nodes;
-  read : NodesSoFar g.F.Files l.node l.initial.nodes l.nodes l.all.items;
+  read : NodesSoFar g.F.Files l.running l.node l.initial.nodes l.nodes l.all.items;
 }

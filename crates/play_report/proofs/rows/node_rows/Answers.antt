@@ -9,7 +9,7 @@ use Rattle.play_report.proofs.RowLemmas.{so_far_none, so_far_left, so_far_end, l
 use Rattle.play_report.proofs.rows.node_rows.Goals as goal
 
 pub loop-place-init : goal.loop-place-init
-loop-place-init g c = so_far_none (IsRow g.F.Files) (LeavesBook g.F.Files) c.args.books.now c.new-rows.result.items c.new-rows.ensures.items
+loop-place-init g c = so_far_none (λ _. IsRow g.F.Files) (LeavesBook g.F.Files) c.args.books.now c.new-rows.result.items c.new-rows.ensures.items
 
 pub returns-in_err-add_row-clause-kept : goal.returns-in_err-add_row-clause-kept
 returns-in_err-add_row-clause-kept g c =
@@ -18,7 +18,7 @@ returns-in_err-add_row-clause-kept g c =
     let n = c.loop-place.place in
     let within : n < length xs = omega (arith, c.loop-place-test.true, c.loop-place.auto.books) in
     let a = get_or xs n c.index-books-place.result in
-    so_far_left (IsRow f) (LeavesBook f) n c.args.books.now xs c.loop-place.rows.items a c.add_row.new.book (leaves_same f) c.loop-place.invariant (element_or xs n c.index-books-place.result within) c.add_row.ensures.kept
+    so_far_left (λ _. IsRow f) (LeavesBook f) n c.args.books.now xs c.loop-place.rows.items a c.add_row.new.book (leaves_same f) c.loop-place.invariant (element_or xs n c.index-books-place.result within) c.add_row.ensures.kept
 
 pub returns-in_err-add_row-clause-cause : goal.returns-in_err-add_row-clause-cause
 returns-in_err-add_row-clause-cause g c =
@@ -49,4 +49,4 @@ returns-clause-rows g c =
 pub returns-clause-kept : goal.returns-clause-kept
 returns-clause-kept g c =
     let f = g.F.Files in
-    so_far_end (IsRow f) (LeavesBook f) c.loop-place.place c.args.books.now c.loop-place.books c.loop-place.rows.items (leaves_same f) c.loop-place.invariant
+    so_far_end (λ _. IsRow f) (LeavesBook f) c.loop-place.place c.args.books.now c.loop-place.books c.loop-place.rows.items (leaves_same f) c.loop-place.invariant
