@@ -1,0 +1,5 @@
+pub mod Faults
+pub mod Closing
+pub mod Making
+pub mod Lending
+pub mod Restarting
