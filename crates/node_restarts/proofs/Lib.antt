@@ -6,3 +6,4 @@ pub mod BesideLemmas
 pub mod ScannedLemmas
 pub mod FoundLemmas
 pub mod RestartingLemmas
+pub mod LawLemmas

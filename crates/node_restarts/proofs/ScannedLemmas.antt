@@ -104,7 +104,7 @@ part_empty b m none = λ i name. by name (is_of_block b name) refl i
     by name true e = none name e
     by name false e = refl
 
-without_none : without_temporary no_files ≡ no_files
+pub without_none : without_temporary no_files ≡ no_files
 without_none = λ i name. by (is_temporary name) i
   where
     none : Option (List ℕ)

@@ -3,3 +3,4 @@ pub mod Closing
 pub mod Making
 pub mod Lending
 pub mod Restarting
+pub mod Laws

@@ -4,9 +4,11 @@
 
 mod closing;
 mod faults;
+mod laws;
 mod lending;
 mod making;
 mod restarting;
 
 pub use faults::RestartFault;
+pub use laws::{failed_books_are_broken, new_books_are_unbroken};
 pub use restarting::restart_books;
