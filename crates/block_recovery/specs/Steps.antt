@@ -233,3 +233,17 @@ abbrev pub Steps : {D R I O : Type 0} → desk.Ghosts D → roads.Ghosts R I O �
     → Primary I O → Primary I O → D → D → R → R → PrimaryStep → Type 0
 Steps d r i o p p' office office' old new result =
     StepsAs d r i o p.core p'.core p p' office office' old new result
+
+-- A primary that has begun does its own step, whatever stands on the connections.
+abbrev pub OwnsAs : {D R I O : Type 0} → desk.Ghosts D → roads.Ghosts R I O → link_in.Ghosts I → link_out.Ghosts O
+    → Option PrimaryState → Option PrimaryState → Primary I O → Primary I O → D → D → R → R → PrimaryStep → Type 0
+OwnsAs d r i o (Some core) (Some core') p p' office office' old new result =
+    Owns d r i o core core' p.members p.links.items p'.links.items office office' old new result
+OwnsAs d r i o None None p p' office office' old new result =
+    IsIdle p.links.items p'.links.items office office' old new result
+OwnsAs d r i o core core' p p' office office' old new result = ⊥
+
+abbrev pub LeadsOn : {D R I O : Type 0} → desk.Ghosts D → roads.Ghosts R I O → link_in.Ghosts I → link_out.Ghosts O
+    → Primary I O → Primary I O → D → D → R → R → PrimaryStep → Type 0
+LeadsOn d r i o p p' office office' old new result =
+    OwnsAs d r i o p.core p'.core p p' office office' old new result

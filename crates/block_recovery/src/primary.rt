@@ -1,6 +1,7 @@
 //! A primary, step by step.
 
-ghost use Rattle.std.specs.Prelude.{◌≡◌, ◌<◌, length, All, IfOk, map, slice_get, Option};
+ghost use Rattle.std.specs.List.{list_any};
+ghost use Rattle.std.specs.Prelude.{◌≡◌, ◌<◌, length, All, IfOk, map, slice_get, Option, Some};
 ghost use Rattle.hd_base.specs.Channels.{Plain};
 ghost use Rattle.block_recovery.specs.Dialling.{LinkIsKnown, is_open, is_lost};
 ghost use Rattle.block_recovery.specs.Steps.{
@@ -10,6 +11,7 @@ ghost use Rattle.block_recovery.specs.Steps.{
   BeginsWith,
   Reaches,
   Leads,
+  LeadsOn,
   Hears,
   Owns,
   OwnsBy,
@@ -80,6 +82,13 @@ impl<I: LinkIn, O: LinkOut> Primary<I, O> {
         }
     }
 
+    /// Whether the end of the connection to some member is lost.
+    pub fn has_lost_any(&self) -> bool
+        ensures { result ≡ list_any (λ link. is_lost (Some link)) self.now.links.items }
+    {
+        self.links.iter().any(|link| link.is_lost())
+    }
+
     /// Does one step of its own, or takes one answer or end: it asks the office to begin, dials each member and sends
     /// those that answered the INIT; takes what they answer; chooses among it, sends the chosen ones the UPDATE and
     /// gives up the connections of the others; takes their answers; and asks the office to commit. Behind an end
@@ -111,6 +120,29 @@ impl<I: LinkIn, O: LinkOut> Primary<I, O> {
                     Err(end) => PrimaryStep::Ended(end),
                 }
             }
+        }
+    }
+
+    /// Does its own step, once it has begun, whatever stands on the connections: it sends the chosen members the UPDATE
+    /// and gives up the connections of the others, or ends, by the office's answer where it is to commit.
+    pub fn lead_on<D: Desk, R: Roads<Inward = I, Outward = O>>(
+        &mut self,
+        alloc: Global,
+        office: &mut D,
+        roads: &mut R,
+    ) -> PrimaryStep
+        requires count { length self.old.links.items ≡ length self.old.members }
+        requires known { All (LinkIsKnown (R.plain roads.old)) self.old.links.items }
+        ensures leads { LeadsOn D.Desk R.Roads I.LinkIn O.LinkOut self.old self.new office.old office.new
+            roads.old roads.new result }
+        ensures same { (self.new.block ≡ self.old.block) × (self.new.members ≡ self.old.members) }
+        ensures count { length self.new.links.items ≡ length self.new.members }
+        ensures known { All (LinkIsKnown (R.plain roads.new)) self.new.links.items }
+    {
+        let links = self.links.as_mut_slice();
+        match &mut self.core {
+            Some(core) => own(alloc, core, &self.members, links, office, roads),
+            None => PrimaryStep::Waiting,
         }
     }
 }

@@ -14,7 +14,7 @@ still true sent k h = refl
 still false sent k h = h
 
 -- a change leaves what was shut
-apply_stays : (w : World) (k : Change) (c : ℕ) → IsShut w c → IsShut (apply w k) c
+pub apply_stays : (w : World) (k : Change) (c : ℕ) → IsShut w c → IsShut (apply w k) c
 unfolding apply
 apply_stays w k c h = record {
   down = still (k.shuts c) (downs_with w k c) (w.down_marks c) h.down;

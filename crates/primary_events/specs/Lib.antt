@@ -1,3 +1,4 @@
 pub mod Faults
 pub mod Showing
 pub mod Hearing
+pub mod Leading

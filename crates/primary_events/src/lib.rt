@@ -5,7 +5,9 @@
 mod faults;
 mod hearing;
 mod laws;
+mod leading;
 
 pub use faults::PrimaryFault;
 pub use hearing::hear;
-pub use laws::primaries_can_hear;
+pub use laws::{primaries_can_hear, primaries_can_lead};
+pub use leading::lead;
