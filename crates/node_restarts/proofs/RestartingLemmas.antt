@@ -16,7 +16,7 @@ use Rattle.restart_scan.specs.declared.faults.ScanFault.TheVariants as scan
 use Rattle.restart_scan.specs.declared.found.Found.{Found}
 use Rattle.restart_scan.specs.declared.found.Seen.{Seen}
 use Rattle.restart_scan.specs.Faults.{ScansFor}
-use Rattle.restart_scan.specs.Shelves.{WhereTold, ScansShelf, LendsNoMore as KeepsLent}
+use Rattle.restart_scan.specs.Shelves.{WhereTold, StaysUntold, ScansShelf, LendsNoMore as KeepsLent}
 use Rattle.node_opening.specs.Closing.{block_of, blocks_of, files_with, AreLentOut, AreOf, NodeCloses}
 use Rattle.node_opening.specs.Shelves.{is_among, LendsNoMore}
 use Rattle.node_opening.proofs.CloseLemmas.{block_at, same_eqb}
@@ -25,7 +25,7 @@ use Rattle.node_restarts.specs.Closing.{HaveNumbers}
 use Rattle.node_restarts.specs.Faults.{of_scan, HasRestartCause}
 use Rattle.node_restarts.specs.Lending.{HasFound, IsUnmade, rest_after}
 use Rattle.node_restarts.specs.Making.{AllHeld, IsBookFor, seen_in}
-use Rattle.node_restarts.specs.Restarting.{AreTold, TellAll, IsRestarted, HasRestarted, AreGivenUp}
+use Rattle.node_restarts.specs.Restarting.{TellAll, IsRestarted, HasRestarted, AreGivenUp}
 use Rattle.node_restarts.proofs.BesideLemmas.{AreOwn, books_own, all_told, part_held, only_theirs}
 use Rattle.node_restarts.proofs.FoundLemmas.{one_restarted}
 use Rattle.node_restarts.proofs.LendingLemmas.{later_cause}
@@ -218,12 +218,7 @@ module _ {S D : Type 0} (s : shelves.Ghosts S D) (d : files.Ghosts D) (blocks : 
         again y none true m = absurd (true_false (sym (out.lent y m) ∙ none))
         again y none false m = or_false (s.lent e y) (is_among blocks y) (s.lent c y) (h.lent y) m (none_more c keeps y none)
 
--- The files that a scan leaves hold all that it found, where all files were told.
-pub held_after : {S D : Type 0} (s : shelves.Ghosts S D) (d : files.Ghosts D) (blocks : List BlockId) (books : List (BookState D)) (a b c : S) (found : Found) → AreOf blocks books → AreTold s d a books → NodeCloses s d blocks books a b
-    → WhereTold (s.files b) (s.files c) (λ m n. ScansShelf m n found) → IfSome (s.files c) (AllHeld found.replicas.items)
-held_after s d blocks books a b c found of t close scans =
-    by (s.files b) (subst (λ (f : Option FileMap). IsSome f) (sym (close.files_are of)) (all_told d (s.files a) books t.told t.each)) scans
-  where
-    by : (f : Option FileMap) → IsSome f → WhereTold f (s.files c) (λ m n. ScansShelf m n found) → IfSome (s.files c) (AllHeld found.replicas.items)
-    by None h w = cc
-    by (Some m) h w = subst (λ (o : Option FileMap). IfSome o (AllHeld found.replicas.items)) (sym w.1) (λ seen at. w.2.held seen at)
+-- The files that a scan leaves hold all that it found, where they are told.
+pub held_after : (f g : Option FileMap) (found : Found) → WhereTold f g (λ m n. ScansShelf m n found) → StaysUntold f g → IfSome g (AllHeld found.replicas.items)
+held_after None g found scans untold = subst (λ (o : Option FileMap). IfSome o (AllHeld found.replicas.items)) (sym (untold refl)) tt
+held_after (Some m) g found scans untold = subst (λ (o : Option FileMap). IfSome o (AllHeld found.replicas.items)) (sym scans.1) (λ seen at. scans.2.held seen at)

@@ -40,13 +40,7 @@ abbrev pub StandsAs : {D : Type 0} → files.Ghosts D → BookState D → Option
 StandsAs d x None = IsUnbroken d x
 StandsAs d x (Some broke) = BrokeIn d x broke
 
--- The shelf and the drawers of these books tell their files.
-pub record AreTold {S D : Type 0} (s : shelves.Ghosts S D) (d : files.Ghosts D) (shelf : S)
-    (books : List (BookState D)) : Type 0 where
-  pub told : IsSome (s.files shelf)
-  pub each : (place : ℕ) (x : BookState D) → slice_get books place ≡ Some x → IsSome (d.files x.drawer)
-
--- They do, and the shelf has none beside theirs.
+-- The shelf and the drawers of these books tell their files, and the shelf has none beside theirs.
 pub record TellAll {S D : Type 0} (s : shelves.Ghosts S D) (d : files.Ghosts D) (shelf : S)
     (books : List (BookState D)) : Type 0 where
   pub empty : s.files shelf ≡ Some no_files
@@ -66,9 +60,9 @@ pub record IsRestarted {D : Type 0} (d : files.Ghosts D) (old new : BookState D)
       replica_of new ≡ restarted (block_of old).0 (replica_of old) broke found
   pub unbroken : IsUnbroken d new
 
--- A node has restarted: it has a book for each block, at its place, whose files the shelf has lent again. Where the
--- shelf had no files beside those of the books, each is that of what was found of its block, and all files are told
--- again.
+-- A node has restarted: it has a book for each block, at its place, whose files the shelf has lent again. Where all
+-- files were told, and the shelf had none beside those of the books, each is that of what was found of its block, and
+-- all files are told again.
 pub record HasRestarted {S D : Type 0} (s : shelves.Ghosts S D) (d : files.Ghosts D) (blocks : List BlockId)
     (books : List (BookState D)) (old new : S) (made : List (BookState D)) : Type 0 where
   pub blocks_are : blocks_of made ≡ blocks

@@ -4,7 +4,7 @@ ghost use Rattle.std.specs.Prelude.{◌≡◌, length, IfOk, IfErr, OnErr};
 ghost use Rattle.node_opening.specs.Closing.{AreLentOut, AreOf, faults_of};
 ghost use Rattle.hd_base.specs.Faults.{CarriesFaults};
 ghost use Rattle.node_restarts.specs.Faults.{HasRestartCause};
-ghost use Rattle.node_restarts.specs.Restarting.{AreTold, HasRestarted, AreGivenUp};
+ghost use Rattle.node_restarts.specs.Restarting.{HasRestarted, AreGivenUp};
 
 use crate::closing::close_books;
 use crate::faults::{RestartFault, of_scan};
@@ -16,7 +16,7 @@ use std::alloc::Global;
 
 /// Restarts a node over its shelf, between two events: its books are closed, the shelf is scanned, and the files of
 /// each block are lent again, over which the book is made of what was found of it. Each block stands once and is lent
-/// by the shelf, and each has a book, at its place. Shelf and books tell their files.
+/// by the shelf, and each has a book, at its place.
 ///
 /// After a fault the books are gone: none of the blocks is lent, and no other that wasn't before.
 pub fn restart_books<S: Shelf>(
@@ -28,7 +28,6 @@ pub fn restart_books<S: Shelf>(
     requires lent { AreLentOut S.Shelf shelf.old blocks.now }
     requires count { length books.items ≡ length blocks.now }
     requires of_blocks { AreOf blocks.now books.items }
-    requires told { AreTold S.Shelf S.Drawer.Files shelf.old books.items }
     ensures made { IfOk result (λ made.
         HasRestarted S.Shelf S.Drawer.Files blocks.now books.items shelf.old shelf.new made.items) }
     ensures given_up { OnErr result (AreGivenUp S.Shelf blocks.now shelf.old shelf.new) }

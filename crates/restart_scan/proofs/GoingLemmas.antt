@@ -16,7 +16,7 @@ use Rattle.restart_scan.specs.declared.shelves.Listed.{Listed}
 use Rattle.restart_scan.specs.declared.found.Seen.{Seen}
 use Rattle.restart_scan.specs.declared.found.Scanned.{Scanned}
 use Rattle.restart_scan.specs.Blocks.{ScansBlock}
-use Rattle.restart_scan.specs.Shelves.{IsPartly, OthersStay, ScansIn, StopsIn, WhereTold, seen_list, moved_list, seen_all, moved_all, block_numbered, IsOfNone, IsScanned, ScansAll, StopsAll, LendsNoMore, ScansNext, ScansBlocks}
+use Rattle.restart_scan.specs.Shelves.{IsPartly, OthersStay, ScansIn, StopsIn, WhereTold, seen_list, moved_list, seen_all, moved_all, block_numbered, IsOfNone, IsScanned, ScansAll, StopsAll, StaysUntold, LendsNoMore, ScansNext, ScansBlocks}
 use Rattle.restart_scan.proofs.DrawerLemmas.{risen_before, same_err}
 
 -- ---- blocks
@@ -237,11 +237,12 @@ at_same l k within = any l k 0 (get_or l k 0) within where
 
 -- the failed scan of a block, among those of all
 pub stops_all : {S D T : Type 0} (s : shelves.Ghosts S D) (blocks : List ℕ) (i b : ℕ) (old now new : S) (before after : Listed) (e : ScanFault) → IsStrictlyIncreasing blocks → i < length blocks → b ≡ get_or blocks i b
-    → GoingTold blocks i (s.files old) (s.files now) before.replicas.items before.moved.items → LendsNoMore (s.lent old) (s.lent now) → s.faults old ≤ s.faults now
+    → GoingTold blocks i (s.files old) (s.files now) before.replicas.items before.moved.items → StaysUntold (s.files old) (s.files now) → LendsNoMore (s.lent old) (s.lent now) → s.faults old ≤ s.faults now
     → ScansNext {T = T} s (block_numbered b) now new before after (Err e) → ScansBlocks s blocks old new (Err e)
-stops_all {S} {D} {T} s blocks i b old now new before after e up within is going lent later next = record {
+stops_all {S} {D} {T} s blocks i b old now new before after e up within is going untold lent later next = record {
   done = tt;
   in_part = stops_told blocks i b (s.files old) (s.files now) (s.files new) before.replicas.items before.moved.items up within is going next.stopped;
+  untold = λ none. next.untold (untold none);
   lent = λ c h. lent c (next.lent c h);
   cause = record {
     never_falls = omega (arith, later, next.cause.never_falls);
@@ -264,10 +265,11 @@ parts_told blocks i (Some m) c replicas moved all going =
 
 -- all blocks were scanned
 pub ends_all : {S D : Type 0} (s : shelves.Ghosts S D) (blocks : List ℕ) (i : ℕ) (old now : S) (listed : Listed) → length blocks ≤ i → GoingTold blocks i (s.files old) (s.files now) listed.replicas.items listed.moved.items
-    → LendsNoMore (s.lent old) (s.lent now) → s.faults old ≤ s.faults now → ScansBlocks s blocks old now (Ok listed)
-ends_all s blocks i old now listed all going lent later = record {
+    → StaysUntold (s.files old) (s.files now) → LendsNoMore (s.lent old) (s.lent now) → s.faults old ≤ s.faults now → ScansBlocks s blocks old now (Ok listed)
+ends_all s blocks i old now listed all going untold lent later = record {
   done = ends_told blocks i (s.files old) (s.files now) listed.replicas.items listed.moved.items all going;
   in_part = parts_told blocks i (s.files old) (s.files now) listed.replicas.items listed.moved.items all going;
+  untold = untold;
   lent = lent;
   cause = record { never_falls = later; file = λ e. absurd (no listed e) };
 } where

@@ -81,6 +81,10 @@ told_stopped block (Some m) middle first last n l k f r only is h =
       },
     )
 
+-- Where the shelf's files aren't observable, they aren't once the block is given back.
+stays_untold : (b : ℕ) (a middle last n : Option FileMap) → middle ≡ option_map (rest_of b) a → n ≡ both_observable middle last → a ≡ None → n ≡ None
+stays_untold b a middle last n r is none = is ∙ ap (λ (o : Option FileMap). both_observable o last) (r ∙ ap (option_map (rest_of b)) none)
+
 lends_no_more : (old middle new : ℕ → Bool) (b : ℕ) → middle ≡ marked old b true → new ≡ marked middle b false → LendsNoMore old new
 lends_no_more old middle new b f g c h = by (c == b) refl where
   here : new c ≡ cond (c == b) false (cond (c == b) true (old c))
@@ -102,6 +106,7 @@ pub block_scanned : {S D : Type 0} (s : shelves.Ghosts S D) (d : files.Ghosts D)
 block_scanned s d block old middle new first last (Ok x) f fresh rest lent count scan back unlent carries = record {
   done = told_done block (s.files old) (s.files middle) (d.files first) (d.files last) (s.files new) x f rest scan.only (back scan.only) scan.done;
   stopped = tt;
+  untold = stays_untold block.0 (s.files old) (s.files middle) (d.files last) (s.files new) rest (back scan.only);
   lent = lends_no_more (s.lent old) (s.lent middle) (s.lent new) block.0 lent unlent;
   cause = record { never_falls = omega (arith, count, carries.never_falls); file = λ e. absurd (no x e) };
 } where
@@ -110,6 +115,7 @@ block_scanned s d block old middle new first last (Ok x) f fresh rest lent count
 block_scanned s d block old middle new first last (Err e) f fresh rest lent count scan back unlent carries = record {
   done = tt;
   stopped = told_stopped block (s.files old) (s.files middle) (d.files first) (d.files last) (s.files new) (d.log first) (d.log last) f rest scan.only (back scan.only) scan.stopped;
+  untold = stays_untold block.0 (s.files old) (s.files middle) (d.files last) (s.files new) rest (back scan.only);
   lent = lends_no_more (s.lent old) (s.lent middle) (s.lent new) block.0 lent unlent;
   cause = record {
     never_falls = omega (arith, count, carries.never_falls);

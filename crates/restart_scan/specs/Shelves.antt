@@ -43,6 +43,10 @@ pub record StopsIn (block : BlockId) (old new : FileMap) : Type 0 where
 abbrev pub WhereTold : Option FileMap → Option FileMap → (FileMap → FileMap → Type 0) → Type 0
 WhereTold old new P = IfSome old (λ m. (n : FileMap) × (new ≡ Some n) × P m n)
 
+-- Where the files aren't observable before, they aren't afterwards.
+abbrev pub StaysUntold : Option FileMap → Option FileMap → Type 0
+StaysUntold old new = old ≡ None → new ≡ None
+
 -- no block is lent that wasn't
 abbrev pub LendsNoMore : (ℕ → Bool) → (ℕ → Bool) → Type 0
 LendsNoMore old new = (block : ℕ) → new block ≡ true → old block ≡ true
@@ -52,6 +56,7 @@ pub record ScansFrom {S D : Type 0} (s : shelves.Ghosts S D) (block : BlockId) (
     (result : Result Scanned ScanFault) : Type 0 where
   pub done : IfOk result (λ x. WhereTold (s.files old) (s.files new) (λ m n. ScansIn block m n x))
   pub stopped : OnErr result (WhereTold (s.files old) (s.files new) (StopsIn block))
+  pub untold : StaysUntold (s.files old) (s.files new)
   pub lent : LendsNoMore (s.lent old) (s.lent new)
   pub cause : ScansFor (s.faults old) (s.faults new) result
 
@@ -119,6 +124,7 @@ pub record ScansBlocks {S D : Type 0} (s : shelves.Ghosts S D) (blocks : List �
     : Type 0 where
   pub done : IfOk result (λ x. WhereTold (s.files old) (s.files new) (λ m n. ScansAll blocks m n x.replicas.items x.moved.items))
   pub in_part : WhereTold (s.files old) (s.files new) (StopsAll blocks)
+  pub untold : StaysUntold (s.files old) (s.files new)
   pub lent : LendsNoMore (s.lent old) (s.lent new)
   pub cause : ScansFor (s.faults old) (s.faults new) result
 
@@ -129,6 +135,7 @@ pub record ScansNext {S D T : Type 0} (s : shelves.Ghosts S D) (block : BlockId)
       × (after.replicas.items ≡ before.replicas.items ++ seen_list x.seen)
       × (after.moved.items ≡ before.moved.items ++ moved_list block x.is_moved))
   pub stopped : OnErr result (WhereTold (s.files old) (s.files new) (StopsIn block))
+  pub untold : StaysUntold (s.files old) (s.files new)
   pub lent : LendsNoMore (s.lent old) (s.lent new)
   pub cause : ScansFor (s.faults old) (s.faults new) result
 

@@ -2,7 +2,7 @@
 
 ghost use Rattle.std.specs.Prelude.{IfOk, OnErr};
 ghost use Rattle.restart_scan.specs.Faults.{ScansFor};
-ghost use Rattle.restart_scan.specs.Shelves.{WhereTold, LendsNoMore, ScansShelf, StopsShelf};
+ghost use Rattle.restart_scan.specs.Shelves.{WhereTold, StaysUntold, LendsNoMore, ScansShelf, StopsShelf};
 
 use crate::faults::ScanFault;
 use crate::found::Found;
@@ -23,6 +23,7 @@ pub fn scan<S: Shelf>(alloc: Global, shelf: &mut S) -> Result<Found, ScanFault>
     ensures done { IfOk result (λ found.
         WhereTold (S.files shelf.old) (S.files shelf.new) (λ m n. ScansShelf m n found)) }
     ensures stopped { OnErr result (WhereTold (S.files shelf.old) (S.files shelf.new) StopsShelf) }
+    ensures untold { StaysUntold (S.files shelf.old) (S.files shelf.new) }
     ensures lent { LendsNoMore (S.lent shelf.old) (S.lent shelf.new) }
     ensures cause { ScansFor (S.faults shelf.old) (S.faults shelf.new) result }
 {

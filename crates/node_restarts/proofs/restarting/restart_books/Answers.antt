@@ -27,7 +27,7 @@ returns-in-Err-clause-carried g c =
 pub lend_all-requires-clause-held : goal.lend_all-requires-clause-held
 lend_all-requires-clause-held g c κs within =
     subst (λ (rs : List Seen). IfSome (g.S.Shelf.files c.scan.new.shelf) (AllHeld rs)) (sym c.deref.ensures.value)
-    (held_after g.S.Shelf g.S.Drawer.Files c.args.blocks.now c.args.books.items c.args.shelf.now c.close_books.new.shelf c.scan.new.shelf c.in-Ok.found c.requires.of_blocks c.requires.told c.close_books.ensures.closes c.in-Ok.ensures.done)
+    (held_after (g.S.Shelf.files c.close_books.new.shelf) (g.S.Shelf.files c.scan.new.shelf) c.in-Ok.found c.in-Ok.ensures.done c.in-Ok.ensures.untold)
 
 pub returns-clause-made : goal.returns-clause-made
 returns-clause-made g c =
