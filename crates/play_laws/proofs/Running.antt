@@ -1,6 +1,6 @@
--- Nodes run on where no event stops one.
-use Rattle.std.proofs.Common.{◌≡◌, ℕ, ◌<◌, Bool, true, false, List, [], ◌∷◌, Option, Some, None, IfSome, refl, arith}
-use Rattle.std.specs.Prelude.{nat_lt}
+-- Nodes run on where no event stops one, and only nodes run.
+use Rattle.std.proofs.Common.{◌≡◌, ℕ, ◌<◌, Bool, true, false, List, [], ◌∷◌, Option, Some, None, IfSome, refl, sym, ◌∙◌, subst, eqb-true, arith}
+use Rattle.std.specs.Prelude.{◌==◌, ◌&&◌, not, nat_lt, if◌then◌else◌}
 use Rattle.std.proofs.lemmas.Bool.Decides.{nat_tests}
 use Rattle.world.specs.declared.events.Delivery.{Delivery}
 use Rattle.world.specs.declared.events.Delivery.TheVariants as delivery
@@ -8,23 +8,25 @@ use Rattle.world.specs.declared.events.Direction.{Direction}
 use Rattle.world.specs.declared.events.Direction.TheVariants as direction
 use Rattle.world.specs.declared.events.Event.{Event}
 use Rattle.world.specs.declared.events.Event.TheVariants as event
-use Rattle.world.specs.Worlds.{World, Change, apply, start}
+use Rattle.world.specs.declared.events.FoundReplica.{FoundReplica}
+use Rattle.world.specs.Worlds.{World, Change, apply, put, start}
 use Rattle.world.specs.Connections.{Next, next_down, next_up, down_taken, up_taken, is_served}
 use Rattle.world.specs.Nodes.{lower_down, lower_ready}
 use Rattle.world.specs.Primaries.{office_event}
-use Rattle.world.specs.Events.{changed, own_change, down_as, down_event, ready_event, upper_up, up_as, up_event, fault_event, lost, where_so, outcome, after_event, happens, run}
+use Rattle.world.specs.Events.{changed, own_change, down_as, down_event, ready_event, upper_up, up_as, up_event, fault_event, lost, stop, where_so, outcome, after_event, happens, run}
+use Rattle.world.specs.Restarts.{all_found, restart}
 use Rattle.world_laws.proofs.FactTables.{when-each}
-use Rattle.play_laws.specs.Nodes.{KeepsNodes, AllKeepNodes, NodesRun, AllRun}
+use Rattle.play_laws.specs.Nodes.{KeepsNodes, AllKeepNodes, NodesRun, AllRun, SameNodes, RunningStays, OnlyNodes, OnlyNodesRun}
 
-module _ (nodes : ℕ) where
+module _ (base : World) where
   abbrev Runs : World → Type 0
-  Runs w = NodesRun nodes w
+  Runs w = SameNodes base w
 
   -- CHANGES AND DELIVERIES
 
   apply-runs : (w : World) (k : Change) → Runs w → Runs (apply w k)
   unfolding apply
-  apply-runs w k h = record { nodes_are = h.nodes_are; runs = h.runs; first = h.first }
+  apply-runs w k h = record { nodes = h.nodes; running = h.running; lives = h.lives }
 
   changed-runs : (w : World) (o : Option Change) → Runs w → IfSome (changed w o) Runs
   changed-runs w None h = tt
@@ -32,11 +34,11 @@ module _ (nodes : ℕ) where
 
   down-taken-runs : (w : World) (c : ℕ) (x : Next) → Runs w → Runs (down_taken w c x)
   unfolding down_taken
-  down-taken-runs w c x h = record { nodes_are = h.nodes_are; runs = h.runs; first = h.first }
+  down-taken-runs w c x h = record { nodes = h.nodes; running = h.running; lives = h.lives }
 
   up-taken-runs : (w : World) (c : ℕ) (x : Next) → Runs w → Runs (up_taken w c x)
   unfolding up_taken
-  up-taken-runs w c x h = record { nodes_are = h.nodes_are; runs = h.runs; first = h.first }
+  up-taken-runs w c x h = record { nodes = h.nodes; running = h.running; lives = h.lives }
 
   down-as-runs : (w : World) (c : ℕ) (answered fails : Bool) (o : Option Next) → Runs w → IfSome (down_as w c answered fails o) Runs
   down-as-runs w c answered fails None h = tt
@@ -61,8 +63,8 @@ module _ (nodes : ℕ) where
   fault-runs w (delivery.Up c) h = up-runs w c.0 true h
 
   lost-runs : (w : World) (c : ℕ) (way : Direction) (more : ℕ) → Runs w → Runs (lost w c way more)
-  lost-runs w c direction.Down more h = record { nodes_are = h.nodes_are; runs = h.runs; first = h.first }
-  lost-runs w c direction.Up more h = record { nodes_are = h.nodes_are; runs = h.runs; first = h.first }
+  lost-runs w c direction.Down more h = record { nodes = h.nodes; running = h.running; lives = h.lives }
+  lost-runs w c direction.Up more h = record { nodes = h.nodes; running = h.running; lives = h.lives }
 
   where-runs : (test : Bool) (v : World) → Runs v → IfSome (where_so test v) Runs
   where-runs true v h = h
@@ -84,7 +86,7 @@ module _ (nodes : ℕ) where
 
   after-runs : (w : World) (e : Event) (o : Option World) → Runs w → IfSome o Runs → Runs (after_event w e o)
   after-runs w e None h n = h
-  after-runs w e (Some v) h n = record { nodes_are = n.nodes_are; runs = n.runs; first = n.first }
+  after-runs w e (Some v) h n = record { nodes = n.nodes; running = n.running; lives = n.lives }
 
   happens-runs : (w : World) (e : Event) → KeepsNodes e → Runs w → Runs (happens w e)
   unfolding happens
@@ -94,15 +96,87 @@ module _ (nodes : ℕ) where
   run-runs w [] k h = h
   run-runs w (e ∷ list) k h = run-runs (happens w e) list k.1 (happens-runs w e k.0 h)
 
-  below : (n : ℕ) → n < nodes → nat_lt n nodes ≡ true
-  below n l = grind (arith, nat_tests)
+pub running-stays : RunningStays
+running-stays w e k = happens-runs w w e k (record { nodes = refl; running = λ n. refl; lives = λ n. refl })
 
-  start-runs : Runs (start nodes)
-  unfolding start
-  start-runs = record { nodes_are = refl; runs = λ n l. below n l; first = λ n. refl }
-
-  pub all-runs : (list : List Event) → AllKeepNodes list → Runs (run (start nodes) list)
-  all-runs list k = run-runs (start nodes) list k start-runs
+below : (n nodes : ℕ) → n < nodes → nat_lt n nodes ≡ true
+below n nodes l = grind (arith, nat_tests)
 
 pub all-run : AllRun
-all-run nodes events k = all-runs nodes events k
+unfolding start
+all-run nodes events k =
+    let same : SameNodes (start nodes) (run (start nodes) events) = run-runs (start nodes) (start nodes) events k (record { nodes = refl; running = λ n. refl; lives = λ n. refl }) in
+    record { nodes_are = same.nodes; runs = λ n l. same.running n ∙ below n nodes l; first = λ n. same.lives n }
+
+-- ONLY NODES
+
+module _ (nodes : ℕ) where
+  abbrev Only : World → Type 0
+  Only w = OnlyNodes nodes w
+
+  only-same : (w v : World) → SameNodes w v → Only w → Only v
+  only-same w v s h = record { nodes_are = s.nodes ∙ h.nodes_are; within = λ n r. h.within n (sym (s.running n) ∙ r) }
+
+  put-false : (f : ℕ → Bool) (n m : ℕ) → put f n false m ≡ true → f m ≡ true
+  put-false f n m e = by (m == n) e
+    where
+      by : (b : Bool) → (if b then false else f m) ≡ true → f m ≡ true
+      by true e = cc
+      by false e = e
+
+  only-stopped : (w : World) (n : ℕ) → Only w → Only (stop w n)
+  only-stopped w n h = record { nodes_are = h.nodes_are; within = λ m r. h.within m (put-false w.running n m r) }
+
+  put-true : (f : ℕ → Bool) (n m : ℕ) → n < nodes → ((k : ℕ) → f k ≡ true → k < nodes) → put f n true m ≡ true → m < nodes
+  put-true f n m within h e = by (m == n) refl e
+    where
+      by : (b : Bool) → (m == n) ≡ b → (if b then true else f m) ≡ true → m < nodes
+      by true is e = subst (λ (k : ℕ). k < nodes) (sym (eqb-true m n is)) within
+      by false is e = h m e
+
+  only-restarted : (w : World) (n : ℕ) (list : List FoundReplica) → n < w.nodes → Only w → Only (restart w n list)
+  unfolding restart
+  only-restarted w n list within h = record { nodes_are = h.nodes_are; within = λ m r. put-true w.running n m (subst (λ (k : ℕ). n < k) h.nodes_are within) h.within r }
+
+  only-where : (test : Bool) (v : World) → (test ≡ true → Only v) → IfSome (where_so test v) Only
+  only-where true v h = h refl
+  only-where false v h = tt
+
+  only-outcome : (w : World) (e : Event) → Only w → IfSome (outcome w e) Only → Only (happens w e)
+  unfolding happens
+  only-outcome w e h o = by (outcome w e) o
+    where
+      by : (x : Option World) → IfSome x Only → Only (after_event w e x)
+      by None n = h
+      by (Some v) n = record { nodes_are = n.nodes_are; within = n.within }
+
+  lt-so : (a b : Bool) (n m : ℕ) → (nat_lt n m && a && b) ≡ true → n < m
+  lt-so a b n m e = grind (arith, nat_tests, e)
+
+  only-happens : (w : World) (e : Event) → Only w → Only (happens w e)
+  unfolding outcome
+  only-happens w (event.Stop n) h = only-outcome w (event.Stop n) h (only-where (w.running n.0) (stop w n.0) (λ _. only-stopped w n.0 h))
+  only-happens w (event.Restart n list) h =
+      only-outcome w (event.Restart n list) h (only-where (nat_lt n.0 w.nodes && not (w.running n.0) && all_found w n.0 list) (restart w n.0 list)
+      (λ so. only-restarted w n.0 list (lt-so (not (w.running n.0)) (all_found w n.0 list) n.0 w.nodes so) h))
+  only-happens w (event.Own s) h = only-same w (happens w (event.Own s)) (running-stays w (event.Own s) tt) h
+  only-happens w (event.Office c) h = only-same w (happens w (event.Office c)) (running-stays w (event.Office c) tt) h
+  only-happens w (event.Down c answered) h = only-same w (happens w (event.Down c answered)) (running-stays w (event.Down c answered) tt) h
+  only-happens w (event.Ready c) h = only-same w (happens w (event.Ready c)) (running-stays w (event.Ready c) tt) h
+  only-happens w (event.Up c) h = only-same w (happens w (event.Up c)) (running-stays w (event.Up c) tt) h
+  only-happens w (event.Lost c way more) h = only-same w (happens w (event.Lost c way more)) (running-stays w (event.Lost c way more) tt) h
+  only-happens w (event.Fault d) h = only-same w (happens w (event.Fault d)) (running-stays w (event.Fault d) tt) h
+
+  only-run : (w : World) (events : List Event) → Only w → Only (run w events)
+  only-run w [] h = h
+  only-run w (e ∷ events) h = only-run (happens w e) events (only-happens w e h)
+
+  only-start : Only (start nodes)
+  unfolding start
+  only-start = record { nodes_are = refl; within = λ n e. lt-true n nodes e }
+    where
+      lt-true : (n m : ℕ) → nat_lt n m ≡ true → n < m
+      lt-true n m e = grind (arith, nat_tests, e)
+
+pub only-nodes-run : OnlyNodesRun
+only-nodes-run nodes events = only-run nodes (start nodes) events (only-start nodes)

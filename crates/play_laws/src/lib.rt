@@ -5,7 +5,7 @@
 ghost use Rattle.play_laws.specs.Early.{NothingEarly};
 ghost use Rattle.play_laws.specs.Intakes.{OwnStepsKeepIntakes, HearingKeepsIntakes};
 ghost use Rattle.play_laws.specs.Members.{MembersAre, TargetsAre};
-ghost use Rattle.play_laws.specs.Nodes.{AllRun};
+ghost use Rattle.play_laws.specs.Nodes.{AllRun, OnlyNodesRun, RunningStays};
 ghost use Rattle.play_laws.specs.Stamps.{StampsAreFew};
 ghost use Rattle.play_laws.specs.Taking.{CommandsTaken, CreatesFirst, UnmadeAreFresh};
 ghost use Rattle.play_laws.specs.Untold.{StaysQuiet};
@@ -30,6 +30,16 @@ pub fn nothing_comes_early()
 /// Where no event stops a node or starts one again, all nodes run in their first life.
 pub fn nodes_run()
     ensures { AllRun }
+{}
+
+/// An event that stops no node and starts none again leaves it as it is whether each node runs.
+pub fn running_stays()
+    ensures { RunningStays }
+{}
+
+/// As many nodes as there are from the start stay, and nothing else ever runs.
+pub fn only_nodes_run()
+    ensures { OnlyNodesRun }
 {}
 
 /// Where each command that a writer takes names only nodes of the world, so are the members of each writer.
