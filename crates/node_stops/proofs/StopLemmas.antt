@@ -16,7 +16,7 @@ use Rattle.pipe_member.specs.declared.member.Member.{Member}
 use Rattle.road_traffic.specs.Showing.{Net}
 use Rattle.road_traffic.proofs.ShowingLemmas.{roads-listened}
 use Rattle.world.specs.declared.events.Event.TheVariants as event
-use Rattle.world.specs.Events.{stop}
+use Rattle.world.specs.Events.{stop, happens}
 use Rattle.world.specs.Parts as parts
 use Rattle.world.specs.Parts.{FullMember, by_writer, by_member, by_reader, by_primary, idle, writes, serves, recovers, ended_below}
 use Rattle.world.specs.Worlds.{World}
@@ -33,13 +33,13 @@ use Rattle.play_nodes.specs.declared.connections.Lower.TheVariants as lower
 use Rattle.play_nodes.specs.declared.connections.Upper.{Upper}
 use Rattle.play_nodes.specs.declared.connections.Upper.TheVariants as upper
 use Rattle.play_nodes.specs.declared.nodes.Nodes.{Nodes}
-use Rattle.play_nodes.specs.Places.{book_at, book_counts, with_lower}
+use Rattle.play_nodes.specs.Places.{book_at, with_lower}
 use Rattle.play_nodes.specs.Showing.{UpperShows, has_events, LowerShows, ConnectionShows, NodesShow, NodesStand, NodesLeft}
 use Rattle.play_model.specs.Dues.{is_open}
 use Rattle.node_stops.specs.Connections.{is_taken_at, is_at}
 use Rattle.node_stops.specs.Cutting.{all_cut_net, AllCutShows}
 use Rattle.node_stops.specs.Ending.{is_ended, is_left_by, is_left, is_gone, EndsStand, EndsLeft, ended_at, AllEnd}
-use Rattle.node_stops.specs.Stopping.{CanStop, StopLeft, StopEnds}
+use Rattle.node_stops.specs.Stopping.{CanStop, StopEnds}
 use Rattle.node_stops.proofs.ConnectionLemmas.{of_node}
 use Rattle.node_stops.proofs.CutLemmas.{or_here, or_there, nets_cut, ends_cut}
 use Rattle.node_stops.proofs.EndLemmas.{same_some}
@@ -254,14 +254,11 @@ module _ {F R I O : Type 0} (r : roads.Ghosts R I O) (i : link_in.Ghosts I) (o :
     writers = λ b d e is h. stays d false e (writer_left b d is) h;
   }
 
-  pub stop_left : StopLeft r i o w net node n new road'
-  stop_left = record {
-    left = subst (λ (x : World). NodesLeft r i o w net x road' new) (sym (stop_is w node can.runs)) left_so;
-    sizes = record { blocks = ended.blocks; books = ap book_counts ended.nodes };
-  }
+  pub stop_left : NodesLeft r i o w net (happens w (event.Stop node)) road' new
+  stop_left = subst (λ (x : World). NodesLeft r i o w net x road' new) (sym (stop_is w node can.runs)) left_so
 
 -- Memory ran out where the ends were brought back, or they all were.
 pub stop_ends : {F R I O : Type 0} (r : roads.Ghosts R I O) (i : link_in.Ghosts I) (o : link_out.Ghosts O) (node : NodeId) (w : World) (net : Net) (n new : Nodes F I O) (hung road' : R) (result : Result (Unit {0}) AllocError)
-    → OnOk result (AllEnd r i o node n new hung road') → (AllEnd r i o node n new hung road' → StopLeft r i o w net node n new road') → StopEnds r i o w net node n new road' result
+    → OnOk result (AllEnd r i o node n new hung road') → (AllEnd r i o node n new hung road' → NodesLeft r i o w net (happens w (event.Stop node)) road' new) → StopEnds r i o w net node new road' result
 stop_ends r i o node w net n new hung road' (Ok u) ended so = so ended
 stop_ends r i o node w net n new hung road' (Err e) ended so = tt

@@ -13,7 +13,6 @@ use Rattle.world_laws.specs.Placing.{Placed}
 use Rattle.world_orders.specs.Orders.{Ordered}
 use Rattle.world_stops.specs.Origins.{AllAreFrom}
 use Rattle.play_nodes.specs.declared.nodes.Nodes.{Nodes}
-use Rattle.play_nodes.specs.Places.{KeepsSizes}
 use Rattle.play_nodes.specs.Showing.{NodesStand, NodesLeft}
 
 -- A node that runs may stop. Every index is in range (indices_are_in_range), messages come in order
@@ -25,18 +24,13 @@ pub record CanStop (w : World) (node : NodeId) : Type 0 where
   pub from : AllAreFrom w
 
 -- The nodes and the roads show the world in which the node stops, and the ends of writers stay; or memory ran out.
-pub record StopLeft {F R I O : Type 0} (r : roads.Ghosts R I O) (i : link_in.Ghosts I) (o : link_out.Ghosts O)
-    (w : World) (net : Net) (node : NodeId) (old new : Nodes F I O) (road' : R) : Type 0 where
-  pub left : NodesLeft r i o w net (happens w (event.Stop node)) road' new
-  pub sizes : KeepsSizes old new
-
 abbrev pub StopEnds : {F R I O : Type 0} → roads.Ghosts R I O → link_in.Ghosts I → link_out.Ghosts O → World → Net →
-    NodeId → Nodes F I O → Nodes F I O → R → Result (Unit {0}) AllocError → Type 0
-StopEnds r i o w net node old new road' (Ok u) = StopLeft r i o w net node old new road'
-StopEnds r i o w net node old new road' (Err e) = Unit {0}
+    NodeId → Nodes F I O → R → Result (Unit {0}) AllocError → Type 0
+StopEnds r i o w net node new road' (Ok u) = NodesLeft r i o w net (happens w (event.Stop node)) road' new
+StopEnds r i o w net node new road' (Err e) = Unit {0}
 
 abbrev pub StopShows : {F R I O : Type 0} → roads.Ghosts R I O → link_in.Ghosts I → link_out.Ghosts O → NodeId →
     Nodes F I O → Nodes F I O → R → R → Result (Unit {0}) AllocError → Type 0
 StopShows r i o node old new road road' result =
     (w : World) (net : Net) → NodesStand r i o w net road old → CanStop w node
-    → StopEnds r i o w net node old new road' result
+    → StopEnds r i o w net node new road' result

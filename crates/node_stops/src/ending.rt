@@ -3,6 +3,7 @@
 ghost use Rattle.std.specs.Prelude.{◌≡◌, ◌≤◌, ◌<◌, length, OnOk, slice_get};
 ghost use Rattle.hd_base.specs.Ends.{KeepsConnections};
 ghost use Rattle.play_nodes.specs.declared.connections.Lower.TheVariants as Lower;
+ghost use Rattle.play_nodes.specs.Places.{KeepsSizes};
 ghost use Rattle.node_stops.specs.Ending.{AllKnown, AllEnd, Ends, EndsAt, LowerIsKnown};
 
 use hd_base::{Files, LinkIn, LinkOut, NodeId, Roads};
@@ -21,6 +22,7 @@ pub(crate) fn end_all<F: Files, I: LinkIn, O: LinkOut, R: Roads<Inward = I, Outw
 ) -> Result<(), AllocError>
     requires { AllKnown (R.plain roads.old) nodes.old }
     ensures ended { OnOk result (AllEnd R.Roads I.LinkIn O.LinkOut node nodes.old nodes.new roads.old roads.new) }
+    ensures sizes { KeepsSizes nodes.old nodes.new }
     ensures connections { KeepsConnections (R.plain roads.old) (R.plain roads.new) }
     ensures faults { R.faults roads.old ≤ R.faults roads.new }
 {
@@ -45,6 +47,7 @@ fn end_at<F: Files, I: LinkIn, O: LinkOut, R: Roads<Inward = I, Outward = O>>(
     requires within { index < length nodes.old.connections.items }
     requires known { AllKnown (R.plain roads.old) nodes.old }
     ensures ends { OnOk result (EndsAt R.Roads I.LinkIn O.LinkOut node index nodes.old nodes.new roads.old roads.new) }
+    ensures sizes { KeepsSizes nodes.old nodes.new }
     ensures connections { KeepsConnections (R.plain roads.old) (R.plain roads.new) }
     ensures faults { R.faults roads.old ≤ R.faults roads.new }
 {

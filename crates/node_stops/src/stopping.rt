@@ -3,6 +3,7 @@
 ghost use Rattle.std.specs.Prelude.{◌<◌};
 ghost use Rattle.hd_base.specs.declared.roads.TheConstants.{MAX_NODES};
 ghost use Rattle.member_events.specs.Roads.{RoadsPass};
+ghost use Rattle.play_nodes.specs.Places.{KeepsSizes};
 ghost use Rattle.play_nodes.specs.Showing.{Stand};
 ghost use Rattle.node_stops.specs.Stopping.{StopShows};
 
@@ -27,6 +28,7 @@ pub fn stop_node<F: Files, I: LinkIn, O: LinkOut, R: CutRoads<Inward = I, Outwar
     requires in_range { node.0 < MAX_NODES }
     requires stand { Stand R.Roads I.LinkIn O.LinkOut roads.old nodes.old }
     ensures shows { StopShows R.Roads I.LinkIn O.LinkOut node nodes.old nodes.new roads.old roads.new result }
+    ensures sizes { KeepsSizes nodes.old nodes.new }
     ensures pass { RoadsPass R.Roads roads.old roads.new }
 {
     cuts_are_losses();

@@ -2,6 +2,7 @@
 use Rattle.std.proofs.Common.{arith}
 use Rattle.node_stops.proofs.CutLemmas.{keeps_keep}
 use Rattle.node_stops.proofs.EndLemmas.{ending_none, ending_next, ending_all}
+use Rattle.play_nodes.proofs.SizeLaws.{sizes_after, sizes_by}
 use Rattle.node_stops.proofs.ending.end_all.Goals as goal
 
 pub loop-index-init : goal.loop-index-init
@@ -34,3 +35,10 @@ returns-clause-connections g c = c.loop-index.invariant.keeps
 
 pub returns-clause-faults : goal.returns-clause-faults
 returns-clause-faults g c = c.loop-index.invariant.later
+
+pub returns-in_err-end_at-clause-sizes : goal.returns-in_err-end_at-clause-sizes
+returns-in_err-end_at-clause-sizes g c =
+    sizes_after c.args.nodes.now c.loop-index.nodes c.end_at.new.nodes (sizes_by c.args.nodes.now c.loop-index.nodes c.loop-index.invariant.blocks c.loop-index.invariant.nodes) c.end_at.ensures.sizes
+
+pub returns-clause-sizes : goal.returns-clause-sizes
+returns-clause-sizes g c = sizes_by c.args.nodes.now c.loop-index.nodes c.loop-index.invariant.blocks c.loop-index.invariant.nodes
