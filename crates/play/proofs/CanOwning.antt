@@ -5,7 +5,7 @@ use Rattle.hd_base.specs.declared.links.LinkIn as link_in
 use Rattle.hd_base.specs.declared.links.LinkOut as link_out
 use Rattle.hd_base.specs.declared.numbers.ConnId.{ConnId}
 use Rattle.hd_base.specs.declared.numbers.NodeId.{NodeId}
-use Rattle.hd_base.specs.declared.roads.TheConstants.{FIRST_PORT}
+use Rattle.hd_base.specs.declared.roads.TheConstants.{FIRST_PORT, MAX_NODES}
 use Rattle.member_core.specs.declared.requests.TheConstants.{MAX_PORT}
 use Rattle.road_traffic.specs.Showing.{Net}
 use Rattle.writer_core.specs.declared.actions.Action.{Action}
@@ -113,7 +113,7 @@ first_of x command.Hflush j k same made e = tt
 first_of x command.Hsync j k same made e = tt
 first_of x command.Close j k same made e = tt
 
-module _ {F I O : Type 0} (i : link_in.Ghosts I) (o : link_out.Ghosts O) (L : Laws) (nodes : ℕ) (p : Player F I O) (h : EventsFit nodes p.nodes.blocks.items p.events.items) (ports : FIRST_PORT + nodes ≤ MAX_PORT) where
+module _ {F I O : Type 0} (i : link_in.Ghosts I) (o : link_out.Ghosts O) (L : Laws) (nodes : ℕ) (p : Player F I O) (h : EventsFit nodes p.nodes.blocks.items p.events.items) (few : nodes ≤ MAX_NODES) where
   -- the world of the play
   abbrev here : World
   here = world_of nodes p
@@ -164,19 +164,15 @@ module _ {F I O : Type 0} (i : link_in.Ghosts I) (o : link_out.Ghosts O) (L : La
 
     -- SETUPS
 
-    member_runs : (first : NodeId) → slice_get known.members 0 ≡ Some first → first.0 < nodes
-    member_runs first at = L.members nodes p.events.items c.block.0 h.names 0 first at
-
-    first_runs : (x : Option NodeId) → slice_get known.members 0 ≡ x → IfSome x (λ first. here.running first.0 ≡ true)
-    first_runs None at = tt
-    first_runs (Some first) at = (L.run nodes p.events.items h.runs).runs first.0 (member_runs first at)
+    member_within : (first : NodeId) → slice_get known.members 0 ≡ Some first → first.0 < nodes
+    member_within first at = L.members nodes p.events.items c.block.0 h.names 0 first at
 
     port_within : (n : ℕ) → n < nodes → FIRST_PORT + n ≤ MAX_PORT
-    port_within n within = omega (arith, within, ports)
+    port_within n within = omega (arith, within, few)
 
     first_port : (x : Option NodeId) → slice_get known.members 0 ≡ x → IfSome x (λ first. FIRST_PORT + first.0 ≤ MAX_PORT)
     first_port None at = tt
-    first_port (Some first) at = port_within first.0 (member_runs first at)
+    first_port (Some first) at = port_within first.0 (member_within first at)
 
     can_ask_first : (next : ConnId) → next.0 ≡ here.next_conn → IsWanted known.phase → CanAskFirst here c.block next
     can_ask_first next at wanted = record {
@@ -184,7 +180,6 @@ module _ {F I O : Type 0} (i : link_in.Ghosts I) (o : link_out.Ghosts O) (L : La
       undialled = (L.undialled nodes p.events.items next.0 (subst (λ (n : ℕ). here.next_conn ≤ n) (sym at) (omega arith))).lower;
       members = rest.members (wanted_needs known.phase wanted);
       no_command = no_command (is_none known.waiting) known.queue rest.queue;
-      runs = first_runs (slice_get known.members 0) refl;
       has_port = first_port (slice_get known.members 0) refl;
       spelled = λ k x found. (spelled L nodes p h (asking c.block.0 ∷ acting c.block.0 None ∷ []) (tt, (fits.width, tt)) (omega arith)).downs next.0 k x found;
     }

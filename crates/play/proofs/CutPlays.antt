@@ -93,7 +93,7 @@ module _ {F R I O : Type 0} (f : files.Ghosts F) (r : roads.Ghosts R I O) (i : l
 
     shows_there : PlayerShows r i o there made queues road' old
     unfolding left
-    shows_there = same_left f r i o here there s.net queues old old.nodes (event.Lost conn direction.Up up) road road' clients_stay s.shows (L.ordered nodes old.events.items) (writers_kept here there conn.0 down up net_so.is) left
+    shows_there = same_left f r i o here there s.net queues old old.nodes (event.Lost conn direction.Up up) road road' clients_stay s.shows (L.ordered nodes old.events.items) (writers_kept here there conn.0 down up net_so.is) (nodes_kept here there conn.0 down up net_so.is).running left
 
     module _ (new : Player F I O) (same : new ≡ record old { events = new.events }) (more : new.events.items ≡ old.events.items ++ losses conn down up) where
       world_is : world_of nodes new ≡ there
@@ -114,11 +114,11 @@ module _ {F R I O : Type 0} (f : files.Ghosts F) (r : roads.Ghosts R I O) (i : l
       stands_there = record {
         net = made;
         shows = subst (λ (v : World). PlayerShows r i o v made queues road' (record old { events = new.events })) (sym world_is)
-            (record { nodes = shows_there.nodes; clients = shows_there.clients; apart = shows_there.apart; office = shows_there.office });
-        ports = s.ports;
+            (record { nodes = shows_there.nodes; clients = shows_there.clients; apart = shows_there.apart; office = shows_there.office; running = shows_there.running });
+        few = s.few;
         events = subst (λ (es : List Event). EventsFit nodes old.nodes.blocks.items es) (sym more)
             (fits_more nodes old.nodes.blocks.items old.events.items (losses conn down up) s.events
-            (record { widths = (tt, (tt, tt)); runs = (tt, (tt, tt)); names = (tt, (tt, tt)); among = (tt, (tt, tt)) }));
+            (record { widths = (tt, (tt, tt)); names = (tt, (tt, tt)); among = (tt, (tt, tt)) }));
         clients = λ k c at. subst (λ (v : World). ClientFits nodes old.nodes.blocks.items v c) (sym world_is) (fits_there c (s.clients k c at));
         connected = λ b c has. s.connected b c (sym (ap (λ (x : Writing). x.conn) (writer_is b)) ∙ (sym (ap (λ (v : World). (v.writers b).conn) world_is) ∙ has));
       }

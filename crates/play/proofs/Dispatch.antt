@@ -63,7 +63,7 @@ module _ {F R I O : Type 0} (f : files.Ghosts F) (r : roads.Ghosts R I O) (i : l
       let client : IsClient i o w s.net queues k.client = s.shows.clients place k.client k.found in
       let is' : is_due w queues (due.Own k.client.block) ≡ true = subst (λ (b : BlockId). is_due w queues (due.Own b) ≡ true) (sym k.block) is in
       let ends : PlayEnds f r i o w queues (due.Own k.client.block) old new road road' result =
-      shows w s.net queues k.client s.shows k.found (L.ordered nodes old.events.items) is' (can_own i o L nodes old s.events s.ports s.net queues k.client client (s.clients place k.client k.found) is' (record { 0 = w.next_conn }) refl) in
+      shows w s.net queues k.client s.shows k.found (L.ordered nodes old.events.items) is' (can_own i o L nodes old s.events s.few s.net queues k.client client (s.clients place k.client k.found) is' (record { 0 = w.next_conn }) refl) in
       happened_so r i o L nodes queues old road s f (due.Own block) is actor new road' result (subst (λ (b : BlockId). PlayEnds f r i o w queues (due.Own b) old new road road' result) k.block ends)
 
   -- WHAT COMES DOWN
@@ -72,7 +72,7 @@ module _ {F R I O : Type 0} (f : files.Ghosts F) (r : roads.Ghosts R I O) (i : l
   begins conn idle first tells shows = λ nodes queues s is actor.
       let w : World = world_of nodes old in
       happened_so r i o L nodes queues old road s f (due.Down conn) is actor new road' result
-      (shows w s.net queues s.shows (can_begin L nodes old s.events conn s.ports) is (subst (λ (b : Bool). IdleIs b w conn.0) first (tells w s.net queues s.shows.nodes.nodes_are is)))
+      (shows w s.net queues s.shows (can_begin L nodes old s.events conn) is (subst (λ (b : Bool). IdleIs b w conn.0) first (tells w s.net queues s.shows.nodes.nodes_are is)))
 
   pub members : (conn : ConnId) (idle : Bool) → idle ≡ false → TellsIdle i o conn old.nodes idle → DownShows f r i o conn old new road road' result → HappenShows f r i o (due.Down conn) old new road road' result
   members conn idle first tells shows = λ nodes queues s is actor.

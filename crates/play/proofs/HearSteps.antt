@@ -1,5 +1,5 @@
 -- What a writer hears, and what it leaves of the nodes and the other clients.
-use Rattle.std.proofs.Common.{◌≡◌, ◌≢◌, inl, inr, ℕ, zero, suc, true, false, List, [], ◌∷◌, ◌++◌, slice_get, slice_set, Option, Some, None, IfSome, Result, Ok, Err, refl, sym, ap, ◌∙◌, subst}
+use Rattle.std.proofs.Common.{◌≡◌, ◌≢◌, inl, inr, ℕ, zero, suc, Bool, true, false, List, [], ◌∷◌, ◌++◌, slice_get, slice_set, Option, Some, None, IfSome, Result, Ok, Err, refl, sym, ap, ◌∙◌, subst}
 use Rattle.hd_base.specs.declared.files.Files as files
 use Rattle.hd_base.specs.declared.links.LinkIn as link_in
 use Rattle.hd_base.specs.declared.links.LinkOut as link_out
@@ -33,7 +33,7 @@ use Rattle.play_clients.specs.Events as clients
 use Rattle.play_clients.specs.Others.{KeepsOthers, TakesThere, HearingKeeps}
 use Rattle.play_clients.specs.Staying.{KeepsClient, ClientsStay}
 use Rattle.play_nodes.specs.declared.nodes.Nodes.{Nodes}
-use Rattle.play_nodes.specs.Showing.{NodesShow}
+use Rattle.play_nodes.specs.Showing.{runs_in, NodesShow}
 use Rattle.play_nodes.specs.Frames.{HearKeeps, HeardKeeps, NodesStay, NodesEndsStay}
 use Rattle.play_nodes.proofs.MemberNodes.{known}
 use Rattle.play_nodes.proofs.Tables.{SetOr, set_or}
@@ -159,9 +159,9 @@ module _ {F R I O D : Type 0} (f : files.Ghosts F) (r : roads.Ghosts R I O) (i :
   }
 
   pub heard_shows : (conn : ConnId) (place : ℕ) (old mid : Player F I O) (c c' : Client I O) (w : World) (net : Net) (queues : Queues) (road road' : R) (desk : D) → d.office desk ≡ Some mid.office.office
-      → ClientsStay i o → NodesStay f i o → NodesEndsStay i o → HearingKeeps → HeardKeeps → PlayerShows r i o w net queues road old → slice_get old.clients.items place ≡ Some c → IsReplaced old mid place c c' → Ordered w → (w.dialled conn.0).upper ≡ by_writer c.block.0
+      → ClientsStay i o → NodesStay f i o → NodesEndsStay i o → HearingKeeps → HeardKeeps → PlayerShows r i o w net queues road old → mid.running.items ≡ old.running.items → slice_get old.clients.items place ≡ Some c → IsReplaced old mid place c c' → Ordered w → (w.dialled conn.0).upper ≡ by_writer c.block.0
       → (left : clients.HearLeft d r i o w net (happens w (event.Up conn)) c c' desk road') → PlayerShows r i o (happens w (event.Up conn)) left.made queues road' mid
-  heard_shows conn place old mid c c' w net queues road road' desk office_at stay nodes_stay ends_stay hearing heard p at h ordered upper left =
+  heard_shows conn place old mid c c' w net queues road road' desk office_at stay nodes_stay ends_stay hearing heard p running at h ordered upper left =
       let v : World = happens w (event.Up conn) in
       let k : KeepsOthers w v c.block.0 × TakesThere w v conn.0 = hearing w conn c.block.0 upper in
       let n : HearKeeps w v = heard w conn c.block.0 upper in
@@ -176,6 +176,7 @@ module _ {F R I O D : Type 0} (f : files.Ghosts F) (r : roads.Ghosts R I O) (i :
         });
         apart = still_apart old mid place c c' h at p.apart;
         office = some_same mid.office.office v.office (sym office_at ∙ left.left.stands.office_is);
+        running = λ m. ap (λ (xs : List Bool). runs_in xs m) running ∙ (p.running m ∙ sym (n.keeps.running m));
       }
     where
       some_same : (a b : OfficeState) → Some a ≡ Some b → a ≡ b
@@ -189,31 +190,31 @@ module _ {F R I O D : Type 0} (f : files.Ghosts F) (r : roads.Ghosts R I O) (i :
   pub same_client : (a b : Client I O) → Some a ≡ Some b → a ≡ b
   same_client a b e = cc
 
-  heard_as : (conn : ConnId) (place : ℕ) (old mid new : Player F I O) (c c' : Client I O) (w : World) (net : Net) (queues : Queues) (road road' : R) (desk desk' : D) → d.office desk ≡ Some old.office.office → d.office desk' ≡ Some mid.office.office → clients.HearKeepsOffice d r i o c desk desk' road → mid.nodes ≡ old.nodes
+  heard_as : (conn : ConnId) (place : ℕ) (old mid new : Player F I O) (c c' : Client I O) (w : World) (net : Net) (queues : Queues) (road road' : R) (desk desk' : D) → d.office desk ≡ Some old.office.office → d.office desk' ≡ Some mid.office.office → clients.HearKeepsOffice d r i o c desk desk' road → mid.nodes ≡ old.nodes → mid.running.items ≡ old.running.items
       → mid.clients.items ≡ slice_set old.clients.items place c' → mid.events.items ≡ old.events.items → ClientsStay i o → NodesStay f i o → NodesEndsStay i o → HearingKeeps → HeardKeeps → slice_get old.clients.items place ≡ Some c → clients.HearShows d r i o c c' desk road road' (Ok tt)
       → IsKept mid new (event.Up conn) → PlayerShows r i o w net queues road old → clients.HearIsLawful w c.block.0 → is_due w queues (due.Up conn) ≡ true → (w.dialled conn.0).upper ≡ by_writer c.block.0 → clients.AcceptedIsQuiet w c.block.0
       → PlayerLeft r i o w queues (due.Up conn) old new road'
-  heard_as conn place old mid new c c' w net queues road road' desk desk' office_old office_mid same nodes set events stay nodes_stay ends_stay hearing heard at shows kept p lawful is upper quiet =
+  heard_as conn place old mid new c c' w net queues road road' desk desk' office_old office_mid same nodes running set events stay nodes_stay ends_stay hearing heard at shows kept p lawful is upper quiet =
       let stands : ClientStands d r i o w net c desk road = record { roads_are = p.nodes.roads_are; client_is = (p.clients place c at).shows; office_is = office_old ∙ ap (λ (x : OfficeState). Some x) p.office } in
       let left : clients.HearLeft d r i o w net (happens w (event.Up conn)) c c' desk road' = shows w net queues conn stands lawful is upper quiet in
       let now : d.office desk ≡ Some mid.office.office = sym (ap (λ (x : D). d.office x) (same w net queues conn stands lawful is upper quiet)) ∙ office_mid in
       let q : PlayerShows r i o (happens w (event.Up conn)) left.made queues road' mid =
-      heard_shows conn place old mid c c' w net queues road road' desk now stay nodes_stay ends_stay hearing heard p at (record { nodes = nodes; clients = set; block = left.left.block; rule = left.left.rule }) lawful.ordered upper left in
+      heard_shows conn place old mid c c' w net queues road road' desk now stay nodes_stay ends_stay hearing heard p running at (record { nodes = nodes; clients = set; block = left.left.block; rule = left.left.rule }) lawful.ordered upper left in
       record {
         made = left.made;
-        shows = subst (λ (x : Player F I O). PlayerShows r i o (happens w (event.Up conn)) left.made queues road' x) (sym kept.same) (record { nodes = q.nodes; clients = q.clients; apart = q.apart; office = q.office });
+        shows = subst (λ (x : Player F I O). PlayerShows r i o (happens w (event.Up conn)) left.made queues road' x) (sym kept.same) (record { nodes = q.nodes; clients = q.clients; apart = q.apart; office = q.office; running = q.running });
         events = kept.events ∙ ap (λ (es : List Event). es ++ event.Up conn ∷ []) events;
         places = subst (λ (u : Option ℕ). KeepsPlaces u old new) (sym (ap writer_at upper)) (same_places (Some c.block.0) old mid new (event.Up conn) kept (kept_places old mid place c c' (record { nodes = nodes; clients = set; block = left.left.block; rule = left.left.rule }) at));
       }
 
-  pub heard_left : (conn : ConnId) (place : ℕ) (old mid new : Player F I O) (c c' : Client I O) (road road' : R) (desk desk' : D) (result : Result (Unit {0}) PlayFault) → d.office desk ≡ Some old.office.office → d.office desk' ≡ Some mid.office.office → clients.HearKeepsOffice d r i o c desk desk' road → mid.nodes ≡ old.nodes
+  pub heard_left : (conn : ConnId) (place : ℕ) (old mid new : Player F I O) (c c' : Client I O) (road road' : R) (desk desk' : D) (result : Result (Unit {0}) PlayFault) → d.office desk ≡ Some old.office.office → d.office desk' ≡ Some mid.office.office → clients.HearKeepsOffice d r i o c desk desk' road → mid.nodes ≡ old.nodes → mid.running.items ≡ old.running.items
       → mid.clients.items ≡ slice_set old.clients.items place c' → mid.events.items ≡ old.events.items → ClientsStay i o → NodesStay f i o → NodesEndsStay i o → HearingKeeps → HeardKeeps → slice_get old.clients.items place ≡ Some c → clients.HearShows d r i o c c' desk road road' (Ok tt)
       → Keeps mid new (event.Up conn) result → HeardShows f r i o conn place old new road road' result
-  heard_left conn place old mid new c c' road road' desk desk' (Ok u) office_old office_mid same nodes set events stay nodes_stay ends_stay hearing heard at shows kept = λ w net queues a p at_a.
+  heard_left conn place old mid new c c' road road' desk desk' (Ok u) office_old office_mid same nodes running set events stay nodes_stay ends_stay hearing heard at shows kept = λ w net queues a p at_a.
       subst (λ (y : Client I O). clients.HearIsLawful w y.block.0 → is_due w queues (due.Up conn) ≡ true → (w.dialled conn.0).upper ≡ by_writer y.block.0 → clients.AcceptedIsQuiet w y.block.0 → PlayerLeft r i o w queues (due.Up conn) old new road')
       (same_client c a (sym at ∙ at_a))
-      (λ lawful is upper quiet. heard_as conn place old mid new c c' w net queues road road' desk desk' office_old office_mid same nodes set events stay nodes_stay ends_stay hearing heard at shows kept p lawful is upper quiet)
-  heard_left conn place old mid new c c' road road' desk desk' (Err why) office_old office_mid same nodes set events stay nodes_stay ends_stay hearing heard at shows kept = λ w net queues a p at_a lawful is upper quiet. out_of_memory f r i o old new road road' why kept
+      (λ lawful is upper quiet. heard_as conn place old mid new c c' w net queues road road' desk desk' office_old office_mid same nodes running set events stay nodes_stay ends_stay hearing heard at shows kept p lawful is upper quiet)
+  heard_left conn place old mid new c c' road road' desk desk' (Err why) office_old office_mid same nodes running set events stay nodes_stay ends_stay hearing heard at shows kept = λ w net queues a p at_a lawful is upper quiet. out_of_memory f r i o old new road road' why kept
 
   pub heard_failed : (conn : ConnId) (place : ℕ) (old new : Player F I O) (c c' : Client I O) (road road' : R) (desk : D) (why : ClientFault) → d.office desk ≡ Some old.office.office → slice_get old.clients.items place ≡ Some c → clients.HearShows d r i o c c' desk road road' (Err why)
       → HeardShows f r i o conn place old new road road' (Err (of_client why))

@@ -1,28 +1,17 @@
 -- What a play's events ask of the world holds of it.
-use Rattle.std.proofs.Common.{◌≡◌, ℕ, ◌≤◌, ◌<◌, ◌+◌, ◌^◌, Bool, true, false, List, [], ◌∷◌, ◌++◌, length, slice_get, Some, None, refl, sym, ap, ◌∙◌, subst, arith}
-use Rattle.std.specs.Prelude.{◌-◌, nat_le, if◌then◌else◌}
+use Rattle.std.proofs.Common.{ℕ, ◌≤◌, ◌+◌, ◌^◌, List, [], ◌∷◌, ◌++◌, length, ap, subst, arith}
 use Rattle.std.proofs.lemmas.List.{length-append}
-use Rattle.std.proofs.lemmas.Option.{none-some, same_Some}
 use Rattle.hd_base.specs.declared.numbers.BlockId.{BlockId}
 use Rattle.hd_base.specs.declared.numbers.ConnId.{ConnId}
 use Rattle.hd_base.specs.declared.numbers.NodeId.{NodeId}
-use Rattle.hd_base.specs.declared.roads.TheConstants.{FIRST_PORT}
-use Rattle.member_core.specs.declared.requests.TheConstants.{MAX_PORT}
-use Rattle.op_headers.specs.declared.nodes.NodeRef.{NodeRef}
-use Rattle.op_headers.specs.declared.ops.Op.TheVariants as op
-use Rattle.node_refs.specs.NodeRefs.{port_of}
 use Rattle.name_core.specs.declared.office.TheConstants.{FIRST_STAMP}
 use Rattle.world.specs.declared.events.Event.{Event}
 use Rattle.world.specs.declared.events.Event.TheVariants as event
-use Rattle.world.specs.Parts.{request}
-use Rattle.world.specs.Worlds.{World, start}
-use Rattle.world.specs.Nodes.{node_on, mirror_node}
+use Rattle.world.specs.Worlds.{start}
 use Rattle.world.specs.Events.{run}
-use Rattle.world_laws.proofs.AllCarried.{next-sent}
 use Rattle.world_requests.specs.Requests.{AllAmong}
 use Rattle.world_texts.specs.Texts.{Written, AllFit}
-use Rattle.play_laws.specs.Members.{IsNode, AllName, IsRef}
-use Rattle.play_laws.specs.Nodes.{AllKeepNodes}
+use Rattle.play_laws.specs.Members.{IsNode, AllName}
 use Rattle.play_laws.specs.Writers.{needs_members}
 use Rattle.play_clients.specs.Events.{HearIsLawful, AcceptedIsQuiet}
 use Rattle.play_nodes.specs.Events.{IsLawful}
@@ -37,10 +26,6 @@ widths_more : (es fs : List Event) → AllFit es → AllFit fs → AllFit (es ++
 widths_more [] fs h k = k
 widths_more (e ∷ es) fs h k = (h.0, widths_more es fs h.1 k)
 
-runs_more : (es fs : List Event) → AllKeepNodes es → AllKeepNodes fs → AllKeepNodes (es ++ fs)
-runs_more [] fs h k = k
-runs_more (e ∷ es) fs h k = (h.0, runs_more es fs h.1 k)
-
 names_more : (Of : NodeId → Type 0) (es fs : List Event) → AllName Of es → AllName Of fs → AllName Of (es ++ fs)
 names_more Of [] fs h k = k
 names_more Of (e ∷ es) fs h k = (h.0, names_more Of es fs h.1 k)
@@ -52,7 +37,6 @@ among_more blocks (e ∷ es) fs h k = (h.0, among_more blocks es fs h.1 k)
 pub fits_more : (nodes : ℕ) (blocks : List BlockId) (es fs : List Event) → EventsFit nodes blocks es → EventsFit nodes blocks fs → EventsFit nodes blocks (es ++ fs)
 fits_more nodes blocks es fs h k = record {
   widths = widths_more es fs h.widths k.widths;
-  runs = runs_more es fs h.runs k.runs;
   names = names_more (IsNode nodes) es fs h.names k.names;
   among = among_more blocks es fs h.among k.among;
 }
@@ -90,29 +74,10 @@ module _ {F I O : Type 0} (L : Laws) (nodes : ℕ) (p : Player F I O) (h : Event
 
   -- THE FIRST MESSAGE
 
-  port_as : (b : Bool) (port number : ℕ) → (if b then Some (port - FIRST_PORT) else None) ≡ Some number → port - FIRST_PORT ≡ number
-  port_as true port number is = same_Some (port - FIRST_PORT) number is
-  port_as false port number is = absurd (none-some number is)
-
-  port_is : (n : NodeId) → FIRST_PORT + nodes ≤ MAX_PORT → n.0 < nodes → port_of n - FIRST_PORT ≡ n.0
-  port_is n ports within = grind (arith, ports, within)
-
-  port_node : (n : NodeId) (port number : ℕ) → FIRST_PORT + nodes ≤ MAX_PORT → n.0 < nodes → port ≡ port_of n → node_on port ≡ Some number → number ≡ n.0
-  port_node n port number ports within is at = sym (port_as (nat_le FIRST_PORT port) port number at) ∙ (ap (λ (m : ℕ). m - FIRST_PORT) is ∙ port_is n ports within)
-
-  mirror_is : (ts : List NodeRef) (number : ℕ) → FIRST_PORT + nodes ≤ MAX_PORT → ((k : ℕ) (t : NodeRef) → slice_get ts k ≡ Some t → IsRef (IsNode nodes) t) → mirror_node ts ≡ Some number → number < nodes
-  mirror_is [] number ports refs is = absurd (none-some number is)
-  mirror_is (t ∷ ts) number ports refs is =
-      let k : IsRef (IsNode nodes) t = refs 0 t refl in
-      subst (λ (m : ℕ). m < nodes) (sym (port_node k.node t.xfer number ports k.of (ap (λ (x : NodeRef). x.xfer) k.is) is)) k.of
-
-  pub can_begin : (conn : ConnId) → FIRST_PORT + nodes ≤ MAX_PORT → CanBegin (world_of nodes p) conn p.nodes
-  can_begin conn ports = record {
+  pub can_begin : (conn : ConnId) → CanBegin (world_of nodes p) conn p.nodes
+  can_begin conn = record {
     lawful = λ answered. lawful (event.Down conn answered) (tt, tt);
     fit = L.among nodes p.nodes.blocks.items p.events.items h.among;
-    run = λ fields number comes is.
-        let w : World = world_of nodes p in
-        (L.run nodes p.events.items h.runs).runs number (mirror_is fields.targets number ports (L.targets nodes p.events.items conn.0 (w.down_marks conn.0).taken fields h.names (next-sent (w.downs conn.0) (w.down_marks conn.0) (request (op.Write fields)) comes.next)) is);
   }
 
   -- WHAT A WRITER HEARS

@@ -6,3 +6,4 @@ pub mod CanOwning
 pub mod Happened
 pub mod Dispatch
 pub mod CutPlays
+pub mod StopPlays

@@ -1,33 +1,31 @@
 -- What the events of a play make of a player and roads that show a world.
-use Rattle.std.specs.Prelude.{◌≡◌, ◌⊎◌, ℕ, Bool, true, List, ◌++◌, [], ◌∷◌, map, slice_get, Option, Some, None, Result, Ok, Err}
+use Rattle.std.specs.Prelude.{◌≡◌, ◌⊎◌, ℕ, Bool, true, false, List, ◌++◌, [], ◌∷◌, map, slice_get, Option, Some, None, Result, Ok, Err}
 use Rattle.hd_base.specs.Faults.{FaultsIncreased}
 use Rattle.hd_base.specs.declared.files.Files as files
 use Rattle.hd_base.specs.declared.links.LinkIn as link_in
 use Rattle.hd_base.specs.declared.links.LinkOut as link_out
 use Rattle.hd_base.specs.declared.numbers.BlockId.{BlockId}
 use Rattle.hd_base.specs.declared.numbers.ConnId.{ConnId}
+use Rattle.hd_base.specs.declared.numbers.NodeId.{NodeId}
 use Rattle.hd_base.specs.declared.roads.Roads as roads
 use Rattle.road_traffic.specs.Showing.{Net}
 use Rattle.world.specs.declared.events.Event.{Event}
 use Rattle.world.specs.declared.events.Event.TheVariants as event
 use Rattle.world.specs.Parts.{Upper, by_member, by_writer, idle}
 use Rattle.world.specs.Worlds.{World}
-use Rattle.world.specs.Nodes.{mirror_node}
 use Rattle.world.specs.Events.{run}
-use Rattle.world_nets.specs.Drawn.{ComesDown}
 use Rattle.play_model.specs.declared.dues.Due.{Due}
 use Rattle.play_model.specs.declared.dues.Due.TheVariants as due
 use Rattle.play_model.specs.Dues.{Queues, is_due, due_events, queues_after}
 use Rattle.play_clients.specs.declared.clients.Client.{Client}
 use Rattle.play_clients.specs.Events.{HearIsLawful, AcceptedIsQuiet}
-use Rattle.member_events.specs.Joining.{write_next}
-use Rattle.op_headers.specs.Values.{WriteFields}
 use Rattle.play_nodes.specs.declared.nodes.Nodes.{Nodes}
 use Rattle.play_nodes.specs.Beginning.{RequestsFit}
 use Rattle.play_nodes.specs.Events.{IsLawful, IsBusy, DrawerFailed}
 use Rattle.play.specs.declared.faults.PlayFault.{PlayFault}
 use Rattle.play.specs.declared.faults.PlayFault.TheVariants as fault
 use Rattle.play.specs.declared.player.Player.{Player}
+use Rattle.play.specs.Running.{is_running}
 use Rattle.play.specs.Showing.{PlayerShows}
 
 -- The event stands behind the others, and all else is as it was.
@@ -124,14 +122,19 @@ HeardShows {F} {R} {I} {O} f r i o conn place old new road road' result =
     (w.dialled conn.0).upper ≡ by_writer c.block.0 → AcceptedIsQuiet w c.block.0
     → PlayEnds f r i o w queues (due.Up conn) old new road road' result
 
--- What is asked of the world where an end takes its first message: each request is for a block of the play, and the nodes
--- that requests name run (requests_are_among, targets_are_nodes, nodes_run).
+-- What is asked of the world where an end takes its first message: each request is for a block of the play
+-- (requests_are_among).
 pub record CanBegin {F I O : Type 0} (w : World) (conn : ConnId) (n : Nodes F I O) : Type 0 where
   pub lawful : (answered : Bool) → IsLawful w (event.Down conn answered)
   pub fit : RequestsFit w n
-  pub run : (fields : WriteFields) (number : ℕ) → ComesDown w conn.0 (write_next fields) →
-      mirror_node fields.targets ≡ Some number
-      → w.running number ≡ true
+
+-- The event is kept, unless a node that runs didn't answer a dial; or memory ran out.
+abbrev pub Begins : {F I O : Type 0} → Player F I O → Player F I O → ConnId → Option NodeId →
+    Result (Unit {0}) PlayFault → Type 0
+Begins old new conn unanswered (Ok u) = (is_running old unanswered ≡ false) × IsKept old new (event.Down conn true)
+Begins old new conn unanswered (Err fault.RoadFault) = is_running old unanswered ≡ true
+Begins old new conn unanswered (Err fault.Memory) = Unit {0}
+Begins old new conn unanswered (Err other) = ⊥
 
 abbrev pub BeginShows : {F R I O : Type 0} → files.Ghosts F → roads.Ghosts R I O → link_in.Ghosts I →
     link_out.Ghosts O → ConnId → Player F I O → Player F I O → R → R → Result (Unit {0}) PlayFault → Type 0

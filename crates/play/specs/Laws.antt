@@ -9,7 +9,7 @@ use Rattle.world_texts.specs.Texts.{AllWritten}
 use Rattle.play_laws.specs.Early.{NothingEarly}
 use Rattle.play_laws.specs.Intakes.{OwnStepsKeepIntakes, HearingKeepsIntakes}
 use Rattle.play_laws.specs.Members.{MembersAre, TargetsAre}
-use Rattle.play_laws.specs.Nodes.{AllRun}
+use Rattle.play_laws.specs.Nodes.{OnlyNodesRun, RunningStays}
 use Rattle.play_laws.specs.Stamps.{StampsAreFew}
 use Rattle.play_laws.specs.Taking.{CommandsTaken, UnmadeAreFresh}
 use Rattle.play_laws.specs.Writers.{AllRest, WritersOpen}
@@ -28,7 +28,8 @@ pub record Laws : Type 0 where
   pub written : AllWritten
   pub few : StampsAreFew
   pub among : AreAmong
-  pub run : AllRun
+  pub only : OnlyNodesRun
+  pub running : RunningStays
   pub members : MembersAre
   pub targets : TargetsAre
   pub rest : AllRest

@@ -5,3 +5,5 @@ pub mod Owning
 pub mod Laws
 pub mod Standing
 pub mod Cutting
+pub mod Running
+pub mod Stopping

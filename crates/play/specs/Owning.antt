@@ -1,5 +1,5 @@
 -- What the own step of a writer makes of a player and roads that show a world.
-use Rattle.std.specs.Prelude.{◌≡◌, ℕ, true, if◌then◌else◌, Bool, List, [], ◌∷◌, ◌++◌, slice_get, Option, Some, None, Result, Ok, Err}
+use Rattle.std.specs.Prelude.{◌≡◌, ℕ, true, false, if◌then◌else◌, Bool, List, [], ◌∷◌, ◌++◌, slice_get, Option, Some, None, Result, Ok, Err}
 use Rattle.hd_base.specs.declared.files.Files as files
 use Rattle.hd_base.specs.declared.links.LinkIn as link_in
 use Rattle.hd_base.specs.declared.links.LinkOut as link_out
@@ -22,6 +22,7 @@ use Rattle.play_nodes.specs.Places.{KeepsSizes}
 use Rattle.play.specs.declared.faults.PlayFault.{PlayFault}
 use Rattle.play.specs.declared.faults.PlayFault.TheVariants as fault
 use Rattle.play.specs.declared.player.Player.{Player}
+use Rattle.play.specs.Running.{is_running}
 use Rattle.play.specs.Showing.{PlayerShows}
 use Rattle.play.specs.Events.{PlayEnds}
 
@@ -52,17 +53,20 @@ abbrev pub IsAsked : {F I O : Type 0} → Player F I O → Player F I O → Bloc
 IsAsked old new block asked (Ok u) = HasMore old new (question block asked)
 IsAsked old new block asked (Err why) = why ≡ fault.Memory
 
--- So they have, and the events of the own step stand behind the others.
+-- So they have, and the events of the own step stand behind the others. No node that runs left a dial unanswered.
 pub record IsOwnedBy {F I O : Type 0} (i : link_in.Ghosts I) (o : link_out.Ghosts O) (old new : Player F I O)
     (block : BlockId) (left : Owned I O) : Type 0 where
   pub middle : Player F I O
   pub dialled : IsDialled i o old middle block left.first (Ok tt)
-  pub more : HasMore middle new (owned_events block left)
+  pub more : HasMore middle new (owned_events block left true)
+  pub quiet : is_running old left.unreached ≡ false
 
 abbrev pub IsOwned : {F I O : Type 0} → link_in.Ghosts I → link_out.Ghosts O → Player F I O → Player F I O →
     BlockId → Owned I O → Result (Unit {0}) PlayFault → Type 0
 IsOwned i o old new block left (Ok u) = IsOwnedBy i o old new block left
-IsOwned i o old new block left (Err why) = why ≡ fault.Memory
+IsOwned i o old new block left (Err fault.RoadFault) = is_running old left.unreached ≡ true
+IsOwned i o old new block left (Err fault.Memory) = Unit {0}
+IsOwned i o old new block left (Err other) = ⊥
 
 -- A connection that is dialled has the next number.
 abbrev pub OwnShows : {F R I O : Type 0} → files.Ghosts F → roads.Ghosts R I O → link_in.Ghosts I → link_out.Ghosts O →

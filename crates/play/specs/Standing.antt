@@ -1,12 +1,11 @@
 -- A player, with its roads, shows the world of the events that happened, and its commands fit.
-use Rattle.std.specs.Prelude.{ℕ, ◌≡◌, ◌≤◌, ◌<◌, ◌+◌, ◌^◌, true, false, List, [], ◌∷◌, ◌++◌, slice_get, Some, IfSome, Result, Ok, Err}
+use Rattle.std.specs.Prelude.{ℕ, ◌≡◌, ◌≤◌, ◌<◌, ◌^◌, true, false, List, [], ◌∷◌, ◌++◌, slice_get, Some, IfSome, Result, Ok, Err}
 use Rattle.hd_base.specs.declared.files.Files as files
 use Rattle.hd_base.specs.declared.links.LinkIn as link_in
 use Rattle.hd_base.specs.declared.links.LinkOut as link_out
 use Rattle.hd_base.specs.declared.numbers.BlockId.{BlockId}
 use Rattle.hd_base.specs.declared.roads.Roads as roads
-use Rattle.hd_base.specs.declared.roads.TheConstants.{FIRST_PORT}
-use Rattle.member_core.specs.declared.requests.TheConstants.{MAX_PORT}
+use Rattle.hd_base.specs.declared.roads.TheConstants.{MAX_NODES}
 use Rattle.road_traffic.specs.Showing.{Net}
 use Rattle.writer_core.specs.declared.intake.Intake.{Intake}
 use Rattle.writer_core.specs.Commands.{admitted, intake_after, is_unmade}
@@ -22,7 +21,6 @@ use Rattle.play_model.specs.declared.dues.Due.TheVariants as due
 use Rattle.play_model.specs.Dues.{Queues, is_due, due_events, queues_after}
 use Rattle.play_laws.specs.Intakes.{intake_of}
 use Rattle.play_laws.specs.Members.{IsNode, Names, AllName}
-use Rattle.play_laws.specs.Nodes.{AllKeepNodes}
 use Rattle.play_clients.specs.declared.clients.Client.{Client}
 use Rattle.play_dues.specs.Showing.{HasClient}
 use Rattle.play.specs.declared.faults.PlayFault.{PlayFault}
@@ -58,10 +56,9 @@ pub record ClientFits {I O : Type 0} (nodes : ℕ) (blocks : List BlockId) (w : 
 
 -- EVENTS
 
--- Events of writers of these blocks, whose commands name only the first nodes, so many; no node stops.
+-- Events of writers of these blocks, whose commands name only the first nodes, so many.
 pub record EventsFit (nodes : ℕ) (blocks : List BlockId) (events : List Event) : Type 0 where
   pub widths : AllFit events
-  pub runs : AllKeepNodes events
   pub names : AllName (IsNode nodes) events
   pub among : AllAmong blocks events
 
@@ -71,13 +68,13 @@ pub record EventsFit (nodes : ℕ) (blocks : List BlockId) (events : List Event)
 abbrev pub world_of : {F I O : Type 0} → ℕ → Player F I O → World
 world_of nodes p = run (start nodes) p.events.items
 
--- The player shows this world; each node has a port; the events and the commands fit; and a writer that has a connection is
--- that of a client.
+-- The player shows this world; there are no more nodes than a play may have, so that each has a port; the events and the
+-- commands fit; and a writer that has a connection is that of a client.
 pub record PlayStands {F R I O : Type 0} (r : roads.Ghosts R I O) (i : link_in.Ghosts I) (o : link_out.Ghosts O)
     (nodes : ℕ) (queues : Queues) (road : R) (p : Player F I O) : Type 0 where
   pub net : Net
   pub shows : PlayerShows r i o (world_of nodes p) net queues road p
-  pub ports : FIRST_PORT + nodes ≤ MAX_PORT
+  pub few : nodes ≤ MAX_NODES
   pub events : EventsFit nodes p.nodes.blocks.items p.events.items
   pub clients : (k : ℕ) (c : Client I O) → slice_get p.clients.items k ≡ Some c →
       ClientFits nodes p.nodes.blocks.items (world_of nodes p) c

@@ -5,12 +5,13 @@ ghost use Rattle.member_events.specs.Roads.{RoadsPass};
 ghost use Rattle.play_nodes.specs.Places.{KeepsSizes};
 ghost use Rattle.play_nodes.specs.Showing.{Stand};
 ghost use Rattle.play.specs.Showing.{PlayerStands};
-ghost use Rattle.play.specs.Events.{Keeps, BeginShows, ReadyShows, DownShows, MirrorShows, HeardShows};
+ghost use Rattle.play.specs.Events.{Keeps, Begins, BeginShows, ReadyShows, DownShows, MirrorShows, HeardShows};
 
 use crate::faults::{PlayFault, of_client, of_nodes};
 use crate::player::Player;
-use hd_base::{ConnId, Files, LinkIn, LinkOut, Roads};
+use hd_base::{ConnId, Files, LinkIn, LinkOut, NodeId, Roads};
 use play_clients::{clients_stay, hearing_keeps_others};
+use play_laws::running_stays;
 use play_nodes::{nodes_ends_stay, nodes_keep_writers, nodes_stay, writers_keep_nodes};
 use std::alloc::Global;
 use world::Event;
@@ -29,6 +30,7 @@ impl<F: Files, I: LinkIn, O: LinkOut> Player<F, I, O> {
         ensures pass { RoadsPass R.Roads roads.old roads.new }
     {
         nodes_keep_writers();
+        running_stays();
         clients_stay::<I, O>();
         match self.nodes.ready(alloc, roads, conn) {
             Ok(()) => self.keep(Event::Ready { conn }),
@@ -36,8 +38,7 @@ impl<F: Files, I: LinkIn, O: LinkOut> Player<F, I, O> {
         }
     }
 
-    /// The lower end of a connection that has taken nothing yet takes what stands next. A node that doesn't answer the dial
-    /// of a member runs all the same, so the roads have failed.
+    /// The lower end of a connection that has taken nothing yet takes what stands next.
     pub fn begin<R: Roads<Inward = I, Outward = O>>(
         &mut self,
         alloc: Global,
@@ -50,15 +51,27 @@ impl<F: Files, I: LinkIn, O: LinkOut> Player<F, I, O> {
         ensures pass { RoadsPass R.Roads roads.old roads.new }
     {
         nodes_keep_writers();
+        running_stays();
         clients_stay::<I, O>();
         match self.nodes.begin(alloc, roads, conn) {
-            Ok(true) => self.keep(Event::Down {
-                conn,
-                answered: true,
-            }),
-            Ok(false) => Err(PlayFault::RoadFault),
+            Ok(unanswered) => self.begun(conn, unanswered),
             Err(fault) => Err(of_nodes(fault)),
         }
+    }
+
+    /// Keeps that an end took its first message, where this node didn't answer the dial of a mirror, if one was dialled in
+    /// vain. If it runs, the roads have failed.
+    fn begun(&mut self, conn: ConnId, unanswered: Option<NodeId>) -> Result<(), PlayFault>
+        ensures begins { Begins self.old self.new conn unanswered result }
+        ensures sizes { KeepsSizes self.old.nodes self.new.nodes }
+    {
+        if self.is_running(unanswered) {
+            return Err(PlayFault::RoadFault);
+        }
+        self.keep(Event::Down {
+            conn,
+            answered: true,
+        })
     }
 
     /// The member at the lower end of a connection takes what stands next from above.
@@ -74,6 +87,7 @@ impl<F: Files, I: LinkIn, O: LinkOut> Player<F, I, O> {
         ensures pass { RoadsPass R.Roads roads.old roads.new }
     {
         nodes_keep_writers();
+        running_stays();
         clients_stay::<I, O>();
         match self.nodes.member_down(alloc, roads, conn) {
             Ok(()) => self.keep(Event::Down {
@@ -97,6 +111,7 @@ impl<F: Files, I: LinkIn, O: LinkOut> Player<F, I, O> {
         ensures pass { RoadsPass R.Roads roads.old roads.new }
     {
         nodes_keep_writers();
+        running_stays();
         clients_stay::<I, O>();
         match self.nodes.mirror_up(alloc, roads, conn) {
             Ok(()) => self.keep(Event::Up { conn }),

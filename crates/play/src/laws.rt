@@ -4,8 +4,9 @@ ghost use Rattle.play.specs.Laws.{Laws};
 
 use play_clients::{hearing_keeps_others, own_steps_keep_others};
 use play_laws::{
-    commands_are_taken, intakes_stay, members_are_nodes, nodes_run, nothing_comes_early,
-    stamps_are_few, targets_are_nodes, unmade_writers_are_fresh, writers_are_open, writers_rest,
+    commands_are_taken, intakes_stay, members_are_nodes, nothing_comes_early, only_nodes_run,
+    running_stays, stamps_are_few, targets_are_nodes, unmade_writers_are_fresh, writers_are_open,
+    writers_rest,
 };
 use play_nodes::nodes_keep_writers;
 use play_settling::writers_act_or_ask;
@@ -29,7 +30,8 @@ pub fn worlds_are_lawful()
     messages_are_written();
     stamps_are_few();
     requests_are_among();
-    nodes_run();
+    only_nodes_run();
+    running_stays();
     members_are_nodes();
     targets_are_nodes();
     writers_rest();

@@ -9,6 +9,7 @@ mod happening;
 mod laws;
 mod owning;
 mod player;
+mod stopping;
 
 pub use faults::PlayFault;
 pub use laws::worlds_are_lawful;

@@ -42,11 +42,15 @@ impl<F: Files, I: LinkIn, O: LinkOut> Player<F, I, O> {
         }
     }
 
-    /// Keeps what an own step of the writer of a block left.
+    /// Keeps what an own step of the writer of a block left. Where a node that runs left its dial unanswered, the roads have
+    /// failed.
     fn owned(&mut self, block: BlockId, left: Owned<I, O>) -> Result<(), PlayFault>
         ensures owned { IsOwned I.LinkIn O.LinkOut self.old self.new block left result }
         ensures sizes { KeepsSizes self.old.nodes self.new.nodes }
     {
+        if self.is_running(left.unreached) {
+            return Err(PlayFault::RoadFault);
+        }
         self.dialled(block, left.first)?;
         self.asked(block, left.asked)?;
         self.keep(Event::Own(OwnStep::Writer {

@@ -1,12 +1,16 @@
 //! The player of a script.
 
-use hd_base::Files;
+ghost use Rattle.std.specs.Prelude.{◌≡◌};
+ghost use Rattle.play_nodes.specs.Showing.{runs_in};
+ghost use Rattle.play.specs.Running.{is_running, IsStopped};
+
+use hd_base::{Files, NodeId};
 use name_core::OfficeBook;
 use play_clients::Client;
 use play_nodes::Nodes;
 use world::Event;
 
-/// The player of a script: the nodes, the clients and the office, and the events that happened.
+/// The player of a script: the nodes, the clients and the office, which nodes run, and the events that happened.
 #[derive(Drop)]
 pub struct Player<F: Files, I, O> {
     /// The nodes: the lower ends of the connections, and the books.
@@ -15,6 +19,39 @@ pub struct Player<F: Files, I, O> {
     pub clients: Vec<Client<I, O>>,
     /// The office.
     pub office: OfficeBook,
+    /// Whether each node runs, by their numbers.
+    pub running: Vec<bool>,
     /// The events that happened.
     pub events: Vec<Event>,
+}
+
+impl<F: Files, I, O> Player<F, I, O> {
+    /// Whether a node runs; none does that isn't one of the play.
+    pub fn runs(&self, node: NodeId) -> bool
+        ensures { result ≡ runs_in self.now.running.items node.0 }
+    {
+        match self.running.get(node.0 as usize) {
+            Some(runs) => *runs,
+            None => false,
+        }
+    }
+
+    /// Whether there is a node here, and it runs.
+    pub(crate) fn is_running(&self, node: Option<NodeId>) -> bool
+        ensures { result ≡ is_running self.now node }
+    {
+        match node {
+            Some(node) => self.runs(node),
+            None => false,
+        }
+    }
+
+    /// A node no longer runs.
+    pub(crate) fn stopped(&mut self, node: NodeId)
+        ensures { IsStopped self.old self.new node }
+    {
+        if let Some(runs) = self.running.get_mut(node.0 as usize) {
+            *runs = false;
+        }
+    }
 }

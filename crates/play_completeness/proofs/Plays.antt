@@ -3,6 +3,7 @@ use Rattle.std.proofs.Common.{false, ◌≡◌, ℕ, Bool, zero, suc, true, List
 use Rattle.std.specs.Prelude.{◌%◌, length}
 use Rattle.hd_base.specs.SumRules.{Rule}
 use Rattle.rand_pcg.specs.Pcg.{pcg32}
+use Rattle.hd_base.specs.declared.numbers.NodeId.{NodeId}
 use Rattle.script_lang.specs.declared.instructions.Instruction.{Instruction}
 use Rattle.script_lang.specs.declared.instructions.Instruction.TheVariants as line
 use Rattle.script_lang.specs.declared.instructions.ScriptLine.{ScriptLine}
@@ -20,7 +21,7 @@ use Rattle.play_model.specs.States.{PlayState, world_of, opened, ordered, ruled}
 use Rattle.play_model.specs.Dues.{Queues, is_due, dues, own_events, action_of, due_events, after_due}
 use Rattle.play_model.specs.Draws.{drawn, happened, advanced, drawn_from, draw, draws}
 use Rattle.play_scripts.specs.Failures.{is_failure, HaveNoFailures}
-use Rattle.play_model.specs.Lines.{stepped, step_due, pipeline_conn, cut_at, PlaysLine, PlaysLines, PlaysFrom, Plays}
+use Rattle.play_model.specs.Lines.{stepped, step_due, pipeline_conn, cut_at, stop_at, PlaysLine, PlaysLines, PlaysFrom, Plays}
 use Rattle.play_model.proofs.ListedLemmas.{listed_due}
 use Rattle.play_completeness.specs.Plain.{ArePlain, PlaysArePlain}
 
@@ -53,28 +54,30 @@ module _ (Q : PlayState → Type 0) where
   stepped-keeps k p None q = q
   stepped-keeps k p (Some d) q = if-each Q (is_due (world_of p) p.queues d) (after_due p d) p (λ e. k.goes p d e q) (λ _. q)
 
-  -- what is kept by a cut, if the line is one
-  abbrev pub CutsKeep : Instruction → Type 0
-  CutsKeep i = (p : PlayState) (c : Option ℕ) (down up : ℕ) → is_failure i ≡ true → Q p → Q (cut_at p c down up)
+  -- What is kept by a cut, and by a stop.
+  pub record FailuresKeep : Type 0 where
+    pub cuts : (p : PlayState) (c : Option ℕ) (down up : ℕ) → Q p → Q (cut_at p c down up)
+    pub stops : (p : PlayState) (n : NodeId) → Q p → Q (stop_at p n)
 
+  -- so it is, if a line makes something fail
   abbrev pub AllKeep : List ScriptLine → Type 0
   AllKeep [] = Unit {0}
-  AllKeep (l ∷ lines) = CutsKeep l.instruction × AllKeep lines
+  AllKeep (l ∷ lines) = (is_failure l.instruction ≡ true → FailuresKeep) × AllKeep lines
 
   false-true : {A : Type 0} (x : Bool) → x ≡ false → x ≡ true → A
   false-true true e f = cc
   false-true false e f = cc
 
-  -- lines that make nothing fail cut nothing
+  -- no line makes anything fail
   pub sound-keep : (lines : List ScriptLine) → HaveNoFailures lines → AllKeep lines
   sound-keep [] sound = tt
-  sound-keep (l ∷ lines) sound = ((λ p c down up fails q. false-true (is_failure l.instruction) sound.0 fails), sound-keep lines sound.1)
+  sound-keep (l ∷ lines) sound = ((λ fails. false-true (is_failure l.instruction) sound.0 fails), sound-keep lines sound.1)
 
-  pub cuts-keep : ((p : PlayState) (c : Option ℕ) (down up : ℕ) → Q p → Q (cut_at p c down up)) → (lines : List ScriptLine) → AllKeep lines
-  cuts-keep cuts [] = tt
-  cuts-keep cuts (l ∷ lines) = ((λ p c down up _ q. cuts p c down up q), cuts-keep cuts lines)
+  pub failures-keep : FailuresKeep → (lines : List ScriptLine) → AllKeep lines
+  failures-keep f [] = tt
+  failures-keep f (l ∷ lines) = ((λ _. f), failures-keep f lines)
 
-  line-keeps : Keeps → (blocks : List ℕ) (i : Instruction) (p new : PlayState) → CutsKeep i → PlaysLine blocks i p new → Q p → Q new
+  line-keeps : Keeps → (blocks : List ℕ) (i : Instruction) (p new : PlayState) → (is_failure i ≡ true → FailuresKeep) → PlaysLine blocks i p new → Q p → Q new
   line-keeps k blocks (line.Settle) p new kept s q = subst Q s.drawn_so (draws-keep k blocks s.count p q)
   line-keeps k blocks (line.Nodes count) p new kept s q = subst Q (sym s) q
   line-keeps k blocks (line.Seed seed) p new kept s q = subst Q (sym s) q
@@ -88,9 +91,9 @@ module _ (Q : PlayState → Type 0) where
   line-keeps k blocks (line.Close b) p new kept s q = subst Q (sym s) (k.orders p b.0 command.Close q)
   line-keeps k blocks (line.Read b n from count) p new kept s q = subst Q (sym s) q
   line-keeps k blocks (line.Recover b n members) p new kept s q = subst Q (sym s) q
-  line-keeps k blocks (line.Cut b place down up) p new kept s q = subst Q (sym s) (kept p (pipeline_conn (world_of p) b.0 place) down up refl q)
+  line-keeps k blocks (line.Cut b place down up) p new kept s q = subst Q (sym s) ((kept refl).cuts p (pipeline_conn (world_of p) b.0 place) down up q)
   line-keeps k blocks (line.Fault n nth) p new kept s q = subst Q (sym s) q
-  line-keeps k blocks (line.Stop n) p new kept s q = subst Q (sym s) q
+  line-keeps k blocks (line.Stop n) p new kept s q = subst Q (sym s) ((kept refl).stops p n q)
   line-keeps k blocks (line.Start n) p new kept s q = subst Q (sym s) q
   line-keeps k blocks (line.Run count) p new kept s q = subst Q (sym s) (draws-keep k blocks count p q)
   line-keeps k blocks (line.Step b e) p new kept s q = subst Q (sym s) (stepped-keeps k p (step_due (world_of p) b.0 e) q)

@@ -1,22 +1,32 @@
 -- Plays are safe.
-use Rattle.std.proofs.Common.{◌≡◌, ℕ, ◌≤◌, List, refl, sym, subst}
+use Rattle.std.proofs.Common.{◌≡◌, ℕ, ◌≤◌, Bool, true, false, List, [], ◌∷◌, ◌++◌, refl, sym, subst}
+use Rattle.std.specs.Prelude.{if◌then◌else◌}
+use Rattle.hd_base.specs.declared.numbers.NodeId.{NodeId}
 use Rattle.script_lang.specs.declared.instructions.ScriptLine.{ScriptLine}
+use Rattle.world.specs.declared.events.Event.TheVariants as event
 use Rattle.world_closings.specs.Safety.{AllSafe}
-use Rattle.play_model.specs.Lines.{PlaysLines, Plays, blocks_of}
-use Rattle.play_model.specs.States.{PlayState, opened}
+use Rattle.play_model.specs.Lines.{PlaysLines, Plays, blocks_of, stop_at}
+use Rattle.play_model.specs.States.{PlayState, opened, world_of}
 use Rattle.play_model.specs.Dues.{after_due}
 use Rattle.play_completeness.specs.Safety.{PlaysAreSafe}
-use Rattle.play_completeness.proofs.Plays.{lines-keep, cuts-keep}
+use Rattle.play_completeness.proofs.Plays.{lines-keep, failures-keep}
 
 after-same : (n : ℕ) (p : PlayState) (d : _) → p.nodes ≡ n → (after_due p d).nodes ≡ n
 unfolding after_due
 after-same n p d e = e
 
+stop-same : (n : ℕ) (p : PlayState) (m : NodeId) → p.nodes ≡ n → (stop_at p m).nodes ≡ n
+stop-same n p m e = by ((world_of p).running m.0)
+  where
+    by : (b : Bool) → (if b then record p { events = p.events ++ event.Stop m ∷ [] } else p).nodes ≡ n
+    by true = e
+    by false = e
+
 -- the lines of a script leave the nodes as many as they were
 nodes-stay : (n : ℕ) (blocks : List ℕ) (lines : List ScriptLine) (p end : PlayState) → p.nodes ≡ n → PlaysLines blocks lines p end → end.nodes ≡ n
 nodes-stay n blocks lines p end here plays =
     lines-keep (λ q. q.nodes ≡ n) (record { advances = λ q e. e; orders = λ q b c e. e; rules = λ q b r e. e; goes = λ q d due e. after-same n q d e }) blocks lines p end
-    (cuts-keep (λ q. q.nodes ≡ n) (λ q c down up e. e) lines) plays here
+    (failures-keep (λ q. q.nodes ≡ n) (record { cuts = λ q c down up e. e; stops = λ q m e. stop-same n q m e }) lines) plays here
 
 pub plays-safe : AllSafe → PlaysAreSafe
 plays-safe all shelves script end fits plays =

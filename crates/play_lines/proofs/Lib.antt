@@ -7,6 +7,7 @@ pub mod Ruled
 pub mod Pipelined
 pub mod Stepped
 pub mod CutLines
+pub mod StopLines
 pub mod Commands
 pub mod Lined
 pub mod LineRuns

@@ -1,10 +1,11 @@
 -- A line that gives no command is played.
-use Rattle.std.proofs.Common.{arith, ◌≡◌, ℕ, suc, ◌==◌, Bool, true, false, List, [], ◌∷◌, Option, Some, None, Result, Ok, Err, refl, sym, ap, ◌∙◌, subst, eqb-true}
+use Rattle.std.proofs.Common.{arith, ◌≡◌, ℕ, suc, ◌==◌, Bool, true, false, List, [], ◌∷◌, ◌++◌, Option, Some, None, Result, Ok, Err, refl, sym, ap, ◌∙◌, subst, eqb-true}
 use Rattle.std.specs.Prelude.{is_none, zero, if◌then◌else◌, ◌||◌}
 use Rattle.hd_base.specs.declared.files.Files as files
 use Rattle.hd_base.specs.declared.links.LinkIn as link_in
 use Rattle.hd_base.specs.declared.links.LinkOut as link_out
 use Rattle.hd_base.specs.declared.numbers.BlockId.{BlockId}
+use Rattle.hd_base.specs.declared.numbers.NodeId.{NodeId}
 use Rattle.hd_base.specs.declared.roads.Roads as roads
 use Rattle.hd_base.specs.SumRules.{Rule, IsChunkSize}
 use Rattle.rand_pcg.specs.Pcg.{pcg32}
@@ -12,13 +13,14 @@ use Rattle.script_lang.specs.declared.instructions.Instruction.{Instruction}
 use Rattle.script_lang.specs.declared.instructions.Instruction.TheVariants as says
 use Rattle.script_lang.specs.declared.instructions.StepEvent.{StepEvent}
 use Rattle.script_lang.specs.Fits.{Before, is_open, is_closed, is_created, after}
+use Rattle.world.specs.declared.events.Event.TheVariants as event
 use Rattle.world.specs.Worlds.{put}
 use Rattle.world_laws.proofs.StampGivens.{put-there}
 use Rattle.writer_core.specs.declared.intake.Intake.{Intake}
 use Rattle.play_model.specs.declared.dues.Due.{Due}
 use Rattle.play_model.specs.Draws.{draw, draws, drawn_from, drawn, happened, advanced}
 use Rattle.play_model.specs.Dues.{dues, after_due, is_due}
-use Rattle.play_model.specs.Lines.{PlaysLine, stepped, step_due, pipeline_conn, cut_at}
+use Rattle.play_model.specs.Lines.{PlaysLine, stepped, step_due, pipeline_conn, cut_at, stop_at}
 use Rattle.play_model.specs.States.{PlayState, ruled, world_of}
 use Rattle.play_dues.specs.Places.{client_place}
 use Rattle.play_dues.specs.Showing.{HasClient}
@@ -31,6 +33,7 @@ use Rattle.play_lines.specs.Ruling.{RulesAt, Rules, RulesArePlays}
 use Rattle.play_lines.specs.Showing.{PlayIs, given_in}
 use Rattle.play_lines.specs.Stepping.{StepEnds, StepShows}
 use Rattle.play_lines.specs.Cutting.{CutEnds, CutShows}
+use Rattle.play_lines.specs.Stopping.{StopEnds, StopShows}
 use Rattle.play_lines.specs.Lines.{ordered_by, StandIs, GivenIs, is_made, IsBehind, LineLeft, LineEnds, LineShows}
 use Rattle.play_lines.proofs.Commands.{same_stand, created_made}
 use Rattle.play_lines.proofs.Places.{moved}
@@ -70,6 +73,13 @@ stepped_stays p (Some d) = by (is_due (world_of p) p.queues d) refl
 
 cut_stays : (p : PlayState) (conn : Option ℕ) (down up : ℕ) → Stays p (cut_at p conn down up)
 cut_stays p conn down up = record { nodes = refl; rules = refl }
+
+stop_stays : (p : PlayState) (n : NodeId) → Stays p (stop_at p n)
+stop_stays p n = by ((world_of p).running n.0)
+  where
+    by : (b : Bool) → Stays p (if b then record p { events = p.events ++ event.Stop n ∷ [] } else p)
+    by true = record { nodes = refl; rules = refl }
+    by false = record { nodes = refl; rules = refl }
 
 -- THE LINES BEFORE
 
@@ -145,6 +155,13 @@ module _ {F R I O : Type 0} (f : files.Ghosts F) (r : roads.Ghosts R I O) (i : l
       by before lines p behind (Ok u) d = drawn_left (says.Cut block place down up) before lines p (cut_at p (pipeline_conn (world_of p) block.0 place) down up) (record { nodes = refl; written = refl; stage = λ x. refl }) (cut_stays p (pipeline_conn (world_of p) block.0 place) down up) refl behind d
       by before lines p behind (Err why) cause = cause
 
+  pub stop_shows : (line : Instruction) (n : NodeId) (result : Result (Unit {0}) PlayFault) → line ≡ says.Stop n → StopShows f r i o n old new road road' result → LineShows f r i o line old new road road' result
+  stop_shows line n result e shows = subst (λ (x : Instruction). LineShows f r i o x old new road road' result) (sym e) (λ before lines p stands behind l here few. by before lines p behind result (shows p stands))
+    where
+      by : (before : Before) (lines : ℕ) (p : PlayState) → IsBehind before lines p old → (result : Result (Unit {0}) PlayFault) → StopEnds f r i o n p old new road road' result → LineEnds f r i o (says.Stop n) before lines p old new road road' result
+      by before lines p behind (Ok u) d = drawn_left (says.Stop n) before lines p (stop_at p n) (record { nodes = refl; written = refl; stage = λ x. refl }) (stop_stays p n) refl behind d
+      by before lines p behind (Err why) cause = cause
+
 -- NO EVENT
 
 -- The line is none of these.
@@ -154,36 +171,37 @@ IsOther (says.Run count) = ⊥
 IsOther says.Settle = ⊥
 IsOther (says.Step b event) = ⊥
 IsOther (says.Cut b place down up) = ⊥
+IsOther (says.Stop n) = ⊥
 IsOther line = Unit {0}
 
-pub is_other : (line : Instruction) → ((b : BlockId) (rule : Rule) → line ≡ says.Sums b rule → ⊥) → ((count : ℕ) → line ≡ says.Run count → ⊥) → (line ≡ says.Settle → ⊥) → ((b : BlockId) (event : StepEvent) → line ≡ says.Step b event → ⊥) → ((b : BlockId) (place down up : ℕ) → line ≡ says.Cut b place down up → ⊥) → IsOther line
-is_other (says.Sums b rule) sums runs settles steps cuts = sums b rule refl
-is_other (says.Run count) sums runs settles steps cuts = runs count refl
-is_other says.Settle sums runs settles steps cuts = settles refl
-is_other (says.Step b event) sums runs settles steps cuts = steps b event refl
-is_other (says.Read b n offset count) sums runs settles steps cuts = tt
-is_other (says.Recover b n members) sums runs settles steps cuts = tt
-is_other (says.Cut b place down up) sums runs settles steps cuts = cuts b place down up refl
-is_other (says.Fault n nth) sums runs settles steps cuts = tt
-is_other (says.Stop n) sums runs settles steps cuts = tt
-is_other (says.Start n) sums runs settles steps cuts = tt
-is_other (says.Expect n b state stamp written) sums runs settles steps cuts = tt
-is_other (says.Nodes count) sums runs settles steps cuts = tt
-is_other (says.Seed seed) sums runs settles steps cuts = tt
-is_other (says.Create b members) sums runs settles steps cuts = tt
-is_other (says.Append b members) sums runs settles steps cuts = tt
-is_other (says.Write b bytes) sums runs settles steps cuts = tt
-is_other (says.Fill b count) sums runs settles steps cuts = tt
-is_other (says.Hflush b) sums runs settles steps cuts = tt
-is_other (says.Hsync b) sums runs settles steps cuts = tt
-is_other (says.Close b) sums runs settles steps cuts = tt
+pub is_other : (line : Instruction) → ((b : BlockId) (rule : Rule) → line ≡ says.Sums b rule → ⊥) → ((count : ℕ) → line ≡ says.Run count → ⊥) → (line ≡ says.Settle → ⊥) → ((b : BlockId) (event : StepEvent) → line ≡ says.Step b event → ⊥) → ((b : BlockId) (place down up : ℕ) → line ≡ says.Cut b place down up → ⊥) → ((n : NodeId) → line ≡ says.Stop n → ⊥) → IsOther line
+is_other (says.Sums b rule) sums runs settles steps cuts stops = sums b rule refl
+is_other (says.Run count) sums runs settles steps cuts stops = runs count refl
+is_other says.Settle sums runs settles steps cuts stops = settles refl
+is_other (says.Step b event) sums runs settles steps cuts stops = steps b event refl
+is_other (says.Read b n offset count) sums runs settles steps cuts stops = tt
+is_other (says.Recover b n members) sums runs settles steps cuts stops = tt
+is_other (says.Cut b place down up) sums runs settles steps cuts stops = cuts b place down up refl
+is_other (says.Fault n nth) sums runs settles steps cuts stops = tt
+is_other (says.Stop n) sums runs settles steps cuts stops = stops n refl
+is_other (says.Start n) sums runs settles steps cuts stops = tt
+is_other (says.Expect n b state stamp written) sums runs settles steps cuts stops = tt
+is_other (says.Nodes count) sums runs settles steps cuts stops = tt
+is_other (says.Seed seed) sums runs settles steps cuts stops = tt
+is_other (says.Create b members) sums runs settles steps cuts stops = tt
+is_other (says.Append b members) sums runs settles steps cuts stops = tt
+is_other (says.Write b bytes) sums runs settles steps cuts stops = tt
+is_other (says.Fill b count) sums runs settles steps cuts stops = tt
+is_other (says.Hflush b) sums runs settles steps cuts stops = tt
+is_other (says.Hsync b) sums runs settles steps cuts stops = tt
+is_other (says.Close b) sums runs settles steps cuts stops = tt
 
 idle_passes : (before : Before) (line : Instruction) → ordered_by line ≡ None → IsOther line → WordsFit before.nodes line → Passes before (after before line)
 idle_passes before (says.Read b n offset count) none other words = record { nodes = refl; written = refl; stage = λ x. refl }
 idle_passes before (says.Recover b n members) none other words = record { nodes = refl; written = refl; stage = λ x. refl }
 idle_passes before (says.Cut b place down up) none other words = absurd other
 idle_passes before (says.Fault n nth) none other words = record { nodes = refl; written = refl; stage = λ x. refl }
-idle_passes before (says.Stop n) none other words = record { nodes = refl; written = refl; stage = λ x. refl }
+idle_passes before (says.Stop n) none other words = absurd other
 idle_passes before (says.Start n) none other words = record { nodes = refl; written = refl; stage = λ x. refl }
 idle_passes before (says.Expect n b state stamp written) none other words = record { nodes = refl; written = refl; stage = λ x. refl }
 idle_passes before (says.Nodes count) none other words = absurd words
@@ -205,7 +223,7 @@ idle_plays blocks p (says.Read b n offset count) none other = refl
 idle_plays blocks p (says.Recover b n members) none other = refl
 idle_plays blocks p (says.Cut b place down up) none other = absurd other
 idle_plays blocks p (says.Fault n nth) none other = refl
-idle_plays blocks p (says.Stop n) none other = refl
+idle_plays blocks p (says.Stop n) none other = absurd other
 idle_plays blocks p (says.Start n) none other = refl
 idle_plays blocks p (says.Expect n b state stamp written) none other = refl
 idle_plays blocks p (says.Nodes count) none other = refl

@@ -159,8 +159,8 @@ module _ {F R I O : Type 0} (r : roads.Ghosts R I O) (i : link_in.Ghosts I) (o :
     is = subst (λ (x : Playing F I O). PlayIs r i o (ordered p block.0 c) road x) (sym h.same) (record {
       stands = record {
         net = is.stands.net;
-        shows = record { nodes = is.stands.shows.nodes; clients = client_shows; apart = apart; office = is.stands.shows.office };
-        ports = is.stands.ports;
+        shows = record { nodes = is.stands.shows.nodes; clients = client_shows; apart = apart; office = is.stands.shows.office; running = is.stands.shows.running };
+        few = is.stands.few;
         events = is.stands.events;
         clients = client_fits;
         connected = λ b n e. still_has b (is.stands.connected b n e);

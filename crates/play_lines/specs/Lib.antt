@@ -5,4 +5,5 @@ pub mod Ruling
 pub mod Pipelines
 pub mod Stepping
 pub mod Cutting
+pub mod Stopping
 pub mod Lines

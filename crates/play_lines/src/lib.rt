@@ -9,6 +9,7 @@ mod pipelines;
 mod playing;
 mod ruling;
 mod stepping;
+mod stopping;
 
 pub use ordering::orders_are_plays;
 pub use playing::Playing;

@@ -49,7 +49,7 @@ fn command_of(line: &Instruction) -> Result<Option<Ordered>, AllocError>
 }
 
 impl<F: Files, I: LinkIn, O: LinkOut> Playing<F, I, O> {
-    /// A line behind the first two is played. It fits those before it, and plays have what it says: faults, stops,
+    /// A line behind the first two is played. It fits those before it, and plays have what it says: faults, starts,
     /// recoveries and reads aren't played yet, and nothing is done.
     pub fn line<R: CutRoads<Inward = I, Outward = O>>(
         &mut self,
@@ -100,6 +100,7 @@ impl<F: Files, I: LinkIn, O: LinkOut> Playing<F, I, O> {
                 down,
                 up,
             } => self.cut(roads, *block, *connection, *down, *up),
+            Instruction::Stop { node } => self.stop(alloc, roads, *node),
             _ => Ok(()),
         }
     }

@@ -1,5 +1,6 @@
 -- What the lines of a script do in a play.
 use Rattle.std.specs.Prelude.{zero, suc, ◌≡◌, ℕ, ◌==◌, nat_lt, if◌then◌else◌, Bool, false, List, [], ◌∷◌, ◌++◌, Option, Some, None, option_map}
+use Rattle.hd_base.specs.declared.numbers.NodeId.{NodeId}
 use Rattle.script_lang.specs.declared.instructions.Instruction.{Instruction}
 use Rattle.script_lang.specs.declared.instructions.Instruction.TheVariants as line
 use Rattle.script_lang.specs.declared.instructions.ScriptLine.{ScriptLine}
@@ -70,9 +71,15 @@ cut_events (Some c) down up =
 abbrev pub cut_at : PlayState → Option ℕ → ℕ → ℕ → PlayState
 cut_at p conn down up = record p { events = p.events ++ cut_events conn down up }
 
+-- STOPS
+
+-- A node that runs stops.
+abbrev pub stop_at : PlayState → NodeId → PlayState
+stop_at p node = if (world_of p).running node.0 then record p { events = p.events ++ event.Stop node ∷ [] } else p
+
 -- LINES
 
--- What a line of a script without faults, stops, recoveries and reads makes of a play with the writers of these blocks.
+-- What a line of a script without faults, starts, recoveries and reads makes of a play with the writers of these blocks.
 abbrev pub PlaysLine : List ℕ → Instruction → PlayState → PlayState → Type 0
 PlaysLine blocks (line.Sums b rule) old new = new ≡ ruled old b.0 rule
 PlaysLine blocks (line.Create b members) old new = new ≡ ordered old b.0 (command.Create members)
@@ -87,6 +94,7 @@ PlaysLine blocks line.Settle old new = Settles blocks old new
 PlaysLine blocks (line.Step b event) old new = new ≡ stepped old (step_due (world_of old) b.0 event)
 PlaysLine blocks (line.Cut b place down up) old new =
     new ≡ cut_at old (pipeline_conn (world_of old) b.0 place) down up
+PlaysLine blocks (line.Stop node) old new = new ≡ stop_at old node
 PlaysLine blocks other old new = new ≡ old
 
 -- one after the other; behind the last one all is settled
@@ -112,7 +120,7 @@ abbrev pub blocks_of : List ScriptLine → List ℕ
 blocks_of [] = []
 blocks_of (l ∷ lines) = with_block l.instruction (blocks_of lines)
 
--- A script without faults, stops, recoveries and reads is played: its first two lines give the nodes and the seed.
+-- A script without faults, starts, recoveries and reads is played: its first two lines give the nodes and the seed.
 abbrev pub PlaysFrom : Instruction → Instruction → List ScriptLine → PlayState → Type 0
 PlaysFrom (line.Nodes count) (line.Seed seed) lines end = PlaysLines (blocks_of lines) lines (opened count seed) end
 PlaysFrom first second lines end = ⊥

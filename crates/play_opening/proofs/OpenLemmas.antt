@@ -1,14 +1,14 @@
 -- A player that was opened shows the first world.
-use Rattle.std.proofs.Common.{◌≡◌, ◌≤◌, ◌+◌, ℕ, false, List, [], map, slice_get, Option, Some, None, IfSome, refl, sym, ap, subst, ◌∙◌, arith}
+use Rattle.std.proofs.Common.{◌≡◌, ◌≤◌, ℕ, false, List, [], map, length, slice_get, Option, Some, None, IfSome, refl, sym, ap, subst, ◌∙◌}
+use Rattle.std.specs.Prelude.{nat_lt}
 use Rattle.hd_base.specs.SumRules.{default_rule}
 use Rattle.hd_base.specs.declared.files.Files as files
 use Rattle.hd_base.specs.declared.links.LinkIn as link_in
 use Rattle.hd_base.specs.declared.links.LinkOut as link_out
 use Rattle.hd_base.specs.declared.numbers.BlockId.{BlockId}
 use Rattle.hd_base.specs.declared.roads.Roads as roads
-use Rattle.hd_base.specs.declared.roads.TheConstants.{FIRST_PORT, MAX_NODES}
+use Rattle.hd_base.specs.declared.roads.TheConstants.{MAX_NODES}
 use Rattle.hd_base.specs.declared.shelves.Shelf as shelves
-use Rattle.member_core.specs.declared.requests.TheConstants.{MAX_PORT}
 use Rattle.name_core.specs.Books.{BookState, new_book}
 use Rattle.road_traffic.specs.Showing.{Net}
 use Rattle.writer_core.specs.declared.records.WriterRecord.{WriterRecord}
@@ -72,34 +72,33 @@ no_office : (nodes : ℕ) → new_book.office ≡ (start nodes).office
 unfolding start
 no_office nodes = refl
 
-have_ports : (nodes : ℕ) → nodes ≤ MAX_NODES → FIRST_PORT + nodes ≤ MAX_PORT
-have_ports nodes h = omega arith
-
 no_events : (nodes : ℕ) (blocks : List BlockId) → EventsFit nodes blocks []
-no_events nodes blocks = record { widths = tt; runs = tt; names = tt; among = tt }
+no_events nodes blocks = record { widths = tt; names = tt; among = tt }
 
 module _ {S D R I O : Type 0} (s : shelves.Ghosts S D) (d : files.Ghosts D) (r : roads.Ghosts R I O) (i : link_in.Ghosts I) (o : link_out.Ghosts O) where
   apart : (blocks : List BlockId) (p : Player D I O) → AreDistinct blocks → AreNewClients blocks p.clients.items → AreApart p
   apart blocks p distinct h = λ j k a b at at' same.
       distinct j k a.block b.block (block_here blocks p.clients.items h j a at) (block_here blocks p.clients.items h k b at') same
 
-  player_shows : (blocks : List BlockId) (old new : List S) (nodes : ℕ) (net : Net) (p : Player D I O) (road : R) → AreDistinct blocks → IsOpenedPlay s d blocks old new p → NodesStand r i o (start nodes) net road p.nodes
+  player_shows : (blocks : List BlockId) (old new : List S) (nodes : ℕ) (net : Net) (p : Player D I O) (road : R) → nodes ≡ length old → AreDistinct blocks → IsOpenedPlay s d blocks old new p → NodesStand r i o (start nodes) net road p.nodes
       → PlayerShows r i o (start nodes) net no_commands road p
-  player_shows blocks old new nodes net p road distinct h stand = record {
+  unfolding start
+  player_shows blocks old new nodes net p road count distinct h stand = record {
     nodes = stand;
     clients = λ k c at. record { shows = new_shows i o nodes net c.block c (h.clients.each k c at).is_new; queue = (h.clients.each k c at).is_new.queue };
     apart = apart blocks p distinct h.clients;
     office = ap (λ (b : BookState). b.office) h.office ∙ no_office nodes;
+    running = λ n. h.running n ∙ ap (λ (k : ℕ). nat_lt n k) (sym count);
   }
 
-  pub play_stands : (blocks : List BlockId) (old new : List S) (nodes : ℕ) (p : Player D I O) (road : R) → nodes ≤ MAX_NODES → AreDistinct blocks → IsOpenedPlay s d blocks old new p → NodesStand r i o (start nodes) (opened_net nodes) road p.nodes
+  pub play_stands : (blocks : List BlockId) (old new : List S) (nodes : ℕ) (p : Player D I O) (road : R) → nodes ≤ MAX_NODES → nodes ≡ length old → AreDistinct blocks → IsOpenedPlay s d blocks old new p → NodesStand r i o (start nodes) (opened_net nodes) road p.nodes
       → PlayStands r i o nodes no_commands road p
-  play_stands blocks old new nodes p road few distinct h stand =
+  play_stands blocks old new nodes p road few count distinct h stand =
       let same : world_of nodes p ≡ start nodes = ap (λ (es : List Event). run (start nodes) es) h.events in
       record {
         net = opened_net nodes;
-        shows = subst (λ (w : World). PlayerShows r i o w (opened_net nodes) no_commands road p) (sym same) (player_shows blocks old new nodes (opened_net nodes) p road distinct h stand);
-        ports = have_ports nodes few;
+        shows = subst (λ (w : World). PlayerShows r i o w (opened_net nodes) no_commands road p) (sym same) (player_shows blocks old new nodes (opened_net nodes) p road count distinct h stand);
+        few = few;
         events = subst (λ (es : List Event). EventsFit nodes p.nodes.blocks.items es) (sym h.events) (no_events nodes p.nodes.blocks.items);
         clients = λ k c at. client_fits nodes p.nodes.blocks.items (world_of nodes p) k c
             (ap (λ (bs : List BlockId). slice_get bs k) h.nodes.blocks_are ∙ block_here blocks p.clients.items h.clients k c at) (h.clients.each k c at);

@@ -1,5 +1,5 @@
 -- The player of a play is opened.
-use Rattle.std.specs.Prelude.{◌≡◌, ◌<◌, ◌^◌, ℕ, List, [], slice_get, Some, Result, Ok, Err}
+use Rattle.std.specs.Prelude.{◌≡◌, ◌<◌, ◌^◌, ℕ, nat_lt, Bool, List, [], length, slice_get, Some, Result, Ok, Err}
 use Rattle.hd_base.specs.declared.numbers.BlockId.{BlockId}
 use Rattle.hd_base.specs.declared.files.Files as files
 use Rattle.hd_base.specs.declared.links.LinkIn as link_in
@@ -13,6 +13,7 @@ use Rattle.node_opening.specs.Opening.{IsOpened}
 use Rattle.play_model.specs.Dues.{Queues}
 use Rattle.play_clients.specs.declared.clients.Client.{Client}
 use Rattle.play_clients.specs.Clients.{IsNew}
+use Rattle.play_nodes.specs.Showing.{runs_in}
 use Rattle.play.specs.declared.player.Player.{Player}
 use Rattle.play.specs.Events.{blocks_of}
 use Rattle.play.specs.Standing.{PlayStands}
@@ -31,12 +32,17 @@ pub record AreNewClients {I O : Type 0} (blocks : List BlockId) (clients : List 
 
 -- PLAYERS
 
--- The nodes are opened, each block has a new client, the office knows no block, and no event has happened.
+-- It is told of the first nodes, so many, that they run, and of no other.
+abbrev pub AllRun : ℕ → List Bool → Type 0
+AllRun count running = (n : ℕ) → runs_in running n ≡ nat_lt n count
+
+-- The nodes are opened, each block has a new client, the office knows no block, all nodes run, and no event has happened.
 pub record IsOpenedPlay {S D I O : Type 0} (s : shelves.Ghosts S D) (d : files.Ghosts D) (blocks : List BlockId)
     (old new : List S) (p : Player D I O) : Type 0 where
   pub nodes : IsOpened s d blocks old new p.nodes
   pub clients : AreNewClients blocks p.clients.items
   pub office : p.office ≡ new_book
+  pub running : AllRun (length old) p.running.items
   pub events : p.events.items ≡ []
 
 -- no commands

@@ -4,17 +4,25 @@ ghost use Rattle.std.specs.Prelude.{◌≡◌, ◌≤◌, length, IfOk, IfErr, O
 ghost use Rattle.hd_base.specs.declared.roads.TheConstants.{MAX_NODES};
 ghost use Rattle.node_opening.specs.Shelves.{AreDistinct, EachShelf, IsGivenBack};
 ghost use Rattle.node_opening.specs.Opening.{HasOpenCause};
-ghost use Rattle.play_opening.specs.Opening.{IsOpenedPlay, OpensPlay};
+ghost use Rattle.play_opening.specs.Opening.{AllRun, IsOpenedPlay, OpensPlay};
 
 use crate::clients::new_clients;
 use hd_base::{BlockId, Roads, Shelf};
 use name_core::OfficeBook;
 use node_opening::{OpenFault, open_nodes};
 use play::Player;
-use std::alloc::Global;
+use std::alloc::{AllocError, Global};
+
+/// That so many nodes run, which are the first ones.
+fn all_running(alloc: Global, count: usize) -> Result<Vec<bool>, AllocError>
+    ensures { IfOk result (λ running. AllRun count running.items) }
+{
+    Ok(vec![in alloc; true; count]?)
+}
 
 /// Opens the player of a play, with as many nodes as there are shelves: the nodes are opened, as `open_nodes` does it,
-/// each block has a new client, in the order of the blocks, the office knows no block, and no event has happened. There
+/// each block has a new client, in the order of the blocks, the office knows no block, all nodes run, and no event has
+/// happened. There
 /// are ports for all nodes, and each block stands once.
 ///
 /// After a fault no block is lent that wasn't before, and the shelves' files are as they were.
@@ -36,12 +44,14 @@ pub fn open_player<S: Shelf, R: Roads>(
 {
     let clients = new_clients(alloc, &blocks)?;
     let office = OfficeBook::new(alloc)?;
+    let running = all_running(alloc, shelves.len())?;
     let nodes = open_nodes(alloc, roads, shelves, blocks)?;
     let events = Vec::new(alloc);
     Ok(Player {
         nodes,
         clients,
         office,
+        running,
         events,
     })
 }

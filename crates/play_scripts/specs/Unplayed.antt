@@ -4,10 +4,9 @@ use Rattle.script_lang.specs.declared.instructions.Instruction.{Instruction}
 use Rattle.script_lang.specs.declared.instructions.Instruction.TheVariants as says
 use Rattle.script_lang.specs.declared.instructions.ScriptLine.{ScriptLine}
 
--- a fault, a stop, a start, a recovery or a read
+-- a fault, a start, a recovery or a read
 abbrev pub is_unplayed : Instruction → Bool
 is_unplayed (says.Fault node nth) = true
-is_unplayed (says.Stop node) = true
 is_unplayed (says.Start node) = true
 is_unplayed (says.Recover block node members) = true
 is_unplayed (says.Read block node offset count) = true

@@ -5,7 +5,7 @@ ghost use Rattle.play_scripts.specs.Unplayed.{is_unplayed, first_unplayed, ArePl
 
 use script_lang::{Instruction, ScriptLine};
 
-/// The number of the first line that plays don't have yet: a fault, a stop, a start, a recovery or a read.
+/// The number of the first line that plays don't have yet: a fault, a start, a recovery or a read.
 pub fn first_unplayed(lines: &[ScriptLine]) -> Option<u64>
     ensures first { result ≡ first_unplayed lines.now }
     ensures none { IsNone result ↔ ArePlayed lines.now }
@@ -21,7 +21,6 @@ fn is_unplayed(instruction: &Instruction) -> bool
     matches!(
         instruction,
         Instruction::Fault { .. }
-            | Instruction::Stop { .. }
             | Instruction::Start { .. }
             | Instruction::Recover { .. }
             | Instruction::Read { .. }

@@ -61,6 +61,20 @@ const CUT_STREAM: &[u8] =
 const CUT_STREAM_REPORT: &[u8] =
     b"replica 0 1 RBW 1002 1000 1000 78ba7f28 ok\nreplica 1 1 RBW 1001 1000 1000 78ba7f28 ok\nreplica 2 1 RBW 1002 1000 1000 78ba7f28 ok\nanswer 1 0 create ok 1001\nanswer 1 2 hflush ok 512 1001 0,1,2\nanswer 1 4 hflush ok 1000 1002 0,2\nend\n";
 
+/// The second of three members stops: the writer drops it, and sends what it writes then to the others.
+const STOP_STREAM: &[u8] =
+    b"nodes 3\nseed 1\ncreate 1 0,1,2\nfill 1 512\nhflush 1\nsettle\nstop 1\nfill 1 488\nhflush 1\n";
+
+const STOP_STREAM_REPORT: &[u8] =
+    b"replica 0 1 RBW 1002 1000 1000 78ba7f28 ok\ndown 1\nreplica 2 1 RBW 1002 1000 1000 78ba7f28 ok\nanswer 1 0 create ok 1001\nanswer 1 2 hflush ok 512 1001 0,1,2\nanswer 1 4 hflush ok 1000 1002 0,2\nend\n";
+
+/// A node that doesn't run answers no dial, neither a member's nor a writer's: the block is abandoned for it.
+const STOP_FIRST: &[u8] =
+    b"nodes 3\nseed 0\nstop 1\ncreate 1 0,1\nsettle\ncreate 2 1,2\nexpect 0 1 RBW 1001 0\n";
+
+const STOP_FIRST_REPORT: &[u8] =
+    b"replica 0 1 RBW 1001 0 0 00000000 ok\ndown 1\nanswer 1 0 create abandoned 1\nanswer 2 0 create abandoned 1\nend\n";
+
 /// Where a connection is cut of a pipeline of three members: while it is set up, while it streams, behind its last packet,
 /// and while an append sets it up.
 const CUT_PLACES: [(&[u8], &[u8]); 4] = [
@@ -191,13 +205,15 @@ fn run_one(alloc: Global, line: &str, text: &[u8], failing: Failing) -> Result<L
 /// What each of the examples reports.
 #[test]
 fn examples_are_reported(rt: HostRuntime) -> Result<(), Fail> {
-    let table: [(&[u8], &[u8]); 7] = [
+    let table: [(&[u8], &[u8]); 9] = [
         (NINE, NINE_REPORT),
         (TWO_PACKETS, TWO_PACKETS_REPORT),
         (EMPTY, EMPTY_REPORT),
         (APPEND, APPEND_REPORT),
         (FLUSHES, FLUSHES_REPORT),
         (CUT_STREAM, CUT_STREAM_REPORT),
+        (STOP_STREAM, STOP_STREAM_REPORT),
+        (STOP_FIRST, STOP_FIRST_REPORT),
         (UNSUMMED, UNSUMMED_REPORT),
     ];
     for (script, report) in table {
@@ -370,7 +386,11 @@ fn words_and_scripts_are_refused(rt: HostRuntime) -> Result<(), Fail> {
         ("play", b"nodes 1\n", bad(2, BadKind::Head)),
         ("play", b"", bad(1, BadKind::Head)),
         ("play", b"nodes 4\nseed 0\n", bad(1, BadKind::TooManyNodes)),
-        ("play", b"nodes 1\nseed 0\nstop 0\n", bad(3, BadKind::Word)),
+        (
+            "play",
+            b"nodes 1\nseed 0\nfault 0 1\n",
+            bad(3, BadKind::Word),
+        ),
     ];
     for (mode, script, wanted) in table {
         let left = run_one(rt.alloc(), mode, script, NONE)?;

@@ -1,5 +1,5 @@
 -- A script whose lines were played was played to an end of its play.
-use Rattle.std.proofs.Common.{◌≡◌, ◌<◌, ◌≤◌, ℕ, suc, Bool, List, [], ◌∷◌, length, map, drop, Option, Some, None, IfSome, Result, refl, sym, ap, subst, ◌∙◌, arith}
+use Rattle.std.proofs.Common.{◌≡◌, ◌≤◌, ℕ, suc, Bool, List, [], ◌∷◌, length, map, drop, Option, Some, None, IfSome, Result, refl, sym, ap, subst, ◌∙◌, arith}
 use Rattle.std.specs.Prelude.{option_map}
 use Rattle.std.proofs.lemmas.Option.{same_Some}
 use Rattle.hd_base.specs.Channels.{Carried}
@@ -20,7 +20,7 @@ use Rattle.world_nets.specs.Starts.{NetsCarry}
 use Rattle.play_model.specs.States.{PlayState, opened}
 use Rattle.play_model.specs.States as states
 use Rattle.play_model.specs.Lines.{Plays, PlaysLines, blocks_of}
-use Rattle.play_laws.specs.Nodes.{AllRun, AllKeepNodes, NodesRun}
+use Rattle.play_laws.specs.Nodes.{OnlyNodesRun}
 use Rattle.play_clients.specs.declared.clients.Client.{Client}
 use Rattle.play_dues.specs.Own as own
 use Rattle.play_nodes.specs.Showing.{NodesShow}
@@ -94,15 +94,12 @@ module _ {F R I O : Type 0} (f : files.Ghosts F) (r : roads.Ghosts R I O) (i : l
   same_blocks : (script : List ScriptLine) (road : R) (x : Playing F I O) → BeginsScript r i o script road x → blocks_in x ≡ blocks_of (drop 2 script)
   same_blocks script road x b = sym (same_numbers x.player.clients.items) ∙ (ap numbers b.begins.clients ∙ b.begins.are.are)
 
-  nodes_are : (end : PlayState) (x : Playing F I O) (road : R) → (is : PlayIs r i o end road x) → AllRun → NodesAre i o x.nodes (states.world_of end) is.stands.net x.player.nodes
-  nodes_are end x road is all =
-      let keeps : AllKeepNodes end.events = subst (λ (es : List Event). AllKeepNodes es) (sym is.events) is.stands.events.runs in
-      let n : NodesRun end.nodes (states.world_of end) = all end.nodes end.events keeps in
-      record {
-        show = subst (λ (es : List Event). NodesShow i o (run (start end.nodes) es) is.stands.net x.player.nodes) (sym is.events) is.stands.shows.nodes.nodes_are;
-        count_is = n.nodes_are ∙ is.nodes_are;
-        running = λ node within. n.runs node (subst (λ (k : ℕ). node < k) n.nodes_are within);
-      }
+  nodes_are : (end : PlayState) (x : Playing F I O) (road : R) → (is : PlayIs r i o end road x) → OnlyNodesRun → NodesAre i o x.nodes x.player.running.items (states.world_of end) is.stands.net x.player.nodes
+  nodes_are end x road is all = record {
+    show = subst (λ (es : List Event). NodesShow i o (run (start end.nodes) es) is.stands.net x.player.nodes) (sym is.events) is.stands.shows.nodes.nodes_are;
+    count_is = (all end.nodes end.events).nodes_are ∙ is.nodes_are;
+    tells = λ n. is.stands.shows.running n ∙ ap (λ (es : List Event). (run (start end.nodes) es).running n) (sym is.events);
+  }
 
   clients_are : (end : PlayState) (x : Playing F I O) (road : R) → (is : PlayIs r i o end road x) → blocks_in x ≡ numbers x.player.nodes.blocks.items → ClientsAre (states.world_of end) x.player.nodes x.player.clients.items
   clients_are end x road is blocks = record {
@@ -110,7 +107,7 @@ module _ {F R I O : Type 0} (f : files.Ghosts F) (r : roads.Ghosts R I O) (i : l
     said = λ k c at. (is.stands.shows.clients k c at).shows.said ∙ ap (λ (es : List Event). (run (start end.nodes) es).said c.block.0) (sym is.events);
   }
 
-  through : (script : List ScriptLine) (road road' : R) (old x : Playing F I O) (p : Played) → (b : BeginsScript r i o script road old) → (left : LinesLeft r i o (drop 2 script) (first_of b.head) old x road') → x.player.nodes.blocks.items ≡ old.player.nodes.blocks.items → AllRun → NetsCarry → IsToldOf f i o x script p
+  through : (script : List ScriptLine) (road road' : R) (old x : Playing F I O) (p : Played) → (b : BeginsScript r i o script road old) → (left : LinesLeft r i o (drop 2 script) (first_of b.head) old x road') → x.player.nodes.blocks.items ≡ old.player.nodes.blocks.items → OnlyNodesRun → NetsCarry → IsToldOf f i o x script p
       → IsThrough f r script road' p
   through script road road' old x p b left same all carry told =
       let end : PlayState = left.left in
@@ -128,11 +125,11 @@ module _ {F R I O : Type 0} (f : files.Ghosts F) (r : roads.Ghosts R I O) (i : l
       }
 
   -- Once the report was made the nodes show the world still.
-  pub over : (script : List ScriptLine) (road road' : R) (old x y : Playing F I O) (p : Played) → (b : BeginsScript r i o script road old) → (left : LinesLeft r i o (drop 2 script) (first_of b.head) old x road') → x.player.nodes.blocks.items ≡ old.player.nodes.blocks.items → AllRun → NetsCarry → StillShow F I O f i o
+  pub over : (script : List ScriptLine) (road road' : R) (old x y : Playing F I O) (p : Played) → (b : BeginsScript r i o script road old) → (left : LinesLeft r i o (drop 2 script) (first_of b.head) old x road') → x.player.nodes.blocks.items ≡ old.player.nodes.blocks.items → OnlyNodesRun → NetsCarry → StillShow F I O f i o
       → LeavesAll f x.player.nodes y.player.nodes → IsToldOf f i o x script p → IsOver f r i o script road' y p
   unfolding through
   over script road road' old x y p b left same all carry still kept told =
-      let are : NodesAre i o x.nodes (states.world_of left.left) left.is.stands.net x.player.nodes = nodes_are left.left x road' left.is all in
+      let are : NodesAre i o x.nodes x.player.running.items (states.world_of left.left) left.is.stands.net x.player.nodes = nodes_are left.left x road' left.is all in
       record {
         through = through script road road' old x p b left same all carry told;
         net = left.is.stands.net;

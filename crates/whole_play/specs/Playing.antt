@@ -54,7 +54,7 @@ pub record IsTold {D : Type 0} (d : files.Ghosts D) (w : World) (blocks : List �
 -- So it is of each world that the nodes and the clients of the play show.
 abbrev pub IsToldOf : {F I O : Type 0} → files.Ghosts F → link_in.Ghosts I → link_out.Ghosts O → Playing F I O →
     List ScriptLine → Played → Type 0
-IsToldOf f i o x script p = (w : World) (net : Net) → NodesAre i o x.nodes w net x.player.nodes →
+IsToldOf f i o x script p = (w : World) (net : Net) → NodesAre i o x.nodes x.player.running.items w net x.player.nodes →
     ClientsAre w x.player.nodes x.player.clients.items
     → IsTold f w (numbers x.player.nodes.blocks.items) script p
 

@@ -17,7 +17,7 @@ use crate::opening::open_play;
 use fault_ports::CutRoads;
 use hd_base::{Files, LinkIn, LinkOut, Shelf};
 use node_opening::{close_nodes, fitting_books_are_of_blocks, opened_nodes_close, shown_nodes_fit};
-use play_laws::nodes_run;
+use play_laws::only_nodes_run;
 use play_lines::Playing;
 use play_nodes::Nodes;
 use play_report::{
@@ -108,7 +108,7 @@ fn play_through<F: Files, I: LinkIn, O: LinkOut, R: CutRoads<Inward = I, Outward
     ensures sizes { KeepsSizes playing.old.player.nodes playing.new.player.nodes }
     ensures pass { RoadsPass R.Roads roads.old roads.new }
 {
-    nodes_run();
+    only_nodes_run();
     nets_carry();
     reports_keep_nodes::<F, I, O>();
     let (_, lines) = script.split_at(HEAD_LINES);
@@ -130,7 +130,14 @@ fn report_of<F: Files, I: LinkIn, O: LinkOut>(
     reports_are_true::<F, I, O>();
     let count = playing.nodes;
     let player = &mut playing.player;
-    let report = write_report(alloc, count, &mut player.nodes, &player.clients, script)?;
-    let difference = first_difference(count, &player.nodes, script);
+    let report = write_report(
+        alloc,
+        count,
+        &player.running,
+        &mut player.nodes,
+        &player.clients,
+        script,
+    )?;
+    let difference = first_difference(count, &player.running, &player.nodes, script);
     Ok(Played { report, difference })
 }

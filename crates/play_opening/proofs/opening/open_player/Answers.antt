@@ -1,5 +1,5 @@
 -- The clients, the office and the nodes are made; or one of these failed, and nothing is lent.
-use Rattle.std.proofs.Common.{List, Err, length, ap, subst, ◌∙◌}
+use Rattle.std.proofs.Common.{List, Err, length, refl, ap, subst, ◌∙◌}
 use Rattle.std.proofs.lemmas.Result.{err_from_is_err_and}
 use Rattle.hd_base.specs.declared.numbers.BlockId.{BlockId}
 use Rattle.node_opening.specs.Shelves.{EachShelf, IsGivenBack}
@@ -34,6 +34,18 @@ returns-in_err-office-clause-given_back g c =
     let xs = c.args.shelves.now in
     on_err c.from_residual-in_err-office.result (EachShelf (IsGivenBack g.S.Shelf) xs xs) (given_same g.S.Shelf xs)
 
+pub returns-in_err-running-clause-cause : goal.returns-in_err-running-clause-cause
+returns-in_err-running-clause-cause g c =
+    let xs = c.args.shelves.now in
+    let road = c.args.roads.now in
+    let e = err_from_is_err_and c.from_residual-in_err-running.result c.from_residual-in_err-running.ensures.1 in
+    if_err c.from_residual-in_err-running.result e.0 (HasOpenCause g.R.Roads g.S.Shelf road road xs xs) e.1 (cause_memory g.R.Roads g.S.Shelf road road xs xs e.0 e.2)
+
+pub returns-in_err-running-clause-given_back : goal.returns-in_err-running-clause-given_back
+returns-in_err-running-clause-given_back g c =
+    let xs = c.args.shelves.now in
+    on_err c.from_residual-in_err-running.result (EachShelf (IsGivenBack g.S.Shelf) xs xs) (given_same g.S.Shelf xs)
+
 pub returns-in_err-nodes-clause-cause : goal.returns-in_err-nodes-clause-cause
 returns-in_err-nodes-clause-cause g c =
     let old = c.args.shelves.now in
@@ -51,10 +63,11 @@ returns-clause-opened g c = record {
   nodes = c.in_ok-nodes.ensures.opened;
   clients = subst (λ (bs : List BlockId). AreNewClients bs c.in_ok-clients.clients.items) c.deref.ensures.value c.in_ok-clients.ensures;
   office = c.in_ok-office.ensures;
+  running = c.in_ok-running.ensures;
   events = c.new-events.ensures.items;
 }
 
 pub returns-clause-stands : goal.returns-clause-stands
 returns-clause-stands g c = λ unused.
     play_stands g.S.Shelf g.S.Drawer.Files g.R.Roads g.R.Inward.LinkIn g.R.Outward.LinkOut c.args.blocks.items c.args.shelves.now c.open_nodes.new.shelves (length c.args.shelves.now) _ c.open_nodes.new.roads
-    c.requires.ports c.requires.distinct (returns-clause-opened g c) (c.in_ok-nodes.ensures.stands unused)
+    c.requires.ports refl c.requires.distinct (returns-clause-opened g c) (c.in_ok-nodes.ensures.stands unused)

@@ -1,12 +1,12 @@
 -- The report, and the first difference, are those of the world that is shown.
-use Rattle.std.proofs.Common.{List, ap, subst, sym, ◌∙◌}
+use Rattle.std.proofs.Common.{Bool, List, ap, subst, sym, ◌∙◌}
 use Rattle.std.proofs.lemmas.Result.{err_from_is_err_and}
 use Rattle.hd_base.specs.declared.numbers.BlockId.{BlockId}
 use Rattle.node_opening.proofs.ListLemmas.{if_err}
 use Rattle.play_scripts.specs.Blocks.{numbers}
 use Rattle.play_clients.specs.declared.clients.Client.{Client}
 use Rattle.play_report.specs.Expecting.{differing}
-use Rattle.play_report.specs.Reports.{ClientsAre}
+use Rattle.play_report.specs.Reports.{NodesAre, ClientsAre}
 use Rattle.whole_play.specs.declared.faults.RunFault.{RunFault}
 use Rattle.whole_play.specs.Playing.{IsReportFault}
 use Rattle.whole_play.proofs.FaultLemmas.{report_fault}
@@ -21,11 +21,16 @@ returns-in_err-report-clause-cause g c =
 
 pub returns-clause-told : goal.returns-clause-told
 returns-clause-told g c = λ w net are clients.
+    let count = c.args.playing.now.nodes in
+    let runs = c.args.playing.now.player.running.items in
     let old = c.args.playing.now.player.nodes in
     let new = c.write_report.new.nodes in
     let kept = c.in_ok-report.ensures.kept in
+    let still : NodesAre g.I.LinkIn g.O.LinkOut count runs w net new = record { show = c.reports_keep_nodes.ensures.show w net old new kept are.show; count_is = are.count_is; tells = are.tells } in
     record {
-      report = λ tell. c.reports_are_true.ensures c.args.playing.now.nodes w net old c.args.script.now c.in_ok-report.report.items are (λ node place book at. tell book.drawer) (c.in_ok-report.ensures.report w net are (subst (λ (cs : List (Client g.row.I.Denot g.row.O.Denot)). ClientsAre w old cs) (sym c.deref.ensures.value) clients));
-      difference = c.first_difference-difference.ensures w net (record { show = c.reports_keep_nodes.ensures.show w net old new kept are.show; count_is = are.count_is; running = are.running })
+      report = λ tell. c.reports_are_true.ensures count runs w net old c.args.script.now c.in_ok-report.report.items are (λ node place book at. tell book.drawer)
+          (c.in_ok-report.ensures.report w net (subst (λ (rs : List Bool). NodesAre g.I.LinkIn g.O.LinkOut count rs w net old) (sym c.deref.ensures.value) are)
+          (subst (λ (cs : List (Client g.row.I.Denot g.row.O.Denot)). ClientsAre w old cs) (sym c.deref-2.ensures.value) clients));
+      difference = c.first_difference-difference.ensures w net (subst (λ (rs : List Bool). NodesAre g.I.LinkIn g.O.LinkOut count rs w net new) (sym c.deref-3.ensures.value) still)
           ∙ ap (λ (bs : List BlockId). differing w (numbers bs) c.args.script.now) kept.blocks;
     }

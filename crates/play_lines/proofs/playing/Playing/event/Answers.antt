@@ -1,7 +1,7 @@
 -- A line that gives no command is played.
 use Rattle.std.proofs.Common.{refl}
 use Rattle.member_events.proofs.SetupKnown.{pass_same}
-use Rattle.play_lines.proofs.Lined.{rule_shows, run_shows, settle_shows, step_shows, cut_shows, idle_shows, is_other}
+use Rattle.play_lines.proofs.Lined.{rule_shows, run_shows, settle_shows, step_shows, cut_shows, stop_shows, idle_shows, is_other}
 use Rattle.play_nodes.proofs.SizeLaws.{sizes_same}
 use Rattle.play_lines.proofs.playing.Playing.event.Goals as goal
 
@@ -25,10 +25,14 @@ pub returns-in-Cut-clause-shows : goal.returns-in-Cut-clause-shows
 returns-in-Cut-clause-shows g c =
     cut_shows g.F.Files g.R.Roads g.I.LinkIn g.O.LinkOut c.args.self.now c.cut.new.self c.args.roads.now c.cut.new.roads c.args.line.now c.in-Cut.block c.in-Cut.connection c.in-Cut.down c.in-Cut.up c.cut.result c.in-Cut.is (λ p h. c.cut.ensures.shows p h)
 
+pub returns-in-Stop-clause-shows : goal.returns-in-Stop-clause-shows
+returns-in-Stop-clause-shows g c =
+    stop_shows g.F.Files g.R.Roads g.I.LinkIn g.O.LinkOut c.args.self.now c.stop.new.self c.args.roads.now c.stop.new.roads c.args.line.now c.in-Stop.node c.stop.result c.in-Stop.is (λ p h. c.stop.ensures.shows p h)
+
 pub returns-in_default : goal.returns-in_default
 returns-in_default g c = record {
   shows = idle_shows g.F.Files g.R.Roads g.I.LinkIn g.O.LinkOut c.args.self.now c.args.roads.now c.args.line.now c.requires.none
-      (is_other c.args.line.now (λ b rule. c.in_default.not-Sums b rule) (λ count. c.in_default.not-Run count) c.in_default.not-Settle (λ b event. c.in_default.not-Step b event) (λ b place down up. c.in_default.not-Cut b place down up));
+      (is_other c.args.line.now (λ b rule. c.in_default.not-Sums b rule) (λ count. c.in_default.not-Run count) c.in_default.not-Settle (λ b event. c.in_default.not-Step b event) (λ b place down up. c.in_default.not-Cut b place down up) (λ n. c.in_default.not-Stop n));
   sizes = sizes_same c.args.self.now.player.nodes;
   pass = pass_same g.R.Roads g.I.LinkIn g.O.LinkOut c.args.roads.now c.args.roads.now refl;
 }

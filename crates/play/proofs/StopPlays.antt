@@ -1,0 +1,125 @@
+-- A play of which a node has stopped.
+use Rattle.std.proofs.Common.{◌≡◌, ℕ, Bool, true, false, List, [], ◌∷◌, ◌++◌, Some, Result, Ok, Err, refl, sym, ap, ◌∙◌, subst}
+use Rattle.std.specs.Prelude.{if◌then◌else◌}
+use Rattle.hd_base.specs.declared.files.Files as files
+use Rattle.hd_base.specs.declared.links.LinkIn as link_in
+use Rattle.hd_base.specs.declared.links.LinkOut as link_out
+use Rattle.hd_base.specs.declared.numbers.BlockId.{BlockId}
+use Rattle.hd_base.specs.declared.numbers.NodeId.{NodeId}
+use Rattle.hd_base.specs.declared.roads.Roads as roads
+use Rattle.world.specs.declared.events.Event.{Event}
+use Rattle.world.specs.declared.events.Event.TheVariants as event
+use Rattle.world.specs.Parts.{Marks, Writing}
+use Rattle.world.specs.Connections.{is_of_node, stopped_marks}
+use Rattle.world.specs.Worlds.{World, put, start}
+use Rattle.world.specs.Events.{stop, happens, run}
+use Rattle.world_stops.specs.Origins.{DialsHaveOrigins}
+use Rattle.world_stops.proofs.StopLemmas.{stop_is}
+use Rattle.play_model.specs.Dues.{Queues}
+use Rattle.play_clients.specs.declared.clients.Client.{Client}
+use Rattle.play_clients.specs.Staying.{ClientsStay}
+use Rattle.play_nodes.specs.declared.nodes.Nodes.{Nodes}
+use Rattle.play_nodes.specs.Frames.{KeepsWriters}
+use Rattle.play_nodes.specs.Places.{KeepsSizes}
+use Rattle.play_nodes.specs.Showing.{NodesLeft}
+use Rattle.node_stops.specs.Stopping as node
+use Rattle.play.specs.declared.faults.PlayFault.{PlayFault}
+use Rattle.play.specs.declared.player.Player.{Player}
+use Rattle.play.specs.Events.{IsKept, Keeps}
+use Rattle.play.specs.Laws.{Laws}
+use Rattle.play.specs.Running.{IsStopped}
+use Rattle.play.specs.Showing.{PlayerShows}
+use Rattle.play.specs.Standing.{CommandsFit, ClientFits, EventsFit, world_of, PlayStands}
+use Rattle.play.specs.Stopping.{HasStopped, StopShows}
+use Rattle.play.proofs.Lawful.{fits_more}
+use Rattle.play.proofs.NodeSteps.{clients_left}
+
+-- THE WORLD
+
+over_stopped : (b : Bool) (k : Marks) → (if b then stopped_marks k else k).over ≡ k.over
+over_stopped true k = refl
+over_stopped false k = refl
+
+stopped_writers : (w : World) (n : NodeId) → KeepsWriters w (record (stop w n.0) { last = Some (event.Stop n) })
+stopped_writers w n = record {
+  office = refl;
+  writers = λ b. refl;
+  said = λ b. refl;
+  over = λ b c by. over_stopped (is_of_node w n.0 c) (w.up_marks c);
+}
+
+writers_kept : (w : World) (n : NodeId) → w.running n.0 ≡ true → KeepsWriters w (happens w (event.Stop n))
+writers_kept w n runs = subst (λ (v : World). KeepsWriters w v) (sym (stop_is w n runs)) (stopped_writers w n)
+
+running_put : (w : World) (n : NodeId) → w.running n.0 ≡ true → (m : ℕ) → (happens w (event.Stop n)).running m ≡ put w.running n.0 false m
+running_put w n runs m = ap (λ (v : World). v.running m) (stop_is w n runs)
+
+module _ {F R I O : Type 0} (f : files.Ghosts F) (r : roads.Ghosts R I O) (i : link_in.Ghosts I) (o : link_out.Ghosts O) (L : Laws) (origins : DialsHaveOrigins) (clients_stay : ClientsStay i o) where
+  module _ (nodes : ℕ) (queues : Queues) (n : NodeId) (old mid new : Player F I O) (n' : Nodes F I O) (road road' : R) (s : PlayStands r i o nodes queues road old) (runs : (world_of nodes old).running n.0 ≡ true) (shows : node.StopShows r i o n old.nodes n' road road' (Ok tt)) (sizes : KeepsSizes old.nodes n') (stopped : IsStopped (record old { nodes = n' }) mid n) (kept : IsKept mid new (event.Stop n)) where
+    abbrev here : World
+    here = world_of nodes old
+
+    abbrev there : World
+    there = happens here (event.Stop n)
+
+    left : NodesLeft r i o here s.net there road' n'
+    left = shows here s.net s.shows.nodes (record { runs = runs; placed = L.placed nodes old.events.items; ordered = L.ordered nodes old.events.items; from = origins nodes old.events.items })
+
+    same : new ≡ record old { nodes = n'; running = mid.running; events = new.events }
+    same = kept.same ∙ ap (λ (p : Player F I O). record p { events = new.events }) stopped.same
+
+    more : new.events.items ≡ old.events.items ++ event.Stop n ∷ []
+    more = kept.events ∙ ap (λ (p : Player F I O). p.events.items ++ event.Stop n ∷ []) stopped.same
+
+    world_is : world_of nodes new ≡ there
+    world_is = ap (λ (es : List Event). run (start nodes) es) more ∙ L.joined (start nodes) old.events.items (event.Stop n ∷ [])
+
+    abbrev after : Player F I O
+    after = record old { nodes = n'; running = mid.running; events = new.events }
+
+    shows_there : PlayerShows r i o there left.made queues road' after
+    shows_there = record {
+      nodes = left.stands;
+      clients = clients_left f r i o here there s.net left.made queues old clients_stay s.shows.clients (L.ordered nodes old.events.items) (writers_kept here n runs) left.writers;
+      apart = s.shows.apart;
+      office = s.shows.office ∙ sym (writers_kept here n runs).office;
+      running = λ m. stopped.running m ∙ (ap (λ (b : Bool). put (λ _. b) n.0 false m) (s.shows.running m) ∙ sym (running_put here n runs m));
+    }
+
+    writer_is : (b : ℕ) → there.writers b ≡ here.writers b
+    writer_is b = (writers_kept here n runs).writers b
+
+    blocks_are : n'.blocks.items ≡ old.nodes.blocks.items
+    blocks_are = sizes.blocks
+
+    fits_there : (c : Client I O) → ClientFits nodes old.nodes.blocks.items here c → ClientFits nodes n'.blocks.items there c
+    fits_there c h = subst (λ (bs : List BlockId). ClientFits nodes bs there c) (sym blocks_are) (record {
+      among = h.among;
+      width = h.width;
+      queue = subst (λ (x : Writing). CommandsFit nodes x.known.intake c.queue.items) (sym (writer_is c.block.0)) h.queue;
+      made = h.made;
+    })
+
+    stands_there : PlayStands r i o nodes queues road' after
+    stands_there = record {
+      net = left.made;
+      shows = subst (λ (v : World). PlayerShows r i o v left.made queues road' after) (sym world_is) shows_there;
+      few = s.few;
+      events = subst (λ (bs : List BlockId). EventsFit nodes bs new.events.items) (sym blocks_are)
+          (subst (λ (es : List Event). EventsFit nodes old.nodes.blocks.items es) (sym more)
+          (fits_more nodes old.nodes.blocks.items old.events.items (event.Stop n ∷ []) s.events (record { widths = (tt, tt); names = (tt, tt); among = (tt, tt) })));
+      clients = λ k c at. subst (λ (v : World). ClientFits nodes n'.blocks.items v c) (sym world_is) (fits_there c (s.clients k c at));
+      connected = λ b c has. s.connected b c (sym (ap (λ (x : Writing). x.conn) (writer_is b)) ∙ (sym (ap (λ (v : World). (v.writers b).conn) world_is) ∙ has));
+    }
+
+    pub has_stopped : HasStopped r i o nodes queues n old new road'
+    has_stopped = record {
+      stands = subst (λ (p : Player F I O). PlayStands r i o nodes queues road' p) (sym same) stands_there;
+      clients = ap (λ (p : Player F I O). p.clients) same;
+      events = more;
+    }
+
+  pub stop_shows : (n : NodeId) (old mid new : Player F I O) (n' : Nodes F I O) (road road' : R) (result : Result (Unit {0}) PlayFault) → node.StopShows r i o n old.nodes n' road road' (Ok tt) → KeepsSizes old.nodes n' → IsStopped (record old { nodes = n' }) mid n → Keeps mid new (event.Stop n) result
+      → StopShows r i o n old new road road' result
+  stop_shows n old mid new n' road road' (Ok u) shows sizes stopped kept nodes queues s runs = has_stopped nodes queues n old mid new n' road road' s runs shows sizes stopped kept
+  stop_shows n old mid new n' road road' (Err why) shows sizes stopped kept nodes queues s runs = kept

@@ -1,0 +1,7 @@
+-- A node of a play stopped, and the event was kept.
+use Rattle.play.proofs.StopPlays.{stop_shows}
+use Rattle.play.proofs.player.Player.stop.Goals as goal
+
+pub returns-clause-shows : goal.returns-clause-shows
+returns-clause-shows g c =
+    stop_shows g.F.Files g.R.Roads g.I.LinkIn g.O.LinkOut c.worlds_are_lawful.ensures c.dials_have_origins.ensures c.clients_stay.ensures c.args.node c.args.self.now c.stopped.new.self c.keep.new.self c.stop_node.new.nodes c.args.roads.now c.stop_node.new.roads c.keep.result c.in-Ok.ensures.shows c.in-Ok.ensures.sizes c.stopped.ensures c.keep.ensures.kept

@@ -1,0 +1,131 @@
+-- A line that stops a node.
+use Rattle.std.proofs.Common.{◌≡◌, ℕ, ◌<◌, ◌≤◌, Bool, true, false, List, [], ◌∷◌, ◌++◌, slice_get, Some, Result, Ok, Err, refl, sym, ap, ◌∙◌, subst, arith}
+use Rattle.std.specs.Prelude.{◌==◌, ◌&&◌, not, nat_lt, if◌then◌else◌}
+use Rattle.hd_base.specs.declared.files.Files as files
+use Rattle.hd_base.specs.declared.links.LinkIn as link_in
+use Rattle.hd_base.specs.declared.links.LinkOut as link_out
+use Rattle.hd_base.specs.declared.numbers.NodeId.{NodeId}
+use Rattle.hd_base.specs.declared.roads.Roads as roads
+use Rattle.hd_base.specs.declared.roads.TheConstants.{MAX_NODES}
+use Rattle.world.specs.declared.events.Event.{Event}
+use Rattle.world.specs.declared.events.Event.TheVariants as event
+use Rattle.world.specs.Parts.{Upper, by_writer, by_member, by_reader, by_primary, Writing}
+use Rattle.world.specs.Worlds.{World, start}
+use Rattle.world.specs.Events.{stop, happens, run}
+use Rattle.world_stops.proofs.StopLemmas.{stop_is}
+use Rattle.play_model.specs.Dues.{is_open}
+use Rattle.play_model.specs.Lines.{stop_at}
+use Rattle.play_model.specs.States as states
+use Rattle.play_model.specs.States.{PlayState}
+use Rattle.play_clients.specs.declared.clients.Client.{Client}
+use Rattle.play_dues.specs.declared.live.LiveConns.{LiveConns}
+use Rattle.play_dues.specs.Live.{Covers}
+use Rattle.play_dues.specs.Own.{blocks_of}
+use Rattle.play_dues.specs.Spent.{is_given_up, is_spent}
+use Rattle.play_laws.specs.Intakes.{intake_of}
+use Rattle.play_nodes.specs.Showing.{runs_in, has_events}
+use Rattle.play.specs.declared.faults.PlayFault.{PlayFault}
+use Rattle.play.specs.Laws.{Laws}
+use Rattle.play.specs.Standing.{given_with, world_of}
+use Rattle.play.specs.Stopping as player
+use Rattle.play.specs.Stopping.{HasStopped}
+use Rattle.play_lines.specs.declared.playing.Playing.{Playing}
+use Rattle.play_lines.specs.Drawing.{IsCaused, IsDrawn}
+use Rattle.play_lines.specs.Showing.{PlayIs, IsPlaying}
+use Rattle.play_lines.specs.Stopping.{StopShows}
+use Rattle.play_lines.proofs.Drawn.{world_same}
+
+-- WHAT IS SPENT
+
+-- the world in which a node stops
+abbrev stopped : World → NodeId → World
+stopped w n = record (stop w n.0) { last = Some (event.Stop n) }
+
+none_events : (a o : Bool) → not ((a && false) && o) ≡ true
+none_events true o = refl
+none_events false o = refl
+
+fewer : (b r l a o : Bool) → not ((a && (r && l)) && o) ≡ true → not ((a && ((if b then false else r) && l)) && o) ≡ true
+fewer true r l a o h = none_events a o
+fewer false r l a o h = h
+
+no_events : (w : World) (n : NodeId) (c : ℕ) → not (has_events w c) ≡ true → not (has_events (stopped w n) c) ≡ true
+no_events w n c h = fewer ((w.dialled c).to.node == n.0) (w.running (w.dialled c).to.node) (w.lives (w.dialled c).to.node == (w.dialled c).to.life) (nat_lt c w.next_conn) (is_open (w.lowers c)) h
+
+given_up : (w : World) (n : NodeId) (c : ℕ) (u : Upper) → is_given_up w c u ≡ true → is_given_up (stopped w n) c u ≡ true
+given_up w n c (by_writer b) h = h
+given_up w n c (by_member d) h = no_events w n d h
+given_up w n c (by_reader k) h = h
+given_up w n c (by_primary k place) h = h
+
+both : (a b c d : Bool) → (a ≡ true → c ≡ true) → (b ≡ true → d ≡ true) → (a && b) ≡ true → (c && d) ≡ true
+both true true c d f g h = ap (λ (x : Bool). x && d) (f refl) ∙ g refl
+both true false c d f g h = cc
+both false b c d f g h = cc
+
+spent_stops : (w : World) (n : NodeId) (c : ℕ) → is_spent w c ≡ true → is_spent (stopped w n) c ≡ true
+spent_stops w n c h =
+    both (not (has_events w c)) (is_given_up w c (w.dialled c).upper) (not (has_events (stopped w n) c)) (is_given_up (stopped w n) c (w.dialled c).upper) (no_events w n c) (given_up w n c (w.dialled c).upper) h
+
+-- What covered a world covers the one in which a node stops.
+covers_stop : (w : World) (n : NodeId) (live : LiveConns) → w.running n.0 ≡ true → Covers w live → Covers (happens w (event.Stop n)) live
+covers_stop w n live runs h =
+    subst (λ (v : World). Covers v live) (sym (stop_is w n runs)) (record { within = h.within; has = h.has; listed = h.listed; rest = λ c below out. spent_stops w n c (h.rest c below out) })
+
+writer_stays : (w : World) (n : NodeId) (b : ℕ) → w.running n.0 ≡ true → (happens w (event.Stop n)).writers b ≡ w.writers b
+writer_stays w n b runs = ap (λ (v : World). v.writers b) (stop_is w n runs)
+
+-- THE LINE
+
+stop_so : (p : PlayState) (n : NodeId) → (states.world_of p).running n.0 ≡ true → stop_at p n ≡ record p { events = p.events ++ event.Stop n ∷ [] }
+stop_so p n e = ap (λ (b : Bool). if b then record p { events = p.events ++ event.Stop n ∷ [] } else p) e
+
+stop_not : (p : PlayState) (n : NodeId) → (states.world_of p).running n.0 ≡ false → stop_at p n ≡ p
+stop_not p n e = ap (λ (b : Bool). if b then record p { events = p.events ++ event.Stop n ∷ [] } else p) e
+
+module _ {F R I O : Type 0} (f : files.Ghosts F) (r : roads.Ghosts R I O) (i : link_in.Ghosts I) (o : link_out.Ghosts O) (L : Laws) (node : NodeId) (old : Playing F I O) (road : R) where
+  -- whether the node runs in the model, as the player tells
+  running_told : (p : PlayState) → PlayIs r i o p road old → (states.world_of p).running node.0 ≡ runs_in old.player.running.items node.0
+  running_told p h = ap (λ (w : World). w.running node.0) (world_same f r i o p road old h) ∙ sym (h.stands.shows.running node.0)
+
+  pub nothing_stops : runs_in old.player.running.items node.0 ≡ false → StopShows f r i o node old old road road (Ok tt)
+  nothing_stops off = λ p h.
+      subst (λ (q : PlayState). IsDrawn r i o p q old old road) (sym (stop_not p node (running_told p h ∙ off))) (record { is = h; blocks = refl; given = λ b k. refl })
+
+  less : (n m k : ℕ) → n < m → m ≤ k → n < k
+  less n m k h g = omega (arith, h, g)
+
+  pub in_range : runs_in old.player.running.items node.0 ≡ true → IsPlaying r i o road old → node.0 < MAX_NODES
+  in_range on playing =
+      less node.0 playing.p.nodes MAX_NODES ((L.only playing.p.nodes old.player.events.items).within node.0 (sym (playing.is.stands.shows.running node.0) ∙ on)) playing.is.stands.few
+
+  module _ (on : runs_in old.player.running.items node.0 ≡ true) (new : Playing F I O) (road' : R) (rest : new ≡ record old { player = new.player }) where
+    stop_play : (p : PlayState) → (h : PlayIs r i o p road old) → HasStopped r i o p.nodes p.queues node old.player new.player road' → IsDrawn r i o p (record p { events = p.events ++ event.Stop node ∷ [] }) old new road'
+    stop_play p h has =
+        let w : World = states.world_of p in
+        let v : World = happens w (event.Stop node) in
+        let q : PlayState = record p { events = p.events ++ event.Stop node ∷ [] } in
+        let runs : w.running node.0 ≡ true = running_told p h ∙ on in
+        let joined : states.world_of q ≡ v = L.joined (start p.nodes) p.events (event.Stop node ∷ []) in
+        let events : q.events ≡ new.player.events.items = ap (λ (es : List Event). es ++ event.Stop node ∷ []) h.events ∙ sym has.events in
+        let world_is : world_of p.nodes new.player ≡ v = ap (λ (es : List Event). run (start p.nodes) es) (sym events) ∙ joined in
+        let clients : new.player.clients.items ≡ old.player.clients.items = ap (λ c. c.items) has.clients in
+        record {
+          is = record {
+            stands = has.stands;
+            nodes_are = h.nodes_are ∙ ap (λ (x : Playing F I O). x.nodes) (sym rest);
+            events = events;
+            generator = ap (λ (x : Playing F I O). x.generator) rest ∙ h.generator;
+            rules = λ k c at. h.rules k c (sym (ap (λ (xs : List (Client I O)). slice_get xs k) clients) ∙ at);
+            live = subst (λ (l : LiveConns). Covers (world_of p.nodes new.player) l) (ap (λ (x : Playing F I O). x.live) (sym rest))
+                (subst (λ (u : World). Covers u old.live) (sym world_is) (covers_stop w node old.live runs (subst (λ (u : World). Covers u old.live) (sym (world_same f r i o p road old h)) h.live)));
+          };
+          blocks = ap (λ (xs : List (Client I O)). blocks_of xs) clients;
+          given = λ b k. ap (λ (u : World). given_with (intake_of u b) (p.queues b)) joined ∙ ap (λ (x : Writing). given_with x.known.intake (p.queues b)) (writer_stays w node b runs);
+        }
+
+    pub was_stopped : (result : Result (Unit {0}) PlayFault) → player.StopShows r i o node old.player new.player road road' result → StopShows f r i o node old new road road' result
+    was_stopped (Ok u) shows = λ p h.
+        let runs : (states.world_of p).running node.0 ≡ true = running_told p h ∙ on in
+        subst (λ (q : PlayState). IsDrawn r i o p q old new road') (sym (stop_so p node runs)) (stop_play p h (shows p.nodes p.queues h.stands (sym (h.stands.shows.running node.0) ∙ on)))
+    was_stopped (Err why) shows = λ p h. subst (λ (x : PlayFault). IsCaused f r new road road' x) (sym (shows p.nodes p.queues h.stands (sym (h.stands.shows.running node.0) ∙ on))) tt
