@@ -12,7 +12,7 @@ use hd_base::{ConnId, NodeId, Roads, Stamp};
 use link_messages::Incoming;
 use mem_ports::{MemIn, MemOut, MemRoads};
 use name_core::OfficeBook;
-use primary_events::hear;
+use primary_events::{hear, lead};
 use recovery_core::Recovered;
 use std::alloc::Global;
 use std::process::Abort;
@@ -135,6 +135,6 @@ fn a_member_is_heard_in_a_play(rt: HostRuntime) {
         .expect(&rt, "an exchange");
     serve(&rt, alloc, &mut roads, port);
     assert!(rt; hear(alloc, &mut roads, &mut primary, 0).is_ok());
-    let ended = primary.step(alloc, &mut office, &mut roads);
-    assert!(rt; matches!(ended, PrimaryStep::Ended(Recovered::Nothing)));
+    let ended = lead(alloc, &mut office, &mut roads, &mut primary);
+    assert!(rt; matches!(ended, Ok(PrimaryStep::Ended(Recovered::Nothing))));
 }
