@@ -38,7 +38,7 @@ use Rattle.world.specs.Connections.{Next, message, the_end, next_down, next_up, 
 use Rattle.world.specs.Nodes.{lower_down, lower_ready}
 use Rattle.world.specs.Clients.{did, did_step, dialled_change, dialling, rest_in, is_formed, ruled, is_empty, takes_command, writer_step, writer_up}
 use Rattle.world.specs.Primaries.{office_event}
-use Rattle.world.specs.Restarts.{all_found, restart}
+use Rattle.world.specs.Restarts.{restart}
 use Rattle.world.specs.Events.{changed, own_change, down_as, down_event, ready_event, unless_fails, upper_up, up_as, up_event, fault_event, lost, stop, where_so, outcome, after_event, happens, run}
 use Rattle.world_laws.proofs.AllCarried.{next-sent, at-start}
 use Rattle.world_laws.proofs.AllRecorded.{Reached, reached-next}
@@ -262,7 +262,7 @@ module _ (Of : NodeId → Type 0) where
   outcome-aimed w (event.Fault d) u o a h = fault-aimed w d u o h
   outcome-aimed w (event.Stop n) u o a h = where-aimed (w.running n.0) (stop w n.0) (stop-aimed w n.0 h)
   outcome-aimed w (event.Restart n list) u o a h =
-      where-aimed (nat_lt n.0 w.nodes && not (w.running n.0) && all_found w n.0 list) (restart w n.0 list) (restart-aimed w n.0 list h)
+      where-aimed (nat_lt n.0 w.nodes && not (w.running n.0)) (restart w n.0 list) (restart-aimed w n.0 list h)
 
   after-aimed : (w : World) (e : Event) (o : Option World) → Aimed w → IfSome o Aimed → Aimed (after_event w e o)
   after-aimed w e None h n = h

@@ -33,7 +33,7 @@ use Rattle.world.specs.Connections.{Next, message, next_down, next_up, down_take
 use Rattle.world.specs.Nodes.{lower_down, lower_ready, mirror_up}
 use Rattle.world.specs.Clients.{own_writer, writer_up, own_reader, reader_up}
 use Rattle.world.specs.Primaries.{own_recover, own_primary, primary_up, writer_asks, primary_commits, primary_asks, office_event}
-use Rattle.world.specs.Restarts.{all_found, found_in, replica_found, restarted, restart}
+use Rattle.world.specs.Restarts.{found_in, replica_found, restarted, restart}
 use Rattle.world.specs.Events.{changed, own_change, down_as, down_event, ready_event, unless_fails, upper_up, up_as, up_event, fault_event, lost, stop, where_so, outcome, after_event, happens, run}
 use Rattle.world_laws.specs.Placing.{IsUpper}
 use Rattle.world_laws.proofs.AllCarried.{next-sent, at-start}
@@ -380,7 +380,7 @@ outcome-early w (event.Lost c way more) x o = where-early (nat_lt c.0 w.next_con
 outcome-early w (event.Fault d) x o = fault-early w d x o
 outcome-early w (event.Stop n) x o = where-early (w.running n.0) (stop w n.0) (stop-early w n.0 x.early)
 outcome-early w (event.Restart n list) x o =
-    where-early (nat_lt n.0 w.nodes && not (w.running n.0) && all_found w n.0 list) (restart w n.0 list) (restart-early w n.0 list x.early)
+    where-early (nat_lt n.0 w.nodes && not (w.running n.0)) (restart w n.0 list) (restart-early w n.0 list x.early)
 
 after-early : (w : World) (e : Event) (o : Option World) → Early w → IfSome o Early → Early (after_event w e o)
 after-early w e None h n = h

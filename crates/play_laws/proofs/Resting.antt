@@ -38,7 +38,7 @@ use Rattle.world.specs.Connections.{Next, next_down, next_up, down_taken, up_tak
 use Rattle.world.specs.Nodes.{lower_down, lower_ready, mirror_up}
 use Rattle.world.specs.Clients.{writing_as, writer_change, did, did_step, dialled_change, dialling, rest_in, is_formed, ruled, command_bytes, is_empty, takes_command, writer_step, writer_hears, writer_up, own_reader, reader_up}
 use Rattle.world.specs.Primaries.{own_recover, own_primary, primary_up, writer_asks, primary_commits, primary_asks, office_event}
-use Rattle.world.specs.Restarts.{all_found, restart}
+use Rattle.world.specs.Restarts.{restart}
 use Rattle.world.specs.Events.{changed, own_change, down_as, down_event, ready_event, unless_fails, upper_up, up_as, up_event, fault_event, lost, stop, where_so, outcome, after_event, happens, run}
 use Rattle.world_laws.proofs.ByteFrame.{each-nil}
 use Rattle.world_laws.proofs.FactTables.{put-each, when-each, and-right}
@@ -287,7 +287,7 @@ module _ (Of : NodeId → Type 0) where
   outcome-stands w (event.Lost c way more) n h = where-stands (nat_lt c.0 w.next_conn) (lost w c.0 way more) (lost-stands w c.0 way more h)
   outcome-stands w (event.Fault d) n h = fault-stands w d h
   outcome-stands w (event.Stop n) _ h = where-stands (w.running n.0) (stop w n.0) h
-  outcome-stands w (event.Restart n list) _ h = where-stands (nat_lt n.0 w.nodes && not (w.running n.0) && all_found w n.0 list) (restart w n.0 list) h
+  outcome-stands w (event.Restart n list) _ h = where-stands (nat_lt n.0 w.nodes && not (w.running n.0)) (restart w n.0 list) h
 
   after-stands : (w : World) (e : Event) (o : Option World) → AllStand w → IfSome o AllStand → AllStand (after_event w e o)
   after-stands w e None h n b = h b

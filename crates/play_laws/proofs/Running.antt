@@ -14,7 +14,7 @@ use Rattle.world.specs.Connections.{Next, next_down, next_up, down_taken, up_tak
 use Rattle.world.specs.Nodes.{lower_down, lower_ready}
 use Rattle.world.specs.Primaries.{office_event}
 use Rattle.world.specs.Events.{changed, own_change, down_as, down_event, ready_event, upper_up, up_as, up_event, fault_event, lost, stop, where_so, outcome, after_event, happens, run}
-use Rattle.world.specs.Restarts.{all_found, restart}
+use Rattle.world.specs.Restarts.{restart}
 use Rattle.world_laws.proofs.FactTables.{when-each}
 use Rattle.play_laws.specs.Nodes.{KeepsNodes, AllKeepNodes, NodesRun, AllRun, SameNodes, RunningStays, OnlyNodes, OnlyNodesRun}
 
@@ -150,15 +150,15 @@ module _ (nodes : ℕ) where
       by None n = h
       by (Some v) n = record { nodes_are = n.nodes_are; within = n.within }
 
-  lt-so : (a b : Bool) (n m : ℕ) → (nat_lt n m && a && b) ≡ true → n < m
-  lt-so a b n m e = grind (arith, nat_tests, e)
+  lt-so : (a : Bool) (n m : ℕ) → (nat_lt n m && a) ≡ true → n < m
+  lt-so a n m e = grind (arith, nat_tests, e)
 
   only-happens : (w : World) (e : Event) → Only w → Only (happens w e)
   unfolding outcome
   only-happens w (event.Stop n) h = only-outcome w (event.Stop n) h (only-where (w.running n.0) (stop w n.0) (λ _. only-stopped w n.0 h))
   only-happens w (event.Restart n list) h =
-      only-outcome w (event.Restart n list) h (only-where (nat_lt n.0 w.nodes && not (w.running n.0) && all_found w n.0 list) (restart w n.0 list)
-      (λ so. only-restarted w n.0 list (lt-so (not (w.running n.0)) (all_found w n.0 list) n.0 w.nodes so) h))
+      only-outcome w (event.Restart n list) h (only-where (nat_lt n.0 w.nodes && not (w.running n.0)) (restart w n.0 list)
+      (λ so. only-restarted w n.0 list (lt-so (not (w.running n.0)) n.0 w.nodes so) h))
   only-happens w (event.Own s) h = only-same w (happens w (event.Own s)) (running-stays w (event.Own s) tt) h
   only-happens w (event.Office c) h = only-same w (happens w (event.Office c)) (running-stays w (event.Office c) tt) h
   only-happens w (event.Down c answered) h = only-same w (happens w (event.Down c answered)) (running-stays w (event.Down c answered) tt) h

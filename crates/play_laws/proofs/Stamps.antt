@@ -27,7 +27,7 @@ use Rattle.world.specs.Worlds.{World, Change, apply, start}
 use Rattle.world.specs.Connections.{Next, next_down, next_up, down_taken, up_taken, is_alive, is_served}
 use Rattle.world.specs.Nodes.{lower_down, lower_ready}
 use Rattle.world.specs.Primaries.{writer_asks, primary_commits, primary_asks, office_event}
-use Rattle.world.specs.Restarts.{all_found, restart}
+use Rattle.world.specs.Restarts.{restart}
 use Rattle.world.specs.Events.{changed, own_change, down_as, down_event, ready_event, upper_up, up_as, up_event, fault_event, lost, stop, where_so, outcome, after_event, happens, run}
 use Rattle.world_laws.proofs.Agreements.{Quiet, asides-quiet, own-writer-quiet, upper-quiet}
 use Rattle.world_laws.proofs.FactTables.{when-each}
@@ -158,7 +158,7 @@ outcome-rises w (event.Up c) = up-rises w c.0 false
 outcome-rises w (event.Lost c way more) = where-rises w.office (nat_lt c.0 w.next_conn) (lost w c.0 way more) (lost-office w c.0 way more)
 outcome-rises w (event.Fault d) = fault-rises w d
 outcome-rises w (event.Stop n) = where-rises w.office (w.running n.0) (stop w n.0) refl
-outcome-rises w (event.Restart n list) = where-rises w.office (nat_lt n.0 w.nodes && not (w.running n.0) && all_found w n.0 list) (restart w n.0 list) refl
+outcome-rises w (event.Restart n list) = where-rises w.office (nat_lt n.0 w.nodes && not (w.running n.0)) (restart w n.0 list) refl
 
 after-rises : (w : World) (e : Event) (o : Option World) → IfSome o (Rises w.office) → Rises w.office (after_event w e o)
 after-rises w e None h = rises-same w.office w.office refl

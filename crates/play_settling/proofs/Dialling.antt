@@ -39,7 +39,7 @@ use Rattle.world.specs.Connections.{Next, next_down, next_up, down_taken, up_tak
 use Rattle.world.specs.Nodes.{lower_down, lower_ready, mirror_up}
 use Rattle.world.specs.Clients.{did, did_step, dialled_change, dialling, rest_in, is_formed, ruled, command_bytes, is_empty, takes_given, takes_command, writer_step, writer_up, own_reader, reader_up}
 use Rattle.world.specs.Primaries.{own_recover, own_primary, primary_up, writer_asks, primary_commits, primary_asks, office_event}
-use Rattle.world.specs.Restarts.{all_found, restart}
+use Rattle.world.specs.Restarts.{restart}
 use Rattle.world.specs.Enabled.{is_deed, is_question}
 use Rattle.world.specs.Events.{changed, own_change, down_as, down_event, ready_event, unless_fails, upper_up, up_as, up_event, fault_event, lost, stop, where_so, outcome, after_event, happens, run}
 use Rattle.world_laws.proofs.FactTables.{put-each, when-each, and-right}
@@ -257,7 +257,7 @@ outcome-ready w (event.Up c) h = up-ready w c.0 false h
 outcome-ready w (event.Lost c way more) h = where-ready (nat_lt c.0 w.next_conn) (lost w c.0 way more) (lost-ready w c.0 way more h)
 outcome-ready w (event.Fault d) h = fault-ready w d h
 outcome-ready w (event.Stop n) h = where-ready (w.running n.0) (stop w n.0) h
-outcome-ready w (event.Restart n list) h = where-ready (nat_lt n.0 w.nodes && not (w.running n.0) && all_found w n.0 list) (restart w n.0 list) h
+outcome-ready w (event.Restart n list) h = where-ready (nat_lt n.0 w.nodes && not (w.running n.0)) (restart w n.0 list) h
 
 after-ready : (w : World) (e : Event) (o : Option World) → AllReady w → IfSome o AllReady → AllReady (after_event w e o)
 after-ready w e None h n b = h b

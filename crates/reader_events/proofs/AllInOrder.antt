@@ -14,7 +14,7 @@ use Rattle.world.specs.Parts.{Upper, by_writer, by_member, by_reader, by_primary
 use Rattle.world.specs.Worlds.{World, Change, apply, put, start}
 use Rattle.world.specs.Connections.{Next, marks_taken, next_down, next_up, down_taken, up_taken, is_served, stopped_where, is_of_node, lost_marks}
 use Rattle.world.specs.Nodes.{lower_down, lower_ready}
-use Rattle.world.specs.Restarts.{all_found, restart}
+use Rattle.world.specs.Restarts.{restart}
 use Rattle.world.specs.Events.{changed, own_change, down_as, down_event, ready_event, unless_fails, upper_up, up_as, up_event, fault_event, lost, stop, where_so, outcome, after_event, happens, run}
 use Rattle.world.specs.Primaries.{office_event}
 use Rattle.world_laws.specs.Placing.{Placed}
@@ -181,7 +181,7 @@ outcome-reads w (event.Up c) p g h = up-event-reads w c.0 false g h
 outcome-reads w (event.Lost c way more) p g h = where-reads (nat_lt c.0 w.next_conn) _ (lost-reads w c.0 way more h)
 outcome-reads w (event.Fault d) p g h = fault-reads w d g h
 outcome-reads w (event.Stop n) p g h = where-reads (w.running n.0) _ (stop-reads w n.0 h)
-outcome-reads w (event.Restart n list) p g h = where-reads (nat_lt n.0 w.nodes && not (w.running n.0) && all_found w n.0 list) _ (restart-reads w n.0 list h)
+outcome-reads w (event.Restart n list) p g h = where-reads (nat_lt n.0 w.nodes && not (w.running n.0)) _ (restart-reads w n.0 list h)
 
 after-reads : (w : World) (e : Event) (o : Option World) → AllRead w → IfSome o AllRead → AllRead (after_event w e o)
 after-reads w e None h k = h

@@ -14,7 +14,7 @@ use Rattle.world.specs.Connections.{Next, next_down, next_up, down_taken, up_tak
 use Rattle.world.specs.Nodes.{lower_down, lower_ready, mirror_up}
 use Rattle.world.specs.Clients.{own_writer, writer_up, own_reader, reader_up}
 use Rattle.world.specs.Primaries.{own_recover, own_primary, primary_up, office_event}
-use Rattle.world.specs.Restarts.{all_found, restart}
+use Rattle.world.specs.Restarts.{restart}
 
 -- the world after a change, where there is one
 abbrev pub changed : World → Option Change → Option World
@@ -103,7 +103,7 @@ outcome w (event.Lost c way more) = where_so (nat_lt c.0 w.next_conn) (lost w c.
 outcome w (event.Fault d) = fault_event w d
 outcome w (event.Stop n) = where_so (w.running n.0) (stop w n.0)
 outcome w (event.Restart n list) =
-    where_so (nat_lt n.0 w.nodes && not (w.running n.0) && all_found w n.0 list) (restart w n.0 list)
+    where_so (nat_lt n.0 w.nodes && not (w.running n.0)) (restart w n.0 list)
 
 -- the event is enabled
 abbrev pub is_enabled : World → Event → Bool

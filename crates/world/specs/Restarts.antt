@@ -1,6 +1,6 @@
 -- What a restart makes of a node's replicas.
 use Rattle.std.specs.Prelude.{ℕ, ◌==◌, ◌+◌, ◌&&◌, ◌||◌, not, is_none, find, if◌then◌else◌, Bool, true, false, List, [], length, option_map, Option, Some, None}
-use Rattle.std.specs.List.{starts_with, list_all}
+use Rattle.std.specs.List.{starts_with}
 use Rattle.std.specs.Cmp.Lexicographic.{pointwise}
 use Rattle.hd_base.specs.declared.numbers.Stamp.{Stamp}
 use Rattle.hd_base.specs.declared.states.ReplicaState.{ReplicaState}
@@ -103,12 +103,8 @@ whole_found r (Some b) = found_whole b.before.known.info b.before.bytes
 unfoldable pub restarted : ℕ → FullReplica → Option Break → Option Found → FullReplica
 restarted b r broke f = replica_found b (if may_find r broke f then f else whole_found r broke)
 
--- of each block that the office knows, this may be found
-abbrev pub all_found : World → ℕ → List FoundReplica → Bool
-all_found w n list = list_all (λ x. may_find (w.replicas n x.0.0) (w.breaks n x.0.0) (found_in list x.0.0))
-    w.office.blocks
-
--- the node runs in its next life, with what is found of its replicas
+-- The node runs in its next life, with what is found of its replicas. Of one that isn't broken nothing need be said: where
+-- this isn't what may be found, its files are whole.
 unfoldable pub restart : World → ℕ → List FoundReplica → World
 restart w n list = record w {
   lives = put w.lives n (w.lives n + 1);

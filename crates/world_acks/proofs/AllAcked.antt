@@ -21,7 +21,7 @@ use Rattle.world.specs.Connections.{Next, message, the_end, next_down, next_up, 
 use Rattle.world.specs.Nodes.{node_of, lower_down, lower_ready}
 use Rattle.world.specs.Clients.{writer_up, reader_up}
 use Rattle.world.specs.Primaries.{primary_up, office_event}
-use Rattle.world.specs.Restarts.{may_find, whole_found, found_in, replica_found, restarted, all_found, restart}
+use Rattle.world.specs.Restarts.{may_find, whole_found, found_in, replica_found, restarted, restart}
 use Rattle.world.specs.Events.{changed, own_change, down_as, down_event, ready_event, unless_fails, upper_up, up_as, up_event, fault_event, lost, stop, where_so, outcome, after_event, happens, run}
 use Rattle.world.specs.Safe.{Has}
 use Rattle.world_laws.proofs.FactTables.{if-each, and-right, and-left, some-weaker}
@@ -479,7 +479,7 @@ outcome-told g t w (event.Up c) h f = up-told g t w c.0 false h f
 outcome-told g t w (event.Lost c way more) h f = where-told g t w (nat_lt c.0 w.next_conn) (lost w c.0 way more) (λ _. lost-acked g t w c.0 way more h.acked) (λ _. lost-lasting g t w c.0 way more) (lost-requests w c.0 way more h.requests) f
 outcome-told g t w (event.Fault d) h f = fault-told g t w d h f
 outcome-told g t w (event.Stop n) h f = where-told g t w (w.running n.0) (stop w n.0) (λ _. stop-acked g t w n.0 h.acked) (λ _. stop-lasting g t w n.0) (same-requests w (stop w n.0) refl (λ d. refl) (λ b. refl) h.requests) f
-outcome-told g t w (event.Restart n list) h f = where-told g t w (nat_lt n.0 w.nodes && not (w.running n.0) && all_found w n.0 list) (restart w n.0 list) (λ y. restart-acked g t w n.0 list h y) (λ y. restart-lasting g t w n.0 list h y) (restart-requests w n.0 list h.requests) f
+outcome-told g t w (event.Restart n list) h f = where-told g t w (nat_lt n.0 w.nodes && not (w.running n.0)) (restart w n.0 list) (λ y. restart-acked g t w n.0 list h y) (λ y. restart-lasting g t w n.0 list h y) (restart-requests w n.0 list h.requests) f
 
 -- an event that isn't enabled gives no stamp
 idle-office : (g : Givens) (t : Ends) (w : World) (o : Option Change) → changed w o ≡ None → Acked g t w → Acked (given_with g (stamped_in o)) t w

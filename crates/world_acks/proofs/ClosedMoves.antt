@@ -52,7 +52,7 @@ use Rattle.world.specs.Connections.{Next, message, the_end, ends_at, next_on, ne
 use Rattle.world.specs.Nodes.{node_of, replica_at, block_of, first_break, closing, unless_failing, above_of, below_of, failing_turn, turn_change, pending_at, takes_next, member_down, member_up, ready_change, is_asked, setup_change, failing_write, write_request, breaking, read_change, failing_read, read_request, piece_as, serve_change, recovery_change, failing_recovery, recovery_request, first_message, next_recovery, lower_down, lower_ready, mirror_up}
 use Rattle.world.specs.Clients.{writer_up, reader_up}
 use Rattle.world.specs.Primaries.{office_event, primary_up}
-use Rattle.world.specs.Restarts.{found_in, restarted, all_found, restart}
+use Rattle.world.specs.Restarts.{found_in, restarted, restart}
 use Rattle.world.specs.Events.{changed, own_change, down_as, down_event, ready_event, unless_fails, upper_up, up_as, up_event, fault_event, lost, stop, where_so, outcome}
 use Rattle.world_laws.proofs.FactTables.{if-each, when-each, some-weaker, and-left, and-right}
 use Rattle.world_laws.proofs.ReplicaUntouching.{Untouched, own-writer-untouched, writer-up-untouched, own-reader-untouched, reader-up-untouched, own-recover-untouched, own-primary-untouched, primary-up-untouched, office-untouched}
@@ -535,4 +535,4 @@ outcome-on g w (event.Up c) h = up-on w c.0 false
 outcome-on g w (event.Lost c way more) h = where-on w (nat_lt c.0 w.next_conn) (lost w c.0 way more) (lost-on w c.0 way more)
 outcome-on g w (event.Fault d) h = fault-on g w d h
 outcome-on g w (event.Stop n) h = where-on w (w.running n.0) (stop w n.0) (record { each = λ m b. rests refl refl })
-outcome-on g w (event.Restart n list) h = where-on w (nat_lt n.0 w.nodes && not (w.running n.0) && all_found w n.0 list) (restart w n.0 list) (restart-on w n.0 list)
+outcome-on g w (event.Restart n list) h = where-on w (nat_lt n.0 w.nodes && not (w.running n.0)) (restart w n.0 list) (restart-on w n.0 list)

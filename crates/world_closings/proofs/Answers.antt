@@ -20,7 +20,7 @@ use Rattle.world.specs.Connections.{Next, next_down, next_up, down_taken, up_tak
 use Rattle.world.specs.Nodes.{lower_down, lower_ready}
 use Rattle.world.specs.Clients.{writer_up, reader_up}
 use Rattle.world.specs.Primaries.{office_event, primary_up}
-use Rattle.world.specs.Restarts.{all_found, restart}
+use Rattle.world.specs.Restarts.{restart}
 use Rattle.world.specs.Events.{changed, own_change, down_as, down_event, ready_event, unless_fails, upper_up, up_as, up_event, fault_event, lost, stop, where_so, outcome, after_event, happens}
 use Rattle.world.specs.Safe.{Has, Final, written_under, ClosedAt, IsClose, Closed}
 use Rattle.world_laws.proofs.FactTables.{if-each, when-each, and-left, and-right}
@@ -134,7 +134,7 @@ outcome-told w (event.Up c) = up-told w c.0 false
 outcome-told w (event.Lost c way more) = where-told w (nat_lt c.0 w.next_conn) (lost w c.0 way more) (lost-told w c.0 way more)
 outcome-told w (event.Fault d) = fault-told w d
 outcome-told w (event.Stop n) = where-told w (w.running n.0) (stop w n.0) (told_none refl)
-outcome-told w (event.Restart n list) = where-told w (nat_lt n.0 w.nodes && not (w.running n.0) && all_found w n.0 list) (restart w n.0 list) (restart-told w n.0 list)
+outcome-told w (event.Restart n list) = where-told w (nat_lt n.0 w.nodes && not (w.running n.0)) (restart w n.0 list) (restart-told w n.0 list)
 
 -- THE LAW
 

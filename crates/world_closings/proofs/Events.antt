@@ -49,7 +49,7 @@ use Rattle.world.specs.Connections.{Next, message, the_end, next_down, next_up, 
 use Rattle.world.specs.Nodes.{lower_down, lower_ready, mirror_up}
 use Rattle.world.specs.Clients.{writing_as, reached_answer, writer_change, did, dialled_change, dialling, rest_in, is_empty, is_formed, ruled, command_bytes, takes_command, writer_step, writer_hears, writer_up, own_reader, reader_up}
 use Rattle.world.specs.Primaries.{own_recover, own_primary, primary_up, asks_writer, asks_primary, writer_asks, primary_commits, primary_asks, office_event}
-use Rattle.world.specs.Restarts.{all_found, restart}
+use Rattle.world.specs.Restarts.{restart}
 use Rattle.world.specs.Events.{changed, own_change, down_as, down_event, ready_event, unless_fails, upper_up, up_as, up_event, fault_event, lost, stop, where_so, outcome}
 use Rattle.world_laws.proofs.FactTables.{when-each, put-each, some-weaker, and-left, and-right}
 use Rattle.world_laws.specs.Sessions.{IsCommitted}
@@ -535,4 +535,4 @@ outcome-closes g l t w (event.Lost c way more) h k = where-closes g l w (nat_lt 
 outcome-closes g l t w (event.Fault d) h k = fault-closes g l t w d h k
 outcome-closes g l t w (event.Stop n) h k = where-closes g l w (w.running n.0) (stop w n.0) (still-closes g l t w (stop w n.0) h (λ b. refl) refl) k
 outcome-closes g l t w (event.Restart n list) h k =
-    where-closes g l w (nat_lt n.0 w.nodes && not (w.running n.0) && all_found w n.0 list) (restart w n.0 list) (still-closes g l t w (restart w n.0 list) h (λ b. refl) refl) k
+    where-closes g l w (nat_lt n.0 w.nodes && not (w.running n.0)) (restart w n.0 list) (still-closes g l t w (restart w n.0 list) h (λ b. refl) refl) k

@@ -14,7 +14,7 @@ use Rattle.world.specs.Worlds.{World, Change, apply, start}
 use Rattle.world.specs.Connections.{Next, next_down, next_up, down_taken, up_taken, is_served}
 use Rattle.world.specs.Nodes.{node_on, lower_down, lower_ready}
 use Rattle.world.specs.Primaries.{office_event}
-use Rattle.world.specs.Restarts.{all_found, restart}
+use Rattle.world.specs.Restarts.{restart}
 use Rattle.world.specs.Events.{changed, own_change, down_as, upper_up, up_as, fault_event, lost, stop, where_so, outcome, after_event, happens, run}
 use Rattle.world.specs.Safe.{Closed, Safe}
 use Rattle.world_laws.specs.Growing.{Grows}
@@ -123,7 +123,7 @@ outcome-nodes w (event.Up c) = when-each (SameNodes w) (nat_lt c.0 w.next_conn) 
 outcome-nodes w (event.Lost c way more) = where-nodes w (nat_lt c.0 w.next_conn) (lost w c.0 way more) (lost-nodes w c.0 way more)
 outcome-nodes w (event.Fault d) = fault-nodes w d
 outcome-nodes w (event.Stop n) = where-nodes w (w.running n.0) (stop w n.0) refl
-outcome-nodes w (event.Restart n list) = where-nodes w (nat_lt n.0 w.nodes && not (w.running n.0) && all_found w n.0 list) (restart w n.0 list) refl
+outcome-nodes w (event.Restart n list) = where-nodes w (nat_lt n.0 w.nodes && not (w.running n.0)) (restart w n.0 list) refl
 
 after-nodes : (w : World) (e : Event) (o : Option World) → IfSome o (SameNodes w) → SameNodes w (after_event w e o)
 after-nodes w e None h = refl

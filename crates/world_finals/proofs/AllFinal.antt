@@ -18,7 +18,7 @@ use Rattle.world.specs.Connections.{Next, next_down, next_up, down_taken, up_tak
 use Rattle.world.specs.Nodes.{lower_down, lower_ready}
 use Rattle.world.specs.Clients.{writer_up, reader_up}
 use Rattle.world.specs.Primaries.{office_event, primary_up}
-use Rattle.world.specs.Restarts.{all_found, restart}
+use Rattle.world.specs.Restarts.{restart}
 use Rattle.world.specs.Events.{changed, own_change, down_as, down_event, ready_event, unless_fails, upper_up, up_as, up_event, fault_event, lost, stop, where_so, outcome, after_event, happens, run}
 use Rattle.world_laws.proofs.FactTables.{when-each, some-weaker}
 use Rattle.world_laws.specs.Filling.{IsBreak}
@@ -141,7 +141,7 @@ outcome-final f g w (event.Lost c way more) h a r named i = where-final f g (nat
 outcome-final f g w (event.Fault d) h a r named i = fault-final f g w d h a r
 outcome-final f g w (event.Stop n) h a r named i = where-final f g (w.running n.0) (stop w n.0) (stop-final f g w n.0 h a)
 outcome-final f g w (event.Restart n list) h a r named i =
-    where-final f g (nat_lt n.0 w.nodes && not (w.running n.0) && all_found w n.0 list) (restart w n.0 list) (restart-final f g w n.0 list h a i)
+    where-final f g (nat_lt n.0 w.nodes && not (w.running n.0)) (restart w n.0 list) (restart-final f g w n.0 list h a i)
 
 -- an event that isn't enabled gives no stamp
 idle-office : (f : Ids) (g : Givens) (w : World) (o : Option Change) (e : Option Stamped → Ids) → e None ≡ f → changed w o ≡ None → Finals f g w → Finals (e (stamped_in o)) (given_with g (stamped_in o)) w

@@ -41,7 +41,7 @@ use Rattle.world.specs.Connections.{Next, next_down, next_up, down_taken, up_tak
 use Rattle.world.specs.Nodes.{lower_down, lower_ready, mirror_up}
 use Rattle.world.specs.Clients.{writer_change, did, dialled_change, dialling, rest_in, is_empty, is_formed, ruled, command_bytes, takes_step, takes_command, writer_step, own_writer, writer_hears, writer_up, reader_up}
 use Rattle.world.specs.Primaries.{asks_writer, asks_primary, writer_asks, primary_commits, primary_asks, office_event, primary_up}
-use Rattle.world.specs.Restarts.{all_found, restart}
+use Rattle.world.specs.Restarts.{restart}
 use Rattle.world.specs.Events.{changed, own_change, down_as, down_event, ready_event, unless_fails, upper_up, up_as, up_event, fault_event, lost, stop, where_so, outcome, after_event, happens, run}
 use Rattle.world_laws.specs.Sessions.{told_stamp, stamp_heard, IsCommitted}
 use Rattle.world_laws.proofs.FactTables.{if-each, put-each, when-each, and-right}
@@ -373,7 +373,7 @@ outcome-agree w (event.Lost c way more) h = where-agree (nat_lt c.0 w.next_conn)
 outcome-agree w (event.Fault d) h = fault-agree w d h
 outcome-agree w (event.Stop n) h = where-agree (w.running n.0) (stop w n.0) (same-agree w (stop w n.0) refl refl h)
 outcome-agree w (event.Restart n list) h =
-    where-agree (nat_lt n.0 w.nodes && not (w.running n.0) && all_found w n.0 list) (restart w n.0 list) (same-agree w (restart w n.0 list) refl refl h)
+    where-agree (nat_lt n.0 w.nodes && not (w.running n.0)) (restart w n.0 list) (same-agree w (restart w n.0 list) refl refl h)
 
 after-agree : (w : World) (e : Event) (o : Option World) → Agreement w → IfSome o Agreement → Agreement (after_event w e o)
 after-agree w e None h k = h

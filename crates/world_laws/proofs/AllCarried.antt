@@ -20,7 +20,7 @@ use Rattle.world.specs.Connections.{Next, message, the_end, ends_at, next_on, ne
 use Rattle.world.specs.Nodes.{lower_down, lower_ready}
 use Rattle.world.specs.Clients.{writer_up, reader_up}
 use Rattle.world.specs.Primaries.{primary_up, office_event}
-use Rattle.world.specs.Restarts.{all_found, restart}
+use Rattle.world.specs.Restarts.{restart}
 use Rattle.world.specs.Events.{changed, own_change, down_as, down_event, ready_event, unless_fails, upper_up, up_as, up_event, fault_event, lost, stop, where_so, outcome, after_event, happens, run}
 use Rattle.world_laws.proofs.FactTables.{when-each}
 use Rattle.world_laws.proofs.PlacedLaws.{only-dialled-carry}
@@ -190,7 +190,7 @@ outcome-carried g w (event.Lost c way more) h a = where-carried g (nat_lt c.0 w.
 outcome-carried g w (event.Fault d) h a = fault-carried g w d h
 outcome-carried g w (event.Stop n) h a = where-carried g (w.running n.0) (stop w n.0) (stop-carried g w n.0 h.carried)
 outcome-carried g w (event.Restart n list) h a =
-    where-carried g (nat_lt n.0 w.nodes && not (w.running n.0) && all_found w n.0 list) (restart w n.0 list) (restart-carried g w n.0 list h.carried)
+    where-carried g (nat_lt n.0 w.nodes && not (w.running n.0)) (restart w n.0 list) (restart-carried g w n.0 list h.carried)
 
 -- an event that isn't enabled gives no stamp
 idle-office : (g : Givens) (w : World) (o : Option Change) → changed w o ≡ None → Carried g w → Carried (given_with g (stamped_in o)) w

@@ -17,7 +17,7 @@ use Rattle.world.specs.Connections.{Next, next_down, next_up, down_taken, up_tak
 use Rattle.world.specs.Nodes.{lower_down, lower_ready, mirror_up}
 use Rattle.world.specs.Clients.{own_writer, own_reader, writer_up, reader_up}
 use Rattle.world.specs.Primaries.{own_recover, own_primary, primary_up, office_event}
-use Rattle.world.specs.Restarts.{all_found, restart}
+use Rattle.world.specs.Restarts.{restart}
 use Rattle.world.specs.Events.{changed, own_change, down_as, down_event, ready_event, unless_fails, upper_up, up_as, up_event, fault_event, lost, stop, where_so, outcome, after_event, happens, run}
 use Rattle.world_laws.proofs.FactTables.{when-each}
 use Rattle.world_laws.proofs.RunLaws.{runs-end}
@@ -135,7 +135,7 @@ outcome-recorded f w (event.Lost c way more) h g = where-recorded f (nat_lt c.0 
 outcome-recorded f w (event.Fault d) h g = fault-recorded f w d h
 outcome-recorded f w (event.Stop n) h g = where-recorded f (w.running n.0) (stop w n.0) (same-recorded f w (stop w n.0) refl refl refl refl h)
 outcome-recorded f w (event.Restart n list) h g =
-    where-recorded f (nat_lt n.0 w.nodes && not (w.running n.0) && all_found w n.0 list) (restart w n.0 list) (same-recorded f w (restart w n.0 list) refl refl refl refl h)
+    where-recorded f (nat_lt n.0 w.nodes && not (w.running n.0)) (restart w n.0 list) (same-recorded f w (restart w n.0 list) refl refl refl refl h)
 
 -- an event that isn't enabled gives no stamp
 idle-office : (f : Givens) (w : World) (o : Option Change) → changed w o ≡ None → Recorded f w → Recorded (given_with f (stamped_in o)) w

@@ -19,7 +19,7 @@ use Rattle.world.specs.Connections.{Next, next_down, next_up, down_taken, up_tak
 use Rattle.world.specs.Nodes.{node_of, lower_down, lower_ready}
 use Rattle.world.specs.Clients.{writer_up, reader_up}
 use Rattle.world.specs.Primaries.{primary_up, office_event}
-use Rattle.world.specs.Restarts.{all_found, restart}
+use Rattle.world.specs.Restarts.{restart}
 use Rattle.world.specs.Events.{changed, own_change, down_as, down_event, ready_event, unless_fails, upper_up, up_as, up_event, fault_event, lost, stop, where_so, outcome, after_event, happens, run}
 use Rattle.world.specs.Safe.{Has}
 use Rattle.world_laws.proofs.FactTables.{if-each, when-each, and-right, some-weaker}
@@ -204,7 +204,7 @@ outcome-set g w (event.Lost c way more) f a one h = where-set g (nat_lt c.0 w.ne
 outcome-set g w (event.Fault d) f a one h = fault-set g w d f h
 outcome-set g w (event.Stop n) f a one h = where-set g (w.running n.0) (stop w n.0) (stop-set g w n.0 h)
 outcome-set g w (event.Restart n list) f a one h =
-    where-set g (nat_lt n.0 w.nodes && not (w.running n.0) && all_found w n.0 list) (restart w n.0 list) (restart-set g w n.0 list h)
+    where-set g (nat_lt n.0 w.nodes && not (w.running n.0)) (restart w n.0 list) (restart-set g w n.0 list h)
 
 -- an event that isn't enabled gives no stamp
 idle-office : (g : Givens) (w : World) (o : Option Change) → changed w o ≡ None → SetUps g w → SetUps (given_with g (stamped_in o)) w

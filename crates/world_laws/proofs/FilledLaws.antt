@@ -27,7 +27,7 @@ use Rattle.world.specs.Connections.{Next, next_down, next_up, down_taken, up_tak
 use Rattle.world.specs.Nodes.{lower_down, lower_ready}
 use Rattle.world.specs.Clients.{writer_up, reader_up}
 use Rattle.world.specs.Primaries.{primary_up, office_event}
-use Rattle.world.specs.Restarts.{found_in, all_found, replica_found, restarted, restart}
+use Rattle.world.specs.Restarts.{found_in, replica_found, restarted, restart}
 use Rattle.world.specs.Events.{changed, own_change, down_as, down_event, ready_event, unless_fails, upper_up, up_as, up_event, fault_event, lost, stop, where_so, outcome, after_event, happens, run}
 use Rattle.world_laws.specs.Finding.{MayFindAt}
 use Rattle.world_laws.specs.Filling.{IsStored, IsBreak, Filled}
@@ -243,7 +243,7 @@ outcome-filled w (event.Lost c way more) h = where-filled (nat_lt c.0 w.next_con
 outcome-filled w (event.Fault d) h = fault-filled w d h
 outcome-filled w (event.Stop n) h = where-filled (w.running n.0) (stop w n.0) (same-filled w (stop w n.0) refl refl h)
 outcome-filled w (event.Restart n list) h =
-    where-filled (nat_lt n.0 w.nodes && not (w.running n.0) && all_found w n.0 list) (restart w n.0 list) (restart-filled w n.0 list h)
+    where-filled (nat_lt n.0 w.nodes && not (w.running n.0)) (restart w n.0 list) (restart-filled w n.0 list h)
 
 after-filled : (w : World) (e : Event) (o : Option World) → Filled w → IfSome o Filled → Filled (after_event w e o)
 after-filled w e None h k = h

@@ -12,7 +12,7 @@ use Rattle.world.specs.Worlds.{Past, World, Dial, Change, add, dial_at, dialled_
 use Rattle.world.specs.Connections.{Next, next_down, next_up, down_taken, up_taken, is_served}
 use Rattle.world.specs.Nodes.{lower_down, lower_ready}
 use Rattle.world.specs.Primaries.{office_event}
-use Rattle.world.specs.Restarts.{all_found, restart}
+use Rattle.world.specs.Restarts.{restart}
 use Rattle.world.specs.Events.{changed, own_change, down_as, down_event, ready_event, upper_up, up_as, up_event, fault_event, lost, stop, where_so, outcome, after_event, happens, run}
 use Rattle.world_laws.specs.Growing.{Begins, Grows}
 use Rattle.world_laws.proofs.FactTables.{if-each, when-each}
@@ -152,7 +152,7 @@ outcome-from w (event.Lost c way more) = where-from w.past (nat_lt c.0 w.next_co
 outcome-from w (event.Fault d) = fault-from w d
 outcome-from w (event.Stop n) = where-from w.past (w.running n.0) (stop w n.0) (from-same w (stop w n.0) refl)
 outcome-from w (event.Restart n list) =
-    where-from w.past (nat_lt n.0 w.nodes && not (w.running n.0) && all_found w n.0 list) (restart w n.0 list) (from-same w (restart w n.0 list) refl)
+    where-from w.past (nat_lt n.0 w.nodes && not (w.running n.0)) (restart w n.0 list) (from-same w (restart w n.0 list) refl)
 
 after-from : (w : World) (e : Event) (o : Option World) → IfSome o (From w.past) → Grows w.past (after_event w e o).past
 after-from w e None f = grows-same w.past

@@ -18,7 +18,7 @@ use Rattle.world.specs.Connections.{Next, next_down, next_up, down_taken, up_tak
 use Rattle.world.specs.Nodes.{lower_down, lower_ready}
 use Rattle.world.specs.Clients.{writer_up, reader_up}
 use Rattle.world.specs.Primaries.{primary_up, office_event}
-use Rattle.world.specs.Restarts.{all_found, restart}
+use Rattle.world.specs.Restarts.{restart}
 use Rattle.world.specs.Events.{changed, own_change, down_as, down_event, ready_event, unless_fails, upper_up, up_as, up_event, fault_event, lost, stop, where_so, outcome, after_event, happens, run}
 use Rattle.world_laws.specs.Placing.{IsUpper, IsUndialled, Placed}
 use Rattle.world_laws.proofs.FactTables.{if-each, when-each, and-left}
@@ -209,9 +209,9 @@ outcome-placed w (event.Lost c way more) h = where-placed (nat_lt c.0 w.next_con
 outcome-placed w (event.Fault d) h = fault-placed w d h
 outcome-placed w (event.Stop n) h = where-placed (w.running n.0) _ (λ _. stop-placed w n.0 h)
 outcome-placed w (event.Restart n list) h =
-    where-placed (nat_lt n.0 w.nodes && not (w.running n.0) && all_found w n.0 list) _
+    where-placed (nat_lt n.0 w.nodes && not (w.running n.0)) _
     (λ e. restart-placed w n.0 list
-    (lt-true n.0 w.nodes (and-left (nat_lt n.0 w.nodes) (not (w.running n.0)) (and-left (nat_lt n.0 w.nodes && not (w.running n.0)) (all_found w n.0 list) e))) h)
+    (lt-true n.0 w.nodes (and-left (nat_lt n.0 w.nodes) (not (w.running n.0)) e)) h)
 
 named : (v : World) (e : Event) → Placed v → Placed (record v { last = Some e })
 named v e h = record {

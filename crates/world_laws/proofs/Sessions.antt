@@ -31,7 +31,7 @@ use Rattle.world.specs.Worlds.{World, Stamped, Change, sessions_with, apply, sta
 use Rattle.world.specs.Connections.{Next, next_down, next_up, down_taken, up_taken, is_alive, is_served}
 use Rattle.world.specs.Nodes.{lower_down, lower_ready}
 use Rattle.world.specs.Primaries.{stamped_by, asks_writer, asks_primary, writer_asks, primary_commits, primary_asks, office_event}
-use Rattle.world.specs.Restarts.{all_found, restart}
+use Rattle.world.specs.Restarts.{restart}
 use Rattle.world.specs.Events.{changed, own_change, down_as, down_event, ready_event, upper_up, up_as, up_event, fault_event, lost, stop, where_so, outcome, after_event, happens, run}
 use Rattle.world_laws.proofs.FactTables.{if-each, when-each}
 use Rattle.world_laws.proofs.SessionAsides.{lower-down-aside, lower-ready-aside, own-reader-aside, own-recover-aside, own-primary-aside}
@@ -225,7 +225,7 @@ outcome-later w (event.Lost c way more) = where-later w (nat_lt c.0 w.next_conn)
 outcome-later w (event.Fault d) = fault-later w d
 outcome-later w (event.Stop n) = where-later w (w.running n.0) (stop w n.0) (later-same w (stop w n.0) refl refl)
 outcome-later w (event.Restart n list) =
-    where-later w (nat_lt n.0 w.nodes && not (w.running n.0) && all_found w n.0 list) (restart w n.0 list) (later-same w (restart w n.0 list) refl refl)
+    where-later w (nat_lt n.0 w.nodes && not (w.running n.0)) (restart w n.0 list) (later-same w (restart w n.0 list) refl refl)
 
 after-later : (w : World) (e : Event) (o : Option World) → IfSome o (Later w) → Later w (after_event w e o)
 after-later w e None h = at-first w

@@ -30,7 +30,7 @@ use Rattle.world.specs.Worlds.{World, Stamped, Change, add, latest_with, apply, 
 use Rattle.world.specs.Connections.{Next, next_down, next_up, down_taken, up_taken, is_alive, is_served}
 use Rattle.world.specs.Nodes.{lower_down, lower_ready}
 use Rattle.world.specs.Primaries.{stamped_by, base_of, session_begun, asks_writer, asks_primary, writer_asks, primary_commits, primary_asks, office_event}
-use Rattle.world.specs.Restarts.{all_found, restart}
+use Rattle.world.specs.Restarts.{restart}
 use Rattle.world.specs.Events.{changed, own_change, down_as, down_event, ready_event, upper_up, up_as, up_event, fault_event, lost, stop, where_so, outcome, after_event, happens, run}
 use Rattle.world_laws.proofs.FactTables.{if-each, when-each}
 use Rattle.world_laws.proofs.SessionAsides.{lower-down-aside, lower-ready-aside, own-reader-aside, own-recover-aside, own-primary-aside}
@@ -227,7 +227,7 @@ outcome-unused w (event.Lost c way more) h = where-unused (nat_lt c.0 w.next_con
 outcome-unused w (event.Fault d) h = fault-unused w d h
 outcome-unused w (event.Stop n) h = where-unused (w.running n.0) (stop w n.0) (same-unused w (stop w n.0) refl refl refl h)
 outcome-unused w (event.Restart n list) h =
-    where-unused (nat_lt n.0 w.nodes && not (w.running n.0) && all_found w n.0 list) (restart w n.0 list) (same-unused w (restart w n.0 list) refl refl refl h)
+    where-unused (nat_lt n.0 w.nodes && not (w.running n.0)) (restart w n.0 list) (same-unused w (restart w n.0 list) refl refl refl h)
 
 after-unused : (w : World) (e : Event) (o : Option World) → Unused w → IfSome o Unused → Unused (after_event w e o)
 after-unused w e None h k = h

@@ -16,7 +16,7 @@ use Rattle.world.specs.Parts.{Message, Upper, by_writer, by_member, by_reader, b
 use Rattle.world.specs.Worlds.{World, Change, apply, put, start}
 use Rattle.world.specs.Connections.{Next, message, the_end, marks_taken, next_down, next_up, down_taken, up_taken, is_served, stopped_where, is_of_node, lost_marks}
 use Rattle.world.specs.Nodes.{lower_down, lower_ready}
-use Rattle.world.specs.Restarts.{all_found, restart}
+use Rattle.world.specs.Restarts.{restart}
 use Rattle.world.specs.Events.{changed, own_change, down_as, down_event, ready_event, unless_fails, upper_up, up_as, up_event, fault_event, lost, stop, where_so, outcome, after_event, happens, run}
 use Rattle.world.specs.Primaries.{office_event}
 use Rattle.world_laws.specs.Placing.{Placed}
@@ -234,7 +234,7 @@ outcome-opens w (event.Up c) p g h = up-opens w c.0 false g h
 outcome-opens w (event.Lost c way more) p g h = where-opens (nat_lt c.0 w.next_conn) _ (lost-opens w c.0 way more h)
 outcome-opens w (event.Fault d) p g h = fault-opens w d p g h
 outcome-opens w (event.Stop n) p g h = where-opens (w.running n.0) _ (stop-opens w n.0 h)
-outcome-opens w (event.Restart n list) p g h = where-opens (nat_lt n.0 w.nodes && not (w.running n.0) && all_found w n.0 list) _ (restart-opens w n.0 list h)
+outcome-opens w (event.Restart n list) p g h = where-opens (nat_lt n.0 w.nodes && not (w.running n.0)) _ (restart-opens w n.0 list h)
 
 after-opens : (w : World) (e : Event) (o : Option World) → Opens w → IfSome o Opens → Opens (after_event w e o)
 after-opens w e None h k = h

@@ -16,7 +16,7 @@ use Rattle.world.specs.Parts.{Message, Upper, by_writer, by_member, by_reader, b
 use Rattle.world.specs.Worlds.{World, Change, put, start}
 use Rattle.world.specs.Connections.{Next, message, the_end, ends_at, next_on, marks_taken, next_down, next_up, down_taken, up_taken, is_alive, is_served, stopped_where, is_of_node, lost_marks}
 use Rattle.world.specs.Nodes.{lower_down, lower_ready}
-use Rattle.world.specs.Restarts.{all_found, restart}
+use Rattle.world.specs.Restarts.{restart}
 use Rattle.world.specs.Events.{changed, own_change, down_as, down_event, ready_event, unless_fails, upper_up, up_as, up_event, fault_event, lost, stop, where_so, outcome, after_event, happens, run}
 use Rattle.world_laws.specs.Placing.{IsUpper, Placed}
 use Rattle.world_laws.proofs.FactTables.{if-each, when-each, and-left}
@@ -240,7 +240,7 @@ outcome-ordered w (event.Up c) p h = up-ordered w c.0 false p h
 outcome-ordered w (event.Lost c way more) p h = where-ordered (nat_lt c.0 w.next_conn) _ (lost-ordered w c.0 way more p h)
 outcome-ordered w (event.Fault d) p h = fault-ordered w d p h
 outcome-ordered w (event.Stop n) p h = where-ordered (w.running n.0) _ (stop-ordered w n.0 p h)
-outcome-ordered w (event.Restart n list) p h = where-ordered (nat_lt n.0 w.nodes && not (w.running n.0) && all_found w n.0 list) _ (restart-ordered w n.0 list h)
+outcome-ordered w (event.Restart n list) p h = where-ordered (nat_lt n.0 w.nodes && not (w.running n.0)) _ (restart-ordered w n.0 list h)
 
 after-ordered : (w : World) (e : Event) (o : Option World) → Ordered w → IfSome o Ordered → Ordered (after_event w e o)
 after-ordered w e None h k = h

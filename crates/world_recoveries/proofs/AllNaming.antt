@@ -19,7 +19,7 @@ use Rattle.world.specs.Connections.{Next, message, the_end, next_down, next_up, 
 use Rattle.world.specs.Nodes.{node_of, lower_down, lower_ready}
 use Rattle.world.specs.Clients.{own_writer, own_reader, writer_up, reader_up}
 use Rattle.world.specs.Primaries.{office_event, primary_up}
-use Rattle.world.specs.Restarts.{all_found, restart}
+use Rattle.world.specs.Restarts.{restart}
 use Rattle.world.specs.Events.{changed, own_change, down_as, down_event, ready_event, unless_fails, upper_up, up_as, up_event, fault_event, lost, stop, where_so, outcome, after_event, happens, run}
 use Rattle.world_laws.proofs.FactTables.{when-each, and-left, some-weaker}
 use Rattle.world_laws.specs.Stamping.{Givens, none_given, given_with, stamped_in, given_by, given_in, Recorded}
@@ -830,7 +830,7 @@ outcome-naming g w (event.Lost c way more) f j h q = where-naming g (nat_lt c.0 
 outcome-naming g w (event.Fault d) f j h q = fault-naming g w d f h q
 outcome-naming g w (event.Stop n) f j h q = where-naming g (w.running n.0) (stop w n.0) (like-naming g w (stop w n.0) refl refl refl refl h)
 outcome-naming g w (event.Restart n list) f j h q =
-    where-naming g (nat_lt n.0 w.nodes && not (w.running n.0) && all_found w n.0 list) (restart w n.0 list) (like-naming g w (restart w n.0 list) refl refl refl refl h)
+    where-naming g (nat_lt n.0 w.nodes && not (w.running n.0)) (restart w n.0 list) (like-naming g w (restart w n.0 list) refl refl refl refl h)
 
 idle-naming-office : (g : Givens) (w : World) (o : Option Change) → changed w o ≡ None → Naming g w → Naming (given_with g (stamped_in o)) w
 idle-naming-office g w None e h = h

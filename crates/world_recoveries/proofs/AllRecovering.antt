@@ -22,7 +22,7 @@ use Rattle.world.specs.Connections.{Next, message, the_end, next_down, next_up, 
 use Rattle.world.specs.Nodes.{node_of, lower_down, lower_ready}
 use Rattle.world.specs.Clients.{own_writer, own_reader, writer_up, reader_up}
 use Rattle.world.specs.Primaries.{office_event, writer_asks_office, primary_up}
-use Rattle.world.specs.Restarts.{all_found, found_in, restarted, restart}
+use Rattle.world.specs.Restarts.{found_in, restarted, restart}
 use Rattle.world.specs.Events.{changed, own_change, down_as, down_event, ready_event, unless_fails, upper_up, up_as, up_event, fault_event, lost, stop, where_so, outcome, after_event, happens, run}
 use Rattle.world_laws.proofs.FactTables.{when-each, and-left, and-right, some-weaker}
 use Rattle.world_laws.specs.Stamping.{Givens, none_given, given_with, stamped_in, given_by, given_in, Recorded}
@@ -266,7 +266,7 @@ outcome-fits g w (event.Lost c way more) f a h j = where-fits g w (nat_lt c.0 w.
 outcome-fits g w (event.Fault d) f a h j = fault-fits g w d f h j
 outcome-fits g w (event.Stop n) f a h j = where-fits g w (w.running n.0) (stop w n.0) refl (stop-fits g w n.0 h)
 outcome-fits g w (event.Restart n list) f a h j =
-    where-fits g w (nat_lt n.0 w.nodes && not (w.running n.0) && all_found w n.0 list) (restart w n.0 list) (restart-past w n.0 list) (restart-fits g w n.0 list h)
+    where-fits g w (nat_lt n.0 w.nodes && not (w.running n.0)) (restart w n.0 list) (restart-past w n.0 list) (restart-fits g w n.0 list h)
 
 -- an event that isn't enabled gives no stamp
 idle-office : (g : Givens) (w : World) (o : Option Change) → changed w o ≡ None → Recovering g w → Recovering (given_with g (stamped_in o)) w

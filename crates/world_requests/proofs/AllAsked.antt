@@ -17,7 +17,7 @@ use Rattle.world.specs.Worlds.{World, Change, start}
 use Rattle.world.specs.Connections.{Next, message, the_end, next_down, next_up, down_taken, up_taken, is_served}
 use Rattle.world.specs.Nodes.{lower_down, lower_ready}
 use Rattle.world.specs.Primaries.{office_event}
-use Rattle.world.specs.Restarts.{all_found, restart}
+use Rattle.world.specs.Restarts.{restart}
 use Rattle.world.specs.Events.{changed, own_change, down_as, down_event, ready_event, unless_fails, upper_up, up_as, up_event, fault_event, lost, stop, where_so, outcome, after_event, happens, run}
 use Rattle.world_laws.specs.Stamping.{heard}
 use Rattle.world_laws.proofs.AllCarried.{next-sent, at-start}
@@ -132,7 +132,7 @@ module _ (Of : ℕ → Type 0) where
   outcome-asked w (event.Fault d) r h k = fault-asked w d h
   outcome-asked w (event.Stop n) r h k = where-asked (w.running n.0) (stop w n.0) (stop-asked w n.0 h)
   outcome-asked w (event.Restart n list) r h k =
-      where-asked (nat_lt n.0 w.nodes && not (w.running n.0) && all_found w n.0 list) (restart w n.0 list) (restart-asked w n.0 list h)
+      where-asked (nat_lt n.0 w.nodes && not (w.running n.0)) (restart w n.0 list) (restart-asked w n.0 list h)
 
   after-asked : (w : World) (e : Event) (o : Option World) → Asked Of w → IfSome o (Asked Of) → Asked Of (after_event w e o)
   after-asked w e None h n = h

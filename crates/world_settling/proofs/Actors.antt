@@ -20,7 +20,7 @@ use Rattle.world.specs.Connections.{Next, next_down, next_up, down_taken, up_tak
 use Rattle.world.specs.Nodes.{lower_down, lower_ready, mirror_up}
 use Rattle.world.specs.Clients.{own_writer, writer_up, own_reader, reader_up}
 use Rattle.world.specs.Primaries.{own_recover, own_primary, primary_up, primary_commits, primary_asks, writer_asks_office}
-use Rattle.world.specs.Restarts.{all_found, restart}
+use Rattle.world.specs.Restarts.{restart}
 use Rattle.world.specs.Events.{changed, down_as, down_event, ready_event, unless_fails, upper_up, up_as, up_event, fault_event, lost, stop, where_so, outcome, after_event, happens}
 use Rattle.world_laws.proofs.FactTables.{put-each, when-each}
 use Rattle.world_laws.proofs.SessionAsides as writers
@@ -164,7 +164,7 @@ writer-outcome w (event.Up c) h =
 writer-outcome w (event.Lost c way more) h = where-same writers_of WriterStays w (lost w c.0 way more) (nat_lt c.0 w.next_conn) (writer-lost w c.0 way more)
 writer-outcome w (event.Fault d) h = writer-faults w d
 writer-outcome w (event.Stop n) h = where-same writers_of WriterStays w (stop w n.0) (w.running n.0) (λ b. refl)
-writer-outcome w (event.Restart n list) h = where-same writers_of WriterStays w (restart w n.0 list) (nat_lt n.0 w.nodes && not (w.running n.0) && all_found w n.0 list) (λ b. refl)
+writer-outcome w (event.Restart n list) h = where-same writers_of WriterStays w (restart w n.0 list) (nat_lt n.0 w.nodes && not (w.running n.0)) (λ b. refl)
 
 writer-after : (w : World) (e : Event) (o : Option World) → IfSome o (λ v. (b : ℕ) → v.writers b ≡ w.writers b) → (b : ℕ) → (after_event w e o).writers b ≡ w.writers b
 writer-after w e None h b = refl
@@ -233,7 +233,7 @@ primary-outcome w (event.Up c) h =
 primary-outcome w (event.Lost c way more) h = where-same primaries_of primaries.Aside w (lost w c.0 way more) (nat_lt c.0 w.next_conn) (primary-lost w c.0 way more)
 primary-outcome w (event.Fault d) h = primary-faults w d
 primary-outcome w (event.Stop n) h = where-same primaries_of primaries.Aside w (stop w n.0) (w.running n.0) (λ i. refl)
-primary-outcome w (event.Restart n list) h = where-same primaries_of primaries.Aside w (restart w n.0 list) (nat_lt n.0 w.nodes && not (w.running n.0) && all_found w n.0 list) (λ i. refl)
+primary-outcome w (event.Restart n list) h = where-same primaries_of primaries.Aside w (restart w n.0 list) (nat_lt n.0 w.nodes && not (w.running n.0)) (λ i. refl)
 
 primary-after : (w : World) (e : Event) (o : Option World) → IfSome o (λ v. (i : ℕ) → v.primaries i ≡ w.primaries i) → (i : ℕ) → (after_event w e o).primaries i ≡ w.primaries i
 primary-after w e None h i = refl

@@ -29,7 +29,7 @@ use Rattle.world.specs.Connections.{Next, message, the_end, next_down, next_up, 
 use Rattle.world.specs.Nodes.{replica_at, closing, unless_failing, read_change, failing_read, read_request, piece_as, serve_change, failing_recovery, recovery_request, first_message, next_recovery, lower_down, lower_ready, mirror_up}
 use Rattle.world.specs.Clients.{writer_up, reader_up}
 use Rattle.world.specs.Primaries.{primary_up, office_event}
-use Rattle.world.specs.Restarts.{all_found, restart}
+use Rattle.world.specs.Restarts.{restart}
 use Rattle.world.specs.Events.{changed, own_change, down_as, down_event, ready_event, unless_fails, upper_up, up_as, up_event, fault_event, lost, stop, where_so, outcome, after_event, happens}
 use Rattle.world_settling.proofs.Ways.{next-message}
 use Rattle.world_settling.proofs.Outer.{when-each}
@@ -266,7 +266,7 @@ outcome-linked w (event.Lost c way more) o h = where-linked (nat_lt c.0 w.next_c
 outcome-linked w (event.Fault d) o h = fault-linked w d o h
 outcome-linked w (event.Stop n) o h = where-linked (w.running n.0) _ (stop-linked w n.0 h)
 outcome-linked w (event.Restart n list) o h =
-    where-linked (nat_lt n.0 w.nodes && not (w.running n.0) && all_found w n.0 list) _ (restart-linked w n.0 list h)
+    where-linked (nat_lt n.0 w.nodes && not (w.running n.0)) _ (restart-linked w n.0 list h)
 
 after-linked : (w : World) (e : Event) (o : Option World) → AllLinked w → IfSome o AllLinked → AllLinked (after_event w e o)
 after-linked w e None h k = h

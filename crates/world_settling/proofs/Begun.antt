@@ -13,7 +13,7 @@ use Rattle.world.specs.Parts.{Message}
 use Rattle.world.specs.Worlds.{World, Dial, Change, listed, dial_at, apply, start}
 use Rattle.world.specs.Connections.{Next, next_down, next_up, down_taken, up_taken, is_served}
 use Rattle.world.specs.Primaries.{office_event}
-use Rattle.world.specs.Restarts.{all_found, restart}
+use Rattle.world.specs.Restarts.{restart}
 use Rattle.world.specs.Events.{changed, own_change, down_as, down_event, ready_event, up_as, up_event, fault_event, lost, where_so, outcome, after_event, happens, run}
 use Rattle.world_settling.proofs.Frame.{HasFirst}
 use Rattle.world_settling.proofs.Outer.{when-each}
@@ -102,7 +102,7 @@ outcome-begun w (event.Lost c way more) h = where-begun (nat_lt c.0 w.next_conn)
 outcome-begun w (event.Fault d) h = fault-begun w d h
 outcome-begun w (event.Stop n) h = where-begun (w.running n.0) _ (record { first = h.first })
 outcome-begun w (event.Restart n list) h =
-    where-begun (nat_lt n.0 w.nodes && not (w.running n.0) && all_found w n.0 list) _ (record { first = h.first })
+    where-begun (nat_lt n.0 w.nodes && not (w.running n.0)) _ (record { first = h.first })
 
 after-begun : (w : World) (e : Event) (o : Option World) → AllBegun w → IfSome o AllBegun → AllBegun (after_event w e o)
 after-begun w e None h k = h

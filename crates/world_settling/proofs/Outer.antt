@@ -25,7 +25,7 @@ use Rattle.world.specs.Parts.{Message, Marks, Lower, idle, writes, serves, recov
 use Rattle.world.specs.Worlds.{World, Change, put, apply}
 use Rattle.world.specs.Connections.{is_alive, lesser, lost_marks, stopped_marks, stopped_where, is_of_node}
 use Rattle.world.specs.Nodes.{node_of, block_of}
-use Rattle.world.specs.Restarts.{all_found, found_in, replica_found, restarted, restart}
+use Rattle.world.specs.Restarts.{found_in, replica_found, restarted, restart}
 use Rattle.world.specs.Primaries.{asks_primary, primary_commits, primary_asks, writer_asks, office_event}
 use Rattle.world.specs.Events.{changed, lost, stop, where_so, outcome, after_event, happens}
 use Rattle.world_settling.specs.Traffic.{sum_to, hops, down_weight, up_weight, on_way, open_weight, down_way, up_way, sides, lower_weight, entries, entries_by, entries_of, traffic, is_outer}
@@ -227,7 +227,7 @@ outcome-keeps w (event.Office c) h = changed-quiet w (office_event w c) (office-
 outcome-keeps w (event.Lost c way more) h = where-keeps w _ (nat_lt c.0 w.next_conn) (lost-keeps w c.0 way more)
 outcome-keeps w (event.Stop n) h = where-keeps w _ (w.running n.0) (stop-keeps w n.0)
 outcome-keeps w (event.Restart n list) h =
-    where-keeps w _ (nat_lt n.0 w.nodes && not (w.running n.0) && all_found w n.0 list) (restart-keeps w n.0 list)
+    where-keeps w _ (nat_lt n.0 w.nodes && not (w.running n.0)) (restart-keeps w n.0 list)
 outcome-keeps w (event.Own s) h = absurd (false≢true h)
 outcome-keeps w (event.Down c answered) h = absurd (false≢true h)
 outcome-keeps w (event.Ready c) h = absurd (false≢true h)

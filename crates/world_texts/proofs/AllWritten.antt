@@ -18,7 +18,7 @@ use Rattle.world.specs.Worlds.{World, Change, apply, start}
 use Rattle.world.specs.Connections.{Next, message, the_end, next_down, next_up, down_taken, up_taken, is_served}
 use Rattle.world.specs.Nodes.{lower_down, lower_ready}
 use Rattle.world.specs.Primaries.{office_event}
-use Rattle.world.specs.Restarts.{may_find, whole_found, replica_found, restarted, all_found, restart, found_in}
+use Rattle.world.specs.Restarts.{may_find, whole_found, replica_found, restarted, restart, found_in}
 use Rattle.world.specs.Events.{changed, own_change, down_as, down_event, ready_event, unless_fails, upper_up, up_as, up_event, fault_event, lost, stop, where_so, outcome, after_event, happens, run}
 use Rattle.world_laws.specs.Stamping.{Givens, none_given, given_with, stamped_in, given_by, heard, Recorded}
 use Rattle.world_laws.specs.Carrying.{Carried}
@@ -224,7 +224,7 @@ outcome-fine g w (event.Lost c way more) k f = while-fine g _ (where-fine g (nat
 outcome-fine g w (event.Fault d) k f = while-fine g _ (fault-fine g w d k)
 outcome-fine g w (event.Stop n) k f = while-fine g _ (where-fine g (w.running n.0) (stop w n.0) (stop-fine g w n.0 k.fine))
 outcome-fine g w (event.Restart n list) k f =
-    while-fine g _ (where-fine g (nat_lt n.0 w.nodes && not (w.running n.0) && all_found w n.0 list) (restart w n.0 list) (restart-fine g w n.0 list k.fine))
+    while-fine g _ (where-fine g (nat_lt n.0 w.nodes && not (w.running n.0)) (restart w n.0 list) (restart-fine g w n.0 list k.fine))
 
 -- an event that isn't enabled gives no stamp
 idle-office : (g : Givens) (w : World) (o : Option Change) → changed w o ≡ None → given_with g (stamped_in o) ≡ g

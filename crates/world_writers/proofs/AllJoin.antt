@@ -66,7 +66,7 @@ use Rattle.world.specs.Connections.{Next, message, the_end, next_down, next_up, 
 use Rattle.world.specs.Nodes.{node_on, block_of, lower_down, lower_ready, mirror_up}
 use Rattle.world.specs.Clients.{are_distinct, are_members, writer_change, did, reached_answer, dialled_change, dialling, rest_in, is_empty, is_formed, ruled, command_bytes, takes_command, writer_step, writer_hears, writer_up, reader_dials, own_reader_as, own_reader, from_node_of, reader_turn, reader_up_as, reader_up}
 use Rattle.world.specs.Primaries.{primary_dials, dials_answered, begins_with, begins_as, begins_at, own_recover, leads_step, commits_step, leads_told, own_primary_as, own_primary, listens, hears_change, primary_up_as, primary_up, asks_writer, asks_primary, writer_asks, primary_commits, primary_asks, office_event, stamped_by}
-use Rattle.world.specs.Restarts.{all_found, restart}
+use Rattle.world.specs.Restarts.{restart}
 use Rattle.world.specs.Events.{changed, own_change, down_as, down_event, ready_event, unless_fails, upper_up, up_as, up_event, fault_event, lost, stop, where_so, outcome, after_event, happens, run}
 use Rattle.world_laws.proofs.FactTables.{if-each, when-each, and-left, and-right, put-each, some-weaker}
 use Rattle.world_laws.proofs.OfficeSteps.{AsksAs, Asking, own-step-asking, block_in, asks-block, IsPrimarys}
@@ -864,7 +864,7 @@ outcome-joins g l t w (event.Lost c way more) k m h n = where-joins (nat_lt c.0 
 outcome-joins g l t w (event.Fault d) k m h n = fault-joins g l t w d k h n
 outcome-joins g l t w (event.Stop n) k m h q = where-joins (w.running n.0) (stop w n.0) (record { few = h.few; begun = h.begun; once = h.once; unmet = h.unmet; stamped = h.stamped; members = h.members; setups = h.setups; fits = h.fits; under = h.under; sessions = h.sessions; early = h.early; late = h.late; within = h.within; order = h.order; answered = h.answered; acked = h.acked; cover = h.cover; given = h.given; reach = h.reach; single = h.single })
 outcome-joins g l t w (event.Restart n list) k m h q =
-    where-joins (nat_lt n.0 w.nodes && not (w.running n.0) && all_found w n.0 list) (restart w n.0 list) (record { few = h.few; begun = h.begun; once = h.once; unmet = h.unmet; stamped = h.stamped; members = h.members; setups = h.setups; fits = h.fits; under = h.under; sessions = h.sessions; early = h.early; late = h.late; within = h.within; order = h.order; answered = h.answered; acked = h.acked; cover = h.cover; given = h.given; reach = h.reach; single = h.single })
+    where-joins (nat_lt n.0 w.nodes && not (w.running n.0)) (restart w n.0 list) (record { few = h.few; begun = h.begun; once = h.once; unmet = h.unmet; stamped = h.stamped; members = h.members; setups = h.setups; fits = h.fits; under = h.under; sessions = h.sessions; early = h.early; late = h.late; within = h.within; order = h.order; answered = h.answered; acked = h.acked; cover = h.cover; given = h.given; reach = h.reach; single = h.single })
 
 after-joins : (w : World) (e : Event) (o : Option World) → Joins w → IfSome o Joins → Joins (after_event w e o)
 after-joins w e None h k = h

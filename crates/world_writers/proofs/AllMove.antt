@@ -35,7 +35,7 @@ use Rattle.world.specs.Connections.{Next, next_down, next_up, down_taken, up_tak
 use Rattle.world.specs.Nodes.{lower_down, lower_ready, mirror_up}
 use Rattle.world.specs.Clients.{did, dialled_change, dialling, rest_in, is_empty, is_formed, ruled, command_bytes, takes_command, writer_step, own_writer, writer_up, own_reader, reader_up}
 use Rattle.world.specs.Primaries.{writer_asks, primary_commits, primary_asks, office_event, own_recover, own_primary, primary_up}
-use Rattle.world.specs.Restarts.{all_found, restart}
+use Rattle.world.specs.Restarts.{restart}
 use Rattle.world.specs.Events.{changed, own_change, down_as, down_event, ready_event, unless_fails, upper_up, up_as, up_event, fault_event, lost, stop, where_so, outcome, after_event, happens, run}
 use Rattle.world_laws.proofs.FactTables.{put-each, when-each, some-weaker, and-left, and-right}
 use Rattle.world_laws.proofs.SessionAsides.{Aside, lower-down-aside, lower-ready-aside, mirror-up-aside, own-reader-aside, reader-up-aside, own-recover-aside, own-primary-aside, primary-up-aside}
@@ -238,7 +238,7 @@ outcome-making w (event.Up c) r h = up-making w c.0 false h
 outcome-making w (event.Lost c way more) r h = where-making (nat_lt c.0 w.next_conn) (lost w c.0 way more) (lost-making w c.0 way more h)
 outcome-making w (event.Fault d) r h = fault-making w d h
 outcome-making w (event.Stop n) r h = where-making (w.running n.0) (stop w n.0) (record { each = h.each })
-outcome-making w (event.Restart n list) r h = where-making (nat_lt n.0 w.nodes && not (w.running n.0) && all_found w n.0 list) (restart w n.0 list) (record { each = h.each })
+outcome-making w (event.Restart n list) r h = where-making (nat_lt n.0 w.nodes && not (w.running n.0)) (restart w n.0 list) (record { each = h.each })
 
 after-making : (w : World) (e : Event) (o : Option World) → Making w → IfSome o Making → Making (after_event w e o)
 after-making w e None h k = h

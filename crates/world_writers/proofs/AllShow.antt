@@ -20,7 +20,7 @@ use Rattle.world.specs.Connections.{Next, next_down, next_up, down_taken, up_tak
 use Rattle.world.specs.Nodes.{node_of, lower_down, lower_ready, mirror_up}
 use Rattle.world.specs.Clients.{writer_up, own_reader, reader_up}
 use Rattle.world.specs.Primaries.{own_recover, own_primary, primary_up, office_event}
-use Rattle.world.specs.Restarts.{all_found, restart}
+use Rattle.world.specs.Restarts.{restart}
 use Rattle.world.specs.Events.{changed, own_change, down_as, down_event, ready_event, unless_fails, upper_up, up_as, up_event, fault_event, lost, stop, where_so, outcome, after_event, happens, run}
 use Rattle.world_laws.proofs.SessionAsides.{lower-down-aside, lower-ready-aside, mirror-up-aside, own-reader-aside, reader-up-aside, own-recover-aside, own-primary-aside, primary-up-aside}
 use Rattle.world_laws.specs.Stamping.{Givens, none_given, given_with, stamped_in, given_by, given_in, heard}
@@ -191,7 +191,7 @@ outcome-stands g t w (event.Up c) h v d f = up-stands g t w c.0 false h v d f
 outcome-stands g t w (event.Lost c way more) h v d f = where-stands g (nat_lt c.0 w.next_conn) (lost w c.0 way more) (lost-stands g t w c.0 way more d)
 outcome-stands g t w (event.Fault x) h v d f = fault-stands g t w x h v d f
 outcome-stands g t w (event.Stop n) h v d f = where-stands g (w.running n.0) (stop w n.0) (stop-stands g t w n.0 d)
-outcome-stands g t w (event.Restart n list) h v d f = where-stands g (nat_lt n.0 w.nodes && not (w.running n.0) && all_found w n.0 list) (restart w n.0 list) (restart-stands g t w n.0 list d)
+outcome-stands g t w (event.Restart n list) h v d f = where-stands g (nat_lt n.0 w.nodes && not (w.running n.0)) (restart w n.0 list) (restart-stands g t w n.0 list d)
 
 last-stands : (g : Givens) (t : Ends) (v : World) (e : Event) → Standing g v → Standing g (record v { last = Some e })
 last-stands g t w e h =
