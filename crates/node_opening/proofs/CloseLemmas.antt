@@ -14,7 +14,7 @@ use Rattle.play_nodes.proofs.PlaceLaws.{element_within, same_some, book_found}
 use Rattle.replica_files.specs.declared.book_state.BookState.{BookState}
 use Rattle.node_opening.specs.Shelves.{is_among, AreDistinct}
 use Rattle.node_opening.specs.Closing.{block_of, blocks_of, faults_of, files_with, books_within, AreLentOut, AreOf, TheyLend, NodesFit, NodeCloses, NodesClose}
-use Rattle.node_opening.proofs.ListLemmas.{get_front, get_end, get_take, get_within, take_next, none_left}
+use Rattle.node_opening.proofs.ListLemmas.{get_front, get_end, get_take, get_longer, get_within, take_next, none_left}
 use Rattle.node_opening.proofs.ShelfLemmas.{among_more, distinct_front}
 use Rattle.node_opening.proofs.FileLemmas.{with_end}
 use Rattle.hd_base.specs.FileMaps.{OnlyOf}
@@ -166,10 +166,15 @@ among_in [] k a b h e = cc
 among_in (x ∷ xs) zero a b h e = or_left (b == x.0) (is_among xs b) (eq-eqb b x.0 (e ∙ ap (λ (q : BlockId). q.0) (same_some a x (sym h))))
 among_in (x ∷ xs) (suc k) a b h e = or_right (b == x.0) (is_among xs b) (among_in xs k a b h e)
 
-among_front : (xs : List BlockId) (n b : ℕ) → is_among (take n xs) b ≡ true → is_among xs b ≡ true
+pub among_front : (xs : List BlockId) (n b : ℕ) → is_among (take n xs) b ≡ true → is_among xs b ≡ true
 among_front xs n b h =
     let f = among_at (take n xs) b h in
     among_in xs f.place f.block b (get_take xs n f.place f.block f.at) f.same
+
+among_longer : (xs : List BlockId) (n m b : ℕ) → n ≤ m → is_among (take n xs) b ≡ true → is_among (take m xs) b ≡ true
+among_longer xs n m b less h =
+    let f = among_at (take n xs) b h in
+    among_in (take m xs) f.place f.block b (get_longer xs n m f.place f.block less f.at) f.same
 
 module _ {S D : Type 0} (s : shelves.Ghosts S D) where
   pub lent_last : (bs : List BlockId) (block : BlockId) (a : S) → AreLentOut s a (bs ++ block ∷ []) → s.lent a block.0 ≡ true
@@ -183,11 +188,11 @@ module _ {S D : Type 0} (s : shelves.Ghosts S D) where
         (l.lent y (among_more bs block y ∙ or_right (y == block.0) (is_among bs y) h));
   }
 
-  -- Of blocks that the shelf has lent it has lent those of a front.
-  pub lent_front : (bs : List BlockId) (n : ℕ) (a : S) → AreLentOut s a bs → AreLentOut s a (take n bs)
-  lent_front bs n a l = record {
-    distinct = distinct_front bs n l.distinct;
-    lent = λ y h. l.lent y (among_front bs n y h);
+  -- Of blocks that the shelf has lent, a front, it has lent those of a shorter front.
+  pub lent_front : (bs : List BlockId) (n m : ℕ) (a : S) → n ≤ m → AreLentOut s a (take m bs) → AreLentOut s a (take n bs)
+  lent_front bs n m a less l = record {
+    distinct = λ j k x y at at' same. l.distinct j k x y (get_longer bs n m j x less at) (get_longer bs n m k y less at') same;
+    lent = λ y h. l.lent y (among_longer bs n m y less h);
   }
 
 -- What is left of a node's books: none stands past the blocks, and the blocks at their places are lent.
@@ -257,10 +262,10 @@ module _ {S D : Type 0} (s : shelves.Ghosts S D) (d : files.Ghosts D) (blocks : 
       past : (k : ℕ) → length (nodes ++ x ∷ []) ≤ k → k ≡ length nodes → ⊥
       past k h e = omega (arith, length-append nodes (x ∷ []))
 
--- There is a shelf for each node, and each has lent these blocks.
+-- There is a shelf for each node, and each has lent the blocks of its node's books.
 pub record NodesAreLentOut {S D : Type 0} (s : shelves.Ghosts S D) (blocks : List BlockId) (xs : List S) (nodes : List (NodeBooks D)) : Type 0 where
   pub fewer : length nodes ≤ length xs
-  pub lend : TheyLend s blocks (length nodes) xs
+  pub lend : TheyLend s blocks nodes xs
 
 module _ {S D : Type 0} (s : shelves.Ghosts S D) (blocks : List BlockId) where
   pub nodes_within : (nodes : List (NodeBooks D)) (x : NodeBooks D) (xs : List S) → NodesAreLentOut s blocks xs (nodes ++ x ∷ []) → length nodes < length xs
@@ -269,19 +274,18 @@ module _ {S D : Type 0} (s : shelves.Ghosts S D) (blocks : List BlockId) where
       within : length (nodes ++ x ∷ []) ≤ length xs → length nodes < length xs
       within h = omega (arith, length-append nodes (x ∷ []))
 
-  longer : (nodes : List (NodeBooks D)) (x : NodeBooks D) (k : ℕ) → k ≤ length nodes → k < length (nodes ++ x ∷ [])
-  longer nodes x k h = omega (arith, length-append nodes (x ∷ []))
-
-  pub nodes_last : (nodes : List (NodeBooks D)) (x : NodeBooks D) (xs : List S) (a : S) → AreDistinct blocks → NodesAreLentOut s blocks xs (nodes ++ x ∷ []) → slice_get xs (length nodes) ≡ Some a → AreLentOut s a blocks
+  pub nodes_last : (nodes : List (NodeBooks D)) (x : NodeBooks D) (xs : List S) (a : S) → AreDistinct blocks → NodesAreLentOut s blocks xs (nodes ++ x ∷ []) → slice_get xs (length nodes) ≡ Some a → AreLentOut s a (take (length x.books.items) blocks)
   nodes_last nodes x xs a distinct l at = record {
-    distinct = distinct;
-    lent = λ b h. l.lend (length nodes) a b (longer nodes x (length nodes) (omega arith)) at h;
+    distinct = distinct_front blocks (length x.books.items) distinct;
+    lent = λ b h. l.lend (length nodes) a x b at (get_end nodes x) h;
   }
 
   pub nodes_less : (nodes : List (NodeBooks D)) (x : NodeBooks D) (xs : List S) (b : S) → NodesAreLentOut s blocks xs (nodes ++ x ∷ []) → NodesAreLentOut s blocks (slice_set xs (length nodes) b) nodes
   nodes_less nodes x xs b l = record {
     fewer = less (nodes_within nodes x xs l) (length-set xs (length nodes) b);
-    lend = λ k a y within at h. l.lend k a y (longer nodes x k (omega (arith, within))) (sym (set_there xs (length nodes) b k (apart k within)) ∙ at) h;
+    lend = λ k a z y at here h.
+        let within = element_within nodes k z here in
+        l.lend k a z y (sym (set_there xs (length nodes) b k (apart k within)) ∙ at) (get_front nodes x k within ∙ here) h;
   }
     where
       less : length nodes < length xs → length (slice_set xs (length nodes) b) ≡ length xs → length nodes ≤ length (slice_set xs (length nodes) b)
@@ -336,6 +340,12 @@ pub fit_each : {D : Type 0} (blocks : List BlockId) (nodes : List (NodeBooks D))
 fit_each blocks nodes node x fit here = λ place block y at there.
     fit node place block y at (book_found nodes node place x here ∙ get_take x.books.items (length blocks) place y there)
 
+pub taken_fewer : {A : Type 0} (xs ys : List A) (n : ℕ) → ys ≡ take n xs → length ys ≤ length xs
+taken_fewer xs ys n e = few (ap length e ∙ length-take n xs)
+  where
+    few : length ys ≡ min n (length xs) → length ys ≤ length xs
+    few e = omega arith
+
 pub taken_within : {A : Type 0} (xs ys : List A) (n : ℕ) → ys ≡ take n xs → length ys ≤ n
 taken_within xs ys n e = few (ap length e ∙ length-take n xs)
   where
@@ -343,14 +353,11 @@ taken_within xs ys n e = few (ap length e ∙ length-take n xs)
     few e = omega arith
 
 -- As many nodes as there are shelves at most.
-pub lent_start : {S D : Type 0} (s : shelves.Ghosts S D) (blocks : List BlockId) (nodes nodes' : List (NodeBooks D)) (xs : List S) → nodes' ≡ take (length xs) nodes → TheyLend s blocks (length nodes) xs → NodesAreLentOut s blocks xs nodes'
-lent_start s blocks nodes nodes' xs e lend = record {
+pub lent_start : {S D : Type 0} (s : shelves.Ghosts S D) (blocks : List BlockId) (nodes nodes' : List (NodeBooks D)) (xs : List S) → nodes' ≡ take (length xs) nodes → TheyLend s blocks nodes xs → NodesAreLentOut s blocks xs nodes'
+lent_start {S} {D} s blocks nodes nodes' xs e lend = record {
   fewer = taken_within nodes nodes' (length xs) e;
-  lend = λ k a b within at h. lend k a b (less k (ap length e ∙ length-take (length xs) nodes) within) at h;
+  lend = λ k a x b at here h. lend k a x b at (get_take nodes (length xs) k x (ap (λ (ys : List (NodeBooks D)). slice_get ys k) (sym {A = List (NodeBooks D)} e) ∙ here)) h;
 }
-  where
-    less : (k : ℕ) → length nodes' ≡ min (length xs) (length nodes) → k < length nodes' → k < length nodes
-    less k e h = omega arith
 
 module _ {S D : Type 0} (s : shelves.Ghosts S D) (d : files.Ghosts D) (blocks : List BlockId) where
   -- Nodes past the shelves have none.

@@ -23,7 +23,7 @@ use Rattle.node_opening.specs.Lending.{IsNewBook, AreNewBooks, HasBooks, HaveBoo
 use Rattle.node_opening.proofs.ListLemmas.{UpTo, up_to_map, up_to_next, up_to_here, up_to_end, get_front, get_end}
 use Rattle.node_opening.proofs.ShelfLemmas.{among_more, empty_is, lent_none, given_none}
 use Rattle.node_opening.proofs.FileLemmas.{both_parts, part_none, rest_none, with_none}
-use Rattle.node_opening.proofs.CloseLemmas.{among_apart, blocks_end, same_eqb, length_blocks, are_of}
+use Rattle.node_opening.proofs.CloseLemmas.{among_apart, among_front, blocks_end, same_eqb, length_blocks, are_of}
 use Rattle.std.proofs.Common.{take, add-one, length-append, length-set}
 use Rattle.std.proofs.lemmas.List.{take_all, length-take}
 use Rattle.std.specs.Prelude.{Result, Ok, Err, IsErr, min}
@@ -219,12 +219,12 @@ module _ {S D : Type 0} (s : shelves.Ghosts S D) (d : files.Ghosts D) where
       least n m h = omega arith
 
   -- The shelves of the nodes so far lend their blocks, whatever became of the next one.
-  pub nodes_lend : (blocks : List BlockId) (old new : List S) (nodes : List (NodeBooks D)) (b : S) → UpTo (HasNode blocks nodes) (length nodes) old new → TheyLend s blocks (length nodes) (slice_set new (length nodes) b)
-  nodes_lend blocks old new nodes b u = λ k q y below at h.
-      let x = element nodes k below in
+  pub nodes_lend : (blocks : List BlockId) (old new : List S) (nodes : List (NodeBooks D)) (b : S) → UpTo (HasNode blocks nodes) (length nodes) old new → TheyLend s blocks nodes (slice_set new (length nodes) b)
+  nodes_lend blocks old new nodes b u = λ k q x y at here h.
+      let below = element_within nodes k x here in
       let now = sym (set_there new (length nodes) b k (apart k (length nodes) below)) ∙ at in
       let was = element old k (subst (λ (n : ℕ). k < n) u.count (element_within new k q now)) in
-      among_true s d (s.lent q y) (is_among blocks y) (s.lent was.0 y) ((u.done k was.0 q below was.1 now x.0 x.1).has_lent.lent y) h
+      among_true s d (s.lent q y) (is_among blocks y) (s.lent was.0 y) ((u.done k was.0 q below was.1 now x here).has_lent.lent y) (among_front blocks (length x.books.items) y h)
     where
       apart : (k n : ℕ) → k < n → k ≡ n → ⊥
       apart k n h e = omega arith
@@ -328,10 +328,10 @@ module _ {S D : Type 0} (s : shelves.Ghosts S D) (d : files.Ghosts D) where
   pub nodes_whole : (blocks : List BlockId) (n : ℕ) (old new : List S) (nodes : List (NodeBooks D)) → NodesUpTo blocks n old new nodes → n ≡ length old → HaveBooks s d blocks old new nodes
   nodes_whole blocks n old new nodes u e = nodes_all s d blocks old new nodes u.lent (u.count ∙ e)
 
-  pub nodes_fail_lend : (blocks : List BlockId) (n : ℕ) (old new : List S) (nodes nodes' : List (NodeBooks D)) (b : S) → NodesUpTo blocks n old new nodes → nodes' ≡ nodes → TheyLend s blocks (length nodes') (slice_set new n b)
+  pub nodes_fail_lend : (blocks : List BlockId) (n : ℕ) (old new : List S) (nodes nodes' : List (NodeBooks D)) (b : S) → NodesUpTo blocks n old new nodes → nodes' ≡ nodes → TheyLend s blocks nodes' (slice_set new n b)
   nodes_fail_lend blocks n old new nodes nodes' b u same =
-      subst (λ (xs : List (NodeBooks D)). TheyLend s blocks (length xs) (slice_set new n b)) (sym same)
-      (subst (λ (m : ℕ). TheyLend s blocks (length nodes) (slice_set new m b)) u.count (nodes_lend s d blocks old new nodes b u.lent))
+      subst (λ (xs : List (NodeBooks D)). TheyLend s blocks xs (slice_set new n b)) (sym same)
+      (subst (λ (m : ℕ). TheyLend s blocks nodes (slice_set new m b)) u.count (nodes_lend s d blocks old new nodes b u.lent))
 
   pub nodes_fail_back : (blocks : List BlockId) (n : ℕ) (old new end : List S) (nodes nodes' : List (NodeBooks D)) (a b : S) → AllEmpty s old → NodesUpTo blocks n old new nodes → slice_get new n ≡ Some a → IsGivenBack s a b × (nodes' ≡ nodes)
       → NodesClose s d blocks nodes' (slice_set new n b) end → EachShelf (IsGivenBack s) old end

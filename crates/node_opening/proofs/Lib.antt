@@ -6,3 +6,4 @@ pub mod FileLemmas
 pub mod CloseLemmas
 pub mod LendLemmas
 pub mod OpenLemmas
+pub mod StandLemmas

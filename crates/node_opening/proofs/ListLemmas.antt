@@ -15,6 +15,20 @@ get_take [] (suc n) k a h = cc
 get_take (x ∷ xs) (suc n) zero a h = h
 get_take (x ∷ xs) (suc n) (suc k) a h = get_take xs n k a h
 
+-- What stands in the front of a list stands in a longer one.
+pub get_longer : {A : Type 0} (xs : List A) (n m k : ℕ) (a : A) → n ≤ m → slice_get (take n xs) k ≡ Some a → slice_get (take m xs) k ≡ Some a
+get_longer xs zero m k a less h = cc
+get_longer [] (suc n) m k a less h = cc
+get_longer (x ∷ xs) (suc n) zero k a less h = absurd (none less)
+  where
+    none : suc n ≤ 0 → ⊥
+    none h = omega arith
+get_longer (x ∷ xs) (suc n) (suc m) zero a less h = h
+get_longer (x ∷ xs) (suc n) (suc m) (suc k) a less h = get_longer xs n m k a (fewer less) h
+  where
+    fewer : suc n ≤ suc m → n ≤ m
+    fewer h = omega arith
+
 pub get_within : {A : Type 0} (xs : List A) (n k : ℕ) → k < n → slice_get (take n xs) k ≡ slice_get xs k
 get_within xs zero k h = absurd (none h)
   where

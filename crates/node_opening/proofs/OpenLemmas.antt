@@ -23,7 +23,7 @@ use Rattle.world.specs.Worlds.{World, start}
 use Rattle.world_nets.specs.Starts.{StartsAreNets}
 use Rattle.node_opening.specs.Shelves.{AreDistinct}
 use Rattle.node_opening.specs.Closing.{block_of, blocks_of, TheyLend, NodesFit}
-use Rattle.node_opening.proofs.CloseLemmas.{FoundAt, found_by, block_at}
+use Rattle.node_opening.proofs.CloseLemmas.{FoundAt, found_by, block_at, among_front}
 use Rattle.node_opening.proofs.LendLemmas.{new_replica, new_block}
 use Rattle.node_opening.specs.Lending.{HasBooks, HaveBooks}
 use Rattle.node_opening.specs.Listening.{opened_net}
@@ -168,13 +168,13 @@ module _ {S D I O : Type 0} (s : shelves.Ghosts S D) (d : files.Ghosts D) where
     have_books = books_after s d blocks old mid new n.nodes.items checked.0 h;
   }
 
-  opened_lend : (blocks : List BlockId) (old new : List S) (n : Nodes D I O) (nodes : ℕ) → IsOpened s d blocks old new n → TheyLend s blocks nodes new
-  opened_lend blocks old new n nodes h = λ k b y within at among.
+  opened_lend : (blocks : List BlockId) (old new : List S) (n : Nodes D I O) (nodes : List (NodeBooks D)) → IsOpened s d blocks old new n → TheyLend s blocks nodes new
+  opened_lend blocks old new n nodes h = λ k b z y at here among.
       let books = h.have_books in
       let below : k < length old = subst (λ (m : ℕ). k < m) books.shelves_stay (element_within new k b at) in
       let a = element old k below in
       let x = element n.nodes.items k (subst (λ (m : ℕ). k < m) (sym books.count) below) in
-      lent_of (s.lent b y) (is_among blocks y) (s.lent a.0 y) ((books.each k a.0 b x.0 a.1 at x.1).has_lent.lent y) among
+      lent_of (s.lent b y) (is_among blocks y) (s.lent a.0 y) ((books.each k a.0 b x.0 a.1 at x.1).has_lent.lent y) (among_front blocks (length z.books.items) y among)
     where
       lent_of : (p q r : Bool) → p ≡ (q || r) → q ≡ true → p ≡ true
       lent_of p true r e m = e

@@ -1,5 +1,5 @@
 -- Books are closed, and their drawers given back.
-use Rattle.std.specs.Prelude.{◌≡◌, ◌<◌, ◌≤◌, ◌+◌, ◌&&◌, not, ℕ, true, List, [], ◌∷◌, length, map, take, slice_get, Option, Some}
+use Rattle.std.specs.Prelude.{◌≡◌, ◌≤◌, ◌+◌, ◌&&◌, not, ℕ, true, List, [], ◌∷◌, length, map, take, slice_get, Option, Some}
 use Rattle.hd_base.specs.Faults.{CarriesFaults}
 use Rattle.hd_base.specs.FileMaps.{FileMap, both_observable}
 use Rattle.hd_base.specs.declared.numbers.BlockId.{BlockId}
@@ -51,10 +51,10 @@ pub record NodeCloses {S D : Type 0} (s : shelves.Ghosts S D) (d : files.Ghosts 
 
 -- ALL NODES
 
--- The shelves of so many nodes lend these blocks.
-abbrev pub TheyLend : {S D : Type 0} → shelves.Ghosts S D → List BlockId → ℕ → List S → Type 0
-TheyLend {S} s blocks nodes xs = (k : ℕ) (a : S) (b : ℕ) → k < nodes → slice_get xs k ≡ Some a →
-    is_among blocks b ≡ true
+-- The shelf of each node lends the blocks at the places of its books.
+abbrev pub TheyLend : {S D : Type 0} → shelves.Ghosts S D → List BlockId → List (NodeBooks D) → List S → Type 0
+TheyLend {S} {D} s blocks nodes xs = (k : ℕ) (a : S) (x : NodeBooks D) (b : ℕ) → slice_get xs k ≡ Some a →
+    slice_get nodes k ≡ Some x → is_among (take (length x.books.items) blocks) b ≡ true
     → s.lent a b ≡ true
 
 -- Each book of a node is of the block at its place.

@@ -28,7 +28,7 @@ pub(crate) fn give_back_books<S: Shelf>(
 
 /// The books of a node at the places of the blocks are closed, and their drawers given back to its shelf.
 fn close_node<S: Shelf>(shelf: &mut S, blocks: &[BlockId], mut books: Vec<ReplicaBook<S::Drawer>>)
-    requires { AreLentOut S.Shelf shelf.old blocks.now }
+    requires { AreLentOut S.Shelf shelf.old (take (length books.items) blocks.now) }
     ensures { NodeCloses S.Shelf S.Drawer.Files blocks.now (take (length blocks.now) books.items)
         shelf.old shelf.new }
 {
@@ -37,16 +37,16 @@ fn close_node<S: Shelf>(shelf: &mut S, blocks: &[BlockId], mut books: Vec<Replic
 }
 
 /// The books of nodes are closed, and their drawers given back to the shelves, of which each node has that of its
-/// number, each under the block at the book's place. Each block stands once and is lent by the shelf. None of these
-/// blocks is lent any more, and the counts of the drawers are added to the shelf's. Where the books are of the blocks at
-/// their places, the shelf then has their files beside its own. Takes no memory.
+/// number, each under the block at the book's place. Each block stands once, and those at the places of a node's books
+/// are lent by its shelf. None of these is lent any more, and the counts of the drawers are added to the shelf's. Where
+/// the books are of the blocks at their places, the shelf then has their files beside its own. Takes no memory.
 pub fn close_nodes<S: Shelf>(
     blocks: &[BlockId],
     mut nodes: Vec<NodeBooks<S::Drawer>>,
     shelves: &mut [S],
 )
     requires distinct { AreDistinct blocks.now }
-    requires lent { TheyLend S.Shelf blocks.now (length nodes.items) shelves.old }
+    requires lent { TheyLend S.Shelf blocks.now nodes.items shelves.old }
     ensures { NodesClose S.Shelf S.Drawer.Files blocks.now nodes.items shelves.old shelves.new }
 {
     nodes.truncate(shelves.len());

@@ -12,5 +12,8 @@ mod opening;
 
 pub use closing::close_nodes;
 pub use faults::OpenFault;
-pub use laws::{fitting_books_are_of_blocks, opened_nodes_close, shown_nodes_fit};
+pub use laws::{
+    fitting_books_are_of_blocks, opened_nodes_close, opened_nodes_stand, shown_nodes_fit,
+    standing_nodes_close,
+};
 pub use opening::open_nodes;

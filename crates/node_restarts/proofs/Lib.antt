@@ -5,5 +5,6 @@ pub mod LendingLemmas
 pub mod BesideLemmas
 pub mod ScannedLemmas
 pub mod FoundLemmas
+pub mod SeekingLemmas
 pub mod RestartingLemmas
 pub mod LawLemmas

@@ -11,12 +11,16 @@ use Rattle.hd_base.specs.declared.shelves.Shelf as shelves
 use Rattle.play_nodes.proofs.PlaceLaws.{element_within}
 use Rattle.play_nodes.proofs.Tables.{element}
 use Rattle.replica_files.specs.declared.book_state.BookState.{BookState}
+use Rattle.replica_files.specs.Books.{replica_of}
+use Rattle.replica_model.specs.Found.{Found as ReplicaFound}
 use Rattle.restart_scan.specs.declared.faults.ScanFault.{ScanFault}
 use Rattle.restart_scan.specs.declared.faults.ScanFault.TheVariants as scan
 use Rattle.restart_scan.specs.declared.found.Found.{Found}
 use Rattle.restart_scan.specs.declared.found.Seen.{Seen}
 use Rattle.restart_scan.specs.Faults.{ScansFor}
+use Rattle.restart_scan.specs.Restarts.{Shows}
 use Rattle.restart_scan.specs.Shelves.{WhereTold, StaysUntold, ScansShelf, LendsNoMore as KeepsLent}
+use Rattle.world.specs.Restarts.{replica_found}
 use Rattle.node_opening.specs.Closing.{block_of, blocks_of, files_with, AreLentOut, AreOf, NodeCloses}
 use Rattle.node_opening.specs.Shelves.{is_among, LendsNoMore}
 use Rattle.node_opening.proofs.CloseLemmas.{block_at, same_eqb}
@@ -25,11 +29,13 @@ use Rattle.node_restarts.specs.Closing.{HaveNumbers}
 use Rattle.node_restarts.specs.Faults.{of_scan, HasRestartCause}
 use Rattle.node_restarts.specs.Lending.{HasFound, IsUnmade, rest_after}
 use Rattle.node_restarts.specs.Making.{AllHeld, IsBookFor, seen_in}
-use Rattle.node_restarts.specs.Restarting.{TellAll, IsRestarted, HasRestarted, AreGivenUp}
+use Rattle.node_restarts.specs.Restarting.{TellAll, IsRestarted, StandsAgain, HasRestarted, AreGivenUp}
+use Rattle.node_restarts.specs.Seeking.{is_sought, sought_of, found_of}
 use Rattle.node_restarts.proofs.BesideLemmas.{AreOwn, books_own, all_told, part_held, only_theirs}
 use Rattle.node_restarts.proofs.FoundLemmas.{one_restarted}
 use Rattle.node_restarts.proofs.LendingLemmas.{later_cause}
 use Rattle.node_restarts.proofs.RestLemmas.{nothing_left}
+use Rattle.node_restarts.proofs.SeekingLemmas.{found_sought, found_unsought, found_held}
 use Rattle.node_restarts.proofs.ScannedLemmas.{IsScannedAt, scanned_at, only_after}
 
 true_false : true ≡ false → ⊥
@@ -59,6 +65,13 @@ lend_cause s a b c e why h k u = later_cause (s.faults a) (s.faults c) (s.faults
   where
     same : (n : ℕ) → n ≤ n
     same n = omega arith
+
+-- WHAT IS SHOWN
+
+-- Where nothing was listed, nothing is shown.
+shows_none : (m : FileMap) (o : Option ReplicaFound) → Shows m None o → o ≡ None
+shows_none m None h = refl
+shows_none m (Some f) h = absurd h
 
 -- RESULTS
 
@@ -157,16 +170,39 @@ module _ {S D : Type 0} (s : shelves.Ghosts S D) (d : files.Ghosts D) (blocks : 
         let here : slice_get blocks place ≡ Some (block_of y) = sym (ap (λ (bs : List BlockId). slice_get bs place) are) ∙ block_at made place y at' in
         sym (of place (block_of y) x here at)
 
-    each_restarted : (c e : S) (made : List (BookState D)) → HasFound s d blocks found.replicas.items c e made → Between c → (place : ℕ) (x y : BookState D) → slice_get books place ≡ Some x → slice_get made place ≡ Some y → IsRestarted d x y
-    each_restarted c e made h w place x y at at' =
+    -- What was found of the blocks that the restart looks for.
+    abbrev sought : List Seen
+    sought = found_of (sought_of books) found.replicas.items
+
+    -- The book that was made of what was sought of an old one's block.
+    made_for : (c e : S) (made : List (BookState D)) → HasFound s d blocks sought c e made → (w : Between c) → (place : ℕ) (x y : BookState D) → slice_get books place ≡ Some x → slice_get made place ≡ Some y
+        → IsBookFor d (block_of x) (seen_in sought (block_of x)) (Some (part_of (block_of x).0 w.after)) y
+    made_for c e made h w place x y at at' =
+        let q = block_of x in
+        subst (λ (f : Option FileMap). IsBookFor d q (seen_in sought q) f y) (ap (option_map (part_of q.0)) w.left)
+        (subst (λ (z : BlockId). IsBookFor d z (seen_in sought z) (option_map (part_of z.0) (s.files c)) y) (same_blocks made place x y h.blocks_are at at') (h.each place y at'))
+
+    sought_restarted : (c : S) → (w : Between c) → (place : ℕ) (x y : BookState D) → slice_get books place ≡ Some x → is_sought x ≡ true → IsBookFor d (block_of x) (seen_in sought (block_of x)) (Some (part_of (block_of x).0 w.after)) y → IsRestarted d x y
+    sought_restarted c w place x y at so i =
         let q = block_of x in
         let sc : IsScannedAt w.before w.after found.replicas.items q = scanned_at w.before w.after found w.scans q in
-        let made_for : IsBookFor d q (seen_in found.replicas.items q) (option_map (part_of q.0) (s.files c)) y =
-        subst (λ (z : BlockId). IsBookFor d z (seen_in found.replicas.items z) (option_map (part_of z.0) (s.files c)) y) (same_blocks made place x y h.blocks_are at at') (h.each place y at') in
         one_restarted d x y (part_of q.0 w.before) (part_of q.0 w.after) sc.x (close.held place x at) (numbers place x at)
         (part_held d books w.before place x own w.closed at) sc.scans
-        (subst (λ (o : Option Seen). IsBookFor d q o (Some (part_of q.0 w.after)) y) sc.seen
-        (subst (λ (f : Option FileMap). IsBookFor d q (seen_in found.replicas.items q) f y) (ap (option_map (part_of q.0)) w.left) made_for))
+        (subst (λ (o : Option Seen). IsBookFor d q o (Some (part_of q.0 w.after)) y) (found_sought books found.replicas.items place x at so ∙ sc.seen) i)
+
+    unsought_absent : (c : S) → (w : Between c) → (place : ℕ) (x y : BookState D) → slice_get books place ≡ Some x → is_sought x ≡ false → IsBookFor d (block_of x) (seen_in sought (block_of x)) (Some (part_of (block_of x).0 w.after)) y
+        → replica_of y ≡ replica_found (block_of x).0 None
+    unsought_absent c w place x y at so i =
+        let q = block_of x in
+        let j = subst (λ (o : Option Seen). IsBookFor d q o (Some (part_of q.0 w.after)) y) (found_unsought books found.replicas.items place x at own.distinct so) i in
+        j.is ∙ ap (replica_found q.0) (shows_none (part_of q.0 w.after) j.found j.shows)
+
+    each_again : (c e : S) (made : List (BookState D)) → HasFound s d blocks sought c e made → Between c → (place : ℕ) (x y : BookState D) → slice_get books place ≡ Some x → slice_get made place ≡ Some y → StandsAgain d (is_sought x) x y
+    each_again c e made h w place x y at at' = by (is_sought x) refl
+      where
+        by : (t : Bool) → is_sought x ≡ t → StandsAgain d t x y
+        by true so = sought_restarted c w place x y at so (made_for c e made h w place x y at at')
+        by false so = unsought_absent c w place x y at so (made_for c e made h w place x y at at')
 
     -- All files were of the blocks, and so they are after the scan.
     only_blocks : (c : S) (w : Between c) (name : List ℕ) → ((k : ℕ) (z : BlockId) → slice_get blocks k ≡ Some z → is_of_block z.0 name ≡ false) → w.after name ≡ None
@@ -199,18 +235,18 @@ module _ {S D : Type 0} (s : shelves.Ghosts S D) (d : files.Ghosts D) (blocks : 
     is_some : (o : Option FileMap) (m : FileMap) → o ≡ Some m → IsSome o
     is_some o m e = subst (λ (q : Option FileMap). IsSome q) (sym e) refl
 
-    told_again : (c e : S) (made : List (BookState D)) → HasFound s d blocks found.replicas.items c e made → Between c → TellAll s d e made
+    told_again : (c e : S) (made : List (BookState D)) → HasFound s d blocks sought c e made → Between c → TellAll s d e made
     told_again c e made h w = record {
       empty = h.rest ∙ (ap (option_map (rest_after blocks)) w.left ∙ ap Some (nothing_after c w));
       each = λ k y at. is_some (d.files y.drawer) (part_of (block_of y).0 w.after) ((h.each k y at).files_are ∙ ap (option_map (part_of (block_of y).0)) w.left);
     }
 
-    pub has_restarted : (c e : S) (made : List (BookState D)) → KeepsLent (s.lent b) (s.lent c) → WhereTold (s.files b) (s.files c) (λ m n. ScansShelf m n found) → HasFound s d blocks found.replicas.items c e made → HasRestarted s d blocks books a e made
+    pub has_restarted : (c e : S) (made : List (BookState D)) → KeepsLent (s.lent b) (s.lent c) → WhereTold (s.files b) (s.files c) (λ m n. ScansShelf m n found) → HasFound s d blocks (found_of (sought_of books) found.replicas.items) c e made → HasRestarted s d blocks books a e made
     has_restarted c e made keeps scans h = record {
       blocks_are = h.blocks_are;
       lent = record { distinct = out.distinct; lent = λ y m. or_true (s.lent e y) (is_among blocks y) (s.lent c y) (h.lent y) m };
       no_more = λ y none. again y none (is_among blocks y) refl;
-      each = λ t place x y at at'. each_restarted c e made h (between c scans t) place x y at at';
+      each = λ t place x y at at'. each_again c e made h (between c scans t) place x y at at';
       told = λ t. told_again c e made h (between c scans t);
     }
       where
@@ -218,7 +254,10 @@ module _ {S D : Type 0} (s : shelves.Ghosts S D) (d : files.Ghosts D) (blocks : 
         again y none true m = absurd (true_false (sym (out.lent y m) ∙ none))
         again y none false m = or_false (s.lent e y) (is_among blocks y) (s.lent c y) (h.lent y) m (none_more c keeps y none)
 
--- The files that a scan leaves hold all that it found, where they are told.
-pub held_after : (f g : Option FileMap) (found : Found) → WhereTold f g (λ m n. ScansShelf m n found) → StaysUntold f g → IfSome g (AllHeld found.replicas.items)
-held_after None g found scans untold = subst (λ (o : Option FileMap). IfSome o (AllHeld found.replicas.items)) (sym (untold refl)) tt
-held_after (Some m) g found scans untold = subst (λ (o : Option FileMap). IfSome o (AllHeld found.replicas.items)) (sym scans.1) (λ seen at. scans.2.held seen at)
+-- The files that a scan leaves hold all that it found of some blocks, where they are told.
+held_all : (f g : Option FileMap) (found : Found) → WhereTold f g (λ m n. ScansShelf m n found) → StaysUntold f g → IfSome g (AllHeld found.replicas.items)
+held_all None g found scans untold = subst (λ (o : Option FileMap). IfSome o (AllHeld found.replicas.items)) (sym (untold refl)) tt
+held_all (Some m) g found scans untold = subst (λ (o : Option FileMap). IfSome o (AllHeld found.replicas.items)) (sym scans.1) (λ seen at. scans.2.held seen at)
+
+pub held_after : (f g : Option FileMap) (found : Found) (blocks : List BlockId) → WhereTold f g (λ m n. ScansShelf m n found) → StaysUntold f g → IfSome g (AllHeld (found_of blocks found.replicas.items))
+held_after f g found blocks scans untold = found_held blocks found.replicas.items g (held_all f g found scans untold)

@@ -1,5 +1,5 @@
 -- What a node's books are after a restart.
-use Rattle.std.specs.Prelude.{◌≡◌, ℕ, true, false, List, slice_get, Option, Some, None, IfSome, IsSome}
+use Rattle.std.specs.Prelude.{◌≡◌, ℕ, Bool, true, false, List, slice_get, Option, Some, None, IfSome, IsSome}
 use Rattle.hd_base.specs.FileMaps.{no_files}
 use Rattle.hd_base.specs.declared.files.Files as files
 use Rattle.hd_base.specs.declared.numbers.BlockId.{BlockId}
@@ -15,6 +15,7 @@ use Rattle.world.specs.Parts.{Break}
 use Rattle.world.specs.Restarts.{may_find, replica_found, restarted}
 use Rattle.node_opening.specs.Closing.{block_of, blocks_of, AreLentOut}
 use Rattle.node_opening.specs.Shelves.{is_among, LendsNoMore}
+use Rattle.node_restarts.specs.Seeking.{is_sought}
 
 -- BEFORE A RESTART
 
@@ -60,6 +61,11 @@ pub record IsRestarted {D : Type 0} (d : files.Ghosts D) (old new : BookState D)
       replica_of new ≡ restarted (block_of old).0 (replica_of old) broke found
   pub unbroken : IsUnbroken d new
 
+-- The same by whether the restart looks for the replica: one that was absent, and isn't broken, is absent again.
+abbrev pub StandsAgain : {D : Type 0} → files.Ghosts D → Bool → BookState D → BookState D → Type 0
+StandsAgain d true old new = IsRestarted d old new
+StandsAgain d false old new = replica_of new ≡ replica_found (block_of old).0 None
+
 -- A node has restarted: it has a book for each block, at its place, whose files the shelf has lent again. Where all
 -- files were told, and the shelf had none beside those of the books, each is that of what was found of its block, and
 -- all files are told again.
@@ -69,7 +75,7 @@ pub record HasRestarted {S D : Type 0} (s : shelves.Ghosts S D) (d : files.Ghost
   pub lent : AreLentOut s new blocks
   pub no_more : LendsNoMore s old new
   pub each : TellAll s d old books → (place : ℕ) (x y : BookState D) → slice_get books place ≡ Some x →
-      slice_get made place ≡ Some y → IsRestarted d x y
+      slice_get made place ≡ Some y → StandsAgain d (is_sought x) x y
   pub told : TellAll s d old books → TellAll s d new made
 
 -- None of these blocks is lent, and no other that wasn't.

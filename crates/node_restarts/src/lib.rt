@@ -8,6 +8,7 @@ mod laws;
 mod lending;
 mod making;
 mod restarting;
+mod seeking;
 
 pub use faults::RestartFault;
 pub use laws::{failed_books_are_broken, new_books_are_unbroken};

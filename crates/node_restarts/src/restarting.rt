@@ -9,14 +9,16 @@ ghost use Rattle.node_restarts.specs.Restarting.{HasRestarted, AreGivenUp};
 use crate::closing::close_books;
 use crate::faults::{RestartFault, of_scan};
 use crate::lending::lend_all;
+use crate::seeking::{found_of, sought_of};
 use hd_base::{BlockId, Shelf};
 use replica_files::ReplicaBook;
 use restart_scan::scan;
 use std::alloc::Global;
 
 /// Restarts a node over its shelf, between two events: its books are closed, the shelf is scanned, and the files of
-/// each block are lent again, over which the book is made of what was found of it. Each block stands once and is lent
-/// by the shelf, and each has a book, at its place.
+/// each block are lent again, over which the book is made of what was found of it. Of a replica that was absent, and
+/// isn't broken, nothing is looked for: it is absent again, and what its block has of files are strays, as before. Each
+/// block stands once and is lent by the shelf, and each has a book, at its place.
 ///
 /// After a fault the books are gone: none of the blocks is lent, and no other that wasn't before.
 pub fn restart_books<S: Shelf>(
@@ -34,10 +36,15 @@ pub fn restart_books<S: Shelf>(
     ensures cause { IfErr result (HasRestartCause (S.faults shelf.old) (S.faults shelf.new)) }
     ensures carried { CarriesFaults (S.faults shelf.old) (faults_of S.Drawer.Files books.items) (S.faults shelf.new) }
 {
+    let Ok(sought) = sought_of(alloc, &books) else {
+        close_books(shelf, blocks, books);
+        return Err(RestartFault::Memory);
+    };
     close_books(shelf, blocks, books);
     let found = match scan(alloc, shelf) {
         Ok(found) => found,
         Err(fault) => return Err(of_scan(fault)),
     };
-    lend_all(alloc, shelf, blocks, &found.replicas)
+    let replicas = found_of(&sought, found.replicas);
+    lend_all(alloc, shelf, blocks, &replicas)
 }

@@ -1,2 +1,3 @@
 mod LifeLemmas
-mod StartLemmas
+pub mod StartLemmas
+mod ReturnLemmas

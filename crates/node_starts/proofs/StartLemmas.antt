@@ -18,7 +18,7 @@ use Rattle.world.specs.declared.events.FoundReplica.{FoundReplica}
 use Rattle.world.specs.Events.{happens, outcome, after_event, where_so}
 use Rattle.world.specs.Parts as parts
 use Rattle.world.specs.Parts.{FullMember, idle, writes, serves, recovers, ended_below}
-use Rattle.world.specs.Restarts.{all_found, found_in, restart, restarted}
+use Rattle.world.specs.Restarts.{found_in, restart, restarted}
 use Rattle.world.specs.Worlds.{World, put}
 use Rattle.world_nets.specs.Nets.{IsRow, IsNetOf, IsEndOf, held_by, is_over}
 use Rattle.world_nets.specs.Rows.{rows_of}
@@ -31,22 +31,41 @@ use Rattle.play_nodes.specs.declared.nodes.Nodes.{Nodes}
 use Rattle.play_nodes.specs.Places.{book_at, KeepsSizes}
 use Rattle.play_nodes.specs.Showing.{has_events, LowerShows, ConnectionShows, NodesShow, NodesStand, NodesLeft}
 use Rattle.play_model.specs.Dues.{is_open}
-use Rattle.node_starts.specs.Starting.{IsReplaced, HasAsMany, CanStart, StartStays}
+use Rattle.node_starts.specs.Books.{IsReplaced}
+use Rattle.node_starts.specs.Starting.{CanStart}
 
 -- LISTS
 
-same_some : {X : Type 0} (x y : X) → ◌≡◌ {A = Option X} (Some x) (Some y) → x ≡ y
+pub same_some : {X : Type 0} (x y : X) → ◌≡◌ {A = Option X} (Some x) (Some y) → x ≡ y
 same_some x y e = cc
 
-within : {X : Type 0} (xs : List X) (c : ℕ) (x : X) → slice_get xs c ≡ Some x → c < length xs
+pub within : {X : Type 0} (xs : List X) (c : ℕ) (x : X) → slice_get xs c ≡ Some x → c < length xs
 within [] c x e = cc
 within (y ∷ xs) zero x e = omega arith
 within (y ∷ xs) (suc c) x e = omega (arith, within xs c x e)
 
-is_some_within : {X : Type 0} (xs : List X) (k : ℕ) → k < length xs → IsSome (slice_get xs k)
+pub is_some_within : {X : Type 0} (xs : List X) (k : ℕ) → k < length xs → IsSome (slice_get xs k)
 is_some_within [] k h = absurd (omega (arith, h))
 is_some_within (x ∷ xs) zero h = refl
 is_some_within (x ∷ xs) (suc k) h = is_some_within xs k (omega (arith, h))
+
+-- THE NEW BOOKS
+
+-- Each of these books, at the place of its block, is that of the replica that a restart of the node makes of what is found,
+-- and there is one for each block.
+pub record AreFound {F I O : Type 0} (w : World) (node : NodeId) (list : List FoundReplica) (n : Nodes F I O)
+    (books : List (BookState F)) : Type 0 where
+  pub each : (place : ℕ) (block : BlockId) (book : BookState F) → slice_get n.blocks.items place ≡ Some block →
+      slice_get books place ≡ Some book →
+      replica_of book ≡
+      restarted block.0 (w.replicas node.0 block.0) (w.breaks node.0 block.0) (found_in list block.0)
+  pub has_each : (place : ℕ) (block : BlockId) → slice_get n.blocks.items place ≡ Some block →
+      IsSome (slice_get books place)
+
+-- There are as many of these books as the node has.
+abbrev pub HasAsMany : {F I O : Type 0} → NodeId → List (BookState F) → Nodes F I O → Type 0
+HasAsMany {F} node books n = (x : NodeBooks F) → slice_get n.nodes.items node.0 ≡ Some x →
+    length x.books.items ≡ length books
 
 -- THE WORLD AFTER
 
@@ -61,23 +80,22 @@ started w node list = record w {
   last_answer = None;
 }
 
-enabled : (below runs found : Bool) → below ≡ true → runs ≡ false → found ≡ true → (below && not runs && found) ≡ true
-enabled true false true b r f = refl
-enabled true false false b r f = cc
-enabled true true found b r f = cc
-enabled false runs found b r f = cc
+enabled : (below runs : Bool) → below ≡ true → runs ≡ false → (below && not runs) ≡ true
+enabled true false b r = refl
+enabled true true b r = cc
+enabled false runs b r = cc
 
 started_so : (w : World) (node : NodeId) (list : List FoundReplica) (so : Bool) → so ≡ true → after_event w (event.Restart node list) (where_so so (restart w node.0 list)) ≡ started w node list
 unfolding restart
 started_so w node list true is = refl
 started_so w node list false is = cc
 
-pub start_is : (w : World) (node : NodeId) (list : List FoundReplica) → node.0 < w.nodes → w.running node.0 ≡ false → all_found w node.0 list ≡ true → happens w (event.Restart node list) ≡ started w node list
+pub start_is : (w : World) (node : NodeId) (list : List FoundReplica) → node.0 < w.nodes → w.running node.0 ≡ false → happens w (event.Restart node list) ≡ started w node list
 unfolding happens outcome
-start_is w node list below runs found =
+start_is w node list below runs =
     let within : nat_lt node.0 w.nodes ≡ true = grind (arith, nat_tests, below) in
-    started_so w node list (nat_lt node.0 w.nodes && not (w.running node.0) && all_found w node.0 list)
-    (enabled (nat_lt node.0 w.nodes) (w.running node.0) (all_found w node.0 list) within runs found)
+    started_so w node list (nat_lt node.0 w.nodes && not (w.running node.0))
+    (enabled (nat_lt node.0 w.nodes) (w.running node.0) within runs)
 
 same_port : (m n : ℕ) → (FIRST_PORT + m == FIRST_PORT + n) ≡ (m == n)
 same_port m n = by (m == n) refl where
@@ -90,7 +108,7 @@ cond_if true x y = refl
 cond_if false x y = refl
 
 module _ {F R I O : Type 0} (r : roads.Ghosts R I O) (i : link_in.Ghosts I) (o : link_out.Ghosts O) (node : NodeId) (books : List (BookState F)) (list : List FoundReplica) (w : World) (net : Net) (n new : Nodes F I O) (road road' : R)
-    (stands : NodesStand r i o w net road n) (can : CanStart w node list n books) (listens : RoadsShow r (listened_net net (FIRST_PORT + node.0) true) road') (replaced : IsReplaced node books n new) where
+    (stands : NodesStand r i o w net road n) (can : CanStart w node) (found : AreFound w node list n books) (listens : RoadsShow r (listened_net net (FIRST_PORT + node.0) true) road') (replaced : IsReplaced node books n new) where
   abbrev v : World
   v = started w node list
 
@@ -198,7 +216,7 @@ module _ {F R I O : Type 0} (r : roads.Ghosts R I O) (i : link_in.Ghosts I) (o :
         below = none_received full.mirror m h.1.shows.below;
       };
       block = h.1.block;
-      at_place = ap (λ l. slice_get l place) replaced.blocks ∙ h.1.at_place;
+      at_place = ap (λ l. slice_get l place) replaced.others.blocks ∙ h.1.at_place;
       of_block = h.1.of_block;
     },
   )
@@ -220,7 +238,7 @@ module _ {F R I O : Type 0} (r : roads.Ghosts R I O) (i : link_in.Ghosts I) (o :
 
   each_stays : (c : ℕ) (x : Connection I O) → slice_get new.connections.items c ≡ Some x → ConnectionShows i o v made c new x
   each_stays c x at =
-      let before : slice_get n.connections.items c ≡ Some x = sym (ap (λ l. slice_get l c) replaced.connections) ∙ at in
+      let before : slice_get n.connections.items c ≡ Some x = sym (ap (λ l. slice_get l c) replaced.others.connections) ∙ at in
       let shows = stands.nodes_are.each c x before in
       let below : c < w.next_conn = omega (arith, within n.connections.items c x before, stands.nodes_are.count) in
       record { upper_is = shows.upper_is; node = shows.node; mirror = shows.mirror; lower_is = lower_stays c (w.lowers c) x.lower below shows.lower_is }
@@ -237,36 +255,36 @@ module _ {F R I O : Type 0} (r : roads.Ghosts R I O) (i : link_in.Ghosts I) (o :
   book_there : (m place : ℕ) → (m == node.0) ≡ false → book_at new.nodes.items m place ≡ book_at n.nodes.items m place
   book_there m place e =
       let other : m ≡ node.0 → ⊥ = λ is. grind (arith, nat_tests, e, is) in
-      ap (λ o. option_and_then (λ (x : NodeBooks F). slice_get x.books.items place) o) (replaced.there m other)
+      ap (λ o. option_and_then (λ (x : NodeBooks F). slice_get x.books.items place) o) (replaced.others.there m other)
 
   books_show : (m place : ℕ) (block : BlockId) (book : BookState F) → slice_get new.blocks.items place ≡ Some block → book_at new.nodes.items m place ≡ Some book → replica_of book ≡ v.replicas m block.0
   books_show m place block book at_block at_book = by (m == node.0) refl where
     at : slice_get n.blocks.items place ≡ Some block
-    at = sym (ap (λ l. slice_get l place) replaced.blocks) ∙ at_block
+    at = sym (ap (λ l. slice_get l place) replaced.others.blocks) ∙ at_block
 
     by : (b : Bool) → (m == node.0) ≡ b → replica_of book ≡ (if b then (λ (k : ℕ). restarted k (w.replicas node.0 k) (w.breaks node.0 k) (found_in list k)) else w.replicas m) block.0
     by true e =
         let here = ap (λ k. book_at new.nodes.items k place) (eqb-true m node.0 e) ∙ book_here place in
-        can.found.each place block book at (sym here ∙ at_book)
+        found.each place block book at (sym here ∙ at_book)
     by false e = stands.nodes_are.books m place block book at (sym (book_there m place e) ∙ at_book)
 
   books_each : (m place : ℕ) (block : BlockId) → m < w.nodes → slice_get new.blocks.items place ≡ Some block → IsSome (book_at new.nodes.items m place)
   books_each m place block below at_block = by (m == node.0) refl where
     at : slice_get n.blocks.items place ≡ Some block
-    at = sym (ap (λ l. slice_get l place) replaced.blocks) ∙ at_block
+    at = sym (ap (λ l. slice_get l place) replaced.others.blocks) ∙ at_block
 
     by : (b : Bool) → (m == node.0) ≡ b → IsSome (book_at new.nodes.items m place)
     by true e =
         let here = ap (λ k. book_at new.nodes.items k place) (eqb-true m node.0 e) ∙ book_here place in
-        subst (λ x. IsSome x) (sym here) (can.found.has_each place block at)
+        subst (λ x. IsSome x) (sym here) (found.has_each place block at)
     by false e = subst (λ x. IsSome x) (sym (book_there m place e)) (stands.nodes_are.has_books m place block below at)
 
   -- ALL
 
   nodes_show : NodesShow i o v made new
   nodes_show = record {
-    count = ap length replaced.connections ∙ stands.nodes_are.count;
-    distinct = λ j k a b at_j at_k. stands.nodes_are.distinct j k a b (sym (ap (λ l. slice_get l j) replaced.blocks) ∙ at_j) (sym (ap (λ l. slice_get l k) replaced.blocks) ∙ at_k);
+    count = ap length replaced.others.connections ∙ stands.nodes_are.count;
+    distinct = λ j k a b at_j at_k. stands.nodes_are.distinct j k a b (sym (ap (λ l. slice_get l j) replaced.others.blocks) ∙ at_j) (sym (ap (λ l. slice_get l k) replaced.others.blocks) ∙ at_k);
     each = each_stays;
     books = books_show;
     has_books = books_each;
@@ -283,19 +301,7 @@ module _ {F R I O : Type 0} (r : roads.Ghosts R I O) (i : link_in.Ghosts I) (o :
   }
 
   pub start_left : NodesLeft r i o w net (happens w (event.Restart node list)) road' new
-  start_left = subst (λ (x : World). NodesLeft r i o w net x road' new) (sym (start_is w node list can.is_node can.stands_still can.may_find)) left_so
-
--- FAULTS
-
--- The nodes show the same world where the roads do.
-pub start_stays : {F R I O : Type 0} (r : roads.Ghosts R I O) (i : link_in.Ghosts I) (o : link_out.Ghosts O) (n : Nodes F I O) (road road' : R) → ((net : Net) → RoadsShow r net road → RoadsShow r net road') → StartStays r i o n n road road'
-start_stays r i o n road road' same = record {
-  same = refl;
-  stands = λ w net h. record {
-    roads_are = record { is_net = h.roads_are.is_net; sane = h.roads_are.sane; shows = same net h.roads_are.shows };
-    nodes_are = h.nodes_are;
-  };
-}
+  start_left = subst (λ (x : World). NodesLeft r i o w net x road' new) (sym (start_is w node list can.is_node can.stands_still)) left_so
 
 -- SIZES
 
@@ -322,7 +328,7 @@ module _ {F I O : Type 0} (node : NodeId) (books : List (BookState F)) (n new : 
         (count_here (slice_get new.nodes.items node.0) (slice_get n.nodes.items node.0) replaced.here as_many (is_some_within n.nodes.items node.0 there))
     by false e =
         let other : k ≡ node.0 → ⊥ = λ is. grind (arith, nat_tests, e, is) in
-        ap (option_map count) (replaced.there k other)
+        ap (option_map count) (replaced.others.there k other)
 
   pub sizes_kept : node.0 < length n.nodes.items → KeepsSizes n new
-  sizes_kept there = record { blocks = replaced.blocks; books = counts_same count new.nodes.items n.nodes.items replaced.count (count_at there) }
+  sizes_kept there = record { blocks = replaced.others.blocks; books = counts_same count new.nodes.items n.nodes.items replaced.others.count (count_at there) }

@@ -1,14 +1,28 @@
--- The node listens, and its books are those of what its restart finds.
-use Rattle.node_starts.proofs.StartLemmas.{sizes_kept, start_left, start_stays}
+-- The node has its new books, and then it listens.
+use Rattle.std.proofs.Common.{inr}
+use Rattle.node_starts.specs.Books.{StartsOver, StopsOver}
+use Rattle.node_starts.proofs.ReturnLemmas.{starts_over, start_shows, on_ok, on_err}
 use Rattle.node_starts.proofs.starting.start_node.Goals as goal
 
-pub returns-in-Ok-clause-shows : goal.returns-in-Ok-clause-shows
-returns-in-Ok-clause-shows g c = λ w net list stands can.
-    start_left g.R.Roads g.I.LinkIn g.O.LinkOut c.args.node c.args.books.items list w net c.args.nodes.now c.replace_books.new.nodes c.args.roads.now c.listen_at.new.roads stands can
-    (c.in-Ok.ensures.shows net stands.roads_are.shows) c.replace_books.ensures.replaced
+pub returns-clause-shows : goal.returns-clause-shows
+returns-clause-shows g c =
+    start_shows g.S.Shelf g.S.Drawer.Files c.args.node c.args.shelf.now c.restart_node.new.shelf c.args.nodes.now c.restart_node.new.nodes c.requires.whole c.in_ok-restart_node.ensures.again g.R.Roads g.I.LinkIn g.O.LinkOut
+    c.args.roads.now c.listen_at.new.roads c.listen_at.result c.listen_at.ensures.shows
 
-pub returns-in-Ok-clause-sizes : goal.returns-in-Ok-clause-sizes
-returns-in-Ok-clause-sizes g c = λ as_many. sizes_kept c.args.node c.args.books.items c.args.nodes.now c.replace_books.new.nodes c.replace_books.ensures.replaced as_many c.requires.there
+pub returns-clause-lent : goal.returns-clause-lent
+returns-clause-lent g c =
+    let s = g.S.Shelf in
+    let d = g.S.Drawer.Files in
+    let old = c.args.nodes.now in
+    let new = c.restart_node.new.nodes in
+    on_ok c.listen_at.result (StartsOver s d c.args.node c.args.shelf.now c.restart_node.new.shelf old new)
+    (starts_over s d c.args.node c.args.shelf.now c.restart_node.new.shelf old new c.requires.whole c.in_ok-restart_node.ensures.again)
 
-pub returns-in-Err-clause-stays : goal.returns-in-Err-clause-stays
-returns-in-Err-clause-stays g c = start_stays g.R.Roads g.I.LinkIn g.O.LinkOut c.args.nodes.now c.args.roads.now c.listen_at.new.roads (λ net shows. c.in-Err.ensures.shows net shows)
+pub returns-clause-given_up : goal.returns-clause-given_up
+returns-clause-given_up g c =
+    let s = g.S.Shelf in
+    let d = g.S.Drawer.Files in
+    let old = c.args.nodes.now in
+    let new = c.restart_node.new.nodes in
+    on_err c.listen_at.result (StopsOver s d c.args.node c.args.shelf.now c.restart_node.new.shelf old new)
+    (inr (starts_over s d c.args.node c.args.shelf.now c.restart_node.new.shelf old new c.requires.whole c.in_ok-restart_node.ensures.again))
