@@ -3,7 +3,7 @@ use Rattle.std.proofs.lemmas.Option.{same_Some}
 use Rattle.play_scripts.specs.declared.heads.Head.{Head}
 use Rattle.play_scripts.specs.Fitting.{ScriptFits}
 use Rattle.play_scripts.specs.Heads.{head_of}
-use Rattle.std.proofs.Common.{◌≡◌, ◌≤◌, length, take, slice_get, inl, inr, ℕ, List, Option, Some, None, IfSome, Result, Ok, Err, true, false, refl, sym, ap, subst, ◌∙◌}
+use Rattle.std.proofs.Common.{◌≡◌, ◌≤◌, length, take, slice_get, inl, inr, ℕ, List, Option, Some, None, IfSome, Result, Ok, Err, Bool, true, false, refl, sym, ap, subst, ◌∙◌}
 use Rattle.hd_base.specs.declared.files.Files as files
 use Rattle.hd_base.specs.declared.roads.Roads as roads
 use Rattle.hd_base.specs.declared.shelves.Shelf as shelves
@@ -41,99 +41,99 @@ module _ {O : Type 0} (o : sinks.Ghosts O) (report report' : O) (p : Played) whe
   written_usage exit.RoadFault w = absurd w
   written_usage (exit.NotEmpty node name) w = absurd w
 
-  pub written_bad : (left : Option (List ℕ)) (n : ℕ) (ended : Exit) → WritesReport o report report' p ended → IsBadIn left n ended
-  written_bad left n exit.Done w = tt
-  written_bad left n (exit.Differs line want got) w = tt
-  written_bad left n exit.ReportFault w = tt
-  written_bad left n exit.Memory w = tt
-  written_bad left n (exit.Usage r) w = absurd w
-  written_bad left n (exit.BadScript line why) w = absurd w
-  written_bad left n exit.ScriptFault w = absurd w
-  written_bad left n (exit.ShelfFault node) w = absurd w
-  written_bad left n exit.RoadFault w = absurd w
-  written_bad left n (exit.NotEmpty node name) w = absurd w
+  pub written_bad : (tells : Bool) (left : Option (List ℕ)) (n : ℕ) (ended : Exit) → WritesReport o report report' p ended → IsBadIn tells left n ended
+  written_bad tells left n exit.Done w = tt
+  written_bad tells left n (exit.Differs line want got) w = tt
+  written_bad tells left n exit.ReportFault w = tt
+  written_bad tells left n exit.Memory w = tt
+  written_bad tells left n (exit.Usage r) w = absurd w
+  written_bad tells left n (exit.BadScript line why) w = absurd w
+  written_bad tells left n exit.ScriptFault w = absurd w
+  written_bad tells left n (exit.ShelfFault node) w = absurd w
+  written_bad tells left n exit.RoadFault w = absurd w
+  written_bad tells left n (exit.NotEmpty node name) w = absurd w
 
-  pub written_cause : {I S D R L M : Type 0} (i : sources.Ghosts I) (s : shelves.Ghosts S D) (r : roads.Ghosts R L M) (script script' : I) (old new : List S) (road road' : R) (ended : Exit) → WritesReport o report report' p ended → HasExitCause i o s r script script' report report' old new road road' ended
-  written_cause i s r script script' old new road road' exit.Done w = tt
-  written_cause i s r script script' old new road road' (exit.Differs line want got) w = tt
-  written_cause i s r script script' old new road road' exit.ReportFault w = w.1
-  written_cause i s r script script' old new road road' exit.Memory w = tt
-  written_cause i s r script script' old new road road' (exit.Usage u) w = absurd w
-  written_cause i s r script script' old new road road' (exit.BadScript line why) w = absurd w
-  written_cause i s r script script' old new road road' exit.ScriptFault w = absurd w
-  written_cause i s r script script' old new road road' (exit.ShelfFault node) w = absurd w
-  written_cause i s r script script' old new road road' exit.RoadFault w = absurd w
-  written_cause i s r script script' old new road road' (exit.NotEmpty node name) w = absurd w
+  pub written_cause : {I S D R L M : Type 0} (tells : Bool) (i : sources.Ghosts I) (s : shelves.Ghosts S D) (r : roads.Ghosts R L M) (script script' : I) (old new : List S) (road road' : R) (ended : Exit) → WritesReport o report report' p ended → HasExitCause tells i o s r script script' report report' old new road road' ended
+  written_cause tells i s r script script' old new road road' exit.Done w = tt
+  written_cause tells i s r script script' old new road road' (exit.Differs line want got) w = tt
+  written_cause tells i s r script script' old new road road' exit.ReportFault w = w.1
+  written_cause tells i s r script script' old new road road' exit.Memory w = tt
+  written_cause tells i s r script script' old new road road' (exit.Usage u) w = absurd w
+  written_cause tells i s r script script' old new road road' (exit.BadScript line why) w = absurd w
+  written_cause tells i s r script script' old new road road' exit.ScriptFault w = absurd w
+  written_cause tells i s r script script' old new road road' (exit.ShelfFault node) w = absurd w
+  written_cause tells i s r script script' old new road road' exit.RoadFault w = absurd w
+  written_cause tells i s r script script' old new road road' (exit.NotEmpty node name) w = absurd w
 
-  pub written_over : {I S D R L M : Type 0} (i : sources.Ghosts I) (s : shelves.Ghosts S D) (d : files.Ghosts D) (r : roads.Ghosts R L M) (script script' : I) (old new : List S) (road : R) (ended : Exit) → HasRun i s d r script script' old new road p → WritesReport o report report' p ended
-      → IsOver i o s d r script script' report report' old new road ended
-  written_over i s d r script script' old new road exit.Done h w = record { p = p; has_run = h; written = w.0; differs = w.1 }
-  written_over i s d r script script' old new road (exit.Differs line want got) h w = record { p = p; has_run = h; written = w.0; differs = w.1 }
-  written_over i s d r script script' old new road exit.ReportFault h w = record { p = p; has_run = h; written = w.0 }
-  written_over i s d r script script' old new road exit.Memory h w = w
-  written_over i s d r script script' old new road (exit.Usage u) h w = absurd w
-  written_over i s d r script script' old new road (exit.BadScript line why) h w = absurd w
-  written_over i s d r script script' old new road exit.ScriptFault h w = absurd w
-  written_over i s d r script script' old new road (exit.ShelfFault node) h w = absurd w
-  written_over i s d r script script' old new road exit.RoadFault h w = absurd w
-  written_over i s d r script script' old new road (exit.NotEmpty node name) h w = absurd w
+  pub written_over : {I S D R L M : Type 0} (tells : Bool) (i : sources.Ghosts I) (s : shelves.Ghosts S D) (d : files.Ghosts D) (r : roads.Ghosts R L M) (script script' : I) (old new : List S) (road : R) (ended : Exit) → HasRun tells i s d r script script' old new road p → WritesReport o report report' p ended
+      → IsOver tells i o s d r script script' report report' old new road ended
+  written_over tells i s d r script script' old new road exit.Done h w = record { p = p; has_run = h; written = w.0; differs = w.1 }
+  written_over tells i s d r script script' old new road (exit.Differs line want got) h w = record { p = p; has_run = h; written = w.0; differs = w.1 }
+  written_over tells i s d r script script' old new road exit.ReportFault h w = record { p = p; has_run = h; written = w.0 }
+  written_over tells i s d r script script' old new road exit.Memory h w = w
+  written_over tells i s d r script script' old new road (exit.Usage u) h w = absurd w
+  written_over tells i s d r script script' old new road (exit.BadScript line why) h w = absurd w
+  written_over tells i s d r script script' old new road exit.ScriptFault h w = absurd w
+  written_over tells i s d r script script' old new road (exit.ShelfFault node) h w = absurd w
+  written_over tells i s d r script script' old new road exit.RoadFault h w = absurd w
+  written_over tells i s d r script script' old new road (exit.NotEmpty node name) h w = absurd w
 
 -- PLAYING
 
 module _ {I O S D R L M : Type 0} (i : sources.Ghosts I) (o : sinks.Ghosts O) (s : shelves.Ghosts S D) (d : files.Ghosts D) (r : roads.Ghosts R L M) (script script' : I) (report : O) (old new : List S) (road road' : R) where
   -- Where nothing was played the exit isn't one of a report, and nothing was written.
-  pub played_cause : (ended : Exit) → HasPlayCause i s r script script' old new road road' ended → HasExitCause i o s r script script' report report old new road road' ended
-  played_cause exit.Done c = tt
-  played_cause (exit.Differs line want got) c = tt
-  played_cause exit.ReportFault c = absurd c
-  played_cause exit.Memory c = c
-  played_cause (exit.Usage u) c = c
-  played_cause (exit.BadScript line why) c = c
-  played_cause exit.ScriptFault c = c
-  played_cause (exit.ShelfFault node) c = c
-  played_cause exit.RoadFault c = c
-  played_cause (exit.NotEmpty node name) c = c
+  pub played_cause : (tells : Bool) (ended : Exit) → HasPlayCause tells i s r script script' old new road road' ended → HasExitCause tells i o s r script script' report report old new road road' ended
+  played_cause tells exit.Done c = tt
+  played_cause tells (exit.Differs line want got) c = tt
+  played_cause tells exit.ReportFault c = absurd c
+  played_cause tells exit.Memory c = c
+  played_cause tells (exit.Usage u) c = c
+  played_cause tells (exit.BadScript line why) c = c
+  played_cause tells exit.ScriptFault c = c
+  played_cause tells (exit.ShelfFault node) c = c
+  played_cause tells exit.RoadFault c = c
+  played_cause tells (exit.NotEmpty node name) c = c
 
-  pub played_over : (ended : Exit) → HasPlayCause i s r script script' old new road road' ended → IsOver i o s d r script script' report report old new road' ended
-  played_over exit.Done c = absurd c
-  played_over (exit.Differs line want got) c = absurd c
-  played_over exit.ReportFault c = absurd c
-  played_over exit.Memory c = refl
-  played_over (exit.Usage u) c = refl
-  played_over (exit.BadScript line why) c = refl
-  played_over exit.ScriptFault c = refl
-  played_over (exit.ShelfFault node) c = refl
-  played_over exit.RoadFault c = refl
-  played_over (exit.NotEmpty node name) c = refl
+  pub played_over : (tells : Bool) (ended : Exit) → HasPlayCause tells i s r script script' old new road road' ended → IsOver tells i o s d r script script' report report old new road' ended
+  played_over tells exit.Done c = absurd c
+  played_over tells (exit.Differs line want got) c = absurd c
+  played_over tells exit.ReportFault c = absurd c
+  played_over tells exit.Memory c = refl
+  played_over tells (exit.Usage u) c = refl
+  played_over tells (exit.BadScript line why) c = refl
+  played_over tells exit.ScriptFault c = refl
+  played_over tells (exit.ShelfFault node) c = refl
+  played_over tells exit.RoadFault c = refl
+  played_over tells (exit.NotEmpty node name) c = refl
 
 -- a text that is refused isn't played
-pub refuses_played : (left : Option (List ℕ)) (n : ℕ) (ended : Exit) → IfSome left (λ text. Refuses {T = Played} n text (Err ended)) → RefusesIn left n ended
-refuses_played None n ended h = tt
-refuses_played (Some text) n ended h = h
+pub refuses_played : (tells : Bool) (left : Option (List ℕ)) (n : ℕ) (ended : Exit) → IfSome left (λ text. Refuses {T = Played} tells n text (Err ended)) → RefusesIn tells left n ended
+refuses_played tells None n ended h = tt
+refuses_played tells (Some text) n ended h = h
 
-pub refuses_written : (left : Option (List ℕ)) (n : ℕ) (p : Played) (ended : Exit) → IfSome left (λ text. Refuses {T = Played} n text (Ok p)) → RefusesIn left n ended
-refuses_written None n p ended h = tt
-refuses_written (Some text) n p ended h = λ line why bad. absurd (h line why bad)
+pub refuses_written : (tells : Bool) (left : Option (List ℕ)) (n : ℕ) (p : Played) (ended : Exit) → IfSome left (λ text. Refuses {T = Played} tells n text (Ok p)) → RefusesIn tells left n ended
+refuses_written tells None n p ended h = tt
+refuses_written tells (Some text) n p ended h = λ line why bad. absurd (h line why bad)
 
 -- a text that is refused isn't a script that plays have
-pub bad_text : (left : Option (List ℕ)) (before now n : ℕ) (ended : Exit) → IsReadExit left before now n ended → IfSome left (λ text. Accepts n text (Err ended)) → IsBadIn left n ended
-bad_text left before now n exit.Done c a = tt
-bad_text left before now n (exit.Differs line want got) c a = tt
-bad_text left before now n exit.ReportFault c a = tt
-bad_text left before now n exit.Memory c a = tt
-bad_text left before now n (exit.Usage u) c a = tt
-bad_text None before now n (exit.BadScript line why) c a = tt
-bad_text (Some text) before now n (exit.BadScript line why) c a = record { refused = c; unplayable = a }
-bad_text left before now n exit.ScriptFault c a = tt
-bad_text left before now n (exit.ShelfFault node) c a = tt
-bad_text left before now n exit.RoadFault c a = tt
-bad_text left before now n (exit.NotEmpty node name) c a = tt
+pub bad_text : (tells : Bool) (left : Option (List ℕ)) (before now n : ℕ) (ended : Exit) → IsReadExit tells left before now n ended → IfSome left (λ text. Accepts tells n text (Err ended)) → IsBadIn tells left n ended
+bad_text tells left before now n exit.Done c a = tt
+bad_text tells left before now n (exit.Differs line want got) c a = tt
+bad_text tells left before now n exit.ReportFault c a = tt
+bad_text tells left before now n exit.Memory c a = tt
+bad_text tells left before now n (exit.Usage u) c a = tt
+bad_text tells None before now n (exit.BadScript line why) c a = tt
+bad_text tells (Some text) before now n (exit.BadScript line why) c a = record { refused = c; unplayable = a }
+bad_text tells left before now n exit.ScriptFault c a = tt
+bad_text tells left before now n (exit.ShelfFault node) c a = tt
+bad_text tells left before now n exit.RoadFault c a = tt
+bad_text tells left before now n (exit.NotEmpty node name) c a = tt
 
 -- FAULTS OF A PLAY
 
 module _ {I S D R L M : Type 0} (i : sources.Ghosts I) (s : shelves.Ghosts S D) (r : roads.Ghosts R L M) (script script' : I) (old new : List S) (road road' : R) where
-  pub fault_cause : (lines : List ScriptLine) → HasRead (i.left script) (i.left script') (length old) lines → ScriptFits (length old) lines → (why : RunFault) → HasUsedCause s r lines old new road road' why → HasPlayCause i s r script script' old new road road' (run_exit why)
-  fault_cause lines read fits why cause = by why (cause head is)
+  pub fault_cause : (tells : Bool) (lines : List ScriptLine) → HasRead tells (i.left script) (i.left script') (length old) lines → ScriptFits (length old) lines → (why : RunFault) → HasUsedCause s r lines old new road road' why → HasPlayCause tells i s r script script' old new road road' (run_exit why)
+  fault_cause tells lines read fits why cause = by why (cause head is)
     where
       head : Head
       head = record { nodes = fits.nodes; seed = fits.seed }
@@ -141,28 +141,28 @@ module _ {I S D R L M : Type 0} (i : sources.Ghosts I) (s : shelves.Ghosts S D) 
       is : head_of lines ≡ Some head
       is = ap head_of fits.parts
 
-      by : (w : RunFault) → HasCause s r (take head.nodes old) (take head.nodes new) road road' w → HasPlayCause i s r script script' old new road road' (run_exit w)
+      by : (w : RunFault) → HasCause s r (take head.nodes old) (take head.nodes new) road road' w → HasPlayCause tells i s r script script' old new road road' (run_exit w)
       by fault.RoadFault c = c
       by (fault.ShelfFault node) c = record { lines = lines; read = read; head = head; head_is = is; so = c }
       by (fault.NotEmpty node name) c = record { lines = lines; read = read; head = head; head_is = is; so = c }
       by fault.Memory c = tt
 
-  pub read_cause : (left : Option (List ℕ)) (shelves : ℕ) (ended : Exit) → IsReadExit left (i.faults script) (i.faults script') shelves ended → HasPlayCause i s r script script' old new road road' ended
-  read_cause left shelves exit.Done c = c
-  read_cause left shelves (exit.Differs line want got) c = c
-  read_cause left shelves exit.ReportFault c = c
-  read_cause left shelves exit.Memory c = tt
-  read_cause left shelves (exit.Usage u) c = tt
-  read_cause left shelves (exit.BadScript line why) c = tt
-  read_cause left shelves exit.ScriptFault c = c
-  read_cause left shelves (exit.ShelfFault node) c = absurd c
-  read_cause left shelves exit.RoadFault c = absurd c
-  read_cause left shelves (exit.NotEmpty node name) c = absurd c
+  pub read_cause : (tells : Bool) (left : Option (List ℕ)) (shelves : ℕ) (ended : Exit) → IsReadExit tells left (i.faults script) (i.faults script') shelves ended → HasPlayCause tells i s r script script' old new road road' ended
+  read_cause tells left shelves exit.Done c = c
+  read_cause tells left shelves (exit.Differs line want got) c = c
+  read_cause tells left shelves exit.ReportFault c = c
+  read_cause tells left shelves exit.Memory c = tt
+  read_cause tells left shelves (exit.Usage u) c = tt
+  read_cause tells left shelves (exit.BadScript line why) c = tt
+  read_cause tells left shelves exit.ScriptFault c = c
+  read_cause tells left shelves (exit.ShelfFault node) c = absurd c
+  read_cause tells left shelves exit.RoadFault c = absurd c
+  read_cause tells left shelves (exit.NotEmpty node name) c = absurd c
 
-  pub mode_cause : (usage : Option UsageRule) (ended : Exit) → ReadsWords usage (Err ended) → HasPlayCause i s r script script' old new road road' ended
-  mode_cause None ended e = subst (λ (y : Exit). HasPlayCause i s r script script' old new road road' y) (sym e) tt
-  mode_cause (Some x) ended (inl e) = subst (λ (y : Exit). HasPlayCause i s r script script' old new road road' y) (sym e) tt
-  mode_cause (Some x) ended (inr e) = subst (λ (y : Exit). HasPlayCause i s r script script' old new road road' y) (sym e) tt
+  pub mode_cause : (tells : Bool) (usage : Option UsageRule) (ended : Exit) → ReadsWords usage (Err ended) → HasPlayCause tells i s r script script' old new road road' ended
+  mode_cause tells None ended e = subst (λ (y : Exit). HasPlayCause tells i s r script script' old new road road' y) (sym e) tt
+  mode_cause tells (Some x) ended (inl e) = subst (λ (y : Exit). HasPlayCause tells i s r script script' old new road road' y) (sym e) tt
+  mode_cause tells (Some x) ended (inr e) = subst (λ (y : Exit). HasPlayCause tells i s r script script' old new road road' y) (sym e) tt
 
 -- USAGE
 
@@ -191,10 +191,10 @@ fault_usage u why e = ok_usage u (run_exit why) e (by why)
     by fault.Memory = λ r e. cc
 
 -- A text whose lines were read isn't refused.
-pub refuses_any : (left : Option (List ℕ)) (n : ℕ) (lines : List ScriptLine) (result : Result Played Exit) → IfSome left (λ text. Refuses {T = List ScriptLine} n text (Ok lines)) → IfSome left (λ text. Refuses {T = Played} n text result)
-refuses_any None n lines result h = tt
-refuses_any (Some text) n lines (Ok p) h = h
-refuses_any (Some text) n lines (Err ended) h = λ line why bad. absurd (h line why bad)
+pub refuses_any : (tells : Bool) (left : Option (List ℕ)) (n : ℕ) (lines : List ScriptLine) (result : Result Played Exit) → IfSome left (λ text. Refuses {T = List ScriptLine} tells n text (Ok lines)) → IfSome left (λ text. Refuses {T = Played} tells n text result)
+refuses_any tells None n lines result h = tt
+refuses_any tells (Some text) n lines (Ok p) h = h
+refuses_any tells (Some text) n lines (Err ended) h = λ line why bad. absurd (h line why bad)
 
 -- So had what was told.
 pub told_usage : (u : Option UsageRule) (ended : Exit) → is_told ended ≡ true → UsageFor u ended → UsageFor u exit.ReportFault
@@ -223,17 +223,17 @@ module _ {I S R : Type 0} (script script' : I) (old new : List S) (road road' : 
   untouched_words exit.RoadFault = tt
   untouched_words (exit.NotEmpty node name) = tt
 
-  pub untouched_read : (left : Option (List ℕ)) (before now shelves : ℕ) (ended : Exit) → IsReadExit left before now shelves ended → IsUntouched script script' old old road road ended
-  untouched_read left before now shelves exit.Done c = tt
-  untouched_read left before now shelves (exit.Differs line want got) c = tt
-  untouched_read left before now shelves exit.ReportFault c = tt
-  untouched_read left before now shelves exit.Memory c = tt
-  untouched_read left before now shelves (exit.Usage u) c = absurd c
-  untouched_read left before now shelves (exit.BadScript line why) c = (refl, refl)
-  untouched_read left before now shelves exit.ScriptFault c = (refl, refl)
-  untouched_read left before now shelves (exit.ShelfFault node) c = tt
-  untouched_read left before now shelves exit.RoadFault c = tt
-  untouched_read left before now shelves (exit.NotEmpty node name) c = tt
+  pub untouched_read : (tells : Bool) (left : Option (List ℕ)) (before now shelves : ℕ) (ended : Exit) → IsReadExit tells left before now shelves ended → IsUntouched script script' old old road road ended
+  untouched_read tells left before now shelves exit.Done c = tt
+  untouched_read tells left before now shelves (exit.Differs line want got) c = tt
+  untouched_read tells left before now shelves exit.ReportFault c = tt
+  untouched_read tells left before now shelves exit.Memory c = tt
+  untouched_read tells left before now shelves (exit.Usage u) c = absurd c
+  untouched_read tells left before now shelves (exit.BadScript line why) c = (refl, refl)
+  untouched_read tells left before now shelves exit.ScriptFault c = (refl, refl)
+  untouched_read tells left before now shelves (exit.ShelfFault node) c = tt
+  untouched_read tells left before now shelves exit.RoadFault c = tt
+  untouched_read tells left before now shelves (exit.NotEmpty node name) c = tt
 
   pub untouched_fault : (why : RunFault) → IsUntouched script script' old new road road' (run_exit why)
   untouched_fault fault.RoadFault = tt
@@ -258,19 +258,19 @@ module _ {O : Type 0} (o : sinks.Ghosts O) (report report' : O) (p : Played) whe
 
 module _ {S D : Type 0} (s : shelves.Ghosts S D) where
   -- Shelves that weren't touched are as they were.
-  pub keeps_all : (left : Option (List ℕ)) (xs : List S) → KeepsShelves s left xs xs
-  keeps_all left xs = record {
+  pub keeps_all : (tells : Bool) (left : Option (List ℕ)) (xs : List S) → KeepsShelves tells s left xs xs
+  keeps_all tells left xs = record {
     lent = record { count = refl; each = λ k a b at at' n none. subst (λ (x : S). s.lent x n ≡ false) (same_Some a b (sym at ∙ at')) none };
     others = rest left;
   }
     where
-      rest : (l : Option (List ℕ)) → LeavesOthers l xs xs
+      rest : (l : Option (List ℕ)) → LeavesOthers tells l xs xs
       rest None = tt
       rest (Some text) = λ lines head k playable is within. refl
 
   -- The shelves of a play are those of its script.
-  pub keeps_played : (left : Option (List ℕ)) (old new : List S) (lines : List ScriptLine) → ScriptFits (length old) lines → IfSome left (λ text. Accepts (length old) text (Ok lines)) → IfSome (head_of lines) (LeavesShelves s old new) → KeepsShelves s left old new
-  keeps_played left old new lines fits accepts leaves = record { lent = here.lent; others = rest left accepts }
+  pub keeps_played : (tells : Bool) (left : Option (List ℕ)) (old new : List S) (lines : List ScriptLine) → ScriptFits (length old) lines → IfSome left (λ text. Accepts tells (length old) text (Ok lines)) → IfSome (head_of lines) (LeavesShelves s old new) → KeepsShelves tells s left old new
+  keeps_played tells left old new lines fits accepts leaves = record { lent = here.lent; others = rest left accepts }
     where
       head : Head
       head = record { nodes = fits.nodes; seed = fits.seed }
@@ -281,7 +281,7 @@ module _ {S D : Type 0} (s : shelves.Ghosts S D) where
       here : LeavesShelves s old new head
       here = subst (λ (h : Option Head). IfSome h (LeavesShelves s old new)) is leaves
 
-      rest : (l : Option (List ℕ)) → IfSome l (λ text. Accepts (length old) text (Ok lines)) → LeavesOthers l old new
+      rest : (l : Option (List ℕ)) → IfSome l (λ text. Accepts tells (length old) text (Ok lines)) → LeavesOthers tells l old new
       rest None a = tt
       rest (Some text) a = λ ls other k playable so within.
           let same : lines ≡ ls = a ls playable in
@@ -313,26 +313,26 @@ none_first name h = never h.there
     never : false ≡ true → ⊥
     never e = cc
 
-module _ {I O S D R L M : Type 0} (i : sources.Ghosts I) (o : sinks.Ghosts O) (s : shelves.Ghosts S D) (r : roads.Ghosts R L M) (script script' : I) (report report' : O) (old new : List S) (road road' : R)
-    (can : CanRun s (i.left script) old) (none : NoneRose i o s r script script' report report' old new road road') where
+module _ {I O S D R L M : Type 0} (i : sources.Ghosts I) (o : sinks.Ghosts O) (s : shelves.Ghosts S D) (r : roads.Ghosts R L M) (script script' : I) (report report' : O) (old new : List S) (road road' : R) (tells : Bool)
+    (can : CanRun tells s (i.left script) old) (none : NoneRose i o s r script script' report report' old new road road') where
   -- the shelves that the script uses are empty
-  never_files : (node : NodeId) (name : List ℕ) → OfUsed i script script' old new (λ a b. HasFirstFile s a b node name) → ⊥
+  never_files : (node : NodeId) (name : List ℕ) → OfUsed tells i script script' old new (λ a b. HasFirstFile s a b node name) → ⊥
   never_files node name c =
-      let only = subst (λ (l : Option (List ℕ)). IfSome l (λ told. (ls : List ScriptLine) → IsPlayable (length old) told ls → ls ≡ c.lines)) can.told c.read.only in
+      let only = subst (λ (l : Option (List ℕ)). IfSome l (λ told. (ls : List ScriptLine) → IsPlayable tells (length old) told ls → ls ≡ c.lines)) can.told c.read.only in
       let same : c.head ≡ can.head = same_Some c.head can.head (sym c.head_is ∙ (ap head_of (sym (only can.lines can.playable)) ∙ can.head_is)) in
       let here = c.so.here in
       let at : slice_get (take can.head.nodes old) node.0 ≡ Some here.before = subst (λ (h : Head). slice_get (take h.nodes old) node.0 ≡ Some here.before) same here.was in
       none_first name (subst (λ (f : Option FileMap). IfSome f (λ m. IsFirstName m name)) (can.empty node.0 here.before at) here.so)
 
   -- where nothing was played, memory ran out
-  pub plain_unplayed : (ended : Exit) → UsageFor None ended → IsBadIn (i.left script) (length old) ended → HasPlayCause i s r script script' old new road road' ended → IsPlainExit ended
+  pub plain_unplayed : (ended : Exit) → UsageFor None ended → IsBadIn tells (i.left script) (length old) ended → HasPlayCause tells i s r script script' old new road road' ended → IsPlainExit ended
   plain_unplayed exit.Done u b c = tt
   plain_unplayed (exit.Differs line want got) u b c = tt
   plain_unplayed exit.ReportFault u b c = absurd c
   plain_unplayed exit.Memory u b c = tt
   plain_unplayed (exit.Usage x) u b c = absurd (u x refl)
   plain_unplayed (exit.BadScript line why) u b c =
-      let bad = subst (λ (l : Option (List ℕ)). IfSome l (λ text. IsBadText (length old) text line why)) can.told b in
+      let bad = subst (λ (l : Option (List ℕ)). IfSome l (λ text. IsBadText tells (length old) text line why)) can.told b in
       absurd (bad.unplayable can.lines can.playable)
   plain_unplayed exit.ScriptFault u b c = absurd (none.source c)
   plain_unplayed (exit.ShelfFault node) u b c = absurd (none.shelves node (used_shelf _ c.head.nodes node.0 old new c.so))

@@ -1,5 +1,5 @@
--- The script is read from its source.
-use Rattle.std.specs.Prelude.{◌≡◌, ◌⊎◌, ℕ, List, [], Option, Some, IfSome, Result, Ok, Err}
+-- The script is read from its source. Which lines plays have is by whether the shelves tell their files.
+use Rattle.std.specs.Prelude.{◌≡◌, ◌⊎◌, ℕ, Bool, List, [], Option, Some, IfSome, Result, Ok, Err}
 use Rattle.hd_base.specs.Faults.{FaultsIncreased}
 use Rattle.hd_base.specs.Streams.{Took}
 use Rattle.script_lang.specs.declared.faults.BadKind.{BadKind}
@@ -17,37 +17,38 @@ script_limit = 16777216
 -- TEXTS
 
 -- It is a script for so many shelves, and plays have all its lines.
-pub record IsPlayable (shelves : ℕ) (text : List ℕ) (lines : List ScriptLine) : Type 0 where
+pub record IsPlayable (tells : Bool) (shelves : ℕ) (text : List ℕ) (lines : List ScriptLine) : Type 0 where
   pub script : IsScript shelves text lines
-  pub played : ArePlayed lines
+  pub played : ArePlayed tells lines
 
 -- It is a script for so many shelves, and the first line that plays don't have yet is this one.
-pub record IsUnplayed (shelves : ℕ) (text : List ℕ) (line : ℕ) (why : BadKind) : Type 0 where
+pub record IsUnplayed (tells : Bool) (shelves : ℕ) (text : List ℕ) (line : ℕ) (why : BadKind) : Type 0 where
   pub lines : List ScriptLine
   pub script : IsScript shelves text lines
-  pub first : first_unplayed lines ≡ Some line
+  pub first : first_unplayed tells lines ≡ Some line
   pub word : why ≡ kind.Word
 
 -- It is no script for so many shelves, and this is its first bad line; or it is one that plays don't have yet.
-abbrev pub IsRefused : ℕ → List ℕ → ℕ → BadKind → Type 0
-IsRefused shelves text line why = IsBad shelves text line why ⊎ IsUnplayed shelves text line why
+abbrev pub IsRefused : Bool → ℕ → List ℕ → ℕ → BadKind → Type 0
+IsRefused tells shelves text line why = IsBad shelves text line why ⊎ IsUnplayed tells shelves text line why
 
 -- The source, where it tells, is read to its end, and what it gave is a script with these lines, and no others.
-pub record HasRead (old new : Option (List ℕ)) (shelves : ℕ) (lines : List ScriptLine) : Type 0 where
+pub record HasRead (tells : Bool) (old new : Option (List ℕ)) (shelves : ℕ) (lines : List ScriptLine) : Type 0 where
   pub text : List ℕ
   pub took : Took old new text
   pub to_end : IfSome new (λ rest. rest ≡ [])
-  pub playable : IsPlayable shelves text lines
-  pub only : IfSome old (λ told. (ls : List ScriptLine) → IsPlayable shelves told ls → ls ≡ lines)
+  pub playable : IsPlayable tells shelves text lines
+  pub only : IfSome old (λ told. (ls : List ScriptLine) → IsPlayable tells shelves told ls → ls ≡ lines)
 
 -- EXITS
 
 -- A script is refused only where, if told, the text is so; the source failed only where its count rose.
-abbrev pub IsReadExit : Option (List ℕ) → ℕ → ℕ → ℕ → Exit → Type 0
-IsReadExit left before now shelves (exit.BadScript line why) = IfSome left (λ text. IsRefused shelves text line why)
-IsReadExit left before now shelves exit.ScriptFault = FaultsIncreased before now
-IsReadExit left before now shelves exit.Memory = Unit {0}
-IsReadExit left before now shelves other = ⊥
+abbrev pub IsReadExit : Bool → Option (List ℕ) → ℕ → ℕ → ℕ → Exit → Type 0
+IsReadExit tells left before now shelves (exit.BadScript line why) =
+    IfSome left (λ text. IsRefused tells shelves text line why)
+IsReadExit tells left before now shelves exit.ScriptFault = FaultsIncreased before now
+IsReadExit tells left before now shelves exit.Memory = Unit {0}
+IsReadExit tells left before now shelves other = ⊥
 
 -- It is this refusal, or no script was read.
 abbrev pub IsRefusal : ℕ → BadKind → Exit → Type 0
@@ -64,10 +65,12 @@ ReadsLines lines (Err exit.Memory) = Unit {0}
 ReadsLines lines (Err other) = ⊥
 
 -- A script of lines that plays have is read.
-abbrev pub Accepts : ℕ → List ℕ → Result (List ScriptLine) Exit → Type 0
-Accepts shelves text result = (lines : List ScriptLine) → IsPlayable shelves text lines → ReadsLines lines result
+abbrev pub Accepts : Bool → ℕ → List ℕ → Result (List ScriptLine) Exit → Type 0
+Accepts tells shelves text result = (lines : List ScriptLine) → IsPlayable tells shelves text lines →
+    ReadsLines lines result
 
 -- A text that is refused isn't read.
-abbrev pub Refuses : {T : Type 0} → ℕ → List ℕ → Result T Exit → Type 0
-Refuses shelves text (Ok x) = (line : ℕ) (why : BadKind) → IsRefused shelves text line why → ⊥
-Refuses shelves text (Err ended) = (line : ℕ) (why : BadKind) → IsRefused shelves text line why → IsRefusal line why ended
+abbrev pub Refuses : {T : Type 0} → Bool → ℕ → List ℕ → Result T Exit → Type 0
+Refuses tells shelves text (Ok x) = (line : ℕ) (why : BadKind) → IsRefused tells shelves text line why → ⊥
+Refuses tells shelves text (Err ended) = (line : ℕ) (why : BadKind) → IsRefused tells shelves text line why →
+    IsRefusal line why ended

@@ -1,5 +1,5 @@
--- What a run does, and how it ends.
-use Rattle.std.specs.Prelude.{◌≡◌, ◌≤◌, ◌⊎◌, ℕ, List, length, take, slice_get, Option, Some, None, IfSome, Result, Ok, Err}
+-- What a run does, and how it ends, over shelves of which it is known whether they tell their files.
+use Rattle.std.specs.Prelude.{◌≡◌, ◌≤◌, ◌⊎◌, ℕ, Bool, List, length, take, slice_get, Option, Some, None, IfSome, Result, Ok, Err}
 use Rattle.hd_base.specs.Faults.{FaultsIncreased}
 use Rattle.hd_base.specs.FileMaps.{no_files}
 use Rattle.hd_base.specs.declared.numbers.NodeId.{NodeId}
@@ -78,19 +78,19 @@ ReadsWords (Some r) (Err ended) = (ended ≡ exit.Usage r) ⊎ (ended ≡ exit.M
 -- SCRIPTS
 
 -- The text is refused so, and isn't a script that plays have.
-pub record IsBadText (shelves : ℕ) (text : List ℕ) (line : ℕ) (why : BadKind) : Type 0 where
-  pub refused : IsRefused shelves text line why
-  pub unplayable : (lines : List ScriptLine) → IsPlayable shelves text lines → ⊥
+pub record IsBadText (tells : Bool) (shelves : ℕ) (text : List ℕ) (line : ℕ) (why : BadKind) : Type 0 where
+  pub refused : IsRefused tells shelves text line why
+  pub unplayable : (lines : List ScriptLine) → IsPlayable tells shelves text lines → ⊥
 
 -- A script is refused only where, if told, the text is so,
-abbrev pub IsBadIn : Option (List ℕ) → ℕ → Exit → Type 0
-IsBadIn left shelves (exit.BadScript line why) = IfSome left (λ text. IsBadText shelves text line why)
-IsBadIn left shelves other = Unit {0}
+abbrev pub IsBadIn : Bool → Option (List ℕ) → ℕ → Exit → Type 0
+IsBadIn tells left shelves (exit.BadScript line why) = IfSome left (λ text. IsBadText tells shelves text line why)
+IsBadIn tells left shelves other = Unit {0}
 
 -- and a text that is so is refused, but for want of memory or a source that failed.
-abbrev pub RefusesIn : Option (List ℕ) → ℕ → Exit → Type 0
-RefusesIn left shelves ended = IfSome left (λ text. (line : ℕ) (why : BadKind) → IsRefused shelves text line why →
-    IsRefusal line why ended)
+abbrev pub RefusesIn : Bool → Option (List ℕ) → ℕ → Exit → Type 0
+RefusesIn tells left shelves ended = IfSome left (λ text. (line : ℕ) (why : BadKind) →
+    IsRefused tells shelves text line why → IsRefusal line why ended)
 
 -- WHAT IS LEFT AS IT WAS
 
@@ -102,51 +102,53 @@ IsUntouched script script' old new road road' exit.ScriptFault = (new ≡ old) �
 IsUntouched script script' old new road road' other = Unit {0}
 
 -- Where a told text is a script that plays have, the shelves beyond its nodes are as they were.
-abbrev pub LeavesOthers : {S : Type 0} → Option (List ℕ) → List S → List S → Type 0
-LeavesOthers left old new = IfSome left (λ text. (lines : List ScriptLine) (head : Head) (k : ℕ) →
-    IsPlayable (length old) text lines → head_of lines ≡ Some head → head.nodes ≤ k → slice_get new k ≡ slice_get old k)
+abbrev pub LeavesOthers : {S : Type 0} → Bool → Option (List ℕ) → List S → List S → Type 0
+LeavesOthers tells left old new = IfSome left (λ text. (lines : List ScriptLine) (head : Head) (k : ℕ) →
+    IsPlayable tells (length old) text lines → head_of lines ≡ Some head → head.nodes ≤ k →
+    slice_get new k ≡ slice_get old k)
 
 -- Whatever the exit: no shelf lends a block that it didn't, and those that the script doesn't use are as they were.
-pub record KeepsShelves {S D : Type 0} (s : shelves.Ghosts S D) (left : Option (List ℕ)) (old new : List S) : Type 0 where
+pub record KeepsShelves {S D : Type 0} (tells : Bool) (s : shelves.Ghosts S D) (left : Option (List ℕ))
+    (old new : List S) : Type 0 where
   pub lent : EachShelf (LendsNoMore s) old new
-  pub others : LeavesOthers left old new
+  pub others : LeavesOthers tells left old new
 
 -- FAULTS
 
 -- The source was read to its end and gave a script, and this is so of the shelves of its nodes, before and after.
-pub record OfUsed {I S : Type 0} (i : sources.Ghosts I) (script script' : I) (old new : List S)
+pub record OfUsed {I S : Type 0} (tells : Bool) (i : sources.Ghosts I) (script script' : I) (old new : List S)
     (P : List S → List S → Type 0) : Type 0 where
   pub lines : List ScriptLine
-  pub read : HasRead (i.left script) (i.left script') (length old) lines
+  pub read : HasRead tells (i.left script) (i.left script') (length old) lines
   pub head : Head
   pub head_is : head_of lines ≡ Some head
   pub so : P (take head.nodes old) (take head.nodes new)
 
 -- Each fault of a play has its cause in this call: the count of the source, of a shelf that the script uses, or of the
 -- roads rose; or this is the first file of such a shelf that isn't empty. None is of a report.
-abbrev pub HasPlayCause : {I S D R L M : Type 0} → sources.Ghosts I → shelves.Ghosts S D → roads.Ghosts R L M → I → I →
-    List S → List S → R → R → Exit → Type 0
-HasPlayCause i s r script script' old new road road' exit.ScriptFault =
+abbrev pub HasPlayCause : {I S D R L M : Type 0} → Bool → sources.Ghosts I → shelves.Ghosts S D →
+    roads.Ghosts R L M → I → I → List S → List S → R → R → Exit → Type 0
+HasPlayCause tells i s r script script' old new road road' exit.ScriptFault =
     FaultsIncreased (i.faults script) (i.faults script')
-HasPlayCause i s r script script' old new road road' (exit.ShelfFault node) =
-    OfUsed i script script' old new (λ a b. ShelfRose s a b node)
-HasPlayCause i s r script script' old new road road' exit.RoadFault = RoadsFailed r road road'
-HasPlayCause i s r script script' old new road road' (exit.NotEmpty node name) =
-    OfUsed i script script' old new (λ a b. HasFirstFile s a b node name)
-HasPlayCause i s r script script' old new road road' exit.Done = ⊥
-HasPlayCause i s r script script' old new road road' (exit.Differs line want got) = ⊥
-HasPlayCause i s r script script' old new road road' exit.ReportFault = ⊥
-HasPlayCause i s r script script' old new road road' other = Unit {0}
+HasPlayCause tells i s r script script' old new road road' (exit.ShelfFault node) =
+    OfUsed tells i script script' old new (λ a b. ShelfRose s a b node)
+HasPlayCause tells i s r script script' old new road road' exit.RoadFault = RoadsFailed r road road'
+HasPlayCause tells i s r script script' old new road road' (exit.NotEmpty node name) =
+    OfUsed tells i script script' old new (λ a b. HasFirstFile s a b node name)
+HasPlayCause tells i s r script script' old new road road' exit.Done = ⊥
+HasPlayCause tells i s r script script' old new road road' (exit.Differs line want got) = ⊥
+HasPlayCause tells i s r script script' old new road road' exit.ReportFault = ⊥
+HasPlayCause tells i s r script script' old new road road' other = Unit {0}
 
 -- The same of a run, where the count of the sink may have risen too.
-abbrev pub HasExitCause : {I O S D R L M : Type 0} → sources.Ghosts I → sinks.Ghosts O → shelves.Ghosts S D →
+abbrev pub HasExitCause : {I O S D R L M : Type 0} → Bool → sources.Ghosts I → sinks.Ghosts O → shelves.Ghosts S D →
     roads.Ghosts R L M → I → I → O → O → List S → List S → R → R → Exit → Type 0
-HasExitCause i o s r script script' report report' old new road road' exit.Done = Unit {0}
-HasExitCause i o s r script script' report report' old new road road' (exit.Differs line want got) = Unit {0}
-HasExitCause i o s r script script' report report' old new road road' exit.ReportFault =
+HasExitCause tells i o s r script script' report report' old new road road' exit.Done = Unit {0}
+HasExitCause tells i o s r script script' report report' old new road road' (exit.Differs line want got) = Unit {0}
+HasExitCause tells i o s r script script' report report' old new road road' exit.ReportFault =
     FaultsIncreased (o.faults report) (o.faults report')
-HasExitCause i o s r script script' report report' old new road road' other =
-    HasPlayCause i s r script script' old new road road' other
+HasExitCause tells i o s r script script' report report' old new road road' other =
+    HasPlayCause tells i s r script script' old new road road' other
 
 -- RUNS WITHOUT FAULTS
 
@@ -159,11 +161,12 @@ pub record NoneRose {I O S D R L M : Type 0} (i : sources.Ghosts I) (o : sinks.G
   pub roads : RoadsFailed r road road' → ⊥
 
 -- The source tells a script that plays have, and the shelves that it uses tell that they have no files.
-pub record CanRun {S D : Type 0} (s : shelves.Ghosts S D) (left : Option (List ℕ)) (old : List S) : Type 0 where
+pub record CanRun {S D : Type 0} (tells : Bool) (s : shelves.Ghosts S D) (left : Option (List ℕ)) (old : List S) :
+    Type 0 where
   pub text : List ℕ
   pub told : left ≡ Some text
   pub lines : List ScriptLine
-  pub playable : IsPlayable (length old) text lines
+  pub playable : IsPlayable tells (length old) text lines
   pub head : Head
   pub head_is : head_of lines ≡ Some head
   pub empty : (node : ℕ) (a : S) → slice_get (take head.nodes old) node ≡ Some a → s.files a ≡ Some no_files
@@ -179,43 +182,45 @@ IsPlainExit other = ⊥
 
 -- The source was read to its end, and what it gave is a script, which was played: the world in which it ended is safe. Where
 -- no line makes something fail and appends keep members, it completes.
-pub record HasRun {I S D R L M : Type 0} (i : sources.Ghosts I) (s : shelves.Ghosts S D) (d : files.Ghosts D)
-    (r : roads.Ghosts R L M) (script script' : I) (old new : List S) (road : R) (p : Played) : Type 0 where
+pub record HasRun {I S D R L M : Type 0} (tells : Bool) (i : sources.Ghosts I) (s : shelves.Ghosts S D)
+    (d : files.Ghosts D) (r : roads.Ghosts R L M) (script script' : I) (old new : List S) (road : R) (p : Played) :
+    Type 0 where
   pub lines : List ScriptLine
-  pub read : HasRead (i.left script) (i.left script') (length old) lines
+  pub read : HasRead tells (i.left script) (i.left script') (length old) lines
   pub played : IsPlayed s d r lines old new road p
   pub safe : Safe (world_of played.closed.through.end)
   pub complete : HaveNoFailures lines → AppendsKeepMembers lines → Completes lines (world_of played.closed.through.end)
 
 -- So it was; the whole report was written, and this is the first difference from what is expected, if there is one.
-pub record IsDone {I O S D R L M : Type 0} (i : sources.Ghosts I) (o : sinks.Ghosts O) (s : shelves.Ghosts S D)
-    (d : files.Ghosts D) (r : roads.Ghosts R L M) (script script' : I) (report report' : O) (old new : List S) (road : R)
-    (difference : Option Difference) : Type 0 where
+pub record IsDone {I O S D R L M : Type 0} (tells : Bool) (i : sources.Ghosts I) (o : sinks.Ghosts O)
+    (s : shelves.Ghosts S D) (d : files.Ghosts D) (r : roads.Ghosts R L M) (script script' : I) (report report' : O)
+    (old new : List S) (road : R) (difference : Option Difference) : Type 0 where
   pub p : Played
-  pub has_run : HasRun i s d r script script' old new road p
+  pub has_run : HasRun tells i s d r script script' old new road p
   pub written : Wrote (o.written report) (o.written report') p.report.items
   pub differs : p.difference ≡ difference
 
 -- So it was, and a front of the report was written.
-pub record IsCutShort {I O S D R L M : Type 0} (i : sources.Ghosts I) (o : sinks.Ghosts O) (s : shelves.Ghosts S D)
-    (d : files.Ghosts D) (r : roads.Ghosts R L M) (script script' : I) (report report' : O) (old new : List S) (road : R) :
-    Type 0 where
+pub record IsCutShort {I O S D R L M : Type 0} (tells : Bool) (i : sources.Ghosts I) (o : sinks.Ghosts O)
+    (s : shelves.Ghosts S D) (d : files.Ghosts D) (r : roads.Ghosts R L M) (script script' : I) (report report' : O)
+    (old new : List S) (road : R) : Type 0 where
   pub p : Played
-  pub has_run : HasRun i s d r script script' old new road p
+  pub has_run : HasRun tells i s d r script script' old new road p
   pub written : WroteFront (o.written report) (o.written report') p.report.items
 
 -- After Done and Differs the script was played and its whole report written, after ReportFault a front of it. After want of
 -- memory nothing was written, and after any other exit the sink is as it was.
-abbrev pub IsOver : {I O S D R L M : Type 0} → sources.Ghosts I → sinks.Ghosts O → shelves.Ghosts S D →
+abbrev pub IsOver : {I O S D R L M : Type 0} → Bool → sources.Ghosts I → sinks.Ghosts O → shelves.Ghosts S D →
     files.Ghosts D → roads.Ghosts R L M → I → I → O → O → List S → List S → R → Exit → Type 0
-IsOver i o s d r script script' report report' old new road exit.Done =
-    IsDone i o s d r script script' report report' old new road None
-IsOver i o s d r script script' report report' old new road (exit.Differs line want got) =
-    IsDone i o s d r script script' report report' old new road (Some (record { line = line; want = want; got = got }))
-IsOver i o s d r script script' report report' old new road exit.ReportFault =
-    IsCutShort i o s d r script script' report report' old new road
-IsOver i o s d r script script' report report' old new road exit.Memory = o.written report' ≡ o.written report
-IsOver i o s d r script script' report report' old new road other = report' ≡ report
+IsOver tells i o s d r script script' report report' old new road exit.Done =
+    IsDone tells i o s d r script script' report report' old new road None
+IsOver tells i o s d r script script' report report' old new road (exit.Differs line want got) =
+    IsDone tells i o s d r script script' report report' old new road
+    (Some (record { line = line; want = want; got = got }))
+IsOver tells i o s d r script script' report report' old new road exit.ReportFault =
+    IsCutShort tells i o s d r script script' report report' old new road
+IsOver tells i o s d r script script' report report' old new road exit.Memory = o.written report' ≡ o.written report
+IsOver tells i o s d r script script' report report' old new road other = report' ≡ report
 
 -- what the end of writing a report says
 abbrev pub WritesReport : {O : Type 0} → sinks.Ghosts O → O → O → Played → Exit → Type 0

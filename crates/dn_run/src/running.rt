@@ -14,22 +14,27 @@ use crate::reading::read_lines;
 use crate::streams::{WriteFault, write_all};
 use completing_lines::plays_complete;
 use fault_ports::CutRoads;
-use hd_base::{Shelf, Sink, Source};
+use hd_base::{Sink, Source};
 use play_completeness::plays_are_safe;
-use play_scripts::scripts_fit;
+use play_scripts::{played_starts_are_told, scripts_fit};
 use run_words::{Mode, UsageRule, read_words};
 use std::alloc::Global;
+use told_shelves::ToldShelf;
 use whole_play::{Played, play_script};
 
 /// Runs the script that a source gives over shelves, one for each node, and roads, and writes its report to a sink. The
 /// words are those of the program's call, without its name. So far they must be `play`: `live` and `storm` are `Usage`.
 ///
 /// The roads are such as can be cut (`Cutting` makes them of any). Those of a play are over plain memory and new: no
-/// connection was made on them, nobody listens, they have carried nothing, and no end's count has risen. What shelves lend is given back, whatever the exit is.
+/// connection was made on them, nobody listens, they have carried nothing, and no end's count has risen. What shelves lend
+/// is given back, whatever the exit is.
+///
+/// A node starts again only over shelves of a kind that tells its files: over others a script with such a line is
+/// refused.
 ///
 /// The exits are tried in the order `Usage`, `ScriptFault`, `BadScript`, `RoadFault`, `NotEmpty` and `ShelfFault` node by
 /// node, `ReportFault`, `Differs`; `Memory` may come at any point.
-pub fn run<I: Source, O: Sink, S: Shelf, R: CutRoads>(
+pub fn run<I: Source, O: Sink, S: ToldShelf, R: CutRoads>(
     alloc: Global,
     words: &[String],
     script: &mut I,
@@ -39,19 +44,19 @@ pub fn run<I: Source, O: Sink, S: Shelf, R: CutRoads>(
 ) -> Exit
     requires unused { usage_of (map string_bytes words.now) ≡ None → AreUnused R.Roads roads.old }
     ensures usage { UsageFor (usage_of (map string_bytes words.now)) result }
-    ensures bad { IsBadIn (I.left script.old) (length shelves.old.items) result }
+    ensures bad { IsBadIn S.told (I.left script.old) (length shelves.old.items) result }
     ensures refused { usage_of (map string_bytes words.now) ≡ None →
-        RefusesIn (I.left script.old) (length shelves.old.items) result }
+        RefusesIn S.told (I.left script.old) (length shelves.old.items) result }
     ensures taken { TookSome (I.left script.old) (I.left script.new) (script_limit + 1) }
     ensures untouched { IsUntouched script.old script.new shelves.old.items shelves.new.items roads.old roads.new result }
-    ensures shelves { KeepsShelves S.Shelf (I.left script.old) shelves.old.items shelves.new.items }
-    ensures cause { HasExitCause I.Source O.Sink S.Shelf R.Roads script.old script.new report.old report.new
+    ensures shelves { KeepsShelves S.told S.Shelf (I.left script.old) shelves.old.items shelves.new.items }
+    ensures cause { HasExitCause S.told I.Source O.Sink S.Shelf R.Roads script.old script.new report.old report.new
         shelves.old.items shelves.new.items roads.old roads.new result }
     ensures faultless { usage_of (map string_bytes words.now) ≡ None →
-        CanRun S.Shelf (I.left script.old) shelves.old.items →
+        CanRun S.told S.Shelf (I.left script.old) shelves.old.items →
         NoneRose I.Source O.Sink S.Shelf R.Roads script.old script.new report.old report.new
         shelves.old.items shelves.new.items roads.old roads.new → IsPlainExit result }
-    ensures over { IsOver I.Source O.Sink S.Shelf S.Drawer.Files R.Roads script.old script.new report.old report.new
+    ensures over { IsOver S.told I.Source O.Sink S.Shelf S.Drawer.Files R.Roads script.old script.new report.old report.new
         shelves.old.items shelves.new.items roads.new result }
 {
     match play(alloc, words, script, shelves, roads) {
@@ -61,7 +66,7 @@ pub fn run<I: Source, O: Sink, S: Shelf, R: CutRoads>(
 }
 
 /// Reads the words, and the script, and plays it.
-fn play<I: Source, S: Shelf, R: CutRoads>(
+fn play<I: Source, S: ToldShelf, R: CutRoads>(
     alloc: Global,
     words: &[String],
     script: &mut I,
@@ -69,24 +74,25 @@ fn play<I: Source, S: Shelf, R: CutRoads>(
     roads: &mut R,
 ) -> Result<Played, Exit>
     requires unused { usage_of (map string_bytes words.now) ≡ None → AreUnused R.Roads roads.old }
-    ensures played { IfOk result (HasRun I.Source S.Shelf S.Drawer.Files R.Roads script.old script.new
+    ensures played { IfOk result (HasRun S.told I.Source S.Shelf S.Drawer.Files R.Roads script.old script.new
         shelves.old.items shelves.new.items roads.new) }
     ensures usage { UsageIn (usage_of (map string_bytes words.now)) result }
-    ensures bad { IfErr result (IsBadIn (I.left script.old) (length shelves.old.items)) }
+    ensures bad { IfErr result (IsBadIn S.told (I.left script.old) (length shelves.old.items)) }
     ensures refused { usage_of (map string_bytes words.now) ≡ None →
-        IfSome (I.left script.old) (λ text. Refuses (length shelves.old.items) text result) }
+        IfSome (I.left script.old) (λ text. Refuses S.told (length shelves.old.items) text result) }
     ensures taken { TookSome (I.left script.old) (I.left script.new) (script_limit + 1) }
     ensures untouched { IfErr result (IsUntouched script.old script.new
         shelves.old.items shelves.new.items roads.old roads.new) }
-    ensures shelves { KeepsShelves S.Shelf (I.left script.old) shelves.old.items shelves.new.items }
-    ensures cause { IfErr result (HasPlayCause I.Source S.Shelf R.Roads script.old script.new
+    ensures shelves { KeepsShelves S.told S.Shelf (I.left script.old) shelves.old.items shelves.new.items }
+    ensures cause { IfErr result (HasPlayCause S.told I.Source S.Shelf R.Roads script.old script.new
         shelves.old.items shelves.new.items roads.old roads.new) }
 {
     scripts_fit();
+    played_starts_are_told();
     plays_are_safe();
     plays_complete();
     read_mode(alloc, words)?;
-    let lines = read_lines(alloc, script, shelves.len())?;
+    let lines = read_lines::<I, S>(alloc, script, shelves.len())?;
     let played = play_script(alloc, roads, shelves.as_mut_slice(), lines.as_slice())?;
     Ok(played)
 }

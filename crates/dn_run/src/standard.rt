@@ -9,7 +9,7 @@ ghost use Rattle.dn_run.specs.Runs.{usage_of, folder_named, UsageFor};
 use crate::exits::Exit;
 use crate::running::run;
 use fault_ports::Cutting;
-use hd_base::{MAX_NODES, Shelf};
+use hd_base::MAX_NODES;
 use itoa::Buffer;
 use mem_ports::{MemRoads, MemShelf};
 use real_ports::{FolderShelf, StdSink, StdSource};
@@ -17,6 +17,7 @@ use run_words::{FolderText, WordsFault, read_words};
 use std::alloc::{AllocError, Global};
 use std::fs::{File, Files as System};
 use std::io::{Read, Write};
+use told_shelves::ToldShelf;
 use whole_play::new_roads_are_unused;
 
 /// The folder that the words name for the nodes' files; none where they name none or break a rule.
@@ -82,7 +83,7 @@ pub fn run_in_memory<R: Read + Drop, W: Write + Drop>(
 }
 
 /// Runs the script that a reader gives, over these shelves and roads in memory, and writes its report to a writer.
-pub fn run_over<S: Shelf, R: Read + Drop, W: Write + Drop>(
+pub fn run_over<S: ToldShelf, R: Read + Drop, W: Write + Drop>(
     alloc: Global,
     words: &[String],
     input: R,
@@ -98,7 +99,7 @@ pub fn run_over<S: Shelf, R: Read + Drop, W: Write + Drop>(
 }
 
 /// The same, where memory for the other ports may run out.
-fn run_with<S: Shelf, R: Read + Drop, W: Write + Drop>(
+fn run_with<S: ToldShelf, R: Read + Drop, W: Write + Drop>(
     alloc: Global,
     words: &[String],
     input: R,

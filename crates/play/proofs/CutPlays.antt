@@ -16,6 +16,7 @@ use Rattle.world.specs.Events.{run}
 use Rattle.world_cuts.specs.Cutting.{cut_net, cut_world, IsCut, CutsRoads, CutsNet, CutsShow, CutsAreLosses, EndsStayInCuts, RoadsCut}
 use Rattle.world_cuts.proofs.CutLemmas.{over_cut}
 use Rattle.play_model.specs.Dues.{Queues}
+use Rattle.play_laws.specs.Nodes.{SameNodes}
 use Rattle.play_clients.specs.declared.clients.Client.{Client}
 use Rattle.play_clients.specs.Staying.{ClientsStay}
 use Rattle.play_nodes.specs.Frames.{KeepsNodes, KeepsWriters, EndsStay, NodesStay}
@@ -42,6 +43,13 @@ nodes_kept w v c down up cut = record {
   lowers = λ d. ap (λ (k : World). k.lowers d) cut.is;
   replicas = λ n b. ap (λ (k : World). k.replicas n b) cut.is;
   over = λ a d by. over_cut w v c down up d false cut;
+}
+
+nodes_same : (w v : World) (c down up : ℕ) → IsCut w v c down up → SameNodes w v
+nodes_same w v c down up cut = record {
+  nodes = ap (λ (k : World). k.nodes) cut.is;
+  running = λ n. ap (λ (k : World). k.running n) cut.is;
+  lives = λ n. ap (λ (k : World). k.lives n) cut.is;
 }
 
 writers_kept : (w v : World) (c down up : ℕ) → IsCut w v c down up → KeepsWriters w v
@@ -93,7 +101,7 @@ module _ {F R I O : Type 0} (f : files.Ghosts F) (r : roads.Ghosts R I O) (i : l
 
     shows_there : PlayerShows r i o there made queues road' old
     unfolding left
-    shows_there = same_left f r i o here there s.net queues old old.nodes (event.Lost conn direction.Up up) road road' clients_stay s.shows (L.ordered nodes old.events.items) (writers_kept here there conn.0 down up net_so.is) (nodes_kept here there conn.0 down up net_so.is).running left
+    shows_there = same_left f r i o here there s.net queues old old.nodes (event.Lost conn direction.Up up) road road' clients_stay s.shows (L.ordered nodes old.events.items) (writers_kept here there conn.0 down up net_so.is) (nodes_same here there conn.0 down up net_so.is) left
 
     module _ (new : Player F I O) (same : new ≡ record old { events = new.events }) (more : new.events.items ≡ old.events.items ++ losses conn down up) where
       world_is : world_of nodes new ≡ there
@@ -114,11 +122,11 @@ module _ {F R I O : Type 0} (f : files.Ghosts F) (r : roads.Ghosts R I O) (i : l
       stands_there = record {
         net = made;
         shows = subst (λ (v : World). PlayerShows r i o v made queues road' (record old { events = new.events })) (sym world_is)
-            (record { nodes = shows_there.nodes; clients = shows_there.clients; apart = shows_there.apart; office = shows_there.office; running = shows_there.running });
+            (record { nodes = shows_there.nodes; clients = shows_there.clients; apart = shows_there.apart; office = shows_there.office; running = shows_there.running; slots = shows_there.slots });
         few = s.few;
         events = subst (λ (es : List Event). EventsFit nodes old.nodes.blocks.items es) (sym more)
             (fits_more nodes old.nodes.blocks.items old.events.items (losses conn down up) s.events
-            (record { widths = (tt, (tt, tt)); names = (tt, (tt, tt)); among = (tt, (tt, tt)) }));
+            (record { widths = (tt, (tt, tt)); names = (tt, (tt, tt)); among = (tt, (tt, tt)); whole = (tt, (tt, tt)) }));
         clients = λ k c at. subst (λ (v : World). ClientFits nodes old.nodes.blocks.items v c) (sym world_is) (fits_there c (s.clients k c at));
         connected = λ b c has. s.connected b c (sym (ap (λ (x : Writing). x.conn) (writer_is b)) ∙ (sym (ap (λ (v : World). (v.writers b).conn) world_is) ∙ has));
       }

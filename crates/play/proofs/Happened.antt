@@ -206,11 +206,11 @@ module _ {F R I O : Type 0} (r : roads.Ghosts R I O) (i : link_in.Ghosts I) (o :
 
     -- one event that takes this command, if any
     acting_fits : (takes : Option TakenCommand) → IfSome takes (λ t. Names (IsNode nodes) t.command) → EventsFit nodes old.nodes.blocks.items (acting c.block.0 takes ∷ [])
-    acting_fits takes names = record { widths = (fits.width, tt); names = (names, tt); among = (fits.among, tt) }
+    acting_fits takes names = record { widths = (fits.width, tt); names = (names, tt); among = (fits.among, tt); whole = (tt, tt) }
 
     own_fits : (a : Action) (queue : List TakenCommand) → CommandsFit nodes known.intake queue → EventsFit nodes old.nodes.blocks.items (own_events a c.block.0 queue)
     own_fits action.Wait queue fit = acting_fits (slice_get queue 0) (first_names queue fit)
-    own_fits (action.Ask call) queue fit = record { widths = (tt, (fits.width, tt)); names = (tt, (tt, tt)); among = (tt, (fits.among, tt)) }
+    own_fits (action.Ask call) queue fit = record { widths = (tt, (fits.width, tt)); names = (tt, (tt, tt)); among = (tt, (fits.among, tt)); whole = (tt, (tt, tt)) }
     own_fits action.Took queue fit = acting_fits None tt
     own_fits (action.Dial to req) queue fit = acting_fits None tt
     own_fits (action.Send p) queue fit = acting_fits None tt
@@ -243,9 +243,9 @@ module _ {F R I O : Type 0} (r : roads.Ghosts R I O) (i : link_in.Ghosts I) (o :
       let k : Actor b = actor_of_block b actor in
       subst (λ (a : BlockId). EventsFit nodes old.nodes.blocks.items (due_events here queues (due.Own a))) k.block
       (own_fits k.client k.shows k.fits (subst (λ (a : BlockId). is_due here queues (due.Own a) ≡ true) (sym k.block) is) (action_of here k.client.block) (queues k.client.block.0) (queue_fits k.client k.shows k.fits))
-  events_fit (due.Down c) is actor = record { widths = (tt, tt); names = (tt, tt); among = (tt, tt) }
-  events_fit (due.Ready c) is actor = record { widths = (tt, tt); names = (tt, tt); among = (tt, tt) }
-  events_fit (due.Up c) is actor = record { widths = (tt, tt); names = (tt, tt); among = (tt, tt) }
+  events_fit (due.Down c) is actor = record { widths = (tt, tt); names = (tt, tt); among = (tt, tt); whole = (tt, tt) }
+  events_fit (due.Ready c) is actor = record { widths = (tt, tt); names = (tt, tt); among = (tt, tt); whole = (tt, tt) }
+  events_fit (due.Up c) is actor = record { widths = (tt, tt); names = (tt, tt); among = (tt, tt); whole = (tt, tt) }
 
   -- writers that don't act stay
   writers_stay : (d : Due) → is_due here queues d ≡ true → (b : ℕ) → (actor_of here d ≡ Some b → ⊥) → (run here (due_events here queues d)).writers b ≡ here.writers b

@@ -1,5 +1,5 @@
 -- What a writer hears, and what it leaves of the nodes and the other clients.
-use Rattle.std.proofs.Common.{◌≡◌, ◌≢◌, inl, inr, ℕ, zero, suc, Bool, true, false, List, [], ◌∷◌, ◌++◌, slice_get, slice_set, Option, Some, None, IfSome, Result, Ok, Err, refl, sym, ap, ◌∙◌, subst}
+use Rattle.std.proofs.Common.{length, ◌≡◌, ◌≢◌, inl, inr, ℕ, zero, suc, Bool, true, false, List, [], ◌∷◌, ◌++◌, slice_get, slice_set, Option, Some, None, IfSome, Result, Ok, Err, refl, sym, ap, ◌∙◌, subst}
 use Rattle.hd_base.specs.declared.files.Files as files
 use Rattle.hd_base.specs.declared.links.LinkIn as link_in
 use Rattle.hd_base.specs.declared.links.LinkOut as link_out
@@ -177,6 +177,7 @@ module _ {F R I O D : Type 0} (f : files.Ghosts F) (r : roads.Ghosts R I O) (i :
         apart = still_apart old mid place c c' h at p.apart;
         office = some_same mid.office.office v.office (sym office_at ∙ left.left.stands.office_is);
         running = λ m. ap (λ (xs : List Bool). runs_in xs m) running ∙ (p.running m ∙ sym (n.keeps.running m));
+        slots = ap (λ (xs : List Bool). length xs) running ∙ (p.slots ∙ sym n.keeps.nodes);
       }
     where
       some_same : (a b : OfficeState) → Some a ≡ Some b → a ≡ b
@@ -202,7 +203,7 @@ module _ {F R I O D : Type 0} (f : files.Ghosts F) (r : roads.Ghosts R I O) (i :
       heard_shows conn place old mid c c' w net queues road road' desk now stay nodes_stay ends_stay hearing heard p running at (record { nodes = nodes; clients = set; block = left.left.block; rule = left.left.rule }) lawful.ordered upper left in
       record {
         made = left.made;
-        shows = subst (λ (x : Player F I O). PlayerShows r i o (happens w (event.Up conn)) left.made queues road' x) (sym kept.same) (record { nodes = q.nodes; clients = q.clients; apart = q.apart; office = q.office; running = q.running });
+        shows = subst (λ (x : Player F I O). PlayerShows r i o (happens w (event.Up conn)) left.made queues road' x) (sym kept.same) (record { nodes = q.nodes; clients = q.clients; apart = q.apart; office = q.office; running = q.running; slots = q.slots });
         events = kept.events ∙ ap (λ (es : List Event). es ++ event.Up conn ∷ []) events;
         places = subst (λ (u : Option ℕ). KeepsPlaces u old new) (sym (ap writer_at upper)) (same_places (Some c.block.0) old mid new (event.Up conn) kept (kept_places old mid place c c' (record { nodes = nodes; clients = set; block = left.left.block; rule = left.left.rule }) at));
       }

@@ -9,6 +9,7 @@ use Rattle.world.specs.declared.events.Event.{Event}
 use Rattle.world.specs.declared.events.Event.TheVariants as event
 use Rattle.world.specs.Worlds.{start}
 use Rattle.world.specs.Events.{run}
+use Rattle.world_breaks.specs.Breaks.{NoneFails}
 use Rattle.world_requests.specs.Requests.{AllAmong}
 use Rattle.world_texts.specs.Texts.{Written, AllFit}
 use Rattle.play_laws.specs.Members.{IsNode, AllName}
@@ -34,11 +35,16 @@ among_more : (blocks : List BlockId) (es fs : List Event) → AllAmong blocks es
 among_more blocks [] fs h k = k
 among_more blocks (e ∷ es) fs h k = (h.0, among_more blocks es fs h.1 k)
 
+whole_more : (es fs : List Event) → NoneFails es → NoneFails fs → NoneFails (es ++ fs)
+whole_more [] fs h k = k
+whole_more (e ∷ es) fs h k = (h.0, whole_more es fs h.1 k)
+
 pub fits_more : (nodes : ℕ) (blocks : List BlockId) (es fs : List Event) → EventsFit nodes blocks es → EventsFit nodes blocks fs → EventsFit nodes blocks (es ++ fs)
 fits_more nodes blocks es fs h k = record {
   widths = widths_more es fs h.widths k.widths;
   names = names_more (IsNode nodes) es fs h.names k.names;
   among = among_more blocks es fs h.among k.among;
+  whole = whole_more es fs h.whole k.whole;
 }
 
 -- There is room for stamps of as many events as a list can have, and more.

@@ -7,3 +7,4 @@ pub mod Happened
 pub mod Dispatch
 pub mod CutPlays
 pub mod StopPlays
+pub mod StartPlays

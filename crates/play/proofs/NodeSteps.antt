@@ -20,7 +20,7 @@ use Rattle.play_clients.specs.Staying.{KeepsClient, ClientsStay}
 use Rattle.play_nodes.specs.declared.faults.NodesFault.{NodesFault}
 use Rattle.play_nodes.specs.declared.faults.NodesFault.TheVariants as nodes_fault
 use Rattle.play_nodes.specs.declared.nodes.Nodes.{Nodes}
-use Rattle.play_laws.specs.Nodes.{RunningStays}
+use Rattle.play_laws.specs.Nodes.{SameNodes, RunningStays}
 use Rattle.play_nodes.specs.Beginning as beginning
 use Rattle.play_nodes.specs.Events as nodes
 use Rattle.play_nodes.specs.Frames.{KeepsWriters, DownKeeps, ReadyKeeps, MirrorKeeps}
@@ -75,23 +75,24 @@ module _ {F R I O : Type 0} (f : files.Ghosts F) (r : roads.Ghosts R I O) (i : l
     queue = (were j c at).queue;
   }
 
-  pub same_left : (w v : World) (net : Net) (queues : Queues) (old : Player F I O) (n' : Nodes F I O) (e : Event) (road road' : R) → ClientsStay i o → PlayerShows r i o w net queues road old → Ordered w → KeepsWriters w v → ((n : ℕ) → v.running n ≡ w.running n) → (left : NodesLeft r i o w net v road' n')
+  pub same_left : (w v : World) (net : Net) (queues : Queues) (old : Player F I O) (n' : Nodes F I O) (e : Event) (road road' : R) → ClientsStay i o → PlayerShows r i o w net queues road old → Ordered w → KeepsWriters w v → SameNodes w v → (left : NodesLeft r i o w net v road' n')
       → PlayerShows r i o v left.made queues road' (record old { nodes = n' })
   same_left w v net queues old n' e road road' stay p ordered k runs left = record {
     nodes = left.stands;
     clients = clients_left w v net left.made queues old stay p.clients ordered k left.writers;
     apart = p.apart;
     office = p.office ∙ sym k.office;
-    running = λ n. p.running n ∙ sym (runs n);
+    running = λ n. p.running n ∙ sym (runs.running n);
+    slots = p.slots ∙ sym runs.nodes;
   }
 
-  left_of : (w v : World) (net : Net) (queues : Queues) (actor : Option ℕ) (old : Player F I O) (n' : Nodes F I O) (new : Player F I O) (e : Event) (road road' : R) → n'.blocks.items ≡ old.nodes.blocks.items → ClientsStay i o → PlayerShows r i o w net queues road old → Ordered w → KeepsWriters w v → ((n : ℕ) → v.running n ≡ w.running n) → NodesLeft r i o w net v road' n' → IsKept (record old { nodes = n' }) new e
+  left_of : (w v : World) (net : Net) (queues : Queues) (actor : Option ℕ) (old : Player F I O) (n' : Nodes F I O) (new : Player F I O) (e : Event) (road road' : R) → n'.blocks.items ≡ old.nodes.blocks.items → ClientsStay i o → PlayerShows r i o w net queues road old → Ordered w → KeepsWriters w v → SameNodes w v → NodesLeft r i o w net v road' n' → IsKept (record old { nodes = n' }) new e
       → Left v queues actor old new e road'
   left_of w v net queues actor old n' new e road road' blocks stay p ordered k runs left kept =
       let q : PlayerShows r i o v left.made queues road' (record old { nodes = n' }) = same_left w v net queues old n' e road road' stay p ordered k runs left in
       record {
         made = left.made;
-        shows = subst (λ (x : Player F I O). PlayerShows r i o v left.made queues road' x) (sym kept.same) (record { nodes = q.nodes; clients = q.clients; apart = q.apart; office = q.office; running = q.running });
+        shows = subst (λ (x : Player F I O). PlayerShows r i o v left.made queues road' x) (sym kept.same) (record { nodes = q.nodes; clients = q.clients; apart = q.apart; office = q.office; running = q.running; slots = q.slots });
         events = kept.events;
         places = keeps_places actor old n' new e blocks kept;
       }
@@ -109,7 +110,7 @@ module _ {F R I O : Type 0} (f : files.Ghosts F) (r : roads.Ghosts R I O) (i : l
       → ReadyShows f r i o conn old new road road' result
   ready_left conn old n' new road road' (Ok u) blocks stay keeps runs shows kept = λ w net queues p lawful is.
       let l : Left (happens w (event.Ready conn)) queues None old new (event.Ready conn) road' =
-      left_of w (happens w (event.Ready conn)) net queues None old n' new (event.Ready conn) road road' blocks stay p lawful.ordered (keeps w conn) (runs w (event.Ready conn) tt).running (shows w net queues p.nodes lawful is) kept in
+      left_of w (happens w (event.Ready conn)) net queues None old n' new (event.Ready conn) road road' blocks stay p lawful.ordered (keeps w conn) (runs w (event.Ready conn) tt) (shows w net queues p.nodes lawful is) kept in
       record { made = l.made; shows = l.shows; events = l.events; places = l.places }
   ready_left conn old n' new road road' (Err why) blocks stay keeps runs shows kept = λ w net queues p lawful is. out_of_memory old new road road' why kept
 
@@ -121,7 +122,7 @@ module _ {F R I O : Type 0} (f : files.Ghosts F) (r : roads.Ghosts R I O) (i : l
       → DownShows f r i o conn old new road road' result
   down_left conn old n' new road road' (Ok u) blocks stay keeps runs shows kept = λ w net queues p lawful is busy.
       let l : Left (happens w (event.Down conn true)) queues None old new (event.Down conn true) road' =
-      left_of w (happens w (event.Down conn true)) net queues None old n' new (event.Down conn true) road road' blocks stay p lawful.ordered (keeps w conn true) (runs w (event.Down conn true) tt).running (shows w net queues true p.nodes lawful is busy) kept in
+      left_of w (happens w (event.Down conn true)) net queues None old n' new (event.Down conn true) road road' blocks stay p lawful.ordered (keeps w conn true) (runs w (event.Down conn true) tt) (shows w net queues true p.nodes lawful is busy) kept in
       record { made = l.made; shows = l.shows; events = l.events; places = l.places }
   down_left conn old n' new road road' (Err why) blocks stay keeps runs shows kept = λ w net queues p lawful is busy. out_of_memory old new road road' why kept
 
@@ -133,7 +134,7 @@ module _ {F R I O : Type 0} (f : files.Ghosts F) (r : roads.Ghosts R I O) (i : l
       → MirrorShows f r i o conn old new road road' result
   mirror_left conn old n' new road road' (Ok u) blocks stay keeps runs shows kept = λ w net queues d p lawful is above.
       let l : Left (happens w (event.Up conn)) queues (writer_at (w.dialled conn.0).upper) old new (event.Up conn) road' =
-      left_of w (happens w (event.Up conn)) net queues (writer_at (w.dialled conn.0).upper) old n' new (event.Up conn) road road' blocks stay p lawful.ordered (keeps w conn d above) (runs w (event.Up conn) tt).running (shows w net queues d p.nodes lawful is above) kept in
+      left_of w (happens w (event.Up conn)) net queues (writer_at (w.dialled conn.0).upper) old n' new (event.Up conn) road road' blocks stay p lawful.ordered (keeps w conn d above) (runs w (event.Up conn) tt) (shows w net queues d p.nodes lawful is above) kept in
       record { made = l.made; shows = l.shows; events = l.events; places = l.places }
   mirror_left conn old n' new road road' (Err why) blocks stay keeps runs shows kept = λ w net queues d p lawful is above. out_of_memory old new road road' why kept
 
@@ -150,7 +151,7 @@ module _ {F R I O : Type 0} (f : files.Ghosts F) (r : roads.Ghosts R I O) (i : l
       → Begins (record old { nodes = n' }) new conn unanswered result → BeginShows f r i o conn old new road road' result
   begin_left conn old n' new road road' unanswered (Ok u) blocks stay keeps runs shows kept = λ w net queues p can is idle_is.
       let l : Left (happens w (event.Down conn true)) queues None old new (event.Down conn true) road' =
-      left_of w (happens w (event.Down conn true)) net queues None old n' new (event.Down conn true) road road' blocks stay p (can.lawful true).ordered (keeps w conn true) (runs w (event.Down conn true) tt).running
+      left_of w (happens w (event.Down conn true)) net queues None old n' new (event.Down conn true) road road' blocks stay p (can.lawful true).ordered (keeps w conn true) (runs w (event.Down conn true) tt)
       (begun_so conn old n' w net queues road road' unanswered p.running kept.0 (shows w net queues p.nodes can.lawful can.fit is idle_is)) kept.1 in
       record { made = l.made; shows = l.shows; events = l.events; places = l.places }
   begin_left conn old n' new road road' unanswered (Err fault.Memory) blocks stay keeps runs shows kept = λ w net queues p can is idle_is. tt

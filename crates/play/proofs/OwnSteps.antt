@@ -145,6 +145,7 @@ module _ {F R I O D : Type 0} (f : files.Ghosts F) (r : roads.Ghosts R I O) (i :
         apart = λ j m a b at_j at_m. still_apart f r i o d old mid place c c' h at p.apart j m a b (sym (ap (λ (xs : List (Client I O)). slice_get xs j) same.clients) ∙ at_j) (sym (ap (λ (xs : List (Client I O)). slice_get xs m) same.clients) ∙ at_m);
         office = same.office ∙ some_same mid.office.office v.office (sym office_mid ∙ l.shows.stands.office_is);
         running = λ m. ap (λ (xs : List Bool). runs_in xs m) (same.running ∙ running) ∙ (p.running m ∙ sym (n.keeps.running m));
+        slots = ap (λ (xs : List Bool). length xs) (same.running ∙ running) ∙ (p.slots ∙ sym n.keeps.nodes);
       } in
       record {
         made = l.made;

@@ -83,6 +83,7 @@ module _ {F R I O : Type 0} (f : files.Ghosts F) (r : roads.Ghosts R I O) (i : l
       clients = clients_left f r i o here there s.net left.made queues old clients_stay s.shows.clients (L.ordered nodes old.events.items) (writers_kept here n runs) left.writers;
       apart = s.shows.apart;
       office = s.shows.office ∙ sym (writers_kept here n runs).office;
+      slots = stopped.slots ∙ (s.shows.slots ∙ sym (ap (λ (v : World). v.nodes) (stop_is here n runs)));
       running = λ m. stopped.running m ∙ (ap (λ (b : Bool). put (λ _. b) n.0 false m) (s.shows.running m) ∙ sym (running_put here n runs m));
     }
 
@@ -107,7 +108,7 @@ module _ {F R I O : Type 0} (f : files.Ghosts F) (r : roads.Ghosts R I O) (i : l
       few = s.few;
       events = subst (λ (bs : List BlockId). EventsFit nodes bs new.events.items) (sym blocks_are)
           (subst (λ (es : List Event). EventsFit nodes old.nodes.blocks.items es) (sym more)
-          (fits_more nodes old.nodes.blocks.items old.events.items (event.Stop n ∷ []) s.events (record { widths = (tt, tt); names = (tt, tt); among = (tt, tt) })));
+          (fits_more nodes old.nodes.blocks.items old.events.items (event.Stop n ∷ []) s.events (record { widths = (tt, tt); names = (tt, tt); among = (tt, tt); whole = (tt, tt) })));
       clients = λ k c at. subst (λ (v : World). ClientFits nodes n'.blocks.items v c) (sym world_is) (fits_there c (s.clients k c at));
       connected = λ b c has. s.connected b c (sym (ap (λ (x : Writing). x.conn) (writer_is b)) ∙ (sym (ap (λ (v : World). (v.writers b).conn) world_is) ∙ has));
     }

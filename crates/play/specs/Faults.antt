@@ -1,6 +1,9 @@
 -- Why a play stops.
 use Rattle.client_events.specs.declared.faults.ClientFault.{ClientFault}
 use Rattle.client_events.specs.declared.faults.ClientFault.TheVariants as client_fault
+use Rattle.hd_base.specs.declared.numbers.NodeId.{NodeId}
+use Rattle.node_starts.specs.declared.faults.StartFault.{StartFault}
+use Rattle.node_starts.specs.declared.faults.StartFault.TheVariants as start_fault
 use Rattle.play_nodes.specs.declared.faults.NodesFault.{NodesFault}
 use Rattle.play_nodes.specs.declared.faults.NodesFault.TheVariants as nodes_fault
 use Rattle.play.specs.declared.faults.PlayFault.{PlayFault}
@@ -18,3 +21,9 @@ abbrev pub of_client : ClientFault → PlayFault
 of_client client_fault.LinkFailed = fault.RoadFault
 of_client client_fault.RoadsFailed = fault.RoadFault
 of_client client_fault.Memory = fault.Memory
+
+-- why it stops in which this node doesn't start
+abbrev pub of_start : NodeId → StartFault → PlayFault
+of_start node start_fault.RoadsFailed = fault.RoadFault
+of_start node start_fault.ShelfFailed = fault.ShelfFault node
+of_start node start_fault.Memory = fault.Memory

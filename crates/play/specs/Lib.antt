@@ -7,3 +7,4 @@ pub mod Standing
 pub mod Cutting
 pub mod Running
 pub mod Stopping
+pub mod Starting

@@ -1,5 +1,5 @@
 -- A player, and the roads that its connections were made on, show a world.
-use Rattle.std.specs.Prelude.{◌≡◌, ℕ, slice_get, Some}
+use Rattle.std.specs.Prelude.{◌≡◌, ℕ, length, slice_get, Some}
 use Rattle.hd_base.specs.declared.links.LinkIn as link_in
 use Rattle.hd_base.specs.declared.links.LinkOut as link_out
 use Rattle.hd_base.specs.declared.roads.Roads as roads
@@ -23,7 +23,7 @@ AreApart {F} {I} {O} p = (j k : ℕ) (a b : Client I O) → slice_get p.clients.
     slice_get p.clients.items k ≡ Some b → a.block.0 ≡ b.block.0
     → j ≡ k
 
--- The nodes, the clients, the office and the roads show the world, and it is told which nodes run.
+-- The nodes, the clients, the office and the roads show the world, and it is told of each node whether it runs.
 pub record PlayerShows {F R I O : Type 0} (r : roads.Ghosts R I O) (i : link_in.Ghosts I) (o : link_out.Ghosts O)
     (w : World) (net : Net) (queues : Queues) (road : R) (p : Player F I O) : Type 0 where
   pub nodes : NodesStand r i o w net road p.nodes
@@ -31,6 +31,7 @@ pub record PlayerShows {F R I O : Type 0} (r : roads.Ghosts R I O) (i : link_in.
   pub apart : AreApart p
   pub office : p.office.office ≡ w.office
   pub running : TellsRunning w p.running.items
+  pub slots : length p.running.items ≡ w.nodes
 
 -- They show some world.
 pub record PlayerStands {F R I O : Type 0} (r : roads.Ghosts R I O) (i : link_in.Ghosts I) (o : link_out.Ghosts O)

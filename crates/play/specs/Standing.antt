@@ -14,6 +14,7 @@ use Rattle.world.specs.declared.events.TakenCommand.{TakenCommand}
 use Rattle.world.specs.Worlds.{World, start}
 use Rattle.world.specs.Clients.{is_formed}
 use Rattle.world.specs.Events.{run}
+use Rattle.world_breaks.specs.Breaks.{NoneFails}
 use Rattle.world_requests.specs.Requests.{IsAmong, AllAmong}
 use Rattle.world_texts.specs.Texts.{AllFit}
 use Rattle.play_model.specs.declared.dues.Due.{Due}
@@ -56,11 +57,12 @@ pub record ClientFits {I O : Type 0} (nodes : ℕ) (blocks : List BlockId) (w : 
 
 -- EVENTS
 
--- Events of writers of these blocks, whose commands name only the first nodes, so many.
+-- Events of writers of these blocks, whose commands name only the first nodes, so many; no call on files fails in them.
 pub record EventsFit (nodes : ℕ) (blocks : List BlockId) (events : List Event) : Type 0 where
   pub widths : AllFit events
   pub names : AllName (IsNode nodes) events
   pub among : AllAmong blocks events
+  pub whole : NoneFails events
 
 -- PLAYS
 

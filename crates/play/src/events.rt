@@ -1,6 +1,6 @@
 //! The events of a play.
 
-ghost use Rattle.std.specs.Prelude.{◌<◌, length};
+ghost use Rattle.std.specs.Prelude.{◌≡◌, ◌<◌, length};
 ghost use Rattle.member_events.specs.Roads.{RoadsPass};
 ghost use Rattle.play_nodes.specs.Places.{KeepsSizes};
 ghost use Rattle.play_nodes.specs.Showing.{Stand};
@@ -147,6 +147,7 @@ impl<F: Files, I: LinkIn, O: LinkOut> Player<F, I, O> {
     /// Keeps an event that happened.
     pub(crate) fn keep(&mut self, event: Event) -> Result<(), PlayFault>
         ensures kept { Keeps self.old self.new event result }
+        ensures nodes { self.new.nodes ≡ self.old.nodes }
         ensures sizes { KeepsSizes self.old.nodes self.new.nodes }
     {
         match self.events.push(event) {

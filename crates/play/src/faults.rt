@@ -1,10 +1,11 @@
 //! Why a play stops.
 
 ghost use Rattle.std.specs.Prelude.{◌≡◌};
-ghost use Rattle.play.specs.Faults.{of_nodes, of_client};
+ghost use Rattle.play.specs.Faults.{of_nodes, of_client, of_start};
 
 use client_events::ClientFault;
 use hd_base::NodeId;
+use node_starts::StartFault;
 use play_nodes::NodesFault;
 use thiserror::Error;
 
@@ -40,5 +41,16 @@ pub(crate) fn of_client(fault: ClientFault) -> PlayFault
     match fault {
         ClientFault::LinkFailed | ClientFault::RoadsFailed => PlayFault::RoadFault,
         ClientFault::Memory => PlayFault::Memory,
+    }
+}
+
+/// Why a play stops in which a node doesn't start.
+pub(crate) fn of_start(fault: StartFault, node: NodeId) -> PlayFault
+    ensures { result ≡ of_start node fault }
+{
+    match fault {
+        StartFault::RoadsFailed => PlayFault::RoadFault,
+        StartFault::ShelfFailed => PlayFault::ShelfFault { node },
+        StartFault::Memory => PlayFault::Memory,
     }
 }

@@ -9,6 +9,7 @@ mod happening;
 mod laws;
 mod owning;
 mod player;
+mod starting;
 mod stopping;
 
 pub use faults::PlayFault;

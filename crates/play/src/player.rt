@@ -2,7 +2,7 @@
 
 ghost use Rattle.std.specs.Prelude.{◌≡◌};
 ghost use Rattle.play_nodes.specs.Showing.{runs_in};
-ghost use Rattle.play.specs.Running.{is_running, IsStopped};
+ghost use Rattle.play.specs.Running.{is_running, IsStopped, IsStarted};
 
 use hd_base::{Files, NodeId};
 use name_core::OfficeBook;
@@ -52,6 +52,15 @@ impl<F: Files, I, O> Player<F, I, O> {
     {
         if let Some(runs) = self.running.get_mut(node.0 as usize) {
             *runs = false;
+        }
+    }
+
+    /// A node, if it is one of the play, runs again.
+    pub(crate) fn started(&mut self, node: NodeId)
+        ensures { IsStarted self.old self.new node }
+    {
+        if let Some(runs) = self.running.get_mut(node.0 as usize) {
+            *runs = true;
         }
     }
 }

@@ -21,7 +21,7 @@ use Rattle.play_model.specs.States.{PlayState, world_of, opened, ordered, ruled}
 use Rattle.play_model.specs.Dues.{Queues, is_due, dues, own_events, action_of, due_events, after_due}
 use Rattle.play_model.specs.Draws.{drawn, happened, advanced, drawn_from, draw, draws}
 use Rattle.play_scripts.specs.Failures.{is_failure, HaveNoFailures}
-use Rattle.play_model.specs.Lines.{stepped, step_due, pipeline_conn, cut_at, stop_at, PlaysLine, PlaysLines, PlaysFrom, Plays}
+use Rattle.play_model.specs.Lines.{stepped, step_due, pipeline_conn, cut_at, stop_at, start_at, PlaysLine, PlaysLines, PlaysFrom, Plays}
 use Rattle.play_model.proofs.ListedLemmas.{listed_due}
 use Rattle.play_completeness.specs.Plain.{ArePlain, PlaysArePlain}
 
@@ -54,10 +54,11 @@ module _ (Q : PlayState → Type 0) where
   stepped-keeps k p None q = q
   stepped-keeps k p (Some d) q = if-each Q (is_due (world_of p) p.queues d) (after_due p d) p (λ e. k.goes p d e q) (λ _. q)
 
-  -- What is kept by a cut, and by a stop.
+  -- What is kept by a cut, by a stop, and by a start.
   pub record FailuresKeep : Type 0 where
     pub cuts : (p : PlayState) (c : Option ℕ) (down up : ℕ) → Q p → Q (cut_at p c down up)
     pub stops : (p : PlayState) (n : NodeId) → Q p → Q (stop_at p n)
+    pub starts : (p : PlayState) (n : NodeId) → Q p → Q (start_at p n)
 
   -- so it is, if a line makes something fail
   abbrev pub AllKeep : List ScriptLine → Type 0
@@ -94,7 +95,7 @@ module _ (Q : PlayState → Type 0) where
   line-keeps k blocks (line.Cut b place down up) p new kept s q = subst Q (sym s) ((kept refl).cuts p (pipeline_conn (world_of p) b.0 place) down up q)
   line-keeps k blocks (line.Fault n nth) p new kept s q = subst Q (sym s) q
   line-keeps k blocks (line.Stop n) p new kept s q = subst Q (sym s) ((kept refl).stops p n q)
-  line-keeps k blocks (line.Start n) p new kept s q = subst Q (sym s) q
+  line-keeps k blocks (line.Start n) p new kept s q = subst Q (sym s) ((kept refl).starts p n q)
   line-keeps k blocks (line.Run count) p new kept s q = subst Q (sym s) (draws-keep k blocks count p q)
   line-keeps k blocks (line.Step b e) p new kept s q = subst Q (sym s) (stepped-keeps k p (step_due (world_of p) b.0 e) q)
   line-keeps k blocks (line.Expect n b state stamp written) p new kept s q = subst Q (sym s) q

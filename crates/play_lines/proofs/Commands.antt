@@ -292,6 +292,7 @@ module _ {F R I O : Type 0} (f : files.Ghosts F) (r : roads.Ghosts R I O) (i : l
     line_left left = record {
       left = ordered p b ord.command;
       plays = plays_command (blocks_in old) line ord p is;
+      nodes = refl;
       is = left.is;
       blocks = left.blocks;
       behind = record {

@@ -90,7 +90,7 @@ module _ {F R I O : Type 0} (f : files.Ghosts F) (r : roads.Ghosts R I O) (i : l
   with_roads p road road' x h shows = record {
     stands = record {
       net = h.stands.net;
-      shows = record { nodes = shows.stands; clients = h.stands.shows.clients; apart = h.stands.shows.apart; office = h.stands.shows.office; running = h.stands.shows.running };
+      shows = record { nodes = shows.stands; clients = h.stands.shows.clients; apart = h.stands.shows.apart; office = h.stands.shows.office; running = h.stands.shows.running; slots = h.stands.shows.slots };
       few = h.stands.few;
       events = h.stands.events;
       clients = h.stands.clients;

@@ -8,6 +8,9 @@ pub mod Pipelined
 pub mod Stepped
 pub mod CutLines
 pub mod StopLines
+pub mod ShelfLemmas
+pub mod ShelfStarts
+pub mod StartLines
 pub mod Commands
 pub mod Lined
 pub mod LineRuns

@@ -34,16 +34,16 @@ use Rattle.play_lines.specs.Showing.{PlayIs, given_in}
 use Rattle.play_lines.specs.Stepping.{StepEnds, StepShows}
 use Rattle.play_lines.specs.Cutting.{CutEnds, CutShows}
 use Rattle.play_lines.specs.Stopping.{StopEnds, StopShows}
-use Rattle.play_lines.specs.Lines.{ordered_by, StandIs, GivenIs, is_made, IsBehind, LineLeft, LineEnds, LineShows}
+use Rattle.play_lines.specs.Lines.{ordered_by, is_start, StandIs, GivenIs, is_made, IsBehind, LineLeft, LineEnds, LineShows}
 use Rattle.play_lines.proofs.Commands.{same_stand, created_made}
 use Rattle.play_lines.proofs.Places.{moved}
 
 -- THE MODEL
 
 -- Nodes and rules of a play stay.
-record Stays (p q : PlayState) : Type 0 where
-  nodes : q.nodes ≡ p.nodes
-  rules : q.rules ≡ p.rules
+pub record Stays (p q : PlayState) : Type 0 where
+  pub nodes : q.nodes ≡ p.nodes
+  pub rules : q.rules ≡ p.rules
 
 happened_stays : (p : PlayState) (d : Option Due) → Stays p (happened p d)
 unfolding after_due
@@ -87,10 +87,10 @@ true_false : true ≡ false → ⊥
 true_false e = cc
 
 -- A line that leaves nodes, stages and what was written as they were.
-record Passes (before next : Before) : Type 0 where
-  nodes : next.nodes ≡ before.nodes
-  written : next.written ≡ before.written
-  stage : (x : ℕ) → next.stage x ≡ before.stage x
+pub record Passes (before next : Before) : Type 0 where
+  pub nodes : next.nodes ≡ before.nodes
+  pub written : next.written ≡ before.written
+  pub stage : (x : ℕ) → next.stage x ≡ before.stage x
 
 same_given : (before next : Before) (lines x : ℕ) (j : Intake) → Passes before next → GivenIs before lines x j → GivenIs next (suc lines) x j
 same_given before next lines x j same g = record {
@@ -115,11 +115,12 @@ module _ {F R I O : Type 0} (r : roads.Ghosts R I O) (i : link_in.Ghosts I) (o :
 
 module _ {F R I O : Type 0} (f : files.Ghosts F) (r : roads.Ghosts R I O) (i : link_in.Ghosts I) (o : link_out.Ghosts O) (old new : Playing F I O) (road road' : R) where
   -- what was drawn, or stepped
-  drawn_left : (line : Instruction) (before : Before) (lines : ℕ) (p q : PlayState) → Passes before (after before line) → Stays p q → PlaysLine (blocks_in old) line p q → IsBehind before lines p old → IsDrawn r i o p q old new road'
+  pub drawn_left : (line : Instruction) (before : Before) (lines : ℕ) (p q : PlayState) → Passes before (after before line) → Stays p q → PlaysLine (blocks_in old) line p q → IsBehind before lines p old → IsDrawn r i o p q old new road'
       → LineLeft r i o line before lines p old new road'
   drawn_left line before lines p q same stays plays behind d = record {
     left = q;
     plays = plays;
+    nodes = stays.nodes;
     is = d.is;
     blocks = d.blocks;
     behind = behind_next r i o before (after before line) lines p q old new same stays d.blocks d.given behind;
@@ -172,29 +173,30 @@ IsOther says.Settle = ⊥
 IsOther (says.Step b event) = ⊥
 IsOther (says.Cut b place down up) = ⊥
 IsOther (says.Stop n) = ⊥
+IsOther (says.Start n) = ⊥
 IsOther line = Unit {0}
 
-pub is_other : (line : Instruction) → ((b : BlockId) (rule : Rule) → line ≡ says.Sums b rule → ⊥) → ((count : ℕ) → line ≡ says.Run count → ⊥) → (line ≡ says.Settle → ⊥) → ((b : BlockId) (event : StepEvent) → line ≡ says.Step b event → ⊥) → ((b : BlockId) (place down up : ℕ) → line ≡ says.Cut b place down up → ⊥) → ((n : NodeId) → line ≡ says.Stop n → ⊥) → IsOther line
-is_other (says.Sums b rule) sums runs settles steps cuts stops = sums b rule refl
-is_other (says.Run count) sums runs settles steps cuts stops = runs count refl
-is_other says.Settle sums runs settles steps cuts stops = settles refl
-is_other (says.Step b event) sums runs settles steps cuts stops = steps b event refl
-is_other (says.Read b n offset count) sums runs settles steps cuts stops = tt
-is_other (says.Recover b n members) sums runs settles steps cuts stops = tt
-is_other (says.Cut b place down up) sums runs settles steps cuts stops = cuts b place down up refl
-is_other (says.Fault n nth) sums runs settles steps cuts stops = tt
-is_other (says.Stop n) sums runs settles steps cuts stops = stops n refl
-is_other (says.Start n) sums runs settles steps cuts stops = tt
-is_other (says.Expect n b state stamp written) sums runs settles steps cuts stops = tt
-is_other (says.Nodes count) sums runs settles steps cuts stops = tt
-is_other (says.Seed seed) sums runs settles steps cuts stops = tt
-is_other (says.Create b members) sums runs settles steps cuts stops = tt
-is_other (says.Append b members) sums runs settles steps cuts stops = tt
-is_other (says.Write b bytes) sums runs settles steps cuts stops = tt
-is_other (says.Fill b count) sums runs settles steps cuts stops = tt
-is_other (says.Hflush b) sums runs settles steps cuts stops = tt
-is_other (says.Hsync b) sums runs settles steps cuts stops = tt
-is_other (says.Close b) sums runs settles steps cuts stops = tt
+pub is_other : (line : Instruction) → ((b : BlockId) (rule : Rule) → line ≡ says.Sums b rule → ⊥) → ((count : ℕ) → line ≡ says.Run count → ⊥) → (line ≡ says.Settle → ⊥) → ((b : BlockId) (event : StepEvent) → line ≡ says.Step b event → ⊥) → ((b : BlockId) (place down up : ℕ) → line ≡ says.Cut b place down up → ⊥) → ((n : NodeId) → line ≡ says.Stop n → ⊥) → is_start line ≡ false → IsOther line
+is_other (says.Sums b rule) sums runs settles steps cuts stops other = sums b rule refl
+is_other (says.Run count) sums runs settles steps cuts stops other = runs count refl
+is_other says.Settle sums runs settles steps cuts stops other = settles refl
+is_other (says.Step b event) sums runs settles steps cuts stops other = steps b event refl
+is_other (says.Read b n offset count) sums runs settles steps cuts stops other = tt
+is_other (says.Recover b n members) sums runs settles steps cuts stops other = tt
+is_other (says.Cut b place down up) sums runs settles steps cuts stops other = cuts b place down up refl
+is_other (says.Fault n nth) sums runs settles steps cuts stops other = tt
+is_other (says.Stop n) sums runs settles steps cuts stops other = stops n refl
+is_other (says.Start n) sums runs settles steps cuts stops other = absurd (true_false other)
+is_other (says.Expect n b state stamp written) sums runs settles steps cuts stops other = tt
+is_other (says.Nodes count) sums runs settles steps cuts stops other = tt
+is_other (says.Seed seed) sums runs settles steps cuts stops other = tt
+is_other (says.Create b members) sums runs settles steps cuts stops other = tt
+is_other (says.Append b members) sums runs settles steps cuts stops other = tt
+is_other (says.Write b bytes) sums runs settles steps cuts stops other = tt
+is_other (says.Fill b count) sums runs settles steps cuts stops other = tt
+is_other (says.Hflush b) sums runs settles steps cuts stops other = tt
+is_other (says.Hsync b) sums runs settles steps cuts stops other = tt
+is_other (says.Close b) sums runs settles steps cuts stops other = tt
 
 idle_passes : (before : Before) (line : Instruction) → ordered_by line ≡ None → IsOther line → WordsFit before.nodes line → Passes before (after before line)
 idle_passes before (says.Read b n offset count) none other words = record { nodes = refl; written = refl; stage = λ x. refl }
@@ -202,7 +204,7 @@ idle_passes before (says.Recover b n members) none other words = record { nodes 
 idle_passes before (says.Cut b place down up) none other words = absurd other
 idle_passes before (says.Fault n nth) none other words = record { nodes = refl; written = refl; stage = λ x. refl }
 idle_passes before (says.Stop n) none other words = absurd other
-idle_passes before (says.Start n) none other words = record { nodes = refl; written = refl; stage = λ x. refl }
+idle_passes before (says.Start n) none other words = absurd other
 idle_passes before (says.Expect n b state stamp written) none other words = record { nodes = refl; written = refl; stage = λ x. refl }
 idle_passes before (says.Nodes count) none other words = absurd words
 idle_passes before (says.Seed seed) none other words = absurd words
@@ -224,7 +226,7 @@ idle_plays blocks p (says.Recover b n members) none other = refl
 idle_plays blocks p (says.Cut b place down up) none other = absurd other
 idle_plays blocks p (says.Fault n nth) none other = refl
 idle_plays blocks p (says.Stop n) none other = absurd other
-idle_plays blocks p (says.Start n) none other = refl
+idle_plays blocks p (says.Start n) none other = absurd other
 idle_plays blocks p (says.Expect n b state stamp written) none other = refl
 idle_plays blocks p (says.Nodes count) none other = refl
 idle_plays blocks p (says.Seed seed) none other = refl
@@ -247,6 +249,7 @@ module _ {F R I O : Type 0} (f : files.Ghosts F) (r : roads.Ghosts R I O) (i : l
   idle_left line before lines p same plays behind stands = record {
     left = p;
     plays = plays;
+    nodes = refl;
     is = stands;
     blocks = refl;
     behind = behind_next r i o before (after before line) lines p p old old same (record { nodes = refl; rules = refl }) refl (λ b h. refl) behind;
@@ -324,7 +327,7 @@ module _ {F R I O : Type 0} (f : files.Ghosts F) (r : roads.Ghosts R I O) (i : l
     }
 
     ruled_left : PlayIs r i o (ruled p block.0 rule) road new → LineLeft r i o (says.Sums block rule) before lines p old new road
-    ruled_left stands = record { left = ruled p block.0 rule; plays = refl; is = stands; blocks = blocks; behind = behind_rule }
+    ruled_left stands = record { left = ruled p block.0 rule; plays = refl; nodes = refl; is = stands; blocks = blocks; behind = behind_rule }
 
 module _ {F R I O : Type 0} (f : files.Ghosts F) (r : roads.Ghosts R I O) (i : link_in.Ghosts I) (o : link_out.Ghosts O) (old new : Playing F I O) (road : R) (block : BlockId) (rule : Rule) (plays : RulesArePlays F r i o) where
   rule_left : (before : Before) (lines : ℕ) (p : PlayState) → PlayIs r i o p road old → IsBehind before lines p old → LineFits before (says.Sums block rule) → (place : Option ℕ) → client_place old.player.clients.items block.0 ≡ place → RulesAt block rule place old new

@@ -58,7 +58,7 @@ given_up w n c (by_member d) h = no_events w n d h
 given_up w n c (by_reader k) h = h
 given_up w n c (by_primary k place) h = h
 
-both : (a b c d : Bool) → (a ≡ true → c ≡ true) → (b ≡ true → d ≡ true) → (a && b) ≡ true → (c && d) ≡ true
+pub both : (a b c d : Bool) → (a ≡ true → c ≡ true) → (b ≡ true → d ≡ true) → (a && b) ≡ true → (c && d) ≡ true
 both true true c d f g h = ap (λ (x : Bool). x && d) (f refl) ∙ g refl
 both true false c d f g h = cc
 both false b c d f g h = cc

@@ -6,4 +6,6 @@ pub mod Pipelines
 pub mod Stepping
 pub mod Cutting
 pub mod Stopping
+pub mod Shelves
+pub mod Starting
 pub mod Lines

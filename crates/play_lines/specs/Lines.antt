@@ -4,6 +4,7 @@ use Rattle.hd_base.specs.declared.files.Files as files
 use Rattle.hd_base.specs.declared.links.LinkIn as link_in
 use Rattle.hd_base.specs.declared.links.LinkOut as link_out
 use Rattle.hd_base.specs.declared.roads.Roads as roads
+use Rattle.hd_base.specs.declared.shelves.Shelf as shelves
 use Rattle.hd_base.specs.SumRules.{IsChunkSize}
 use Rattle.script_lang.specs.declared.instructions.Instruction.{Instruction}
 use Rattle.script_lang.specs.declared.instructions.Instruction.TheVariants as says
@@ -22,6 +23,7 @@ use Rattle.play.specs.declared.faults.PlayFault.{PlayFault}
 use Rattle.play_lines.specs.declared.lines.Ordered.{Ordered}
 use Rattle.play_lines.specs.declared.playing.Playing.{Playing}
 use Rattle.play_lines.specs.Drawing.{IsCaused, blocks_in}
+use Rattle.play_lines.specs.Shelves.{IsLineFault}
 use Rattle.play_lines.specs.Showing.{PlayIs, given_in}
 
 -- COMMANDS
@@ -36,6 +38,11 @@ ordered_by (says.Hflush b) = Some (record { block = b; command = command.Hflush 
 ordered_by (says.Hsync b) = Some (record { block = b; command = command.Hsync })
 ordered_by (says.Close b) = Some (record { block = b; command = command.Close })
 ordered_by other = None
+
+-- the line starts a node
+abbrev pub is_start : Instruction → Bool
+is_start (says.Start node) = true
+is_start other = false
 
 -- THE LINES BEFORE
 
@@ -71,11 +78,12 @@ CreatesHere x other = Unit {0}
 
 -- ONE LINE
 
--- What is left is the play after the line, and stands behind it.
+-- What is left is the play after the line, of as many nodes, and stands behind it.
 pub record LineLeft {F R I O : Type 0} (r : roads.Ghosts R I O) (i : link_in.Ghosts I) (o : link_out.Ghosts O)
     (line : Instruction) (before : Before) (lines : ℕ) (p : PlayState) (old new : Playing F I O) (road : R) : Type 0 where
   pub left : PlayState
   pub plays : PlaysLine (blocks_in old) line p left
+  pub nodes : left.nodes ≡ p.nodes
   pub is : PlayIs r i o left road new
   pub blocks : blocks_in new ≡ blocks_in old
   pub behind : IsBehind (after before line) (suc lines) left new
@@ -85,13 +93,30 @@ abbrev pub LineEnds : {F R I O : Type 0} → files.Ghosts F → roads.Ghosts R I
 LineEnds f r i o line before lines p old new road road' (Ok u) = LineLeft r i o line before lines p old new road'
 LineEnds f r i o line before lines p old new road road' (Err why) = IsCaused f r new road road' why
 
--- A line that fits is played.
+-- A line that fits, and starts no node, is played.
 abbrev pub LineShows : {F R I O : Type 0} → files.Ghosts F → roads.Ghosts R I O → link_in.Ghosts I → link_out.Ghosts O →
     Instruction → Playing F I O → Playing F I O → R → R → Result (Unit {0}) PlayFault → Type 0
 LineShows f r i o line old new road road' result = (before : Before) (lines : ℕ) (p : PlayState) →
     PlayIs r i o p road old → IsBehind before lines p old → LineFits before line → CreatesHere old line →
     lines < MAX_COMMANDS
     → LineEnds f r i o line before lines p old new road road' result
+
+abbrev pub LineEndsOver : {S F R I O : Type 0} → shelves.Ghosts S F → files.Ghosts F → roads.Ghosts R I O →
+    link_in.Ghosts I → link_out.Ghosts O → Instruction → Before → ℕ → PlayState → List S → List S → Playing F I O →
+    Playing F I O → R → R → Result (Unit {0}) PlayFault → Type 0
+LineEndsOver s f r i o line before lines p shelves shelves' old new road road' (Ok u) =
+    LineLeft r i o line before lines p old new road'
+LineEndsOver s f r i o line before lines p shelves shelves' old new road road' (Err why) =
+    IsLineFault s f r shelves shelves' new road road' why
+
+-- A line that fits is played, where there is a shelf for each node.
+abbrev pub LineShowsOver : {S F R I O : Type 0} → shelves.Ghosts S F → files.Ghosts F → roads.Ghosts R I O →
+    link_in.Ghosts I → link_out.Ghosts O → Instruction → List S → List S → Playing F I O → Playing F I O → R → R →
+    Result (Unit {0}) PlayFault → Type 0
+LineShowsOver s f r i o line shelves shelves' old new road road' result = (before : Before) (lines : ℕ) (p : PlayState) →
+    PlayIs r i o p road old → IsBehind before lines p old → LineFits before line → CreatesHere old line →
+    lines < MAX_COMMANDS → length shelves ≡ p.nodes
+    → LineEndsOver s f r i o line before lines p shelves shelves' old new road road' result
 
 -- ALL LINES
 
@@ -103,10 +128,12 @@ pub record LinesLeft {F R I O : Type 0} (r : roads.Ghosts R I O) (i : link_in.Gh
   pub is : PlayIs r i o left road new
   pub blocks : blocks_in new ≡ blocks_in old
 
-abbrev pub LinesEnd : {F R I O : Type 0} → files.Ghosts F → roads.Ghosts R I O → link_in.Ghosts I → link_out.Ghosts O →
-    List ScriptLine → PlayState → Playing F I O → Playing F I O → R → R → Result (Unit {0}) PlayFault → Type 0
-LinesEnd f r i o lines p old new road road' (Ok u) = LinesLeft r i o lines p old new road'
-LinesEnd f r i o lines p old new road road' (Err why) = IsCaused f r new road road' why
+abbrev pub LinesEnd : {S F R I O : Type 0} → shelves.Ghosts S F → files.Ghosts F → roads.Ghosts R I O →
+    link_in.Ghosts I → link_out.Ghosts O → List ScriptLine → PlayState → List S → List S → Playing F I O →
+    Playing F I O → R → R → Result (Unit {0}) PlayFault → Type 0
+LinesEnd s f r i o lines p shelves shelves' old new road road' (Ok u) = LinesLeft r i o lines p old new road'
+LinesEnd s f r i o lines p shelves shelves' old new road road' (Err why) =
+    IsLineFault s f r shelves shelves' new road road' why
 
 -- each block that one of the lines creates has a client
 abbrev pub AllCreateHere : {F I O : Type 0} → Playing F I O → List ScriptLine → Type 0
@@ -121,18 +148,20 @@ pub record CanPlay {F I O : Type 0} (lines : List ScriptLine) (before : Before) 
   pub here : AllCreateHere x lines
   pub few : count + length lines ≤ MAX_COMMANDS
 
--- Some play does.
+-- Some play does, which has as many nodes as there are shelves.
 pub record IsReady {F R I O : Type 0} (r : roads.Ghosts R I O) (i : link_in.Ghosts I) (o : link_out.Ghosts O)
-    (lines : List ScriptLine) (road : R) (x : Playing F I O) : Type 0 where
+    (lines : List ScriptLine) (shelves : ℕ) (road : R) (x : Playing F I O) : Type 0 where
   pub p : PlayState
   pub is : PlayIs r i o p road x
   pub before : Before
   pub count : ℕ
   pub can : CanPlay lines before count p x
+  pub shelved : shelves ≡ p.nodes
 
--- The lines are played, and then it settles.
-abbrev pub LinesShow : {F R I O : Type 0} → files.Ghosts F → roads.Ghosts R I O → link_in.Ghosts I →
-    link_out.Ghosts O → List ScriptLine → Playing F I O → Playing F I O → R → R → Result (Unit {0}) PlayFault → Type 0
-LinesShow f r i o lines old new road road' result = (before : Before) (count : ℕ) (p : PlayState) →
-    PlayIs r i o p road old → CanPlay lines before count p old
-    → LinesEnd f r i o lines p old new road road' result
+-- The lines are played, and then it settles, where there is a shelf for each node.
+abbrev pub LinesShow : {S F R I O : Type 0} → shelves.Ghosts S F → files.Ghosts F → roads.Ghosts R I O →
+    link_in.Ghosts I → link_out.Ghosts O → List ScriptLine → List S → List S → Playing F I O → Playing F I O → R → R →
+    Result (Unit {0}) PlayFault → Type 0
+LinesShow s f r i o lines shelves shelves' old new road road' result = (before : Before) (count : ℕ) (p : PlayState) →
+    PlayIs r i o p road old → CanPlay lines before count p old → length shelves ≡ p.nodes
+    → LinesEnd s f r i o lines p shelves shelves' old new road road' result

@@ -8,6 +8,7 @@ mod ordering;
 mod pipelines;
 mod playing;
 mod ruling;
+mod starting;
 mod stepping;
 mod stopping;
 

@@ -1,9 +1,11 @@
 //! The lines of a script are played, one after the other.
 
-ghost use Rattle.std.specs.Prelude.{◌≡◌, IfOk};
+ghost use Rattle.std.specs.Prelude.{◌≡◌, false, length, IfOk};
 ghost use Rattle.member_events.specs.Roads.{RoadsPass};
 ghost use Rattle.play_nodes.specs.Places.{KeepsSizes};
-ghost use Rattle.play_lines.specs.Lines.{IsReady, LineShows, LinesShow, ordered_by};
+ghost use Rattle.play_scripts.specs.Unplayed.{StartIsTold, StartsAreTold};
+ghost use Rattle.play_lines.specs.Lines.{IsReady, LineShows, LineShowsOver, LinesShow, ordered_by, is_start};
+ghost use Rattle.play_lines.specs.Shelves.{ShelvesServe, ShelvesGoOn};
 ghost use Rattle.play_lines.specs.Showing.{IsPlaying};
 
 use crate::ordering::orders_are_plays;
@@ -11,9 +13,11 @@ use crate::playing::Playing;
 use crate::ruling::rules_are_plays;
 use fault_ports::CutRoads;
 use hd_base::{BlockId, Files, LinkIn, LinkOut};
+use node_opening::standing_nodes_close;
 use play::PlayFault;
 use script_lang::{Instruction, ScriptLine};
 use std::alloc::{AllocError, Global};
+use told_shelves::ToldShelf;
 use writer_core::Command;
 
 /// A command that a line gives to the client of a block.
@@ -49,15 +53,38 @@ fn command_of(line: &Instruction) -> Result<Option<Ordered>, AllocError>
 }
 
 impl<F: Files, I: LinkIn, O: LinkOut> Playing<F, I, O> {
-    /// A line behind the first two is played. It fits those before it, and plays have what it says: faults, starts,
-    /// recoveries and reads aren't played yet, and nothing is done.
-    pub fn line<R: CutRoads<Inward = I, Outward = O>>(
+    /// A line behind the first two is played. It fits those before it; a node starts only over a shelf that tells its
+    /// files. Faults, recoveries and reads aren't played yet, and nothing is done.
+    pub fn line<S: ToldShelf<Drawer = F>, R: CutRoads<Inward = I, Outward = O>>(
+        &mut self,
+        alloc: Global,
+        roads: &mut R,
+        shelves: &mut [S],
+        line: &Instruction,
+    ) -> Result<(), PlayFault>
+        requires playing { IsPlaying R.Roads I.LinkIn O.LinkOut roads.old self.old }
+        requires serve { ShelvesServe S.Shelf shelves.old self.old }
+        requires told { StartIsTold S.told line.now }
+        ensures shows { LineShowsOver S.Shelf F.Files R.Roads I.LinkIn O.LinkOut line.now
+            shelves.old shelves.new self.old self.new roads.old roads.new result }
+        ensures shelves { ShelvesGoOn S.Shelf shelves.old shelves.new self.old self.new result }
+        ensures pass { RoadsPass R.Roads roads.old roads.new }
+    {
+        match line {
+            Instruction::Start { node } => self.start(alloc, roads, shelves, *node),
+            _ => self.other_line(alloc, roads, line),
+        }
+    }
+
+    /// A line that starts no node is played.
+    fn other_line<R: CutRoads<Inward = I, Outward = O>>(
         &mut self,
         alloc: Global,
         roads: &mut R,
         line: &Instruction,
     ) -> Result<(), PlayFault>
-        requires { IsPlaying R.Roads I.LinkIn O.LinkOut roads.old self.old }
+        requires playing { IsPlaying R.Roads I.LinkIn O.LinkOut roads.old self.old }
+        requires other { is_start line.now ≡ false }
         ensures shows { LineShows F.Files R.Roads I.LinkIn O.LinkOut line.now
             self.old self.new roads.old roads.new result }
         ensures sizes { KeepsSizes self.old.player.nodes self.new.player.nodes }
@@ -71,7 +98,7 @@ impl<F: Files, I: LinkIn, O: LinkOut> Playing<F, I, O> {
         }
     }
 
-    /// A line that gives no command is played.
+    /// A line that gives no command and starts no node is played.
     fn event<R: CutRoads<Inward = I, Outward = O>>(
         &mut self,
         alloc: Global,
@@ -80,6 +107,7 @@ impl<F: Files, I: LinkIn, O: LinkOut> Playing<F, I, O> {
     ) -> Result<(), PlayFault>
         requires playing { IsPlaying R.Roads I.LinkIn O.LinkOut roads.old self.old }
         requires none { ordered_by line.now ≡ None }
+        requires other { is_start line.now ≡ false }
         ensures shows { LineShows F.Files R.Roads I.LinkIn O.LinkOut line.now
             self.old self.new roads.old roads.new result }
         ensures sizes { KeepsSizes self.old.player.nodes self.new.player.nodes }
@@ -105,22 +133,27 @@ impl<F: Files, I: LinkIn, O: LinkOut> Playing<F, I, O> {
         }
     }
 
-    /// The lines behind the first two of a script are played, one after the other; then what is due happens until
-    /// nothing is. The lines fit, and each block that they create has a client.
-    pub fn lines<R: CutRoads<Inward = I, Outward = O>>(
+    /// The lines behind the first two of a script are played, one after the other, over the shelves of the nodes; then
+    /// what is due happens until nothing is. The lines fit, and each block that they create has a client; a node starts
+    /// only over a shelf that tells its files.
+    pub fn lines<S: ToldShelf<Drawer = F>, R: CutRoads<Inward = I, Outward = O>>(
         &mut self,
         alloc: Global,
         roads: &mut R,
+        shelves: &mut [S],
         lines: &[ScriptLine],
     ) -> Result<(), PlayFault>
-        requires { IsReady R.Roads I.LinkIn O.LinkOut lines.now roads.old self.old }
-        ensures shows { LinesShow F.Files R.Roads I.LinkIn O.LinkOut lines.now
-            self.old self.new roads.old roads.new result }
-        ensures sizes { KeepsSizes self.old.player.nodes self.new.player.nodes }
+        requires ready { IsReady R.Roads I.LinkIn O.LinkOut lines.now (length shelves.old) roads.old self.old }
+        requires serve { ShelvesServe S.Shelf shelves.old self.old }
+        requires told { StartsAreTold S.told lines.now }
+        ensures shows { LinesShow S.Shelf F.Files R.Roads I.LinkIn O.LinkOut lines.now
+            shelves.old shelves.new self.old self.new roads.old roads.new result }
+        ensures shelves { ShelvesGoOn S.Shelf shelves.old shelves.new self.old self.new result }
         ensures pass { RoadsPass R.Roads roads.old roads.new }
     {
+        standing_nodes_close::<S, I, O>();
         for line in lines {
-            self.line(alloc, roads, &line.instruction)?;
+            self.line(alloc, roads, shelves, &line.instruction)?;
         }
         self.settle(alloc, roads)
     }

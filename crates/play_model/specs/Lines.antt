@@ -1,5 +1,5 @@
 -- What the lines of a script do in a play.
-use Rattle.std.specs.Prelude.{zero, suc, ◌≡◌, ℕ, ◌==◌, nat_lt, if◌then◌else◌, Bool, false, List, [], ◌∷◌, ◌++◌, Option, Some, None, option_map}
+use Rattle.std.specs.Prelude.{zero, suc, ◌≡◌, ℕ, ◌==◌, ◌&&◌, not, nat_lt, if◌then◌else◌, Bool, false, List, [], ◌∷◌, ◌++◌, Option, Some, None, option_map}
 use Rattle.hd_base.specs.declared.numbers.NodeId.{NodeId}
 use Rattle.script_lang.specs.declared.instructions.Instruction.{Instruction}
 use Rattle.script_lang.specs.declared.instructions.Instruction.TheVariants as line
@@ -77,9 +77,20 @@ cut_at p conn down up = record p { events = p.events ++ cut_events conn down up 
 abbrev pub stop_at : PlayState → NodeId → PlayState
 stop_at p node = if (world_of p).running node.0 then record p { events = p.events ++ event.Stop node ∷ [] } else p
 
+-- STARTS
+
+-- it is a node of the play, and doesn't run
+abbrev pub may_start : PlayState → NodeId → Bool
+may_start p node = nat_lt node.0 p.nodes && not ((world_of p).running node.0)
+
+-- Such a node starts again. No call on files has failed in a play, so that nothing need be said of what is found: all files
+-- are whole.
+abbrev pub start_at : PlayState → NodeId → PlayState
+start_at p node = if may_start p node then record p { events = p.events ++ event.Restart node [] ∷ [] } else p
+
 -- LINES
 
--- What a line of a script without faults, starts, recoveries and reads makes of a play with the writers of these blocks.
+-- What a line of a script without faults, recoveries and reads makes of a play with the writers of these blocks.
 abbrev pub PlaysLine : List ℕ → Instruction → PlayState → PlayState → Type 0
 PlaysLine blocks (line.Sums b rule) old new = new ≡ ruled old b.0 rule
 PlaysLine blocks (line.Create b members) old new = new ≡ ordered old b.0 (command.Create members)
@@ -95,6 +106,7 @@ PlaysLine blocks (line.Step b event) old new = new ≡ stepped old (step_due (wo
 PlaysLine blocks (line.Cut b place down up) old new =
     new ≡ cut_at old (pipeline_conn (world_of old) b.0 place) down up
 PlaysLine blocks (line.Stop node) old new = new ≡ stop_at old node
+PlaysLine blocks (line.Start node) old new = new ≡ start_at old node
 PlaysLine blocks other old new = new ≡ old
 
 -- one after the other; behind the last one all is settled
@@ -120,7 +132,7 @@ abbrev pub blocks_of : List ScriptLine → List ℕ
 blocks_of [] = []
 blocks_of (l ∷ lines) = with_block l.instruction (blocks_of lines)
 
--- A script without faults, starts, recoveries and reads is played: its first two lines give the nodes and the seed.
+-- A script without faults, recoveries and reads is played: its first two lines give the nodes and the seed.
 abbrev pub PlaysFrom : Instruction → Instruction → List ScriptLine → PlayState → Type 0
 PlaysFrom (line.Nodes count) (line.Seed seed) lines end = PlaysLines (blocks_of lines) lines (opened count seed) end
 PlaysFrom first second lines end = ⊥

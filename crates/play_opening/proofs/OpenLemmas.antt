@@ -73,7 +73,7 @@ unfolding start
 no_office nodes = refl
 
 no_events : (nodes : ℕ) (blocks : List BlockId) → EventsFit nodes blocks []
-no_events nodes blocks = record { widths = tt; names = tt; among = tt }
+no_events nodes blocks = record { widths = tt; names = tt; among = tt; whole = tt }
 
 module _ {S D R I O : Type 0} (s : shelves.Ghosts S D) (d : files.Ghosts D) (r : roads.Ghosts R I O) (i : link_in.Ghosts I) (o : link_out.Ghosts O) where
   apart : (blocks : List BlockId) (p : Player D I O) → AreDistinct blocks → AreNewClients blocks p.clients.items → AreApart p
@@ -88,7 +88,8 @@ module _ {S D R I O : Type 0} (s : shelves.Ghosts S D) (d : files.Ghosts D) (r :
     clients = λ k c at. record { shows = new_shows i o nodes net c.block c (h.clients.each k c at).is_new; queue = (h.clients.each k c at).is_new.queue };
     apart = apart blocks p distinct h.clients;
     office = ap (λ (b : BookState). b.office) h.office ∙ no_office nodes;
-    running = λ n. h.running n ∙ ap (λ (k : ℕ). nat_lt n k) (sym count);
+    running = λ n. h.running.tells n ∙ ap (λ (k : ℕ). nat_lt n k) (sym count);
+    slots = h.running.slots ∙ sym count;
   }
 
   pub play_stands : (blocks : List BlockId) (old new : List S) (nodes : ℕ) (p : Player D I O) (road : R) → nodes ≤ MAX_NODES → nodes ≡ length old → AreDistinct blocks → IsOpenedPlay s d blocks old new p → NodesStand r i o (start nodes) (opened_net nodes) road p.nodes

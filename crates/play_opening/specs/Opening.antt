@@ -33,8 +33,9 @@ pub record AreNewClients {I O : Type 0} (blocks : List BlockId) (clients : List 
 -- PLAYERS
 
 -- It is told of the first nodes, so many, that they run, and of no other.
-abbrev pub AllRun : ℕ → List Bool → Type 0
-AllRun count running = (n : ℕ) → runs_in running n ≡ nat_lt n count
+pub record AllRun (count : ℕ) (running : List Bool) : Type 0 where
+  pub tells : (n : ℕ) → runs_in running n ≡ nat_lt n count
+  pub slots : length running ≡ count
 
 -- The nodes are opened, each block has a new client, the office knows no block, all nodes run, and no event has happened.
 pub record IsOpenedPlay {S D I O : Type 0} (s : shelves.Ghosts S D) (d : files.Ghosts D) (blocks : List BlockId)

@@ -1,23 +1,43 @@
--- The lines that plays don't have.
-use Rattle.std.specs.Prelude.{◌≡◌, ℕ, Bool, true, false, List, [], ◌∷◌, Option, option_map, find}
+-- The lines that plays don't have. Whether they have a start is by the shelves: those that tell their files tell what it
+-- finds.
+use Rattle.std.specs.Prelude.{◌≡◌, ℕ, Bool, true, false, not, List, [], ◌∷◌, Option, option_map, find}
 use Rattle.script_lang.specs.declared.instructions.Instruction.{Instruction}
 use Rattle.script_lang.specs.declared.instructions.Instruction.TheVariants as says
 use Rattle.script_lang.specs.declared.instructions.ScriptLine.{ScriptLine}
 
--- a fault, a start, a recovery or a read
-abbrev pub is_unplayed : Instruction → Bool
-is_unplayed (says.Fault node nth) = true
-is_unplayed (says.Start node) = true
-is_unplayed (says.Recover block node members) = true
-is_unplayed (says.Read block node offset count) = true
-is_unplayed other = false
+-- a fault, a recovery or a read, and a start where the shelves don't tell their files
+abbrev pub is_unplayed : Bool → Instruction → Bool
+is_unplayed told (says.Fault node nth) = true
+is_unplayed told (says.Start node) = not told
+is_unplayed told (says.Recover block node members) = true
+is_unplayed told (says.Read block node offset count) = true
+is_unplayed told other = false
 
 -- the number of the first of these lines
-abbrev pub first_unplayed : List ScriptLine → Option ℕ
-first_unplayed lines =
-    option_map (λ (l : ScriptLine). l.number) (find (λ (l : ScriptLine). is_unplayed l.instruction) lines)
+abbrev pub first_unplayed : Bool → List ScriptLine → Option ℕ
+first_unplayed told lines =
+    option_map (λ (l : ScriptLine). l.number) (find (λ (l : ScriptLine). is_unplayed told l.instruction) lines)
 
 -- none of these lines is among them
-abbrev pub ArePlayed : List ScriptLine → Type 0
-ArePlayed [] = Unit {0}
-ArePlayed (l ∷ lines) = (is_unplayed l.instruction ≡ false) × ArePlayed lines
+abbrev pub ArePlayed : Bool → List ScriptLine → Type 0
+ArePlayed told [] = Unit {0}
+ArePlayed told (l ∷ lines) = (is_unplayed told l.instruction ≡ false) × ArePlayed told lines
+
+-- whether a line starts a node
+abbrev pub is_start : Instruction → Bool
+is_start (says.Start node) = true
+is_start other = false
+
+-- a start only where the shelves tell their files
+abbrev pub StartIsTold : Bool → Instruction → Type 0
+StartIsTold told (says.Start node) = told ≡ true
+StartIsTold told other = Unit {0}
+
+-- So is each of these lines.
+abbrev pub StartsAreTold : Bool → List ScriptLine → Type 0
+StartsAreTold told [] = Unit {0}
+StartsAreTold told (l ∷ lines) = StartIsTold told l.instruction × StartsAreTold told lines
+
+-- Lines that plays have are so.
+abbrev pub PlayedAreTold : Type 0
+PlayedAreTold = (told : Bool) (lines : List ScriptLine) → ArePlayed told lines → StartsAreTold told lines

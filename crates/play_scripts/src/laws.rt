@@ -2,6 +2,7 @@
 
 ghost use Rattle.play_scripts.specs.Fitting.{ScriptsFit};
 ghost use Rattle.play_scripts.specs.Storms.{StormsFit};
+ghost use Rattle.play_scripts.specs.Unplayed.{PlayedAreTold};
 
 use script_lang::script_names_its_nodes;
 
@@ -11,6 +12,11 @@ pub fn scripts_fit()
 {
     script_names_its_nodes();
 }
+
+/// Of lines that plays have the starts are over shelves that tell their files.
+pub fn played_starts_are_told()
+    ensures { PlayedAreTold }
+{}
 
 /// The script of each storm fits, where there are five shelves.
 pub fn storms_fit()

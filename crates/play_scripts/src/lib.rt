@@ -8,5 +8,5 @@ mod unplayed;
 
 pub use blocks::blocks_of;
 pub use heads::{Head, head_of};
-pub use laws::{scripts_fit, storms_fit};
+pub use laws::{played_starts_are_told, scripts_fit, storms_fit};
 pub use unplayed::first_unplayed;

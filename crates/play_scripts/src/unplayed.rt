@@ -5,24 +5,25 @@ ghost use Rattle.play_scripts.specs.Unplayed.{is_unplayed, first_unplayed, ArePl
 
 use script_lang::{Instruction, ScriptLine};
 
-/// The number of the first line that plays don't have yet: a fault, a start, a recovery or a read.
-pub fn first_unplayed(lines: &[ScriptLine]) -> Option<u64>
-    ensures first { result ≡ first_unplayed lines.now }
-    ensures none { IsNone result ↔ ArePlayed lines.now }
+/// The number of the first line that plays don't have yet: a fault, a recovery or a read, and a start where the shelves
+/// aren't told to tell their files.
+pub fn first_unplayed(told: bool, lines: &[ScriptLine]) -> Option<u64>
+    ensures first { result ≡ first_unplayed told lines.now }
+    ensures none { IsNone result ↔ ArePlayed told lines.now }
 {
-    let line = lines.iter().find(|line| is_unplayed(&line.instruction))?;
+    let line = lines
+        .iter()
+        .find(|line| is_unplayed(told, &line.instruction))?;
     Some(line.number)
 }
 
 /// Whether plays don't have a line that says this.
-fn is_unplayed(instruction: &Instruction) -> bool
-    ensures { result ≡ is_unplayed instruction.now }
+fn is_unplayed(told: bool, instruction: &Instruction) -> bool
+    ensures { result ≡ is_unplayed told instruction.now }
 {
-    matches!(
-        instruction,
-        Instruction::Fault { .. }
-            | Instruction::Start { .. }
-            | Instruction::Recover { .. }
-            | Instruction::Read { .. }
-    )
+    match instruction {
+        Instruction::Start { .. } => !told,
+        Instruction::Fault { .. } | Instruction::Recover { .. } | Instruction::Read { .. } => true,
+        _ => false,
+    }
 }

@@ -75,6 +75,18 @@ const STOP_FIRST: &[u8] =
 const STOP_FIRST_REPORT: &[u8] =
     b"replica 0 1 RBW 1001 0 0 00000000 ok\ndown 1\nanswer 1 0 create abandoned 1\nanswer 2 0 create abandoned 1\nend\n";
 
+/// The second of two members stops and starts again: it finds what it wrote, waiting to be recovered, and the writer goes
+/// on with the first.
+const START_STREAM: &[u8] =
+    b"nodes 2\nseed 75\ncreate 1073816389 0,1\ncreate 18446744073709551615 0,1\nrun 20\nhflush 18446744073709551615\nhflush 1073816389\nhflush 1073816389\nfill 1073816389 40000\nrun 300\nstop 1\nstart 1\ncut 18446744073709551615 1 2 0\nhflush 1073816389\nclose 18446744073709551615\nclose 1073816389\n";
+
+const START_STREAM_REPORT: &[u8] =
+    b"replica 0 1073816389 FINALIZED 1004 40000 40000 cfb18b5a ok\nreplica 0 18446744073709551615 FINALIZED 1003 0 0 00000000 ok\nreplica 1 1073816389 RWR 1001 0 0 00000000 ok\nreplica 1 18446744073709551615 RWR 1002 0 0 00000000 ok\nanswer 1073816389 0 create ok 1001\nanswer 1073816389 1 hflush ok 0 1001 0,1\nanswer 1073816389 2 hflush ok 0 1001 0,1\nanswer 1073816389 4 hflush ok 40000 1004 0\nanswer 1073816389 5 close ok 40000 1004 0\nanswer 18446744073709551615 0 create ok 1002\nanswer 18446744073709551615 1 hflush ok 0 1002 0,1\nanswer 18446744073709551615 2 close ok 0 1003 0\nend\n";
+
+/// A closed block is appended to after its node has started again: all is as if it hadn't stopped.
+const START_APPEND: &[u8] =
+    b"nodes 1\nseed 0\ncreate 1 0\nfill 1 600\nclose 1\nsettle\nstop 0\nstart 0\nappend 1 0\nfill 1 1000\nclose 1\n";
+
 /// Where a connection is cut of a pipeline of three members: while it is set up, while it streams, behind its last packet,
 /// and while an append sets it up.
 const CUT_PLACES: [(&[u8], &[u8]); 4] = [
@@ -205,7 +217,7 @@ fn run_one(alloc: Global, line: &str, text: &[u8], failing: Failing) -> Result<L
 /// What each of the examples reports.
 #[test]
 fn examples_are_reported(rt: HostRuntime) -> Result<(), Fail> {
-    let table: [(&[u8], &[u8]); 9] = [
+    let table: [(&[u8], &[u8]); 11] = [
         (NINE, NINE_REPORT),
         (TWO_PACKETS, TWO_PACKETS_REPORT),
         (EMPTY, EMPTY_REPORT),
@@ -214,6 +226,8 @@ fn examples_are_reported(rt: HostRuntime) -> Result<(), Fail> {
         (CUT_STREAM, CUT_STREAM_REPORT),
         (STOP_STREAM, STOP_STREAM_REPORT),
         (STOP_FIRST, STOP_FIRST_REPORT),
+        (START_STREAM, START_STREAM_REPORT),
+        (START_APPEND, APPEND_REPORT),
         (UNSUMMED, UNSUMMED_REPORT),
     ];
     for (script, report) in table {
@@ -345,9 +359,15 @@ fn both_files_are_stored(rt: HostRuntime) -> Result<(), Fail> {
 }
 
 /// Runs a script with each call of a port failing in turn, until the one that fails is never made.
-fn fail_in_turn(rt: &impl Abort, alloc: Global, port: Port, fault: &Exit) -> Result<(), Fail> {
+fn fail_in_turn(
+    rt: &impl Abort,
+    alloc: Global,
+    script: &[u8],
+    port: Port,
+    fault: &Exit,
+) -> Result<(), Fail> {
     for number in 1..MOST_CALLS {
-        let left = run_one(alloc, "play", NINE, Failing { port, number })?;
+        let left = run_one(alloc, "play", script, Failing { port, number })?;
         if left.exit == Exit::Done {
             assert!(rt; number > 1);
             return Ok(());
@@ -361,10 +381,10 @@ fn fail_in_turn(rt: &impl Abort, alloc: Global, port: Port, fault: &Exit) -> Res
 #[test]
 fn each_call_fails_in_turn(rt: HostRuntime) -> Result<(), Fail> {
     let shelf = Exit::ShelfFault { node: NodeId(0) };
-    fail_in_turn(&rt, rt.alloc(), Port::Script, &Exit::ScriptFault)?;
-    fail_in_turn(&rt, rt.alloc(), Port::Report, &Exit::ReportFault)?;
-    fail_in_turn(&rt, rt.alloc(), Port::Shelf, &shelf)?;
-    fail_in_turn(&rt, rt.alloc(), Port::Roads, &Exit::RoadFault)
+    fail_in_turn(&rt, rt.alloc(), NINE, Port::Script, &Exit::ScriptFault)?;
+    fail_in_turn(&rt, rt.alloc(), NINE, Port::Report, &Exit::ReportFault)?;
+    fail_in_turn(&rt, rt.alloc(), START_APPEND, Port::Shelf, &shelf)?;
+    fail_in_turn(&rt, rt.alloc(), NINE, Port::Roads, &Exit::RoadFault)
 }
 
 /// Words that aren't `play`, texts that are no script, and a line that plays don't have yet.

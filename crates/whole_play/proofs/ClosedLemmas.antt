@@ -1,47 +1,14 @@
--- The faults of drawers are counted on their shelves, once they are given back.
-use Rattle.std.proofs.Common.{◌≡◌, ◌<◌, ◌≤◌, ◌+◌, ℕ, zero, suc, List, [], ◌∷◌, length, map, slice_get, Some, refl, sym, ap, subst, ◌∙◌, arith}
-use Rattle.std.specs.Prelude.{min, ◌^◌, ◌-◌}
-use Rattle.std.proofs.lemmas.List.{take_all, length-map}
-use Rattle.hd_base.specs.Faults.{FaultsIncreased, CarriesFaults}
+-- A shelf that failed before the nodes were closed counts it afterwards.
+use Rattle.std.proofs.Common.{◌≡◌, ◌<◌, ◌≤◌, ℕ, zero, suc, List, [], ◌∷◌, length, slice_get, Some, refl, subst, arith}
+use Rattle.hd_base.specs.Faults.{FaultsIncreased}
 use Rattle.hd_base.specs.declared.files.Files as files
 use Rattle.hd_base.specs.declared.numbers.NodeId.{NodeId}
 use Rattle.hd_base.specs.declared.shelves.Shelf as shelves
-use Rattle.replica_files.specs.declared.book_state.BookState.{BookState}
-use Rattle.play_nodes.specs.declared.nodes.NodeBooks.{NodeBooks}
-use Rattle.play_nodes.specs.Places.{book_counts, KeepsSizes}
-use Rattle.play_nodes.proofs.PlaceLaws.{element_within, same_some}
-use Rattle.node_opening.specs.Closing.{faults_of, books_within, NodesClose}
+use Rattle.play_nodes.specs.declared.nodes.Nodes.{Nodes}
+use Rattle.play_nodes.proofs.PlaceLaws.{element_within}
 use Rattle.node_opening.specs.Emptiness.{ShelfRose}
-use Rattle.node_opening.specs.Lending.{HasBooks, HaveBooks}
-use Rattle.node_opening.proofs.CloseLemmas.{FoundAt, found_by, length_blocks}
-use Rattle.play_lines.specs.declared.playing.Playing.{Playing}
+use Rattle.node_opening.specs.Laws.{NeverFell, HaveClosed}
 use Rattle.play_lines.specs.Drawing.{HasFailed}
-use Rattle.whole_play.specs.Opening.{HasOpened}
-
--- NUMBERS
-
--- A count that was carried rose, where what was added isn't 0.
-rose_by : (before mid more now : ℕ) → before ≤ mid → 0 < more → CarriesFaults mid more now → FaultsIncreased before now
-rose_by before mid more now le some c = below (before + 1) (mid + more) (2 ^ 64 - 1) now (step before mid more le some) c.counted
-  where
-    step : (a b m : ℕ) → a ≤ b → 0 < m → a + 1 ≤ b + m
-    step a b m h h' = omega (arith, h, h')
-
-    below : (a b top n : ℕ) → a ≤ b → min b top ≤ n → min a top ≤ n
-    below a b top n h h' = omega (arith, h, h')
-
-less_sum : (a b : ℕ) → 0 < b → 0 < a + b
-less_sum a b h = omega (arith, h)
-
-more_sum : (a b : ℕ) → 0 < a → 0 < a + b
-more_sum a b h = omega (arith, h)
-
-module _ {D : Type 0} (d : files.Ghosts D) where
-  -- The faults of a book are among those of all.
-  counted : (books : List (BookState D)) (place : ℕ) (book : BookState D) → slice_get books place ≡ Some book → 0 < d.faults book.drawer → 0 < faults_of d books
-  counted [] place book at some = cc
-  counted (x ∷ books) zero book at some = more_sum (d.faults x.drawer) (faults_of d books) (subst (λ (y : BookState D). 0 < d.faults y.drawer) (sym (same_some x book at)) some)
-  counted (x ∷ books) (suc place) book at some = less_sum (d.faults x.drawer) (faults_of d books) (counted books place book at some)
 
 -- LISTS
 
@@ -64,58 +31,29 @@ stands (y ∷ ys) (suc k) h = behind (stands ys k (less k (length ys) h))
     behind : Stands ys k → Stands (y ∷ ys) (suc k)
     behind s = record { x = s.x; at = s.at }
 
-map_at : {A B : Type 0} (f : A → B) (xs : List A) (k : ℕ) (x : A) → slice_get xs k ≡ Some x → slice_get (map f xs) k ≡ Some (f x)
-map_at f [] k x e = cc
-map_at f (y ∷ ys) zero x e = ap (λ (z : _). Some (f z)) (same_some y x e)
-map_at f (y ∷ ys) (suc k) x e = map_at f ys k x e
+-- SHELVES
 
--- NODES
+rose_later : (a b n : ℕ) → a ≤ b → FaultsIncreased b n → FaultsIncreased a n
+rose_later a b n h e = omega (arith, h, e)
 
-module _ {D : Type 0} where
-  pub count_same : (old new : List (NodeBooks D)) → book_counts new ≡ book_counts old → length new ≡ length old
-  count_same old new e = sym (length-map new (λ (x : NodeBooks D). length x.books.items)) ∙ (ap length e ∙ length-map old (λ (x : NodeBooks D). length x.books.items))
-
-  pub books_same : (old new : List (NodeBooks D)) (k : ℕ) (x y : NodeBooks D) → book_counts new ≡ book_counts old → slice_get old k ≡ Some x → slice_get new k ≡ Some y → length y.books.items ≡ length x.books.items
-  books_same old new k x y e at at' =
-      same_some (length y.books.items) (length x.books.items)
-      (sym (map_at (λ (z : NodeBooks D). length z.books.items) new k y at') ∙ (ap (λ (ns : List ℕ). slice_get ns k) e ∙ map_at (λ (z : NodeBooks D). length z.books.items) old k x at))
-
-module _ {S D I O : Type 0} (s : shelves.Ghosts S D) (d : files.Ghosts D) where
-  -- The shelf of a node whose drawer has failed counts it in the end.
-  pub failure_counts : (before after closed : List S) (x y : Playing D I O) (node : NodeId) → HasOpened s d before after x → KeepsSizes x.player.nodes y.player.nodes → NodesClose s d y.player.nodes.blocks.items y.player.nodes.nodes.items after closed → HasFailed d y.player.nodes node
-      → ShelfRose s before closed node
-  failure_counts before after closed x y node h keeps close failed =
+module _ {S D : Type 0} (s : shelves.Ghosts S D) where
+  -- A count that rose has risen since it was less.
+  rose_since : (before mid now : List S) (node : NodeId) → NeverFell s before mid → ShelfRose s mid now node → ShelfRose s before now node
+  rose_since before mid now node never rose =
       let k = node.0 in
-      let blocks = x.player.nodes.blocks.items in
-      let olds = x.player.nodes.nodes.items in
-      let news = y.player.nodes.nodes.items in
-      let has : HaveBooks s d blocks before after olds = h.opened_so.nodes.have_books in
-      let found : FoundAt news k failed.place failed.book = found_by news k failed.place failed.book (slice_get news k) refl failed.at_place in
-      let within_news : k < length news = element_within news k found.at found.here in
-      let within_olds : k < length olds = subst (λ (n : ℕ). k < n) (count_same olds news keeps.books) within_news in
-      let within_before : k < length before = subst (λ (n : ℕ). k < n) has.count within_olds in
-      let within_after : k < length after = subst (λ (n : ℕ). k < n) (sym has.shelves_stay) within_before in
-      let within_closed : k < length closed = subst (λ (n : ℕ). k < n) (sym close.count) within_after in
-      let a : Stands before k = stands before k within_before in
-      let b : Stands after k = stands after k within_after in
-      let z : Stands closed k = stands closed k within_closed in
-      let n : Stands olds k = stands olds k within_olds in
-      let books : HasBooks s d blocks a.x b.x n.x.books.items = has.each k a.x b.x n.x a.at b.at n.at in
-      let few : length found.at.books.items ≡ length y.player.nodes.blocks.items =
-      books_same olds news k n.x found.at keeps.books n.at found.here
-      ∙ (sym (length_blocks n.x.books.items) ∙ (ap length books.are.blocks_are ∙ ap length (sym keeps.blocks))) in
-      let all : books_within (length y.player.nodes.blocks.items) found.at ≡ found.at.books.items =
-      take_all (length y.player.nodes.blocks.items) found.at.books.items (same_le (length found.at.books.items) (length y.player.nodes.blocks.items) few) in
-      let closes = close.each k b.x z.x found.at b.at z.at found.here in
-      let some : 0 < faults_of d (books_within (length y.player.nodes.blocks.items) found.at) =
-      subst (λ (bs : List (BookState D)). 0 < faults_of d bs) (sym all) (counted d found.at.books.items failed.place failed.book found.there failed.failed) in
+      let a : Stands before k = stands before k (subst (λ (n : ℕ). k < n) never.count (element_within mid k rose.before rose.was)) in
       record {
         before = a.x;
-        after = z.x;
+        after = rose.after;
         was = a.at;
-        is = z.at;
-        so = rose_by (s.faults a.x) (s.faults b.x) (faults_of d (books_within (length y.player.nodes.blocks.items) found.at)) (s.faults z.x) books.has_lent.never_falls some closes.count;
+        is = rose.is;
+        so = rose_later (s.faults a.x) (s.faults rose.before) (s.faults rose.after) (never.each k a.x rose.before a.at rose.was) rose.so;
       }
-    where
-      same_le : (p q : ℕ) → p ≡ q → p ≤ q
-      same_le p q e = omega (arith, e)
+
+module _ {S D I O : Type 0} (s : shelves.Ghosts S D) (d : files.Ghosts D) where
+  -- The shelf of a node whose drawer has failed, or that failed itself, counts it in the end.
+  pub drawer_counts : (before now closed : List S) (n : Nodes D I O) (node : NodeId) → HaveClosed s d before now closed n → HasFailed d n node → ShelfRose s before closed node
+  drawer_counts before now closed n node close failed = close.failed node failed.place failed.book failed.at_place failed.failed
+
+  pub shelf_counts : (before mid now closed : List S) (n : Nodes D I O) (node : NodeId) → NeverFell s before mid → HaveClosed s d before now closed n → ShelfRose s mid now node → ShelfRose s before closed node
+  shelf_counts before mid now closed n node never close rose = close.rose node (rose_since s before mid now node never rose)

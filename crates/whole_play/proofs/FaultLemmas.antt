@@ -6,23 +6,21 @@ use Rattle.hd_base.specs.declared.roads.Roads as roads
 use Rattle.hd_base.specs.declared.shelves.Shelf as shelves
 use Rattle.node_opening.specs.declared.faults.OpenFault.{OpenFault}
 use Rattle.node_opening.specs.declared.faults.OpenFault.TheVariants as opening
-use Rattle.node_opening.specs.Closing.{NodesClose}
+use Rattle.node_opening.specs.Laws.{NeverFell, HaveClosed}
 use Rattle.node_opening.specs.Opening.{HasOpenCause}
-use Rattle.play_nodes.specs.Places.{KeepsSizes}
 use Rattle.play.specs.declared.faults.PlayFault.{PlayFault}
 use Rattle.play.specs.declared.faults.PlayFault.TheVariants as play
 use Rattle.play.specs.Events.{RoadsFailed}
 use Rattle.play_lines.specs.declared.playing.Playing.{Playing}
-use Rattle.play_lines.specs.Drawing.{IsCaused}
+use Rattle.play_lines.specs.Shelves.{IsLineFault}
 use Rattle.play_report.specs.declared.faults.ReportFault.{ReportFault}
 use Rattle.play_report.specs.declared.faults.ReportFault.TheVariants as report
 use Rattle.play_report.specs.Rows.{IsNodesFault}
 use Rattle.whole_play.specs.declared.faults.RunFault.{RunFault}
 use Rattle.whole_play.specs.declared.faults.RunFault.TheVariants as fault
 use Rattle.whole_play.specs.Faults.{of_opening, of_play, of_report}
-use Rattle.whole_play.specs.Opening.{HasOpened}
 use Rattle.whole_play.specs.Playing.{IsReportFault, IsThroughFault, HasCause}
-use Rattle.whole_play.proofs.ClosedLemmas.{failure_counts}
+use Rattle.whole_play.proofs.ClosedLemmas.{drawer_counts, shelf_counts}
 
 -- ROADS
 
@@ -45,17 +43,17 @@ module _ {F I O : Type 0} (f : files.Ghosts F) where
 
 -- THE LINES
 
-module _ {F R I O : Type 0} (f : files.Ghosts F) (r : roads.Ghosts R I O) where
-  pub lines_fault : (x : Playing F I O) (road road' : R) (why : PlayFault) → IsCaused f r x road road' why → IsThroughFault f r x road road' (of_play why)
-  lines_fault x road road' play.RoadFault c = c
-  lines_fault x road road' (play.ShelfFault node) c = c
-  lines_fault x road road' play.Memory c = tt
+module _ {S F R I O : Type 0} (s : shelves.Ghosts S F) (f : files.Ghosts F) (r : roads.Ghosts R I O) where
+  pub lines_fault : (old new : List S) (x : Playing F I O) (road road' : R) (why : PlayFault) → IsLineFault s f r old new x road road' why → IsThroughFault s f r old new x road road' (of_play why)
+  lines_fault old new x road road' play.RoadFault c = c
+  lines_fault old new x road road' (play.ShelfFault node) c = c
+  lines_fault old new x road road' play.Memory c = tt
 
-  pub told_fault : (x : Playing F I O) (road road' : R) (why : RunFault) → IsReportFault f x why → IsThroughFault f r x road road' why
-  told_fault x road road' fault.RoadFault c = absurd c
-  told_fault x road road' (fault.ShelfFault node) c = c
-  told_fault x road road' (fault.NotEmpty node name) c = c
-  told_fault x road road' fault.Memory c = tt
+  pub told_fault : (old new : List S) (x : Playing F I O) (road road' : R) (why : RunFault) → IsReportFault f x why → IsThroughFault s f r old new x road road' why
+  told_fault old new x road road' fault.RoadFault c = absurd c
+  told_fault old new x road road' (fault.ShelfFault node) c = inl c
+  told_fault old new x road road' (fault.NotEmpty node name) c = c
+  told_fault old new x road road' fault.Memory c = tt
 
 -- THE WHOLE
 
@@ -66,9 +64,10 @@ module _ {S D R I O : Type 0} (s : shelves.Ghosts S D) (d : files.Ghosts D) (r :
   open_fault road road' old new (opening.NotEmpty node name) c = c
   open_fault road road' old new opening.Memory c = tt
 
-  pub closed_fault : (road mid road' : R) (old after closed : List S) (x y : Playing D I O) (why : RunFault) → r.faults road ≤ r.faults mid → HasOpened s d old after x → KeepsSizes x.player.nodes y.player.nodes → NodesClose s d y.player.nodes.blocks.items y.player.nodes.nodes.items after closed
-      → IsThroughFault d r y mid road' why → HasCause s r old closed road road' why
-  closed_fault road mid road' old after closed x y fault.RoadFault h opened keeps close c = failed_later r road mid road' h c
-  closed_fault road mid road' old after closed x y (fault.ShelfFault node) h opened keeps close c = failure_counts s d old after closed x y node opened keeps close c
-  closed_fault road mid road' old after closed x y (fault.NotEmpty node name) h opened keeps close c = absurd c
-  closed_fault road mid road' old after closed x y fault.Memory h opened keeps close c = tt
+  pub closed_fault : (road mid road' : R) (old opened after closed : List S) (y : Playing D I O) (why : RunFault) → r.faults road ≤ r.faults mid → NeverFell s old opened → HaveClosed s d old after closed y.player.nodes
+      → IsThroughFault s d r opened after y mid road' why → HasCause s r old closed road road' why
+  closed_fault road mid road' old opened after closed y fault.RoadFault h never close c = failed_later r road mid road' h c
+  closed_fault road mid road' old opened after closed y (fault.ShelfFault node) h never close (inl c) = drawer_counts s d old after closed y.player.nodes node close c
+  closed_fault road mid road' old opened after closed y (fault.ShelfFault node) h never close (inr c) = shelf_counts s d old opened after closed y.player.nodes node never close c
+  closed_fault road mid road' old opened after closed y (fault.NotEmpty node name) h never close c = absurd c
+  closed_fault road mid road' old opened after closed y fault.Memory h never close c = tt

@@ -1,10 +1,8 @@
 -- The shelves that were closed hold the replicas of the world that the nodes show.
-use Rattle.std.proofs.Common.{◌≡◌, ◌<◌, ℕ, List, length, slice_get, Some, IfSome, sym, ap, subst, ◌∙◌}
-use Rattle.hd_base.specs.FileMaps.{no_files}
+use Rattle.std.proofs.Common.{◌≡◌, ◌<◌, ℕ, List, length, slice_get, Some, IfSome, sym, subst}
 use Rattle.hd_base.specs.declared.files.Files as files
 use Rattle.hd_base.specs.declared.links.LinkIn as link_in
 use Rattle.hd_base.specs.declared.links.LinkOut as link_out
-use Rattle.hd_base.specs.declared.numbers.BlockId.{BlockId}
 use Rattle.hd_base.specs.declared.roads.Roads as roads
 use Rattle.hd_base.specs.declared.shelves.Shelf as shelves
 use Rattle.script_lang.specs.declared.instructions.ScriptLine.{ScriptLine}
@@ -12,28 +10,25 @@ use Rattle.world.specs.Worlds.{World}
 use Rattle.world_laws.specs.Filling.{AllFilled}
 use Rattle.play_model.specs.Lines.{blocks_of}
 use Rattle.play_model.specs.States.{world_of}
-use Rattle.play_nodes.specs.Places.{KeepsSizes}
 use Rattle.play_scripts.specs.Blocks.{numbers}
 use Rattle.node_opening.specs.Closing.{NodesClose}
 use Rattle.node_opening.specs.Laws.{ShownFit, FitEach}
-use Rattle.node_opening.specs.Lending.{HasBooks, HaveBooks}
-use Rattle.node_opening.specs.Shelves.{AreDistinct, IsEmpty}
+use Rattle.node_opening.specs.Shelves.{AllEmpty}
+use Rattle.node_opening.specs.Standing.{ShelvesStand, AllLentOut}
 use Rattle.play_lines.specs.declared.playing.Playing.{Playing}
 use Rattle.whole_play.specs.declared.playing.Played.{Played}
 use Rattle.whole_play.specs.Holding.{HoldsWorld}
-use Rattle.whole_play.specs.Opening.{HasOpened}
 use Rattle.whole_play.specs.Playing.{IsOver, IsClosed}
-use Rattle.whole_play.proofs.ClosedLemmas.{Stands, stands, count_same, books_same}
-use Rattle.node_opening.proofs.CloseLemmas.{length_blocks}
+use Rattle.whole_play.proofs.ClosedLemmas.{Stands, stands}
 use Rattle.whole_play.proofs.HeldLemmas.{shelf_holds}
 use Rattle.play_nodes.proofs.PlaceLaws.{element_within}
 
 module _ {S D R I O : Type 0} (s : shelves.Ghosts S D) (d : files.Ghosts D) (r : roads.Ghosts R I O) (i : link_in.Ghosts I) (o : link_out.Ghosts O) where
-  pub closed_so : (script : List ScriptLine) (old after closed : List S) (road : R) (x y : Playing D I O) (p : Played) → HasOpened s d old after x → KeepsSizes x.player.nodes y.player.nodes → NodesClose s d y.player.nodes.blocks.items y.player.nodes.nodes.items after closed → AllFilled → ShownFit D I O i o → FitEach D
-      → numbers y.player.nodes.blocks.items ≡ blocks_of script → IsOver d r i o script road y p → IsClosed s d r script old closed road p
-  closed_so script old after closed road x y p opened keeps close filled fit each blocks over = record {
+  pub closed_so : (script : List ScriptLine) (old after closed : List S) (road : R) (y : Playing D I O) (p : Played) → AllEmpty s old → ShelvesStand s old after y.player.nodes → AllLentOut s after y.player.nodes
+      → NodesClose s d y.player.nodes.blocks.items y.player.nodes.nodes.items after closed → AllFilled → ShownFit D I O i o → FitEach D → numbers y.player.nodes.blocks.items ≡ blocks_of script → IsOver d r i o script road y p → IsClosed s d r script old closed road p
+  closed_so script old after closed road y p empty stand lent close filled fit each blocks over = record {
     through = over.through;
-    empty = opened.opened_so.nodes.empty;
+    empty = empty;
     hold = λ node b at. subst (λ (bs : List ℕ). IfSome (s.files b) (HoldsWorld w bs node)) blocks (holds node b at);
   }
     where
@@ -42,23 +37,10 @@ module _ {S D R I O : Type 0} (s : shelves.Ghosts S D) (d : files.Ghosts D) (r :
 
       holds : (node : ℕ) (b : S) → slice_get closed node ≡ Some b → IfSome (s.files b) (HoldsWorld (world_of over.through.end) (numbers y.player.nodes.blocks.items) node)
       holds node b at =
-          let has : HaveBooks s d x.player.nodes.blocks.items old after x.player.nodes.nodes.items = opened.opened_so.nodes.have_books in
-          let in_closed : node < length closed = element_within closed node b at in
-          let in_after : node < length after = subst (λ (n : ℕ). node < n) close.count in_closed in
-          let in_old : node < length old = subst (λ (n : ℕ). node < n) has.shelves_stay in_after in
-          let in_news : node < length y.player.nodes.nodes.items =
-          subst (λ (n : ℕ). node < n) (sym (count_same x.player.nodes.nodes.items y.player.nodes.nodes.items keeps.books ∙ has.count)) in_old in
-          let a : Stands old node = stands old node in_old in
+          let in_after : node < length after = subst (λ (n : ℕ). node < n) close.count (element_within closed node b at) in
+          let in_old : node < length old = subst (λ (n : ℕ). node < n) stand.count in_after in
           let m : Stands after node = stands after node in_after in
-          let was : Stands x.player.nodes.nodes.items node = stands x.player.nodes.nodes.items node (subst (λ (n : ℕ). node < n) (sym has.count) in_old) in
-          let n : Stands y.player.nodes.nodes.items node = stands y.player.nodes.nodes.items node in_news in
-          let books : HasBooks s d x.player.nodes.blocks.items a.x m.x was.x.books.items = has.each node a.x m.x was.x a.at m.at was.at in
-          let lent = books.has_lent in
-          let few : length n.x.books.items ≡ length y.player.nodes.blocks.items =
-          books_same x.player.nodes.nodes.items y.player.nodes.nodes.items node was.x n.x keeps.books was.at n.at
-          ∙ (sym (length_blocks was.x.books.items) ∙ (ap length books.are.blocks_are ∙ ap length (sym keeps.blocks))) in
-          let empty : IsEmpty s m.x = subst (λ (f : _). IfSome f (λ q. q ≡ no_files)) (sym lent.files) (opened.opened_so.nodes.empty node a.x a.at) in
+          let n : Stands y.player.nodes.nodes.items node = stands y.player.nodes.nodes.items node (subst (λ (n : ℕ). node < n) (sym stand.nodes) in_old) in
           let fits = fit (world_of over.through.end) over.net y.player.nodes (filled over.through.end.nodes over.through.end.events) over.show in
-          shelf_holds s d i o (world_of over.through.end) over.net y.player.nodes node m.x b n.x few over.show
-          (subst (λ (bs : List BlockId). AreDistinct bs) (sym keeps.blocks) opened.distinct) empty n.at
+          shelf_holds s d i o (world_of over.through.end) over.net y.player.nodes node m.x b n.x (lent.books node n.x n.at) over.show stand.distinct (lent.empty node m.x m.at) n.at
           (each y.player.nodes.blocks.items y.player.nodes.nodes.items node n.x fits n.at) (close.each node m.x b n.x m.at at n.at)

@@ -8,6 +8,7 @@ use Rattle.hd_base.specs.declared.files.Files as files
 use Rattle.hd_base.specs.declared.links.LinkIn as link_in
 use Rattle.hd_base.specs.declared.links.LinkOut as link_out
 use Rattle.hd_base.specs.declared.roads.Roads as roads
+use Rattle.hd_base.specs.declared.shelves.Shelf as shelves
 use Rattle.road_traffic.specs.Traffic.{carried_of}
 use Rattle.road_traffic.specs.Showing.{Net}
 use Rattle.script_lang.specs.declared.instructions.ScriptLine.{ScriptLine}
@@ -73,26 +74,27 @@ have_carried r w net road carry is e = by (r.carried road) e
 -- THE END
 
 module _ {F R I O : Type 0} (f : files.Ghosts F) (r : roads.Ghosts R I O) (i : link_in.Ghosts I) (o : link_out.Ghosts O) where
-  is_ready : (script : List ScriptLine) (road : R) (x : Playing F I O) → BeginsScript r i o script road x → IsReady r i o (drop 2 script) road x
-  is_ready script road x b = record {
+  is_ready : (script : List ScriptLine) (shelved : ℕ) (road : R) (x : Playing F I O) → BeginsScript r i o script shelved road x → IsReady r i o (drop 2 script) shelved road x
+  is_ready script shelved road x b = record {
     p = first_of b.head;
     is = b.begins.is;
     before = begun b.head.nodes b.head.seed;
     count = 0;
     can = b.begins.can;
+    shelved = b.shelved;
   }
 
   -- The lines behind the head were played.
-  pub lines_end : (lines script : List ScriptLine) (road road' : R) (old x : Playing F I O) (result : Result (Unit {0}) PlayFault) → lines ≡ drop 2 script → (b : BeginsScript r i o script road old) → LinesShow f r i o lines old x road road' result
-      → LinesEnd f r i o (drop 2 script) (first_of b.head) old x road road' result
-  lines_end lines script road road' old x result e b shows =
-      subst (λ (ls : List ScriptLine). LinesShow f r i o ls old x road road' result) e shows (begun b.head.nodes b.head.seed) 0 (first_of b.head) b.begins.is b.begins.can
+  pub lines_end : {S : Type 0} (s : shelves.Ghosts S F) (lines script : List ScriptLine) (shelved shelved' : List S) (road road' : R) (old x : Playing F I O) (result : Result (Unit {0}) PlayFault) → lines ≡ drop 2 script → (b : BeginsScript r i o script (length shelved) road old)
+      → LinesShow s f r i o lines shelved shelved' old x road road' result → LinesEnd s f r i o (drop 2 script) (first_of b.head) shelved shelved' old x road road' result
+  lines_end s lines script shelved shelved' road road' old x result e b shows =
+      subst (λ (ls : List ScriptLine). LinesShow s f r i o ls shelved shelved' old x road road' result) e shows (begun b.head.nodes b.head.seed) 0 (first_of b.head) b.begins.is b.begins.can b.shelved
 
-  pub lines_ready : (lines script : List ScriptLine) (road : R) (x : Playing F I O) → lines ≡ drop 2 script → BeginsScript r i o script road x → IsReady r i o lines road x
-  lines_ready lines script road x e b = subst (λ (ls : List ScriptLine). IsReady r i o ls road x) (sym e) (is_ready script road x b)
+  pub lines_ready : (lines script : List ScriptLine) (shelved : ℕ) (road : R) (x : Playing F I O) → lines ≡ drop 2 script → BeginsScript r i o script shelved road x → IsReady r i o lines shelved road x
+  lines_ready lines script shelved road x e b = subst (λ (ls : List ScriptLine). IsReady r i o ls shelved road x) (sym e) (is_ready script shelved road x b)
 
-  same_blocks : (script : List ScriptLine) (road : R) (x : Playing F I O) → BeginsScript r i o script road x → blocks_in x ≡ blocks_of (drop 2 script)
-  same_blocks script road x b = sym (same_numbers x.player.clients.items) ∙ (ap numbers b.begins.clients ∙ b.begins.are.are)
+  same_blocks : (script : List ScriptLine) (shelved : ℕ) (road : R) (x : Playing F I O) → BeginsScript r i o script shelved road x → blocks_in x ≡ blocks_of (drop 2 script)
+  same_blocks script shelved road x b = sym (same_numbers x.player.clients.items) ∙ (ap numbers b.begins.clients ∙ b.begins.are.are)
 
   nodes_are : (end : PlayState) (x : Playing F I O) (road : R) → (is : PlayIs r i o end road x) → OnlyNodesRun → NodesAre i o x.nodes x.player.running.items (states.world_of end) is.stands.net x.player.nodes
   nodes_are end x road is all = record {
@@ -107,11 +109,11 @@ module _ {F R I O : Type 0} (f : files.Ghosts F) (r : roads.Ghosts R I O) (i : l
     said = λ k c at. (is.stands.shows.clients k c at).shows.said ∙ ap (λ (es : List Event). (run (start end.nodes) es).said c.block.0) (sym is.events);
   }
 
-  through : (script : List ScriptLine) (road road' : R) (old x : Playing F I O) (p : Played) → (b : BeginsScript r i o script road old) → (left : LinesLeft r i o (drop 2 script) (first_of b.head) old x road') → x.player.nodes.blocks.items ≡ old.player.nodes.blocks.items → OnlyNodesRun → NetsCarry → IsToldOf f i o x script p
+  through : (script : List ScriptLine) (shelved : ℕ) (road road' : R) (old x : Playing F I O) (p : Played) → (b : BeginsScript r i o script shelved road old) → (left : LinesLeft r i o (drop 2 script) (first_of b.head) old x road') → x.player.nodes.blocks.items ≡ old.player.nodes.blocks.items → OnlyNodesRun → NetsCarry → IsToldOf f i o x script p
       → IsThrough f r script road' p
-  through script road road' old x p b left same all carry told =
+  through script shelved road road' old x p b left same all carry told =
       let end : PlayState = left.left in
-      let blocks : blocks_in old ≡ blocks_of (drop 2 script) = same_blocks script road old b in
+      let blocks : blocks_in old ≡ blocks_of (drop 2 script) = same_blocks script shelved road old b in
       let here : numbers x.player.nodes.blocks.items ≡ blocks_of (drop 2 script) = ap numbers same ∙ b.begins.are.are in
       let is : PlayIs r i o end road' x = left.is in
       let shown : IsTold f (states.world_of end) (numbers x.player.nodes.blocks.items) script p =
@@ -125,13 +127,13 @@ module _ {F R I O : Type 0} (f : files.Ghosts F) (r : roads.Ghosts R I O) (i : l
       }
 
   -- Once the report was made the nodes show the world still.
-  pub over : (script : List ScriptLine) (road road' : R) (old x y : Playing F I O) (p : Played) → (b : BeginsScript r i o script road old) → (left : LinesLeft r i o (drop 2 script) (first_of b.head) old x road') → x.player.nodes.blocks.items ≡ old.player.nodes.blocks.items → OnlyNodesRun → NetsCarry → StillShow F I O f i o
+  pub over : (script : List ScriptLine) (shelved : ℕ) (road road' : R) (old x y : Playing F I O) (p : Played) → (b : BeginsScript r i o script shelved road old) → (left : LinesLeft r i o (drop 2 script) (first_of b.head) old x road') → x.player.nodes.blocks.items ≡ old.player.nodes.blocks.items → OnlyNodesRun → NetsCarry → StillShow F I O f i o
       → LeavesAll f x.player.nodes y.player.nodes → IsToldOf f i o x script p → IsOver f r i o script road' y p
   unfolding through
-  over script road road' old x y p b left same all carry still kept told =
+  over script shelved road road' old x y p b left same all carry still kept told =
       let are : NodesAre i o x.nodes x.player.running.items (states.world_of left.left) left.is.stands.net x.player.nodes = nodes_are left.left x road' left.is all in
       record {
-        through = through script road road' old x p b left same all carry told;
+        through = through script shelved road road' old x p b left same all carry told;
         net = left.is.stands.net;
         show = still (states.world_of left.left) left.is.stands.net x.player.nodes y.player.nodes kept are.show;
       }

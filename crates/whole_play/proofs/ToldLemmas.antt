@@ -1,10 +1,17 @@
--- What a report leaves of the sizes of nodes.
-use Rattle.std.proofs.Common.{◌≡◌, ℕ, zero, suc, List, [], ◌∷◌, length, map, slice_get, Some, Result, Ok, Err, IfOk, IfErr, refl, ap, ◌∙◌}
+-- What a report leaves of nodes: shelves that stood for them, and had lent all, do so still.
+use Rattle.std.proofs.Common.{◌≡◌, ◌<◌, ℕ, zero, suc, Bool, List, [], ◌∷◌, drop, length, slice_get, Some, Result, Ok, Err, IfOk, IfErr, OnOk, sym, ap, subst, ◌∙◌}
 use Rattle.hd_base.specs.declared.files.Files as files
+use Rattle.hd_base.specs.declared.numbers.BlockId.{BlockId}
+use Rattle.hd_base.specs.declared.shelves.Shelf as shelves
+use Rattle.script_lang.specs.declared.instructions.ScriptLine.{ScriptLine}
 use Rattle.play_nodes.specs.declared.nodes.NodeBooks.{NodeBooks}
 use Rattle.play_nodes.specs.declared.nodes.Nodes.{Nodes}
+use Rattle.play_nodes.proofs.PlaceLaws.{element_within}
+use Rattle.play_scripts.specs.Unplayed.{StartsAreTold}
+use Rattle.node_opening.specs.Shelves.{AreDistinct}
+use Rattle.node_opening.specs.Standing.{ShelfStands, ShelvesStand, AllLentOut, ShelvesStay}
 use Rattle.play_report.specs.Rows.{LeavesAll}
-use Rattle.play_nodes.specs.Places.{KeepsSizes}
+use Rattle.whole_play.proofs.ClosedLemmas.{Stands, stands}
 
 -- RESULTS
 
@@ -12,25 +19,55 @@ pub ok_map : {T E : Type 0} (r : Result T E) (P Q : T → Type 0) → ((x : T) �
 ok_map (Ok x) P Q f h = f x h
 ok_map (Err e) P Q f h = tt
 
+-- where also this is so
+pub ok_with : {T E : Type 0} (r : Result T E) (P Q : T → Type 0) (X : Type 0) → (X → (x : T) → P x → Q x) → OnOk r X → IfOk r P → IfOk r Q
+ok_with (Ok x) P Q X f a h = f a x h
+ok_with (Err e) P Q X f a h = tt
+
+pub on_ok : {T E : Type 0} (r : Result T E) (X : Type 0) → X → OnOk r X
+on_ok (Ok x) X h = h
+on_ok (Err e) X h = tt
+
 pub err_map : {T E : Type 0} (r : Result T E) (P Q : E → Type 0) → ((e : E) → P e → Q e) → IfErr r P → IfErr r Q
 err_map (Ok x) P Q f h = tt
 err_map (Err e) P Q f h = f e h
 
--- SIZES
+-- LINES
 
-less_one : (m n : ℕ) → suc m ≡ suc n → m ≡ n
-less_one m n e = cc
+-- Behind the first lines the starts are told too.
+pub told_behind : (told : Bool) (n : ℕ) (lines : List ScriptLine) → StartsAreTold told lines → StartsAreTold told (drop n lines)
+told_behind told zero lines h = h
+told_behind told (suc n) [] h = tt
+told_behind told (suc n) (l ∷ lines) h = told_behind told n lines h.1
 
-map_same : {A : Type 0} (f : A → ℕ) (xs ys : List A) → length ys ≡ length xs → ((k : ℕ) (a b : A) → slice_get xs k ≡ Some a → slice_get ys k ≡ Some b → f b ≡ f a) → map f ys ≡ map f xs
-map_same f [] [] e h = refl
-map_same f [] (y ∷ ys) e h = cc
-map_same f (x ∷ xs) [] e h = cc
-map_same f (x ∷ xs) (y ∷ ys) e h =
-    ap (λ (n : ℕ). n ∷ map f ys) (h zero x y refl refl) ∙ ap (λ (ns : List ℕ). f x ∷ ns) (map_same f xs ys (less_one (length ys) (length xs) e) (λ k a b at at'. h (suc k) a b at at'))
+-- REPORTS
 
-module _ {F I O : Type 0} (f : files.Ghosts F) where
-  pub report_sizes : (old new : Nodes F I O) → LeavesAll f old new → KeepsSizes old new
-  report_sizes old new kept = record {
-    blocks = kept.blocks;
-    books = map_same (λ (x : NodeBooks F). length x.books.items) old.nodes.items new.nodes.items kept.nodes.count (λ k a b at at'. (kept.nodes.each k a b at at').count);
+module _ {S F I O : Type 0} (s : shelves.Ghosts S F) (f : files.Ghosts F) where
+  same_count : (n m : Nodes F I O) (k : ℕ) (x y : NodeBooks F) → LeavesAll f n m → slice_get n.nodes.items k ≡ Some x → slice_get m.nodes.items k ≡ Some y → length y.books.items ≡ length x.books.items
+  same_count n m k x y kept at at' = (kept.nodes.each k x y at at').count
+
+  was_node : (n m : Nodes F I O) (k : ℕ) (y : NodeBooks F) → LeavesAll f n m → slice_get m.nodes.items k ≡ Some y → Stands n.nodes.items k
+  was_node n m k y kept at = stands n.nodes.items k (subst (λ (q : ℕ). k < q) kept.nodes.count (element_within m.nodes.items k y at))
+
+  pub report_stays : (now : List S) (n m : Nodes F I O) → LeavesAll f n m → ShelvesStay s now now n m
+  report_stays now n m kept = λ before h. record {
+    count = h.count;
+    nodes = kept.nodes.count ∙ h.nodes;
+    distinct = subst (λ (bs : List BlockId). AreDistinct bs) (sym kept.blocks) h.distinct;
+    each = λ k a b y was is here.
+        let x = was_node n m k y kept here in
+        subst (λ (q : ℕ). ShelfStands s m.blocks.items q a b) (sym (same_count n m k x.x y kept x.at here))
+        (subst (λ (bs : List BlockId). ShelfStands s bs (length x.x.books.items) a b) (sym kept.blocks) (h.each k a b x.x was is x.at));
   }
+
+  pub report_lent : (now : List S) (n m : Nodes F I O) → LeavesAll f n m → AllLentOut s now n → AllLentOut s now m
+  report_lent now n m kept h = record {
+    books = λ k y here.
+        let x = was_node n m k y kept here in
+        same_count n m k x.x y kept x.at here ∙ (h.books k x.x x.at ∙ ap length (sym kept.blocks));
+    empty = h.empty;
+  }
+
+  -- Shelves that stand for the nodes after the lines stand for them after the report.
+  pub stay_after : (old now : List S) (n m q : Nodes F I O) → ShelvesStay s old now n m → LeavesAll f m q → ShelvesStay s old now n q
+  stay_after old now n m q stay kept = λ before h. report_stays now m q kept before (stay before h)

@@ -1,5 +1,5 @@
 -- A script is played.
-use Rattle.std.specs.Prelude.{◌≡◌, ◌≤◌, ℕ, Bool, List, map, take, drop, slice_get, Some, IfSome, IsSome}
+use Rattle.std.specs.Prelude.{◌≡◌, ◌⊎◌, ◌≤◌, ℕ, Bool, List, map, take, drop, slice_get, Some, IfSome, IsSome}
 use Rattle.hd_base.specs.Lists.{joined}
 use Rattle.hd_base.specs.declared.files.Files as files
 use Rattle.hd_base.specs.declared.links.LinkIn as link_in
@@ -32,10 +32,11 @@ use Rattle.whole_play.specs.Opening.{HasHead, Begins}
 
 -- THE BEGINNING
 
--- The play is before the first line behind the head of the script.
+-- The play is before the first line behind the head of the script, which gives as many nodes as there are shelves.
 pub record BeginsScript {F R I O : Type 0} (r : roads.Ghosts R I O) (i : link_in.Ghosts I) (o : link_out.Ghosts O)
-    (script : List ScriptLine) (road : R) (x : Playing F I O) : Type 0 where
+    (script : List ScriptLine) (shelves : ℕ) (road : R) (x : Playing F I O) : Type 0 where
   pub head : Head
+  pub shelved : shelves ≡ head.nodes
   pub has_head : HasHead head (drop 2 script) script
   pub begins : Begins r i o head (drop 2 script) road x
 
@@ -109,11 +110,14 @@ IsReportFault f x (fault.ShelfFault node) = HasFailed f x.player.nodes node
 IsReportFault f x fault.Memory = Unit {0}
 IsReportFault f x other = ⊥
 
--- The roads failed; or so.
-abbrev pub IsThroughFault : {F R I O : Type 0} → files.Ghosts F → roads.Ghosts R I O → Playing F I O → R → R →
-    RunFault → Type 0
-IsThroughFault f r x road road' fault.RoadFault = RoadsFailed r road road'
-IsThroughFault f r x road road' other = IsReportFault f x other
+-- The roads failed; or the files of a node did, or its shelf; or memory ran out.
+abbrev pub IsThroughFault : {S F R I O : Type 0} → shelves.Ghosts S F → files.Ghosts F → roads.Ghosts R I O → List S →
+    List S → Playing F I O → R → R → RunFault → Type 0
+IsThroughFault s f r old new x road road' fault.RoadFault = RoadsFailed r road road'
+IsThroughFault s f r old new x road road' (fault.ShelfFault node) =
+    HasFailed f x.player.nodes node ⊎ ShelfRose s old new node
+IsThroughFault s f r old new x road road' fault.Memory = Unit {0}
+IsThroughFault s f r old new x road road' other = ⊥
 
 -- Each fault has its cause: the roads failed; the shelf of the node did, or its first file is this one; or memory ran
 -- out.

@@ -1,13 +1,15 @@
 //! A script is played.
 
-ghost use Rattle.std.specs.Prelude.{length, drop, IfOk, IfErr, IfSome};
+ghost use Rattle.std.specs.Prelude.{◌≡◌, length, drop, IfOk, IfErr, IfSome, OnOk};
 ghost use Rattle.member_events.specs.Roads.{RoadsPass};
 ghost use Rattle.node_opening.specs.Listening.{AreUnused};
 ghost use Rattle.node_opening.specs.Shelves.{EachShelf, LendsNoMore};
-ghost use Rattle.play_nodes.specs.Places.{KeepsSizes};
+ghost use Rattle.node_opening.specs.Standing.{AllLentOut, ShelvesStay};
+ghost use Rattle.play_lines.specs.Shelves.{ShelvesServe};
 ghost use Rattle.play_report.specs.Rows.{LeavesAll};
 ghost use Rattle.play_scripts.specs.Fitting.{ScriptFits};
 ghost use Rattle.play_scripts.specs.Heads.{head_of};
+ghost use Rattle.play_scripts.specs.Unplayed.{StartsAreTold};
 ghost use Rattle.whole_play.specs.Opening.{HasHead, HeadFits};
 ghost use Rattle.whole_play.specs.Playing.{BeginsScript, IsOver, IsThroughFault, IsToldOf, IsReportFault};
 ghost use Rattle.whole_play.specs.Playing.{IsClosed, IsPlayed, LeavesShelves, HasCause, HasUsedCause};
@@ -15,8 +17,11 @@ ghost use Rattle.whole_play.specs.Playing.{IsClosed, IsPlayed, LeavesShelves, Ha
 use crate::faults::RunFault;
 use crate::opening::open_play;
 use fault_ports::CutRoads;
-use hd_base::{Files, LinkIn, LinkOut, Shelf};
-use node_opening::{close_nodes, fitting_books_are_of_blocks, opened_nodes_close, shown_nodes_fit};
+use hd_base::{Files, LinkIn, LinkOut};
+use node_opening::{
+    close_nodes, fitting_books_are_of_blocks, opened_nodes_stand, shown_nodes_fit,
+    standing_nodes_close,
+};
 use play_laws::only_nodes_run;
 use play_lines::Playing;
 use play_nodes::Nodes;
@@ -26,6 +31,7 @@ use play_report::{
 use play_scripts::{Head, head_of};
 use script_lang::ScriptLine;
 use std::alloc::Global;
+use told_shelves::ToldShelf;
 use world_laws::replicas_have_their_bytes;
 use world_nets::nets_carry;
 
@@ -42,8 +48,9 @@ pub struct Played {
 }
 
 /// Plays a script over the first of the shelves, one for each node, and over roads that are unused. Lines that plays don't
-/// have yet do nothing. What the shelves have lent is given back, whatever the result is.
-pub fn play_script<S: Shelf, R: CutRoads>(
+/// have yet do nothing, and a node starts only over shelves that tell their files. What the shelves have lent is given
+/// back, whatever the result is.
+pub fn play_script<S: ToldShelf, R: CutRoads>(
     alloc: Global,
     roads: &mut R,
     shelves: &mut [S],
@@ -51,6 +58,7 @@ pub fn play_script<S: Shelf, R: CutRoads>(
 ) -> Result<Played, RunFault>
     requires unused { AreUnused R.Roads roads.old }
     requires fits { ScriptFits (length shelves.old) script.now }
+    requires told { StartsAreTold S.told script.now }
     ensures played { IfOk result (IsPlayed S.Shelf S.Drawer.Files R.Roads script.now shelves.old shelves.new roads.new) }
     ensures cause { IfErr result (HasUsedCause S.Shelf R.Roads script.now
         shelves.old shelves.new roads.old roads.new) }
@@ -69,7 +77,7 @@ pub fn play_script<S: Shelf, R: CutRoads>(
 }
 
 /// Plays a script with this head over as many shelves as it has nodes.
-fn play_on<S: Shelf, R: CutRoads>(
+fn play_on<S: ToldShelf, R: CutRoads>(
     alloc: Global,
     roads: &mut R,
     shelves: &mut [S],
@@ -79,40 +87,54 @@ fn play_on<S: Shelf, R: CutRoads>(
     requires unused { AreUnused R.Roads roads.old }
     requires head { HasHead head (drop HEAD_LINES script.now) script.now }
     requires fits { HeadFits (length shelves.old) head (drop HEAD_LINES script.now) }
+    requires told { StartsAreTold S.told script.now }
     ensures closed { IfOk result (IsClosed S.Shelf S.Drawer.Files R.Roads script.now shelves.old shelves.new roads.new) }
     ensures cause { IfErr result (HasCause S.Shelf R.Roads shelves.old shelves.new roads.old roads.new) }
     ensures lent { EachShelf (LendsNoMore S.Shelf) shelves.old shelves.new }
 {
-    opened_nodes_close::<S, R::Inward, R::Outward>();
+    opened_nodes_stand::<S, R::Inward, R::Outward>();
+    standing_nodes_close::<S, R::Inward, R::Outward>();
     shown_nodes_fit::<S::Drawer, R::Inward, R::Outward>();
     fitting_books_are_of_blocks::<S::Drawer>();
     replicas_have_their_bytes();
     let (_, lines) = script.split_at(HEAD_LINES);
     let mut playing = open_play(alloc, roads, shelves, head, lines)?;
-    let played = play_through(alloc, roads, &mut playing, script);
+    let played = play_through(alloc, roads, shelves, &mut playing, script);
     let Nodes { blocks, nodes, .. } = playing.player.nodes;
     close_nodes(&blocks, nodes, shelves);
     played
 }
 
-/// Plays the lines behind the head of a script, and makes the report.
-fn play_through<F: Files, I: LinkIn, O: LinkOut, R: CutRoads<Inward = I, Outward = O>>(
+/// Plays the lines behind the head of a script over the shelves of its nodes, and makes the report.
+fn play_through<
+    F: Files,
+    I: LinkIn,
+    O: LinkOut,
+    S: ToldShelf<Drawer = F>,
+    R: CutRoads<Inward = I, Outward = O>,
+>(
     alloc: Global,
     roads: &mut R,
+    shelves: &mut [S],
     playing: &mut Playing<F, I, O>,
     script: &[ScriptLine],
 ) -> Result<Played, RunFault>
-    requires { BeginsScript R.Roads I.LinkIn O.LinkOut script.now roads.old playing.old }
+    requires begins { BeginsScript R.Roads I.LinkIn O.LinkOut script.now (length shelves.old) roads.old playing.old }
+    requires serve { ShelvesServe S.Shelf shelves.old playing.old }
+    requires told { StartsAreTold S.told script.now }
     ensures through { IfOk result (IsOver F.Files R.Roads I.LinkIn O.LinkOut script.now roads.new playing.new) }
-    ensures cause { IfErr result (IsThroughFault F.Files R.Roads playing.new roads.old roads.new) }
-    ensures sizes { KeepsSizes playing.old.player.nodes playing.new.player.nodes }
+    ensures cause { IfErr result (IsThroughFault S.Shelf F.Files R.Roads
+        shelves.old shelves.new playing.new roads.old roads.new) }
+    ensures stay { ShelvesStay S.Shelf shelves.old shelves.new playing.old.player.nodes playing.new.player.nodes }
+    ensures lent { OnOk result (AllLentOut S.Shelf shelves.new playing.new.player.nodes) }
+    ensures blocks { playing.new.player.nodes.blocks.items ≡ playing.old.player.nodes.blocks.items }
     ensures pass { RoadsPass R.Roads roads.old roads.new }
 {
     only_nodes_run();
     nets_carry();
     reports_keep_nodes::<F, I, O>();
     let (_, lines) = script.split_at(HEAD_LINES);
-    playing.lines(alloc, roads, lines)?;
+    playing.lines(alloc, roads, shelves, lines)?;
     report_of(alloc, playing, script)
 }
 

@@ -10,6 +10,7 @@ use Rattle.whole_play.specs.declared.playing.Played.{Played}
 use Rattle.dn_run.specs.declared.exits.Exit.{Exit}
 use Rattle.play_scripts.specs.Fitting.{ScriptFits}
 use Rattle.play_scripts.specs.Heads.{head_of}
+use Rattle.play_scripts.specs.Unplayed.{StartsAreTold}
 use Rattle.whole_play.specs.Playing.{IsPlayed, LeavesShelves}
 use Rattle.dn_run.specs.Reading.{HasRead, IsReadExit, Accepts, Refuses}
 use Rattle.dn_run.specs.Runs.{usage_of, UsageIn, IsBadIn, KeepsShelves, HasPlayCause}
@@ -31,8 +32,8 @@ returns-in_err-read_mode-clause-cause g c =
     let xs = c.args.shelves.now.items in
     let road = c.args.roads.now in
     let e = err_from_is_err_and c.from_residual.result c.from_residual.ensures.1 in
-    if_err c.from_residual.result c.in_err-read_mode.field-0.0 (HasPlayCause g.I.Source g.S.Shelf g.R.Roads script script xs xs road road) (e.1 ∙ ap Err e.2)
-    (mode_cause g.I.Source g.S.Shelf g.R.Roads script script xs xs road road u c.in_err-read_mode.field-0.0 c.in_err-read_mode.ensures)
+    if_err c.from_residual.result c.in_err-read_mode.field-0.0 (HasPlayCause g.S.ToldShelf.told g.I.Source g.S.Shelf g.R.Roads script script xs xs road road) (e.1 ∙ ap Err e.2)
+    (mode_cause g.I.Source g.S.Shelf g.R.Roads script script xs xs road road g.S.ToldShelf.told u c.in_err-read_mode.field-0.0 c.in_err-read_mode.ensures)
 
 pub returns-in_err-lines-clause-refused : goal.returns-in_err-lines-clause-refused
 returns-in_err-lines-clause-refused g c = λ none.
@@ -40,8 +41,8 @@ returns-in_err-lines-clause-refused g c = λ none.
     let n = length c.args.shelves.now.items in
     let same : c.len.result ≡ n = c.len.ensures ∙ c.args.shelves.now.ok.0 in
     let e = err_from_is_err_and c.from_residual-in_err-lines.result c.from_residual-in_err-lines.ensures.1 in
-    subst (λ (r : Result Played Exit). IfSome left (λ text. Refuses n text r)) (sym (e.1 ∙ ap Err e.2))
-    (subst (λ (m : ℕ). IfSome left (λ text. Refuses {T = List ScriptLine} m text (Err c.in_err-lines.field-0.0))) same c.in_err-lines.ensures.refused)
+    subst (λ (r : Result Played Exit). IfSome left (λ text. Refuses g.S.ToldShelf.told n text r)) (sym (e.1 ∙ ap Err e.2))
+    (subst (λ (m : ℕ). IfSome left (λ text. Refuses {T = List ScriptLine} g.S.ToldShelf.told m text (Err c.in_err-lines.field-0.0))) same c.in_err-lines.ensures.refused)
 
 pub returns-in_err-played-clause-usage : goal.returns-in_err-played-clause-usage
 returns-in_err-played-clause-usage g c =
@@ -54,16 +55,16 @@ returns-in_err-played-clause-refused g c = λ none.
     let left = g.I.Source.left c.args.script.now in
     let n = length c.args.shelves.now.items in
     let same : c.len.result ≡ n = c.len.ensures ∙ c.args.shelves.now.ok.0 in
-    refuses_any left n c.in_ok-lines.lines c.from_residual-in_err-played.result
-    (subst (λ (m : ℕ). IfSome left (λ text. Refuses {T = List ScriptLine} m text (Ok c.in_ok-lines.lines))) same c.in_ok-lines.ensures.refused)
+    refuses_any g.S.ToldShelf.told left n c.in_ok-lines.lines c.from_residual-in_err-played.result
+    (subst (λ (m : ℕ). IfSome left (λ text. Refuses {T = List ScriptLine} g.S.ToldShelf.told m text (Ok c.in_ok-lines.lines))) same c.in_ok-lines.ensures.refused)
 
 pub returns-clause-refused : goal.returns-clause-refused
 returns-clause-refused g c = λ none.
     let left = g.I.Source.left c.args.script.now in
     let n = length c.args.shelves.now.items in
     let same : c.len.result ≡ n = c.len.ensures ∙ c.args.shelves.now.ok.0 in
-    refuses_any left n c.in_ok-lines.lines (Ok c.in_ok-played.played)
-    (subst (λ (m : ℕ). IfSome left (λ text. Refuses {T = List ScriptLine} m text (Ok c.in_ok-lines.lines))) same c.in_ok-lines.ensures.refused)
+    refuses_any g.S.ToldShelf.told left n c.in_ok-lines.lines (Ok c.in_ok-played.played)
+    (subst (λ (m : ℕ). IfSome left (λ text. Refuses {T = List ScriptLine} g.S.ToldShelf.told m text (Ok c.in_ok-lines.lines))) same c.in_ok-lines.ensures.refused)
 
 pub returns-in_err-lines-clause-bad : goal.returns-in_err-lines-clause-bad
 returns-in_err-lines-clause-bad g c =
@@ -75,9 +76,16 @@ returns-in_err-lines-clause-bad g c =
     let now = i.faults c.read_lines.new.source in
     let same : c.len.result ≡ n = c.len.ensures ∙ c.args.shelves.now.ok.0 in
     let e = err_from_is_err_and c.from_residual-in_err-lines.result c.from_residual-in_err-lines.ensures.1 in
-    if_err c.from_residual-in_err-lines.result ended (IsBadIn left n) (e.1 ∙ ap Err e.2)
-    (bad_text left before now n ended (subst (λ (m : ℕ). IsReadExit left before now m ended) same c.in_err-lines.ensures.cause)
-    (subst (λ (m : ℕ). IfSome left (λ text. Accepts m text (Err ended))) same c.in_err-lines.ensures.accepted))
+    if_err c.from_residual-in_err-lines.result ended (IsBadIn g.S.ToldShelf.told left n) (e.1 ∙ ap Err e.2)
+    (bad_text g.S.ToldShelf.told left before now n ended (subst (λ (m : ℕ). IsReadExit g.S.ToldShelf.told left before now m ended) same c.in_err-lines.ensures.cause)
+    (subst (λ (m : ℕ). IfSome left (λ text. Accepts g.S.ToldShelf.told m text (Err ended))) same c.in_err-lines.ensures.accepted))
+
+pub play_script-requires-clause-told : goal.play_script-requires-clause-told
+play_script-requires-clause-told g c κs within =
+    let tells = g.S.ToldShelf.told in
+    let lines = c.in_ok-lines.lines in
+    let said : c.as_slice.result.now ≡ lines = search rules in
+    subst (λ (ls : List ScriptLine). StartsAreTold tells ls) (sym said) (c.played_starts_are_told.ensures tells lines c.in_ok-lines.ensures.found.playable.played)
 
 pub returns-clause-shelves : goal.returns-clause-shelves
 returns-clause-shelves g c =
@@ -93,14 +101,14 @@ returns-clause-shelves g c =
     let given : c.as_mut_slice.result.now ≡ old = search rules in
     let left_so : IfSome (head_of lines) (LeavesShelves g.S.Shelf c.as_mut_slice.result.now new) =
     subst (λ (ls : List ScriptLine). IfSome (head_of ls) (LeavesShelves g.S.Shelf c.as_mut_slice.result.now new)) played c.in_ok-played.ensures.shelves in
-    let kept : KeepsShelves g.S.Shelf left old new =
-    keeps_played g.S.Shelf left old new lines fits
-    (subst (λ (m : ℕ). IfSome left (λ text. Accepts m text (Ok lines))) same c.in_ok-lines.ensures.accepted)
+    let kept : KeepsShelves g.S.ToldShelf.told g.S.Shelf left old new =
+    keeps_played g.S.Shelf g.S.ToldShelf.told left old new lines fits
+    (subst (λ (m : ℕ). IfSome left (λ text. Accepts g.S.ToldShelf.told m text (Ok lines))) same c.in_ok-lines.ensures.accepted)
     (subst (λ (xs : List _). IfSome (head_of lines) (LeavesShelves g.S.Shelf xs new)) given left_so) in
     let count : c.args.shelves.now.len ≡ length new = c.args.shelves.now.ok.0 ∙ (ap length (sym given) ∙ sym c.play_script.auto.shelves) in
     let all : new ≡ take c.args.shelves.now.len (new ++ drop (length new) old) =
     sym (ap (λ (k : ℕ). take k (new ++ drop (length new) old)) count ∙ take-append_seam new (drop (length new) old)) in
-    subst (λ (xs : List _). KeepsShelves g.S.Shelf left old xs) all kept
+    subst (λ (xs : List _). KeepsShelves g.S.ToldShelf.told g.S.Shelf left old xs) all kept
 
 pub returns-clause-played : goal.returns-clause-played
 returns-clause-played g c =
@@ -118,7 +126,7 @@ returns-clause-played g c =
     let road = c.play_script.new.roads in
     let same : c.len.result ≡ n = c.len.ensures ∙ c.args.shelves.now.ok.0 in
     let found = c.in_ok-lines.ensures.found in
-    let read : HasRead (i.left script) (i.left script') n lines = subst (λ (m : ℕ). HasRead (i.left script) (i.left script') m lines) same found in
+    let read : HasRead g.S.ToldShelf.told (i.left script) (i.left script') n lines = subst (λ (m : ℕ). HasRead g.S.ToldShelf.told (i.left script) (i.left script') m lines) same found in
     let fits : ScriptFits n lines = subst (λ (m : ℕ). ScriptFits m lines) same (c.scripts_fit.ensures c.len.result found.text lines found.playable.script) in
     let said : c.as_slice.result.now ≡ lines = search rules in
     let given : c.as_mut_slice.result.now ≡ old = search rules in
