@@ -25,6 +25,7 @@ use Rattle.play_model.specs.States.{PlayState, ruled, world_of}
 use Rattle.play_dues.specs.Places.{client_place}
 use Rattle.play_dues.specs.Showing.{HasClient}
 use Rattle.play_scripts.specs.Fitting.{LineFits, WordsFit}
+use Rattle.play_scripts.specs.Unplayed.{is_start}
 use Rattle.play.specs.declared.faults.PlayFault.{PlayFault}
 use Rattle.play.proofs.Dispatch.{has_place}
 use Rattle.play_lines.specs.declared.playing.Playing.{Playing}
@@ -34,7 +35,7 @@ use Rattle.play_lines.specs.Showing.{PlayIs, given_in}
 use Rattle.play_lines.specs.Stepping.{StepEnds, StepShows}
 use Rattle.play_lines.specs.Cutting.{CutEnds, CutShows}
 use Rattle.play_lines.specs.Stopping.{StopEnds, StopShows}
-use Rattle.play_lines.specs.Lines.{ordered_by, is_start, StandIs, GivenIs, is_made, IsBehind, LineLeft, LineEnds, LineShows}
+use Rattle.play_lines.specs.Lines.{ordered_by, StandIs, GivenIs, is_made, IsBehind, LineLeft, LineEnds, LineShows}
 use Rattle.play_lines.proofs.Commands.{same_stand, created_made}
 use Rattle.play_lines.proofs.Places.{moved}
 

@@ -1,7 +1,6 @@
 -- Shelves stay where the nodes of a play keep their sizes, and the causes of faults.
-use Rattle.std.proofs.Common.{◌≡◌, ◌≤◌, ◌<◌, inl, inr, ℕ, zero, suc, List, [], ◌∷◌, drop, length, slice_get, slice_set, Option, Some, None, Result, Ok, Err, refl, sym, ap, ◌∙◌, subst, arith}
+use Rattle.std.proofs.Common.{◌≡◌, ◌≤◌, ◌<◌, inl, inr, ℕ, zero, suc, List, [], ◌∷◌, drop, length, slice_get, Some, Result, Ok, Err, refl, sym, ap, ◌∙◌, subst, arith}
 use Rattle.std.proofs.lemmas.Option.{same_Some}
-use Rattle.hd_base.specs.Faults.{FaultsIncreased}
 use Rattle.hd_base.specs.declared.files.Files as files
 use Rattle.hd_base.specs.declared.links.LinkIn as link_in
 use Rattle.hd_base.specs.declared.links.LinkOut as link_out
@@ -13,7 +12,7 @@ use Rattle.play_nodes.specs.declared.nodes.NodeBooks.{NodeBooks}
 use Rattle.play_nodes.specs.declared.nodes.Nodes.{Nodes}
 use Rattle.play_nodes.specs.Places.{book_counts, KeepsSizes}
 use Rattle.node_opening.specs.Emptiness.{ShelfRose}
-use Rattle.node_opening.specs.Laws.{NeverFell, StandingNodes, StandingClose}
+use Rattle.node_opening.specs.Laws.{NeverFell, StandingClose}
 use Rattle.node_opening.proofs.ListenLemmas.{rose_after}
 use Rattle.play_nodes.proofs.PlaceLaws.{element_within}
 use Rattle.node_opening.specs.Shelves.{AreDistinct}

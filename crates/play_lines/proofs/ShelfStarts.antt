@@ -15,11 +15,10 @@ use Rattle.play_nodes.specs.declared.nodes.NodeBooks.{NodeBooks}
 use Rattle.play_nodes.specs.declared.nodes.Nodes.{Nodes}
 use Rattle.play_nodes.proofs.PlaceLaws.{element_within}
 use Rattle.told_shelves.specs.Telling.{TheyTell}
-use Rattle.node_opening.specs.Closing.{AreLentOut, AreOf, NodesFit, books_within}
+use Rattle.node_opening.specs.Closing.{AreLentOut, AreOf, NodesFit}
 use Rattle.node_opening.specs.Laws.{FitEach}
-use Rattle.node_opening.specs.Shelves.{is_among, AreDistinct, IsEmpty, AllEmpty, LendsNoMore}
-use Rattle.node_opening.specs.Standing.{ShelfStands, ShelvesStand, AllLentOut, ShelvesStay}
-use Rattle.node_restarts.specs.Restarting.{TellAll}
+use Rattle.node_opening.specs.Shelves.{is_among, AreDistinct, IsEmpty, LendsNoMore}
+use Rattle.node_opening.specs.Standing.{ShelfStands, ShelvesStay}
 use Rattle.node_starts.specs.Books.{AreBooksOf, HasAllBooks, NodeTells, KeepsOthers, StartsOver, HasGivenUp, StopsOver}
 use Rattle.play_lines.specs.declared.playing.Playing.{Playing}
 use Rattle.play_lines.specs.Shelves.{ShelvesServe, ShelvesGoOn}

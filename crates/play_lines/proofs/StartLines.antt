@@ -1,5 +1,5 @@
 -- A line that starts a node again.
-use Rattle.std.proofs.Common.{◌≡◌, ℕ, ◌<◌, ◌≤◌, ◌+◌, Bool, true, false, List, [], ◌∷◌, ◌++◌, length, slice_get, slice_set, Option, Some, None, Result, Ok, Err, inr, refl, sym, ap, ◌∙◌, subst, arith, eqb-true}
+use Rattle.std.proofs.Common.{◌≡◌, ℕ, ◌<◌, ◌≤◌, ◌+◌, Bool, true, false, List, [], ◌∷◌, ◌++◌, length, slice_get, slice_set, Some, Result, Ok, Err, inr, refl, sym, ap, ◌∙◌, subst, arith, eqb-true}
 use Rattle.std.proofs.lemmas.Bool.Decides.{nat_tests}
 use Rattle.std.specs.Prelude.{◌==◌, ◌&&◌, not, nat_lt, zero, suc, IfErr, if◌then◌else◌}
 use Rattle.hd_base.specs.declared.files.Files as files
@@ -12,6 +12,7 @@ use Rattle.script_lang.specs.declared.instructions.Instruction.{Instruction}
 use Rattle.script_lang.specs.declared.instructions.Instruction.TheVariants as says
 use Rattle.script_lang.specs.Fits.{Before}
 use Rattle.play_scripts.specs.Unplayed as unplayed
+use Rattle.play_scripts.specs.Unplayed.{is_start}
 use Rattle.world.specs.declared.events.Event.{Event}
 use Rattle.world.specs.declared.events.Event.TheVariants as event
 use Rattle.world.specs.Parts.{Upper, by_writer, by_member, by_reader, by_primary, Writing}
@@ -39,9 +40,9 @@ use Rattle.play.specs.Starting as player
 use Rattle.play.specs.Starting.{HasStarted}
 use Rattle.play_lines.specs.declared.playing.Playing.{Playing}
 use Rattle.play_lines.specs.Drawing.{IsDrawn}
-use Rattle.play_lines.specs.Lines.{is_start, IsBehind, LineEndsOver, LineShows, LineShowsOver, LineEnds}
+use Rattle.play_lines.specs.Lines.{IsBehind, LineEndsOver, LineShows, LineShowsOver, LineEnds}
 use Rattle.play_lines.specs.Shelves.{IsLineFault}
-use Rattle.play_lines.specs.Showing.{PlayIs, IsPlaying}
+use Rattle.play_lines.specs.Showing.{PlayIs}
 use Rattle.play_lines.specs.Starting.{StartEnds, StartShows}
 use Rattle.play_lines.proofs.Drawn.{world_same}
 use Rattle.play_lines.proofs.Lined.{Stays, drawn_left}

@@ -39,11 +39,6 @@ ordered_by (says.Hsync b) = Some (record { block = b; command = command.Hsync })
 ordered_by (says.Close b) = Some (record { block = b; command = command.Close })
 ordered_by other = None
 
--- the line starts a node
-abbrev pub is_start : Instruction → Bool
-is_start (says.Start node) = true
-is_start other = false
-
 -- THE LINES BEFORE
 
 -- Where the lines of a block leave what its writer was given.

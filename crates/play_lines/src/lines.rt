@@ -3,8 +3,8 @@
 ghost use Rattle.std.specs.Prelude.{◌≡◌, false, length, IfOk};
 ghost use Rattle.member_events.specs.Roads.{RoadsPass};
 ghost use Rattle.play_nodes.specs.Places.{KeepsSizes};
-ghost use Rattle.play_scripts.specs.Unplayed.{StartIsTold, StartsAreTold};
-ghost use Rattle.play_lines.specs.Lines.{IsReady, LineShows, LineShowsOver, LinesShow, ordered_by, is_start};
+ghost use Rattle.play_scripts.specs.Unplayed.{is_start, StartIsTold, StartsAreTold};
+ghost use Rattle.play_lines.specs.Lines.{IsReady, LineShows, LineShowsOver, LinesShow, ordered_by};
 ghost use Rattle.play_lines.specs.Shelves.{ShelvesServe, ShelvesGoOn};
 ghost use Rattle.play_lines.specs.Showing.{IsPlaying};
 

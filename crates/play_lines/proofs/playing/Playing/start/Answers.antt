@@ -1,9 +1,8 @@
 -- A node starts again.
 use Rattle.std.proofs.Common.{get_or, slice_set, refl, sym, ◌∙◌}
 use Rattle.node_opening.proofs.ListLemmas.{element_or}
-use Rattle.play_lines.proofs.ShelfLemmas.{go_on}
 use Rattle.play_lines.proofs.ShelfStarts.{lends_node, has_books, node_tells, started_on}
-use Rattle.play_lines.proofs.StartLines.{runs_already, no_shelf, was_started, fault_here}
+use Rattle.play_lines.proofs.StartLines.{runs_already, was_started, fault_here}
 use Rattle.play_lines.proofs.playing.Playing.start.Goals as goal
 
 pub start-requires-clause-lent : goal.start-requires-clause-lent
