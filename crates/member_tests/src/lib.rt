@@ -1,4 +1,4 @@
-//! Tests of the running member of a pipeline, and of a pipeline's setup.
+//! Tests of the running member of a pipeline.
 #![tactic(auto)]
 
 #[cfg(test)]
@@ -14,14 +14,8 @@ mod nodes;
 #[cfg(test)]
 mod pieces;
 #[cfg(test)]
-mod playing;
-#[cfg(test)]
-mod rebuilding;
-#[cfg(test)]
 mod receiving;
 #[cfg(test)]
 mod refusing;
 #[cfg(test)]
 mod responding;
-#[cfg(test)]
-mod writing;

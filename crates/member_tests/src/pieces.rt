@@ -5,7 +5,7 @@ use bytes::Bytes;
 use chunk_sums::crc;
 use hd_base::{ByteList, NodeId, Stamp, SumKind};
 use node_refs::node_ref;
-use op_headers::{BlockRef, Op, Stage, Targets, WriteOp, decode_op, encode_op};
+use op_headers::{BlockRef, Op, Stage, Targets, WriteOp, decode_op};
 use packet_codec::{Packet, encode_packet};
 use std::alloc::Global;
 use std::process::Abort;
@@ -75,15 +75,6 @@ fn spelled(rt: &impl Abort, alloc: Global, packet: &Packet) -> Vec<u8> {
     assert!(rt; packet.is_encodable());
     let mut text = Vec::new(alloc);
     encode_packet(packet, &mut text).expect(rt, "memory");
-    text
-}
-
-/// A request as it is written.
-pub(crate) fn request_text(rt: &impl Abort, alloc: Global, op: WriteOp) -> Vec<u8> {
-    let op = Op::Write(op);
-    assert!(rt; op.is_encodable(alloc).expect(rt, "memory"));
-    let mut text = Vec::new(alloc);
-    encode_op(&op, &mut text).expect(rt, "memory");
     text
 }
 
