@@ -1,6 +1,6 @@
 -- The books that a restart makes are those of the world after it.
 use Rattle.std.proofs.Common.{◌≡◌, ◌<◌, ℕ, Bool, true, false, List, [], length, Option, Some, None, refl, sym, ap, subst, ◌∙◌}
-use Rattle.std.specs.Prelude.{◌||◌, slice_get, option_map, option_and_then, is_some, IsSome, if◌then◌else◌, Result, Ok, Err, OnOk, OnErr}
+use Rattle.std.specs.Prelude.{◌||◌, slice_get, option_map, option_and_then, is_some, if◌then◌else◌, Result, Ok, Err, OnOk, OnErr}
 use Rattle.hd_base.specs.declared.files.Files as files
 use Rattle.hd_base.specs.declared.links.LinkIn as link_in
 use Rattle.hd_base.specs.declared.links.LinkOut as link_out
@@ -21,7 +21,7 @@ use Rattle.play_nodes.specs.declared.nodes.NodeBooks.{NodeBooks}
 use Rattle.play_nodes.specs.declared.nodes.Nodes.{Nodes}
 use Rattle.play_nodes.specs.Showing.{NodesStand}
 use Rattle.play_nodes.proofs.Tables.{element}
-use Rattle.node_opening.specs.Closing.{block_of, blocks_of, AreLentOut, AreOf}
+use Rattle.node_opening.specs.Closing.{block_of, AreLentOut, AreOf}
 use Rattle.node_opening.proofs.CloseLemmas.{block_at, length_blocks}
 use Rattle.node_restarts.specs.Restarting.{TellAll, HasNoPair, StandsAgain}
 use Rattle.node_restarts.specs.Seeking.{is_sought}
