@@ -1,3 +1,2 @@
-mod StreamLaws
 mod AnswerLaws
 mod RunLaws

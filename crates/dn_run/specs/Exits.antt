@@ -9,8 +9,8 @@ use Rattle.whole_play.specs.declared.faults.RunFault.{RunFault}
 use Rattle.whole_play.specs.declared.faults.RunFault.TheVariants as run
 use Rattle.dn_run.specs.declared.exits.Exit.{Exit}
 use Rattle.dn_run.specs.declared.exits.Exit.TheVariants as exit
-use Rattle.dn_run.specs.declared.streams.ReadFault.{ReadFault}
-use Rattle.dn_run.specs.declared.streams.ReadFault.TheVariants as read
+use Rattle.whole_streams.specs.declared.streams.ReadFault.{ReadFault}
+use Rattle.whole_streams.specs.declared.streams.ReadFault.TheVariants as read
 
 -- each exit's number; 9 and 10 are no exit's so far
 abbrev pub status_of : Exit → ℕ

@@ -1,4 +1,3 @@
-pub mod Streams
 pub mod Exits
 pub mod Reading
 pub mod Answers

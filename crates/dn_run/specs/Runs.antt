@@ -32,7 +32,7 @@ use Rattle.play_scripts.specs.Failures.{HaveNoFailures}
 use Rattle.world.specs.Safe.{Safe}
 use Rattle.dn_run.specs.Answers.{AppendsKeepMembers, Completes}
 use Rattle.dn_run.specs.Reading.{IsPlayable, IsRefused, IsRefusal, HasRead}
-use Rattle.dn_run.specs.Streams.{WroteFront}
+use Rattle.whole_streams.specs.Streams.{WroteFront}
 
 -- WORDS
 

@@ -5,9 +5,7 @@ mod exits;
 mod reading;
 mod running;
 mod standard;
-mod streams;
 
 pub use exits::Exit;
 pub use running::run;
 pub use standard::{folder_of, folder_shelves, run_in_memory, run_over};
-pub use streams::{ReadFault, WriteFault, read_to_end, write_all};

@@ -2,15 +2,15 @@
 
 ghost use Rattle.std.specs.Prelude.{◌+◌, ◌≤◌, IfOk, IfErr, IfSome};
 ghost use Rattle.dn_run.specs.Reading.{HasRead, IsReadExit, Accepts, Refuses, script_limit};
-ghost use Rattle.dn_run.specs.Streams.{TookSome};
+ghost use Rattle.whole_streams.specs.Streams.{TookSome};
 
 use crate::exits::Exit;
-use crate::streams::read_to_end;
 use hd_base::Source;
 use play_scripts::first_unplayed;
 use script_lang::{BadKind, MAX_SCRIPT_SIZE, Script, read_script};
 use std::alloc::Global;
 use told_shelves::ToldShelf;
+use whole_streams::read_to_end;
 
 /// Reads a source to its end, and the script in it for so many shelves of this kind. A line that plays don't have over
 /// them is one with an unknown word.

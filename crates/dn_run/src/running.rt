@@ -7,11 +7,10 @@ ghost use Rattle.dn_run.specs.Reading.{Refuses, script_limit};
 ghost use Rattle.dn_run.specs.Runs.{usage_of, UsageFor, UsageIn, ReadsWords, IsBadIn, RefusesIn};
 ghost use Rattle.dn_run.specs.Runs.{HasPlayCause, HasExitCause, HasRun, IsOver, IsUntouched, KeepsShelves, WritesReport};
 ghost use Rattle.dn_run.specs.Runs.{CanRun, NoneRose, IsPlainExit};
-ghost use Rattle.dn_run.specs.Streams.{TookSome};
+ghost use Rattle.whole_streams.specs.Streams.{TookSome};
 
 use crate::exits::Exit;
 use crate::reading::read_lines;
-use crate::streams::{WriteFault, write_all};
 use completing_lines::plays_complete;
 use fault_ports::CutRoads;
 use hd_base::{Sink, Source};
@@ -21,6 +20,7 @@ use run_words::{Mode, UsageRule, read_words};
 use std::alloc::Global;
 use told_shelves::ToldShelf;
 use whole_play::{Played, play_script};
+use whole_streams::{WriteFault, write_all};
 
 /// Runs the script that a source gives over shelves, one for each node, and roads, and writes its report to a sink. The
 /// words are those of the program's call, without its name. So far they must be `play`: `live` and `storm` are `Usage`.

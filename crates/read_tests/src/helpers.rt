@@ -16,7 +16,7 @@ use std::process::Abort;
 use visible_read::{ReadStep, Reading, Served, serve_read};
 
 /// The block.
-const BLOCK: BlockId = BlockId(7);
+pub(crate) const BLOCK: BlockId = BlockId(7);
 
 /// The connection on which it is written.
 const CONN: ConnId = ConnId(9);

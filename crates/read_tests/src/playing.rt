@@ -1,56 +1,85 @@
 //! The events of a reader, and of the node that serves it, over memory.
 
-use crate::helpers::{POOL, bytes_of, listened, read, written};
+use crate::helpers::{BLOCK, Book, POOL, bytes_of, listened, read, written};
 use hd_base::NodeId;
-use member_events::{FirstRequest, first_request};
-use op_headers::Op;
+use mem_ports::{MemIn, MemOut, MemRoads};
+use play_servers::{ReadEnd, ReadServer, ServerEvent};
 use reader_events::{Asked, Heard, ask, hear};
-use serving_events::{Outcome, serve_down, serve_packet, serve_request};
-use visible_read::fits_request;
+use std::alloc::Global;
+use std::process::Abort;
+use visible_read::{Reading, fits_request};
+
+/// A node's side of a reader's connection.
+type Server = ReadServer<MemIn, MemOut>;
+
+/// What is left of a read that goes on, once it has taken what stands next.
+fn heard(
+    rt: &impl Abort,
+    alloc: Global,
+    roads: &mut MemRoads,
+    reading: Reading<MemIn, MemOut>,
+) -> Reading<MemIn, MemOut> {
+    assert!(rt; roads.knows(reading.conn()));
+    let Ok(Heard::Reading(reading)) = hear(alloc, roads, reading) else {
+        panic!(rt; "the read is over");
+    };
+    reading
+}
+
+/// The node takes what stands next.
+fn down(
+    rt: &impl Abort,
+    alloc: Global,
+    roads: &mut MemRoads,
+    server: &mut Server,
+    books: &mut [Book],
+) {
+    let conn = server.open_conn().expect(rt, "an end");
+    assert!(rt; roads.knows(conn));
+    let taken = server.down(alloc, roads, &[BLOCK], books);
+    assert!(rt; taken == Ok(ServerEvent::Done));
+}
+
+/// The node sends the next packet.
+fn ready(
+    rt: &impl Abort,
+    alloc: Global,
+    roads: &mut MemRoads,
+    server: &mut Server,
+    books: &mut [Book],
+) {
+    let conn = server.open_conn().expect(rt, "an end");
+    assert!(rt; roads.knows(conn));
+    let sent = server.ready(alloc, roads, books);
+    assert!(rt; sent == Ok(ServerEvent::Done));
+}
 
 /// A reader takes the answer, a packet and the empty last one, and has the visible bytes; the node takes its status.
 #[test]
 fn a_reader_gets_the_visible_bytes(rt: HostRuntime) {
     let alloc = rt.alloc();
-    let mut book = written(&rt, alloc);
+    let mut books = Vec::new(alloc);
+    books.push(written(&rt, alloc)).ok().expect(&rt, "memory");
     let (mut roads, _) = listened(&rt, alloc);
     let op = read(&rt, alloc, POOL, 0, 300);
     assert!(rt; fits_request(alloc, &op).expect(&rt, "memory"));
     let Ok(Asked::Reading { reading, lower }) = ask(alloc, &mut roads, op, NodeId(0)) else {
         panic!(rt; "a dial that isn't answered");
     };
-    let Ok(Some(first)) = first_request(alloc, &mut roads, lower) else {
-        panic!(rt; "no request");
+    let mut server = ReadServer {
+        conn: lower.id,
+        end: ReadEnd::Idle(lower),
     };
-    let FirstRequest { end, op } = first;
-    let Op::Read(op) = op else {
-        panic!(rt; "another request");
-    };
-    let Ok(Outcome::Serves(served)) = serve_request(alloc, &mut roads, &mut book, end, op) else {
-        panic!(rt; "a refused read");
-    };
-    assert!(rt; roads.knows(reading.conn()));
-    let Ok(Heard::Reading(reading)) = hear(alloc, &mut roads, reading) else {
-        panic!(rt; "no answer");
-    };
-    assert!(rt; roads.knows(served.end.id));
-    let Ok(Outcome::Serves(served)) = serve_packet(alloc, &mut roads, &mut book, served) else {
-        panic!(rt; "no packet");
-    };
-    assert!(rt; roads.knows(reading.conn()));
-    let Ok(Heard::Reading(reading)) = hear(alloc, &mut roads, reading) else {
-        panic!(rt; "no packet came");
-    };
-    assert!(rt; roads.knows(served.end.id));
-    let Ok(Outcome::Serves(served)) = serve_packet(alloc, &mut roads, &mut book, served) else {
-        panic!(rt; "no last packet");
-    };
+    down(&rt, alloc, &mut roads, &mut server, &mut books);
+    let reading = heard(&rt, alloc, &mut roads, reading);
+    ready(&rt, alloc, &mut roads, &mut server, &mut books);
+    let reading = heard(&rt, alloc, &mut roads, reading);
+    ready(&rt, alloc, &mut roads, &mut server, &mut books);
     assert!(rt; roads.knows(reading.conn()));
     let Ok(Heard::Read(result)) = hear(alloc, &mut roads, reading) else {
         panic!(rt; "no result");
     };
     let bytes = result.ok().expect(&rt, "bytes");
     assert!(rt; bytes == bytes_of(&rt, alloc, 0, 300));
-    assert!(rt; roads.knows(served.end.id));
-    assert!(rt; serve_down(alloc, &mut roads, served).is_ok());
+    down(&rt, alloc, &mut roads, &mut server, &mut books);
 }

@@ -1,9 +1,9 @@
 //! A reader that gives a byte a read, and fails.
 
-use dn_run::{ReadFault, read_to_end};
 use real_ports::StdSource;
 use std::io::{self, ErrorKind, Read};
 use std::test::Fail;
+use whole_streams::{ReadFault, read_to_end};
 
 /// A reader that gives a byte a read, and fails where so many are left.
 #[derive(Drop)]

@@ -1,4 +1,4 @@
-//! Tests of `script_lang`: worked scripts and reports.
+//! Tests of `script_lang` and `storm_summary`: worked scripts and reports.
 #![tactic(auto)]
 
 #[cfg(test)]
@@ -7,3 +7,5 @@ mod reports;
 mod scripts;
 #[cfg(test)]
 mod storms;
+#[cfg(test)]
+mod summaries;

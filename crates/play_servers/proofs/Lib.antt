@@ -1,0 +1,7 @@
+mod TableLaws
+mod RestLaws
+mod ServerLaws
+mod RequestEvents
+mod DownEvents
+mod PacketEvents
+mod RecoveryEvents
