@@ -1,0 +1,8 @@
+pub mod AskLaws
+pub mod StandingLaws
+pub mod DueLaws
+pub mod OwnLaws
+pub mod HearLaws
+pub mod StayLaws
+pub mod OtherSteps
+pub mod ReaderSteps

@@ -1,0 +1,8 @@
+pub mod Asks
+pub mod Clients
+pub mod Dues
+pub mod Passing
+pub mod Owning
+pub mod Hearing
+pub mod Staying
+pub mod Frames
