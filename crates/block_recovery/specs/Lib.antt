@@ -10,3 +10,4 @@ pub mod Driving
 pub mod Exchanging
 pub mod Taking
 pub mod Telling
+pub mod Failing

@@ -6,6 +6,7 @@ mod actions;
 mod dialling;
 mod driving;
 mod exchanging;
+mod failing;
 mod foretelling;
 mod hearing;
 mod links;
