@@ -74,7 +74,7 @@ shut_again w c false h = again (rows_of w c false) h.up
 
 -- PLACES
 
-before_or : (j k : ℕ) → j < suc k → (j ≡ k) ⊎ (j < k)
+pub before_or : (j k : ℕ) → j < suc k → (j ≡ k) ⊎ (j < k)
 before_or zero zero h = inl refl
 before_or zero (suc k) h = inr (omega arith)
 before_or (suc j) zero h = absurd (omega (arith, h))
@@ -83,32 +83,32 @@ before_or (suc j) (suc k) h = by (before_or j k (omega (arith, h))) where
   by (inl e) = inl (ap suc e)
   by (inr b) = inr (omega (arith, b))
 
-differs : (c d : ℕ) → (c ≡ d → ⊥) → (c == d) ≡ false
+pub differs : (c d : ℕ) → (c ≡ d → ⊥) → (c == d) ≡ false
 differs c d h = by (c == d) refl where
   by : (b : Bool) → (c == d) ≡ b → b ≡ false
   by true e = absurd (h (eqb-true c d e))
   by false e = refl
 
-or_true : (b : Bool) → (b || true) ≡ true
+pub or_true : (b : Bool) → (b || true) ≡ true
 or_true true = refl
 or_true false = refl
 
-at_among : (conns : List (Option ℕ)) (j c : ℕ) → slice_get conns j ≡ Some (Some c) → is_among_conns conns c ≡ true
+pub at_among : (conns : List (Option ℕ)) (j c : ℕ) → slice_get conns j ≡ Some (Some c) → is_among_conns conns c ≡ true
 at_among [] j c e = cc
 at_among (x ∷ conns) zero c e =
     ap (λ (y : Option ℕ). is_conn y c || is_among_conns conns c) (some_same x (Some c) e) ∙ ap (λ b. b || is_among_conns conns c) (same-itself c)
 at_among (x ∷ conns) (suc j) c e = ap (λ b. is_conn x c || b) (at_among conns j c e) ∙ or_true (is_conn x c)
 
 -- The connection stands at some place.
-record Stands (conns : List (Option ℕ)) (c : ℕ) : Type 0 where
-  place : ℕ
-  is : slice_get conns place ≡ Some (Some c)
+pub record Stands (conns : List (Option ℕ)) (c : ℕ) : Type 0 where
+  pub place : ℕ
+  pub is : slice_get conns place ≡ Some (Some c)
 
-conn_is : (x : Option ℕ) (c : ℕ) → is_conn x c ≡ true → x ≡ Some c
+pub conn_is : (x : Option ℕ) (c : ℕ) → is_conn x c ≡ true → x ≡ Some c
 conn_is None c e = cc
 conn_is (Some d) c e = ap Some (sym (eqb-true c d e))
 
-among_at : (conns : List (Option ℕ)) (c : ℕ) → is_among_conns conns c ≡ true → Stands conns c
+pub among_at : (conns : List (Option ℕ)) (c : ℕ) → is_among_conns conns c ≡ true → Stands conns c
 among_at [] c e = cc
 among_at (x ∷ conns) c e = by (is_conn x c) refl e (λ t. among_at conns c t) where
   by : (b : Bool) → is_conn x c ≡ b → (b || is_among_conns conns c) ≡ true → (is_among_conns conns c ≡ true → Stands conns c) → Stands (x ∷ conns) c

@@ -4,5 +4,10 @@ pub mod HearSteps
 pub mod HearLaws
 pub mod CanHearLaws
 pub mod GivingUpLaws
-pub mod LeadLaws
+pub mod UpdateLemmas
+pub mod SendLaws
+pub mod FlushLaws
+pub mod RisenLaws
+pub mod UpdateLaws
 pub mod PassLaws
+pub mod LeadLaws

@@ -1,4 +1,5 @@
 pub mod Faults
 pub mod Showing
 pub mod Hearing
+pub mod Updating
 pub mod Leading

@@ -6,6 +6,7 @@ mod faults;
 mod hearing;
 mod laws;
 mod leading;
+mod updating;
 
 pub use faults::PrimaryFault;
 pub use hearing::hear;
