@@ -18,6 +18,10 @@ const REPORT: [&[u8]; 10] = [
     b"end\n",
 ];
 
+/// What it comes to.
+const SUMMARY: &[u8] =
+    b"storm 7\nfinalized 1\nrbw 1\nrwr 0\nrur 1\nbroken 1\nbytes 3514\nok 1\nfailed 1\nrecovered 1\nend\n";
+
 #[test]
 fn a_report_is_summed_up(rt: HostRuntime) -> Result<(), Fail> {
     let mut lines = Vec::new(rt.alloc());
@@ -25,8 +29,6 @@ fn a_report_is_summed_up(rt: HostRuntime) -> Result<(), Fail> {
         lines.push(read_line(rt.alloc(), line)?)?;
     }
     let text = print_summary(rt.alloc(), 7, &summarize(&lines))?;
-    let wanted =
-        b"storm 7\nfinalized 1\nrbw 1\nrwr 0\nrur 1\nbroken 1\nbytes 3514\nok 1\nfailed 1\nrecovered 1\nend\n";
-    assert_eq!(rt; text.as_slice(), wanted);
+    assert_eq!(rt; text.as_slice(), SUMMARY);
     Ok(())
 }
