@@ -2,8 +2,8 @@
 
 use hd_base::{BlockId, Members, NodeId, ReplicaState, Stamp};
 use name_core::{
-    Begun, ChooseFault, Chosen, Desk, FIRST_STAMP, Info, Infos, Office, OfficeAnswer, OfficeBook,
-    OfficeCall, OfficeFault, Reopened, SharedDesk, choose,
+    ChooseFault, Chosen, Desk, Info, Infos, OfficeAnswer, OfficeBook, OfficeCall, OfficeFault,
+    SharedDesk, choose,
 };
 use std::process::Abort;
 use std::sync::{Arc, Mutex};
@@ -11,8 +11,6 @@ use std::test::Fail;
 use std::thread;
 
 const BLOCK: BlockId = BlockId(7);
-
-const OTHER: BlockId = BlockId(3);
 
 /// The members of these numbers.
 fn members(rt: &impl Abort, nodes: &[NodeId]) -> Members {
@@ -79,47 +77,6 @@ fn replicas_are_chosen(rt: HostRuntime) {
     );
 }
 
-/// An office that knows a block of node 0, under the stamp 1001.
-fn office(rt: &(impl Abort + AllocGlobal)) -> Result<Office, Fail> {
-    let mut office = Office::new(rt.alloc())?;
-    assert!(rt; office.has_stamp_left());
-    let stamp = office.create(BLOCK, &members(rt, &[NodeId(0)]))?;
-    assert_eq!(rt; stamp, Stamp(FIRST_STAMP));
-    Ok(office)
-}
-
-#[test]
-fn a_block_is_written_and_appended_to(rt: HostRuntime) -> Result<(), Fail> {
-    let mut office = office(&rt)?;
-    assert!(rt; office.has_stamp_left());
-    assert_eq!(rt; office.new_stamp(BLOCK), Ok(Stamp(1002)));
-    office.commit(BLOCK, Stamp(1002), &members(&rt, &[NodeId(1)]))?;
-    office.complete(BLOCK, Stamp(1002), 600)?;
-    assert!(rt; office.has_stamp_left());
-    let reopened = Reopened {
-        committed: Stamp(1002),
-        length: 600,
-        new: Stamp(1003),
-    };
-    assert_eq!(rt; office.append(BLOCK), Ok(reopened));
-    assert_eq!(rt; office.committed(OTHER), Stamp(0));
-    Ok(())
-}
-
-#[test]
-fn a_block_is_recovered(rt: HostRuntime) -> Result<(), Fail> {
-    let mut office = office(&rt)?;
-    assert!(rt; office.has_stamp_left());
-    let begun = Begun {
-        id: Stamp(1002),
-        committed: Stamp(1001),
-    };
-    assert_eq!(rt; office.begin_recovery(BLOCK), Ok(begun));
-    office.commit_sync(BLOCK, begun.id, 512, &members(&rt, &[NodeId(0)]))?;
-    assert_eq!(rt; office.committed(BLOCK), Stamp(1002));
-    Ok(())
-}
-
 /// A book that knows a block of node 0, under the stamp 1001.
 fn book(rt: &(impl Abort + AllocGlobal)) -> Result<OfficeBook, Fail> {
     let mut book = OfficeBook::new(rt.alloc())?;
@@ -127,24 +84,9 @@ fn book(rt: &(impl Abort + AllocGlobal)) -> Result<OfficeBook, Fail> {
     Ok(book)
 }
 
-/// One call at a desk.
-fn asked<D: Desk>(mut desk: D, call: &OfficeCall) -> Result<OfficeAnswer, OfficeFault> {
-    desk.ask(call)
-}
-
-#[test]
-fn desks_ask_the_book(rt: HostRuntime) -> Result<(), Fail> {
-    let call = OfficeCall::NewStamp { block: BLOCK };
-    let answer = OfficeAnswer::Stamp(Stamp(1002));
-    assert!(rt; answer.fits(&call));
-    assert!(rt; !OfficeAnswer::Nothing.fits(&call));
-    assert_eq!(rt; asked(book(&rt)?, &call), Ok(answer));
-    Ok(())
-}
-
 /// The next stamp of the block, asked for at this desk.
-fn next_stamp<D: Desk>(desk: D) -> Option<OfficeAnswer> {
-    asked(desk, &OfficeCall::NewStamp { block: BLOCK }).ok()
+fn next_stamp<D: Desk>(mut desk: D) -> Option<OfficeAnswer> {
+    desk.ask(&OfficeCall::NewStamp { block: BLOCK }).ok()
 }
 
 #[test]

@@ -1,9 +1,7 @@
-//! Messages byte by byte and in pieces, by worked examples of their formats.
+//! A packet byte by byte, by a worked example of its format.
 
-use frame_feed::{Feed, FeedFault, Message, SentList};
-use hd_base::{ConnId, Status};
+use frame_feed::{Feed, FeedFault};
 use packet_codec::PacketFault;
-use std::alloc::AllocError;
 use std::process::Abort;
 use std::test::Fail;
 
@@ -51,69 +49,10 @@ fn takes_a_packet_byte_by_byte(rt: HostRuntime) -> Result<(), Fail> {
 }
 
 #[test]
-fn keeps_a_fault(rt: HostRuntime) -> Result<(), Fail> {
-    let mut feed = Feed::new(rt.alloc())?;
-    feed.push(b"\0\0\0\x03\0\x19")?;
-    assert_eq!(rt; feed.next_packet().err(), Some(LENGTH));
-    feed.push(NINE)?;
-    assert_eq!(rt; feed.next_packet().err(), Some(LENGTH));
-    assert_eq!(rt; feed.next_ack().err(), Some(LENGTH));
-    Ok(())
-}
-
-#[test]
-fn takes_each_kind(rt: HostRuntime) -> Result<(), Fail> {
-    let mut feed = Feed::new(rt.alloc())?;
-    feed.push(b"\x04\x08\x02\x10\x00\x04\x08\x00\x12\x00")?;
-    let ack = feed.next_ack()?.ok_or("an ack")?;
-    assert_eq!(rt; (ack.seqno, ack.replies.len()), (1, 1));
-    assert!(rt; feed.next_response()?.is_some());
-    feed.push(b"\x05\x08\x01\x12\x011\x02\x08\x06")?;
-    assert!(rt; feed.next_answer()?.is_some());
-    assert_eq!(rt; feed.next_read_status()?, Some(Status::ChecksumOk));
-    Ok(())
-}
-
-/// Whether a request comes next.
-fn has_request(feed: &mut Feed) -> Result<bool, FeedFault> {
-    Ok(feed.next_op()?.is_some())
-}
-
-/// A request for a block's checksum, in two pieces.
-#[test]
-fn takes_a_request(rt: HostRuntime) -> Result<(), Fail> {
-    let mut feed = Feed::new(rt.alloc())?;
-    feed.push(b"\x00\x1cU!")?;
-    assert!(rt; !has_request(&mut feed)?);
-    assert_eq!(rt; feed.wanted(), 33);
-    feed.push(b"\x0a\x1f\x0a\x1d\x0a\x10BP-1-127.0.0.1-1")?;
-    feed.push(b"\x10\x81\x80\x80\x80\x04\x18\xe9\x07\x20\x00")?;
-    assert!(rt; has_request(&mut feed)?);
-    Ok(())
-}
-
-#[test]
 fn prints_faults(rt: HostRuntime) -> Result<(), Fail> {
     let text = LENGTH.to_string(rt.alloc())?;
     assert_eq!(rt; text.as_str(), "a payload of 3 bytes under a header of 25");
     let text = FeedFault::Memory.to_string(rt.alloc())?;
     assert_eq!(rt; text.as_str(), "out of memory");
-    Ok(())
-}
-
-/// Whether a copy of the message is the reader's SUCCESS.
-fn is_success(message: &Message) -> Result<bool, AllocError> {
-    Ok(matches!(message.duplicate()?, Message::ReadStatus(Status::Success)))
-}
-
-#[test]
-fn keeps_what_was_sent(rt: HostRuntime) -> Result<(), Fail> {
-    let mut sent = SentList::new(rt.alloc());
-    sent.push(ConnId(1), Message::ReadStatus(Status::Success))?;
-    assert_eq!(rt; sent.len(), 1);
-    for (conn, message) in sent.as_slice() {
-        assert_eq!(rt; *conn, ConnId(1));
-        assert!(rt; is_success(message)?);
-    }
     Ok(())
 }

@@ -2,10 +2,6 @@
 #![tactic(auto)]
 
 #[cfg(test)]
-mod alone;
-#[cfg(test)]
-mod chains;
-#[cfg(test)]
 mod failing;
 #[cfg(test)]
 mod helpers;

@@ -73,26 +73,6 @@ pub(crate) fn received(
     into
 }
 
-/// Sends these bytes on the end.
-fn send(rt: &impl Abort, alloc: Global, end: &mut End, text: &[u8]) {
-    end.outward
-        .room(alloc, text.len() as u64)
-        .expect(rt, "memory");
-    end.outward.send(text).expect(rt, "a link");
-}
-
-/// Sends these bytes on the end, and exchanges it.
-pub(crate) fn sent(
-    rt: &impl Abort,
-    alloc: Global,
-    roads: &mut MemRoads,
-    end: &mut End,
-    text: &[u8],
-) {
-    send(rt, alloc, end, text);
-    pass(rt, alloc, roads, end, false);
-}
-
 /// The member of this request at a node, with this book.
 pub(crate) fn placed(
     rt: &impl Abort,

@@ -13,42 +13,34 @@ use packet_responder::{FromBelow, Passed, take_ack};
 use std::alloc::{AllocError, Global};
 use std::test::Fail;
 
-/// The packet of the bytes `123456789`, or the last one behind it.
-fn packet(alloc: Global, last: bool) -> Result<Packet, AllocError> {
-    let (sums, body) = if last {
-        (b"".as_slice(), b"".as_slice())
-    } else {
-        (b"\xe3\x06\x92\x83".as_slice(), b"123456789".as_slice())
-    };
+/// The packet of the bytes `123456789`.
+fn packet(alloc: Global) -> Result<Packet, AllocError> {
     Ok(Packet {
-        offset: if last { 9 } else { 0 },
-        seqno: i64::from(last),
-        last,
+        offset: 0,
+        seqno: 0,
+        last: false,
         sync: false,
-        sums: Bytes::copy_from_slice(alloc, sums)?,
-        body: Bytes::copy_from_slice(alloc, body)?,
+        sums: Bytes::copy_from_slice(alloc, b"\xe3\x06\x92\x83")?,
+        body: Bytes::copy_from_slice(alloc, b"123456789")?,
     })
 }
 
-/// The ack of a packet with two SUCCESS, or one more.
-fn ack(seqno: i64, more: bool) -> Ack
+/// The ack of the packet with two SUCCESS.
+fn ack() -> Ack
     ensures { All IsStatus result.replies }
 {
     let mut replies = Replies::empty();
     replies.push(Status::Success);
     replies.push(Status::Success);
-    if more {
-        replies.push(Status::Success);
-    }
-    Ack { seqno, replies }
+    Ack { seqno: 0, replies }
 }
 
-/// Books the packet, or the last one.
-fn put(alloc: Global, book: &mut Book, last: bool) -> Result<(), Fail> {
+/// Books the packet.
+fn put(alloc: Global, book: &mut Book) -> Result<(), Fail> {
     if book.replica().is_full() {
         return Err(Fail::new("room"));
     }
-    book.packet(CONN, &packet(alloc, last)?)?;
+    book.packet(CONN, &packet(alloc)?)?;
     Ok(())
 }
 
@@ -68,25 +60,6 @@ fn tell(alloc: Global, book: &mut Book, upstream: &mut MemOut) -> Result<Passed,
     Ok(take_ack(alloc, book, CONN, 1, bad, upstream))
 }
 
-/// An ack goes on, and one with a reply too many isn't read.
-#[test]
-fn acks_are_booked_and_go_up(rt: HostRuntime) -> Result<(), Fail> {
-    let alloc = rt.alloc();
-    let mut book = created(&rt, alloc, CONN, Stamp(1001), 512);
-    put(alloc, &mut book, false)?;
-    put(alloc, &mut book, true)?;
-    let (roads, mut end) = dialled(alloc, &[])?;
-    let passed = take(alloc, &mut book, ack(0, false), &mut end.outward);
-    assert_eq!(rt; passed, Passed::Sent(receipt(3)));
-    let passed = take(alloc, &mut book, ack(1, true), &mut end.outward);
-    assert_eq!(rt; passed, Passed::Closed(receipt(4)));
-    assert_eq!(rt;
-        carried(alloc, roads, end)?.as_slice(),
-        b"\x08\x08\0\x10\0\x10\0\x10\0\x06\x08\x02\x10\0\x10\x01".as_slice()
-    );
-    Ok(())
-}
-
 #[test]
 fn a_wrong_sum_is_told_of(rt: HostRuntime) -> Result<(), Fail> {
     let alloc = rt.alloc();
@@ -104,9 +77,9 @@ fn a_wrong_sum_is_told_of(rt: HostRuntime) -> Result<(), Fail> {
 fn an_ack_is_booked_where_the_link_fails(rt: HostRuntime) -> Result<(), Fail> {
     let alloc = rt.alloc();
     let mut book = created(&rt, alloc, CONN, Stamp(1001), 512);
-    put(alloc, &mut book, false)?;
+    put(alloc, &mut book)?;
     let (_roads, mut end) = dialled(alloc, &[3])?;
-    let passed = take(alloc, &mut book, ack(0, false), &mut end.outward);
+    let passed = take(alloc, &mut book, ack(), &mut end.outward);
     assert_eq!(rt; passed, Passed::LinkFailed(receipt(2)));
     assert_eq!(rt; book.replica().acked(), 9);
     Ok(())

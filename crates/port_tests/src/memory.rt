@@ -1,72 +1,14 @@
-//! A short life of each port, with one numbered call after another made to fail.
+//! A short life of shelves and roads in memory.
 
 ghost use Rattle.std.specs.Prelude.{◌<◌, IfSome, IfOk};
 
 use hd_base::{
-    BlockId, Conn, ConnId, Failed, FileError, FileName, Files, Got, LinkError, LinkIn, LinkOut,
-    NodeId, RoadError, Roads, Shelf, Sink, Source, Standing,
+    BlockId, Conn, ConnId, FileError, FileName, Files, Got, LinkError, LinkIn, LinkOut, NodeId,
+    RoadError, Roads, Shelf,
 };
-use mem_ports::{MemRoads, MemShelf, MemSink, MemSource};
+use mem_ports::{MemRoads, MemShelf};
 use std::alloc::{AllocError, Global};
 use std::test::Fail;
-
-/// Reads four times into three bytes.
-fn read_four<S: Source>(source: &mut S) -> [Result<usize, Failed>; 4] {
-    let mut into = [0; 3];
-    let first = source.read(&mut into);
-    let second = source.read(&mut into);
-    let third = source.read(&mut into);
-    let fourth = source.read(&mut into);
-    [first, second, third, fourth]
-}
-
-#[test]
-fn sources_fail_at_each_call(rt: HostRuntime) -> Result<(), Fail> {
-    let table = [
-        [Ok(3), Ok(2), Ok(0), Ok(0)],
-        [Err(Failed), Ok(3), Ok(2), Ok(0)],
-        [Ok(3), Err(Failed), Ok(2), Ok(0)],
-        [Ok(3), Ok(2), Err(Failed), Ok(0)],
-        [Ok(3), Ok(2), Ok(0), Err(Failed)],
-    ];
-    for (number, wanted) in table.iter().enumerate() {
-        let mut source = MemSource::new(rt.alloc(), b"12345", &[number as u64])?;
-        assert_eq!(rt; read_four(&mut source), *wanted, "call {number}");
-    }
-    Ok(())
-}
-
-/// Takes room for all, and writes three times.
-fn write_three<S: Sink>(
-    alloc: Global,
-    sink: &mut S,
-) -> Result<[Result<usize, Failed>; 3], AllocError> {
-    sink.room(alloc, 11)?;
-    let first = sink.write(b"one");
-    let second = sink.write(b"two");
-    let third = sink.write(b"three");
-    Ok([first, second, third])
-}
-
-#[test]
-fn sinks_fail_at_each_call(rt: HostRuntime) -> Result<(), Fail> {
-    let table: [([Result<usize, Failed>; 3], &[u8]); 4] = [
-        ([Ok(3), Ok(3), Ok(5)], b"onetwothree"),
-        ([Err(Failed), Ok(3), Ok(5)], b"twothree"),
-        ([Ok(3), Err(Failed), Ok(5)], b"onethree"),
-        ([Ok(3), Ok(3), Err(Failed)], b"onetwo"),
-    ];
-    for (number, (wanted, left)) in table.iter().enumerate() {
-        let mut sink = MemSink::new(rt.alloc(), &[number as u64])?;
-        assert_eq!(rt;
-            write_three(rt.alloc(), &mut sink)?,
-            *wanted,
-            "call {number}"
-        );
-        assert_eq!(rt; sink.bytes(), *left, "call {number}");
-    }
-    Ok(())
-}
 
 /// Four calls: a file of five bytes.
 fn store<F: Files>(alloc: Global, files: &mut F, name: &FileName) -> Result<u64, FileError> {
@@ -137,47 +79,6 @@ pub(crate) fn look_at<S: Shelf>(alloc: Global, shelf: &mut S) -> Result<(usize, 
     let length = drawer.length(name);
     shelf.give_back(block, drawer);
     Ok((names.len(), length?))
-}
-
-#[test]
-fn drawers_fail_at_each_call(rt: HostRuntime) -> Result<(), Fail> {
-    let name = FileName::new(b"a/blk_7").ok_or("a name")?;
-    let other = FileName::new(b"a/blk_7_1001.meta").ok_or("a name")?;
-    let left = [
-        (0, 0),
-        (0, 0),
-        (0, 0),
-        (1, 0),
-        (1, 5),
-        (1, 5),
-        (1, 5),
-        (1, 0),
-        (1, 0),
-        (1, 0),
-        (1, 0),
-    ];
-    for (number, wanted) in left.iter().enumerate() {
-        let mut shelf = MemShelf::new(rt.alloc(), &[number as u64])?;
-        let answer = use_shelf(rt.alloc(), &mut shelf, BlockId(7), &name, &other);
-        if answer == Err(FileError::Memory) {
-            return Err(AllocError.into());
-        }
-        if number == 0 {
-            assert_eq!(rt; answer, Ok((5, *b"234", 1)));
-        } else {
-            assert_eq!(rt; answer, Err(FileError::Failed), "call {number}");
-        }
-        let listed = look_at(rt.alloc(), &mut shelf);
-        if listed == Err(FileError::Memory) {
-            return Err(AllocError.into());
-        }
-        if number == 1 {
-            assert_eq!(rt; listed, Err(FileError::Failed));
-        } else {
-            assert_eq!(rt; listed, Ok(*wanted), "call {number}");
-        }
-    }
-    Ok(())
 }
 
 /// Stores a file in the drawer of a block.
@@ -251,58 +152,6 @@ fn greet<R: Roads>(alloc: Global, roads: &mut R) -> Result<Conn<R::Inward, R::Ou
         Some(lower) => Ok(lower),
         None => Err(RoadError::NotListening),
     }
-}
-
-/// Five calls: the other end takes the message too.
-fn meet<R: Roads>(alloc: Global, roads: &mut R) -> Result<[Result<Got, LinkError>; 3], RoadError> {
-    let mut lower = greet(alloc, roads)?;
-    roads.exchange(alloc, &mut lower, true)?;
-    roads.hang_up(9869);
-    let first = hear(&mut lower.inward);
-    let second = hear(&mut lower.inward);
-    let third = hear(&mut lower.inward);
-    Ok([first, second, third])
-}
-
-/// What stands on both directions of connection 0.
-fn stand<R: Roads>(roads: &mut R) -> [Standing; 2] {
-    let down = roads.standing(ConnId(0), true);
-    let up = roads.standing(ConnId(0), false);
-    [down, up]
-}
-
-#[test]
-fn roads_fail_at_each_call(rt: HostRuntime) -> Result<(), Fail> {
-    let none = [Standing::Nothing, Standing::Nothing];
-    let sent = [Standing::Piece, Standing::End];
-    let taken = [Standing::End, Standing::End];
-    let (three, one, not_yet) = (Ok(Got::Bytes(3)), Ok(Got::Bytes(1)), Ok(Got::NotYet));
-    let failed = Err(LinkError::Failed);
-    let (ping, nothing): (&[u8], &[u8]) = (b"ping", b"");
-    let table = [
-        (Ok([three, one, not_yet]), taken, ping),
-        (Err(RoadError::Failed), none, nothing),
-        (Err(RoadError::Failed), none, nothing),
-        (Err(RoadError::Failed), none, nothing),
-        (Err(RoadError::Failed), sent, ping),
-        (Err(RoadError::Failed), sent, ping),
-        (Ok([three, failed, one]), taken, ping),
-        (Ok([three, one, failed]), taken, ping),
-    ];
-    for (number, (wanted, left, bytes)) in table.iter().enumerate() {
-        let mut roads = MemRoads::new(rt.alloc(), &[number as u64])?;
-        let answer = meet(rt.alloc(), &mut roads);
-        if answer == Err(RoadError::Memory) {
-            return Err(AllocError.into());
-        }
-        assert_eq!(rt; answer, *wanted, "call {number}");
-        assert_eq!(rt; stand(&mut roads), *left, "call {number}");
-        let down = roads.carried_bytes(rt.alloc(), ConnId(0), true)?;
-        assert_eq!(rt; down.as_slice(), *bytes, "call {number}");
-        let up = roads.carried_bytes(rt.alloc(), ConnId(0), false)?;
-        assert!(rt; up.is_empty(), "call {number}");
-    }
-    Ok(())
 }
 
 /// Receives, shuts, sends a message that is lost, and brings the end back.

@@ -9,8 +9,6 @@ const BLOCK: BlockId = BlockId(7);
 
 const CONN: ConnId = ConnId(1);
 
-const OTHER: ConnId = ConnId(2);
-
 /// Takes an event whose numbers fit, where there is room.
 fn step(rt: &impl Abort, replica: &mut Replica, event: Event) -> Answer {
     assert!(rt; event.is_lawful());
@@ -92,17 +90,6 @@ fn ack(seqno: i64) -> Event {
     }
 }
 
-/// The recovery of a stream by another connection.
-fn recovery(named: u64, new: u64, min: u64, max: u64) -> Event {
-    Event::StreamRecovery {
-        conn: OTHER,
-        named: Stamp(named),
-        new: Stamp(new),
-        min,
-        max,
-    }
-}
-
 /// The beginning of a block recovery.
 fn init(named: u64, recovery: u64) -> Event {
     Event::Init {
@@ -155,28 +142,6 @@ fn wanted(
 }
 
 #[test]
-fn a_stream_is_recovered(rt: HostRuntime) -> Result<(), Fail> {
-    let sent = [
-        create(),
-        packet(0, 0, 512, 1),
-        packet(1, 512, 488, 1),
-        ack(0),
-    ];
-    let mut replica = after(&rt, &sent)?;
-    let events = [
-        (recovery(1001, 1002, 512, 1000), Answer::Done),
-        (recovery(1001, 1002, 512, 1000), Answer::Done),
-        (packet(1, 512, 488, 1), Answer::Refused(Refusal::NotWriter)),
-    ];
-    play(&rt, &mut replica, &events);
-    let cut = wanted(ReplicaState::Rbw, 1002, 512, 512, Some(OTHER));
-    assert_eq!(rt; shown(&replica), cut);
-    assert_eq!(rt; replica.acked(), 512);
-    assert_eq!(rt; replica.oldest(), None);
-    Ok(())
-}
-
-#[test]
 fn a_block_is_recovered(rt: HostRuntime) -> Result<(), Fail> {
     let sent = [create(), packet(0, 0, 300, 1), ack(0), packet(1, 0, 900, 2)];
     let mut replica = after(&rt, &sent)?;
@@ -200,47 +165,6 @@ fn a_block_is_recovered(rt: HostRuntime) -> Result<(), Fail> {
     play(&rt, &mut replica, &events);
     let closed = wanted(ReplicaState::Finalized, 1006, 700, 700, None);
     assert_eq!(rt; shown(&replica), closed);
-    Ok(())
-}
-
-/// The most bytes that a block may have.
-const WHOLE: u64 = 134_217_728;
-
-#[test]
-fn appends_and_closes_are_recovered(rt: HostRuntime) -> Result<(), Fail> {
-    let state = ReplicaState::Finalized;
-    let mut replica = Replica::found(
-        rt.alloc(),
-        BLOCK,
-        state,
-        Stamp(1001),
-        SumRule::default(),
-        WHOLE,
-    )?;
-    let append = Event::AppendRecovery {
-        conn: CONN,
-        named: Stamp(1001),
-        new: Stamp(1003),
-        length: WHOLE,
-    };
-    let close = Event::CloseRecovery {
-        named: Stamp(1002),
-        new: Stamp(1004),
-        length: WHOLE,
-    };
-    let gone = Answer::Refused(Refusal::NotWriter);
-    let events = [
-        (append, Answer::Done),
-        (Event::Ended { conn: OTHER }, Answer::Done),
-        (packet(-1, 0, 0, 0), Answer::Done),
-        (Event::Ended { conn: CONN }, Answer::Done),
-        (packet(0, 600, 0, 0), gone),
-        (close, Answer::Done),
-    ];
-    play(&rt, &mut replica, &events);
-    assert_eq!(rt; shown(&replica), wanted(state, 1004, WHOLE, WHOLE, None));
-    assert_eq!(rt; replica.block(), BLOCK);
-    assert_eq!(rt; replica.original(), Some(state));
     Ok(())
 }
 
