@@ -1,5 +1,7 @@
 //! The events of a reader, and of the node that serves it, over memory.
 
+ghost use Rattle.std.specs.Prelude.{◌≡◌, true, is_some};
+
 use crate::helpers::{BLOCK, Book, POOL, bytes_of, listened, read, written};
 use hd_base::NodeId;
 use mem_ports::{MemIn, MemOut, MemRoads};
@@ -12,13 +14,16 @@ use visible_read::{Reading, fits_request};
 /// A node's side of a reader's connection.
 type Server = ReadServer<MemIn, MemOut>;
 
-/// What is left of a read that goes on, once it has taken what stands next.
+/// What is left of a read that goes on, once it has taken what stands next, and goes on still.
 fn heard(
     rt: &impl Abort,
     alloc: Global,
     roads: &mut MemRoads,
     reading: Reading<MemIn, MemOut>,
-) -> Reading<MemIn, MemOut> {
+) -> Reading<MemIn, MemOut>
+    requires { is_some reading.talk.core ≡ true }
+    ensures { is_some result.talk.core ≡ true }
+{
     assert!(rt; roads.knows(reading.conn()));
     let Ok(Heard::Reading(reading)) = hear(alloc, roads, reading) else {
         panic!(rt; "the read is over");
