@@ -1,5 +1,5 @@
 -- A read that is served takes what stands next, and ends.
-use Rattle.std.proofs.Common.{◌≡◌, ℕ, Bool, true, false, List, Option, Some, None, Result, Ok, Err, refl, sym, ap, ◌∙◌, subst}
+use Rattle.std.proofs.Common.{◌≡◌, ℕ, Bool, true, false, List, Option, Some, None, IfErr, Result, Ok, Err, refl, sym, ap, ◌∙◌, subst}
 use Rattle.hd_base.specs.declared.files.Files as files
 use Rattle.hd_base.specs.declared.links.LinkIn as link_in
 use Rattle.hd_base.specs.declared.links.LinkOut as link_out
@@ -114,6 +114,10 @@ module _ {F R I O : Type 0} (f : files.Ghosts F) (r : roads.Ghosts R I O) (i : l
   pub followed_conn : (old new : ReadServer I O) (left : Result (Left I O) ServeFault) (result : Result ServerEvent ServeFault) → IsFollowed old new left result → new.conn ≡ old.conn
   followed_conn old new (Ok left) result h = ap (λ (s : ReadServer I O). s.conn) h.0
   followed_conn old new (Err why) result h = ap (λ (s : ReadServer I O). s.conn) h.0
+
+  pub followed_err : (old new : ReadServer I O) (left : Result (Left I O) ServeFault) (result : Result ServerEvent ServeFault) → IsFollowed old new left result → IfErr result (λ why. new ≡ old)
+  followed_err old new (Ok left) result h = subst (λ (x : Result ServerEvent ServeFault). IfErr x (λ why. new ≡ old)) (sym h.1) tt
+  followed_err old new (Err why) result h = subst (λ (x : Result ServerEvent ServeFault). IfErr x (λ why. new ≡ old)) (sym h.1) h.0
 
   pub down_shows : (blocks : List BlockId) (old mid new : ReadServer I O) (e : ReadEnd I O) (books books' : List (BookState F)) (road road' : R) (left : Result (Left I O) ServeFault) (result : Result ServerEvent ServeFault) → e ≡ old.end → mid.conn ≡ old.conn
       → EndShowsDown f r i o blocks e books books' road road' left → IsFollowed mid new left result → DownShows f r i o blocks old new books books' road road' result

@@ -521,6 +521,10 @@ module _ {F R I O : Type 0} (f : files.Ghosts F) (r : roads.Ghosts R I O) (i : l
   followed_conn old new (Ok left) result h = ap (λ (s : RecoveryServer I O). s.conn) h.0
   followed_conn old new (Err why) result h = ap (λ (s : RecoveryServer I O). s.conn) h.0
 
+  pub followed_err : (old new : RecoveryServer I O) (left : Result (Answered I O) RecoveryFault) (result : Result ServerEvent RecoveryFault) → IsFollowed old new left result → IfErr result (λ why. new ≡ old)
+  followed_err old new (Ok left) result h = subst (λ (x : Result ServerEvent RecoveryFault). IfErr x (λ why. new ≡ old)) (sym h.1) tt
+  followed_err old new (Err why) result h = subst (λ (x : Result ServerEvent RecoveryFault). IfErr x (λ why. new ≡ old)) (sym h.1) h.0
+
   pub down_shows : (blocks : List BlockId) (old mid new : RecoveryServer I O) (e : AnswerEnd I O) (books books' : List (BookState F)) (road road' : R) (left : Result (Answered I O) RecoveryFault) (result : Result ServerEvent RecoveryFault) → e ≡ old.end → mid.conn ≡ old.conn
       → EndShowsDown f r i o blocks e books books' road road' left → IsFollowed mid new left result → DownShows f r i o blocks old new books books' road road' result
   down_shows blocks old mid new e books books' road road' left result is conn shows follows = record {

@@ -80,6 +80,11 @@ abbrev pub IsFollowed : {I O : Type 0} → RecoveryServer I O → RecoveryServer
 IsFollowed old new (Ok left) result = (new ≡ record old { end = left.end }) × (result ≡ Ok left.event)
 IsFollowed old new (Err why) result = (new ≡ old) × (result ≡ Err why)
 
+-- After a fault there are no further events.
+abbrev pub HasEnded : {I O : Type 0} → RecoveryServer I O → RecoveryServer I O → Result ServerEvent RecoveryFault →
+    Type 0
+HasEnded old new result = IfErr result (λ why. new ≡ record old { end = answer_end.Ended })
+
 -- THE FIRST REQUEST
 
 -- A request of a recovery was booked and answered, with the book of its block.

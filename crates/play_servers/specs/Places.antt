@@ -1,5 +1,5 @@
 -- The books of reads among those of a node, and what is left of a read.
-use Rattle.std.specs.Prelude.{◌≡◌, ◌⊎◌, ◌==◌, ℕ, List, position, slice_get, slice_set, Option, Some, None, Result, Ok, Err}
+use Rattle.std.specs.Prelude.{◌≡◌, ◌⊎◌, ◌==◌, ℕ, List, position, slice_get, slice_set, Option, Some, None, IfErr, Result, Ok, Err}
 use Rattle.hd_base.specs.declared.files.Files as files
 use Rattle.hd_base.specs.declared.links.LinkIn as link_in
 use Rattle.hd_base.specs.declared.links.LinkOut as link_out
@@ -20,6 +20,7 @@ use Rattle.serving_events.specs.Drawn.{block_of}
 use Rattle.serving_events.specs.Packets.{PacketShows}
 use Rattle.serving_events.specs.Requests.{RequestShows}
 use Rattle.play_servers.specs.declared.servers.Left.{Left}
+use Rattle.play_servers.specs.declared.servers.ReadEnd.{ReadEnd}
 use Rattle.play_servers.specs.declared.servers.ReadEnd.TheVariants as read_end
 use Rattle.play_servers.specs.declared.servers.ReadServer.{ReadServer}
 use Rattle.play_servers.specs.declared.servers.ServerEvent.{ServerEvent}
@@ -57,6 +58,24 @@ abbrev pub IsFollowed : {I O : Type 0} → ReadServer I O → ReadServer I O →
     Result ServerEvent ServeFault → Type 0
 IsFollowed old new (Ok left) result = (new ≡ record old { end = left.end }) × (result ≡ Ok left.event)
 IsFollowed old new (Err why) result = (new ≡ old) × (result ≡ Err why)
+
+-- After a fault there are no further events.
+abbrev pub HasEnded : {I O : Type 0} → ReadServer I O → ReadServer I O → Result ServerEvent ServeFault → Type 0
+HasEnded old new result = IfErr result (λ why. new ≡ record old { end = read_end.Ended })
+
+-- Nothing is done.
+pub record Rests {F R I O : Type 0} (old new : ReadServer I O) (books books' : List (BookState F)) (road road' : R)
+    (result : Result ServerEvent ServeFault) : Type 0 where
+  pub server_same : new ≡ old
+  pub books_same : books' ≡ books
+  pub roads_same : road' ≡ road
+  pub is_done : result ≡ Ok event.Done
+
+-- So it is where no read is served, and a message is waited for.
+abbrev pub RestsUnlessServing : {F R I O : Type 0} → ReadEnd I O → ReadServer I O → ReadServer I O →
+    List (BookState F) → List (BookState F) → R → R → Result ServerEvent ServeFault → Type 0
+RestsUnlessServing (read_end.Serving read place) old new books books' road road' result = Unit {0}
+RestsUnlessServing other old new books books' road road' result = Rests old new books books' road road' result
 
 -- REQUESTS
 

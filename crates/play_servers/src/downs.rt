@@ -3,6 +3,7 @@
 ghost use Rattle.std.specs.Prelude.{IfOk};
 ghost use Rattle.member_events.specs.Roads.{RoadsPass};
 ghost use Rattle.play_servers.specs.Known.{EndIsKnown, LeftIsKnown};
+ghost use Rattle.play_servers.specs.Places.{HasEnded};
 ghost use Rattle.play_servers.specs.Events.{DownShows, EndShowsDown};
 
 use crate::requests::take_first;
@@ -29,6 +30,7 @@ impl<I: LinkIn, O: LinkOut> ReadServer<I, O> {
         requires { EndIsKnown (R.plain roads.old) self.old.end }
         ensures shows { DownShows F.Files R.Roads I.LinkIn O.LinkOut blocks.now
             self.old self.new books.old books.new roads.old roads.new result }
+        ensures failed { HasEnded self.old self.new result }
         ensures pass { RoadsPass R.Roads roads.old roads.new }
         ensures known { EndIsKnown (R.plain roads.new) self.new.end }
     {

@@ -4,7 +4,7 @@ ghost use Rattle.std.specs.Prelude.{IfOk};
 ghost use Rattle.hd_base.specs.Ends.{IsKnown};
 ghost use Rattle.member_events.specs.Roads.{RoadsPass};
 ghost use Rattle.play_servers.specs.Known.{EndIsKnown, LeftIsKnown};
-ghost use Rattle.play_servers.specs.Places.{Sends, IsFollowed};
+ghost use Rattle.play_servers.specs.Places.{Sends, IsFollowed, HasEnded, RestsUnlessServing};
 ghost use Rattle.play_servers.specs.Events.{ReadyShows};
 
 use crate::servers::{Left, ReadEnd, ReadServer, ServerEvent};
@@ -27,6 +27,9 @@ impl<I: LinkIn, O: LinkOut> ReadServer<I, O> {
     ) -> Result<ServerEvent, ServeFault>
         requires { EndIsKnown (R.plain roads.old) self.old.end }
         ensures shows { ReadyShows F.Files R.Roads I.LinkIn O.LinkOut
+            self.old self.new books.old books.new roads.old roads.new result }
+        ensures failed { HasEnded self.old self.new result }
+        ensures rests { RestsUnlessServing self.old.end
             self.old self.new books.old books.new roads.old roads.new result }
         ensures pass { RoadsPass R.Roads roads.old roads.new }
         ensures known { EndIsKnown (R.plain roads.new) self.new.end }

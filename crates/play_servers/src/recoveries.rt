@@ -13,6 +13,7 @@ ghost use Rattle.play_servers.specs.Answering.{
   Answers,
   GoesOn,
   IsFollowed,
+  HasEnded,
 };
 ghost use Rattle.play_servers.specs.Recoveries.{IdleShows, EndShowsDown, DownShows};
 
@@ -82,6 +83,7 @@ impl<I: LinkIn, O: LinkOut> RecoveryServer<I, O> {
         requires { AnswerIsKnown (R.plain roads.old) self.old.end }
         ensures shows { DownShows F.Files R.Roads I.LinkIn O.LinkOut blocks.now
             self.old self.new books.old books.new roads.old roads.new result }
+        ensures failed { HasEnded self.old self.new result }
         ensures pass { RoadsPass R.Roads roads.old roads.new }
         ensures known { AnswerIsKnown (R.plain roads.new) self.new.end }
     {

@@ -3,6 +3,7 @@ use Rattle.std.proofs.Common.{Ok, refl, subst}
 use Rattle.play_servers.specs.declared.servers.ReadEnd.TheVariants as read_end
 use Rattle.play_servers.specs.declared.servers.ServerEvent.TheVariants as server_event
 use Rattle.play_servers.specs.Events.{EndShowsReady, left_as}
+use Rattle.play_servers.proofs.DownEvents.{followed_err}
 use Rattle.play_servers.proofs.PacketEvents.{serving_ready, idle_ready, ready_shows}
 use Rattle.play_servers.proofs.servers.ReadServer.ready.Goals as goal
 
@@ -21,3 +22,8 @@ returns-in-Idle-clause-shows g c =
       shows = subst (λ e. EndShowsReady g.F.Files g.R.Roads g.I.LinkIn g.O.LinkOut e c.args.books.now c.args.books.now c.args.roads.now c.args.roads.now kept) c.in-Idle.ensures.value
           (idle_ready g.F.Files g.R.Roads g.I.LinkIn g.O.LinkOut c.in-Idle.end c.args.books.now c.args.books.now c.args.roads.now c.args.roads.now kept);
     }
+
+pub returns-in-Serving-clause-failed : goal.returns-in-Serving-clause-failed
+returns-in-Serving-clause-failed g c =
+    let kept = followed_err g.F.Files g.R.Roads g.I.LinkIn g.O.LinkOut _ c.follow.new.self c.send-left.result c.follow.result c.follow.ensures in
+    rw c.in-Serving.ensures.after at kept
