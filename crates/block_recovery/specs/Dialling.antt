@@ -1,6 +1,6 @@
 -- How a member is dialled.
 use Rattle.std.specs.Prelude.{◌≡◌, ℕ, ◌+◌, nat_le, if◌then◌else◌, Bool, true, false, List, All, Option, Some, None}
-use Rattle.std.specs.Prelude.{Result, Ok, Err}
+use Rattle.std.specs.Prelude.{IfSome, Result, Ok, Err}
 use Rattle.std.specs.declared.alloc.AllocError.{AllocError}
 use Rattle.hd_base.specs.Channels.{Plain}
 use Rattle.hd_base.specs.Ends.{IsKnown}
@@ -55,10 +55,11 @@ SameEnd old new = conn_of new ≡ conn_of old
 abbrev pub KeepsEnds : {I O : Type 0} → List (Seat I O) → List (Seat I O) → Type 0
 KeepsEnds old new = (plain : Option Plain) → All (LinkIsKnown plain) old → All (LinkIsKnown plain) new
 
--- The end of a dial that was answered; nothing was sent or heard on it.
+-- The end of a dial that was answered, at a port that is listened on; nothing was sent or heard on it.
 pub record IsLink {R I O : Type 0} (r : roads.Ghosts R I O) (i : link_in.Ghosts I) (o : link_out.Ghosts O) (port : ℕ)
     (old new : R) (link : Link I O) : Type 0 where
   pub dialled : IsDialled r i o port old new link.end
+  pub listens : IfSome (r.plain old) (λ p. p.listening port ≡ true)
   pub incoming : link.incoming ≡ nothing_received
   pub asked : link.asked ≡ false
   pub failed : link.failed ≡ false

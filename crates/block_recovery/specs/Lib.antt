@@ -5,6 +5,7 @@ pub mod Dialling
 pub mod Actions
 pub mod Requests
 pub mod Steps
+pub mod Beginning
 pub mod Members
 pub mod Driving
 pub mod Exchanging

@@ -38,7 +38,7 @@ pub(crate) fn dial<R: Roads>(
 }
 
 /// A node's port, `None` where its number is too great for one.
-fn dial_port(node: NodeId) -> Option<u16>
+pub(crate) fn dial_port(node: NodeId) -> Option<u16>
     ensures { result ≡ dial_port node }
 {
     u16::try_from(u32::from(FIRST_PORT).saturating_add(node.0)).ok()

@@ -3,6 +3,7 @@
 #![tactic(auto)]
 
 mod actions;
+mod beginning;
 mod dialling;
 mod driving;
 mod exchanging;

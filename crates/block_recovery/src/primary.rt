@@ -229,7 +229,10 @@ fn reach_all<R: Roads>(
 }
 
 /// Which of the dials were answered.
-fn answered<I: Drop, O: Drop>(alloc: Global, links: &[Seat<I, O>]) -> Result<Vec<bool>, AllocError>
+pub(crate) fn answered<I: Drop, O: Drop>(
+    alloc: Global,
+    links: &[Seat<I, O>],
+) -> Result<Vec<bool>, AllocError>
     ensures { IfOk result (λ answered. answered.items ≡ map is_open links.now) }
 {
     links.iter().map(|link| link.is_open()).collect(alloc)
