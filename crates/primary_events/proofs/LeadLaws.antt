@@ -1,6 +1,6 @@
 -- A primary's own step, and the world after it.
 use Rattle.std.proofs.Common.{◌≡◌, ℕ, Bool, true, false, if◌then◌else◌, List, [], ◌∷◌, slice_get, Option, Some, None, Result, Ok, Err, ◌⊎◌, inl, inr, refl, sym, ap, ◌∙◌, subst}
-use Rattle.std.specs.Prelude.{◌≤◌, length, map, not, option_map}
+use Rattle.std.specs.Prelude.{◌≤◌, length, map, option_map}
 use Rattle.std.specs.declared.alloc.AllocError.{AllocError}
 use Rattle.std.specs.List.{list_any}
 use Rattle.hd_base.specs.Results.{Gives}
@@ -23,9 +23,7 @@ use Rattle.name_core.specs.declared.calls.OfficeCall.TheVariants as call
 use Rattle.name_core.specs.declared.choice.ChooseFault.{ChooseFault}
 use Rattle.name_core.specs.declared.choice.Chosen.{Chosen}
 use Rattle.name_core.specs.declared.desks.Desk as desks
-use Rattle.name_core.specs.declared.faults.OfficeFault.{OfficeFault}
 use Rattle.name_core.specs.declared.faults.OfficeFault.TheVariants as office_fault
-use Rattle.name_core.specs.Books.{is_entry, is_memory}
 use Rattle.name_core.specs.Choice.{choice}
 use Rattle.name_core.specs.Desks.{AnswersAsOffice, office_after_answer}
 use Rattle.name_core.specs.Offices.{OfficeState, office_after, answer_to}
@@ -64,29 +62,10 @@ use Rattle.primary_events.specs.Updating.{IsDone, Follows}
 use Rattle.primary_events.specs.Showing.{IsShut, PlaceShows, PrimaryStands}
 use Rattle.primary_events.proofs.GivingUpLaws.{true_false, AllShut, gives_all}
 use Rattle.primary_events.proofs.HearLaws.{place_stays, primary_put}
+use Rattle.primary_events.proofs.OfficeLaws.{HasAnswered, answered_or}
 use Rattle.primary_events.proofs.PassLaws.{lead_passes}
 use Rattle.primary_events.proofs.ShutLemmas.{apply_stays}
 use Rattle.primary_events.proofs.UpdateLaws.{office_after_event, request_sent, same_request, moved_ends}
-
--- THE OFFICE
-
--- The office has answered so, and its book has the call.
-record Answered (said x : Told) : Type 0 where
-  entry : is_entry said ≡ true
-  is : said ≡ x
-
-fault_or : (e : OfficeFault) → (e ≡ office_fault.Memory) ⊎ (not (is_memory e) ≡ true)
-fault_or office_fault.Memory = inl refl
-fault_or other = inr refl
-
-refused : (e : OfficeFault) (x : Told) → ◌≡◌ {A = Told} (Err e) x → (e ≡ office_fault.Memory) ⊎ (not (is_memory e) ≡ true) → (◌≡◌ {A = Told} (Err e) (Err office_fault.Memory)) ⊎ Answered (Err e) x
-refused e x is (inl m) = inl (ap Err m)
-refused e x is (inr entry) = inr (record { entry = entry; is = is })
-
-said_or : (said x : Told) → Gives office_fault.Memory said x → (said ≡ Err office_fault.Memory) ⊎ Answered said x
-said_or (Ok a) x g = inr (record { entry = refl; is = g })
-said_or (Err e) x (inl is) = inl (ap Err is)
-said_or (Err e) x (inr is) = refused e x is (fault_or e)
 
 -- ITS OWN STEP
 
@@ -290,7 +269,7 @@ module _ {D R I O : Type 0} (d : desks.Ghosts D) (r : roads.Ghosts R I O) (i : l
         gives : Gives office_fault.Memory x.said told
         gives = subst (λ (q : OfficeCall). Gives office_fault.Memory x.said (answer_to w.office q)) call_is (subst (λ (z : Option OfficeState). AnswersAsOffice z (sync_call core' c) x.said) at x.asks.answers)
 
-        by_said : (x.said ≡ Err office_fault.Memory) ⊎ Answered x.said told → Ends v end
+        by_said : (x.said ≡ Err office_fault.Memory) ⊎ HasAnswered x.said told → Ends v end
         by_said (inl m) = wanted v end (x.ends.1 ∙ ap (λ (s : Told). step.Ended (end_with core' c s)) m)
         by_said (inr a) = finish v end (x.ends.1 ∙ ap step.Ended (same_end_with l.state core' c x.said keeps ∙ ap (end_with l.state c) a.is))
             (by (gives_all r i o w1 net number l1 end e2 old.links.items new.links.items road road' can.distinct places_there roads_there out2 ((sends w1 number l1).ends can.distinct end) x.ends.0))
@@ -308,7 +287,7 @@ module _ {D R I O : Type 0} (d : desks.Ghosts D) (r : roads.Ghosts R I O) (i : l
             })
 
         commits_so : Ends v end
-        commits_so = by_said (said_or x.said told gives)
+        commits_so = by_said (answered_or x.said told gives)
 
     -- NOTHING
 

@@ -4,6 +4,7 @@ pub mod HearSteps
 pub mod HearLaws
 pub mod CanHearLaws
 pub mod GivingUpLaws
+pub mod OfficeLaws
 pub mod UpdateLemmas
 pub mod SendLaws
 pub mod FlushLaws
@@ -11,3 +12,12 @@ pub mod RisenLaws
 pub mod UpdateLaws
 pub mod PassLaws
 pub mod LeadLaws
+pub mod NumberLemmas
+pub mod DialLaws
+pub mod AcceptLaws
+pub mod RefusalLaws
+pub mod BeginLaws
+pub mod BegunLaws
+pub mod BeginPassLaws
+pub mod GrantLaws
+pub mod BeginShowLaws

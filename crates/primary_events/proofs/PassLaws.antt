@@ -44,7 +44,7 @@ module _ {D R I O : Type 0} (d : desks.Ghosts D) (r : roads.Ghosts R I O) (i : l
   all_settle standings (suc k) a b q =
       pass_on r i o a.road q.0.road b.road (all_settle standings k a q.0 q.1.0) (settles (keeps_at standings k) q.1.1.before q.1.1.after q.0.road b.road q.1.1.is)
 
-  settled : (standings : List Standing) (links links' : List (Seat I O)) (road road' : R) → SettlesAll r i o standings links links' road road' → RoadsPass r road road'
+  pub settled : (standings : List Standing) (links links' : List (Seat I O)) (road road' : R) → SettlesAll r i o standings links links' road road' → RoadsPass r road road'
   settled standings links links' road road' s = all_settle standings (length links) (record { links = links; road = road }) (record { links = links'; road = road' }) s
 
   updated : (core : PrimaryState) (links links' : List (Seat I O)) (road road' : R) (sending : Result (Unit {0}) AllocError) (did : PrimaryStep) → UpdatesEnd r i o core links links' road road' sending did → RoadsPass r road road'

@@ -15,7 +15,6 @@ use Rattle.block_recovery.specs.declared.links.Seat.{Seat}
 use Rattle.block_recovery.specs.declared.links.Seat.TheVariants as seat
 use Rattle.block_recovery.specs.declared.primary.Primary as running
 use Rattle.block_recovery.specs.declared.primary.PrimaryStep.{PrimaryStep}
-use Rattle.block_recovery.specs.declared.primary.PrimaryStep.TheVariants as step
 use Rattle.block_recovery.specs.Actions.{Held, SendsIf, SettlesAll, keeps_as, keeps_at, is_due}
 use Rattle.block_recovery.specs.Dialling.{is_lost, conn_of}
 use Rattle.block_recovery.specs.Requests.{SendsRequest}
@@ -66,7 +65,7 @@ true_false h = cc
 
 -- PLACES
 
-within_some : {A : Type 0} (xs : List A) (j : ℕ) → j < length xs → (a : A) × (slice_get xs j ≡ Some a)
+pub within_some : {A : Type 0} (xs : List A) (j : ℕ) → j < length xs → (a : A) × (slice_get xs j ≡ Some a)
 within_some [] j h = absurd (omega (arith, h))
 within_some (x ∷ xs) zero h = (x, refl)
 within_some (x ∷ xs) (suc j) h = within_some xs j (omega (arith, h))

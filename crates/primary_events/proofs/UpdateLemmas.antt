@@ -195,13 +195,13 @@ has_chosen p c = by (waits p.standings) where
 -- ROWS
 
 -- without dials no request is sent
-no_request : (next c : ℕ) → listed (option_map (λ (d : Dial). d.request) (dial_at next [] c)) ≡ []
+pub no_request : (next c : ℕ) → listed (option_map (λ (d : Dial). d.request) (dial_at next [] c)) ≡ []
 no_request next c = nothing_at (nat_le next c) (c - next) where
   nothing_at : (b : Bool) (n : ℕ) → listed (option_map (λ (d : Dial). d.request) (if b then slice_get [] n else None)) ≡ []
   nothing_at true n = refl
   nothing_at false n = refl
 
-nothing_more : (r : Row) → sends [] r ≡ r
+pub nothing_more : (r : Row) → sends [] r ≡ r
 nothing_more r = ap (λ (s : List Message). record r { sent = s }) (append-nil r.sent)
 
 module _ (w : World) (number : ℕ) (l : Leading) (p : PrimaryState) (c : Chosen) where
@@ -240,3 +240,7 @@ spelled_few r h =
 -- An UPDATE that is spelled as it is written may be written.
 pub update_encodable : (p : PrimaryState) (bytes : ℕ) → SpellsText (request (op.Recovery (request_of p kind.Update bytes))) → IsEncodable (op.Recovery (request_of p kind.Update bytes))
 update_encodable p bytes h = record { within_limit = spelled_few (request_of p kind.Update bytes) h; step = (tt, refl) }
+
+-- So may an INIT.
+pub init_encodable : (p : PrimaryState) → SpellsText (request (op.Recovery (request_of p kind.Init 0))) → IsEncodable (op.Recovery (request_of p kind.Init 0))
+init_encodable p h = record { within_limit = spelled_few (request_of p kind.Init 0) h; step = (refl, refl) }

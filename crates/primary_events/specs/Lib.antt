@@ -3,3 +3,4 @@ pub mod Showing
 pub mod Hearing
 pub mod Updating
 pub mod Leading
+pub mod Beginning

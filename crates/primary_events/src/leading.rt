@@ -88,7 +88,7 @@ fn stepped<I: LinkIn, O: LinkOut, D: Desk, R: Roads<Inward = I, Outward = O>>(
 }
 
 /// How the step ends, by what was done, and by whether the end of a connection is lost.
-fn led_as(step: PrimaryStep, lost: bool) -> Result<PrimaryStep, PrimaryFault>
+pub(crate) fn led_as(step: PrimaryStep, lost: bool) -> Result<PrimaryStep, PrimaryFault>
     ensures { result ≡ led_as step lost }
 {
     if lost {

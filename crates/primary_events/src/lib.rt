@@ -2,12 +2,14 @@
 //! on roads that show it, to what shows the world after the event.
 #![tactic(auto)]
 
+mod beginning;
 mod faults;
 mod hearing;
 mod laws;
 mod leading;
 mod updating;
 
+pub use beginning::{PrimaryBegun, begin};
 pub use faults::PrimaryFault;
 pub use hearing::hear;
 pub use laws::{primaries_can_hear, primaries_can_lead};

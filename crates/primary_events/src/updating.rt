@@ -36,7 +36,7 @@ pub(crate) fn followed<I: LinkIn, O: LinkOut, R: Roads<Inward = I, Outward = O>>
 }
 
 /// Exchanges all ends, where no link failed on which the UPDATE was sent.
-fn flushed<I: LinkIn, O: LinkOut, R: Roads<Inward = I, Outward = O>>(
+pub(crate) fn flushed<I: LinkIn, O: LinkOut, R: Roads<Inward = I, Outward = O>>(
     alloc: Global,
     roads: &mut R,
     primary: &mut Primary<I, O>,

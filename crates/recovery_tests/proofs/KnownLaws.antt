@@ -1,5 +1,5 @@
 -- Roads that know what they knew know all connections of a primary as before.
-use Rattle.std.proofs.Common.{◌<◌, List, length, get_or, Option, All}
+use Rattle.std.proofs.Common.{List, get_or, Option, All}
 use Rattle.hd_base.specs.Channels.{Plain}
 use Rattle.block_recovery.specs.Dialling.{LinkIsKnown, KeepsKnown}
 use Rattle.block_recovery.specs.declared.links.Seat.{Seat}

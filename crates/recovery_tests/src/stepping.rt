@@ -3,7 +3,7 @@
 ghost use Rattle.block_recovery.specs.Dialling.{KeepsKnown};
 
 use crate::recovering::{BLOCK, is_done, member};
-use crate::roads::{accepted, pass, send};
+use crate::roads::{End, accepted, pass, send};
 use crate::serving::absent;
 use block_recovery::{
     Primary, PrimaryStep, RecoveryCame, RecoveryServed, RecoveryTold, next_recovery, serve_recovery,
@@ -12,7 +12,7 @@ use hd_base::{ConnId, NodeId, Roads, Stamp};
 use link_messages::Incoming;
 use mem_ports::{MemIn, MemOut, MemRoads};
 use name_core::OfficeBook;
-use primary_events::{hear, lead};
+use primary_events::{PrimaryBegun, PrimaryFault, begin, hear, lead};
 use recovery_core::Recovered;
 use std::alloc::Global;
 use std::process::Abort;
@@ -77,11 +77,11 @@ fn the_member_that_was_updated_is_committed(rt: HostRuntime) {
     assert!(rt; !primary.has_lost(0));
 }
 
-/// The node accepts the dial at this port, takes the request, and answers for a replica that is absent.
-fn serve(rt: &impl Abort, alloc: Global, roads: &mut MemRoads, port: u16)
+/// The node takes the request at this lower end, and answers for a replica that is absent.
+fn serve(rt: &impl Abort, alloc: Global, roads: &mut MemRoads, end: End)
     ensures { KeepsKnown (⟦<MemRoads as Roads>⟧.plain roads.old) (⟦<MemRoads as Roads>⟧.plain roads.new) }
 {
-    let mut end = accepted(rt, alloc, roads, port);
+    let mut end = end;
     pass(rt, alloc, roads, &mut end, true);
     let mut incoming = Incoming::new(alloc).expect(rt, "memory");
     let RecoveryCame::Asked(op) = next_recovery(&mut incoming, &mut end) else {
@@ -108,7 +108,8 @@ fn a_member_without_a_replica_is_heard(rt: HostRuntime) {
     primary
         .exchange(alloc, &mut roads, None)
         .expect(&rt, "an exchange");
-    serve(&rt, alloc, &mut roads, port);
+    let end = accepted(&rt, alloc, &mut roads, port);
+    serve(&rt, alloc, &mut roads, end);
     primary
         .exchange(alloc, &mut roads, CONN)
         .expect(&rt, "an exchange");
@@ -118,22 +119,30 @@ fn a_member_without_a_replica_is_heard(rt: HostRuntime) {
     assert!(rt; matches!(ended, PrimaryStep::Ended(Recovered::Nothing)));
 }
 
+/// The lower end of the connection to the one member, of a primary that leads.
+fn lower_of(rt: &impl Abort, begun: Result<PrimaryBegun<MemIn, MemOut>, PrimaryFault>) -> End {
+    let Ok(PrimaryBegun::Leads(lowers)) = begun else {
+        panic!(rt; "it leads")
+    };
+    let mut lowers = lowers;
+    match lowers.pop() {
+        Some(Some(end)) => end,
+        _ => panic!(rt; "a lower end"),
+    }
+}
+
 #[test]
 fn a_member_is_heard_in_a_play(rt: HostRuntime) {
     let alloc = rt.alloc();
     let mut office = office(&rt, alloc);
     let mut roads = MemRoads::new(alloc, &[]).expect(&rt, "memory");
-    let port = roads.listen(alloc, NodeId(1)).expect(&rt, "a port");
+    roads.listen(alloc, NodeId(1)).expect(&rt, "a port");
     let members = member(&rt);
     let mut primary: Primary<MemIn, MemOut> = Primary::new(alloc, BLOCK, &members).expect(
         &rt, "memory",
     );
-    let begun = primary.step(alloc, &mut office, &mut roads);
-    assert!(rt; matches!(begun, PrimaryStep::Moved));
-    primary
-        .exchange(alloc, &mut roads, None)
-        .expect(&rt, "an exchange");
-    serve(&rt, alloc, &mut roads, port);
+    let begun = begin(alloc, &mut office, &mut roads, &mut primary);
+    serve(&rt, alloc, &mut roads, lower_of(&rt, begun));
     assert!(rt; hear(alloc, &mut roads, &mut primary, 0).is_ok());
     let ended = lead(alloc, &mut office, &mut roads, &mut primary);
     assert!(rt; matches!(ended, Ok(PrimaryStep::Ended(Recovered::Nothing))));

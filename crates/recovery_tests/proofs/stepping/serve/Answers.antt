@@ -2,4 +2,4 @@
 use Rattle.recovery_tests.proofs.stepping.serve.Goals as goal
 
 pub returns : goal.returns
-returns g c = λ conn h. c.pass-2.ensures.kept conn (c.pass.ensures.kept conn (c.accepted-end.ensures.kept conn h))
+returns g c = λ conn h. c.pass-2.ensures.kept conn (c.pass.ensures.kept conn h)
