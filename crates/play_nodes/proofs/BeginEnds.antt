@@ -56,7 +56,7 @@ use Rattle.play_nodes.specs.declared.nodes.Nodes.{Nodes}
 use Rattle.play_nodes.specs.declared.nodes.Seat.{Seat}
 use Rattle.play_nodes.specs.Faults.{fault_at}
 use Rattle.play_nodes.specs.Places.{book_at, with_lower, TakesIdle, idle_of, PutBack, BookSet, AddsDial, FollowsJoin, place_of, IsMirrorNode, IsJoined, HasNoBook}
-use Rattle.play_nodes.specs.Showing.{NodesStand}
+use Rattle.play_nodes.specs.Showing.{IsPipeline, NodesStand}
 use Rattle.play_nodes.specs.Events.{IsLawful, IsCaused}
 use Rattle.play_nodes.specs.Beginning.{RequestsFit, BeginsUnanswered, BeginEnds, BeginShows}
 use Rattle.play_nodes.proofs.PlaceLaws.{same_some}
@@ -140,12 +140,12 @@ module _ {F R I O : Type 0} (f : files.Ghosts F) (r : roads.Ghosts R I O) (i : l
   same_end : (k : Connection I O) (end at_end : Conn I O) → k.lower ≡ lower.Idle at_end → Some end ≡ idle_of k.lower → end ≡ at_end
   same_end k end at_end is h = same_some end at_end (h ∙ ap idle_of is)
 
-  first_at : (w : World) (net : Net) (queues : Queues) (conn : ConnId) (old mid : Nodes F I O) (end : Conn I O) (road : R) → NodesStand r i o w net road old → ((answered : Bool) → IsLawful w (event.Down conn answered)) → is_due w queues (due.Down conn) ≡ true → w.lowers conn.0 ≡ idle
+  first_at : (w : World) (net : Net) (queues : Queues) (conn : ConnId) (old mid : Nodes F I O) (end : Conn I O) (road : R) → NodesStand r i o w net road old → IsPipeline w conn.0 → ((answered : Bool) → IsLawful w (event.Down conn answered)) → is_due w queues (due.Down conn) ≡ true → w.lowers conn.0 ≡ idle
       → TakesIdle old mid conn.0 (Some end) → IsFirstAt w net conn.0 old end road
-  first_at w net queues conn old mid end road stands lawful due is t =
+  first_at w net queues conn old mid end road stands of lawful due is t =
       let c : ℕ = conn.0 in
       let taking : TakesAt w c = takes_at w conn queues due in
-      let k : IdleAt r i o w net c old = idle_at r i o w net road c old stands taking.events is in
+      let k : IdleAt r i o w net c old = idle_at r i o w net road c old stands of taking.events is in
       let same : end ≡ k.end = same_end k.at end k.end k.lower (t.taken k.at k.found) in
       record {
         k = k;
@@ -157,14 +157,14 @@ module _ {F R I O : Type 0} (f : files.Ghosts F) (r : roads.Ghosts R I O) (i : l
 
   -- It isn't due where there is no such connection, or no such end.
   pub begin_outside : (old new : Nodes F I O) (conn : ConnId) (road road' : R) (result : Result (Option NodeId) NodesFault) → length old.connections.items ≤ conn.0 → BeginShows f r i o conn old new road road' result
-  begin_outside old new conn road road' result far = λ w net queues stands lawful fits due is.
+  begin_outside old new conn road road' result far = λ w net queues stands of lawful fits due is.
       let taking : TakesAt w conn.0 = takes_at w conn queues due in
       let before : conn.0 < w.next_conn = served_within w conn.0 taking.comes.served in
       absurd (omega (arith, far, before, stands.nodes_are.count))
 
   pub begin_taken : (old mid new : Nodes F I O) (conn : ConnId) (road road' : R) (result : Result (Option NodeId) NodesFault) → TakesIdle old mid conn.0 None → BeginShows f r i o conn old new road road' result
-  begin_taken old mid new conn road road' result t = λ w net queues stands lawful fits due is.
-      let k : IdleAt r i o w net conn.0 old = idle_at r i o w net road conn.0 old stands (takes_at w conn queues due).events is in
+  begin_taken old mid new conn road road' result t = λ w net queues stands of lawful fits due is.
+      let k : IdleAt r i o w net conn.0 old = idle_at r i o w net road conn.0 old stands of (takes_at w conn queues due).events is in
       absurd (never k.end (t.taken k.at k.found ∙ ap idle_of k.lower))
     where
       never : (e : Conn I O) → None ≡ Some e → ⊥
@@ -173,14 +173,14 @@ module _ {F R I O : Type 0} (f : files.Ghosts F) (r : roads.Ghosts R I O) (i : l
   -- THE END CAME, OR A FAULT
 
   pub begin_ended : (old mid : Nodes F I O) (conn : ConnId) (end : Conn I O) (road road' : R) → TakesIdle old mid conn.0 (Some end) → member_begin.BeginShows r i o end road road' (Ok None) → BeginShows f r i o conn old mid road road' (Ok None)
-  begin_ended old mid conn end road road' t shows = λ w net queues stands lawful fits due is.
-      let z : IsFirstAt w net conn.0 old end road = first_at w net queues conn old mid end road stands lawful due is t in
+  begin_ended old mid conn end road road' t shows = λ w net queues stands of lawful fits due is.
+      let z : IsFirstAt w net conn.0 old end road = first_at w net queues conn old mid end road stands of lawful due is t in
       ended_left r i o w net road road' conn z.taking.next old mid (lawful true).ordered stands z.k is z.taking.comes (subst (λ (e : Conn I O). TakesIdle old mid conn.0 (Some e)) z.end_same t)
       (shows w net conn true z.taking.next z.stands z.can)
 
   pub begin_failed : (old mid : Nodes F I O) (conn : ConnId) (node : NodeId) (end : Conn I O) (road road' : R) (why : MemberFault) (result : Result (Option NodeId) NodesFault) → result ≡ Err (fault_at node why) → TakesIdle old mid conn.0 (Some end) → member_begin.BeginShows r i o end road road' (Err why) → BeginShows f r i o conn old mid road road' result
-  begin_failed old mid conn node end road road' why result is_err t shows = λ w net queues stands lawful fits due is.
-      let z : IsFirstAt w net conn.0 old end road = first_at w net queues conn old mid end road stands lawful due is t in
+  begin_failed old mid conn node end road road' why result is_err t shows = λ w net queues stands of lawful fits due is.
+      let z : IsFirstAt w net conn.0 old end road = first_at w net queues conn old mid end road stands of lawful due is t in
       subst (λ (y : Result (Option NodeId) NodesFault). BeginEnds f r i o w net conn old mid road road' y) (sym is_err)
       (end_caused old mid node conn.0 road road' why (shows w net conn true z.taking.next z.stands z.can))
 
@@ -197,6 +197,7 @@ module _ {F R I O : Type 0} (f : files.Ghosts F) (r : roads.Ghosts R I O) (i : l
       k : TakesAt w conn.0
       comes : ComesDown w conn.0 (write_next fields)
       idle_is : w.lowers conn.0 ≡ idle
+      of_pipeline : IsPipeline w conn.0
       found : slice_get old.connections.items conn.0 ≡ Some at
       taken_is : TakesIdle old mid conn.0 (Some end)
       set_is : BookSet mid set s.node.0 s.place book'
@@ -221,6 +222,7 @@ module _ {F R I O : Type 0} (f : files.Ghosts F) (r : roads.Ghosts R I O) (i : l
             nodes_are = h.stands.nodes_are;
             found = h.found;
             before = served_within w conn.0 h.comes.served;
+            of_pipeline = h.of_pipeline;
             lower = h.idle_is;
             served = h.comes.served;
             taken = h.taken_is;
@@ -303,15 +305,15 @@ module _ {F R I O : Type 0} (f : files.Ghosts F) (r : roads.Ghosts R I O) (i : l
   pub begin_joined : (old mid new : Nodes F I O) (conn : ConnId) (at : Connection I O) (end : Conn I O) (requested : Requested I O) (road first road' : R) (result : Result (Option NodeId) NodesFault) → slice_get old.connections.items conn.0 ≡ Some at → TakesIdle old mid conn.0 (Some end)
       → member_begin.BeginShows r i o end road first (Ok (Some requested)) → r.faults road ≤ r.faults first → (IsJoined f r i o mid new conn.0 at.node requested first road' result ⊎ HasNoBook mid new at.node requested.op first road' result)
       → BeginShows f r i o conn old new road road' result
-  begin_joined old mid new conn at end requested road first road' result found t shows le (inr none) = λ w net queues stands lawful fits due is.
-      let z : IsFirstAt w net conn.0 old end road = first_at w net queues conn old mid end road stands lawful due is t in
+  begin_joined old mid new conn at end requested road first road' result found t shows le (inr none) = λ w net queues stands of lawful fits due is.
+      let z : IsFirstAt w net conn.0 old end road = first_at w net queues conn old mid end road stands of lawful due is t in
       let has = shows w net conn true z.taking.next z.stands z.can in
       let comes : ComesDown w conn.0 (write_next requested.op) = subst (λ (x : Next). ComesDown w conn.0 x) has.is_request z.taking.comes in
       absurd (book_needed w net conn.0 old mid at requested.op road stands (lawful true).placed z.k.before found t.blocks t.nodes (fits_at w conn.0 old requested.op fits comes) none.none)
-  begin_joined old mid new conn at end requested road first road' result found t shows le (inl j) = λ w net queues stands lawful fits due is.
+  begin_joined old mid new conn at end requested road first road' result found t shows le (inl j) = λ w net queues stands of lawful fits due is.
       let c : ℕ = conn.0 in
       let fields : WriteFields = requested.op in
-      let z : IsFirstAt w net c old end road = first_at w net queues conn old mid end road stands lawful due is t in
+      let z : IsFirstAt w net c old end road = first_at w net queues conn old mid end road stands of lawful due is t in
       let begun : HasRequest r i o w net c z.taking.next first requested = shows w net conn true z.taking.next z.stands z.can in
       let has : HasRequest r i o w net c (write_next fields) first requested = subst (λ (x : Next). HasRequest r i o w net c x first requested) begun.is_request begun in
       let comes : ComesDown w c (write_next fields) = subst (λ (x : Next). ComesDown w c x) begun.is_request z.taking.comes in
@@ -341,6 +343,7 @@ module _ {F R I O : Type 0} (f : files.Ghosts F) (r : roads.Ghosts R I O) (i : l
         k = z.taking;
         comes = comes;
         idle_is = is;
+        of_pipeline = of;
         found = found;
         taken_is = t;
         set_is = j.is_set;

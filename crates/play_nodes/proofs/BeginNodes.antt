@@ -34,14 +34,13 @@ use Rattle.member_events.proofs.WorldLaws.{happened}
 use Rattle.play_nodes.specs.declared.connections.Connection.{Connection}
 use Rattle.play_nodes.specs.declared.connections.Lower.{Lower}
 use Rattle.play_nodes.specs.declared.connections.Lower.TheVariants as lower
-use Rattle.play_nodes.specs.declared.connections.Upper.{Upper}
 use Rattle.play_nodes.specs.declared.nodes.NodeBooks.{NodeBooks}
 use Rattle.play_nodes.specs.declared.nodes.Nodes.{Nodes}
 use Rattle.play_nodes.specs.Places.{book_at, with_lower, TakesIdle}
-use Rattle.play_nodes.specs.Showing.{UpperShows, has_events, LowerShows, NodesStand, NodesLeft}
+use Rattle.play_nodes.specs.Showing.{is_pipeline, IsPipeline, has_events, stands_here, LowerShows, NodesStand, NodesLeft}
 use Rattle.play_nodes.proofs.Tables.{element, none_dialled}
 use Rattle.play_nodes.proofs.WorldFrames.{KeepsRest}
-use Rattle.play_nodes.proofs.NodeFrames.{IsOfEvent, IsLeft, nodes_after, writers_after}
+use Rattle.play_nodes.proofs.NodeFrames.{IsOfEvent, IsLeft, nodes_after, writers_after, elsewhere_after, pipelines_stay}
 use Rattle.play_nodes.proofs.MemberNodes.{never_so}
 use Rattle.play_nodes.proofs.ReadyNodes.{served_within}
 
@@ -105,12 +104,11 @@ first_so (response q) is h = cc
 first_so (read_status s) is h = cc
 first_so (recovery_answer a) is h = cc
 
--- a connection of a pipeline: nobody else dials in such a play
-pipeline_so : (u : parts.Upper) (real : Upper) → UpperShows u real → purpose_of u ≡ pipeline
-pipeline_so (by_writer b) real h = refl
-pipeline_so (by_member d) real h = refl
-pipeline_so (by_reader i) real h = absurd h
-pipeline_so (by_primary i place) real h = absurd h
+pipeline_so : (u : parts.Upper) → is_pipeline u ≡ true → purpose_of u ≡ pipeline
+pipeline_so (by_writer b) h = refl
+pipeline_so (by_member d) h = refl
+pipeline_so (by_reader i) h = cc
+pipeline_so (by_primary i place) h = cc
 
 module _ {F R I O : Type 0} (r : roads.Ghosts R I O) (i : link_in.Ghosts I) (o : link_out.Ghosts O) where
   -- An end that has taken nothing yet stands at the connection.
@@ -121,28 +119,29 @@ module _ {F R I O : Type 0} (r : roads.Ghosts R I O) (i : link_in.Ghosts I) (o :
     pub lower : at.lower ≡ lower.Idle end
     pub before : c < w.next_conn
     pub end_is : IsEndOf i o w net c true end
-    pub upper : UpperShows (w.dialled c).upper at.upper
+    pub of_pipeline : IsPipeline w c
 
-  idle_so : (w : World) (net : Net) (c : ℕ) (n : Nodes F I O) (at : Connection I O) (real : Lower I O) → slice_get n.connections.items c ≡ Some at → at.lower ≡ real → c < w.next_conn → UpperShows (w.dialled c).upper at.upper → has_events w c ≡ true
+  idle_so : (w : World) (net : Net) (c : ℕ) (n : Nodes F I O) (at : Connection I O) (real : Lower I O) → slice_get n.connections.items c ≡ Some at → at.lower ≡ real → c < w.next_conn → IsPipeline w c → stands_here real ≡ true → has_events w c ≡ true
       → LowerShows i o w net c n idle real → IdleAt w net c n
-  idle_so w net c n at (lower.Idle end) found is before upper events h = record { at = at; end = end; found = found; lower = is; before = before; end_is = h.1; upper = upper }
-  idle_so w net c n at lower.Ended found is before upper events h = cc
-  idle_so w net c n at real found is before upper events h = absurd h
+  idle_so w net c n at (lower.Idle end) found is before of here events h = record { at = at; end = end; found = found; lower = is; before = before; end_is = h.1; of_pipeline = of }
+  idle_so w net c n at lower.Ended found is before of here events h = cc
+  idle_so w net c n at lower.Elsewhere found is before of here events h = cc
+  idle_so w net c n at real found is before of here events h = absurd h
 
-  pub idle_at : (w : World) (net : Net) (road : R) (c : ℕ) (n : Nodes F I O) → NodesStand r i o w net road n → has_events w c ≡ true → w.lowers c ≡ idle → IdleAt w net c n
-  idle_at w net road c n stands events is =
+  pub idle_at : (w : World) (net : Net) (road : R) (c : ℕ) (n : Nodes F I O) → NodesStand r i o w net road n → IsPipeline w c → has_events w c ≡ true → w.lowers c ≡ idle → IdleAt w net c n
+  idle_at w net road c n stands of events is =
       let served : is_served w c ≡ true = and-left (is_served w c) (is_open (w.lowers c)) events in
       let before : c < w.next_conn = served_within w c served in
       let at = element n.connections.items c (subst (λ (k : ℕ). c < k) (sym stands.nodes_are.count) before) in
       let shows = stands.nodes_are.each c at.0 at.1 in
-      idle_so w net c n at.0 at.0.lower at.1 refl before shows.upper_is events (subst (λ (l : parts.Lower). LowerShows i o w net c n l at.0.lower) is shows.lower_is)
+      idle_so w net c n at.0 at.0.lower at.1 refl before of (shows.here ∙ of before) events (subst (λ (l : parts.Lower). LowerShows i o w net c n l at.0.lower) is shows.lower_is)
 
   -- What is first, in a world as it must be.
   pub begins : (w : World) (net : Net) (c : ℕ) (n : Nodes F I O) (x : Next) → Ordered w → TakesInOrder w → Written w → IdleAt w net c n → w.lowers c ≡ idle → ComesDown w c x → CanBegin w c x
   begins w net c n the_end ordered taken written k is comes = record { comes = comes; first = tt }
   begins w net c n (message m) ordered taken written k is comes = record {
     comes = comes;
-    first = first_so m (ap (λ (p : Purpose). comes_down p true m) (sym (pipeline_so (w.dialled c).upper k.at.upper k.upper)) ∙ taken.first c m is comes.next)
+    first = first_so m (ap (λ (p : Purpose). comes_down p true m) (sym (pipeline_so (w.dialled c).upper (k.of_pipeline k.before))) ∙ taken.first c m is comes.next)
         (written.downs c (w.down_marks c).taken m (next-found (w.downs c) (w.down_marks c) m comes.next));
   }
 
@@ -173,6 +172,7 @@ module _ {F R I O : Type 0} (r : roads.Ghosts R I O) (i : link_in.Ghosts I) (o :
         upper = refl;
         node = refl;
         mirror = (stands.nodes_are.each c k.at k.found).mirror ∙ (ap mirror_of is ∙ sym (ap mirror_of h.lower));
+        here = sym (ap (λ (l : Lower I O). stands_here l) k.lower);
         shows = subst (λ (l : parts.Lower). LowerShows i o v h.made c new l lower.Ended) (sym h.lower) (never_so (is_served v c) (is_open (v.lowers c)) (ap is_open h.lower));
         added = λ n y none. cc;
         blocks = t.blocks;
@@ -188,4 +188,6 @@ module _ {F R I O : Type 0} (r : roads.Ghosts R I O) (i : link_in.Ghosts I) (o :
               (stands.nodes_are.has_books n p block (subst (λ (q : ℕ). n < q) keeps.rest.nodes within) (sym (ap (λ (xs : List BlockId). slice_get xs p) t.blocks) ∙ at_p)));
         };
         writers = writers_after i o w v net h.made c None 0 of;
+        elsewhere = elsewhere_after i o w v net h.made c None 0 (k.of_pipeline k.before) of;
+        pipelines = pipelines_stay w v keeps.rest.dialled keeps.conns;
       }

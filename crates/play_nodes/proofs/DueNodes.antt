@@ -1,6 +1,6 @@
 -- Which events of the nodes are due, as the nodes and the roads tell.
 use Rattle.std.proofs.Common.{◌≡◌, ◌<◌, ◌≤◌, ℕ, zero, suc, Bool, true, false, if◌then◌else◌, List, [], ◌∷◌, length, take, drop, map, slice_get, option_map, Option, Some, None, IfSome, is_some, refl, sym, ap, ◌∙◌, subst, arith}
-use Rattle.std.specs.Prelude.{◌&&◌, nat_le, nat_lt}
+use Rattle.std.specs.Prelude.{◌&&◌, not, nat_le, nat_lt, unwrap_or}
 use Rattle.std.proofs.Math.Seq.{drop-nil}
 use Rattle.std.proofs.lemmas.Bool.Decides.{nat_tests}
 use Rattle.std.proofs.lemmas.List.{length-map}
@@ -43,9 +43,9 @@ use Rattle.play_nodes.specs.declared.connections.Upper.{Upper}
 use Rattle.play_nodes.specs.declared.connections.Upper.TheVariants as upper
 use Rattle.play_nodes.specs.declared.nodes.Nodes.{Nodes}
 use Rattle.play_nodes.specs.declared.nodes.Seat.{Seat}
-use Rattle.play_nodes.specs.Dues.{stands, is_idle, TellsIdle, TellsReady, TellsDown, TellsUp}
+use Rattle.play_nodes.specs.Dues.{stands, is_idle, is_elsewhere, TellsElsewhere, TellsIdle, TellsReady, TellsDown, TellsUp}
 use Rattle.play_nodes.specs.Places.{book_at, IsSeated, IsUnseated, member_above}
-use Rattle.play_nodes.specs.Showing.{UpperShows, has_events, LowerShows, NodesShow, NodesStand}
+use Rattle.play_nodes.specs.Showing.{UpperShows, IsPipeline, has_events, stands_here, LowerShows, NodesShow, NodesStand}
 use Rattle.play_nodes.proofs.PlaceLaws.{element_within, same_some}
 use Rattle.play_nodes.proofs.MemberNodes.{IsMember, member_shown}
 use Rattle.play_nodes.proofs.ReadyNodes.{served_within, acts_at, acts_busy, seated_shown}
@@ -155,7 +155,7 @@ module _ {F I O : Type 0} (i : link_in.Ghosts I) (o : link_out.Ghosts O) where
   -- What a member's lower end says of its events.
   pub ready_tells : (n : Nodes F I O) (conn : ConnId) (s : Seat) (m : Member I O) (book : BookState F) (result : Bool) → (seat : IsSeated n conn.0 s) → m ≡ seat.member → book_at n.nodes.items s.node.0 s.place ≡ Some book
       → book.replica ≡ (replica_of book).known → result ≡ members.acts_at m.stage book.replica → TellsReady i o conn n result
-  ready_tells n conn s m book result seat same at_book known told = λ w net queues nodes orderly.
+  ready_tells n conn s m book result seat same at_book known told = λ w net queues nodes orderly of.
       let c : ℕ = conn.0 in
       let k = member_shown i o w net c n s nodes seat in
       let full : FullMember = k.full in
@@ -165,8 +165,8 @@ module _ {F I O : Type 0} (i : link_in.Ghosts I) (o : link_out.Ghosts O) where
       (ap (λ (l : parts.Lower). acts_below l w c) (sym k.lower) ∙ open_due (is_open (w.lowers c)) (is_served w c) (acts_below (w.lowers c) w c) k.events))))
 
   pub ready_none : (n : Nodes F I O) (conn : ConnId) → IsUnseated n conn.0 → TellsReady i o conn n false
-  ready_none n conn none = λ w net queues nodes orderly.
-      not_true (is_due w queues (due.Ready conn)) (λ due. seated_shown i o w net conn.0 n nodes orderly.placed (acts_at w conn queues due).events (acts_busy w conn.0 (acts_at w conn queues due).acts) none)
+  ready_none n conn none = λ w net queues nodes orderly of.
+      not_true (is_due w queues (due.Ready conn)) (λ due. seated_shown i o w net conn.0 n nodes of orderly.placed (acts_at w conn queues due).events (acts_busy w conn.0 (acts_at w conn queues due).acts) none)
 
   idle_shown : (w : World) (net : Net) (c : ℕ) (n : Nodes F I O) (l : parts.Lower) (end : Conn I O) → w.lowers c ≡ l → LowerShows i o w net c n l (lower.Idle end) → IsIdleOf i o w net c end
   idle_shown w net c n idle end is h = record { lower = is; events = h.0; end_is = h.1 }
@@ -180,23 +180,31 @@ module _ {F I O : Type 0} (i : link_in.Ghosts I) (o : link_out.Ghosts O) where
   idle_found w net c n None nodes found is = cc
   idle_found w net c n (Some at) nodes found is = idle_by w net c n at.lower (nodes.each c at found).lower_is is
 
-  idle_lower : (w : World) (net : Net) (c : ℕ) (n : Nodes F I O) (l : parts.Lower) (real : Lower I O) → l ≡ idle → has_events w c ≡ true → LowerShows i o w net c n l real → is_idle (Some real) ≡ true
-  idle_lower w net c n idle (lower.Idle end) is e h = refl
-  idle_lower w net c n idle (lower.Member m place) is e h = absurd h
-  idle_lower w net c n idle lower.Ended is e h = absurd (true_false (has_events w c) e h)
-  idle_lower w net c n l real is e h = cc
+  idle_lower : (w : World) (net : Net) (c : ℕ) (n : Nodes F I O) (l : parts.Lower) (real : Lower I O) → l ≡ idle → stands_here real ≡ true → has_events w c ≡ true → LowerShows i o w net c n l real → is_idle (Some real) ≡ true
+  idle_lower w net c n idle (lower.Idle end) is here e h = refl
+  idle_lower w net c n idle (lower.Member m place) is here e h = absurd h
+  idle_lower w net c n idle lower.Ended is here e h = absurd (true_false (has_events w c) e h)
+  idle_lower w net c n idle lower.Elsewhere is here e h = cc
+  idle_lower w net c n l real is here e h = cc
 
   -- an end of the world that has taken nothing is told
-  idle_needed : (w : World) (net : Net) (c : ℕ) (n : Nodes F I O) → NodesShow i o w net n → has_events w c ≡ true → w.lowers c ≡ idle → is_idle (option_map (λ x. x.lower) (slice_get n.connections.items c)) ≡ true
-  idle_needed w net c n nodes events is =
+  idle_needed : (w : World) (net : Net) (c : ℕ) (n : Nodes F I O) → NodesShow i o w net n → IsPipeline w c → has_events w c ≡ true → w.lowers c ≡ idle → is_idle (option_map (λ x. x.lower) (slice_get n.connections.items c)) ≡ true
+  idle_needed w net c n nodes of events is =
       let before : c < w.next_conn = served_within w c (and-left (is_served w c) (is_open (w.lowers c)) events) in
       let at = element n.connections.items c (subst (λ (k : ℕ). c < k) (sym nodes.count) before) in
-      let told : is_idle (Some at.0.lower) ≡ true = idle_lower w net c n (w.lowers c) at.0.lower is events (nodes.each c at.0 at.1).lower_is in
+      let shows = nodes.each c at.0 at.1 in
+      let told : is_idle (Some at.0.lower) ≡ true = idle_lower w net c n (w.lowers c) at.0.lower is (shows.here ∙ of before) events shows.lower_is in
       ap (λ (x : Option (Connection I O)). is_idle (option_map (λ y. y.lower) x)) at.1 ∙ told
 
+  -- Whether a lower end is kept elsewhere.
+  pub elsewhere_told : (n : Nodes F I O) (conn : ConnId) (result : Bool) → result ≡ is_elsewhere n conn.0 → TellsElsewhere i o conn n result
+  elsewhere_told n conn result told = λ w net nodes within.
+      let at = element n.connections.items conn.0 (subst (λ (k : ℕ). conn.0 < k) (sym nodes.count) within) in
+      told ∙ (ap (λ (x : Option (Connection I O)). unwrap_or (option_map (λ y. not (stands_here y.lower)) x) false) at.1 ∙ ap not (nodes.each conn.0 at.0 at.1).here)
+
   pub told_idle : (n : Nodes F I O) (conn : ConnId) (result : Bool) → result ≡ is_idle (option_map (λ x. x.lower) (slice_get n.connections.items conn.0)) → TellsIdle i o conn n result
-  told_idle n conn true told = λ w net queues nodes due. (idle_found w net conn.0 n (slice_get n.connections.items conn.0) nodes refl (sym told)).1.lower
-  told_idle n conn false told = λ w net queues nodes due is. true_false (is_idle (option_map (λ x. x.lower) (slice_get n.connections.items conn.0))) (idle_needed w net conn.0 n nodes (takes_at w conn queues due).events is) (sym told)
+  told_idle n conn true told = λ w net queues nodes of due. (idle_found w net conn.0 n (slice_get n.connections.items conn.0) nodes refl (sym told)).1.lower
+  told_idle n conn false told = λ w net queues nodes of due is. true_false (is_idle (option_map (λ x. x.lower) (slice_get n.connections.items conn.0))) (idle_needed w net conn.0 n nodes of (takes_at w conn queues due).events is) (sym told)
 
 module _ {R I O : Type 0} (r : roads.Ghosts R I O) where
   -- What the roads tell of a direction.
@@ -217,7 +225,7 @@ module _ {F R I O : Type 0} (r : roads.Ghosts R I O) (i : link_in.Ghosts I) (o :
 
   pub idle_tells : (n : Nodes F I O) (conn : ConnId) (road road' : R) (s : Standing) (result : Bool) → is_idle (option_map (λ x. x.lower) (slice_get n.connections.items conn.0)) ≡ true → TellsStanding r conn.0 true road road' s → result ≡ stands s
       → TellsDown r i o conn n road road' result
-  idle_tells n conn road road' s result is tells told = λ w net queues h orderly.
+  idle_tells n conn road road' s result is tells told = λ w net queues h orderly of.
       let c : ℕ = conn.0 in
       let z = idle_found i o w net c n (slice_get n.connections.items c) h.nodes_are refl is in
       let taken : is_over w c true ≡ false = subst (λ (l : parts.Lower). IsOpenBelow l (w.down_marks c).over) z.1.lower (orderly.open_ends.below c) in
@@ -229,11 +237,11 @@ module _ {F R I O : Type 0} (r : roads.Ghosts R I O) (i : link_in.Ghosts I) (o :
 
   pub down_none : (n : Nodes F I O) (conn : ConnId) (road road' : R) (s : Standing) → is_idle (option_map (λ x. x.lower) (slice_get n.connections.items conn.0)) ≡ false → IsUnseated n conn.0 → TellsStanding r conn.0 true road road' s
       → TellsDown r i o conn n road road' false
-  down_none n conn road road' s busy none tells = λ w net queues h orderly.
+  down_none n conn road road' s busy none tells = λ w net queues h orderly of.
       let c : ℕ = conn.0 in (
         stays w net road road' n h (tells net h.roads_are.shows).road_shows,
-        not_true (is_due w queues (due.Down conn)) (λ due. seated_shown i o w net c n h.nodes_are orderly.placed (takes_at w conn queues due).events
-            (λ is. not_idle n c (idle_at r i o w net road c n h (takes_at w conn queues due).events is) busy) none),
+        not_true (is_due w queues (due.Down conn)) (λ due. seated_shown i o w net c n h.nodes_are of orderly.placed (takes_at w conn queues due).events
+            (λ is. not_idle n c (idle_at r i o w net road c n h of (takes_at w conn queues due).events is) busy) none),
       )
     where
       not_idle : (n : Nodes F I O) (c : ℕ) {w : World} {net : Net} → IdleAt r i o w net c n → is_idle (option_map (λ x. x.lower) (slice_get n.connections.items c)) ≡ false → ⊥
@@ -241,7 +249,7 @@ module _ {F R I O : Type 0} (r : roads.Ghosts R I O) (i : link_in.Ghosts I) (o :
 
   pub down_tells : (n : Nodes F I O) (conn : ConnId) (t : Seat) (m : Member I O) (book : BookState F) (road road' : R) (s : Standing) (result : Bool) → (seat : IsSeated n conn.0 t) → m ≡ seat.member → book_at n.nodes.items t.node.0 t.place ≡ Some book
       → book.replica ≡ (replica_of book).known → TellsStanding r conn.0 true road road' s → result ≡ members.takes_at m.stage (length book.replica.pending) s → TellsDown r i o conn n road road' result
-  down_tells n conn t m book road road' s result seat same at_book known tells told = λ w net queues h orderly.
+  down_tells n conn t m book road road' s result seat same at_book known tells told = λ w net queues h orderly of.
       let c : ℕ = conn.0 in
       let k = member_shown i o w net c n t h.nodes_are seat in
       let full : FullMember = k.full in
@@ -260,7 +268,7 @@ module _ {F R I O : Type 0} (r : roads.Ghosts R I O) (i : link_in.Ghosts I) (o :
 
 upper_as : (d : ℕ) (u : Upper) (above : ConnId) → UpperShows (by_member d) u → member_above (Some u) ≡ Some above → above.0 ≡ d
 upper_as d (upper.Member conn) above h is = ap (λ (x : ConnId). x.0) (same_some above conn (sym is)) ∙ h
-upper_as d (upper.Writer block) above h is = absurd h
+upper_as d u above h is = absurd h
 
 pub hears_next : (b x y : Bool) → (b ≡ true → x ≡ y) → (b && x) ≡ (b && y)
 hears_next true x y h = h refl
@@ -312,7 +320,7 @@ module _ {F R I O : Type 0} (r : roads.Ghosts R I O) (i : link_in.Ghosts I) (o :
       → TellsUp r i o conn n road road' false
   up_none n conn above road road' s is none tells = λ w net queues d h orderly upper. (
     stays r i o w net road road' n h (tells net h.roads_are.shows).road_shows,
-    not_true (is_due w queues (due.Up conn)) (λ due. above_seated r i o w net road conn d above n h orderly.placed queues upper due is none),
+    not_true (is_due w queues (due.Up conn)) (λ due. above_seated r i o w net road conn d above n h orderly.ordered orderly.placed queues upper due is none),
   )
 
   pub up_tells : (n : Nodes F I O) (conn above : ConnId) (t : Seat) (m : Member I O) (road road' : R) (s : Standing) (result : Bool) → member_above (option_map (λ x. x.upper) (slice_get n.connections.items conn.0)) ≡ Some above

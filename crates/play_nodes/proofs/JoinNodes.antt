@@ -1,5 +1,5 @@
 -- A lower end that has taken a request to write becomes a member, and the connection to its mirror stands behind the others.
-use Rattle.std.proofs.Common.{◌≡◌, ◌<◌, ◌+◌, ◌-◌, ℕ, zero, suc, Bool, true, false, if◌then◌else◌, List, [], ◌∷◌, ◌++◌, length, get_or, slice_get, slice_set, option_map, Option, Some, None, IsSome, inl, inr, refl, sym, ap, ◌∙◌, subst, arith, append-nil}
+use Rattle.std.proofs.Common.{◌≡◌, ◌<◌, ◌≤◌, ◌+◌, ◌-◌, ℕ, zero, suc, Bool, true, false, if◌then◌else◌, List, [], ◌∷◌, ◌++◌, length, get_or, slice_get, slice_set, option_map, Option, Some, None, IsSome, inl, inr, refl, sym, ap, ◌∙◌, subst, arith, append-nil}
 use Rattle.std.specs.Prelude.{◌==◌, nat_le, nat_lt, cond, not, position}
 use Rattle.std.specs.List.{position_or_len}
 use Rattle.std.proofs.lemmas.Bool.Decides.{nat_tests}
@@ -43,11 +43,11 @@ use Rattle.play_nodes.specs.declared.nodes.NodeBooks.{NodeBooks}
 use Rattle.play_nodes.specs.declared.nodes.Nodes.{Nodes}
 use Rattle.play_nodes.specs.declared.nodes.Seat.{Seat}
 use Rattle.play_nodes.specs.Places.{book_at, with_lower, lower_left, TakesIdle, PutBack, BookSet, IsMirrorNode, mirror_made, IsAdded}
-use Rattle.play_nodes.specs.Showing.{UpperShows, LowerShows, ConnectionShows, NodesShow, NodesLeft}
+use Rattle.play_nodes.specs.Showing.{UpperShows, is_pipeline, IsPipeline, stands_here, LowerShows, ConnectionShows, NodesShow, NodesLeft}
 use Rattle.play_nodes.proofs.Tables.{put_at_there, set_here, set_set}
 use Rattle.play_nodes.proofs.WorldFrames.{KeepsRest}
-use Rattle.play_nodes.proofs.NodeFrames.{IsOfEvent, IsLeft, BookLeft, node_as, served_as, nodes_after, books_after, has_books_after, writers_after}
-use Rattle.play_nodes.proofs.MemberNodes.{both_so, never_so}
+use Rattle.play_nodes.proofs.NodeFrames.{IsOfEvent, IsLeft, BookLeft, node_as, served_as, nodes_after, books_after, has_books_after, writers_after, elsewhere_after, none_since, pipelines_after}
+use Rattle.play_nodes.proofs.MemberNodes.{both_so, never_so, left_here}
 
 -- THE PLACE OF A BLOCK
 
@@ -167,6 +167,7 @@ module _ {F R I O : Type 0} (r : roads.Ghosts R I O) (i : link_in.Ghosts I) (o :
     pub nodes_are : NodesShow i o w net old
     pub found : slice_get old.connections.items c ≡ Some at
     pub before : c < w.next_conn
+    pub of_pipeline : IsPipeline w c
     pub lower : w.lowers c ≡ idle
     pub served : is_served w c ≡ true
     pub taken : TakesIdle old mid c (Some end)
@@ -211,6 +212,7 @@ module _ {F R I O : Type 0} (r : roads.Ghosts R I O) (i : link_in.Ghosts I) (o :
       lower_is : last.lower ≡ lower_left s.place lower.Ended left
       mirror_is : option_map (λ (d : ConnId). d.0) last.mirror ≡ mirror
       count : v.next_conn ≡ w.next_conn + length more
+      pipelines : (d : ℕ) → w.next_conn ≤ d → IsPipeline v d
       added : (j : ℕ) (x : Connection I O) → slice_get more j ≡ Some x → ConnectionShows i o v h.joins.made (w.next_conn + j) new x
 
     final_left : (new : Nodes F I O) (last : Connection I O) (more : List (Connection I O)) → IsFinal new last more → NodesLeft r i o w net v road new
@@ -237,6 +239,7 @@ module _ {F R I O : Type 0} (r : roads.Ghosts R I O) (i : link_in.Ghosts I) (o :
           upper = z.upper;
           node = z.node;
           mirror = z.mirror_is ∙ mirror_left i o v made c fields mirror left h.joins.left_is;
+          here = ap (λ (l : Lower I O). stands_here l) z.lower_is ∙ (left_here s.place left ∙ sym ((h.nodes_are.each c at h.found).here ∙ h.of_pipeline h.before));
           shows = subst (λ (l : Lower I O). LowerShows i o v made c new (v.lowers c) l) (sym z.lower_is)
               (left_shows v made c s.place new fields mirror h.block left served_after at_place h.of_block h.joins.left_is);
           added = z.added;
@@ -265,6 +268,8 @@ module _ {F R I O : Type 0} (r : roads.Ghosts R I O) (i : link_in.Ghosts I) (o :
                 (has_books_after i o w v net made c s.place None written old new h.nodes_are of book_left);
           };
           writers = writers_after i o w v net made c None written of;
+          elsewhere = elsewhere_after i o w v net made c None written (h.of_pipeline h.before) of;
+          pipelines = pipelines_after w v h.rest.dialled z.pipelines;
         }
       where
         book_same : (x y : BookState F) → Some x ≡ Some y → x ≡ y
@@ -281,6 +286,7 @@ module _ {F R I O : Type 0} (r : roads.Ghosts R I O) (i : link_in.Ghosts I) (o :
       lower_is = refl;
       mirror_is = (h.nodes_are.each c at h.found).mirror ∙ (ap mirror_of h.lower ∙ sym none);
       count = omega (arith, h.joins.none_dialled none, h.conns);
+      pipelines = none_since w v (h.joins.none_dialled none ∙ h.conns);
       added = λ j x found. cc;
     })
 
@@ -298,8 +304,10 @@ module _ {F R I O : Type 0} (r : roads.Ghosts R I O) (i : link_in.Ghosts I) (o :
         let idle_is : v.lowers next.0 ≡ idle = same ∙ (placed.undialled next.0 (omega (arith, next_is))).lower in
         let shows : ConnectionShows i o v h.joins.made next.0 new more = record {
           upper_is = subst (λ (u : parts.Upper). UpperShows u more.upper) (sym d.upper) h.conn;
+          origin = tt;
           node = mirror_number fields.targets of d.number of_is d.node_is ∙ sym (ap (λ (p : Place). p.node) d.to);
           mirror = sym (ap mirror_of idle_is);
+          here = sym (ap is_pipeline d.upper);
           lower_is = subst (λ (l : parts.Lower). LowerShows i o v h.joins.made next.0 new l (lower.Idle reached)) (sym idle_is)
               (both_so (is_served v next.0) (is_open (v.lowers next.0)) (served_at v next.0 d.number d.to d.runs d.last) (ap is_open idle_is), end_is);
         } in
@@ -312,6 +320,7 @@ module _ {F R I O : Type 0} (r : roads.Ghosts R I O) (i : link_in.Ghosts I) (o :
           lower_is = refl;
           mirror_is = sym mirror_is;
           count = omega (arith, d.last, next_is);
+          pipelines = λ c behind within. subst (λ (n : ℕ). is_pipeline (v.dialled n).upper ≡ true) (omega (arith, d.last, next_is, behind, within)) (ap is_pipeline d.upper);
           added = λ j x found. only_one new more shows next_is j x found;
         })
       where

@@ -25,13 +25,14 @@ use Rattle.play_nodes.specs.declared.connections.Lower.TheVariants as lower
 use Rattle.play_nodes.specs.declared.connections.Upper.TheVariants as upper
 use Rattle.play_nodes.specs.declared.nodes.NodeBooks.{NodeBooks}
 use Rattle.play_nodes.specs.declared.nodes.Nodes.{Nodes}
+use Rattle.play_nodes.specs.Elsewhere.{made_elsewhere, IsReads}
 use Rattle.play_nodes.specs.Places.{book_at}
-use Rattle.play_nodes.specs.Showing.{UpperShows, has_events, LowerShows, ConnectionShows, NodesShow}
+use Rattle.play_nodes.specs.Showing.{UpperShows, OriginShows, is_pipeline, has_events, LowerShows, ConnectionShows, NodesShow}
 use Rattle.play_nodes.specs.Frames.{KeepsNodes, EndsStay, IsKept, DialShows}
 use Rattle.play_nodes.proofs.Tables.{JoinedOr, joined_or}
 use Rattle.play_nodes.proofs.PlaceLaws.{element_within}
 use Rattle.play_nodes.proofs.WorldFrames.{KeepsRest}
-use Rattle.play_nodes.proofs.NodeFrames.{served_as, node_as, DialledBy, dialled_by}
+use Rattle.play_nodes.proofs.NodeFrames.{served_as, node_as, away_shows, DialledBy, dialled_by}
 use Rattle.play_nodes.proofs.MemberNodes.{both_so}
 
 -- THE WORLD
@@ -94,13 +95,16 @@ module _ {F I O : Type 0} (i : link_in.Ghosts I) (o : link_out.Ghosts O) (w : Wo
     },
   )
   lower_kept c new l lower.Ended within blocks is h = events_kept w v c k.keeps within ∙ h
+  lower_kept c new l lower.Elsewhere within blocks is h = tt
   lower_kept c new l real within blocks is h = absurd h
 
   conn_kept : (c : ℕ) (new : Nodes F I O) (x : Connection I O) → c < w.next_conn → new.blocks.items ≡ old.blocks.items → ConnectionShows i o w net c old x → ConnectionShows i o v made c new x
   conn_kept c new x within blocks h = record {
     upper_is = subst (λ (u : Dialled). UpperShows u.upper x.upper) (sym (k.keeps.dialled c within)) h.upper_is;
+    origin = subst (λ (u : Dialled). OriginShows u.from x.upper) (sym (k.keeps.dialled c within)) h.origin;
     node = h.node ∙ sym (node_kept w v c k.keeps within);
     mirror = h.mirror ∙ ap mirror_of (sym (k.keeps.lowers c));
+    here = h.here ∙ ap (λ (u : Dialled). is_pipeline u.upper) (sym (k.keeps.dialled c within));
     lower_is = subst (λ (l : parts.Lower). LowerShows i o v made c new l x.lower) (sym (k.keeps.lowers c))
         (lower_kept c new (w.lowers c) x.lower within blocks refl h.lower_is);
   }
@@ -142,10 +146,9 @@ module _ {F I O : Type 0} (i : link_in.Ghosts I) (o : link_out.Ghosts O) (w : Wo
     added = λ j x found. cc;
   })
 
-  -- The writer of a block dialled.
-  pub dial_kept : (new : Nodes F I O) (block : BlockId) (node : NodeId) (end : Conn I O) (x : Connection I O) → x ≡ record { upper = upper.Writer block; node = node; lower = lower.Idle end; mirror = None }
-      → new.connections.items ≡ old.connections.items ++ x ∷ [] → new.blocks.items ≡ old.blocks.items → new.nodes.items ≡ old.nodes.items → v.next_conn ≡ w.next_conn + 1 → DialShows i o v made block node w.next_conn end → NodesShow i o v made new
-  dial_kept new block node end x is set blocks nodes next d = all_kept new (x ∷ []) (record {
+  -- One connection was dialled.
+  one_kept : (new : Nodes F I O) (x : Connection I O) → new.connections.items ≡ old.connections.items ++ x ∷ [] → new.blocks.items ≡ old.blocks.items → new.nodes.items ≡ old.nodes.items → v.next_conn ≡ w.next_conn + 1 → ConnectionShows i o v made w.next_conn new x → NodesShow i o v made new
+  one_kept new x set blocks nodes next shows = all_kept new (x ∷ []) (record {
     set = set;
     count = next;
     blocks = blocks;
@@ -153,25 +156,44 @@ module _ {F I O : Type 0} (i : link_in.Ghosts I) (o : link_out.Ghosts O) (w : Wo
     added = λ j y found. only_one j y found;
   })
     where
+      same_some : (p q : Connection I O) → Some p ≡ Some q → p ≡ q
+      same_some p q e = cc
+
+      only_one : (j : ℕ) (y : Connection I O) → slice_get (x ∷ []) j ≡ Some y → ConnectionShows i o v made (w.next_conn + j) new y
+      only_one zero y found = subst (λ (n : ℕ). ConnectionShows i o v made n new y) (omega arith) (subst (λ (z : Connection I O). ConnectionShows i o v made w.next_conn new z) (same_some x y found) shows)
+      only_one (suc j) y found = cc
+
+  -- The writer of a block dialled.
+  pub dial_kept : (new : Nodes F I O) (block : BlockId) (node : NodeId) (end : Conn I O) (x : Connection I O) → x ≡ record { upper = upper.Writer block; node = node; lower = lower.Idle end; mirror = None }
+      → new.connections.items ≡ old.connections.items ++ x ∷ [] → new.blocks.items ≡ old.blocks.items → new.nodes.items ≡ old.nodes.items → v.next_conn ≡ w.next_conn + 1 → DialShows i o v made block node w.next_conn end → NodesShow i o v made new
+  dial_kept new block node end x is set blocks nodes next d =
+      one_kept new x set blocks nodes next (subst (λ (z : Connection I O). ConnectionShows i o v made w.next_conn new z) (sym is) shows)
+    where
       made_so : Connection I O
       made_so = record { upper = upper.Writer block; node = node; lower = lower.Idle end; mirror = None }
 
       shows : ConnectionShows i o v made w.next_conn new made_so
       shows = record {
         upper_is = subst (λ (u : parts.Upper). UpperShows u (upper.Writer block)) (sym d.upper) refl;
+        origin = tt;
         node = sym d.node_is;
         mirror = sym (ap mirror_of d.idle_is);
+        here = sym (ap is_pipeline d.upper);
         lower_is = subst (λ (l : parts.Lower). LowerShows i o v made w.next_conn new l (lower.Idle end)) (sym d.idle_is)
             (both_so (is_served v w.next_conn) (is_open (v.lowers w.next_conn)) d.served (ap is_open d.idle_is), d.end_is);
       }
 
-      same_some : (p q : Connection I O) → Some p ≡ Some q → p ≡ q
-      same_some p q e = cc
-
-      only_one : (j : ℕ) (y : Connection I O) → slice_get (x ∷ []) j ≡ Some y → ConnectionShows i o v made (w.next_conn + j) new y
-      only_one zero y found =
-          subst (λ (n : ℕ). ConnectionShows i o v made n new y) (omega arith) (subst (λ (z : Connection I O). ConnectionShows i o v made w.next_conn new z) (sym is ∙ same_some x y found) shows)
-      only_one (suc j) y found = cc
+  -- A reader dialled.
+  pub read_kept : (new : Nodes F I O) (reader : ℕ) (node : NodeId) → new.connections.items ≡ old.connections.items ++ made_elsewhere (upper.Reader reader) node ∷ [] → new.blocks.items ≡ old.blocks.items → new.nodes.items ≡ old.nodes.items
+      → v.next_conn ≡ w.next_conn + 1 → IsReads v reader node w.next_conn → NodesShow i o v made new
+  read_kept new reader node set blocks nodes next d = one_kept new (made_elsewhere (upper.Reader reader) node) set blocks nodes next (record {
+    upper_is = subst (λ (u : parts.Upper). UpperShows u (upper.Reader reader)) (sym d.upper) refl;
+    origin = tt;
+    node = sym d.node_is;
+    mirror = sym (ap mirror_of d.idle_is);
+    here = sym (ap is_pipeline d.upper);
+    lower_is = away_shows i o v made w.next_conn new (v.lowers w.next_conn) lower.Elsewhere refl;
+  })
 
 -- THE ENDS OF THE NODES
 

@@ -14,3 +14,4 @@ pub mod DueNodes
 pub mod KeptNodes
 pub mod WriterFrames
 pub mod WriterKeeping
+pub mod ElsewhereNodes

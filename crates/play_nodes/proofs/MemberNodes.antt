@@ -32,14 +32,19 @@ use Rattle.play_nodes.specs.declared.nodes.NodeBooks.{NodeBooks}
 use Rattle.play_nodes.specs.declared.nodes.Nodes.{Nodes}
 use Rattle.play_nodes.specs.declared.nodes.Seat.{Seat}
 use Rattle.play_nodes.specs.Places.{book_at, with_lower, IsSeated, Takes, PutBack, lower_left, BookSet}
-use Rattle.play_nodes.specs.Showing.{has_events, SeatShows, LowerShows, NodesShow, NodesStand, NodesLeft}
+use Rattle.play_nodes.specs.Showing.{is_pipeline, has_events, stands_here, SeatShows, LowerShows, NodesShow, NodesStand, NodesLeft}
 use Rattle.play_nodes.proofs.Tables.{set_here, set_set}
 use Rattle.play_nodes.proofs.PlaceLaws.{element_within}
 use Rattle.play_nodes.proofs.WorldFrames.{KeepsRest}
-use Rattle.play_nodes.proofs.NodeFrames.{IsApart, IsOfEvent, IsLeft, BookLeft, dialled_by, is_later, node_as, served_as, nodes_after, books_after, has_books_after, writers_after}
+use Rattle.play_nodes.proofs.NodeFrames.{IsApart, IsOfEvent, IsLeft, BookLeft, dialled_by, is_later, node_as, served_as, nodes_after, books_after, has_books_after, writers_after, elsewhere_after, pipelines_stay}
 
 pub both_so : (a b : Bool) → a ≡ true → b ≡ true → (a && b) ≡ true
 both_so a b x y = rw (x, y) refl
+
+-- what is left of a member stands among the nodes
+pub left_here : {I O : Type 0} (place : ℕ) (left : Option (Member I O)) → stands_here (lower_left {I = I} {O = O} place lower.Ended left) ≡ true
+left_here place None = refl
+left_here place (Some m) = refl
 
 pub never_so : (a b : Bool) → b ≡ false → (a && b) ≡ false
 never_so true b y = y
@@ -77,6 +82,10 @@ module _ {F I O : Type 0} (i : link_in.Ghosts I) (o : link_out.Ghosts O) where
   member_so : (w : World) (net : Net) (c : ℕ) (n : Nodes F I O) (m : Member I O) (place : ℕ) (l : parts.Lower) → w.lowers c ≡ l → LowerShows i o w net c n l (lower.Member m place) → IsMember w net c n m place
   member_so w net c n m place (writes full) is h = record { full = full; lower = is; events = h.0; seat = h.1 }
   member_so w net c n m place l is h = absurd h
+
+  -- its connection is of a pipeline
+  pub member_here : (w : World) (net : Net) (c : ℕ) (n : Nodes F I O) (s : Seat) → NodesShow i o w net n → (seat : IsSeated n c s) → is_pipeline (w.dialled c).upper ≡ true
+  member_here w net c n s shows seat = sym (shows.each c seat.at seat.found).here ∙ ap (λ (l : Lower I O). stands_here l) seat.lower
 
   pub member_shown : (w : World) (net : Net) (c : ℕ) (n : Nodes F I O) (s : Seat) → NodesShow i o w net n → (seat : IsSeated n c s) → IsMember w net c n seat.member s.place
   member_shown w net c n s shows seat =
@@ -150,6 +159,7 @@ module _ {F R I O : Type 0} (r : roads.Ghosts R I O) (i : link_in.Ghosts I) (o :
         upper = refl;
         node = refl;
         mirror = (stands.nodes_are.each c at seat.found).mirror ∙ sym (ap mirror_of h.lower ∙ (h.mirror ∙ sym (ap mirror_of k.lower)));
+        here = left_here s.place left ∙ sym (ap (λ (l : Lower I O). stands_here l) seat.lower);
         shows = subst (λ (l : parts.Lower). LowerShows i o v h.made c new l (lower_left s.place lower.Ended left)) (sym h.lower)
             (left_lower w v h.made c s.place new k.full h.full k.seat.block left k.events k.lower served h.lower h.fields at_place k.seat.of_block h.left_is);
         added = λ n x none. cc;
@@ -178,6 +188,8 @@ module _ {F R I O : Type 0} (r : roads.Ghosts R I O) (i : link_in.Ghosts I) (o :
               (has_books_after i o w v net h.made c s.place own written old new stands.nodes_are of book_left);
         };
         writers = writers_after i o w v net h.made c own written of;
+        elsewhere = elsewhere_after i o w v net h.made c own written (member_here i o w net c old s stands.nodes_are seat) of;
+        pipelines = pipelines_stay w v rest.dialled conns_same;
       }
     where
       book_same : (x y : BookState F) → Some x ≡ Some y → x ≡ y

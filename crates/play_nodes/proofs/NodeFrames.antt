@@ -1,5 +1,5 @@
 -- Nodes that show a world show the world after an event of one member.
-use Rattle.std.proofs.Common.{◌≡◌, ℕ, true, false, List, length, slice_get, slice_set, Option, Some, None, IfSome, IsSome, ◌⊎◌, inl, inr, refl, sym, ap, ◌∙◌, subst, length-set, ◌<◌, ◌≤◌, ◌+◌, ◌++◌, length-append, option_map, arith}
+use Rattle.std.proofs.Common.{◌≡◌, ℕ, Bool, true, false, List, length, slice_get, slice_set, Option, Some, None, IfSome, IsSome, ◌⊎◌, inl, inr, refl, sym, ap, ◌∙◌, subst, length-set, ◌<◌, ◌≤◌, ◌+◌, ◌++◌, length-append, option_map, arith}
 use Rattle.std.specs.Prelude.{nat_lt}
 use Rattle.std.proofs.lemmas.Bool.Decides.{nat_tests}
 use Rattle.hd_base.specs.declared.ends.Conn.{Conn}
@@ -14,7 +14,7 @@ use Rattle.pipe_member.specs.declared.member.Member.{Member}
 use Rattle.road_traffic.specs.Showing.{Net}
 use Rattle.link_messages.specs.Incomings.{IncomingState}
 use Rattle.world.specs.Parts as parts
-use Rattle.world.specs.Parts.{Dialled, by_writer, by_member, FullMember, idle, writes}
+use Rattle.world.specs.Parts.{Dialled, by_writer, by_member, FullMember, idle, writes, serves, recovers, ended_below}
 use Rattle.world.specs.Worlds.{World}
 use Rattle.world.specs.Connections.{is_served}
 use Rattle.world.specs.Nodes.{node_of}
@@ -29,7 +29,7 @@ use Rattle.play_nodes.specs.declared.connections.Lower.TheVariants as lower
 use Rattle.play_nodes.specs.declared.connections.Upper.{Upper}
 use Rattle.play_nodes.specs.declared.nodes.Nodes.{Nodes}
 use Rattle.play_nodes.specs.Places.{book_at}
-use Rattle.play_nodes.specs.Showing.{UpperShows, has_events, LowerShows, ConnectionShows, NodesShow, WritersStay, BooksShow, HasBooks}
+use Rattle.play_nodes.specs.Showing.{UpperShows, OriginShows, is_pipeline, IsPipeline, AllPipelines, has_events, stands_here, LowerShows, ConnectionShows, NodesShow, WritersStay, ElsewhereStays, BooksShow, HasBooks}
 use Rattle.play_nodes.proofs.Tables.{SetOr, set_or, JoinedOr, joined_or, same_or}
 use Rattle.play_nodes.proofs.PlaceLaws.{element_within}
 use Rattle.play_nodes.proofs.WorldFrames.{KeepsRest}
@@ -57,6 +57,27 @@ events_as w v c node block d rest within apart = rw (served_as w v c node block 
 
 pub node_as : (w v : World) (c node block d : ℕ) → KeepsRest w v c node block → d < w.next_conn → node_of v d ≡ node_of w d
 node_as w v c node block d rest within = ap (λ (x : Dialled). x.to.node) (rest.dialled d within)
+
+before_so : (a b : ℕ) → nat_lt a b ≡ true → a < b
+before_so a b e = grind (arith, nat_tests)
+
+behind_so : (a b : ℕ) → nat_lt a b ≡ false → b ≤ a
+behind_so a b e = grind (arith, nat_tests)
+
+-- Where each connection was of a pipeline, and so is what was dialled since, each is.
+pub pipelines_after : (w v : World) → ((d : ℕ) → d < w.next_conn → v.dialled d ≡ w.dialled d) → ((d : ℕ) → w.next_conn ≤ d → IsPipeline v d) → AllPipelines w → AllPipelines v
+pipelines_after w v dialled more all = λ d within. by d within (nat_lt d w.next_conn) refl
+  where
+    by : (d : ℕ) → d < v.next_conn → (q : Bool) → nat_lt d w.next_conn ≡ q → is_pipeline (v.dialled d).upper ≡ true
+    by d within true e = let before = before_so d w.next_conn e in subst (λ (u : Dialled). is_pipeline u.upper ≡ true) (sym (dialled d before)) (all d before)
+    by d within false e = more d (behind_so d w.next_conn e) within
+
+pub none_since : (w v : World) → v.next_conn ≡ w.next_conn → (d : ℕ) → w.next_conn ≤ d → IsPipeline v d
+none_since w v same d behind within = absurd (omega (arith, same, behind, within))
+
+-- Where nothing was dialled they stay so.
+pub pipelines_stay : (w v : World) → ((d : ℕ) → d < w.next_conn → v.dialled d ≡ w.dialled d) → v.next_conn ≡ w.next_conn → AllPipelines w → AllPipelines v
+pipelines_stay w v dialled same = pipelines_after w v dialled (none_since w v same)
 
 -- WHO DIALLED THE MIRRORS
 
@@ -95,6 +116,14 @@ writer_apart w c b e (Some q) h k = λ same. never (sym k ∙ (ap (λ (n : ℕ).
   where
     never : by_writer b ≡ by_member c → ⊥
     never x = cc
+
+true_false : (b : Bool) → b ≡ true → b ≡ false → ⊥
+true_false b x y = cc
+
+-- a connection that is none of a pipeline isn't that to a member's mirror
+elsewhere_apart : (w : World) (c d : ℕ) (mirror : Option ℕ) → DialledBy w c mirror → is_pipeline (w.dialled d).upper ≡ false → IsApart mirror d
+elsewhere_apart w c d None h away = tt
+elsewhere_apart w c d (Some q) h away = λ same. true_false (is_pipeline (w.dialled d).upper) (ap (λ (n : ℕ). is_pipeline (w.dialled n).upper) (sym same) ∙ ap is_pipeline h) away
 
 -- A lower end of another connection is none of a member's two ends, and neither is an upper end of another one than its mirror's.
 lower_none : (c : ℕ) (mirror : Option ℕ) (d : ℕ) → (d ≡ c → ⊥) → IsNoneOf c mirror d true
@@ -157,6 +186,15 @@ module _ {F I O : Type 0} (i : link_in.Ghosts I) (o : link_out.Ghosts O) where
     pub blocks : new.blocks.items ≡ old.blocks.items
     pub books : (n p : ℕ) → (n ≡ node → p ≡ place → ⊥) → book_at new.nodes.items n p ≡ book_at old.nodes.items n p
 
+  -- nothing is said of a lower end that is kept elsewhere
+  pub away_shows : (w : World) (net : Net) (c : ℕ) (n : Nodes F I O) (l : parts.Lower) (real : Lower I O) → stands_here real ≡ false → LowerShows i o w net c n l real
+  away_shows w net c n idle lower.Elsewhere away = tt
+  away_shows w net c n (writes full) lower.Elsewhere away = tt
+  away_shows w net c n (serves b s) lower.Elsewhere away = tt
+  away_shows w net c n recovers lower.Elsewhere away = tt
+  away_shows w net c n ended_below lower.Elsewhere away = tt
+  away_shows w net c n l real away = cc
+
   -- another lower end
   lower_stays : (w v : World) (net made : Net) (c d : ℕ) (own : Option ℕ) (written : ℕ) (old new : Nodes F I O) (l : parts.Lower) (real : Lower I O) → IsOfEvent i o w v net made c own written → d < w.next_conn → (d ≡ c → ⊥)
       → new.blocks.items ≡ old.blocks.items → w.lowers d ≡ l → LowerShows i o w net d old l real → LowerShows i o v made d new l real
@@ -175,6 +213,7 @@ module _ {F I O : Type 0} (i : link_in.Ghosts I) (o : link_out.Ghosts O) where
   )
   lower_stays w v net made c d own written old new l lower.Ended k within apart blocks is h =
       events_as w v c (node_of w c) written d k.rest within apart ∙ h
+  lower_stays w v net made c d own written old new l lower.Elsewhere k within apart blocks is h = tt
   lower_stays w v net made c d own written old new l real k within apart blocks is h = absurd h
 
   -- another connection
@@ -182,8 +221,10 @@ module _ {F I O : Type 0} (i : link_in.Ghosts I) (o : link_out.Ghosts O) where
       → ConnectionShows i o w net d old x → ConnectionShows i o v made d new x
   conn_stays w v net made c d own written old new x k within apart blocks h = record {
     upper_is = subst (λ (u : Dialled). UpperShows u.upper x.upper) (sym (k.rest.dialled d within)) h.upper_is;
+    origin = subst (λ (u : Dialled). OriginShows u.from x.upper) (sym (k.rest.dialled d within)) h.origin;
     node = h.node ∙ sym (node_as w v c (node_of w c) written d k.rest within);
     mirror = h.mirror ∙ ap mirror_of (sym (k.rest.lowers d apart));
+    here = h.here ∙ ap (λ (u : Dialled). is_pipeline u.upper) (sym (k.rest.dialled d within));
     lower_is = subst (λ (l : parts.Lower). LowerShows i o v made d new l x.lower) (sym (k.rest.lowers d apart))
         (lower_stays w v net made c d own written old new (w.lowers d) x.lower k within apart blocks refl h.lower_is);
   }
@@ -197,6 +238,7 @@ module _ {F I O : Type 0} (i : link_in.Ghosts I) (o : link_out.Ghosts O) where
     pub upper : last.upper ≡ at.upper
     pub node : last.node ≡ at.node
     pub mirror : option_map (λ (d : ConnId). d.0) last.mirror ≡ mirror_of (v.lowers c)
+    pub here : stands_here last.lower ≡ stands_here at.lower
     pub shows : LowerShows i o v made c new (v.lowers c) last.lower
     pub added : (k : ℕ) (x : Connection I O) → slice_get more k ≡ Some x → ConnectionShows i o v made (w.next_conn + k) new x
     pub blocks : new.blocks.items ≡ old.blocks.items
@@ -216,8 +258,11 @@ module _ {F I O : Type 0} (i : link_in.Ghosts I) (o : link_out.Ghosts O) where
       subst (λ (n : ℕ). ConnectionShows i o v made n new x) (sym here.0) (subst (λ (y : Connection I O). ConnectionShows i o v made c new y) (sym here.1) (record {
         upper_is = subst (λ (y : Upper). UpperShows (v.dialled c).upper y) (sym l.upper)
             (subst (λ (u : Dialled). UpperShows u.upper at.upper) (sym (k.rest.dialled c k.before)) (h.each c at l.found).upper_is);
+        origin = subst (λ (y : Upper). OriginShows (v.dialled c).from y) (sym l.upper)
+            (subst (λ (u : Dialled). OriginShows u.from at.upper) (sym (k.rest.dialled c k.before)) (h.each c at l.found).origin);
         node = ap (λ (n : NodeId). n.0) l.node ∙ ((h.each c at l.found).node ∙ sym (node_as w v c (node_of w c) written c k.rest k.before));
         mirror = l.mirror;
+        here = l.here ∙ ((h.each c at l.found).here ∙ ap (λ (u : Dialled). is_pipeline u.upper) (sym (k.rest.dialled c k.before)));
         lower_is = l.shows;
       }))
   each_set w v net made c d own written old new at last x more h k l (inr there) =
@@ -291,3 +336,11 @@ module _ {I O : Type 0} (i : link_in.Ghosts I) (o : link_out.Ghosts O) where
   pub writers_after : (w v : World) (net made : Net) (c : ℕ) (own : Option ℕ) (written : ℕ) → IsOfEvent i o w v net made c own written → WritersStay i o w net v made
   writers_after w v net made c own written k = λ b d e by is.
       k.others d false e (upper_none c own d (writer_apart w c b d own k.dialled by)) is
+
+  -- So do those of connections that are none of a pipeline.
+  pub elsewhere_after : (w v : World) (net made : Net) (c : ℕ) (own : Option ℕ) (written : ℕ) → is_pipeline (w.dialled c).upper ≡ true → IsOfEvent i o w v net made c own written → ElsewhereStays i o w net v made
+  elsewhere_after w v net made c own written here k d lower e away is = k.others d lower e (none_away lower) is
+    where
+      none_away : (lower : Bool) → IsNoneOf c own d lower
+      none_away true = lower_none c own d (λ same. true_false (is_pipeline (w.dialled c).upper) here (ap (λ (n : ℕ). is_pipeline (w.dialled n).upper) (sym same) ∙ away))
+      none_away false = upper_none c own d (elsewhere_apart w c d own k.dialled away)

@@ -42,7 +42,7 @@ use Rattle.play_nodes.specs.declared.nodes.Nodes.{Nodes}
 use Rattle.play_nodes.specs.declared.nodes.Seat.{Seat}
 use Rattle.play_nodes.specs.Faults.{fault_at}
 use Rattle.play_nodes.specs.Places.{book_at, IsSeated, IsUnseated, Takes, Follows, member_of, BookSet}
-use Rattle.play_nodes.specs.Showing.{has_events, SeatShows, LowerShows, NodesShow, NodesStand}
+use Rattle.play_nodes.specs.Showing.{IsPipeline, has_events, stands_here, SeatShows, LowerShows, NodesShow, NodesStand}
 use Rattle.play_nodes.specs.Events.{IsCaused, EventEnds, ReadyShows}
 use Rattle.play_nodes.proofs.Tables.{element}
 use Rattle.play_nodes.proofs.WorldFrames.{KeepsRest, rest_after, conns_after}
@@ -109,30 +109,31 @@ module _ {F I O : Type 0} where
 module _ {F I O : Type 0} (i : link_in.Ghosts I) (o : link_out.Ghosts O) where
   -- WHERE NO MEMBER STANDS
 
-  seat_needed : (w : World) (net : Net) (c : ℕ) (n : Nodes F I O) (at : Connection I O) (l : parts.Lower) (real : Lower I O) → slice_get n.connections.items c ≡ Some at → at.node.0 ≡ node_of w c → at.lower ≡ real → has_events w c ≡ true
+  seat_needed : (w : World) (net : Net) (c : ℕ) (n : Nodes F I O) (at : Connection I O) (l : parts.Lower) (real : Lower I O) → slice_get n.connections.items c ≡ Some at → at.node.0 ≡ node_of w c → at.lower ≡ real → stands_here real ≡ true → has_events w c ≡ true
       → (l ≡ idle → ⊥) → ((place : ℕ) (m : Member I O) (full : FullMember) → SeatShows i o w net c n full m place → IsSome (book_at n.nodes.items (node_of w c) place)) → LowerShows i o w net c n l real → IsUnseated n c → ⊥
-  seat_needed w net c n at idle (lower.Idle end) found node is events busy books h none = busy refl
-  seat_needed w net c n at (writes full) (lower.Member m place) found node is events busy books h none =
+  seat_needed w net c n at idle (lower.Idle end) found node is here events busy books h none = busy refl
+  seat_needed w net c n at (writes full) (lower.Member m place) found node is here events busy books h none =
       not_none (book_at n.nodes.items (node_of w c) place) (books place m full h.1) (ap (λ (q : ℕ). book_at n.nodes.items q place) (sym node) ∙ none at m place found is)
     where
       not_none : (x : Option (BookState F)) → IsSome x → x ≡ None → ⊥
       not_none None k e = cc
       not_none (Some b) k e = cc
-  seat_needed w net c n at l lower.Ended found node is events busy books h none = true_false (has_events w c) events h
-  seat_needed w net c n at l real found node is events busy books h none = h
+  seat_needed w net c n at l lower.Ended found node is here events busy books h none = true_false (has_events w c) events h
+  seat_needed w net c n at l lower.Elsewhere found node is here events busy books h none = cc
+  seat_needed w net c n at l real found node is here events busy books h none = h
 
   -- A member stands where a lower end has events that isn't idle.
-  pub seated_shown : (w : World) (net : Net) (c : ℕ) (n : Nodes F I O) → NodesShow i o w net n → Placed w → has_events w c ≡ true → (w.lowers c ≡ idle → ⊥) → IsUnseated n c → ⊥
-  seated_shown w net c n nodes placed events busy none =
+  pub seated_shown : (w : World) (net : Net) (c : ℕ) (n : Nodes F I O) → NodesShow i o w net n → IsPipeline w c → Placed w → has_events w c ≡ true → (w.lowers c ≡ idle → ⊥) → IsUnseated n c → ⊥
+  seated_shown w net c n nodes of placed events busy none =
       let served : is_served w c ≡ true = and-left (is_served w c) (is_open (w.lowers c)) events in
       let at = element n.connections.items c (subst (λ (k : ℕ). c < k) (sym nodes.count) (served_within w c served)) in
       let shows = nodes.each c at.0 at.1 in
-      seat_needed w net c n at.0 (w.lowers c) at.0.lower at.1 shows.node refl events busy
+      seat_needed w net c n at.0 (w.lowers c) at.0.lower at.1 shows.node refl (shows.here ∙ of (served_within w c served)) events busy
       (λ place m full k. nodes.has_books (node_of w c) place k.block (placed.dialled c (served_within w c served)).to k.at_place) shows.lower_is none
 
 module _ {F R I O : Type 0} (r : roads.Ghosts R I O) (i : link_in.Ghosts I) (o : link_out.Ghosts O) where
-  pub is_seated : (w : World) (net : Net) (road : R) (c : ℕ) (n : Nodes F I O) → NodesStand r i o w net road n → Placed w → has_events w c ≡ true → (w.lowers c ≡ idle → ⊥) → IsUnseated n c → ⊥
-  is_seated w net road c n stands placed events busy none = seated_shown i o w net c n stands.nodes_are placed events busy none
+  pub is_seated : (w : World) (net : Net) (road : R) (c : ℕ) (n : Nodes F I O) → NodesStand r i o w net road n → IsPipeline w c → Placed w → has_events w c ≡ true → (w.lowers c ≡ idle → ⊥) → IsUnseated n c → ⊥
+  is_seated w net road c n stands of placed events busy none = seated_shown i o w net c n stands.nodes_are of placed events busy none
 
 module _ {F R I O : Type 0} (f : files.Ghosts F) (r : roads.Ghosts R I O) (i : link_in.Ghosts I) (o : link_out.Ghosts O) where
   -- WHY AN EVENT FAILED
@@ -169,7 +170,7 @@ module _ {F R I O : Type 0} (f : files.Ghosts F) (r : roads.Ghosts R I O) (i : l
   pub ready_shows : (old mid set new : Nodes F I O) (conn : ConnId) (s : Seat) (m : Member I O) (book book' : BookState F) (left : Result (Option (Member I O)) MemberFault) (result : Result (Unit {0}) NodesFault) (road road' : R) → (seat : IsSeated old conn.0 s)
       → Takes old mid s.conn (Some m) → book_at mid.nodes.items s.node.0 s.place ≡ Some book → BookSet mid set s.node.0 s.place book' → member_events.ReadyShows f r i o m book book' road road' left → Follows set new s left result
       → ReadyShows f r i o conn old new road road' result
-  ready_shows old mid set new conn s m book book' left result road road' seat taken at b shows follows = λ w net queues stands lawful due.
+  ready_shows old mid set new conn s m book book' left result road road' seat taken at b shows follows = λ w net queues stands of lawful due.
       let c : ℕ = conn.0 in
       let t : Takes old mid c (Some seat.member) = taken_as old mid c s m seat taken in
       let ready : member_events.ReadyShows f r i o seat.member book book' road road' left = subst (λ (y : Member I O). member_events.ReadyShows f r i o y book book' road road' left) (member_as old mid c s m seat taken) shows in

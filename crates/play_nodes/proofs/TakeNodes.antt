@@ -17,7 +17,7 @@ use Rattle.pipe_member.specs.Steps as members
 use Rattle.road_traffic.specs.Showing.{Net}
 use Rattle.world.specs.declared.events.Event.TheVariants as event
 use Rattle.world.specs.Parts as parts
-use Rattle.world.specs.Parts.{Message, request, packet, ack, response, read_status, recovery_answer, FullMember, by_member, idle, writes}
+use Rattle.world.specs.Parts.{Message, request, packet, ack, response, read_status, recovery_answer, FullMember, by_writer, by_member, by_reader, by_primary, idle, writes}
 use Rattle.world.specs.Worlds.{World, apply}
 use Rattle.world.specs.Connections.{Next, message, the_end, next_down, next_up, down_taken, up_taken, is_served, is_alive}
 use Rattle.world.specs.Nodes.{block_of, replica_at, pending_at, takes_next, above_of, below_of}
@@ -26,7 +26,7 @@ use Rattle.world.specs.Events.{happens}
 use Rattle.world_laws.specs.Placing.{IsUpper, Placed}
 use Rattle.world_laws.proofs.FactTables.{and-left, and-right}
 use Rattle.world_orders.specs.Orders as orders
-use Rattle.world_orders.specs.Orders.{Ordered, comes_up, pipeline, is_packet}
+use Rattle.world_orders.specs.Orders.{Ordered, purpose_of, IsBelow, comes_up, pipeline, is_packet}
 use Rattle.world_orders.specs.Takes as takes
 use Rattle.world_orders.specs.Takes.{TakesInOrder}
 use Rattle.world_orders.proofs.AllOrdered.{next-found}
@@ -49,7 +49,7 @@ use Rattle.play_nodes.specs.declared.connections.Connection.{Connection}
 use Rattle.play_nodes.specs.declared.connections.Upper.{Upper}
 use Rattle.play_nodes.specs.declared.connections.Upper.TheVariants as upper
 use Rattle.play_nodes.specs.Places.{book_at, IsSeated, IsUnseated, Takes, Follows, member_above, BookSet}
-use Rattle.play_nodes.specs.Showing.{UpperShows, has_events, NodesStand}
+use Rattle.play_nodes.specs.Showing.{UpperShows, is_pipeline, has_events, NodesStand}
 use Rattle.play_nodes.specs.Events.{DownShows, UpShows}
 use Rattle.play_nodes.proofs.WorldFrames.{rest_after, rest_taken, conns_after, conns_taken}
 use Rattle.play_nodes.proofs.NodeFrames.{IsApart}
@@ -173,13 +173,25 @@ mirror_of_upper w c d full ordered within upper lower = subst (λ (l : parts.Low
 
 -- THE MEMBER ABOVE
 
+-- it is of a pipeline
+pub pipeline_of : (u : parts.Upper) → purpose_of u ≡ pipeline → is_pipeline u ≡ true
+pipeline_of (by_writer b) e = refl
+pipeline_of (by_member d) e = refl
+pipeline_of (by_reader i) e = cc
+pipeline_of (by_primary i place) e = cc
+
+-- A member's connection is of a pipeline.
+pub writes_pipeline : (w : World) (c : ℕ) (full : FullMember) → Ordered w → w.lowers c ≡ writes full → is_pipeline (w.dialled c).upper ≡ true
+writes_pipeline w c full ordered is =
+    pipeline_of (w.dialled c).upper (subst (λ (l : parts.Lower). IsBelow (w.dialled c).upper (w.down_marks c).taken (w.ups c) l) is (ordered.below c)).writes
+
 -- who dialled is the world's member
 abbrev pub AboveIs : ℕ → Option ConnId → Type 0
 AboveIs d a = (conn : ConnId) × ((a ≡ Some conn) × (conn.0 ≡ d))
 
 upper_so : (d : ℕ) (u : Upper) → UpperShows (by_member d) u → AboveIs d (member_above (Some u))
 upper_so d (upper.Member conn) h = (conn, (refl, h))
-upper_so d (upper.Writer block) h = absurd h
+upper_so d u h = absurd h
 
 within_so : (a b : ℕ) → nat_lt a b ≡ true → a < b
 within_so a b h = grind (arith, nat_tests, h)
@@ -209,14 +221,14 @@ module _ {F R I O : Type 0} (r : roads.Ghosts R I O) (i : link_in.Ghosts I) (o :
       never x e = cc
 
   -- A member stands where it hears.
-  pub above_seated : (w : World) (net : Net) (road : R) (conn : ConnId) (d : ℕ) (above : ConnId) (n : Nodes F I O) → NodesStand r i o w net road n → Placed w → (queues : Queues) → (w.dialled conn.0).upper ≡ by_member d → is_due w queues (due.Up conn) ≡ true
+  pub above_seated : (w : World) (net : Net) (road : R) (conn : ConnId) (d : ℕ) (above : ConnId) (n : Nodes F I O) → NodesStand r i o w net road n → Ordered w → Placed w → (queues : Queues) → (w.dialled conn.0).upper ≡ by_member d → is_due w queues (due.Up conn) ≡ true
       → member_above (option_map (λ x. x.upper) (slice_get n.connections.items conn.0)) ≡ Some above → IsUnseated n above.0 → ⊥
-  above_seated w net road conn d above n stands placed queues upper due is none =
+  above_seated w net road conn d above n stands ordered placed queues upper due is none =
       let hearing : HearsAt w conn.0 d = hears_at w conn d queues upper due in
       let within : conn.0 < w.next_conn = within_so conn.0 w.next_conn hearing.comes.known in
       let member : d < w.next_conn = subst (λ (u : parts.Upper). IsUpper w.next_conn u) upper (placed.dialled conn.0 within).upper in
       let served : is_served w d ≡ true = rw (test_so d w.next_conn member, hearing.heard.alive) refl in
-      is_seated r i o w net road d n stands placed (rw (served, hearing.opened) refl) (λ idle. busy hearing.full (sym idle ∙ hearing.lower))
+      is_seated r i o w net road d n stands (λ dialled. writes_pipeline w d hearing.full ordered hearing.lower) placed (rw (served, hearing.opened) refl) (λ idle. busy hearing.full (sym idle ∙ hearing.lower))
       (subst (λ (q : ℕ). IsUnseated n q) (above_as w net road conn d above n stands queues upper due is) none)
     where
       busy : (full : FullMember) → idle ≡ writes full → ⊥
@@ -229,7 +241,7 @@ module _ {F R I O : Type 0} (f : files.Ghosts F) (r : roads.Ghosts R I O) (i : l
   pub down_shows : (old mid set new : Nodes F I O) (conn : ConnId) (s : Seat) (m : Member I O) (book book' : BookState F) (left : Result (Option (Member I O)) MemberFault) (result : Result (Unit {0}) NodesFault) (road road' : R) → (seat : IsSeated old conn.0 s)
       → Takes old mid s.conn (Some m) → book_at mid.nodes.items s.node.0 s.place ≡ Some book → BookSet mid set s.node.0 s.place book' → member_events.DownShows f r i o m book book' road road' left → Follows set new s left result
       → DownShows f r i o conn old new road road' result
-  down_shows old mid set new conn s m book book' left result road road' seat taken at b shows follows = λ w net queues answered stands lawful due busy.
+  down_shows old mid set new conn s m book book' left result road road' seat taken at b shows follows = λ w net queues answered stands of lawful due busy.
       let c : ℕ = conn.0 in
       let t : Takes old mid c (Some seat.member) = taken_as old mid c s m seat taken in
       let down : member_events.DownShows f r i o seat.member book book' road road' left = subst (λ (y : Member I O). member_events.DownShows f r i o y book book' road road' left) (member_as old mid c s m seat taken) shows in

@@ -5,3 +5,4 @@ pub mod Events
 pub mod Beginning
 pub mod Dues
 pub mod Frames
+pub mod Elsewhere

@@ -1,5 +1,5 @@
 -- The nodes of a play show a world.
-use Rattle.std.specs.Prelude.{◌≡◌, ◌<◌, ℕ, ◌&&◌, Bool, true, false, List, length, slice_get, option_map, unwrap_or, Some, IsSome}
+use Rattle.std.specs.Prelude.{◌≡◌, ◌<◌, ℕ, ◌&&◌, Bool, true, false, List, length, slice_get, option_map, unwrap_or, Option, Some, IsSome}
 use Rattle.hd_base.specs.declared.ends.Conn.{Conn}
 use Rattle.hd_base.specs.declared.numbers.BlockId.{BlockId}
 use Rattle.hd_base.specs.declared.numbers.ConnId.{ConnId}
@@ -11,7 +11,7 @@ use Rattle.replica_files.specs.Books.{replica_of}
 use Rattle.pipe_member.specs.declared.member.Member.{Member}
 use Rattle.road_traffic.specs.Showing.{Net}
 use Rattle.world.specs.Parts as parts
-use Rattle.world.specs.Parts.{by_writer, by_member, FullMember, idle, writes}
+use Rattle.world.specs.Parts.{by_writer, by_member, by_reader, by_primary, FullMember, idle, writes}
 use Rattle.world.specs.Worlds.{World}
 use Rattle.world.specs.Connections.{is_served}
 use Rattle.world.specs.Nodes.{node_of, block_of}
@@ -33,7 +33,29 @@ use Rattle.play_nodes.specs.Places.{book_at}
 abbrev pub UpperShows : parts.Upper → Upper → Type 0
 UpperShows (by_writer b) (upper.Writer block) = block.0 ≡ b
 UpperShows (by_member d) (upper.Member conn) = conn.0 ≡ d
+UpperShows (by_reader i) (upper.Reader reader) = reader ≡ i
+UpperShows (by_primary i place) (upper.Primary primary at node) = (primary ≡ i) × (at ≡ place)
 UpperShows other real = ⊥
+
+-- From where: a primary dials from its node.
+abbrev pub OriginShows : Option parts.Place → Upper → Type 0
+OriginShows from (upper.Primary primary at node) = option_map (λ (p : parts.Place). p.node) from ≡ Some node.0
+OriginShows from other = Unit {0}
+
+-- the connection is of a pipeline: a writer or a member dialled it
+abbrev pub is_pipeline : parts.Upper → Bool
+is_pipeline (by_writer b) = true
+is_pipeline (by_member d) = true
+is_pipeline (by_reader i) = false
+is_pipeline (by_primary i place) = false
+
+-- If it was dialled, it is of a pipeline.
+abbrev pub IsPipeline : World → ℕ → Type 0
+IsPipeline w c = c < w.next_conn → is_pipeline (w.dialled c).upper ≡ true
+
+-- So is each connection: no reader and no primary has dialled.
+abbrev pub AllPipelines : World → Type 0
+AllPipelines w = (c : ℕ) → IsPipeline w c
 
 -- the lower end may still have events: its node runs, and it hasn't ended
 abbrev pub has_events : World → ℕ → Bool
@@ -47,20 +69,28 @@ pub record SeatShows {F I O : Type 0} (i : link_in.Ghosts I) (o : link_out.Ghost
   pub at_place : slice_get n.blocks.items place ≡ Some block
   pub of_block : block.0 ≡ block_of full.fields
 
--- A lower end that has events, or one that has none.
+-- the lower end stands among the nodes, and isn't kept elsewhere
+abbrev pub stands_here : {I O : Type 0} → Lower I O → Bool
+stands_here lower.Elsewhere = false
+stands_here other = true
+
+-- A lower end that has events, or one that has none; of one that is kept elsewhere nothing is said.
 abbrev pub LowerShows : {F I O : Type 0} → link_in.Ghosts I → link_out.Ghosts O → World → Net → ℕ → Nodes F I O →
     parts.Lower → Lower I O → Type 0
 LowerShows i o w net c n idle (lower.Idle end) = (has_events w c ≡ true) × IsEndOf i o w net c true end
 LowerShows i o w net c n (writes full) (lower.Member m place) =
     (has_events w c ≡ true) × SeatShows i o w net c n full m place
 LowerShows i o w net c n l lower.Ended = has_events w c ≡ false
+LowerShows i o w net c n l lower.Elsewhere = Unit {0}
 LowerShows i o w net c n l other = ⊥
 
 pub record ConnectionShows {F I O : Type 0} (i : link_in.Ghosts I) (o : link_out.Ghosts O) (w : World) (net : Net)
     (c : ℕ) (n : Nodes F I O) (x : Connection I O) : Type 0 where
   pub upper_is : UpperShows (w.dialled c).upper x.upper
+  pub origin : OriginShows (w.dialled c).from x.upper
   pub node : x.node.0 ≡ node_of w c
   pub mirror : option_map (λ (d : ConnId). d.0) x.mirror ≡ mirror_of (w.lowers c)
+  pub here : stands_here x.lower ≡ is_pipeline (w.dialled c).upper
   pub lower_is : LowerShows i o w net c n (w.lowers c) x.lower
 
 -- NODES
@@ -122,9 +152,18 @@ WritersStay {I} {O} i o w net v made = (b d : ℕ) (e : Conn I O) → (w.dialled
     IsEndOf i o w net d false e
     → IsEndOf i o v made d false e
 
--- The nodes and the roads show the world after, and so do the ends of writers.
+-- So is each end of a connection that is none of a pipeline.
+abbrev pub ElsewhereStays : {I O : Type 0} → link_in.Ghosts I → link_out.Ghosts O → World → Net → World → Net → Type 0
+ElsewhereStays {I} {O} i o w net v made = (d : ℕ) (lower : Bool) (e : Conn I O) →
+    is_pipeline (w.dialled d).upper ≡ false → IsEndOf i o w net d lower e
+    → IsEndOf i o v made d lower e
+
+-- The nodes and the roads show the world after, and so do the ends of writers, and of connections that are none of a
+-- pipeline. What was dialled is of a pipeline.
 pub record NodesLeft {F R I O : Type 0} (r : roads.Ghosts R I O) (i : link_in.Ghosts I) (o : link_out.Ghosts O)
     (w : World) (net : Net) (v : World) (road : R) (n : Nodes F I O) : Type 0 where
   pub made : Net
   pub stands : NodesStand r i o v made road n
   pub writers : WritersStay i o w net v made
+  pub elsewhere : ElsewhereStays i o w net v made
+  pub pipelines : AllPipelines w → AllPipelines v

@@ -1,7 +1,8 @@
-//! The connections that writers dial.
+//! The connections that writers and readers dial.
 
 ghost use Rattle.play_nodes.specs.Places.{KeepsSizes};
 ghost use Rattle.play_nodes.specs.Frames.{DialledShows};
+ghost use Rattle.play_nodes.specs.Elsewhere.{IsBehind, ReadShows};
 
 use crate::connections::{Connection, Lower, Upper};
 use crate::faults::NodesFault;
@@ -23,6 +24,24 @@ impl<F: Files, I: LinkIn, O: LinkOut> Nodes<F, I, O> {
             upper: Upper::Writer { block },
             node,
             lower: Lower::Idle(end),
+            mirror: None,
+        };
+        match self.connections.push(connection) {
+            Ok(()) => Ok(()),
+            Err(_) => Err(NodesFault::Memory),
+        }
+    }
+
+    /// Adds the connection that a reader dialled at a node, whose lower end is kept elsewhere.
+    pub fn read(&mut self, reader: u64, node: NodeId) -> Result<(), NodesFault>
+        ensures behind { IsBehind (Upper.Reader reader) node self.old self.new result }
+        ensures shows { ReadShows I.LinkIn O.LinkOut reader node self.old self.new result }
+        ensures sizes { KeepsSizes self.old self.new }
+    {
+        let connection = Connection {
+            upper: Upper::Reader { reader },
+            node,
+            lower: Lower::Elsewhere,
             mirror: None,
         };
         match self.connections.push(connection) {

@@ -2,7 +2,7 @@
 
 ghost use Rattle.std.specs.Prelude.{◌≡◌, option_map, slice_get};
 ghost use Rattle.member_events.specs.Roads.{RoadsPass};
-ghost use Rattle.play_nodes.specs.Dues.{stands, is_idle, TellsIdle, TellsReady, TellsDown, TellsUp};
+ghost use Rattle.play_nodes.specs.Dues.{stands, is_idle, is_elsewhere, TellsElsewhere, TellsIdle, TellsReady, TellsDown, TellsUp};
 
 use crate::connections::Lower;
 use crate::nodes::Nodes;
@@ -10,6 +10,18 @@ use hd_base::{ConnId, Files, LinkIn, LinkOut, Roads, Standing};
 use road_traffic::standing;
 
 impl<F: Files, I: LinkIn, O: LinkOut> Nodes<F, I, O> {
+    /// Whether the lower end of a connection is kept elsewhere: a reader or a primary dialled.
+    pub fn is_elsewhere(&self, conn: ConnId) -> bool
+        ensures place { result ≡ is_elsewhere self.now conn.0 }
+        ensures tells { TellsElsewhere I.LinkIn O.LinkOut conn self.now result }
+    {
+        let conn = conn.0 as usize;
+        if conn >= self.connections.len() {
+            return false;
+        }
+        !self.connections[conn].lower.stands_here()
+    }
+
     /// Whether the lower end of a connection takes its first message next, if it takes one.
     pub fn takes_first(&self, conn: ConnId) -> bool
         ensures { TellsIdle I.LinkIn O.LinkOut conn self.now result }

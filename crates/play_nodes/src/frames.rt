@@ -1,5 +1,6 @@
 //! What the events of writers leave of the nodes, and what the events of the nodes leave of the writers.
 
+ghost use Rattle.play_nodes.specs.Elsewhere.{NodesFollow};
 ghost use Rattle.play_nodes.specs.Frames.{NodesEndsStay, NodesStay, OwnKeeps, HeardKeeps, DownKeeps, ReadyKeeps, MirrorKeeps};
 
 use hd_base::{Files, LinkIn, LinkOut};
@@ -12,6 +13,11 @@ pub fn nodes_ends_stay<I: LinkIn, O: LinkOut>()
 /// Nodes that show a world show the world after an event that keeps what they show, and dials nothing.
 pub fn nodes_stay<F: Files, I: LinkIn, O: LinkOut>()
     ensures { NodesStay F.Files I.LinkIn O.LinkOut }
+{}
+
+/// Nodes that show a world show the world after a lower end that is kept elsewhere acted, with books of its node.
+pub fn nodes_follow<F: Files, I: LinkIn, O: LinkOut>()
+    ensures { NodesFollow F.Files I.LinkIn O.LinkOut }
 {}
 
 /// The events of writers keep what the nodes show.

@@ -74,7 +74,7 @@ impl<F: Files, I: LinkIn, O: LinkOut> Nodes<F, I, O> {
         }
         match self.connections[conn].upper {
             Upper::Member { conn } => Some(conn),
-            Upper::Writer { .. } => None,
+            Upper::Writer { .. } | Upper::Reader { .. } | Upper::Primary { .. } => None,
         }
     }
 

@@ -10,13 +10,13 @@ use Rattle.play_nodes.proofs.TakeNodes.{takes_at, down_shows}
 use Rattle.play_nodes.proofs.nodes.Nodes.member_down.Goals as goal
 
 pub returns-in_default-clause-shows : goal.returns-in_default-clause-shows
-returns-in_default-clause-shows g c = λ w net queues answered stands lawful due busy.
+returns-in_default-clause-shows g c = λ w net queues answered stands of lawful due busy.
     let taking = takes_at w c.args.conn queues due in
-    absurd (is_seated g.R.Roads g.I.LinkIn g.O.LinkOut w net c.args.roads.now c.args.conn.0 c.args.self.now stands lawful.placed taking.events busy
+    absurd (is_seated g.R.Roads g.I.LinkIn g.O.LinkOut w net c.args.roads.now c.args.conn.0 c.args.self.now stands of lawful.placed taking.events busy
     (subst (λ x. IsSeat c.args.self.now c.args.conn.0 x) (none_so c.seat_of.result c.in_default.not-Some) c.seat_of.ensures))
 
 pub returns-in_default-take-clause-shows : goal.returns-in_default-take-clause-shows
-returns-in_default-take-clause-shows g c = λ w net queues answered stands lawful due busy.
+returns-in_default-take-clause-shows g c = λ w net queues answered stands of lawful due busy.
     absurd (taken_none c.args.self.now c.take.new.self c.args.conn.0 c.in-Some.seat c.in-Some.ensures
     (subst (λ x. Takes c.args.self.now c.take.new.self c.in-Some.seat.conn x) (none_so c.take.result c.in_default-take.not-Some) c.take.ensures))
 

@@ -15,7 +15,7 @@ returns-in_default-clause-shows g c = λ w net queues d stands lawful due upper.
 
 pub returns-in_default-seat_of-clause-shows : goal.returns-in_default-seat_of-clause-shows
 returns-in_default-seat_of-clause-shows g c = λ w net queues d stands lawful due upper.
-    absurd (above_seated g.R.Roads g.I.LinkIn g.O.LinkOut w net c.args.roads.now c.args.conn d c.in-Some.above c.args.self.now stands lawful.placed queues upper due (sym c.above.ensures ∙ c.in-Some.is)
+    absurd (above_seated g.R.Roads g.I.LinkIn g.O.LinkOut w net c.args.roads.now c.args.conn d c.in-Some.above c.args.self.now stands lawful.ordered lawful.placed queues upper due (sym c.above.ensures ∙ c.in-Some.is)
     (subst (λ x. IsSeat c.args.self.now c.in-Some.above.0 x) (none_so c.seat_of.result c.in_default-seat_of.not-Some) c.seat_of.ensures))
 
 pub returns-in_default-take-clause-shows : goal.returns-in_default-take-clause-shows

@@ -9,13 +9,13 @@ use Rattle.play_nodes.proofs.ReadyNodes.{acts_at, acts_busy, is_seated, taken_no
 use Rattle.play_nodes.proofs.nodes.Nodes.ready.Goals as goal
 
 pub returns-in_default-clause-shows : goal.returns-in_default-clause-shows
-returns-in_default-clause-shows g c = λ w net queues stands lawful due.
+returns-in_default-clause-shows g c = λ w net queues stands of lawful due.
     let acting = acts_at w c.args.conn queues due in
-    absurd (is_seated g.R.Roads g.I.LinkIn g.O.LinkOut w net c.args.roads.now c.args.conn.0 c.args.self.now stands lawful.placed acting.events (acts_busy w c.args.conn.0 acting.acts)
+    absurd (is_seated g.R.Roads g.I.LinkIn g.O.LinkOut w net c.args.roads.now c.args.conn.0 c.args.self.now stands of lawful.placed acting.events (acts_busy w c.args.conn.0 acting.acts)
     (subst (λ x. IsSeat c.args.self.now c.args.conn.0 x) (none_so c.seat_of.result c.in_default.not-Some) c.seat_of.ensures))
 
 pub returns-in_default-take-clause-shows : goal.returns-in_default-take-clause-shows
-returns-in_default-take-clause-shows g c = λ w net queues stands lawful due.
+returns-in_default-take-clause-shows g c = λ w net queues stands of lawful due.
     absurd (taken_none c.args.self.now c.take.new.self c.args.conn.0 c.in-Some.seat c.in-Some.ensures
     (subst (λ x. Takes c.args.self.now c.take.new.self c.in-Some.seat.conn x) (none_so c.take.result c.in_default-take.not-Some) c.take.ensures))
 

@@ -1,0 +1,103 @@
+-- Connections whose lower ends are kept elsewhere: those of readers and primaries.
+use Rattle.std.specs.Prelude.{◌≡◌, ◌<◌, ◌+◌, ◌++◌, [], ◌∷◌, ℕ, false, slice_get, Some, None, IsSome, Result, Ok, Err}
+use Rattle.hd_base.specs.declared.files.Files as files
+use Rattle.hd_base.specs.declared.links.LinkIn as link_in
+use Rattle.hd_base.specs.declared.links.LinkOut as link_out
+use Rattle.hd_base.specs.declared.numbers.BlockId.{BlockId}
+use Rattle.hd_base.specs.declared.numbers.NodeId.{NodeId}
+use Rattle.replica_files.specs.declared.book_state.BookState.{BookState}
+use Rattle.replica_files.specs.Books.{replica_of}
+use Rattle.road_traffic.specs.Showing.{Net}
+use Rattle.world.specs.Parts.{by_reader, idle}
+use Rattle.world.specs.Worlds.{World}
+use Rattle.world.specs.Nodes.{node_of}
+use Rattle.world_nets.specs.Nets.{is_over}
+use Rattle.world_orders.specs.Orders.{Ordered}
+use Rattle.member_events.specs.Showing.{OthersStay}
+use Rattle.play_nodes.specs.declared.connections.Connection.{Connection}
+use Rattle.play_nodes.specs.declared.connections.Lower.TheVariants as lower
+use Rattle.play_nodes.specs.declared.connections.Upper.{Upper}
+use Rattle.play_nodes.specs.declared.faults.NodesFault.{NodesFault}
+use Rattle.play_nodes.specs.declared.faults.NodesFault.TheVariants as fault
+use Rattle.play_nodes.specs.declared.nodes.Nodes.{Nodes}
+use Rattle.play_nodes.specs.Frames.{IsKept}
+use Rattle.play_nodes.specs.Places.{book_at}
+use Rattle.play_nodes.specs.Showing.{is_pipeline, NodesShow}
+
+-- WHAT A READER DIALS
+
+-- the connection that was dialled so, whose lower end is kept elsewhere
+abbrev pub made_elsewhere : {I O : Type 0} → Upper → NodeId → Connection I O
+made_elsewhere u node = record { upper = u; node = node; lower = lower.Elsewhere; mirror = None }
+
+-- It stands behind the others, and all else is as it was.
+pub record StandsBehind {F I O : Type 0} (u : Upper) (node : NodeId) (old new : Nodes F I O) : Type 0 where
+  pub connections : new.connections.items ≡ old.connections.items ++ made_elsewhere u node ∷ []
+  pub same : new ≡ record old { connections = new.connections }
+
+-- So it does, or memory ran out.
+abbrev pub IsBehind : {F I O : Type 0} → Upper → NodeId → Nodes F I O → Nodes F I O → Result (Unit {0}) NodesFault →
+    Type 0
+IsBehind u node old new (Ok t) = StandsBehind u node old new
+IsBehind u node old new (Err why) = why ≡ fault.Memory
+
+-- A reader dialled a node; nothing was taken there by the lower end.
+pub record IsReads (v : World) (reader : ℕ) (node : NodeId) (c : ℕ) : Type 0 where
+  pub upper : (v.dialled c).upper ≡ by_reader reader
+  pub node_is : (v.dialled c).to.node ≡ node.0
+  pub idle_is : v.lowers c ≡ idle
+
+-- With the connection that was dialled the nodes show the world after.
+abbrev pub ReadShows : {F I O : Type 0} → link_in.Ghosts I → link_out.Ghosts O → ℕ → NodeId → Nodes F I O →
+    Nodes F I O → Result (Unit {0}) NodesFault → Type 0
+ReadShows i o reader node old new (Ok u) =
+    (w : World) (net : Net) (v : World) (made : Net) → IsKept i o w net v made old →
+    v.next_conn ≡ w.next_conn + 1 → IsReads v reader node w.next_conn
+    → NodesShow i o v made new
+ReadShows i o reader node old new (Err why) = why ≡ fault.Memory
+
+-- WHAT THE NODES SHOW OF A LOWER END THAT ACTS ELSEWHERE
+
+-- All but one lower end, and one replica at its node, stay as they are; nothing is dialled, and no upper end has taken the
+-- end.
+pub record KeepsOthers (w v : World) (c b : ℕ) : Type 0 where
+  pub nodes : v.nodes ≡ w.nodes
+  pub conns : v.next_conn ≡ w.next_conn
+  pub dialled : (d : ℕ) → v.dialled d ≡ w.dialled d
+  pub running : (n : ℕ) → v.running n ≡ w.running n
+  pub lives : (n : ℕ) → v.lives n ≡ w.lives n
+  pub lowers : (d : ℕ) → (d ≡ c → ⊥) → v.lowers d ≡ w.lowers d
+  pub replicas : (n k : ℕ) → (n ≡ node_of w c → k ≡ b → ⊥) → v.replicas n k ≡ w.replicas n k
+  pub over : (d : ℕ) → is_over v d false ≡ is_over w d false
+
+-- Books of one node alone have changed, and all of it show the world: there is one for each block.
+pub record NodeShows {F I O : Type 0} (v : World) (node : ℕ) (old new : Nodes F I O) : Type 0 where
+  pub blocks : new.blocks.items ≡ old.blocks.items
+  pub connections : new.connections.items ≡ old.connections.items
+  pub others : (n place : ℕ) → (n ≡ node → ⊥) → book_at new.nodes.items n place ≡ book_at old.nodes.items n place
+  pub each : (place : ℕ) (block : BlockId) (book : BookState F) → slice_get new.blocks.items place ≡ Some block →
+      book_at new.nodes.items node place ≡ Some book
+      → replica_of book ≡ v.replicas node block.0
+  pub all : (place : ℕ) (block : BlockId) → slice_get new.blocks.items place ≡ Some block →
+      IsSome (book_at new.nodes.items node place)
+
+-- The lower end of a connection that is none of a pipeline acted, with books of its node. Messages come in order before it
+-- and after it (messages_come_in_order).
+pub record ActsElsewhere {F I O : Type 0} (i : link_in.Ghosts I) (o : link_out.Ghosts O) (w : World) (net : Net)
+    (v : World) (made : Net) (c : ℕ) (old new : Nodes F I O) : Type 0 where
+  pub nodes_are : NodesShow i o w net old
+  pub ordered : Ordered w
+  pub ordered_after : Ordered v
+  pub within : c < w.next_conn
+  pub elsewhere : is_pipeline (w.dialled c).upper ≡ false
+  pub block : ℕ
+  pub keeps : KeepsOthers w v c block
+  pub others : OthersStay i o w net v made c None
+  pub books : NodeShows v (node_of w c) old new
+
+-- The nodes show the world after.
+abbrev pub NodesFollow : {F I O : Type 0} → files.Ghosts F → link_in.Ghosts I → link_out.Ghosts O → Type 0
+NodesFollow {F} {I} {O} f i o =
+    (w : World) (net : Net) (v : World) (made : Net) (c : ℕ) (old new : Nodes F I O) →
+    ActsElsewhere i o w net v made c old new
+    → NodesShow i o v made new
