@@ -19,7 +19,7 @@ use Rattle.play_nodes.specs.declared.connections.Connection.{Connection}
 use Rattle.play_nodes.specs.declared.connections.Upper.{Upper}
 use Rattle.play_nodes.specs.declared.connections.Upper.TheVariants as upper
 use Rattle.play_nodes.specs.declared.nodes.Nodes.{Nodes}
-use Rattle.play_nodes.specs.Showing.{UpperShows, NodesShow}
+use Rattle.play_nodes.specs.Showing.{UpperShows, OriginShows, NodesShow}
 use Rattle.node_stops.specs.Connections.{is_taken_at, is_dialled_at, has_end_at, is_at}
 
 -- LISTS
@@ -122,15 +122,12 @@ module _ {F I O : Type 0} (i : link_in.Ghosts I) (o : link_out.Ghosts O) (w : Wo
   from_none : (f : Option Place) → f ≡ None → false ≡ is_conn (option_map (λ (p : Place). p.node) f) node.0
   from_none f is = sym (ap (λ (p : Option Place). is_conn (option_map (λ (q : Place). q.node) p) node.0) is)
 
-  dialled_is : (u : parts.Upper) (x : Upper) (f : Option Place) → UpperShows u x → IsUpper w.next_conn u → IsFrom w.dialled u f → is_dialled_at all node x ≡ is_conn (option_map (λ (p : Place). p.node) f) node.0
-  dialled_is (by_writer b) (upper.Writer block) f same within is = from_none f is
-  dialled_is (by_member d) (upper.Member conn) f same within is = ap (λ k. is_taken_at (slice_get all k) node) same ∙ from_member d f within is
-  dialled_is (by_writer b) (upper.Member conn) f same within is = absurd same
-  dialled_is (by_member d) (upper.Writer block) f same within is = absurd same
-  dialled_is (by_reader i) (upper.Writer block) f same within is = absurd same
-  dialled_is (by_reader i) (upper.Member conn) f same within is = absurd same
-  dialled_is (by_primary i place) (upper.Writer block) f same within is = absurd same
-  dialled_is (by_primary i place) (upper.Member conn) f same within is = absurd same
+  dialled_is : (u : parts.Upper) (x : Upper) (f : Option Place) → UpperShows u x → OriginShows f x → IsUpper w.next_conn u → IsFrom w.dialled u f → is_dialled_at all node x ≡ is_conn (option_map (λ (p : Place). p.node) f) node.0
+  dialled_is (by_writer b) (upper.Writer block) f same origin within is = from_none f is
+  dialled_is (by_reader k) (upper.Reader reader) f same origin within is = from_none f is
+  dialled_is (by_primary k place) (upper.Primary primary at from) f same origin within is = sym (ap (λ (q : Option ℕ). is_conn q node.0) origin)
+  dialled_is (by_member d) (upper.Member conn) f same origin within is = ap (λ k. is_taken_at (slice_get all k) node) same ∙ from_member d f within is
+  dialled_is u x f same origin within is = absurd same
 
   pub at_is : (c : ℕ) → is_at all node c ≡ is_of_node w node.0 c
   at_is c = by (nat_lt c w.next_conn) refl where
@@ -140,7 +137,7 @@ module _ {F I O : Type 0} (i : link_in.Ghosts I) (o : link_out.Ghosts O) (w : Wo
         let at = some_in all c (omega (arith, below, shows.count)) in
         let x = shows.each c at.0 at.1 in
         ap (has_end_at all node) at.1
-        ∙ (λ j. taken_is c at.0 at.1 j || dialled_is (w.dialled c).upper at.0.upper (w.dialled c).from x.upper_is (placed.dialled c below).upper (from c below) j)
+        ∙ (λ j. taken_is c at.0 at.1 j || dialled_is (w.dialled c).upper at.0.upper (w.dialled c).from x.upper_is x.origin (placed.dialled c below).upper (from c below) j)
     by false e =
         let past : length all ≤ c = grind (arith, nat_tests, e, shows.count) in
         ap (has_end_at all node) (none_past all c past)

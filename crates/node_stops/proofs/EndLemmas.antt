@@ -28,8 +28,7 @@ use Rattle.play_nodes.specs.declared.connections.Upper.{Upper}
 use Rattle.play_nodes.specs.declared.connections.Upper.TheVariants as upper
 use Rattle.play_nodes.specs.declared.nodes.Nodes.{Nodes}
 use Rattle.play_nodes.specs.Places.{with_lower}
-use Rattle.node_stops.specs.Connections.{is_taken_at}
-use Rattle.node_stops.specs.Ending.{LowerIsKnown, AllKnown, Ends, EndsIf, EndsAt, is_ended, is_left_by, is_left, is_gone, MirrorIf, LowerStands, EndsStand, EndsLeft, ended_at, AllEnd}
+use Rattle.node_stops.specs.Ending.{LowerIsKnown, AllKnown, Ends, EndsIf, EndsAt, ends_here, is_ended_at, is_ended, is_left_by, is_left, is_gone, MirrorIf, LowerStands, EndsStand, EndsLeft, ended_at, AllEnd}
 use Rattle.node_stops.proofs.ConnectionLemmas.{some_in, none_past, in_some}
 use Rattle.node_stops.proofs.CutLemmas.{known_kept, keeps_keep, keeps_same}
 
@@ -90,11 +89,11 @@ module _ {F I O : Type 0} (n : Nodes F I O) (node : NodeId) where
     and_false false = refl
 
   not_ended : (k c : ℕ) → is_ended n node (k + 1) c ≡ false → is_ended n node k c ≡ false
-  not_ended k c e = below_next c k (is_taken_at (slice_get n.connections.items c) node) e
+  not_ended k c e = below_next c k (is_ended_at (slice_get n.connections.items c) node) e
 
   not_left_by : (k : ℕ) (u : Upper) → is_left_by n node (k + 1) u ≡ false → is_left_by n node k u ≡ false
   not_left_by k (upper.Member conn) e = not_ended k conn.0 e
-  not_left_by k (upper.Writer block) e = refl
+  not_left_by k u e = refl
 
   not_left : (k : ℕ) (x : Option (Connection I O)) → is_left n node (k + 1) x ≡ false → is_left n node k x ≡ false
   not_left k None e = refl
@@ -105,15 +104,15 @@ module _ {F I O : Type 0} (n : Nodes F I O) (node : NodeId) where
   not_gone k c false e = not_left k (slice_get n.connections.items c) e
 
   -- the end of the connection at the next place is gone after that place, and not before
-  now_ended : (k : ℕ) (x : Connection I O) → slice_get n.connections.items k ≡ Some x → (node.0 == x.node.0) ≡ true → is_ended n node (k + 1) k ≡ true
+  now_ended : (k : ℕ) (x : Connection I O) → slice_get n.connections.items k ≡ Some x → ends_here x node ≡ true → is_ended n node (k + 1) k ≡ true
   now_ended k x at is =
       let below : nat_lt k (k + 1) ≡ true = grind (arith, nat_tests) in
-      (λ j. below j && is_taken_at (at j) node) ∙ is
+      (λ j. below j && is_ended_at (at j) node) ∙ is
 
   pub still_there : (k : ℕ) → is_ended n node k k ≡ false
   still_there k =
       let past : nat_lt k k ≡ false = grind (arith, nat_tests) in
-      ap (λ t. t && is_taken_at (slice_get n.connections.items k) node) past
+      ap (λ t. t && is_ended_at (slice_get n.connections.items k) node) past
 
   -- so is that of a member's mirror
   mirror_left : (k conn d : ℕ) (y : Connection I O) → slice_get n.connections.items d ≡ Some y → y.upper ≡ upper.Member (record { 0 = conn }) → is_gone n node k d false ≡ is_ended n node k conn
@@ -125,14 +124,14 @@ module _ {F I O : Type 0} (n : Nodes F I O) (node : NodeId) where
       none_ended : (c : ℕ) → is_ended n node 0 c ≡ false
       none_ended c =
           let past : nat_lt c 0 ≡ false = grind (arith, nat_tests) in
-          ap (λ t. t && is_taken_at (slice_get n.connections.items c) node) past
+          ap (λ t. t && is_ended_at (slice_get n.connections.items c) node) past
   none_gone c false = by (slice_get n.connections.items c)
     where
       none_by : (u : Upper) → is_left_by n node 0 u ≡ false
       none_by (upper.Member conn) =
           let past : nat_lt conn.0 0 ≡ false = grind (arith, nat_tests) in
-          ap (λ t. t && is_taken_at (slice_get n.connections.items conn.0) node) past
-      none_by (upper.Writer block) = refl
+          ap (λ t. t && is_ended_at (slice_get n.connections.items conn.0) node) past
+      none_by u = refl
 
       by : (x : Option (Connection I O)) → is_left n node 0 x ≡ false
       by None = refl
@@ -177,7 +176,7 @@ module _ {R I O : Type 0} (r : roads.Ghosts R I O) (i : link_in.Ghosts I) (o : l
       }
 
 module _ {F R I O : Type 0} (r : roads.Ghosts R I O) (i : link_in.Ghosts I) (o : link_out.Ghosts O) (brings : BringsShow R I O r i o) (idle : IdleFlushesAreNets) (sane_stay : NetsStaySane) (elsewhere : EndsElsewhereStay i o) (v : World) where
-  module _ (n : Nodes F I O) (node : NodeId) (k : ℕ) (x : Connection I O) (at : slice_get n.connections.items k ≡ Some x) (taken : (node.0 == x.node.0) ≡ true) where
+  module _ (n : Nodes F I O) (node : NodeId) (k : ℕ) (x : Connection I O) (at : slice_get n.connections.items k ≡ Some x) (taken : ends_here x node ≡ true) where
     away_lower : (c : ℕ) (d : Bool) → is_gone n node (k + 1) c d ≡ false → IsElsewhere k true c d
     away_lower c true there e =
         true_false (is_ended n node (k + 1) c) _ (subst (λ m. is_ended n node (k + 1) m ≡ true) e (now_ended n node k x at taken)) there
@@ -229,7 +228,7 @@ module _ {F R I O : Type 0} (r : roads.Ghosts R I O) (i : link_in.Ghosts I) (o :
     lower_ended : (l : Lower I O) (net : Net) (road road' : R) → IsNetOf v net → IsSane net → RoadsShow r net road → LowerStands i o v net k n l → Ends r i o l road road' → IsEndedAt r i o v n node k net road'
     lower_ended (lower.Idle end) net road road' is_net sane shows stands ends = one_ended net end road road' is_net sane shows stands ends
     lower_ended (lower.Member m place) net road road' is_net sane shows stands ends = member_ended net m road road' is_net sane shows stands.0 stands.1 ends
-    lower_ended lower.Ended net road road' is_net sane shows stands ends = record {
+    lower_ended l net road road' is_net sane shows stands ends = record {
       made = net;
       is_net = is_net;
       sane = sane;
@@ -254,10 +253,10 @@ module _ {F R I O : Type 0} (r : roads.Ghosts R I O) (i : link_in.Ghosts I) (o :
   lower_left_there n node k net made (lower.Idle end) stays stands = stays k true end (still_there n node k) stands
   lower_left_there n node k net made (lower.Member m place) stays stands =
       (stays k true m.upstream (still_there n node k) stands.0, mirror_left_there n node k net made m.mirror stays stands.1)
-  lower_left_there n node k net made lower.Ended stays stands = tt
+  lower_left_there n node k net made l stays stands = tt
 
   pub roads_next : (n old new : Nodes F I O) (node : NodeId) (k : ℕ) (x : Connection I O) (net : Net) (road mid road' : R) → slice_get n.connections.items k ≡ Some x → EndsStand r i o v net n road → EndsLeft r i o v net n node k mid
-      → (b : Bool) → (node.0 == x.node.0) ≡ b → EndsIf b r i o k x old new mid road' → EndsLeft r i o v net n node (k + 1) road'
+      → (b : Bool) → ends_here x node ≡ b → EndsIf b r i o k x old new mid road' → EndsLeft r i o v net n node (k + 1) road'
   roads_next n old new node k x net road mid road' at stands left true taken does =
       let here = lower_left_there n node k net left.made x.lower left.stays (stands.lowers k x at) in
       let next = lower_ended n node k x at taken x.lower left.made mid road' left.is_net left.sane left.shows here does.ends in
@@ -300,7 +299,7 @@ known_lower {I} {O} a b (lower.Member m place) keeps k = (known_kept a b m.upstr
   by : (mirror : Option (Conn I O)) → IfSome mirror (λ end. IsKnown a end.id.0) → IfSome mirror (λ end. IsKnown b end.id.0)
   by None h = tt
   by (Some end) h = known_kept a b end.id.0 keeps h
-known_lower a b lower.Ended keeps k = tt
+known_lower a b l keeps k = tt
 
 pub known_stay : {F I O : Type 0} (a b : Option Plain) (n : Nodes F I O) → KeepsConnections a b → AllKnown a n → AllKnown b n
 known_stay a b n keeps known c x at = known_lower a b x.lower keeps (known c x at)
@@ -327,7 +326,7 @@ module _ {F R I O : Type 0} (r : roads.Ghosts R I O) (i : link_in.Ghosts I) (o :
   }
 
   each_next : (old now next : Nodes F I O) (k : ℕ) (y : Connection I O) (road road' : R) → slice_get old.connections.items k ≡ Some y → ((c : ℕ) (x : Connection I O) → slice_get old.connections.items c ≡ Some x → slice_get now.connections.items c ≡ Some (ended_if (nat_lt c k) node x))
-      → (b : Bool) → (node.0 == y.node.0) ≡ b → EndsIf b r i o k y now next road road' → (c : ℕ) (x : Connection I O) → slice_get old.connections.items c ≡ Some x → slice_get next.connections.items c ≡ Some (ended_if (nat_lt c (k + 1)) node x)
+      → (b : Bool) → ends_here y node ≡ b → EndsIf b r i o k y now next road road' → (c : ℕ) (x : Connection I O) → slice_get old.connections.items c ≡ Some x → slice_get next.connections.items c ≡ Some (ended_if (nat_lt c (k + 1)) node x)
   each_next old now next k y road road' at each b taken does c x found = by (c == k) refl where
     done : c ≡ k → nat_lt c (k + 1) ≡ true
     done e = grind (arith, nat_tests, e)
@@ -345,7 +344,7 @@ module _ {F R I O : Type 0} (r : roads.Ghosts R I O) (i : link_in.Ghosts I) (o :
     within =
         in_some now.connections.items k _ (each k y at)
 
-    here : c ≡ k → (t : Bool) → (node.0 == y.node.0) ≡ t → EndsIf t r i o k y now next road road' → slice_get next.connections.items c ≡ Some (ended_at node x)
+    here : c ≡ k → (t : Bool) → ends_here y node ≡ t → EndsIf t r i o k y now next road road' → slice_get next.connections.items c ≡ Some (ended_at node x)
     here e true t d =
         ap (slice_get next.connections.items) e ∙ (ap (λ l. slice_get l k) d.set ∙ (set_here now.connections.items k (with_lower y lower.Ended) within
         ∙ (sym (ap (λ q. Some (if q then with_lower y lower.Ended else y)) t) ∙ ap (λ z. Some (ended_at node z)) (same_x e))))
@@ -395,15 +394,15 @@ module _ {F R I O : Type 0} (r : roads.Ghosts R I O) (i : link_in.Ghosts I) (o :
       let past : nat_lt k k ≡ false = grind (arith, nat_tests) in
       let now_at : slice_get now.connections.items k ≡ Some y = so.each k y old_at.1 ∙ ap (λ q. Some (ended_if q node y)) past in
       let done = does y now_at in
-      let same = blocks_next now next k y road road' (node.0 == y.node.0) done in record {
+      let same = blocks_next now next k y road road' (ends_here y node) done in record {
         blocks = same.0 ∙ so.blocks;
         nodes = same.1 ∙ so.nodes;
-        count = count_next now next k y road road' (node.0 == y.node.0) done ∙ so.count;
-        each = each_next old now next k y road road' old_at.1 so.each (node.0 == y.node.0) refl done;
-        known = known_next now next k y road road' (omega (arith, within, so.count)) keeps so.known (node.0 == y.node.0) done;
+        count = count_next now next k y road road' (ends_here y node) done ∙ so.count;
+        each = each_next old now next k y road road' old_at.1 so.each (ends_here y node) refl done;
+        known = known_next now next k y road road' (omega (arith, within, so.count)) keeps so.known (ends_here y node) done;
         keeps = keeps_keep (r.plain first) (r.plain road) (r.plain road') so.keeps keeps;
         later = omega (arith, so.later, rises);
-        roads = λ v net stands. roads_next r i o brings idle sane elsewhere v old now next node k y net first road road' old_at.1 stands (so.roads v net stands) (node.0 == y.node.0) refl done;
+        roads = λ v net stands. roads_next r i o brings idle sane elsewhere v old now next node k y net first road road' old_at.1 stands (so.roads v net stands) (ends_here y node) refl done;
       }
 
   pub ending_all : (old now : Nodes F I O) (first road : R) (k : ℕ) → length old.connections.items ≤ k → Ending r i o node old first k now road → AllEnd r i o node old now first road
@@ -445,14 +444,11 @@ pub ok_then : {T E : Type 0} (P Q : Type 0) (result : Result T E) → (P → Q) 
 ok_then P Q (Ok x) f p = f p
 ok_then P Q (Err e) f p = tt
 
-pub end_here : {F R I O : Type 0} (r : roads.Ghosts R I O) (i : link_in.Ghosts I) (o : link_out.Ghosts O) (node : NodeId) (k : ℕ) (old new : Nodes F I O) (x : Connection I O) (l dest : Lower I O) (road road' : R) → slice_get old.connections.items k ≡ Some x → x.node.0 ≡ node.0 → l ≡ x.lower → dest ≡ lower.Ended
+pub end_here : {F R I O : Type 0} (r : roads.Ghosts R I O) (i : link_in.Ghosts I) (o : link_out.Ghosts O) (node : NodeId) (k : ℕ) (old new : Nodes F I O) (x : Connection I O) (l dest : Lower I O) (road road' : R) → slice_get old.connections.items k ≡ Some x → ends_here x node ≡ true → l ≡ x.lower → dest ≡ lower.Ended
     → new.blocks.items ≡ old.blocks.items → new.nodes.items ≡ old.nodes.items → new.connections.items ≡ slice_set old.connections.items k (with_lower x dest) → Ends r i o l road road' → EndsAt r i o node k old new road road'
-end_here {F} {R} {I} {O} r i o node k old new x l dest road road' at here same done blocks nodes set ends y found = by (node.0 == y.node.0) (taken y found) where
-  taken : (y : Connection I O) → slice_get old.connections.items k ≡ Some y → (node.0 == y.node.0) ≡ true
-  taken y found =
-      let is : x ≡ y = same_some x y (sym at ∙ found) in
-      let number : y.node.0 ≡ node.0 = ap (λ (z : Connection I O). z.node.0) (sym is) ∙ here in
-      grind (arith, nat_tests, number)
+end_here {F} {R} {I} {O} r i o node k old new x l dest road road' at here same done blocks nodes set ends y found = by (ends_here y node) (taken y found) where
+  taken : (y : Connection I O) → slice_get old.connections.items k ≡ Some y → ends_here y node ≡ true
+  taken y found = ap (λ (z : Connection I O). ends_here z node) (sym (same_some x y (sym at ∙ found))) ∙ here
 
   by : (b : Bool) → b ≡ true → EndsIf b r i o k y old new road road'
   by true e =

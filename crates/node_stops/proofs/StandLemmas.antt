@@ -29,7 +29,7 @@ use Rattle.node_stops.specs.Ending.{LowerIsKnown, AllKnown, MirrorStands, Mirror
 use Rattle.node_stops.proofs.ConnectionLemmas.{some_in, none_past}
 use Rattle.node_stops.proofs.CutLemmas.{known_kept}
 
-no_both : (b : Bool) → b ≡ true → b ≡ false → ⊥
+pub no_both : (b : Bool) → b ≡ true → b ≡ false → ⊥
 no_both b t f = cc
 
 -- The roads keep their connections where a port is no longer listened on.
@@ -52,7 +52,7 @@ lower_moves {F} {I} {O} i o w v net made n c (lower.Member m place) moves h = (m
   by : (mirror : Option (Conn I O)) → MirrorIf i o w net c n mirror → MirrorIf i o v made c n mirror
   by None x = tt
   by (Some end) x = record { conn = x.conn; end_is = moves x.conn false end x.end_is; at = x.at; found = x.found; dialled = x.dialled }
-lower_moves i o w v net made n c lower.Ended moves h = tt
+lower_moves i o w v net made n c l moves h = tt
 
 module _ {F R I O : Type 0} (r : roads.Ghosts R I O) (i : link_in.Ghosts I) (o : link_out.Ghosts O) (node : NodeId) (w : World) (net : Net) (road : R) (n : Nodes F I O) (stands : NodesStand r i o w net road n) where
   abbrev all : List (Connection I O)
@@ -85,6 +85,7 @@ module _ {F R I O : Type 0} (r : roads.Ghosts R I O) (i : link_in.Ghosts I) (o :
   lower_known c idle (lower.Idle end) h = end_known c true end h.1
   lower_known c (writes full) (lower.Member m place) h = (end_known c true m.upstream h.1.shows.upstream, mirror_known full.mirror m.mirror h.1.shows.mirror)
   lower_known c l lower.Ended h = tt
+  lower_known c l lower.Elsewhere h = tt
   lower_known c (writes full) (lower.Idle end) h = absurd h
   lower_known c (serves b s) (lower.Idle end) h = absurd h
   lower_known c recovers (lower.Idle end) h = absurd h
@@ -107,7 +108,7 @@ module _ {F R I O : Type 0} (r : roads.Ghosts R I O) (i : link_in.Ghosts I) (o :
     where
       same_member : (d c : ℕ) → by_member d ≡ by_member c → d ≡ c
       same_member d c e = cc
-  upper_at c (by_member d) (upper.Writer block) is same = absurd same
+  upper_at c (by_member d) x is same = absurd same
   upper_at c (by_writer b) x is same = absurd (other b c is) where
     other : (b c : ℕ) → by_writer b ≡ by_member c → ⊥
     other b c e = cc
@@ -143,6 +144,7 @@ module _ {F R I O : Type 0} (r : roads.Ghosts R I O) (i : link_in.Ghosts I) (o :
       mirrors : (full : FullMember) → writes full ≡ w.lowers c → IfSome full.mirror (λ d. IsMirror (w.dialled d) (w.up_marks d).taken c d full.state)
       mirrors full is = subst (λ l. MirrorIs w.dialled w.up_marks c l) (sym is) (ordered.mirrors c)
   lower_so c l lower.Ended is ordered h = tt
+  lower_so c l lower.Elsewhere is ordered h = tt
   lower_so c (writes full) (lower.Idle end) is ordered h = absurd h
   lower_so c (serves b s) (lower.Idle end) is ordered h = absurd h
   lower_so c recovers (lower.Idle end) is ordered h = absurd h

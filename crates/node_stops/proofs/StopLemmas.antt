@@ -20,6 +20,7 @@ use Rattle.world.specs.Events.{stop, happens}
 use Rattle.world.specs.Parts as parts
 use Rattle.world.specs.Parts.{FullMember, by_writer, by_member, by_reader, by_primary, idle, writes, serves, recovers, ended_below}
 use Rattle.world.specs.Worlds.{World}
+use Rattle.world_laws.proofs.FactTables.{and-left, and-right}
 use Rattle.world_cuts.specs.Cutting.{cut_world, RoadsCut, CutsAreLosses, EndsStayInCuts}
 use Rattle.world_cuts.proofs.CutLemmas.{over_cut}
 use Rattle.world_nets.specs.Nets.{IsNetOf, IsEndOf, is_over}
@@ -34,16 +35,17 @@ use Rattle.play_nodes.specs.declared.connections.Upper.{Upper}
 use Rattle.play_nodes.specs.declared.connections.Upper.TheVariants as upper
 use Rattle.play_nodes.specs.declared.nodes.Nodes.{Nodes}
 use Rattle.play_nodes.specs.Places.{book_at, with_lower}
-use Rattle.play_nodes.specs.Showing.{UpperShows, has_events, LowerShows, ConnectionShows, NodesShow, NodesStand, NodesLeft}
+use Rattle.play_nodes.specs.Showing.{UpperShows, is_pipeline, has_events, stands_here, LowerShows, ConnectionShows, NodesShow, NodesStand, NodesLeft}
+use Rattle.play_nodes.proofs.NodeFrames.{away_shows}
 use Rattle.play_model.specs.Dues.{is_open}
-use Rattle.node_stops.specs.Connections.{is_taken_at, is_at}
+use Rattle.node_stops.specs.Connections.{is_at}
 use Rattle.node_stops.specs.Cutting.{all_cut_net, AllCutShows}
-use Rattle.node_stops.specs.Ending.{is_ended, is_left_by, is_left, is_gone, EndsStand, EndsLeft, ended_at, AllEnd}
+use Rattle.node_stops.specs.Ending.{ends_here, is_ended_at, is_ended, is_left_by, is_left, is_gone, EndsStand, EndsLeft, ended_at, AllEnd}
 use Rattle.node_stops.specs.Stopping.{CanStop, StopEnds}
 use Rattle.node_stops.proofs.ConnectionLemmas.{of_node}
 use Rattle.node_stops.proofs.CutLemmas.{or_here, or_there, nets_cut, ends_cut}
 use Rattle.node_stops.proofs.EndLemmas.{same_some}
-use Rattle.node_stops.proofs.StandLemmas.{at_below, lower_moves, lower_stands, mirror_at}
+use Rattle.node_stops.proofs.StandLemmas.{no_both, at_below, lower_moves, lower_stands, mirror_at}
 
 -- LISTS
 
@@ -183,6 +185,11 @@ module _ {F R I O : Type 0} (r : roads.Ghosts R I O) (i : link_in.Ghosts I) (o :
   lower_left c (serves b s) lower.Ended is here there h = same_there c there ∙ h
   lower_left c recovers lower.Ended is here there h = same_there c there ∙ h
   lower_left c ended_below lower.Ended is here there h = same_there c there ∙ h
+  lower_left c idle lower.Elsewhere is here there h = tt
+  lower_left c (writes full) lower.Elsewhere is here there h = tt
+  lower_left c (serves b s) lower.Elsewhere is here there h = tt
+  lower_left c recovers lower.Elsewhere is here there h = tt
+  lower_left c ended_below lower.Elsewhere is here there h = tt
   lower_left c (writes full) (lower.Idle end) is here there h = absurd h
   lower_left c (serves b s) (lower.Idle end) is here there h = absurd h
   lower_left c recovers (lower.Idle end) is here there h = absurd h
@@ -198,19 +205,43 @@ module _ {F R I O : Type 0} (r : roads.Ghosts R I O) (i : link_in.Ghosts I) (o :
   none_ended true = refl
   none_ended false = refl
 
+  not_both : (a b : Bool) → b ≡ true → (a && b) ≡ false → a ≡ false
+  not_both true b h e = absurd (no_both b h e)
+  not_both false b h e = refl
+
   one_left : (c : ℕ) (x : Connection I O) → slice_get all c ≡ Some x → ConnectionShows i o v left.made c new (ended_at node x)
-  one_left c x at = by (node.0 == x.node.0) refl where
+  one_left c x at = by (ends_here x node) refl where
     shows : ConnectionShows i o w net c n x
     shows = stands.nodes_are.each c x at
 
-    by : (b : Bool) → (node.0 == x.node.0) ≡ b → ConnectionShows i o v left.made c new (if b then with_lower x lower.Ended else x)
+    lower_by : (t : Bool) → stands_here x.lower ≡ t → ends_here x node ≡ false → LowerShows i o v left.made c new (w.lowers c) x.lower
+    lower_by false h e = away_shows i o v left.made c new (w.lowers c) x.lower h
+    lower_by true h e =
+        let other : (node.0 == x.node.0) ≡ false = not_both (node.0 == x.node.0) (stands_here x.lower) h e in
+        let there : ((w.dialled c).to.node == node.0) ≡ false = grind (arith, nat_tests, other, shows.node) in
+        let stays_here : is_ended n node ended.count c ≡ false = ap (λ s. nat_lt c ended.count && is_ended_at s node) at ∙ (ap (λ b. nat_lt c ended.count && b) e ∙ none_ended (nat_lt c ended.count)) in
+        lower_left c (w.lowers c) x.lower refl stays_here there shows.lower_is
+
+    by : (b : Bool) → ends_here x node ≡ b → ConnectionShows i o v left.made c new (if b then with_lower x lower.Ended else x)
     by true e =
-        let here : ((w.dialled c).to.node == node.0) ≡ true = grind (arith, nat_tests, e, shows.node) in
-        record { upper_is = shows.upper_is; node = shows.node; mirror = shows.mirror; lower_is = ended_shows c (w.lowers c) (ended_here c here) }
-    by false e =
-        let there : ((w.dialled c).to.node == node.0) ≡ false = grind (arith, nat_tests, e, shows.node) in
-        let stays_here : is_ended n node ended.count c ≡ false = ap (λ s. nat_lt c ended.count && is_taken_at s node) at ∙ (ap (λ b. nat_lt c ended.count && b) e ∙ none_ended (nat_lt c ended.count)) in
-        record { upper_is = shows.upper_is; node = shows.node; mirror = shows.mirror; lower_is = lower_left c (w.lowers c) x.lower refl stays_here there shows.lower_is }
+        let at_node : (node.0 == x.node.0) ≡ true = and-left (node.0 == x.node.0) (stands_here x.lower) e in
+        let here : ((w.dialled c).to.node == node.0) ≡ true = grind (arith, nat_tests, at_node, shows.node) in
+        record {
+          upper_is = shows.upper_is;
+          origin = shows.origin;
+          node = shows.node;
+          mirror = shows.mirror;
+          here = sym (and-right (node.0 == x.node.0) (stands_here x.lower) e) ∙ shows.here;
+          lower_is = ended_shows c (w.lowers c) (ended_here c here);
+        }
+    by false e = record {
+      upper_is = shows.upper_is;
+      origin = shows.origin;
+      node = shows.node;
+      mirror = shows.mirror;
+      here = shows.here;
+      lower_is = lower_by (stands_here x.lower) refl e;
+    }
 
   each_left : (c : ℕ) (x : Connection I O) → slice_get new.connections.items c ≡ Some x → ConnectionShows i o v left.made c new x
   each_left c x at =
@@ -230,7 +261,7 @@ module _ {F R I O : Type 0} (r : roads.Ghosts R I O) (i : link_in.Ghosts I) (o :
 
   writer_stays : (b : ℕ) (u : parts.Upper) (x : Upper) → u ≡ by_writer b → UpperShows u x → is_left_by n node ended.count x ≡ false
   writer_stays b (by_writer k) (upper.Writer block) is same = refl
-  writer_stays b (by_writer k) (upper.Member conn) is same = absurd same
+  writer_stays b (by_writer k) x is same = absurd same
   writer_stays b (by_member d) x is same = absurd (other d b is) where
     other : (d b : ℕ) → by_member d ≡ by_writer b → ⊥
     other d b e = cc
@@ -247,11 +278,34 @@ module _ {F R I O : Type 0} (r : roads.Ghosts R I O) (i : link_in.Ghosts I) (o :
     by None e = refl
     by (Some x) e = writer_stays b (w.dialled d).upper x.upper is (stands.nodes_are.each d x e).upper_is
 
+  -- ENDS ELSEWHERE
+
+  lower_away : (d : ℕ) (s : Option (Connection I O)) → slice_get all d ≡ s → is_pipeline (w.dialled d).upper ≡ false → is_ended_at s node ≡ false
+  lower_away d None e away = refl
+  lower_away d (Some x) e away = ap (λ b. (node.0 == x.node.0) && b) ((stands.nodes_are.each d x e).here ∙ away) ∙ none_ended (node.0 == x.node.0)
+
+  upper_by : (u : parts.Upper) (x : Upper) → UpperShows u x → is_pipeline u ≡ false → is_left_by n node ended.count x ≡ false
+  upper_by (by_writer b) x same away = cc
+  upper_by (by_member d) x same away = cc
+  upper_by u (upper.Reader reader) same away = refl
+  upper_by u (upper.Primary primary place from) same away = refl
+  upper_by u x same away = absurd same
+
+  upper_away : (d : ℕ) (s : Option (Connection I O)) → slice_get all d ≡ s → is_pipeline (w.dialled d).upper ≡ false → is_left n node ended.count s ≡ false
+  upper_away d None e away = refl
+  upper_away d (Some x) e away = upper_by (w.dialled d).upper x.upper (stands.nodes_are.each d x e).upper_is away
+
+  elsewhere_stays : (d : ℕ) (lower : Bool) → is_pipeline (w.dialled d).upper ≡ false → is_gone n node ended.count d lower ≡ false
+  elsewhere_stays d true away = ap (λ b. nat_lt d ended.count && b) (lower_away d (slice_get all d) refl away) ∙ none_ended (nat_lt d ended.count)
+  elsewhere_stays d false away = upper_away d (slice_get all d) refl away
+
   left_so : NodesLeft r i o w net v road' new
   left_so = record {
     made = left.made;
     stands = record { roads_are = record { is_net = left.is_net; sane = left.sane; shows = left.shows }; nodes_are = nodes_left };
     writers = λ b d e is h. stays d false e (writer_left b d is) h;
+    elsewhere = λ d lower e away h. stays d lower e (elsewhere_stays d lower away) h;
+    pipelines = λ all. all;
   }
 
   pub stop_left : NodesLeft r i o w net (happens w (event.Stop node)) road' new

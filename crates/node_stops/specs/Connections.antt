@@ -10,10 +10,11 @@ abbrev pub is_taken_at : {I O : Type 0} → Option (Connection I O) → NodeId �
 is_taken_at None node = false
 is_taken_at (Some x) node = node.0 == x.node.0
 
--- a member at the node dialled
+-- a member or a primary at the node dialled
 abbrev pub is_dialled_at : {I O : Type 0} → List (Connection I O) → NodeId → Upper → Bool
 is_dialled_at connections node (upper.Member conn) = is_taken_at (slice_get connections conn.0) node
-is_dialled_at connections node (upper.Writer block) = false
+is_dialled_at connections node (upper.Primary primary place from) = node.0 == from.0
+is_dialled_at connections node other = false
 
 -- an end of the connection, if there is one, is at the node
 abbrev pub has_end_at : {I O : Type 0} → List (Connection I O) → NodeId → Option (Connection I O) → Bool

@@ -19,14 +19,14 @@ use Rattle.play_nodes.specs.declared.connections.Upper.{Upper}
 use Rattle.play_nodes.specs.declared.connections.Upper.TheVariants as upper
 use Rattle.play_nodes.specs.declared.nodes.Nodes.{Nodes}
 use Rattle.play_nodes.specs.Places.{with_lower}
-use Rattle.node_stops.specs.Connections.{is_taken_at}
+use Rattle.play_nodes.specs.Showing.{stands_here}
 
 -- ENDS THAT THE ROADS KNOW
 
 abbrev pub LowerIsKnown : {I O : Type 0} → Option Plain → Lower I O → Type 0
 LowerIsKnown plain (lower.Idle end) = IsKnown plain end.id.0
 LowerIsKnown plain (lower.Member m place) = AreKnown plain m
-LowerIsKnown plain lower.Ended = Unit {0}
+LowerIsKnown plain other = Unit {0}
 
 -- The roads know the ends of all connections.
 abbrev pub AllKnown : {F I O : Type 0} → Option Plain → Nodes F I O → Type 0
@@ -40,7 +40,7 @@ abbrev pub Ends : {R I O : Type 0} → roads.Ghosts R I O → link_in.Ghosts I �
     Type 0
 Ends r i o (lower.Idle end) road road' = BringsEnd r i o end road road' (Ok tt)
 Ends r i o (lower.Member m place) road road' = BringsBoth r i o m road road' (Ok tt)
-Ends r i o lower.Ended road road' = road' ≡ road
+Ends r i o other road road' = road' ≡ road
 
 -- The lower end at a place was taken away, and its ends brought back.
 pub record TakesEnd {F R I O : Type 0} (r : roads.Ghosts R I O) (i : link_in.Ghosts I) (o : link_out.Ghosts O)
@@ -60,23 +60,32 @@ abbrev pub EndsIf : {F R I O : Type 0} → Bool → roads.Ghosts R I O → link_
 EndsIf true r i o k x old new road road' = TakesEnd r i o k x old new road road'
 EndsIf false r i o k x old new road road' = StaysSo old new road road'
 
--- So it is of a connection that the node took.
+-- the node took the connection, whose lower end isn't kept elsewhere
+abbrev pub ends_here : {I O : Type 0} → Connection I O → NodeId → Bool
+ends_here x node = (node.0 == x.node.0) && stands_here x.lower
+
+-- So it is of such a connection.
 abbrev pub EndsAt : {F R I O : Type 0} → roads.Ghosts R I O → link_in.Ghosts I → link_out.Ghosts O → NodeId → ℕ →
     Nodes F I O → Nodes F I O → R → R → Type 0
 EndsAt {F} {R} {I} {O} r i o node k old new road road' =
     (x : Connection I O) → slice_get old.connections.items k ≡ Some x
-    → EndsIf (node.0 == x.node.0) r i o k x old new road road'
+    → EndsIf (ends_here x node) r i o k x old new road road'
 
 -- WHICH ENDS ARE GONE
 
--- the node took this connection, one of the first, so many
+-- such a connection, if there is one
+abbrev pub is_ended_at : {I O : Type 0} → Option (Connection I O) → NodeId → Bool
+is_ended_at None node = false
+is_ended_at (Some x) node = ends_here x node
+
+-- it is one of the first, so many
 abbrev pub is_ended : {F I O : Type 0} → Nodes F I O → NodeId → ℕ → ℕ → Bool
-is_ended n node k c = nat_lt c k && is_taken_at (slice_get n.connections.items c) node
+is_ended n node k c = nat_lt c k && is_ended_at (slice_get n.connections.items c) node
 
 -- a member at one of these dialled
 abbrev pub is_left_by : {F I O : Type 0} → Nodes F I O → NodeId → ℕ → Upper → Bool
 is_left_by n node k (upper.Member conn) = is_ended n node k conn.0
-is_left_by n node k (upper.Writer block) = false
+is_left_by n node k other = false
 
 abbrev pub is_left : {F I O : Type 0} → Nodes F I O → NodeId → ℕ → Option (Connection I O) → Bool
 is_left n node k None = false
@@ -109,7 +118,7 @@ abbrev pub LowerStands : {F I O : Type 0} → link_in.Ghosts I → link_out.Ghos
 LowerStands i o v net c n (lower.Idle end) = IsEndOf i o v net c true end
 LowerStands i o v net c n (lower.Member m place) =
     IsEndOf i o v net c true m.upstream × MirrorIf i o v net c n m.mirror
-LowerStands i o v net c n lower.Ended = Unit {0}
+LowerStands i o v net c n other = Unit {0}
 
 -- The roads show the connections of a world, and all lower ends are ends of it.
 pub record EndsStand {F R I O : Type 0} (r : roads.Ghosts R I O) (i : link_in.Ghosts I) (o : link_out.Ghosts O)
@@ -131,11 +140,11 @@ pub record EndsLeft {F R I O : Type 0} (r : roads.Ghosts R I O) (i : link_in.Gho
   pub stays : (c : ℕ) (d : Bool) (e : Conn I O) → is_gone n node k c d ≡ false → IsEndOf i o v net c d e →
       IsEndOf i o v made c d e
 
--- the connection without its lower end, where the node took it
+-- the connection without its lower end, where the node took it and it isn't kept elsewhere
 abbrev pub ended_at : {I O : Type 0} → NodeId → Connection I O → Connection I O
-ended_at node x = if node.0 == x.node.0 then with_lower x lower.Ended else x
+ended_at node x = if ends_here x node then with_lower x lower.Ended else x
 
--- All ends that the node had were brought back.
+-- All ends that the node had, but for those that are kept elsewhere, were brought back.
 pub record AllEnd {F R I O : Type 0} (r : roads.Ghosts R I O) (i : link_in.Ghosts I) (o : link_out.Ghosts O)
     (node : NodeId) (old new : Nodes F I O) (road road' : R) : Type 0 where
   pub blocks : new.blocks.items ≡ old.blocks.items

@@ -8,7 +8,7 @@ use hd_base::{ConnId, NodeId};
 use play_nodes::{Connection, Upper};
 use std::alloc::{AllocError, Global};
 
-/// The connections with an end at a node: those that it took, and those that its members dialled.
+/// The connections with an end at a node: those that it took, and those that its members and primaries dialled.
 pub(crate) fn connections_of<I: Drop, O: Drop>(
     alloc: Global,
     connections: &[Connection<I, O>],
@@ -46,7 +46,7 @@ fn has_end_at<I: Drop, O: Drop>(
     node.0 == connection.node.0 || is_dialled_at(connections, node, connection.upper)
 }
 
-/// Whether a member at a node dialled.
+/// Whether a member or a primary at a node dialled.
 fn is_dialled_at<I: Drop, O: Drop>(
     connections: &[Connection<I, O>],
     node: NodeId,
@@ -56,7 +56,8 @@ fn is_dialled_at<I: Drop, O: Drop>(
 {
     match upper {
         Upper::Member { conn } => is_taken_at(connections, node, conn.0 as usize),
-        Upper::Writer { .. } => false,
+        Upper::Primary { node: from, .. } => node.0 == from.0,
+        Upper::Writer { .. } | Upper::Reader { .. } => false,
     }
 }
 

@@ -4,16 +4,17 @@ ghost use Rattle.std.specs.Prelude.{◌≡◌, ◌≤◌, ◌<◌, length, OnOk,
 ghost use Rattle.hd_base.specs.Ends.{KeepsConnections};
 ghost use Rattle.play_nodes.specs.declared.connections.Lower.TheVariants as Lower;
 ghost use Rattle.play_nodes.specs.Places.{KeepsSizes};
-ghost use Rattle.node_stops.specs.Ending.{AllKnown, AllEnd, Ends, EndsAt, LowerIsKnown};
+ghost use Rattle.node_stops.specs.Ending.{AllKnown, AllEnd, Ends, EndsAt, LowerIsKnown, ends_here};
 
 use hd_base::{Files, LinkIn, LinkOut, NodeId, Roads};
-use play_nodes::{Lower, Nodes};
+use play_nodes::{Connection, Lower, Nodes};
 use road_traffic::brings_show;
 use std::alloc::{AllocError, Global};
 use std::mem;
 use world_nets::{ends_elsewhere_stay, idle_flushes_are_nets, nets_stay_sane};
 
-/// Brings back the ends of all connections that a node took, and those of its members to their mirrors.
+/// Brings back the lower ends of all connections that a node took, but for those that are kept elsewhere, and the ends of its
+/// members to their mirrors.
 pub(crate) fn end_all<F: Files, I: LinkIn, O: LinkOut, R: Roads<Inward = I, Outward = O>>(
     alloc: Global,
     roads: &mut R,
@@ -36,7 +37,7 @@ pub(crate) fn end_all<F: Files, I: LinkIn, O: LinkOut, R: Roads<Inward = I, Outw
     Ok(())
 }
 
-/// Brings back the end of the connection at a place, if a node took it.
+/// Brings back the end of the connection at a place, if a node took it and it isn't kept elsewhere.
 fn end_at<F: Files, I: LinkIn, O: LinkOut, R: Roads<Inward = I, Outward = O>>(
     alloc: Global,
     roads: &mut R,
@@ -51,11 +52,18 @@ fn end_at<F: Files, I: LinkIn, O: LinkOut, R: Roads<Inward = I, Outward = O>>(
     ensures connections { KeepsConnections (R.plain roads.old) (R.plain roads.new) }
     ensures faults { R.faults roads.old ≤ R.faults roads.new }
 {
-    if nodes.connections[index].node.0 != node.0 {
+    if !ends_here(&nodes.connections[index], node) {
         return Ok(());
     }
     let lower = mem::replace(&mut nodes.connections[index].lower, Lower::Ended);
     end(alloc, roads, lower)
+}
+
+/// Whether a node took a connection whose lower end isn't kept elsewhere.
+fn ends_here<I, O>(connection: &Connection<I, O>, node: NodeId) -> bool
+    ensures { result ≡ ends_here connection.now node }
+{
+    node.0 == connection.node.0 && connection.lower.stands_here()
 }
 
 /// Brings back the ends of a lower end.
@@ -72,7 +80,7 @@ fn end<I: LinkIn, O: LinkOut, R: Roads<Inward = I, Outward = O>>(
     let brought = match lower {
         Lower::Idle(end) => roads.bring(alloc, end),
         Lower::Member { member, .. } => member.retire(alloc, roads),
-        Lower::Ended => Ok(()),
+        Lower::Ended | Lower::Elsewhere => Ok(()),
     };
     match brought {
         Ok(()) => Ok(()),

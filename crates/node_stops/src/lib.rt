@@ -1,5 +1,5 @@
 //! A node of a play stops between two events: nothing further arrives on its connections, and the ends that it had are
-//! brought back.
+//! brought back, but for those that are kept elsewhere.
 #![tactic(auto)]
 
 mod connections;

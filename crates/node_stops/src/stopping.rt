@@ -18,7 +18,8 @@ use world_cuts::{cuts_are_losses, ends_stay_in_cuts};
 use world_stops::stops_are_cuts;
 
 /// Stops a node between two events: nothing further arrives on its connections, nobody listens on its port any more, and
-/// the ends that it had are brought back. Its books stay with the nodes, as they are.
+/// the ends that it had are brought back, but for those that are kept elsewhere. Its books stay with the nodes, as they
+/// are.
 pub fn stop_node<F: Files, I: LinkIn, O: LinkOut, R: CutRoads<Inward = I, Outward = O>>(
     alloc: Global,
     roads: &mut R,
