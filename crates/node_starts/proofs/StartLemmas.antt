@@ -225,6 +225,11 @@ module _ {F R I O : Type 0} (r : roads.Ghosts R I O) (i : link_in.Ghosts I) (o :
   lower_stays c (serves b s) lower.Ended below h = none_still c below h
   lower_stays c recovers lower.Ended below h = none_still c below h
   lower_stays c ended_below lower.Ended below h = none_still c below h
+  lower_stays c idle lower.Elsewhere below h = tt
+  lower_stays c (writes full) lower.Elsewhere below h = tt
+  lower_stays c (serves b s) lower.Elsewhere below h = tt
+  lower_stays c recovers lower.Elsewhere below h = tt
+  lower_stays c ended_below lower.Elsewhere below h = tt
   lower_stays c (writes full) (lower.Idle end) below h = absurd h
   lower_stays c (serves b s) (lower.Idle end) below h = absurd h
   lower_stays c recovers (lower.Idle end) below h = absurd h
@@ -241,7 +246,14 @@ module _ {F R I O : Type 0} (r : roads.Ghosts R I O) (i : link_in.Ghosts I) (o :
       let before : slice_get n.connections.items c ≡ Some x = sym (ap (λ l. slice_get l c) replaced.others.connections) ∙ at in
       let shows = stands.nodes_are.each c x before in
       let below : c < w.next_conn = omega (arith, within n.connections.items c x before, stands.nodes_are.count) in
-      record { upper_is = shows.upper_is; node = shows.node; mirror = shows.mirror; lower_is = lower_stays c (w.lowers c) x.lower below shows.lower_is }
+      record {
+        upper_is = shows.upper_is;
+        origin = shows.origin;
+        node = shows.node;
+        mirror = shows.mirror;
+        here = shows.here;
+        lower_is = lower_stays c (w.lowers c) x.lower below shows.lower_is;
+      }
 
   -- BOOKS
 
@@ -298,6 +310,8 @@ module _ {F R I O : Type 0} (r : roads.Ghosts R I O) (i : link_in.Ghosts I) (o :
       nodes_are = nodes_show;
     };
     writers = λ b d e is h. stays d false e h;
+    elsewhere = λ d lower e away h. stays d lower e h;
+    pipelines = λ all. all;
   }
 
   pub start_left : NodesLeft r i o w net (happens w (event.Restart node list)) road' new
