@@ -17,7 +17,7 @@ module _ {F R I O : Type 0} (r : roads.Ghosts R I O) (i : link_in.Ghosts I) (o :
   pub conn_told : (n : Nodes F I O) (clients : List (Client I O)) (conn : ConnId) (road mid road' : R) (x : ConnDues) → TellsDown r i o conn n road mid x.down → TellsReady i o conn n x.ready → TellsUpper r i o conn n clients mid road' x.up
       → TellsConn r i o conn n clients road road' x
   conn_told n clients conn road mid road' x downs readies uppers = λ w net queues h.
-      let d = downs w net queues h.stands h.orderly in
+      let d = downs w net queues h.stands h.orderly (h.pipelines conn.0) in
       let u = uppers w net queues (dues_with r i o w net queues road mid n clients h d.0) in
-      let y = readies w net queues h.stands.nodes_are h.orderly in
+      let y = readies w net queues h.stands.nodes_are h.orderly (h.pipelines conn.0) in
       (u.0, (λ j. when (d.1 j) (due.Down conn) ++ (when (y j) (due.Ready conn) ++ when (u.1 j) (due.Up conn))))

@@ -71,12 +71,12 @@ module _ {F R I O : Type 0} (r : roads.Ghosts R I O) (i : link_in.Ghosts I) (o :
 
   pub down_tells : (d : Due) (conn : ConnId) (road road' : R) (result : Bool) → d ≡ due.Down conn → TellsDown r i o conn n road road' result → TellsDue r i o d n clients road road' result
   down_tells d conn road road' result is tells = subst (λ (e : Due). TellsDue r i o e n clients road road' result) (sym is) (λ played w net queues h.
-      let t = tells w net queues h.stands h.orderly in
+      let t = tells w net queues h.stands h.orderly (h.pipelines conn.0) in
       (dues_with r i o w net queues road road' n clients h t.0, t.1))
 
   pub ready_tells : (d : Due) (conn : ConnId) (road : R) (result : Bool) → d ≡ due.Ready conn → TellsReady i o conn n result → TellsDue r i o d n clients road road result
   ready_tells d conn road result is tells = subst (λ (e : Due). TellsDue r i o e n clients road road result) (sym is) (λ played w net queues h.
-      (h, tells w net queues h.stands.nodes_are h.orderly))
+      (h, tells w net queues h.stands.nodes_are h.orderly (h.pipelines conn.0)))
 
   pub up_tells : (d : Due) (conn : ConnId) (road road' : R) (result : Bool) → d ≡ due.Up conn → TellsUpper r i o conn n clients road road' result → TellsDue r i o d n clients road road' result
   up_tells d conn road road' result is tells = subst (λ (e : Due). TellsDue r i o e n clients road road' result) (sym is) (λ played w net queues h. tells w net queues h)

@@ -21,7 +21,7 @@ use Rattle.play_nodes.specs.declared.connections.Lower.TheVariants as lower
 use Rattle.play_nodes.specs.declared.connections.Upper.{Upper}
 use Rattle.play_nodes.specs.declared.connections.Upper.TheVariants as upper
 use Rattle.play_nodes.specs.declared.nodes.Nodes.{Nodes}
-use Rattle.play_nodes.specs.Showing.{has_events, UpperShows, LowerShows}
+use Rattle.play_nodes.specs.Showing.{has_events, UpperShows, stands_here, LowerShows}
 use Rattle.play_nodes.proofs.JoinNodes.{passes_at, place_there}
 use Rattle.play_nodes.proofs.Tables.{element}
 use Rattle.play_dues.specs.Live.{has_ended, lower_at, upper_at, has_conn_of, has_conn_at, gave_up, spent_at, EndsShow}
@@ -84,16 +84,18 @@ nothing_due w queues c placed lt is =
 -- WHAT IS TOLD
 
 module _ {F I O : Type 0} (i : link_in.Ghosts I) (o : link_out.Ghosts O) (w : World) (net : Net) (n : Nodes F I O) (clients : List (Client I O)) (h : EndsShow i o w net n clients) where
-  ended_as : (c : ℕ) (l : parts.Lower) (real : Lower I O) → LowerShows i o w net c n l real → has_ended (Some real) ≡ not (has_events w c)
-  ended_as c idle (lower.Idle end) s = sym (ap not s.0)
-  ended_as c (writes full) (lower.Member m place) s = sym (ap not s.0)
-  ended_as c l lower.Ended s = sym (ap not s)
-  ended_as c l real s = absurd s
+  ended_as : (c : ℕ) (l : parts.Lower) (real : Lower I O) → stands_here real ≡ true → LowerShows i o w net c n l real → has_ended (Some real) ≡ not (has_events w c)
+  ended_as c idle (lower.Idle end) here s = sym (ap not s.0)
+  ended_as c (writes full) (lower.Member m place) here s = sym (ap not s.0)
+  ended_as c l lower.Ended here s = sym (ap not s)
+  ended_as c l lower.Elsewhere here s = cc
+  ended_as c l real here s = absurd s
 
   ended_told : (c : ℕ) → c < w.next_conn → has_ended (lower_at n c) ≡ not (has_events w c)
   ended_told c lt =
       let at = element n.connections.items c (subst (λ (k : ℕ). c < k) (sym h.nodes_are.count) lt) in
-      ap (λ (x : Option (Connection I O)). has_ended (option_map (λ y. y.lower) x)) at.1 ∙ ended_as c (w.lowers c) at.0.lower (h.nodes_are.each c at.0 at.1).lower_is
+      let shows = h.nodes_are.each c at.0 at.1 in
+      ap (λ (x : Option (Connection I O)). has_ended (option_map (λ y. y.lower) x)) at.1 ∙ ended_as c (w.lowers c) at.0.lower (shows.here ∙ h.pipelines c lt) shows.lower_is
 
   conn_told : (b c : ℕ) → has_conn_at clients (client_place clients b) c ≡ is_conn (w.writers b).conn c
   conn_told b c = by (client_place clients b) refl
@@ -113,6 +115,8 @@ module _ {F I O : Type 0} (i : link_in.Ghosts I) (o : link_out.Ghosts O) (w : Wo
   given_up_as c (by_writer b) (upper.Writer block) lt e s = ap not (conn_told block.0 c ∙ ap (λ (q : ℕ). is_conn (w.writers q).conn c) s)
   given_up_as c (by_member d) (upper.Member conn) lt e s =
       ended_told conn.0 (subst (λ (q : ℕ). q < w.next_conn) (sym s) (subst (λ (u : parts.Upper). IsUpper w.next_conn u) e (h.placed.dialled c lt).upper)) ∙ ap (λ (q : ℕ). not (has_events w q)) s
+  given_up_as c (by_reader i) (upper.Reader reader) lt e s = refl
+  given_up_as c (by_primary i place) (upper.Primary primary at node) lt e s = refl
   given_up_as c u real lt e s = absurd s
 
   pub spent_told : (conn : ConnId) → conn.0 < w.next_conn → spent_at n clients conn ≡ is_spent w conn.0

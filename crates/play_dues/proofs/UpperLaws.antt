@@ -12,7 +12,7 @@ use Rattle.road_traffic.specs.Showing.{Net}
 use Rattle.world.specs.Connections.{is_conn, next_up}
 use Rattle.world.specs.Enabled.{can_up, takes_above}
 use Rattle.world.specs.Parts as parts
-use Rattle.world.specs.Parts.{by_writer, by_member}
+use Rattle.world.specs.Parts.{by_writer, by_member, by_reader, by_primary}
 use Rattle.world.specs.Worlds.{World}
 use Rattle.world_laws.proofs.FactTables.{and-left, and-right}
 use Rattle.play_model.specs.declared.dues.Due.TheVariants as due
@@ -23,7 +23,7 @@ use Rattle.play_nodes.specs.declared.connections.Upper.{Upper}
 use Rattle.play_nodes.specs.declared.connections.Upper.TheVariants as upper
 use Rattle.play_nodes.specs.declared.nodes.Nodes.{Nodes}
 use Rattle.play_nodes.specs.Dues.{TellsUp}
-use Rattle.play_nodes.specs.Showing.{UpperShows, NodesStand}
+use Rattle.play_nodes.specs.Showing.{UpperShows, is_pipeline, NodesStand}
 use Rattle.play_nodes.proofs.JoinNodes.{passes_at, place_there}
 use Rattle.play_nodes.proofs.PlaceLaws.{element_within, same_some}
 use Rattle.play_nodes.proofs.Tables.{element}
@@ -38,15 +38,19 @@ shut_so true true x takes h = cc
 shut_so true false x takes h = refl
 shut_so false within x takes h = refl
 
--- a connection that no writer dialled was dialled by a member
-pub member_upper : (u : parts.Upper) (x : Upper) → UpperShows u x → writer_above (Some x) ≡ None → (d : ℕ) × (u ≡ by_member d)
-member_upper (by_member d) x h is = (d, refl)
-member_upper (by_writer b) (upper.Writer block) h is = cc
-member_upper u x h is = absurd h
+-- a pipeline's connection that no writer dialled was dialled by a member
+pub member_upper : (u : parts.Upper) (x : Upper) → is_pipeline u ≡ true → UpperShows u x → writer_above (Some x) ≡ None → (d : ℕ) × (u ≡ by_member d)
+member_upper (by_member d) x of h is = (d, refl)
+member_upper (by_writer b) (upper.Writer block) of h is = cc
+member_upper (by_reader i) x of h is = cc
+member_upper (by_primary i place) x of h is = cc
+member_upper u x of h is = absurd h
 
 pub writer_upper : (u : parts.Upper) (x : Upper) (block : BlockId) → UpperShows u x → writer_above (Some x) ≡ Some block → u ≡ by_writer block.0
 writer_upper (by_writer b) (upper.Writer known) block h is = ap by_writer (sym h ∙ ap (λ (y : BlockId). y.0) (same_some known block is))
 writer_upper (by_member d) (upper.Member conn) block h is = cc
+writer_upper (by_reader i) (upper.Reader reader) block h is = cc
+writer_upper (by_primary i place) (upper.Primary primary at node) block h is = cc
 writer_upper u x block h is = absurd h
 
 -- The place of a client is within the clients.
@@ -90,7 +94,7 @@ none_is_some x a none some = cc
 module _ {F R I O : Type 0} (r : roads.Ghosts R I O) (i : link_in.Ghosts I) (o : link_out.Ghosts O) where
   -- The roads show it, and all else is as it was.
   pub dues_with : (w : World) (net : Net) (queues : Queues) (road road' : R) (n : Nodes F I O) (clients : List (Client I O)) → DuesShow r i o w net queues road n clients → NodesStand r i o w net road' n → DuesShow r i o w net queues road' n clients
-  dues_with w net queues road road' n clients h stands = record { stands = stands; orderly = h.orderly; each = h.each; connected = h.connected }
+  dues_with w net queues road road' n clients h stands = record { stands = stands; orderly = h.orderly; pipelines = h.pipelines; each = h.each; connected = h.connected }
 
   pub upper_outside : (n : Nodes F I O) (clients : List (Client I O)) (conn : ConnId) (road : R) → length n.connections.items ≤ conn.0 → TellsUpper r i o conn n clients road road false
   upper_outside n clients conn road outside = λ w net queues h. (
@@ -104,7 +108,7 @@ module _ {F R I O : Type 0} (r : roads.Ghosts R I O) (i : link_in.Ghosts I) (o :
   upper_member n clients conn asked road road' result within told none tells = λ w net queues h.
       let c : ℕ = conn.0 in
       let at = element n.connections.items c within in
-      let u = member_upper (w.dialled c).upper at.0.upper (h.stands.nodes_are.each c at.0 at.1).upper_is (ap (λ (x : Option (Connection I O)). writer_above (option_map (λ y. y.upper) x)) (sym at.1) ∙ (sym told ∙ none)) in
+      let u = member_upper (w.dialled c).upper at.0.upper (h.pipelines c (subst (λ (k : ℕ). c < k) h.stands.nodes_are.count within)) (h.stands.nodes_are.each c at.0 at.1).upper_is (ap (λ (x : Option (Connection I O)). writer_above (option_map (λ y. y.upper) x)) (sym at.1) ∙ (sym told ∙ none)) in
       let t = tells w net queues u.0 h.stands h.orderly u.1 in
       (dues_with w net queues road road' n clients h t.0, t.1)
 

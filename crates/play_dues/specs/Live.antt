@@ -18,7 +18,7 @@ use Rattle.play_nodes.specs.declared.connections.Upper.{Upper}
 use Rattle.play_nodes.specs.declared.connections.Upper.TheVariants as upper
 use Rattle.play_nodes.specs.declared.nodes.Nodes.{Nodes}
 use Rattle.play_nodes.specs.Dues.{IsOrderly}
-use Rattle.play_nodes.specs.Showing.{NodesShow}
+use Rattle.play_nodes.specs.Showing.{AllPipelines, NodesShow}
 use Rattle.play_dues.specs.declared.live.LiveConns.{LiveConns}
 use Rattle.play_dues.specs.Places.{client_place}
 use Rattle.play_dues.specs.Showing.{HasClient}
@@ -31,6 +31,7 @@ use Rattle.play_dues.specs.Writers.{conn_of}
 abbrev pub has_ended : {I O : Type 0} → Option (Lower I O) → Bool
 has_ended (Some (lower.Idle end)) = false
 has_ended (Some (lower.Member m place)) = false
+has_ended (Some lower.Elsewhere) = false
 has_ended other = true
 
 -- the lower end of a connection
@@ -55,7 +56,7 @@ has_conn_at clients (Some place) c = has_conn_of (slice_get clients place) c
 abbrev pub gave_up : {F I O : Type 0} → Nodes F I O → List (Client I O) → ℕ → Option Upper → Bool
 gave_up n clients c (Some (upper.Writer block)) = not (has_conn_at clients (client_place clients block.0) c)
 gave_up n clients c (Some (upper.Member conn)) = has_ended (lower_at n conn.0)
-gave_up n clients c None = false
+gave_up n clients c other = false
 
 -- neither end of it has further events
 abbrev pub spent_at : {F I O : Type 0} → Nodes F I O → List (Client I O) → ConnId → Bool
@@ -99,11 +100,13 @@ abbrev pub HasMore : List ConnId → List ConnId → ℕ → ℕ → Type 0
 HasMore old new from count = (has : ℕ → Bool) → from ≤ count → old ≡ passing has from
     → new ≡ passing (or_from from has) count
 
--- The nodes and the clients show a world, and a writer that has a connection is that of a client.
+-- The nodes and the clients show a world, of which each connection is of a pipeline, and a writer that has a connection is
+-- that of a client.
 pub record EndsShow {F I O : Type 0} (i : link_in.Ghosts I) (o : link_out.Ghosts O) (w : World) (net : Net)
     (n : Nodes F I O) (clients : List (Client I O)) : Type 0 where
   pub nodes_are : NodesShow i o w net n
   pub placed : Placed w
+  pub pipelines : AllPipelines w
   pub each : (k : ℕ) (c : Client I O) → slice_get clients k ≡ Some c → ClientShows i o w net c
   pub connected : (b c : ℕ) → (w.writers b).conn ≡ Some c → HasClient clients b
 

@@ -10,7 +10,7 @@ use Rattle.play_clients.specs.declared.clients.Client.{Client}
 use Rattle.play_clients.specs.Clients.{ClientShows}
 use Rattle.play_nodes.specs.declared.nodes.Nodes.{Nodes}
 use Rattle.play_nodes.specs.Dues.{IsOrderly}
-use Rattle.play_nodes.specs.Showing.{NodesStand}
+use Rattle.play_nodes.specs.Showing.{AllPipelines, NodesStand}
 
 -- The client shows the world, and has the queue of its block.
 pub record QueueShows {I O : Type 0} (i : link_in.Ghosts I) (o : link_out.Ghosts O) (w : World) (net : Net)
@@ -25,13 +25,14 @@ pub record HasClient {I O : Type 0} (clients : List (Client I O)) (b : ℕ) : Ty
   pub found : slice_get clients place ≡ Some client
   pub block : client.block.0 ≡ b
 
--- The nodes and the roads show an orderly world, each client shows it with its queue, and a writer that has a connection
--- is that of a client.
+-- The nodes and the roads show an orderly world, of which each connection is of a pipeline, each client shows it with its
+-- queue, and a writer that has a connection is that of a client.
 pub record DuesShow {F R I O : Type 0} (r : roads.Ghosts R I O) (i : link_in.Ghosts I) (o : link_out.Ghosts O)
     (w : World) (net : Net) (queues : Queues) (road : R) (n : Nodes F I O) (clients : List (Client I O)) : Type 0
   where
     pub stands : NodesStand r i o w net road n
     pub orderly : IsOrderly w
+    pub pipelines : AllPipelines w
     pub each : (k : ℕ) (c : Client I O) → slice_get clients k ≡ Some c → QueueShows i o w net queues c
     pub connected : (b c : ℕ) → (w.writers b).conn ≡ Some c → HasClient clients b
 

@@ -104,6 +104,6 @@ pub fn writer_of<F: Files, I, O>(nodes: &Nodes<F, I, O>, conn: ConnId) -> Option
     }
     match nodes.connections[conn].upper {
         Upper::Writer { block } => Some(block),
-        Upper::Member { .. } => None,
+        Upper::Member { .. } | Upper::Reader { .. } | Upper::Primary { .. } => None,
     }
 }

@@ -23,7 +23,7 @@ pub fn is_spent<F: Files, I: LinkIn, O: LinkOut>(
     has_ended(nodes, conn) && has_given_up(nodes, clients, conn)
 }
 
-/// Whether the lower end of a connection has no further events.
+/// Whether the lower end of a connection has no further events. Of one that is kept elsewhere it isn't known.
 fn has_ended<F: Files, I, O>(nodes: &Nodes<F, I, O>, conn: ConnId) -> bool
     ensures { result ≡ has_ended (lower_at nodes.now conn.0) }
 {
@@ -32,13 +32,13 @@ fn has_ended<F: Files, I, O>(nodes: &Nodes<F, I, O>, conn: ConnId) -> bool
         return true;
     }
     match &nodes.connections[conn].lower {
-        Lower::Idle(_) | Lower::Member { .. } => false,
+        Lower::Idle(_) | Lower::Member { .. } | Lower::Elsewhere => false,
         Lower::Ended => true,
     }
 }
 
 /// Whether whoever dialled a connection takes nothing from it any more: the member has no further events, or the writer
-/// has no connection or another one.
+/// has no connection or another one. Of a reader or a primary it isn't known.
 fn has_given_up<F: Files, I: LinkIn, O: LinkOut>(
     nodes: &Nodes<F, I, O>,
     clients: &[Client<I, O>],
@@ -53,6 +53,7 @@ fn has_given_up<F: Files, I: LinkIn, O: LinkOut>(
     match nodes.connections[at].upper {
         Upper::Writer { block } => !is_connected(clients, block, conn),
         Upper::Member { conn } => has_ended(nodes, conn),
+        Upper::Reader { .. } | Upper::Primary { .. } => false,
     }
 }
 
