@@ -21,6 +21,7 @@ use Rattle.play_clients.specs.declared.clients.Client.{Client}
 use Rattle.play_clients.specs.Staying.{ClientsStay}
 use Rattle.play_nodes.specs.Frames.{KeepsNodes, KeepsWriters, EndsStay, NodesStay}
 use Rattle.play_nodes.specs.Showing.{NodesLeft}
+use Rattle.play_nodes.proofs.NodeFrames.{pipelines_stay}
 use Rattle.play.specs.declared.faults.PlayFault.{PlayFault}
 use Rattle.play.specs.declared.player.Player.{Player}
 use Rattle.play.specs.Cutting.{losses, HasCut, CutShows}
@@ -97,6 +98,8 @@ module _ {F R I O : Type 0} (f : files.Ghosts F) (r : roads.Ghosts R I O) (i : l
             (ap (λ (k : World). k.next_conn) net_so.is.is);
       };
       writers = λ b d e by h. ends here there s.net conn.0 down up d false e net_so.is h;
+      elsewhere = λ d lower e away h. ends here there s.net conn.0 down up d lower e net_so.is h;
+      pipelines = pipelines_stay here there (λ d before. ap (λ (k : World). k.dialled d) net_so.is.is) (ap (λ (k : World). k.next_conn) net_so.is.is);
     }
 
     shows_there : PlayerShows r i o there made queues road' old
@@ -122,7 +125,7 @@ module _ {F R I O : Type 0} (f : files.Ghosts F) (r : roads.Ghosts R I O) (i : l
       stands_there = record {
         net = made;
         shows = subst (λ (v : World). PlayerShows r i o v made queues road' (record old { events = new.events })) (sym world_is)
-            (record { nodes = shows_there.nodes; clients = shows_there.clients; apart = shows_there.apart; office = shows_there.office; running = shows_there.running; slots = shows_there.slots });
+            (record { nodes = shows_there.nodes; pipelines = shows_there.pipelines; clients = shows_there.clients; apart = shows_there.apart; office = shows_there.office; running = shows_there.running; slots = shows_there.slots });
         few = s.few;
         events = subst (λ (es : List Event). EventsFit nodes old.nodes.blocks.items es) (sym more)
             (fits_more nodes old.nodes.blocks.items old.events.items (losses conn down up) s.events

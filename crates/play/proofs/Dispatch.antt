@@ -17,7 +17,7 @@ use Rattle.play_clients.specs.declared.clients.Client.{Client}
 use Rattle.play_nodes.specs.declared.connections.Upper.{Upper}
 use Rattle.play_nodes.specs.Dues.{IdleIs, TellsIdle}
 use Rattle.play_nodes.specs.declared.connections.Connection.{Connection}
-use Rattle.play_nodes.specs.Showing.{UpperShows, NodesShow}
+use Rattle.play_nodes.specs.Showing.{UpperShows, is_pipeline, NodesShow}
 use Rattle.play_nodes.proofs.JoinNodes.{passes_at, place_there}
 use Rattle.play_nodes.proofs.Tables.{element}
 use Rattle.play_dues.specs.Conns.{writer_above}
@@ -72,34 +72,35 @@ module _ {F R I O : Type 0} (f : files.Ghosts F) (r : roads.Ghosts R I O) (i : l
   begins conn idle first tells shows = λ nodes queues s is actor.
       let w : World = world_of nodes old in
       happened_so r i o L nodes queues old road s f (due.Down conn) is actor new road' result
-      (shows w s.net queues s.shows (can_begin L nodes old s.events conn) is (subst (λ (b : Bool). IdleIs b w conn.0) first (tells w s.net queues s.shows.nodes.nodes_are is)))
+      (shows w s.net queues s.shows (can_begin L nodes old s.events conn) is (subst (λ (b : Bool). IdleIs b w conn.0) first (tells w s.net queues s.shows.nodes.nodes_are (s.shows.pipelines conn.0) is)))
 
   pub members : (conn : ConnId) (idle : Bool) → idle ≡ false → TellsIdle i o conn old.nodes idle → DownShows f r i o conn old new road road' result → HappenShows f r i o (due.Down conn) old new road road' result
   members conn idle first tells shows = λ nodes queues s is actor.
       let w : World = world_of nodes old in
       happened_so r i o L nodes queues old road s f (due.Down conn) is actor new road' result
-      (shows w s.net queues s.shows (lawful L nodes old s.events (event.Down conn true) (tt, tt)) is (subst (λ (b : Bool). IdleIs b w conn.0) first (tells w s.net queues s.shows.nodes.nodes_are is)))
+      (shows w s.net queues s.shows (lawful L nodes old s.events (event.Down conn true) (tt, tt)) is (subst (λ (b : Bool). IdleIs b w conn.0) first (tells w s.net queues s.shows.nodes.nodes_are (s.shows.pipelines conn.0) is)))
 
   -- WHAT COMES UP
 
   -- what is told of the upper end of a connection on which something is due
-  told_upper : (conn : ConnId) (nodes : ℕ) (queues : Queues) (s : PlayStands r i o nodes queues road old) → is_due (world_of nodes old) queues (due.Up conn) ≡ true → (P : parts.Upper → Option BlockId → Type 0) → ((u : parts.Upper) (x : Upper) → UpperShows u x → P u (writer_above (Some x)))
+  told_upper : (conn : ConnId) (nodes : ℕ) (queues : Queues) (s : PlayStands r i o nodes queues road old) → is_due (world_of nodes old) queues (due.Up conn) ≡ true → (P : parts.Upper → Option BlockId → Type 0) → ((u : parts.Upper) (x : Upper) → is_pipeline u ≡ true → UpperShows u x → P u (writer_above (Some x)))
       → P ((world_of nodes old).dialled conn.0).upper (writer_above (option_map (λ x. x.upper) (slice_get old.nodes.connections.items conn.0)))
   told_upper conn nodes queues s is P each =
       let w : World = world_of nodes old in
       let n : NodesShow i o w s.net old.nodes = s.shows.nodes.nodes_are in
-      let at = element old.nodes.connections.items conn.0 (subst (λ (k : ℕ). conn.0 < k) (sym n.count) (up_at w queues conn is).within) in
-      subst (λ (x : Option (Connection I O)). P (w.dialled conn.0).upper (writer_above (option_map (λ y. y.upper) x))) (sym at.1) (each (w.dialled conn.0).upper at.0.upper (n.each conn.0 at.0 at.1).upper_is)
+      let within : conn.0 < w.next_conn = (up_at w queues conn is).within in
+      let at = element old.nodes.connections.items conn.0 (subst (λ (k : ℕ). conn.0 < k) (sym n.count) within) in
+      subst (λ (x : Option (Connection I O)). P (w.dialled conn.0).upper (writer_above (option_map (λ y. y.upper) x))) (sym at.1) (each (w.dialled conn.0).upper at.0.upper (s.shows.pipelines conn.0 within) (n.each conn.0 at.0 at.1).upper_is)
 
   pub mirrors : (conn : ConnId) → writer_above (option_map (λ x. x.upper) (slice_get old.nodes.connections.items conn.0)) ≡ None → MirrorShows f r i o conn old new road road' result → HappenShows f r i o (due.Up conn) old new road road' result
   mirrors conn none shows = λ nodes queues s is actor.
       let w : World = world_of nodes old in
-      let d = told_upper conn nodes queues s is (λ u b. b ≡ None → (d : ℕ) × (u ≡ by_member d)) (λ u x h e. member_upper u x h e) none in
+      let d = told_upper conn nodes queues s is (λ u b. b ≡ None → (d : ℕ) × (u ≡ by_member d)) (λ u x of h e. member_upper u x of h e) none in
       happened_so r i o L nodes queues old road s f (due.Up conn) is actor new road' result
       (shows w s.net queues d.0 s.shows (lawful L nodes old s.events (event.Up conn) (tt, tt)) is d.1)
 
   writer_up : (conn : ConnId) (nodes : ℕ) (queues : Queues) (s : PlayStands r i o nodes queues road old) → is_due (world_of nodes old) queues (due.Up conn) ≡ true → (block : BlockId) → writer_above (option_map (λ x. x.upper) (slice_get old.nodes.connections.items conn.0)) ≡ Some block → ((world_of nodes old).dialled conn.0).upper ≡ by_writer block.0
-  writer_up conn nodes queues s is block some = told_upper conn nodes queues s is (λ u b. b ≡ Some block → u ≡ by_writer block.0) (λ u x h e. writer_upper u x block h e) some
+  writer_up conn nodes queues s is block some = told_upper conn nodes queues s is (λ u b. b ≡ Some block → u ≡ by_writer block.0) (λ u x of h e. writer_upper u x block h e) some
 
   pub hears : (conn : ConnId) (block : BlockId) (place : ℕ) → writer_above (option_map (λ x. x.upper) (slice_get old.nodes.connections.items conn.0)) ≡ Some block → client_place old.clients.items block.0 ≡ Some place → HeardShows f r i o conn place old new road road' result
       → HappenShows f r i o (due.Up conn) old new road road' result

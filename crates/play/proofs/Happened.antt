@@ -37,9 +37,7 @@ use Rattle.play_laws.proofs.Taking.{admitted-is}
 use Rattle.play_clients.specs.declared.clients.Client.{Client}
 use Rattle.play_clients.specs.Clients.{known_of}
 use Rattle.play_clients.proofs.CourseLaws.{fresh_waits}
-use Rattle.play_nodes.specs.declared.connections.Upper.{Upper}
-use Rattle.play_nodes.specs.Showing.{UpperShows, NodesShow}
-use Rattle.play_nodes.proofs.Tables.{element}
+use Rattle.play_nodes.specs.Showing.{is_pipeline}
 use Rattle.play_dues.specs.Showing.{HasClient}
 use Rattle.play_dues.proofs.UpperLaws.{up_at, heard_conn}
 use Rattle.play.specs.declared.faults.PlayFault.{PlayFault}
@@ -111,11 +109,11 @@ pub data UpperKind (u : parts.Upper) : Type 0 where
   of_writer : (b : ℕ) → u ≡ by_writer b → UpperKind u
   of_member : (d : ℕ) → u ≡ by_member d → UpperKind u
 
-pub upper_kind : (u : parts.Upper) (x : Upper) → UpperShows u x → UpperKind u
-upper_kind (by_writer b) x h = of_writer b refl
-upper_kind (by_member d) x h = of_member d refl
-upper_kind (by_reader n) x h = absurd h
-upper_kind (by_primary n place) x h = absurd h
+upper_kind : (u : parts.Upper) → is_pipeline u ≡ true → UpperKind u
+upper_kind (by_writer b) of = of_writer b refl
+upper_kind (by_member d) of = of_member d refl
+upper_kind (by_reader n) of = cc
+upper_kind (by_primary n place) of = cc
 
 -- WHAT IS DUE
 
@@ -126,10 +124,7 @@ module _ {F R I O : Type 0} (r : roads.Ghosts R I O) (i : link_in.Ghosts I) (o :
 
   -- who dialled a connection
   pub upper_here : (c : ℕ) → c < here.next_conn → UpperKind (here.dialled c).upper
-  upper_here c within =
-      let n : NodesShow i o here s.net old.nodes = s.shows.nodes.nodes_are in
-      let at = element old.nodes.connections.items c (subst (λ (k : ℕ). c < k) (sym n.count) within) in
-      upper_kind (here.dialled c).upper at.0.upper (n.each c at.0 at.1).upper_is
+  upper_here c within = upper_kind (here.dialled c).upper (s.shows.pipelines c within)
 
   -- A WRITER'S OWN STEP
 

@@ -36,6 +36,7 @@ use Rattle.play_nodes.specs.declared.nodes.Nodes.{Nodes}
 use Rattle.play_nodes.specs.Showing.{runs_in, NodesShow}
 use Rattle.play_nodes.specs.Frames.{HearKeeps, HeardKeeps, NodesStay, NodesEndsStay}
 use Rattle.play_nodes.proofs.MemberNodes.{known}
+use Rattle.play_nodes.proofs.NodeFrames.{pipelines_stay}
 use Rattle.play_nodes.proofs.Tables.{SetOr, set_or}
 use Rattle.play.specs.declared.faults.PlayFault.{PlayFault}
 use Rattle.play.specs.declared.player.Player.{Player}
@@ -170,6 +171,7 @@ module _ {F R I O D : Type 0} (f : files.Ghosts F) (r : roads.Ghosts R I O) (i :
           roads_are = left.left.stands.roads_are;
           nodes_are = subst (λ (x : Nodes F I O). NodesShow i o v left.made x) (sym h.nodes) (nodes_stay w net v left.made old.nodes (record { nodes_are = p.nodes.nodes_are; ordered = ordered; keeps = n.keeps; ends = ends_stay w net v left.made c.block.0 ordered left.left.others }) n.conns);
         };
+        pipelines = pipelines_stay w v n.keeps.dialled n.conns p.pipelines;
         clients = clients_after w v net left.made queues queues place old mid c c' stay (λ a apart. keeps_other w v net left.made a c.block.0 ordered apart k.0 (λ e is. k.1 e (λ same. apart_conns w ordered a c.block.0 conn.0 e apart upper is (sym same))) left.left.others) (λ b z. refl) p.clients p.apart at h (record {
           shows = left.left.stands.client_is;
           queue = left.queue ∙ ((p.clients place c at).queue ∙ ap (λ (q : _). queues q.0) (sym h.block));
@@ -203,7 +205,7 @@ module _ {F R I O D : Type 0} (f : files.Ghosts F) (r : roads.Ghosts R I O) (i :
       heard_shows conn place old mid c c' w net queues road road' desk now stay nodes_stay ends_stay hearing heard p running at (record { nodes = nodes; clients = set; block = left.left.block; rule = left.left.rule }) lawful.ordered upper left in
       record {
         made = left.made;
-        shows = subst (λ (x : Player F I O). PlayerShows r i o (happens w (event.Up conn)) left.made queues road' x) (sym kept.same) (record { nodes = q.nodes; clients = q.clients; apart = q.apart; office = q.office; running = q.running; slots = q.slots });
+        shows = subst (λ (x : Player F I O). PlayerShows r i o (happens w (event.Up conn)) left.made queues road' x) (sym kept.same) (record { nodes = q.nodes; pipelines = q.pipelines; clients = q.clients; apart = q.apart; office = q.office; running = q.running; slots = q.slots });
         events = kept.events ∙ ap (λ (es : List Event). es ++ event.Up conn ∷ []) events;
         places = subst (λ (u : Option ℕ). KeepsPlaces u old new) (sym (ap writer_at upper)) (same_places (Some c.block.0) old mid new (event.Up conn) kept (kept_places old mid place c c' (record { nodes = nodes; clients = set; block = left.left.block; rule = left.left.rule }) at));
       }

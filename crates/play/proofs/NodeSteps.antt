@@ -79,6 +79,7 @@ module _ {F R I O : Type 0} (f : files.Ghosts F) (r : roads.Ghosts R I O) (i : l
       → PlayerShows r i o v left.made queues road' (record old { nodes = n' })
   same_left w v net queues old n' e road road' stay p ordered k runs left = record {
     nodes = left.stands;
+    pipelines = left.pipelines p.pipelines;
     clients = clients_left w v net left.made queues old stay p.clients ordered k left.writers;
     apart = p.apart;
     office = p.office ∙ sym k.office;
@@ -92,7 +93,7 @@ module _ {F R I O : Type 0} (f : files.Ghosts F) (r : roads.Ghosts R I O) (i : l
       let q : PlayerShows r i o v left.made queues road' (record old { nodes = n' }) = same_left w v net queues old n' e road road' stay p ordered k runs left in
       record {
         made = left.made;
-        shows = subst (λ (x : Player F I O). PlayerShows r i o v left.made queues road' x) (sym kept.same) (record { nodes = q.nodes; clients = q.clients; apart = q.apart; office = q.office; running = q.running; slots = q.slots });
+        shows = subst (λ (x : Player F I O). PlayerShows r i o v left.made queues road' x) (sym kept.same) (record { nodes = q.nodes; pipelines = q.pipelines; clients = q.clients; apart = q.apart; office = q.office; running = q.running; slots = q.slots });
         events = kept.events;
         places = keeps_places actor old n' new e blocks kept;
       }
@@ -110,25 +111,25 @@ module _ {F R I O : Type 0} (f : files.Ghosts F) (r : roads.Ghosts R I O) (i : l
       → ReadyShows f r i o conn old new road road' result
   ready_left conn old n' new road road' (Ok u) blocks stay keeps runs shows kept = λ w net queues p lawful is.
       let l : Left (happens w (event.Ready conn)) queues None old new (event.Ready conn) road' =
-      left_of w (happens w (event.Ready conn)) net queues None old n' new (event.Ready conn) road road' blocks stay p lawful.ordered (keeps w conn) (runs w (event.Ready conn) tt) (shows w net queues p.nodes lawful is) kept in
+      left_of w (happens w (event.Ready conn)) net queues None old n' new (event.Ready conn) road road' blocks stay p lawful.ordered (keeps w conn) (runs w (event.Ready conn) tt) (shows w net queues p.nodes (p.pipelines conn.0) lawful is) kept in
       record { made = l.made; shows = l.shows; events = l.events; places = l.places }
   ready_left conn old n' new road road' (Err why) blocks stay keeps runs shows kept = λ w net queues p lawful is. out_of_memory old new road road' why kept
 
   pub ready_failed : (conn : ConnId) (old new : Player F I O) (road road' : R) (why : NodesFault) → nodes.ReadyShows f r i o conn old.nodes new.nodes road road' (Err why)
       → ReadyShows f r i o conn old new road road' (Err (of_nodes why))
-  ready_failed conn old new road road' why shows = λ w net queues p lawful is. caused old new road road' why (shows w net queues p.nodes lawful is)
+  ready_failed conn old new road road' why shows = λ w net queues p lawful is. caused old new road road' why (shows w net queues p.nodes (p.pipelines conn.0) lawful is)
 
   pub down_left : (conn : ConnId) (old : Player F I O) (n' : Nodes F I O) (new : Player F I O) (road road' : R) (result : Result (Unit {0}) PlayFault) → n'.blocks.items ≡ old.nodes.blocks.items → ClientsStay i o → DownKeeps → RunningStays → nodes.DownShows f r i o conn old.nodes n' road road' (Ok tt) → Keeps (record old { nodes = n' }) new (event.Down conn true) result
       → DownShows f r i o conn old new road road' result
   down_left conn old n' new road road' (Ok u) blocks stay keeps runs shows kept = λ w net queues p lawful is busy.
       let l : Left (happens w (event.Down conn true)) queues None old new (event.Down conn true) road' =
-      left_of w (happens w (event.Down conn true)) net queues None old n' new (event.Down conn true) road road' blocks stay p lawful.ordered (keeps w conn true) (runs w (event.Down conn true) tt) (shows w net queues true p.nodes lawful is busy) kept in
+      left_of w (happens w (event.Down conn true)) net queues None old n' new (event.Down conn true) road road' blocks stay p lawful.ordered (keeps w conn true) (runs w (event.Down conn true) tt) (shows w net queues true p.nodes (p.pipelines conn.0) lawful is busy) kept in
       record { made = l.made; shows = l.shows; events = l.events; places = l.places }
   down_left conn old n' new road road' (Err why) blocks stay keeps runs shows kept = λ w net queues p lawful is busy. out_of_memory old new road road' why kept
 
   pub down_failed : (conn : ConnId) (old new : Player F I O) (road road' : R) (why : NodesFault) → nodes.DownShows f r i o conn old.nodes new.nodes road road' (Err why)
       → DownShows f r i o conn old new road road' (Err (of_nodes why))
-  down_failed conn old new road road' why shows = λ w net queues p lawful is busy. caused old new road road' why (shows w net queues true p.nodes lawful is busy)
+  down_failed conn old new road road' why shows = λ w net queues p lawful is busy. caused old new road road' why (shows w net queues true p.nodes (p.pipelines conn.0) lawful is busy)
 
   pub mirror_left : (conn : ConnId) (old : Player F I O) (n' : Nodes F I O) (new : Player F I O) (road road' : R) (result : Result (Unit {0}) PlayFault) → n'.blocks.items ≡ old.nodes.blocks.items → ClientsStay i o → MirrorKeeps → RunningStays → nodes.UpShows f r i o conn old.nodes n' road road' (Ok tt) → Keeps (record old { nodes = n' }) new (event.Up conn) result
       → MirrorShows f r i o conn old new road road' result
@@ -152,11 +153,11 @@ module _ {F R I O : Type 0} (f : files.Ghosts F) (r : roads.Ghosts R I O) (i : l
   begin_left conn old n' new road road' unanswered (Ok u) blocks stay keeps runs shows kept = λ w net queues p can is idle_is.
       let l : Left (happens w (event.Down conn true)) queues None old new (event.Down conn true) road' =
       left_of w (happens w (event.Down conn true)) net queues None old n' new (event.Down conn true) road road' blocks stay p (can.lawful true).ordered (keeps w conn true) (runs w (event.Down conn true) tt)
-      (begun_so conn old n' w net queues road road' unanswered p.running kept.0 (shows w net queues p.nodes can.lawful can.fit is idle_is)) kept.1 in
+      (begun_so conn old n' w net queues road road' unanswered p.running kept.0 (shows w net queues p.nodes (p.pipelines conn.0) can.lawful can.fit is idle_is)) kept.1 in
       record { made = l.made; shows = l.shows; events = l.events; places = l.places }
   begin_left conn old n' new road road' unanswered (Err fault.Memory) blocks stay keeps runs shows kept = λ w net queues p can is idle_is. tt
   begin_left conn old n' new road road' unanswered (Err (fault.ShelfFault node)) blocks stay keeps runs shows kept = absurd kept
-  begin_left conn old n' new road road' unanswered (Err fault.RoadFault) blocks stay keeps runs shows kept = λ w net queues p can is idle_is. by w net p.running unanswered kept (shows w net queues p.nodes can.lawful can.fit is idle_is)
+  begin_left conn old n' new road road' unanswered (Err fault.RoadFault) blocks stay keeps runs shows kept = λ w net queues p can is idle_is. by w net p.running unanswered kept (shows w net queues p.nodes (p.pipelines conn.0) can.lawful can.fit is idle_is)
     where
       rose : (w : World) (node : NodeId) → TellsRunning w old.running.items → runs_in old.running.items node.0 ≡ true → (w.running node.0 ≡ false) ⊎ FaultsIncreased (r.faults road) (r.faults road') → RoadsFailed r road road'
       rose w node tells on (inl off) = absurd (true_false (sym on ∙ (tells node.0 ∙ off)))
@@ -168,4 +169,4 @@ module _ {F R I O : Type 0} (f : files.Ghosts F) (r : roads.Ghosts R I O) (i : l
 
   pub begin_failed : (conn : ConnId) (old new : Player F I O) (road road' : R) (why : NodesFault) → beginning.BeginShows f r i o conn old.nodes new.nodes road road' (Err why)
       → BeginShows f r i o conn old new road road' (Err (of_nodes why))
-  begin_failed conn old new road road' why shows = λ w net queues p can is idle_is. caused old new road road' why (shows w net queues p.nodes can.lawful can.fit is idle_is)
+  begin_failed conn old new road road' why shows = λ w net queues p can is idle_is. caused old new road road' why (shows w net queues p.nodes (p.pipelines conn.0) can.lawful can.fit is idle_is)

@@ -1,5 +1,5 @@
 -- The own step of a writer, and what it leaves of the nodes and the other clients.
-use Rattle.std.proofs.Common.{◌≡◌, ◌≢◌, ◌⊎◌, inl, inr, ℕ, Bool, true, false, List, [], ◌∷◌, ◌++◌, length, slice_get, slice_set, Option, Some, None, IfSome, Result, Ok, Err, refl, sym, ap, ◌∙◌, subst, append_assoc, ◌<◌, ◌+◌, arith}
+use Rattle.std.proofs.Common.{◌≡◌, ◌≢◌, ◌⊎◌, inl, inr, ℕ, Bool, true, false, List, [], ◌∷◌, ◌++◌, length, slice_get, slice_set, Option, Some, None, IfSome, Result, Ok, Err, refl, sym, ap, ◌∙◌, subst, append_assoc, ◌<◌, ◌≤◌, ◌+◌, arith}
 use Rattle.hd_base.specs.declared.links.LinkIn as link_in
 use Rattle.hd_base.specs.declared.links.LinkOut as link_out
 use Rattle.hd_base.specs.Faults.{FaultsIncreased}
@@ -36,7 +36,8 @@ use Rattle.play_clients.specs.Others.{KeepsOthers, TakesNothing, OwnStepsKeep}
 use Rattle.play_clients.specs.Staying.{ClientsStay}
 use Rattle.play_nodes.specs.declared.nodes.Nodes.{Nodes}
 use Rattle.play_nodes.specs.Frames.{IsKept, DialShows, IsFirst, WriterKeeps, NodesStay, NodesEndsStay, OwnKeeps}
-use Rattle.play_nodes.specs.Showing.{runs_in, TellsRunning, NodesShow}
+use Rattle.play_nodes.specs.Showing.{is_pipeline, IsPipeline, runs_in, TellsRunning, NodesShow}
+use Rattle.play_nodes.proofs.NodeFrames.{pipelines_after}
 use Rattle.play.specs.Showing.{PlayerShows}
 use Rattle.play.specs.Running.{is_running}
 use Rattle.play.specs.Events.{PlayerLeft, RoadsFailed, IsCaused, blocks_of, KeepsPlaces}
@@ -76,6 +77,13 @@ put_other t k x b apart = put-there t k x b apart
 
 queues_other : (w : World) (queues : Queues) (block : BlockId) (b : ℕ) → b ≢ block.0 → queues_after w queues (due.Own block) b ≡ queues b
 queues_other w queues block b apart = put_other queues block.0 (queue_left (action_of w block) (queues block.0)) b apart
+
+-- What a writer dialled is of a pipeline.
+dialled_first : (w v : World) (b : ℕ) → WriterKeeps w v b → (d : ℕ) → w.next_conn ≤ d → IsPipeline v d
+dialled_first w v b h d behind within =
+    let before : w.next_conn < v.next_conn = omega (arith, behind, within) in
+    let is : d ≡ w.next_conn = omega (arith, behind, within, h.once) in
+    ap (λ (n : ℕ). is_pipeline (v.dialled n).upper) is ∙ ap is_pipeline (h.dials before).upper
 
 module _ {F R I O D : Type 0} (f : files.Ghosts F) (r : roads.Ghosts R I O) (i : link_in.Ghosts I) (o : link_out.Ghosts O) (d : desks.Ghosts D) where
   -- What was dialled changes only the nodes.
@@ -140,6 +148,7 @@ module _ {F R I O D : Type 0} (f : files.Ghosts F) (r : roads.Ghosts R I O) (i :
           roads_are = l.shows.stands.roads_are;
           nodes_are = nodes_after w v net l.made mid owned.middle c.block next left.first at_next owned.dialled nodes_stay kept n l.first l.none l.more;
         };
+        pipelines = pipelines_after w v n.keeps.dialled (dialled_first w v c.block.0 n) p.pipelines;
         clients = λ j a at_j. clients_after f r i o d w v net l.made queues (queues_after w queues (due.Own c.block)) place old mid c c' stay (λ a apart. keeps_other f r i o d w v net l.made a c.block.0 ordered apart k.0 (λ e of. k.1 e false) l.shows.others) (queues_other w queues c.block) p.clients p.apart at h
             (record { shows = l.shows.stands.client_is; queue = l.queue ∙ ap (λ (x : BlockId). queues_after w queues (due.Own c.block) x.0) (sym l.shows.block) }) j a (sym (ap (λ (xs : List (Client I O)). slice_get xs j) same.clients) ∙ at_j);
         apart = λ j m a b at_j at_m. still_apart f r i o d old mid place c c' h at p.apart j m a b (sym (ap (λ (xs : List (Client I O)). slice_get xs j) same.clients) ∙ at_j) (sym (ap (λ (xs : List (Client I O)). slice_get xs m) same.clients) ∙ at_m);

@@ -84,6 +84,7 @@ module _ {S F R I O : Type 0} (s : shelves.Ghosts S F) (f : files.Ghosts F) (r :
     shows_there : PlayerShows r i o there left.made queues road' after
     shows_there = record {
       nodes = left.stands;
+      pipelines = left.pipelines st.shows.pipelines;
       clients = clients_left f r i o here there st.net left.made queues old clients_stay st.shows.clients (L.ordered nodes old.events.items) (writers_kept here n within off) left.writers;
       apart = st.shows.apart;
       office = st.shows.office ∙ sym (writers_kept here n within off).office;

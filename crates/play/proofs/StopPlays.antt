@@ -80,6 +80,7 @@ module _ {F R I O : Type 0} (f : files.Ghosts F) (r : roads.Ghosts R I O) (i : l
     shows_there : PlayerShows r i o there left.made queues road' after
     shows_there = record {
       nodes = left.stands;
+      pipelines = left.pipelines s.shows.pipelines;
       clients = clients_left f r i o here there s.net left.made queues old clients_stay s.shows.clients (L.ordered nodes old.events.items) (writers_kept here n runs) left.writers;
       apart = s.shows.apart;
       office = s.shows.office ∙ sym (writers_kept here n runs).office;
