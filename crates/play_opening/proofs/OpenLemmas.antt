@@ -1,5 +1,5 @@
 -- A player that was opened shows the first world.
-use Rattle.std.proofs.Common.{◌≡◌, ◌≤◌, ℕ, false, List, [], map, length, slice_get, Option, Some, None, IfSome, refl, sym, ap, subst, ◌∙◌}
+use Rattle.std.proofs.Common.{◌≡◌, ◌≤◌, ◌<◌, ℕ, false, List, [], map, length, slice_get, Option, Some, None, IfSome, refl, sym, ap, subst, ◌∙◌, arith}
 use Rattle.std.specs.Prelude.{nat_lt}
 use Rattle.hd_base.specs.SumRules.{default_rule}
 use Rattle.hd_base.specs.declared.files.Files as files
@@ -34,6 +34,10 @@ use Rattle.play_opening.specs.Opening.{IsNewClient, AreNewClients, IsOpenedPlay,
 use Rattle.play_opening.proofs.ClientLemmas.{block_here}
 
 -- CLIENTS
+
+-- nothing was dialled
+none_below : (c : ℕ) → c < 0 → ⊥
+none_below c h = omega (arith, h)
 
 module _ {I O : Type 0} where
   new_fits : (block : BlockId) (c : Client I O) → IsNew c block → PipeFits (known_of c.block c.writer).phase c.pipe
@@ -85,6 +89,7 @@ module _ {S D R I O : Type 0} (s : shelves.Ghosts S D) (d : files.Ghosts D) (r :
   unfolding start
   player_shows blocks old new nodes net p road count distinct h stand = record {
     nodes = stand;
+    pipelines = λ c within. absurd (none_below c within);
     clients = λ k c at. record { shows = new_shows i o nodes net c.block c (h.clients.each k c at).is_new; queue = (h.clients.each k c at).is_new.queue };
     apart = apart blocks p distinct h.clients;
     office = ap (λ (b : BookState). b.office) h.office ∙ no_office nodes;
