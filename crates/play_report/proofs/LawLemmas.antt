@@ -85,6 +85,11 @@ module _ {F : Type 0} (f : files.Ghosts F) where
         lower_stays c (parts.serves b s) lower.Ended h = h
         lower_stays c parts.recovers lower.Ended h = h
         lower_stays c parts.ended_below lower.Ended h = h
+        lower_stays c parts.idle lower.Elsewhere h = tt
+        lower_stays c (parts.writes full) lower.Elsewhere h = tt
+        lower_stays c (parts.serves b s) lower.Elsewhere h = tt
+        lower_stays c parts.recovers lower.Elsewhere h = tt
+        lower_stays c parts.ended_below lower.Elsewhere h = tt
         lower_stays c parts.idle (lower.Member m place) h = absurd h
         lower_stays c (parts.writes full) (lower.Idle end) h = absurd h
         lower_stays c (parts.serves b s) (lower.Idle end) h = absurd h
@@ -95,7 +100,7 @@ module _ {F : Type 0} (f : files.Ghosts F) where
         lower_stays c parts.ended_below (lower.Member m place) h = absurd h
 
         shows : (c : ℕ) (x : Connection I O) → ConnectionShows i o w net c old x → ConnectionShows i o w net c new x
-        shows c x h = record { upper_is = h.upper_is; node = h.node; mirror = h.mirror; lower_is = lower_stays c (w.lowers c) x.lower h.lower_is }
+        shows c x h = record { upper_is = h.upper_is; origin = h.origin; node = h.node; mirror = h.mirror; here = h.here; lower_is = lower_stays c (w.lowers c) x.lower h.lower_is }
 
     pub still_fit : (old new : Nodes F I O) → LeavesAll f old new → NodesFit old.blocks.items old.nodes.items → NodesFit new.blocks.items new.nodes.items
     still_fit old new l fit = λ node place block book at h.
