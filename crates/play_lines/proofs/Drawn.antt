@@ -68,6 +68,7 @@ module _ {F R I O : Type 0} (f : files.Ghosts F) (r : roads.Ghosts R I O) (i : l
   dues_show L opens p road x h = record {
     stands = h.stands.shows.nodes;
     orderly = record { ordered = L.ordered p.nodes x.player.events.items; placed = L.placed p.nodes x.player.events.items; open_ends = opens p.nodes x.player.events.items };
+    pipelines = h.stands.shows.pipelines;
     each = λ k c at. record { client_is = (h.stands.shows.clients k c at).shows; queue = (h.stands.shows.clients k c at).queue };
     connected = h.stands.connected;
   }
@@ -76,7 +77,7 @@ module _ {F R I O : Type 0} (f : files.Ghosts F) (r : roads.Ghosts R I O) (i : l
   pub refreshed_so : (L : Laws) → AllOpen → (p : PlayState) (road : R) (x : Playing F I O) (live : LiveConns) → PlayIs r i o p road x → IsRefreshed i o x.live live x.player.nodes x.player.clients.items → IsCurrent (world_of p.nodes x.player) live
   refreshed_so L opens p road x live h refreshed =
       let d = dues_show L opens p road x h in
-      refreshed (world_of p.nodes x.player) h.stands.net (record { nodes_are = d.stands.nodes_are; placed = d.orderly.placed; each = λ k c at. (d.each k c at).client_is; connected = d.connected }) h.live
+      refreshed (world_of p.nodes x.player) h.stands.net (record { nodes_are = d.stands.nodes_are; placed = d.orderly.placed; pipelines = d.pipelines; each = λ k c at. (d.each k c at).client_is; connected = d.connected }) h.live
 
   -- it covers the world after what was due, too
   pub covers_after : (L : Laws) → AllOpen → CoversOn → (p : PlayState) (road road' : R) (old new : Playing F I O) (d : Due) (live : LiveConns) → PlayIs r i o p road old → is_due (world_of p.nodes old.player) p.queues d ≡ true → HasHappened r i o p.nodes p.queues d old.player new.player road' → Covers (world_of p.nodes old.player) live → Covers (world_of p.nodes new.player) live
@@ -90,7 +91,7 @@ module _ {F R I O : Type 0} (f : files.Ghosts F) (r : roads.Ghosts R I O) (i : l
   with_roads p road road' x h shows = record {
     stands = record {
       net = h.stands.net;
-      shows = record { nodes = shows.stands; clients = h.stands.shows.clients; apart = h.stands.shows.apart; office = h.stands.shows.office; running = h.stands.shows.running; slots = h.stands.shows.slots };
+      shows = record { nodes = shows.stands; pipelines = shows.pipelines; clients = h.stands.shows.clients; apart = h.stands.shows.apart; office = h.stands.shows.office; running = h.stands.shows.running; slots = h.stands.shows.slots };
       few = h.stands.few;
       events = h.stands.events;
       clients = h.stands.clients;

@@ -159,7 +159,7 @@ module _ {F R I O : Type 0} (r : roads.Ghosts R I O) (i : link_in.Ghosts I) (o :
     is = subst (λ (x : Playing F I O). PlayIs r i o (ordered p block.0 c) road x) (sym h.same) (record {
       stands = record {
         net = is.stands.net;
-        shows = record { nodes = is.stands.shows.nodes; clients = client_shows; apart = apart; office = is.stands.shows.office; running = is.stands.shows.running; slots = is.stands.shows.slots };
+        shows = record { nodes = is.stands.shows.nodes; pipelines = is.stands.shows.pipelines; clients = client_shows; apart = apart; office = is.stands.shows.office; running = is.stands.shows.running; slots = is.stands.shows.slots };
         few = is.stands.few;
         events = is.stands.events;
         clients = client_fits;

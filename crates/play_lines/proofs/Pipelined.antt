@@ -62,10 +62,9 @@ beyond (x ∷ xs) (suc i) e = more (beyond xs i e)
 dial_told : (b : ℕ) (u : parts.Upper) (x : Upper) → UpperShows u x → is_dialled_by b x ≡ is_dial_of b u
 dial_told b (by_writer c) (upper.Writer block) h = ap (λ n. n == b) h
 dial_told b (by_member d) (upper.Member conn) h = refl
-dial_told b (by_writer c) (upper.Member conn) h = absurd h
-dial_told b (by_member d) (upper.Writer block) h = absurd h
-dial_told b (by_reader n) x h = absurd h
-dial_told b (by_primary n place) x h = absurd h
+dial_told b (by_reader n) (upper.Reader reader) h = refl
+dial_told b (by_primary n place) (upper.Primary primary at node) h = refl
+dial_told b u x h = absurd h
 
 module _ {F I O : Type 0} (i : link_in.Ghosts I) (o : link_out.Ghosts O) (w : World) (net : Net) (n : Nodes F I O) (nodes : NodesShow i o w net n) (placed : Placed w) where
   dialled_told : (b k : ℕ) → k < w.next_conn → dialled_at (slice_get n.connections.items k) b ≡ is_dial_of b (w.dialled k).upper

@@ -40,7 +40,7 @@ fn is_dialled_by(upper: Upper, block: BlockId) -> bool
 {
     match upper {
         Upper::Writer { block: of } => of.0 == block.0,
-        Upper::Member { .. } => false,
+        Upper::Member { .. } | Upper::Reader { .. } | Upper::Primary { .. } => false,
     }
 }
 
