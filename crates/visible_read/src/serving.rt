@@ -51,9 +51,10 @@ impl Serving {
         }
     }
 
-    /// Whether it has ended: there is no further step.
+    /// Whether it has ended: there is no further step. Where it was answered and hasn't, a packet is next.
     pub fn is_over(&self) -> bool
-        ensures { result ≡ is_over self.now.course }
+        ensures value { result ≡ is_over self.now.course }
+        ensures sound { IsSound self.now.course }
     {
         matches!(self.course, Course::Over)
     }

@@ -5,7 +5,7 @@ use Rattle.serving_events.proofs.packets.serve_packet.Goals as goal
 
 pub returns-then-is_over-clause-shows : goal.returns-then-is_over-clause-shows
 returns-then-is_over-clause-shows g c =
-    packet_over g.F.Files g.R.Roads g.I.LinkIn g.O.LinkOut c.args.read c.args.book.now c.args.book.now c.args.roads.now c.args.roads.now (sym c.is_over.ensures ∙ c.if-is_over.true)
+    packet_over g.F.Files g.R.Roads g.I.LinkIn g.O.LinkOut c.args.read c.args.book.now c.args.book.now c.args.roads.now c.args.roads.now (sym c.is_over.ensures.value ∙ c.if-is_over.true)
 
 pub returns-then-is_short-clause-shows : goal.returns-then-is_short-clause-shows
 returns-then-is_short-clause-shows g c =
