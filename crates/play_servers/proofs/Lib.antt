@@ -5,3 +5,4 @@ mod RequestEvents
 mod DownEvents
 mod PacketEvents
 mod RecoveryEvents
+mod DueLaws

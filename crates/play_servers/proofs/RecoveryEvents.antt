@@ -115,27 +115,27 @@ takes_none w c (Some x) = refl
 
 module _ {I O : Type 0} (i : link_in.Ghosts I) (o : link_out.Ghosts O) where
   -- An end that has taken nothing yet.
-  record IsIdle (w : World) (net : Net) (c : ℕ) (e : Conn I O) : Type 0 where
-    lower : w.lowers c ≡ idle
-    served : is_served w c ≡ true
-    end_is : IsEndOf i o w net c true e
+  pub record IsIdle (w : World) (net : Net) (c : ℕ) (e : Conn I O) : Type 0 where
+    pub lower : w.lowers c ≡ idle
+    pub served : is_served w c ≡ true
+    pub end_is : IsEndOf i o w net c true e
 
-  idle_so : (w : World) (net : Net) (c : ℕ) (blocks : List BlockId) (e : Conn I O) (l : parts.Lower) → w.lowers c ≡ l → EndShows i o w net c blocks l (answer_end.Idle e) → IsIdle w net c e
+  pub idle_so : (w : World) (net : Net) (c : ℕ) (blocks : List BlockId) (e : Conn I O) (l : parts.Lower) → w.lowers c ≡ l → EndShows i o w net c blocks l (answer_end.Idle e) → IsIdle w net c e
   idle_so w net c blocks e idle is h = record { lower = is; served = h.0; end_is = h.1 }
   idle_so w net c blocks e l is h = absurd h
 
   -- One that answers a primary.
-  record IsAnswering (w : World) (net : Net) (c : ℕ) (blocks : List BlockId) (old : Recovering I O) (place : ℕ) : Type 0 where
-    lower : w.lowers c ≡ recovers
-    served : is_served w c ≡ true
-    shows : AnsweringShows i o w net c blocks old place
+  pub record IsAnswering (w : World) (net : Net) (c : ℕ) (blocks : List BlockId) (old : Recovering I O) (place : ℕ) : Type 0 where
+    pub lower : w.lowers c ≡ recovers
+    pub served : is_served w c ≡ true
+    pub shows : AnsweringShows i o w net c blocks old place
 
-  answering_so : (w : World) (net : Net) (c : ℕ) (blocks : List BlockId) (old : Recovering I O) (place : ℕ) (l : parts.Lower) → w.lowers c ≡ l → EndShows i o w net c blocks l (answer_end.Answering old place) → IsAnswering w net c blocks old place
+  pub answering_so : (w : World) (net : Net) (c : ℕ) (blocks : List BlockId) (old : Recovering I O) (place : ℕ) (l : parts.Lower) → w.lowers c ≡ l → EndShows i o w net c blocks l (answer_end.Answering old place) → IsAnswering w net c blocks old place
   answering_so w net c blocks old place recovers is h = record { lower = is; served = h.0; shows = h.1 }
   answering_so w net c blocks old place l is h = absurd h
 
   -- Nothing stands next for an end that has no further events.
-  none_down : (w : World) (net : Net) (c : ℕ) (blocks : List BlockId) (l : parts.Lower) → w.lowers c ≡ l → EndShows i o w net c blocks l answer_end.Ended → can_down w c ≡ true → ⊥
+  pub none_down : (w : World) (net : Net) (c : ℕ) (blocks : List BlockId) (l : parts.Lower) → w.lowers c ≡ l → EndShows i o w net c blocks l answer_end.Ended → can_down w c ≡ true → ⊥
   none_down w net c blocks idle is h due = true_false (is_served w c) (and-left (is_served w c) (takes_down (w.lowers c) w c (next_down w c)) due) h
   none_down w net c blocks recovers is h due = true_false (is_served w c) (and-left (is_served w c) (takes_down (w.lowers c) w c (next_down w c)) due) h
   none_down w net c blocks ended_below is h due =

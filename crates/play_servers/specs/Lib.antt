@@ -4,3 +4,4 @@ pub mod Showing
 pub mod Events
 pub mod Answering
 pub mod Recoveries
+pub mod Dues

@@ -4,10 +4,12 @@
 #![tactic(auto)]
 
 mod downs;
+mod dues;
 mod packets;
 mod recoveries;
 mod requests;
 mod servers;
 
+pub use dues::answers_wait;
 pub use recoveries::{AnswerEnd, RecoveryServer};
 pub use servers::{ReadEnd, ReadServer, ServerEvent};
