@@ -15,3 +15,5 @@ pub mod KeptNodes
 pub mod WriterFrames
 pub mod WriterKeeping
 pub mod ElsewhereNodes
+pub mod ElsewhereKeeping
+pub mod ElsewhereWriters

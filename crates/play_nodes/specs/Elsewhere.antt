@@ -1,19 +1,24 @@
 -- Connections whose lower ends are kept elsewhere: those of readers and primaries.
-use Rattle.std.specs.Prelude.{◌≡◌, ◌<◌, ◌+◌, ◌++◌, [], ◌∷◌, ℕ, false, slice_get, Some, None, IsSome, Result, Ok, Err}
+use Rattle.std.specs.Prelude.{◌≡◌, ◌≤◌, ◌<◌, ◌+◌, ◌++◌, [], ◌∷◌, ℕ, Bool, false, slice_get, Some, None, IsSome, Result, Ok, Err}
 use Rattle.hd_base.specs.declared.files.Files as files
 use Rattle.hd_base.specs.declared.links.LinkIn as link_in
 use Rattle.hd_base.specs.declared.links.LinkOut as link_out
 use Rattle.hd_base.specs.declared.numbers.BlockId.{BlockId}
+use Rattle.hd_base.specs.declared.numbers.ConnId.{ConnId}
 use Rattle.hd_base.specs.declared.numbers.NodeId.{NodeId}
 use Rattle.replica_files.specs.declared.book_state.BookState.{BookState}
 use Rattle.replica_files.specs.Books.{replica_of}
 use Rattle.road_traffic.specs.Showing.{Net}
-use Rattle.world.specs.Parts.{by_reader, idle}
+use Rattle.world.specs.declared.events.Event.TheVariants as event
+use Rattle.world.specs.Parts.{by_writer, by_member, by_reader, idle}
 use Rattle.world.specs.Worlds.{World}
 use Rattle.world.specs.Nodes.{node_of}
+use Rattle.world.specs.Events.{happens, run}
 use Rattle.world_nets.specs.Nets.{is_over}
 use Rattle.world_orders.specs.Orders.{Ordered}
 use Rattle.member_events.specs.Showing.{OthersStay}
+use Rattle.play_model.specs.declared.dues.Due.TheVariants as due
+use Rattle.play_model.specs.Dues.{Queues, due_events}
 use Rattle.play_nodes.specs.declared.connections.Connection.{Connection}
 use Rattle.play_nodes.specs.declared.connections.Lower.TheVariants as lower
 use Rattle.play_nodes.specs.declared.connections.Upper.{Upper}
@@ -22,7 +27,7 @@ use Rattle.play_nodes.specs.declared.faults.NodesFault.TheVariants as fault
 use Rattle.play_nodes.specs.declared.nodes.Nodes.{Nodes}
 use Rattle.play_nodes.specs.Frames.{IsKept}
 use Rattle.play_nodes.specs.Places.{book_at}
-use Rattle.play_nodes.specs.Showing.{is_pipeline, NodesShow}
+use Rattle.play_nodes.specs.Showing.{is_pipeline, IsPipeline, NodesShow}
 
 -- WHAT A READER DIALS
 
@@ -101,3 +106,46 @@ NodesFollow {F} {I} {O} f i o =
     (w : World) (net : Net) (v : World) (made : Net) (c : ℕ) (old new : Nodes F I O) →
     ActsElsewhere i o w net v made c old new
     → NodesShow i o v made new
+
+-- WHAT THE EVENTS OF NODES AND WRITERS LEAVE ELSEWHERE
+
+-- A connection is as it was: its lower end, what was sent on it, and what was taken.
+pub record SameConn (w v : World) (c : ℕ) : Type 0 where
+  pub lower : v.lowers c ≡ w.lowers c
+  pub downs : v.downs c ≡ w.downs c
+  pub ups : v.ups c ≡ w.ups c
+  pub down_marks : v.down_marks c ≡ w.down_marks c
+  pub up_marks : v.up_marks c ≡ w.up_marks c
+
+-- Readers, primaries, and connections that are none of a pipeline are as they were, and so is who dialled each connection.
+-- No node has started or stopped.
+pub record KeepsElsewhere (w v : World) : Type 0 where
+  pub readers : (n : ℕ) → v.readers n ≡ w.readers n
+  pub primaries : (n : ℕ) → v.primaries n ≡ w.primaries n
+  pub running : (n : ℕ) → v.running n ≡ w.running n
+  pub lives : (n : ℕ) → v.lives n ≡ w.lives n
+  pub grows : w.next_conn ≤ v.next_conn
+  pub dialled : (c : ℕ) → c < w.next_conn → v.dialled c ≡ w.dialled c
+  pub conns : (c : ℕ) → c < w.next_conn → is_pipeline (w.dialled c).upper ≡ false → SameConn w v c
+
+abbrev pub DownLeaves : Type 0
+DownLeaves = (w : World) (conn : ConnId) (answered : Bool) → Ordered w → IsPipeline w conn.0
+    → KeepsElsewhere w (happens w (event.Down conn answered))
+
+abbrev pub ReadyLeaves : Type 0
+ReadyLeaves = (w : World) (conn : ConnId) → Ordered w → IsPipeline w conn.0
+    → KeepsElsewhere w (happens w (event.Ready conn))
+
+abbrev pub MirrorLeaves : Type 0
+MirrorLeaves = (w : World) (conn : ConnId) (d : ℕ) → Ordered w → (w.dialled conn.0).upper ≡ by_member d
+    → KeepsElsewhere w (happens w (event.Up conn))
+
+-- So it is after an own step of a writer, with the office's answer where it asks.
+abbrev pub OwnLeaves : Type 0
+OwnLeaves = (w : World) (queues : Queues) (block : BlockId) → Ordered w
+    → KeepsElsewhere w (run w (due_events w queues (due.Own block)))
+
+-- And after what a writer hears on its connection.
+abbrev pub HeardLeaves : Type 0
+HeardLeaves = (w : World) (conn : ConnId) (b : ℕ) → Ordered w → (w.dialled conn.0).upper ≡ by_writer b
+    → KeepsElsewhere w (happens w (event.Up conn))

@@ -78,7 +78,8 @@ abbrev pub DownShows : {F R I O : Type 0} → files.Ghosts F → roads.Ghosts R 
     link_out.Ghosts O → ConnId → Nodes F I O → Nodes F I O → R → R → Result (Unit {0}) NodesFault → Type 0
 DownShows f r i o conn old new road road' result =
     (w : World) (net : Net) (queues : Queues) (answered : Bool) → NodesStand r i o w net road old →
-    IsPipeline w conn.0 → IsLawful w (event.Down conn answered) → is_due w queues (due.Down conn) ≡ true → IsBusy w conn.0
+    IsPipeline w conn.0 → IsLawful w (event.Down conn answered) → is_due w queues (due.Down conn) ≡ true →
+    IsBusy w conn.0
     → EventEnds f r i o w net (event.Down conn answered) old new road road' result
 
 abbrev pub UpShows : {F R I O : Type 0} → files.Ghosts F → roads.Ghosts R I O → link_in.Ghosts I → link_out.Ghosts O →

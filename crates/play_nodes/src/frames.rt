@@ -1,6 +1,6 @@
 //! What the events of writers leave of the nodes, and what the events of the nodes leave of the writers.
 
-ghost use Rattle.play_nodes.specs.Elsewhere.{NodesFollow};
+ghost use Rattle.play_nodes.specs.Elsewhere.{NodesFollow, DownLeaves, ReadyLeaves, MirrorLeaves, OwnLeaves, HeardLeaves};
 ghost use Rattle.play_nodes.specs.Frames.{NodesEndsStay, NodesStay, OwnKeeps, HeardKeeps, DownKeeps, ReadyKeeps, MirrorKeeps};
 
 use hd_base::{Files, LinkIn, LinkOut};
@@ -31,4 +31,17 @@ pub fn nodes_keep_writers()
     ensures down { DownKeeps }
     ensures ready { ReadyKeeps }
     ensures up { MirrorKeeps }
+{}
+
+/// The events of the nodes keep readers, primaries, and connections that are none of a pipeline.
+pub fn nodes_keep_elsewhere()
+    ensures down { DownLeaves }
+    ensures ready { ReadyLeaves }
+    ensures up { MirrorLeaves }
+{}
+
+/// So do the events of writers.
+pub fn writers_keep_elsewhere()
+    ensures own { OwnLeaves }
+    ensures heard { HeardLeaves }
 {}

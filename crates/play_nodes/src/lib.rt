@@ -1,6 +1,6 @@
 //! The nodes of a play: the lower ends of its connections, and the books of its replicas. Each event takes nodes that show
-//! a world, on roads that show it, to nodes that show the world after the event. Which events are due there is told. The
-//! lower ends of connections that readers and primaries dialled are kept elsewhere, with these books.
+//! a world, on roads that show it, to nodes that show the world after the event. Which events are due there is told.
+//! The lower ends of connections that readers and primaries dialled are kept elsewhere, with these books.
 #![tactic(auto)]
 
 mod beginning;
@@ -15,6 +15,7 @@ mod nodes;
 pub use connections::{Connection, Lower, Upper};
 pub use faults::NodesFault;
 pub use frames::{
-    nodes_ends_stay, nodes_follow, nodes_keep_writers, nodes_stay, writers_keep_nodes,
+    nodes_ends_stay, nodes_follow, nodes_keep_elsewhere, nodes_keep_writers, nodes_stay,
+    writers_keep_elsewhere, writers_keep_nodes,
 };
 pub use nodes::{NodeBooks, Nodes};
