@@ -21,6 +21,7 @@ use Rattle.member_core.specs.Steps.{Step, Setup, step, faulted_step, oldest_at, 
 use Rattle.read_core.specs.Servings.{ServingState, refusing, faulted_read, faulted_piece, next_call, piece_at, read_at, read_event}
 use Rattle.recovery_core.specs.declared.members.RecoveryReply.{RecoveryReply}
 use Rattle.recovery_core.specs.Members.{Served, recovery_event, serve, serve_faulted}
+use Rattle.world.specs.declared.events.Delivery.TheVariants as delivery
 use Rattle.world.specs.declared.events.Event as happening
 use Rattle.world.specs.declared.events.Event.TheVariants as event
 use Rattle.world.specs.Parts.{Message, request, packet, ack, response, read_status, recovery_answer, Upper, by_writer, by_member, FullMember, Lower, idle, writes, serves, recovers, ended_below, Break, Said}
@@ -31,6 +32,7 @@ use Rattle.world.specs.Events.{changed, outcome, after_event, happens, upper_up,
 use Rattle.world_laws.proofs.FactTables.{if-each, when-each}
 use Rattle.world_nets.specs.Nets.{is_over}
 use Rattle.world_nets.proofs.StepLemmas.{changed-over, taken-over}
+use Rattle.play_nodes.specs.Elsewhere.{IsOfLowerEnd}
 use Rattle.play_nodes.specs.Frames.{KeepsWriters}
 use Rattle.play_nodes.proofs.NodeFrames.{IsApart}
 use Rattle.play_nodes.proofs.WriterFrames.{put_same}
@@ -232,16 +234,16 @@ up_taken_kept : (w : World) (c : ℕ) (x : Next) → StepKeeps w (up_taken w c x
 unfolding up_taken
 up_taken_kept w c x = record { office = refl; writers = λ b. refl; said = λ b. refl; over = λ d apart. taken-over w d false c false x (λ same. absurd (apart same)) }
 
-down_next : (w : World) (c : ℕ) (answered : Bool) (o : Option Next) → IfSome (down_as w c answered false o) (λ v. StepKeeps w v None)
-down_next w c answered None = tt
-down_next w c answered (Some x) =
-    changed_kept w (down_taken w c x) None (lower_down (w.lowers c) (down_taken w c x) c x answered false) (down_taken_kept w c x) (down_of (down_taken w c x) (w.lowers c) c x answered false)
+down_next : (w : World) (c : ℕ) (answered fails : Bool) (o : Option Next) → IfSome (down_as w c answered fails o) (λ v. StepKeeps w v None)
+down_next w c answered fails None = tt
+down_next w c answered fails (Some x) =
+    changed_kept w (down_taken w c x) None (lower_down (w.lowers c) (down_taken w c x) c x answered fails) (down_taken_kept w c x) (down_of (down_taken w c x) (w.lowers c) c x answered fails)
 
 down_kept : (w : World) (conn : ConnId) (answered : Bool) → StepKeeps w (happens w (event.Down conn answered)) None
 unfolding happens outcome
 down_kept w conn answered =
     after_kept w None (event.Down conn answered) (outcome w (event.Down conn answered))
-    (when-each (λ v. StepKeeps w v None) (is_served w conn.0) (down_as w conn.0 answered false (next_down w conn.0)) (λ _. down_next w conn.0 answered (next_down w conn.0)))
+    (when-each (λ v. StepKeeps w v None) (is_served w conn.0) (down_as w conn.0 answered false (next_down w conn.0)) (λ _. down_next w conn.0 answered false (next_down w conn.0)))
 
 ready_kept : (w : World) (conn : ConnId) → StepKeeps w (happens w (event.Ready conn)) None
 unfolding happens outcome
@@ -249,6 +251,27 @@ ready_kept w conn =
     after_kept w None (event.Ready conn) (outcome w (event.Ready conn))
     (when-each (λ v. StepKeeps w v None) (is_served w conn.0) (changed w (lower_ready (w.lowers conn.0) w conn.0 false))
     (λ _. changed_kept w w None (lower_ready (w.lowers conn.0) w conn.0 false) (still_kept w None) (lower_ready_of w (w.lowers conn.0) conn.0 false)))
+
+-- the same where a call on files fails
+failing_down_kept : (w : World) (conn : ConnId) → StepKeeps w (happens w (event.Fault (delivery.Down conn))) None
+unfolding happens outcome
+failing_down_kept w conn =
+    after_kept w None (event.Fault (delivery.Down conn)) (outcome w (event.Fault (delivery.Down conn)))
+    (when-each (λ v. StepKeeps w v None) (is_served w conn.0) (down_as w conn.0 false true (next_down w conn.0)) (λ _. down_next w conn.0 false true (next_down w conn.0)))
+
+failing_ready_kept : (w : World) (conn : ConnId) → StepKeeps w (happens w (event.Fault (delivery.Ready conn))) None
+unfolding happens outcome
+failing_ready_kept w conn =
+    after_kept w None (event.Fault (delivery.Ready conn)) (outcome w (event.Fault (delivery.Ready conn)))
+    (when-each (λ v. StepKeeps w v None) (is_served w conn.0) (changed w (lower_ready (w.lowers conn.0) w conn.0 true))
+    (λ _. changed_kept w w None (lower_ready (w.lowers conn.0) w conn.0 true) (still_kept w None) (lower_ready_of w (w.lowers conn.0) conn.0 true)))
+
+pub uppers_stay : (w : World) (e : happening.Event) → IsOfLowerEnd e → (d : ℕ) → is_over (happens w e) d false ≡ is_over w d false
+uppers_stay w (event.Down conn answered) is d = (down_kept w conn answered).over d tt
+uppers_stay w (event.Ready conn) is d = (ready_kept w conn).over d tt
+uppers_stay w (event.Fault (delivery.Down conn)) is d = (failing_down_kept w conn).over d tt
+uppers_stay w (event.Fault (delivery.Ready conn)) is d = (failing_ready_kept w conn).over d tt
+uppers_stay w e is d = absurd is
 
 up_so : (w : World) (c d : ℕ) (u : Upper) (x : Next) → u ≡ by_member d → IfSome (changed (up_taken w c x) (upper_up u (up_taken w c x) c x false)) (λ v. StepKeeps w v (Some c))
 unfolding up_taken

@@ -9,6 +9,8 @@ use Rattle.hd_base.specs.declared.numbers.NodeId.{NodeId}
 use Rattle.replica_files.specs.declared.book_state.BookState.{BookState}
 use Rattle.replica_files.specs.Books.{replica_of}
 use Rattle.road_traffic.specs.Showing.{Net}
+use Rattle.world.specs.declared.events.Delivery.TheVariants as delivery
+use Rattle.world.specs.declared.events.Event.{Event}
 use Rattle.world.specs.declared.events.Event.TheVariants as event
 use Rattle.world.specs.Parts.{by_writer, by_member, by_reader, idle}
 use Rattle.world.specs.Worlds.{World}
@@ -86,6 +88,18 @@ pub record NodeShows {F I O : Type 0} (v : World) (node : ℕ) (old new : Nodes 
   pub all : (place : ℕ) (block : BlockId) → slice_get new.blocks.items place ≡ Some block →
       IsSome (book_at new.nodes.items node place)
 
+-- An event of a lower end: it takes what stands next or acts without a message, and a call on files fails in it or doesn't.
+abbrev pub IsOfLowerEnd : Event → Type 0
+IsOfLowerEnd (event.Down c answered) = Unit {0}
+IsOfLowerEnd (event.Ready c) = Unit {0}
+IsOfLowerEnd (event.Fault (delivery.Down c)) = Unit {0}
+IsOfLowerEnd (event.Fault (delivery.Ready c)) = Unit {0}
+IsOfLowerEnd other = ⊥
+
+-- No upper end takes the end in it.
+abbrev pub UpperEndsStay : Type 0
+UpperEndsStay = (w : World) (e : Event) → IsOfLowerEnd e → (d : ℕ) → is_over (happens w e) d false ≡ is_over w d false
+
 -- The lower end of a connection that is none of a pipeline acted, with books of its node. Messages come in order before it
 -- and after it (messages_come_in_order).
 pub record ActsElsewhere {F I O : Type 0} (i : link_in.Ghosts I) (o : link_out.Ghosts O) (w : World) (net : Net)
@@ -128,6 +142,7 @@ pub record KeepsElsewhere (w v : World) : Type 0 where
   pub dialled : (c : ℕ) → c < w.next_conn → v.dialled c ≡ w.dialled c
   pub conns : (c : ℕ) → c < w.next_conn → is_pipeline (w.dialled c).upper ≡ false → SameConn w v c
 
+-- So it is after the events of the nodes.
 abbrev pub DownLeaves : Type 0
 DownLeaves = (w : World) (conn : ConnId) (answered : Bool) → Ordered w → IsPipeline w conn.0
     → KeepsElsewhere w (happens w (event.Down conn answered))
@@ -140,7 +155,7 @@ abbrev pub MirrorLeaves : Type 0
 MirrorLeaves = (w : World) (conn : ConnId) (d : ℕ) → Ordered w → (w.dialled conn.0).upper ≡ by_member d
     → KeepsElsewhere w (happens w (event.Up conn))
 
--- So it is after an own step of a writer, with the office's answer where it asks.
+-- And after an own step of a writer, with the office's answer where it asks.
 abbrev pub OwnLeaves : Type 0
 OwnLeaves = (w : World) (queues : Queues) (block : BlockId) → Ordered w
     → KeepsElsewhere w (run w (due_events w queues (due.Own block)))

@@ -1,6 +1,6 @@
 //! What the events of writers leave of the nodes, and what the events of the nodes leave of the writers.
 
-ghost use Rattle.play_nodes.specs.Elsewhere.{NodesFollow, DownLeaves, ReadyLeaves, MirrorLeaves, OwnLeaves, HeardLeaves};
+ghost use Rattle.play_nodes.specs.Elsewhere.{NodesFollow, UpperEndsStay, DownLeaves, ReadyLeaves, MirrorLeaves, OwnLeaves, HeardLeaves};
 ghost use Rattle.play_nodes.specs.Frames.{NodesEndsStay, NodesStay, OwnKeeps, HeardKeeps, DownKeeps, ReadyKeeps, MirrorKeeps};
 
 use hd_base::{Files, LinkIn, LinkOut};
@@ -18,6 +18,11 @@ pub fn nodes_stay<F: Files, I: LinkIn, O: LinkOut>()
 /// Nodes that show a world show the world after a lower end that is kept elsewhere acted, with books of its node.
 pub fn nodes_follow<F: Files, I: LinkIn, O: LinkOut>()
     ensures { NodesFollow F.Files I.LinkIn O.LinkOut }
+{}
+
+/// No upper end takes the end in an event of a lower end.
+pub fn upper_ends_stay()
+    ensures { UpperEndsStay }
 {}
 
 /// The events of writers keep what the nodes show.

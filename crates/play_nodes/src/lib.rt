@@ -16,6 +16,6 @@ pub use connections::{Connection, Lower, Upper};
 pub use faults::NodesFault;
 pub use frames::{
     nodes_ends_stay, nodes_follow, nodes_keep_elsewhere, nodes_keep_writers, nodes_stay,
-    writers_keep_elsewhere, writers_keep_nodes,
+    upper_ends_stay, writers_keep_elsewhere, writers_keep_nodes,
 };
 pub use nodes::{NodeBooks, Nodes};
