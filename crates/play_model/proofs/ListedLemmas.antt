@@ -17,11 +17,13 @@ use Rattle.world.specs.Enabled.{acts_with, is_deed, is_question, can_down, can_r
 use Rattle.world_laws.proofs.FactTables.{and-right}
 use Rattle.world_laws.proofs.StampGivens.{put-here}
 use Rattle.world_laws.proofs.TestLaws.{all-tested}
+use Rattle.play_model.specs.declared.asks.ReadAsk.{ReadAsk}
 use Rattle.play_model.specs.declared.dues.Due.{Due}
 use Rattle.play_model.specs.declared.dues.Due.TheVariants as due
 use Rattle.play_model.specs.States.{PlayState, world_of}
-use Rattle.play_model.specs.Dues.{Queues, is_open, is_open_above, is_due, when, when_due, upto, own_dues, conn_dues, dues, asking, acting, own_events, action_of, due_events}
-use Rattle.play_model.specs.Laws.{AreEnabled, IsDeed, IsQuiet, OwnAmong, IsListed}
+use Rattle.play_model.specs.Dues.{Queues, is_open, is_open_above, is_due, when, when_due, upto, own_dues, reader_dues, conn_dues, dues, asking, acting, own_events, action_of, due_events}
+use Rattle.play_model.specs.Laws.{AreEnabled, IsDeed, IsQuiet, OwnAmong, AskAmong, IsListed}
+use Rattle.play_model.proofs.AskLemmas.{asks_enabled}
 
 -- all of the list are such
 abbrev All : (Due → Type 0) → List Due → Type 0
@@ -53,6 +55,12 @@ own_all w queues (b ∷ blocks) =
     both (Is w queues) (when_due w queues (due.Own (record { 0 = b }))) (own_dues w queues blocks) (when_all w queues (due.Own (record { 0 = b })))
     (own_all w queues blocks)
 
+readers_all : (w : World) (queues : Queues) (asks : List ReadAsk) → All (Is w queues) (reader_dues w queues asks)
+readers_all w queues [] = tt
+readers_all w queues (ask ∷ asks) =
+    both (Is w queues) (when_due w queues (due.Reader ask)) (reader_dues w queues asks) (when_all w queues (due.Reader ask))
+    (readers_all w queues asks)
+
 conn_all : (w : World) (queues : Queues) (c : ℕ) → All (Is w queues) (conn_dues w queues c)
 conn_all w queues c =
     both (Is w queues) (when_due w queues (due.Down (record { 0 = c }))) _ (when_all w queues (due.Down (record { 0 = c })))
@@ -67,8 +75,9 @@ all_due : (blocks : List ℕ) (p : PlayState) → All (Is (world_of p) p.queues)
 unfolding dues
 all_due blocks p =
     let w = world_of p in
-    both (Is w p.queues) (own_dues w p.queues blocks) (upto (conn_dues w p.queues) w.next_conn) (own_all w p.queues blocks)
-    (upto_all (Is w p.queues) (conn_dues w p.queues) w.next_conn (conn_all w p.queues))
+    both (Is w p.queues) (own_dues w p.queues blocks) _ (own_all w p.queues blocks)
+    (both (Is w p.queues) (reader_dues w p.queues p.asks) (upto (conn_dues w p.queues) w.next_conn) (readers_all w p.queues p.asks)
+    (upto_all (Is w p.queues) (conn_dues w p.queues) w.next_conn (conn_all w p.queues)))
 
 -- ---- a writer's step
 
@@ -115,6 +124,7 @@ own_enabled w b queue action.Memory none is deed = cc
 -- What is due can happen.
 due_enabled : (w : World) (queues : Queues) (d : Due) → IsQuiet w → is_due w queues d ≡ true → IsDeed w d → AreEnabled w (due_events w queues d)
 due_enabled w queues (due.Own b) quiet is deed = own_enabled w b.0 (queues b.0) (action_of w b) (quiet b.0) refl deed
+due_enabled w queues (due.Reader ask) quiet is deed = (asks_enabled w ask true ∙ is, tt)
 due_enabled w queues (due.Down c) quiet is deed = ((all-tested w).down c true ∙ and-right (is_open (w.lowers c.0)) (can_down w c.0) is, tt)
 due_enabled w queues (due.Ready c) quiet is deed = ((all-tested w).ready c ∙ and-right (is_open (w.lowers c.0)) (can_ready w c.0) is, tt)
 due_enabled w queues (due.Up c) quiet is deed = ((all-tested w).up c ∙ and-right (is_open_above w (w.dialled c.0).upper) (can_up w c.0) is, tt)
@@ -136,6 +146,11 @@ own_among w queues all (b ∷ blocks) within =
     (when_is (OwnAmong all) (is_due w queues (due.Own (record { 0 = b }))) (due.Own (record { 0 = b })) (λ e. within b (record { place = 0; there = refl })))
     (own_among w queues all blocks (λ a h. within a (has_more b blocks a h)))
 
+readers_own : (w : World) (queues : Queues) (all : List ℕ) (asks : List ReadAsk) → All (OwnAmong all) (reader_dues w queues asks)
+readers_own w queues all [] = tt
+readers_own w queues all (ask ∷ asks) =
+    both (OwnAmong all) (when_due w queues (due.Reader ask)) (reader_dues w queues asks) (when_is (OwnAmong all) _ (due.Reader ask) (λ e. tt)) (readers_own w queues all asks)
+
 conn_among : (w : World) (queues : Queues) (all : List ℕ) (c : ℕ) → All (OwnAmong all) (conn_dues w queues c)
 conn_among w queues all c =
     both (OwnAmong all) (when_due w queues (due.Down (record { 0 = c }))) _ (when_is (OwnAmong all) _ (due.Down (record { 0 = c })) (λ e. tt))
@@ -146,11 +161,44 @@ all_among : (blocks : List ℕ) (p : PlayState) → All (OwnAmong blocks) (dues 
 unfolding dues
 all_among blocks p =
     let w = world_of p in
-    both (OwnAmong blocks) (own_dues w p.queues blocks) (upto (conn_dues w p.queues) w.next_conn) (own_among w p.queues blocks blocks (λ b h. h))
-    (upto_all (OwnAmong blocks) (conn_dues w p.queues) w.next_conn (conn_among w p.queues blocks))
+    both (OwnAmong blocks) (own_dues w p.queues blocks) _ (own_among w p.queues blocks blocks (λ b h. h))
+    (both (OwnAmong blocks) (reader_dues w p.queues p.asks) (upto (conn_dues w p.queues) w.next_conn) (readers_own w p.queues blocks p.asks)
+    (upto_all (OwnAmong blocks) (conn_dues w p.queues) w.next_conn (conn_among w p.queues blocks)))
+
+-- ---- whose reads are listed
+
+asked_more : (a : ReadAsk) (asks : List ReadAsk) (b : ReadAsk) → Has asks b → Has (a ∷ asks) b
+asked_more a asks b h = record { place = suc h.place; there = h.there }
+
+readers_asked : (w : World) (queues : Queues) (all asks : List ReadAsk) → ((a : ReadAsk) → Has asks a → Has all a) → All (AskAmong all) (reader_dues w queues asks)
+readers_asked w queues all [] within = tt
+readers_asked w queues all (ask ∷ asks) within =
+    both (AskAmong all) (when_due w queues (due.Reader ask)) (reader_dues w queues asks)
+    (when_is (AskAmong all) (is_due w queues (due.Reader ask)) (due.Reader ask) (λ e. within ask (record { place = 0; there = refl })))
+    (readers_asked w queues all asks (λ a h. within a (asked_more ask asks a h)))
+
+own_asked : (w : World) (queues : Queues) (all : List ReadAsk) (blocks : List ℕ) → All (AskAmong all) (own_dues w queues blocks)
+own_asked w queues all [] = tt
+own_asked w queues all (b ∷ blocks) =
+    both (AskAmong all) (when_due w queues (due.Own (record { 0 = b }))) (own_dues w queues blocks) (when_is (AskAmong all) _ (due.Own (record { 0 = b })) (λ e. tt)) (own_asked w queues all blocks)
+
+conn_asked : (w : World) (queues : Queues) (all : List ReadAsk) (c : ℕ) → All (AskAmong all) (conn_dues w queues c)
+conn_asked w queues all c =
+    both (AskAmong all) (when_due w queues (due.Down (record { 0 = c }))) _ (when_is (AskAmong all) _ (due.Down (record { 0 = c })) (λ e. tt))
+    (both (AskAmong all) (when_due w queues (due.Ready (record { 0 = c }))) _ (when_is (AskAmong all) _ (due.Ready (record { 0 = c })) (λ e. tt))
+    (when_is (AskAmong all) _ (due.Up (record { 0 = c })) (λ e. tt)))
+
+all_asked : (blocks : List ℕ) (p : PlayState) → All (AskAmong p.asks) (dues blocks p)
+unfolding dues
+all_asked blocks p =
+    let w = world_of p in
+    both (AskAmong p.asks) (own_dues w p.queues blocks) _ (own_asked w p.queues p.asks blocks)
+    (both (AskAmong p.asks) (reader_dues w p.queues p.asks) (upto (conn_dues w p.queues) w.next_conn) (readers_asked w p.queues p.asks p.asks (λ a h. h))
+    (upto_all (AskAmong p.asks) (conn_dues w p.queues) w.next_conn (conn_asked w p.queues p.asks)))
 
 pub listed_due : (blocks : List ℕ) (p : PlayState) (i : ℕ) (d : Due) → slice_get (dues blocks p) i ≡ Some d → IsListed blocks p d
 listed_due blocks p i d found = record {
   is = at (Is (world_of p) p.queues) (dues blocks p) i d (all_due blocks p) found;
   among = at (OwnAmong blocks) (dues blocks p) i d (all_among blocks p) found;
+  asked = at (AskAmong p.asks) (dues blocks p) i d (all_asked blocks p) found;
 }

@@ -9,11 +9,13 @@ use Rattle.world.specs.declared.events.Event.{Event}
 use Rattle.world.specs.declared.events.Event.TheVariants as event
 use Rattle.world.specs.declared.events.OwnStep.TheVariants as own
 use Rattle.world.specs.declared.events.TakenCommand.{TakenCommand}
-use Rattle.world.specs.Parts.{Upper, by_member, Lower, writes, ended_below, Writing}
+use Rattle.world.specs.Parts.{Upper, by_member, Lower, writes, ended_below, Writing, Reader, no_reader}
 use Rattle.world.specs.Worlds.{World, put}
 use Rattle.world.specs.Enabled.{can_down, can_ready, can_up}
+use Rattle.play_model.specs.declared.asks.ReadAsk.{ReadAsk}
 use Rattle.play_model.specs.declared.dues.Due.{Due}
 use Rattle.play_model.specs.declared.dues.Due.TheVariants as due
+use Rattle.play_model.specs.Asks.{asking_node}
 use Rattle.play_model.specs.States.{PlayState, world_of}
 
 -- the commands of each block that its writer hasn't taken
@@ -30,6 +32,11 @@ takes_due x queue = is_none x.known.waiting && is_some (slice_get queue 0)
 abbrev pub own_due : Writing → List TakenCommand → Bool
 own_due x queue = has_step x.known || takes_due x queue
 
+-- the reader hasn't begun: it has an own step
+abbrev pub is_unbegun : Reader → Bool
+is_unbegun no_reader = true
+is_unbegun other = false
+
 -- A member of which both sides act, or another lower end that hasn't ended. A member is over in a play as soon as one of its
 -- sides is: it has shut then, or the end has come from above, and it has no further events.
 abbrev pub is_open : Lower → Bool
@@ -44,6 +51,7 @@ is_open_above w other = true
 
 abbrev pub is_due : World → Queues → Due → Bool
 is_due w queues (due.Own b) = own_due (w.writers b.0) (queues b.0)
+is_due w queues (due.Reader ask) = is_unbegun (w.readers ask.reader)
 is_due w queues (due.Down c) = is_open (w.lowers c.0) && can_down w c.0
 is_due w queues (due.Ready c) = is_open (w.lowers c.0) && can_ready w c.0
 is_due w queues (due.Up c) = is_open_above w (w.dialled c.0).upper && can_up w c.0
@@ -66,15 +74,23 @@ abbrev pub own_dues : World → Queues → List ℕ → List Due
 own_dues w queues [] = []
 own_dues w queues (b ∷ blocks) = when_due w queues (due.Own (record { 0 = b })) ++ own_dues w queues blocks
 
+-- the own steps of the readers that ask this
+abbrev pub reader_dues : World → Queues → List ReadAsk → List Due
+reader_dues w queues [] = []
+reader_dues w queues (ask ∷ asks) = when_due w queues (due.Reader ask) ++ reader_dues w queues asks
+
 -- what is due of a connection
 abbrev pub conn_dues : World → Queues → ℕ → List Due
 conn_dues w queues c =
     when_due w queues (due.Down (record { 0 = c })) ++
     (when_due w queues (due.Ready (record { 0 = c })) ++ when_due w queues (due.Up (record { 0 = c })))
 
--- All that is due, in the order in which it is counted: the writers of these blocks, then each connection.
+-- All that is due, in the order in which it is counted: the writers of these blocks, then the readers in the order of their lines, then each
+-- connection.
 unfoldable pub dues : List ℕ → PlayState → List Due
-dues blocks p = own_dues (world_of p) p.queues blocks ++ upto (conn_dues (world_of p) p.queues) (world_of p).next_conn
+dues blocks p =
+    own_dues (world_of p) p.queues blocks ++
+    (reader_dues (world_of p) p.queues p.asks ++ upto (conn_dues (world_of p) p.queues) (world_of p).next_conn)
 
 -- WHAT HAPPENS THEN
 
@@ -104,6 +120,7 @@ action_of w b = (own_step (w.writers b.0).known).action
 
 abbrev pub due_events : World → Queues → Due → List Event
 due_events w queues (due.Own b) = own_events (action_of w b) b.0 (queues b.0)
+due_events w queues (due.Reader ask) = asking_node ask true ∷ []
 due_events w queues (due.Down c) = event.Down c true ∷ []
 due_events w queues (due.Ready c) = event.Ready c ∷ []
 due_events w queues (due.Up c) = event.Up c ∷ []

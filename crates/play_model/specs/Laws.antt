@@ -6,6 +6,7 @@ use Rattle.world.specs.Safe.{Has}
 use Rattle.world.specs.Worlds.{World}
 use Rattle.world.specs.Enabled.{is_deed, is_question}
 use Rattle.world.specs.Events.{is_enabled, happens}
+use Rattle.play_model.specs.declared.asks.ReadAsk.{ReadAsk}
 use Rattle.play_model.specs.declared.dues.Due.{Due}
 use Rattle.play_model.specs.declared.dues.Due.TheVariants as due
 use Rattle.play_model.specs.States.{PlayState, world_of}
@@ -41,10 +42,16 @@ abbrev pub OwnAmong : List ℕ → Due → Type 0
 OwnAmong blocks (due.Own b) = Has blocks b.0
 OwnAmong blocks other = Unit {0}
 
--- It is due, and a writer that takes a step in it is of one of these blocks.
+-- a reader's step is of one that asks one of these
+abbrev pub AskAmong : List ReadAsk → Due → Type 0
+AskAmong asks (due.Reader ask) = Has asks ask
+AskAmong asks other = Unit {0}
+
+-- It is due. A writer that takes a step in it is of one of these blocks, and a reader asks what a line of the play has asked.
 pub record IsListed (blocks : List ℕ) (p : PlayState) (d : Due) : Type 0 where
   pub is : is_due (world_of p) p.queues d ≡ true
   pub among : OwnAmong blocks d
+  pub asked : AskAmong p.asks d
 
 abbrev pub ListedAreDue : Type 0
 ListedAreDue = (blocks : List ℕ) (p : PlayState) (i : ℕ) (d : Due) → slice_get (dues blocks p) i ≡ Some d

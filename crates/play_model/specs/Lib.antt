@@ -1,3 +1,4 @@
+pub mod Asks
 pub mod States
 pub mod Dues
 pub mod Draws

@@ -1,5 +1,5 @@
 -- A play so far.
-use Rattle.std.specs.Prelude.{ℕ, List, [], ◌∷◌}
+use Rattle.std.specs.Prelude.{ℕ, List, [], ◌∷◌, ◌++◌}
 use Rattle.hd_base.specs.SumRules.{Rule, default_rule}
 use Rattle.rand_pcg.specs.Lcg.{Lcg, started, increment_of}
 use Rattle.rand_pcg.specs.Pcg.{multiplier_64}
@@ -8,14 +8,16 @@ use Rattle.world.specs.declared.events.Event.{Event}
 use Rattle.world.specs.declared.events.TakenCommand.{TakenCommand}
 use Rattle.world.specs.Worlds.{World, start, put, add}
 use Rattle.world.specs.Events.{run}
+use Rattle.play_model.specs.declared.asks.ReadAsk.{ReadAsk}
 
 -- A play so far: how many nodes there are; the events that happened; by block the commands that its writer hasn't taken, and the rule of its
--- sums; and the generator that draws.
+-- sums; what the lines so far ask to read, in their order; and the generator that draws.
 pub record PlayState : Type 0 where
   pub nodes : ℕ
   pub events : List Event
   pub queues : ℕ → List TakenCommand
   pub rules : ℕ → Rule
+  pub asks : List ReadAsk
   pub generator : Lcg
 
 -- the world of a play
@@ -33,6 +35,7 @@ opened nodes seed = record {
   events = [];
   queues = λ _. [];
   rules = λ _. default_rule;
+  asks = [];
   generator = started 64 multiplier_64 seed (increment_of 64 event_stream);
 }
 
@@ -43,3 +46,7 @@ ordered p b c = record p { queues = add p.queues b (record { command = c; rule =
 -- the rule of a block's sums is this
 abbrev pub ruled : PlayState → ℕ → Rule → PlayState
 ruled p b rule = record p { rules = put p.rules b rule }
+
+-- a reader joins the play, which asks this
+abbrev pub asked : PlayState → ReadAsk → PlayState
+asked p ask = record p { asks = p.asks ++ ask ∷ [] }

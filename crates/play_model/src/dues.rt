@@ -1,5 +1,6 @@
 //! What may happen next in a play.
 
+use crate::asks::ReadAsk;
 use hd_base::{BlockId, ConnId};
 
 /// What may happen next in a play: one event, or the several that one rule of a writer makes.
@@ -7,6 +8,8 @@ use hd_base::{BlockId, ConnId};
 pub enum Due {
     /// The writer of a block takes its own step: all actions of one rule, with the calls that bring their results back.
     Own { block: BlockId },
+    /// A reader that hasn't begun takes its own step: it asks its node.
+    Reader { ask: ReadAsk },
     /// The lower end of a connection takes what stands next.
     Down { conn: ConnId },
     /// The lower end of a connection acts without a message.

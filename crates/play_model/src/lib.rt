@@ -1,8 +1,10 @@
 //! What a play of a script is: which events are due, how one is drawn, and what each line does.
 #![tactic(auto)]
 
+mod asks;
 mod dues;
 mod laws;
 
+pub use asks::ReadAsk;
 pub use dues::Due;
 pub use laws::{drawn_events_are_enabled, listed_dues_are_due, plays_have_one_end};

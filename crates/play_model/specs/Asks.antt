@@ -1,0 +1,21 @@
+-- What a line asks to read: the request, and the event in which it is sent.
+use Rattle.std.specs.Prelude.{Bool}
+use Rattle.op_headers.specs.declared.ops.ReadOp.{ReadOp}
+use Rattle.writer_core.specs.Requests.{pool_name, client_name}
+use Rattle.world.specs.declared.events.Event.{Event}
+use Rattle.world.specs.declared.events.Event.TheVariants as event
+use Rattle.world.specs.declared.events.OwnStep.TheVariants as own
+use Rattle.play_model.specs.declared.asks.ReadAsk.{ReadAsk}
+
+-- the request: the block under this stamp, without its length, which a read doesn't say, by the block's client
+unfoldable pub request_of : ReadAsk → ReadOp
+request_of ask = record {
+  block = record { pool = pool_name; block = ask.block; stamp = ask.stamp; bytes = 0 };
+  client = client_name ask.block;
+  offset = ask.offset;
+  len = ask.len;
+}
+
+-- the reader of this line asks its node, and its dial is answered or isn't
+abbrev pub asking_node : ReadAsk → Bool → Event
+asking_node ask answered = event.Own (own.Reader ask.reader ask.node (request_of ask) answered)
