@@ -22,9 +22,8 @@ use Rattle.writer_core.specs.declared.actions.Action.{Action}
 use Rattle.writer_core.specs.declared.actions.Action.TheVariants as action
 use Rattle.writer_core.specs.Transitions.{own_step}
 use Rattle.play_model.specs.Dues.{own_events, asking, acting}
-use Rattle.reader_events.proofs.Staying.{Stays}
-use Rattle.reader_events.proofs.ClientsStay.{own-writer-stays, writer-up-stays, office-stays}
-use Rattle.reader_events.proofs.NodesStay.{lower-down-stays, lower-ready-stays, mirror-up-stays}
+use Rattle.world_settling.proofs.ReaderAsides.{own-writer-stays, writer-up-stays, office-stays}
+use Rattle.world_settling.proofs.ReaderNodeAsides.{Stays, lower-down-stays, lower-ready-stays, mirror-up-stays}
 use Rattle.play_readers.specs.Frames.{KeepsReaders, OwnStepsKeepReaders, HearingKeepsReaders, DownKeepsReaders, ReadyKeepsReaders, MirrorKeepsReaders}
 
 -- a table with what stood there already

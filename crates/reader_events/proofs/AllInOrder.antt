@@ -25,9 +25,9 @@ use Rattle.world_orders.proofs.AllOrdered.{put-here, happens-ordered, start-orde
 use Rattle.world_orders.proofs.Clients.{clash}
 use Rattle.world_orders.proofs.Kept.{eqb-itself}
 use Rattle.reader_events.specs.Orders.{ReadersTakeInOrder}
-use Rattle.reader_events.proofs.Staying.{ReadsOn, AllRead, Stays, SameTaken, reads-on, change-reads, stays-read}
-use Rattle.reader_events.proofs.NodesStay.{lower-down-stays, lower-ready-stays, mirror-up-stays}
-use Rattle.reader_events.proofs.ClientsStay.{own-writer-stays, writer-up-stays, own-recover-stays, own-primary-stays, primary-up-stays, office-stays}
+use Rattle.reader_events.proofs.Staying.{ReadsOn, AllRead, SameTaken, reads-on, change-reads, stays-read}
+use Rattle.world_settling.proofs.ReaderNodeAsides.{Stays, lower-down-stays, lower-ready-stays, mirror-up-stays}
+use Rattle.world_settling.proofs.ReaderAsides.{own-writer-stays, writer-up-stays, own-recover-stays, own-primary-stays, primary-up-stays, office-stays}
 use Rattle.reader_events.proofs.OrderLaws.{ReaderReads, own-reads, up-reads, in-order}
 
 -- what a change leaves that does so much

@@ -1,7 +1,5 @@
 pub mod MakeLaws
 pub mod Staying
-pub mod NodesStay
-pub mod ClientsStay
 pub mod OrderLaws
 pub mod AllInOrder
 pub mod HearSteps

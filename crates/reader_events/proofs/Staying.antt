@@ -5,6 +5,7 @@ use Rattle.read_core.specs.Readings.{ReadingState}
 use Rattle.world.specs.Parts.{Message, Marks, Reader, no_reader, reads, has_read}
 use Rattle.world.specs.Worlds.{World, Change, ups_with, marks_with, apply}
 use Rattle.world_laws.proofs.FactTables.{if-each}
+use Rattle.world_settling.proofs.ReaderNodeAsides.{Stays}
 use Rattle.reader_events.specs.Orders.{HasTaken, IsOpenRead}
 
 -- A reader that reads reads on, over a connection with these marks.
@@ -15,10 +16,6 @@ ReadsOn marks other = Unit {0}
 -- so do all
 pub record AllRead (w : World) : Type 0 where
   pub all : (line : ℕ) → ReadsOn w.up_marks (w.readers line)
-
--- no reader comes into another state
-pub record Stays (w : World) (k : Change) : Type 0 where
-  pub reader : k.reader ≡ w.readers k.reader_at
 
 -- of this connection as much was taken
 pub record SameTaken (a b : Marks) : Type 0 where

@@ -33,6 +33,9 @@ pub mod LeadingWeights
 pub mod LeadingOwn
 pub mod LeadingEvents
 pub mod PrimaryAsides
+pub mod ReaderNodeAsides
+pub mod ReaderAsides
+pub mod Readers
 pub mod Actors
 pub mod Drawing
 pub mod Telling

@@ -27,7 +27,7 @@ use Rattle.writer_core.specs.Transitions as writer
 use Rattle.writer_core.specs.declared.actions.Action.TheVariants as action
 use Rattle.writer_core.specs.declared.phases.Phase.TheVariants as phase
 use Rattle.world_laws.proofs.FactTables.{when-each}
-use Rattle.reader_events.proofs.Staying.{Stays}
+use Rattle.world_settling.proofs.ReaderNodeAsides.{Stays}
 
 -- WRITERS
 

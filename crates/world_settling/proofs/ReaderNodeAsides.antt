@@ -1,6 +1,6 @@
 -- Events of nodes leave the readers as they are.
 use Rattle.world.specs.Nodes.{member_change}
-use Rattle.std.proofs.Common.{ℕ, Bool, true, false, List, [], Option, Some, None, IfSome, Result, Ok, Err, refl}
+use Rattle.std.proofs.Common.{◌≡◌, ℕ, Bool, true, false, List, [], Option, Some, None, IfSome, Result, Ok, Err, refl}
 use Rattle.op_headers.specs.declared.ops.Op.{Op}
 use Rattle.op_headers.specs.declared.ops.Op.TheVariants as op
 use Rattle.op_headers.specs.declared.ops.ReadOp.{ReadOp}
@@ -18,7 +18,7 @@ use Rattle.read_core.specs.Servings.{faulted_read, faulted_piece, ServingState, 
 use Rattle.recovery_core.specs.declared.members.RecoveryReply.{RecoveryReply}
 use Rattle.recovery_core.specs.Members.{Served, recovery_event, serve, serve_faulted}
 use Rattle.world.specs.Parts.{Message, request, packet, ack, response, read_status, recovery_answer, FullMember, Lower, idle, writes, serves, recovers, ended_below, Break}
-use Rattle.world.specs.Worlds.{World, still}
+use Rattle.world.specs.Worlds.{World, Change, still}
 use Rattle.world.specs.Connections.{Next, message, the_end, sent_on, is_alive}
 use Rattle.world.specs.Nodes.{replica_at, block_of, closing, unless_failing, above_of, below_of, failing_turn, turn_change, takes_next, pending_at, member_down, member_up, ready_change, breaking, read_change, failing_read, read_request, piece_as, serve_change, recovery_change, failing_recovery, recovery_request, first_message, next_recovery, lower_down, lower_ready, mirror_up}
 use Rattle.op_headers.specs.Values.{WriteFields}
@@ -27,7 +27,10 @@ use Rattle.member_core.specs.Steps.{Step, Setup, request_step, faulted_request}
 use Rattle.replica_core.specs.Views.{rule_in}
 use Rattle.world.specs.Nodes.{setup_change, failing_write, write_request, is_asked}
 use Rattle.world_laws.proofs.FactTables.{when-each}
-use Rattle.reader_events.proofs.Staying.{Stays}
+
+-- no reader comes into another state
+pub record Stays (w : World) (k : Change) : Type 0 where
+  pub reader : k.reader ≡ w.readers k.reader_at
 
 closes-stays : (w : World) (c : ℕ) → Stays w (closing w c)
 closes-stays w c = record { reader = refl }

@@ -8,7 +8,7 @@ use Rattle.world.specs.declared.events.Event.{Event}
 use Rattle.world.specs.declared.events.Event.TheVariants as event
 use Rattle.world.specs.declared.events.OwnStep.{OwnStep}
 use Rattle.world.specs.declared.events.OwnStep.TheVariants as own
-use Rattle.world.specs.Parts.{Upper, by_writer, by_primary}
+use Rattle.world.specs.Parts.{Upper, by_writer, by_primary, no_reader}
 use Rattle.world.specs.Worlds.{World, start}
 use Rattle.world.specs.Events.{is_enabled, happens, run}
 use Rattle.world_texts.specs.Texts.{AllFit}
@@ -68,6 +68,10 @@ WritersStay = (w : World) (e : Event) (b : ℕ) → is_writer (actor_of w e) ≡
 abbrev pub PrimariesStay : Type 0
 PrimariesStay = (w : World) (e : Event) (i : ℕ) → is_primary (actor_of w e) ≡ false →
     (happens w e).primaries i ≡ w.primaries i
+
+-- In no world does an event leave a reader as one that hasn't begun, unless it hadn't before.
+abbrev pub ReadersGoOn : Type 0
+ReadersGoOn = (w : World) (e : Event) (i : ℕ) → (happens w e).readers i ≡ no_reader → w.readers i ≡ no_reader
 
 -- DRAWS
 

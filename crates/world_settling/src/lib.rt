@@ -1,7 +1,7 @@
 //! Deliveries and own steps come to an end. Each function has an empty body; its clause says what holds of the world.
 #![tactic(auto)]
 
-ghost use Rattle.world_settling.specs.Draws.{WritersStay, PrimariesStay, DrawsLower, DrawsAnswer, DrawsEnd, RunsEnd};
+ghost use Rattle.world_settling.specs.Draws.{WritersStay, PrimariesStay, ReadersGoOn, DrawsLower, DrawsAnswer, DrawsEnd, RunsEnd};
 ghost use Rattle.world_settling.specs.Leading.{
   ReadersLower,
   RecoveriesLower,
@@ -92,6 +92,11 @@ pub fn writers_stay()
 /// An event in which no primary acts leaves all primaries as they are.
 pub fn primaries_stay()
     ensures { PrimariesStay }
+{}
+
+/// A reader that has begun stays so in every event.
+pub fn readers_go_on()
+    ensures { ReadersGoOn }
 {}
 
 /// Each draw, of a delivery, an own step, or a question to the office with the step that goes on with its answer, makes
