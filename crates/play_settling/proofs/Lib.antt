@@ -2,4 +2,5 @@ pub mod Sums
 pub mod Staying
 pub mod Steps
 pub mod Dialling
+pub mod Reading
 pub mod Lowering

@@ -5,6 +5,8 @@ use Rattle.std.proofs.lemmas.Bool.{false≢true}
 use Rattle.std.proofs.lemmas.List.Sums.{sum_by-cons}
 use Rattle.hd_base.specs.declared.numbers.BlockId.{BlockId}
 use Rattle.hd_base.specs.declared.numbers.ConnId.{ConnId}
+use Rattle.hd_base.specs.declared.numbers.NodeId.{NodeId}
+use Rattle.op_headers.specs.declared.ops.ReadOp.{ReadOp}
 use Rattle.name_core.specs.declared.calls.OfficeCall.{OfficeCall}
 use Rattle.name_core.specs.Offices.{answer_to}
 use Rattle.writer_core.specs.declared.actions.Action.{Action}
@@ -28,21 +30,27 @@ use Rattle.world_laws.proofs.RunLaws.{idle-stays, runs-join}
 use Rattle.world_laws.proofs.StampGivens.{put-here, put-there}
 use Rattle.world_laws.proofs.TestLaws.{all-tested}
 use Rattle.world_texts.specs.Texts.{AllFit}
+use Rattle.world_settling.specs.Leading.{read_weight}
 use Rattle.world_settling.specs.Measure.{command_weight, given_weight, writer_weight, LowersBoth, answered_world}
 use Rattle.world_settling.specs.Traffic.{traffic, is_delivery}
 use Rattle.world_settling.proofs.Deliveries.{deliveries-lower}
 use Rattle.world_settling.proofs.OfficeEvents.{asking-lowers}
 use Rattle.world_settling.proofs.OwnEvents.{own-steps-lower}
+use Rattle.world_settling.proofs.ReaderOwn.{readers-lower}
 use Rattle.world_settling.proofs.WriterHears.{answers-lower}
+use Rattle.play_model.specs.declared.asks.ReadAsk.{ReadAsk}
 use Rattle.play_model.specs.declared.dues.Due.{Due}
 use Rattle.play_model.specs.declared.dues.Due.TheVariants as due
+use Rattle.play_model.specs.Asks.{request_of}
 use Rattle.play_model.specs.States.{world_of}
 use Rattle.play_model.specs.Dues.{Queues, is_open, is_open_above, own_due, asking, own_events, queue_left, action_of, due_events, queues_after, after_due}
-use Rattle.play_settling.specs.Settling.{queue_weight, play_weight, answered_so, events_so, weight_after, AreApart, UpperAmong, CanHappen, DuesLower, PlaysLower}
+use Rattle.play_settling.specs.Settling.{queue_weight, writers_weight, play_weight, answered_so, events_so, weight_after, AreApart, UpperAmong, CanHappen, DuesLower, PlaysLower}
 use Rattle.play_settling.proofs.Sums.{lowers-all, lowers-at, both-lower}
 use Rattle.play_settling.proofs.Staying.{IsOther, down-leaves, ready-leaves, up-leaves}
 use Rattle.play_settling.proofs.Steps.{is_plain, own-plain}
 use Rattle.play_settling.proofs.Dialling.{all-ready}
+use Rattle.play_settling.proofs.Reading.{all-go-on, with-asks, reader-lowers}
+use Rattle.play_model.proofs.AskLemmas.{asks_enabled}
 
 -- WHAT IS KNOWN OF A WORLD
 
@@ -52,6 +60,7 @@ pub record Known (w : World) : Type 0 where
       → LowersBoth w (happens w (event.Own (own.Writer b takes answered))) b.0 (given_weight takes)
   pub ask : (b : BlockId) (answered : Bool) → (w.writers b.0).told ≡ None → is_enabled w (event.Office (caller.Writer b)) ≡ true → is_enabled (answered_world w b) (event.Own (own.Writer b None answered)) ≡ true
       → LowersBoth w (happens (answered_world w b) (event.Own (own.Writer b None answered))) b.0 0
+  pub read : (i : ℕ) (n : NodeId) (r : ReadOp) (answered : Bool) → is_enabled w (event.Own (own.Reader i n r answered)) ≡ true → traffic (happens w (event.Own (own.Reader i n r answered))) < traffic w + read_weight r
   pub plain : (b : ℕ) → (w.writers b).told ≡ None → is_plain (own_step (w.writers b).known).action ≡ true
 
 known : (nodes : ℕ) (events : List Event) → AllFit events → (run (start nodes) events).office.next.0 ≤ 2 ^ 64 → Known (run (start nodes) events)
@@ -59,6 +68,7 @@ known nodes events fit left = record {
   deliver = λ e d i. deliveries-lower nodes events e d i;
   step = λ b takes answered told i. own-steps-lower nodes events b takes answered fit left told i;
   ask = λ b answered told i j. asking-lowers nodes events b answered fit left told i j;
+  read = λ i n r answered e. readers-lower nodes events i n r answered e;
   plain = λ b told. own-plain ((run (start nodes) events).writers b).known (all-ready nodes events b told);
 }
 
@@ -123,35 +133,35 @@ module _ (w : World) (k : Known w) (queues : Queues) (blocks : List ℕ) (apart 
     here queue = ap queue_weight (put-here queues b queue)
 
     -- a command is taken, or the writer takes none
-    takes-lower : (t : TakenCommand) (rest : List TakenCommand) → queues b ≡ t ∷ rest → play_weight (happens w (steps (Some t))) (put queues b rest) blocks < play_weight w queues blocks
+    takes-lower : (t : TakenCommand) (rest : List TakenCommand) → queues b ≡ t ∷ rest → writers_weight (happens w (steps (Some t))) (put queues b rest) blocks < writers_weight w queues blocks
     takes-lower t rest q = go (is_enabled w (steps (Some t))) refl
       where
         before : queue_weight (queues b) ≡ command_weight t.command + queue_weight rest
         before = ap queue_weight q ∙ first-weight t rest
 
-        go : (x : Bool) → is_enabled w (steps (Some t)) ≡ x → play_weight (happens w (steps (Some t))) (put queues b rest) blocks < play_weight w queues blocks
+        go : (x : Bool) → is_enabled w (steps (Some t)) ≡ x → writers_weight (happens w (steps (Some t))) (put queues b rest) blocks < writers_weight w queues blocks
         go true e =
             both-lower w (happens w (steps (Some t))) queues (put queues b rest) blocks b apart has (command_weight t.command) (k.step (record { 0 = b }) (Some t) answered told e) (others rest)
             (spent (command_weight t.command) (queue_weight (put queues b rest b)) (queue_weight rest) (queue_weight (queues b)) (here rest) before)
         go false e =
-            subst (λ (v : World). play_weight v (put queues b rest) blocks < play_weight w queues blocks) (sym (idle-stays w (steps (Some t)) e))
+            subst (λ (v : World). writers_weight v (put queues b rest) blocks < writers_weight w queues blocks) (sym (idle-stays w (steps (Some t)) e))
             (lowers-at w w queues (put queues b rest) blocks b apart has (λ a ne. refl) (others rest)
             (lapsed (traffic w) (writer_weight (w.writers b).known) (command_weight t.command) (queue_weight (put queues b rest b)) (queue_weight rest) (queue_weight (queues b)) (command-some t.command) (here rest) before))
 
     waits-lower : (queue : List TakenCommand) → queues b ≡ queue → is_some (slice_get queue 0) ≡ true
-        → play_weight (run w (map (answered_so answered) (own_events action.Wait b queue))) (put queues b (queue_left action.Wait queue)) blocks < play_weight w queues blocks
+        → writers_weight (run w (map (answered_so answered) (own_events action.Wait b queue))) (put queues b (queue_left action.Wait queue)) blocks < writers_weight w queues blocks
     waits-lower [] q s = absurd (false≢true s)
     waits-lower (t ∷ rest) q s = takes-lower t rest q
 
     -- it does something
-    does-lower : (queue : List TakenCommand) → queues b ≡ queue → is_deed (own_step (w.writers b).known).action ≡ true → play_weight (happens w (steps None)) (put queues b queue) blocks < play_weight w queues blocks
+    does-lower : (queue : List TakenCommand) → queues b ≡ queue → is_deed (own_step (w.writers b).known).action ≡ true → writers_weight (happens w (steps None)) (put queues b queue) blocks < writers_weight w queues blocks
     does-lower queue q deed =
         both-lower w (happens w (steps None)) queues (put queues b queue) blocks b apart has 0
         (k.step (record { 0 = b }) None answered told ((all-tested w).write (record { 0 = b }) answered ∙ acts-by (w.writers b).told None (own_step (w.writers b).known).action told deed)) (others queue)
         (kept (queue_weight (put queues b queue b)) (queue_weight queue) (queue_weight (queues b)) (here queue) (ap queue_weight q))
 
     -- it asks the office, and goes on
-    asks-lower : (c : OfficeCall) (queue : List TakenCommand) → queues b ≡ queue → (own_step (w.writers b).known).action ≡ action.Ask c → play_weight (happens (happens w (asking b)) (steps None)) (put queues b queue) blocks < play_weight w queues blocks
+    asks-lower : (c : OfficeCall) (queue : List TakenCommand) → queues b ≡ queue → (own_step (w.writers b).known).action ≡ action.Ask c → writers_weight (happens (happens w (asking b)) (steps None)) (put queues b queue) blocks < writers_weight w queues blocks
     asks-lower c queue q is =
         let v : World = happens w (asking b) in
         let asked : is_enabled w (asking b) ≡ true =
@@ -162,7 +172,7 @@ module _ (w : World) (k : Known w) (queues : Queues) (blocks : List ℕ) (apart 
         (kept (queue_weight (put queues b queue b)) (queue_weight queue) (queue_weight (queues b)) (here queue) (ap queue_weight q))
 
     own-lowers : (a : Action) (queue : List TakenCommand) → (own_step (w.writers b).known).action ≡ a → queues b ≡ queue → own_due (w.writers b) queue ≡ true
-        → play_weight (run w (map (answered_so answered) (own_events a b queue))) (put queues b (queue_left a queue)) blocks < play_weight w queues blocks
+        → writers_weight (run w (map (answered_so answered) (own_events a b queue))) (put queues b (queue_left a queue)) blocks < writers_weight w queues blocks
     own-lowers action.Wait queue is q h = waits-lower queue q (queued (own_step (w.writers b).known).action (is_none (w.writers b).known.waiting) queue is h)
     own-lowers action.Took queue is q h = does-lower queue q (ap is_deed is)
     own-lowers (action.Ask c) queue is q h = asks-lower c queue q is
@@ -173,7 +183,7 @@ module _ (w : World) (k : Known w) (queues : Queues) (blocks : List ℕ) (apart 
 
   -- DELIVERIES
 
-  up-lowers : (c : ConnId) (u : Upper) → (w.dialled c.0).upper ≡ u → UpperAmong blocks u → is_enabled w (event.Up c) ≡ true → play_weight (happens w (event.Up c)) queues blocks < play_weight w queues blocks
+  up-lowers : (c : ConnId) (u : Upper) → (w.dialled c.0).upper ≡ u → UpperAmong blocks u → is_enabled w (event.Up c) ≡ true → writers_weight (happens w (event.Up c)) queues blocks < writers_weight w queues blocks
   up-lowers c (by_writer b) is has e =
       both-lower w (happens w (event.Up c)) queues queues blocks b apart has 0 (answers-lower w c b is e) (λ a ne. refl)
       (kept (queue_weight (queues b)) (queue_weight (queues b)) (queue_weight (queues b)) refl refl)
@@ -183,19 +193,37 @@ module _ (w : World) (k : Known w) (queues : Queues) (blocks : List ℕ) (apart 
 
 -- ALL THAT IS DUE
 
-due-lowers : (w : World) (k : Known w) (queues : Queues) (blocks : List ℕ) (d : Due) (answered : Bool) → CanHappen w queues blocks d → weight_after w queues blocks d answered < play_weight w queues blocks
-due-lowers w k queues blocks (due.Own b) answered h = own-lowers w k queues blocks h.apart answered b.0 h.among h.untold (action_of w b) (queues b.0) refl refl h.due_now
-due-lowers w k queues blocks (due.Down c) answered h =
+-- a writer, or an end of a connection
+abbrev IsNoReader : Due → Type 0
+IsNoReader (due.Reader ask) = ⊥
+IsNoReader other = Unit {0}
+
+others-lower : (w : World) (k : Known w) (queues : Queues) (blocks : List ℕ) (asks : List ReadAsk) (d : Due) (answered : Bool) → IsNoReader d → CanHappen w queues blocks asks d → writers_weight (run w (events_so w queues d answered)) (queues_after w queues d) blocks < writers_weight w queues blocks
+others-lower w k queues blocks asks (due.Own b) answered is h = own-lowers w k queues blocks h.apart answered b.0 h.among h.untold (action_of w b) (queues b.0) refl refl h.due_now
+others-lower w k queues blocks asks (due.Reader ask) answered is h = absurd is
+others-lower w k queues blocks asks (due.Down c) answered is h =
     lowers-all w (happens w (event.Down c answered)) queues queues blocks (down-leaves w c answered) (λ a. refl)
     (k.deliver (event.Down c answered) refl ((all-tested w).down c answered ∙ and-right (is_open (w.lowers c.0)) (can_down w c.0) h.due_now))
-due-lowers w k queues blocks (due.Ready c) answered h =
+others-lower w k queues blocks asks (due.Ready c) answered is h =
     lowers-all w (happens w (event.Ready c)) queues queues blocks (ready-leaves w c) (λ a. refl)
     (k.deliver (event.Ready c) refl ((all-tested w).ready c ∙ and-right (is_open (w.lowers c.0)) (can_ready w c.0) h.due_now))
-due-lowers w k queues blocks (due.Up c) answered h =
+others-lower w k queues blocks asks (due.Up c) answered is h =
     up-lowers w k queues blocks h.apart answered c (w.dialled c.0).upper refl h.among ((all-tested w).up c ∙ and-right (is_open_above w (w.dialled c.0).upper) (can_up w c.0) h.due_now)
 
+other : (w : World) (k : Known w) (queues : Queues) (blocks : List ℕ) (asks : List ReadAsk) (d : Due) (answered : Bool) → IsNoReader d → CanHappen w queues blocks asks d → weight_after w queues blocks asks d answered < play_weight w queues blocks asks
+other w k queues blocks asks d answered is h =
+    with-asks w (run w (events_so w queues d answered)) queues (queues_after w queues d) blocks asks (all-go-on w (events_so w queues d answered)) (others-lower w k queues blocks asks d answered is h)
+
+due-lowers : (w : World) (k : Known w) (queues : Queues) (blocks : List ℕ) (asks : List ReadAsk) (d : Due) (answered : Bool) → CanHappen w queues blocks asks d → weight_after w queues blocks asks d answered < play_weight w queues blocks asks
+due-lowers w k queues blocks asks (due.Reader ask) answered h =
+    reader-lowers w queues blocks asks ask answered h.among h.due_now (k.read ask.reader ask.node (request_of ask) answered (asks_enabled w ask answered ∙ h.due_now))
+due-lowers w k queues blocks asks (due.Own b) answered h = other w k queues blocks asks (due.Own b) answered tt h
+due-lowers w k queues blocks asks (due.Down c) answered h = other w k queues blocks asks (due.Down c) answered tt h
+due-lowers w k queues blocks asks (due.Ready c) answered h = other w k queues blocks asks (due.Ready c) answered tt h
+due-lowers w k queues blocks asks (due.Up c) answered h = other w k queues blocks asks (due.Up c) answered tt h
+
 pub dues-lower : DuesLower
-dues-lower nodes events queues blocks d answered fit left h = due-lowers (run (start nodes) events) (known nodes events fit left) queues blocks d answered h
+dues-lower nodes events queues blocks asks d answered fit left h = due-lowers (run (start nodes) events) (known nodes events fit left) queues blocks asks d answered h
 
 -- PLAYS
 
@@ -211,6 +239,7 @@ own-so action.Memory b queue = refl
 -- in a play dials are answered
 due-so : (w : World) (queues : Queues) (d : Due) → events_so w queues d true ≡ due_events w queues d
 due-so w queues (due.Own b) = own-so (action_of w b) b.0 (queues b.0)
+due-so w queues (due.Reader ask) = refl
 due-so w queues (due.Down c) = refl
 due-so w queues (due.Ready c) = refl
 due-so w queues (due.Up c) = refl
@@ -221,5 +250,5 @@ plays-lower blocks p d fit left h =
     let w : World = world_of p in
     let so : run w (events_so w p.queues d true) ≡ run (start p.nodes) (p.events ++ due_events w p.queues d) =
     ap (λ (list : List Event). run w list) (due-so w p.queues d) ∙ sym (runs-join (start p.nodes) p.events (due_events w p.queues d)) in
-    subst (λ (v : World). play_weight v (queues_after w p.queues d) blocks < play_weight w p.queues blocks) so
-    (dues-lower p.nodes p.events p.queues blocks d true fit left h)
+    subst (λ (v : World). play_weight v (queues_after w p.queues d) blocks p.asks < play_weight w p.queues blocks p.asks) so
+    (dues-lower p.nodes p.events p.queues blocks p.asks d true fit left h)

@@ -9,7 +9,7 @@ use Rattle.world.specs.Safe.{Has}
 use Rattle.world_settling.specs.Measure.{writer_weight, LowersBoth}
 use Rattle.world_settling.specs.Traffic.{traffic}
 use Rattle.play_model.specs.Dues.{Queues}
-use Rattle.play_settling.specs.Settling.{queue_weight, block_weight, play_weight, AreApart}
+use Rattle.play_settling.specs.Settling.{queue_weight, block_weight, writers_weight, AreApart}
 
 -- LISTS
 
@@ -54,22 +54,25 @@ module _ (w v : World) (queues after : Queues) (blocks : List ℕ) where
   block-same a e q =
       both-same (writer_weight (v.writers a).known) (queue_weight (after a)) (writer_weight (w.writers a).known) (queue_weight (queues a)) (ap (λ (x : Writing). writer_weight x.known) e) (ap queue_weight q)
 
+  -- nothing that the blocks weigh changes
+  pub all-same : ((a : ℕ) → v.writers a ≡ w.writers a) → ((a : ℕ) → after a ≡ queues a) → sum_by (block_weight v after) blocks ≡ sum_by (block_weight w queues) blocks
+  all-same stay same = sum-same (block_weight w queues) (block_weight v after) blocks (λ i x e. block-same x (stay x) (same x))
+
   -- no writer changes, and no queue
-  pub lowers-all : ((a : ℕ) → v.writers a ≡ w.writers a) → ((a : ℕ) → after a ≡ queues a) → traffic v < traffic w → play_weight v after blocks < play_weight w queues blocks
+  pub lowers-all : ((a : ℕ) → v.writers a ≡ w.writers a) → ((a : ℕ) → after a ≡ queues a) → traffic v < traffic w → writers_weight v after blocks < writers_weight w queues blocks
   lowers-all stay same less =
-      same-falls (traffic v) (traffic w) (sum_by (block_weight v after) blocks) (sum_by (block_weight w queues) blocks) less
-      (sum-same (block_weight w queues) (block_weight v after) blocks (λ i x e. block-same x (stay x) (same x)))
+      same-falls (traffic v) (traffic w) (sum_by (block_weight v after) blocks) (sum_by (block_weight w queues) blocks) less (all-same stay same)
 
   module _ (b : ℕ) (apart : AreApart blocks) (has : Has blocks b) where
     -- one writer changes, or its queue
     pub lowers-at : ((a : ℕ) → a ≢ b → v.writers a ≡ w.writers a) → ((a : ℕ) → a ≢ b → after a ≡ queues a) → traffic v + block_weight v after b < traffic w + block_weight w queues b
-        → play_weight v after blocks < play_weight w queues blocks
+        → writers_weight v after blocks < writers_weight w queues blocks
     lowers-at stay same less =
         whole-falls (traffic v) (traffic w) (sum_by (block_weight v after) blocks) (sum_by (block_weight w queues) blocks) (block_weight v after b) (block_weight w queues b) less
         (sum-at (block_weight w queues) (block_weight v after) b blocks has.place apart has.there (λ a ne. block-same a (stay a ne) (same a ne)))
 
     -- what it was given was taken off its queue
-    pub both-lower : (given : ℕ) → LowersBoth w v b given → ((a : ℕ) → a ≢ b → after a ≡ queues a) → given + queue_weight (after b) ≤ queue_weight (queues b) → play_weight v after blocks < play_weight w queues blocks
+    pub both-lower : (given : ℕ) → LowersBoth w v b given → ((a : ℕ) → a ≢ b → after a ≡ queues a) → given + queue_weight (after b) ≤ queue_weight (queues b) → writers_weight v after blocks < writers_weight w queues blocks
     both-lower given l same fits =
         lowers-at l.others same
         (is-paid (traffic v) (writer_weight (v.writers b).known) (queue_weight (after b)) (traffic w) (writer_weight (w.writers b).known) (queue_weight (queues b)) given l.is fits)
