@@ -19,12 +19,13 @@ use Rattle.world.specs.Parts.{Upper, by_writer, by_member, by_reader, by_primary
 use Rattle.world.specs.Worlds.{World, Change, apply}
 use Rattle.world.specs.Connections.{Next, next_down, next_up, down_taken, up_taken, is_served, is_conn}
 use Rattle.world.specs.Nodes.{lower_down, lower_ready, mirror_up}
-use Rattle.world.specs.Clients.{did, dialled_change, dialling, rest_in, is_formed, ruled, command_bytes, is_empty, takes_command, writer_step, writer_up, reader_up}
+use Rattle.world.specs.Clients.{did, dialled_change, dialling, rest_in, is_formed, ruled, command_bytes, is_empty, takes_command, writer_step, writer_up, own_reader, reader_up}
 use Rattle.world.specs.Primaries.{primary_up, writer_asks, writer_asks_office}
 use Rattle.world.specs.Events.{changed, down_as, upper_up, up_as, outcome, after_event, happens, run}
 use Rattle.world_laws.proofs.FactTables.{if-each, put-each, when-each}
-use Rattle.world_laws.proofs.SessionAsides.{Aside, lower-down-aside, lower-ready-aside, mirror-up-aside, reader-up-aside, primary-up-aside}
+use Rattle.world_laws.proofs.SessionAsides.{Aside, lower-down-aside, lower-ready-aside, mirror-up-aside, own-reader-aside, reader-up-aside, primary-up-aside}
 use Rattle.play_model.specs.declared.dues.Due.TheVariants as due
+use Rattle.play_model.specs.Asks.{request_of, asking_node}
 use Rattle.play_model.specs.Dues.{asking, acting, own_events, action_of}
 use Rattle.play_model.specs.Laws.{IsQuiet}
 use Rattle.play_laws.specs.Untold.{StaysQuiet}
@@ -227,6 +228,9 @@ own-quiet w b action.Memory queue h = acting-quiet w b None (λ j. inr (h j)) (i
 pub stays-quiet : StaysQuiet
 unfolding happens outcome
 stays-quiet w queues (due.Own b) h = own-quiet w b.0 (action_of w b) (queues b.0) h
+stays-quiet w queues (due.Reader ask) h =
+    let k : Option Change = own_reader w ask.reader ask.node.0 (request_of ask) true in
+    after-quiet w (asking_node ask true) _ h (changed-quiet w h k (aside-leaves w h k (own-reader-aside w ask.reader ask.node.0 (request_of ask) true)))
 stays-quiet w queues (due.Down c) h = after-quiet w (event.Down c true) _ h (when-each IsQuiet (is_served w c.0) _ (λ _. down-as-quiet w c.0 (next_down w c.0) h))
 stays-quiet w queues (due.Ready c) h = after-quiet w (event.Ready c) _ h (when-each IsQuiet (is_served w c.0) _
     (λ _. changed-quiet w h (lower_ready (w.lowers c.0) w c.0 false) (aside-leaves w h (lower_ready (w.lowers c.0) w c.0 false) (lower-ready-aside (w.lowers c.0) w c.0 false))))
