@@ -85,8 +85,8 @@ conn_dues w queues c =
     when_due w queues (due.Down (record { 0 = c })) ++
     (when_due w queues (due.Ready (record { 0 = c })) ++ when_due w queues (due.Up (record { 0 = c })))
 
--- All that is due, in the order in which it is counted: the writers of these blocks, then the readers in the order of their lines, then each
--- connection.
+-- All that is due, in the order in which it is counted: the writers of these blocks, then the readers in the order of
+-- their lines, then each connection.
 unfoldable pub dues : List ℕ → PlayState → List Due
 dues blocks p =
     own_dues (world_of p) p.queues blocks ++

@@ -47,7 +47,8 @@ abbrev pub AskAmong : List ReadAsk → Due → Type 0
 AskAmong asks (due.Reader ask) = Has asks ask
 AskAmong asks other = Unit {0}
 
--- It is due. A writer that takes a step in it is of one of these blocks, and a reader asks what a line of the play has asked.
+-- It is due. A writer that takes a step in it is of one of these blocks, and a reader asks what a line of the play has
+-- asked.
 pub record IsListed (blocks : List ℕ) (p : PlayState) (d : Due) : Type 0 where
   pub is : is_due (world_of p) p.queues d ≡ true
   pub among : OwnAmong blocks d

@@ -13,8 +13,8 @@ pub fn drawn_events_are_enabled()
     ensures { AreEnabledWhereListed }
 {}
 
-/// What is listed to be drawn is due. A writer that takes a step in it is of one of the play's blocks, and a reader asks
-/// what a line of the play has asked.
+/// What is listed to be drawn is due. A writer that takes a step in it is of one of the play's blocks, and a reader
+/// asks what a line of the play has asked.
 pub fn listed_dues_are_due()
     ensures { ListedAreDue }
 {}

@@ -1,7 +1,15 @@
 //! Deliveries and own steps come to an end. Each function has an empty body; its clause says what holds of the world.
 #![tactic(auto)]
 
-ghost use Rattle.world_settling.specs.Draws.{WritersStay, PrimariesStay, ReadersGoOn, DrawsLower, DrawsAnswer, DrawsEnd, RunsEnd};
+ghost use Rattle.world_settling.specs.Draws.{
+  WritersStay,
+  PrimariesStay,
+  ReadersGoOn,
+  DrawsLower,
+  DrawsAnswer,
+  DrawsEnd,
+  RunsEnd,
+};
 ghost use Rattle.world_settling.specs.Leading.{
   ReadersLower,
   RecoveriesLower,
