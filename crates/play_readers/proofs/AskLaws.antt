@@ -8,8 +8,8 @@ use Rattle.op_headers.proofs.FormatLemmas.{block_fits, read_fits}
 use Rattle.op_headers.proofs.RoomLemmas.{op_few}
 use Rattle.writer_core.specs.Requests.{client_name}
 use Rattle.world_texts.specs.Texts.{CanBeAsked}
-use Rattle.play_readers.specs.declared.asks.ReadAsk.{ReadAsk}
-use Rattle.play_readers.specs.Asks.{request_of}
+use Rattle.play_model.specs.declared.asks.ReadAsk.{ReadAsk}
+use Rattle.play_model.specs.Asks.{request_of}
 
 name_few : (block : BlockId) → block.0 < 2 ^ 64 → length (client_name block) ≤ 30
 name_few block b = omega (arith, length-append (codes "DFSClient_") (decimal block.0), length-decimal-le 20 block.0 (omega arith) (omega (arith, b)) b)

@@ -8,56 +8,42 @@ use Rattle.hd_base.specs.declared.ends.Standing.TheVariants as standing
 use Rattle.hd_base.specs.declared.links.LinkIn as link_in
 use Rattle.hd_base.specs.declared.links.LinkOut as link_out
 use Rattle.hd_base.specs.declared.numbers.ConnId.{ConnId}
-use Rattle.hd_base.specs.declared.numbers.NodeId.{NodeId}
 use Rattle.hd_base.specs.declared.roads.Roads as roads
-use Rattle.op_headers.specs.declared.ops.ReadOp.{ReadOp}
 use Rattle.road_traffic.specs.Showing.{Net, RoadsShow, ShowsStanding}
 use Rattle.visible_read.specs.declared.reading.Reading.{Reading}
-use Rattle.world.specs.Clients.{own_reader_as}
 use Rattle.world.specs.Connections.{next_up}
 use Rattle.world.specs.Enabled.{reads_from, takes_above}
-use Rattle.world.specs.Events.{changed, outcome, is_enabled}
 use Rattle.world.specs.Parts.{Upper, Reader, no_reader, reads, has_read}
 use Rattle.world.specs.Worlds.{World}
 use Rattle.world_nets.specs.Rows.{rows_of}
 use Rattle.member_events.specs.Roads.{RoadsPass}
 use Rattle.member_events.specs.Showing.{ShowsWorld}
-use Rattle.reader_events.specs.Making.{asks_event}
 use Rattle.reader_events.specs.Orders.{ReadersTakeInOrder}
-use Rattle.play_readers.specs.declared.asks.ReadAsk.{ReadAsk}
+use Rattle.play_model.specs.declared.asks.ReadAsk.{ReadAsk}
+use Rattle.play_model.specs.Dues.{is_unbegun}
+use Rattle.play_model.proofs.AskLemmas.{asks_enabled}
 use Rattle.play_readers.specs.declared.clients.ReadClient.{ReadClient}
 use Rattle.play_readers.specs.declared.clients.ReadState.{ReadState}
 use Rattle.play_readers.specs.declared.clients.ReadState.TheVariants as state
-use Rattle.play_readers.specs.Asks.{request_of}
 use Rattle.play_readers.specs.Clients.{is_new, conn_of, reads_over, StateShows}
-use Rattle.play_readers.specs.Dues.{conn_read, TellsStep, TellsConn, TellsReader}
-use Rattle.play_readers.proofs.StandingLaws.{stands, row_stands}
+use Rattle.play_readers.specs.Dues.{conn_read, TellsStep, TellsBegins, TellsConn, TellsReader}
+use Rattle.world_standings.specs.Standings.{stands}
+use Rattle.world_standings.proofs.StandingLaws.{row_stands}
 
 -- OWN STEPS
 
--- a reader that hasn't begun
-abbrev has_none : Reader → Bool
-has_none no_reader = true
-has_none other = false
-
-asks_as : (x : Reader) (w : World) (line n : ℕ) (read : ReadOp) (answered : Bool) → is_some (changed w (own_reader_as x w line n read answered)) ≡ has_none x
-asks_as no_reader w line n read answered = refl
-asks_as (reads c s) w line n read answered = refl
-asks_as (has_read r) w line n read answered = refl
-
-asks_enabled : (w : World) (line : ℕ) (node : NodeId) (read : ReadOp) (answered : Bool) → is_enabled w (asks_event line node read answered) ≡ has_none (w.readers line)
-unfolding outcome
-asks_enabled w line node read answered = asks_as (w.readers line) w line node.0 read answered
-
 module _ {I O : Type 0} (i : link_in.Ghosts I) (o : link_out.Ghosts O) where
-  shows_new : (st : ReadState I O) (w : World) (net : Net) (line : ℕ) → StateShows i o w net line st → is_new st ≡ has_none (w.readers line)
-  shows_new state.Asks w net line h = sym (ap has_none h)
-  shows_new (state.Reads reading) w net line h = sym (ap has_none h.reader)
-  shows_new (state.HasRead read) w net line h = sym (ap has_none h)
+  shows_new : (st : ReadState I O) (w : World) (net : Net) (line : ℕ) → StateShows i o w net line st → is_new st ≡ is_unbegun (w.readers line)
+  shows_new state.Asks w net line h = sym (ap is_unbegun h)
+  shows_new (state.Reads reading) w net line h = sym (ap is_unbegun h.reader)
+  shows_new (state.HasRead read) w net line h = sym (ap is_unbegun h)
 
   pub step_tells : (c : ReadClient I O) (result : Bool) → result ≡ is_new c.state → TellsStep i o c result
   step_tells c result is = λ w net answered h.
-      is ∙ (shows_new c.state w net c.ask.reader h ∙ sym (asks_enabled w c.ask.reader c.ask.node (request_of c.ask) answered))
+      is ∙ (shows_new c.state w net c.ask.reader h ∙ sym (asks_enabled w c.ask answered))
+
+  pub begins_tells : (c : ReadClient I O) (result : Bool) → result ≡ is_new c.state → TellsBegins i o c result
+  begins_tells c result is = λ w net queues h. is ∙ shows_new c.state w net c.ask.reader h
 
   conn_as : (st : ReadState I O) (ask : ReadAsk) → TellsConn i o (record { ask = ask; state = st }) (conn_of st)
   conn_as state.Asks ask = λ w net h. sym (ap conn_read h)

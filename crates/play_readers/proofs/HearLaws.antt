@@ -21,7 +21,7 @@ use Rattle.reader_events.specs.declared.hearing.Heard.TheVariants as heard
 use Rattle.reader_events.specs.Faults.{IsCaused}
 use Rattle.reader_events.specs.Hearing as hearing
 use Rattle.reader_events.proofs.CanHearLaws.{can_hear}
-use Rattle.play_readers.specs.declared.asks.ReadAsk.{ReadAsk}
+use Rattle.play_model.specs.declared.asks.ReadAsk.{ReadAsk}
 use Rattle.play_readers.specs.declared.clients.ReadClient.{ReadClient}
 use Rattle.play_readers.specs.declared.clients.ReadState.{ReadState}
 use Rattle.play_readers.specs.declared.clients.ReadState.TheVariants as state

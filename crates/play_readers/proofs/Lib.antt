@@ -1,5 +1,4 @@
 pub mod AskLaws
-pub mod StandingLaws
 pub mod DueLaws
 pub mod OwnLaws
 pub mod HearLaws

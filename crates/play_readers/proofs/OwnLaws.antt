@@ -17,7 +17,7 @@ use Rattle.reader_events.specs.Asking.{AskShows, NodeAsked, NodeSilent}
 use Rattle.play_readers.specs.declared.clients.ReadClient.{ReadClient}
 use Rattle.play_readers.specs.declared.clients.ReadState.{ReadState}
 use Rattle.play_readers.specs.declared.clients.ReadState.TheVariants as state
-use Rattle.play_readers.specs.Asks.{request_of, asking}
+use Rattle.play_model.specs.Asks.{request_of, asking_node}
 use Rattle.play_readers.specs.Clients.{is_new, StateShows}
 use Rattle.play_readers.specs.Owning.{OwnShows}
 
@@ -26,7 +26,7 @@ module _ {R I O : Type 0} (r : roads.Ghosts R I O) (i : link_in.Ghosts I) (o : l
   pub own_reached : (old : ReadClient I O) (reading : Reading I O) (lower : Conn I O) (road road' : R) → AskShows r i o (request_of old.ask) old.ask.node road road' (Ok (left_by.Reading reading lower))
       → OwnShows r i o old (record { ask = old.ask; state = state.Reads reading }) road road' (Ok (Some lower))
   own_reached old reading lower road road' h = λ w net stands can.
-      let k : NodeAsked r i o w net (happens w (asking old.ask true)) old.ask.reader old.ask.node reading lower road' = h w net old.ask.reader stands.roads_are can in
+      let k : NodeAsked r i o w net (happens w (asking_node old.ask true)) old.ask.reader old.ask.node reading lower road' = h w net old.ask.reader stands.roads_are can in
       record {
         made = k.made;
         stands = record { roads_are = k.stands.roads_are; client_is = k.stands.shows };
@@ -44,7 +44,7 @@ module _ {R I O : Type 0} (r : roads.Ghosts R I O) (i : link_in.Ghosts I) (o : l
   pub own_unreached : (old : ReadClient I O) (road road' : R) → AskShows r i o (request_of old.ask) old.ask.node road road' (Ok left_by.Unanswered)
       → OwnShows r i o old (record { ask = old.ask; state = state.HasRead (Err read_fault.Ended) }) road road' (Ok None)
   own_unreached old road road' h = λ w net stands can answered.
-      let k : NodeSilent r i o w net (happens w (asking old.ask answered)) old.ask.reader old.ask.node road' = h w net old.ask.reader stands.roads_are can answered in
+      let k : NodeSilent r i o w net (happens w (asking_node old.ask answered)) old.ask.reader old.ask.node road' = h w net old.ask.reader stands.roads_are can answered in
       record {
         stopped = k.stopped;
         stands = record { roads_are = k.roads_are; client_is = k.reader };

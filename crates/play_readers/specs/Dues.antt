@@ -10,15 +10,23 @@ use Rattle.world.specs.Events.{is_enabled}
 use Rattle.world.specs.Parts.{by_reader, Reader, reads}
 use Rattle.world.specs.Worlds.{World}
 use Rattle.reader_events.specs.Orders.{ReadersTakeInOrder}
+use Rattle.play_model.specs.declared.dues.Due.TheVariants as due
+use Rattle.play_model.specs.Asks.{asking_node}
+use Rattle.play_model.specs.Dues.{Queues, is_due}
 use Rattle.play_readers.specs.declared.clients.ReadClient.{ReadClient}
-use Rattle.play_readers.specs.Asks.{asking}
 use Rattle.play_readers.specs.Clients.{ReadClientShows, ReadClientStands}
 
 -- Whether the reader may ask its node.
 abbrev pub TellsStep : {I O : Type 0} → link_in.Ghosts I → link_out.Ghosts O → ReadClient I O → Bool → Type 0
 TellsStep i o c result =
     (w : World) (net : Net) (answered : Bool) → ReadClientShows i o w net c
-    → result ≡ is_enabled w (asking c.ask answered)
+    → result ≡ is_enabled w (asking_node c.ask answered)
+
+-- Whether its own step is due.
+abbrev pub TellsBegins : {I O : Type 0} → link_in.Ghosts I → link_out.Ghosts O → ReadClient I O → Bool → Type 0
+TellsBegins i o c result =
+    (w : World) (net : Net) (queues : Queues) → ReadClientShows i o w net c
+    → result ≡ is_due w queues (due.Reader c.ask)
 
 -- the connection over which a reader reads
 abbrev pub conn_read : Reader → Option ℕ

@@ -1,4 +1,3 @@
-pub mod Asks
 pub mod Clients
 pub mod Dues
 pub mod Passing

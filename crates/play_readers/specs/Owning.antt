@@ -16,7 +16,7 @@ use Rattle.reader_events.specs.declared.faults.ReaderFault.{ReaderFault}
 use Rattle.reader_events.specs.Asking.{CanAsk}
 use Rattle.reader_events.specs.Faults.{IsCaused}
 use Rattle.play_readers.specs.declared.clients.ReadClient.{ReadClient}
-use Rattle.play_readers.specs.Asks.{asking}
+use Rattle.play_model.specs.Asks.{asking_node}
 use Rattle.play_readers.specs.Clients.{is_new, conn_of, ReadClientStands}
 use Rattle.play_readers.specs.Passing.{HasEnded}
 
@@ -50,9 +50,9 @@ pub record NodeUnreached {R I O : Type 0} (r : roads.Ghosts R I O) (i : link_in.
 abbrev pub OwnEnds : {R I O : Type 0} → roads.Ghosts R I O → link_in.Ghosts I → link_out.Ghosts O → World → Net →
     ReadClient I O → ReadClient I O → R → R → Result (Option (Conn I O)) ReaderFault → Type 0
 OwnEnds r i o w net old new road road' (Ok (Some lower)) =
-    NodeReached r i o w net (happens w (asking old.ask true)) old new lower road'
+    NodeReached r i o w net (happens w (asking_node old.ask true)) old new lower road'
 OwnEnds r i o w net old new road road' (Ok None) =
-    (answered : Bool) → NodeUnreached r i o w net (happens w (asking old.ask answered)) old new road'
+    (answered : Bool) → NodeUnreached r i o w net (happens w (asking_node old.ask answered)) old new road'
 OwnEnds r i o w net old new road road' (Err why) = IsCaused r w.next_conn road road' why
 
 -- What it makes of client and roads that show a world in which the reader hasn't begun, and the node has a port.

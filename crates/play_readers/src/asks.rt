@@ -1,60 +1,17 @@
-//! What a line of a script asks to read.
+//! The request for what a line of a script asks to read.
 
 ghost use Rattle.std.specs.Prelude.{◌≡◌, IfOk};
-ghost use Rattle.writer_core.specs.Requests.{client_name};
 ghost use Rattle.world_texts.specs.Texts.{CanBeAsked};
-ghost use Rattle.play_readers.specs.Asks.{request_of};
+ghost use Rattle.play_model.specs.Asks.{request_of};
 
-use hd_base::{BlockId, ByteList, NodeId, Stamp};
-use itoa::Buffer;
-use op_headers::{BlockRef, ReadOp};
+use op_headers::ReadOp;
+use play_model::ReadAsk;
 use std::alloc::{AllocError, Global};
-use writer_core::POOL;
 
-/// What a line of a script asks to read.
-#[derive(Clone, Copy, Debug, PartialEq, Eq)]
-pub struct ReadAsk {
-    /// The reader's number: the line's.
-    pub reader: u64,
-    /// The node that is read from.
-    pub node: NodeId,
-    /// The block.
-    pub block: BlockId,
-    /// The stamp that the request names.
-    pub stamp: Stamp,
-    /// Where the read begins.
-    pub offset: u64,
-    /// How many bytes are read.
-    pub len: u64,
-}
-
-impl ReadAsk {
-    /// The request, under the name of the block's client. It can always be asked: its numbers have their widths, and
-    /// its message is short.
-    #[tactic(auto, unfolding(crate::specs::Asks::request_of))]
-    pub fn request(self, alloc: Global) -> Result<ReadOp, AllocError>
-        ensures value { IfOk result (λ op. op ≡ request_of self) }
-        ensures fits { CanBeAsked (request_of self) }
-    {
-        Ok(ReadOp {
-            block: BlockRef {
-                pool: ByteList::from_slice(alloc, POOL)?,
-                block: self.block,
-                stamp: self.stamp,
-                bytes: 0,
-            },
-            client: client_name(alloc, self.block)?,
-            offset: self.offset,
-            len: self.len,
-        })
-    }
-}
-
-/// The name of a block's client.
-fn client_name(alloc: Global, block: BlockId) -> Result<ByteList, AllocError>
-    ensures { IfOk result (λ name. name ≡ client_name block) }
+/// The request. It can always be asked: its numbers have their widths, and its message is short.
+pub(crate) fn request(alloc: Global, ask: ReadAsk) -> Result<ReadOp, AllocError>
+    ensures value { IfOk result (λ op. op ≡ request_of ask) }
+    ensures fits { CanBeAsked (request_of ask) }
 {
-    let mut name = Vec::from_slice(alloc, b"DFSClient_")?;
-    name.extend_from_slice(Buffer::new().format(block.0).as_bytes())?;
-    Ok(ByteList::from_vec(name))
+    ask.request(alloc)
 }

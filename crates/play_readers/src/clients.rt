@@ -3,10 +3,10 @@
 ghost use Rattle.std.specs.Prelude.{◌≡◌};
 ghost use Rattle.member_events.specs.Roads.{RoadsPass};
 ghost use Rattle.play_readers.specs.Clients.{is_new, conn_of, reads_over};
-ghost use Rattle.play_readers.specs.Dues.{TellsStep, TellsConn, TellsReader};
+ghost use Rattle.play_readers.specs.Dues.{TellsStep, TellsBegins, TellsConn, TellsReader};
 
-use crate::asks::ReadAsk;
 use hd_base::{ConnId, LinkIn, LinkOut, Roads, Standing};
+use play_model::ReadAsk;
 use read_core::ReadFault;
 use road_traffic::standing;
 use visible_read::Reading;
@@ -46,6 +46,7 @@ impl<I: LinkIn, O: LinkOut> ReadClient<I, O> {
     pub fn has_step(&self) -> bool
         ensures value { result ≡ is_new self.now.state }
         ensures tells { TellsStep I.LinkIn O.LinkOut self.now result }
+        ensures begins { TellsBegins I.LinkIn O.LinkOut self.now result }
     {
         matches!(self.state, ReadState::Asks)
     }

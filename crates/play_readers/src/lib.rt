@@ -8,7 +8,6 @@ mod frames;
 mod hearing;
 mod owning;
 
-pub use asks::ReadAsk;
 pub use clients::{ReadClient, ReadState};
 pub use frames::{
     members_keep_readers, read_clients_stay, readers_keep_nodes, readers_keep_others,

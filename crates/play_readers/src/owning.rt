@@ -4,14 +4,15 @@ ghost use Rattle.std.specs.Prelude.{◌≡◌, true, IfOk, IfErr};
 ghost use Rattle.member_events.specs.Roads.{RoadsPass};
 ghost use Rattle.world_texts.specs.Texts.{CanBeAsked};
 ghost use Rattle.reader_events.specs.Asking.{AskShows, AskedIsOpen, AskedIsKnown};
-ghost use Rattle.play_readers.specs.Asks.{request_of};
+ghost use Rattle.play_model.specs.Asks.{request_of};
 ghost use Rattle.play_readers.specs.Clients.{is_new, ReadIsReady};
 ghost use Rattle.play_readers.specs.Owning.{OwnShows, OwnIsIdle, LowerIsKnown};
 ghost use Rattle.play_readers.specs.Passing.{HasEnded, ReadClientPasses};
 
-use crate::asks::ReadAsk;
+use crate::asks::request;
 use crate::clients::{ReadClient, ReadState};
 use hd_base::{Conn, LinkIn, LinkOut, Roads};
+use play_model::ReadAsk;
 use read_core::ReadFault;
 use reader_events::{Asked, ReaderFault, ask};
 use std::alloc::Global;
@@ -60,7 +61,7 @@ fn asked<I: LinkIn, O: LinkOut, R: Roads<Inward = I, Outward = O>>(
     ensures known { IfOk result (AskedIsKnown (R.plain roads.new)) }
     ensures pass { RoadsPass R.Roads roads.old roads.new }
 {
-    match wanted.request(alloc) {
+    match request(alloc, wanted) {
         Ok(op) => ask(alloc, roads, op, wanted.node),
         Err(_) => Err(ReaderFault::Memory),
     }

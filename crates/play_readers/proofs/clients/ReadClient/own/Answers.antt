@@ -2,7 +2,7 @@
 use Rattle.std.proofs.Common.{Ok, subst}
 use Rattle.reader_events.specs.declared.asking.Asked.{Asked}
 use Rattle.reader_events.specs.Asking.{AskShows}
-use Rattle.play_readers.specs.Asks.{request_of}
+use Rattle.play_model.specs.Asks.{request_of}
 use Rattle.play_readers.proofs.OwnLaws.{own_reached, own_unreached}
 use Rattle.play_readers.proofs.clients.ReadClient.own.Goals as goal
 
