@@ -81,9 +81,10 @@ AllOwnStepsKeep = (p : PlayState) (commands : ℕ → List Command) (b : BlockId
 
 -- OTHER DUES, AND COMMANDS
 
--- a writer's own step
+-- an own step of a writer or a reader
 abbrev pub is_own : Due → Bool
 is_own (due.Own b) = true
+is_own (due.Reader ask) = true
 is_own other = false
 
 -- Of what else is due only that `Played` holds after it is left to be shown.

@@ -49,6 +49,7 @@ start-quiet nodes b = refl
 
 pub opened-played : OpenedArePlayed
 opened-played nodes seed = record {
+  asks = refl;
   plain = tt;
   quiet = start-quiet nodes;
   peaceful = start-peace nodes;
@@ -79,6 +80,7 @@ more-queued w b queue commands t h bytes fits = record {
 
 pub commands-join : CommandsJoin
 commands-join p commands b c h bytes fits = record {
+  asks = h.asks;
   plain = h.plain;
   quiet = h.quiet;
   peaceful = h.peaceful;

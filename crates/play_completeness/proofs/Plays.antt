@@ -1,5 +1,6 @@
 -- What each line keeps and all that is due keeps, a play keeps; and the events of plays are plain.
-use Rattle.std.proofs.Common.{false, ◌≡◌, ℕ, Bool, zero, suc, true, List, [], ◌∷◌, ◌++◌, slice_get, Option, Some, None, refl, sym, ◌∙◌, ap, subst}
+use Rattle.std.proofs.Common.{false, ◌≡◌, ℕ, Bool, zero, suc, true, List, [], ◌∷◌, ◌++◌, slice_get, Option, Some, None, IfSome, option_map, refl, sym, ◌∙◌, ap, subst}
+use Rattle.std.proofs.lemmas.Option.{none-some}
 use Rattle.std.specs.Prelude.{◌%◌, length}
 use Rattle.hd_base.specs.SumRules.{Rule}
 use Rattle.rand_pcg.specs.Pcg.{pcg32}
@@ -7,14 +8,18 @@ use Rattle.hd_base.specs.declared.numbers.NodeId.{NodeId}
 use Rattle.script_lang.specs.declared.instructions.Instruction.{Instruction}
 use Rattle.script_lang.specs.declared.instructions.Instruction.TheVariants as line
 use Rattle.script_lang.specs.declared.instructions.ScriptLine.{ScriptLine}
+use Rattle.script_lang.specs.declared.instructions.StepEvent.{StepEvent}
+use Rattle.script_lang.specs.declared.instructions.StepEvent.TheVariants as step
 use Rattle.writer_core.specs.declared.actions.Action.{Action}
 use Rattle.writer_core.specs.declared.actions.Action.TheVariants as action
 use Rattle.writer_core.specs.declared.commands.Command.{Command}
 use Rattle.writer_core.specs.declared.commands.Command.TheVariants as command
 use Rattle.world.specs.declared.events.Event.{Event}
 use Rattle.world.specs.declared.events.TakenCommand.{TakenCommand}
+use Rattle.world.specs.Safe.{Has}
 use Rattle.world.specs.Worlds.{World}
 use Rattle.world_laws.proofs.FactTables.{if-each}
+use Rattle.play_model.specs.declared.asks.ReadAsk.{ReadAsk}
 use Rattle.play_model.specs.declared.dues.Due.{Due}
 use Rattle.play_model.specs.declared.dues.Due.TheVariants as due
 use Rattle.play_model.specs.States.{PlayState, world_of, opened, ordered, ruled}
@@ -22,19 +27,39 @@ use Rattle.play_model.specs.Dues.{Queues, is_due, dues, own_events, action_of, d
 use Rattle.play_model.specs.Draws.{drawn, happened, advanced, drawn_from, draw, draws}
 use Rattle.play_scripts.specs.Failures.{is_failure, HaveNoFailures}
 use Rattle.play_model.specs.Lines.{stepped, step_due, pipeline_conn, cut_at, stop_at, start_at, PlaysLine, PlaysLines, PlaysFrom, Plays}
+use Rattle.play_model.specs.Laws.{AskAmong, IsListed}
 use Rattle.play_model.proofs.ListedLemmas.{listed_due}
 use Rattle.play_completeness.specs.Plain.{ArePlain, PlaysArePlain}
+
+-- READERS
+
+-- where no line has asked to read, no reader asks
+pub none-asked : {A : Type 0} (asks : List ReadAsk) (ask : ReadAsk) → asks ≡ [] → Has asks ask → A
+none-asked asks ask none has = absurd (none-some ask (subst (λ (xs : List ReadAsk). slice_get xs has.place ≡ Some ask) none has.there))
+
+mapped-asked : (asks : List ReadAsk) (f : ℕ → Due) (o : Option ℕ) → ((c : ℕ) → AskAmong asks (f c)) → IfSome (option_map f o) (AskAmong asks)
+mapped-asked asks f None h = tt
+mapped-asked asks f (Some c) h = h c
+
+-- an event of a pipeline is no reader's
+pub step-asked : (asks : List ReadAsk) (w : World) (b : ℕ) (e : StepEvent) → IfSome (step_due w b e) (AskAmong asks)
+step-asked asks w b step.Writer = tt
+step-asked asks w b (step.Down place) = mapped-asked asks (λ c. due.Down (record { 0 = c })) (pipeline_conn w b place) (λ c. tt)
+step-asked asks w b (step.Ready place) = mapped-asked asks (λ c. due.Ready (record { 0 = c })) (pipeline_conn w b place) (λ c. tt)
+step-asked asks w b (step.Up place) = mapped-asked asks (λ c. due.Up (record { 0 = c })) (pipeline_conn w b place) (λ c. tt)
+
+-- WHAT A PLAY KEEPS
 
 module _ (Q : PlayState → Type 0) where
   pub record Keeps : Type 0 where
     pub advances : (p : PlayState) → Q p → Q (advanced p)
     pub orders : (p : PlayState) (b : ℕ) (c : Command) → Q p → Q (ordered p b c)
     pub rules : (p : PlayState) (b : ℕ) (r : Rule) → Q p → Q (ruled p b r)
-    pub goes : (p : PlayState) (d : Due) → is_due (world_of p) p.queues d ≡ true → Q p → Q (after_due p d)
+    pub goes : (p : PlayState) (d : Due) → is_due (world_of p) p.queues d ≡ true → AskAmong p.asks d → Q p → Q (after_due p d)
 
-  happened-keeps : Keeps → (p : PlayState) (o : Option Due) → ((d : Due) → o ≡ Some d → is_due (world_of p) p.queues d ≡ true) → Q p → Q (happened p o)
-  happened-keeps k p None due q = q
-  happened-keeps k p (Some d) due q = k.goes p d (due d refl) q
+  happened-keeps : Keeps → (blocks : List ℕ) (p : PlayState) (o : Option Due) → ((d : Due) → o ≡ Some d → IsListed blocks p d) → Q p → Q (happened p o)
+  happened-keeps k blocks p None due q = q
+  happened-keeps k blocks p (Some d) due q = k.goes p d (due d refl).is (due d refl).asked q
 
   draw-keeps : Keeps → (blocks : List ℕ) (p : PlayState) → Q p → Q (draw blocks p)
   draw-keeps k blocks p q = go (dues blocks p) refl
@@ -42,17 +67,19 @@ module _ (Q : PlayState → Type 0) where
       go : (ds : List Due) → dues blocks p ≡ ds → Q (drawn_from ds p)
       go [] e = q
       go (d ∷ ds) e =
-          happened-keeps k (advanced p) (drawn (d ∷ ds) (pcg32 p.generator).0)
-          (λ x found. (listed_due blocks p ((pcg32 p.generator).0 % length (d ∷ ds)) x (ap (λ (xs : List Due). slice_get xs ((pcg32 p.generator).0 % length (d ∷ ds))) e ∙ found)).is)
+          happened-keeps k blocks (advanced p) (drawn (d ∷ ds) (pcg32 p.generator).0)
+          (λ x found.
+          let z = listed_due blocks p ((pcg32 p.generator).0 % length (d ∷ ds)) x (ap (λ (xs : List Due). slice_get xs ((pcg32 p.generator).0 % length (d ∷ ds))) e ∙ found) in
+          record { is = z.is; among = z.among; asked = z.asked })
           (k.advances p q)
 
   draws-keep : Keeps → (blocks : List ℕ) (n : ℕ) (p : PlayState) → Q p → Q (draws blocks n p)
   draws-keep k blocks zero p q = q
   draws-keep k blocks (suc n) p q = draws-keep k blocks n (draw blocks p) (draw-keeps k blocks p q)
 
-  stepped-keeps : Keeps → (p : PlayState) (o : Option Due) → Q p → Q (stepped p o)
-  stepped-keeps k p None q = q
-  stepped-keeps k p (Some d) q = if-each Q (is_due (world_of p) p.queues d) (after_due p d) p (λ e. k.goes p d e q) (λ _. q)
+  stepped-keeps : Keeps → (p : PlayState) (o : Option Due) → IfSome o (AskAmong p.asks) → Q p → Q (stepped p o)
+  stepped-keeps k p None asked q = q
+  stepped-keeps k p (Some d) asked q = if-each Q (is_due (world_of p) p.queues d) (after_due p d) p (λ e. k.goes p d e asked q) (λ _. q)
 
   -- What is kept by a cut, by a stop, and by a start.
   pub record FailuresKeep : Type 0 where
@@ -97,7 +124,7 @@ module _ (Q : PlayState → Type 0) where
   line-keeps k blocks (line.Stop n) p new kept s q = subst Q (sym s) ((kept refl).stops p n q)
   line-keeps k blocks (line.Start n) p new kept s q = subst Q (sym s) ((kept refl).starts p n q)
   line-keeps k blocks (line.Run count) p new kept s q = subst Q (sym s) (draws-keep k blocks count p q)
-  line-keeps k blocks (line.Step b e) p new kept s q = subst Q (sym s) (stepped-keeps k p (step_due (world_of p) b.0 e) q)
+  line-keeps k blocks (line.Step b e) p new kept s q = subst Q (sym s) (stepped-keeps k p (step_due (world_of p) b.0 e) (step-asked p.asks (world_of p) b.0 e) q)
   line-keeps k blocks (line.Expect n b state stamp written) p new kept s q = subst Q (sym s) q
 
   pub lines-keep : Keeps → (blocks : List ℕ) (lines : List ScriptLine) (p new : PlayState) → AllKeep lines → PlaysLines blocks lines p new → Q p → Q new
@@ -129,23 +156,31 @@ own-plain (action.Send p) b queue = (refl, tt)
 own-plain (action.Answered n a) b queue = (refl, tt)
 own-plain action.Memory b queue = (refl, tt)
 
-pub due-plain : (w : World) (queues : Queues) (d : Due) → ArePlain (due_events w queues d)
-due-plain w queues (due.Own b) = own-plain (action_of w b) b.0 (queues b.0)
-due-plain w queues (due.Down c) = (refl, tt)
-due-plain w queues (due.Ready c) = (refl, tt)
-due-plain w queues (due.Up c) = (refl, tt)
+pub due-plain : (w : World) (queues : Queues) (d : Due) → AskAmong [] d → ArePlain (due_events w queues d)
+due-plain w queues (due.Own b) asked = own-plain (action_of w b) b.0 (queues b.0)
+due-plain w queues (due.Reader ask) asked = none-asked [] ask refl asked
+due-plain w queues (due.Down c) asked = (refl, tt)
+due-plain w queues (due.Ready c) asked = (refl, tt)
+due-plain w queues (due.Up c) asked = (refl, tt)
 
-abbrev Plain : PlayState → Type 0
-Plain p = ArePlain p.events
+-- the events are, and no line has asked to read
+record Plain (p : PlayState) : Type 0 where
+  asks : p.asks ≡ []
+  plain : ArePlain p.events
 
-after-plain : (p : PlayState) (d : Due) → Plain p → Plain (after_due p d)
+after-plain : (p : PlayState) (d : Due) → AskAmong p.asks d → Plain p → Plain (after_due p d)
 unfolding after_due
-after-plain p d h = plain-join p.events (due_events (world_of p) p.queues d) h (due-plain (world_of p) p.queues d)
+after-plain p d asked h = record {
+  asks = h.asks;
+  plain = plain-join p.events (due_events (world_of p) p.queues d) h.plain (due-plain (world_of p) p.queues d (subst (λ (xs : List ReadAsk). AskAmong xs d) h.asks asked));
+}
 
 pub plays-plain : PlaysArePlain
-plays-plain script end sound s = play-keeps Plain (record {
-  advances = λ p h. h;
-  orders = λ p b c h. h;
-  rules = λ p b r h. h;
-  goes = λ p d _ h. after-plain p d h;
-}) (λ nodes seed. tt) script end (sound-keep Plain script sound) s
+plays-plain script end sound s =
+    let h : Plain end = play-keeps Plain (record {
+      advances = λ p h. record { asks = h.asks; plain = h.plain };
+      orders = λ p b c h. record { asks = h.asks; plain = h.plain };
+      rules = λ p b r h. record { asks = h.asks; plain = h.plain };
+      goes = λ p d _ asked h. after-plain p d asked h;
+    }) (λ nodes seed. record { asks = refl; plain = tt }) script end (sound-keep Plain script sound) s in
+    h.plain

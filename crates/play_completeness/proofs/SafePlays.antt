@@ -32,7 +32,7 @@ start-same n p m e = by (may_start p m)
 -- the lines of a script leave the nodes as many as they were
 nodes-stay : (n : ℕ) (blocks : List ℕ) (lines : List ScriptLine) (p end : PlayState) → p.nodes ≡ n → PlaysLines blocks lines p end → end.nodes ≡ n
 nodes-stay n blocks lines p end here plays =
-    lines-keep (λ q. q.nodes ≡ n) (record { advances = λ q e. e; orders = λ q b c e. e; rules = λ q b r e. e; goes = λ q d due e. after-same n q d e }) blocks lines p end
+    lines-keep (λ q. q.nodes ≡ n) (record { advances = λ q e. e; orders = λ q b c e. e; rules = λ q b r e. e; goes = λ q d due asked e. after-same n q d e }) blocks lines p end
     (failures-keep (λ q. q.nodes ≡ n) (record { cuts = λ q c down up e. e; stops = λ q m e. stop-same n q m e; starts = λ q m e. start-same n q m e }) lines) plays here
 
 pub plays-safe : AllSafe → PlaysAreSafe

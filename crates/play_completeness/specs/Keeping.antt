@@ -27,6 +27,7 @@ pub record PlayedOn (p : PlayState) (commands : ℕ → List Command) : Type 0 w
 -- what is due of a connection
 abbrev pub IsOfConn : Due → Type 0
 IsOfConn (due.Own b) = ⊥
+IsOfConn (due.Reader ask) = ⊥
 IsOfConn other = Unit {0}
 
 -- A play stays so where what is due of a connection happens.

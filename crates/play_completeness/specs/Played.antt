@@ -96,8 +96,9 @@ pub record BlockPlayed (w : World) (b : ℕ) (queue : List TakenCommand) (comman
 
 -- PLAYS
 
--- A play in which these commands were given to the writers of blocks.
+-- A play in which these commands were given to the writers of blocks, and no line has asked to read.
 pub record Played (p : PlayState) (commands : ℕ → List Command) : Type 0 where
+  pub asks : p.asks ≡ []
   pub plain : ArePlain p.events
   pub quiet : IsQuiet (world_of p)
   pub peaceful : Peaceful (world_of p)
