@@ -11,6 +11,7 @@ use Rattle.hd_base.specs.declared.numbers.BlockId.{BlockId}
 use Rattle.hd_base.specs.declared.numbers.ConnId.{ConnId}
 use Rattle.hd_base.specs.declared.roads.Roads as roads
 use Rattle.world.specs.Worlds.{World}
+use Rattle.play_model.specs.declared.asks.ReadAsk.{ReadAsk}
 use Rattle.play_model.specs.declared.dues.Due.{Due}
 use Rattle.play_model.specs.declared.dues.Due.TheVariants as due
 use Rattle.play_model.specs.Dues.{Queues, own_due, own_dues, conn_dues}
@@ -66,6 +67,10 @@ module _ {F R I O : Type 0} (r : roads.Ghosts R I O) (i : link_in.Ghosts I) (o :
 
   pub own_tells : (d : Due) (block : BlockId) (road : R) (result : Bool) → d ≡ due.Own block → result ≡ has_step_at clients (client_place clients block.0) → TellsDue r i o d n clients road road result
   own_tells d block road result is told = subst (λ (e : Due). TellsDue r i o e n clients road road result) (sym is) (own_told block road result told)
+
+  -- a reader's own step is told by no client
+  pub reader_untold : (d : Due) (ask : ReadAsk) (road : R) (result : Bool) → d ≡ due.Reader ask → TellsDue r i o d n clients road road result
+  reader_untold d ask road result is = subst (λ (e : Due). TellsDue r i o e n clients road road result) (sym is) (λ played. absurd played)
 
   -- ONE THING
 

@@ -20,7 +20,7 @@ use Rattle.world.specs.declared.events.TakenCommand.{TakenCommand}
 use Rattle.world.specs.Parts.{Message, Upper, by_writer, by_member, by_reader, by_primary, Dialled, Marks, FullMember, Lower, idle, writes, serves, recovers, ended_below, Told, Writing}
 use Rattle.world.specs.Worlds.{World, Change, put, apply}
 use Rattle.world.specs.Connections.{Next, message, the_end, marks_taken, next_down, next_up, down_taken, up_taken, is_conn, is_alive, is_served}
-use Rattle.world.specs.Clients.{writer_change, did, dialled_change, dialling, rest_in, is_empty, is_formed, ruled, command_bytes, takes_step, takes_command, writer_step, own_writer, writer_hears, writer_up, reader_up}
+use Rattle.world.specs.Clients.{writer_change, did, dialled_change, dialling, rest_in, is_empty, is_formed, ruled, command_bytes, takes_step, takes_command, writer_step, own_writer, writer_hears, writer_up, own_reader, reader_up}
 use Rattle.world.specs.Enabled.{takes_down, acts_below, takes_above, hears_mirror}
 use Rattle.world.specs.Events.{changed, outcome, after_event, happens, run, down_as, upper_up, up_as}
 use Rattle.world.specs.Nodes.{lower_down, lower_ready, mirror_up}
@@ -31,10 +31,12 @@ use Rattle.world_laws.proofs.GrowthLaws.{apply-grows}
 use Rattle.world_orders.specs.Open.{OpenEnds}
 use Rattle.world_orders.proofs.OpenFrame.{IsOpenMirror, below-over, mirror-over, Beside, LowerOpens}
 use Rattle.world_orders.proofs.OpenLowers.{lower-down-opens, lower-ready-opens, mirror-up-opens}
-use Rattle.world_orders.proofs.OpenClients.{reader-up-beside}
+use Rattle.world_orders.proofs.OpenClients.{own-reader-beside, reader-up-beside}
 use Rattle.world_orders.proofs.OpenPrimaries.{primary-up-beside}
+use Rattle.play_model.specs.declared.asks.ReadAsk.{ReadAsk}
 use Rattle.play_model.specs.declared.dues.Due.{Due}
 use Rattle.play_model.specs.declared.dues.Due.TheVariants as due
+use Rattle.play_model.specs.Asks.{request_of, asking_node}
 use Rattle.play_model.specs.Dues.{Queues, is_open, is_open_above, is_due, due_events, own_events, action_of, acting, asking}
 use Rattle.play_nodes.specs.Dues.{IsOrderly}
 use Rattle.play_nodes.specs.Showing.{has_events}
@@ -262,6 +264,14 @@ beside_spares w k s = record {
   writer = λ d lt e. subst (λ (x : Writing). is_conn x.conn d ≡ false) (sym s.writer_same) e;
 }
 
+-- A reader asks its node.
+reader_kept : (w : World) (ask : ReadAsk) → Keeps w (happens w (asking_node ask true))
+unfolding happens outcome
+reader_kept w ask =
+    let k : Option Change = own_reader w ask.reader ask.node.0 (request_of ask) true in
+    after_kept w (asking_node ask true) (outcome w (asking_node ask true))
+    (changed_kept w w k (keeps_same w) (some-weaker (Beside w) (Spares w) k (λ c s. beside_spares w c s) (own-reader-beside w ask.reader ask.node.0 (request_of ask) true)))
+
 -- a message leaves every end as it was
 message_over : (k : Marks) (x : Next) (y : Message) → x ≡ message y → k.over ≡ (marks_taken k x).over
 message_over k (message m) y e = refl
@@ -378,6 +388,7 @@ module _ (w : World) (opens : OpenEnds w) (placed : Placed w) where
 
 pub due_keeps : (w : World) (queues : Queues) (d : Due) → IsOrderly w → is_due w queues d ≡ true → Keeps w (run w (due_events w queues d))
 due_keeps w queues (due.Own b) h is = steps_kept w b.0 (action_of w b) (queues b.0)
+due_keeps w queues (due.Reader ask) h is = reader_kept w ask
 due_keeps w queues (due.Down c) h is = down_keeps w h.open_ends h.placed c true (lower_has w h.open_ends h.placed c.0 (takes_down (w.lowers c.0) w c.0 (next_down w c.0)) is)
 due_keeps w queues (due.Ready c) h is = ready_keeps w h.open_ends h.placed c (lower_has w h.open_ends h.placed c.0 (acts_below (w.lowers c.0) w c.0) is)
 due_keeps w queues (due.Up c) h is = up_keeps w h.open_ends h.placed c (may_take w h.open_ends h.placed c.0 (is_some (next_up w c.0)) (w.dialled c.0).upper refl is)

@@ -1,5 +1,5 @@
 -- What is due in a play, counted and picked by number.
-use Rattle.std.specs.Prelude.{◌≡◌, ◌+◌, ℕ, Bool, List, ◌++◌, length, slice_get, Option, None}
+use Rattle.std.specs.Prelude.{◌≡◌, ◌+◌, ℕ, Bool, List, [], ◌++◌, length, slice_get, Option, None}
 use Rattle.std.specs.List.{flat_map}
 use Rattle.hd_base.specs.declared.links.LinkIn as link_in
 use Rattle.hd_base.specs.declared.links.LinkOut as link_out
@@ -26,20 +26,22 @@ dues_among w queues blocks conns = own_dues w queues blocks ++ flat_map (λ c. c
 abbrev pub all_dues : World → Queues → List ℕ → List Due
 all_dues w queues blocks = own_dues w queues blocks ++ upto (conn_dues w queues) w.next_conn
 
--- What is due in a play is what is due in its world, with its queues.
+-- What is due in a play without readers is what is due in its world, with its queues.
 abbrev pub DuesAreListed : Type 0
-DuesAreListed = (blocks : List ℕ) (p : PlayState) → all_dues (world_of p) p.queues blocks ≡ dues blocks p
+DuesAreListed = (blocks : List ℕ) (p : PlayState) → p.asks ≡ [] → all_dues (world_of p) p.queues blocks ≡ dues blocks p
 
 -- ONE OF THEM
 
--- An own step is that of a block that has a client.
+-- An own step is that of a block that has a client, and no reader's.
 abbrev pub IsPlayed : {I O : Type 0} → List (Client I O) → Due → Type 0
 IsPlayed clients (due.Own block) = HasClient clients block.0
+IsPlayed clients (due.Reader ask) = ⊥
 IsPlayed clients other = Unit {0}
 
--- It is an own step of a block that has no client.
+-- It is an own step of a block that has no client, or a reader's.
 abbrev pub IsAlone : {I O : Type 0} → List (Client I O) → Due → Type 0
 IsAlone clients (due.Own block) = client_place clients block.0 ≡ None
+IsAlone clients (due.Reader ask) = Unit {0}
 IsAlone clients other = ⊥
 
 -- Whether this is due, where an own step is that of a block that has a client.

@@ -12,7 +12,7 @@ use play_clients::Client;
 use play_model::Due;
 use play_nodes::Nodes;
 
-/// Whether this is due. An own step of a block that has no client isn't.
+/// Whether this is due. An own step of a block that has no client isn't, nor that of a reader: there are none yet.
 pub fn is_due<F: Files, I: LinkIn, O: LinkOut, R: Roads<Inward = I, Outward = O>>(
     nodes: &Nodes<F, I, O>,
     clients: &[Client<I, O>],
@@ -25,6 +25,7 @@ pub fn is_due<F: Files, I: LinkIn, O: LinkOut, R: Roads<Inward = I, Outward = O>
 {
     match due {
         Due::Own { block } => has_own(clients, block),
+        Due::Reader { .. } => false,
         Due::Down { conn } => nodes.can_down(roads, conn),
         Due::Ready { conn } => nodes.can_ready(conn),
         Due::Up { conn } => upper_takes(nodes, clients, roads, conn),
@@ -79,7 +80,7 @@ pub fn pick_dues<F: Files, I: LinkIn, O: LinkOut, R: Roads<Inward = I, Outward =
     None
 }
 
-/// What is due in a play is what is due in its world, with its queues.
+/// What is due in a play without readers is what is due in its world, with its queues.
 pub fn dues_are_listed()
     ensures { DuesAreListed }
 {}

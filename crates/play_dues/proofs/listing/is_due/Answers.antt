@@ -1,8 +1,8 @@
 -- Whoever would do it says whether it is due.
-use Rattle.std.proofs.Common.{refl}
+use Rattle.std.proofs.Common.{false, refl}
 use Rattle.member_events.proofs.SetupKnown.{pass_same}
 use Rattle.play_model.specs.declared.dues.Due.TheVariants as due
-use Rattle.play_dues.proofs.ListingLaws.{own_tells, own_alone, never_alone, down_tells, ready_tells, up_tells}
+use Rattle.play_dues.proofs.ListingLaws.{own_tells, own_alone, reader_untold, never_alone, down_tells, ready_tells, up_tells}
 use Rattle.play_dues.proofs.listing.is_due.Goals as goal
 
 pub returns-in-Own-clause-tells : goal.returns-in-Own-clause-tells
@@ -11,6 +11,13 @@ returns-in-Own-clause-tells g c =
 
 pub returns-in-Own-clause-alone : goal.returns-in-Own-clause-alone
 returns-in-Own-clause-alone g c = own_alone c.args.clients.now c.args.due c.in-Own.block c.has_own.result c.in-Own.is c.has_own.ensures
+
+pub returns-in-Reader : goal.returns-in-Reader
+returns-in-Reader g c = record {
+  tells = reader_untold g.R.Roads g.I.LinkIn g.O.LinkOut c.args.nodes.now c.args.clients.now c.args.due c.in-Reader.ask c.args.roads.now false c.in-Reader.is;
+  alone = λ _. refl;
+  pass = pass_same g.R.Roads g.I.LinkIn g.O.LinkOut c.args.roads.now c.args.roads.now refl;
+}
 
 pub returns-in-Down : goal.returns-in-Down
 returns-in-Down g c = record {
