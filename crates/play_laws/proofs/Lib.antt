@@ -16,3 +16,4 @@ pub mod Early
 pub mod Untold
 pub mod Intakes
 pub mod Stamps
+pub mod Pipelined

@@ -6,3 +6,4 @@ pub mod Untold
 pub mod Intakes
 pub mod Stamps
 pub mod Writers
+pub mod Pipelines

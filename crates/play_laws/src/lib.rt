@@ -1,15 +1,19 @@
-//! What a play takes of the world for the clients and the nodes in it. Each function has an empty body; its clause says
-//! what holds after every list of events.
+//! What a play takes of the world for the clients and the nodes in it. The clause of each function says what holds
+//! after every list of events.
 #![tactic(auto)]
 
 ghost use Rattle.play_laws.specs.Early.{NothingEarly};
 ghost use Rattle.play_laws.specs.Intakes.{OwnStepsKeepIntakes, HearingKeepsIntakes};
 ghost use Rattle.play_laws.specs.Members.{MembersAre, TargetsAre};
 ghost use Rattle.play_laws.specs.Nodes.{AllRun, OnlyNodesRun, RunningStays};
+ghost use Rattle.play_laws.specs.Pipelines.{AllArePiped};
 ghost use Rattle.play_laws.specs.Stamps.{StampsAreFew};
 ghost use Rattle.play_laws.specs.Taking.{CommandsTaken, CreatesFirst, UnmadeAreFresh};
 ghost use Rattle.play_laws.specs.Untold.{StaysQuiet};
 ghost use Rattle.play_laws.specs.Writers.{AllRest, WritersOpen};
+
+use world_acks::acks_tell_of_all_below;
+use world_orders::messages_come_in_order;
 
 /// Between two steps a writer has taken each command that it was given, isn't about to go on with an answer of the
 /// office, has members where a pipeline is wanted, set up or stands, and a connection just where its phase has one.
@@ -82,3 +86,11 @@ pub fn intakes_stay()
 pub fn stamps_are_few()
     ensures { StampsAreFew }
 {}
+
+/// Whoever dialled a mirror has its request on a connection of a pipeline.
+pub fn members_are_piped()
+    ensures { AllArePiped }
+{
+    acks_tell_of_all_below();
+    messages_come_in_order();
+}
