@@ -1,0 +1,12 @@
+pub mod LowerChanges
+pub mod LowerSteps
+pub mod KeepLaws
+pub mod FrameLaws
+pub mod ClientLaws
+pub mod HearLaws
+pub mod DueLaws
+pub mod OwnLaws
+pub mod HeardLaws
+pub mod ServeLaws
+pub mod SeatLaws
+pub mod ToldLaws

@@ -1,0 +1,10 @@
+pub mod Faults
+pub mod Places
+pub mod Showing
+pub mod Dues
+pub mod Keeping
+pub mod Left
+pub mod Hearing
+pub mod Owning
+pub mod Seats
+pub mod Serving

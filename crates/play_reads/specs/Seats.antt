@@ -1,0 +1,39 @@
+-- Where the lower ends of connections stand, and how their events end.
+use Rattle.std.specs.Prelude.{◌≡◌, ◌<◌, ◌≤◌, ℕ, length, slice_get, Option, Some, None, Result, Ok, Err}
+use Rattle.hd_base.specs.declared.numbers.NodeId.{NodeId}
+use Rattle.play_nodes.specs.declared.connections.Connection.{Connection}
+use Rattle.play_nodes.specs.declared.nodes.Nodes.{Nodes}
+use Rattle.play_servers.specs.declared.servers.ServerEvent.{ServerEvent}
+use Rattle.play_servers.specs.declared.servers.ServerEvent.TheVariants as server_event
+use Rattle.serving_events.specs.declared.faults.ServeFault.{ServeFault}
+use Rattle.play_reads.specs.declared.faults.ReadsFault.{ReadsFault}
+use Rattle.play_reads.specs.declared.faults.ReadsFault.TheVariants as fault
+use Rattle.play_reads.specs.declared.reads.Reads.{Reads}
+use Rattle.play_reads.specs.declared.serving.Seat.{Seat}
+use Rattle.play_reads.specs.Faults.{of_server}
+use Rattle.play_reads.specs.Places.{server_place}
+
+-- The lower end stands there, and its node has books.
+pub record IsSeated {F I O : Type 0} (n : Nodes F I O) (p : Reads I O) (c : ℕ) (s : Seat) : Type 0 where
+  pub place : Some s.place ≡ server_place p.servers.items c
+  pub within : s.place < length p.servers.items
+  pub at : Connection I O
+  pub found : slice_get n.connections.items c ≡ Some at
+  pub node : s.node ≡ at.node
+  pub has_books : s.node.0 < length n.nodes.items
+
+-- None stands there, or its node has no books.
+abbrev pub IsUnseated : {F I O : Type 0} → Nodes F I O → Reads I O → ℕ → Type 0
+IsUnseated {F} {I} {O} n p c = (at : Connection I O) (place : ℕ) → slice_get n.connections.items c ≡ Some at →
+    server_place p.servers.items c ≡ Some place
+    → length n.nodes.items ≤ at.node.0
+
+abbrev pub IsSeat : {F I O : Type 0} → Nodes F I O → Reads I O → ℕ → Option Seat → Type 0
+IsSeat n p c None = IsUnseated n p c
+IsSeat n p c (Some s) = IsSeated n p c s
+
+-- where a call on files failed it is the fault of the node's files
+abbrev pub followed : NodeId → Result ServerEvent ServeFault → Result (Unit {0}) ReadsFault
+followed node (Ok server_event.Done) = Ok tt
+followed node (Ok server_event.Broke) = Err (fault.FilesFailed node)
+followed node (Err why) = Err (of_server node why)

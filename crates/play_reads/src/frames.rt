@@ -1,0 +1,50 @@
+//! What the events of others leave of the reads of a play. But for what they call, the functions have empty bodies;
+//! their clauses say what holds of every world.
+
+ghost use Rattle.play_reads.specs.Keeping.{
+  ReadsStay,
+  OwnStepsKeepReads,
+  HearingKeepsReads,
+  DownKeepsReads,
+  ReadyKeepsReads,
+  MirrorKeepsReads,
+  CutsKeepReads,
+};
+
+use hd_base::{LinkIn, LinkOut};
+use play_nodes::writers_keep_nodes;
+use play_readers::{members_keep_readers, read_clients_stay, writers_keep_readers};
+use world_cuts::{cuts_are_losses, ends_stay_in_cuts};
+
+/// Reads that show a world show the world after an event that keeps what they show.
+pub fn reads_stay<I: LinkIn, O: LinkOut>()
+    ensures { ReadsStay I.LinkIn O.LinkOut }
+{
+    read_clients_stay::<I, O>();
+}
+
+/// The events of writers keep what the reads show.
+pub fn writers_keep_reads<I: LinkIn, O: LinkOut>()
+    ensures own { OwnStepsKeepReads I.LinkIn O.LinkOut }
+    ensures hears { HearingKeepsReads I.LinkIn O.LinkOut }
+{
+    writers_keep_nodes();
+    writers_keep_readers();
+}
+
+/// So do the events of members.
+pub fn members_keep_reads<I: LinkIn, O: LinkOut>()
+    ensures downs { DownKeepsReads I.LinkIn O.LinkOut }
+    ensures readies { ReadyKeepsReads I.LinkIn O.LinkOut }
+    ensures mirrors { MirrorKeepsReads I.LinkIn O.LinkOut }
+{
+    members_keep_readers();
+}
+
+/// So do cuts.
+pub fn cuts_keep_reads<I: LinkIn, O: LinkOut>()
+    ensures { CutsKeepReads I.LinkIn O.LinkOut }
+{
+    cuts_are_losses();
+    ends_stay_in_cuts::<I, O>();
+}

@@ -1,0 +1,18 @@
+//! The reads of a play: the reading clients of its lines, and the lower ends of the connections that these dialled.
+//! Each event takes reads and nodes that show a world, on roads that show it, to what shows the world after the event.
+//! Which events are due there is told.
+#![tactic(auto)]
+
+mod dues;
+mod faults;
+mod frames;
+mod hearing;
+mod owning;
+mod places;
+mod reads;
+mod serving;
+
+pub use dues::reader_of;
+pub use faults::ReadsFault;
+pub use frames::{cuts_keep_reads, members_keep_reads, reads_stay, writers_keep_reads};
+pub use reads::Reads;

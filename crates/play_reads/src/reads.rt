@@ -1,0 +1,13 @@
+//! The reads of a play.
+
+use play_readers::ReadClient;
+use play_servers::ReadServer;
+
+/// The reads of a play: the reading clients of its lines, and the lower ends of the connections that they dialled.
+#[derive(Drop)]
+pub struct Reads<I, O> {
+    /// The reading clients, in the order of their lines.
+    pub clients: Vec<ReadClient<I, O>>,
+    /// The lower ends of their connections, in the order of the dials.
+    pub servers: Vec<ReadServer<I, O>>,
+}
