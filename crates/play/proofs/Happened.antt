@@ -238,16 +238,18 @@ module _ {F R I O : Type 0} (r : roads.Ghosts R I O) (i : link_in.Ghosts I) (o :
       let k : Actor b = actor_of_block b actor in
       subst (λ (a : BlockId). EventsFit nodes old.nodes.blocks.items (due_events here queues (due.Own a))) k.block
       (own_fits k.client k.shows k.fits (subst (λ (a : BlockId). is_due here queues (due.Own a) ≡ true) (sym k.block) is) (action_of here k.client.block) (queues k.client.block.0) (queue_fits k.client k.shows k.fits))
+  events_fit (due.Reader ask) is actor = absurd actor
   events_fit (due.Down c) is actor = record { widths = (tt, tt); names = (tt, tt); among = (tt, tt); whole = (tt, tt) }
   events_fit (due.Ready c) is actor = record { widths = (tt, tt); names = (tt, tt); among = (tt, tt); whole = (tt, tt) }
   events_fit (due.Up c) is actor = record { widths = (tt, tt); names = (tt, tt); among = (tt, tt); whole = (tt, tt) }
 
   -- writers that don't act stay
-  writers_stay : (d : Due) → is_due here queues d ≡ true → (b : ℕ) → (actor_of here d ≡ Some b → ⊥) → (run here (due_events here queues d)).writers b ≡ here.writers b
-  writers_stay (due.Own a) is b apart = (L.own_keeps here queues a).0.writers b (λ same. apart (ap (λ (n : ℕ). Some n) (sym same)))
-  writers_stay (due.Down c) is b apart = (L.down_keeps here c true).writers b
-  writers_stay (due.Ready c) is b apart = (L.ready_keeps here c).writers b
-  writers_stay (due.Up c) is b apart = by (upper_here c.0 (up_at here queues c is).within)
+  writers_stay : (d : Due) → is_due here queues d ≡ true → ActorIsClient old d → (b : ℕ) → (actor_of here d ≡ Some b → ⊥) → (run here (due_events here queues d)).writers b ≡ here.writers b
+  writers_stay (due.Own a) is actor b apart = (L.own_keeps here queues a).0.writers b (λ same. apart (ap (λ (n : ℕ). Some n) (sym same)))
+  writers_stay (due.Reader ask) is actor b apart = absurd actor
+  writers_stay (due.Down c) is actor b apart = (L.down_keeps here c true).writers b
+  writers_stay (due.Ready c) is actor b apart = (L.ready_keeps here c).writers b
+  writers_stay (due.Up c) is actor b apart = by (upper_here c.0 (up_at here queues c is).within)
     where
       by : UpperKind (here.dialled c.0).upper → (happens here (event.Up c)).writers b ≡ here.writers b
       by (of_writer a e) = (L.heard_keeps here c a e).0.writers b (λ same. apart (ap writer_at e ∙ ap (λ (n : ℕ). Some n) (sym same)))
@@ -259,12 +261,12 @@ module _ {F R I O : Type 0} (r : roads.Ghosts R I O) (i : link_in.Ghosts I) (o :
     made : actor_of here d ≡ Some b → is_unmade (intake_of (run here (due_events here queues d)) b).stand ≡ false
     given : given_with (intake_of (run here (due_events here queues d)) b) (queues_after here queues d b) ≡ given_with (intake_of here b) (queues b)
 
-  still_fits : (d : Due) → is_due here queues d ≡ true → (b : ℕ) → (actor_of here d ≡ Some b → ⊥) → queues_after here queues d b ≡ queues b → CommandsFit nodes (intake_of here b) (queues b) → Fits d b
-  still_fits d is b apart same fit = record {
+  still_fits : (d : Due) → is_due here queues d ≡ true → ActorIsClient old d → (b : ℕ) → (actor_of here d ≡ Some b → ⊥) → queues_after here queues d b ≡ queues b → CommandsFit nodes (intake_of here b) (queues b) → Fits d b
+  still_fits d is actor b apart same fit = record {
     fit = subst (λ (q : List TakenCommand). CommandsFit nodes (intake_of (run here (due_events here queues d)) b) q) (sym same)
-        (subst (λ (x : Writing). CommandsFit nodes x.known.intake (queues b)) (sym (writers_stay d is b apart)) fit);
+        (subst (λ (x : Writing). CommandsFit nodes x.known.intake (queues b)) (sym (writers_stay d is actor b apart)) fit);
     made = λ e. absurd (apart e);
-    given = ap (λ (q : List TakenCommand). given_with (intake_of (run here (due_events here queues d)) b) q) same ∙ ap (λ (x : Writing). given_with x.known.intake (queues b)) (writers_stay d is b apart);
+    given = ap (λ (q : List TakenCommand). given_with (intake_of (run here (due_events here queues d)) b) q) same ∙ ap (λ (x : Writing). given_with x.known.intake (queues b)) (writers_stay d is actor b apart);
   }
 
   -- a writer that hears something was given a create
@@ -276,12 +278,13 @@ module _ {F R I O : Type 0} (r : roads.Ghosts R I O) (i : link_in.Ghosts I) (o :
       go true k = absurd (none-some c.0 (sym ((L.rest nodes old.events.items b).alone (ap (λ (x : WriterRecord). is_connected x.phase) (L.fresh nodes old.events.items b k))) ∙ heard_conn here queues c b is e))
 
   fits_after : (d : Due) → is_due here queues d ≡ true → ActorIsClient old d → (b : ℕ) → CommandsFit nodes (intake_of here b) (queues b) → Fits d b
-  fits_after (due.Down c) is actor b fit = still_fits (due.Down c) is b (λ e. none-some b e) refl fit
-  fits_after (due.Ready c) is actor b fit = still_fits (due.Ready c) is b (λ e. none-some b e) refl fit
+  fits_after (due.Reader ask) is actor b fit = absurd actor
+  fits_after (due.Down c) is actor b fit = still_fits (due.Down c) is actor b (λ e. none-some b e) refl fit
+  fits_after (due.Ready c) is actor b fit = still_fits (due.Ready c) is actor b (λ e. none-some b e) refl fit
   fits_after (due.Up c) is actor b fit = by (upper_here c.0 (up_at here queues c is).within)
     where
       hears : (a : ℕ) → (here.dialled c.0).upper ≡ by_writer a → (q : Bool) → (a == b) ≡ q → Fits (due.Up c) b
-      hears a e false k = still_fits (due.Up c) is b (λ z. eqb-false a b k (same_Some a b (sym (ap writer_at e) ∙ z))) refl fit
+      hears a e false k = still_fits (due.Up c) is actor b (λ z. eqb-false a b k (same_Some a b (sym (ap writer_at e) ∙ z))) refl fit
       hears a e true k =
           let upper_is : (here.dialled c.0).upper ≡ by_writer b = e ∙ ap by_writer (eqb-true a b k) in
           let same = L.heard_intakes nodes old.events.items c b upper_is in
@@ -293,11 +296,11 @@ module _ {F R I O : Type 0} (r : roads.Ghosts R I O) (i : link_in.Ghosts I) (o :
 
       by : UpperKind (here.dialled c.0).upper → Fits (due.Up c) b
       by (of_writer a e) = hears a e (a == b) refl
-      by (of_member m e) = still_fits (due.Up c) is b (λ z. none-some b (sym (ap writer_at e) ∙ z)) refl fit
+      by (of_member m e) = still_fits (due.Up c) is actor b (λ z. none-some b (sym (ap writer_at e) ∙ z)) refl fit
   fits_after (due.Own a) is actor b fit = go (a.0 == b) refl
     where
       go : (q : Bool) → (a.0 == b) ≡ q → Fits (due.Own a) b
-      go false k = still_fits (due.Own a) is b (λ z. eqb-false a.0 b k (same_Some a.0 b z)) (put-there queues a.0 (queue_left (action_of here a) (queues a.0)) b (λ same. eqb-false a.0 b k (sym same))) fit
+      go false k = still_fits (due.Own a) is actor b (λ z. eqb-false a.0 b k (same_Some a.0 b z)) (put-there queues a.0 (queue_left (action_of here a) (queues a.0)) b (λ same. eqb-false a.0 b k (sym same))) fit
       go true k =
           let x : Actor a = actor_of_block a actor in
           subst (λ (n : ℕ). Fits (due.Own a) n) (eqb-true a.0 b k) (subst (λ (m : BlockId). Fits (due.Own m) m.0) x.block (acts x (queue_fits x.client x.shows x.fits)))
@@ -354,6 +357,7 @@ module _ {F R I O : Type 0} (r : roads.Ghosts R I O) (i : link_in.Ghosts I) (o :
     -- a writer that acts, or hears something, has a client
     actor_client : (d : Due) → is_due here queues d ≡ true → ActorIsClient old d → (b : ℕ) → actor_of here d ≡ Some b → HasClient old.clients.items b
     actor_client (due.Own a) is actor b e = subst (λ (n : ℕ). HasClient old.clients.items n) (same_Some a.0 b e) actor
+    actor_client (due.Reader ask) is actor b e = absurd actor
     actor_client (due.Down c) is actor b e = absurd (none-some b e)
     actor_client (due.Ready c) is actor b e = absurd (none-some b e)
     actor_client (due.Up c) is actor b e = by (upper_here c.0 (up_at here queues c is).within)
@@ -367,7 +371,7 @@ module _ {F R I O : Type 0} (r : roads.Ghosts R I O) (i : link_in.Ghosts I) (o :
       where
         by : (actor_of here d ≡ Some b) ⊎ (actor_of here d ≡ Some b → ⊥) → HasClient old.clients.items b
         by (inl e) = actor_client d is actor b e
-        by (inr apart) = s.connected b c (sym (ap (λ (x : Writing). x.conn) (writers_stay d is b apart)) ∙ has)
+        by (inr apart) = s.connected b c (sym (ap (λ (x : Writing). x.conn) (writers_stay d is actor b apart)) ∙ has)
 
     -- the commands that are queued for a client's block
     client_queue : (b : ℕ) → HasClient old.clients.items b → CommandsFit nodes (intake_of here b) (queues b)

@@ -99,9 +99,10 @@ abbrev pub HappenEnds : {F R I O : Type 0} → files.Ghosts F → roads.Ghosts R
 HappenEnds f r i o nodes queues d old new road road' (Ok u) = HasHappened r i o nodes queues d old new road'
 HappenEnds f r i o nodes queues d old new road road' (Err why) = IsCaused f r old new road road' why
 
--- a writer that takes its own step has a client
+-- a writer that takes its own step has a client; no reader takes one
 abbrev pub ActorIsClient : {F I O : Type 0} → Player F I O → Due → Type 0
 ActorIsClient p (due.Own b) = HasClient p.clients.items b.0
+ActorIsClient p (due.Reader ask) = ⊥
 ActorIsClient p other = Unit {0}
 
 -- Something that is due happens.

@@ -15,7 +15,7 @@ use std::alloc::Global;
 
 impl<F: Files, I: LinkIn, O: LinkOut> Player<F, I, O> {
     /// Something that is due happens: a writer takes its own step, or an end takes what stands next or acts without a
-    /// message. Its events stand behind those that happened then.
+    /// message. Its events stand behind those that happened then. There are no readers yet: nothing is done for one.
     pub fn happen<R: Roads<Inward = I, Outward = O>>(
         &mut self,
         alloc: Global,
@@ -29,6 +29,7 @@ impl<F: Files, I: LinkIn, O: LinkOut> Player<F, I, O> {
     {
         match due {
             Due::Own { block } => self.step(alloc, roads, block),
+            Due::Reader { .. } => Ok(()),
             Due::Down { conn } => self.take_down(alloc, roads, conn),
             Due::Ready { conn } => self.act(alloc, roads, conn),
             Due::Up { conn } => self.take_up(alloc, roads, conn),
