@@ -14,11 +14,12 @@ use Rattle.world.specs.declared.events.Event.{Event}
 use Rattle.world.specs.Worlds.{World, start}
 use Rattle.world.specs.Events.{run}
 use Rattle.world_orders.specs.Open.{AllOpen}
+use Rattle.play_model.specs.declared.asks.ReadAsk.{ReadAsk}
 use Rattle.play_model.specs.declared.dues.Due.{Due}
 use Rattle.play_model.specs.declared.dues.Due.TheVariants as due
 use Rattle.play_model.specs.Draws.{draw}
 use Rattle.play_model.specs.Dues.{is_due, dues, due_events, queues_after, after_due}
-use Rattle.play_model.specs.Laws.{OwnAmong, IsListed, ListedAreDue}
+use Rattle.play_model.specs.Laws.{OwnAmong, AskAmong, IsListed, ListedAreDue}
 use Rattle.play_laws.specs.Intakes.{intake_of}
 use Rattle.play_model.specs.States as states
 use Rattle.play_model.specs.States.{PlayState}
@@ -100,6 +101,7 @@ module _ {F R I O : Type 0} (f : files.Ghosts F) (r : roads.Ghosts R I O) (i : l
     nodes_are = h.nodes_are;
     events = h.events;
     generator = h.generator;
+    asks = h.asks;
     rules = h.rules;
     live = h.live;
   }
@@ -109,7 +111,7 @@ module _ {F R I O : Type 0} (f : files.Ghosts F) (r : roads.Ghosts R I O) (i : l
   player_stands p road x h = record { w = world_of p.nodes x.player; net = h.stands.net; queues = p.queues; shows = h.stands.shows }
 
   listed_so : DuesAreListed → (p : PlayState) (road : R) (x : Playing F I O) → PlayIs r i o p road x → all_dues (world_of p.nodes x.player) p.queues (blocks_in x) ≡ dues (blocks_in x) p
-  listed_so listed p road x h = ap (λ (w : World). all_dues w p.queues (blocks_in x)) (sym (world_same p road x h)) ∙ listed (blocks_in x) p
+  listed_so listed p road x h = ap (λ (w : World). all_dues w p.queues (blocks_in x)) (sym (world_same p road x h)) ∙ listed (blocks_in x) p h.asks
 
   -- what is drawn of the play's list
   drawn_of : DuesAreListed → (p : PlayState) (road road' : R) (x : Playing F I O) (h : PlayIs r i o p road x) (after : Lcg) (result : Option Due) → DrawsFrom (all_dues (world_of p.nodes x.player) p.queues (blocks_in x)) x.generator after result → DrawsFrom (dues (blocks_in x) p) p.generator after result
@@ -134,7 +136,7 @@ module _ {F R I O : Type 0} (f : files.Ghosts F) (r : roads.Ghosts R I O) (i : l
       let is : PlayIs r i o p road' old = with_roads p road road' old h t.0 in (
         record {
           is = subst (λ (q : PlayState). PlayIs r i o q road' new) (sym (plays (blocks_in old) p new.generator None k ∙ ap (λ (g : Lcg). record p { generator = g }) gen))
-              (subst (λ (x : Playing F I O). PlayIs r i o p road' x) (sym same) (record { stands = is.stands; nodes_are = is.nodes_are; events = is.events; generator = gen; rules = is.rules; live = covered (world_of p.nodes old.player) new.live current }));
+              (subst (λ (x : Playing F I O). PlayIs r i o p road' x) (sym same) (record { stands = is.stands; nodes_are = is.nodes_are; events = is.events; generator = gen; asks = is.asks; rules = is.rules; live = covered (world_of p.nodes old.player) new.live current }));
           blocks = ap blocks_in same;
           given = λ b h'. ap (λ (q : PlayState). given_in q b) (plays (blocks_in old) p new.generator None k ∙ ap (λ (g : Lcg). record p { generator = g }) gen);
         },
@@ -157,6 +159,7 @@ module _ {F R I O : Type 0} (f : files.Ghosts F) (r : roads.Ghosts R I O) (i : l
         nodes_are = h.nodes_are ∙ sym nodes;
         events = ap (λ (w : World). p.events ++ due_events w p.queues d) same ∙ (ap (λ (es : List Event). es ++ due_events (world_of p.nodes old.player) p.queues d) h.events ∙ sym has.events);
         generator = generator;
+        asks = h.asks;
         rules = rules_after p old new _ has.places h.rules;
         live = covers;
       }
@@ -194,11 +197,12 @@ module _ {F R I O : Type 0} (f : files.Ghosts F) (r : roads.Ghosts R I O) (i : l
 
   -- SOMETHING IS DUE
 
-  actor_of : (clients : List (Client I O)) (p : Player F I O) (d : Due) → clients ≡ p.clients.items → OwnAmong (blocks_of clients) d → ActorIsClient p d
-  actor_of clients p (due.Own b) e h = subst (λ (cs : List (Client I O)). HasClient cs b.0) e (client_of_block clients b.0 h.place h.there)
-  actor_of clients p (due.Down c) e h = tt
-  actor_of clients p (due.Ready c) e h = tt
-  actor_of clients p (due.Up c) e h = tt
+  actor_of : (clients : List (Client I O)) (p : Player F I O) (d : Due) → clients ≡ p.clients.items → OwnAmong (blocks_of clients) d → AskAmong [] d → ActorIsClient p d
+  actor_of clients p (due.Own b) e h none = subst (λ (cs : List (Client I O)). HasClient cs b.0) e (client_of_block clients b.0 h.place h.there)
+  actor_of clients p (due.Reader ask) e h none = none-some ask none.there
+  actor_of clients p (due.Down c) e h none = tt
+  actor_of clients p (due.Ready c) e h none = tt
+  actor_of clients p (due.Up c) e h none = tt
 
   -- what is drawn, and happens
   record Draws (p : PlayState) (old mid : Playing F I O) (d : Due) (first : R) : Type 0 where
@@ -221,7 +225,7 @@ module _ {F R I O : Type 0} (f : files.Ghosts F) (r : roads.Ghosts R I O) (i : l
         current = current;
         play_is = plays (blocks_in old) p mid.generator (Some d) k;
         due_is = subst (λ (w : World). is_due w p.queues d ≡ true) (world_same p road old h) x.is;
-        actor = actor_of old.player.clients.items old.player d refl x.among;
+        actor = actor_of old.player.clients.items old.player d refl x.among (subst (λ (asks : List ReadAsk). AskAmong asks d) h.asks x.asked);
         more = some_first (dues (blocks_in old) p) at.0 d at.1;
       }
 

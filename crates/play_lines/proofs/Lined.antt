@@ -276,6 +276,7 @@ module _ {F R I O : Type 0} (f : files.Ghosts F) (r : roads.Ghosts R I O) (i : l
     nodes_are = stands.nodes_are;
     events = stands.events;
     generator = stands.generator;
+    asks = stands.asks;
     live = stands.live;
     rules = λ k c at. stands.rules k c at ∙ sym (put-there p.rules block.0 rule c.block.0 (λ same. has_place old.player.clients.items block.0 (record { place = k; client = c; found = at; block = same }) none));
   }

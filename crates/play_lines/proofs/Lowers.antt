@@ -17,6 +17,7 @@ use Rattle.world.specs.Worlds.{World, start}
 use Rattle.world.specs.Events.{run}
 use Rattle.world_settling.specs.Measure.{writer_weight}
 use Rattle.world_settling.specs.Traffic.{traffic}
+use Rattle.play_model.specs.declared.asks.ReadAsk.{ReadAsk}
 use Rattle.play_model.specs.declared.dues.Due.{Due}
 use Rattle.play_model.specs.declared.dues.Due.TheVariants as due
 use Rattle.play_nodes.proofs.Tables.{element}
@@ -26,7 +27,7 @@ use Rattle.play_model.specs.Dues.{Queues, is_due, dues, after_due}
 use Rattle.play_model.specs.Laws.{OwnAmong, IsListed, ListedAreDue}
 use Rattle.play_model.specs.States as states
 use Rattle.play_model.specs.States.{PlayState}
-use Rattle.play_settling.specs.Settling.{queue_weight, block_weight, weight_of, AreApart, UpperAmong, ActorAmong, IsUntold, CanHappen, PlaysLower}
+use Rattle.play_settling.specs.Settling.{queue_weight, block_weight, ask_weight, writers_weight, weight_of, AreApart, UpperAmong, ActorAmong, IsUntold, CanHappen, PlaysLower}
 use Rattle.play_clients.specs.declared.clients.Client.{Client}
 use Rattle.play_dues.specs.Own.{blocks_of}
 use Rattle.play_dues.specs.Showing.{HasClient}
@@ -55,6 +56,9 @@ sums {I} {O} w queues (c ∷ cs) n m e h =
     sums w queues cs (n + client_weight w c) (m + block_weight w queues c.block.0)
     (ap (λ (k : ℕ). k + client_weight w c) e ∙ ap (λ (q : _). m + (writer_weight (w.writers c.block.0).known + queue_weight q)) (h 0 c refl)) (λ k a at. h (suc k) a at)
 
+no_more : (n : ℕ) → n ≡ n + 0
+no_more n = omega arith
+
 -- CLIENTS AND BLOCKS
 
 module _ {I O : Type 0} where
@@ -77,7 +81,8 @@ module _ {F R I O : Type 0} (r : roads.Ghosts R I O) (i : link_in.Ghosts I) (o :
       let same : states.world_of p ≡ world_of p.nodes x.player = ap (λ (es : List Event). run (start p.nodes) es) h.events in
       ap (λ (n : ℕ). traffic (world_of n x.player) + sum_by (client_weight (world_of n x.player)) x.player.clients.items) (sym h.nodes_are) ∙
       (ap (λ (w : World). traffic w + sum_by (client_weight w) x.player.clients.items) (sym same) ∙
-      ap (λ (n : ℕ). traffic (states.world_of p) + n) (sums (states.world_of p) p.queues x.player.clients.items 0 0 refl (λ k c at. (h.stands.shows.clients k c at).queue)))
+      (ap (λ (n : ℕ). traffic (states.world_of p) + n) (sums (states.world_of p) p.queues x.player.clients.items 0 0 refl (λ k c at. (h.stands.shows.clients k c at).queue)) ∙
+      (no_more (writers_weight (states.world_of p) p.queues (blocks_in x)) ∙ ap (λ (asks : List ReadAsk). writers_weight (states.world_of p) p.queues (blocks_in x) + sum_by (ask_weight (states.world_of p)) asks) (sym h.asks))))
 
   apart : (p : PlayState) (road : R) (x : Playing F I O) → PlayIs r i o p road x → AreApart (blocks_in x)
   apart p road x h j k b at_j at_k =
@@ -99,22 +104,24 @@ module _ {F R I O : Type 0} (r : roads.Ghosts R I O) (i : link_in.Ghosts I) (o :
     upper_among c (by_reader n) e is = tt
     upper_among c (by_primary n place) e is = tt
 
-    actor_among : (d : Due) → is_due (states.world_of p) p.queues d ≡ true → OwnAmong (blocks_in x) d → ActorAmong (states.world_of p) (blocks_in x) d
-    actor_among (due.Own b) is among = among
-    actor_among (due.Up c) is among = upper_among c.0 ((states.world_of p).dialled c.0).upper refl is
-    actor_among (due.Down c) is among = tt
-    actor_among (due.Ready c) is among = tt
+    actor_among : (d : Due) → IsListed (blocks_in x) p d → ActorAmong (states.world_of p) (blocks_in x) p.asks d
+    actor_among (due.Own b) z = z.among
+    actor_among (due.Reader ask) z = z.asked
+    actor_among (due.Up c) z = upper_among c.0 ((states.world_of p).dialled c.0).upper refl z.is
+    actor_among (due.Down c) z = tt
+    actor_among (due.Ready c) z = tt
 
     untold : (d : Due) → OwnAmong (blocks_in x) d → IsUntold (states.world_of p) d
     untold (due.Own b) among =
         let k = client_there x.player.clients.items b.0 among.place among.there in
         ap (λ (w : World). (w.writers b.0).told) same_world ∙ subst (λ (n : ℕ). ((world_of p.nodes x.player).writers n).told ≡ None) k.1.1 (h.stands.shows.clients among.place k.0 k.1.0).shows.told
+    untold (due.Reader ask) among = tt
     untold (due.Up c) among = tt
     untold (due.Down c) among = tt
     untold (due.Ready c) among = tt
 
-    can_happen : (d : Due) → IsListed (blocks_in x) p d → CanHappen (states.world_of p) p.queues (blocks_in x) d
-    can_happen d z = record { due_now = z.is; apart = apart p road x h; among = actor_among d z.is z.among; untold = untold d z.among }
+    can_happen : (d : Due) → IsListed (blocks_in x) p d → CanHappen (states.world_of p) p.queues (blocks_in x) p.asks d
+    can_happen d z = record { due_now = z.is; apart = apart p road x h; among = actor_among d z; untold = untold d z.among }
 
     few : (states.world_of p).office.next.0 ≤ 2 ^ 64
     few =

@@ -168,6 +168,7 @@ module _ {F R I O : Type 0} (r : roads.Ghosts R I O) (i : link_in.Ghosts I) (o :
       nodes_are = is.nodes_are;
       events = is.events;
       generator = is.generator;
+      asks = is.asks;
       rules = rules;
       live = is.live;
     });

@@ -11,6 +11,7 @@ use Rattle.road_traffic.specs.Showing.{Net}
 use Rattle.world.specs.Worlds.{World}
 use Rattle.world_laws.specs.Placing.{Placed}
 use Rattle.world_orders.specs.Open.{AllOpen}
+use Rattle.play_model.specs.declared.asks.ReadAsk.{ReadAsk}
 use Rattle.play_model.specs.declared.dues.Due.{Due}
 use Rattle.play_model.specs.declared.dues.Due.TheVariants as due
 use Rattle.play_model.specs.Dues.{is_due, after_due}
@@ -54,6 +55,25 @@ up_not : (x : Option ℕ) (b : BlockId) → option_map (λ c. due.Up (record { 0
 up_not None b e = cc
 up_not (Some c) b e = cc
 
+-- none is a reader's
+down_no_reader : (x : Option ℕ) (ask : ReadAsk) → option_map (λ c. due.Down (record { 0 = c })) x ≡ Some (due.Reader ask) → ⊥
+down_no_reader None ask e = cc
+down_no_reader (Some c) ask e = cc
+
+ready_no_reader : (x : Option ℕ) (ask : ReadAsk) → option_map (λ c. due.Ready (record { 0 = c })) x ≡ Some (due.Reader ask) → ⊥
+ready_no_reader None ask e = cc
+ready_no_reader (Some c) ask e = cc
+
+up_no_reader : (x : Option ℕ) (ask : ReadAsk) → option_map (λ c. due.Up (record { 0 = c })) x ≡ Some (due.Reader ask) → ⊥
+up_no_reader None ask e = cc
+up_no_reader (Some c) ask e = cc
+
+no_reader_behind : {I O : Type 0} (conns : List (Connection I O)) (block : BlockId) (event : StepEvent) (ask : ReadAsk) → due_behind conns block event ≡ Some (due.Reader ask) → ⊥
+no_reader_behind conns block step.Writer ask e = cc
+no_reader_behind conns block (step.Down place) ask e = down_no_reader (pipeline_at conns block.0 place) ask e
+no_reader_behind conns block (step.Ready place) ask e = ready_no_reader (pipeline_at conns block.0 place) ask e
+no_reader_behind conns block (step.Up place) ask e = up_no_reader (pipeline_at conns block.0 place) ask e
+
 -- an own step is that of the block
 own_is : {I O : Type 0} (conns : List (Connection I O)) (block : BlockId) (event : StepEvent) (b : BlockId) → due_behind conns block event ≡ Some (due.Own b) → block ≡ b
 own_is conns block step.Writer b e = cc
@@ -82,29 +102,32 @@ module _ {F I O : Type 0} (x : Playing F I O) (block : BlockId) where
 
   played : (event : StepEvent) (d : Due) → due_for x block event ≡ Some d → HasClient x.player.clients.items block.0 → IsPlayed x.player.clients.items d
   played event (due.Own b) is h = subst (λ (a : BlockId). HasClient x.player.clients.items a.0) (own_is conns block event b (sym (due_of_client event h) ∙ is)) h
+  played event (due.Reader ask) is h = no_reader_behind conns block event ask (sym (due_of_client event h) ∙ is)
   played event (due.Down c) is h = tt
   played event (due.Ready c) is h = tt
   played event (due.Up c) is h = tt
 
--- where something is due it isn't an own step of a block that has no client
+never : (result : Bool) → result ≡ true → result ≡ false → ⊥
+never true is fails = cc
+never false is fails = cc
+
+-- where something is due it isn't an own step of a block that has no client, nor a reader's
 played_so : {I O : Type 0} (clients : List (Client I O)) (d : Due) (result : Bool) → result ≡ true → (IsAlone clients d → result ≡ false) → IsPlayed clients d
 played_so {I} {O} clients (due.Own b) result is alone = by (client_place clients b.0) refl
   where
-    never : (result : Bool) → result ≡ true → result ≡ false → ⊥
-    never true is fails = cc
-    never false is fails = cc
-
     by : (sought : Option ℕ) → client_place clients b.0 ≡ sought → HasClient clients b.0
     by None none = absurd (never result is (alone none))
     by (Some place) there =
         let k = client_at clients b place there in
         record { place = place; client = k.client; found = k.found; block = ap (λ (a : BlockId). a.0) k.block }
+played_so clients (due.Reader ask) result is alone = never result is (alone tt)
 played_so clients (due.Down c) result is alone = tt
 played_so clients (due.Ready c) result is alone = tt
 played_so clients (due.Up c) result is alone = tt
 
 actor_so : {F I O : Type 0} (p : Player F I O) (d : Due) → IsPlayed p.clients.items d → ActorIsClient p d
 actor_so p (due.Own b) h = h
+actor_so p (due.Reader ask) h = h
 actor_so p (due.Down c) h = tt
 actor_so p (due.Ready c) h = tt
 actor_so p (due.Up c) h = tt

@@ -116,6 +116,7 @@ module _ {F R I O : Type 0} (f : files.Ghosts F) (r : roads.Ghosts R I O) (i : l
             nodes_are = h.nodes_are ∙ ap (λ (x : Playing F I O). x.nodes) (sym rest);
             events = events;
             generator = ap (λ (x : Playing F I O). x.generator) rest ∙ h.generator;
+            asks = h.asks;
             rules = λ k c at. h.rules k c (sym (ap (λ (xs : List (Client I O)). slice_get xs k) clients) ∙ at);
             live = subst (λ (l : LiveConns). Covers (world_of p.nodes new.player) l) (ap (λ (x : Playing F I O). x.live) (sym rest))
                 (subst (λ (u : World). Covers u old.live) (sym world_is) (covers_stop w node old.live runs (subst (λ (u : World). Covers u old.live) (sym (world_same f r i o p road old h)) h.live)));

@@ -1,5 +1,5 @@
 -- A play, with its roads, is one so far of the model.
-use Rattle.std.specs.Prelude.{◌≡◌, ℕ, slice_get, Some}
+use Rattle.std.specs.Prelude.{◌≡◌, ℕ, [], slice_get, Some}
 use Rattle.hd_base.specs.declared.links.LinkIn as link_in
 use Rattle.hd_base.specs.declared.links.LinkOut as link_out
 use Rattle.hd_base.specs.declared.roads.Roads as roads
@@ -13,13 +13,14 @@ use Rattle.play.specs.Standing.{PlayStands, given_with, world_of}
 use Rattle.play_lines.specs.declared.playing.Playing.{Playing}
 
 -- The player stands for its events and queues, with as many nodes; the generator is the same, each client has the rule of
--- its block, and of connections that aren't listed as live nothing will ever be due.
+-- its block, no line has asked to read, and of connections that aren't listed as live nothing will ever be due.
 pub record PlayIs {F R I O : Type 0} (r : roads.Ghosts R I O) (i : link_in.Ghosts I) (o : link_out.Ghosts O)
     (p : PlayState) (road : R) (x : Playing F I O) : Type 0 where
   pub stands : PlayStands r i o p.nodes p.queues road x.player
   pub nodes_are : p.nodes ≡ x.nodes
   pub events : p.events ≡ x.player.events.items
   pub generator : x.generator ≡ p.generator
+  pub asks : p.asks ≡ []
   pub rules : (k : ℕ) (c : Client I O) → slice_get x.player.clients.items k ≡ Some c → c.rule ≡ p.rules c.block.0
   pub live : Covers (world_of p.nodes x.player) x.live
 
