@@ -121,6 +121,7 @@ module _ {F R I O : Type 0} (r : roads.Ghosts R I O) (i : link_in.Ghosts I) (o :
       nodes_are = refl;
       events = sym none;
       generator = drawn;
+      asks = refl;
       rules = λ k c at. (clients.each k c at).is_new.rule;
       live = covers (world_of NODES player);
     };

@@ -109,6 +109,7 @@ module _ {S D R I O : Type 0} (s : shelves.Ghosts S D) (d : files.Ghosts D) (r :
           nodes_are = refl;
           events = sym h.events;
           generator = drawn;
+          asks = refl;
           rules = λ k c at. (h.clients.each k c at).is_new.rule;
           live = covers (world_of head.nodes player);
         };
