@@ -6,7 +6,7 @@ use thiserror::Error;
 
 /// Why bytes are no ack or read status, in the order in which it is tried: the faults of the
 /// message's length, `TooLong`, `Short` for the message, `Wire`, `Missing`, `Replies`.
-#[derive(Clone, Copy, Debug, PartialEq, Eq, Hash, PartialOrd, Ord, Error)]
+#[derive(Clone, Copy, Debug, PartialEq, Eq, Error)]
 pub enum AckFault {
     /// The bytes end before the message does.
     #[error("the bytes end inside an ack")]
@@ -55,7 +55,7 @@ impl From<WireFault> for AckFault {
 
 /// Why bytes are no response, in the order in which it is tried: the faults of the message's
 /// length, `TooLong`, `Short` for the message, `Wire`, `Missing`. `Memory` may come at any place.
-#[derive(Clone, Copy, Debug, PartialEq, Eq, Hash, PartialOrd, Ord, Error)]
+#[derive(Clone, Copy, Debug, PartialEq, Eq, Error)]
 pub enum ResponseFault {
     /// The bytes end before the message does.
     #[error("the bytes end inside a response")]

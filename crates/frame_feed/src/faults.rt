@@ -8,7 +8,7 @@ use thiserror::Error;
 
 /// Why a feed gives no message of the kind that was asked for. `Memory` comes alone: none of the
 /// others has a `Memory` or a `Short` within.
-#[derive(Clone, Copy, Debug, PartialEq, Eq, Hash, PartialOrd, Ord, Error)]
+#[derive(Clone, Copy, Debug, PartialEq, Eq, Error)]
 pub enum FeedFault {
     /// No request begins so.
     #[error("{0}")]

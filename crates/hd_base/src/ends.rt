@@ -28,7 +28,7 @@ pub enum Standing {
 }
 
 /// Why a call on roads failed.
-#[derive(Clone, Copy, Debug, PartialEq, Eq, PartialOrd, Ord, Hash, Error)]
+#[derive(Clone, Copy, Debug, PartialEq, Eq, Error)]
 pub enum RoadError {
     /// Nobody listens on that port.
     #[error("nobody listens on that port")]

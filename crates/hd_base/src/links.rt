@@ -29,7 +29,7 @@ pub enum Got {
 }
 
 /// Why a call on a link failed.
-#[derive(Clone, Copy, Debug, PartialEq, Eq, PartialOrd, Ord, Hash, Error)]
+#[derive(Clone, Copy, Debug, PartialEq, Eq, Error)]
 pub enum LinkError {
     /// The link failed, and the half's count of faults rose.
     #[error("the link failed")]

@@ -6,7 +6,7 @@ ghost use Rattle.hd_base.specs.Wire.{status_number, status_with, decoded_status,
 use std::fmt;
 
 /// The state of a replica, in the order of its numbers 0 to 4 in messages (HDFS `ReplicaState`).
-#[derive(Clone, Copy, Debug, PartialEq, Eq, PartialOrd, Ord, Hash)]
+#[derive(Clone, Copy, Debug, PartialEq, Eq)]
 pub enum ReplicaState {
     /// Finalized: complete, of settled length.
     Finalized,
@@ -73,7 +73,7 @@ impl fmt::Display for ReplicaState {
 
 /// The status of a reply, in the order of its numbers 0 to 7 in messages (HDFS `Status`). `Other`
 /// keeps a number that isn't listed; no `Other` has a number from 0 to 7.
-#[derive(Clone, Copy, Debug, PartialEq, Eq, PartialOrd, Ord, Hash)]
+#[derive(Clone, Copy, Debug, PartialEq, Eq)]
 pub enum Status {
     Success,
     Error,

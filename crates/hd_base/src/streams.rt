@@ -7,7 +7,7 @@ ghost use Rattle.hd_base.specs.Streams.{Took, Wrote, EndsAtZero};
 use std::alloc::{AllocError, Global};
 
 /// A call failed, and the object's count of faults rose in it.
-#[derive(Clone, Copy, Debug, PartialEq, Eq, PartialOrd, Ord, Hash)]
+#[derive(Clone, Copy, Debug, PartialEq, Eq)]
 pub struct Failed;
 
 /// What bytes are read from. Its meaning is the bytes that are left, where the implementation

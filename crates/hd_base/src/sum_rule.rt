@@ -7,7 +7,7 @@ use std::marker::Model;
 
 /// The kind of a block's sums, in the order of its numbers 0 to 2 in messages and metadata files
 /// (HDFS `ChecksumTypeProto`).
-#[derive(Clone, Copy, Debug, PartialEq, Eq, PartialOrd, Ord, Hash)]
+#[derive(Clone, Copy, Debug, PartialEq, Eq)]
 pub enum SumKind {
     /// No sums.
     Null,
@@ -54,7 +54,7 @@ pub const MAX_CHUNK_SIZE: u32 = 65_536;
 
 /// The rule of a block's sums: their kind, and how many bytes a chunk has, 16 to 65,536. It is seen
 /// as these two.
-#[derive(Clone, Copy, Debug, PartialEq, Eq, Hash)]
+#[derive(Clone, Copy, Debug, PartialEq, Eq)]
 pub struct SumRule {
     kind: SumKind,
     chunk: u32,

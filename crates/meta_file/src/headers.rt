@@ -15,7 +15,7 @@ const VERSION: u16 = 1;
 const HEADER_LEN: usize = 7;
 
 /// Why a metadata file isn't read.
-#[derive(Clone, Copy, Debug, PartialEq, Eq, PartialOrd, Ord, Hash, Error)]
+#[derive(Clone, Copy, Debug, PartialEq, Eq, Error)]
 pub enum MetaFault {
     /// It doesn't begin with the header of a rule.
     #[error("the metadata file doesn't begin with a header")]

@@ -13,7 +13,7 @@ use itoa::Buffer;
 use thiserror::Error;
 
 /// The folders of replica files.
-#[derive(Clone, Copy, Debug, PartialEq, Eq, PartialOrd, Ord, Hash)]
+#[derive(Clone, Copy, Debug, PartialEq, Eq)]
 pub enum Folder {
     /// Replicas being written, and those that wait for recovery.
     Rbw,
@@ -26,7 +26,7 @@ pub enum Folder {
 }
 
 /// What a replica file's name says.
-#[derive(Clone, Copy, Debug, PartialEq, Eq, PartialOrd, Ord, Hash)]
+#[derive(Clone, Copy, Debug, PartialEq, Eq)]
 pub enum Named {
     /// A data file.
     Body {
@@ -42,7 +42,7 @@ pub enum Named {
 }
 
 /// Why a name isn't a replica file's.
-#[derive(Clone, Copy, Debug, PartialEq, Eq, PartialOrd, Ord, Hash, Error)]
+#[derive(Clone, Copy, Debug, PartialEq, Eq, Error)]
 pub enum NameFault {
     /// No block, stamp and folder print to it.
     #[error("not the name of a replica file")]

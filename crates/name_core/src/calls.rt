@@ -94,7 +94,7 @@ impl OfficeCall {
 }
 
 /// What an append is answered.
-#[derive(Clone, Copy, Debug, PartialEq, Eq, Hash)]
+#[derive(Clone, Copy, Debug, PartialEq, Eq)]
 pub struct Reopened {
     /// The committed stamp.
     pub committed: Stamp,
@@ -105,7 +105,7 @@ pub struct Reopened {
 }
 
 /// What a block recovery is answered.
-#[derive(Clone, Copy, Debug, PartialEq, Eq, Hash)]
+#[derive(Clone, Copy, Debug, PartialEq, Eq)]
 pub struct Begun {
     /// The recovery's id.
     pub id: Stamp,
@@ -114,7 +114,7 @@ pub struct Begun {
 }
 
 /// What the office answers a call that it grants.
-#[derive(Clone, Copy, Debug, PartialEq, Eq, Hash)]
+#[derive(Clone, Copy, Debug, PartialEq, Eq)]
 pub enum OfficeAnswer {
     /// The new stamp.
     Stamp(Stamp),

@@ -18,7 +18,7 @@ pub struct Chosen {
 }
 
 /// Why a block recovery chooses nothing.
-#[derive(Clone, Copy, Debug, PartialEq, Eq, PartialOrd, Ord, Hash, Error)]
+#[derive(Clone, Copy, Debug, PartialEq, Eq, Error)]
 pub enum ChooseFault {
     /// There is no candidate that is FINALIZED, RBW or RWR.
     #[error("there is no replica to keep")]

@@ -7,7 +7,7 @@ use thiserror::Error;
 
 /// Why the office refuses a call. A refusal keeps what the office has of the block, and changes
 /// nothing.
-#[derive(Clone, Copy, Debug, PartialEq, Eq, PartialOrd, Ord, Hash, Error)]
+#[derive(Clone, Copy, Debug, PartialEq, Eq, Error)]
 pub enum OfficeFault {
     /// The block is known already.
     #[error("the block is known")]

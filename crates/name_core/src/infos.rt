@@ -9,7 +9,7 @@ use std::marker::Model;
 use std::{fmt, slice};
 
 /// What a block recovery learns of a replica from the node's answer.
-#[derive(Clone, Copy, Debug, PartialEq, Eq, Hash)]
+#[derive(Clone, Copy, Debug, PartialEq, Eq)]
 pub struct Info {
     /// The node.
     pub node: NodeId,

@@ -8,7 +8,7 @@ use thiserror::Error;
 /// Why bytes are no request, in the order in which it is tried: `Version`, `Opcode`, the faults of
 /// the message's length, `TooLong`, `Short` for the message, `Wire`, `Missing`. `Short` comes
 /// before a fault of what isn't wholly there, and `Memory` may come at any place.
-#[derive(Clone, Copy, Debug, PartialEq, Eq, Hash, PartialOrd, Ord, Error)]
+#[derive(Clone, Copy, Debug, PartialEq, Eq, Error)]
 pub enum OpFault {
     /// The bytes end before the request does.
     #[error("the bytes end inside a request")]
@@ -81,7 +81,7 @@ impl From<AllocError> for OpFault {
 /// Why bytes are no answer of a recovery, in the order in which it is tried: the faults of the
 /// message's length, `TooLong`, `Short` for the message, `Wire`, `Missing`. `Memory` may come at
 /// any place.
-#[derive(Clone, Copy, Debug, PartialEq, Eq, Hash, PartialOrd, Ord, Error)]
+#[derive(Clone, Copy, Debug, PartialEq, Eq, Error)]
 pub enum AnswerFault {
     /// The bytes end before the message does.
     #[error("the bytes end inside an answer")]

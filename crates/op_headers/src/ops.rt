@@ -199,7 +199,7 @@ impl ChecksumOp {
 }
 
 /// A step of block recovery, in the order of its numbers 0 to 2 in messages.
-#[derive(Clone, Copy, Debug, PartialEq, Eq, PartialOrd, Ord, Hash)]
+#[derive(Clone, Copy, Debug, PartialEq, Eq)]
 pub enum RecoveryKind {
     /// A node is to lead the recovery.
     Begin,

@@ -5,7 +5,7 @@ ghost use Rattle.op_headers.specs.Stages.{stage_number};
 
 /// The stage of a pipeline's construction, in the order of its numbers 0 to 8 in messages (HDFS
 /// `BlockConstructionStage`).
-#[derive(Clone, Copy, Debug, PartialEq, Eq, PartialOrd, Ord, Hash)]
+#[derive(Clone, Copy, Debug, PartialEq, Eq)]
 pub enum Stage {
     /// A pipeline is set up to append to a block.
     PipelineSetupAppend,

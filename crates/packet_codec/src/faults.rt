@@ -6,7 +6,7 @@ use thiserror::Error;
 
 /// Why bytes are no packet, in the order in which it is tried: `Short` for the first six bytes,
 /// `Length`, `Short` for the rest, `Header`, `SumCount`.
-#[derive(Clone, Copy, Debug, PartialEq, Eq, Hash, PartialOrd, Ord, Error)]
+#[derive(Clone, Copy, Debug, PartialEq, Eq, Error)]
 pub enum PacketFault {
     /// The bytes end before the frame does.
     #[error("the bytes end inside a packet")]
@@ -27,7 +27,7 @@ pub enum PacketFault {
 }
 
 /// Why a packet's header isn't read.
-#[derive(Clone, Copy, Debug, PartialEq, Eq, Hash, PartialOrd, Ord, Error)]
+#[derive(Clone, Copy, Debug, PartialEq, Eq, Error)]
 pub enum HeaderCause {
     /// The first field that is not whole and lawful has this fault.
     #[error("{0}")]

@@ -9,7 +9,7 @@ use request_refusals::RequestRefusal;
 
 /// Why a member refuses a write request. Where the replica refused it, the receipt names the entry of the book; the others
 /// come before the replica is asked.
-#[derive(Clone, Copy, Debug, PartialEq, Eq, PartialOrd, Ord, Hash)]
+#[derive(Clone, Copy, Debug, PartialEq, Eq)]
 pub enum SetupRefusal {
     /// The replica refused it.
     Core(Refusal, Receipt),

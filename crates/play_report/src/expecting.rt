@@ -11,7 +11,7 @@ use replica_core::ReplicaInfo;
 use script_lang::{Instruction, ScriptLine};
 
 /// What an `expect` line says of a replica, or what a replica is.
-#[derive(Clone, Copy, Debug, PartialEq, Eq, Hash)]
+#[derive(Clone, Copy, Debug, PartialEq, Eq)]
 pub struct Expected {
     /// The state.
     pub state: ReplicaState,
@@ -22,7 +22,7 @@ pub struct Expected {
 }
 
 /// The first `expect` line that differs.
-#[derive(Clone, Copy, Debug, PartialEq, Eq, Hash)]
+#[derive(Clone, Copy, Debug, PartialEq, Eq)]
 pub struct Difference {
     /// The number of the line.
     pub line: u64,

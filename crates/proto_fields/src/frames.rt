@@ -9,7 +9,7 @@ use crate::varints::{VarintFault, read_varint};
 use thiserror::Error;
 
 /// Why there is no frame at the front of bytes, in the order in which it is tried.
-#[derive(Clone, Copy, Debug, PartialEq, Eq, Hash, PartialOrd, Ord, Error)]
+#[derive(Clone, Copy, Debug, PartialEq, Eq, Error)]
 pub enum FrameFault {
     /// The length begins with ten bytes that have their high bit.
     #[error("a length of more than ten bytes")]

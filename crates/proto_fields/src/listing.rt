@@ -11,7 +11,7 @@ use std::marker::Model;
 use thiserror::Error;
 
 /// Why the fields of a message could not be listed.
-#[derive(Clone, Copy, Debug, PartialEq, Eq, Hash, PartialOrd, Ord, Error)]
+#[derive(Clone, Copy, Debug, PartialEq, Eq, Error)]
 pub enum FieldsFault {
     /// The first field that is not whole and lawful has this fault.
     #[error("{0}")]
@@ -118,7 +118,7 @@ impl Fields {
 }
 
 /// The last value of each wire type that one field number has.
-#[derive(Clone, Copy, Debug, PartialEq, Eq, Hash, Default)]
+#[derive(Clone, Copy, Debug, PartialEq, Eq, Default)]
 pub struct LastValues {
     /// The last varint, its low 64 bits.
     pub varint: Option<u64>,

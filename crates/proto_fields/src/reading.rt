@@ -10,7 +10,7 @@ use crate::varints::{VarintFault, read_varint};
 use thiserror::Error;
 
 /// Why a field is not whole and lawful. Each fault has the place where that field begins.
-#[derive(Clone, Copy, Debug, PartialEq, Eq, Hash, PartialOrd, Ord, Error)]
+#[derive(Clone, Copy, Debug, PartialEq, Eq, Error)]
 pub enum WireFault {
     /// The bytes end before the field does.
     #[error("the field at {at} is cut off")]
@@ -27,7 +27,7 @@ pub enum WireFault {
 }
 
 /// The value of a field.
-#[derive(Clone, Copy, Debug, PartialEq, Eq, Hash, PartialOrd, Ord)]
+#[derive(Clone, Copy, Debug, PartialEq, Eq)]
 pub enum Wire {
     /// A varint, its low 64 bits.
     Varint(u64),
@@ -40,7 +40,7 @@ pub enum Wire {
 }
 
 /// The wire types that a field may have.
-#[derive(Clone, Copy, Debug, PartialEq, Eq, Hash, PartialOrd, Ord)]
+#[derive(Clone, Copy, Debug, PartialEq, Eq)]
 pub enum WireType {
     /// Wire type 0.
     Varint,

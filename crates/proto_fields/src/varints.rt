@@ -7,7 +7,7 @@ ghost use Rattle.proto_fields.specs.Varint.{BeginsWithVarint, IsCutVarint, IsLon
 use thiserror::Error;
 
 /// Why bytes begin with no varint.
-#[derive(Clone, Copy, Debug, PartialEq, Eq, Hash, PartialOrd, Ord, Error)]
+#[derive(Clone, Copy, Debug, PartialEq, Eq, Error)]
 pub enum VarintFault {
     /// The bytes end before the varint does.
     #[error("the bytes end inside a varint")]

@@ -53,7 +53,7 @@ pub enum FromNode {
 }
 
 /// Why a read fails.
-#[derive(Debug, Drop, PartialEq, Eq, PartialOrd, Ord, Hash, Error)]
+#[derive(Debug, Drop, PartialEq, Eq, Error)]
 pub enum ReadFault {
     /// The node refused, with this message.
     #[error("the read was refused")]

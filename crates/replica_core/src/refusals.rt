@@ -8,7 +8,7 @@ use std::fmt;
 use thiserror::Error;
 
 /// Why a replica refuses an event. A refusal keeps what was held and what was asked.
-#[derive(Clone, Copy, Debug, PartialEq, Eq, PartialOrd, Ord, Hash, Error)]
+#[derive(Clone, Copy, Debug, PartialEq, Eq, Error)]
 pub enum Refusal {
     /// The replica is absent.
     #[error("no replica")]
@@ -100,7 +100,7 @@ impl Refusal {
 }
 
 /// The rules on a packet's place and form.
-#[derive(Clone, Copy, Debug, PartialEq, Eq, PartialOrd, Ord, Hash)]
+#[derive(Clone, Copy, Debug, PartialEq, Eq)]
 pub enum PieceRule {
     /// An offset isn't negative.
     Negative,

@@ -8,7 +8,7 @@ use std::alloc::AllocError;
 use thiserror::Error;
 
 /// Why a call on a book doesn't succeed.
-#[derive(Clone, Copy, Debug, PartialEq, Eq, PartialOrd, Ord, Hash, Error)]
+#[derive(Clone, Copy, Debug, PartialEq, Eq, Error)]
 pub enum BookFault {
     /// The replica refuses the event; the receipt is that of its entry.
     #[error("{0}")]
@@ -22,7 +22,7 @@ pub enum BookFault {
 }
 
 /// Why the book of what a restart found isn't made.
-#[derive(Clone, Copy, Debug, PartialEq, Eq, PartialOrd, Ord, Hash, Error)]
+#[derive(Clone, Copy, Debug, PartialEq, Eq, Error)]
 pub enum FoundFault {
     /// A call on the replica's files failed.
     #[error("a call on the replica's files failed")]
@@ -46,7 +46,7 @@ impl From<FileError> for FoundFault {
 }
 
 /// Why the sum of a replica's bytes isn't told. Nothing changed.
-#[derive(Clone, Copy, Debug, PartialEq, Eq, PartialOrd, Ord, Hash, Error)]
+#[derive(Clone, Copy, Debug, PartialEq, Eq, Error)]
 pub enum SumFault {
     /// A call on the replica's files failed.
     #[error("a call on the replica's files failed")]

@@ -8,7 +8,7 @@ use thiserror::Error;
 
 /// Why a DataNode refuses a request to write, to read or to recover a block. A refusal keeps what was
 /// held and what was asked.
-#[derive(Clone, Copy, Debug, PartialEq, Eq, PartialOrd, Ord, Hash, Error)]
+#[derive(Clone, Copy, Debug, PartialEq, Eq, Error)]
 pub enum RequestRefusal {
     /// The replica refused it.
     #[error("{0}")]

@@ -4,7 +4,7 @@ use std::alloc::AllocError;
 use thiserror::Error;
 
 /// The rule that the words break, in the order in which the rules are tried.
-#[derive(Clone, Copy, Debug, PartialEq, Eq, PartialOrd, Ord, Hash, Error)]
+#[derive(Clone, Copy, Debug, PartialEq, Eq, Error)]
 pub enum UsageRule {
     /// They aren't one word or two, at most one `--folder` with a path, and at most one `--loopback`, or ask for help.
     #[error("the words are not a mode, a number, --folder and --loopback")]
@@ -21,7 +21,7 @@ pub enum UsageRule {
 }
 
 /// Why no words were read.
-#[derive(Clone, Copy, Debug, PartialEq, Eq, PartialOrd, Ord, Hash, Error)]
+#[derive(Clone, Copy, Debug, PartialEq, Eq, Error)]
 pub enum WordsFault {
     /// The words break this rule, and none before it.
     #[error("{rule}")]

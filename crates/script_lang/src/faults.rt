@@ -4,7 +4,7 @@ use std::alloc::{AllocError, AllocFailed};
 use thiserror::Error;
 
 /// The rule that a line breaks, in the order in which the rules are tried.
-#[derive(Clone, Copy, Debug, PartialEq, Eq, PartialOrd, Ord, Hash)]
+#[derive(Clone, Copy, Debug, PartialEq, Eq)]
 pub enum BadKind {
     /// The whole script is over 16,777,216 bytes; the line is then 0.
     TooLong,
@@ -35,7 +35,7 @@ pub enum BadKind {
 }
 
 /// Why no script was read.
-#[derive(Clone, Copy, Debug, PartialEq, Eq, PartialOrd, Ord, Hash, Drop, Error)]
+#[derive(Clone, Copy, Debug, PartialEq, Eq, Drop, Error)]
 pub enum ScriptError {
     /// The first line that breaks a rule, from 1, and the first rule that it breaks.
     #[error("line {line} is bad: {kind:?}")]
@@ -88,7 +88,7 @@ impl<T: Drop> From<AllocFailed<T>> for Stop {
 }
 
 /// Why no report line was read.
-#[derive(Clone, Copy, Debug, PartialEq, Eq, PartialOrd, Ord, Hash, Drop, Error)]
+#[derive(Clone, Copy, Debug, PartialEq, Eq, Drop, Error)]
 pub enum LineFault {
     /// No report line prints to these bytes.
     #[error("this is no line of a report")]

@@ -87,7 +87,7 @@ pub enum Failure {
 }
 
 /// Why the name office refuses a call.
-#[derive(Clone, Copy, Debug, PartialEq, Eq, PartialOrd, Ord, Hash)]
+#[derive(Clone, Copy, Debug, PartialEq, Eq)]
 pub enum OfficeRefusal {
     /// The block is known already.
     Known,

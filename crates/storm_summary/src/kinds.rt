@@ -7,7 +7,7 @@ use hd_base::ReplicaState;
 use script_lang::{Answer, FlushResult, RecoveryResult, ReportLine, SetupResult};
 
 /// What a line of a report is counted as.
-#[derive(Clone, Copy, Debug, PartialEq, Eq, PartialOrd, Ord, Hash)]
+#[derive(Clone, Copy, Debug, PartialEq, Eq)]
 pub enum Kind {
     /// A FINALIZED replica that isn't broken.
     Finalized,

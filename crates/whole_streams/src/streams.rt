@@ -13,7 +13,7 @@ use thiserror::Error;
 const PIECE: usize = 4096;
 
 /// Why a source wasn't read to its end.
-#[derive(Clone, Copy, Debug, PartialEq, Eq, PartialOrd, Ord, Hash, Error)]
+#[derive(Clone, Copy, Debug, PartialEq, Eq, Error)]
 pub enum ReadFault {
     /// It has more bytes than the limit.
     #[error("more bytes than the limit")]
@@ -27,7 +27,7 @@ pub enum ReadFault {
 }
 
 /// Why a text wasn't written whole.
-#[derive(Clone, Copy, Debug, PartialEq, Eq, PartialOrd, Ord, Hash, Error)]
+#[derive(Clone, Copy, Debug, PartialEq, Eq, Error)]
 pub enum WriteFault {
     /// A write failed.
     #[error("a write failed")]

@@ -42,7 +42,7 @@ impl Command {
 }
 
 /// Why a command isn't taken into the queue. They are tried in this order, and change nothing.
-#[derive(Clone, Copy, Debug, PartialEq, Eq, PartialOrd, Ord, Hash, Error)]
+#[derive(Clone, Copy, Debug, PartialEq, Eq, Error)]
 pub enum CommandFault {
     /// More bytes or commands would be given to the writer than it may be given.
     #[error("too much was given to the writer")]
