@@ -36,7 +36,7 @@ use Rattle.play_clients.specs.Others.{KeepsOthers, TakesNothing, OwnStepsKeep}
 use Rattle.play_clients.specs.Staying.{ClientsStay}
 use Rattle.play_nodes.specs.declared.nodes.Nodes.{Nodes}
 use Rattle.play_nodes.specs.Frames.{IsKept, DialShows, IsFirst, WriterKeeps, NodesStay, NodesEndsStay, OwnKeeps}
-use Rattle.play_nodes.specs.Showing.{is_pipeline, IsPipeline, runs_in, TellsRunning, NodesShow}
+use Rattle.play_nodes.specs.Showing.{is_pipeline, IsOfPipeline, runs_in, TellsRunning, NodesShow}
 use Rattle.play_nodes.proofs.NodeFrames.{pipelines_after}
 use Rattle.play.specs.Showing.{PlayerShows}
 use Rattle.play.specs.Running.{is_running}
@@ -79,7 +79,7 @@ queues_other : (w : World) (queues : Queues) (block : BlockId) (b : ℕ) → b �
 queues_other w queues block b apart = put_other queues block.0 (queue_left (action_of w block) (queues block.0)) b apart
 
 -- What a writer dialled is of a pipeline.
-dialled_first : (w v : World) (b : ℕ) → WriterKeeps w v b → (d : ℕ) → w.next_conn ≤ d → IsPipeline v d
+dialled_first : (w v : World) (b : ℕ) → WriterKeeps w v b → (d : ℕ) → w.next_conn ≤ d → IsOfPipeline v d
 dialled_first w v b h d behind within =
     let before : w.next_conn < v.next_conn = omega (arith, behind, within) in
     let is : d ≡ w.next_conn = omega (arith, behind, within, h.once) in

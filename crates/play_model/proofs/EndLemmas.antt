@@ -32,32 +32,32 @@ settles_once blocks p one other s t =
 same : (p one other : PlayState) → one ≡ p → other ≡ p → one ≡ other
 same p one other s t = s ∙ sym t
 
-line_once : (blocks : List ℕ) (i : Instruction) (p one other : PlayState) → PlaysLine blocks i p one → PlaysLine blocks i p other → one ≡ other
-line_once blocks (line.Settle) p one other s t = settles_once blocks p one other s t
-line_once blocks (line.Nodes count) p one other s t = s ∙ sym t
-line_once blocks (line.Seed seed) p one other s t = s ∙ sym t
-line_once blocks (line.Sums b rule) p one other s t = s ∙ sym t
-line_once blocks (line.Create b members) p one other s t = s ∙ sym t
-line_once blocks (line.Append b members) p one other s t = s ∙ sym t
-line_once blocks (line.Write b bytes) p one other s t = s ∙ sym t
-line_once blocks (line.Fill b count) p one other s t = s ∙ sym t
-line_once blocks (line.Hflush b) p one other s t = s ∙ sym t
-line_once blocks (line.Hsync b) p one other s t = s ∙ sym t
-line_once blocks (line.Close b) p one other s t = s ∙ sym t
-line_once blocks (line.Read b n from count) p one other s t = s ∙ sym t
-line_once blocks (line.Recover b n members) p one other s t = s ∙ sym t
-line_once blocks (line.Cut b conn down up) p one other s t = s ∙ sym t
-line_once blocks (line.Fault n nth) p one other s t = s ∙ sym t
-line_once blocks (line.Stop n) p one other s t = s ∙ sym t
-line_once blocks (line.Start n) p one other s t = s ∙ sym t
-line_once blocks (line.Run count) p one other s t = s ∙ sym t
-line_once blocks (line.Step b e) p one other s t = s ∙ sym t
-line_once blocks (line.Expect n b state stamp written) p one other s t = s ∙ sym t
+line_once : (blocks : List ℕ) (number : ℕ) (i : Instruction) (p one other : PlayState) → PlaysLine blocks number i p one → PlaysLine blocks number i p other → one ≡ other
+line_once blocks number (line.Settle) p one other s t = settles_once blocks p one other s t
+line_once blocks number (line.Nodes count) p one other s t = s ∙ sym t
+line_once blocks number (line.Seed seed) p one other s t = s ∙ sym t
+line_once blocks number (line.Sums b rule) p one other s t = s ∙ sym t
+line_once blocks number (line.Create b members) p one other s t = s ∙ sym t
+line_once blocks number (line.Append b members) p one other s t = s ∙ sym t
+line_once blocks number (line.Write b bytes) p one other s t = s ∙ sym t
+line_once blocks number (line.Fill b count) p one other s t = s ∙ sym t
+line_once blocks number (line.Hflush b) p one other s t = s ∙ sym t
+line_once blocks number (line.Hsync b) p one other s t = s ∙ sym t
+line_once blocks number (line.Close b) p one other s t = s ∙ sym t
+line_once blocks number (line.Read b n from count) p one other s t = s ∙ sym t
+line_once blocks number (line.Recover b n members) p one other s t = s ∙ sym t
+line_once blocks number (line.Cut b conn down up) p one other s t = s ∙ sym t
+line_once blocks number (line.Fault n nth) p one other s t = s ∙ sym t
+line_once blocks number (line.Stop n) p one other s t = s ∙ sym t
+line_once blocks number (line.Start n) p one other s t = s ∙ sym t
+line_once blocks number (line.Run count) p one other s t = s ∙ sym t
+line_once blocks number (line.Step b e) p one other s t = s ∙ sym t
+line_once blocks number (line.Expect n b state stamp written) p one other s t = s ∙ sym t
 
 lines_once : (blocks : List ℕ) (lines : List ScriptLine) (p one other : PlayState) → PlaysLines blocks lines p one → PlaysLines blocks lines p other → one ≡ other
 lines_once blocks [] p one other s t = settles_once blocks p one other s t
 lines_once blocks (l ∷ lines) p one other s t =
-    let e = line_once blocks l.instruction p s.0 t.0 s.1.0 t.1.0 in
+    let e = line_once blocks l.number l.instruction p s.0 t.0 s.1.0 t.1.0 in
     lines_once blocks lines t.0 one other (subst (λ m. PlaysLines blocks lines m one) e s.1.1) t.1.1
 
 from_once : (first second : Instruction) (lines : List ScriptLine) (one other : PlayState) → PlaysFrom first second lines one → PlaysFrom first second lines other → one ≡ other

@@ -14,7 +14,8 @@ use Rattle.world.specs.Parts.{Upper, by_writer, Lower, writes}
 use Rattle.world.specs.Worlds.{World}
 use Rattle.play_model.specs.declared.dues.Due.{Due}
 use Rattle.play_model.specs.declared.dues.Due.TheVariants as due
-use Rattle.play_model.specs.States.{PlayState, world_of, opened, ordered, ruled}
+use Rattle.play_model.specs.States.{PlayState, world_of, opened, ordered, ruled, asked}
+use Rattle.play_model.specs.Asks.{ask_at}
 use Rattle.play_model.specs.Dues.{is_due, after_due}
 use Rattle.play_model.specs.Draws.{draws, Settles}
 
@@ -90,30 +91,33 @@ start_at p node = if may_start p node then record p { events = p.events ++ event
 
 -- LINES
 
--- What a line of a script without faults, recoveries and reads makes of a play with the writers of these blocks.
-abbrev pub PlaysLine : List ℕ → Instruction → PlayState → PlayState → Type 0
-PlaysLine blocks (line.Sums b rule) old new = new ≡ ruled old b.0 rule
-PlaysLine blocks (line.Create b members) old new = new ≡ ordered old b.0 (command.Create members)
-PlaysLine blocks (line.Append b members) old new = new ≡ ordered old b.0 (command.Append members)
-PlaysLine blocks (line.Write b bytes) old new = new ≡ ordered old b.0 (command.Write bytes)
-PlaysLine blocks (line.Fill b count) old new = new ≡ ordered old b.0 (command.Fill count)
-PlaysLine blocks (line.Hflush b) old new = new ≡ ordered old b.0 command.Hflush
-PlaysLine blocks (line.Hsync b) old new = new ≡ ordered old b.0 command.Hsync
-PlaysLine blocks (line.Close b) old new = new ≡ ordered old b.0 command.Close
-PlaysLine blocks (line.Run count) old new = new ≡ draws blocks count old
-PlaysLine blocks line.Settle old new = Settles blocks old new
-PlaysLine blocks (line.Step b event) old new = new ≡ stepped old (step_due (world_of old) b.0 event)
-PlaysLine blocks (line.Cut b place down up) old new =
+-- What a line, which has this number, of a script without faults and recoveries makes of a play with the writers of these
+-- blocks.
+abbrev pub PlaysLine : List ℕ → ℕ → Instruction → PlayState → PlayState → Type 0
+PlaysLine blocks number (line.Sums b rule) old new = new ≡ ruled old b.0 rule
+PlaysLine blocks number (line.Create b members) old new = new ≡ ordered old b.0 (command.Create members)
+PlaysLine blocks number (line.Append b members) old new = new ≡ ordered old b.0 (command.Append members)
+PlaysLine blocks number (line.Write b bytes) old new = new ≡ ordered old b.0 (command.Write bytes)
+PlaysLine blocks number (line.Fill b count) old new = new ≡ ordered old b.0 (command.Fill count)
+PlaysLine blocks number (line.Hflush b) old new = new ≡ ordered old b.0 command.Hflush
+PlaysLine blocks number (line.Hsync b) old new = new ≡ ordered old b.0 command.Hsync
+PlaysLine blocks number (line.Close b) old new = new ≡ ordered old b.0 command.Close
+PlaysLine blocks number (line.Read b node offset count) old new =
+    new ≡ asked old (ask_at (world_of old) number b node offset count)
+PlaysLine blocks number (line.Run count) old new = new ≡ draws blocks count old
+PlaysLine blocks number line.Settle old new = Settles blocks old new
+PlaysLine blocks number (line.Step b event) old new = new ≡ stepped old (step_due (world_of old) b.0 event)
+PlaysLine blocks number (line.Cut b place down up) old new =
     new ≡ cut_at old (pipeline_conn (world_of old) b.0 place) down up
-PlaysLine blocks (line.Stop node) old new = new ≡ stop_at old node
-PlaysLine blocks (line.Start node) old new = new ≡ start_at old node
-PlaysLine blocks other old new = new ≡ old
+PlaysLine blocks number (line.Stop node) old new = new ≡ stop_at old node
+PlaysLine blocks number (line.Start node) old new = new ≡ start_at old node
+PlaysLine blocks number other old new = new ≡ old
 
 -- one after the other; behind the last one all is settled
 abbrev pub PlaysLines : List ℕ → List ScriptLine → PlayState → PlayState → Type 0
 PlaysLines blocks [] old new = Settles blocks old new
 PlaysLines blocks (l ∷ lines) old new = (middle : PlayState) ×
-    (PlaysLine blocks l.instruction old middle × PlaysLines blocks lines middle new)
+    (PlaysLine blocks l.number l.instruction old middle × PlaysLines blocks lines middle new)
 
 -- SCRIPTS
 
@@ -132,7 +136,7 @@ abbrev pub blocks_of : List ScriptLine → List ℕ
 blocks_of [] = []
 blocks_of (l ∷ lines) = with_block l.instruction (blocks_of lines)
 
--- A script without faults, recoveries and reads is played: its first two lines give the nodes and the seed.
+-- A script without faults and recoveries is played: its first two lines give the nodes and the seed.
 abbrev pub PlaysFrom : Instruction → Instruction → List ScriptLine → PlayState → Type 0
 PlaysFrom (line.Nodes count) (line.Seed seed) lines end = PlaysLines (blocks_of lines) lines (opened count seed) end
 PlaysFrom first second lines end = ⊥

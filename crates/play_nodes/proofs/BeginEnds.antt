@@ -56,7 +56,7 @@ use Rattle.play_nodes.specs.declared.nodes.Nodes.{Nodes}
 use Rattle.play_nodes.specs.declared.nodes.Seat.{Seat}
 use Rattle.play_nodes.specs.Faults.{fault_at}
 use Rattle.play_nodes.specs.Places.{book_at, with_lower, TakesIdle, idle_of, PutBack, BookSet, AddsDial, FollowsJoin, place_of, IsMirrorNode, IsJoined, HasNoBook}
-use Rattle.play_nodes.specs.Showing.{IsPipeline, NodesStand}
+use Rattle.play_nodes.specs.Showing.{IsOfPipeline, NodesStand}
 use Rattle.play_nodes.specs.Events.{IsLawful, IsCaused}
 use Rattle.play_nodes.specs.Beginning.{RequestsFit, BeginsUnanswered, BeginEnds, BeginShows}
 use Rattle.play_nodes.proofs.PlaceLaws.{same_some}
@@ -140,7 +140,7 @@ module _ {F R I O : Type 0} (f : files.Ghosts F) (r : roads.Ghosts R I O) (i : l
   same_end : (k : Connection I O) (end at_end : Conn I O) → k.lower ≡ lower.Idle at_end → Some end ≡ idle_of k.lower → end ≡ at_end
   same_end k end at_end is h = same_some end at_end (h ∙ ap idle_of is)
 
-  first_at : (w : World) (net : Net) (queues : Queues) (conn : ConnId) (old mid : Nodes F I O) (end : Conn I O) (road : R) → NodesStand r i o w net road old → IsPipeline w conn.0 → ((answered : Bool) → IsLawful w (event.Down conn answered)) → is_due w queues (due.Down conn) ≡ true → w.lowers conn.0 ≡ idle
+  first_at : (w : World) (net : Net) (queues : Queues) (conn : ConnId) (old mid : Nodes F I O) (end : Conn I O) (road : R) → NodesStand r i o w net road old → IsOfPipeline w conn.0 → ((answered : Bool) → IsLawful w (event.Down conn answered)) → is_due w queues (due.Down conn) ≡ true → w.lowers conn.0 ≡ idle
       → TakesIdle old mid conn.0 (Some end) → IsFirstAt w net conn.0 old end road
   first_at w net queues conn old mid end road stands of lawful due is t =
       let c : ℕ = conn.0 in
@@ -197,7 +197,7 @@ module _ {F R I O : Type 0} (f : files.Ghosts F) (r : roads.Ghosts R I O) (i : l
       k : TakesAt w conn.0
       comes : ComesDown w conn.0 (write_next fields)
       idle_is : w.lowers conn.0 ≡ idle
-      of_pipeline : IsPipeline w conn.0
+      of_pipeline : IsOfPipeline w conn.0
       found : slice_get old.connections.items conn.0 ≡ Some at
       taken_is : TakesIdle old mid conn.0 (Some end)
       set_is : BookSet mid set s.node.0 s.place book'

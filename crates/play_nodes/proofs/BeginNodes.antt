@@ -37,7 +37,7 @@ use Rattle.play_nodes.specs.declared.connections.Lower.TheVariants as lower
 use Rattle.play_nodes.specs.declared.nodes.NodeBooks.{NodeBooks}
 use Rattle.play_nodes.specs.declared.nodes.Nodes.{Nodes}
 use Rattle.play_nodes.specs.Places.{book_at, with_lower, TakesIdle}
-use Rattle.play_nodes.specs.Showing.{is_pipeline, IsPipeline, has_events, stands_here, LowerShows, NodesStand, NodesLeft}
+use Rattle.play_nodes.specs.Showing.{is_pipeline, IsOfPipeline, has_events, stands_here, LowerShows, NodesStand, NodesLeft}
 use Rattle.play_nodes.proofs.Tables.{element, none_dialled}
 use Rattle.play_nodes.proofs.WorldFrames.{KeepsRest}
 use Rattle.play_nodes.proofs.NodeFrames.{IsOfEvent, IsLeft, nodes_after, writers_after, elsewhere_after, pipelines_stay}
@@ -119,16 +119,16 @@ module _ {F R I O : Type 0} (r : roads.Ghosts R I O) (i : link_in.Ghosts I) (o :
     pub lower : at.lower ≡ lower.Idle end
     pub before : c < w.next_conn
     pub end_is : IsEndOf i o w net c true end
-    pub of_pipeline : IsPipeline w c
+    pub of_pipeline : IsOfPipeline w c
 
-  idle_so : (w : World) (net : Net) (c : ℕ) (n : Nodes F I O) (at : Connection I O) (real : Lower I O) → slice_get n.connections.items c ≡ Some at → at.lower ≡ real → c < w.next_conn → IsPipeline w c → stands_here real ≡ true → has_events w c ≡ true
+  idle_so : (w : World) (net : Net) (c : ℕ) (n : Nodes F I O) (at : Connection I O) (real : Lower I O) → slice_get n.connections.items c ≡ Some at → at.lower ≡ real → c < w.next_conn → IsOfPipeline w c → stands_here real ≡ true → has_events w c ≡ true
       → LowerShows i o w net c n idle real → IdleAt w net c n
   idle_so w net c n at (lower.Idle end) found is before of here events h = record { at = at; end = end; found = found; lower = is; before = before; end_is = h.1; of_pipeline = of }
   idle_so w net c n at lower.Ended found is before of here events h = cc
   idle_so w net c n at lower.Elsewhere found is before of here events h = cc
   idle_so w net c n at real found is before of here events h = absurd h
 
-  pub idle_at : (w : World) (net : Net) (road : R) (c : ℕ) (n : Nodes F I O) → NodesStand r i o w net road n → IsPipeline w c → has_events w c ≡ true → w.lowers c ≡ idle → IdleAt w net c n
+  pub idle_at : (w : World) (net : Net) (road : R) (c : ℕ) (n : Nodes F I O) → NodesStand r i o w net road n → IsOfPipeline w c → has_events w c ≡ true → w.lowers c ≡ idle → IdleAt w net c n
   idle_at w net road c n stands of events is =
       let served : is_served w c ≡ true = and-left (is_served w c) (is_open (w.lowers c)) events in
       let before : c < w.next_conn = served_within w c served in

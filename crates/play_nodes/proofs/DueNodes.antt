@@ -45,7 +45,7 @@ use Rattle.play_nodes.specs.declared.nodes.Nodes.{Nodes}
 use Rattle.play_nodes.specs.declared.nodes.Seat.{Seat}
 use Rattle.play_nodes.specs.Dues.{stands, is_idle, is_elsewhere, TellsElsewhere, TellsIdle, TellsReady, TellsDown, TellsUp}
 use Rattle.play_nodes.specs.Places.{book_at, IsSeated, IsUnseated, member_above}
-use Rattle.play_nodes.specs.Showing.{UpperShows, IsPipeline, has_events, stands_here, LowerShows, NodesShow, NodesStand}
+use Rattle.play_nodes.specs.Showing.{UpperShows, IsOfPipeline, has_events, stands_here, LowerShows, NodesShow, NodesStand}
 use Rattle.play_nodes.proofs.PlaceLaws.{element_within, same_some}
 use Rattle.play_nodes.proofs.MemberNodes.{IsMember, member_shown}
 use Rattle.play_nodes.proofs.ReadyNodes.{served_within, acts_at, acts_busy, seated_shown}
@@ -188,7 +188,7 @@ module _ {F I O : Type 0} (i : link_in.Ghosts I) (o : link_out.Ghosts O) where
   idle_lower w net c n l real is here e h = cc
 
   -- an end of the world that has taken nothing is told
-  idle_needed : (w : World) (net : Net) (c : ℕ) (n : Nodes F I O) → NodesShow i o w net n → IsPipeline w c → has_events w c ≡ true → w.lowers c ≡ idle → is_idle (option_map (λ x. x.lower) (slice_get n.connections.items c)) ≡ true
+  idle_needed : (w : World) (net : Net) (c : ℕ) (n : Nodes F I O) → NodesShow i o w net n → IsOfPipeline w c → has_events w c ≡ true → w.lowers c ≡ idle → is_idle (option_map (λ x. x.lower) (slice_get n.connections.items c)) ≡ true
   idle_needed w net c n nodes of events is =
       let before : c < w.next_conn = served_within w c (and-left (is_served w c) (is_open (w.lowers c)) events) in
       let at = element n.connections.items c (subst (λ (k : ℕ). c < k) (sym nodes.count) before) in

@@ -37,7 +37,7 @@ use Rattle.world_laws.proofs.GrowthLaws.{happens-grows}
 use Rattle.world_laws.proofs.StampGivens.{put-there}
 use Rattle.world_orders.specs.Orders.{Ordered, IsMirror, MirrorIs}
 use Rattle.play_nodes.specs.Elsewhere.{SameConn, KeepsElsewhere}
-use Rattle.play_nodes.specs.Showing.{is_pipeline, IsPipeline}
+use Rattle.play_nodes.specs.Showing.{is_pipeline, IsOfPipeline}
 use Rattle.play_nodes.proofs.ReadyNodes.{served_within}
 use Rattle.play_nodes.proofs.TakeNodes.{writes_pipeline}
 use Rattle.play_nodes.proofs.WriterFrames.{put_same}
@@ -386,7 +386,7 @@ module _ (w : World) (ordered : Ordered w) where
       changed_kept w (down_taken w c x) (IsElse w) (lower_down (w.lowers c) (down_taken w c x) c x answered false) (λ e at. within_down w e c x at.0) (down_taken_kept w (IsElse w) c x (other_conn c of))
       (down_of (down_taken w c x) (IsElse w) c (other_conn c of) (w.lowers c) x answered false (mirror_by c (w.lowers c) (ordered.mirrors c)))
 
-  down_kept : (conn : ConnId) (answered : Bool) → IsPipeline w conn.0 → StepKeeps w (happens w (event.Down conn answered)) (IsElse w)
+  down_kept : (conn : ConnId) (answered : Bool) → IsOfPipeline w conn.0 → StepKeeps w (happens w (event.Down conn answered)) (IsElse w)
   unfolding happens outcome
   down_kept conn answered of =
       after_kept w (IsElse w) (event.Down conn answered) (outcome w (event.Down conn answered))
@@ -395,7 +395,7 @@ module _ (w : World) (ordered : Ordered w) where
 
   -- WITHOUT A MESSAGE
 
-  ready_kept : (conn : ConnId) → IsPipeline w conn.0 → StepKeeps w (happens w (event.Ready conn)) (IsElse w)
+  ready_kept : (conn : ConnId) → IsOfPipeline w conn.0 → StepKeeps w (happens w (event.Ready conn)) (IsElse w)
   unfolding happens outcome
   ready_kept conn of =
       after_kept w (IsElse w) (event.Ready conn) (outcome w (event.Ready conn))
@@ -441,10 +441,10 @@ all_kept w v grown h = record {
   conns = λ c within away. h.conn c (within, away);
 }
 
-pub down_leaves : (w : World) (conn : ConnId) (answered : Bool) → Ordered w → IsPipeline w conn.0 → KeepsElsewhere w (happens w (event.Down conn answered))
+pub down_leaves : (w : World) (conn : ConnId) (answered : Bool) → Ordered w → IsOfPipeline w conn.0 → KeepsElsewhere w (happens w (event.Down conn answered))
 down_leaves w conn answered ordered of = all_kept w (happens w (event.Down conn answered)) (happens-grows w (event.Down conn answered)) (down_kept w ordered conn answered of)
 
-pub ready_leaves : (w : World) (conn : ConnId) → Ordered w → IsPipeline w conn.0 → KeepsElsewhere w (happens w (event.Ready conn))
+pub ready_leaves : (w : World) (conn : ConnId) → Ordered w → IsOfPipeline w conn.0 → KeepsElsewhere w (happens w (event.Ready conn))
 ready_leaves w conn ordered of = all_kept w (happens w (event.Ready conn)) (happens-grows w (event.Ready conn)) (ready_kept w ordered conn of)
 
 pub mirror_leaves : (w : World) (conn : ConnId) (d : ℕ) → Ordered w → (w.dialled conn.0).upper ≡ by_member d → KeepsElsewhere w (happens w (event.Up conn))

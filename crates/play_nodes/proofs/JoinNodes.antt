@@ -43,7 +43,7 @@ use Rattle.play_nodes.specs.declared.nodes.NodeBooks.{NodeBooks}
 use Rattle.play_nodes.specs.declared.nodes.Nodes.{Nodes}
 use Rattle.play_nodes.specs.declared.nodes.Seat.{Seat}
 use Rattle.play_nodes.specs.Places.{book_at, with_lower, lower_left, TakesIdle, PutBack, BookSet, IsMirrorNode, mirror_made, IsAdded}
-use Rattle.play_nodes.specs.Showing.{UpperShows, is_pipeline, IsPipeline, stands_here, LowerShows, ConnectionShows, NodesShow, NodesLeft}
+use Rattle.play_nodes.specs.Showing.{UpperShows, is_pipeline, IsOfPipeline, stands_here, LowerShows, ConnectionShows, NodesShow, NodesLeft}
 use Rattle.play_nodes.proofs.Tables.{put_at_there, set_here, set_set}
 use Rattle.play_nodes.proofs.WorldFrames.{KeepsRest}
 use Rattle.play_nodes.proofs.NodeFrames.{IsOfEvent, IsLeft, BookLeft, node_as, served_as, nodes_after, books_after, has_books_after, writers_after, elsewhere_after, none_since, pipelines_after}
@@ -167,7 +167,7 @@ module _ {F R I O : Type 0} (r : roads.Ghosts R I O) (i : link_in.Ghosts I) (o :
     pub nodes_are : NodesShow i o w net old
     pub found : slice_get old.connections.items c ≡ Some at
     pub before : c < w.next_conn
-    pub of_pipeline : IsPipeline w c
+    pub of_pipeline : IsOfPipeline w c
     pub lower : w.lowers c ≡ idle
     pub served : is_served w c ≡ true
     pub taken : TakesIdle old mid c (Some end)
@@ -212,7 +212,7 @@ module _ {F R I O : Type 0} (r : roads.Ghosts R I O) (i : link_in.Ghosts I) (o :
       lower_is : last.lower ≡ lower_left s.place lower.Ended left
       mirror_is : option_map (λ (d : ConnId). d.0) last.mirror ≡ mirror
       count : v.next_conn ≡ w.next_conn + length more
-      pipelines : (d : ℕ) → w.next_conn ≤ d → IsPipeline v d
+      pipelines : (d : ℕ) → w.next_conn ≤ d → IsOfPipeline v d
       added : (j : ℕ) (x : Connection I O) → slice_get more j ≡ Some x → ConnectionShows i o v h.joins.made (w.next_conn + j) new x
 
     final_left : (new : Nodes F I O) (last : Connection I O) (more : List (Connection I O)) → IsFinal new last more → NodesLeft r i o w net v road new

@@ -29,7 +29,7 @@ use Rattle.play_nodes.specs.declared.connections.Lower.TheVariants as lower
 use Rattle.play_nodes.specs.declared.connections.Upper.{Upper}
 use Rattle.play_nodes.specs.declared.nodes.Nodes.{Nodes}
 use Rattle.play_nodes.specs.Places.{book_at}
-use Rattle.play_nodes.specs.Showing.{UpperShows, OriginShows, is_pipeline, IsPipeline, AllPipelines, has_events, stands_here, LowerShows, ConnectionShows, NodesShow, WritersStay, ElsewhereStays, BooksShow, HasBooks}
+use Rattle.play_nodes.specs.Showing.{UpperShows, OriginShows, is_pipeline, IsOfPipeline, AllPipelines, has_events, stands_here, LowerShows, ConnectionShows, NodesShow, WritersStay, ElsewhereStays, BooksShow, HasBooks}
 use Rattle.play_nodes.proofs.Tables.{SetOr, set_or, JoinedOr, joined_or, same_or}
 use Rattle.play_nodes.proofs.PlaceLaws.{element_within}
 use Rattle.play_nodes.proofs.WorldFrames.{KeepsRest}
@@ -65,14 +65,14 @@ behind_so : (a b : ℕ) → nat_lt a b ≡ false → b ≤ a
 behind_so a b e = grind (arith, nat_tests)
 
 -- Where each connection was of a pipeline, and so is what was dialled since, each is.
-pub pipelines_after : (w v : World) → ((d : ℕ) → d < w.next_conn → v.dialled d ≡ w.dialled d) → ((d : ℕ) → w.next_conn ≤ d → IsPipeline v d) → AllPipelines w → AllPipelines v
+pub pipelines_after : (w v : World) → ((d : ℕ) → d < w.next_conn → v.dialled d ≡ w.dialled d) → ((d : ℕ) → w.next_conn ≤ d → IsOfPipeline v d) → AllPipelines w → AllPipelines v
 pipelines_after w v dialled more all = λ d within. by d within (nat_lt d w.next_conn) refl
   where
     by : (d : ℕ) → d < v.next_conn → (q : Bool) → nat_lt d w.next_conn ≡ q → is_pipeline (v.dialled d).upper ≡ true
     by d within true e = let before = before_so d w.next_conn e in subst (λ (u : Dialled). is_pipeline u.upper ≡ true) (sym (dialled d before)) (all d before)
     by d within false e = more d (behind_so d w.next_conn e) within
 
-pub none_since : (w v : World) → v.next_conn ≡ w.next_conn → (d : ℕ) → w.next_conn ≤ d → IsPipeline v d
+pub none_since : (w v : World) → v.next_conn ≡ w.next_conn → (d : ℕ) → w.next_conn ≤ d → IsOfPipeline v d
 none_since w v same d behind within = absurd (omega (arith, same, behind, within))
 
 -- Where nothing was dialled they stay so.

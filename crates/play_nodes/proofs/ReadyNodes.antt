@@ -42,7 +42,7 @@ use Rattle.play_nodes.specs.declared.nodes.Nodes.{Nodes}
 use Rattle.play_nodes.specs.declared.nodes.Seat.{Seat}
 use Rattle.play_nodes.specs.Faults.{fault_at}
 use Rattle.play_nodes.specs.Places.{book_at, IsSeated, IsUnseated, Takes, Follows, member_of, BookSet}
-use Rattle.play_nodes.specs.Showing.{IsPipeline, has_events, stands_here, SeatShows, LowerShows, NodesShow, NodesStand}
+use Rattle.play_nodes.specs.Showing.{IsOfPipeline, has_events, stands_here, SeatShows, LowerShows, NodesShow, NodesStand}
 use Rattle.play_nodes.specs.Events.{IsCaused, EventEnds, ReadyShows}
 use Rattle.play_nodes.proofs.Tables.{element}
 use Rattle.play_nodes.proofs.WorldFrames.{KeepsRest, rest_after, conns_after}
@@ -123,7 +123,7 @@ module _ {F I O : Type 0} (i : link_in.Ghosts I) (o : link_out.Ghosts O) where
   seat_needed w net c n at l real found node is here events busy books h none = h
 
   -- A member stands where a lower end has events that isn't idle.
-  pub seated_shown : (w : World) (net : Net) (c : ℕ) (n : Nodes F I O) → NodesShow i o w net n → IsPipeline w c → Placed w → has_events w c ≡ true → (w.lowers c ≡ idle → ⊥) → IsUnseated n c → ⊥
+  pub seated_shown : (w : World) (net : Net) (c : ℕ) (n : Nodes F I O) → NodesShow i o w net n → IsOfPipeline w c → Placed w → has_events w c ≡ true → (w.lowers c ≡ idle → ⊥) → IsUnseated n c → ⊥
   seated_shown w net c n nodes of placed events busy none =
       let served : is_served w c ≡ true = and-left (is_served w c) (is_open (w.lowers c)) events in
       let at = element n.connections.items c (subst (λ (k : ℕ). c < k) (sym nodes.count) (served_within w c served)) in
@@ -132,7 +132,7 @@ module _ {F I O : Type 0} (i : link_in.Ghosts I) (o : link_out.Ghosts O) where
       (λ place m full k. nodes.has_books (node_of w c) place k.block (placed.dialled c (served_within w c served)).to k.at_place) shows.lower_is none
 
 module _ {F R I O : Type 0} (r : roads.Ghosts R I O) (i : link_in.Ghosts I) (o : link_out.Ghosts O) where
-  pub is_seated : (w : World) (net : Net) (road : R) (c : ℕ) (n : Nodes F I O) → NodesStand r i o w net road n → IsPipeline w c → Placed w → has_events w c ≡ true → (w.lowers c ≡ idle → ⊥) → IsUnseated n c → ⊥
+  pub is_seated : (w : World) (net : Net) (road : R) (c : ℕ) (n : Nodes F I O) → NodesStand r i o w net road n → IsOfPipeline w c → Placed w → has_events w c ≡ true → (w.lowers c ≡ idle → ⊥) → IsUnseated n c → ⊥
   is_seated w net road c n stands of placed events busy none = seated_shown i o w net c n stands.nodes_are of placed events busy none
 
 module _ {F R I O : Type 0} (f : files.Ghosts F) (r : roads.Ghosts R I O) (i : link_in.Ghosts I) (o : link_out.Ghosts O) where

@@ -21,7 +21,7 @@ use Rattle.play_model.specs.Dues.{Queues, is_due}
 use Rattle.member_events.specs.Joining.{write_next}
 use Rattle.play_nodes.specs.declared.faults.NodesFault.{NodesFault}
 use Rattle.play_nodes.specs.declared.nodes.Nodes.{Nodes}
-use Rattle.play_nodes.specs.Showing.{IsPipeline, NodesStand, NodesLeft}
+use Rattle.play_nodes.specs.Showing.{IsOfPipeline, NodesStand, NodesLeft}
 use Rattle.play_nodes.specs.Events.{IsLawful, IsCaused}
 
 -- Each request to write that was sent is for one of the play's blocks, and the ports of its targets are those of nodes: so
@@ -57,7 +57,7 @@ BeginEnds f r i o w net conn old new road road' (Err why) = IsCaused f r old new
 abbrev pub BeginShows : {F R I O : Type 0} → files.Ghosts F → roads.Ghosts R I O → link_in.Ghosts I →
     link_out.Ghosts O → ConnId → Nodes F I O → Nodes F I O → R → R → Result (Option NodeId) NodesFault → Type 0
 BeginShows f r i o conn old new road road' result =
-    (w : World) (net : Net) (queues : Queues) → NodesStand r i o w net road old → IsPipeline w conn.0 →
+    (w : World) (net : Net) (queues : Queues) → NodesStand r i o w net road old → IsOfPipeline w conn.0 →
     ((answered : Bool) → IsLawful w (event.Down conn answered)) → RequestsFit w old →
     is_due w queues (due.Down conn) ≡ true → w.lowers conn.0 ≡ idle
     → BeginEnds f r i o w net conn old new road road' result

@@ -18,7 +18,7 @@ use Rattle.play_nodes.specs.declared.connections.Lower.{Lower}
 use Rattle.play_nodes.specs.declared.connections.Lower.TheVariants as lower
 use Rattle.play_nodes.specs.declared.nodes.Nodes.{Nodes}
 use Rattle.play_nodes.specs.Events.{IsBusy}
-use Rattle.play_nodes.specs.Showing.{is_pipeline, IsPipeline, stands_here, NodesShow, NodesStand}
+use Rattle.play_nodes.specs.Showing.{is_pipeline, IsOfPipeline, stands_here, NodesShow, NodesStand}
 
 -- something stands next
 abbrev pub stands : Standing → Bool
@@ -48,7 +48,7 @@ IdleIs false w c = IsBusy w c
 
 abbrev pub TellsIdle : {F I O : Type 0} → link_in.Ghosts I → link_out.Ghosts O → ConnId → Nodes F I O → Bool → Type 0
 TellsIdle i o conn n result =
-    (w : World) (net : Net) (queues : Queues) → NodesShow i o w net n → IsPipeline w conn.0 →
+    (w : World) (net : Net) (queues : Queues) → NodesShow i o w net n → IsOfPipeline w conn.0 →
     is_due w queues (due.Down conn) ≡ true
     → IdleIs result w conn.0
 
@@ -62,14 +62,14 @@ TellsElsewhere i o conn n result =
 -- Whether it is due that a lower end acts without a message.
 abbrev pub TellsReady : {F I O : Type 0} → link_in.Ghosts I → link_out.Ghosts O → ConnId → Nodes F I O → Bool → Type 0
 TellsReady i o conn n result =
-    (w : World) (net : Net) (queues : Queues) → NodesShow i o w net n → IsOrderly w → IsPipeline w conn.0
+    (w : World) (net : Net) (queues : Queues) → NodesShow i o w net n → IsOrderly w → IsOfPipeline w conn.0
     → result ≡ is_due w queues (due.Ready conn)
 
 -- Whether it is due that a lower end takes what stands next; the roads show what they showed.
 abbrev pub TellsDown : {F R I O : Type 0} → roads.Ghosts R I O → link_in.Ghosts I → link_out.Ghosts O → ConnId →
     Nodes F I O → R → R → Bool → Type 0
 TellsDown r i o conn n road road' result =
-    (w : World) (net : Net) (queues : Queues) → NodesStand r i o w net road n → IsOrderly w → IsPipeline w conn.0
+    (w : World) (net : Net) (queues : Queues) → NodesStand r i o w net road n → IsOrderly w → IsOfPipeline w conn.0
     → NodesStand r i o w net road' n × (result ≡ is_due w queues (due.Down conn))
 
 -- Whether it is due that a member takes what stands next on the connection to its mirror.

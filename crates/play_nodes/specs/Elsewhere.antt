@@ -29,7 +29,7 @@ use Rattle.play_nodes.specs.declared.faults.NodesFault.TheVariants as fault
 use Rattle.play_nodes.specs.declared.nodes.Nodes.{Nodes}
 use Rattle.play_nodes.specs.Frames.{IsKept}
 use Rattle.play_nodes.specs.Places.{book_at}
-use Rattle.play_nodes.specs.Showing.{is_pipeline, IsPipeline, NodesShow}
+use Rattle.play_nodes.specs.Showing.{is_pipeline, IsOfPipeline, NodesShow}
 
 -- WHAT A READER DIALS
 
@@ -144,11 +144,11 @@ pub record KeepsElsewhere (w v : World) : Type 0 where
 
 -- So it is after the events of the nodes.
 abbrev pub DownLeaves : Type 0
-DownLeaves = (w : World) (conn : ConnId) (answered : Bool) → Ordered w → IsPipeline w conn.0
+DownLeaves = (w : World) (conn : ConnId) (answered : Bool) → Ordered w → IsOfPipeline w conn.0
     → KeepsElsewhere w (happens w (event.Down conn answered))
 
 abbrev pub ReadyLeaves : Type 0
-ReadyLeaves = (w : World) (conn : ConnId) → Ordered w → IsPipeline w conn.0
+ReadyLeaves = (w : World) (conn : ConnId) → Ordered w → IsOfPipeline w conn.0
     → KeepsElsewhere w (happens w (event.Ready conn))
 
 abbrev pub MirrorLeaves : Type 0

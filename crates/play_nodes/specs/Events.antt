@@ -24,7 +24,7 @@ use Rattle.play_nodes.specs.declared.faults.NodesFault.{NodesFault}
 use Rattle.play_nodes.specs.declared.faults.NodesFault.TheVariants as fault
 use Rattle.play_nodes.specs.declared.nodes.Nodes.{Nodes}
 use Rattle.play_nodes.specs.Places.{book_at}
-use Rattle.play_nodes.specs.Showing.{IsPipeline, NodesStand, NodesLeft}
+use Rattle.play_nodes.specs.Showing.{IsOfPipeline, NodesStand, NodesLeft}
 
 -- FAULTS
 
@@ -66,7 +66,7 @@ EventEnds f r i o w net e old new road road' (Err why) = IsCaused f r old new ro
 abbrev pub ReadyShows : {F R I O : Type 0} → files.Ghosts F → roads.Ghosts R I O → link_in.Ghosts I →
     link_out.Ghosts O → ConnId → Nodes F I O → Nodes F I O → R → R → Result (Unit {0}) NodesFault → Type 0
 ReadyShows f r i o conn old new road road' result =
-    (w : World) (net : Net) (queues : Queues) → NodesStand r i o w net road old → IsPipeline w conn.0 →
+    (w : World) (net : Net) (queues : Queues) → NodesStand r i o w net road old → IsOfPipeline w conn.0 →
     IsLawful w (event.Ready conn) → is_due w queues (due.Ready conn) ≡ true
     → EventEnds f r i o w net (event.Ready conn) old new road road' result
 
@@ -78,7 +78,7 @@ abbrev pub DownShows : {F R I O : Type 0} → files.Ghosts F → roads.Ghosts R 
     link_out.Ghosts O → ConnId → Nodes F I O → Nodes F I O → R → R → Result (Unit {0}) NodesFault → Type 0
 DownShows f r i o conn old new road road' result =
     (w : World) (net : Net) (queues : Queues) (answered : Bool) → NodesStand r i o w net road old →
-    IsPipeline w conn.0 → IsLawful w (event.Down conn answered) → is_due w queues (due.Down conn) ≡ true →
+    IsOfPipeline w conn.0 → IsLawful w (event.Down conn answered) → is_due w queues (due.Down conn) ≡ true →
     IsBusy w conn.0
     → EventEnds f r i o w net (event.Down conn answered) old new road road' result
 

@@ -50,12 +50,12 @@ is_pipeline (by_reader i) = false
 is_pipeline (by_primary i place) = false
 
 -- If it was dialled, it is of a pipeline.
-abbrev pub IsPipeline : World → ℕ → Type 0
-IsPipeline w c = c < w.next_conn → is_pipeline (w.dialled c).upper ≡ true
+abbrev pub IsOfPipeline : World → ℕ → Type 0
+IsOfPipeline w c = c < w.next_conn → is_pipeline (w.dialled c).upper ≡ true
 
 -- So is each connection: no reader and no primary has dialled.
 abbrev pub AllPipelines : World → Type 0
-AllPipelines w = (c : ℕ) → IsPipeline w c
+AllPipelines w = (c : ℕ) → IsOfPipeline w c
 
 -- the lower end may still have events: its node runs, and it hasn't ended
 abbrev pub has_events : World → ℕ → Bool
