@@ -23,6 +23,13 @@ pub record HasClient {I O : Type 0} (clients : List (ReadClient I O)) (reader : 
   pub at : slice_get clients place ≡ Some client
   pub of_reader : client.ask.reader ≡ reader
 
+-- A client that asks this stands among these.
+pub record HasAsk {I O : Type 0} (clients : List (ReadClient I O)) (ask : ReadAsk) : Type 0 where
+  pub place : ℕ
+  pub client : ReadClient I O
+  pub at : slice_get clients place ≡ Some client
+  pub asks : client.ask ≡ ask
+
 -- what the clients ask
 abbrev pub asks_of : {I O : Type 0} → List (ReadClient I O) → List ReadAsk
 asks_of clients = map (λ c. c.ask) clients
