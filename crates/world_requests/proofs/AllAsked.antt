@@ -1,4 +1,4 @@
--- Each request to write is asked by a writer that acts, after every list of events.
+-- Each request to write is asked by a writer that acts, and each request to read by a reader, after every list of events.
 use Rattle.std.proofs.Common.{◌≡◌, ℕ, Bool, true, false, List, [], ◌∷◌, Option, Some, None, IfSome, inl, inr, refl, subst}
 use Rattle.std.specs.Prelude.{◌&&◌, not, nat_lt}
 use Rattle.hd_base.specs.declared.numbers.BlockId.{BlockId}
@@ -24,9 +24,9 @@ use Rattle.world_laws.proofs.AllCarried.{next-sent, at-start}
 use Rattle.world_laws.proofs.AllRecorded.{Reached, reached-next, all-recorded}
 use Rattle.world_laws.proofs.ByteFrame.{each-nil}
 use Rattle.world_laws.proofs.FactTables.{when-each}
-use Rattle.world_requests.specs.Requests.{IsStepOf, Acts, IsAmong, AllAmong, EventAmong}
+use Rattle.world_requests.specs.Requests.{IsStepOf, IsReadOf, Acts, Reads, IsAmong, AllAmong, EventAmong, AllRequestsAmong}
 use Rattle.world_requests.specs.Requests as requests
-use Rattle.world_requests.proofs.Frame.{MessageIs, NextIs, Asked, Brings, asked-after}
+use Rattle.world_requests.proofs.Frame.{Asking, to_write, to_read, MessageIs, NextIs, Asked, Brings, asked-after}
 use Rattle.world_requests.proofs.Nodes.{lower-down-brings, lower-ready-brings, mirror-up-brings}
 use Rattle.world_requests.proofs.Clients.{own-writer-brings, writer-up-brings, own-reader-brings, reader-up-brings}
 use Rattle.world_requests.proofs.Primaries.{own-recover-brings, own-primary-brings, primary-up-brings, office-brings}
@@ -35,7 +35,25 @@ use Rattle.world_requests.proofs.Primaries.{own-recover-brings, own-primary-brin
 writer-block : (w : World) → Reached w → (b : ℕ) → (heard (w.writers b)).block ≡ record { 0 = b }
 writer-block w r b = subst (λ (v : World). (heard (v.writers b)).block ≡ record { 0 = b }) r.is ((all-recorded r.nodes r.events).writers b)
 
-module _ (Of : ℕ → Type 0) where
+-- the event asks so for a block
+abbrev Asks : Asking → ℕ → Event → Type 0
+Asks to_write b e = IsStepOf b e
+Asks to_read b e = IsReadOf b e
+
+-- one of these events does
+abbrev AskAmong : Asking → List Event → ℕ → Type 0
+AskAmong to_write events b = Acts events b
+AskAmong to_read events b = Reads events b
+
+asks-first : (a : Asking) (e : Event) (events : List Event) (b : ℕ) → Asks a b e → AskAmong a (e ∷ events) b
+asks-first to_write e events b s = inl s
+asks-first to_read e events b s = inl s
+
+asks-later : (a : Asking) (e : Event) (events : List Event) (b : ℕ) → AskAmong a events b → AskAmong a (e ∷ events) b
+asks-later to_write e events b s = inr s
+asks-later to_read e events b s = inr s
+
+module _ (Of : Asking → ℕ → Type 0) where
   -- MARKS
 
   down-taken-asked : (w : World) (c : ℕ) (x : Next) → Asked Of w → Asked Of (down_taken w c x)
@@ -60,9 +78,9 @@ module _ (Of : ℕ → Type 0) where
   changed-asked w None h n = tt
   changed-asked w (Some k) h n = asked-after Of w k h n
 
-  own-brings : (w : World) (s : OwnStep) → Reached w → ((b : ℕ) → IsStepOf b (event.Own s) → Of b) → IfSome (own_change w s) (Brings Of)
-  own-brings w (own.Writer b takes answered) r k = own-writer-brings Of w b.0 takes answered (writer-block w r b.0) (k b.0 refl)
-  own-brings w (own.Reader i n op answered) r k = own-reader-brings Of w i n.0 op answered
+  own-brings : (w : World) (s : OwnStep) → Reached w → ((a : Asking) (b : ℕ) → Asks a b (event.Own s) → Of a b) → IfSome (own_change w s) (Brings Of)
+  own-brings w (own.Writer b takes answered) r k = own-writer-brings Of w b.0 takes answered (writer-block w r b.0) (k to_write b.0 refl)
+  own-brings w (own.Reader i n op answered) r k = own-reader-brings Of w i n.0 op answered (k to_read op.block.block.0 refl)
   own-brings w (own.Recover i n b members answers) r k = own-recover-brings Of w i n.0 b members answers
   own-brings w (own.Primary i) r k = own-primary-brings Of w i
 
@@ -121,7 +139,7 @@ module _ (Of : ℕ → Type 0) where
 
   -- ALL EVENTS
 
-  outcome-asked : (w : World) (e : Event) → Reached w → Asked Of w → ((b : ℕ) → IsStepOf b e → Of b) → IfSome (outcome w e) (Asked Of)
+  outcome-asked : (w : World) (e : Event) → Reached w → Asked Of w → ((a : Asking) (b : ℕ) → Asks a b e → Of a b) → IfSome (outcome w e) (Asked Of)
   unfolding outcome
   outcome-asked w (event.Own s) r h k = changed-asked w (own_change w s) h (own-brings w s r k)
   outcome-asked w (event.Office c) r h k = changed-asked w (office_event w c) h (office-brings Of w c)
@@ -138,42 +156,71 @@ module _ (Of : ℕ → Type 0) where
   after-asked w e None h n = h
   after-asked w e (Some v) h n = record { downs = n.downs; ups = n.ups }
 
-  pub happens-asked : (w : World) (e : Event) → Reached w → Asked Of w → ((b : ℕ) → IsStepOf b e → Of b) → Asked Of (happens w e)
+  pub happens-asked : (w : World) (e : Event) → Reached w → Asked Of w → ((a : Asking) (b : ℕ) → Asks a b e → Of a b) → Asked Of (happens w e)
   unfolding happens
   happens-asked w e r h k = after-asked w e (outcome w e) h (outcome-asked w e r h k)
 
-  run-asked : (w : World) (events : List Event) → Reached w → Asked Of w → ((b : ℕ) → Acts events b → Of b) → Asked Of (run w events)
+  run-asked : (w : World) (events : List Event) → Reached w → Asked Of w → ((a : Asking) (b : ℕ) → AskAmong a events b → Of a b) → Asked Of (run w events)
   run-asked w [] r h k = h
-  run-asked w (e ∷ events) r h k = run-asked (happens w e) events (reached-next w e r) (happens-asked w e r h (λ b s. k b (inl s))) (λ b s. k b (inr s))
+  run-asked w (e ∷ events) r h k = run-asked (happens w e) events (reached-next w e r) (happens-asked w e r h (λ a b s. k a b (asks-first a e events b s))) (λ a b s. k a b (asks-later a e events b s))
 
   start-asked : (nodes : ℕ) → Asked Of (start nodes)
   unfolding start
   start-asked nodes = record { downs = λ c. each-nil (MessageIs Of); ups = λ c. each-nil (MessageIs Of) }
 
-  -- Where these are the blocks of all writers that act, they are the blocks of all requests.
-  pub all-asked : (nodes : ℕ) (events : List Event) → ((b : ℕ) → Acts events b → Of b) → requests.AllAsked Of (run (start nodes) events)
+  -- Where these are the blocks of all writers that act, they are the blocks of all requests to write.
+  pub all-asked : (nodes : ℕ) (events : List Event) → ((a : Asking) (b : ℕ) → AskAmong a events b → Of a b) → requests.AllAsked (Of to_write) (run (start nodes) events)
   all-asked nodes events k c i f e = ((run-asked (start nodes) events (at-start nodes) (start-asked nodes) k).downs c).at i (request (op.Write f)) e
+
+  -- Those for which readers ask are the blocks of all requests to read.
+  pub all-read : (nodes : ℕ) (events : List Event) → ((a : Asking) (b : ℕ) → AskAmong a events b → Of a b) → requests.AllRead (Of to_read) (run (start nodes) events)
+  all-read nodes events k c i f e = ((run-asked (start nodes) events (at-start nodes) (start-asked nodes) k).downs c).at i (request (op.Read f)) e
+
+-- each is of those that ask
+pub asked-so : (nodes : ℕ) (events : List Event) → requests.AllAsked (Acts events) (run (start nodes) events)
+asked-so nodes events = all-asked (λ a. AskAmong a events) nodes events (λ a b s. s)
+
+pub read-so : (nodes : ℕ) (events : List Event) → requests.AllRead (Reads events) (run (start nodes) events)
+read-so nodes events = all-read (λ a. AskAmong a events) nodes events (λ a b s. s)
 
 -- BLOCKS IN A LIST
 
-step-among : (blocks : List BlockId) (e : Event) (b : ℕ) → EventAmong blocks e → IsStepOf b e → IsAmong blocks b
-step-among blocks (event.Own (own.Writer d takes answered)) b h s = subst (IsAmong blocks) s h
-step-among blocks (event.Own (own.Reader i n r answered)) b h s = absurd s
-step-among blocks (event.Own (own.Recover i n d members answers)) b h s = absurd s
-step-among blocks (event.Own (own.Primary i)) b h s = absurd s
-step-among blocks (event.Office c) b h s = absurd s
-step-among blocks (event.Down c answered) b h s = absurd s
-step-among blocks (event.Ready c) b h s = absurd s
-step-among blocks (event.Up c) b h s = absurd s
-step-among blocks (event.Lost c way more) b h s = absurd s
-step-among blocks (event.Fault d) b h s = absurd s
-step-among blocks (event.Stop n) b h s = absurd s
-step-among blocks (event.Restart n list) b h s = absurd s
+step-among : (blocks : List BlockId) (a : Asking) (e : Event) (b : ℕ) → EventAmong blocks e → Asks a b e → IsAmong blocks b
+step-among blocks to_write (event.Own (own.Writer d takes answered)) b h s = subst (IsAmong blocks) s h
+step-among blocks to_write (event.Own (own.Reader i n r answered)) b h s = absurd s
+step-among blocks to_write (event.Own (own.Recover i n d members answers)) b h s = absurd s
+step-among blocks to_write (event.Own (own.Primary i)) b h s = absurd s
+step-among blocks to_write (event.Office c) b h s = absurd s
+step-among blocks to_write (event.Down c answered) b h s = absurd s
+step-among blocks to_write (event.Ready c) b h s = absurd s
+step-among blocks to_write (event.Up c) b h s = absurd s
+step-among blocks to_write (event.Lost c way more) b h s = absurd s
+step-among blocks to_write (event.Fault d) b h s = absurd s
+step-among blocks to_write (event.Stop n) b h s = absurd s
+step-among blocks to_write (event.Restart n list) b h s = absurd s
+step-among blocks to_read (event.Own (own.Writer d takes answered)) b h s = absurd s
+step-among blocks to_read (event.Own (own.Reader i n r answered)) b h s = subst (IsAmong blocks) s h
+step-among blocks to_read (event.Own (own.Recover i n d members answers)) b h s = absurd s
+step-among blocks to_read (event.Own (own.Primary i)) b h s = absurd s
+step-among blocks to_read (event.Office c) b h s = absurd s
+step-among blocks to_read (event.Down c answered) b h s = absurd s
+step-among blocks to_read (event.Ready c) b h s = absurd s
+step-among blocks to_read (event.Up c) b h s = absurd s
+step-among blocks to_read (event.Lost c way more) b h s = absurd s
+step-among blocks to_read (event.Fault d) b h s = absurd s
+step-among blocks to_read (event.Stop n) b h s = absurd s
+step-among blocks to_read (event.Restart n list) b h s = absurd s
 
-pub acts-among : (blocks : List BlockId) (events : List Event) (b : ℕ) → AllAmong blocks events → Acts events b → IsAmong blocks b
-acts-among blocks [] b h a = absurd a
-acts-among blocks (e ∷ events) b h (inl s) = step-among blocks e b h.0 s
-acts-among blocks (e ∷ events) b h (inr a) = acts-among blocks events b h.1 a
+pub asks-among : (blocks : List BlockId) (a : Asking) (events : List Event) (b : ℕ) → AllAmong blocks events → AskAmong a events b → IsAmong blocks b
+asks-among blocks to_write [] b h s = absurd s
+asks-among blocks to_read [] b h s = absurd s
+asks-among blocks to_write (e ∷ events) b h (inl s) = step-among blocks to_write e b h.0 s
+asks-among blocks to_read (e ∷ events) b h (inl s) = step-among blocks to_read e b h.0 s
+asks-among blocks to_write (e ∷ events) b h (inr s) = asks-among blocks to_write events b h.1 s
+asks-among blocks to_read (e ∷ events) b h (inr s) = asks-among blocks to_read events b h.1 s
 
-pub all-among : (nodes : ℕ) (blocks : List BlockId) (events : List Event) → AllAmong blocks events → requests.AllAsked (IsAmong blocks) (run (start nodes) events)
-all-among nodes blocks events h = all-asked (IsAmong blocks) nodes events (λ b a. acts-among blocks events b h a)
+pub all-among : (nodes : ℕ) (blocks : List BlockId) (events : List Event) → AllAmong blocks events → AllRequestsAmong blocks (run (start nodes) events)
+all-among nodes blocks events h = record {
+  writes = all-asked (λ a. IsAmong blocks) nodes events (λ a b s. asks-among blocks a events b h s);
+  reads = all-read (λ a. IsAmong blocks) nodes events (λ a b s. asks-among blocks a events b h s);
+}

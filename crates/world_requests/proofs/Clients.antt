@@ -32,7 +32,7 @@ use Rattle.world.specs.Clients.{writer_change, did, did_step, dialled_change, di
 use Rattle.world_laws.specs.Stamping.{known_heard, heard}
 use Rattle.world_laws.proofs.ByteFrame.{each-nil, each-one}
 use Rattle.world_laws.proofs.FactTables.{when-each}
-use Rattle.world_requests.proofs.Frame.{MessageIs, DialIs, Brings, sent-asked, quiet}
+use Rattle.world_requests.proofs.Frame.{Asking, to_write, to_read, MessageIs, DialIs, Brings, sent-asked, quiet}
 
 -- a node's port is at least the first one
 port-from : (n : NodeId) → FIRST_PORT ≤ port_of n
@@ -43,9 +43,9 @@ ports-from [] k t e = absurd (none-some t e)
 ports-from (n ∷ ns) zero t e = subst (λ (r : NodeRef). FIRST_PORT ≤ r.xfer) (same_Some (ref_of n) t e) (port-from n)
 ports-from (n ∷ ns) (suc k) t e = ports-from ns k t e
 
-module _ (Of : ℕ → Type 0) where
+module _ (Of : Asking → ℕ → Type 0) where
   -- the request of a writer
-  request-asked : (block : BlockId) (committed : Stamp) (s : StreamState) (k : Setup) (stamp : Stamp) (members : ℕ) (ns : List NodeId) → Of block.0 → MessageIs Of (request (request_for block committed s k stamp members ns))
+  request-asked : (block : BlockId) (committed : Stamp) (s : StreamState) (k : Setup) (stamp : Stamp) (members : ℕ) (ns : List NodeId) → Of to_write block.0 → MessageIs Of (request (request_for block committed s k stamp members ns))
   unfolding request_for
   request-asked block committed s k stamp members ns h = record { block = h; ports = ports-from ns }
 
@@ -77,11 +77,11 @@ module _ (Of : ℕ → Type 0) where
     }
     dialled-brings b x to r false q = writer-brings b (dialled x false)
 
-    dialling-brings : (b : ℕ) (x : WriterRecord) (s : Setup) (stamp : Stamp) (ns : List NodeId) (answered : Bool) → Of x.block.0 → Brings Of (dialling w b x (dial_step_as x s stamp ns).action answered)
+    dialling-brings : (b : ℕ) (x : WriterRecord) (s : Setup) (stamp : Stamp) (ns : List NodeId) (answered : Bool) → Of to_write x.block.0 → Brings Of (dialling w b x (dial_step_as x s stamp ns).action answered)
     dialling-brings b x s stamp [] answered h = writer-brings b x
     dialling-brings b x s stamp (n ∷ ns) answered h = dialled-brings b x n _ (answered && w.running n.0) (request-asked x.block x.committed x.stream s stamp _ ns h)
 
-    rest-brings : (b : ℕ) (p : Phase) (x : WriterRecord) (answered : Bool) → Of x.block.0 → IfSome (rest_in p w b x answered) (Brings Of)
+    rest-brings : (b : ℕ) (p : Phase) (x : WriterRecord) (answered : Bool) → Of to_write x.block.0 → IfSome (rest_in p w b x answered) (Brings Of)
     rest-brings b (phase.Stamped s stamp) x answered h = dialling-brings b x s stamp x.members answered h
     rest-brings b phase.Opened x answered h = did-step-brings b x.waiting (open_step x) []
     rest-brings b phase.Completed x answered h = did-step-brings b x.waiting (completed_step x) []
@@ -100,14 +100,14 @@ module _ (Of : ℕ → Type 0) where
     command-brings : (b : ℕ) (x : WriterRecord) (t : TakenCommand) → IfSome (takes_command w b x t) (Brings Of)
     command-brings b x t = when-each (Brings Of) (is_formed t.command t.rule && not (is_empty (given x t.command).queue)) _ (λ _. given-brings b (ruled x t.command t.rule) t.command)
 
-    writer-step-brings : (b : ℕ) (x : WriterRecord) (told : Option Told) (takes : Option TakenCommand) (answered : Bool) → Of (known_heard x told).block.0 → IfSome (writer_step w b x told takes answered) (Brings Of)
+    writer-step-brings : (b : ℕ) (x : WriterRecord) (told : Option Told) (takes : Option TakenCommand) (answered : Bool) → Of to_write (known_heard x told).block.0 → IfSome (writer_step w b x told takes answered) (Brings Of)
     writer-step-brings b x (Some t) None answered h = rest-brings b (known_heard x (Some t)).phase (known_heard x (Some t)) answered h
     writer-step-brings b x (Some t) (Some c) answered h = tt
     writer-step-brings b x None None answered h = did-step-brings b x.waiting (own_step x) []
     writer-step-brings b x None (Some t) answered h = command-brings b x t
 
-    pub own-writer-brings : (b : ℕ) (takes : Option TakenCommand) (answered : Bool) → (heard (w.writers b)).block ≡ record { 0 = b } → Of b → IfSome (own_writer w b takes answered) (Brings Of)
-    own-writer-brings b takes answered is h = writer-step-brings b (w.writers b).known (w.writers b).told takes answered (subst (λ (z : BlockId). Of z.0) (sym is) h)
+    pub own-writer-brings : (b : ℕ) (takes : Option TakenCommand) (answered : Bool) → (heard (w.writers b)).block ≡ record { 0 = b } → Of to_write b → IfSome (own_writer w b takes answered) (Brings Of)
+    own-writer-brings b takes answered is h = writer-step-brings b (w.writers b).known (w.writers b).told takes answered (subst (λ (z : BlockId). Of to_write z.0) (sym is) h)
 
     pub writer-up-brings : (b c : ℕ) (n : Next) → IfSome (writer_up w b c n) (Brings Of)
     writer-up-brings b c n = when-each (Brings Of) (is_conn (w.writers b).conn c && is_none (w.writers b).told) _ (λ _. writer-brings b (writer_hears (w.writers b).known n))
@@ -117,17 +117,17 @@ module _ (Of : ℕ → Type 0) where
     reader-brings : (i : ℕ) (r : Reader) → Brings Of (reader_change w i r)
     reader-brings i r = quiet Of (reader_change w i r) refl (λ _. refl) (λ _. refl)
 
-    reader-dials-brings : (i n : ℕ) (r : ReadOp) (answered : Bool) → Brings Of (reader_dials w i n r answered)
-    reader-dials-brings i n r true = record { dials = each-one (DialIs Of) _ tt; downs = λ c. each-nil (MessageIs Of); ups = λ c. each-nil (MessageIs Of) }
-    reader-dials-brings i n r false = reader-brings i _
+    reader-dials-brings : (i n : ℕ) (r : ReadOp) (answered : Bool) → Of to_read r.block.block.0 → Brings Of (reader_dials w i n r answered)
+    reader-dials-brings i n r true h = record { dials = each-one (DialIs Of) _ h; downs = λ c. each-nil (MessageIs Of); ups = λ c. each-nil (MessageIs Of) }
+    reader-dials-brings i n r false h = reader-brings i _
 
-    own-reader-as-brings : (x : Reader) (i n : ℕ) (r : ReadOp) (answered : Bool) → IfSome (own_reader_as x w i n r answered) (Brings Of)
-    own-reader-as-brings no_reader i n r answered = reader-dials-brings i n r (answered && w.running n)
-    own-reader-as-brings (reads c s) i n r answered = tt
-    own-reader-as-brings (has_read x) i n r answered = tt
+    own-reader-as-brings : (x : Reader) (i n : ℕ) (r : ReadOp) (answered : Bool) → Of to_read r.block.block.0 → IfSome (own_reader_as x w i n r answered) (Brings Of)
+    own-reader-as-brings no_reader i n r answered h = reader-dials-brings i n r (answered && w.running n) h
+    own-reader-as-brings (reads c s) i n r answered h = tt
+    own-reader-as-brings (has_read x) i n r answered h = tt
 
-    pub own-reader-brings : (i n : ℕ) (r : ReadOp) (answered : Bool) → IfSome (own_reader w i n r answered) (Brings Of)
-    own-reader-brings i n r answered = own-reader-as-brings (w.readers i) i n r answered
+    pub own-reader-brings : (i n : ℕ) (r : ReadOp) (answered : Bool) → Of to_read r.block.block.0 → IfSome (own_reader w i n r answered) (Brings Of)
+    own-reader-brings i n r answered h = own-reader-as-brings (w.readers i) i n r answered h
 
     reader-turn-brings : (i c : ℕ) (t : ReadTaken) (x : ReadTurn) → Brings Of (reader_turn w i c t x)
     reader-turn-brings i c t turn.Goes = reader-brings i _

@@ -10,10 +10,16 @@ use Rattle.world_laws.proofs.ByteFrame.{Each, each-nil, each-one, each-append}
 use Rattle.world_laws.proofs.FactTables.{if-each}
 use Rattle.world_requests.specs.Requests.{IsAsked}
 
-module _ (Of : ℕ → Type 0) where
-  -- a request to write, and nothing of any other message
+-- what is asked: to write, or to read
+pub data Asking : Type 0 where
+  to_write : Asking
+  to_read : Asking
+
+module _ (Of : Asking → ℕ → Type 0) where
+  -- a request to write or to read, and nothing of any other message
   abbrev pub MessageIs : Message → Type 0
-  MessageIs (request (op.Write f)) = IsAsked Of f
+  MessageIs (request (op.Write f)) = IsAsked (Of to_write) f
+  MessageIs (request (op.Read r)) = Of to_read r.block.block.0
   MessageIs _ = Unit {0}
 
   abbrev pub NextIs : Next → Type 0

@@ -33,23 +33,23 @@ use Rattle.world.specs.Nodes.{replica_at, node_of, block_of, broke_at, is_asked,
 use Rattle.world_laws.proofs.ByteFrame.{Each, each-nil, each-one}
 use Rattle.world_laws.proofs.FactTables.{if-each, when-each}
 use Rattle.world_requests.specs.Requests.{IsAsked}
-use Rattle.world_requests.proofs.Frame.{MessageIs, NextIs, DialIs, Brings, sent-asked, quiet}
+use Rattle.world_requests.proofs.Frame.{Asking, to_write, MessageIs, NextIs, DialIs, Brings, sent-asked, quiet}
 
-module _ (Of : ℕ → Type 0) where
+module _ (Of : Asking → ℕ → Type 0) where
   -- THE REQUEST TO THE MIRROR
 
   -- the targets without the first
-  from-asked : (source : NodeRef) (f : WriteFields) (first : NodeRef) (rest : List NodeRef) → f.targets ≡ first ∷ rest → IsAsked Of f → IsAsked Of (request_from source f rest)
+  from-asked : (source : NodeRef) (f : WriteFields) (first : NodeRef) (rest : List NodeRef) → f.targets ≡ first ∷ rest → IsAsked (Of to_write) f → IsAsked (Of to_write) (request_from source f rest)
   from-asked source f first rest e h = record {
     block = h.block;
     ports = λ k t s. h.ports (suc k) t (subst (λ (ts : List NodeRef). slice_get ts (suc k) ≡ Some t) (sym e) s);
   }
 
-  to-asked : (source : NodeRef) (f : WriteFields) (ts : List NodeRef) → f.targets ≡ ts → IsAsked Of f → IfSome (request_to source f ts) (IsAsked Of)
+  to-asked : (source : NodeRef) (f : WriteFields) (ts : List NodeRef) → f.targets ≡ ts → IsAsked (Of to_write) f → IfSome (request_to source f ts) (IsAsked (Of to_write))
   to-asked source f [] e h = tt
-  to-asked source f (t ∷ ts) e h = if-each (λ (o : Option WriteFields). IfSome o (IsAsked Of)) (nat_le t.xfer MAX_PORT) _ None (λ _. from-asked source f t ts e h) (λ _. tt)
+  to-asked source f (t ∷ ts) e h = if-each (λ (o : Option WriteFields). IfSome o (IsAsked (Of to_write))) (nat_le t.xfer MAX_PORT) _ None (λ _. from-asked source f t ts e h) (λ _. tt)
 
-  mirror-asked : (source : NodeRef) (f : WriteFields) → IsAsked Of f → IfSome (mirror_request source f) (IsAsked Of)
+  mirror-asked : (source : NodeRef) (f : WriteFields) → IsAsked (Of to_write) f → IfSome (mirror_request source f) (IsAsked (Of to_write))
   unfolding mirror_request
   mirror-asked source f h = to-asked source f f.targets refl h
 
@@ -103,34 +103,34 @@ module _ (Of : ℕ → Type 0) where
 
     -- WRITE REQUESTS
 
-    mirror-dial-asked : (c : ℕ) (g : Option WriteFields) (n : Option ℕ) → IfSome g (IsAsked Of) → Each (DialIs Of) (mirror_dial w c g n)
+    mirror-dial-asked : (c : ℕ) (g : Option WriteFields) (n : Option ℕ) → IfSome g (IsAsked (Of to_write)) → Each (DialIs Of) (mirror_dial w c g n)
     mirror-dial-asked c (Some f) (Some n) g = each-one (DialIs Of) _ g
     mirror-dial-asked c (Some f) None g = each-nil (DialIs Of)
     mirror-dial-asked c None n g = each-nil (DialIs Of)
 
-    dials-asked : (c : ℕ) (f : WriteFields) (z : Mirror) → IsAsked Of f → Each (DialIs Of) (dials_of z w c f)
+    dials-asked : (c : ℕ) (f : WriteFields) (z : Mirror) → IsAsked (Of to_write) f → Each (DialIs Of) (dials_of z w c f)
     dials-asked c f mirror.Asked g = mirror-dial-asked c (mirror_request (ref_of (record { 0 = node_of w c })) f) (mirror_node f.targets) (mirror-asked (ref_of (record { 0 = node_of w c })) f g)
     dials-asked c f mirror.Nobody g = each-nil (DialIs Of)
     dials-asked c f mirror.Unreachable g = each-nil (DialIs Of)
     dials-asked c f mirror.Open g = each-nil (DialIs Of)
     dials-asked c f mirror.Ended g = each-nil (DialIs Of)
 
-    member-dials-asked : (c : ℕ) (f : WriteFields) (o : Option MemberState) → IsAsked Of f → Each (DialIs Of) (member_dials o w c f)
+    member-dials-asked : (c : ℕ) (f : WriteFields) (o : Option MemberState) → IsAsked (Of to_write) f → Each (DialIs Of) (member_dials o w c f)
     member-dials-asked c f None g = each-nil (DialIs Of)
     member-dials-asked c f (Some m) g = dials-asked c f m.mirror g
 
-    setup-brings : (c : ℕ) (f : WriteFields) (s : Setup) (b : Option Break) → IsAsked Of f → Brings Of (setup_change w c f s b)
+    setup-brings : (c : ℕ) (f : WriteFields) (s : Setup) (b : Option Break) → IsAsked (Of to_write) f → Brings Of (setup_change w c f s b)
     setup-brings c f s b g = record {
       dials = member-dials-asked c f s.member g;
       downs = λ d. each-nil (MessageIs Of);
       ups = sent-asked Of (Some c) (sent_up f s.effect.sends) (up-asked f s.effect.sends);
     }
 
-    failing-write-brings : (c : ℕ) (f : WriteFields) (e : Result Event RequestRefusal) → IsAsked Of f → IfSome (failing_write w c f e) (Brings Of)
+    failing-write-brings : (c : ℕ) (f : WriteFields) (e : Result Event RequestRefusal) → IsAsked (Of to_write) f → IfSome (failing_write w c f e) (Brings Of)
     failing-write-brings c f (Err e) g = tt
     failing-write-brings c f (Ok e) g = setup-brings c f (faulted_request (replica_at w c (block_of f))) (broke_at w c (block_of f) (replica_event.Other e)) g
 
-    write-brings : (c : ℕ) (f : WriteFields) (answered fails : Bool) → IsAsked Of f → IfSome (write_request w c f answered fails) (Brings Of)
+    write-brings : (c : ℕ) (f : WriteFields) (answered fails : Bool) → IsAsked (Of to_write) f → IfSome (write_request w c f answered fails) (Brings Of)
     write-brings c f answered true g = failing-write-brings c f (request_event (record { 0 = c }) f (rule_in (replica_at w c (block_of f)).known)) g
     write-brings c f answered false g =
         setup-brings c f (request_step (record { 0 = c }) f (is_asked w c f answered) (replica_at w c (block_of f))) (w.breaks (node_of w c) (block_of f)) g

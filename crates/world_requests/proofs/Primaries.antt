@@ -22,9 +22,9 @@ use Rattle.world.specs.Clients.{are_members}
 use Rattle.world.specs.Primaries.{primary_change, dials_answered, primary_dials, begins_as, begins_at, own_recover, updates_on, leads_step, commits_step, leads_told, own_primary_as, own_primary, listens, hears_change, primary_up_as, primary_up, asks_writer, asks_primary, writer_asks, primary_commits, primary_asks, office_event}
 use Rattle.world_laws.proofs.ByteFrame.{Each, each-nil, each-one, each-cons}
 use Rattle.world_laws.proofs.FactTables.{if-each, when-each}
-use Rattle.world_requests.proofs.Frame.{MessageIs, DialIs, Brings, quiet}
+use Rattle.world_requests.proofs.Frame.{Asking, MessageIs, DialIs, Brings, quiet}
 
-module _ (Of : ℕ → Type 0) (w : World) where
+module _ (Of : Asking → ℕ → Type 0) (w : World) where
   -- REQUESTS
 
   dials-asked : (i : ℕ) (from : Place) (m : Message) (place : ℕ) (ns : List NodeId) (bs : List Bool) → MessageIs Of m → Each (DialIs Of) (primary_dials w i from m place ns bs)

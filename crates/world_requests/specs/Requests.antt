@@ -1,9 +1,11 @@
--- Each request to write is of a block whose writer has acted, and its targets are nodes.
+-- Each request to write is of a block whose writer has acted, and its targets are nodes; each request to read is of a
+-- block for which a reader has asked.
 use Rattle.std.specs.Prelude.{ℕ, ◌≡◌, ◌≤◌, ◌⊎◌, List, [], ◌∷◌, slice_get, Some}
 use Rattle.hd_base.specs.declared.numbers.BlockId.{BlockId}
 use Rattle.hd_base.specs.declared.roads.TheConstants.{FIRST_PORT}
 use Rattle.op_headers.specs.declared.nodes.NodeRef.{NodeRef}
 use Rattle.op_headers.specs.declared.ops.Op.TheVariants as op
+use Rattle.op_headers.specs.declared.ops.ReadOp.{ReadOp}
 use Rattle.op_headers.specs.Values.{WriteFields}
 use Rattle.world.specs.declared.events.Event.{Event}
 use Rattle.world.specs.declared.events.Event.TheVariants as event
@@ -13,7 +15,7 @@ use Rattle.world.specs.Worlds.{World, start}
 use Rattle.world.specs.Nodes.{block_of}
 use Rattle.world.specs.Events.{run}
 
--- WRITERS THAT ACT
+-- WRITERS AND READERS THAT ACT
 
 -- an own step of the writer of this block
 abbrev pub IsStepOf : ℕ → Event → Type 0
@@ -24,6 +26,16 @@ IsStepOf b _ = ⊥
 abbrev pub Acts : List Event → ℕ → Type 0
 Acts [] b = ⊥
 Acts (e ∷ events) b = IsStepOf b e ⊎ Acts events b
+
+-- an own step of a reader that asks for this block
+abbrev pub IsReadOf : ℕ → Event → Type 0
+IsReadOf b (event.Own (own.Reader i n read answered)) = read.block.block.0 ≡ b
+IsReadOf b _ = ⊥
+
+-- one is among these events
+abbrev pub Reads : List Event → ℕ → Type 0
+Reads [] b = ⊥
+Reads (e ∷ events) b = IsReadOf b e ⊎ Reads events b
 
 -- REQUESTS
 
@@ -37,9 +49,17 @@ abbrev pub AllAsked : (ℕ → Type 0) → World → Type 0
 AllAsked Of w = (c k : ℕ) (fields : WriteFields) → slice_get (w.downs c) k ≡ Some (request (op.Write fields))
     → IsAsked Of fields
 
+-- each request to read that was sent on a connection is of one of these blocks
+abbrev pub AllRead : (ℕ → Type 0) → World → Type 0
+AllRead Of w = (c k : ℕ) (read : ReadOp) → slice_get (w.downs c) k ≡ Some (request (op.Read read))
+    → Of read.block.block.0
+
 -- So it is after every list of events.
 abbrev pub AreOfWriters : Type 0
 AreOfWriters = (nodes : ℕ) (events : List Event) → AllAsked (Acts events) (run (start nodes) events)
+
+abbrev pub AreOfReaders : Type 0
+AreOfReaders = (nodes : ℕ) (events : List Event) → AllRead (Reads events) (run (start nodes) events)
 
 -- BLOCKS IN A LIST
 
@@ -50,16 +70,22 @@ pub record IsAmong (blocks : List BlockId) (b : ℕ) : Type 0 where
   pub at_place : slice_get blocks place ≡ Some block
   pub is : block.0 ≡ b
 
--- the list has the block of the writer that acts
+-- the list has the block of the writer that acts, or for which a reader asks
 abbrev pub EventAmong : List BlockId → Event → Type 0
 EventAmong blocks (event.Own (own.Writer b takes answered)) = IsAmong blocks b.0
+EventAmong blocks (event.Own (own.Reader i n read answered)) = IsAmong blocks read.block.block.0
 EventAmong blocks _ = Unit {0}
 
 abbrev pub AllAmong : List BlockId → List Event → Type 0
 AllAmong blocks [] = Unit {0}
 AllAmong blocks (e ∷ events) = EventAmong blocks e × AllAmong blocks events
 
--- The blocks of all writers that act are those of all requests to write.
+-- Each request to write, and each to read, is of one of these blocks.
+pub record AllRequestsAmong (blocks : List BlockId) (w : World) : Type 0 where
+  pub writes : AllAsked (IsAmong blocks) w
+  pub reads : AllRead (IsAmong blocks) w
+
+-- The blocks of all writers that act, and for which readers ask, are those of all requests.
 abbrev pub AreAmong : Type 0
 AreAmong = (nodes : ℕ) (blocks : List BlockId) (events : List Event) → AllAmong blocks events →
-    AllAsked (IsAmong blocks) (run (start nodes) events)
+    AllRequestsAmong blocks (run (start nodes) events)
