@@ -76,7 +76,7 @@ module _ {F I O : Type 0} (i : link_in.Ghosts I) (o : link_out.Ghosts O) where
 -- CLIENTS
 
 -- A reader that hasn't begun but not is one that hasn't begun.
-none_begun : (w : World) (reader : ℕ) (x : Reader) → w.readers reader ≡ x → ((w.readers reader ≡ no_reader → ⊥) → ⊥) → w.readers reader ≡ no_reader
+pub none_begun : (w : World) (reader : ℕ) (x : Reader) → w.readers reader ≡ x → ((w.readers reader ≡ no_reader → ⊥) → ⊥) → w.readers reader ≡ no_reader
 none_begun w reader no_reader is never = is
 none_begun w reader (reads c s) is never = absurd (never (λ e. clash (sym is ∙ e)))
   where

@@ -32,11 +32,11 @@ use Rattle.play_reads.specs.declared.reads.Reads.{Reads}
 use Rattle.play_reads.specs.Faults.{of_reader, IsCaused}
 use Rattle.play_reads.specs.Keeping.{KeepsServers}
 use Rattle.play_reads.specs.Left.{ReadsLeft}
-use Rattle.play_reads.specs.Places.{asks_of}
+use Rattle.play_reads.specs.Places.{asks_of, HasClient}
 use Rattle.play_reads.specs.Showing.{ClientsShow, ServersShow, ReadsStand}
 use Rattle.play_servers.specs.declared.servers.ReadServer.{ReadServer}
-use Rattle.play_reads.proofs.ClientLaws.{reader_same, no_writer_reads, no_member_reads, no_recovery_reads, ActsAlone, clients_after, asks_set}
-use Rattle.play_reads.proofs.KeepLaws.{none_between, servers_kept}
+use Rattle.play_reads.proofs.ClientLaws.{reader_same, no_writer_reads, no_member_reads, no_recovery_reads, ActsAlone, clients_after, asks_set, has_client_set}
+use Rattle.play_reads.proofs.KeepLaws.{none_between, servers_kept, still_dialled}
 
 -- DUES
 
@@ -128,6 +128,8 @@ module _ {F R I O : Type 0} (f : files.Ghosts F) (r : roads.Ghosts R I O) (i : l
                 (clients_after i o w net v left.made c.ask.reader (heard_alone w net conn c.ask.reader upper left.made left.others ordered keeps) old.clients.items place c c' stay h.reads_are.clients at refl left.ask left.stands.client_is);
             servers = subst (λ (xs : List (ReadServer I O)). ServersShow i o v left.made n.blocks.items xs) (sym (ap (λ x. x.items) same))
                 (servers_kept i o w net v left.made n.blocks.items old.servers.items (heard_servers w net conn c.ask.reader upper left.made left.others ordered nodes) (λ d e is x. left.others d true e (λ z. refl) x) h.reads_are.servers);
+            dialled = λ d line within by. subst (λ (xs : List (ReadClient I O)). HasClient xs line) (sym set) (has_client_set old.clients.items place c c' at left.ask line
+                (still_dialled i o w net v left.made n.blocks.items old.clients.items (heard_servers w net conn c.ask.reader upper left.made left.others ordered nodes) h.reads_are.dialled d line within by));
           };
         };
         writers = λ b d e by x. left.others d false e (elsewhere w net conn c.ask.reader upper d false (no_writer_reads b (w.dialled d).upper by)) x;

@@ -21,8 +21,8 @@ use Rattle.play_servers.specs.declared.servers.ReadEnd.TheVariants as read_end
 use Rattle.play_servers.specs.declared.servers.ReadServer.{ReadServer}
 use Rattle.play_servers.specs.Showing.{EndShows}
 use Rattle.play_reads.specs.Keeping.{KeepsServed, KeepsServers, ReadsStay}
-use Rattle.play_reads.specs.Places.{HasServer}
-use Rattle.play_reads.specs.Showing.{ClientsShow, IsServer, ServersShow}
+use Rattle.play_reads.specs.Places.{HasServer, HasClient}
+use Rattle.play_reads.specs.Showing.{DialledHaveClients, ClientsShow, IsServer, ServersShow}
 
 -- NUMBERS
 
@@ -86,16 +86,20 @@ module _ {I O : Type 0} (i : link_in.Ghosts I) (o : link_out.Ghosts O) where
   end_kept l e w net v made c blocks served ends h = absurd h
 
   module _ (w : World) (net : Net) (v : World) (made : Net) (blocks : List BlockId) where
-    -- A server whose connection and lower end stay shows the world after.
-    pub server_kept : (s : ReadServer I O) → KeepsServed w v → v.lowers s.conn.0 ≡ w.lowers s.conn.0 → ((x : Conn I O) → IsEndOf i o w net s.conn.0 true x → IsEndOf i o v made s.conn.0 true x) → IsServer i o w net blocks s → IsServer i o v made blocks s
-    server_kept s k lower ends h = record {
-      within = later s.conn.0 w.next_conn v.next_conn h.within k.grows;
+    -- A server whose connection and lower end stay, and are served as before, shows the world after.
+    pub server_past : (s : ReadServer I O) → w.next_conn ≤ v.next_conn → v.dialled s.conn.0 ≡ w.dialled s.conn.0 → v.lowers s.conn.0 ≡ w.lowers s.conn.0 → is_served v s.conn.0 ≡ is_served w s.conn.0
+        → ((x : Conn I O) → IsEndOf i o w net s.conn.0 true x → IsEndOf i o v made s.conn.0 true x) → IsServer i o w net blocks s → IsServer i o v made blocks s
+    server_past s grows dialled lower served ends h = record {
+      within = later s.conn.0 w.next_conn v.next_conn h.within grows;
       shows = record {
-        dialled = ap (λ (d : Dialled). purpose_of d.upper) (k.dialled s.conn.0 h.within) ∙ h.shows.dialled;
+        dialled = ap (λ (d : Dialled). purpose_of d.upper) dialled ∙ h.shows.dialled;
         end_is = subst (λ (l : Lower). EndShows i o v made s.conn.0 blocks l s.end) (sym lower)
-            (end_kept (w.lowers s.conn.0) s.end w net v made s.conn.0 blocks (served_kept w v s.conn.0 h.within k) ends h.shows.end_is);
+            (end_kept (w.lowers s.conn.0) s.end w net v made s.conn.0 blocks served ends h.shows.end_is);
       };
     }
+
+    pub server_kept : (s : ReadServer I O) → KeepsServed w v → v.lowers s.conn.0 ≡ w.lowers s.conn.0 → ((x : Conn I O) → IsEndOf i o w net s.conn.0 true x → IsEndOf i o v made s.conn.0 true x) → IsServer i o w net blocks s → IsServer i o v made blocks s
+    server_kept s k lower ends h = server_past s k.grows (k.dialled s.conn.0 h.within) lower (served_kept w v s.conn.0 h.within k) ends h
 
     -- Each connection that a reader has dialled was dialled before.
     pub still_there : (servers : List (ReadServer I O)) → KeepsServers w v → ((c : ℕ) → c < w.next_conn → purpose_of (w.dialled c).upper ≡ reading → HasServer servers c) → (c : ℕ) → c < v.next_conn → purpose_of (v.dialled c).upper ≡ reading → HasServer servers c
@@ -116,6 +120,13 @@ module _ {I O : Type 0} (i : link_in.Ghosts I) (o : link_out.Ghosts O) where
 
     -- CLIENTS
 
+    pub still_dialled : (clients : List (ReadClient I O)) → KeepsServers w v → DialledHaveClients w clients → DialledHaveClients v clients
+    still_dialled clients k all c reader within upper = by (nat_lt c w.next_conn) refl
+      where
+        by : (q : Bool) → nat_lt c w.next_conn ≡ q → HasClient clients reader
+        by true e = let before = before_so c w.next_conn e in all c reader before (sym (ap (λ (d : Dialled). d.upper) (k.served.dialled c before)) ∙ upper)
+        by false e = absurd (k.fresh c (behind_so c w.next_conn e) within (ap purpose_of upper))
+
     keeps_client : Ordered w → KeepsReaders w v → UpperEndsStay i o w net v made → (line : ℕ) → KeepsReadClient i o w net v made line
     keeps_client ordered k ends line = record {
       reader = k.readers line;
@@ -134,4 +145,5 @@ module _ {I O : Type 0} (i : link_in.Ghosts I) (o : link_out.Ghosts O) where
   reads_kept stay w net v made blocks p h k = record {
     clients = clients_kept w net v made blocks p.clients.items stay k.ordered k.readers (λ d e is x. k.ends d false e is x) h.clients;
     servers = servers_kept w net v made blocks p.servers.items k.servers (λ d e is x. k.ends d true e is x) h.servers;
+    dialled = still_dialled w net v made blocks p.clients.items k.servers h.dialled;
   }

@@ -5,8 +5,14 @@ pub mod FrameLaws
 pub mod ClientLaws
 pub mod HearLaws
 pub mod DueLaws
+pub mod OverLaws
 pub mod OwnLaws
 pub mod HeardLaws
 pub mod ServeLaws
 pub mod SeatLaws
 pub mod ToldLaws
+pub mod JoinLaws
+pub mod LifeLaws
+pub mod EndLaws
+pub mod StartLaws
+pub mod StopLaws

@@ -38,15 +38,15 @@ use Rattle.play_reads.specs.Faults.{of_reader, IsCaused}
 use Rattle.play_reads.specs.Keeping.{KeepsServed}
 use Rattle.play_reads.specs.Left.{ReadsLeft}
 use Rattle.play_reads.specs.Owning.{made_server, IsReached, Reaches, OwnIsLawful, OwnShows}
-use Rattle.play_reads.specs.Places.{HasServer, asks_of}
-use Rattle.play_reads.specs.Showing.{ClientsShow, IsServer, ServersShow, ReadsStand}
-use Rattle.play_reads.proofs.ClientLaws.{ActsAlone, clients_after, asks_set}
+use Rattle.play_reads.specs.Places.{HasServer, asks_of, HasClient}
+use Rattle.play_reads.specs.Showing.{DialledHaveClients, ClientsShow, IsServer, ServersShow, ReadsStand}
+use Rattle.play_reads.proofs.ClientLaws.{ActsAlone, clients_after, asks_set, has_client_set, reader_same}
 use Rattle.play_reads.proofs.HearLaws.{reader_caused, heard_stands}
 use Rattle.play_reads.proofs.KeepLaws.{none_between, before_so, behind_so, server_kept, servers_kept}
 
 -- LISTS
 
-front : {A : Type 0} (xs ys : List A) (k : ℕ) (x : A) → slice_get xs k ≡ Some x → slice_get (xs ++ ys) k ≡ Some x
+pub front : {A : Type 0} (xs ys : List A) (k : ℕ) (x : A) → slice_get xs k ≡ Some x → slice_get (xs ++ ys) k ≡ Some x
 front [] ys k x h = cc
 front (a ∷ xs) ys zero x h = h
 front (a ∷ xs) ys (suc k) x h = front xs ys k x h
@@ -56,10 +56,10 @@ last [] x = refl
 last (a ∷ xs) x = last xs x
 
 -- An element of a list behind which one was put stands in it, or is that one.
-abbrev PutOr : {A : Type 0} → List A → A → ℕ → A → Type 0
+abbrev pub PutOr : {A : Type 0} → List A → A → ℕ → A → Type 0
 PutOr xs x k y = (slice_get xs k ≡ Some y) ⊎ ((k ≡ length xs) × (y ≡ x))
 
-put_or : {A : Type 0} (xs : List A) (x : A) (k : ℕ) (y : A) → slice_get (xs ++ x ∷ []) k ≡ Some y → PutOr xs x k y
+pub put_or : {A : Type 0} (xs : List A) (x : A) (k : ℕ) (y : A) → slice_get (xs ++ x ∷ []) k ≡ Some y → PutOr xs x k y
 put_or {A} xs x k y h = by (joined_or xs (x ∷ []) k y h)
   where
     alone : (n : ℕ) → slice_get (x ∷ []) n ≡ Some y → (n ≡ 0) × (y ≡ x)
@@ -161,6 +161,9 @@ module _ {F R I O : Type 0} (f : files.Ghosts F) (r : roads.Ghosts R I O) (i : l
                   fresh = λ d le lt e. none_between w.next_conn v.next_conn d left.last le lt;
                   lowers = λ d z. asked_lowers w net net c.ask true ordered nodes keeps left.others d;
                 }) (λ d e is x. left.others d true e tt x) h.reads_are.servers);
+            dialled = λ d line within by. subst (λ xs. HasClient xs line) (sym set) (has_client_set old.clients.items place c c' at asks line
+                (h.reads_are.dialled d line (subst (λ (m : ℕ). d < m) left.last within)
+                (sym (ap (λ (x : Dialled). x.upper) ((asked_served w net net c.ask true ordered nodes keeps left.others).dialled d (subst (λ (m : ℕ). d < m) left.last within))) ∙ by)));
           };
         };
         writers = λ b d e by x. left.others d false e tt x;
@@ -224,6 +227,17 @@ module _ {F R I O : Type 0} (f : files.Ghosts F) (r : roads.Ghosts R I O) (i : l
       all = all_now h;
     })
 
+  -- the reader that dialled the new connection has a client, and so have those that dialled the others
+  dialled_now : (w : World) (net made : Net) (ask : ReadAsk) (clients : List (ReadClient I O)) → KeepsServed w (happens w (asking_node ask true)) → (happens w (asking_node ask true)).next_conn ≡ w.next_conn + 1 → ((happens w (asking_node ask true)).dialled w.next_conn).upper ≡ by_reader ask.reader → HasClient clients ask.reader
+      → DialledHaveClients w clients → DialledHaveClients (happens w (asking_node ask true)) clients
+  dialled_now w net made ask clients served more upper has all d line within by = each (nat_lt d w.next_conn) refl
+    where
+      each : (q : Bool) → nat_lt d w.next_conn ≡ q → HasClient clients line
+      each true e = let before = before_so d w.next_conn e in all d line before (sym (ap (λ (x : Dialled). x.upper) (served.dialled d before)) ∙ by)
+      each false e =
+          let at : d ≡ w.next_conn = next_alone w.next_conn d (behind_so d w.next_conn e) (subst (λ (m : ℕ). d < m) more within) in
+          subst (λ (n : ℕ). HasClient clients n) (reader_same ask.reader line (sym upper ∙ subst (λ (x : ℕ). ((happens w (asking_node ask true)).dialled x).upper ≡ by_reader line) at by)) has
+
   pub reached_left : (w : World) (net : Net) (place : ℕ) (n n' : Nodes F I O) (old mid new : Reads I O) (c c' : ReadClient I O) (lower : Conn I O) (road road' : R) → ReadClientsStay i o → readers.AskingKeepsNodes → readers.AskingKeepsOthers
       → ReadsStand r i o w net road n old → OwnIsLawful w → slice_get old.clients.items place ≡ Some c → mid.clients.items ≡ slice_set old.clients.items place c' → mid.servers ≡ old.servers
       → owning.NodeReached r i o w net (happens w (asking_node c.ask true)) c c' lower road' → IsReached i o c.ask lower n n' mid new → ReadsLeft r i o w net (happens w (asking_node c.ask true)) road' n' old new
@@ -247,6 +261,8 @@ module _ {F R I O : Type 0} (f : files.Ghosts F) (r : roads.Ghosts R I O) (i : l
                 (asked_lowers w net left.made c.ask true lawful.ordered nodes keeps left.others) (λ d e x. left.others d true e tt x) left.end_is left.upper
                 (asked_dials w net left.made c.ask true lawful.ordered nodes keeps left.others (next_within w.next_conn v.next_conn left.last)).served fresh left.last
                 (reached.servers ∙ ap (λ x. x.items ++ made_server lower ∷ []) same) h.reads_are.servers);
+            dialled = λ d line within by. subst (λ (xs : List (ReadClient I O)). HasClient xs line) (sym clients_are) (has_client_set old.clients.items place c c' at left.ask line
+                (dialled_now w net left.made c.ask old.clients.items (asked_served w net left.made c.ask true lawful.ordered nodes keeps left.others) left.last left.upper (record { place = place; client = c; at = at; of_reader = refl }) h.reads_are.dialled d line within by));
           };
         };
         writers = λ b d e by x. left.others d false e tt x;

@@ -33,7 +33,7 @@ use Rattle.play_servers.specs.Showing as showing
 use Rattle.play_reads.specs.declared.reads.Reads.{Reads}
 use Rattle.play_reads.specs.Keeping.{KeepsServed}
 use Rattle.play_reads.specs.Left.{ReadsLeft}
-use Rattle.play_reads.specs.Places.{AreSingle, HasServer, asks_of}
+use Rattle.play_reads.specs.Places.{AreSingle, HasServer, asks_of, HasClient}
 use Rattle.play_reads.specs.Showing.{ClientsShow, IsServer, ServersShow, ReadsStand}
 use Rattle.play_reads.proofs.ClientLaws.{no_recovery_reads}
 use Rattle.play_reads.proofs.FrameLaws.{reads_elsewhere}
@@ -193,6 +193,8 @@ module _ {F R I O : Type 0} (f : files.Ghosts F) (r : roads.Ghosts R I O) (i : l
               (clients_kept i o w net v left.made n.blocks.items old.clients.items stay before readers (λ d e is y. left.others d false e (upper_end d) y) h.reads_are.clients);
           servers = subst (λ (bs : List BlockId). ServersShow i o v left.made bs new.servers.items) (sym set.blocks)
               (subst (λ (xs : List (ReadServer I O)). ServersShow i o v left.made n.blocks.items xs) (sym changed.set) servers_after);
+          dialled = λ d line lt by. subst (λ y. HasClient y.items line) (sym changed.clients)
+              (h.reads_are.dialled d line (subst (λ (q : ℕ). d < q) left.rest.conns lt) (sym (ap (λ (q : Dialled). q.upper) (left.rest.dialled d)) ∙ by));
         };
       };
       writers = λ b d e by y. left.others d false e (upper_end d) y;

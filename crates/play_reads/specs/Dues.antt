@@ -1,11 +1,12 @@
 -- Which events of the reads are due, as reads and roads tell.
-use Rattle.std.specs.Prelude.{◌≡◌, ◌<◌, ℕ, Bool, List, slice_get, Option, Some, None}
+use Rattle.std.specs.Prelude.{◌≡◌, ◌<◌, ℕ, Bool, false, not, List, slice_get, Option, Some, None}
 use Rattle.hd_base.specs.declared.links.LinkIn as link_in
 use Rattle.hd_base.specs.declared.links.LinkOut as link_out
 use Rattle.hd_base.specs.declared.numbers.BlockId.{BlockId}
 use Rattle.hd_base.specs.declared.numbers.ConnId.{ConnId}
 use Rattle.hd_base.specs.declared.roads.Roads as roads
 use Rattle.road_traffic.specs.Showing.{Net}
+use Rattle.world.specs.Enabled.{reads_from}
 use Rattle.world.specs.Parts as parts
 use Rattle.world.specs.Parts.{by_reader, no_reader}
 use Rattle.world.specs.Worlds.{World}
@@ -16,7 +17,7 @@ use Rattle.reader_events.specs.Orders.{ReadersTakeInOrder}
 use Rattle.play_model.specs.declared.dues.Due.TheVariants as due
 use Rattle.play_model.specs.Dues.{Queues, is_due}
 use Rattle.play_nodes.specs.declared.nodes.Nodes.{Nodes}
-use Rattle.play_nodes.specs.Showing.{NodesShow}
+use Rattle.play_nodes.specs.Showing.{has_events, NodesShow}
 use Rattle.play_readers.specs.declared.clients.ReadClient.{ReadClient}
 use Rattle.play_reads.specs.declared.reads.Reads.{Reads}
 use Rattle.play_reads.specs.Showing.{ReadsShow, OnRoads, ReadsStand}
@@ -52,6 +53,25 @@ TellsUp r i o conn n reads road road' result =
     (w : World) (net : Net) (queues : Queues) → ReadsStand r i o w net road n reads → ReadersTakeInOrder w →
     conn.0 < w.next_conn → purpose_of (w.dialled conn.0).upper ≡ reading
     → ShowsWorld r w net road' × (result ≡ is_due w queues (due.Up conn))
+
+-- Whether the lower end of a connection that a reader dialled has no further events.
+abbrev pub TellsEnded : {I O : Type 0} → link_in.Ghosts I → link_out.Ghosts O → ConnId → Reads I O → Bool → Type 0
+TellsEnded i o conn reads result =
+    (w : World) (net : Net) (blocks : List BlockId) → ReadsShow i o w net blocks reads → conn.0 < w.next_conn →
+    purpose_of (w.dialled conn.0).upper ≡ reading
+    → result ≡ not (has_events w conn.0)
+
+-- a reader dialled this connection, and reads over it
+abbrev pub is_read_by : World → ℕ → parts.Upper → Bool
+is_read_by w c (by_reader reader) = reads_from (w.readers reader) c
+is_read_by w c other = false
+
+-- Whether the reader that dialled a connection reads over it.
+abbrev pub TellsOver : {F I O : Type 0} → link_in.Ghosts I → link_out.Ghosts O → ConnId → Nodes F I O → Reads I O →
+    Bool → Type 0
+TellsOver i o conn n reads result =
+    (w : World) (net : Net) → NodesShow i o w net n → ReadsShow i o w net n.blocks.items reads → conn.0 < w.next_conn
+    → result ≡ is_read_by w conn.0 (w.dialled conn.0).upper
 
 -- the reader that dialled, if one did
 abbrev pub reader_in : parts.Upper → Option ℕ

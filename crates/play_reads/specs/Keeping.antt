@@ -1,12 +1,14 @@
 -- What the events of others leave of the reads of a play.
-use Rattle.std.specs.Prelude.{◌≡◌, ◌<◌, ◌≤◌, ℕ, Bool, true, List}
+use Rattle.std.specs.Prelude.{◌≡◌, ◌<◌, ◌≤◌, ℕ, Bool, true, false, List}
 use Rattle.hd_base.specs.declared.ends.Conn.{Conn}
 use Rattle.hd_base.specs.declared.links.LinkIn as link_in
 use Rattle.hd_base.specs.declared.links.LinkOut as link_out
 use Rattle.hd_base.specs.declared.numbers.BlockId.{BlockId}
 use Rattle.hd_base.specs.declared.numbers.ConnId.{ConnId}
+use Rattle.hd_base.specs.declared.numbers.NodeId.{NodeId}
 use Rattle.road_traffic.specs.Showing.{Net}
 use Rattle.world.specs.declared.events.Event.TheVariants as event
+use Rattle.world.specs.declared.events.FoundReplica.{FoundReplica}
 use Rattle.world.specs.Events.{happens, run}
 use Rattle.world.specs.Parts.{by_writer, by_member}
 use Rattle.world.specs.Worlds.{World}
@@ -104,3 +106,21 @@ abbrev pub CutsKeepReads : {I O : Type 0} → link_in.Ghosts I → link_out.Ghos
 CutsKeepReads i o =
     (w : World) (net : Net) (conn : ConnId) (down up : ℕ) → Ordered w → conn.0 < w.next_conn
     → KeepsReads i o w net (cut_world w conn down up) (cut_net net conn.0 down up)
+
+-- STARTS
+
+-- A node that doesn't run may start again. Messages come in order (messages_come_in_order), and each connection was
+-- dialled in a life of its node that has begun (dials_are_of_lives_so_far).
+pub record MayStart (w : World) (node : NodeId) : Type 0 where
+  pub ordered : Ordered w
+  pub is_node : node.0 < w.nodes
+  pub stands_still : w.running node.0 ≡ false
+  pub lived : (c : ℕ) → c < w.next_conn → (w.dialled c).to.life ≤ w.lives (w.dialled c).to.node
+
+-- Reads that show a world show the world in which the node has started: no lower end is served in its new life.
+abbrev pub StartsKeepReads : {I O : Type 0} → link_in.Ghosts I → link_out.Ghosts O → Type 0
+StartsKeepReads {I} {O} i o =
+    (w : World) (net : Net) (made : Net) (node : NodeId) (found : List FoundReplica) (blocks : List BlockId)
+    (reads : Reads I O) → ReadsShow i o w net blocks reads → MayStart w node →
+    ElsewhereStays i o w net (happens w (event.Restart node found)) made
+    → ReadsShow i o (happens w (event.Restart node found)) made blocks reads

@@ -8,3 +8,5 @@ pub mod Hearing
 pub mod Owning
 pub mod Seats
 pub mod Serving
+pub mod Joining
+pub mod Stopping

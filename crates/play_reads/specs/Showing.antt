@@ -5,7 +5,7 @@ use Rattle.hd_base.specs.declared.links.LinkOut as link_out
 use Rattle.hd_base.specs.declared.numbers.BlockId.{BlockId}
 use Rattle.hd_base.specs.declared.roads.Roads as roads
 use Rattle.road_traffic.specs.Showing.{Net}
-use Rattle.world.specs.Parts.{no_reader}
+use Rattle.world.specs.Parts.{by_reader, no_reader}
 use Rattle.world.specs.Worlds.{World}
 use Rattle.world_orders.specs.Orders.{purpose_of, reading}
 use Rattle.member_events.specs.Showing.{ShowsWorld}
@@ -38,11 +38,17 @@ pub record ServersShow {I O : Type 0} (i : link_in.Ghosts I) (o : link_out.Ghost
   pub single : AreSingle servers
   pub all : (c : ℕ) → c < w.next_conn → purpose_of (w.dialled c).upper ≡ reading → HasServer servers c
 
--- The clients and the servers show the world, of a play with these blocks.
+-- Each reader that dialled a connection has a client.
+abbrev pub DialledHaveClients : {I O : Type 0} → World → List (ReadClient I O) → Type 0
+DialledHaveClients w clients =
+    (c reader : ℕ) → c < w.next_conn → (w.dialled c).upper ≡ by_reader reader → HasClient clients reader
+
+-- The clients and the servers show the world, of a play with these blocks, and each reader that dialled has a client.
 pub record ReadsShow {I O : Type 0} (i : link_in.Ghosts I) (o : link_out.Ghosts O) (w : World) (net : Net)
     (blocks : List BlockId) (reads : Reads I O) : Type 0 where
   pub clients : ClientsShow i o w net reads.clients.items
   pub servers : ServersShow i o w net blocks reads.servers.items
+  pub dialled : DialledHaveClients w reads.clients.items
 
 -- So do the roads.
 pub record OnRoads {R I O : Type 0} (r : roads.Ghosts R I O) (i : link_in.Ghosts I) (o : link_out.Ghosts O)

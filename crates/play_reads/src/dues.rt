@@ -2,7 +2,16 @@
 
 ghost use Rattle.std.specs.Prelude.{◌<◌, IfSome, length};
 ghost use Rattle.member_events.specs.Roads.{RoadsPass};
-ghost use Rattle.play_reads.specs.Dues.{TellsStep, TellsDown, TellsReady, TellsUp, TellsDialler, TellsClient};
+ghost use Rattle.play_reads.specs.Dues.{
+  TellsStep,
+  TellsDown,
+  TellsReady,
+  TellsUp,
+  TellsEnded,
+  TellsOver,
+  TellsDialler,
+  TellsClient,
+};
 
 use crate::places::{client_of, server_of};
 use crate::reads::Reads;
@@ -53,6 +62,30 @@ impl<I: LinkIn, O: LinkOut> Reads<I, O> {
             return false;
         };
         self.clients[place].can_up(roads, conn)
+    }
+
+    /// Whether the lower end of a connection that a reader dialled has no further events.
+    pub fn has_ended(&self, conn: ConnId) -> bool
+        ensures { TellsEnded I.LinkIn O.LinkOut conn self.now result }
+    {
+        let Some(place) = server_of(self.servers.as_slice(), conn) else {
+            return true;
+        };
+        self.servers[place].open_conn().is_none()
+    }
+
+    /// Whether the reader that dialled a connection reads over it: it doesn't before it has begun, nor once it has
+    /// read.
+    pub fn reads_over<F: Files>(&self, nodes: &Nodes<F, I, O>, conn: ConnId) -> bool
+        ensures { TellsOver I.LinkIn O.LinkOut conn nodes.now self.now result }
+    {
+        let Some(place) = self.client_at(nodes, conn) else {
+            return false;
+        };
+        let Some(over) = self.clients[place].conn() else {
+            return false;
+        };
+        over.0 == conn.0
     }
 
     /// The place of the client of the reader that dialled a connection, if one did.

@@ -9,6 +9,7 @@ ghost use Rattle.play_reads.specs.Keeping.{
   ReadyKeepsReads,
   MirrorKeepsReads,
   CutsKeepReads,
+  StartsKeepReads,
 };
 
 use hd_base::{LinkIn, LinkOut};
@@ -47,4 +48,11 @@ pub fn cuts_keep_reads<I: LinkIn, O: LinkOut>()
 {
     cuts_are_losses();
     ends_stay_in_cuts::<I, O>();
+}
+
+/// So does the start of a node that didn't run: nothing was dialled to it in the life in which it runs then.
+pub fn starts_keep_reads<I: LinkIn, O: LinkOut>()
+    ensures { StartsKeepReads I.LinkIn O.LinkOut }
+{
+    read_clients_stay::<I, O>();
 }

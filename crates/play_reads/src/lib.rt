@@ -7,12 +7,16 @@ mod dues;
 mod faults;
 mod frames;
 mod hearing;
+mod joining;
 mod owning;
 mod places;
 mod reads;
 mod serving;
+mod stopping;
 
 pub use dues::reader_of;
 pub use faults::ReadsFault;
-pub use frames::{cuts_keep_reads, members_keep_reads, reads_stay, writers_keep_reads};
+pub use frames::{
+    cuts_keep_reads, members_keep_reads, reads_stay, starts_keep_reads, writers_keep_reads,
+};
 pub use reads::Reads;
