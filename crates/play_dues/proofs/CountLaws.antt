@@ -1,12 +1,8 @@
--- Own steps are counted and sought client by client.
-use Rattle.std.proofs.Common.{◌≡◌, ◌<◌, ◌+◌, ◌-◌, ℕ, zero, suc, Bool, true, false, List, ◌∷◌, ◌++◌, length, drop, get_or, slice_get, refl, sym, ap, ◌∙◌, arith, add-one}
-use Rattle.std.proofs.Math.Seq.{drop-cons}
-use Rattle.play_model.specs.declared.dues.Due.{Due}
-use Rattle.play_model.specs.declared.dues.Due.TheVariants as due
+-- What a list gives, of whose elements some pass a test and give one thing each, is counted and sought element by element.
+use Rattle.std.proofs.Common.{◌≡◌, ◌<◌, ◌+◌, ◌-◌, ℕ, zero, suc, Bool, true, false, List, ◌∷◌, ◌++◌, length, drop, get_or, slice_get, Some, refl, sym, ap, ◌∙◌, arith}
+use Rattle.std.specs.List.{flat_map}
 use Rattle.play_model.specs.Dues.{when}
-use Rattle.play_clients.specs.declared.clients.Client.{Client}
-use Rattle.play_clients.specs.Clients.{client_has_step}
-use Rattle.play_dues.specs.Own.{own_listed}
+use Rattle.play_dues.proofs.ListLaws.{next_left}
 
 one_less : (n : ℕ) → n ≡ suc n - 1
 one_less n = omega arith
@@ -18,30 +14,29 @@ slice_after x xs (suc n) h = ap (λ (k : ℕ). slice_get xs k) (one_less n)
 add_so : (n m k t : ℕ) → n + k ≡ t → k ≡ suc m → (n + 1) + m ≡ t
 add_so n m k t a b = omega arith
 
-module _ {I O : Type 0} where
-  next_listed : (xs : List (Client I O)) (i : ℕ) (x : Client I O) (b : Bool) → i < length xs → x ≡ get_or xs i x → client_has_step x ≡ b
-      → own_listed (drop i xs) ≡ when b (due.Own x.block) ++ own_listed (drop (i + 1) xs)
-  next_listed xs i x b within is step =
-      let next : drop i xs ≡ get_or xs i x ∷ drop (i + 1) xs = rw (add-one) (drop-cons xs i x within) in
-      ap (λ (ys : List (Client I O)). own_listed ys) next
-      ∙ (ap (λ (y : Client I O). own_listed (y ∷ drop (i + 1) xs)) (sym is)
-      ∙ ap (λ (k : Bool). when k (due.Own x.block) ++ own_listed (drop (i + 1) xs)) step)
+module _ {A B : Type 0} (test : A → Bool) (give : A → B) where
+  -- what those give that pass
+  abbrev given : List A → List B
+  given xs = flat_map (λ x. when (test x) (give x)) xs
 
-  pub counts_one : (xs : List (Client I O)) (i : ℕ) (x : Client I O) (n : ℕ) → i < length xs → x ≡ get_or xs i x → client_has_step x ≡ true → n + length (own_listed (drop i xs)) ≡ length (own_listed xs)
-      → (n + 1) + length (own_listed (drop (i + 1) xs)) ≡ length (own_listed xs)
-  counts_one xs i x n within is step so_far =
-      let k : length (own_listed (drop i xs)) ≡ suc (length (own_listed (drop (i + 1) xs))) = ap length (next_listed xs i x true within is step) in
-      add_so n (length (own_listed (drop (i + 1) xs))) (length (own_listed (drop i xs))) (length (own_listed xs)) so_far k
+  module _ (xs : List A) (i : ℕ) (x : A) (within : i < length xs) (is : x ≡ get_or xs i x) where
+    next_given : (b : Bool) → test x ≡ b → given (drop i xs) ≡ when b (give x) ++ given (drop (i + 1) xs)
+    next_given b step =
+        next_left (λ y. when (test y) (give y)) xs i x within
+        ∙ (ap (λ (y : A). when (test y) (give y) ++ given (drop (i + 1) xs)) (sym is)
+        ∙ ap (λ (k : Bool). when k (give x) ++ given (drop (i + 1) xs)) step)
 
-  pub counts_none : (xs : List (Client I O)) (i : ℕ) (x : Client I O) (n : ℕ) → i < length xs → x ≡ get_or xs i x → client_has_step x ≡ false → n + length (own_listed (drop i xs)) ≡ length (own_listed xs)
-      → n + length (own_listed (drop (i + 1) xs)) ≡ length (own_listed xs)
-  counts_none xs i x n within is step so_far = ap (λ (ys : List Due). n + length ys) (sym (next_listed xs i x false within is step)) ∙ so_far
+    pub counts_one : (n : ℕ) → test x ≡ true → n + length (given (drop i xs)) ≡ length (given xs) → (n + 1) + length (given (drop (i + 1) xs)) ≡ length (given xs)
+    counts_one n step so_far = add_so n (length (given (drop (i + 1) xs))) (length (given (drop i xs))) (length (given xs)) so_far (ap length (next_given true step))
 
-  pub picks_later : (xs : List (Client I O)) (i : ℕ) (x : Client I O) (n number : ℕ) → i < length xs → x ≡ get_or xs i x → client_has_step x ≡ true → (n ≡ 0 → ⊥)
-      → slice_get (own_listed (drop i xs)) n ≡ slice_get (own_listed xs) number → slice_get (own_listed (drop (i + 1) xs)) (n - 1) ≡ slice_get (own_listed xs) number
-  picks_later xs i x n number within is step some so_far =
-      sym (slice_after (due.Own x.block) (own_listed (drop (i + 1) xs)) n some) ∙ (ap (λ (ys : List Due). slice_get ys n) (sym (next_listed xs i x true within is step)) ∙ so_far)
+    pub counts_none : (n : ℕ) → test x ≡ false → n + length (given (drop i xs)) ≡ length (given xs) → n + length (given (drop (i + 1) xs)) ≡ length (given xs)
+    counts_none n step so_far = ap (λ (ys : List B). n + length ys) (sym (next_given false step)) ∙ so_far
 
-  pub picks_past : (xs : List (Client I O)) (i : ℕ) (x : Client I O) (n number : ℕ) → i < length xs → x ≡ get_or xs i x → client_has_step x ≡ false
-      → slice_get (own_listed (drop i xs)) n ≡ slice_get (own_listed xs) number → slice_get (own_listed (drop (i + 1) xs)) n ≡ slice_get (own_listed xs) number
-  picks_past xs i x n number within is step so_far = ap (λ (ys : List Due). slice_get ys n) (sym (next_listed xs i x false within is step)) ∙ so_far
+    pub picks_first : (number : ℕ) → test x ≡ true → slice_get (given (drop i xs)) 0 ≡ slice_get (given xs) number → Some (give x) ≡ slice_get (given xs) number
+    picks_first number step so_far = sym (ap (λ (ys : List B). slice_get ys 0) (next_given true step)) ∙ so_far
+
+    pub picks_later : (n number : ℕ) → test x ≡ true → (n ≡ 0 → ⊥) → slice_get (given (drop i xs)) n ≡ slice_get (given xs) number → slice_get (given (drop (i + 1) xs)) (n - 1) ≡ slice_get (given xs) number
+    picks_later n number step some so_far = sym (slice_after (give x) (given (drop (i + 1) xs)) n some) ∙ (ap (λ (ys : List B). slice_get ys n) (sym (next_given true step)) ∙ so_far)
+
+    pub picks_past : (n number : ℕ) → test x ≡ false → slice_get (given (drop i xs)) n ≡ slice_get (given xs) number → slice_get (given (drop (i + 1) xs)) n ≡ slice_get (given xs) number
+    picks_past n number step so_far = ap (λ (ys : List B). slice_get ys n) (sym (next_given false step)) ∙ so_far

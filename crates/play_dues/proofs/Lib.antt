@@ -1,8 +1,11 @@
 pub mod WriterLaws
+pub mod ListLaws
 pub mod CountLaws
 pub mod OwnLaws
-pub mod ListLaws
+pub mod ReaderLaws
+pub mod ElsewhereLaws
 pub mod UpperLaws
+pub mod LowerLaws
 pub mod ConnLaws
 pub mod ListingLaws
 pub mod SpentStays

@@ -1,6 +1,6 @@
 -- The list of the connections of which something may still be due.
-use Rattle.std.proofs.Common.{◌≡◌, ◌<◌, ◌≤◌, ◌+◌, ℕ, zero, suc, Bool, true, false, List, [], ◌∷◌, ◌++◌, length, refl, sym, ap, ◌∙◌, subst, arith, add-one, append-nil}
-use Rattle.std.specs.Prelude.{◌&&◌, ◌||◌, not, nat_le, filter}
+use Rattle.std.proofs.Common.{◌≡◌, ◌<◌, ◌≤◌, ◌+◌, ℕ, zero, suc, Bool, true, false, List, [], ◌∷◌, ◌++◌, length, refl, sym, ap, ◌∙◌, subst, lt-ltb, arith, add-one, append-nil}
+use Rattle.std.specs.Prelude.{◌&&◌, ◌||◌, not, nat_lt, nat_le, filter}
 use Rattle.std.specs.List.{flat_map}
 use Rattle.std.proofs.lemmas.Bool.Decides.{nat_tests}
 use Rattle.std.proofs.lemmas.Grind.{flat_map-append}
@@ -11,16 +11,18 @@ use Rattle.hd_base.specs.declared.numbers.ConnId.{ConnId}
 use Rattle.world.specs.Worlds.{World}
 use Rattle.world.specs.Events.{run}
 use Rattle.world_laws.specs.Placing.{Placed}
+use Rattle.play_model.specs.declared.asks.ReadAsk.{ReadAsk}
 use Rattle.play_model.specs.declared.dues.Due.{Due}
-use Rattle.play_model.specs.Dues.{Queues, when, upto, is_due, conn_dues, own_dues, due_events}
+use Rattle.play_model.specs.Dues.{Queues, when, upto, is_due, conn_dues, own_dues, reader_dues, due_events}
 use Rattle.play_clients.specs.declared.clients.Client.{Client}
 use Rattle.play_nodes.specs.declared.nodes.Nodes.{Nodes}
 use Rattle.play_nodes.specs.Dues.{IsOrderly}
+use Rattle.play_reads.specs.declared.reads.Reads.{Reads}
 use Rattle.play_dues.specs.declared.live.LiveConns.{LiveConns}
 use Rattle.play_dues.specs.Listing.{dues_among, all_dues}
-use Rattle.play_dues.specs.Live.{if_passing, passing, or_from, HasMore, spent_at, Covers, CoversNone, IsCurrent, IsRefreshed}
+use Rattle.play_dues.specs.Live.{if_passing, passing, or_from, HasMore, DropsSpent, Covers, CoversNone, IsCurrent, IsRefreshed}
 use Rattle.play_dues.specs.Spent.{is_spent}
-use Rattle.play_dues.proofs.SpentLaws.{nothing_due, spent_told}
+use Rattle.play_dues.proofs.SpentLaws.{nothing_due}
 use Rattle.play_dues.proofs.SpentStays.{Keeps, due_keeps, spent_on}
 
 -- LISTS BY NUMBERS
@@ -116,26 +118,26 @@ kept_so true has spent h = refl
 kept_so false true spent h = refl
 kept_so false false spent h = sym (ap not (h refl refl))
 
-module _ {F I O : Type 0} (i : link_in.Ghosts I) (o : link_out.Ghosts O) (n : Nodes F I O) (clients : List (Client I O)) where
-  pub refreshed : (old new : LiveConns) (mid : List ConnId) (count : ℕ) → count ≡ length n.connections.items → new.known ≡ count → HasMore old.conns.items mid old.known count → new.conns.items ≡ filter (λ c. not (spent_at n clients c)) mid → IsRefreshed i o old new n clients
+module _ {F I O : Type 0} (i : link_in.Ghosts I) (o : link_out.Ghosts O) (n : Nodes F I O) (clients : List (Client I O)) (reads : Reads I O) where
+  pub refreshed : (old new : LiveConns) (mid : List ConnId) (count : ℕ) → count ≡ length n.connections.items → new.known ≡ count → HasMore old.conns.items mid old.known count → DropsSpent i o mid new.conns.items n clients reads → IsRefreshed i o old new n clients reads
   refreshed old new mid count counted known more kept = λ w net h covers.
       let all : count ≡ w.next_conn = counted ∙ h.nodes_are.count in
-      let test : ℕ → Bool = λ c. not (spent_at n clients (record { 0 = c })) in
+      let spent : ConnId → Bool = λ c. nat_lt c.0 w.next_conn && is_spent w c.0 in
       let added : mid ≡ passing (or_from old.known covers.has) count = more covers.has (omega (arith, covers.within, all)) covers.listed in
-      let each : (c : ℕ) → c < count → (or_from old.known covers.has c && test c) ≡ not (is_spent w c) = λ c lt.
-      ap (λ (b : Bool). or_from old.known covers.has c && not b) (spent_told i o w net n clients h (record { 0 = c }) (subst (λ (k : ℕ). c < k) all lt))
+      let each : (c : ℕ) → c < count → (or_from old.known covers.has c && not (nat_lt c w.next_conn && is_spent w c)) ≡ not (is_spent w c) = λ c lt.
+      ap (λ (b : Bool). or_from old.known covers.has c && not (b && is_spent w c)) (lt-ltb c w.next_conn (subst (λ (k : ℕ). c < k) all lt))
       ∙ kept_so (nat_le old.known c) (covers.has c) (is_spent w c) (λ before not_listed. covers.rest c (is_before old.known c before) not_listed) in
       record {
         known = known ∙ all;
-        listed = kept ∙ (ap (λ (xs : List ConnId). filter (λ c. not (spent_at n clients c)) xs) added
-            ∙ (filter_passing (λ c. not (spent_at n clients c)) (or_from old.known covers.has) count
-            ∙ (upto_same (if_passing (λ c. or_from old.known covers.has c && test c)) (if_passing (λ c. not (is_spent w c))) count (λ c lt. ap (λ (b : Bool). when b (record { 0 = c })) (each c lt))
+        listed = kept w net h ∙ (ap (λ (xs : List ConnId). filter (λ c. not (spent c)) xs) added
+            ∙ (filter_passing (λ c. not (spent c)) (or_from old.known covers.has) count
+            ∙ (upto_same (if_passing (λ c. or_from old.known covers.has c && not (nat_lt c w.next_conn && is_spent w c))) (if_passing (λ c. not (is_spent w c))) count (λ c lt. ap (λ (b : Bool). when b (record { 0 = c })) (each c lt))
             ∙ ap (λ (k : ℕ). passing (λ c. not (is_spent w c)) k) all)));
       }
 
 -- What is due of those that are listed is all that is due of connections.
-pub live_dues : (w : World) (queues : Queues) (blocks : List ℕ) (conns : List ConnId) (live : LiveConns) → Placed w → conns ≡ live.conns.items → IsCurrent w live → dues_among w queues blocks conns ≡ all_dues w queues blocks
-live_dues w queues blocks conns live placed same h =
-    ap (λ (xs : List Due). own_dues w queues blocks ++ xs)
+pub live_dues : (w : World) (queues : Queues) (blocks : List ℕ) (asks : List ReadAsk) (conns : List ConnId) (live : LiveConns) → Placed w → conns ≡ live.conns.items → IsCurrent w live → dues_among w queues blocks asks conns ≡ all_dues w queues blocks asks
+live_dues w queues blocks asks conns live placed same h =
+    ap (λ (xs : List Due). own_dues w queues blocks ++ (reader_dues w queues asks ++ xs))
     (ap (λ (xs : List ConnId). flat_map (λ c. conn_dues w queues c.0) xs) (same ∙ h.listed)
     ∙ passing_gives (conn_dues w queues) (λ c. not (is_spent w c)) w.next_conn (λ c lt e. nothing_due w queues c placed lt (false_not (is_spent w c) e)))

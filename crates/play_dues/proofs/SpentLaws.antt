@@ -1,13 +1,16 @@
 -- Nothing is due of a connection that is spent, and nodes and clients tell whether one is.
-use Rattle.std.proofs.Common.{◌≡◌, ◌<◌, ◌++◌, ℕ, Bool, true, false, List, [], option_map, Option, Some, None, is_some, refl, sym, ap, ◌∙◌, subst, eqb-true, eq-eqb, lt-ltb}
+use Rattle.std.proofs.Common.{◌≡◌, ◌<◌, ◌≤◌, ◌++◌, ◌⊎◌, inl, inr, ℕ, Bool, true, false, List, [], length, get_or, slice_get, option_map, Option, Some, None, is_some, refl, sym, ap, ◌∙◌, subst, eqb-true, eq-eqb, lt-ltb, le-ltb}
 use Rattle.std.specs.Prelude.{◌&&◌, ◌==◌, not, nat_lt, is_none}
+use Rattle.std.proofs.lemmas.Option.{slice_get_cases}
 use Rattle.hd_base.specs.declared.links.LinkIn as link_in
 use Rattle.hd_base.specs.declared.links.LinkOut as link_out
+use Rattle.hd_base.specs.declared.numbers.BlockId.{BlockId}
 use Rattle.hd_base.specs.declared.numbers.ConnId.{ConnId}
+use Rattle.hd_base.specs.declared.numbers.NodeId.{NodeId}
 use Rattle.member_core.specs.Members.{hears}
 use Rattle.road_traffic.specs.Showing.{Net}
 use Rattle.world.specs.Connections.{next_down, next_up, is_alive, is_conn, is_served}
-use Rattle.world.specs.Enabled.{takes_down, acts_below, hears_mirror, takes_above}
+use Rattle.world.specs.Enabled.{takes_down, acts_below, hears_mirror, reads_from, takes_above}
 use Rattle.world.specs.Parts as parts
 use Rattle.world.specs.Parts.{by_writer, by_member, by_reader, by_primary, idle, writes, serves, recovers, ended_below}
 use Rattle.world.specs.Worlds.{World}
@@ -21,12 +24,16 @@ use Rattle.play_nodes.specs.declared.connections.Lower.TheVariants as lower
 use Rattle.play_nodes.specs.declared.connections.Upper.{Upper}
 use Rattle.play_nodes.specs.declared.connections.Upper.TheVariants as upper
 use Rattle.play_nodes.specs.declared.nodes.Nodes.{Nodes}
+use Rattle.play_nodes.specs.Dues.{is_elsewhere, TellsElsewhere}
 use Rattle.play_nodes.specs.Showing.{has_events, UpperShows, stands_here, LowerShows}
 use Rattle.play_nodes.proofs.JoinNodes.{passes_at, place_there}
-use Rattle.play_nodes.proofs.Tables.{element}
-use Rattle.play_dues.specs.Live.{has_ended, lower_at, upper_at, has_conn_of, has_conn_at, gave_up, spent_at, EndsShow}
+use Rattle.play_nodes.proofs.PlaceLaws.{element_within}
+use Rattle.play_reads.specs.declared.reads.Reads.{Reads}
+use Rattle.play_reads.specs.Dues as of_reads
 use Rattle.play_dues.specs.Places.{client_place}
+use Rattle.play_dues.specs.Spending.{has_shut, lower_at, has_conn_of, has_conn_at, EndsShow, TellsOf, TellsEnded, gave_up}
 use Rattle.play_dues.specs.Spent.{is_given_up, is_spent}
+use Rattle.play_dues.proofs.ElsewhereLaws.{read_so, piped_so}
 use Rattle.play_dues.proofs.SpentStays.{not_so}
 use Rattle.play_dues.proofs.UpperLaws.{conn_some, not_true, none_is_some}
 use Rattle.play_dues.proofs.WriterLaws.{pipe_conn}
@@ -54,6 +61,11 @@ member_never true false true true heard p e h = h refl
 member_never true false true false heard p e h = refl
 member_never false alive opened y heard p e h = cc
 
+-- what needs a reader that reads over it
+reader_never : (y reading : Bool) → reading ≡ false → (true && (y && reading)) ≡ false
+reader_never true reading e = e
+reader_never false reading e = refl
+
 none_listed : {A : Type 0} (a b c : Bool) (x y z : A) → a ≡ false → b ≡ false → c ≡ false → when a x ++ (when b y ++ when c z) ≡ []
 none_listed a b c x y z p q s = λ j. when (p j) x ++ (when (q j) y ++ when (s j) z)
 
@@ -78,27 +90,66 @@ nothing_due w queues c placed lt is =
     by (by_member d) e h =
         let known : d < w.next_conn = subst (λ (v : parts.Upper). IsUpper w.next_conn v) e (placed.dialled c lt).upper in
         member_never (nat_lt d w.next_conn) (is_alive w (w.dialled d).to) (is_open (w.lowers d)) (nat_lt c w.next_conn && is_some (next_up w c)) (hears_mirror (w.lowers d) w d) (lt-ltb d w.next_conn known) (not_so (has_events w d) h) (deaf (w.lowers d) d)
-    by (by_reader i) e h = cc
+    by (by_reader i) e h = reader_never (nat_lt c w.next_conn && is_some (next_up w c)) (reads_from (w.readers i) c) (not_so (reads_from (w.readers i) c) h)
     by (by_primary i place) e h = cc
 
 -- WHAT IS TOLD
 
-module _ {F I O : Type 0} (i : link_in.Ghosts I) (o : link_out.Ghosts O) (w : World) (net : Net) (n : Nodes F I O) (clients : List (Client I O)) (h : EndsShow i o w net n clients) where
-  ended_as : (c : ℕ) (l : parts.Lower) (real : Lower I O) → stands_here real ≡ true → LowerShows i o w net c n l real → has_ended (Some real) ≡ not (has_events w c)
-  ended_as c idle (lower.Idle end) here s = sym (ap not s.0)
-  ended_as c (writes full) (lower.Member m place) here s = sym (ap not s.0)
-  ended_as c l lower.Ended here s = sym (ap not s)
-  ended_as c l lower.Elsewhere here s = cc
-  ended_as c l real here s = absurd s
+-- of a number that no connection has the answer is no
+outside_so : (c n k : ℕ) (x : Bool) → n ≡ k → n ≤ c → false ≡ (nat_lt c k && x)
+outside_so c n k x count outside = sym (ap (λ (b : Bool). b && x) (le-ltb c k (subst (λ (m : ℕ). m ≤ c) count outside)))
 
-  ended_told : (c : ℕ) → c < w.next_conn → has_ended (lower_at n c) ≡ not (has_events w c)
-  ended_told c lt =
-      let at = element n.connections.items c (subst (λ (k : ℕ). c < k) (sym h.nodes_are.count) lt) in
-      let shows = h.nodes_are.each c at.0 at.1 in
-      ap (λ (x : Option (Connection I O)). has_ended (option_map (λ y. y.lower) x)) at.1 ∙ ended_as c (w.lowers c) at.0.lower (shows.here ∙ h.pipelines c lt) shows.lower_is
+inside_so : (c k : ℕ) (result x : Bool) → c < k → result ≡ x → result ≡ (nat_lt c k && x)
+inside_so c k result x lt is = is ∙ sym (ap (λ (b : Bool). b && x) (lt-ltb c k lt))
 
-  conn_told : (b c : ℕ) → has_conn_at clients (client_place clients b) c ≡ is_conn (w.writers b).conn c
-  conn_told b c = by (client_place clients b) refl
+known_so : (c k : ℕ) (result x : Bool) → c < k → result ≡ (nat_lt c k && x) → result ≡ x
+known_so c k result x lt is = is ∙ ap (λ (b : Bool). b && x) (lt-ltb c k lt)
+
+both_told : (known a b : Bool) → ((known && a) && (known && b)) ≡ (known && (a && b))
+both_told true a b = refl
+both_told false a b = refl
+
+-- what passes the first test not passes not both
+first_fails : (known a b result : Bool) → result ≡ (known && a) → result ≡ false → result ≡ (known && (a && b))
+first_fails true true b result is isnt = absurd (clash (sym is ∙ isnt))
+  where
+    clash : true ≡ false → ⊥
+    clash e = cc
+first_fails true false b result is isnt = isnt
+first_fails false a b result is isnt = isnt
+
+module _ {F I O : Type 0} (i : link_in.Ghosts I) (o : link_out.Ghosts O) (n : Nodes F I O) (reads : Reads I O) (conn : ConnId) (found : Bool) (told : TellsElsewhere i o conn n found) where
+  pub ended_read : (result : Bool) → found ≡ is_elsewhere n conn.0 → found ≡ true → of_reads.TellsEnded i o conn reads result → TellsEnded i o conn n reads result
+  ended_read result is so tells = λ clients w net h.
+      let k = read_so i o w net n conn found h.nodes_are told h.primaries is so in
+      inside_so conn.0 w.next_conn result (not (has_events w conn.0)) k.within (tells w net n.blocks.items h.reads_are k.within k.reading_is)
+
+  shut_as : (w : World) (net : Net) (c : ℕ) (l : parts.Lower) (real : Lower I O) → stands_here real ≡ true → LowerShows i o w net c n l real → has_shut (Some real) ≡ not (has_events w c)
+  shut_as w net c idle (lower.Idle end) here s = sym (ap not s.0)
+  shut_as w net c (writes full) (lower.Member m place) here s = sym (ap not s.0)
+  shut_as w net c l lower.Ended here s = sym (ap not s)
+  shut_as w net c l lower.Elsewhere here s = cc
+  shut_as w net c l real here s = absurd s
+
+  pub ended_here : (result : Bool) → found ≡ false → result ≡ has_shut (lower_at n conn.0) → TellsEnded i o conn n reads result
+  ended_here result isnt is = λ clients w net h. is ∙ by clients w net h (slice_get_cases n.connections.items conn.0).1
+    where
+      by : (clients : List (Client I O)) (w : World) (net : Net) → EndsShow i o w net n clients reads
+          → ((x : Connection I O) × (conn.0 < length n.connections.items) × (slice_get n.connections.items conn.0 ≡ Some x) × (get_or n.connections.items conn.0 x ≡ x)) ⊎ ((length n.connections.items ≤ conn.0) × (slice_get n.connections.items conn.0 ≡ None))
+          → has_shut (lower_at n conn.0) ≡ (nat_lt conn.0 w.next_conn && not (has_events w conn.0))
+      by clients w net h (inr past) =
+          ap (λ (x : Option (Connection I O)). has_shut (option_map (λ y. y.lower) x)) past.1
+          ∙ outside_so conn.0 (length n.connections.items) w.next_conn (not (has_events w conn.0)) h.nodes_are.count past.0
+      by clients w net h (inl at) =
+          let lt : conn.0 < w.next_conn = subst (λ (k : ℕ). conn.0 < k) h.nodes_are.count at.1 in
+          let shows = h.nodes_are.each conn.0 at.0 at.2 in
+          inside_so conn.0 w.next_conn (has_shut (lower_at n conn.0)) (not (has_events w conn.0)) lt
+          (ap (λ (x : Option (Connection I O)). has_shut (option_map (λ y. y.lower) x)) at.2
+          ∙ shut_as w net conn.0 (w.lowers conn.0) at.0.lower (shows.here ∙ piped_so i o w net n conn found h.nodes_are told isnt lt) shows.lower_is)
+
+module _ {F I O : Type 0} (i : link_in.Ghosts I) (o : link_out.Ghosts O) (n : Nodes F I O) (clients : List (Client I O)) (reads : Reads I O) (conn : ConnId) where
+  conn_told : (w : World) (net : Net) → EndsShow i o w net n clients reads → (b c : ℕ) → has_conn_at clients (client_place clients b) c ≡ is_conn (w.writers b).conn c
+  conn_told w net h b c = by (client_place clients b) refl
     where
       by : (sought : Option ℕ) → client_place clients b ≡ sought → has_conn_at clients sought c ≡ is_conn (w.writers b).conn c
       by None none = not_true (is_conn (w.writers b).conn c) (λ is.
@@ -111,18 +162,52 @@ module _ {F I O : Type 0} (i : link_in.Ghosts I) (o : link_out.Ghosts O) (w : Wo
           ∙ (ap (λ (q : Option ℕ). is_conn q c) (sym (pipe_conn i o w net (w.writers p.at.block.0).conn p.at.pipe shown.pipe_is))
           ∙ ap (λ (q : ℕ). is_conn (w.writers q).conn c) (eqb-true p.at.block.0 b p.passes))
 
-  given_up_as : (c : ℕ) (u : parts.Upper) (real : Upper) → c < w.next_conn → (w.dialled c).upper ≡ u → UpperShows u real → gave_up n clients c (Some real) ≡ is_given_up w c u
-  given_up_as c (by_writer b) (upper.Writer block) lt e s = ap not (conn_told block.0 c ∙ ap (λ (q : ℕ). is_conn (w.writers q).conn c) s)
-  given_up_as c (by_member d) (upper.Member conn) lt e s =
-      ended_told conn.0 (subst (λ (q : ℕ). q < w.next_conn) (sym s) (subst (λ (u : parts.Upper). IsUpper w.next_conn u) e (h.placed.dialled c lt).upper)) ∙ ap (λ (q : ℕ). not (has_events w q)) s
-  given_up_as c (by_reader i) (upper.Reader reader) lt e s = refl
-  given_up_as c (by_primary i place) (upper.Primary primary at node) lt e s = refl
-  given_up_as c u real lt e s = absurd s
+  pub gave_outside : length n.connections.items ≤ conn.0 → TellsOf i o gave_up conn n clients reads false
+  gave_outside outside = λ w net h. outside_so conn.0 (length n.connections.items) w.next_conn (gave_up w conn.0) h.nodes_are.count outside
 
-  pub spent_told : (conn : ConnId) → conn.0 < w.next_conn → spent_at n clients conn ≡ is_spent w conn.0
-  spent_told conn lt =
-      let c : ℕ = conn.0 in
-      let at = element n.connections.items c (subst (λ (k : ℕ). c < k) (sym h.nodes_are.count) lt) in
-      let up : gave_up n clients c (upper_at n c) ≡ is_given_up w c (w.dialled c).upper = ap (λ (x : Option (Connection I O)). gave_up n clients c (option_map (λ y. y.upper) x)) at.1
-      ∙ given_up_as c (w.dialled c).upper at.0.upper lt refl (h.nodes_are.each c at.0 at.1).upper_is in
-      λ j. ended_told c lt j && up j
+  -- What is told of whoever dialled is told of the connection.
+  module _ (at : Connection I O) (found : slice_get n.connections.items conn.0 ≡ Some at) (result : Bool) where
+    gave_so : ((w : World) (net : Net) → EndsShow i o w net n clients reads → conn.0 < w.next_conn → UpperShows (w.dialled conn.0).upper at.upper → result ≡ gave_up w conn.0) → TellsOf i o gave_up conn n clients reads result
+    gave_so each = λ w net h.
+        let lt : conn.0 < w.next_conn = subst (λ (k : ℕ). conn.0 < k) h.nodes_are.count (element_within n.connections.items conn.0 at found) in
+        inside_so conn.0 w.next_conn result (gave_up w conn.0) lt (each w net h lt (h.nodes_are.each conn.0 at found).upper_is)
+
+    pub gave_writer : (block : BlockId) (has : Bool) → at.upper ≡ upper.Writer block → result ≡ not has → has ≡ has_conn_at clients (client_place clients block.0) conn.0 → TellsOf i o gave_up conn n clients reads result
+    gave_writer block has is told tells = gave_so (λ w net h lt shows.
+        by w (w.dialled conn.0).upper (subst (λ (x : Upper). UpperShows (w.dialled conn.0).upper x) is shows) (told ∙ ap not (tells ∙ conn_told w net h block.0 conn.0)))
+      where
+        by : (w : World) (u : parts.Upper) → UpperShows u (upper.Writer block) → result ≡ not (is_conn (w.writers block.0).conn conn.0) → result ≡ is_given_up w conn.0 u
+        by w (by_writer b) s e = e ∙ ap (λ (q : ℕ). not (is_conn (w.writers q).conn conn.0)) s
+        by w u s e = absurd s
+
+    pub gave_member : (above : ConnId) → at.upper ≡ upper.Member above → TellsEnded i o above n reads result → TellsOf i o gave_up conn n clients reads result
+    gave_member above is told = gave_so (λ w net h lt shows.
+        by w (w.dialled conn.0).upper (h.placed.dialled conn.0 lt).upper (subst (λ (x : Upper). UpperShows (w.dialled conn.0).upper x) is shows) (told clients w net h))
+      where
+        by : (w : World) (u : parts.Upper) → IsUpper w.next_conn u → UpperShows u (upper.Member above) → result ≡ (nat_lt above.0 w.next_conn && not (has_events w above.0)) → result ≡ is_given_up w conn.0 u
+        by w (by_member d) known s e =
+            known_so above.0 w.next_conn result (not (has_events w above.0)) (subst (λ (q : ℕ). q < w.next_conn) (sym s) known) e ∙ ap (λ (q : ℕ). not (has_events w q)) s
+        by w u known s e = absurd s
+
+    pub gave_reader : (reader : ℕ) (over : Bool) → at.upper ≡ upper.Reader reader → result ≡ not over → of_reads.TellsOver i o conn n reads over → TellsOf i o gave_up conn n clients reads result
+    gave_reader reader over is told tells = gave_so (λ w net h lt shows.
+        by w (w.dialled conn.0).upper (subst (λ (x : Upper). UpperShows (w.dialled conn.0).upper x) is shows) (told ∙ ap not (tells w net h.nodes_are h.reads_are lt)))
+      where
+        by : (w : World) (u : parts.Upper) → UpperShows u (upper.Reader reader) → result ≡ not (of_reads.is_read_by w conn.0 u) → result ≡ is_given_up w conn.0 u
+        by w (by_reader line) s e = e
+        by w u s e = absurd s
+
+    pub gave_primary : (primary place : ℕ) (node : NodeId) → at.upper ≡ upper.Primary primary place node → result ≡ false → TellsOf i o gave_up conn n clients reads result
+    gave_primary primary place node is told = gave_so (λ w net h lt shows.
+        by w (w.dialled conn.0).upper (subst (λ (x : Upper). UpperShows (w.dialled conn.0).upper x) is shows))
+      where
+        by : (w : World) (u : parts.Upper) → UpperShows u (upper.Primary primary place node) → result ≡ is_given_up w conn.0 u
+        by w (by_primary p at) s = told
+        by w u s = absurd s
+
+  pub spent_both : (ended gave : Bool) → ended ≡ true → TellsEnded i o conn n reads ended → TellsOf i o gave_up conn n clients reads gave → TellsOf i o is_spent conn n clients reads gave
+  spent_both ended gave so a b = λ w net h.
+      ap (λ (e : Bool). e && gave) (sym so) ∙ (λ j. a clients w net h j && b w net h j) ∙ both_told (nat_lt conn.0 w.next_conn) (not (has_events w conn.0)) (gave_up w conn.0)
+
+  pub spent_neither : (ended : Bool) → ended ≡ false → TellsEnded i o conn n reads ended → TellsOf i o is_spent conn n clients reads ended
+  spent_neither ended isnt a = λ w net h. first_fails (nat_lt conn.0 w.next_conn) (not (has_events w conn.0)) (gave_up w conn.0) ended (a clients w net h) isnt

@@ -5,6 +5,10 @@ use Rattle.std.proofs.lemmas.Bool.Decides.{nat_tests}
 use Rattle.hd_base.specs.declared.numbers.ConnId.{ConnId}
 use Rattle.hd_base.specs.declared.numbers.NodeId.{NodeId}
 use Rattle.op_headers.specs.declared.ops.Op.{Op}
+use Rattle.op_headers.specs.declared.ops.ReadOp.{ReadOp}
+use Rattle.read_core.specs.declared.reading.ReadTurn.{ReadTurn}
+use Rattle.read_core.specs.declared.reading.ReadTurn.TheVariants as turn
+use Rattle.read_core.specs.Readings.{ReadingState, ReadTaken, take_from}
 use Rattle.writer_core.specs.declared.actions.Action.{Action}
 use Rattle.writer_core.specs.declared.actions.Action.TheVariants as action
 use Rattle.writer_core.specs.declared.phases.Phase.{Phase}
@@ -17,22 +21,23 @@ use Rattle.member_core.specs.Members.{hears}
 use Rattle.world.specs.declared.events.Event.{Event}
 use Rattle.world.specs.declared.events.Event.TheVariants as event
 use Rattle.world.specs.declared.events.TakenCommand.{TakenCommand}
-use Rattle.world.specs.Parts.{Message, Upper, by_writer, by_member, by_reader, by_primary, Dialled, Marks, FullMember, Lower, idle, writes, serves, recovers, ended_below, Told, Writing}
+use Rattle.world.specs.Parts.{Message, Upper, by_writer, by_member, by_reader, by_primary, Dialled, Marks, FullMember, Lower, idle, writes, serves, recovers, ended_below, Reader, no_reader, reads, has_read, Told, Writing}
 use Rattle.world.specs.Worlds.{World, Change, put, apply}
 use Rattle.world.specs.Connections.{Next, message, the_end, marks_taken, next_down, next_up, down_taken, up_taken, is_conn, is_alive, is_served}
-use Rattle.world.specs.Clients.{writer_change, did, dialled_change, dialling, rest_in, is_empty, is_formed, ruled, command_bytes, takes_step, takes_command, writer_step, own_writer, writer_hears, writer_up, own_reader, reader_up}
-use Rattle.world.specs.Enabled.{takes_down, acts_below, takes_above, hears_mirror}
+use Rattle.world.specs.Clients.{writer_change, did, dialled_change, dialling, rest_in, is_empty, is_formed, ruled, command_bytes, takes_step, takes_command, writer_step, own_writer, writer_hears, writer_up, from_node_of, reader_dials, own_reader_as, own_reader, reader_turn, reader_up_as, reader_up}
+use Rattle.world.specs.Enabled.{takes_down, acts_below, reads_from, takes_above, hears_mirror}
 use Rattle.world.specs.Events.{changed, outcome, after_event, happens, run, down_as, upper_up, up_as}
 use Rattle.world.specs.Nodes.{lower_down, lower_ready, mirror_up}
 use Rattle.world.specs.Primaries.{primary_up, writer_asks, writer_asks_office}
 use Rattle.world_laws.specs.Placing.{IsUpper, Placed}
-use Rattle.world_laws.proofs.FactTables.{if-each, when-each, some-weaker, and-left, and-right}
+use Rattle.world_laws.proofs.FactTables.{if-each, when-each, and-left, and-right}
 use Rattle.world_laws.proofs.GrowthLaws.{apply-grows}
 use Rattle.world_orders.specs.Open.{OpenEnds}
 use Rattle.world_orders.proofs.OpenFrame.{IsOpenMirror, below-over, mirror-over, Beside, LowerOpens}
 use Rattle.world_orders.proofs.OpenLowers.{lower-down-opens, lower-ready-opens, mirror-up-opens}
-use Rattle.world_orders.proofs.OpenClients.{own-reader-beside, reader-up-beside}
 use Rattle.world_orders.proofs.OpenPrimaries.{primary-up-beside}
+use Rattle.world_settling.proofs.ReaderAsides.{primary-up-stays}
+use Rattle.world_settling.proofs.ReaderNodeAsides.{Stays, lower-down-stays, lower-ready-stays, mirror-up-stays}
 use Rattle.play_model.specs.declared.asks.ReadAsk.{ReadAsk}
 use Rattle.play_model.specs.declared.dues.Due.{Due}
 use Rattle.play_model.specs.declared.dues.Due.TheVariants as due
@@ -58,17 +63,22 @@ true_false b x y = cc
 below_so : (a b : ℕ) → a < b → (a == b) ≡ false
 below_so a b h = grind (arith, nat_tests, h)
 
+above_so : (a b : ℕ) → a < b → (b == a) ≡ false
+above_so a b h = grind (arith, nat_tests, h)
+
 -- WHAT A WORLD KEEPS OF ANOTHER
 
--- What has no further events has none later, and no writer has a connection again that it had no more.
+-- What has no further events has none later, no writer has a connection again that it had no more, and no reader reads over
+-- one again that it read over no more.
 pub record Keeps (w v : World) : Type 0 where
   pub grows : w.next_conn ≤ v.next_conn
   pub dialled : (c : ℕ) → c < w.next_conn → v.dialled c ≡ w.dialled c
   pub ended : (c : ℕ) → c < w.next_conn → has_events w c ≡ false → has_events v c ≡ false
   pub given_up : (b c : ℕ) → c < w.next_conn → is_conn (w.writers b).conn c ≡ false → is_conn (v.writers b).conn c ≡ false
+  pub read_over : (line c : ℕ) → c < w.next_conn → reads_from (w.readers line) c ≡ false → reads_from (v.readers line) c ≡ false
 
 keeps_same : (w : World) → Keeps w w
-keeps_same w = record { grows = omega arith; dialled = λ c lt. refl; ended = λ c lt e. e; given_up = λ b c lt e. e }
+keeps_same w = record { grows = omega arith; dialled = λ c lt. refl; ended = λ c lt e. e; given_up = λ b c lt e. e; read_over = λ line c lt e. e }
 
 keeps_then : (w u v : World) → Keeps w u → Keeps u v → Keeps w v
 keeps_then w u v h k = record {
@@ -76,19 +86,20 @@ keeps_then w u v h k = record {
   dialled = λ c lt. k.dialled c (omega (arith, lt, h.grows)) ∙ h.dialled c lt;
   ended = λ c lt e. k.ended c (omega (arith, lt, h.grows)) (h.ended c lt e);
   given_up = λ b c lt e. k.given_up b c (omega (arith, lt, h.grows)) (h.given_up b c lt e);
+  read_over = λ line c lt e. k.read_over line c (omega (arith, lt, h.grows)) (h.read_over line c lt e);
 }
 
 -- the world names its last event
 named : (w v : World) (e : Event) → Keeps w v → Keeps w (record v { last = Some e })
-named w v e h = record { grows = h.grows; dialled = h.dialled; ended = h.ended; given_up = h.given_up }
+named w v e h = record { grows = h.grows; dialled = h.dialled; ended = h.ended; given_up = h.given_up; read_over = h.read_over }
 
 down_kept : (w : World) (c : ℕ) (x : Next) → Keeps w (down_taken w c x)
 unfolding down_taken
-down_kept w c x = record { grows = omega arith; dialled = λ d lt. refl; ended = λ d lt e. e; given_up = λ b d lt e. e }
+down_kept w c x = record { grows = omega arith; dialled = λ d lt. refl; ended = λ d lt e. e; given_up = λ b d lt e. e; read_over = λ line d lt e. e }
 
 up_kept : (w : World) (c : ℕ) (x : Next) → Keeps w (up_taken w c x)
 unfolding up_taken
-up_kept w c x = record { grows = omega arith; dialled = λ d lt. refl; ended = λ d lt e. e; given_up = λ b d lt e. e }
+up_kept w c x = record { grows = omega arith; dialled = λ d lt. refl; ended = λ d lt e. e; given_up = λ b d lt e. e; read_over = λ line d lt e. e }
 
 -- A connection that is spent stays so.
 pub spent_on : (w v : World) → Placed w → Keeps w v → (c : ℕ) → c < w.next_conn → is_spent w c ≡ true → is_spent v c ≡ true
@@ -101,15 +112,16 @@ spent_on w v placed k c lt is =
     by : (u : Upper) → (w.dialled c).upper ≡ u → is_given_up w c u ≡ true → is_given_up v c u ≡ true
     by (by_writer b) e h = ap not (k.given_up b c lt (not_so (is_conn (w.writers b).conn c) h))
     by (by_member d) e h = ap not (k.ended d (subst (λ (u : Upper). IsUpper w.next_conn u) e (placed.dialled c lt).upper) (not_so (has_events w d) h))
-    by (by_reader i) e h = cc
+    by (by_reader i) e h = ap not (k.read_over i c lt (not_so (reads_from (w.readers i) c) h))
     by (by_primary i place) e h = cc
 
 -- CHANGES
 
--- A change leaves each lower end that has no further events, and gives no writer a connection again.
+-- A change leaves each lower end that has no further events, and gives no writer and no reader a connection again.
 record Spares (w : World) (k : Change) : Type 0 where
   lower : has_events w k.lower_at ≡ false → k.lower ≡ w.lowers k.lower_at
   writer : (c : ℕ) → c < w.next_conn → is_conn (w.writers k.writer_at).conn c ≡ false → is_conn k.writer.conn c ≡ false
+  reader : (c : ℕ) → c < w.next_conn → reads_from (w.readers k.reader_at) c ≡ false → reads_from k.reader c ≡ false
 
 still_over : (t t' a o : Bool) → t ≡ true → ((t && a) && o) ≡ false → ((t' && a) && o) ≡ false
 still_over true true a o p e = e
@@ -139,6 +151,10 @@ change_kept w k s = record {
       if-each (λ (x : Writing). is_conn x.conn c ≡ false) (b == k.writer_at) k.writer (w.writers b)
       (λ q. s.writer c lt (subst (λ (n : ℕ). is_conn (w.writers n).conn c ≡ false) (eqb-true b k.writer_at q) e))
       (λ _. e);
+  read_over = λ line c lt e.
+      if-each (λ (x : Reader). reads_from x c ≡ false) (line == k.reader_at) k.reader (w.readers line)
+      (λ q. s.reader c lt (subst (λ (n : ℕ). reads_from (w.readers n) c ≡ false) (eqb-true line k.reader_at q) e))
+      (λ _. e);
 }
 
 changed_kept : (w v : World) (o : Option Change) → Keeps w v → IfSome o (Spares v) → IfSome (changed v o) (Keeps w)
@@ -160,20 +176,20 @@ module _ (w : World) (b : ℕ) where
   keeps_conn x c e = as_so (is_connected x.phase) (w.writers b).conn c e
 
   writer_of : (x : WriterRecord) → Spares w (writer_change w b x)
-  writer_of x = record { lower = λ e. refl; writer = λ c lt e. keeps_conn x c e }
+  writer_of x = record { lower = λ e. refl; writer = λ c lt e. keeps_conn x c e; reader = λ d lt e. e }
 
   did_of : (waits : Option Waiting) (a : Action) (x : WriterRecord) (bytes : List ℕ) → IfSome (did w b waits a x bytes) (Spares w)
   did_of waits action.Wait x bytes = tt
-  did_of waits action.Took x bytes = record { lower = λ e. refl; writer = λ c lt e. keeps_conn x c e }
+  did_of waits action.Took x bytes = record { lower = λ e. refl; writer = λ c lt e. keeps_conn x c e; reader = λ d lt e. e }
   did_of waits (action.Ask c) x bytes = tt
   did_of waits (action.Dial to r) x bytes = tt
-  did_of waits (action.Send p) x bytes = record { lower = λ e. refl; writer = λ c lt e. keeps_conn x c e }
-  did_of waits (action.Answered n a) x bytes = record { lower = λ e. refl; writer = λ c lt e. keeps_conn x c e }
+  did_of waits (action.Send p) x bytes = record { lower = λ e. refl; writer = λ c lt e. keeps_conn x c e; reader = λ d lt e. e }
+  did_of waits (action.Answered n a) x bytes = record { lower = λ e. refl; writer = λ c lt e. keeps_conn x c e; reader = λ d lt e. e }
   did_of waits action.Memory x bytes = tt
 
   -- a connection that is dialled has a new number
   dialled_of : (x : WriterRecord) (to : NodeId) (r : Op) (answered : Bool) → Spares w (dialled_change w b x to r answered)
-  dialled_of x to r true = record { lower = λ e. refl; writer = λ c lt e. below_so c w.next_conn lt }
+  dialled_of x to r true = record { lower = λ e. refl; writer = λ c lt e. below_so c w.next_conn lt; reader = λ d lt e. e }
   dialled_of x to r false = writer_of (dialled x false)
 
   dialling_of : (x : WriterRecord) (a : Action) (answered : Bool) → Spares w (dialling w b x a answered)
@@ -218,7 +234,7 @@ module _ (w : World) (b : ℕ) where
 
   -- it asks the office
   asks_of : (a : Action) → IfSome (writer_asks a w b) (Spares w)
-  asks_of (action.Ask c) = record { lower = λ e. refl; writer = λ d lt e. e }
+  asks_of (action.Ask c) = record { lower = λ e. refl; writer = λ d lt e. e; reader = λ d lt e. e }
   asks_of action.Wait = tt
   asks_of action.Took = tt
   asks_of (action.Dial to r) = tt
@@ -252,25 +268,59 @@ steps_kept w b action.Memory queue = own_kept w b None
 
 -- WHAT THE OTHERS DO
 
-lower_spares : (w : World) (c : ℕ) (k : Change) → has_events w c ≡ true → LowerOpens w c k → Spares w k
-lower_spares w c k h s = record {
+some_both : {A : Type 0} (P Q R : A → Type 0) (o : Option A) → ((x : A) → P x → Q x → R x) → IfSome o P → IfSome o Q → IfSome o R
+some_both P Q R None f h k = tt
+some_both P Q R (Some x) f h k = f x h k
+
+stays_over : (w : World) (k : Change) → Stays w k → (c : ℕ) → reads_from (w.readers k.reader_at) c ≡ false → reads_from k.reader c ≡ false
+stays_over w k s c e = subst (λ (x : Reader). reads_from x c ≡ false) (sym s.reader) e
+
+lower_spares : (w : World) (c : ℕ) (k : Change) → has_events w c ≡ true → LowerOpens w c k → Stays w k → Spares w k
+lower_spares w c k h s r = record {
   lower = λ e. absurd (true_false (has_events w c) h (subst (λ (n : ℕ). has_events w n ≡ false) s.at_is e));
   writer = λ d lt e. subst (λ (x : Writing). is_conn x.conn d ≡ false) (sym s.writer_same) e;
+  reader = λ d lt e. stays_over w k r d e;
 }
 
-beside_spares : (w : World) (k : Change) → Beside w k → Spares w k
-beside_spares w k s = record {
+beside_spares : (w : World) (k : Change) → Beside w k → Stays w k → Spares w k
+beside_spares w k s r = record {
   lower = λ e. s.lower_same;
   writer = λ d lt e. subst (λ (x : Writing). is_conn x.conn d ≡ false) (sym s.writer_same) e;
+  reader = λ d lt e. stays_over w k r d e;
 }
 
--- A reader asks its node.
+-- A reader asks its node, over a connection that has a new number.
+dials_spares : (w : World) (i n : ℕ) (read : ReadOp) (answered : Bool) → Spares w (reader_dials w i n read answered)
+dials_spares w i n read true = record { lower = λ e. refl; writer = λ d lt e. e; reader = λ d lt e. above_so d w.next_conn lt }
+dials_spares w i n read false = record { lower = λ e. refl; writer = λ d lt e. e; reader = λ d lt e. refl }
+
+own_reader_spares : (x : Reader) (w : World) (i n : ℕ) (read : ReadOp) (answered : Bool) → IfSome (own_reader_as x w i n read answered) (Spares w)
+own_reader_spares no_reader w i n read answered = dials_spares w i n read (answered && w.running n)
+own_reader_spares (reads c s) w i n read answered = tt
+own_reader_spares (has_read b) w i n read answered = tt
+
 reader_kept : (w : World) (ask : ReadAsk) → Keeps w (happens w (asking_node ask true))
 unfolding happens outcome
 reader_kept w ask =
-    let k : Option Change = own_reader w ask.reader ask.node.0 (request_of ask) true in
     after_kept w (asking_node ask true) (outcome w (asking_node ask true))
-    (changed_kept w w k (keeps_same w) (some-weaker (Beside w) (Spares w) k (λ c s. beside_spares w c s) (own-reader-beside w ask.reader ask.node.0 (request_of ask) true)))
+    (changed_kept w w (own_reader w ask.reader ask.node.0 (request_of ask) true) (keeps_same w) (own_reader_spares (w.readers ask.reader) w ask.reader ask.node.0 (request_of ask) true))
+
+-- It hears something over the connection over which it reads: it reads on over it, or has read.
+turn_spares : (w : World) (i c d : ℕ) (s : ReadingState) (t : ReadTaken) (does : ReadTurn) → w.readers i ≡ reads d s → d ≡ c → Spares w (reader_turn w i c t does)
+turn_spares w i c d s t turn.Goes is same = record {
+  lower = λ e. refl;
+  writer = λ k lt e. e;
+  reader = λ k lt e. subst (λ (n : ℕ). (n == k) ≡ false) same (subst (λ (x : Reader). reads_from x k ≡ false) is e);
+}
+turn_spares w i c d s t turn.Verified is same = record { lower = λ e. refl; writer = λ k lt e. e; reader = λ k lt e. refl }
+turn_spares w i c d s t (turn.Fails f) is same = record { lower = λ e. refl; writer = λ k lt e. e; reader = λ k lt e. refl }
+
+reader_up_spares : (x : Reader) (w : World) (i c : ℕ) (n : Next) → w.readers i ≡ x → IfSome (reader_up_as x w i c n) (Spares w)
+reader_up_spares no_reader w i c n is = tt
+reader_up_spares (reads d s) w i c n is =
+    let t : ReadTaken = take_from s (from_node_of n) in
+    when-each (Spares w) (d == c) _ (λ same. turn_spares w i c d s t t.does is (eqb-true d c same))
+reader_up_spares (has_read b) w i c n is = tt
 
 -- a message leaves every end as it was
 message_over : (k : Marks) (x : Next) (y : Message) → x ≡ message y → k.over ≡ (marks_taken k x).over
@@ -304,10 +354,11 @@ module _ (w : World) (opens : OpenEnds w) (placed : Placed w) where
   down_next c answered (Some x) h =
       let v : World = down_taken w c x in
       changed_kept w v (lower_down (w.lowers c) v c x answered false) (down_kept w c x)
-      (some-weaker (LowerOpens v c) (Spares v) (lower_down (w.lowers c) v c x answered false) (λ k s. lower_spares v c k h s)
+      (some_both (LowerOpens v c) (Stays v) (Spares v) (lower_down (w.lowers c) v c x answered false) (λ k s. lower_spares v c k h s)
       (lower-down-opens v c (w.lowers c) x answered false
       (λ y e. below-over (w.lowers c) _ _ (put_over w.down_marks c (marks_taken (w.down_marks c) x) (message_over (w.down_marks c) x y e) c) (opens.below c))
-      (mirror_opens c) fresh))
+      (mirror_opens c) fresh)
+      (lower-down-stays (w.lowers c) v c x answered false))
 
   down_keeps : (conn : ConnId) (answered : Bool) → has_events w conn.0 ≡ true → Keeps w (happens w (event.Down conn answered))
   unfolding happens outcome
@@ -322,8 +373,9 @@ module _ (w : World) (opens : OpenEnds w) (placed : Placed w) where
       after_kept w (event.Ready conn) (outcome w (event.Ready conn))
       (when-each (Keeps w) (is_served w c) (changed w (lower_ready (w.lowers c) w c false))
       (λ _. changed_kept w w (lower_ready (w.lowers c) w c false) (keeps_same w)
-      (some-weaker (LowerOpens w c) (Spares w) (lower_ready (w.lowers c) w c false) (λ k s. lower_spares w c k h s)
-      (lower-ready-opens w c (w.lowers c) false (opens.below c) (mirror_opens c)))))
+      (some_both (LowerOpens w c) (Stays w) (Spares w) (lower_ready (w.lowers c) w c false) (λ k s. lower_spares w c k h s)
+      (lower-ready-opens w c (w.lowers c) false (opens.below c) (mirror_opens c))
+      (lower-ready-stays (w.lowers c) w c false))))
 
   -- the upper end may still take: a member has further events
   abbrev MayTake : Upper → Type 0
@@ -338,15 +390,17 @@ module _ (w : World) (opens : OpenEnds w) (placed : Placed w) where
   up_some c x (by_member d) h =
       let v : World = up_taken w c x in
       changed_kept w v (mirror_up (w.lowers d) v d x false) (up_kept w c x)
-      (some-weaker (LowerOpens v d) (Spares v) (mirror_up (w.lowers d) v d x false) (λ k s. lower_spares v d k h s)
+      (some_both (LowerOpens v d) (Stays v) (Spares v) (mirror_up (w.lowers d) v d x false) (λ k s. lower_spares v d k h s)
       (mirror-up-opens v d (w.lowers d) x false (opens.below d)
-      (λ y e. mirror-over w.up_marks v.up_marks (w.lowers d) (put_over w.up_marks c (marks_taken (w.up_marks c) x) (message_over (w.up_marks c) x y e)) (mirror_opens d))))
+      (λ y e. mirror-over w.up_marks v.up_marks (w.lowers d) (put_over w.up_marks c (marks_taken (w.up_marks c) x) (message_over (w.up_marks c) x y e)) (mirror_opens d)))
+      (mirror-up-stays (w.lowers d) v d x false))
   up_some c x (by_reader i) h =
       let v : World = up_taken w c x in
-      changed_kept w v (reader_up v i c x) (up_kept w c x) (some-weaker (Beside v) (Spares v) (reader_up v i c x) (λ k s. beside_spares v k s) (reader-up-beside v i c x))
+      changed_kept w v (reader_up v i c x) (up_kept w c x) (reader_up_spares (v.readers i) v i c x refl)
   up_some c x (by_primary i place) h =
       let v : World = up_taken w c x in
-      changed_kept w v (primary_up v i place c x) (up_kept w c x) (some-weaker (Beside v) (Spares v) (primary_up v i place c x) (λ k s. beside_spares v k s) (primary-up-beside v i place c x))
+      changed_kept w v (primary_up v i place c x) (up_kept w c x)
+      (some_both (Beside v) (Stays v) (Spares v) (primary_up v i place c x) (λ k s. beside_spares v k s) (primary-up-beside v i place c x) (primary-up-stays v i place c x))
 
   up_next : (c : ℕ) (o : Option Next) → MayTake (w.dialled c).upper → IfSome (up_as w c false o) (Keeps w)
   up_next c None h = tt

@@ -12,6 +12,7 @@ use Rattle.play_clients.specs.declared.clients.Client.{Client}
 use Rattle.play_nodes.specs.declared.connections.Upper.{Upper}
 use Rattle.play_nodes.specs.declared.connections.Upper.TheVariants as upper
 use Rattle.play_nodes.specs.declared.nodes.Nodes.{Nodes}
+use Rattle.play_reads.specs.declared.reads.Reads.{Reads}
 use Rattle.play_dues.specs.declared.conns.ConnDues.{ConnDues}
 use Rattle.play_dues.specs.Showing.{Tells}
 
@@ -26,12 +27,12 @@ writer_above other = None
 
 -- Whether it is due that the upper end takes what stands next.
 abbrev pub TellsUpper : {F R I O : Type 0} → roads.Ghosts R I O → link_in.Ghosts I → link_out.Ghosts O → ConnId →
-    Nodes F I O → List (Client I O) → R → R → Bool → Type 0
-TellsUpper r i o conn n clients road road' result =
-    Tells r i o n clients road road' (λ w queues. result ≡ is_due w queues (due.Up conn))
+    Nodes F I O → List (Client I O) → Reads I O → R → R → Bool → Type 0
+TellsUpper r i o conn n clients reads road road' result =
+    Tells r i o n clients reads road road' (λ w queues. result ≡ is_due w queues (due.Up conn))
 
 -- The list of what is due of a connection is the model's.
 abbrev pub TellsConn : {F R I O : Type 0} → roads.Ghosts R I O → link_in.Ghosts I → link_out.Ghosts O → ConnId →
-    Nodes F I O → List (Client I O) → R → R → ConnDues → Type 0
-TellsConn r i o conn n clients road road' result =
-    Tells r i o n clients road road' (λ w queues. listed conn result ≡ conn_dues w queues conn.0)
+    Nodes F I O → List (Client I O) → Reads I O → R → R → ConnDues → Type 0
+TellsConn r i o conn n clients reads road road' result =
+    Tells r i o n clients reads road road' (λ w queues. listed conn result ≡ conn_dues w queues conn.0)

@@ -1,9 +1,13 @@
 pub mod Showing
+pub mod Lowers
 pub mod Conns
 pub mod Writers
 pub mod Own
+pub mod Readers
+pub mod Steps
 pub mod Places
 pub mod Spent
+pub mod Spending
 pub mod Live
 pub mod Listing
 pub mod Drawing

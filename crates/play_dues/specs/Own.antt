@@ -1,5 +1,6 @@
 -- Which writers have an own step, as their clients tell.
-use Rattle.std.specs.Prelude.{◌≡◌, ℕ, List, [], ◌∷◌, ◌++◌, map, slice_get, Some}
+use Rattle.std.specs.Prelude.{◌≡◌, ℕ, List, map, slice_get, Some}
+use Rattle.std.specs.List.{flat_map}
 use Rattle.hd_base.specs.declared.links.LinkIn as link_in
 use Rattle.hd_base.specs.declared.links.LinkOut as link_out
 use Rattle.road_traffic.specs.Showing.{Net}
@@ -13,8 +14,7 @@ use Rattle.play_dues.specs.Showing.{QueueShows}
 
 -- the own steps that are due, in the order of the clients
 abbrev pub own_listed : {I O : Type 0} → List (Client I O) → List Due
-own_listed [] = []
-own_listed (c ∷ cs) = when (client_has_step c) (due.Own c.block) ++ own_listed cs
+own_listed clients = flat_map (λ c. when (client_has_step c) (due.Own c.block)) clients
 
 -- the blocks of the clients
 abbrev pub blocks_of : {I O : Type 0} → List (Client I O) → List ℕ

@@ -1,19 +1,21 @@
 -- Connections of which nothing will ever be due.
 use Rattle.std.specs.Prelude.{◌≡◌, ◌<◌, ℕ, ◌&&◌, not, Bool, true, false, []}
-use Rattle.world.specs.Parts.{Upper, by_writer, by_member}
+use Rattle.world.specs.Parts.{Upper, by_writer, by_member, by_reader}
 use Rattle.world.specs.Worlds.{World}
 use Rattle.world.specs.Connections.{is_conn}
+use Rattle.world.specs.Enabled.{reads_from}
 use Rattle.world.specs.Events.{run}
 use Rattle.play_model.specs.declared.dues.Due.{Due}
 use Rattle.play_model.specs.Dues.{Queues, is_due, conn_dues, due_events}
 use Rattle.play_nodes.specs.Dues.{IsOrderly}
 use Rattle.play_nodes.specs.Showing.{has_events}
 
--- The upper end takes nothing any more: the member that dialled has no further events, or the writer that did has no
--- connection or another one.
+-- The upper end takes nothing any more: the member that dialled has no further events, the writer that did has no
+-- connection or another one, or the reader that did doesn't read over it.
 abbrev pub is_given_up : World → ℕ → Upper → Bool
 is_given_up w c (by_writer b) = not (is_conn (w.writers b).conn c)
 is_given_up w c (by_member d) = not (has_events w d)
+is_given_up w c (by_reader i) = not (reads_from (w.readers i) c)
 is_given_up w c other = false
 
 -- neither the lower end nor the upper end has further events

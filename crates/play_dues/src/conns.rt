@@ -4,12 +4,14 @@ ghost use Rattle.std.specs.Prelude.{◌≡◌, ◌≤◌, length, option_map, sl
 ghost use Rattle.member_events.specs.Roads.{RoadsPass};
 ghost use Rattle.play_dues.specs.Conns.{listed, writer_above, TellsUpper, TellsConn};
 
+use crate::lowers::{lower_acts, lower_takes};
 use crate::places::client_of;
 use crate::writers::can_up;
 use hd_base::{BlockId, ConnId, Files, LinkIn, LinkOut, Roads};
 use play_clients::Client;
 use play_model::Due;
 use play_nodes::{Nodes, Upper};
+use play_reads::Reads;
 
 /// Which events of a connection are due.
 #[derive(Clone, Copy, Debug, PartialEq, Eq)]
@@ -60,30 +62,37 @@ impl ConnDues {
 pub fn dues_of<F: Files, I: LinkIn, O: LinkOut, R: Roads<Inward = I, Outward = O>>(
     nodes: &Nodes<F, I, O>,
     clients: &[Client<I, O>],
+    reads: &Reads<I, O>,
     roads: &mut R,
     conn: ConnId,
 ) -> ConnDues
-    ensures tells { TellsConn R.Roads I.LinkIn O.LinkOut conn nodes.now clients.now roads.old roads.new result }
+    ensures tells { TellsConn R.Roads I.LinkIn O.LinkOut conn
+        nodes.now clients.now reads.now roads.old roads.new result }
     ensures pass { RoadsPass R.Roads roads.old roads.new }
 {
-    let down = nodes.can_down(roads, conn);
-    let ready = nodes.can_ready(conn);
-    let up = upper_takes(nodes, clients, roads, conn);
+    let down = lower_takes(nodes, reads, roads, conn);
+    let ready = lower_acts(nodes, reads, conn);
+    let up = upper_takes(nodes, clients, reads, roads, conn);
     ConnDues { down, ready, up }
 }
 
-/// Whether the upper end of a connection takes what stands next: the member or the writer that dialled it.
+/// Whether the upper end of a connection takes what stands next: the member, the writer or the reader that dialled it.
 pub fn upper_takes<F: Files, I: LinkIn, O: LinkOut, R: Roads<Inward = I, Outward = O>>(
     nodes: &Nodes<F, I, O>,
     clients: &[Client<I, O>],
+    reads: &Reads<I, O>,
     roads: &mut R,
     conn: ConnId,
 ) -> bool
-    ensures tells { TellsUpper R.Roads I.LinkIn O.LinkOut conn nodes.now clients.now roads.old roads.new result }
+    ensures tells { TellsUpper R.Roads I.LinkIn O.LinkOut conn
+        nodes.now clients.now reads.now roads.old roads.new result }
     ensures pass { RoadsPass R.Roads roads.old roads.new }
 {
     if conn.0 as usize >= nodes.connections.len() {
         return false;
+    }
+    if nodes.is_elsewhere(conn) {
+        return reads.can_up(roads, nodes, conn);
     }
     let Some(block) = writer_of(nodes, conn) else {
         return nodes.can_up(roads, conn);

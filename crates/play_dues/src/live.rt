@@ -1,12 +1,21 @@
 //! The connections of which something may still be due.
 
-ghost use Rattle.std.specs.Prelude.{◌≡◌, not, filter, OnOk};
-ghost use Rattle.play_dues.specs.Live.{CoversNone, CurrentCovers, CoversOn, IsRefreshed, HasMore, spent_at};
+ghost use Rattle.std.specs.Prelude.{OnOk};
+ghost use Rattle.play_dues.specs.Live.{
+  CoversNone,
+  CurrentCovers,
+  CoversOn,
+  IsRefreshed,
+  HasMore,
+  TellsLive,
+  DropsSpent,
+};
 
 use crate::spending::is_spent;
 use hd_base::{ConnId, Files, LinkIn, LinkOut};
 use play_clients::Client;
 use play_nodes::Nodes;
+use play_reads::Reads;
 use std::alloc::{AllocError, Global};
 
 /// The connections of which something may still be due, so that nobody has to ask those that ended long ago.
@@ -34,13 +43,14 @@ impl LiveConns {
         &mut self,
         nodes: &Nodes<F, I, O>,
         clients: &[Client<I, O>],
+        reads: &Reads<I, O>,
     ) -> Result<(), AllocError>
-        ensures { OnOk result (IsRefreshed I.LinkIn O.LinkOut self.old self.new nodes.now clients.now) }
+        ensures { OnOk result (IsRefreshed I.LinkIn O.LinkOut self.old self.new nodes.now clients.now reads.now) }
     {
         let count = nodes.connections.len();
         add_numbers(&mut self.conns, self.known, count)?;
         self.known = count;
-        drop_spent(&mut self.conns, nodes, clients);
+        drop_spent(&mut self.conns, nodes, clients, reads);
         Ok(())
     }
 }
@@ -60,10 +70,15 @@ fn drop_spent<F: Files, I: LinkIn, O: LinkOut>(
     conns: &mut Vec<ConnId>,
     nodes: &Nodes<F, I, O>,
     clients: &[Client<I, O>],
+    reads: &Reads<I, O>,
 )
-    ensures { conns.new.items ≡ filter (λ c. not (spent_at nodes.now clients.now c)) conns.old.items }
+    ensures { DropsSpent I.LinkIn O.LinkOut conns.old.items conns.new.items nodes.now clients.now reads.now }
 {
-    conns.retain(|conn| !is_spent(nodes, clients, *conn));
+    conns.retain(
+        |conn|
+            ensures { TellsLive I.LinkIn O.LinkOut conn.now nodes.entry.now clients.entry.now reads.entry.now result }
+        { !is_spent(nodes, clients, reads, *conn) },
+    );
 }
 
 /// A list that is up to date covers its world, and the world after whatever is due in it.

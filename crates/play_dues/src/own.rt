@@ -21,7 +21,7 @@ pub fn count_own<I: LinkIn, O: LinkOut>(clients: &[Client<I, O>]) -> usize
 }
 
 /// The own step with this number.
-pub fn pick_own<I: LinkIn, O: LinkOut>(clients: &[Client<I, O>], number: usize) -> Option<Due>
+pub fn pick_own<I: LinkIn, O: LinkOut>(clients: &[Client<I, O>], number: u128) -> Option<Due>
     ensures { result ≡ slice_get (own_listed clients.now) number }
 {
     let mut rest = number;

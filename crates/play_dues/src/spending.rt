@@ -1,35 +1,51 @@
 //! Which connections are spent: nothing will ever be due of them.
 
 ghost use Rattle.std.specs.Prelude.{◌≡◌};
-ghost use Rattle.play_dues.specs.Live.{has_ended, lower_at, upper_at, has_conn_at, gave_up, spent_at};
 ghost use Rattle.play_dues.specs.Places.{client_place};
-ghost use Rattle.play_dues.specs.Spent.{NothingDue, SpentStay};
+ghost use Rattle.play_dues.specs.Spending.{has_shut, lower_at, has_conn_at, gave_up, TellsOf, TellsEnded};
+ghost use Rattle.play_dues.specs.Spent.{is_spent, NothingDue, SpentStay};
 
 use crate::places::client_of;
 use crate::writers::has_conn;
 use hd_base::{BlockId, ConnId, Files, LinkIn, LinkOut};
 use play_clients::Client;
 use play_nodes::{Lower, Nodes, Upper};
+use play_reads::Reads;
 
 /// Whether nothing will ever be due of a connection: its lower end has no further events, and whoever dialled it takes
-/// nothing from it any more.
+/// nothing from it any more. Of a number that no connection has the answer is no.
 pub fn is_spent<F: Files, I: LinkIn, O: LinkOut>(
     nodes: &Nodes<F, I, O>,
     clients: &[Client<I, O>],
+    reads: &Reads<I, O>,
     conn: ConnId,
 ) -> bool
-    ensures { result ≡ spent_at nodes.now clients.now conn }
+    ensures { TellsOf I.LinkIn O.LinkOut is_spent conn nodes.now clients.now reads.now result }
 {
-    has_ended(nodes, conn) && has_given_up(nodes, clients, conn)
+    has_ended(nodes, reads, conn) && has_given_up(nodes, clients, reads, conn)
 }
 
-/// Whether the lower end of a connection has no further events. Of one that is kept elsewhere it isn't known.
-fn has_ended<F: Files, I, O>(nodes: &Nodes<F, I, O>, conn: ConnId) -> bool
-    ensures { result ≡ has_ended (lower_at nodes.now conn.0) }
+/// Whether the lower end of a connection has no further events.
+fn has_ended<F: Files, I: LinkIn, O: LinkOut>(
+    nodes: &Nodes<F, I, O>,
+    reads: &Reads<I, O>,
+    conn: ConnId,
+) -> bool
+    ensures { TellsEnded I.LinkIn O.LinkOut conn nodes.now reads.now result }
+{
+    if nodes.is_elsewhere(conn) {
+        return reads.has_ended(conn);
+    }
+    has_shut(nodes, conn)
+}
+
+/// Whether the lower end of a connection, which stands among the nodes, has no further events.
+fn has_shut<F: Files, I, O>(nodes: &Nodes<F, I, O>, conn: ConnId) -> bool
+    ensures { result ≡ has_shut (lower_at nodes.now conn.0) }
 {
     let conn = conn.0 as usize;
     if conn >= nodes.connections.len() {
-        return true;
+        return false;
     }
     match &nodes.connections[conn].lower {
         Lower::Idle(_) | Lower::Member { .. } | Lower::Elsewhere => false,
@@ -37,14 +53,15 @@ fn has_ended<F: Files, I, O>(nodes: &Nodes<F, I, O>, conn: ConnId) -> bool
     }
 }
 
-/// Whether whoever dialled a connection takes nothing from it any more: the member has no further events, or the writer
-/// has no connection or another one. Of a reader or a primary it isn't known.
+/// Whether whoever dialled a connection takes nothing from it any more: the member has no further events, the writer
+/// has no connection or another one, or the reader doesn't read over it.
 fn has_given_up<F: Files, I: LinkIn, O: LinkOut>(
     nodes: &Nodes<F, I, O>,
     clients: &[Client<I, O>],
+    reads: &Reads<I, O>,
     conn: ConnId,
 ) -> bool
-    ensures { result ≡ gave_up nodes.now clients.now conn.0 (upper_at nodes.now conn.0) }
+    ensures { TellsOf I.LinkIn O.LinkOut gave_up conn nodes.now clients.now reads.now result }
 {
     let at = conn.0 as usize;
     if at >= nodes.connections.len() {
@@ -52,8 +69,9 @@ fn has_given_up<F: Files, I: LinkIn, O: LinkOut>(
     }
     match nodes.connections[at].upper {
         Upper::Writer { block } => !is_connected(clients, block, conn),
-        Upper::Member { conn } => has_ended(nodes, conn),
-        Upper::Reader { .. } | Upper::Primary { .. } => false,
+        Upper::Member { conn: above } => has_ended(nodes, reads, above),
+        Upper::Reader { .. } => !reads.reads_over(nodes, conn),
+        Upper::Primary { .. } => false,
     }
 }
 

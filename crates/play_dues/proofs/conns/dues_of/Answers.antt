@@ -5,10 +5,10 @@ use Rattle.play_dues.proofs.conns.dues_of.Goals as goal
 
 pub returns-clause-tells : goal.returns-clause-tells
 returns-clause-tells g c =
-    conn_told g.R.Roads g.I.LinkIn g.O.LinkOut c.args.nodes.now c.args.clients.now c.args.conn c.args.roads.now c.can_down-down.new.roads c.upper_takes-up.new.roads
-    (record { down = c.can_down-down.result; ready = c.can_ready-ready.result; up = c.upper_takes-up.result })
-    c.can_down-down.ensures.tells c.can_ready-ready.ensures c.upper_takes-up.ensures.tells
+    conn_told g.R.Roads g.I.LinkIn g.O.LinkOut c.args.nodes.now c.args.clients.now c.args.reads.now c.args.conn c.args.roads.now c.lower_takes-down.new.roads c.upper_takes-up.new.roads
+    (record { down = c.lower_takes-down.result; ready = c.lower_acts-ready.result; up = c.upper_takes-up.result })
+    c.lower_takes-down.ensures.tells c.lower_acts-ready.ensures c.upper_takes-up.ensures.tells
 
 pub returns-clause-pass : goal.returns-clause-pass
 returns-clause-pass g c =
-    pass_on g.R.Roads g.I.LinkIn g.O.LinkOut c.args.roads.now c.can_down-down.new.roads c.upper_takes-up.new.roads c.can_down-down.ensures.pass c.upper_takes-up.ensures.pass
+    pass_on g.R.Roads g.I.LinkIn g.O.LinkOut c.args.roads.now c.lower_takes-down.new.roads c.upper_takes-up.new.roads c.lower_takes-down.ensures.pass c.upper_takes-up.ensures.pass

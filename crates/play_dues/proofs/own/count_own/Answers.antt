@@ -1,5 +1,7 @@
 -- One client more.
 use Rattle.std.proofs.Common.{sym, ◌∙◌, arith}
+use Rattle.play_model.specs.declared.dues.Due.TheVariants as due
+use Rattle.play_clients.specs.Clients.{client_has_step}
 use Rattle.play_dues.proofs.CountLaws.{counts_one, counts_none}
 use Rattle.play_dues.proofs.own.count_own.Goals as goal
 use Rattle.play_dues.proofs.own.count_own.Goals.{then-has_step, else-has_step}
@@ -8,8 +10,10 @@ pub loop-client-preserved : goal.loop-client-preserved
 loop-client-preserved g c = elim c.if-has_step.branch [
   | then-has_step w ↦
       let le = c.loop-client.invariant.1 in
-      rw (w.count-is) (counts_one c.args.clients.now c.loop-client.client-index c.client-item.result c.loop-client.count c.loop-client-test.true c.client-item.is (sym c.has_step.ensures ∙ w.if-has_step.true) c.loop-client.invariant.0, omega arith)
+      rw (w.count-is)
+      (counts_one (λ x. client_has_step x) (λ x. due.Own x.block) c.args.clients.now c.loop-client.client-index c.client-item.result c.loop-client-test.true c.client-item.is c.loop-client.count (sym c.has_step.ensures ∙ w.if-has_step.true) c.loop-client.invariant.0, omega arith)
   | else-has_step w ↦
       let le = c.loop-client.invariant.1 in
-      rw (w.count-is) (counts_none c.args.clients.now c.loop-client.client-index c.client-item.result c.loop-client.count c.loop-client-test.true c.client-item.is (sym c.has_step.ensures ∙ w.if-has_step.false) c.loop-client.invariant.0, omega arith)
+      rw (w.count-is)
+      (counts_none (λ x. client_has_step x) (λ x. due.Own x.block) c.args.clients.now c.loop-client.client-index c.client-item.result c.loop-client-test.true c.client-item.is c.loop-client.count (sym c.has_step.ensures ∙ w.if-has_step.false) c.loop-client.invariant.0, omega arith)
 ]

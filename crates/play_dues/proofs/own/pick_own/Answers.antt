@@ -1,5 +1,7 @@
 -- One client more.
 use Rattle.std.proofs.Common.{sym, ◌∙◌}
+use Rattle.play_model.specs.declared.dues.Due.TheVariants as due
+use Rattle.play_clients.specs.Clients.{client_has_step}
 use Rattle.play_dues.proofs.CountLaws.{picks_later, picks_past}
 use Rattle.play_dues.proofs.own.pick_own.Goals as goal
 use Rattle.play_dues.proofs.own.pick_own.Goals.{then-has_step+else-rest-eq0, else-has_step}
@@ -7,7 +9,9 @@ use Rattle.play_dues.proofs.own.pick_own.Goals.{then-has_step+else-rest-eq0, els
 pub loop-client-preserved : goal.loop-client-preserved
 loop-client-preserved g c = elim c.if-has_step.branch [
   | then-has_step+else-rest-eq0 w ↦
-      rw (w.rest-is) (picks_later c.args.clients.now c.loop-client.client-index c.client-item.result c.loop-client.rest c.args.number c.loop-client-test.true c.client-item.is (sym c.has_step.ensures ∙ w.if-has_step.true) w.if-rest-eq0.false c.loop-client.invariant)
+      rw (w.rest-is)
+      (picks_later (λ x. client_has_step x) (λ x. due.Own x.block) c.args.clients.now c.loop-client.client-index c.client-item.result c.loop-client-test.true c.client-item.is c.loop-client.rest c.args.number (sym c.has_step.ensures ∙ w.if-has_step.true) w.if-rest-eq0.false c.loop-client.invariant)
   | else-has_step w ↦
-      rw (w.rest-is) (picks_past c.args.clients.now c.loop-client.client-index c.client-item.result c.loop-client.rest c.args.number c.loop-client-test.true c.client-item.is (sym c.has_step.ensures ∙ w.if-has_step.false) c.loop-client.invariant)
+      rw (w.rest-is)
+      (picks_past (λ x. client_has_step x) (λ x. due.Own x.block) c.args.clients.now c.loop-client.client-index c.client-item.result c.loop-client-test.true c.client-item.is c.loop-client.rest c.args.number (sym c.has_step.ensures ∙ w.if-has_step.false) c.loop-client.invariant)
 ]
