@@ -1,5 +1,6 @@
 pub mod TextLemmas
 pub mod AnswerLemmas
+pub mod ReadLemmas
 pub mod RowLemmas
 pub mod ReplicaLemmas
 pub mod ReportLemmas

@@ -1,6 +1,6 @@
 -- What is written is the report of each world that nodes and clients show.
 use Rattle.std.proofs.Common.{◌≡◌, ◌<◌, ◌≤◌, ℕ, zero, suc, Bool, true, false, cond, List, [], ◌∷◌, ◌++◌, length, slice_get, Option, Some, None, IsSome, ◌⊎◌, inl, inr, refl, sym, ap, subst, ◌∙◌, arith}
-use Rattle.std.specs.Prelude.{flat_map, unwrap_or, IfSome, min}
+use Rattle.std.specs.Prelude.{map, flat_map, unwrap_or, IfSome, min}
 use Rattle.std.specs.Global.{Vec}
 use Rattle.std.proofs.lemmas.Bool.{cases_lt}
 use Rattle.std.proofs.lemmas.List.{append-nil}
@@ -19,6 +19,7 @@ use Rattle.play_nodes.specs.Places.{book_at}
 use Rattle.play_nodes.specs.Showing.{NodesShow, runs_in, TellsRunning}
 use Rattle.play_nodes.proofs.PlaceLaws.{element_within, same_some, book_found, book_missing, book_within}
 use Rattle.play_nodes.proofs.Tables.{element}
+use Rattle.play_readers.specs.declared.clients.ReadClient.{ReadClient}
 use Rattle.play_scripts.specs.Blocks.{numbers}
 use Rattle.replica_files.specs.Books.{replica_of}
 use Rattle.replica_files.specs.Laws.{IsWhole}
@@ -34,9 +35,11 @@ use Rattle.world.specs.Parts as parts
 use Rattle.world.specs.Worlds.{World}
 use Rattle.play_report.specs.declared.rows.Row.{Row}
 use Rattle.play_report.specs.Answers.{lines_text, answer_lines, said_in, client_lines}
+use Rattle.play_report.specs.Reads.{read_line, read_lines, client_read}
 use Rattle.play_report.specs.Replicas.{SumTable, info_lines, replica_lines, replicas_lines, node_lines, nodes_lines, rows_lines, all_lines}
 use Rattle.play_report.specs.Reports.{all_answers, AreSums, Reports}
 use Rattle.play_report.specs.Rows.{IsRow, AreRows, AreRowsIf, NodesHaveRows}
+use Rattle.play_report.proofs.ReadLemmas.{reads_are}
 use Rattle.play_report.proofs.ReplicaLemmas.{row_is, sum_found, found_at, rows_are}
 use Rattle.play_report.proofs.TextLemmas.{text_more, upto_same}
 use Rattle.play_model.specs.Dues.{upto}
@@ -177,29 +180,39 @@ module _ {F I O : Type 0} (f : files.Ghosts F) (i : link_in.Ghosts I) (o : link_
 
 -- THE TEXT
 
-pub report_is : {F I O : Type 0} (f : files.Ghosts F) (i : link_in.Ghosts I) (o : link_out.Ghosts O) (count : ℕ) (running : List Bool) (n : Nodes F I O) (clients : List (Client I O)) (lines : List ScriptLine) (all : List (Vec Row)) (text : List ℕ)
+pub report_is : {F I O : Type 0} (f : files.Ghosts F) (i : link_in.Ghosts I) (o : link_out.Ghosts O) (count : ℕ) (running : List Bool) (n : Nodes F I O) (clients : List (Client I O)) (reads : List (ReadClient I O)) (lines : List ScriptLine) (all : List (Vec Row)) (text : List ℕ)
     → NodesHaveRows f count running n.nodes.items all
-    → text ≡ (lines_text (all_lines running n.blocks.items all count) ++ lines_text (flat_map (λ (c : Client I O). client_lines lines c) clients)) ++ printed line.End
-    → Reports f i o count running n clients lines text
-report_is {F} {I} {O} f i o count running n clients lines all text rows is = λ w net na ca.
+    → text ≡ ((lines_text (all_lines running n.blocks.items all count) ++ lines_text (flat_map (λ (c : Client I O). client_lines lines c) clients)) ++ lines_text (map client_read reads)) ++ printed line.End
+    → Reports f i o count running n clients reads lines text
+report_is {F} {I} {O} f i o count running n clients reads lines all text rows is = λ w net na ca ra.
     let sums = table n.blocks.items all in
     let blocks = numbers n.blocks.items in
-    let answers = clients_are w lines clients ca.said ∙ ap (λ (bs : List ℕ). all_answers w bs lines) ca.blocks in
     record {
       sums = sums;
       are = sums_are f i o w net n na.show count running all rows na.count_is na.tells;
-      text_is = is ∙ (ap (λ (xs : List ReportLine). (lines_text xs ++ lines_text (flat_map (λ (c : Client I O). client_lines lines c) clients)) ++ printed line.End) (nodes_are f i o w net n na.show count running all rows na.count_is na.tells) ∙
-          (ap (λ (xs : List ReportLine). (lines_text (nodes_lines w sums blocks) ++ lines_text xs) ++ printed line.End) answers ∙
-          whole (nodes_lines w sums blocks) (all_answers w blocks lines)));
+      text_is = is ∙ (parts _ (nodes_lines w sums blocks) _ (all_answers w blocks lines) _ (read_lines w lines)
+          (nodes_are f i o w net n na.show count running all rows na.count_is na.tells)
+          (clients_are w lines clients ca.said ∙ ap (λ (bs : List ℕ). all_answers w bs lines) ca.blocks)
+          (reads_are i o w net reads ra.each ∙ ap (map (read_line w)) ra.numbers) ∙
+          whole (nodes_lines w sums blocks) (all_answers w blocks lines) (read_lines w lines));
     }
   where
-    whole : (xs ys : List ReportLine) → (lines_text xs ++ lines_text ys) ++ printed line.End ≡ lines_text ((xs ++ ys) ++ line.End ∷ [])
-    whole xs ys = ap (λ (t : List ℕ). t ++ printed line.End) (sym (text_more xs ys)) ∙ (ap (λ (t : List ℕ). lines_text (xs ++ ys) ++ t) (sym (append-nil (printed line.End))) ∙ sym (text_more (xs ++ ys) (line.End ∷ [])))
+    parts : (xs xs' ys ys' zs zs' : List ReportLine) → xs ≡ xs' → ys ≡ ys' → zs ≡ zs'
+        → ((lines_text xs ++ lines_text ys) ++ lines_text zs) ++ printed line.End ≡ ((lines_text xs' ++ lines_text ys') ++ lines_text zs') ++ printed line.End
+    parts xs xs' ys ys' zs zs' e f g =
+        ap (λ (ls : List ReportLine). ((lines_text ls ++ lines_text ys) ++ lines_text zs) ++ printed line.End) e ∙
+        (ap (λ (ls : List ReportLine). ((lines_text xs' ++ lines_text ls) ++ lines_text zs) ++ printed line.End) f ∙
+        ap (λ (ls : List ReportLine). ((lines_text xs' ++ lines_text ys') ++ lines_text ls) ++ printed line.End) g)
 
--- Three parts are appended to nothing.
-pub three_parts : (t0 t1 t2 t3 xs ys zs end : List ℕ) → t0 ≡ [] → t1 ≡ t0 ++ xs → xs ≡ zs → t2 ≡ t1 ++ ys → t3 ≡ t2 ++ end → t3 ≡ (zs ++ ys) ++ end
-three_parts t0 t1 t2 t3 xs ys zs end none one same two three =
-    three ∙ ap (λ (t : List ℕ). t ++ end) (two ∙ ap (λ (t : List ℕ). t ++ ys) (one ∙ (ap (λ (t : List ℕ). t ++ xs) none ∙ same)))
+    whole : (xs ys zs : List ReportLine) → ((lines_text xs ++ lines_text ys) ++ lines_text zs) ++ printed line.End ≡ lines_text (((xs ++ ys) ++ zs) ++ line.End ∷ [])
+    whole xs ys zs =
+        ap (λ (t : List ℕ). (t ++ lines_text zs) ++ printed line.End) (sym (text_more xs ys)) ∙ (ap (λ (t : List ℕ). t ++ printed line.End) (sym (text_more (xs ++ ys) zs)) ∙
+        (ap (λ (t : List ℕ). lines_text ((xs ++ ys) ++ zs) ++ t) (sym (append-nil (printed line.End))) ∙ sym (text_more ((xs ++ ys) ++ zs) (line.End ∷ []))))
+
+-- Four parts are appended to nothing.
+pub four_parts : (t0 t1 t2 t3 t4 xs ys zs ws end : List ℕ) → t0 ≡ [] → t1 ≡ t0 ++ xs → xs ≡ ws → t2 ≡ t1 ++ ys → t3 ≡ t2 ++ zs → t4 ≡ t3 ++ end → t4 ≡ ((ws ++ ys) ++ zs) ++ end
+four_parts t0 t1 t2 t3 t4 xs ys zs ws end none one same two three four =
+    four ∙ ap (λ (t : List ℕ). t ++ end) (three ∙ ap (λ (t : List ℕ). t ++ zs) (two ∙ ap (λ (t : List ℕ). t ++ ys) (one ∙ (ap (λ (t : List ℕ). t ++ xs) none ∙ same))))
 
 pub same_lines : (running : List Bool) (blocks bs : List BlockId) (all rs : List (Vec Row)) (count : ℕ) → bs ≡ blocks → rs ≡ all → lines_text (all_lines running bs rs count) ≡ lines_text (all_lines running blocks all count)
 same_lines running blocks bs all rs count e f =

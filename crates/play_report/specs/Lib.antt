@@ -1,5 +1,6 @@
 pub mod Results
 pub mod Answers
+pub mod Reads
 pub mod Rows
 pub mod Replicas
 pub mod Reports

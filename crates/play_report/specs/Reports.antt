@@ -1,5 +1,5 @@
 -- The report of a play.
-use Rattle.std.specs.Prelude.{ℕ, ◌≡◌, ◌<◌, Bool, true, List, [], ◌∷◌, ◌++◌, flat_map, slice_get, Some, IfSome}
+use Rattle.std.specs.Prelude.{ℕ, ◌≡◌, ◌<◌, Bool, true, List, [], ◌∷◌, ◌++◌, map, flat_map, slice_get, Some, IfSome}
 use Rattle.chunk_sums.specs.Crc.{sum_of}
 use Rattle.hd_base.specs.declared.files.Files as files
 use Rattle.hd_base.specs.declared.links.LinkIn as link_in
@@ -11,7 +11,10 @@ use Rattle.play_dues.specs.Own.{blocks_of}
 use Rattle.play_nodes.specs.declared.nodes.Nodes.{Nodes}
 use Rattle.play_nodes.specs.Places.{book_at}
 use Rattle.play_nodes.specs.Showing.{NodesShow, TellsRunning}
+use Rattle.play_readers.specs.Clients.{ReadClientShows}
+use Rattle.play_readers.specs.declared.clients.ReadClient.{ReadClient}
 use Rattle.play_scripts.specs.Blocks.{numbers}
+use Rattle.play_scripts.specs.Reads.{read_numbers, readers_of}
 use Rattle.replica_files.specs.Laws.{IsWhole}
 use Rattle.replica_files.specs.declared.book_state.BookState.{BookState}
 use Rattle.road_traffic.specs.Showing.{Net}
@@ -20,6 +23,7 @@ use Rattle.script_lang.specs.declared.report.ReportLine.{ReportLine}
 use Rattle.script_lang.specs.declared.report.ReportLine.TheVariants as line
 use Rattle.world.specs.Worlds.{World}
 use Rattle.play_report.specs.Answers.{lines_text, answer_lines, said_in}
+use Rattle.play_report.specs.Reads.{read_lines}
 use Rattle.play_report.specs.Replicas.{SumTable, nodes_lines}
 
 -- THE REPORT
@@ -28,10 +32,11 @@ use Rattle.play_report.specs.Replicas.{SumTable, nodes_lines}
 abbrev pub all_answers : World → List ℕ → List ScriptLine → List ReportLine
 all_answers w blocks lines = flat_map (λ b. answer_lines b (w.said b) 0 lines) blocks
 
--- The report of a world, after these lines of a script with these blocks: the replicas node by node, with these sums, and
--- which nodes are down; the answers block by block; the end.
+-- The report of a world, after these lines of a script with these blocks: the replicas node by node, with these sums,
+-- and which nodes are down; the answers block by block; what was read line by line; the end.
 abbrev pub report_lines : World → SumTable → List ℕ → List ScriptLine → List ReportLine
-report_lines w sums blocks lines = (nodes_lines w sums blocks ++ all_answers w blocks lines) ++ line.End ∷ []
+report_lines w sums blocks lines =
+    ((nodes_lines w sums blocks ++ all_answers w blocks lines) ++ read_lines w lines) ++ line.End ∷ []
 
 -- its text
 abbrev pub report_text : World → SumTable → List ℕ → List ScriptLine → List ℕ
@@ -51,6 +56,12 @@ pub record ClientsAre {F I O : Type 0} (w : World) (n : Nodes F I O) (clients : 
   pub blocks : blocks_of clients ≡ numbers n.blocks.items
   pub said : (k : ℕ) (c : Client I O) → slice_get clients k ≡ Some c → said_in c.said.items ≡ w.said c.block.0
 
+-- The reading clients are those of the lines that read, in their order, and each shows its reader.
+pub record ReadersAre {I O : Type 0} (i : link_in.Ghosts I) (o : link_out.Ghosts O) (w : World) (net : Net)
+    (reads : List (ReadClient I O)) (lines : List ScriptLine) : Type 0 where
+  pub numbers : readers_of (map (λ c. c.ask) reads) ≡ read_numbers lines
+  pub each : (k : ℕ) (c : ReadClient I O) → slice_get reads k ≡ Some c → ReadClientShows i o w net c
+
 -- Where the files of a replica that is neither absent nor broken are observable, and its node runs, its sum is the CRC32C
 -- of its bytes.
 abbrev pub AreSums : {F I O : Type 0} → files.Ghosts F → World → Nodes F I O → SumTable → Type 0
@@ -68,6 +79,8 @@ pub record IsReport {F I O : Type 0} (f : files.Ghosts F) (w : World) (n : Nodes
 
 -- So it is of each world that nodes and clients show.
 abbrev pub Reports : {F I O : Type 0} → files.Ghosts F → link_in.Ghosts I → link_out.Ghosts O → ℕ → List Bool →
-    Nodes F I O → List (Client I O) → List ScriptLine → List ℕ → Type 0
-Reports f i o count running n clients lines text =
-    (w : World) (net : Net) → NodesAre i o count running w net n → ClientsAre w n clients → IsReport f w n lines text
+    Nodes F I O → List (Client I O) → List (ReadClient I O) → List ScriptLine → List ℕ → Type 0
+Reports f i o count running n clients reads lines text =
+    (w : World) (net : Net) → NodesAre i o count running w net n → ClientsAre w n clients →
+    ReadersAre i o w net reads lines
+    → IsReport f w n lines text

@@ -1,11 +1,12 @@
-//! The report of a play: what the replicas and the answers to the commands were in the end, and whether the replicas
-//! are as a script expects them.
+//! The report of a play: what the replicas, the answers to the commands and the results of the reads were in the end,
+//! and whether the replicas are as a script expects them.
 #![tactic(auto)]
 
 mod answers;
 mod expecting;
 mod faults;
 mod laws;
+mod reads;
 mod replicas;
 mod report;
 mod results;

@@ -1,7 +1,9 @@
 pub mod MemberWords
 pub mod Formed
+pub mod NumberingLemmas
 pub mod Scripted
 pub mod Placed
 pub mod Distinct
 pub mod UnplayedLemmas
+pub mod AskLemmas
 mod StormFits

@@ -16,7 +16,9 @@ use Rattle.script_lang.specs.Scripts.{line_said, line_rules, words_said, most_li
 use Rattle.script_lang.specs.Grammar.{numbered, AreGood, EachScript, NamesItsNodes}
 use Rattle.script_lang.proofs.SaidLaws.{kept}
 use Rattle.play_scripts.specs.Fitting.{MembersFit, WordsFit, LinesFit, begun, ScriptsFit}
+use Rattle.play_scripts.specs.Numbering.{LinesAscend}
 use Rattle.play_scripts.proofs.Formed.{AreFormed, IsFormed, HeadIs, head_stays, line_formed}
+use Rattle.play_scripts.proofs.NumberingLemmas.{ascend_from, good_ascend}
 
 -- ONE LINE AFTER THE OTHER
 
@@ -67,6 +69,7 @@ words_fit nodes (says.Sums block rule) f names = f
 words_fit nodes (says.Create block members) f names = members_fit nodes members f names
 words_fit nodes (says.Append block members) f names = members_fit nodes members f names
 words_fit nodes (says.Write block bytes) f names = f
+words_fit nodes (says.Read block at offset count) f names = names
 words_fit nodes _ f names = tt
 
 -- a line behind the head leaves the number of nodes
@@ -94,6 +97,7 @@ script_fits names shelves text said s = record {
   shelved = n.shelved;
   lines = lines_fit (begun n.nodes n.seed) n.nodes n.body refl formed.2.2 n.named;
   count = omega (arith, count);
+  ascend = ascend_from 0 (n.second + 1) n.body (omega arith) ascent.1.1;
 } where
   n : NamesItsNodes shelves said
   n = names shelves text said s
@@ -103,3 +107,6 @@ script_fits names shelves text said s = record {
 
   count : 1 + length (numbered n.first (says.Nodes n.nodes) ∷ numbered n.second (says.Seed n.seed) ∷ n.body) ≤ most_lines + 1
   count = subst (λ (l : List ScriptLine). 1 + length l ≤ most_lines + 1) n.parts (few_lines shelves 1 start (lines_of text) said (omega arith) s.good)
+
+  ascent : LinesAscend 1 (numbered n.first (says.Nodes n.nodes) ∷ numbered n.second (says.Seed n.seed) ∷ n.body)
+  ascent = subst (LinesAscend 1) n.parts (good_ascend shelves 1 start (lines_of text) said s.good)

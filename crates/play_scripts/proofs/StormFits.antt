@@ -15,6 +15,7 @@ use Rattle.world.specs.Clients.{are_members}
 use Rattle.play_laws.specs.Members.{AreAll, IsNode}
 use Rattle.play_scripts.specs.Fitting.{MembersFit, LineFits, LinesFit, begun}
 use Rattle.play_scripts.specs.Storms.{StormsFit}
+use Rattle.play_scripts.proofs.NumberingLemmas.{ascend_from, Counted, counted_more, counted_ascend}
 
 -- LINES
 
@@ -31,13 +32,21 @@ leaves_more : (before : Before) (lines : List ScriptLine) (l : ScriptLine) → l
 leaves_more before [] l = refl
 leaves_more before (x ∷ lines) l = leaves_more (after before x.instruction) lines l
 
--- A storm's script so far: its lines behind the head fit, are at most so many, and leave this.
+-- A storm's script so far: its lines behind the head fit, are counted on from the head's, are at most so many, and leave
+-- this.
 record Made (number : ℕ) (m : Making) (most : ℕ) (b : Before) : Type 0 where
   body : List ScriptLine
   parts : m.lines ≡ numbered 1 (line.Nodes 5) ∷ (numbered 2 (line.Seed number) ∷ body)
   fits : LinesFit (begun 5 number) body
   left : leaves (begun 5 number) body ≡ b
   few : length body ≤ most
+  counted : Counted 3 body
+
+-- the number of the line behind a head of two lines and some others
+next_number : (all body : List ScriptLine) (a b : ScriptLine) → all ≡ a ∷ (b ∷ body) → length all + 1 ≡ 3 + length body
+next_number all body a b e =
+    let same : length all ≡ length (a ∷ (b ∷ body)) = ap length e in
+    omega (arith, same)
 
 said : (number : ℕ) (m : Making) (most : ℕ) (b : Before) (i : Instruction) → Made number m most b → LineFits b i → Made number (says i m) (most + 1) (after b i)
 said number m most b i made fits =
@@ -48,15 +57,16 @@ said number m most b i made fits =
       fits = fits_more (begun 5 number) made.body l made.fits (subst (λ (x : Before). LineFits x i) (sym made.left) fits);
       left = leaves_more (begun 5 number) made.body l ∙ ap (λ (x : Before). after x i) made.left;
       few = omega (arith, length-append made.body (l ∷ []), made.few);
+      counted = counted_more 3 made.body l made.counted (next_number m.lines made.body (numbered 1 (line.Nodes 5)) (numbered 2 (line.Seed number)) made.parts);
     }
 
 -- The same with another generator.
 drew : (number : ℕ) (m : Making) (most : ℕ) (b : Before) → Made number m most b → Made number (advanced m) most b
-drew number m most b made = record { body = made.body; parts = made.parts; fits = made.fits; left = made.left; few = made.few }
+drew number m most b made = record { body = made.body; parts = made.parts; fits = made.fits; left = made.left; few = made.few; counted = made.counted }
 
 -- The same of no more lines.
 fewer : (number : ℕ) (m : Making) (few most : ℕ) (b : Before) → few ≤ most → Made number m few b → Made number m most b
-fewer number m few most b le made = record { body = made.body; parts = made.parts; fits = made.fits; left = made.left; few = omega (arith, le, made.few) }
+fewer number m few most b le made = record { body = made.body; parts = made.parts; fits = made.fits; left = made.left; few = omega (arith, le, made.few); counted = made.counted }
 
 -- MEMBERS
 
@@ -317,7 +327,7 @@ all_closed number m (suc n) most h at =
 head : (number : ℕ) → At number (storm_begun number) 0 (λ b. Creating b 0)
 head number = record {
   before = begun 5 number;
-  made = record { body = []; parts = refl; fits = tt; left = refl; few = omega arith };
+  made = record { body = []; parts = refl; fits = tt; left = refl; few = omega arith; counted = tt };
   is = record { nodes = refl; created = refl; opened = λ j h. absurd (omega (arith, h)); there = λ j h. absurd (omega (arith, h)); fresh = λ j h. refl; runs = λ d. refl; written = refl };
 }
 
@@ -348,4 +358,5 @@ storms_fit shelves number enough =
       shelved = enough;
       lines = e.made.fits;
       count = omega (arith, e.made.few);
+      ascend = ascend_from 0 3 e.made.body (omega arith) (counted_ascend 3 e.made.body e.made.counted);
     }

@@ -4,7 +4,7 @@ use Rattle.std.specs.Prelude.{not}
 use Rattle.script_lang.specs.declared.instructions.Instruction.{Instruction}
 use Rattle.script_lang.specs.declared.instructions.Instruction.TheVariants as says
 use Rattle.script_lang.specs.declared.instructions.ScriptLine.{ScriptLine}
-use Rattle.play_scripts.specs.Unplayed.{is_unplayed, ArePlayed, StartIsTold, StartsAreTold}
+use Rattle.play_scripts.specs.Unplayed.{is_unplayed, ArePlayed, LineIsTold, LinesAreTold}
 
 -- the line that is found
 abbrev first_line : Bool → List ScriptLine → Option ScriptLine
@@ -31,17 +31,18 @@ found_none told lines o b e is =
     let some : is_some (first_line told lines) ≡ b = sym (ap is_some e) ∙ (same_kind o ∙ is) in
     (λ none. none_unplayed told lines (some ∙ none), λ played. sym some ∙ all_played told lines played)
 
--- STARTS
+-- LINES THAT ARE TOLD
 
 is_told : (told : Bool) → not told ≡ false → told ≡ true
 is_told true e = refl
 is_told false e = cc
 
-start_told : (told : Bool) (i : Instruction) → is_unplayed told i ≡ false → StartIsTold told i
-start_told told (says.Start node) e = is_told told e
-start_told told _ e = tt
+line_told : (told : Bool) (i : Instruction) → is_unplayed told i ≡ false → LineIsTold told i
+line_told told (says.Start node) e = is_told told e
+line_told told (says.Read block node offset count) e = is_told told e
+line_told told _ e = tt
 
--- Of lines that plays have the starts are over shelves that tell.
-pub played_told : (told : Bool) (lines : List ScriptLine) → ArePlayed told lines → StartsAreTold told lines
+-- Of lines that plays have the starts and the reads are over shelves that tell.
+pub played_told : (told : Bool) (lines : List ScriptLine) → ArePlayed told lines → LinesAreTold told lines
 played_told told [] played = tt
-played_told told (l ∷ lines) played = (start_told told l.instruction played.0, played_told told lines played.1)
+played_told told (l ∷ lines) played = (line_told told l.instruction played.0, played_told told lines played.1)

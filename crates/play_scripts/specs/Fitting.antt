@@ -12,6 +12,7 @@ use Rattle.script_lang.specs.Rules.{AllKept}
 use Rattle.script_lang.specs.Scripts.{most_lines}
 use Rattle.world.specs.Clients.{are_members}
 use Rattle.play_laws.specs.Members.{AreAll, IsNode}
+use Rattle.play_scripts.specs.Numbering.{LinesAscend}
 
 -- LINES
 
@@ -21,7 +22,8 @@ pub record MembersFit (nodes : ℕ) (members : List NodeId) : Type 0 where
   pub formed : are_members members ≡ true
   pub below : AreAll (IsNode nodes) members
 
--- A line behind the first two: the members that it names are so, it has a chunk size that there is, and it writes bytes.
+-- A line behind the first two: the members that it names are so, as is the node that it reads at; it has a chunk size that
+-- there is, and it writes bytes.
 abbrev pub WordsFit : ℕ → Instruction → Type 0
 WordsFit nodes (says.Nodes count) = ⊥
 WordsFit nodes (says.Seed seed) = ⊥
@@ -29,6 +31,7 @@ WordsFit nodes (says.Sums block rule) = IsChunkSize rule.chunk
 WordsFit nodes (says.Create block members) = MembersFit nodes members
 WordsFit nodes (says.Append block members) = MembersFit nodes members
 WordsFit nodes (says.Write block bytes) = IsBytes bytes
+WordsFit nodes (says.Read block at offset count) = IsNode nodes at
 WordsFit nodes other = Unit {0}
 
 -- A line keeps this, and fits those before it.
@@ -48,7 +51,7 @@ abbrev pub begun : ℕ → ℕ → Before
 begun nodes seed = after (after start (says.Nodes nodes)) (says.Seed seed)
 
 -- The first two lines give the nodes, at most 16 and no more than the shelves, and the seed; the others, which are few,
--- fit.
+-- fit, and their numbers ascend.
 pub record ScriptFits (shelves : ℕ) (said : List ScriptLine) : Type 0 where
   pub nodes : ℕ
   pub seed : ℕ
@@ -60,6 +63,7 @@ pub record ScriptFits (shelves : ℕ) (said : List ScriptLine) : Type 0 where
   pub shelved : nodes ≤ shelves
   pub lines : LinesFit (begun nodes seed) body
   pub count : length body ≤ most_lines
+  pub ascend : LinesAscend 0 body
 
 -- So it is of every script.
 abbrev pub ScriptsFit : Type 0

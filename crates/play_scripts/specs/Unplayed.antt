@@ -1,16 +1,16 @@
--- The lines that plays don't have. Whether they have a start is by the shelves: those that tell their files tell what it
--- finds.
+-- The lines that plays don't have. Whether they have a start or a read is by the shelves: those that tell their files
+-- tell what it finds.
 use Rattle.std.specs.Prelude.{◌≡◌, ℕ, Bool, true, false, not, List, [], ◌∷◌, Option, option_map, find}
 use Rattle.script_lang.specs.declared.instructions.Instruction.{Instruction}
 use Rattle.script_lang.specs.declared.instructions.Instruction.TheVariants as says
 use Rattle.script_lang.specs.declared.instructions.ScriptLine.{ScriptLine}
 
--- a fault, a recovery or a read, and a start where the shelves don't tell their files
+-- a fault or a recovery, and a start or a read where the shelves don't tell their files
 abbrev pub is_unplayed : Bool → Instruction → Bool
 is_unplayed told (says.Fault node nth) = true
 is_unplayed told (says.Start node) = not told
 is_unplayed told (says.Recover block node members) = true
-is_unplayed told (says.Read block node offset count) = true
+is_unplayed told (says.Read block node offset count) = not told
 is_unplayed told other = false
 
 -- the number of the first of these lines
@@ -28,16 +28,17 @@ abbrev pub is_start : Instruction → Bool
 is_start (says.Start node) = true
 is_start other = false
 
--- a start only where the shelves tell their files
-abbrev pub StartIsTold : Bool → Instruction → Type 0
-StartIsTold told (says.Start node) = told ≡ true
-StartIsTold told other = Unit {0}
+-- a start or a read only where the shelves tell their files
+abbrev pub LineIsTold : Bool → Instruction → Type 0
+LineIsTold told (says.Start node) = told ≡ true
+LineIsTold told (says.Read block node offset count) = told ≡ true
+LineIsTold told other = Unit {0}
 
 -- So is each of these lines.
-abbrev pub StartsAreTold : Bool → List ScriptLine → Type 0
-StartsAreTold told [] = Unit {0}
-StartsAreTold told (l ∷ lines) = StartIsTold told l.instruction × StartsAreTold told lines
+abbrev pub LinesAreTold : Bool → List ScriptLine → Type 0
+LinesAreTold told [] = Unit {0}
+LinesAreTold told (l ∷ lines) = LineIsTold told l.instruction × LinesAreTold told lines
 
 -- Lines that plays have are so.
 abbrev pub PlayedAreTold : Type 0
-PlayedAreTold = (told : Bool) (lines : List ScriptLine) → ArePlayed told lines → StartsAreTold told lines
+PlayedAreTold = (told : Bool) (lines : List ScriptLine) → ArePlayed told lines → LinesAreTold told lines

@@ -1,6 +1,6 @@
--- A start is played only where the shelves tell.
+-- A start or a read is played only where the shelves tell.
 use Rattle.play_scripts.proofs.UnplayedLemmas.{played_told}
-use Rattle.play_scripts.proofs.laws.played_starts_are_told.Goals as goal
+use Rattle.play_scripts.proofs.laws.played_lines_are_told.Goals as goal
 
 pub returns : goal.returns
 returns c = λ told lines played. played_told told lines played
