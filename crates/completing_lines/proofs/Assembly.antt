@@ -5,7 +5,6 @@ use Rattle.std.proofs.lemmas.Bool.{false≢true}
 use Rattle.std.proofs.lemmas.List.{append_assoc, append-nil}
 use Rattle.hd_base.specs.Bytes.{IsBytes}
 use Rattle.hd_base.specs.SumRules.{Rule, IsChunkSize}
-use Rattle.hd_base.specs.declared.numbers.NodeId.{NodeId}
 use Rattle.hd_base.specs.declared.numbers.BlockId.{BlockId}
 use Rattle.script_lang.specs.declared.instructions.Instruction.{Instruction}
 use Rattle.script_lang.specs.declared.instructions.Instruction.TheVariants as says
@@ -27,6 +26,7 @@ use Rattle.play_model.specs.Laws.{AskAmong}
 use Rattle.play_model.specs.Lines.{blocks_of, step_due, PlaysLine, PlaysLines, Plays}
 use Rattle.play_scripts.specs.Fitting.{LineFits, LinesFit, begun}
 use Rattle.play_scripts.specs.Failures.{is_failure, HaveNoFailures}
+use Rattle.play_scripts.specs.Reads.{is_read, HaveNoReads}
 use Rattle.play_lines.specs.Lines.{StandIs, GivenIs}
 use Rattle.play_lines.specs.Showing.{given_in}
 use Rattle.play_lines.proofs.Commands.{same_stand}
@@ -34,7 +34,7 @@ use Rattle.play_completeness.specs.Complete.{for_block, line_commands, commands_
 use Rattle.play_completeness.specs.Keeping.{PlayedOn}
 use Rattle.play_completeness.specs.Played.{Played, BlockPlayed}
 use Rattle.play_completeness.proofs.Beginning.{opened-on, join-on}
-use Rattle.play_completeness.proofs.Flowing.{get-front, get-behind}
+use Rattle.play_completeness.proofs.Flowing.{get-front}
 use Rattle.play_completeness.proofs.Folding.{advanced-keeps, draws-keep, stepped-keeps}
 use Rattle.play_completeness.proofs.Plays.{none-asked, step-asked}
 use Rattle.play_completeness.proofs.Keeping.{conns-keep}
@@ -271,77 +271,57 @@ module _ (blocks : List ℕ) (before : Before) (lines : ℕ) (commands : ℕ →
       behind-as (after before i) (suc lines) (ordered p at.0 c) (add commands at.0 (c ∷ [])) (With commands i) all
       (record { on = join-on p commands at.0 c h.on wrote (command-fits before lines i at.0 c p commands h.follows few fits here); follows = next })
 
-  -- a read leaves all that is told of commands
-  read-behind : (at : BlockId) (node : NodeId) (offset count : ℕ) (q : ℕ → List Command) (p : PlayState) → Behind before (suc lines) q p → Behind (after before (says.Read at node offset count)) (suc lines) q p
-  read-behind at node offset count q p h = record {
-    on = h.on;
-    follows = record {
-      well = h.follows.well;
-      nodes = h.follows.nodes;
-      written = h.follows.written;
-      chunks = h.follows.chunks;
-      given = λ b. let g = h.follows.given b in record {
-        stand = record { unmade = g.stand.unmade; open_is = g.stand.open_is; closed = g.stand.closed };
-        bytes = g.bytes;
-        commands = g.commands;
-      };
-      bytes = h.follows.bytes;
-    };
-  }
-
-  line-behind : (i : Instruction) → is_failure i ≡ false → LineFits before i → ((b : ℕ) → KeepsMembers (With commands i b)) → (old new : PlayState) → PlaysLine blocks i old new → Behind before lines commands old → Behind (after before i) (suc lines) (With commands i) new
-  line-behind (says.Nodes count) u fits k old new is h = absurd fits.words
-  line-behind (says.Seed seed) u fits k old new is h = absurd fits.words
-  line-behind (says.Sums at rule) u fits k old new is h =
+  line-behind : (number : ℕ) (i : Instruction) → is_failure i ≡ false → is_read i ≡ false → LineFits before i → ((b : ℕ) → KeepsMembers (With commands i b)) → (old new : PlayState) → PlaysLine blocks number i old new → Behind before lines commands old → Behind (after before i) (suc lines) (With commands i) new
+  line-behind number (says.Nodes count) u r fits k old new is h = absurd fits.words
+  line-behind number (says.Seed seed) u r fits k old new is h = absurd fits.words
+  line-behind number (says.Sums at rule) u r fits k old new is h =
       subst (Behind (after before (says.Sums at rule)) (suc lines) (With commands (says.Sums at rule))) (sym is)
       (behind-as (after before (says.Sums at rule)) (suc lines) (ruled old at.0 rule) commands (With commands (says.Sums at rule)) (λ b. sym (append-nil (commands b))) (behind-rule before lines old commands at rule fits h))
-  line-behind (says.Create at members) u fits k old new is h = subst (Behind _ _ _) (sym is) (orders (says.Create at members) at (command.Create members) (λ b. refl) fits (k at.0) old h)
-  line-behind (says.Append at members) u fits k old new is h = subst (Behind _ _ _) (sym is) (orders (says.Append at members) at (command.Append members) (λ b. refl) fits (k at.0) old h)
-  line-behind (says.Write at bytes) u fits k old new is h = subst (Behind _ _ _) (sym is) (orders (says.Write at bytes) at (command.Write bytes) (λ b. refl) fits (k at.0) old h)
-  line-behind (says.Fill at count) u fits k old new is h = subst (Behind _ _ _) (sym is) (orders (says.Fill at count) at (command.Fill count) (λ b. refl) fits (k at.0) old h)
-  line-behind (says.Hflush at) u fits k old new is h = subst (Behind _ _ _) (sym is) (orders (says.Hflush at) at (command.Hflush) (λ b. refl) fits (k at.0) old h)
-  line-behind (says.Hsync at) u fits k old new is h = subst (Behind _ _ _) (sym is) (orders (says.Hsync at) at (command.Hsync) (λ b. refl) fits (k at.0) old h)
-  line-behind (says.Close at) u fits k old new is h = subst (Behind _ _ _) (sym is) (orders (says.Close at) at (command.Close) (λ b. refl) fits (k at.0) old h)
-  line-behind (says.Run count) u fits k old new is h =
+  line-behind number (says.Create at members) u r fits k old new is h = subst (Behind _ _ _) (sym is) (orders (says.Create at members) at (command.Create members) (λ b. refl) fits (k at.0) old h)
+  line-behind number (says.Append at members) u r fits k old new is h = subst (Behind _ _ _) (sym is) (orders (says.Append at members) at (command.Append members) (λ b. refl) fits (k at.0) old h)
+  line-behind number (says.Write at bytes) u r fits k old new is h = subst (Behind _ _ _) (sym is) (orders (says.Write at bytes) at (command.Write bytes) (λ b. refl) fits (k at.0) old h)
+  line-behind number (says.Fill at count) u r fits k old new is h = subst (Behind _ _ _) (sym is) (orders (says.Fill at count) at (command.Fill count) (λ b. refl) fits (k at.0) old h)
+  line-behind number (says.Hflush at) u r fits k old new is h = subst (Behind _ _ _) (sym is) (orders (says.Hflush at) at (command.Hflush) (λ b. refl) fits (k at.0) old h)
+  line-behind number (says.Hsync at) u r fits k old new is h = subst (Behind _ _ _) (sym is) (orders (says.Hsync at) at (command.Hsync) (λ b. refl) fits (k at.0) old h)
+  line-behind number (says.Close at) u r fits k old new is h = subst (Behind _ _ _) (sym is) (orders (says.Close at) at (command.Close) (λ b. refl) fits (k at.0) old h)
+  line-behind number (says.Run count) u r fits k old new is h =
       subst (Behind before (suc lines) (With commands (says.Run count))) (sym is) (none-more (says.Run count) (draws blocks count old) (λ b. refl) (draws-behind before lines commands blocks count old h))
-  line-behind says.Settle u fits k old new is h = none-more says.Settle new (λ b. refl) (settles-behind before lines commands blocks old new is h)
-  line-behind (says.Step at event) u fits k old new is h =
+  line-behind number says.Settle u r fits k old new is h = none-more says.Settle new (λ b. refl) (settles-behind before lines commands blocks old new is h)
+  line-behind number (says.Step at event) u r fits k old new is h =
       subst (Behind before (suc lines) (With commands (says.Step at event))) (sym is)
       (none-more (says.Step at event) _ (λ b. refl) (stepped-keeps (Behind before lines commands) (due-behind before lines commands) (words-behind before lines commands) old (step_due (world_of old) at.0 event) (step-asked old.asks (world_of old) at.0 event) h))
-  line-behind (says.Expect node at state stamp written) u fits k old new is h =
+  line-behind number (says.Expect node at state stamp written) u r fits k old new is h =
       subst (Behind before (suc lines) (With commands (says.Expect node at state stamp written))) (sym is) (none-more (says.Expect node at state stamp written) old (λ b. refl) h)
-  line-behind (says.Read at node offset count) u fits k old new is h =
-      subst (Behind (after before (says.Read at node offset count)) (suc lines) (With commands (says.Read at node offset count))) (sym is)
-      (read-behind at node offset count (With commands (says.Read at node offset count)) old (none-more (says.Read at node offset count) old (λ b. refl) h))
-  line-behind (says.Recover at node members) u fits k old new is h = absurd (false≢true (sym u))
-  line-behind (says.Cut at connection down up) u fits k old new is h = absurd (false≢true (sym u))
-  line-behind (says.Fault node nth) u fits k old new is h = absurd (false≢true (sym u))
-  line-behind (says.Stop node) u fits k old new is h = absurd (false≢true (sym u))
-  line-behind (says.Start node) u fits k old new is h = absurd (false≢true (sym u))
+  line-behind number (says.Read at node offset count) u r fits k old new is h = absurd (false≢true (sym r))
+  line-behind number (says.Recover at node members) u r fits k old new is h = absurd (false≢true (sym u))
+  line-behind number (says.Cut at connection down up) u r fits k old new is h = absurd (false≢true (sym u))
+  line-behind number (says.Fault node nth) u r fits k old new is h = absurd (false≢true (sym u))
+  line-behind number (says.Stop node) u r fits k old new is h = absurd (false≢true (sym u))
+  line-behind number (says.Start node) u r fits k old new is h = absurd (false≢true (sym u))
 
 -- ALL LINES
 
-lines-behind : (blocks : List ℕ) (said : List ScriptLine) (before : Before) (lines : ℕ) (commands : ℕ → List Command) (old new : PlayState) → lines + length said ≤ MAX_COMMANDS → HaveNoFailures said → LinesFit before said → ((b : ℕ) → KeepsMembers (commands b ++ commands_of b said)) → PlaysLines blocks said old new
+lines-behind : (blocks : List ℕ) (said : List ScriptLine) (before : Before) (lines : ℕ) (commands : ℕ → List Command) (old new : PlayState) → lines + length said ≤ MAX_COMMANDS → HaveNoFailures said → HaveNoReads said → LinesFit before said → ((b : ℕ) → KeepsMembers (commands b ++ commands_of b said)) → PlaysLines blocks said old new
     → Behind before lines commands old → PlayedOn new (λ b. commands b ++ commands_of b said) × (dues blocks new ≡ [])
-lines-behind blocks [] before lines commands old new few played fits members s h =
+lines-behind blocks [] before lines commands old new few played unread fits members s h =
     (on-as new commands (λ b. commands b ++ []) (λ b. sym (append-nil (commands b))) (settles-behind before lines commands blocks old new s h).on, s.settled)
-lines-behind blocks (l ∷ said) before lines commands old new few played fits members s h =
+lines-behind blocks (l ∷ said) before lines commands old new few played unread fits members s h =
     let i : Instruction = l.instruction in
     let joined : (b : ℕ) → With commands i b ++ commands_of b said ≡ commands b ++ (line_commands b i ++ commands_of b said) = λ b. append_assoc (commands b) (line_commands b i) (commands_of b said) in
     let all : (b : ℕ) → KeepsMembers (With commands i b ++ commands_of b said) = λ b. subst KeepsMembers (sym (joined b)) (members b) in
-    let middle = line-behind blocks before lines commands (omega (arith, few)) i played.0 fits.0 (λ b. front-members (With commands i b) (commands_of b said) (all b)) old s.0 s.1.0 h in
-    let end = lines-behind blocks said (after before i) (suc lines) (With commands i) s.0 new (omega (arith, few)) played.1 fits.1 all s.1.1 middle in
+    let middle = line-behind blocks before lines commands (omega (arith, few)) l.number i played.0 unread.0 fits.0 (λ b. front-members (With commands i b) (commands_of b said) (all b)) old s.0 s.1.0 h in
+    let end = lines-behind blocks said (after before i) (suc lines) (With commands i) s.0 new (omega (arith, few)) played.1 unread.1 fits.1 all s.1.1 middle in
     (on-as new (λ b. With commands i b ++ commands_of b said) (λ b. commands b ++ commands_of b (l ∷ said)) joined end.0, end.1)
 
 -- SCRIPTS
 
 pub plays-complete : PlaysComplete
-plays-complete shelves script end fits played members plays =
+plays-complete shelves script end fits played unread members plays =
     let few : fits.nodes ≤ 16 = fits.few in
     let done : PlayedOn end (λ b. commands_of b script) × (dues (blocks_of script) end ≡ []) =
-    subst (λ (s : List ScriptLine). HaveNoFailures s → ((b : ℕ) → KeepsMembers (commands_of b s)) → Plays s end → PlayedOn end (λ b. commands_of b s) × (dues (blocks_of s) end ≡ [])) (sym fits.parts)
-    (λ p m x. lines-behind (blocks_of fits.body) fits.body (begun fits.nodes fits.seed) 0 (λ b. []) (opened fits.nodes fits.seed) end (omega (arith, fits.count)) p.1.1 fits.lines m x (record { on = opened-on fits.nodes fits.seed few; follows = opened-follows fits.nodes fits.seed few }))
-    played members plays in
+    subst (λ (s : List ScriptLine). HaveNoFailures s → HaveNoReads s → ((b : ℕ) → KeepsMembers (commands_of b s)) → Plays s end → PlayedOn end (λ b. commands_of b s) × (dues (blocks_of s) end ≡ [])) (sym fits.parts)
+    (λ p q m x. lines-behind (blocks_of fits.body) fits.body (begun fits.nodes fits.seed) 0 (λ b. []) (opened fits.nodes fits.seed) end (omega (arith, fits.count)) p.1.1 q.1.1 fits.lines m x (record { on = opened-on fits.nodes fits.seed few; follows = opened-follows fits.nodes fits.seed few }))
+    played unread members plays in
     let of : (b : ℕ) → AllDone (commands_of b script) ((world_of end).said b) × ClosesWhole (world_of end) (record { 0 = b }) (commands_of b script) =
     λ b. settled-complete (blocks_of script) end (λ c. commands_of c script) b done.0.played done.1 (commands-of-blocks shelves script b fits) in
     record { answers = λ b. (of b).0; whole = λ b. (of b.0).1 }

@@ -16,7 +16,7 @@ use Rattle.play_model.specs.Dues.{is_due, after_due}
 use Rattle.play_scripts.specs.Fitting.{LineFits, begun}
 use Rattle.play_lines.specs.Lines.{GivenIs}
 use Rattle.play_lines.specs.Showing.{given_in}
-use Rattle.play_completeness.specs.Complete.{line_commands, KeepsMembers, WritesBytes, PlaysComplete}
+use Rattle.play_completeness.specs.Complete.{line_commands, KeepsMembers, WritesBytes}
 use Rattle.play_completeness.specs.Played.{Played}
 use Rattle.completing_writers.specs.Steps.{PlaysWell, is_own}
 

@@ -22,10 +22,12 @@ use Rattle.world_laws.proofs.FactTables.{if-each}
 use Rattle.play_model.specs.declared.asks.ReadAsk.{ReadAsk}
 use Rattle.play_model.specs.declared.dues.Due.{Due}
 use Rattle.play_model.specs.declared.dues.Due.TheVariants as due
-use Rattle.play_model.specs.States.{PlayState, world_of, opened, ordered, ruled}
+use Rattle.play_model.specs.States.{PlayState, world_of, opened, ordered, ruled, asked}
+use Rattle.play_model.specs.Asks.{ask_at}
 use Rattle.play_model.specs.Dues.{Queues, is_due, dues, own_events, action_of, due_events, after_due}
 use Rattle.play_model.specs.Draws.{drawn, happened, advanced, drawn_from, draw, draws}
 use Rattle.play_scripts.specs.Failures.{is_failure, HaveNoFailures}
+use Rattle.play_scripts.specs.Reads.{is_read, HaveNoReads}
 use Rattle.play_model.specs.Lines.{stepped, step_due, pipeline_conn, cut_at, stop_at, start_at, PlaysLine, PlaysLines, PlaysFrom, Plays}
 use Rattle.play_model.specs.Laws.{AskAmong, IsListed}
 use Rattle.play_model.proofs.ListedLemmas.{listed_due}
@@ -87,49 +89,59 @@ module _ (Q : PlayState → Type 0) where
     pub stops : (p : PlayState) (n : NodeId) → Q p → Q (stop_at p n)
     pub starts : (p : PlayState) (n : NodeId) → Q p → Q (start_at p n)
 
-  -- so it is, if a line makes something fail
+  -- What is kept where a line asks to read.
+  abbrev pub ReadsKeep : Type 0
+  ReadsKeep = (p : PlayState) (ask : ReadAsk) → Q p → Q (asked p ask)
+
+  -- What a line keeps, if it makes something fail or asks to read.
+  pub record LineKeeps (i : Instruction) : Type 0 where
+    pub fails : is_failure i ≡ true → FailuresKeep
+    pub reads : is_read i ≡ true → ReadsKeep
+
+  -- so does each line
   abbrev pub AllKeep : List ScriptLine → Type 0
   AllKeep [] = Unit {0}
-  AllKeep (l ∷ lines) = (is_failure l.instruction ≡ true → FailuresKeep) × AllKeep lines
+  AllKeep (l ∷ lines) = LineKeeps l.instruction × AllKeep lines
 
   false-true : {A : Type 0} (x : Bool) → x ≡ false → x ≡ true → A
   false-true true e f = cc
   false-true false e f = cc
 
-  -- no line makes anything fail
-  pub sound-keep : (lines : List ScriptLine) → HaveNoFailures lines → AllKeep lines
-  sound-keep [] sound = tt
-  sound-keep (l ∷ lines) sound = ((λ fails. false-true (is_failure l.instruction) sound.0 fails), sound-keep lines sound.1)
+  -- no line makes anything fail, and none asks to read
+  pub sound-keep : (lines : List ScriptLine) → HaveNoFailures lines → HaveNoReads lines → AllKeep lines
+  sound-keep [] sound unread = tt
+  sound-keep (l ∷ lines) sound unread =
+      (record { fails = λ e. false-true (is_failure l.instruction) sound.0 e; reads = λ e. false-true (is_read l.instruction) unread.0 e }, sound-keep lines sound.1 unread.1)
 
-  pub failures-keep : FailuresKeep → (lines : List ScriptLine) → AllKeep lines
-  failures-keep f [] = tt
-  failures-keep f (l ∷ lines) = ((λ _. f), failures-keep f lines)
+  pub any-keep : FailuresKeep → ReadsKeep → (lines : List ScriptLine) → AllKeep lines
+  any-keep f r [] = tt
+  any-keep f r (l ∷ lines) = (record { fails = λ _. f; reads = λ _. r }, any-keep f r lines)
 
-  line-keeps : Keeps → (blocks : List ℕ) (i : Instruction) (p new : PlayState) → (is_failure i ≡ true → FailuresKeep) → PlaysLine blocks i p new → Q p → Q new
-  line-keeps k blocks (line.Settle) p new kept s q = subst Q s.drawn_so (draws-keep k blocks s.count p q)
-  line-keeps k blocks (line.Nodes count) p new kept s q = subst Q (sym s) q
-  line-keeps k blocks (line.Seed seed) p new kept s q = subst Q (sym s) q
-  line-keeps k blocks (line.Sums b r) p new kept s q = subst Q (sym s) (k.rules p b.0 r q)
-  line-keeps k blocks (line.Create b members) p new kept s q = subst Q (sym s) (k.orders p b.0 (command.Create members) q)
-  line-keeps k blocks (line.Append b members) p new kept s q = subst Q (sym s) (k.orders p b.0 (command.Append members) q)
-  line-keeps k blocks (line.Write b bytes) p new kept s q = subst Q (sym s) (k.orders p b.0 (command.Write bytes) q)
-  line-keeps k blocks (line.Fill b count) p new kept s q = subst Q (sym s) (k.orders p b.0 (command.Fill count) q)
-  line-keeps k blocks (line.Hflush b) p new kept s q = subst Q (sym s) (k.orders p b.0 command.Hflush q)
-  line-keeps k blocks (line.Hsync b) p new kept s q = subst Q (sym s) (k.orders p b.0 command.Hsync q)
-  line-keeps k blocks (line.Close b) p new kept s q = subst Q (sym s) (k.orders p b.0 command.Close q)
-  line-keeps k blocks (line.Read b n from count) p new kept s q = subst Q (sym s) q
-  line-keeps k blocks (line.Recover b n members) p new kept s q = subst Q (sym s) q
-  line-keeps k blocks (line.Cut b place down up) p new kept s q = subst Q (sym s) ((kept refl).cuts p (pipeline_conn (world_of p) b.0 place) down up q)
-  line-keeps k blocks (line.Fault n nth) p new kept s q = subst Q (sym s) q
-  line-keeps k blocks (line.Stop n) p new kept s q = subst Q (sym s) ((kept refl).stops p n q)
-  line-keeps k blocks (line.Start n) p new kept s q = subst Q (sym s) ((kept refl).starts p n q)
-  line-keeps k blocks (line.Run count) p new kept s q = subst Q (sym s) (draws-keep k blocks count p q)
-  line-keeps k blocks (line.Step b e) p new kept s q = subst Q (sym s) (stepped-keeps k p (step_due (world_of p) b.0 e) (step-asked p.asks (world_of p) b.0 e) q)
-  line-keeps k blocks (line.Expect n b state stamp written) p new kept s q = subst Q (sym s) q
+  line-keeps : Keeps → (blocks : List ℕ) (number : ℕ) (i : Instruction) (p new : PlayState) → LineKeeps i → PlaysLine blocks number i p new → Q p → Q new
+  line-keeps k blocks number (line.Settle) p new kept s q = subst Q s.drawn_so (draws-keep k blocks s.count p q)
+  line-keeps k blocks number (line.Nodes count) p new kept s q = subst Q (sym s) q
+  line-keeps k blocks number (line.Seed seed) p new kept s q = subst Q (sym s) q
+  line-keeps k blocks number (line.Sums b r) p new kept s q = subst Q (sym s) (k.rules p b.0 r q)
+  line-keeps k blocks number (line.Create b members) p new kept s q = subst Q (sym s) (k.orders p b.0 (command.Create members) q)
+  line-keeps k blocks number (line.Append b members) p new kept s q = subst Q (sym s) (k.orders p b.0 (command.Append members) q)
+  line-keeps k blocks number (line.Write b bytes) p new kept s q = subst Q (sym s) (k.orders p b.0 (command.Write bytes) q)
+  line-keeps k blocks number (line.Fill b count) p new kept s q = subst Q (sym s) (k.orders p b.0 (command.Fill count) q)
+  line-keeps k blocks number (line.Hflush b) p new kept s q = subst Q (sym s) (k.orders p b.0 command.Hflush q)
+  line-keeps k blocks number (line.Hsync b) p new kept s q = subst Q (sym s) (k.orders p b.0 command.Hsync q)
+  line-keeps k blocks number (line.Close b) p new kept s q = subst Q (sym s) (k.orders p b.0 command.Close q)
+  line-keeps k blocks number (line.Read b n from count) p new kept s q = subst Q (sym s) (kept.reads refl p (ask_at (world_of p) number b n from count) q)
+  line-keeps k blocks number (line.Recover b n members) p new kept s q = subst Q (sym s) q
+  line-keeps k blocks number (line.Cut b place down up) p new kept s q = subst Q (sym s) ((kept.fails refl).cuts p (pipeline_conn (world_of p) b.0 place) down up q)
+  line-keeps k blocks number (line.Fault n nth) p new kept s q = subst Q (sym s) q
+  line-keeps k blocks number (line.Stop n) p new kept s q = subst Q (sym s) ((kept.fails refl).stops p n q)
+  line-keeps k blocks number (line.Start n) p new kept s q = subst Q (sym s) ((kept.fails refl).starts p n q)
+  line-keeps k blocks number (line.Run count) p new kept s q = subst Q (sym s) (draws-keep k blocks count p q)
+  line-keeps k blocks number (line.Step b e) p new kept s q = subst Q (sym s) (stepped-keeps k p (step_due (world_of p) b.0 e) (step-asked p.asks (world_of p) b.0 e) q)
+  line-keeps k blocks number (line.Expect n b state stamp written) p new kept s q = subst Q (sym s) q
 
   pub lines-keep : Keeps → (blocks : List ℕ) (lines : List ScriptLine) (p new : PlayState) → AllKeep lines → PlaysLines blocks lines p new → Q p → Q new
   lines-keep k blocks [] p new kept s q = subst Q s.drawn_so (draws-keep k blocks s.count p q)
-  lines-keep k blocks (l ∷ lines) p new kept s q = lines-keep k blocks lines s.0 new kept.1 s.1.1 (line-keeps k blocks l.instruction p s.0 kept.0 s.1.0 q)
+  lines-keep k blocks (l ∷ lines) p new kept s q = lines-keep k blocks lines s.0 new kept.1 s.1.1 (line-keeps k blocks l.number l.instruction p s.0 kept.0 s.1.0 q)
 
   from-keeps : Keeps → ((nodes seed : ℕ) → Q (opened nodes seed)) → (first second : Instruction) (lines : List ScriptLine) (new : PlayState) → AllKeep lines → PlaysFrom first second lines new → Q new
   from-keeps k begins (line.Nodes count) (line.Seed seed) lines new kept s = lines-keep k _ lines _ new kept s (begins _ _)
@@ -176,11 +188,11 @@ after-plain p d asked h = record {
 }
 
 pub plays-plain : PlaysArePlain
-plays-plain script end sound s =
+plays-plain script end sound unread s =
     let h : Plain end = play-keeps Plain (record {
       advances = λ p h. record { asks = h.asks; plain = h.plain };
       orders = λ p b c h. record { asks = h.asks; plain = h.plain };
       rules = λ p b r h. record { asks = h.asks; plain = h.plain };
       goes = λ p d _ asked h. after-plain p d asked h;
-    }) (λ nodes seed. record { asks = refl; plain = tt }) script end (sound-keep Plain script sound) s in
+    }) (λ nodes seed. record { asks = refl; plain = tt }) script end (sound-keep Plain script sound unread) s in
     h.plain

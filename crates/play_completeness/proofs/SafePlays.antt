@@ -9,7 +9,7 @@ use Rattle.play_model.specs.Lines.{PlaysLines, Plays, blocks_of, stop_at, may_st
 use Rattle.play_model.specs.States.{PlayState, opened, world_of}
 use Rattle.play_model.specs.Dues.{after_due}
 use Rattle.play_completeness.specs.Safety.{PlaysAreSafe}
-use Rattle.play_completeness.proofs.Plays.{lines-keep, failures-keep}
+use Rattle.play_completeness.proofs.Plays.{lines-keep, any-keep}
 
 after-same : (n : ℕ) (p : PlayState) (d : _) → p.nodes ≡ n → (after_due p d).nodes ≡ n
 unfolding after_due
@@ -33,7 +33,7 @@ start-same n p m e = by (may_start p m)
 nodes-stay : (n : ℕ) (blocks : List ℕ) (lines : List ScriptLine) (p end : PlayState) → p.nodes ≡ n → PlaysLines blocks lines p end → end.nodes ≡ n
 nodes-stay n blocks lines p end here plays =
     lines-keep (λ q. q.nodes ≡ n) (record { advances = λ q e. e; orders = λ q b c e. e; rules = λ q b r e. e; goes = λ q d due asked e. after-same n q d e }) blocks lines p end
-    (failures-keep (λ q. q.nodes ≡ n) (record { cuts = λ q c down up e. e; stops = λ q m e. stop-same n q m e; starts = λ q m e. start-same n q m e }) lines) plays here
+    (any-keep (λ q. q.nodes ≡ n) (record { cuts = λ q c down up e. e; stops = λ q m e. stop-same n q m e; starts = λ q m e. start-same n q m e }) (λ q ask e. e) lines) plays here
 
 pub plays-safe : AllSafe → PlaysAreSafe
 plays-safe all shelves script end fits plays =

@@ -17,6 +17,7 @@ use Rattle.world.specs.Worlds.{World, start}
 use Rattle.world.specs.Events.{run}
 use Rattle.play_model.specs.States.{PlayState}
 use Rattle.play_scripts.specs.Failures.{HaveNoFailures}
+use Rattle.play_scripts.specs.Reads.{HaveNoReads}
 use Rattle.play_model.specs.Lines.{Plays}
 
 -- EVENTS
@@ -43,10 +44,11 @@ abbrev pub ArePlain : List Event → Type 0
 ArePlain [] = Unit {0}
 ArePlain (e ∷ events) = (is_plain e ≡ true) × ArePlain events
 
--- So are the events of each play.
+-- So are the events of each play without failures and reads.
 abbrev pub PlaysArePlain : Type 0
-PlaysArePlain = (script : List ScriptLine) (end : PlayState) → HaveNoFailures script → Plays script end →
-    ArePlain end.events
+PlaysArePlain = (script : List ScriptLine) (end : PlayState) → HaveNoFailures script → HaveNoReads script →
+    Plays script end
+    → ArePlain end.events
 
 -- WHAT NEVER HAPPENS
 
