@@ -1,8 +1,8 @@
 -- What has happened leaves a play whose events and commands fit.
-use Rattle.std.proofs.Common.{◌≡◌, ◌⊎◌, inl, inr, ℕ, zero, suc, ◌<◌, ◌^◌, Bool, true, false, List, [], ◌∷◌, drop, slice_get, Option, Some, None, IfSome, Result, Ok, Err, refl, sym, ap, ◌∙◌, subst, eqb-true}
+use Rattle.std.proofs.Common.{◌≡◌, ◌⊎◌, inl, inr, ℕ, zero, suc, ◌<◌, ◌^◌, Bool, true, false, List, [], ◌∷◌, drop, slice_get, option_map, Option, Some, None, IfSome, Result, Ok, Err, refl, sym, ap, ◌∙◌, subst, eqb-true}
 use Rattle.std.specs.Prelude.{◌==◌, ◌&&◌, ◌||◌, is_some, is_none}
 use Rattle.std.proofs.lemmas.Bool.{eqb-false}
-use Rattle.std.proofs.lemmas.Option.{none-some, same_Some}
+use Rattle.std.proofs.lemmas.Option.{none-some, same_Some, slice_get-map}
 use Rattle.hd_base.specs.declared.files.Files as files
 use Rattle.hd_base.specs.declared.links.LinkIn as link_in
 use Rattle.hd_base.specs.declared.links.LinkOut as link_out
@@ -37,7 +37,10 @@ use Rattle.play_laws.proofs.Taking.{admitted-is}
 use Rattle.play_clients.specs.declared.clients.Client.{Client}
 use Rattle.play_clients.specs.Clients.{known_of}
 use Rattle.play_clients.proofs.CourseLaws.{fresh_waits}
-use Rattle.play_nodes.specs.Showing.{is_pipeline}
+use Rattle.play_model.specs.declared.asks.ReadAsk.{ReadAsk}
+use Rattle.play_model.specs.Asks.{request_of, asking_node}
+use Rattle.play_readers.specs.declared.clients.ReadClient.{ReadClient}
+use Rattle.play_reads.specs.Places.{asks_of}
 use Rattle.play_dues.specs.Showing.{HasClient}
 use Rattle.play_dues.proofs.UpperLaws.{up_at, heard_conn}
 use Rattle.play.specs.declared.faults.PlayFault.{PlayFault}
@@ -45,8 +48,9 @@ use Rattle.play.specs.declared.player.Player.{Player}
 use Rattle.play.specs.Laws.{Laws}
 use Rattle.play.specs.Showing.{IsClient, PlayerShows}
 use Rattle.play.specs.Events.{writer_at, actor_of, StaysAt, blocks_of, PlayerLeft, PlayEnds}
-use Rattle.play.specs.Standing.{given_with, CommandsFit, ClientFits, EventsFit, world_of, PlayStands, HasHappened, HappenEnds, ActorIsClient}
+use Rattle.play.specs.Standing.{given_with, CommandsFit, ClientFits, EventsFit, AskFits, AsksFit, world_of, PlayStands, HasHappened, HappenEnds, ActorIsClient}
 use Rattle.play.proofs.Lawful.{fits_more}
+use Rattle.play.proofs.ReadsLaws.{none_dialled}
 use Rattle.play.proofs.CanOwning.{takes_so}
 
 true_false : {A : Type 0} (b : Bool) → b ≡ true → b ≡ false → A
@@ -108,12 +112,13 @@ due_some false false some h k = cc
 pub data UpperKind (u : parts.Upper) : Type 0 where
   of_writer : (b : ℕ) → u ≡ by_writer b → UpperKind u
   of_member : (d : ℕ) → u ≡ by_member d → UpperKind u
+  of_reader : (n : ℕ) → u ≡ by_reader n → UpperKind u
 
-upper_kind : (u : parts.Upper) → is_pipeline u ≡ true → UpperKind u
-upper_kind (by_writer b) of = of_writer b refl
-upper_kind (by_member d) of = of_member d refl
-upper_kind (by_reader n) of = cc
-upper_kind (by_primary n place) of = cc
+upper_kind : (u : parts.Upper) → ((i place : ℕ) → u ≡ by_primary i place → ⊥) → UpperKind u
+upper_kind (by_writer b) apart = of_writer b refl
+upper_kind (by_member d) apart = of_member d refl
+upper_kind (by_reader n) apart = of_reader n refl
+upper_kind (by_primary n place) apart = absurd (apart n place refl)
 
 -- WHAT IS DUE
 
@@ -124,7 +129,7 @@ module _ {F R I O : Type 0} (r : roads.Ghosts R I O) (i : link_in.Ghosts I) (o :
 
   -- who dialled a connection
   pub upper_here : (c : ℕ) → c < here.next_conn → UpperKind (here.dialled c).upper
-  upper_here c within = upper_kind (here.dialled c).upper (s.shows.pipelines c within)
+  upper_here c within = upper_kind (here.dialled c).upper (λ n place is. none_dialled L.carried nodes old.events.items s.shows.unled c n place within is)
 
   -- A WRITER'S OWN STEP
 
@@ -233,12 +238,18 @@ module _ {F R I O : Type 0} (r : roads.Ghosts R I O) (i : link_in.Ghosts I) (o :
     block = ap (λ (n : ℕ). record { 0 = n }) h.block;
   }
 
+  -- what a reader sends
+  asking_fits : (ask : ReadAsk) → AskFits nodes old.nodes.blocks.items ask → EventsFit nodes old.nodes.blocks.items (asking_node ask true ∷ [])
+  unfolding request_of
+  asking_fits ask h = record { widths = (h.asked, tt); names = (tt, tt); among = (h.among, tt); whole = (tt, tt) }
+
   events_fit : (d : Due) → is_due here queues d ≡ true → ActorIsClient old d → EventsFit nodes old.nodes.blocks.items (due_events here queues d)
   events_fit (due.Own b) is actor =
       let k : Actor b = actor_of_block b actor in
       subst (λ (a : BlockId). EventsFit nodes old.nodes.blocks.items (due_events here queues (due.Own a))) k.block
       (own_fits k.client k.shows k.fits (subst (λ (a : BlockId). is_due here queues (due.Own a) ≡ true) (sym k.block) is) (action_of here k.client.block) (queues k.client.block.0) (queue_fits k.client k.shows k.fits))
-  events_fit (due.Reader ask) is actor = absurd actor
+  events_fit (due.Reader ask) is actor = subst (λ (a : ReadAsk). EventsFit nodes old.nodes.blocks.items (due_events here queues (due.Reader a))) actor.asks
+      (asking_fits actor.client.ask (s.asks actor.place actor.client.ask (slice_get-map (λ (c : ReadClient I O). c.ask) old.reads.clients.items actor.place ∙ ap (λ (x : Option (ReadClient I O)). option_map (λ (c : ReadClient I O). c.ask) x) actor.at)))
   events_fit (due.Down c) is actor = record { widths = (tt, tt); names = (tt, tt); among = (tt, tt); whole = (tt, tt) }
   events_fit (due.Ready c) is actor = record { widths = (tt, tt); names = (tt, tt); among = (tt, tt); whole = (tt, tt) }
   events_fit (due.Up c) is actor = record { widths = (tt, tt); names = (tt, tt); among = (tt, tt); whole = (tt, tt) }
@@ -246,7 +257,7 @@ module _ {F R I O : Type 0} (r : roads.Ghosts R I O) (i : link_in.Ghosts I) (o :
   -- writers that don't act stay
   writers_stay : (d : Due) → is_due here queues d ≡ true → ActorIsClient old d → (b : ℕ) → (actor_of here d ≡ Some b → ⊥) → (run here (due_events here queues d)).writers b ≡ here.writers b
   writers_stay (due.Own a) is actor b apart = (L.own_keeps here queues a).0.writers b (λ same. apart (ap (λ (n : ℕ). Some n) (sym same)))
-  writers_stay (due.Reader ask) is actor b apart = absurd actor
+  writers_stay (due.Reader ask) is actor b apart = (L.asking_others here ask.reader ask.node (request_of ask) true).0.writers b
   writers_stay (due.Down c) is actor b apart = (L.down_keeps here c true).writers b
   writers_stay (due.Ready c) is actor b apart = (L.ready_keeps here c).writers b
   writers_stay (due.Up c) is actor b apart = by (upper_here c.0 (up_at here queues c is).within)
@@ -254,6 +265,7 @@ module _ {F R I O : Type 0} (r : roads.Ghosts R I O) (i : link_in.Ghosts I) (o :
       by : UpperKind (here.dialled c.0).upper → (happens here (event.Up c)).writers b ≡ here.writers b
       by (of_writer a e) = (L.heard_keeps here c a e).0.writers b (λ same. apart (ap writer_at e ∙ ap (λ (n : ℕ). Some n) (sym same)))
       by (of_member m e) = (L.mirror_keeps here c m e).writers b
+      by (of_reader n e) = (L.hearing_others here c n e).0.writers b
 
   -- What is left of a writer's commands fits; once it has acted its block was made.
   record Fits (d : Due) (b : ℕ) : Type 0 where
@@ -278,7 +290,7 @@ module _ {F R I O : Type 0} (r : roads.Ghosts R I O) (i : link_in.Ghosts I) (o :
       go true k = absurd (none-some c.0 (sym ((L.rest nodes old.events.items b).alone (ap (λ (x : WriterRecord). is_connected x.phase) (L.fresh nodes old.events.items b k))) ∙ heard_conn here queues c b is e))
 
   fits_after : (d : Due) → is_due here queues d ≡ true → ActorIsClient old d → (b : ℕ) → CommandsFit nodes (intake_of here b) (queues b) → Fits d b
-  fits_after (due.Reader ask) is actor b fit = absurd actor
+  fits_after (due.Reader ask) is actor b fit = still_fits (due.Reader ask) is actor b (λ e. none-some b e) refl fit
   fits_after (due.Down c) is actor b fit = still_fits (due.Down c) is actor b (λ e. none-some b e) refl fit
   fits_after (due.Ready c) is actor b fit = still_fits (due.Ready c) is actor b (λ e. none-some b e) refl fit
   fits_after (due.Up c) is actor b fit = by (upper_here c.0 (up_at here queues c is).within)
@@ -297,6 +309,7 @@ module _ {F R I O : Type 0} (r : roads.Ghosts R I O) (i : link_in.Ghosts I) (o :
       by : UpperKind (here.dialled c.0).upper → Fits (due.Up c) b
       by (of_writer a e) = hears a e (a == b) refl
       by (of_member m e) = still_fits (due.Up c) is actor b (λ z. none-some b (sym (ap writer_at e) ∙ z)) refl fit
+      by (of_reader n e) = still_fits (due.Up c) is actor b (λ z. none-some b (sym (ap writer_at e) ∙ z)) refl fit
   fits_after (due.Own a) is actor b fit = go (a.0 == b) refl
     where
       go : (q : Bool) → (a.0 == b) ≡ q → Fits (due.Own a) b
@@ -357,7 +370,7 @@ module _ {F R I O : Type 0} (r : roads.Ghosts R I O) (i : link_in.Ghosts I) (o :
     -- a writer that acts, or hears something, has a client
     actor_client : (d : Due) → is_due here queues d ≡ true → ActorIsClient old d → (b : ℕ) → actor_of here d ≡ Some b → HasClient old.clients.items b
     actor_client (due.Own a) is actor b e = subst (λ (n : ℕ). HasClient old.clients.items n) (same_Some a.0 b e) actor
-    actor_client (due.Reader ask) is actor b e = absurd actor
+    actor_client (due.Reader ask) is actor b e = absurd (none-some b e)
     actor_client (due.Down c) is actor b e = absurd (none-some b e)
     actor_client (due.Ready c) is actor b e = absurd (none-some b e)
     actor_client (due.Up c) is actor b e = by (upper_here c.0 (up_at here queues c is).within)
@@ -365,6 +378,7 @@ module _ {F R I O : Type 0} (r : roads.Ghosts R I O) (i : link_in.Ghosts I) (o :
         by : UpperKind (here.dialled c.0).upper → HasClient old.clients.items b
         by (of_writer a k) = s.connected b c.0 (heard_conn here queues c b is (k ∙ ap by_writer (same_Some a b (sym (ap writer_at k) ∙ e))))
         by (of_member m k) = absurd (none-some b (sym (ap writer_at k) ∙ e))
+        by (of_reader n k) = absurd (none-some b (sym (ap writer_at k) ∙ e))
 
     connected : (b c : ℕ) → (there.writers b).conn ≡ Some c → HasClient new.clients.items b
     connected b c has = has_moved new.clients.items old.clients.items b left.places.order (by (actor_or (actor_of here d) b))
@@ -387,6 +401,7 @@ module _ {F R I O : Type 0} (r : roads.Ghosts R I O) (i : link_in.Ghosts I) (o :
         events = subst (λ (bs : List BlockId). EventsFit nodes bs new.events.items) (sym left.places.blocks)
             (subst (λ (es : List Event). EventsFit nodes old.nodes.blocks.items es) (sym left.events) (fits_more nodes old.nodes.blocks.items old.events.items (due_events here queues d) s.events (events_fit d is actor)));
         clients = λ k c at. subst (λ (v : World). ClientFits nodes new.nodes.blocks.items v c) (sym world_is) (client_fits k c at);
+        asks = subst (λ (bs : List BlockId). AsksFit nodes bs (asks_of new.reads.clients.items)) (sym left.places.blocks) (subst (λ (xs : List ReadAsk). AsksFit nodes old.nodes.blocks.items xs) (sym left.places.asks) s.asks);
         connected = λ b c has. connected b c (sym (ap (λ (v : World). (v.writers b).conn) world_is) ∙ has);
       };
       events = left.events;

@@ -1,24 +1,30 @@
 -- What a play's events ask of the world holds of it.
-use Rattle.std.proofs.Common.{ℕ, ◌≤◌, ◌+◌, ◌^◌, List, [], ◌∷◌, ◌++◌, length, ap, subst, arith}
+use Rattle.std.proofs.Common.{ℕ, ◌≤◌, ◌+◌, ◌^◌, true, List, [], ◌∷◌, ◌++◌, length, ap, subst, arith}
 use Rattle.std.proofs.lemmas.List.{length-append}
 use Rattle.hd_base.specs.declared.numbers.BlockId.{BlockId}
 use Rattle.hd_base.specs.declared.numbers.ConnId.{ConnId}
 use Rattle.hd_base.specs.declared.numbers.NodeId.{NodeId}
 use Rattle.name_core.specs.declared.office.TheConstants.{FIRST_STAMP}
+use Rattle.world.specs.declared.events.Delivery.TheVariants as delivery
 use Rattle.world.specs.declared.events.Event.{Event}
 use Rattle.world.specs.declared.events.Event.TheVariants as event
 use Rattle.world.specs.Worlds.{start}
 use Rattle.world.specs.Events.{run}
 use Rattle.world_breaks.specs.Breaks.{NoneFails}
+use Rattle.world_orders.specs.Orders.{Ordered}
 use Rattle.world_requests.specs.Requests.{AllAmong}
 use Rattle.world_texts.specs.Texts.{Written, AllFit}
 use Rattle.play_laws.specs.Members.{IsNode, AllName}
 use Rattle.play_laws.specs.Writers.{needs_members}
 use Rattle.play_clients.specs.Events.{HearIsLawful, AcceptedIsQuiet}
 use Rattle.play_nodes.specs.Events.{IsLawful}
+use Rattle.play_reads.specs.Hearing as reads_hear
+use Rattle.play_reads.specs.Owning as reads_own
+use Rattle.play_reads.specs.Serving.{ServesInOrder}
 use Rattle.play.specs.declared.player.Player.{Player}
 use Rattle.play.specs.Events.{CanBegin}
 use Rattle.play.specs.Laws.{Laws}
+use Rattle.play.specs.Reading.{CanTake}
 use Rattle.play.specs.Standing.{EventsFit, world_of}
 
 -- MORE EVENTS
@@ -83,7 +89,7 @@ module _ {F I O : Type 0} (L : Laws) (nodes : ℕ) (p : Player F I O) (h : Event
   pub can_begin : (conn : ConnId) → CanBegin (world_of nodes p) conn p.nodes
   can_begin conn = record {
     lawful = λ answered. lawful (event.Down conn answered) (tt, tt);
-    fit = L.among nodes p.nodes.blocks.items p.events.items h.among;
+    fit = (L.among nodes p.nodes.blocks.items p.events.items h.among).writes;
   }
 
   -- WHAT A WRITER HEARS
@@ -100,4 +106,31 @@ module _ {F I O : Type 0} (L : Laws) (nodes : ℕ) (p : Player F I O) (h : Event
   hears_quiet b = record {
     members = λ s stamp is. (L.rest nodes p.events.items b).members (ap needs_members is);
     quiet = λ c s stamp m is conn next. L.early nodes p.events.items b c s stamp m is conn next;
+  }
+
+  -- READS
+
+  pub can_read_own : reads_own.OwnIsLawful (world_of nodes p)
+  can_read_own = record { ordered = L.ordered nodes p.events.items; placed = L.placed nodes p.events.items }
+
+  pub can_read_up : reads_hear.HearIsLawful (world_of nodes p)
+  can_read_up = record { ordered = L.ordered nodes p.events.items; in_order = L.readers nodes p.events.items; written = spelled [] tt (omega arith) }
+
+  pub serves_so : (e : Event) → ServesInOrder (world_of nodes p) e
+  serves_so e = record {
+    before = L.ordered nodes p.events.items;
+    after = subst Ordered (L.joined (start nodes) p.events.items (e ∷ [])) (L.ordered nodes (p.events.items ++ e ∷ []));
+    placed = L.placed nodes p.events.items;
+  }
+
+  pub can_take : (conn : ConnId) → CanTake (world_of nodes p) conn p
+  can_take conn = record {
+    order = serves_so (event.Down conn true);
+    lawful = record {
+      taken = L.taken nodes p.events.items;
+      before = spelled [] tt (omega arith);
+      after = λ answered. spelled (event.Down conn answered ∷ []) (tt, tt) (omega arith);
+      broken = spelled (event.Fault (delivery.Down conn) ∷ []) (tt, tt) (omega arith);
+    };
+    among = λ k read at. (L.among nodes p.nodes.blocks.items p.events.items h.among).reads conn.0 k read at;
   }

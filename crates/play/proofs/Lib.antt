@@ -8,3 +8,5 @@ pub mod Dispatch
 pub mod CutPlays
 pub mod StopPlays
 pub mod StartPlays
+pub mod ReadsLaws
+pub mod ReadSteps

@@ -10,7 +10,7 @@ use Rattle.hd_base.specs.declared.roads.Roads as roads
 use Rattle.road_traffic.specs.Showing.{Net}
 use Rattle.world.specs.declared.events.Event.{Event}
 use Rattle.world.specs.declared.events.Event.TheVariants as event
-use Rattle.world.specs.Parts.{Dialled, Marks, Writing, by_writer}
+use Rattle.world.specs.Parts.{Dialled, Marks, Writing, by_writer, by_member}
 use Rattle.world.specs.Worlds.{World}
 use Rattle.world.specs.Events.{happens}
 use Rattle.world_orders.specs.Orders.{Ordered, IsWriterConn}
@@ -24,13 +24,17 @@ use Rattle.play_laws.specs.Nodes.{SameNodes, RunningStays}
 use Rattle.play_nodes.specs.Beginning as beginning
 use Rattle.play_nodes.specs.Events as nodes
 use Rattle.play_nodes.specs.Frames.{KeepsWriters, DownKeeps, ReadyKeeps, MirrorKeeps}
-use Rattle.play_nodes.specs.Showing.{runs_in, TellsRunning, NodesLeft, WritersStay}
+use Rattle.play_nodes.specs.Showing.{runs_in, TellsRunning, NodesLeft, WritersStay, ElsewhereStays}
+use Rattle.play_reads.specs.Keeping.{ReadsStay, KeepsReads}
+use Rattle.play_reads.specs.Places.{asks_of}
 use Rattle.play.specs.declared.faults.PlayFault.{PlayFault}
 use Rattle.play.specs.declared.faults.PlayFault.TheVariants as fault
 use Rattle.play.specs.declared.player.Player.{Player}
 use Rattle.play.specs.Faults.{of_nodes}
 use Rattle.play.specs.Running.{is_running}
-use Rattle.play.specs.Showing.{IsClient, PlayerShows}
+use Rattle.play.specs.Laws.{ReadsKept}
+use Rattle.play.specs.Showing.{IsClient, NoneLeads, PlayerShows}
+use Rattle.play.proofs.ReadsLaws.{unled_after, unled_up, reads_left}
 use Rattle.play.specs.Events.{IsKept, Keeps, RoadsFailed, IsCaused, writer_at, blocks_of, KeepsPlaces, Begins, BeginShows, ReadyShows, DownShows, MirrorShows}
 
 pub dialled_there : (dialled : ℕ → Dialled) (marks : ℕ → Marks) (b c : ℕ) (x : Writing) (n : Option ℕ) → n ≡ Some c → IfSome n (λ c. IsWriterConn (dialled c) (marks c).taken b x.known) → (dialled c).upper ≡ by_writer b
@@ -64,6 +68,7 @@ module _ {F R I O : Type 0} (f : files.Ghosts F) (r : roads.Ghosts R I O) (i : l
   keeps_places actor old n' new e blocks kept = record {
     blocks = ap (λ (p : Player F I O). p.nodes.blocks.items) kept.same ∙ blocks;
     order = ap (λ (p : Player F I O). blocks_of p.clients.items) kept.same;
+    asks = ap (λ (p : Player F I O). asks_of p.reads.clients.items) kept.same;
     each = λ k c at. record { was = c; at = sym (ap (λ (p : Player F I O). slice_get p.clients.items k) kept.same) ∙ at; block = refl; rule = refl; same = λ other. refl };
   }
 
@@ -75,11 +80,12 @@ module _ {F R I O : Type 0} (f : files.Ghosts F) (r : roads.Ghosts R I O) (i : l
     queue = (were j c at).queue;
   }
 
-  pub same_left : (w v : World) (net : Net) (queues : Queues) (old : Player F I O) (n' : Nodes F I O) (e : Event) (road road' : R) → ClientsStay i o → PlayerShows r i o w net queues road old → Ordered w → KeepsWriters w v → SameNodes w v → (left : NodesLeft r i o w net v road' n')
+  pub same_left : (w v : World) (net : Net) (queues : Queues) (old : Player F I O) (n' : Nodes F I O) (e : Event) (road road' : R) → ClientsStay i o → ReadsStay i o → PlayerShows r i o w net queues road old → Ordered w → KeepsWriters w v → SameNodes w v → n'.blocks.items ≡ old.nodes.blocks.items → NoneLeads v → (left : NodesLeft r i o w net v road' n') → KeepsReads i o w net v left.made
       → PlayerShows r i o v left.made queues road' (record old { nodes = n' })
-  same_left w v net queues old n' e road road' stay p ordered k runs left = record {
+  same_left w v net queues old n' e road road' stay reads_stay p ordered k runs blocks unled left kept = record {
     nodes = left.stands;
-    pipelines = left.pipelines p.pipelines;
+    reads = reads_left i o w v net left.made old.nodes.blocks.items n'.blocks.items old.reads reads_stay blocks p.reads kept;
+    unled = unled;
     clients = clients_left w v net left.made queues old stay p.clients ordered k left.writers;
     apart = p.apart;
     office = p.office ∙ sym k.office;
@@ -87,13 +93,13 @@ module _ {F R I O : Type 0} (f : files.Ghosts F) (r : roads.Ghosts R I O) (i : l
     slots = p.slots ∙ sym runs.nodes;
   }
 
-  left_of : (w v : World) (net : Net) (queues : Queues) (actor : Option ℕ) (old : Player F I O) (n' : Nodes F I O) (new : Player F I O) (e : Event) (road road' : R) → n'.blocks.items ≡ old.nodes.blocks.items → ClientsStay i o → PlayerShows r i o w net queues road old → Ordered w → KeepsWriters w v → SameNodes w v → NodesLeft r i o w net v road' n' → IsKept (record old { nodes = n' }) new e
+  left_of : (w v : World) (net : Net) (queues : Queues) (actor : Option ℕ) (old : Player F I O) (n' : Nodes F I O) (new : Player F I O) (e : Event) (road road' : R) → n'.blocks.items ≡ old.nodes.blocks.items → ClientsStay i o → ReadsStay i o → PlayerShows r i o w net queues road old → Ordered w → KeepsWriters w v → SameNodes w v → NoneLeads v → ((made : Net) → ElsewhereStays i o w net v made → KeepsReads i o w net v made) → NodesLeft r i o w net v road' n' → IsKept (record old { nodes = n' }) new e
       → Left v queues actor old new e road'
-  left_of w v net queues actor old n' new e road road' blocks stay p ordered k runs left kept =
-      let q : PlayerShows r i o v left.made queues road' (record old { nodes = n' }) = same_left w v net queues old n' e road road' stay p ordered k runs left in
+  left_of w v net queues actor old n' new e road road' blocks stay reads_stay p ordered k runs unled keeps left kept =
+      let q : PlayerShows r i o v left.made queues road' (record old { nodes = n' }) = same_left w v net queues old n' e road road' stay reads_stay p ordered k runs blocks unled left (keeps left.made left.elsewhere) in
       record {
         made = left.made;
-        shows = subst (λ (x : Player F I O). PlayerShows r i o v left.made queues road' x) (sym kept.same) (record { nodes = q.nodes; pipelines = q.pipelines; clients = q.clients; apart = q.apart; office = q.office; running = q.running; slots = q.slots });
+        shows = subst (λ (x : Player F I O). PlayerShows r i o v left.made queues road' x) (sym kept.same) (record { nodes = q.nodes; reads = q.reads; unled = q.unled; clients = q.clients; apart = q.apart; office = q.office; running = q.running; slots = q.slots });
         events = kept.events;
         places = keeps_places actor old n' new e blocks kept;
       }
@@ -107,37 +113,40 @@ module _ {F R I O : Type 0} (f : files.Ghosts F) (r : roads.Ghosts R I O) (i : l
   pub out_of_memory : (old new : Player F I O) (road road' : R) (why : PlayFault) → why ≡ fault.Memory → IsCaused f r old new road road' why
   out_of_memory old new road road' why is = subst (λ (x : PlayFault). IsCaused f r old new road road' x) (sym is) tt
 
-  pub ready_left : (conn : ConnId) (old : Player F I O) (n' : Nodes F I O) (new : Player F I O) (road road' : R) (result : Result (Unit {0}) PlayFault) → n'.blocks.items ≡ old.nodes.blocks.items → ClientsStay i o → ReadyKeeps → RunningStays → nodes.ReadyShows f r i o conn old.nodes n' road road' (Ok tt) → Keeps (record old { nodes = n' }) new (event.Ready conn) result
+  pub ready_left : (conn : ConnId) (old : Player F I O) (n' : Nodes F I O) (new : Player F I O) (road road' : R) (result : Result (Unit {0}) PlayFault) → n'.blocks.items ≡ old.nodes.blocks.items → ClientsStay i o → ReadsKept i o → ReadyKeeps → RunningStays → nodes.ReadyShows f r i o conn old.nodes n' road road' (Ok tt) → Keeps (record old { nodes = n' }) new (event.Ready conn) result
       → ReadyShows f r i o conn old new road road' result
-  ready_left conn old n' new road road' (Ok u) blocks stay keeps runs shows kept = λ w net queues p lawful is.
+  ready_left conn old n' new road road' (Ok u) blocks stay K keeps runs shows kept = λ w net queues p piped lawful is.
       let l : Left (happens w (event.Ready conn)) queues None old new (event.Ready conn) road' =
-      left_of w (happens w (event.Ready conn)) net queues None old n' new (event.Ready conn) road road' blocks stay p lawful.ordered (keeps w conn) (runs w (event.Ready conn) tt) (shows w net queues p.nodes (p.pipelines conn.0) lawful is) kept in
+      left_of w (happens w (event.Ready conn)) net queues None old n' new (event.Ready conn) road road' blocks stay K.stay p lawful.ordered (keeps w conn) (runs w (event.Ready conn) tt) (unled_after K.unled w (event.Ready conn) refl p.unled)
+      (λ made stays. K.ready w net made conn lawful.ordered piped stays) (shows w net queues p.nodes (λ within. piped) lawful is) kept in
       record { made = l.made; shows = l.shows; events = l.events; places = l.places }
-  ready_left conn old n' new road road' (Err why) blocks stay keeps runs shows kept = λ w net queues p lawful is. out_of_memory old new road road' why kept
+  ready_left conn old n' new road road' (Err why) blocks stay K keeps runs shows kept = λ w net queues p piped lawful is. out_of_memory old new road road' why kept
 
   pub ready_failed : (conn : ConnId) (old new : Player F I O) (road road' : R) (why : NodesFault) → nodes.ReadyShows f r i o conn old.nodes new.nodes road road' (Err why)
       → ReadyShows f r i o conn old new road road' (Err (of_nodes why))
-  ready_failed conn old new road road' why shows = λ w net queues p lawful is. caused old new road road' why (shows w net queues p.nodes (p.pipelines conn.0) lawful is)
+  ready_failed conn old new road road' why shows = λ w net queues p piped lawful is. caused old new road road' why (shows w net queues p.nodes (λ within. piped) lawful is)
 
-  pub down_left : (conn : ConnId) (old : Player F I O) (n' : Nodes F I O) (new : Player F I O) (road road' : R) (result : Result (Unit {0}) PlayFault) → n'.blocks.items ≡ old.nodes.blocks.items → ClientsStay i o → DownKeeps → RunningStays → nodes.DownShows f r i o conn old.nodes n' road road' (Ok tt) → Keeps (record old { nodes = n' }) new (event.Down conn true) result
+  pub down_left : (conn : ConnId) (old : Player F I O) (n' : Nodes F I O) (new : Player F I O) (road road' : R) (result : Result (Unit {0}) PlayFault) → n'.blocks.items ≡ old.nodes.blocks.items → ClientsStay i o → ReadsKept i o → DownKeeps → RunningStays → nodes.DownShows f r i o conn old.nodes n' road road' (Ok tt) → Keeps (record old { nodes = n' }) new (event.Down conn true) result
       → DownShows f r i o conn old new road road' result
-  down_left conn old n' new road road' (Ok u) blocks stay keeps runs shows kept = λ w net queues p lawful is busy.
+  down_left conn old n' new road road' (Ok u) blocks stay K keeps runs shows kept = λ w net queues p piped lawful is busy.
       let l : Left (happens w (event.Down conn true)) queues None old new (event.Down conn true) road' =
-      left_of w (happens w (event.Down conn true)) net queues None old n' new (event.Down conn true) road road' blocks stay p lawful.ordered (keeps w conn true) (runs w (event.Down conn true) tt) (shows w net queues true p.nodes (p.pipelines conn.0) lawful is busy) kept in
+      left_of w (happens w (event.Down conn true)) net queues None old n' new (event.Down conn true) road road' blocks stay K.stay p lawful.ordered (keeps w conn true) (runs w (event.Down conn true) tt) (unled_after K.unled w (event.Down conn true) refl p.unled)
+      (λ made stays. K.down w net made conn true lawful.ordered piped stays) (shows w net queues true p.nodes (λ within. piped) lawful is busy) kept in
       record { made = l.made; shows = l.shows; events = l.events; places = l.places }
-  down_left conn old n' new road road' (Err why) blocks stay keeps runs shows kept = λ w net queues p lawful is busy. out_of_memory old new road road' why kept
+  down_left conn old n' new road road' (Err why) blocks stay K keeps runs shows kept = λ w net queues p piped lawful is busy. out_of_memory old new road road' why kept
 
   pub down_failed : (conn : ConnId) (old new : Player F I O) (road road' : R) (why : NodesFault) → nodes.DownShows f r i o conn old.nodes new.nodes road road' (Err why)
       → DownShows f r i o conn old new road road' (Err (of_nodes why))
-  down_failed conn old new road road' why shows = λ w net queues p lawful is busy. caused old new road road' why (shows w net queues true p.nodes (p.pipelines conn.0) lawful is busy)
+  down_failed conn old new road road' why shows = λ w net queues p piped lawful is busy. caused old new road road' why (shows w net queues true p.nodes (λ within. piped) lawful is busy)
 
-  pub mirror_left : (conn : ConnId) (old : Player F I O) (n' : Nodes F I O) (new : Player F I O) (road road' : R) (result : Result (Unit {0}) PlayFault) → n'.blocks.items ≡ old.nodes.blocks.items → ClientsStay i o → MirrorKeeps → RunningStays → nodes.UpShows f r i o conn old.nodes n' road road' (Ok tt) → Keeps (record old { nodes = n' }) new (event.Up conn) result
+  pub mirror_left : (conn : ConnId) (old : Player F I O) (n' : Nodes F I O) (new : Player F I O) (road road' : R) (result : Result (Unit {0}) PlayFault) → n'.blocks.items ≡ old.nodes.blocks.items → ClientsStay i o → ReadsKept i o → MirrorKeeps → RunningStays → nodes.UpShows f r i o conn old.nodes n' road road' (Ok tt) → Keeps (record old { nodes = n' }) new (event.Up conn) result
       → MirrorShows f r i o conn old new road road' result
-  mirror_left conn old n' new road road' (Ok u) blocks stay keeps runs shows kept = λ w net queues d p lawful is above.
+  mirror_left conn old n' new road road' (Ok u) blocks stay K keeps runs shows kept = λ w net queues d p lawful is above.
       let l : Left (happens w (event.Up conn)) queues (writer_at (w.dialled conn.0).upper) old new (event.Up conn) road' =
-      left_of w (happens w (event.Up conn)) net queues (writer_at (w.dialled conn.0).upper) old n' new (event.Up conn) road road' blocks stay p lawful.ordered (keeps w conn d above) (runs w (event.Up conn) tt) (shows w net queues d p.nodes lawful is above) kept in
+      left_of w (happens w (event.Up conn)) net queues (writer_at (w.dialled conn.0).upper) old n' new (event.Up conn) road road' blocks stay K.stay p lawful.ordered (keeps w conn d above) (runs w (event.Up conn) tt) (unled_up K.unled w conn (by_member d) above refl p.unled)
+      (λ made stays. K.mirror w net made conn d lawful.ordered above stays) (shows w net queues d p.nodes lawful is above) kept in
       record { made = l.made; shows = l.shows; events = l.events; places = l.places }
-  mirror_left conn old n' new road road' (Err why) blocks stay keeps runs shows kept = λ w net queues d p lawful is above. out_of_memory old new road road' why kept
+  mirror_left conn old n' new road road' (Err why) blocks stay K keeps runs shows kept = λ w net queues d p lawful is above. out_of_memory old new road road' why kept
 
   pub mirror_failed : (conn : ConnId) (old new : Player F I O) (road road' : R) (why : NodesFault) → nodes.UpShows f r i o conn old.nodes new.nodes road road' (Err why)
       → MirrorShows f r i o conn old new road road' (Err (of_nodes why))
@@ -148,16 +157,17 @@ module _ {F R I O : Type 0} (f : files.Ghosts F) (r : roads.Ghosts R I O) (i : l
   begun_so conn old n' w net queues road road' None tells quiet ends = ends
   begun_so conn old n' w net queues road road' (Some node) tells quiet ends = ends.left true (sym (tells node.0) ∙ quiet)
 
-  pub begin_left : (conn : ConnId) (old : Player F I O) (n' : Nodes F I O) (new : Player F I O) (road road' : R) (unanswered : Option NodeId) (result : Result (Unit {0}) PlayFault) → n'.blocks.items ≡ old.nodes.blocks.items → ClientsStay i o → DownKeeps → RunningStays → beginning.BeginShows f r i o conn old.nodes n' road road' (Ok unanswered)
+  pub begin_left : (conn : ConnId) (old : Player F I O) (n' : Nodes F I O) (new : Player F I O) (road road' : R) (unanswered : Option NodeId) (result : Result (Unit {0}) PlayFault) → n'.blocks.items ≡ old.nodes.blocks.items → ClientsStay i o → ReadsKept i o → DownKeeps → RunningStays → beginning.BeginShows f r i o conn old.nodes n' road road' (Ok unanswered)
       → Begins (record old { nodes = n' }) new conn unanswered result → BeginShows f r i o conn old new road road' result
-  begin_left conn old n' new road road' unanswered (Ok u) blocks stay keeps runs shows kept = λ w net queues p can is idle_is.
+  begin_left conn old n' new road road' unanswered (Ok u) blocks stay K keeps runs shows kept = λ w net queues p piped can is idle_is.
       let l : Left (happens w (event.Down conn true)) queues None old new (event.Down conn true) road' =
-      left_of w (happens w (event.Down conn true)) net queues None old n' new (event.Down conn true) road road' blocks stay p (can.lawful true).ordered (keeps w conn true) (runs w (event.Down conn true) tt)
-      (begun_so conn old n' w net queues road road' unanswered p.running kept.0 (shows w net queues p.nodes (p.pipelines conn.0) can.lawful can.fit is idle_is)) kept.1 in
+      left_of w (happens w (event.Down conn true)) net queues None old n' new (event.Down conn true) road road' blocks stay K.stay p (can.lawful true).ordered (keeps w conn true) (runs w (event.Down conn true) tt) (unled_after K.unled w (event.Down conn true) refl p.unled)
+      (λ made stays. K.down w net made conn true (can.lawful true).ordered piped stays)
+      (begun_so conn old n' w net queues road road' unanswered p.running kept.0 (shows w net queues p.nodes (λ within. piped) can.lawful can.fit is idle_is)) kept.1 in
       record { made = l.made; shows = l.shows; events = l.events; places = l.places }
-  begin_left conn old n' new road road' unanswered (Err fault.Memory) blocks stay keeps runs shows kept = λ w net queues p can is idle_is. tt
-  begin_left conn old n' new road road' unanswered (Err (fault.ShelfFault node)) blocks stay keeps runs shows kept = absurd kept
-  begin_left conn old n' new road road' unanswered (Err fault.RoadFault) blocks stay keeps runs shows kept = λ w net queues p can is idle_is. by w net p.running unanswered kept (shows w net queues p.nodes (p.pipelines conn.0) can.lawful can.fit is idle_is)
+  begin_left conn old n' new road road' unanswered (Err fault.Memory) blocks stay K keeps runs shows kept = λ w net queues p piped can is idle_is. tt
+  begin_left conn old n' new road road' unanswered (Err (fault.ShelfFault node)) blocks stay K keeps runs shows kept = absurd kept
+  begin_left conn old n' new road road' unanswered (Err fault.RoadFault) blocks stay K keeps runs shows kept = λ w net queues p piped can is idle_is. by w net p.running unanswered kept (shows w net queues p.nodes (λ within. piped) can.lawful can.fit is idle_is)
     where
       rose : (w : World) (node : NodeId) → TellsRunning w old.running.items → runs_in old.running.items node.0 ≡ true → (w.running node.0 ≡ false) ⊎ FaultsIncreased (r.faults road) (r.faults road') → RoadsFailed r road road'
       rose w node tells on (inl off) = absurd (true_false (sym on ∙ (tells node.0 ∙ off)))
@@ -169,4 +179,4 @@ module _ {F R I O : Type 0} (f : files.Ghosts F) (r : roads.Ghosts R I O) (i : l
 
   pub begin_failed : (conn : ConnId) (old new : Player F I O) (road road' : R) (why : NodesFault) → beginning.BeginShows f r i o conn old.nodes new.nodes road road' (Err why)
       → BeginShows f r i o conn old new road road' (Err (of_nodes why))
-  begin_failed conn old new road road' why shows = λ w net queues p can is idle_is. caused old new road road' why (shows w net queues p.nodes (p.pipelines conn.0) can.lawful can.fit is idle_is)
+  begin_failed conn old new road road' why shows = λ w net queues p piped can is idle_is. caused old new road road' why (shows w net queues p.nodes (λ within. piped) can.lawful can.fit is idle_is)

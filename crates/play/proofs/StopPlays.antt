@@ -21,16 +21,24 @@ use Rattle.play_clients.specs.Staying.{ClientsStay}
 use Rattle.play_nodes.specs.declared.nodes.Nodes.{Nodes}
 use Rattle.play_nodes.specs.Frames.{KeepsWriters}
 use Rattle.play_nodes.specs.Places.{KeepsSizes}
-use Rattle.play_nodes.specs.Showing.{NodesLeft}
+use Rattle.play_nodes.specs.Showing.{NodesLeft, WritersStay}
 use Rattle.node_stops.specs.Stopping as node
+use Rattle.play_model.specs.declared.asks.ReadAsk.{ReadAsk}
+use Rattle.play_reads.specs.declared.reads.Reads.{Reads}
+use Rattle.play_reads.specs.Left.{ReadsLeft}
+use Rattle.play_reads.specs.Places.{asks_of}
+use Rattle.play_reads.specs.Showing.{ReadsShow}
+use Rattle.play_reads.specs.Stopping as reads
+use Rattle.world_orders.specs.Orders.{Ordered}
 use Rattle.play.specs.declared.faults.PlayFault.{PlayFault}
 use Rattle.play.specs.declared.player.Player.{Player}
 use Rattle.play.specs.Events.{IsKept, Keeps}
 use Rattle.play.specs.Laws.{Laws}
 use Rattle.play.specs.Running.{IsStopped}
 use Rattle.play.specs.Showing.{PlayerShows}
-use Rattle.play.specs.Standing.{CommandsFit, ClientFits, EventsFit, world_of, PlayStands}
+use Rattle.play.specs.Standing.{AsksFit, CommandsFit, ClientFits, EventsFit, world_of, PlayStands}
 use Rattle.play.specs.Stopping.{HasStopped, StopShows}
+use Rattle.play.proofs.ReadsLaws.{unled_after}
 use Rattle.play.proofs.Lawful.{fits_more}
 use Rattle.play.proofs.NodeSteps.{clients_left}
 
@@ -55,17 +63,29 @@ running_put : (w : World) (n : NodeId) → w.running n.0 ≡ true → (m : ℕ) 
 running_put w n runs m = ap (λ (v : World). v.running m) (stop_is w n runs)
 
 module _ {F R I O : Type 0} (f : files.Ghosts F) (r : roads.Ghosts R I O) (i : link_in.Ghosts I) (o : link_out.Ghosts O) (L : Laws) (origins : DialsHaveOrigins) (clients_stay : ClientsStay i o) where
-  module _ (nodes : ℕ) (queues : Queues) (n : NodeId) (old mid new : Player F I O) (n' : Nodes F I O) (road road' : R) (s : PlayStands r i o nodes queues road old) (runs : (world_of nodes old).running n.0 ≡ true) (shows : node.StopShows r i o n old.nodes n' road road' (Ok tt)) (sizes : KeepsSizes old.nodes n') (stopped : IsStopped (record old { nodes = n' }) mid n) (kept : IsKept mid new (event.Stop n)) where
+  module _ (nodes : ℕ) (queues : Queues) (n : NodeId) (old mid new : Player F I O) (n' : Nodes F I O) (reads' : Reads I O) (road first road' : R) (s : PlayStands r i o nodes queues road old) (runs : (world_of nodes old).running n.0 ≡ true) (shows : node.StopShows r i o n old.nodes n' road first (Ok tt)) (sizes : KeepsSizes old.nodes n') (read_shows : reads.StopShows r i o n n' old.reads reads' first road') (stopped : IsStopped (record old { nodes = n'; reads = reads' }) mid n) (kept : IsKept mid new (event.Stop n)) where
     abbrev here : World
     here = world_of nodes old
 
     abbrev there : World
     there = happens here (event.Stop n)
 
-    left : NodesLeft r i o here s.net there road' n'
+    left : NodesLeft r i o here s.net there first n'
     left = shows here s.net s.shows.nodes (record { runs = runs; placed = L.placed nodes old.events.items; ordered = L.ordered nodes old.events.items; from = origins nodes old.events.items })
 
-    same : new ≡ record old { nodes = n'; running = mid.running; events = new.events }
+    read_left : ReadsLeft r i o there left.made there road' n' old.reads reads'
+    read_left = read_shows here s.net left.made (record {
+      runs = runs;
+      in_order = record { before = L.ordered nodes old.events.items; after = subst Ordered (L.joined (start nodes) old.events.items (event.Stop n ∷ [])) (L.ordered nodes (old.events.items ++ event.Stop n ∷ [])); placed = L.placed nodes old.events.items };
+      reads_are = subst (λ (bs : List BlockId). ReadsShow i o here s.net bs old.reads) (sym sizes.blocks) s.shows.reads;
+      stands = left.stands;
+      elsewhere = left.elsewhere;
+    })
+
+    writers : WritersStay i o here s.net there read_left.made
+    writers b d e by h = read_left.writers b d e (ap (λ (v : World). (v.dialled d).upper) (stop_is here n runs) ∙ by) (left.writers b d e by h)
+
+    same : new ≡ record old { nodes = n'; reads = reads'; running = mid.running; events = new.events }
     same = kept.same ∙ ap (λ (p : Player F I O). record p { events = new.events }) stopped.same
 
     more : new.events.items ≡ old.events.items ++ event.Stop n ∷ []
@@ -75,13 +95,14 @@ module _ {F R I O : Type 0} (f : files.Ghosts F) (r : roads.Ghosts R I O) (i : l
     world_is = ap (λ (es : List Event). run (start nodes) es) more ∙ L.joined (start nodes) old.events.items (event.Stop n ∷ [])
 
     abbrev after : Player F I O
-    after = record old { nodes = n'; running = mid.running; events = new.events }
+    after = record old { nodes = n'; reads = reads'; running = mid.running; events = new.events }
 
-    shows_there : PlayerShows r i o there left.made queues road' after
+    shows_there : PlayerShows r i o there read_left.made queues road' after
     shows_there = record {
-      nodes = left.stands;
-      pipelines = left.pipelines s.shows.pipelines;
-      clients = clients_left f r i o here there s.net left.made queues old clients_stay s.shows.clients (L.ordered nodes old.events.items) (writers_kept here n runs) left.writers;
+      nodes = read_left.stands.nodes;
+      reads = read_left.stands.reads_are;
+      unled = unled_after L.unled here (event.Stop n) refl s.shows.unled;
+      clients = clients_left f r i o here there s.net read_left.made queues old clients_stay s.shows.clients (L.ordered nodes old.events.items) (writers_kept here n runs) writers;
       apart = s.shows.apart;
       office = s.shows.office ∙ sym (writers_kept here n runs).office;
       slots = stopped.slots ∙ (s.shows.slots ∙ sym (ap (λ (v : World). v.nodes) (stop_is here n runs)));
@@ -104,13 +125,14 @@ module _ {F R I O : Type 0} (f : files.Ghosts F) (r : roads.Ghosts R I O) (i : l
 
     stands_there : PlayStands r i o nodes queues road' after
     stands_there = record {
-      net = left.made;
-      shows = subst (λ (v : World). PlayerShows r i o v left.made queues road' after) (sym world_is) shows_there;
+      net = read_left.made;
+      shows = subst (λ (v : World). PlayerShows r i o v read_left.made queues road' after) (sym world_is) shows_there;
       few = s.few;
       events = subst (λ (bs : List BlockId). EventsFit nodes bs new.events.items) (sym blocks_are)
           (subst (λ (es : List Event). EventsFit nodes old.nodes.blocks.items es) (sym more)
           (fits_more nodes old.nodes.blocks.items old.events.items (event.Stop n ∷ []) s.events (record { widths = (tt, tt); names = (tt, tt); among = (tt, tt); whole = (tt, tt) })));
       clients = λ k c at. subst (λ (v : World). ClientFits nodes n'.blocks.items v c) (sym world_is) (fits_there c (s.clients k c at));
+      asks = subst (λ (bs : List BlockId). AsksFit nodes bs (asks_of reads'.clients.items)) (sym blocks_are) (subst (λ (xs : List ReadAsk). AsksFit nodes old.nodes.blocks.items xs) (sym read_left.asks) s.asks);
       connected = λ b c has. s.connected b c (sym (ap (λ (x : Writing). x.conn) (writer_is b)) ∙ (sym (ap (λ (v : World). (v.writers b).conn) world_is) ∙ has));
     }
 
@@ -118,10 +140,11 @@ module _ {F R I O : Type 0} (f : files.Ghosts F) (r : roads.Ghosts R I O) (i : l
     has_stopped = record {
       stands = subst (λ (p : Player F I O). PlayStands r i o nodes queues road' p) (sym same) stands_there;
       clients = ap (λ (p : Player F I O). p.clients) same;
+      asks = ap (λ (p : Player F I O). asks_of p.reads.clients.items) same ∙ read_left.asks;
       events = more;
     }
 
-  pub stop_shows : (n : NodeId) (old mid new : Player F I O) (n' : Nodes F I O) (road road' : R) (result : Result (Unit {0}) PlayFault) → node.StopShows r i o n old.nodes n' road road' (Ok tt) → KeepsSizes old.nodes n' → IsStopped (record old { nodes = n' }) mid n → Keeps mid new (event.Stop n) result
-      → StopShows r i o n old new road road' result
-  stop_shows n old mid new n' road road' (Ok u) shows sizes stopped kept nodes queues s runs = has_stopped nodes queues n old mid new n' road road' s runs shows sizes stopped kept
-  stop_shows n old mid new n' road road' (Err why) shows sizes stopped kept nodes queues s runs = kept
+  pub stop_shows : (n : NodeId) (old mid new : Player F I O) (n' : Nodes F I O) (reads' : Reads I O) (road first road' : R) (result : Result (Unit {0}) PlayFault) → node.StopShows r i o n old.nodes n' road first (Ok tt) → KeepsSizes old.nodes n' → reads.StopShows r i o n n' old.reads reads' first road'
+      → IsStopped (record old { nodes = n'; reads = reads' }) mid n → Keeps mid new (event.Stop n) result → StopShows r i o n old new road road' result
+  stop_shows n old mid new n' reads' road first road' (Ok u) shows sizes read_shows stopped kept nodes queues s runs = has_stopped nodes queues n old mid new n' reads' road first road' s runs shows sizes read_shows stopped kept
+  stop_shows n old mid new n' reads' road first road' (Err why) shows sizes read_shows stopped kept nodes queues s runs = kept

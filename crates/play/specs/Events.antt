@@ -22,6 +22,8 @@ use Rattle.play_clients.specs.Events.{HearIsLawful, AcceptedIsQuiet}
 use Rattle.play_nodes.specs.declared.nodes.Nodes.{Nodes}
 use Rattle.play_nodes.specs.Beginning.{RequestsFit}
 use Rattle.play_nodes.specs.Events.{IsLawful, IsBusy, DrawerFailed}
+use Rattle.play_nodes.specs.Showing.{is_pipeline}
+use Rattle.play_reads.specs.Places.{asks_of}
 use Rattle.play.specs.declared.faults.PlayFault.{PlayFault}
 use Rattle.play.specs.declared.faults.PlayFault.TheVariants as fault
 use Rattle.play.specs.declared.player.Player.{Player}
@@ -73,10 +75,11 @@ pub record StaysAt {I O : Type 0} (olds : List (Client I O)) (actor : Option ℕ
 abbrev pub blocks_of : {I O : Type 0} → List (Client I O) → List BlockId
 blocks_of clients = map (λ c. c.block) clients
 
--- The blocks of the nodes stay, and the clients at their places, for the same blocks.
+-- The blocks of the nodes stay, the clients at their places, for the same blocks, and what the readers ask.
 pub record KeepsPlaces {F I O : Type 0} (actor : Option ℕ) (old new : Player F I O) : Type 0 where
   pub blocks : new.nodes.blocks.items ≡ old.nodes.blocks.items
   pub order : blocks_of new.clients.items ≡ blocks_of old.clients.items
+  pub asks : asks_of new.reads.clients.items ≡ asks_of old.reads.clients.items
   pub each : (k : ℕ) (c : Client I O) → slice_get new.clients.items k ≡ Some c → StaysAt old.clients.items actor k c
 
 -- What is left once something that is due has happened: its events were kept, and the player shows the world after them.
@@ -97,14 +100,15 @@ abbrev pub ReadyShows : {F R I O : Type 0} → files.Ghosts F → roads.Ghosts R
     link_out.Ghosts O → ConnId → Player F I O → Player F I O → R → R → Result (Unit {0}) PlayFault → Type 0
 ReadyShows f r i o conn old new road road' result =
     (w : World) (net : Net) (queues : Queues) → PlayerShows r i o w net queues road old →
-    IsLawful w (event.Ready conn) → is_due w queues (due.Ready conn) ≡ true
+    is_pipeline (w.dialled conn.0).upper ≡ true → IsLawful w (event.Ready conn) → is_due w queues (due.Ready conn) ≡ true
     → PlayEnds f r i o w queues (due.Ready conn) old new road road' result
 
 abbrev pub DownShows : {F R I O : Type 0} → files.Ghosts F → roads.Ghosts R I O → link_in.Ghosts I → link_out.Ghosts O →
     ConnId → Player F I O → Player F I O → R → R → Result (Unit {0}) PlayFault → Type 0
 DownShows f r i o conn old new road road' result =
     (w : World) (net : Net) (queues : Queues) → PlayerShows r i o w net queues road old →
-    IsLawful w (event.Down conn true) → is_due w queues (due.Down conn) ≡ true → IsBusy w conn.0
+    is_pipeline (w.dialled conn.0).upper ≡ true → IsLawful w (event.Down conn true) →
+    is_due w queues (due.Down conn) ≡ true → IsBusy w conn.0
     → PlayEnds f r i o w queues (due.Down conn) old new road road' result
 
 abbrev pub MirrorShows : {F R I O : Type 0} → files.Ghosts F → roads.Ghosts R I O → link_in.Ghosts I →
@@ -140,5 +144,6 @@ abbrev pub BeginShows : {F R I O : Type 0} → files.Ghosts F → roads.Ghosts R
     link_out.Ghosts O → ConnId → Player F I O → Player F I O → R → R → Result (Unit {0}) PlayFault → Type 0
 BeginShows f r i o conn old new road road' result =
     (w : World) (net : Net) (queues : Queues) → PlayerShows r i o w net queues road old →
-    CanBegin w conn old.nodes → is_due w queues (due.Down conn) ≡ true → w.lowers conn.0 ≡ idle
+    is_pipeline (w.dialled conn.0).upper ≡ true → CanBegin w conn old.nodes → is_due w queues (due.Down conn) ≡ true →
+    w.lowers conn.0 ≡ idle
     → PlayEnds f r i o w queues (due.Down conn) old new road road' result

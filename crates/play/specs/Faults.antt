@@ -5,6 +5,8 @@ use Rattle.hd_base.specs.declared.numbers.NodeId.{NodeId}
 use Rattle.node_starts.specs.declared.faults.StartFault.{StartFault}
 use Rattle.node_starts.specs.declared.faults.StartFault.TheVariants as start_fault
 use Rattle.play_nodes.specs.declared.faults.NodesFault.{NodesFault}
+use Rattle.play_reads.specs.declared.faults.ReadsFault.{ReadsFault}
+use Rattle.play_reads.specs.declared.faults.ReadsFault.TheVariants as reads_fault
 use Rattle.play_nodes.specs.declared.faults.NodesFault.TheVariants as nodes_fault
 use Rattle.play.specs.declared.faults.PlayFault.{PlayFault}
 use Rattle.play.specs.declared.faults.PlayFault.TheVariants as fault
@@ -21,6 +23,15 @@ abbrev pub of_client : ClientFault → PlayFault
 of_client client_fault.LinkFailed = fault.RoadFault
 of_client client_fault.RoadsFailed = fault.RoadFault
 of_client client_fault.Memory = fault.Memory
+
+-- Why it stops in which an event of the reads isn't done. Bytes are missing only where files aren't told, and no reads are
+-- played there.
+abbrev pub of_reads : ReadsFault → PlayFault
+of_reads reads_fault.LinkFailed = fault.RoadFault
+of_reads reads_fault.RoadsFailed = fault.RoadFault
+of_reads (reads_fault.FilesFailed node) = fault.ShelfFault node
+of_reads (reads_fault.BytesMissing node) = fault.ShelfFault node
+of_reads reads_fault.Memory = fault.Memory
 
 -- why it stops in which this node doesn't start
 abbrev pub of_start : NodeId → StartFault → PlayFault

@@ -2,6 +2,7 @@ pub mod Faults
 pub mod Showing
 pub mod Events
 pub mod Owning
+pub mod Reading
 pub mod Laws
 pub mod Standing
 pub mod Cutting

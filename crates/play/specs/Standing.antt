@@ -16,18 +16,22 @@ use Rattle.world.specs.Clients.{is_formed}
 use Rattle.world.specs.Events.{run}
 use Rattle.world_breaks.specs.Breaks.{NoneFails}
 use Rattle.world_requests.specs.Requests.{IsAmong, AllAmong}
-use Rattle.world_texts.specs.Texts.{AllFit}
+use Rattle.world_texts.specs.Texts.{AllFit, CanBeAsked}
+use Rattle.play_model.specs.declared.asks.ReadAsk.{ReadAsk}
 use Rattle.play_model.specs.declared.dues.Due.{Due}
 use Rattle.play_model.specs.declared.dues.Due.TheVariants as due
+use Rattle.play_model.specs.Asks.{request_of}
 use Rattle.play_model.specs.Dues.{Queues, is_due, due_events, queues_after}
 use Rattle.play_laws.specs.Intakes.{intake_of}
 use Rattle.play_laws.specs.Members.{IsNode, Names, AllName}
 use Rattle.play_clients.specs.declared.clients.Client.{Client}
 use Rattle.play_dues.specs.Showing.{HasClient}
+use Rattle.play_reads.specs.Places.{HasAsk, asks_of}
 use Rattle.play.specs.declared.faults.PlayFault.{PlayFault}
 use Rattle.play.specs.declared.player.Player.{Player}
 use Rattle.play.specs.Showing.{PlayerShows}
 use Rattle.play.specs.Events.{IsCaused, KeepsPlaces, actor_of}
+use Rattle.play.specs.Reading.{ReadsAreTold}
 
 -- COMMANDS
 
@@ -70,8 +74,18 @@ pub record EventsFit (nodes : ℕ) (blocks : List BlockId) (events : List Event)
 abbrev pub world_of : {F I O : Type 0} → ℕ → Player F I O → World
 world_of nodes p = run (start nodes) p.events.items
 
--- The player shows this world; there are no more nodes than a play may have, so that each has a port; the events and the
--- commands fit; and a writer that has a connection is that of a client.
+-- What is asked is a block of these, at one of the first nodes, so many, and its request can be sent.
+pub record AskFits (nodes : ℕ) (blocks : List BlockId) (ask : ReadAsk) : Type 0 where
+  pub among : IsAmong blocks ask.block.0
+  pub node : IsNode nodes ask.node
+  pub asked : CanBeAsked (request_of ask)
+
+-- So it is of all of these.
+abbrev pub AsksFit : ℕ → List BlockId → List ReadAsk → Type 0
+AsksFit nodes blocks asks = (k : ℕ) (ask : ReadAsk) → slice_get asks k ≡ Some ask → AskFits nodes blocks ask
+
+-- The player shows this world; there are no more nodes than a play may have, so that each has a port; the events, the
+-- commands and what readers ask fit; and a writer that has a connection is that of a client.
 pub record PlayStands {F R I O : Type 0} (r : roads.Ghosts R I O) (i : link_in.Ghosts I) (o : link_out.Ghosts O)
     (nodes : ℕ) (queues : Queues) (road : R) (p : Player F I O) : Type 0 where
   pub net : Net
@@ -80,6 +94,7 @@ pub record PlayStands {F R I O : Type 0} (r : roads.Ghosts R I O) (i : link_in.G
   pub events : EventsFit nodes p.nodes.blocks.items p.events.items
   pub clients : (k : ℕ) (c : Client I O) → slice_get p.clients.items k ≡ Some c →
       ClientFits nodes p.nodes.blocks.items (world_of nodes p) c
+  pub asks : AsksFit nodes p.nodes.blocks.items (asks_of p.reads.clients.items)
   pub connected : (b c : ℕ) → ((world_of nodes p).writers b).conn ≡ Some c → HasClient p.clients.items b
 
 -- What is left of a play in which something that is due has happened: its events stand behind the others, and what each
@@ -99,16 +114,16 @@ abbrev pub HappenEnds : {F R I O : Type 0} → files.Ghosts F → roads.Ghosts R
 HappenEnds f r i o nodes queues d old new road road' (Ok u) = HasHappened r i o nodes queues d old new road'
 HappenEnds f r i o nodes queues d old new road road' (Err why) = IsCaused f r old new road road' why
 
--- a writer that takes its own step has a client; no reader takes one
+-- a writer that takes its own step has a client, and so has a reader that asks
 abbrev pub ActorIsClient : {F I O : Type 0} → Player F I O → Due → Type 0
 ActorIsClient p (due.Own b) = HasClient p.clients.items b.0
-ActorIsClient p (due.Reader ask) = ⊥
+ActorIsClient p (due.Reader ask) = HasAsk p.reads.clients.items ask
 ActorIsClient p other = Unit {0}
 
--- Something that is due happens.
+-- Something that is due happens. Where there is a reader all files are told.
 abbrev pub HappenShows : {F R I O : Type 0} → files.Ghosts F → roads.Ghosts R I O → link_in.Ghosts I →
     link_out.Ghosts O → Due → Player F I O → Player F I O → R → R → Result (Unit {0}) PlayFault → Type 0
 HappenShows f r i o d old new road road' result =
     (nodes : ℕ) (queues : Queues) → PlayStands r i o nodes queues road old →
-    is_due (world_of nodes old) queues d ≡ true → ActorIsClient old d
+    is_due (world_of nodes old) queues d ≡ true → ActorIsClient old d → ReadsAreTold f old
     → HappenEnds f r i o nodes queues d old new road road' result

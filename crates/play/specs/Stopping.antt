@@ -6,16 +6,19 @@ use Rattle.hd_base.specs.declared.numbers.NodeId.{NodeId}
 use Rattle.hd_base.specs.declared.roads.Roads as roads
 use Rattle.world.specs.declared.events.Event.TheVariants as event
 use Rattle.play_model.specs.Dues.{Queues}
+use Rattle.play_reads.specs.Places.{asks_of}
 use Rattle.play.specs.declared.faults.PlayFault.{PlayFault}
 use Rattle.play.specs.declared.faults.PlayFault.TheVariants as fault
 use Rattle.play.specs.declared.player.Player.{Player}
 use Rattle.play.specs.Standing.{PlayStands, world_of}
 
--- The stop stands behind the events, and the player shows the world after it; the clients are as they were.
+-- The stop stands behind the events, and the player shows the world after it; the clients are as they were, and readers ask
+-- what they asked.
 pub record HasStopped {F R I O : Type 0} (r : roads.Ghosts R I O) (i : link_in.Ghosts I) (o : link_out.Ghosts O)
     (nodes : ℕ) (queues : Queues) (node : NodeId) (old new : Player F I O) (road : R) : Type 0 where
   pub stands : PlayStands r i o nodes queues road new
   pub clients : new.clients ≡ old.clients
+  pub asks : asks_of new.reads.clients.items ≡ asks_of old.reads.clients.items
   pub events : new.events.items ≡ old.events.items ++ event.Stop node ∷ []
 
 abbrev pub StopEnds : {F R I O : Type 0} → roads.Ghosts R I O → link_in.Ghosts I → link_out.Ghosts O → ℕ → Queues →

@@ -8,6 +8,7 @@ ghost use Rattle.play.specs.Showing.{PlayerStands};
 ghost use Rattle.play.specs.Events.{Keeps, Begins, BeginShows, ReadyShows, DownShows, MirrorShows, HeardShows};
 
 use crate::faults::{PlayFault, of_client, of_nodes};
+use crate::laws::reads_are_kept;
 use crate::player::Player;
 use hd_base::{ConnId, Files, LinkIn, LinkOut, NodeId, Roads};
 use play_clients::{clients_stay, hearing_keeps_others};
@@ -29,6 +30,7 @@ impl<F: Files, I: LinkIn, O: LinkOut> Player<F, I, O> {
         ensures sizes { KeepsSizes self.old.nodes self.new.nodes }
         ensures pass { RoadsPass R.Roads roads.old roads.new }
     {
+        reads_are_kept::<I, O>();
         nodes_keep_writers();
         running_stays();
         clients_stay::<I, O>();
@@ -50,6 +52,7 @@ impl<F: Files, I: LinkIn, O: LinkOut> Player<F, I, O> {
         ensures sizes { KeepsSizes self.old.nodes self.new.nodes }
         ensures pass { RoadsPass R.Roads roads.old roads.new }
     {
+        reads_are_kept::<I, O>();
         nodes_keep_writers();
         running_stays();
         clients_stay::<I, O>();
@@ -86,6 +89,7 @@ impl<F: Files, I: LinkIn, O: LinkOut> Player<F, I, O> {
         ensures sizes { KeepsSizes self.old.nodes self.new.nodes }
         ensures pass { RoadsPass R.Roads roads.old roads.new }
     {
+        reads_are_kept::<I, O>();
         nodes_keep_writers();
         running_stays();
         clients_stay::<I, O>();
@@ -110,6 +114,7 @@ impl<F: Files, I: LinkIn, O: LinkOut> Player<F, I, O> {
         ensures sizes { KeepsSizes self.old.nodes self.new.nodes }
         ensures pass { RoadsPass R.Roads roads.old roads.new }
     {
+        reads_are_kept::<I, O>();
         nodes_keep_writers();
         running_stays();
         clients_stay::<I, O>();
@@ -133,6 +138,7 @@ impl<F: Files, I: LinkIn, O: LinkOut> Player<F, I, O> {
         ensures sizes { KeepsSizes self.old.nodes self.new.nodes }
         ensures pass { RoadsPass R.Roads roads.old roads.new }
     {
+        reads_are_kept::<I, O>();
         writers_keep_nodes();
         nodes_stay::<F, I, O>();
         nodes_ends_stay::<I, O>();

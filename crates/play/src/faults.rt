@@ -1,12 +1,13 @@
 //! Why a play stops.
 
 ghost use Rattle.std.specs.Prelude.{◌≡◌};
-ghost use Rattle.play.specs.Faults.{of_nodes, of_client, of_start};
+ghost use Rattle.play.specs.Faults.{of_nodes, of_client, of_reads, of_start};
 
 use client_events::ClientFault;
 use hd_base::NodeId;
 use node_starts::StartFault;
 use play_nodes::NodesFault;
+use play_reads::ReadsFault;
 use thiserror::Error;
 
 /// Why a play stops.
@@ -41,6 +42,20 @@ pub(crate) fn of_client(fault: ClientFault) -> PlayFault
     match fault {
         ClientFault::LinkFailed | ClientFault::RoadsFailed => PlayFault::RoadFault,
         ClientFault::Memory => PlayFault::Memory,
+    }
+}
+
+/// Why a play stops in which an event of the reads isn't done. Bytes are missing only where files aren't told, and no reads
+/// are played there.
+pub(crate) fn of_reads(fault: ReadsFault) -> PlayFault
+    ensures { result ≡ of_reads fault }
+{
+    match fault {
+        ReadsFault::LinkFailed | ReadsFault::RoadsFailed => PlayFault::RoadFault,
+        ReadsFault::FilesFailed { node } | ReadsFault::BytesMissing { node } => {
+            PlayFault::ShelfFault { node }
+        }
+        ReadsFault::Memory => PlayFault::Memory,
     }
 }
 

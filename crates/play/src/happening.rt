@@ -9,13 +9,13 @@ use crate::faults::PlayFault;
 use crate::laws::worlds_are_lawful;
 use crate::player::Player;
 use hd_base::{BlockId, ConnId, Files, LinkIn, LinkOut, Roads};
-use play_dues::{client_of, writer_of};
-use play_model::Due;
+use play_dues::{client_of, read_client_of, writer_of};
+use play_model::{Due, ReadAsk};
 use std::alloc::Global;
 
 impl<F: Files, I: LinkIn, O: LinkOut> Player<F, I, O> {
-    /// Something that is due happens: a writer takes its own step, or an end takes what stands next or acts without a
-    /// message. Its events stand behind those that happened then. There are no readers yet: nothing is done for one.
+    /// Something that is due happens: a writer or a reader takes its own step, or an end takes what stands next or acts
+    /// without a message. Its events stand behind those that happened then.
     pub fn happen<R: Roads<Inward = I, Outward = O>>(
         &mut self,
         alloc: Global,
@@ -29,7 +29,7 @@ impl<F: Files, I: LinkIn, O: LinkOut> Player<F, I, O> {
     {
         match due {
             Due::Own { block } => self.step(alloc, roads, block),
-            Due::Reader { .. } => Ok(()),
+            Due::Reader { ask } => self.begin_read(alloc, roads, ask),
             Due::Down { conn } => self.take_down(alloc, roads, conn),
             Due::Ready { conn } => self.act(alloc, roads, conn),
             Due::Up { conn } => self.take_up(alloc, roads, conn),
@@ -56,6 +56,26 @@ impl<F: Files, I: LinkIn, O: LinkOut> Player<F, I, O> {
         self.own(alloc, roads, place)
     }
 
+    /// A reader asks its node.
+    fn begin_read<R: Roads<Inward = I, Outward = O>>(
+        &mut self,
+        alloc: Global,
+        roads: &mut R,
+        ask: ReadAsk,
+    ) -> Result<(), PlayFault>
+        requires { PlayerStands R.Roads I.LinkIn O.LinkOut roads.old self.old }
+        ensures shows { HappenShows F.Files R.Roads I.LinkIn O.LinkOut (Due.Reader ask)
+            self.old self.new roads.old roads.new result }
+        ensures sizes { KeepsSizes self.old.nodes self.new.nodes }
+        ensures pass { RoadsPass R.Roads roads.old roads.new }
+    {
+        worlds_are_lawful();
+        let Some(place) = read_client_of(self.reads.clients.as_slice(), ask.reader) else {
+            return Ok(());
+        };
+        self.ask(alloc, roads, place)
+    }
+
     /// The lower end of a connection takes what stands next.
     fn take_down<R: Roads<Inward = I, Outward = O>>(
         &mut self,
@@ -70,6 +90,9 @@ impl<F: Files, I: LinkIn, O: LinkOut> Player<F, I, O> {
         ensures pass { RoadsPass R.Roads roads.old roads.new }
     {
         worlds_are_lawful();
+        if self.nodes.is_elsewhere(conn) {
+            return self.server_down(alloc, roads, conn);
+        }
         if self.nodes.takes_first(conn) {
             self.begin(alloc, roads, conn)
         } else {
@@ -91,7 +114,11 @@ impl<F: Files, I: LinkIn, O: LinkOut> Player<F, I, O> {
         ensures pass { RoadsPass R.Roads roads.old roads.new }
     {
         worlds_are_lawful();
-        self.ready(alloc, roads, conn)
+        if self.nodes.is_elsewhere(conn) {
+            self.server_ready(alloc, roads, conn)
+        } else {
+            self.ready(alloc, roads, conn)
+        }
     }
 
     /// The upper end of a connection takes what stands next.
@@ -108,6 +135,9 @@ impl<F: Files, I: LinkIn, O: LinkOut> Player<F, I, O> {
         ensures pass { RoadsPass R.Roads roads.old roads.new }
     {
         worlds_are_lawful();
+        if self.nodes.is_elsewhere(conn) {
+            return self.reader_up(alloc, roads, conn);
+        }
         let Some(block) = writer_of(&self.nodes, conn) else {
             return self.mirror_up(alloc, roads, conn);
         };

@@ -1,4 +1,4 @@
-//! The player of a script: the nodes, the clients and the office of a play, and the events that happened. Each event takes
+//! The player of a script: the nodes, the reads, the clients and the office of a play, and the events that happened. Each event takes
 //! a player that shows a world, on roads that show it, to one that shows the world after the event.
 #![tactic(auto)]
 
@@ -9,6 +9,7 @@ mod happening;
 mod laws;
 mod owning;
 mod player;
+mod reading;
 mod starting;
 mod stopping;
 

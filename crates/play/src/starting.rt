@@ -14,6 +14,7 @@ use crate::player::Player;
 use hd_base::{Files, LinkIn, LinkOut, NodeId, Roads, Shelf};
 use node_starts::{dials_are_of_lives_so_far, start_node};
 use play_clients::clients_stay;
+use play_reads::starts_keep_reads;
 use std::alloc::Global;
 use world::{Event, FoundList};
 use world_breaks::replicas_are_unbroken_without_faults;
@@ -50,6 +51,7 @@ impl<F: Files, I: LinkIn, O: LinkOut> Player<F, I, O> {
         replicas_are_unbroken_without_faults();
         dials_are_of_lives_so_far();
         clients_stay::<I, O>();
+        starts_keep_reads::<I, O>();
         match start_node(alloc, roads, shelf, &mut self.nodes, node) {
             Ok(()) => {
                 self.started(node);

@@ -39,6 +39,9 @@ impl<F: Files, I: LinkIn, O: LinkOut> Player<F, I, O> {
         let Ok(()) = stop_node(alloc, roads, &mut self.nodes, node) else {
             return Err(PlayFault::Memory);
         };
+        let Ok(()) = self.reads.stop(alloc, roads, &self.nodes, node) else {
+            return Err(PlayFault::Memory);
+        };
         self.stopped(node);
         self.keep(Event::Stop { node })
     }

@@ -29,4 +29,9 @@ returns c = record {
   down_keeps = c.nodes_keep_writers.ensures.down;
   ready_keeps = c.nodes_keep_writers.ensures.ready;
   mirror_keeps = c.nodes_keep_writers.ensures.up;
+  carried = c.bytes_are_carried.ensures;
+  readers = c.readers_take_in_order.ensures;
+  unled = c.primaries_stay.ensures;
+  asking_others = c.readers_keep_others.ensures.asks;
+  hearing_others = c.readers_keep_others.ensures.hears;
 }

@@ -1,14 +1,11 @@
 -- An end acted.
-use Rattle.world.specs.declared.events.Event.TheVariants as event
-use Rattle.play_model.specs.declared.dues.Due.TheVariants as due
-use Rattle.play.specs.Standing.{world_of}
-use Rattle.play.proofs.Happened.{happened_so}
-use Rattle.play.proofs.Lawful.{lawful}
+use Rattle.play.proofs.Dispatch.{acts, sends}
 use Rattle.play.proofs.player.Player.act.Goals as goal
 
-pub returns-clause-shows : goal.returns-clause-shows
-returns-clause-shows g c = λ nodes queues s is actor.
-    let old = c.args.self.now in
-    let conn = c.args.conn in
-    happened_so g.R.Roads g.I.LinkIn g.O.LinkOut c.worlds_are_lawful.ensures nodes queues old c.args.roads.now s g.F.Files (due.Ready conn) is actor c.ready.new.self c.ready.new.roads c.ready.result
-    (c.ready.ensures.shows (world_of nodes old) s.net queues s.shows (lawful c.worlds_are_lawful.ensures nodes old s.events (event.Ready conn) (tt, tt)) is)
+pub returns-then-is_elsewhere-clause-shows : goal.returns-then-is_elsewhere-clause-shows
+returns-then-is_elsewhere-clause-shows g c =
+    sends g.F.Files g.R.Roads g.I.LinkIn g.O.LinkOut c.worlds_are_lawful.ensures c.args.self.now c.server_ready.new.self c.args.roads.now c.server_ready.new.roads c.server_ready.result c.args.conn c.is_elsewhere.result c.if-is_elsewhere.true c.is_elsewhere.ensures.tells c.server_ready.ensures.shows
+
+pub returns-else-is_elsewhere-clause-shows : goal.returns-else-is_elsewhere-clause-shows
+returns-else-is_elsewhere-clause-shows g c =
+    acts g.F.Files g.R.Roads g.I.LinkIn g.O.LinkOut c.worlds_are_lawful.ensures c.args.self.now c.ready.new.self c.args.roads.now c.ready.new.roads c.ready.result c.args.conn c.is_elsewhere.result c.if-is_elsewhere.false c.is_elsewhere.ensures.tells c.ready.ensures.shows

@@ -1,7 +1,14 @@
 -- A node of a play stopped, and the event was kept.
+use Rattle.play_reads.proofs.StopLaws.{servers_known}
+use Rattle.play.proofs.ReadSteps.{reads_stand}
 use Rattle.play.proofs.StopPlays.{stop_shows}
 use Rattle.play.proofs.player.Player.stop.Goals as goal
 
+pub stop-requires-after_bounds : goal.stop-requires-after_bounds
+stop-requires-after_bounds g c κs within =
+    servers_known g.F.Files g.R.Roads g.I.LinkIn g.O.LinkOut c.args.roads.now c.stop_node.new.roads c.args.self.now.nodes c.args.self.now.reads
+    (reads_stand g.F.Files g.R.Roads g.I.LinkIn g.O.LinkOut c.args.roads.now c.args.self.now c.requires.stands) c.stop_node.ensures.pass
+
 pub returns-clause-shows : goal.returns-clause-shows
 returns-clause-shows g c =
-    stop_shows g.F.Files g.R.Roads g.I.LinkIn g.O.LinkOut c.worlds_are_lawful.ensures c.dials_have_origins.ensures c.clients_stay.ensures c.args.node c.args.self.now c.stopped.new.self c.keep.new.self c.stop_node.new.nodes c.args.roads.now c.stop_node.new.roads c.keep.result c.in-Ok.ensures.shows c.in-Ok.ensures.sizes c.stopped.ensures c.keep.ensures.kept
+    stop_shows g.F.Files g.R.Roads g.I.LinkIn g.O.LinkOut c.worlds_are_lawful.ensures c.dials_have_origins.ensures c.clients_stay.ensures c.args.node c.args.self.now c.stopped.new.self c.keep.new.self c.stop_node.new.nodes c.stop.new.self c.args.roads.now c.stop_node.new.roads c.stop.new.roads c.keep.result c.in-Ok.ensures.shows c.in-Ok.ensures.sizes c.in-Ok-stop.ensures.shows c.stopped.ensures c.keep.ensures.kept

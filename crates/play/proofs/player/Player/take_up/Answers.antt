@@ -3,16 +3,20 @@ use Rattle.std.proofs.Common.{Ok, refl, sym, ap, ◌∙◌}
 use Rattle.play_nodes.proofs.PlaceLaws.{none_so}
 use Rattle.play_dues.specs.Places.{client_place}
 use Rattle.play_dues.proofs.UpperLaws.{client_within}
-use Rattle.play.proofs.Dispatch.{mirrors, hears, nobody_hears}
+use Rattle.play.proofs.Dispatch.{reader_hears, mirrors, hears, nobody_hears}
 use Rattle.play.proofs.player.Player.take_up.Goals as goal
+
+pub returns-then-is_elsewhere-clause-shows : goal.returns-then-is_elsewhere-clause-shows
+returns-then-is_elsewhere-clause-shows g c =
+    reader_hears g.F.Files g.R.Roads g.I.LinkIn g.O.LinkOut c.worlds_are_lawful.ensures c.args.self.now c.reader_up.new.self c.args.roads.now c.reader_up.new.roads c.reader_up.result c.args.conn c.is_elsewhere.result c.if-is_elsewhere.true c.is_elsewhere.ensures.tells c.reader_up.ensures.shows
 
 pub returns-in_default-clause-shows : goal.returns-in_default-clause-shows
 returns-in_default-clause-shows g c =
-    mirrors g.F.Files g.R.Roads g.I.LinkIn g.O.LinkOut c.worlds_are_lawful.ensures c.args.self.now c.mirror_up.new.self c.args.roads.now c.mirror_up.new.roads c.mirror_up.result c.args.conn (sym c.writer_of.ensures ∙ none_so c.writer_of.result c.in_default.not-Some) c.mirror_up.ensures.shows
+    mirrors g.F.Files g.R.Roads g.I.LinkIn g.O.LinkOut c.worlds_are_lawful.ensures c.args.self.now c.mirror_up.new.self c.args.roads.now c.mirror_up.new.roads c.mirror_up.result c.args.conn c.is_elsewhere.result c.if-is_elsewhere.false c.is_elsewhere.ensures.tells (sym c.writer_of.ensures ∙ none_so c.writer_of.result c.in_default.not-Some) c.mirror_up.ensures.shows
 
 pub returns-in_default-client_of-clause-shows : goal.returns-in_default-client_of-clause-shows
 returns-in_default-client_of-clause-shows g c =
-    nobody_hears g.F.Files g.R.Roads g.I.LinkIn g.O.LinkOut c.worlds_are_lawful.ensures c.args.self.now c.args.self.now c.args.roads.now c.args.roads.now (Ok tt) c.args.conn c.in-Some.block (sym c.in-Some.ensures)
+    nobody_hears g.F.Files g.R.Roads g.I.LinkIn g.O.LinkOut c.worlds_are_lawful.ensures c.args.self.now c.args.self.now c.args.roads.now c.args.roads.now (Ok tt) c.args.conn c.is_elsewhere.result c.in-Some.block c.if-is_elsewhere.false c.is_elsewhere.ensures.tells (sym c.in-Some.ensures)
     (ap (λ xs. client_place xs c.in-Some.block.0) (sym c.as_slice.ensures.value) ∙ (sym c.client_of.ensures ∙ none_so c.client_of.result c.in_default-client_of.not-Some))
 
 pub hear-requires-clause-within : goal.hear-requires-clause-within
@@ -20,4 +24,4 @@ hear-requires-clause-within g c κs within = client_within c.args.self.now.clien
 
 pub returns-clause-shows : goal.returns-clause-shows
 returns-clause-shows g c =
-    hears g.F.Files g.R.Roads g.I.LinkIn g.O.LinkOut c.worlds_are_lawful.ensures c.args.self.now c.hear.new.self c.args.roads.now c.hear.new.roads c.hear.result c.args.conn c.in-Some.block c.in-Some-client_of.place (sym c.in-Some.ensures) (ap (λ xs. client_place xs c.in-Some.block.0) (sym c.as_slice.ensures.value) ∙ sym c.in-Some-client_of.ensures) c.hear.ensures.shows
+    hears g.F.Files g.R.Roads g.I.LinkIn g.O.LinkOut c.worlds_are_lawful.ensures c.args.self.now c.hear.new.self c.args.roads.now c.hear.new.roads c.hear.result c.args.conn c.is_elsewhere.result c.in-Some.block c.in-Some-client_of.place c.if-is_elsewhere.false c.is_elsewhere.ensures.tells (sym c.in-Some.ensures) (ap (λ xs. client_place xs c.in-Some.block.0) (sym c.as_slice.ensures.value) ∙ sym c.in-Some-client_of.ensures) c.hear.ensures.shows

@@ -1,0 +1,19 @@
+-- A reader heard what stood next, and the event was kept.
+use Rattle.std.proofs.Common.{Err, refl, sym, subst}
+use Rattle.play.specs.declared.faults.PlayFault.{PlayFault}
+use Rattle.play.specs.Reading.{ReaderShows}
+use Rattle.play.proofs.ReadSteps.{reads_stand, hear_left, hear_failed}
+use Rattle.play.proofs.player.Player.reader_up.Goals as goal
+
+pub hear-requires-after_bounds : goal.hear-requires-after_bounds
+hear-requires-after_bounds g c κs within = reads_stand g.F.Files g.R.Roads g.I.LinkIn g.O.LinkOut c.args.roads.now c.args.self.now c.requires
+
+pub returns-in-Ok-clause-shows : goal.returns-in-Ok-clause-shows
+returns-in-Ok-clause-shows g c =
+    hear_left g.F.Files g.R.Roads g.I.LinkIn g.O.LinkOut c.worlds_are_lawful.ensures c.clients_stay.ensures c.args.conn c.args.self.now c.keep.new.self c.hear.new.self c.args.roads.now c.hear.new.roads c.keep.result c.in-Ok.ensures.shows c.keep.ensures.kept
+
+pub returns-in-Err-clause-shows : goal.returns-in-Err-clause-shows
+returns-in-Err-clause-shows g c =
+    let now = record c.args.self.now { reads = c.hear.new.self } in
+    subst (λ (x : PlayFault). ReaderShows g.F.Files g.R.Roads g.I.LinkIn g.O.LinkOut c.args.conn c.args.self.now now c.args.roads.now c.hear.new.roads (Err x)) (sym c.of_reads.ensures)
+    (hear_failed g.F.Files g.R.Roads g.I.LinkIn g.O.LinkOut c.worlds_are_lawful.ensures c.clients_stay.ensures c.args.conn c.args.self.now now c.args.roads.now c.hear.new.roads c.in-Err.fault refl c.in-Err.ensures.shows)
