@@ -20,7 +20,7 @@ use Rattle.play_lines.specs.Drawing.{IsLeft, IsCaused, blocks_in}
 use Rattle.play_lines.specs.Ordering.{OrdersAt, Orders, OrdersArePlays}
 use Rattle.play_lines.specs.Showing.{PlayIs, given_in}
 use Rattle.play_lines.proofs.Ordered.{add_at, add_other}
-use Rattle.play_lines.proofs.Places.{moved}
+use Rattle.play_lines.proofs.Places.{moved, asked_next}
 use Rattle.hd_base.specs.SumRules.{Rule, IsChunkSize}
 use Rattle.hd_base.specs.declared.numbers.BlockId.{BlockId}
 use Rattle.script_lang.specs.declared.instructions.Instruction.{Instruction}
@@ -40,7 +40,7 @@ use Rattle.play_laws.specs.Members.{Names, IsNode}
 use Rattle.play_scripts.specs.Fitting.{LineFits}
 use Rattle.play.specs.Standing.{CommandFits, given_with}
 use Rattle.play_lines.specs.declared.lines.Ordered.{Ordered}
-use Rattle.play_lines.specs.Lines.{ordered_by, StandIs, GivenIs, is_made, CreatesHere, IsBehind, LineLeft, LineEnds, LineShows}
+use Rattle.play_lines.specs.Lines.{ordered_by, StandIs, GivenIs, is_made, CreatesHere, IsBehind, AsksBelow, LineLeft, LineEnds, LineShows}
 
 -- WHAT WAS GIVEN
 
@@ -235,30 +235,30 @@ has_own x before (says.Expect n b state stamp written) made l here = tt
 
 -- LINES
 
-pub plays_command : (blocks : List ℕ) (line : Instruction) (o : Ordered) (p : PlayState) → ordered_by line ≡ Some o → PlaysLine blocks line p (ordered p o.block.0 o.command)
-plays_command blocks (says.Create b members) o p e = ap (λ (x : Ordered). ordered p x.block.0 x.command) (same_Some o _ (sym e))
-plays_command blocks (says.Append b members) o p e = ap (λ (x : Ordered). ordered p x.block.0 x.command) (same_Some o _ (sym e))
-plays_command blocks (says.Write b bytes) o p e = ap (λ (x : Ordered). ordered p x.block.0 x.command) (same_Some o _ (sym e))
-plays_command blocks (says.Fill b count) o p e = ap (λ (x : Ordered). ordered p x.block.0 x.command) (same_Some o _ (sym e))
-plays_command blocks (says.Hflush b) o p e = ap (λ (x : Ordered). ordered p x.block.0 x.command) (same_Some o _ (sym e))
-plays_command blocks (says.Hsync b) o p e = ap (λ (x : Ordered). ordered p x.block.0 x.command) (same_Some o _ (sym e))
-plays_command blocks (says.Close b) o p e = ap (λ (x : Ordered). ordered p x.block.0 x.command) (same_Some o _ (sym e))
-plays_command blocks (says.Nodes count) o p e = cc
-plays_command blocks (says.Seed seed) o p e = cc
-plays_command blocks (says.Sums b rule) o p e = cc
-plays_command blocks (says.Read b n offset count) o p e = cc
-plays_command blocks (says.Recover b n members) o p e = cc
-plays_command blocks (says.Cut b conn down up) o p e = cc
-plays_command blocks (says.Fault n nth) o p e = cc
-plays_command blocks (says.Stop n) o p e = cc
-plays_command blocks (says.Start n) o p e = cc
-plays_command blocks (says.Run count) o p e = cc
-plays_command blocks says.Settle o p e = cc
-plays_command blocks (says.Step b event) o p e = cc
-plays_command blocks (says.Expect n b state stamp written) o p e = cc
+pub plays_command : (blocks : List ℕ) (number : ℕ) (line : Instruction) (o : Ordered) (p : PlayState) → ordered_by line ≡ Some o → PlaysLine blocks number line p (ordered p o.block.0 o.command)
+plays_command blocks number (says.Create b members) o p e = ap (λ (x : Ordered). ordered p x.block.0 x.command) (same_Some o _ (sym e))
+plays_command blocks number (says.Append b members) o p e = ap (λ (x : Ordered). ordered p x.block.0 x.command) (same_Some o _ (sym e))
+plays_command blocks number (says.Write b bytes) o p e = ap (λ (x : Ordered). ordered p x.block.0 x.command) (same_Some o _ (sym e))
+plays_command blocks number (says.Fill b count) o p e = ap (λ (x : Ordered). ordered p x.block.0 x.command) (same_Some o _ (sym e))
+plays_command blocks number (says.Hflush b) o p e = ap (λ (x : Ordered). ordered p x.block.0 x.command) (same_Some o _ (sym e))
+plays_command blocks number (says.Hsync b) o p e = ap (λ (x : Ordered). ordered p x.block.0 x.command) (same_Some o _ (sym e))
+plays_command blocks number (says.Close b) o p e = ap (λ (x : Ordered). ordered p x.block.0 x.command) (same_Some o _ (sym e))
+plays_command blocks number (says.Nodes count) o p e = cc
+plays_command blocks number (says.Seed seed) o p e = cc
+plays_command blocks number (says.Sums b rule) o p e = cc
+plays_command blocks number (says.Read b n offset count) o p e = cc
+plays_command blocks number (says.Recover b n members) o p e = cc
+plays_command blocks number (says.Cut b conn down up) o p e = cc
+plays_command blocks number (says.Fault n nth) o p e = cc
+plays_command blocks number (says.Stop n) o p e = cc
+plays_command blocks number (says.Start n) o p e = cc
+plays_command blocks number (says.Run count) o p e = cc
+plays_command blocks number says.Settle o p e = cc
+plays_command blocks number (says.Step b event) o p e = cc
+plays_command blocks number (says.Expect n b state stamp written) o p e = cc
 
-module _ {F R I O : Type 0} (f : files.Ghosts F) (r : roads.Ghosts R I O) (i : link_in.Ghosts I) (o : link_out.Ghosts O) (line : Instruction) (old new : Playing F I O) (road : R) (ord : Ordered) (is : ordered_by line ≡ Some ord) (plays : OrdersArePlays F r i o) where
-  module _ (before : Before) (lines : ℕ) (p : PlayState) (stands : PlayIs r i o p road old) (behind : IsBehind before lines p old) (l : LineFits before line) (here : CreatesHere old line) (few : lines < MAX_COMMANDS) where
+module _ {F R I O : Type 0} (f : files.Ghosts F) (r : roads.Ghosts R I O) (i : link_in.Ghosts I) (o : link_out.Ghosts O) (line : Instruction) (old new : Playing F I O) (road : R) (ord : Ordered) (is : ordered_by line ≡ Some ord) (plays : OrdersArePlays f r i o) where
+  module _ (number : ℕ) (before : Before) (lines : ℕ) (p : PlayState) (stands : PlayIs f r i o p road old) (behind : IsBehind before lines p old) (asked : AsksBelow number p.asks) (l : LineFits before line) (here : CreatesHere old line) (few : lines < MAX_COMMANDS) where
     abbrev b : ℕ
     b = ord.block.0
 
@@ -288,10 +288,10 @@ module _ {F R I O : Type 0} (f : files.Ghosts F) (r : roads.Ghosts R I O) (i : l
             (sym (ap (λ (q : List TakenCommand). given_with (intake_of (states.world_of p) x) q) (add_other p.queues b (taken ∷ []) x apart)))
             (it_goes.others x (given_in p x) apart (behind.given x h))
 
-    line_left : IsLeft r i o (ordered p b ord.command) old new road → LineLeft r i o line before lines p old new road
+    line_left : IsLeft f r i o (ordered p b ord.command) old new road → LineLeft f r i o number line before lines p old new road
     line_left left = record {
       left = ordered p b ord.command;
-      plays = plays_command (blocks_in old) line ord p is;
+      plays = plays_command (blocks_in old) number line ord p is;
       nodes = refl;
       is = left.is;
       blocks = left.blocks;
@@ -302,6 +302,7 @@ module _ {F R I O : Type 0} (f : files.Ghosts F) (r : roads.Ghosts R I O) (i : l
         clients = λ x made. moved new.player.clients.items old.player.clients.items x left.blocks (was_made x made);
         given = λ x h. given_now x (moved old.player.clients.items new.player.clients.items x (sym left.blocks) h);
       };
+      asked = asked_next number p p refl asked;
     }
       where
         was_made : (x : ℕ) → is_made (after before line) x ≡ true → HasClient old.player.clients.items x
@@ -312,12 +313,12 @@ module _ {F R I O : Type 0} (f : files.Ghosts F) (r : roads.Ghosts R I O) (i : l
             by false e = behind.clients x (it_goes.made x made (λ same. true_false (sym (eq-eqb x b same) ∙ e)))
 
     -- the client of the block was given it, or memory ran out
-    line_ends : (place : Option ℕ) (result : Result (Unit {0}) PlayFault) → client_place old.player.clients.items b ≡ place → OrdersAt ord.block ord.command place old new result → LineEnds f r i o line before lines p old new road road result
+    line_ends : (place : Option ℕ) (result : Result (Unit {0}) PlayFault) → client_place old.player.clients.items b ≡ place → OrdersAt ord.block ord.command place old new result → LineEnds f r i o number line before lines p old new road road result
     line_ends None result none h = absurd (has_place old.player.clients.items b has none)
     line_ends (Some place) (Ok u) there h = line_left (plays old new ord.block ord.command place p road h stands
         (subst (λ (n : ℕ). CommandFits n (given_in p b) taken) behind.nodes (it_goes.fit (given_in p b) (behind.given b has))))
     line_ends (Some place) (Err why) there h = subst (λ (x : PlayFault). IsCaused f r new road road x) (sym h) tt
 
   pub command_shows : (result : Result (Unit {0}) PlayFault) → Orders ord.block ord.command old new result → LineShows f r i o line old new road road result
-  command_shows result h = λ before lines p stands behind l here few.
-      line_ends before lines p stands behind l here few (client_place old.player.clients.items ord.block.0) result refl h
+  command_shows result h = λ number before lines p stands behind asked l here few.
+      line_ends number before lines p stands behind asked l here few (client_place old.player.clients.items ord.block.0) result refl h

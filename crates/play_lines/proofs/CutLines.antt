@@ -32,6 +32,7 @@ use Rattle.play_lines.specs.declared.playing.Playing.{Playing}
 use Rattle.play_lines.specs.Drawing.{IsCaused, IsDrawn}
 use Rattle.play_lines.specs.Pipelines.{number_of, pipeline_at}
 use Rattle.play_lines.specs.Cutting.{CutShows}
+use Rattle.play_reads.specs.Places.{asks_of}
 use Rattle.play_lines.specs.Showing.{PlayIs, IsPlaying}
 use Rattle.play_lines.proofs.Drawn.{world_same, dues_show}
 use Rattle.play_lines.proofs.Pipelined.{pipeline_told, conn_within}
@@ -46,7 +47,7 @@ writer_cut w v c down up b cut = ap (λ (k : World). k.writers b) cut.is
 
 module _ {F R I O : Type 0} (f : files.Ghosts F) (r : roads.Ghosts R I O) (i : link_in.Ghosts I) (o : link_out.Ghosts O) (L : Laws) (opens : AllOpen) (are : CutsAreLosses) (block : BlockId) (place down up : ℕ) where
   -- the model's connection is the one that the nodes tell
-  conn_told : (p : PlayState) (road : R) (old : Playing F I O) → PlayIs r i o p road old → pipeline_at old.player.nodes.connections.items block.0 place ≡ pipeline_conn (states.world_of p) block.0 place
+  conn_told : (p : PlayState) (road : R) (old : Playing F I O) → PlayIs f r i o p road old → pipeline_at old.player.nodes.connections.items block.0 place ≡ pipeline_conn (states.world_of p) block.0 place
   conn_told p road old h =
       let w : World = world_of p.nodes old.player in
       let d = dues_show f r i o L opens p road old h in
@@ -54,30 +55,30 @@ module _ {F R I O : Type 0} (f : files.Ghosts F) (r : roads.Ghosts R I O) (i : l
       ∙ ap (λ (v : World). pipeline_conn v block.0 place) (sym (world_same f r i o p road old h))
 
   module _ (old : Playing F I O) (road : R) (found : Option ConnId) (told : number_of found ≡ pipeline_at old.player.nodes.connections.items block.0 place) where
-    none_cut : (p : PlayState) → PlayIs r i o p road old → found ≡ None → IsDrawn r i o p (cut_at p (pipeline_conn (states.world_of p) block.0 place) down up) old old road
+    none_cut : (p : PlayState) → PlayIs f r i o p road old → found ≡ None → IsDrawn f r i o p (cut_at p (pipeline_conn (states.world_of p) block.0 place) down up) old old road
     none_cut p h none =
         let is : pipeline_conn (states.world_of p) block.0 place ≡ None = sym (conn_told p road old h) ∙ (sym told ∙ ap number_of none) in
         let same : p ≡ cut_at p (pipeline_conn (states.world_of p) block.0 place) down up =
         ap (λ (es : List Event). record p { events = es }) (sym (append-nil p.events)) ∙ ap (λ (c : Option ℕ). cut_at p c down up) (sym is) in
-        subst (λ (q : PlayState). IsDrawn r i o p q old old road) same (record { is = h; blocks = refl; given = λ b k. refl })
+        subst (λ (q : PlayState). IsDrawn f r i o p q old old road) same (record { is = h; blocks = refl; given = λ b k. refl })
 
     pub nothing_cut : found ≡ None → CutShows f r i o block place down up old old road road (Ok tt)
     nothing_cut none = λ p h. none_cut p h none
 
     module _ (conn : ConnId) (there : found ≡ Some conn) where
-      conn_is : (p : PlayState) → PlayIs r i o p road old → pipeline_conn (states.world_of p) block.0 place ≡ Some conn.0
+      conn_is : (p : PlayState) → PlayIs f r i o p road old → pipeline_conn (states.world_of p) block.0 place ≡ Some conn.0
       conn_is p h = sym (conn_told p road old h) ∙ (sym told ∙ ap number_of there)
 
-      dialled : (p : PlayState) → PlayIs r i o p road old → conn.0 < (states.world_of p).next_conn
+      dialled : (p : PlayState) → PlayIs f r i o p road old → conn.0 < (states.world_of p).next_conn
       dialled p h =
           conn_within (states.world_of p) (subst (λ (w : World). Placed w) (sym (world_same f r i o p road old h)) (dues_show f r i o L opens p road old h).orderly.placed) block.0 place conn.0 (conn_is p h)
 
-      pub within : IsPlaying r i o road old → conn.0 < length old.player.nodes.connections.items
+      pub within : IsPlaying f r i o road old → conn.0 < length old.player.nodes.connections.items
       within playing =
           subst (λ (n : ℕ). conn.0 < n) (ap (λ (w : World). w.next_conn) (world_same f r i o playing.p road old playing.is) ∙ sym playing.is.stands.shows.nodes.nodes_are.count) (dialled playing.p playing.is)
 
       module _ (new : Playing F I O) (road' : R) (rest : new ≡ record old { player = new.player }) where
-        cut_play : (p : PlayState) → (h : PlayIs r i o p road old) → HasCut r i o p.nodes p.queues conn down up old.player new.player road' → IsDrawn r i o p (cut_at p (Some conn.0) down up) old new road'
+        cut_play : (p : PlayState) → (h : PlayIs f r i o p road old) → HasCut r i o p.nodes p.queues conn down up old.player new.player road' → IsDrawn f r i o p (cut_at p (Some conn.0) down up) old new road'
         cut_play p h has =
             let w : World = states.world_of p in
             let v : World = cut_world w conn down up in
@@ -93,7 +94,8 @@ module _ {F R I O : Type 0} (f : files.Ghosts F) (r : roads.Ghosts R I O) (i : l
                 nodes_are = h.nodes_are ∙ ap (λ (x : Playing F I O). x.nodes) (sym rest);
                 events = events;
                 generator = ap (λ (x : Playing F I O). x.generator) rest ∙ h.generator;
-                asks = h.asks;
+                asks = ap (λ (x : Player F I O). asks_of x.reads.clients.items) has.same ∙ h.asks;
+                told = h.told;
                 rules = λ k c at. h.rules k c (sym (ap (λ (xs : List (Client I O)). slice_get xs k) clients) ∙ at);
                 live = subst (λ (l : LiveConns). Covers (world_of p.nodes new.player) l) (ap (λ (x : Playing F I O). x.live) (sym rest))
                     (subst (λ (u : World). Covers u old.live) (sym world_is) (covers_cut w v conn.0 down up old.live cut (subst (λ (u : World). Covers u old.live) (sym (world_same f r i o p road old h)) h.live)));
@@ -103,5 +105,5 @@ module _ {F R I O : Type 0} (f : files.Ghosts F) (r : roads.Ghosts R I O) (i : l
             }
 
         pub was_cut : (result : Result (Unit {0}) PlayFault) → player.CutShows r i o conn down up old.player new.player road road' result → CutShows f r i o block place down up old new road road' result
-        was_cut (Ok u) shows = λ p h. subst (λ (c : Option ℕ). IsDrawn r i o p (cut_at p c down up) old new road') (sym (conn_is p h)) (cut_play p h (shows p.nodes p.queues h.stands))
+        was_cut (Ok u) shows = λ p h. subst (λ (c : Option ℕ). IsDrawn f r i o p (cut_at p c down up) old new road') (sym (conn_is p h)) (cut_play p h (shows p.nodes p.queues h.stands))
         was_cut (Err why) shows = λ p h. subst (λ (x : PlayFault). IsCaused f r new road road' x) (sym (shows p.nodes p.queues h.stands)) tt

@@ -1,7 +1,7 @@
 -- What is drawn happens.
-use Rattle.std.proofs.Common.{◌≡◌, inl, inr, ℕ, zero, suc, ◌≤◌, ◌<◌, ◌%◌, Bool, true, false, List, [], ◌∷◌, ◌++◌, drop, length, slice_get, Option, Some, None, Result, Ok, Err, refl, sym, ap, ◌∙◌, subst, arith}
+use Rattle.std.proofs.Common.{◌≡◌, inl, inr, ℕ, zero, suc, ◌≤◌, ◌<◌, ◌%◌, Bool, true, false, List, [], ◌∷◌, ◌++◌, drop, length, slice_get, option_map, Option, Some, None, Result, Ok, Err, refl, sym, ap, ◌∙◌, subst, arith}
 use Rattle.std.specs.Prelude.{is_some}
-use Rattle.std.proofs.lemmas.Option.{none-some, same_Some}
+use Rattle.std.proofs.lemmas.Option.{none-some, same_Some, slice_get-map}
 use Rattle.hd_base.specs.Faults.{FaultsIncreased}
 use Rattle.hd_base.specs.declared.files.Files as files
 use Rattle.hd_base.specs.declared.links.LinkIn as link_in
@@ -36,7 +36,11 @@ use Rattle.play.specs.declared.player.Player.{Player}
 use Rattle.play.specs.Events as player
 use Rattle.play.specs.Events.{RoadsFailed, KeepsPlaces}
 use Rattle.play.specs.Laws.{Laws}
+use Rattle.play_readers.specs.declared.clients.ReadClient.{ReadClient}
+use Rattle.play_reads.specs.Places.{HasAsk, asks_of}
+use Rattle.play.specs.Reading.{ReadsAreTold}
 use Rattle.play.specs.Showing.{PlayerStands}
+use Rattle.play.proofs.ReadsLaws.{none_dialled}
 use Rattle.play.specs.Standing.{given_with, world_of, PlayStands, HasHappened, HappenShows, ActorIsClient}
 use Rattle.play_lines.specs.declared.playing.Playing.{Playing}
 use Rattle.play_lines.specs.Drawing.{IsCaused, blocks_in, DrawEnds, DrawShows}
@@ -62,62 +66,68 @@ client_of_block (c ∷ clients) b (suc k) e =
 module _ {F R I O : Type 0} (f : files.Ghosts F) (r : roads.Ghosts R I O) (i : link_in.Ghosts I) (o : link_out.Ghosts O) where
   -- THE WORLD OF A PLAY
 
-  pub world_same : (p : PlayState) (road : R) (x : Playing F I O) → PlayIs r i o p road x → states.world_of p ≡ world_of p.nodes x.player
+  pub world_same : (p : PlayState) (road : R) (x : Playing F I O) → PlayIs f r i o p road x → states.world_of p ≡ world_of p.nodes x.player
   world_same p road x h = ap (λ (es : List Event). run (start p.nodes) es) h.events
 
-  pub dues_show : (L : Laws) → AllOpen → (p : PlayState) (road : R) (x : Playing F I O) (h : PlayIs r i o p road x) → DuesShow r i o (world_of p.nodes x.player) h.stands.net p.queues road x.player.nodes x.player.clients.items
+  pub dues_show : (L : Laws) → AllOpen → (p : PlayState) (road : R) (x : Playing F I O) (h : PlayIs f r i o p road x) → DuesShow r i o (world_of p.nodes x.player) h.stands.net p.queues road x.player.nodes x.player.clients.items x.player.reads
   dues_show L opens p road x h = record {
     stands = h.stands.shows.nodes;
     orderly = record { ordered = L.ordered p.nodes x.player.events.items; placed = L.placed p.nodes x.player.events.items; open_ends = opens p.nodes x.player.events.items };
-    pipelines = h.stands.shows.pipelines;
+    in_order = L.readers p.nodes x.player.events.items;
+    primaries = λ c within primary place by. none_dialled L.carried p.nodes x.player.events.items h.stands.shows.unled c primary place within by;
+    reads_are = h.stands.shows.reads;
     each = λ k c at. record { client_is = (h.stands.shows.clients k c at).shows; queue = (h.stands.shows.clients k c at).queue };
     connected = h.stands.connected;
   }
 
   -- the list of live connections is up to date once it was refreshed
-  pub refreshed_so : (L : Laws) → AllOpen → (p : PlayState) (road : R) (x : Playing F I O) (live : LiveConns) → PlayIs r i o p road x → IsRefreshed i o x.live live x.player.nodes x.player.clients.items → IsCurrent (world_of p.nodes x.player) live
+  pub refreshed_so : (L : Laws) → AllOpen → (p : PlayState) (road : R) (x : Playing F I O) (live : LiveConns) → PlayIs f r i o p road x → IsRefreshed i o x.live live x.player.nodes x.player.clients.items x.player.reads → IsCurrent (world_of p.nodes x.player) live
   refreshed_so L opens p road x live h refreshed =
       let d = dues_show L opens p road x h in
-      refreshed (world_of p.nodes x.player) h.stands.net (record { nodes_are = d.stands.nodes_are; placed = d.orderly.placed; pipelines = d.pipelines; each = λ k c at. (d.each k c at).client_is; connected = d.connected }) h.live
+      refreshed (world_of p.nodes x.player) h.stands.net (record { nodes_are = d.stands.nodes_are; placed = d.orderly.placed; primaries = d.primaries; reads_are = d.reads_are; each = λ k c at. (d.each k c at).client_is; connected = d.connected }) h.live
 
   -- it covers the world after what was due, too
-  pub covers_after : (L : Laws) → AllOpen → CoversOn → (p : PlayState) (road road' : R) (old new : Playing F I O) (d : Due) (live : LiveConns) → PlayIs r i o p road old → is_due (world_of p.nodes old.player) p.queues d ≡ true → HasHappened r i o p.nodes p.queues d old.player new.player road' → Covers (world_of p.nodes old.player) live → Covers (world_of p.nodes new.player) live
+  pub covers_after : (L : Laws) → AllOpen → CoversOn → (p : PlayState) (road road' : R) (old new : Playing F I O) (d : Due) (live : LiveConns) → PlayIs f r i o p road old → is_due (world_of p.nodes old.player) p.queues d ≡ true → HasHappened r i o p.nodes p.queues d old.player new.player road' → Covers (world_of p.nodes old.player) live → Covers (world_of p.nodes new.player) live
   covers_after L opens on p road road' old new d live h is has covers =
       let w : World = world_of p.nodes old.player in
       let joined : world_of p.nodes new.player ≡ run w (due_events w p.queues d) = ap (λ (es : List Event). run (start p.nodes) es) has.events ∙ L.joined (start p.nodes) old.player.events.items (due_events w p.queues d) in
       subst (λ (v : World). Covers v live) (sym joined) (on w p.queues d live (dues_show L opens p road old h).orderly is covers)
 
   -- the same play, whose roads were asked
-  pub with_roads : (p : PlayState) (road road' : R) (x : Playing F I O) (h : PlayIs r i o p road x) → DuesShow r i o (world_of p.nodes x.player) h.stands.net p.queues road' x.player.nodes x.player.clients.items → PlayIs r i o p road' x
+  pub with_roads : (p : PlayState) (road road' : R) (x : Playing F I O) (h : PlayIs f r i o p road x) → DuesShow r i o (world_of p.nodes x.player) h.stands.net p.queues road' x.player.nodes x.player.clients.items x.player.reads → PlayIs f r i o p road' x
   with_roads p road road' x h shows = record {
     stands = record {
       net = h.stands.net;
-      shows = record { nodes = shows.stands; pipelines = shows.pipelines; clients = h.stands.shows.clients; apart = h.stands.shows.apart; office = h.stands.shows.office; running = h.stands.shows.running; slots = h.stands.shows.slots };
+      shows = record { nodes = shows.stands; reads = h.stands.shows.reads; unled = h.stands.shows.unled; clients = h.stands.shows.clients; apart = h.stands.shows.apart; office = h.stands.shows.office; running = h.stands.shows.running; slots = h.stands.shows.slots };
       few = h.stands.few;
       events = h.stands.events;
       clients = h.stands.clients;
+      asks = h.stands.asks;
       connected = h.stands.connected;
     };
     nodes_are = h.nodes_are;
     events = h.events;
     generator = h.generator;
     asks = h.asks;
+    told = h.told;
     rules = h.rules;
     live = h.live;
   }
 
   -- with another generator its player is the same
-  pub player_stands : (p : PlayState) (road : R) (x : Playing F I O) → PlayIs r i o p road x → PlayerStands r i o road x.player
+  pub player_stands : (p : PlayState) (road : R) (x : Playing F I O) → PlayIs f r i o p road x → PlayerStands r i o road x.player
   player_stands p road x h = record { w = world_of p.nodes x.player; net = h.stands.net; queues = p.queues; shows = h.stands.shows }
 
-  listed_so : DuesAreListed → (p : PlayState) (road : R) (x : Playing F I O) → PlayIs r i o p road x → all_dues (world_of p.nodes x.player) p.queues (blocks_in x) ≡ dues (blocks_in x) p
-  listed_so listed p road x h = ap (λ (w : World). all_dues w p.queues (blocks_in x)) (sym (world_same p road x h)) ∙ listed (blocks_in x) p h.asks
+  listed_so : DuesAreListed → (p : PlayState) (road : R) (x : Playing F I O) → PlayIs f r i o p road x → all_dues (world_of p.nodes x.player) p.queues (blocks_in x) (asks_of x.player.reads.clients.items) ≡ dues (blocks_in x) p
+  listed_so listed p road x h =
+      ap (λ (w : World). all_dues w p.queues (blocks_in x) (asks_of x.player.reads.clients.items)) (sym (world_same p road x h)) ∙
+      (ap (λ (asks : List ReadAsk). all_dues (states.world_of p) p.queues (blocks_in x) asks) h.asks ∙ listed (blocks_in x) p)
 
   -- what is drawn of the play's list
-  drawn_of : DuesAreListed → (p : PlayState) (road road' : R) (x : Playing F I O) (h : PlayIs r i o p road x) (after : Lcg) (result : Option Due) → DrawsFrom (all_dues (world_of p.nodes x.player) p.queues (blocks_in x)) x.generator after result → DrawsFrom (dues (blocks_in x) p) p.generator after result
+  drawn_of : DuesAreListed → (p : PlayState) (road road' : R) (x : Playing F I O) (h : PlayIs f r i o p road x) (after : Lcg) (result : Option Due) → DrawsFrom (all_dues (world_of p.nodes x.player) p.queues (blocks_in x) (asks_of x.player.reads.clients.items)) x.generator after result → DrawsFrom (dues (blocks_in x) p) p.generator after result
   drawn_of listed p road road' x h after result draws =
       subst (λ (ds : List Due). DrawsFrom ds p.generator after result) (listed_so listed p road x h)
-      (subst (λ (g : Lcg). DrawsFrom (all_dues (world_of p.nodes x.player) p.queues (blocks_in x)) g after result) h.generator draws)
+      (subst (λ (g : Lcg). DrawsFrom (all_dues (world_of p.nodes x.player) p.queues (blocks_in x) (asks_of x.player.reads.clients.items)) g after result) h.generator draws)
 
   same_none : (ds : List Due) (old after : Lcg) → ds ≡ [] → DrawsFrom ds old after None → after ≡ old
   same_none [] old after e h = h.0
@@ -125,18 +135,18 @@ module _ {F R I O : Type 0} (f : files.Ghosts F) (r : roads.Ghosts R I O) (i : l
 
   -- NOTHING IS DUE
 
-  pub nothing_drawn : (L : Laws) → AllOpen → DuesAreListed → PlaysAreDrawn → PlaysEnd → CurrentCovers → (old new : Playing F I O) (road road' : R) (result : Option Due) → new ≡ record old { generator = new.generator; live = new.live } → result ≡ None → IsRefreshed i o old.live new.live old.player.nodes old.player.clients.items
-      → DrawsDue r i o new.live old.player.nodes old.player.clients.items road road' old.generator new.generator result → DrawShows f r i o old new road road' (Ok false)
+  pub nothing_drawn : (L : Laws) → AllOpen → DuesAreListed → PlaysAreDrawn → PlaysEnd → CurrentCovers → (old new : Playing F I O) (road road' : R) (result : Option Due) → new ≡ record old { generator = new.generator; live = new.live } → result ≡ None → IsRefreshed i o old.live new.live old.player.nodes old.player.clients.items old.player.reads
+      → DrawsDue r i o new.live old.player.nodes old.player.clients.items old.player.reads road road' old.generator new.generator result → DrawShows f r i o old new road road' (Ok false)
   nothing_drawn L opens listed plays ends covered old new road road' result same none refreshed draws = λ p h.
       let t = draws (world_of p.nodes old.player) h.stands.net p.queues (dues_show L opens p road old h) in
       let current : IsCurrent (world_of p.nodes old.player) new.live = refreshed_so L opens p road old new.live h refreshed in
       let k : DrawsFrom (dues (blocks_in old) p) p.generator new.generator None = subst (λ (x : Option Due). DrawsFrom (dues (blocks_in old) p) p.generator new.generator x) none (drawn_of listed p road road' old h new.generator result (t.1 current)) in
       let empty : dues (blocks_in old) p ≡ [] = ends (blocks_in old) p new.generator k in
       let gen : new.generator ≡ p.generator = same_none (dues (blocks_in old) p) p.generator new.generator empty k in
-      let is : PlayIs r i o p road' old = with_roads p road road' old h t.0 in (
+      let is : PlayIs f r i o p road' old = with_roads p road road' old h t.0 in (
         record {
-          is = subst (λ (q : PlayState). PlayIs r i o q road' new) (sym (plays (blocks_in old) p new.generator None k ∙ ap (λ (g : Lcg). record p { generator = g }) gen))
-              (subst (λ (x : Playing F I O). PlayIs r i o p road' x) (sym same) (record { stands = is.stands; nodes_are = is.nodes_are; events = is.events; generator = gen; asks = is.asks; rules = is.rules; live = covered (world_of p.nodes old.player) new.live current }));
+          is = subst (λ (q : PlayState). PlayIs f r i o q road' new) (sym (plays (blocks_in old) p new.generator None k ∙ ap (λ (g : Lcg). record p { generator = g }) gen))
+              (subst (λ (x : Playing F I O). PlayIs f r i o p road' x) (sym same) (record { stands = is.stands; nodes_are = is.nodes_are; events = is.events; generator = gen; asks = is.asks; told = is.told; rules = is.rules; live = covered (world_of p.nodes old.player) new.live current }));
           blocks = ap blocks_in same;
           given = λ b h'. ap (λ (q : PlayState). given_in q b) (plays (blocks_in old) p new.generator None k ∙ ap (λ (g : Lcg). record p { generator = g }) gen);
         },
@@ -150,7 +160,7 @@ module _ {F R I O : Type 0} (f : files.Ghosts F) (r : roads.Ghosts R I O) (i : l
       let z = places.each k c at in
       z.rule ∙ (rules k z.was z.at ∙ ap (λ (b : BlockId). p.rules b.0) (sym z.block))
 
-  pub after : (p : PlayState) (road road' : R) (old new : Playing F I O) (d : Due) (g : Lcg) → new.nodes ≡ old.nodes → PlayIs r i o p road old → HasHappened r i o p.nodes p.queues d old.player new.player road' → new.generator ≡ g → Covers (world_of p.nodes new.player) new.live → PlayIs r i o (after_due (record p { generator = g }) d) road' new
+  pub after : (p : PlayState) (road road' : R) (old new : Playing F I O) (d : Due) (g : Lcg) → new.nodes ≡ old.nodes → PlayIs f r i o p road old → HasHappened r i o p.nodes p.queues d old.player new.player road' → new.generator ≡ g → Covers (world_of p.nodes new.player) new.live → PlayIs f r i o (after_due (record p { generator = g }) d) road' new
   unfolding after_due
   after p road road' old new d g nodes h has generator covers =
       let same : states.world_of p ≡ world_of p.nodes old.player = world_same p road old h in
@@ -159,13 +169,14 @@ module _ {F R I O : Type 0} (f : files.Ghosts F) (r : roads.Ghosts R I O) (i : l
         nodes_are = h.nodes_are ∙ sym nodes;
         events = ap (λ (w : World). p.events ++ due_events w p.queues d) same ∙ (ap (λ (es : List Event). es ++ due_events (world_of p.nodes old.player) p.queues d) h.events ∙ sym has.events);
         generator = generator;
-        asks = h.asks;
+        asks = has.places.asks ∙ h.asks;
+        told = h.told;
         rules = rules_after p old new _ has.places h.rules;
         live = covers;
       }
 
   -- what was given stays
-  pub given_after : (p : PlayState) (road road' : R) (old new : Playing F I O) (d : Due) (g : Lcg) → PlayIs r i o p road old → PlayIs r i o (after_due (record p { generator = g }) d) road' new → HasHappened r i o p.nodes p.queues d old.player new.player road' → (b : ℕ) → HasClient old.player.clients.items b → given_in (after_due (record p { generator = g }) d) b ≡ given_in p b
+  pub given_after : (p : PlayState) (road road' : R) (old new : Playing F I O) (d : Due) (g : Lcg) → PlayIs f r i o p road old → PlayIs f r i o (after_due (record p { generator = g }) d) road' new → HasHappened r i o p.nodes p.queues d old.player new.player road' → (b : ℕ) → HasClient old.player.clients.items b → given_in (after_due (record p { generator = g }) d) b ≡ given_in p b
   unfolding after_due
   given_after p road road' old new d g before now has b k =
       let was : states.world_of p ≡ world_of p.nodes old.player = world_same p road old before in
@@ -197,23 +208,34 @@ module _ {F R I O : Type 0} (f : files.Ghosts F) (r : roads.Ghosts R I O) (i : l
 
   -- SOMETHING IS DUE
 
-  actor_of : (clients : List (Client I O)) (p : Player F I O) (d : Due) → clients ≡ p.clients.items → OwnAmong (blocks_of clients) d → AskAmong [] d → ActorIsClient p d
-  actor_of clients p (due.Own b) e h none = subst (λ (cs : List (Client I O)). HasClient cs b.0) e (client_of_block clients b.0 h.place h.there)
-  actor_of clients p (due.Reader ask) e h none = none-some ask none.there
-  actor_of clients p (due.Down c) e h none = tt
-  actor_of clients p (due.Ready c) e h none = tt
-  actor_of clients p (due.Up c) e h none = tt
+  asks_there : (clients : List (ReadClient I O)) (ask : ReadAsk) (k : ℕ) → slice_get (asks_of clients) k ≡ Some ask → HasAsk clients ask
+  asks_there [] ask k e = cc
+  asks_there (c ∷ clients) ask zero e = record { place = 0; client = c; at = refl; asks = same_Some c.ask ask e }
+  asks_there (c ∷ clients) ask (suc k) e =
+      let h = asks_there clients ask k e in
+      record { place = suc h.place; client = h.client; at = h.at; asks = h.asks }
+
+  actor_of : (p : Player F I O) (asks : List ReadAsk) (d : Due) → asks_of p.reads.clients.items ≡ asks → OwnAmong (blocks_of p.clients.items) d → AskAmong asks d → ActorIsClient p d
+  actor_of p asks (due.Own b) e h asked = client_of_block p.clients.items b.0 h.place h.there
+  actor_of p asks (due.Reader ask) e h asked = asks_there p.reads.clients.items ask asked.place (ap (λ (xs : List ReadAsk). slice_get xs asked.place) e ∙ asked.there)
+  actor_of p asks (due.Down c) e h asked = tt
+  actor_of p asks (due.Ready c) e h asked = tt
+  actor_of p asks (due.Up c) e h asked = tt
+
+  -- where there is a reader something was asked
+  pub reads_told : (p : PlayState) (road : R) (x : Playing F I O) → PlayIs f r i o p road x → ReadsAreTold f x.player
+  reads_told p road x h k c at = h.told k c.ask (ap (λ (xs : List ReadAsk). slice_get xs k) (sym h.asks) ∙ (slice_get-map (λ (a : ReadClient I O). a.ask) x.player.reads.clients.items k ∙ ap (λ (y : Option (ReadClient I O)). option_map (λ (a : ReadClient I O). a.ask) y) at))
 
   -- what is drawn, and happens
   record Draws (p : PlayState) (old mid : Playing F I O) (d : Due) (first : R) : Type 0 where
-    is : PlayIs r i o p first old
+    is : PlayIs f r i o p first old
     current : IsCurrent (world_of p.nodes old.player) mid.live
     play_is : draw (blocks_in old) p ≡ after_due (record p { generator = mid.generator }) d
     due_is : is_due (world_of p.nodes old.player) p.queues d ≡ true
     actor : ActorIsClient old.player d
     more : true ≡ is_some (slice_get (dues (blocks_in old) p) 0)
 
-  draws_so : (L : Laws) → AllOpen → DuesAreListed → PlaysAreDrawn → ListedAreDue → (old mid : Playing F I O) (road first : R) (d : Due) → IsRefreshed i o old.live mid.live old.player.nodes old.player.clients.items → DrawsDue r i o mid.live old.player.nodes old.player.clients.items road first old.generator mid.generator (Some d) → (p : PlayState) → PlayIs r i o p road old → Draws p old mid d first
+  draws_so : (L : Laws) → AllOpen → DuesAreListed → PlaysAreDrawn → ListedAreDue → (old mid : Playing F I O) (road first : R) (d : Due) → IsRefreshed i o old.live mid.live old.player.nodes old.player.clients.items old.player.reads → DrawsDue r i o mid.live old.player.nodes old.player.clients.items old.player.reads road first old.generator mid.generator (Some d) → (p : PlayState) → PlayIs f r i o p road old → Draws p old mid d first
   draws_so L opens listed plays due old mid road first d refreshed draws p h =
       let t = draws (world_of p.nodes old.player) h.stands.net p.queues (dues_show L opens p road old h) in
       let current : IsCurrent (world_of p.nodes old.player) mid.live = refreshed_so L opens p road old mid.live h refreshed in
@@ -225,34 +247,34 @@ module _ {F R I O : Type 0} (f : files.Ghosts F) (r : roads.Ghosts R I O) (i : l
         current = current;
         play_is = plays (blocks_in old) p mid.generator (Some d) k;
         due_is = subst (λ (w : World). is_due w p.queues d ≡ true) (world_same p road old h) x.is;
-        actor = actor_of old.player.clients.items old.player d refl x.among (subst (λ (asks : List ReadAsk). AskAmong asks d) h.asks x.asked);
+        actor = actor_of old.player p.asks d h.asks x.among x.asked;
         more = some_first (dues (blocks_in old) p) at.0 d at.1;
       }
 
-  pub drew : (L : Laws) → AllOpen → DuesAreListed → PlaysAreDrawn → ListedAreDue → CurrentCovers → CoversOn → (old mid new : Playing F I O) (road first road' : R) (d : Due) → new.nodes ≡ old.nodes → new.generator ≡ mid.generator → new.live ≡ mid.live → IsRefreshed i o old.live mid.live old.player.nodes old.player.clients.items
-      → DrawsDue r i o mid.live old.player.nodes old.player.clients.items road first old.generator mid.generator (Some d) → HappenShows f r i o d old.player new.player first road' (Ok tt) → DrawShows f r i o old new road road' (Ok true)
+  pub drew : (L : Laws) → AllOpen → DuesAreListed → PlaysAreDrawn → ListedAreDue → CurrentCovers → CoversOn → (old mid new : Playing F I O) (road first road' : R) (d : Due) → new.nodes ≡ old.nodes → new.generator ≡ mid.generator → new.live ≡ mid.live → IsRefreshed i o old.live mid.live old.player.nodes old.player.clients.items old.player.reads
+      → DrawsDue r i o mid.live old.player.nodes old.player.clients.items old.player.reads road first old.generator mid.generator (Some d) → HappenShows f r i o d old.player new.player first road' (Ok tt) → DrawShows f r i o old new road road' (Ok true)
   drew L opens listed plays due covered on old mid new road first road' d nodes gen live refreshed draws happens = λ p h.
       let z : Draws p old mid d first = draws_so L opens listed plays due old mid road first d refreshed draws p h in
-      let has : HasHappened r i o p.nodes p.queues d old.player new.player road' = happens p.nodes p.queues z.is.stands z.due_is z.actor in
+      let has : HasHappened r i o p.nodes p.queues d old.player new.player road' = happens p.nodes p.queues z.is.stands z.due_is z.actor (reads_told p first old z.is) in
       let covers : Covers (world_of p.nodes new.player) new.live = subst (λ (l : LiveConns). Covers (world_of p.nodes new.player) l) (sym live)
       (covers_after L opens on p first road' old new d mid.live z.is z.due_is has (covered (world_of p.nodes old.player) mid.live z.current)) in
-      let now : PlayIs r i o (after_due (record p { generator = mid.generator }) d) road' new = after p first road' old new d mid.generator nodes z.is has gen covers in (
+      let now : PlayIs f r i o (after_due (record p { generator = mid.generator }) d) road' new = after p first road' old new d mid.generator nodes z.is has gen covers in (
         record {
-          is = subst (λ (q : PlayState). PlayIs r i o q road' new) (sym z.play_is) now;
+          is = subst (λ (q : PlayState). PlayIs f r i o q road' new) (sym z.play_is) now;
           blocks = numbers_same new.player.clients.items old.player.clients.items has.places.order;
           given = λ b k. ap (λ (q : PlayState). given_in q b) z.play_is ∙ given_after p first road' old new d mid.generator z.is now has b k;
         },
         z.more,
       )
 
-  pub drew_failed : (L : Laws) → AllOpen → DuesAreListed → PlaysAreDrawn → ListedAreDue → (old mid new : Playing F I O) (road first road' : R) (d : Due) (why : PlayFault) (result : Result Bool PlayFault) → result ≡ Err why → r.faults road ≤ r.faults first → IsRefreshed i o old.live mid.live old.player.nodes old.player.clients.items
-      → DrawsDue r i o mid.live old.player.nodes old.player.clients.items road first old.generator mid.generator (Some d) → HappenShows f r i o d old.player new.player first road' (Err why) → DrawShows f r i o old new road road' result
+  pub drew_failed : (L : Laws) → AllOpen → DuesAreListed → PlaysAreDrawn → ListedAreDue → (old mid new : Playing F I O) (road first road' : R) (d : Due) (why : PlayFault) (result : Result Bool PlayFault) → result ≡ Err why → r.faults road ≤ r.faults first → IsRefreshed i o old.live mid.live old.player.nodes old.player.clients.items old.player.reads
+      → DrawsDue r i o mid.live old.player.nodes old.player.clients.items old.player.reads road first old.generator mid.generator (Some d) → HappenShows f r i o d old.player new.player first road' (Err why) → DrawShows f r i o old new road road' result
   drew_failed L opens listed plays due old mid new road first road' d why result failed faults refreshed draws happens = λ p h.
       let z : Draws p old mid d first = draws_so L opens listed plays due old mid road first d refreshed draws p h in
-      subst (λ (x : Result Bool PlayFault). DrawEnds f r i o p old new road road' x) (sym failed) (caused old old new road first road' why faults (happens p.nodes p.queues z.is.stands z.due_is z.actor))
+      subst (λ (x : Result Bool PlayFault). DrawEnds f r i o p old new road road' x) (sym failed) (caused old old new road first road' why faults (happens p.nodes p.queues z.is.stands z.due_is z.actor (reads_told p first old z.is)))
 
   -- the player stands on the roads that were asked
-  pub stands_there : (L : Laws) → AllOpen → (old mid : Playing F I O) (road first : R) (result : Option Due) → mid.player ≡ old.player → IsPlaying r i o road old → DrawsDue r i o mid.live old.player.nodes old.player.clients.items road first old.generator mid.generator result → PlayerStands r i o first mid.player
+  pub stands_there : (L : Laws) → AllOpen → (old mid : Playing F I O) (road first : R) (result : Option Due) → mid.player ≡ old.player → IsPlaying f r i o road old → DrawsDue r i o mid.live old.player.nodes old.player.clients.items old.player.reads road first old.generator mid.generator result → PlayerStands r i o first mid.player
   stands_there L opens old mid road first result same playing draws =
       let t = draws (world_of playing.p.nodes old.player) playing.is.stands.net playing.p.queues (dues_show L opens playing.p road old playing.is) in
       subst (λ (x : Player F I O). PlayerStands r i o first x) (sym same) (player_stands playing.p first old (with_roads playing.p road first old playing.is t.0))

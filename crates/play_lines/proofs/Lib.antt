@@ -1,4 +1,5 @@
 pub mod Places
+pub mod Asked
 pub mod Drawn
 pub mod Runs
 pub mod Lowers
@@ -13,4 +14,5 @@ pub mod ShelfStarts
 pub mod StartLines
 pub mod Commands
 pub mod Lined
+pub mod ReadLines
 pub mod LineRuns

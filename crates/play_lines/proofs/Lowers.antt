@@ -37,6 +37,7 @@ use Rattle.play.specs.Standing.{world_of}
 use Rattle.play.proofs.Lawful.{room}
 use Rattle.play_lines.specs.declared.playing.Playing.{Playing}
 use Rattle.play_lines.specs.Drawing.{blocks_in, DrawShows}
+use Rattle.play_reads.specs.Places.{asks_of}
 use Rattle.play_lines.specs.Showing.{PlayIs, IsPlaying}
 
 -- HOW MUCH IS TO BE DONE
@@ -47,7 +48,8 @@ client_weight w c = writer_weight (w.writers c.block.0).known + queue_weight c.q
 
 -- a play, as its player has it
 abbrev pub weight_in : {F I O : Type 0} → Playing F I O → ℕ
-weight_in x = traffic (world_of x.nodes x.player) + sum_by (client_weight (world_of x.nodes x.player)) x.player.clients.items
+weight_in x = traffic (world_of x.nodes x.player) + sum_by (client_weight (world_of x.nodes x.player)) x.player.clients.items +
+    sum_by (ask_weight (world_of x.nodes x.player)) (asks_of x.player.reads.clients.items)
 
 sums : {I O : Type 0} (w : World) (queues : Queues) (cs : List (Client I O)) (n m : ℕ) → n ≡ m → ((k : ℕ) (c : Client I O) → slice_get cs k ≡ Some c → c.queue.items ≡ queues c.block.0)
     → fold (λ a c. a + client_weight w c) n cs ≡ fold (λ a b. a + block_weight w queues b) m (blocks_of cs)
@@ -55,9 +57,6 @@ sums w queues [] n m e h = e
 sums {I} {O} w queues (c ∷ cs) n m e h =
     sums w queues cs (n + client_weight w c) (m + block_weight w queues c.block.0)
     (ap (λ (k : ℕ). k + client_weight w c) e ∙ ap (λ (q : _). m + (writer_weight (w.writers c.block.0).known + queue_weight q)) (h 0 c refl)) (λ k a at. h (suc k) a at)
-
-no_more : (n : ℕ) → n ≡ n + 0
-no_more n = omega arith
 
 -- CLIENTS AND BLOCKS
 
@@ -75,16 +74,16 @@ module _ {I O : Type 0} where
   client_there (c ∷ cs) b zero e = (c, (refl, same_Some c.block.0 b e))
   client_there (c ∷ cs) b (suc k) e = client_there cs b k e
 
-module _ {F R I O : Type 0} (r : roads.Ghosts R I O) (i : link_in.Ghosts I) (o : link_out.Ghosts O) (L : Laws) (listed : ListedAreDue) (lower : PlaysLower) where
-  weight_same : (p : PlayState) (road : R) (x : Playing F I O) → PlayIs r i o p road x → weight_in x ≡ weight_of (blocks_in x) p
+module _ {F R I O : Type 0} (f : files.Ghosts F) (r : roads.Ghosts R I O) (i : link_in.Ghosts I) (o : link_out.Ghosts O) (L : Laws) (listed : ListedAreDue) (lower : PlaysLower) where
+  weight_same : (p : PlayState) (road : R) (x : Playing F I O) → PlayIs f r i o p road x → weight_in x ≡ weight_of (blocks_in x) p
   weight_same p road x h =
       let same : states.world_of p ≡ world_of p.nodes x.player = ap (λ (es : List Event). run (start p.nodes) es) h.events in
-      ap (λ (n : ℕ). traffic (world_of n x.player) + sum_by (client_weight (world_of n x.player)) x.player.clients.items) (sym h.nodes_are) ∙
-      (ap (λ (w : World). traffic w + sum_by (client_weight w) x.player.clients.items) (sym same) ∙
-      (ap (λ (n : ℕ). traffic (states.world_of p) + n) (sums (states.world_of p) p.queues x.player.clients.items 0 0 refl (λ k c at. (h.stands.shows.clients k c at).queue)) ∙
-      (no_more (writers_weight (states.world_of p) p.queues (blocks_in x)) ∙ ap (λ (asks : List ReadAsk). writers_weight (states.world_of p) p.queues (blocks_in x) + sum_by (ask_weight (states.world_of p)) asks) (sym h.asks))))
+      ap (λ (n : ℕ). traffic (world_of n x.player) + sum_by (client_weight (world_of n x.player)) x.player.clients.items + sum_by (ask_weight (world_of n x.player)) (asks_of x.player.reads.clients.items)) (sym h.nodes_are) ∙
+      (ap (λ (w : World). traffic w + sum_by (client_weight w) x.player.clients.items + sum_by (ask_weight w) (asks_of x.player.reads.clients.items)) (sym same) ∙
+      (ap (λ (n : ℕ). traffic (states.world_of p) + n + sum_by (ask_weight (states.world_of p)) (asks_of x.player.reads.clients.items)) (sums (states.world_of p) p.queues x.player.clients.items 0 0 refl (λ k c at. (h.stands.shows.clients k c at).queue)) ∙
+      ap (λ (asks : List ReadAsk). writers_weight (states.world_of p) p.queues (blocks_in x) + sum_by (ask_weight (states.world_of p)) asks) h.asks))
 
-  apart : (p : PlayState) (road : R) (x : Playing F I O) → PlayIs r i o p road x → AreApart (blocks_in x)
+  apart : (p : PlayState) (road : R) (x : Playing F I O) → PlayIs f r i o p road x → AreApart (blocks_in x)
   apart p road x h j k b at_j at_k =
       let one = client_there x.player.clients.items b j at_j in
       let other = client_there x.player.clients.items b k at_k in
@@ -92,7 +91,7 @@ module _ {F R I O : Type 0} (r : roads.Ghosts R I O) (i : link_in.Ghosts I) (o :
 
   -- WHAT IS DUE CAN HAPPEN
 
-  module _ (p : PlayState) (road : R) (x : Playing F I O) (h : PlayIs r i o p road x) where
+  module _ (p : PlayState) (road : R) (x : Playing F I O) (h : PlayIs f r i o p road x) where
     same_world : states.world_of p ≡ world_of p.nodes x.player
     same_world = ap (λ (es : List Event). run (start p.nodes) es) h.events
 
@@ -153,8 +152,8 @@ module _ {F R I O : Type 0} (r : roads.Ghosts R I O) (i : link_in.Ghosts I) (o :
     draw_lower some = drawn_lower (dues (blocks_in x) p) refl some
 
   -- so the player has less to do after it
-  pub smaller : (f : files.Ghosts F) (old new : Playing F I O) (road road' : R) → IsPlaying r i o road old → DrawShows f r i o old new road road' (Ok true) → weight_in new < weight_in old
-  smaller f old new road road' playing shows =
+  pub smaller : (old new : Playing F I O) (road road' : R) → IsPlaying f r i o road old → DrawShows f r i o old new road road' (Ok true) → weight_in new < weight_in old
+  smaller old new road road' playing shows =
       let k = shows playing.p playing.is in
       let less : weight_of (blocks_in old) (draw (blocks_in old) playing.p) < weight_of (blocks_in old) playing.p = draw_lower playing.p road old playing.is k.1 in
       let before : weight_in old ≡ weight_of (blocks_in old) playing.p = weight_same playing.p road old playing.is in

@@ -2,6 +2,7 @@
 use Rattle.std.proofs.Common.{◌≡◌, inl, inr, ℕ, ◌<◌, ◌^◌, Bool, true, false, List, [], ◌∷◌, ◌++◌, slice_get, slice_set, Option, Some, None, IfSome, Result, Ok, Err, refl, sym, ap, ◌∙◌, subst, eqb-true, eq-eqb}
 use Rattle.std.specs.Prelude.{◌==◌, if◌then◌else◌, OnOk, IfErr}
 use Rattle.std.proofs.lemmas.Option.{same_Some}
+use Rattle.hd_base.specs.declared.files.Files as files
 use Rattle.hd_base.specs.declared.links.LinkIn as link_in
 use Rattle.hd_base.specs.declared.links.LinkOut as link_out
 use Rattle.hd_base.specs.declared.numbers.BlockId.{BlockId}
@@ -53,7 +54,7 @@ add_other queues b more j other = go (j == b) refl
     go true e = absurd (other (eqb-true j b e))
     go false e = ap (λ (q : Bool). if q then queues j ++ more else queues j) e
 
-module _ {F R I O : Type 0} (r : roads.Ghosts R I O) (i : link_in.Ghosts I) (o : link_out.Ghosts O) (old new : Playing F I O) (block : BlockId) (c : Command) (place : ℕ) (p : PlayState) (road : R) (h : IsOrdered block c place old new) (is : PlayIs r i o p road old) (fits : CommandFits p.nodes (given_in p block.0) (record { command = c; rule = p.rules block.0 })) where
+module _ {F R I O : Type 0} (f : files.Ghosts F) (r : roads.Ghosts R I O) (i : link_in.Ghosts I) (o : link_out.Ghosts O) (old new : Playing F I O) (block : BlockId) (c : Command) (place : ℕ) (p : PlayState) (road : R) (h : IsOrdered block c place old new) (is : PlayIs f r i o p road old) (fits : CommandFits p.nodes (given_in p block.0) (record { command = c; rule = p.rules block.0 })) where
   -- the world of the play, and the command
   abbrev here : World
   here = world_of p.nodes old.player
@@ -154,29 +155,31 @@ module _ {F R I O : Type 0} (r : roads.Ghosts R I O) (i : link_in.Ghosts I) (o :
   still_has : (b : ℕ) → HasClient old.player.clients.items b → HasClient new.player.clients.items b
   still_has b k = moved new.player.clients.items old.player.clients.items b same_blocks k
 
-  order_play : IsLeft r i o (ordered p block.0 c) old new road
+  order_play : IsLeft f r i o (ordered p block.0 c) old new road
   order_play = record {
-    is = subst (λ (x : Playing F I O). PlayIs r i o (ordered p block.0 c) road x) (sym h.same) (record {
+    is = subst (λ (x : Playing F I O). PlayIs f r i o (ordered p block.0 c) road x) (sym h.same) (record {
       stands = record {
         net = is.stands.net;
-        shows = record { nodes = is.stands.shows.nodes; pipelines = is.stands.shows.pipelines; clients = client_shows; apart = apart; office = is.stands.shows.office; running = is.stands.shows.running; slots = is.stands.shows.slots };
+        shows = record { nodes = is.stands.shows.nodes; reads = is.stands.shows.reads; unled = is.stands.shows.unled; clients = client_shows; apart = apart; office = is.stands.shows.office; running = is.stands.shows.running; slots = is.stands.shows.slots };
         few = is.stands.few;
         events = is.stands.events;
         clients = client_fits;
+        asks = is.stands.asks;
         connected = λ b n e. still_has b (is.stands.connected b n e);
       };
       nodes_are = is.nodes_are;
       events = is.events;
       generator = is.generator;
       asks = is.asks;
+      told = is.told;
       rules = rules;
       live = is.live;
     });
     blocks = same_blocks;
   }
 
-pub orders_plays : (F : Type 0) {R I O : Type 0} (r : roads.Ghosts R I O) (i : link_in.Ghosts I) (o : link_out.Ghosts O) → OrdersArePlays F r i o
-orders_plays F r i o old new block c place p road h is fits = order_play r i o old new block c place p road h is fits
+pub orders_plays : {F R I O : Type 0} (f : files.Ghosts F) (r : roads.Ghosts R I O) (i : link_in.Ghosts I) (o : link_out.Ghosts O) → OrdersArePlays f r i o
+orders_plays f r i o old new block c place p road h is fits = order_play f r i o old new block c place p road h is fits
 
 -- A client was given the command, or memory ran out.
 order_ends : {F I O : Type 0} (block : BlockId) (c : Command) (place : ℕ) (old new : Playing F I O) (was seen now : Client I O) (result : Result (Unit {0}) PlayFault) → slice_get old.player.clients.items place ≡ Some was → slice_get old.player.clients.items place ≡ Some seen → was.block ≡ block

@@ -1,6 +1,7 @@
 -- A rule that a client was given.
 use Rattle.std.proofs.Common.{◌≡◌, inl, inr, ℕ, List, slice_get, slice_set, Option, Some, None, refl, sym, ap, ◌∙◌, subst}
 use Rattle.std.proofs.lemmas.Option.{same_Some}
+use Rattle.hd_base.specs.declared.files.Files as files
 use Rattle.hd_base.specs.declared.links.LinkIn as link_in
 use Rattle.hd_base.specs.declared.links.LinkOut as link_out
 use Rattle.hd_base.specs.declared.numbers.BlockId.{BlockId}
@@ -24,7 +25,7 @@ use Rattle.play_lines.specs.Ruling.{IsRuled, RulesAt, Rules, RulesArePlays}
 use Rattle.play_lines.specs.Showing.{PlayIs}
 use Rattle.play_lines.proofs.Places.{set_numbers, moved}
 
-module _ {F R I O : Type 0} (r : roads.Ghosts R I O) (i : link_in.Ghosts I) (o : link_out.Ghosts O) (old new : Playing F I O) (block : BlockId) (rule : Rule) (place : ℕ) (p : PlayState) (road : R) (h : IsRuled block rule place old new) (is : PlayIs r i o p road old) where
+module _ {F R I O : Type 0} (f : files.Ghosts F) (r : roads.Ghosts R I O) (i : link_in.Ghosts I) (o : link_out.Ghosts O) (old new : Playing F I O) (block : BlockId) (rule : Rule) (place : ℕ) (p : PlayState) (road : R) (h : IsRuled block rule place old new) (is : PlayIs f r i o p road old) where
   -- the world of the play, and the rules
   abbrev here : World
   here = world_of p.nodes old.player
@@ -93,29 +94,31 @@ module _ {F R I O : Type 0} (r : roads.Ghosts R I O) (i : link_in.Ghosts I) (o :
   same_blocks : blocks_of new.player.clients.items ≡ blocks_of old.player.clients.items
   same_blocks = ap (λ (xs : List (Client I O)). blocks_of xs) h.set ∙ set_numbers old.player.clients.items place h.was h.now h.at (ap (λ (y : Client I O). y.block.0) h.ruled_so)
 
-  rule_play : IsLeft r i o (ruled p block.0 rule) old new road
+  rule_play : IsLeft f r i o (ruled p block.0 rule) old new road
   rule_play = record {
-    is = subst (λ (x : Playing F I O). PlayIs r i o (ruled p block.0 rule) road x) (sym h.same) (record {
+    is = subst (λ (x : Playing F I O). PlayIs f r i o (ruled p block.0 rule) road x) (sym h.same) (record {
       stands = record {
         net = is.stands.net;
-        shows = record { nodes = is.stands.shows.nodes; pipelines = is.stands.shows.pipelines; clients = client_shows; apart = apart; office = is.stands.shows.office; running = is.stands.shows.running; slots = is.stands.shows.slots };
+        shows = record { nodes = is.stands.shows.nodes; reads = is.stands.shows.reads; unled = is.stands.shows.unled; clients = client_shows; apart = apart; office = is.stands.shows.office; running = is.stands.shows.running; slots = is.stands.shows.slots };
         few = is.stands.few;
         events = is.stands.events;
         clients = client_fits;
+        asks = is.stands.asks;
         connected = λ b n e. moved new.player.clients.items old.player.clients.items b same_blocks (is.stands.connected b n e);
       };
       nodes_are = is.nodes_are;
       events = is.events;
       generator = is.generator;
       asks = is.asks;
+      told = is.told;
       rules = rules;
       live = is.live;
     });
     blocks = same_blocks;
   }
 
-pub rules_plays : (F : Type 0) {R I O : Type 0} (r : roads.Ghosts R I O) (i : link_in.Ghosts I) (o : link_out.Ghosts O) → RulesArePlays F r i o
-rules_plays F r i o old new block rule place p road h is = rule_play r i o old new block rule place p road h is
+pub rules_plays : {F R I O : Type 0} (f : files.Ghosts F) (r : roads.Ghosts R I O) (i : link_in.Ghosts I) (o : link_out.Ghosts O) → RulesArePlays f r i o
+rules_plays f r i o old new block rule place p road h is = rule_play f r i o old new block rule place p road h is
 
 pub rule_so : {F I O : Type 0} (block : BlockId) (rule : Rule) (place : ℕ) (old new : Playing F I O) (was now : Client I O) → client_place old.player.clients.items block.0 ≡ Some place → slice_get old.player.clients.items place ≡ Some was
     → new ≡ record old { player = record old.player { clients = new.player.clients } } → new.player.clients.items ≡ slice_set old.player.clients.items place now → now ≡ record was { rule = rule } → Rules block rule old new

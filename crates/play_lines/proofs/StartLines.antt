@@ -5,12 +5,13 @@ use Rattle.std.specs.Prelude.{◌==◌, ◌&&◌, not, nat_lt, zero, suc, IfErr,
 use Rattle.hd_base.specs.declared.files.Files as files
 use Rattle.hd_base.specs.declared.links.LinkIn as link_in
 use Rattle.hd_base.specs.declared.links.LinkOut as link_out
+use Rattle.hd_base.specs.declared.numbers.BlockId.{BlockId}
 use Rattle.hd_base.specs.declared.numbers.NodeId.{NodeId}
 use Rattle.hd_base.specs.declared.roads.Roads as roads
 use Rattle.hd_base.specs.declared.shelves.Shelf as shelves
 use Rattle.script_lang.specs.declared.instructions.Instruction.{Instruction}
 use Rattle.script_lang.specs.declared.instructions.Instruction.TheVariants as says
-use Rattle.script_lang.specs.Fits.{Before}
+use Rattle.play_scripts.specs.Reads.{is_read}
 use Rattle.play_scripts.specs.Unplayed as unplayed
 use Rattle.play_scripts.specs.Unplayed.{is_start}
 use Rattle.world.specs.declared.events.Event.{Event}
@@ -40,7 +41,8 @@ use Rattle.play.specs.Starting as player
 use Rattle.play.specs.Starting.{HasStarted}
 use Rattle.play_lines.specs.declared.playing.Playing.{Playing}
 use Rattle.play_lines.specs.Drawing.{IsDrawn}
-use Rattle.play_lines.specs.Lines.{IsBehind, LineEndsOver, LineShows, LineShowsOver, LineEnds}
+use Rattle.script_lang.specs.declared.instructions.ScriptLine.{ScriptLine}
+use Rattle.play_lines.specs.Lines.{LineLeft, LineEndsOver, LineShows, LineShowsOver, LineEnds}
 use Rattle.play_lines.specs.Shelves.{IsLineFault}
 use Rattle.play_lines.specs.Showing.{PlayIs}
 use Rattle.play_lines.specs.Starting.{StartEnds, StartShows}
@@ -121,16 +123,16 @@ pub start_stays : (p : PlayState) (n : NodeId) → Stays p (start_at p n)
 start_stays p n = by (may_start p n)
   where
     by : (b : Bool) → Stays p (if b then record p { events = p.events ++ event.Restart n [] ∷ [] } else p)
-    by true = record { nodes = refl; rules = refl }
-    by false = record { nodes = refl; rules = refl }
+    by true = record { nodes = refl; rules = refl; asks = refl }
+    by false = record { nodes = refl; rules = refl; asks = refl }
 
 module _ {S F R I O : Type 0} (s : shelves.Ghosts S F) (f : files.Ghosts F) (r : roads.Ghosts R I O) (i : link_in.Ghosts I) (o : link_out.Ghosts O) (L : Laws) (lived : DialsAreLived) (node : NodeId) (old : Playing F I O) (road : R) where
-  running_told : (p : PlayState) → PlayIs r i o p road old → (states.world_of p).running node.0 ≡ runs_in old.player.running.items node.0
+  running_told : (p : PlayState) → PlayIs f r i o p road old → (states.world_of p).running node.0 ≡ runs_in old.player.running.items node.0
   running_told p h = ap (λ (w : World). w.running node.0) (world_same f r i o p road old h) ∙ sym (h.stands.shows.running node.0)
 
   -- Nothing is done.
-  idle : (shelves : List S) → ((p : PlayState) → PlayIs r i o p road old → length shelves ≡ p.nodes → may_start p node ≡ false) → StartShows s f r i o node shelves shelves old old road road (Ok tt)
-  idle shelves none = λ p h many. subst (λ (q : PlayState). IsDrawn r i o p q old old road) (sym (start_not p node (none p h many))) (record { is = h; blocks = refl; given = λ b k. refl })
+  idle : (shelves : List S) → ((p : PlayState) → PlayIs f r i o p road old → length shelves ≡ p.nodes → may_start p node ≡ false) → StartShows s f r i o node shelves shelves old old road road (Ok tt)
+  idle shelves none = λ p h many. subst (λ (q : PlayState). IsDrawn f r i o p q old old road) (sym (start_not p node (none p h many))) (record { is = h; blocks = refl; given = λ b k. refl })
 
   pub runs_already : (shelves : List S) → runs_in old.player.running.items node.0 ≡ true → StartShows s f r i o node shelves shelves old old road road (Ok tt)
   runs_already shelves on = idle shelves (λ p h many. not_running (nat_lt node.0 p.nodes) ((states.world_of p).running node.0) (running_told p h ∙ on))
@@ -148,7 +150,7 @@ module _ {S F R I O : Type 0} (s : shelves.Ghosts S F) (f : files.Ghosts F) (r :
     below_so : (n m : ℕ) → n < m → nat_lt n m ≡ true
     below_so n m h = grind (arith, nat_tests, h)
 
-    start_play : (p : PlayState) → (h : PlayIs r i o p road old) → length shelves ≡ p.nodes → HasStarted r i o p.nodes p.queues node old.player new.player road' → IsDrawn r i o p (record p { events = p.events ++ event.Restart node [] ∷ [] }) old new road'
+    start_play : (p : PlayState) → (h : PlayIs f r i o p road old) → length shelves ≡ p.nodes → HasStarted r i o p.nodes p.queues node old.player new.player road' → IsDrawn f r i o p (record p { events = p.events ++ event.Restart node [] ∷ [] }) old new road'
     start_play p h many has =
         let w : World = states.world_of p in
         let v : World = happens w (event.Restart node []) in
@@ -165,7 +167,8 @@ module _ {S F R I O : Type 0} (s : shelves.Ghosts S F) (f : files.Ghosts F) (r :
             nodes_are = h.nodes_are ∙ ap (λ (x : Playing F I O). x.nodes) (sym rest);
             events = events;
             generator = ap (λ (x : Playing F I O). x.generator) rest ∙ h.generator;
-            asks = h.asks;
+            asks = has.asks ∙ h.asks;
+            told = h.told;
             rules = λ k c at. h.rules k c (sym (ap (λ (xs : List (Client I O)). slice_get xs k) clients) ∙ at);
             live = subst (λ (l : LiveConns). Covers (world_of p.nodes new.player) l) (ap (λ (x : Playing F I O). x.live) (sym rest))
                 (subst (λ (u : World). Covers u old.live) (sym world_is) (covers_start w node old.live (lived p.nodes p.events) is_node off_there (subst (λ (u : World). Covers u old.live) (sym (world_same f r i o p road old h)) h.live)));
@@ -178,7 +181,7 @@ module _ {S F R I O : Type 0} (s : shelves.Ghosts S F) (f : files.Ghosts F) (r :
         → StartShows s f r i o node shelves shelves' old new road road' result
     was_started (Ok u) shows tells caused = λ p h many.
         let may : may_start p node ≡ true = may_so (nat_lt node.0 p.nodes) ((states.world_of p).running node.0) (below_so node.0 p.nodes (below p many)) (running_told p h ∙ off) in
-        subst (λ (q : PlayState). IsDrawn r i o p q old new road') (sym (start_so p node may))
+        subst (λ (q : PlayState). IsDrawn f r i o p q old new road') (sym (start_so p node may))
         (start_play p h many (shows p.nodes p.queues h.stands (below p many) (sym (h.stands.shows.running node.0) ∙ off) tells))
     was_started (Err why) shows tells caused = λ p h many. caused why refl
 
@@ -212,23 +215,23 @@ module _ {S F R I O : Type 0} (s : shelves.Ghosts S F) (f : files.Ghosts F) (r :
 -- ANY LINE
 
 module _ {S F R I O : Type 0} (s : shelves.Ghosts S F) (f : files.Ghosts F) (r : roads.Ghosts R I O) (i : link_in.Ghosts I) (o : link_out.Ghosts O) (old new : Playing F I O) (road road' : R) (shelves shelves' : List S) where
-  pub start_line : (line : Instruction) (n : NodeId) (result : Result (Unit {0}) PlayFault) → line ≡ says.Start n → StartShows s f r i o n shelves shelves' old new road road' result → LineShowsOver s f r i o line shelves shelves' old new road road' result
-  start_line line n result e shows =
-      subst (λ (x : Instruction). LineShowsOver s f r i o x shelves shelves' old new road road' result) (sym e) (λ before lines p stands behind l here few many. by before lines p behind result (shows p stands many))
+  pub start_line : (l : ScriptLine) (n : NodeId) (result : Result (Unit {0}) PlayFault) → l.instruction ≡ says.Start n → StartShows s f r i o n shelves shelves' old new road road' result → LineShowsOver s f r i o l shelves shelves' old new road road' result
+  start_line l n result e shows before lines p stands behind asked fit here few many = by result (shows p stands many)
     where
-      by : (before : Before) (lines : ℕ) (p : PlayState) → IsBehind before lines p old → (result : Result (Unit {0}) PlayFault) → StartEnds s f r i o n p shelves shelves' old new road road' result → LineEndsOver s f r i o (says.Start n) before lines p shelves shelves' old new road road' result
-      by before lines p behind (Ok u) d = drawn_left f r i o old new road road' (says.Start n) before lines p (start_at p n) (record { nodes = refl; written = refl; stage = λ x. refl }) (start_stays p n) refl behind d
-      by before lines p behind (Err why) cause = cause
+      by : (result : Result (Unit {0}) PlayFault) → StartEnds s f r i o n p shelves shelves' old new road road' result → LineEndsOver s f r i o l before lines p shelves shelves' old new road road' result
+      by (Ok u) d = subst (λ (x : Instruction). LineLeft f r i o l.number x before lines p old new road') (sym e)
+          (drawn_left f r i o old new road road' l.number (says.Start n) before lines p (start_at p n) (record { nodes = refl; written = refl; stage = λ x. refl }) (start_stays p n) refl behind asked d)
+      by (Err why) cause = cause
 
-  pub other_line : (line : Instruction) (result : Result (Unit {0}) PlayFault) → LineShows f r i o line old new road road' result → LineShowsOver s f r i o line shelves shelves' old new road road' result
-  other_line line result shows = λ before lines p stands behind l here few many. by before lines p result (shows before lines p stands behind l here few)
+  pub other_line : (l : ScriptLine) (result : Result (Unit {0}) PlayFault) → LineShows f r i o l.instruction old new road road' result → LineShowsOver s f r i o l shelves shelves' old new road road' result
+  other_line l result shows before lines p stands behind asked fit here few many = by result (shows l.number before lines p stands behind asked fit here few)
     where
-      by : (before : Before) (lines : ℕ) (p : PlayState) (result : Result (Unit {0}) PlayFault) → LineEnds f r i o line before lines p old new road road' result → LineEndsOver s f r i o line before lines p shelves shelves' old new road road' result
-      by before lines p (Ok u) d = d
-      by before lines p (Err why) cause = line_fault s f r i o new road road' shelves shelves' why cause
+      by : (result : Result (Unit {0}) PlayFault) → LineEnds f r i o l.number l.instruction before lines p old new road road' result → LineEndsOver s f r i o l before lines p shelves shelves' old new road road' result
+      by (Ok u) d = d
+      by (Err why) cause = line_fault s f r i o new road road' shelves shelves' why cause
 
-pub told_so : (told : Bool) (line : Instruction) (n : NodeId) → line ≡ says.Start n → unplayed.StartIsTold told line → told ≡ true
-told_so told line n e h = subst (λ (x : Instruction). unplayed.StartIsTold told x) e h
+pub told_so : (told : Bool) (line : Instruction) (n : NodeId) → line ≡ says.Start n → unplayed.LineIsTold told line → told ≡ true
+told_so told line n e h = subst (λ (x : Instruction). unplayed.LineIsTold told x) e h
 
 pub none_starts : (line : Instruction) → ((n : NodeId) → line ≡ says.Start n → ⊥) → is_start line ≡ false
 none_starts (says.Start n) starts = absurd (starts n refl)
@@ -251,3 +254,28 @@ none_starts (says.Run count) starts = refl
 none_starts says.Settle starts = refl
 none_starts (says.Step b event) starts = refl
 none_starts (says.Expect n b state stamp written) starts = refl
+
+pub told_read : (told : Bool) (line : Instruction) (b : BlockId) (n : NodeId) (offset count : ℕ) → line ≡ says.Read b n offset count → unplayed.LineIsTold told line → told ≡ true
+told_read told line b n offset count e h = subst (λ (x : Instruction). unplayed.LineIsTold told x) e h
+
+pub none_asks : (line : Instruction) → ((b : BlockId) (n : NodeId) (offset count : ℕ) → line ≡ says.Read b n offset count → ⊥) → is_read line ≡ false
+none_asks (says.Read b n offset count) asks = absurd (asks b n offset count refl)
+none_asks (says.Nodes count) asks = refl
+none_asks (says.Seed seed) asks = refl
+none_asks (says.Sums b rule) asks = refl
+none_asks (says.Create b members) asks = refl
+none_asks (says.Append b members) asks = refl
+none_asks (says.Write b bytes) asks = refl
+none_asks (says.Fill b count) asks = refl
+none_asks (says.Hflush b) asks = refl
+none_asks (says.Hsync b) asks = refl
+none_asks (says.Close b) asks = refl
+none_asks (says.Recover b n members) asks = refl
+none_asks (says.Cut b place down up) asks = refl
+none_asks (says.Fault n nth) asks = refl
+none_asks (says.Stop n) asks = refl
+none_asks (says.Start n) asks = refl
+none_asks (says.Run count) asks = refl
+none_asks says.Settle asks = refl
+none_asks (says.Step b event) asks = refl
+none_asks (says.Expect n b state stamp written) asks = refl

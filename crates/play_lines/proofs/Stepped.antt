@@ -35,11 +35,12 @@ use Rattle.play.specs.Standing.{world_of, HappenEnds, HappenShows, ActorIsClient
 use Rattle.play.proofs.Dispatch.{has_place, client_at}
 use Rattle.play_lines.specs.declared.playing.Playing.{Playing}
 use Rattle.play_lines.specs.Drawing.{IsDrawn}
+use Rattle.play_reads.specs.declared.reads.Reads.{Reads}
 use Rattle.play_lines.specs.Showing.{PlayIs, IsPlaying}
 use Rattle.play_lines.specs.Pipelines.{pipeline_at}
 use Rattle.play_lines.specs.Stepping.{due_behind, due_where, due_for, StepEnds, StepShows}
 use Rattle.play_lines.proofs.Pipelined.{pipeline_told}
-use Rattle.play_lines.proofs.Drawn.{numbers_same, world_same, dues_show, with_roads, player_stands, covers_after, after, caused, given_after}
+use Rattle.play_lines.proofs.Drawn.{reads_told, numbers_same, world_same, dues_show, with_roads, player_stands, covers_after, after, caused, given_after}
 
 -- EVENTS
 
@@ -100,9 +101,9 @@ module _ {F I O : Type 0} (x : Playing F I O) (block : BlockId) where
       by None is = absurd (has_place x.player.clients.items block.0 h is)
       by (Some place) is = refl
 
-  played : (event : StepEvent) (d : Due) → due_for x block event ≡ Some d → HasClient x.player.clients.items block.0 → IsPlayed x.player.clients.items d
+  played : (event : StepEvent) (d : Due) → due_for x block event ≡ Some d → HasClient x.player.clients.items block.0 → IsPlayed x.player.clients.items x.player.reads d
   played event (due.Own b) is h = subst (λ (a : BlockId). HasClient x.player.clients.items a.0) (own_is conns block event b (sym (due_of_client event h) ∙ is)) h
-  played event (due.Reader ask) is h = no_reader_behind conns block event ask (sym (due_of_client event h) ∙ is)
+  played event (due.Reader ask) is h = absurd (no_reader_behind conns block event ask (sym (due_of_client event h) ∙ is))
   played event (due.Down c) is h = tt
   played event (due.Ready c) is h = tt
   played event (due.Up c) is h = tt
@@ -111,21 +112,21 @@ never : (result : Bool) → result ≡ true → result ≡ false → ⊥
 never true is fails = cc
 never false is fails = cc
 
--- where something is due it isn't an own step of a block that has no client, nor a reader's
-played_so : {I O : Type 0} (clients : List (Client I O)) (d : Due) (result : Bool) → result ≡ true → (IsAlone clients d → result ≡ false) → IsPlayed clients d
-played_so {I} {O} clients (due.Own b) result is alone = by (client_place clients b.0) refl
+-- where something is due that is no reader's it isn't an own step of a block that has no client
+played_so : {I O : Type 0} (clients : List (Client I O)) (reads : Reads I O) (d : Due) (result : Bool) → ((ask : ReadAsk) → d ≡ due.Reader ask → ⊥) → result ≡ true → (IsAlone clients reads d → result ≡ false) → IsPlayed clients reads d
+played_so {I} {O} clients reads (due.Own b) result apart is alone = by (client_place clients b.0) refl
   where
     by : (sought : Option ℕ) → client_place clients b.0 ≡ sought → HasClient clients b.0
     by None none = absurd (never result is (alone none))
     by (Some place) there =
         let k = client_at clients b place there in
         record { place = place; client = k.client; found = k.found; block = ap (λ (a : BlockId). a.0) k.block }
-played_so clients (due.Reader ask) result is alone = never result is (alone tt)
-played_so clients (due.Down c) result is alone = tt
-played_so clients (due.Ready c) result is alone = tt
-played_so clients (due.Up c) result is alone = tt
+played_so clients reads (due.Reader ask) result apart is alone = absurd (apart ask refl)
+played_so clients reads (due.Down c) result apart is alone = tt
+played_so clients reads (due.Ready c) result apart is alone = tt
+played_so clients reads (due.Up c) result apart is alone = tt
 
-actor_so : {F I O : Type 0} (p : Player F I O) (d : Due) → IsPlayed p.clients.items d → ActorIsClient p d
+actor_so : {F I O : Type 0} (p : Player F I O) (d : Due) → IsPlayed p.clients.items p.reads d → ActorIsClient p d
 actor_so p (due.Own b) h = h
 actor_so p (due.Reader ask) h = h
 actor_so p (due.Down c) h = tt
@@ -141,8 +142,15 @@ module _ {F I O : Type 0} (i : link_in.Ghosts I) (o : link_out.Ghosts O) (w : Wo
   due_told block (step.Ready place) = ap (option_map (λ c. due.Ready (record { 0 = c }))) (pipeline_told i o w net n nodes placed block.0 place)
   due_told block (step.Up place) = ap (option_map (λ c. due.Up (record { 0 = c }))) (pipeline_told i o w net n nodes placed block.0 place)
 
+no_reader_for : {F I O : Type 0} (x : Playing F I O) (block : BlockId) (event : StepEvent) (ask : ReadAsk) → due_for x block event ≡ Some (due.Reader ask) → ⊥
+no_reader_for x block event ask e = by (client_place x.player.clients.items block.0) e
+  where
+    by : (sought : Option ℕ) → due_where sought x.player.nodes.connections.items block event ≡ Some (due.Reader ask) → ⊥
+    by None e = cc
+    by (Some place) e = no_reader_behind x.player.nodes.connections.items block event ask e
+
 module _ {F R I O : Type 0} (f : files.Ghosts F) (r : roads.Ghosts R I O) (i : link_in.Ghosts I) (o : link_out.Ghosts O) (L : Laws) (opens : AllOpen) (block : BlockId) (event : StepEvent) where
-  for_told : (p : PlayState) (road : R) (old : Playing F I O) → PlayIs r i o p road old → HasClient old.player.clients.items block.0 → due_for old block event ≡ step_due (states.world_of p) block.0 event
+  for_told : (p : PlayState) (road : R) (old : Playing F I O) → PlayIs f r i o p road old → HasClient old.player.clients.items block.0 → due_for old block event ≡ step_due (states.world_of p) block.0 event
   for_told p road old h has =
       let w : World = world_of p.nodes old.player in
       let d = dues_show f r i o L opens p road old h in
@@ -154,29 +162,29 @@ module _ {F R I O : Type 0} (f : files.Ghosts F) (r : roads.Ghosts R I O) (i : l
 
   pub nothing_there : (old : Playing F I O) (road : R) (found : Option Due) → found ≡ due_for old block event → found ≡ None → StepShows f r i o block event old old road road (Ok tt)
   nothing_there old road found for none = λ p h has.
-      subst (λ (x : Option Due). IsDrawn r i o p (stepped p x) old old road) (sym none ∙ (for ∙ for_told p road old h has)) (record { is = h; blocks = refl; given = λ b k. refl })
+      subst (λ (x : Option Due). IsDrawn f r i o p (stepped p x) old old road) (sym none ∙ (for ∙ for_told p road old h has)) (record { is = h; blocks = refl; given = λ b k. refl })
 
-  pub not_due : (old : Playing F I O) (road road' : R) (found : Option Due) (d : Due) (result : Bool) → result ≡ false → found ≡ due_for old block event → found ≡ Some d → TellsDue r i o d old.player.nodes old.player.clients.items road road' result → StepShows f r i o block event old old road road' (Ok tt)
+  pub not_due : (old : Playing F I O) (road road' : R) (found : Option Due) (d : Due) (result : Bool) → result ≡ false → found ≡ due_for old block event → found ≡ Some d → TellsDue r i o d old.player.nodes old.player.clients.items old.player.reads road road' result → StepShows f r i o block event old old road road' (Ok tt)
   not_due old road road' found d result fails for there tells = λ p h has.
       let is : due_for old block event ≡ Some d = sym for ∙ there in
       let t = tells (played old block event d is has) (world_of p.nodes old.player) h.stands.net p.queues (dues_show f r i o L opens p road old h) in
       let never : false ≡ is_due (states.world_of p) p.queues d = sym fails ∙ (t.1 ∙ ap (λ (w : World). is_due w p.queues d) (sym (world_same f r i o p road old h))) in
-      subst (λ (x : Option Due). IsDrawn r i o p (stepped p x) old old road') (sym is ∙ for_told p road old h has)
-      (subst (λ (b : Bool). IsDrawn r i o p (if b then after_due p d else p) old old road') never (record { is = with_roads f r i o p road road' old h t.0; blocks = refl; given = λ b k. refl }))
+      subst (λ (x : Option Due). IsDrawn f r i o p (stepped p x) old old road') (sym is ∙ for_told p road old h has)
+      (subst (λ (b : Bool). IsDrawn f r i o p (if b then after_due p d else p) old old road') never (record { is = with_roads f r i o p road road' old h t.0; blocks = refl; given = λ b k. refl }))
 
-  pub stands_here : (old : Playing F I O) (road first : R) (d : Due) (result : Bool) → result ≡ true → (IsAlone old.player.clients.items d → result ≡ false) → IsPlaying r i o road old → TellsDue r i o d old.player.nodes old.player.clients.items road first result → PlayerStands r i o first old.player
-  stands_here old road first d result holds alone playing tells =
-      let t = tells (played_so old.player.clients.items d result holds alone) (world_of playing.p.nodes old.player) playing.is.stands.net playing.p.queues (dues_show f r i o L opens playing.p road old playing.is) in
+  pub stands_here : (old : Playing F I O) (road first : R) (found : Option Due) (d : Due) (result : Bool) → found ≡ due_for old block event → found ≡ Some d → result ≡ true → (IsAlone old.player.clients.items old.player.reads d → result ≡ false) → IsPlaying f r i o road old → TellsDue r i o d old.player.nodes old.player.clients.items old.player.reads road first result → PlayerStands r i o first old.player
+  stands_here old road first found d result for there holds alone playing tells =
+      let t = tells (played_so old.player.clients.items old.player.reads d result (λ ask e. no_reader_for old block event ask (sym for ∙ (there ∙ ap Some e))) holds alone) (world_of playing.p.nodes old.player) playing.is.stands.net playing.p.queues (dues_show f r i o L opens playing.p road old playing.is) in
       player_stands f r i o playing.p first old (with_roads f r i o playing.p road first old playing.is t.0)
 
-  happens_so : CoversOn → (p : PlayState) (old new : Playing F I O) (road first road' : R) (d : Due) (result : Result (Unit {0}) PlayFault) → new.nodes ≡ old.nodes → new.generator ≡ old.generator → new.live ≡ old.live → r.faults road ≤ r.faults first → due_for old block event ≡ Some d → PlayIs r i o p road old → PlayIs r i o p first old
+  happens_so : CoversOn → (p : PlayState) (old new : Playing F I O) (road first road' : R) (d : Due) (result : Result (Unit {0}) PlayFault) → new.nodes ≡ old.nodes → new.generator ≡ old.generator → new.live ≡ old.live → r.faults road ≤ r.faults first → due_for old block event ≡ Some d → PlayIs f r i o p road old → PlayIs f r i o p first old
       → HasClient old.player.clients.items block.0 → is_due (world_of p.nodes old.player) p.queues d ≡ true → HappenEnds f r i o p.nodes p.queues d old.player new.player first road' result → StepEnds f r i o block event p old new road road' result
   happens_so on p old new road first road' d (Ok u) nodes gen live faults is h here has holds ends =
       let covers : Covers (world_of p.nodes new.player) new.live = subst (λ (l : LiveConns). Covers (world_of p.nodes new.player) l) (sym live) (covers_after f r i o L opens on p first road' old new d old.live here holds ends here.live) in
-      let now : PlayIs r i o (after_due (record p { generator = p.generator }) d) road' new = after f r i o p first road' old new d p.generator nodes here ends (gen ∙ h.generator) covers in
+      let now : PlayIs f r i o (after_due (record p { generator = p.generator }) d) road' new = after f r i o p first road' old new d p.generator nodes here ends (gen ∙ h.generator) covers in
       let due_is : true ≡ is_due (states.world_of p) p.queues d = sym holds ∙ ap (λ (w : World). is_due w p.queues d) (sym (world_same f r i o p road old h)) in
-      subst (λ (x : Option Due). IsDrawn r i o p (stepped p x) old new road') (sym is ∙ for_told p road old h has)
-      (subst (λ (b : Bool). IsDrawn r i o p (if b then after_due p d else p) old new road') due_is (record {
+      subst (λ (x : Option Due). IsDrawn f r i o p (stepped p x) old new road') (sym is ∙ for_told p road old h has)
+      (subst (λ (b : Bool). IsDrawn f r i o p (if b then after_due p d else p) old new road') due_is (record {
         is = now;
         given = λ b k. given_after f r i o p first road' old new d p.generator here now ends b k;
         blocks = numbers_same new.player.clients.items old.player.clients.items ends.places.order;
@@ -184,11 +192,11 @@ module _ {F R I O : Type 0} (f : files.Ghosts F) (r : roads.Ghosts R I O) (i : l
   happens_so on p old new road first road' d (Err why) nodes gen live faults is h here has holds ends = caused f r i o old old new road first road' why faults ends
 
   pub happened : CoversOn → (old new : Playing F I O) (road first road' : R) (found : Option Due) (d : Due) (told : Bool) (result : Result (Unit {0}) PlayFault) → new.nodes ≡ old.nodes → new.generator ≡ old.generator → new.live ≡ old.live → r.faults road ≤ r.faults first → told ≡ true → found ≡ due_for old block event → found ≡ Some d
-      → TellsDue r i o d old.player.nodes old.player.clients.items road first told → HappenShows f r i o d old.player new.player first road' result → StepShows f r i o block event old new road road' result
+      → TellsDue r i o d old.player.nodes old.player.clients.items old.player.reads road first told → HappenShows f r i o d old.player new.player first road' result → StepShows f r i o block event old new road road' result
   happened on old new road first road' found d told result nodes gen live faults holds for there tells happens = λ p h has.
       let is : due_for old block event ≡ Some d = sym for ∙ there in
       let here = played old block event d is has in
       let t = tells here (world_of p.nodes old.player) h.stands.net p.queues (dues_show f r i o L opens p road old h) in
       let standing = with_roads f r i o p road first old h t.0 in
       let now : is_due (world_of p.nodes old.player) p.queues d ≡ true = sym t.1 ∙ holds in
-      happens_so on p old new road first road' d result nodes gen live faults is h standing has now (happens p.nodes p.queues standing.stands now (actor_so old.player d here))
+      happens_so on p old new road first road' d result nodes gen live faults is h standing has now (happens p.nodes p.queues standing.stands now (actor_so old.player d here) (reads_told f r i o p first old standing))

@@ -85,22 +85,22 @@ stop_not p n e = ap (λ (b : Bool). if b then record p { events = p.events ++ ev
 
 module _ {F R I O : Type 0} (f : files.Ghosts F) (r : roads.Ghosts R I O) (i : link_in.Ghosts I) (o : link_out.Ghosts O) (L : Laws) (node : NodeId) (old : Playing F I O) (road : R) where
   -- whether the node runs in the model, as the player tells
-  running_told : (p : PlayState) → PlayIs r i o p road old → (states.world_of p).running node.0 ≡ runs_in old.player.running.items node.0
+  running_told : (p : PlayState) → PlayIs f r i o p road old → (states.world_of p).running node.0 ≡ runs_in old.player.running.items node.0
   running_told p h = ap (λ (w : World). w.running node.0) (world_same f r i o p road old h) ∙ sym (h.stands.shows.running node.0)
 
   pub nothing_stops : runs_in old.player.running.items node.0 ≡ false → StopShows f r i o node old old road road (Ok tt)
   nothing_stops off = λ p h.
-      subst (λ (q : PlayState). IsDrawn r i o p q old old road) (sym (stop_not p node (running_told p h ∙ off))) (record { is = h; blocks = refl; given = λ b k. refl })
+      subst (λ (q : PlayState). IsDrawn f r i o p q old old road) (sym (stop_not p node (running_told p h ∙ off))) (record { is = h; blocks = refl; given = λ b k. refl })
 
   less : (n m k : ℕ) → n < m → m ≤ k → n < k
   less n m k h g = omega (arith, h, g)
 
-  pub in_range : runs_in old.player.running.items node.0 ≡ true → IsPlaying r i o road old → node.0 < MAX_NODES
+  pub in_range : runs_in old.player.running.items node.0 ≡ true → IsPlaying f r i o road old → node.0 < MAX_NODES
   in_range on playing =
       less node.0 playing.p.nodes MAX_NODES ((L.only playing.p.nodes old.player.events.items).within node.0 (sym (playing.is.stands.shows.running node.0) ∙ on)) playing.is.stands.few
 
   module _ (on : runs_in old.player.running.items node.0 ≡ true) (new : Playing F I O) (road' : R) (rest : new ≡ record old { player = new.player }) where
-    stop_play : (p : PlayState) → (h : PlayIs r i o p road old) → HasStopped r i o p.nodes p.queues node old.player new.player road' → IsDrawn r i o p (record p { events = p.events ++ event.Stop node ∷ [] }) old new road'
+    stop_play : (p : PlayState) → (h : PlayIs f r i o p road old) → HasStopped r i o p.nodes p.queues node old.player new.player road' → IsDrawn f r i o p (record p { events = p.events ++ event.Stop node ∷ [] }) old new road'
     stop_play p h has =
         let w : World = states.world_of p in
         let v : World = happens w (event.Stop node) in
@@ -116,7 +116,8 @@ module _ {F R I O : Type 0} (f : files.Ghosts F) (r : roads.Ghosts R I O) (i : l
             nodes_are = h.nodes_are ∙ ap (λ (x : Playing F I O). x.nodes) (sym rest);
             events = events;
             generator = ap (λ (x : Playing F I O). x.generator) rest ∙ h.generator;
-            asks = h.asks;
+            asks = has.asks ∙ h.asks;
+            told = h.told;
             rules = λ k c at. h.rules k c (sym (ap (λ (xs : List (Client I O)). slice_get xs k) clients) ∙ at);
             live = subst (λ (l : LiveConns). Covers (world_of p.nodes new.player) l) (ap (λ (x : Playing F I O). x.live) (sym rest))
                 (subst (λ (u : World). Covers u old.live) (sym world_is) (covers_stop w node old.live runs (subst (λ (u : World). Covers u old.live) (sym (world_same f r i o p road old h)) h.live)));
@@ -128,5 +129,5 @@ module _ {F R I O : Type 0} (f : files.Ghosts F) (r : roads.Ghosts R I O) (i : l
     pub was_stopped : (result : Result (Unit {0}) PlayFault) → player.StopShows r i o node old.player new.player road road' result → StopShows f r i o node old new road road' result
     was_stopped (Ok u) shows = λ p h.
         let runs : (states.world_of p).running node.0 ≡ true = running_told p h ∙ on in
-        subst (λ (q : PlayState). IsDrawn r i o p q old new road') (sym (stop_so p node runs)) (stop_play p h (shows p.nodes p.queues h.stands (sym (h.stands.shows.running node.0) ∙ on)))
+        subst (λ (q : PlayState). IsDrawn f r i o p q old new road') (sym (stop_so p node runs)) (stop_play p h (shows p.nodes p.queues h.stands (sym (h.stands.shows.running node.0) ∙ on)))
     was_stopped (Err why) shows = λ p h. subst (λ (x : PlayFault). IsCaused f r new road road' x) (sym (shows p.nodes p.queues h.stands (sym (h.stands.shows.running node.0) ∙ on))) tt

@@ -16,10 +16,10 @@ use Rattle.play_lines.specs.Showing.{PlayIs}
 abbrev pub CutEnds : {F R I O : Type 0} → files.Ghosts F → roads.Ghosts R I O → link_in.Ghosts I → link_out.Ghosts O →
     BlockId → ℕ → ℕ → ℕ → PlayState → Playing F I O → Playing F I O → R → R → Result (Unit {0}) PlayFault → Type 0
 CutEnds f r i o block place down up p old new road road' (Ok u) =
-    IsDrawn r i o p (cut_at p (pipeline_conn (world_of p) block.0 place) down up) old new road'
+    IsDrawn f r i o p (cut_at p (pipeline_conn (world_of p) block.0 place) down up) old new road'
 CutEnds f r i o block place down up p old new road road' (Err why) = IsCaused f r new road road' why
 
 abbrev pub CutShows : {F R I O : Type 0} → files.Ghosts F → roads.Ghosts R I O → link_in.Ghosts I → link_out.Ghosts O →
     BlockId → ℕ → ℕ → ℕ → Playing F I O → Playing F I O → R → R → Result (Unit {0}) PlayFault → Type 0
 CutShows f r i o block place down up old new road road' result =
-    (p : PlayState) → PlayIs r i o p road old → CutEnds f r i o block place down up p old new road road' result
+    (p : PlayState) → PlayIs f r i o p road old → CutEnds f r i o block place down up p old new road road' result

@@ -2,6 +2,7 @@ pub mod Showing
 pub mod Drawing
 pub mod Ordering
 pub mod Ruling
+pub mod Asking
 pub mod Pipelines
 pub mod Stepping
 pub mod Cutting

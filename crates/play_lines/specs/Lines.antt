@@ -1,5 +1,5 @@
 -- What the lines of a script make of a play.
-use Rattle.std.specs.Prelude.{◌≡◌, ◌<◌, ◌≤◌, ◌+◌, ◌||◌, ℕ, suc, Bool, true, false, List, [], ◌∷◌, length, Option, Some, None, Result, Ok, Err}
+use Rattle.std.specs.Prelude.{◌≡◌, ◌<◌, ◌≤◌, ◌+◌, ◌||◌, ℕ, suc, Bool, true, false, List, [], ◌∷◌, length, slice_get, Option, Some, None, Result, Ok, Err}
 use Rattle.hd_base.specs.declared.files.Files as files
 use Rattle.hd_base.specs.declared.links.LinkIn as link_in
 use Rattle.hd_base.specs.declared.links.LinkOut as link_out
@@ -17,6 +17,8 @@ use Rattle.writer_core.specs.declared.intake.Stand.TheVariants as stand
 use Rattle.writer_core.specs.declared.intake.TheConstants.{MAX_COMMANDS}
 use Rattle.play_model.specs.Lines.{PlaysLine, PlaysLines}
 use Rattle.play_model.specs.States.{PlayState}
+use Rattle.play_model.specs.declared.asks.ReadAsk.{ReadAsk}
+use Rattle.play_scripts.specs.Numbering.{LinesAscend}
 use Rattle.play_scripts.specs.Fitting.{LineFits, LinesFit}
 use Rattle.play_dues.specs.Showing.{HasClient}
 use Rattle.play.specs.declared.faults.PlayFault.{PlayFault}
@@ -71,62 +73,70 @@ abbrev pub CreatesHere : {F I O : Type 0} → Playing F I O → Instruction → 
 CreatesHere x (says.Create b members) = HasClient x.player.clients.items b.0
 CreatesHere x other = Unit {0}
 
+-- What was asked so far was asked by lines below this number.
+abbrev pub AsksBelow : ℕ → List ReadAsk → Type 0
+AsksBelow number asks = (k : ℕ) (ask : ReadAsk) → slice_get asks k ≡ Some ask → ask.reader < number
+
 -- ONE LINE
 
--- What is left is the play after the line, of as many nodes, and stands behind it.
-pub record LineLeft {F R I O : Type 0} (r : roads.Ghosts R I O) (i : link_in.Ghosts I) (o : link_out.Ghosts O)
-    (line : Instruction) (before : Before) (lines : ℕ) (p : PlayState) (old new : Playing F I O) (road : R) : Type 0 where
+-- What is left is the play after the line, which has this number, of as many nodes, and stands behind it.
+pub record LineLeft {F R I O : Type 0} (f : files.Ghosts F) (r : roads.Ghosts R I O) (i : link_in.Ghosts I)
+    (o : link_out.Ghosts O) (number : ℕ) (line : Instruction) (before : Before) (lines : ℕ) (p : PlayState)
+    (old new : Playing F I O) (road : R) : Type 0 where
   pub left : PlayState
-  pub plays : PlaysLine (blocks_in old) line p left
+  pub plays : PlaysLine (blocks_in old) number line p left
   pub nodes : left.nodes ≡ p.nodes
-  pub is : PlayIs r i o left road new
+  pub is : PlayIs f r i o left road new
   pub blocks : blocks_in new ≡ blocks_in old
   pub behind : IsBehind (after before line) (suc lines) left new
+  pub asked : AsksBelow (number + 1) left.asks
 
 abbrev pub LineEnds : {F R I O : Type 0} → files.Ghosts F → roads.Ghosts R I O → link_in.Ghosts I → link_out.Ghosts O →
-    Instruction → Before → ℕ → PlayState → Playing F I O → Playing F I O → R → R → Result (Unit {0}) PlayFault → Type 0
-LineEnds f r i o line before lines p old new road road' (Ok u) = LineLeft r i o line before lines p old new road'
-LineEnds f r i o line before lines p old new road road' (Err why) = IsCaused f r new road road' why
+    ℕ → Instruction → Before → ℕ → PlayState → Playing F I O → Playing F I O → R → R → Result (Unit {0}) PlayFault →
+    Type 0
+LineEnds f r i o number line before lines p old new road road' (Ok u) =
+    LineLeft f r i o number line before lines p old new road'
+LineEnds f r i o number line before lines p old new road road' (Err why) = IsCaused f r new road road' why
 
--- A line that fits, and starts no node, is played.
+-- A line that fits, and neither starts a node nor asks to read, is played, whatever its number.
 abbrev pub LineShows : {F R I O : Type 0} → files.Ghosts F → roads.Ghosts R I O → link_in.Ghosts I → link_out.Ghosts O →
     Instruction → Playing F I O → Playing F I O → R → R → Result (Unit {0}) PlayFault → Type 0
-LineShows f r i o line old new road road' result = (before : Before) (lines : ℕ) (p : PlayState) →
-    PlayIs r i o p road old → IsBehind before lines p old → LineFits before line → CreatesHere old line →
-    lines < MAX_COMMANDS
-    → LineEnds f r i o line before lines p old new road road' result
+LineShows f r i o line old new road road' result = (number : ℕ) (before : Before) (lines : ℕ) (p : PlayState) →
+    PlayIs f r i o p road old → IsBehind before lines p old → AsksBelow number p.asks → LineFits before line →
+    CreatesHere old line → lines < MAX_COMMANDS
+    → LineEnds f r i o number line before lines p old new road road' result
 
 abbrev pub LineEndsOver : {S F R I O : Type 0} → shelves.Ghosts S F → files.Ghosts F → roads.Ghosts R I O →
-    link_in.Ghosts I → link_out.Ghosts O → Instruction → Before → ℕ → PlayState → List S → List S → Playing F I O →
+    link_in.Ghosts I → link_out.Ghosts O → ScriptLine → Before → ℕ → PlayState → List S → List S → Playing F I O →
     Playing F I O → R → R → Result (Unit {0}) PlayFault → Type 0
-LineEndsOver s f r i o line before lines p shelves shelves' old new road road' (Ok u) =
-    LineLeft r i o line before lines p old new road'
-LineEndsOver s f r i o line before lines p shelves shelves' old new road road' (Err why) =
+LineEndsOver s f r i o l before lines p shelves shelves' old new road road' (Ok u) =
+    LineLeft f r i o l.number l.instruction before lines p old new road'
+LineEndsOver s f r i o l before lines p shelves shelves' old new road road' (Err why) =
     IsLineFault s f r shelves shelves' new road road' why
 
 -- A line that fits is played, where there is a shelf for each node.
 abbrev pub LineShowsOver : {S F R I O : Type 0} → shelves.Ghosts S F → files.Ghosts F → roads.Ghosts R I O →
-    link_in.Ghosts I → link_out.Ghosts O → Instruction → List S → List S → Playing F I O → Playing F I O → R → R →
+    link_in.Ghosts I → link_out.Ghosts O → ScriptLine → List S → List S → Playing F I O → Playing F I O → R → R →
     Result (Unit {0}) PlayFault → Type 0
-LineShowsOver s f r i o line shelves shelves' old new road road' result = (before : Before) (lines : ℕ) (p : PlayState) →
-    PlayIs r i o p road old → IsBehind before lines p old → LineFits before line → CreatesHere old line →
-    lines < MAX_COMMANDS → length shelves ≡ p.nodes
-    → LineEndsOver s f r i o line before lines p shelves shelves' old new road road' result
+LineShowsOver s f r i o l shelves shelves' old new road road' result = (before : Before) (lines : ℕ) (p : PlayState) →
+    PlayIs f r i o p road old → IsBehind before lines p old → AsksBelow l.number p.asks →
+    LineFits before l.instruction → CreatesHere old l.instruction → lines < MAX_COMMANDS → length shelves ≡ p.nodes
+    → LineEndsOver s f r i o l before lines p shelves shelves' old new road road' result
 
 -- ALL LINES
 
 -- What is left is the play in which the lines were played and that settled.
-pub record LinesLeft {F R I O : Type 0} (r : roads.Ghosts R I O) (i : link_in.Ghosts I) (o : link_out.Ghosts O)
-    (lines : List ScriptLine) (p : PlayState) (old new : Playing F I O) (road : R) : Type 0 where
+pub record LinesLeft {F R I O : Type 0} (f : files.Ghosts F) (r : roads.Ghosts R I O) (i : link_in.Ghosts I)
+    (o : link_out.Ghosts O) (lines : List ScriptLine) (p : PlayState) (old new : Playing F I O) (road : R) : Type 0 where
   pub left : PlayState
   pub plays : PlaysLines (blocks_in old) lines p left
-  pub is : PlayIs r i o left road new
+  pub is : PlayIs f r i o left road new
   pub blocks : blocks_in new ≡ blocks_in old
 
 abbrev pub LinesEnd : {S F R I O : Type 0} → shelves.Ghosts S F → files.Ghosts F → roads.Ghosts R I O →
     link_in.Ghosts I → link_out.Ghosts O → List ScriptLine → PlayState → List S → List S → Playing F I O →
     Playing F I O → R → R → Result (Unit {0}) PlayFault → Type 0
-LinesEnd s f r i o lines p shelves shelves' old new road road' (Ok u) = LinesLeft r i o lines p old new road'
+LinesEnd s f r i o lines p shelves shelves' old new road road' (Ok u) = LinesLeft f r i o lines p old new road'
 LinesEnd s f r i o lines p shelves shelves' old new road road' (Err why) =
     IsLineFault s f r shelves shelves' new road road' why
 
@@ -135,19 +145,23 @@ abbrev pub AllCreateHere : {F I O : Type 0} → Playing F I O → List ScriptLin
 AllCreateHere x [] = Unit {0}
 AllCreateHere x (l ∷ lines) = CreatesHere x l.instruction × AllCreateHere x lines
 
--- The play stands behind lines, so many, and these fit them: each block that they create has a client.
+-- The play stands behind lines, so many, and these fit them: each block that they create has a client, and their numbers
+-- ascend, above those of the lines that asked to read.
 pub record CanPlay {F I O : Type 0} (lines : List ScriptLine) (before : Before) (count : ℕ) (p : PlayState)
     (x : Playing F I O) : Type 0 where
   pub behind : IsBehind before count p x
   pub fit : LinesFit before lines
   pub here : AllCreateHere x lines
   pub few : count + length lines ≤ MAX_COMMANDS
+  pub least : ℕ
+  pub ascend : LinesAscend least lines
+  pub asked : AsksBelow least p.asks
 
 -- Some play does, which has as many nodes as there are shelves.
-pub record IsReady {F R I O : Type 0} (r : roads.Ghosts R I O) (i : link_in.Ghosts I) (o : link_out.Ghosts O)
-    (lines : List ScriptLine) (shelves : ℕ) (road : R) (x : Playing F I O) : Type 0 where
+pub record IsReady {F R I O : Type 0} (f : files.Ghosts F) (r : roads.Ghosts R I O) (i : link_in.Ghosts I)
+    (o : link_out.Ghosts O) (lines : List ScriptLine) (shelves : ℕ) (road : R) (x : Playing F I O) : Type 0 where
   pub p : PlayState
-  pub is : PlayIs r i o p road x
+  pub is : PlayIs f r i o p road x
   pub before : Before
   pub count : ℕ
   pub can : CanPlay lines before count p x
@@ -158,5 +172,5 @@ abbrev pub LinesShow : {S F R I O : Type 0} → shelves.Ghosts S F → files.Gho
     link_in.Ghosts I → link_out.Ghosts O → List ScriptLine → List S → List S → Playing F I O → Playing F I O → R → R →
     Result (Unit {0}) PlayFault → Type 0
 LinesShow s f r i o lines shelves shelves' old new road road' result = (before : Before) (count : ℕ) (p : PlayState) →
-    PlayIs r i o p road old → CanPlay lines before count p old → length shelves ≡ p.nodes
+    PlayIs f r i o p road old → CanPlay lines before count p old → length shelves ≡ p.nodes
     → LinesEnd s f r i o lines p shelves shelves' old new road road' result

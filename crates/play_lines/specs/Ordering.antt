@@ -1,5 +1,6 @@
 -- What a command makes of a play.
 use Rattle.std.specs.Prelude.{◌≡◌, ◌++◌, ℕ, [], ◌∷◌, slice_get, slice_set, Option, Some, None, Result, Ok, Err}
+use Rattle.hd_base.specs.declared.files.Files as files
 use Rattle.hd_base.specs.declared.links.LinkIn as link_in
 use Rattle.hd_base.specs.declared.links.LinkOut as link_out
 use Rattle.hd_base.specs.declared.numbers.BlockId.{BlockId}
@@ -38,10 +39,10 @@ abbrev pub Orders : {F I O : Type 0} → BlockId → Command → Playing F I O �
 Orders block c old new result = OrdersAt block c (client_place old.player.clients.items block.0) old new result
 
 -- So what is left is the play with the command, where this fits those before it.
-abbrev pub OrdersArePlays : {R I O : Type 0} → Type 0 → roads.Ghosts R I O → link_in.Ghosts I → link_out.Ghosts O →
-    Type 0
-OrdersArePlays {R} {I} {O} F r i o =
+abbrev pub OrdersArePlays : {F R I O : Type 0} → files.Ghosts F → roads.Ghosts R I O → link_in.Ghosts I →
+    link_out.Ghosts O → Type 0
+OrdersArePlays {F} {R} {I} {O} f r i o =
     (old new : Playing F I O) (block : BlockId) (c : Command) (place : ℕ) (p : PlayState) (road : R) →
-    IsOrdered block c place old new → PlayIs r i o p road old →
+    IsOrdered block c place old new → PlayIs f r i o p road old →
     CommandFits p.nodes (given_in p block.0) (record { command = c; rule = p.rules block.0 })
-    → IsLeft r i o (ordered p block.0 c) old new road
+    → IsLeft f r i o (ordered p block.0 c) old new road

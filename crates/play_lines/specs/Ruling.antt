@@ -1,5 +1,6 @@
 -- What a rule of sums makes of a play.
 use Rattle.std.specs.Prelude.{◌≡◌, ℕ, slice_get, slice_set, Option, Some, None}
+use Rattle.hd_base.specs.declared.files.Files as files
 use Rattle.hd_base.specs.declared.links.LinkIn as link_in
 use Rattle.hd_base.specs.declared.links.LinkOut as link_out
 use Rattle.hd_base.specs.declared.numbers.BlockId.{BlockId}
@@ -31,9 +32,9 @@ abbrev pub Rules : {F I O : Type 0} → BlockId → Rule → Playing F I O → P
 Rules block rule old new = RulesAt block rule (client_place old.player.clients.items block.0) old new
 
 -- So what is left is the play with the rule.
-abbrev pub RulesArePlays : {R I O : Type 0} → Type 0 → roads.Ghosts R I O → link_in.Ghosts I → link_out.Ghosts O →
-    Type 0
-RulesArePlays {R} {I} {O} F r i o =
+abbrev pub RulesArePlays : {F R I O : Type 0} → files.Ghosts F → roads.Ghosts R I O → link_in.Ghosts I →
+    link_out.Ghosts O → Type 0
+RulesArePlays {F} {R} {I} {O} f r i o =
     (old new : Playing F I O) (block : BlockId) (rule : Rule) (place : ℕ) (p : PlayState) (road : R) →
-    IsRuled block rule place old new → PlayIs r i o p road old
-    → IsLeft r i o (ruled p block.0 rule) old new road
+    IsRuled block rule place old new → PlayIs f r i o p road old
+    → IsLeft f r i o (ruled p block.0 rule) old new road

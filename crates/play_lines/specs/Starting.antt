@@ -18,7 +18,7 @@ use Rattle.play_lines.specs.Showing.{PlayIs}
 abbrev pub StartEnds : {S F R I O : Type 0} → shelves.Ghosts S F → files.Ghosts F → roads.Ghosts R I O →
     link_in.Ghosts I → link_out.Ghosts O → NodeId → PlayState → List S → List S → Playing F I O → Playing F I O →
     R → R → Result (Unit {0}) PlayFault → Type 0
-StartEnds s f r i o node p shelves shelves' old new road road' (Ok u) = IsDrawn r i o p (start_at p node) old new road'
+StartEnds s f r i o node p shelves shelves' old new road road' (Ok u) = IsDrawn f r i o p (start_at p node) old new road'
 StartEnds s f r i o node p shelves shelves' old new road road' (Err why) =
     IsLineFault s f r shelves shelves' new road road' why
 
@@ -27,5 +27,5 @@ abbrev pub StartShows : {S F R I O : Type 0} → shelves.Ghosts S F → files.Gh
     link_in.Ghosts I → link_out.Ghosts O → NodeId → List S → List S → Playing F I O → Playing F I O → R → R →
     Result (Unit {0}) PlayFault → Type 0
 StartShows s f r i o node shelves shelves' old new road road' result =
-    (p : PlayState) → PlayIs r i o p road old → length shelves ≡ p.nodes
+    (p : PlayState) → PlayIs f r i o p road old → length shelves ≡ p.nodes
     → StartEnds s f r i o node p shelves shelves' old new road road' result

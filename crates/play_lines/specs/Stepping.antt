@@ -46,14 +46,14 @@ due_for x block event =
 abbrev pub StepEnds : {F R I O : Type 0} → files.Ghosts F → roads.Ghosts R I O → link_in.Ghosts I → link_out.Ghosts O →
     BlockId → StepEvent → PlayState → Playing F I O → Playing F I O → R → R → Result (Unit {0}) PlayFault → Type 0
 StepEnds f r i o block event p old new road road' (Ok u) =
-    IsDrawn r i o p (stepped p (step_due (world_of p) block.0 event)) old new road'
+    IsDrawn f r i o p (stepped p (step_due (world_of p) block.0 event)) old new road'
 StepEnds f r i o block event p old new road road' (Err why) = IsCaused f r new road road' why
 
 -- So it is of each block that has a client.
 abbrev pub StepShows : {F R I O : Type 0} → files.Ghosts F → roads.Ghosts R I O → link_in.Ghosts I → link_out.Ghosts O →
     BlockId → StepEvent → Playing F I O → Playing F I O → R → R → Result (Unit {0}) PlayFault → Type 0
 StepShows f r i o block event old new road road' result =
-    (p : PlayState) → PlayIs r i o p road old → HasClient old.player.clients.items block.0
+    (p : PlayState) → PlayIs f r i o p road old → HasClient old.player.clients.items block.0
     → StepEnds f r i o block event p old new road road' result
 
 -- Nothing was done.

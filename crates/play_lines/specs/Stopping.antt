@@ -15,10 +15,10 @@ use Rattle.play_lines.specs.Showing.{PlayIs}
 -- What is left is the play in which the node doesn't run.
 abbrev pub StopEnds : {F R I O : Type 0} → files.Ghosts F → roads.Ghosts R I O → link_in.Ghosts I → link_out.Ghosts O →
     NodeId → PlayState → Playing F I O → Playing F I O → R → R → Result (Unit {0}) PlayFault → Type 0
-StopEnds f r i o node p old new road road' (Ok u) = IsDrawn r i o p (stop_at p node) old new road'
+StopEnds f r i o node p old new road road' (Ok u) = IsDrawn f r i o p (stop_at p node) old new road'
 StopEnds f r i o node p old new road road' (Err why) = IsCaused f r new road road' why
 
 abbrev pub StopShows : {F R I O : Type 0} → files.Ghosts F → roads.Ghosts R I O → link_in.Ghosts I →
     link_out.Ghosts O → NodeId → Playing F I O → Playing F I O → R → R → Result (Unit {0}) PlayFault → Type 0
 StopShows f r i o node old new road road' result =
-    (p : PlayState) → PlayIs r i o p road old → StopEnds f r i o node p old new road road' result
+    (p : PlayState) → PlayIs f r i o p road old → StopEnds f r i o node p old new road road' result

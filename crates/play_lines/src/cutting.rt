@@ -24,7 +24,7 @@ impl<F: Files, I: LinkIn, O: LinkOut> Playing<F, I, O> {
         down: u64,
         up: u64,
     ) -> Result<(), PlayFault>
-        requires { IsPlaying R.Roads I.LinkIn O.LinkOut roads.old self.old }
+        requires { IsPlaying F.Files R.Roads I.LinkIn O.LinkOut roads.old self.old }
         ensures shows { CutShows F.Files R.Roads I.LinkIn O.LinkOut block place down up
             self.old self.new roads.old roads.new result }
         ensures sizes { KeepsSizes self.old.player.nodes self.new.player.nodes }

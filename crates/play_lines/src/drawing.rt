@@ -22,7 +22,7 @@ impl<F: Files, I: LinkIn, O: LinkOut> Playing<F, I, O> {
         alloc: Global,
         roads: &mut R,
     ) -> Result<bool, PlayFault>
-        requires { IsPlaying R.Roads I.LinkIn O.LinkOut roads.old self.old }
+        requires { IsPlaying F.Files R.Roads I.LinkIn O.LinkOut roads.old self.old }
         ensures shows { DrawShows F.Files R.Roads I.LinkIn O.LinkOut self.old self.new roads.old roads.new result }
         ensures sizes { KeepsSizes self.old.player.nodes self.new.player.nodes }
         ensures pass { RoadsPass R.Roads roads.old roads.new }
@@ -34,12 +34,16 @@ impl<F: Files, I: LinkIn, O: LinkOut> Playing<F, I, O> {
         listed_dues_are_due();
         live_connections_are_covered();
         let clients = self.player.clients.as_slice();
-        let Ok(()) = self.live.refresh(&self.player.nodes, clients) else {
+        let Ok(()) = self
+            .live
+            .refresh(&self.player.nodes, clients, &self.player.reads)
+        else {
             return Err(PlayFault::Memory);
         };
         let drawn = draw_due(
             &self.player.nodes,
             clients,
+            &self.player.reads,
             &self.live,
             roads,
             &mut self.generator,
@@ -58,7 +62,7 @@ impl<F: Files, I: LinkIn, O: LinkOut> Playing<F, I, O> {
         roads: &mut R,
         count: u64,
     ) -> Result<(), PlayFault>
-        requires { IsPlaying R.Roads I.LinkIn O.LinkOut roads.old self.old }
+        requires { IsPlaying F.Files R.Roads I.LinkIn O.LinkOut roads.old self.old }
         ensures shows { RunShows F.Files R.Roads I.LinkIn O.LinkOut count self.old self.new roads.old roads.new result }
         ensures sizes { KeepsSizes self.old.player.nodes self.new.player.nodes }
         ensures pass { RoadsPass R.Roads roads.old roads.new }
@@ -77,7 +81,7 @@ impl<F: Files, I: LinkIn, O: LinkOut> Playing<F, I, O> {
         alloc: Global,
         roads: &mut R,
     ) -> Result<(), PlayFault>
-        requires { IsPlaying R.Roads I.LinkIn O.LinkOut roads.old self.old }
+        requires { IsPlaying F.Files R.Roads I.LinkIn O.LinkOut roads.old self.old }
         ensures shows { SettleShows F.Files R.Roads I.LinkIn O.LinkOut self.old self.new roads.old roads.new result }
         ensures sizes { KeepsSizes self.old.player.nodes self.new.player.nodes }
         ensures pass { RoadsPass R.Roads roads.old roads.new }

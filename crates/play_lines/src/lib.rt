@@ -1,6 +1,7 @@
 //! A play of a script: what happens next is drawn, and the lines of the script are played one after the other.
 #![tactic(auto)]
 
+mod asking;
 mod cutting;
 mod drawing;
 mod lines;
@@ -12,6 +13,7 @@ mod starting;
 mod stepping;
 mod stopping;
 
+pub use asking::asks_are_plays;
 pub use ordering::orders_are_plays;
 pub use playing::Playing;
 pub use ruling::rules_are_plays;

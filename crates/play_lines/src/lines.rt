@@ -3,11 +3,13 @@
 ghost use Rattle.std.specs.Prelude.{◌≡◌, false, length, IfOk};
 ghost use Rattle.member_events.specs.Roads.{RoadsPass};
 ghost use Rattle.play_nodes.specs.Places.{KeepsSizes};
-ghost use Rattle.play_scripts.specs.Unplayed.{is_start, StartIsTold, StartsAreTold};
+ghost use Rattle.play_scripts.specs.Reads.{is_read};
+ghost use Rattle.play_scripts.specs.Unplayed.{is_start, LineIsTold, LinesAreTold};
 ghost use Rattle.play_lines.specs.Lines.{IsReady, LineShows, LineShowsOver, LinesShow, ordered_by};
 ghost use Rattle.play_lines.specs.Shelves.{ShelvesServe, ShelvesGoOn};
 ghost use Rattle.play_lines.specs.Showing.{IsPlaying};
 
+use crate::asking::asks_are_plays;
 use crate::ordering::orders_are_plays;
 use crate::playing::Playing;
 use crate::ruling::rules_are_plays;
@@ -17,7 +19,7 @@ use node_opening::standing_nodes_close;
 use play::PlayFault;
 use script_lang::{Instruction, ScriptLine};
 use std::alloc::{AllocError, Global};
-use told_shelves::ToldShelf;
+use told_shelves::{ToldShelf, told_shelves_tell};
 use writer_core::Command;
 
 /// A command that a line gives to the client of a block.
@@ -53,38 +55,47 @@ fn command_of(line: &Instruction) -> Result<Option<Ordered>, AllocError>
 }
 
 impl<F: Files, I: LinkIn, O: LinkOut> Playing<F, I, O> {
-    /// A line behind the first two is played. It fits those before it; a node starts only over a shelf that tells its
-    /// files. Faults, recoveries and reads aren't played yet, and nothing is done.
+    /// A line behind the first two is played. It fits those before it; a node starts, and a reader asks, only over shelves
+    /// that tell their files. Faults and recoveries aren't played yet, and nothing is done.
     pub fn line<S: ToldShelf<Drawer = F>, R: CutRoads<Inward = I, Outward = O>>(
         &mut self,
         alloc: Global,
         roads: &mut R,
         shelves: &mut [S],
-        line: &Instruction,
+        line: &ScriptLine,
     ) -> Result<(), PlayFault>
-        requires playing { IsPlaying R.Roads I.LinkIn O.LinkOut roads.old self.old }
+        requires playing { IsPlaying F.Files R.Roads I.LinkIn O.LinkOut roads.old self.old }
         requires serve { ShelvesServe S.Shelf shelves.old self.old }
-        requires told { StartIsTold S.told line.now }
+        requires told { LineIsTold S.told line.now.instruction }
         ensures shows { LineShowsOver S.Shelf F.Files R.Roads I.LinkIn O.LinkOut line.now
             shelves.old shelves.new self.old self.new roads.old roads.new result }
         ensures shelves { ShelvesGoOn S.Shelf shelves.old shelves.new self.old self.new result }
         ensures pass { RoadsPass R.Roads roads.old roads.new }
     {
-        match line {
+        told_shelves_tell::<S>();
+        asks_are_plays::<F, I, O, R>();
+        match &line.instruction {
             Instruction::Start { node } => self.start(alloc, roads, shelves, *node),
-            _ => self.other_line(alloc, roads, line),
+            Instruction::Read {
+                block,
+                node,
+                offset,
+                count,
+            } => self.ask(line.number, *block, *node, *offset, *count),
+            instruction => self.other_line(alloc, roads, instruction),
         }
     }
 
-    /// A line that starts no node is played.
+    /// A line that neither starts a node nor asks to read is played.
     fn other_line<R: CutRoads<Inward = I, Outward = O>>(
         &mut self,
         alloc: Global,
         roads: &mut R,
         line: &Instruction,
     ) -> Result<(), PlayFault>
-        requires playing { IsPlaying R.Roads I.LinkIn O.LinkOut roads.old self.old }
+        requires playing { IsPlaying F.Files R.Roads I.LinkIn O.LinkOut roads.old self.old }
         requires other { is_start line.now ≡ false }
+        requires asks_nothing { is_read line.now ≡ false }
         ensures shows { LineShows F.Files R.Roads I.LinkIn O.LinkOut line.now
             self.old self.new roads.old roads.new result }
         ensures sizes { KeepsSizes self.old.player.nodes self.new.player.nodes }
@@ -98,16 +109,17 @@ impl<F: Files, I: LinkIn, O: LinkOut> Playing<F, I, O> {
         }
     }
 
-    /// A line that gives no command and starts no node is played.
+    /// A line that gives no command, starts no node and asks nothing is played.
     fn event<R: CutRoads<Inward = I, Outward = O>>(
         &mut self,
         alloc: Global,
         roads: &mut R,
         line: &Instruction,
     ) -> Result<(), PlayFault>
-        requires playing { IsPlaying R.Roads I.LinkIn O.LinkOut roads.old self.old }
+        requires playing { IsPlaying F.Files R.Roads I.LinkIn O.LinkOut roads.old self.old }
         requires none { ordered_by line.now ≡ None }
         requires other { is_start line.now ≡ false }
+        requires asks_nothing { is_read line.now ≡ false }
         ensures shows { LineShows F.Files R.Roads I.LinkIn O.LinkOut line.now
             self.old self.new roads.old roads.new result }
         ensures sizes { KeepsSizes self.old.player.nodes self.new.player.nodes }
@@ -134,8 +146,8 @@ impl<F: Files, I: LinkIn, O: LinkOut> Playing<F, I, O> {
     }
 
     /// The lines behind the first two of a script are played, one after the other, over the shelves of the nodes; then
-    /// what is due happens until nothing is. The lines fit, and each block that they create has a client; a node starts
-    /// only over a shelf that tells its files.
+    /// what is due happens until nothing is. The lines fit, and each block that they create has a client; a node starts,
+    /// and a reader asks, only over shelves that tell their files.
     pub fn lines<S: ToldShelf<Drawer = F>, R: CutRoads<Inward = I, Outward = O>>(
         &mut self,
         alloc: Global,
@@ -143,9 +155,9 @@ impl<F: Files, I: LinkIn, O: LinkOut> Playing<F, I, O> {
         shelves: &mut [S],
         lines: &[ScriptLine],
     ) -> Result<(), PlayFault>
-        requires ready { IsReady R.Roads I.LinkIn O.LinkOut lines.now (length shelves.old) roads.old self.old }
+        requires ready { IsReady F.Files R.Roads I.LinkIn O.LinkOut lines.now (length shelves.old) roads.old self.old }
         requires serve { ShelvesServe S.Shelf shelves.old self.old }
-        requires told { StartsAreTold S.told lines.now }
+        requires told { LinesAreTold S.told lines.now }
         ensures shows { LinesShow S.Shelf F.Files R.Roads I.LinkIn O.LinkOut lines.now
             shelves.old shelves.new self.old self.new roads.old roads.new result }
         ensures shelves { ShelvesGoOn S.Shelf shelves.old shelves.new self.old self.new result }
@@ -153,7 +165,7 @@ impl<F: Files, I: LinkIn, O: LinkOut> Playing<F, I, O> {
     {
         standing_nodes_close::<S, I, O>();
         for line in lines {
-            self.line(alloc, roads, shelves, &line.instruction)?;
+            self.line(alloc, roads, shelves, line)?;
         }
         self.settle(alloc, roads)
     }

@@ -40,5 +40,5 @@ fn enqueue(queue: &mut VecDeque<TakenCommand>, taken: TakenCommand) -> Result<()
 
 /// A play in which a client was given a command that fits those before it is the play with the command.
 pub fn orders_are_plays<F: Files, I: LinkIn, O: LinkOut, R: Roads<Inward = I, Outward = O>>()
-    ensures { OrdersArePlays F R.Roads I.LinkIn O.LinkOut }
+    ensures { OrdersArePlays F.Files R.Roads I.LinkIn O.LinkOut }
 {}

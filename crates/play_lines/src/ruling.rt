@@ -22,5 +22,5 @@ impl<F: Files, I: LinkIn, O: LinkOut> Playing<F, I, O> {
 
 /// A play in which a client was given a rule is the play with the rule.
 pub fn rules_are_plays<F: Files, I: LinkIn, O: LinkOut, R: Roads<Inward = I, Outward = O>>()
-    ensures { RulesArePlays F R.Roads I.LinkIn O.LinkOut }
+    ensures { RulesArePlays F.Files R.Roads I.LinkIn O.LinkOut }
 {}

@@ -26,7 +26,7 @@ impl<F: Files, I: LinkIn, O: LinkOut> Playing<F, I, O> {
         shelves: &mut [S],
         node: NodeId,
     ) -> Result<(), PlayFault>
-        requires playing { IsPlaying R.Roads I.LinkIn O.LinkOut roads.old self.old }
+        requires playing { IsPlaying F.Files R.Roads I.LinkIn O.LinkOut roads.old self.old }
         requires serve { ShelvesServe S.Shelf shelves.old self.old }
         requires told { S.told ≡ true }
         ensures shows { StartShows S.Shelf F.Files R.Roads I.LinkIn O.LinkOut node

@@ -26,7 +26,7 @@ impl<F: Files, I: LinkIn, O: LinkOut> Playing<F, I, O> {
         block: BlockId,
         event: StepEvent,
     ) -> Result<(), PlayFault>
-        requires { IsPlaying R.Roads I.LinkIn O.LinkOut roads.old self.old }
+        requires { IsPlaying F.Files R.Roads I.LinkIn O.LinkOut roads.old self.old }
         ensures shows { StepShows F.Files R.Roads I.LinkIn O.LinkOut block event
             self.old self.new roads.old roads.new result }
         ensures alone { StaysAlone block self.old self.new roads.old roads.new result }
@@ -42,6 +42,7 @@ impl<F: Files, I: LinkIn, O: LinkOut> Playing<F, I, O> {
         if !is_due(
             &self.player.nodes,
             self.player.clients.as_slice(),
+            &self.player.reads,
             roads,
             due,
         ) {

@@ -20,7 +20,7 @@ impl<F: Files, I: LinkIn, O: LinkOut> Playing<F, I, O> {
         roads: &mut R,
         node: NodeId,
     ) -> Result<(), PlayFault>
-        requires { IsPlaying R.Roads I.LinkIn O.LinkOut roads.old self.old }
+        requires { IsPlaying F.Files R.Roads I.LinkIn O.LinkOut roads.old self.old }
         ensures shows { StopShows F.Files R.Roads I.LinkIn O.LinkOut node self.old self.new roads.old roads.new result }
         ensures sizes { KeepsSizes self.old.player.nodes self.new.player.nodes }
         ensures pass { RoadsPass R.Roads roads.old roads.new }

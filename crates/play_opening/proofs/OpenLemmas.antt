@@ -28,6 +28,9 @@ use Rattle.play_nodes.specs.Showing.{NodesStand}
 use Rattle.node_opening.specs.Shelves.{AreDistinct}
 use Rattle.node_opening.specs.Listening.{opened_net}
 use Rattle.play.specs.declared.player.Player.{Player}
+use Rattle.play_readers.specs.declared.clients.ReadClient.{ReadClient}
+use Rattle.play_servers.specs.declared.servers.ReadServer.{ReadServer}
+use Rattle.play_reads.specs.Places.{asks_of}
 use Rattle.play.specs.Showing.{AreApart, PlayerShows}
 use Rattle.play.specs.Standing.{CommandsFit, ClientFits, EventsFit, world_of, PlayStands}
 use Rattle.play_opening.specs.Opening.{IsNewClient, AreNewClients, IsOpenedPlay, no_commands}
@@ -68,6 +71,9 @@ module _ {I O : Type 0} where
 none_some : (c : ℕ) → None ≡ Some c → ⊥
 none_some c h = cc
 
+no_element : {A : Type 0} (a : A) → None ≡ Some a → ⊥
+no_element a h = cc
+
 not_connected : (nodes b c : ℕ) → ((start nodes).writers b).conn ≡ Some c → ⊥
 unfolding start
 not_connected nodes b c h = none_some c h
@@ -89,7 +95,20 @@ module _ {S D R I O : Type 0} (s : shelves.Ghosts S D) (d : files.Ghosts D) (r :
   unfolding start
   player_shows blocks old new nodes net p road count distinct h stand = record {
     nodes = stand;
-    pipelines = λ c within. absurd (none_below c within);
+    reads = record {
+      clients = record {
+        each = λ k c at. absurd (no_element c (sym (ap (λ (xs : List (ReadClient I O)). slice_get xs k) h.reads.clients) ∙ at));
+        apart = λ j k a b at at' same. absurd (no_element a (sym (ap (λ (xs : List (ReadClient I O)). slice_get xs j) h.reads.clients) ∙ at));
+        all = λ reader begun. absurd (begun refl);
+      };
+      servers = record {
+        each = λ k s at. absurd (no_element s (sym (ap (λ (xs : List (ReadServer I O)). slice_get xs k) h.reads.servers) ∙ at));
+        single = λ j k a b at at' same. absurd (no_element a (sym (ap (λ (xs : List (ReadServer I O)). slice_get xs j) h.reads.servers) ∙ at));
+        all = λ c within of. absurd (none_below c within);
+      };
+      dialled = λ c reader within upper. absurd (none_below c within);
+    };
+    unled = λ n. refl;
     clients = λ k c at. record { shows = new_shows i o nodes net c.block c (h.clients.each k c at).is_new; queue = (h.clients.each k c at).is_new.queue };
     apart = apart blocks p distinct h.clients;
     office = ap (λ (b : BookState). b.office) h.office ∙ no_office nodes;
@@ -108,5 +127,6 @@ module _ {S D R I O : Type 0} (s : shelves.Ghosts S D) (d : files.Ghosts D) (r :
         events = subst (λ (es : List Event). EventsFit nodes p.nodes.blocks.items es) (sym h.events) (no_events nodes p.nodes.blocks.items);
         clients = λ k c at. client_fits nodes p.nodes.blocks.items (world_of nodes p) k c
             (ap (λ (bs : List BlockId). slice_get bs k) h.nodes.blocks_are ∙ block_here blocks p.clients.items h.clients k c at) (h.clients.each k c at);
+        asks = λ k ask at. absurd (no_element ask (sym (ap (λ (xs : List (ReadClient I O)). slice_get (asks_of xs) k) h.reads.clients) ∙ at));
         connected = λ b c e. absurd (not_connected nodes b c (ap (λ (w : World). (w.writers b).conn) (sym same) ∙ e));
       }

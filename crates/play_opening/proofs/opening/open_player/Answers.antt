@@ -62,6 +62,7 @@ pub returns-clause-opened : goal.returns-clause-opened
 returns-clause-opened g c = record {
   nodes = c.in_ok-nodes.ensures.opened;
   clients = subst (λ (bs : List BlockId). AreNewClients bs c.in_ok-clients.clients.items) c.deref.ensures.value c.in_ok-clients.ensures;
+  reads = c.new-reads.ensures.none;
   office = c.in_ok-office.ensures;
   running = c.in_ok-running.ensures;
   events = c.new-events.ensures.items;

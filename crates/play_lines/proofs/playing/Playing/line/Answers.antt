@@ -1,17 +1,31 @@
--- A line starts a node, or does something else.
+-- A line starts a node, asks to read, or does something else.
+use Rattle.play_lines.proofs.ReadLines.{read_line}
 use Rattle.play_lines.proofs.ShelfLemmas.{go_on}
-use Rattle.play_lines.proofs.StartLines.{start_line, other_line, told_so, none_starts}
+use Rattle.play_lines.proofs.StartLines.{start_line, other_line, told_so, told_read, none_starts, none_asks}
 use Rattle.play_lines.proofs.playing.Playing.line.Goals as goal
 
 pub start-requires-clause-told : goal.start-requires-clause-told
-start-requires-clause-told g c κs within = told_so g.S.ToldShelf.told c.args.line.now c.in-Start.node c.in-Start.is c.requires.told
+start-requires-clause-told g c κs within = told_so g.S.ToldShelf.told c.args.line.now.instruction c.in-Start.node c.in-Start.is c.requires.told
 
 pub returns-in-Start-clause-shows : goal.returns-in-Start-clause-shows
 returns-in-Start-clause-shows g c =
     start_line g.S.Shelf g.F.Files g.R.Roads g.I.LinkIn g.O.LinkOut c.args.self.now c.start.new.self c.args.roads.now c.start.new.roads c.args.shelves.now c.start.new.shelves c.args.line.now c.in-Start.node c.start.result c.in-Start.is c.start.ensures.shows
 
+pub returns-in-Read-clause-shows : goal.returns-in-Read-clause-shows
+returns-in-Read-clause-shows g c =
+    read_line g.S.Shelf g.F.Files g.R.Roads g.I.LinkIn g.O.LinkOut c.args.self.now c.ask.new.self c.args.roads.now c.args.shelves.now c.args.line.now c.in-Read.block c.in-Read.node c.in-Read.offset c.in-Read.count c.ask.result c.in-Read.is
+    (c.told_shelves_tell.ensures (told_read g.S.ToldShelf.told c.args.line.now.instruction c.in-Read.block c.in-Read.node c.in-Read.offset c.in-Read.count c.in-Read.is c.requires.told)).drawers
+    c.asks_are_plays.ensures c.ask.ensures.fits c.ask.ensures.asks
+
+pub returns-in-Read-clause-shelves : goal.returns-in-Read-clause-shelves
+returns-in-Read-clause-shelves g c =
+    go_on g.S.Shelf g.F.Files c.args.shelves.now c.args.self.now c.ask.new.self c.ask.result c.ask.ensures.sizes c.requires.serve
+
 pub other_line-requires-clause-other : goal.other_line-requires-clause-other
-other_line-requires-clause-other g c κs within = none_starts c.args.line.now (λ n. c.in_default.not-Start n)
+other_line-requires-clause-other g c κs within = none_starts c.args.line.now.instruction (λ n. c.in_default.not-Start n)
+
+pub other_line-requires-clause-asks_nothing : goal.other_line-requires-clause-asks_nothing
+other_line-requires-clause-asks_nothing g c κs within = none_asks c.args.line.now.instruction (λ b n offset count. c.in_default.not-Read b n offset count)
 
 pub returns-in_default-clause-shows : goal.returns-in_default-clause-shows
 returns-in_default-clause-shows g c =

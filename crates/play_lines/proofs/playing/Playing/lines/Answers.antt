@@ -1,6 +1,6 @@
 -- The lines are played, one after the other.
 use Rattle.std.proofs.Common.{◌∙◌, List, rules, refl, drop, ◌+◌, length, subst}
-use Rattle.play_scripts.specs.Unplayed.{StartsAreTold}
+use Rattle.play_scripts.specs.Unplayed.{LinesAreTold}
 use Rattle.node_opening.specs.Standing.{ShelvesStay}
 use Rattle.script_lang.specs.declared.instructions.ScriptLine.{ScriptLine}
 use Rattle.play_lines.proofs.Runs.{passes}
@@ -21,7 +21,7 @@ loop-line-init g c = record {
 
 pub line-requires-clause-told : goal.line-requires-clause-told
 line-requires-clause-told g c κs within =
-    (subst (λ (ls : List ScriptLine). StartsAreTold g.S.ToldShelf.told ls) (drop_here c.args.lines.now c.loop-line.line-index c.line-item.result c.line-item.is c.loop-line-test.true) c.loop-line.invariant.told).0
+    (subst (λ (ls : List ScriptLine). LinesAreTold g.S.ToldShelf.told ls) (drop_here c.args.lines.now c.loop-line.line-index c.line-item.result c.line-item.is c.loop-line-test.true) c.loop-line.invariant.told).0
 
 pub returns-in_err-line-clause-shows : goal.returns-in_err-line-clause-shows
 returns-in_err-line-clause-shows g c =
@@ -50,7 +50,7 @@ loop-line-preserved g c =
     record {
       ready = reached_ready g.S.Shelf g.F.Files g.R.Roads g.I.LinkIn g.O.LinkOut lines (drop (k + 1) lines) (length c.args.shelves.now) (length c.line.new.shelves) c.args.self.now c.line.new.self c.args.roads.now c.line.new.roads more c.requires.ready on;
       goes_on = on;
-      told = (subst (λ (ls : List ScriptLine). StartsAreTold g.S.ToldShelf.told ls) (drop_here lines k c.line-item.result c.line-item.is c.loop-line-test.true) v.told).1;
+      told = (subst (λ (ls : List ScriptLine). LinesAreTold g.S.ToldShelf.told ls) (drop_here lines k c.line-item.result c.line-item.is c.loop-line-test.true) v.told).1;
       serve = done.shelves.serve;
       stay = stay;
       blocks = done.shelves.blocks ∙ v.blocks;

@@ -16,7 +16,7 @@ returns-in_err-draw-clause-shows g c =
 
 pub loop-smaller : goal.loop-smaller
 loop-smaller g c =
-    smaller g.R.Roads g.I.LinkIn g.O.LinkOut c.worlds_are_lawful.ensures c.listed_dues_are_due.ensures c.plays_lower.ensures g.F.Files c.loop.self c.draw.new.self c.loop.roads c.draw.new.roads
+    smaller g.F.Files g.R.Roads g.I.LinkIn g.O.LinkOut c.worlds_are_lawful.ensures c.listed_dues_are_due.ensures c.plays_lower.ensures c.loop.self c.draw.new.self c.loop.roads c.draw.new.roads
     (still_playing g.F.Files g.R.Roads g.I.LinkIn g.O.LinkOut c.args.self.now c.loop.self c.args.roads.now c.loop.roads c.requires c.loop.invariant.left)
     (subst (λ (b : Bool). DrawShows g.F.Files g.R.Roads g.I.LinkIn g.O.LinkOut c.loop.self c.draw.new.self c.loop.roads c.draw.new.roads (Ok b)) c.if-branch.true c.in_ok-draw.ensures.shows)
 

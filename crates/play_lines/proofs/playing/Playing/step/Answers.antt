@@ -13,13 +13,13 @@ returns-in_default-clause-shows g c =
 pub returns-then-not-is_due-clause-shows : goal.returns-then-not-is_due-clause-shows
 returns-then-not-is_due-clause-shows g c =
     not_due g.F.Files g.R.Roads g.I.LinkIn g.O.LinkOut c.worlds_are_lawful.ensures c.takers_are_open.ensures c.args.block c.args.event c.args.self.now c.args.roads.now c.is_due.new.roads c.due_for.result c.in-Some.due c.is_due.result c.if-not-is_due.true c.due_for.ensures c.in-Some.is
-    (subst (λ xs. TellsDue g.R.Roads g.I.LinkIn g.O.LinkOut c.in-Some.due c.args.self.now.player.nodes xs c.args.roads.now c.is_due.new.roads c.is_due.result) c.as_slice.ensures.value c.is_due.ensures.tells)
+    (subst (λ xs. TellsDue g.R.Roads g.I.LinkIn g.O.LinkOut c.in-Some.due c.args.self.now.player.nodes xs c.args.self.now.player.reads c.args.roads.now c.is_due.new.roads c.is_due.result) c.as_slice.ensures.value c.is_due.ensures.tells)
 
 pub happen-requires-after_bounds : goal.happen-requires-after_bounds
 happen-requires-after_bounds g c κs within =
-    stands_here g.F.Files g.R.Roads g.I.LinkIn g.O.LinkOut c.worlds_are_lawful.ensures c.takers_are_open.ensures c.args.block c.args.event c.args.self.now c.args.roads.now c.is_due.new.roads c.in-Some.due c.is_due.result c.if-not-is_due.false
-    (subst (λ xs. IsAlone xs c.in-Some.due → c.is_due.result ≡ false) c.as_slice.ensures.value c.is_due.ensures.alone) c.requires
-    (subst (λ xs. TellsDue g.R.Roads g.I.LinkIn g.O.LinkOut c.in-Some.due c.args.self.now.player.nodes xs c.args.roads.now c.is_due.new.roads c.is_due.result) c.as_slice.ensures.value c.is_due.ensures.tells)
+    stands_here g.F.Files g.R.Roads g.I.LinkIn g.O.LinkOut c.worlds_are_lawful.ensures c.takers_are_open.ensures c.args.block c.args.event c.args.self.now c.args.roads.now c.is_due.new.roads c.due_for.result c.in-Some.due c.is_due.result c.due_for.ensures c.in-Some.is c.if-not-is_due.false
+    (subst (λ xs. IsAlone xs c.args.self.now.player.reads c.in-Some.due → c.is_due.result ≡ false) c.as_slice.ensures.value c.is_due.ensures.alone) c.requires
+    (subst (λ xs. TellsDue g.R.Roads g.I.LinkIn g.O.LinkOut c.in-Some.due c.args.self.now.player.nodes xs c.args.self.now.player.reads c.args.roads.now c.is_due.new.roads c.is_due.result) c.as_slice.ensures.value c.is_due.ensures.tells)
 
 pub returns-clause-shows : goal.returns-clause-shows
 returns-clause-shows g c =
@@ -27,5 +27,5 @@ returns-clause-shows g c =
     let new = record old { player = c.happen.new.self } in
     happened g.F.Files g.R.Roads g.I.LinkIn g.O.LinkOut c.worlds_are_lawful.ensures c.takers_are_open.ensures c.args.block c.args.event c.live_connections_are_covered.ensures.on old new c.args.roads.now c.is_due.new.roads c.happen.new.roads c.due_for.result c.in-Some.due c.is_due.result c.happen.result refl refl refl c.is_due.ensures.pass.never_falls c.if-not-is_due.false
     c.due_for.ensures c.in-Some.is
-    (subst (λ xs. TellsDue g.R.Roads g.I.LinkIn g.O.LinkOut c.in-Some.due old.player.nodes xs c.args.roads.now c.is_due.new.roads c.is_due.result) c.as_slice.ensures.value c.is_due.ensures.tells)
+    (subst (λ xs. TellsDue g.R.Roads g.I.LinkIn g.O.LinkOut c.in-Some.due old.player.nodes xs old.player.reads c.args.roads.now c.is_due.new.roads c.is_due.result) c.as_slice.ensures.value c.is_due.ensures.tells)
     c.happen.ensures.shows

@@ -1,0 +1,78 @@
+-- A reader joined a play.
+use Rattle.std.proofs.Common.{◌≡◌, ℕ, zero, suc, ◌<◌, ◌+◌, List, [], ◌∷◌, ◌++◌, slice_get, Option, Some, option_map, sym, ap, ◌∙◌, subst, arith}
+use Rattle.std.proofs.lemmas.Option.{same_Some, slice_get-map}
+use Rattle.hd_base.specs.declared.files.Files as files
+use Rattle.hd_base.specs.declared.links.LinkIn as link_in
+use Rattle.hd_base.specs.declared.links.LinkOut as link_out
+use Rattle.hd_base.specs.declared.roads.Roads as roads
+use Rattle.play_model.specs.declared.asks.ReadAsk.{ReadAsk}
+use Rattle.play_model.specs.States.{PlayState, asked}
+use Rattle.play_readers.specs.declared.clients.ReadClient.{ReadClient}
+use Rattle.play_reads.specs.Places.{HasClient, asks_of}
+use Rattle.play.specs.Reading.{FilesTell}
+use Rattle.play.specs.Standing.{AskFits, AsksFit, world_of}
+use Rattle.play_lines.specs.declared.playing.Playing.{Playing}
+use Rattle.play_lines.specs.Asking.{AsksArePlays}
+use Rattle.play_lines.specs.Drawing.{blocks_in}
+use Rattle.play_lines.specs.Lines.{AsksBelow}
+use Rattle.play_lines.specs.Showing.{PlayIs}
+use Rattle.play_lines.proofs.Places.{less_next}
+
+-- ONE MORE
+
+-- what holds of each of these and of one more holds of each with it
+each_more : (P : ReadAsk → Type 0) (asks : List ReadAsk) (ask : ReadAsk) → ((k : ℕ) (a : ReadAsk) → slice_get asks k ≡ Some a → P a) → P ask → (k : ℕ) (a : ReadAsk) → slice_get (asks ++ ask ∷ []) k ≡ Some a → P a
+each_more P [] ask each here zero a at = subst P (same_Some ask a at) here
+each_more P [] ask each here (suc k) a at = cc
+each_more P (x ∷ asks) ask each here zero a at = each zero a at
+each_more P (x ∷ asks) ask each here (suc k) a at = each_more P asks ask (λ j b e. each (suc j) b e) here k a at
+
+below_next : (n : ℕ) → n < n + 1
+below_next n = omega arith
+
+-- the asks of the lines so far, with that of the line of this number
+pub asked_more : (number : ℕ) (asks : List ReadAsk) (ask : ReadAsk) → ask.reader ≡ number → AsksBelow number asks → AsksBelow (number + 1) (asks ++ ask ∷ [])
+asked_more number asks ask is below =
+    each_more (λ a. a.reader < number + 1) asks ask (λ k a at. less_next a.reader number (below k a at)) (subst (λ (n : ℕ). n < number + 1) (sym is) (below_next number))
+
+module _ {F R I O : Type 0} (f : files.Ghosts F) (r : roads.Ghosts R I O) (i : link_in.Ghosts I) (o : link_out.Ghosts O) where
+  -- the reader has no client
+  nobody : (p : PlayState) (road : R) (old : Playing F I O) (ask : ReadAsk) → PlayIs f r i o p road old → ((k : ℕ) (other : ReadAsk) → slice_get p.asks k ≡ Some other → other.reader ≡ ask.reader → ⊥) → HasClient old.player.reads.clients.items ask.reader → ⊥
+  nobody p road old ask is apart h =
+      apart h.place h.client.ask
+      (ap (λ (xs : List ReadAsk). slice_get xs h.place) (sym is.asks) ∙ (slice_get-map (λ (c : ReadClient I O). c.ask) old.player.reads.clients.items h.place ∙ ap (λ (y : Option (ReadClient I O)). option_map (λ (c : ReadClient I O). c.ask) y) h.at))
+      h.of_reader
+
+  pub ask_plays : AsksArePlays f r i o
+  ask_plays old new ask p road h is tell fits apart =
+      let reads = h.joined.shows (world_of p.nodes old.player) is.stands.net old.player.nodes.blocks.items is.stands.shows.reads (nobody p road old ask is apart) in
+      record {
+        is = subst (λ (x : Playing F I O). PlayIs f r i o (asked p ask) road x) (sym h.same) (record {
+          stands = record {
+            net = is.stands.net;
+            shows = record {
+              nodes = is.stands.shows.nodes;
+              reads = reads;
+              unled = is.stands.shows.unled;
+              clients = λ k c at. record { shows = (is.stands.shows.clients k c at).shows; queue = (is.stands.shows.clients k c at).queue };
+              apart = is.stands.shows.apart;
+              office = is.stands.shows.office;
+              running = is.stands.shows.running;
+              slots = is.stands.shows.slots;
+            };
+            few = is.stands.few;
+            events = is.stands.events;
+            clients = is.stands.clients;
+            asks = subst (λ (xs : List ReadAsk). AsksFit p.nodes old.player.nodes.blocks.items xs) (sym h.joined.asks) (each_more (λ a. AskFits p.nodes old.player.nodes.blocks.items a) (asks_of old.player.reads.clients.items) ask is.stands.asks fits);
+            connected = is.stands.connected;
+          };
+          nodes_are = is.nodes_are;
+          events = is.events;
+          generator = is.generator;
+          asks = h.joined.asks ∙ ap (λ (xs : List ReadAsk). xs ++ ask ∷ []) is.asks;
+          told = each_more (λ a. FilesTell f) p.asks ask is.told tell;
+          rules = is.rules;
+          live = is.live;
+        });
+        blocks = ap (λ (x : Playing F I O). blocks_in x) h.same;
+      }
