@@ -15,7 +15,7 @@ use completing_lines::plays_complete;
 use fault_ports::CutRoads;
 use hd_base::{Sink, Source};
 use play_completeness::plays_are_safe;
-use play_scripts::{played_starts_are_told, scripts_fit};
+use play_scripts::{played_lines_are_told, scripts_fit};
 use run_words::{Mode, UsageRule, read_words};
 use std::alloc::Global;
 use told_shelves::ToldShelf;
@@ -88,7 +88,7 @@ fn play<I: Source, S: ToldShelf, R: CutRoads>(
         shelves.old.items shelves.new.items roads.old roads.new) }
 {
     scripts_fit();
-    played_starts_are_told();
+    played_lines_are_told();
     plays_are_safe();
     plays_complete();
     read_mode(alloc, words)?;

@@ -1,8 +1,9 @@
 -- Commands that fit are given one after the other.
-use Rattle.std.proofs.Common.{◌≡◌, ◌<◌, ℕ, zero, suc, List, [], ◌∷◌, ◌++◌, slice_get, Option, Some, Result, Ok, Err, refl, sym, ap, subst, ◌∙◌, arith}
+use Rattle.std.proofs.Common.{◌≡◌, ◌<◌, ℕ, zero, suc, List, [], ◌∷◌, ◌++◌, slice_get, Option, Some, Result, Ok, Err, refl, sym, ap, subst, ◌∙◌, arith, None}
 use Rattle.std.specs.Prelude.{OnOk}
 use Rattle.std.proofs.lemmas.Option.{same_Some}
 use Rattle.hd_base.specs.SumRules.{Rule, default_rule}
+use Rattle.hd_base.specs.declared.files.Files as files
 use Rattle.hd_base.specs.declared.links.LinkIn as link_in
 use Rattle.hd_base.specs.declared.links.LinkOut as link_out
 use Rattle.hd_base.specs.declared.numbers.BlockId.{BlockId}
@@ -29,6 +30,10 @@ use Rattle.play.specs.declared.faults.PlayFault.{PlayFault}
 use Rattle.play.specs.Events as events
 use Rattle.play.specs.Standing.{CommandFits, given_with, world_of, PlayStands}
 use Rattle.play.specs.declared.player.Player.{Player}
+use Rattle.play_model.specs.declared.asks.ReadAsk.{ReadAsk}
+use Rattle.play_readers.specs.declared.clients.ReadClient.{ReadClient}
+use Rattle.play_reads.specs.Joining.{AreNone}
+use Rattle.play_reads.specs.Places.{asks_of}
 use Rattle.play_lines.specs.declared.playing.Playing.{Playing}
 use Rattle.play_lines.specs.Drawing.{HasSettled}
 use Rattle.play_lines.specs.Ordering.{Orders, OrdersAt, OrdersArePlays}
@@ -111,17 +116,21 @@ close_fits = record { formed = refl; names = tt; admits = refl }
 
 -- PLAYS
 
-module _ {F R I O : Type 0} (r : roads.Ghosts R I O) (i : link_in.Ghosts I) (o : link_out.Ghosts O) where
-  pub starts : (blocks : List BlockId) (player : Player F I O) (road : R) (g : Lcg) (live : LiveConns) → blocks ≡ BLOCK ∷ [] → AreNewClients blocks player.clients.items → player.events.items ≡ [] → PlayStands r i o NODES no_commands road player → g ≡ (opened NODES SEED).generator
-      → CoversNone live → HasGiven r i o nothing_given road (record { nodes = NODES; player = player; generator = g; live = live })
-  starts blocks player road g live one clients none stands drawn covers = record {
+nothing_asked : (ask : ReadAsk) → None ≡ Some ask → ⊥
+nothing_asked ask e = cc
+
+module _ {F R I O : Type 0} (f : files.Ghosts F) (r : roads.Ghosts R I O) (i : link_in.Ghosts I) (o : link_out.Ghosts O) where
+  pub starts : (blocks : List BlockId) (player : Player F I O) (road : R) (g : Lcg) (live : LiveConns) → blocks ≡ BLOCK ∷ [] → AreNewClients blocks player.clients.items → AreNone player.reads → player.events.items ≡ [] → PlayStands r i o NODES no_commands road player → g ≡ (opened NODES SEED).generator
+      → CoversNone live → HasGiven f r i o nothing_given road (record { nodes = NODES; player = player; generator = g; live = live })
+  starts blocks player road g live one clients unread none stands drawn covers = record {
     p = opened NODES SEED;
     is = record {
       stands = stands;
       nodes_are = refl;
       events = sym none;
       generator = drawn;
-      asks = refl;
+      asks = ap (λ (cs : List (ReadClient I O)). asks_of cs) unread.clients;
+      told = λ k ask at. absurd (nothing_asked ask at);
       rules = λ k c at. (clients.each k c at).is_new.rule;
       live = covers (world_of NODES player);
     };
@@ -131,7 +140,7 @@ module _ {F R I O : Type 0} (r : roads.Ghosts R I O) (i : link_in.Ghosts I) (o :
     given = first_given;
   }
 
-  pub gives_so : (old new : Playing F I O) (c : Command) (road : R) (result : Result (Unit {0}) PlayFault) → OrdersArePlays F r i o → Orders BLOCK c old new result → Gives r i o c old new road result
+  pub gives_so : (old new : Playing F I O) (c : Command) (road : R) (result : Result (Unit {0}) PlayFault) → OrdersArePlays f r i o → Orders BLOCK c old new result → Gives f r i o c old new road result
   gives_so old new c road (Err why) law so = tt
   gives_so old new c road (Ok u) law so = λ intake h fits.
       let ordered_so = subst (λ (x : Option ℕ). OrdersAt BLOCK c x old new (Ok u)) (one_place old.player.clients.items h.blocks) so in
@@ -148,16 +157,16 @@ module _ {F R I O : Type 0} (r : roads.Ghosts R I O) (i : link_in.Ghosts I) (o :
         given = now_given h.p c ∙ ap (λ (x : Intake). intake_after x c) h.given;
       }
 
-  pub playing_after : (members : List NodeId) (road : R) (x0 x1 x2 x3 x4 : Playing F I O) (result : Result (Unit {0}) PlayFault) → members ≡ both_nodes → HasGiven r i o nothing_given road x0
-      → Gives r i o (command.Create members) x0 x1 road (Ok tt) → Gives r i o (command.Fill LENGTH) x1 x2 road (Ok tt) → Gives r i o command.Hflush x2 x3 road (Ok tt) → Gives r i o command.Close x3 x4 road result
-      → OnOk result (IsPlaying r i o road x4)
+  pub playing_after : (members : List NodeId) (road : R) (x0 x1 x2 x3 x4 : Playing F I O) (result : Result (Unit {0}) PlayFault) → members ≡ both_nodes → HasGiven f r i o nothing_given road x0
+      → Gives f r i o (command.Create members) x0 x1 road (Ok tt) → Gives f r i o (command.Fill LENGTH) x1 x2 road (Ok tt) → Gives f r i o command.Hflush x2 x3 road (Ok tt) → Gives f r i o command.Close x3 x4 road result
+      → OnOk result (IsPlaying f r i o road x4)
   playing_after members road x0 x1 x2 x3 x4 (Err why) e h create fill flush close = tt
   playing_after members road x0 x1 x2 x3 x4 (Ok u) e h create fill flush close =
-      let make = subst (λ (ms : List NodeId). Gives r i o (command.Create ms) x0 x1 road (Ok tt)) e create in
+      let make = subst (λ (ms : List NodeId). Gives f r i o (command.Create ms) x0 x1 road (Ok tt)) e create in
       let last = close flushed (flush filled (fill created (make nothing_given h create_fits) fill_fits) flush_fits) close_fits in
       record { p = last.p; is = last.is }
 
-  pub still_playing : (old new : Playing F I O) (road road' : R) → IsPlaying r i o road old → ((p : PlayState) → PlayIs r i o p road old → HasSettled r i o p old new road') → IsPlaying r i o road' new
+  pub still_playing : (old new : Playing F I O) (road road' : R) → IsPlaying f r i o road old → ((p : PlayState) → PlayIs f r i o p road old → HasSettled f r i o p old new road') → IsPlaying f r i o road' new
   still_playing old new road road' h settles =
       let s = settles h.p h.is in
       record { p = s.after; is = s.left.is }

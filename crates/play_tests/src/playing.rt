@@ -7,7 +7,7 @@ ghost use Rattle.play_tests.specs.Giving.{both_nodes, nothing_given, HasGiven, G
 
 use crate::constants::{BLOCK, LENGTH, NODES, SEED};
 use client_events::Said;
-use hd_base::{BlockId, LinkIn, LinkOut, Members, NodeId, ReplicaState, Roads, Stamp};
+use hd_base::{BlockId, Files, LinkIn, LinkOut, Members, NodeId, ReplicaState, Roads, Stamp};
 use mem_ports::{MemDrawer, MemIn, MemOut, MemRoads, MemShelf};
 use node_opening::OpenFault;
 use play::PlayFault;
@@ -48,7 +48,7 @@ fn members() -> Option<Members>
 /// The play at its start.
 fn opened(alloc: Global, roads: &mut MemRoads) -> Result<Play, OpenFault>
     requires { AreUnused ⟦<MemRoads as Roads>⟧ roads.old }
-    ensures { IfOk result (HasGiven ⟦<MemRoads as Roads>⟧ ⟦<MemIn as LinkIn>⟧ ⟦<MemOut as LinkOut>⟧
+    ensures { IfOk result (HasGiven ⟦<MemDrawer as Files>⟧ ⟦<MemRoads as Roads>⟧ ⟦<MemIn as LinkIn>⟧ ⟦<MemOut as LinkOut>⟧
         nothing_given roads.new) }
 {
     let mut shelves = [MemShelf::new(alloc, &[])?, MemShelf::new(alloc, &[])?];
@@ -66,7 +66,7 @@ fn opened(alloc: Global, roads: &mut MemRoads) -> Result<Play, OpenFault>
 
 /// The client is given a command.
 fn gives(play: &mut Play, roads: &MemRoads, command: Command) -> Result<(), PlayFault>
-    ensures { Gives ⟦<MemRoads as Roads>⟧ ⟦<MemIn as LinkIn>⟧ ⟦<MemOut as LinkOut>⟧
+    ensures { Gives ⟦<MemDrawer as Files>⟧ ⟦<MemRoads as Roads>⟧ ⟦<MemIn as LinkIn>⟧ ⟦<MemOut as LinkOut>⟧
         command play.old play.new roads.now result }
 {
     orders_are_plays::<MemDrawer, MemIn, MemOut, MemRoads>();
@@ -76,9 +76,9 @@ fn gives(play: &mut Play, roads: &MemRoads, command: Command) -> Result<(), Play
 /// The client is given the commands that write the block.
 fn commanded(play: &mut Play, roads: &MemRoads, members: Members) -> Result<(), PlayFault>
     requires nodes { members ≡ both_nodes }
-    requires fresh { HasGiven ⟦<MemRoads as Roads>⟧ ⟦<MemIn as LinkIn>⟧ ⟦<MemOut as LinkOut>⟧
+    requires fresh { HasGiven ⟦<MemDrawer as Files>⟧ ⟦<MemRoads as Roads>⟧ ⟦<MemIn as LinkIn>⟧ ⟦<MemOut as LinkOut>⟧
         nothing_given roads.now play.old }
-    ensures { OnOk result (IsPlaying ⟦<MemRoads as Roads>⟧ ⟦<MemIn as LinkIn>⟧ ⟦<MemOut as LinkOut>⟧
+    ensures { OnOk result (IsPlaying ⟦<MemDrawer as Files>⟧ ⟦<MemRoads as Roads>⟧ ⟦<MemIn as LinkIn>⟧ ⟦<MemOut as LinkOut>⟧
         roads.now play.new) }
 {
     gives(play, roads, Command::Create { members })?;

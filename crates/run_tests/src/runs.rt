@@ -87,6 +87,17 @@ const START_STREAM_REPORT: &[u8] =
 const START_APPEND: &[u8] =
     b"nodes 1\nseed 0\ncreate 1 0\nfill 1 600\nclose 1\nsettle\nstop 0\nstart 0\nappend 1 0\nfill 1 1000\nclose 1\n";
 
+/// Reads while a writer streams: up to what each node has acked, and none past it.
+const VISIBLE_READ: &[u8] =
+    b"nodes 3\nseed 4\ncreate 1 0,1,2\nfill 1 3000\nhflush 1\nsettle\nfill 1 500\nrun 3\nread 1 1 100 2000\nread 1 2 2990 20\nread 1 0 0 3000\nsettle\nclose 1\nread 1 2 0 3500\n";
+
+const VISIBLE_READ_REPORT: &[u8] =
+    b"replica 0 1 FINALIZED 1001 3500 3500 d220d4ad ok\nreplica 1 1 FINALIZED 1001 3500 3500 d220d4ad ok\nreplica 2 1 FINALIZED 1001 3500 3500 d220d4ad ok\nanswer 1 0 create ok 1001\nanswer 1 2 hflush ok 3000 1001 0,1,2\nanswer 1 4 close ok 3500 1001 0,1,2\nread 9 ok d352428b\nread 10 refused 13 3000\nread 11 ok 8d0fe748\nread 14 refused 13 3000\nend\n";
+
+/// A closed block is read from its first byte to its last.
+const READ_BACK: &[u8] =
+    b"nodes 1\nseed 0\ncreate 1 0\nfill 1 600\nclose 1\nsettle\nread 1 0 0 600\n";
+
 /// Where a connection is cut of a pipeline of three members: while it is set up, while it streams, behind its last packet,
 /// and while an append sets it up.
 const CUT_PLACES: [(&[u8], &[u8]); 4] = [
@@ -217,7 +228,7 @@ fn run_one(alloc: Global, line: &str, text: &[u8], failing: Failing) -> Result<L
 /// What each of the examples reports.
 #[test]
 fn examples_are_reported(rt: HostRuntime) -> Result<(), Fail> {
-    let table: [(&[u8], &[u8]); 11] = [
+    let table: [(&[u8], &[u8]); 12] = [
         (NINE, NINE_REPORT),
         (TWO_PACKETS, TWO_PACKETS_REPORT),
         (EMPTY, EMPTY_REPORT),
@@ -228,6 +239,7 @@ fn examples_are_reported(rt: HostRuntime) -> Result<(), Fail> {
         (STOP_FIRST, STOP_FIRST_REPORT),
         (START_STREAM, START_STREAM_REPORT),
         (START_APPEND, APPEND_REPORT),
+        (VISIBLE_READ, VISIBLE_READ_REPORT),
         (UNSUMMED, UNSUMMED_REPORT),
     ];
     for (script, report) in table {
@@ -384,6 +396,8 @@ fn each_call_fails_in_turn(rt: HostRuntime) -> Result<(), Fail> {
     fail_in_turn(&rt, rt.alloc(), NINE, Port::Script, &Exit::ScriptFault)?;
     fail_in_turn(&rt, rt.alloc(), NINE, Port::Report, &Exit::ReportFault)?;
     fail_in_turn(&rt, rt.alloc(), START_APPEND, Port::Shelf, &shelf)?;
+    fail_in_turn(&rt, rt.alloc(), READ_BACK, Port::Shelf, &shelf)?;
+    fail_in_turn(&rt, rt.alloc(), READ_BACK, Port::Roads, &Exit::RoadFault)?;
     fail_in_turn(&rt, rt.alloc(), NINE, Port::Roads, &Exit::RoadFault)
 }
 

@@ -1,5 +1,5 @@
 -- A play that was opened can play its lines.
-use Rattle.std.proofs.Common.{◌≡◌, ◌≤◌, ◌+◌, ℕ, zero, suc, true, false, List, [], ◌∷◌, length, slice_get, Some, refl, sym, ap, subst, ◌∙◌, arith}
+use Rattle.std.proofs.Common.{◌≡◌, ◌≤◌, ◌+◌, ℕ, zero, suc, true, false, List, [], ◌∷◌, length, slice_get, Some, refl, sym, ap, subst, ◌∙◌, arith, None}
 use Rattle.hd_base.specs.declared.files.Files as files
 use Rattle.hd_base.specs.declared.links.LinkIn as link_in
 use Rattle.hd_base.specs.declared.links.LinkOut as link_out
@@ -27,6 +27,9 @@ use Rattle.play_opening.specs.Opening.{IsOpenedPlay, no_commands}
 use Rattle.play_scripts.specs.declared.heads.Head.{Head}
 use Rattle.play_scripts.specs.Blocks.{AreAllCreated, AreBlocks}
 use Rattle.play_scripts.specs.Fitting.{begun}
+use Rattle.play_model.specs.declared.asks.ReadAsk.{ReadAsk}
+use Rattle.play_readers.specs.declared.clients.ReadClient.{ReadClient}
+use Rattle.play_reads.specs.Places.{asks_of}
 use Rattle.play_lines.specs.declared.playing.Playing.{Playing}
 use Rattle.play_lines.specs.Lines.{GivenIs, IsBehind, CreatesHere, AllCreateHere}
 use Rattle.play_lines.specs.Showing.{given_in}
@@ -76,6 +79,9 @@ module _ {F I O : Type 0} where
 
 -- THE START
 
+nothing_asked : (ask : ReadAsk) → None ≡ Some ask → ⊥
+nothing_asked ask e = cc
+
 few_lines : (n : ℕ) → n ≤ MAX_COMMANDS → 0 + n ≤ MAX_COMMANDS
 few_lines n h = omega (arith, h)
 
@@ -98,7 +104,7 @@ module _ {S D R I O : Type 0} (s : shelves.Ghosts S D) (d : files.Ghosts D) (r :
       }
 
   pub begins : (head : Head) (lines : List ScriptLine) (old new : List S) (road : R) (blocks : List BlockId) (player : Player D I O) (generator : Lcg) (live : LiveConns) → HeadFits (length old) head lines → AreBlocks lines blocks → IsOpenedPlay s d blocks old new player → PlayStands r i o (length old) no_commands road player → generator ≡ (first_of head).generator
-      → CoversNone live → Begins r i o head lines road (record { nodes = head.nodes; player = player; generator = generator; live = live })
+      → CoversNone live → Begins d r i o head lines road (record { nodes = head.nodes; player = player; generator = generator; live = live })
   begins head lines old new road blocks player generator live fits are h stands drawn covers =
       let x : Playing D I O = record { nodes = head.nodes; player = player; generator = generator; live = live } in
       record {
@@ -109,7 +115,8 @@ module _ {S D R I O : Type 0} (s : shelves.Ghosts S D) (d : files.Ghosts D) (r :
           nodes_are = refl;
           events = sym h.events;
           generator = drawn;
-          asks = refl;
+          asks = ap (λ (cs : List (ReadClient I O)). asks_of cs) h.reads.clients;
+          told = λ k ask at. absurd (nothing_asked ask at);
           rules = λ k c at. (h.clients.each k c at).is_new.rule;
           live = covers (world_of head.nodes player);
         };
@@ -118,5 +125,8 @@ module _ {S D R I O : Type 0} (s : shelves.Ghosts S D) (d : files.Ghosts D) (r :
           fit = fits.fit;
           here = all_create_here blocks x lines h.clients.order are.all;
           few = few_lines (length lines) fits.count;
+          least = 0;
+          ascend = fits.ascend;
+          asked = λ k ask at. absurd (nothing_asked ask at);
         };
       }

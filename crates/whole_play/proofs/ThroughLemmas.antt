@@ -30,12 +30,14 @@ use Rattle.play.specs.declared.faults.PlayFault.{PlayFault}
 use Rattle.play_scripts.specs.declared.heads.Head.{Head}
 use Rattle.play_scripts.specs.Blocks.{numbers}
 use Rattle.play_scripts.specs.Fitting.{begun}
+use Rattle.play_scripts.specs.Reads.{read_numbers, readers_of, PlaysAskByNumber}
+use Rattle.play_readers.specs.Clients.{ReadClientShows}
 use Rattle.play_lines.specs.declared.playing.Playing.{Playing}
 use Rattle.play_lines.specs.Drawing.{blocks_in}
 use Rattle.play_lines.specs.Lines.{LinesLeft, LinesEnd, LinesShow, IsReady}
 use Rattle.play_lines.specs.Showing.{PlayIs}
 use Rattle.play_report.specs.Laws.{StillShow}
-use Rattle.play_report.specs.Reports.{NodesAre, ClientsAre}
+use Rattle.play_report.specs.Reports.{NodesAre, ClientsAre, ReadersAre}
 use Rattle.play_report.specs.Rows.{LeavesAll}
 use Rattle.whole_play.specs.declared.playing.Played.{Played}
 use Rattle.whole_play.specs.Opening.{HasHead, first_of}
@@ -74,7 +76,7 @@ have_carried r w net road carry is e = by (r.carried road) e
 -- THE END
 
 module _ {F R I O : Type 0} (f : files.Ghosts F) (r : roads.Ghosts R I O) (i : link_in.Ghosts I) (o : link_out.Ghosts O) where
-  is_ready : (script : List ScriptLine) (shelved : ℕ) (road : R) (x : Playing F I O) → BeginsScript r i o script shelved road x → IsReady r i o (drop 2 script) shelved road x
+  is_ready : (script : List ScriptLine) (shelved : ℕ) (road : R) (x : Playing F I O) → BeginsScript f r i o script shelved road x → IsReady f r i o (drop 2 script) shelved road x
   is_ready script shelved road x b = record {
     p = first_of b.head;
     is = b.begins.is;
@@ -85,55 +87,62 @@ module _ {F R I O : Type 0} (f : files.Ghosts F) (r : roads.Ghosts R I O) (i : l
   }
 
   -- The lines behind the head were played.
-  pub lines_end : {S : Type 0} (s : shelves.Ghosts S F) (lines script : List ScriptLine) (shelved shelved' : List S) (road road' : R) (old x : Playing F I O) (result : Result (Unit {0}) PlayFault) → lines ≡ drop 2 script → (b : BeginsScript r i o script (length shelved) road old)
+  pub lines_end : {S : Type 0} (s : shelves.Ghosts S F) (lines script : List ScriptLine) (shelved shelved' : List S) (road road' : R) (old x : Playing F I O) (result : Result (Unit {0}) PlayFault) → lines ≡ drop 2 script → (b : BeginsScript f r i o script (length shelved) road old)
       → LinesShow s f r i o lines shelved shelved' old x road road' result → LinesEnd s f r i o (drop 2 script) (first_of b.head) shelved shelved' old x road road' result
   lines_end s lines script shelved shelved' road road' old x result e b shows =
       subst (λ (ls : List ScriptLine). LinesShow s f r i o ls shelved shelved' old x road road' result) e shows (begun b.head.nodes b.head.seed) 0 (first_of b.head) b.begins.is b.begins.can b.shelved
 
-  pub lines_ready : (lines script : List ScriptLine) (shelved : ℕ) (road : R) (x : Playing F I O) → lines ≡ drop 2 script → BeginsScript r i o script shelved road x → IsReady r i o lines shelved road x
-  lines_ready lines script shelved road x e b = subst (λ (ls : List ScriptLine). IsReady r i o ls shelved road x) (sym e) (is_ready script shelved road x b)
+  pub lines_ready : (lines script : List ScriptLine) (shelved : ℕ) (road : R) (x : Playing F I O) → lines ≡ drop 2 script → BeginsScript f r i o script shelved road x → IsReady f r i o lines shelved road x
+  lines_ready lines script shelved road x e b = subst (λ (ls : List ScriptLine). IsReady f r i o ls shelved road x) (sym e) (is_ready script shelved road x b)
 
-  same_blocks : (script : List ScriptLine) (shelved : ℕ) (road : R) (x : Playing F I O) → BeginsScript r i o script shelved road x → blocks_in x ≡ blocks_of (drop 2 script)
+  same_blocks : (script : List ScriptLine) (shelved : ℕ) (road : R) (x : Playing F I O) → BeginsScript f r i o script shelved road x → blocks_in x ≡ blocks_of (drop 2 script)
   same_blocks script shelved road x b = sym (same_numbers x.player.clients.items) ∙ (ap numbers b.begins.clients ∙ b.begins.are.are)
 
-  nodes_are : (end : PlayState) (x : Playing F I O) (road : R) → (is : PlayIs r i o end road x) → OnlyNodesRun → NodesAre i o x.nodes x.player.running.items (states.world_of end) is.stands.net x.player.nodes
+  nodes_are : (end : PlayState) (x : Playing F I O) (road : R) → (is : PlayIs f r i o end road x) → OnlyNodesRun → NodesAre i o x.nodes x.player.running.items (states.world_of end) is.stands.net x.player.nodes
   nodes_are end x road is all = record {
     show = subst (λ (es : List Event). NodesShow i o (run (start end.nodes) es) is.stands.net x.player.nodes) (sym is.events) is.stands.shows.nodes.nodes_are;
     count_is = (all end.nodes end.events).nodes_are ∙ is.nodes_are;
     tells = λ n. is.stands.shows.running n ∙ ap (λ (es : List Event). (run (start end.nodes) es).running n) (sym is.events);
   }
 
-  clients_are : (end : PlayState) (x : Playing F I O) (road : R) → (is : PlayIs r i o end road x) → blocks_in x ≡ numbers x.player.nodes.blocks.items → ClientsAre (states.world_of end) x.player.nodes x.player.clients.items
+  clients_are : (end : PlayState) (x : Playing F I O) (road : R) → (is : PlayIs f r i o end road x) → blocks_in x ≡ numbers x.player.nodes.blocks.items → ClientsAre (states.world_of end) x.player.nodes x.player.clients.items
   clients_are end x road is blocks = record {
     blocks = blocks;
     said = λ k c at. (is.stands.shows.clients k c at).shows.said ∙ ap (λ (es : List Event). (run (start end.nodes) es).said c.block.0) (sym is.events);
   }
 
-  through : (script : List ScriptLine) (shelved : ℕ) (road road' : R) (old x : Playing F I O) (p : Played) → (b : BeginsScript r i o script shelved road old) → (left : LinesLeft r i o (drop 2 script) (first_of b.head) old x road') → x.player.nodes.blocks.items ≡ old.player.nodes.blocks.items → OnlyNodesRun → NetsCarry → IsToldOf f i o x script p
+  readers_are : (end : PlayState) (x : Playing F I O) (road : R) (script : List ScriptLine) → (is : PlayIs f r i o end road x) → readers_of end.asks ≡ read_numbers script → ReadersAre i o (states.world_of end) is.stands.net x.player.reads.clients.items script
+  readers_are end x road script is numbers = record {
+    numbers = ap readers_of is.asks ∙ numbers;
+    each = λ k c at. subst (λ (es : List Event). ReadClientShows i o (run (start end.nodes) es) is.stands.net c) (sym is.events) (is.stands.shows.reads.clients.each k c at);
+  }
+
+  through : (script : List ScriptLine) (shelved : ℕ) (road road' : R) (old x : Playing F I O) (p : Played) → (b : BeginsScript f r i o script shelved road old) → (left : LinesLeft f r i o (drop 2 script) (first_of b.head) old x road') → x.player.nodes.blocks.items ≡ old.player.nodes.blocks.items → OnlyNodesRun → NetsCarry → PlaysAskByNumber → IsToldOf f i o x script p
       → IsThrough f r script road' p
-  through script shelved road road' old x p b left same all carry told =
+  through script shelved road road' old x p b left same all carry asks told =
       let end : PlayState = left.left in
       let blocks : blocks_in old ≡ blocks_of (drop 2 script) = same_blocks script shelved road old b in
       let here : numbers x.player.nodes.blocks.items ≡ blocks_of (drop 2 script) = ap numbers same ∙ b.begins.are.are in
-      let is : PlayIs r i o end road' x = left.is in
+      let is : PlayIs f r i o end road' x = left.is in
+      let plays : Plays script end = plays_script b.head (drop 2 script) script end b.has_head (subst (λ (bs : List ℕ). PlaysLines bs (drop 2 script) (first_of b.head) end) blocks left.plays) in
       let shown : IsTold f (states.world_of end) (numbers x.player.nodes.blocks.items) script p =
-      told (states.world_of end) is.stands.net (nodes_are end x road' is all) (clients_are end x road' is (left.blocks ∙ (blocks ∙ sym here))) in
+      told (states.world_of end) is.stands.net (nodes_are end x road' is all) (clients_are end x road' is (left.blocks ∙ (blocks ∙ sym here))) (readers_are end x road' script is (asks script end plays)) in
       record {
         end = end;
-        plays = plays_script b.head (drop 2 script) script end b.has_head (subst (λ (bs : List ℕ). PlaysLines bs (drop 2 script) (first_of b.head) end) blocks left.plays);
+        plays = plays;
         told = subst (λ (bs : List ℕ). IsTold f (states.world_of end) bs script p) (here ∙ sym (head_blocks b.head (drop 2 script) script b.has_head)) shown;
         carried = have_carried r (states.world_of end) is.stands.net road' carry
             (subst (λ (es : List Event). IsNetOf (run (start end.nodes) es) is.stands.net) (sym is.events) is.stands.shows.nodes.roads_are.is_net) is.stands.shows.nodes.roads_are.shows.carried;
       }
 
   -- Once the report was made the nodes show the world still.
-  pub over : (script : List ScriptLine) (shelved : ℕ) (road road' : R) (old x y : Playing F I O) (p : Played) → (b : BeginsScript r i o script shelved road old) → (left : LinesLeft r i o (drop 2 script) (first_of b.head) old x road') → x.player.nodes.blocks.items ≡ old.player.nodes.blocks.items → OnlyNodesRun → NetsCarry → StillShow F I O f i o
+  pub over : (script : List ScriptLine) (shelved : ℕ) (road road' : R) (old x y : Playing F I O) (p : Played) → (b : BeginsScript f r i o script shelved road old) → (left : LinesLeft f r i o (drop 2 script) (first_of b.head) old x road') → x.player.nodes.blocks.items ≡ old.player.nodes.blocks.items → OnlyNodesRun → NetsCarry → PlaysAskByNumber → StillShow F I O f i o
       → LeavesAll f x.player.nodes y.player.nodes → IsToldOf f i o x script p → IsOver f r i o script road' y p
   unfolding through
-  over script shelved road road' old x y p b left same all carry still kept told =
+  over script shelved road road' old x y p b left same all carry asks still kept told =
       let are : NodesAre i o x.nodes x.player.running.items (states.world_of left.left) left.is.stands.net x.player.nodes = nodes_are left.left x road' left.is all in
       record {
-        through = through script shelved road road' old x p b left same all carry told;
+        through = through script shelved road road' old x p b left same all carry asks told;
         net = left.is.stands.net;
         show = still (states.world_of left.left) left.is.stands.net x.player.nodes y.player.nodes kept are.show;
       }

@@ -7,9 +7,9 @@ use Rattle.script_lang.specs.declared.instructions.ScriptLine.{ScriptLine}
 use Rattle.play_nodes.specs.declared.nodes.NodeBooks.{NodeBooks}
 use Rattle.play_nodes.specs.declared.nodes.Nodes.{Nodes}
 use Rattle.play_nodes.proofs.PlaceLaws.{element_within}
-use Rattle.play_scripts.specs.Unplayed.{StartsAreTold}
+use Rattle.play_scripts.specs.Unplayed.{LinesAreTold}
 use Rattle.node_opening.specs.Shelves.{AreDistinct}
-use Rattle.node_opening.specs.Standing.{ShelfStands, ShelvesStand, AllLentOut, ShelvesStay}
+use Rattle.node_opening.specs.Standing.{ShelfStands, AllLentOut, ShelvesStay}
 use Rattle.play_report.specs.Rows.{LeavesAll}
 use Rattle.whole_play.proofs.ClosedLemmas.{Stands, stands}
 
@@ -35,7 +35,7 @@ err_map (Err e) P Q f h = f e h
 -- LINES
 
 -- Behind the first lines the starts are told too.
-pub told_behind : (told : Bool) (n : ℕ) (lines : List ScriptLine) → StartsAreTold told lines → StartsAreTold told (drop n lines)
+pub told_behind : (told : Bool) (n : ℕ) (lines : List ScriptLine) → LinesAreTold told lines → LinesAreTold told (drop n lines)
 told_behind told zero lines h = h
 told_behind told (suc n) [] h = tt
 told_behind told (suc n) (l ∷ lines) h = told_behind told n lines h.1

@@ -16,6 +16,7 @@ use Rattle.play_model.specs.States.{PlayState, opened}
 use Rattle.play_opening.specs.Opening.{IsOpenedPlay}
 use Rattle.play_scripts.specs.declared.heads.Head.{Head}
 use Rattle.play_scripts.specs.Blocks.{AreBlocks}
+use Rattle.play_scripts.specs.Numbering.{LinesAscend}
 use Rattle.play_scripts.specs.Fitting.{LinesFit, begun}
 use Rattle.play_lines.specs.declared.playing.Playing.{Playing}
 use Rattle.play_lines.specs.Lines.{CanPlay}
@@ -30,12 +31,13 @@ pub record HasHead (head : Head) (body script : List ScriptLine) : Type 0 where
   pub parts : script ≡ numbered first (says.Nodes head.nodes) ∷ numbered second (says.Seed head.seed) ∷ body
 
 -- The head gives as many nodes as there are shelves, for which there are ports, and the lines behind it, which are few,
--- fit.
+-- fit, and their numbers ascend.
 pub record HeadFits (shelves : ℕ) (head : Head) (lines : List ScriptLine) : Type 0 where
   pub nodes : head.nodes ≡ shelves
   pub few : shelves ≤ MAX_NODES
   pub fit : LinesFit (begun head.nodes head.seed) lines
   pub count : length lines ≤ MAX_COMMANDS
+  pub ascend : LinesAscend 0 lines
 
 -- PLAYS
 
@@ -45,11 +47,11 @@ first_of head = opened head.nodes head.seed
 
 -- The play is the model's before the first line behind the head, its blocks are those that the lines create, and it can
 -- play them.
-pub record Begins {F R I O : Type 0} (r : roads.Ghosts R I O) (i : link_in.Ghosts I) (o : link_out.Ghosts O)
-    (head : Head) (lines : List ScriptLine) (road : R) (x : Playing F I O) : Type 0 where
+pub record Begins {F R I O : Type 0} (f : files.Ghosts F) (r : roads.Ghosts R I O) (i : link_in.Ghosts I)
+    (o : link_out.Ghosts O) (head : Head) (lines : List ScriptLine) (road : R) (x : Playing F I O) : Type 0 where
   pub are : AreBlocks lines x.player.nodes.blocks.items
   pub clients : events.blocks_of x.player.clients.items ≡ x.player.nodes.blocks.items
-  pub is : PlayIs r i o (first_of head) road x
+  pub is : PlayIs f r i o (first_of head) road x
   pub can : CanPlay lines (begun head.nodes head.seed) 0 (first_of head) x
 
 -- Its shelves have lent the files of its blocks, each of which stands once.

@@ -29,7 +29,7 @@ pub(crate) fn open_play<S: Shelf, R: Roads>(
 ) -> Result<Playing<S::Drawer, R::Inward, R::Outward>, OpenFault>
     requires unused { AreUnused R.Roads roads.old }
     requires fits { HeadFits (length shelves.old) head lines.now }
-    ensures begins { IfOk result (Begins R.Roads R.Inward.LinkIn R.Outward.LinkOut head lines.now roads.new) }
+    ensures begins { IfOk result (Begins S.Drawer.Files R.Roads R.Inward.LinkIn R.Outward.LinkOut head lines.now roads.new) }
     ensures opened { IfOk result (HasOpened S.Shelf S.Drawer.Files shelves.old shelves.new) }
     ensures cause { IfErr result (HasOpenCause R.Roads S.Shelf roads.old roads.new shelves.old shelves.new) }
     ensures given_back { OnErr result (EachShelf (IsGivenBack S.Shelf) shelves.old shelves.new) }

@@ -9,7 +9,7 @@ ghost use Rattle.play_lines.specs.Shelves.{ShelvesServe};
 ghost use Rattle.play_report.specs.Rows.{LeavesAll};
 ghost use Rattle.play_scripts.specs.Fitting.{ScriptFits};
 ghost use Rattle.play_scripts.specs.Heads.{head_of};
-ghost use Rattle.play_scripts.specs.Unplayed.{StartsAreTold};
+ghost use Rattle.play_scripts.specs.Unplayed.{LinesAreTold};
 ghost use Rattle.whole_play.specs.Opening.{HasHead, HeadFits};
 ghost use Rattle.whole_play.specs.Playing.{BeginsScript, IsOver, IsThroughFault, IsToldOf, IsReportFault};
 ghost use Rattle.whole_play.specs.Playing.{IsClosed, IsPlayed, LeavesShelves, HasCause, HasUsedCause};
@@ -28,7 +28,7 @@ use play_nodes::Nodes;
 use play_report::{
     Difference, first_difference, reports_are_true, reports_keep_nodes, write_report,
 };
-use play_scripts::{Head, head_of};
+use play_scripts::{Head, head_of, plays_ask_by_number};
 use script_lang::ScriptLine;
 use std::alloc::Global;
 use told_shelves::ToldShelf;
@@ -48,8 +48,8 @@ pub struct Played {
 }
 
 /// Plays a script over the first of the shelves, one for each node, and over roads that are unused. Lines that plays don't
-/// have yet do nothing, and a node starts only over shelves that tell their files. What the shelves have lent is given
-/// back, whatever the result is.
+/// have yet do nothing; a node starts, and a reader asks, only over shelves that tell their files. What the shelves have
+/// lent is given back, whatever the result is.
 pub fn play_script<S: ToldShelf, R: CutRoads>(
     alloc: Global,
     roads: &mut R,
@@ -58,7 +58,7 @@ pub fn play_script<S: ToldShelf, R: CutRoads>(
 ) -> Result<Played, RunFault>
     requires unused { AreUnused R.Roads roads.old }
     requires fits { ScriptFits (length shelves.old) script.now }
-    requires told { StartsAreTold S.told script.now }
+    requires told { LinesAreTold S.told script.now }
     ensures played { IfOk result (IsPlayed S.Shelf S.Drawer.Files R.Roads script.now shelves.old shelves.new roads.new) }
     ensures cause { IfErr result (HasUsedCause S.Shelf R.Roads script.now
         shelves.old shelves.new roads.old roads.new) }
@@ -87,7 +87,7 @@ fn play_on<S: ToldShelf, R: CutRoads>(
     requires unused { AreUnused R.Roads roads.old }
     requires head { HasHead head (drop HEAD_LINES script.now) script.now }
     requires fits { HeadFits (length shelves.old) head (drop HEAD_LINES script.now) }
-    requires told { StartsAreTold S.told script.now }
+    requires told { LinesAreTold S.told script.now }
     ensures closed { IfOk result (IsClosed S.Shelf S.Drawer.Files R.Roads script.now shelves.old shelves.new roads.new) }
     ensures cause { IfErr result (HasCause S.Shelf R.Roads shelves.old shelves.new roads.old roads.new) }
     ensures lent { EachShelf (LendsNoMore S.Shelf) shelves.old shelves.new }
@@ -119,9 +119,9 @@ fn play_through<
     playing: &mut Playing<F, I, O>,
     script: &[ScriptLine],
 ) -> Result<Played, RunFault>
-    requires begins { BeginsScript R.Roads I.LinkIn O.LinkOut script.now (length shelves.old) roads.old playing.old }
+    requires begins { BeginsScript F.Files R.Roads I.LinkIn O.LinkOut script.now (length shelves.old) roads.old playing.old }
     requires serve { ShelvesServe S.Shelf shelves.old playing.old }
-    requires told { StartsAreTold S.told script.now }
+    requires told { LinesAreTold S.told script.now }
     ensures through { IfOk result (IsOver F.Files R.Roads I.LinkIn O.LinkOut script.now roads.new playing.new) }
     ensures cause { IfErr result (IsThroughFault S.Shelf F.Files R.Roads
         shelves.old shelves.new playing.new roads.old roads.new) }
@@ -132,6 +132,7 @@ fn play_through<
 {
     only_nodes_run();
     nets_carry();
+    plays_ask_by_number();
     reports_keep_nodes::<F, I, O>();
     let (_, lines) = script.split_at(HEAD_LINES);
     playing.lines(alloc, roads, shelves, lines)?;
@@ -158,6 +159,7 @@ fn report_of<F: Files, I: LinkIn, O: LinkOut>(
         &player.running,
         &mut player.nodes,
         &player.clients,
+        &player.reads.clients,
         script,
     )?;
     let difference = first_difference(count, &player.running, &player.nodes, script);

@@ -10,7 +10,7 @@ use Rattle.whole_play.specs.declared.playing.Played.{Played}
 use Rattle.dn_run.specs.declared.exits.Exit.{Exit}
 use Rattle.play_scripts.specs.Fitting.{ScriptFits}
 use Rattle.play_scripts.specs.Heads.{head_of}
-use Rattle.play_scripts.specs.Unplayed.{StartsAreTold}
+use Rattle.play_scripts.specs.Unplayed.{LinesAreTold}
 use Rattle.whole_play.specs.Playing.{IsPlayed, LeavesShelves}
 use Rattle.dn_run.specs.Reading.{HasRead, IsReadExit, Accepts, Refuses}
 use Rattle.dn_run.specs.Runs.{usage_of, UsageIn, IsBadIn, KeepsShelves, HasPlayCause}
@@ -85,7 +85,7 @@ play_script-requires-clause-told g c κs within =
     let tells = g.S.ToldShelf.told in
     let lines = c.in_ok-lines.lines in
     let said : c.as_slice.result.now ≡ lines = search rules in
-    subst (λ (ls : List ScriptLine). StartsAreTold tells ls) (sym said) (c.played_starts_are_told.ensures tells lines c.in_ok-lines.ensures.found.playable.played)
+    subst (λ (ls : List ScriptLine). LinesAreTold tells ls) (sym said) (c.played_lines_are_told.ensures tells lines c.in_ok-lines.ensures.found.playable.played)
 
 pub returns-clause-shelves : goal.returns-clause-shelves
 returns-clause-shelves g c =
@@ -143,5 +143,5 @@ returns-clause-played g c =
       read = read;
       played = played;
       safe = c.plays_are_safe.ensures n lines played.closed.through.end fits played.closed.through.plays;
-      complete = λ sound members. completes lines (world_of played.closed.through.end) (c.plays_complete.ensures n lines played.closed.through.end fits sound members played.closed.through.plays);
+      complete = λ sound unread members. completes lines (world_of played.closed.through.end) (c.plays_complete.ensures n lines played.closed.through.end fits sound unread members played.closed.through.plays);
     }

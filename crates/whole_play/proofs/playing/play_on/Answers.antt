@@ -1,5 +1,5 @@
 -- The play was opened, played, told and closed.
-use Rattle.std.proofs.Common.{◌≡◌, ◌≤◌, ℕ, List, length, drop, sym, ap, subst, ◌∙◌}
+use Rattle.std.proofs.Common.{◌≡◌, ◌≤◌, ℕ, List, drop, sym, ap, subst, ◌∙◌}
 use Rattle.hd_base.specs.declared.numbers.BlockId.{BlockId}
 use Rattle.hd_base.specs.declared.roads.TheConstants.{MAX_NODES}
 use Rattle.script_lang.specs.declared.instructions.ScriptLine.{ScriptLine}
@@ -27,7 +27,7 @@ play_through-played-requires-clause-begins g c κs within =
       head = c.args.head;
       shelved = stood.0.count ∙ sym c.requires.fits.nodes;
       has_head = c.requires.head;
-      begins = subst (λ (ls : List ScriptLine). Begins g.R.Roads g.R.Inward.LinkIn g.R.Outward.LinkOut c.args.head ls c.open_play.new.roads x) c.split_at.ensures.back c.in_ok-playing.ensures.begins;
+      begins = subst (λ (ls : List ScriptLine). Begins g.S.Drawer.Files g.R.Roads g.R.Inward.LinkIn g.R.Outward.LinkOut c.args.head ls c.open_play.new.roads x) c.split_at.ensures.back c.in_ok-playing.ensures.begins;
     }
 
 pub play_through-played-requires-clause-serve : goal.play_through-played-requires-clause-serve

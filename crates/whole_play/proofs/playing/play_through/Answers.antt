@@ -1,8 +1,8 @@
 -- The lines were played to an end of the script's play, and told.
-use Rattle.std.proofs.Common.{Bool, List, Ok, Err, sym, subst, ◌∙◌}
+use Rattle.std.proofs.Common.{List, Ok, Err, sym, subst, ◌∙◌}
 use Rattle.std.proofs.lemmas.Result.{err_from_is_err_and}
 use Rattle.script_lang.specs.declared.instructions.ScriptLine.{ScriptLine}
-use Rattle.play_scripts.specs.Unplayed.{StartsAreTold}
+use Rattle.play_scripts.specs.Unplayed.{LinesAreTold}
 use Rattle.node_opening.specs.Standing.{AllLentOut}
 use Rattle.node_opening.proofs.ListLemmas.{if_err}
 use Rattle.whole_play.specs.declared.faults.RunFault.{RunFault}
@@ -14,7 +14,7 @@ use Rattle.whole_play.proofs.playing.play_through.Goals as goal
 
 pub lines-requires-clause-told : goal.lines-requires-clause-told
 lines-requires-clause-told g c κs within =
-    subst (λ (ls : List ScriptLine). StartsAreTold g.S.ToldShelf.told ls) (sym c.split_at.ensures.back) (told_behind g.S.ToldShelf.told 2 c.args.script.now c.requires.told)
+    subst (λ (ls : List ScriptLine). LinesAreTold g.S.ToldShelf.told ls) (sym c.split_at.ensures.back) (told_behind g.S.ToldShelf.told 2 c.args.script.now c.requires.told)
 
 pub returns-in_err-lines-clause-cause : goal.returns-in_err-lines-clause-cause
 returns-in_err-lines-clause-cause g c =
@@ -44,7 +44,7 @@ returns-clause-through g c =
     let y = c.report_of.new.playing in
     let left = lines_end g.F.Files g.R.Roads g.I.LinkIn g.O.LinkOut g.S.Shelf c.split_at.result.1.now script xs ys road road' old x (Ok tt) c.split_at.ensures.back b c.in_ok-lines.ensures.shows in
     ok_map c.report_of.result (IsToldOf g.F.Files g.I.LinkIn g.O.LinkOut x script) (IsOver g.F.Files g.R.Roads g.I.LinkIn g.O.LinkOut script road' y)
-    (λ p told. over g.F.Files g.R.Roads g.I.LinkIn g.O.LinkOut script _ road road' old x y p b left c.in_ok-lines.ensures.shelves.blocks c.only_nodes_run.ensures c.nets_carry.ensures c.reports_keep_nodes.ensures.show c.report_of.ensures.kept told) c.report_of.ensures.told
+    (λ p told. over g.F.Files g.R.Roads g.I.LinkIn g.O.LinkOut script _ road road' old x y p b left c.in_ok-lines.ensures.shelves.blocks c.only_nodes_run.ensures c.nets_carry.ensures c.plays_ask_by_number.ensures c.reports_keep_nodes.ensures.show c.report_of.ensures.kept told) c.report_of.ensures.told
 
 pub returns-clause-cause : goal.returns-clause-cause
 returns-clause-cause g c =
