@@ -20,7 +20,7 @@ use Rattle.play_model.specs.States.{PlayState, world_of, ordered}
 use Rattle.play_laws.specs.Intakes.{intake_of}
 use Rattle.play_laws.proofs.Running.{all-run}
 use Rattle.play_scripts.specs.Fitting.{LineFits}
-use Rattle.play.specs.Standing.{CommandFits, given_with}
+use Rattle.play_laws.specs.Commands.{CommandFits, given_with}
 use Rattle.play_lines.specs.Lines.{GivenIs}
 use Rattle.play_lines.specs.Showing.{given_in}
 use Rattle.play_lines.proofs.Commands.{Goes, goes, given_more}

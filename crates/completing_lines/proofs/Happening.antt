@@ -27,7 +27,7 @@ use Rattle.play_laws.proofs.Commanding.{commands-taken}
 use Rattle.play_laws.proofs.Taking.{admitted-is}
 use Rattle.play_nodes.proofs.WriterKeeping.{down_keeps, ready_keeps, mirror_keeps}
 use Rattle.play_clients.proofs.OtherLaws.{own_steps_keep, hearing_keeps}
-use Rattle.play.specs.Standing.{given_with}
+use Rattle.play_laws.specs.Commands.{given_with}
 use Rattle.play_lines.specs.Lines.{GivenIs}
 use Rattle.play_lines.specs.Showing.{given_in}
 use Rattle.play_completeness.specs.Plain.{is_of_pipeline}

@@ -20,7 +20,7 @@ use Rattle.world_laws.proofs.FactTables.{and-left}
 use Rattle.world_orders.proofs.Lists.{Behind, get-append}
 use Rattle.play_laws.specs.Members.{IsNode, AreAll, Names}
 use Rattle.play_laws.proofs.Taking.{admitted-is}
-use Rattle.play.specs.Standing.{CommandFits, given_with}
+use Rattle.play_laws.specs.Commands.{CommandFits, given_with}
 use Rattle.play_completeness.specs.Complete.{KeepsMembers}
 use Rattle.play_completeness.specs.Played.{QueueFits, stand_of}
 use Rattle.play_completeness.proofs.Flowing.{one-place}

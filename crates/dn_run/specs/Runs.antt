@@ -13,7 +13,7 @@ use Rattle.script_lang.specs.declared.faults.BadKind.{BadKind}
 use Rattle.script_lang.specs.declared.instructions.ScriptLine.{ScriptLine}
 use Rattle.node_opening.specs.Emptiness.{ShelfRose, HasFirstFile}
 use Rattle.node_opening.specs.Shelves.{EachShelf, LendsNoMore}
-use Rattle.play.specs.Events.{RoadsFailed}
+use Rattle.hd_base.specs.RoadFaults.{RoadsFailed}
 use Rattle.play_model.specs.States.{world_of}
 use Rattle.play_report.specs.declared.expecting.Difference.{Difference}
 use Rattle.play_scripts.specs.declared.heads.Head.{Head}

@@ -15,3 +15,4 @@ pub mod Links
 pub mod Channels
 pub mod RoadCauses
 pub mod Ends
+pub mod RoadFaults

@@ -48,7 +48,8 @@ use Rattle.client_events.specs.Committing.{IsAccepted}
 use Rattle.play.specs.declared.player.Player.{Player}
 use Rattle.play.specs.Laws.{Laws}
 use Rattle.play.specs.Showing.{IsClient}
-use Rattle.play.specs.Standing.{CommandFits, CommandsFit, ClientFits, EventsFit, world_of}
+use Rattle.play_laws.specs.Commands.{CommandFits, CommandsFit}
+use Rattle.play.specs.Standing.{ClientFits, EventsFit, world_of}
 use Rattle.play.proofs.Lawful.{spelled}
 
 -- WHAT IT IS

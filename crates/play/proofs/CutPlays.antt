@@ -28,7 +28,8 @@ use Rattle.play.specs.Cutting.{losses, HasCut, CutShows}
 use Rattle.play.specs.Events.{IsKept, Keeps}
 use Rattle.play.specs.Laws.{Laws, ReadsKept}
 use Rattle.play.specs.Showing.{NoneLeads, PlayerShows}
-use Rattle.play.specs.Standing.{CommandsFit, ClientFits, EventsFit, world_of, PlayStands}
+use Rattle.play_laws.specs.Commands.{CommandsFit}
+use Rattle.play.specs.Standing.{ClientFits, EventsFit, world_of, PlayStands}
 use Rattle.play.proofs.Lawful.{fits_more}
 use Rattle.play.proofs.NodeSteps.{same_left}
 

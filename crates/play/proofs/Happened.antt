@@ -40,7 +40,7 @@ use Rattle.play_clients.proofs.CourseLaws.{fresh_waits}
 use Rattle.play_model.specs.declared.asks.ReadAsk.{ReadAsk}
 use Rattle.play_model.specs.Asks.{request_of, asking_node}
 use Rattle.play_readers.specs.declared.clients.ReadClient.{ReadClient}
-use Rattle.play_reads.specs.Places.{asks_of}
+use Rattle.play_readers.specs.Asks.{asks_of}
 use Rattle.play_dues.specs.Showing.{HasClient}
 use Rattle.play_dues.proofs.UpperLaws.{up_at, heard_conn}
 use Rattle.play.specs.declared.faults.PlayFault.{PlayFault}
@@ -48,7 +48,8 @@ use Rattle.play.specs.declared.player.Player.{Player}
 use Rattle.play.specs.Laws.{Laws}
 use Rattle.play.specs.Showing.{IsClient, PlayerShows}
 use Rattle.play.specs.Events.{writer_at, actor_of, StaysAt, blocks_of, PlayerLeft, PlayEnds}
-use Rattle.play.specs.Standing.{given_with, CommandsFit, ClientFits, EventsFit, AskFits, AsksFit, world_of, PlayStands, HasHappened, HappenEnds, ActorIsClient}
+use Rattle.play_laws.specs.Commands.{given_with, CommandsFit}
+use Rattle.play.specs.Standing.{ClientFits, EventsFit, AskFits, AsksFit, world_of, PlayStands, HasHappened, HappenEnds, ActorIsClient}
 use Rattle.play.proofs.Lawful.{fits_more}
 use Rattle.play.proofs.ReadsLaws.{none_dialled}
 use Rattle.play.proofs.CanOwning.{takes_so}

@@ -40,7 +40,7 @@ use Rattle.play_nodes.proofs.Tables.{SetOr, set_or}
 use Rattle.play.specs.declared.faults.PlayFault.{PlayFault}
 use Rattle.play.specs.declared.player.Player.{Player}
 use Rattle.play_reads.specs.declared.reads.Reads.{Reads}
-use Rattle.play_reads.specs.Places.{asks_of}
+use Rattle.play_readers.specs.Asks.{asks_of}
 use Rattle.play_reads.specs.Showing.{ReadsShow}
 use Rattle.play.specs.Faults.{of_client}
 use Rattle.play.specs.Laws.{ReadsKept}

@@ -26,7 +26,7 @@ use Rattle.play_nodes.specs.Events as nodes
 use Rattle.play_nodes.specs.Frames.{KeepsWriters, DownKeeps, ReadyKeeps, MirrorKeeps}
 use Rattle.play_nodes.specs.Showing.{runs_in, TellsRunning, NodesLeft, WritersStay, ElsewhereStays}
 use Rattle.play_reads.specs.Keeping.{ReadsStay, KeepsReads}
-use Rattle.play_reads.specs.Places.{asks_of}
+use Rattle.play_readers.specs.Asks.{asks_of}
 use Rattle.play.specs.declared.faults.PlayFault.{PlayFault}
 use Rattle.play.specs.declared.faults.PlayFault.TheVariants as fault
 use Rattle.play.specs.declared.player.Player.{Player}
@@ -35,7 +35,8 @@ use Rattle.play.specs.Running.{is_running}
 use Rattle.play.specs.Laws.{ReadsKept}
 use Rattle.play.specs.Showing.{IsClient, NoneLeads, PlayerShows}
 use Rattle.play.proofs.ReadsLaws.{unled_after, unled_up, reads_left}
-use Rattle.play.specs.Events.{IsKept, Keeps, RoadsFailed, IsCaused, writer_at, blocks_of, KeepsPlaces, Begins, BeginShows, ReadyShows, DownShows, MirrorShows}
+use Rattle.hd_base.specs.RoadFaults.{RoadsFailed}
+use Rattle.play.specs.Events.{IsKept, Keeps, IsCaused, writer_at, blocks_of, KeepsPlaces, Begins, BeginShows, ReadyShows, DownShows, MirrorShows}
 
 pub dialled_there : (dialled : ℕ → Dialled) (marks : ℕ → Marks) (b c : ℕ) (x : Writing) (n : Option ℕ) → n ≡ Some c → IfSome n (λ c. IsWriterConn (dialled c) (marks c).taken b x.known) → (dialled c).upper ≡ by_writer b
 dialled_there dialled marks b c x None is h = cc

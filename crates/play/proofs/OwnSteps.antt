@@ -40,13 +40,14 @@ use Rattle.play_nodes.specs.Showing.{runs_in, TellsRunning, NodesShow}
 use Rattle.client_events.specs.Showing.{OthersStay}
 use Rattle.play_reads.specs.declared.reads.Reads.{Reads}
 use Rattle.play_reads.specs.Keeping.{KeepsReads}
-use Rattle.play_reads.specs.Places.{asks_of}
+use Rattle.play_readers.specs.Asks.{asks_of}
 use Rattle.play_reads.specs.Showing.{ReadsShow}
 use Rattle.play.specs.Laws.{ReadsKept}
 use Rattle.play.specs.Showing.{NoneLeads, PlayerShows}
 use Rattle.play.proofs.ReadsLaws.{unled_own, reads_left}
 use Rattle.play.specs.Running.{is_running}
-use Rattle.play.specs.Events.{PlayerLeft, RoadsFailed, IsCaused, blocks_of, KeepsPlaces}
+use Rattle.hd_base.specs.RoadFaults.{RoadsFailed}
+use Rattle.play.specs.Events.{PlayerLeft, IsCaused, blocks_of, KeepsPlaces}
 use Rattle.play.proofs.HearSteps.{IsReplaced, kept_places, keeps_other, clients_after, still_apart, same_client, client_caused}
 use Rattle.play.specs.Faults.{of_client}
 use Rattle.client_events.specs.declared.faults.ClientFault.{ClientFault}

@@ -31,7 +31,7 @@ use Rattle.play_reads.specs.Faults as reads_faults
 use Rattle.play_reads.specs.Hearing as hearing
 use Rattle.play_reads.specs.Left.{ReadsLeft}
 use Rattle.play_reads.specs.Owning as owning
-use Rattle.play_reads.specs.Places.{asks_of}
+use Rattle.play_readers.specs.Asks.{asks_of}
 use Rattle.play_reads.specs.Serving as serving
 use Rattle.play_reads.specs.Showing.{Stand}
 use Rattle.play.specs.declared.faults.PlayFault.{PlayFault}

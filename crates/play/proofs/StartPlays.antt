@@ -27,7 +27,7 @@ use Rattle.node_starts.specs.Lives.{DialsAreLived}
 use Rattle.node_starts.specs.Starting as node
 use Rattle.node_starts.proofs.StartLemmas.{start_is}
 use Rattle.play_reads.specs.Keeping.{StartsKeepReads}
-use Rattle.play_reads.specs.Places.{asks_of}
+use Rattle.play_readers.specs.Asks.{asks_of}
 use Rattle.play_reads.specs.Showing.{ReadsShow}
 use Rattle.play.specs.declared.faults.PlayFault.{PlayFault}
 use Rattle.play.specs.declared.player.Player.{Player}
@@ -36,7 +36,8 @@ use Rattle.play.specs.Faults.{of_start}
 use Rattle.play.specs.Laws.{Laws}
 use Rattle.play.specs.Running.{IsStarted}
 use Rattle.play.specs.Showing.{PlayerShows}
-use Rattle.play.specs.Standing.{AsksFit, CommandsFit, ClientFits, EventsFit, world_of, PlayStands}
+use Rattle.play_laws.specs.Commands.{CommandsFit}
+use Rattle.play.specs.Standing.{AsksFit, ClientFits, EventsFit, world_of, PlayStands}
 use Rattle.play.specs.Starting.{HasStarted, StartShows, IsStartCause}
 use Rattle.play.proofs.ReadsLaws.{unled_after}
 use Rattle.play.proofs.Lawful.{fits_more}

@@ -26,7 +26,7 @@ use Rattle.node_stops.specs.Stopping as node
 use Rattle.play_model.specs.declared.asks.ReadAsk.{ReadAsk}
 use Rattle.play_reads.specs.declared.reads.Reads.{Reads}
 use Rattle.play_reads.specs.Left.{ReadsLeft}
-use Rattle.play_reads.specs.Places.{asks_of}
+use Rattle.play_readers.specs.Asks.{asks_of}
 use Rattle.play_reads.specs.Showing.{ReadsShow}
 use Rattle.play_reads.specs.Stopping as reads
 use Rattle.world_orders.specs.Orders.{Ordered}
@@ -36,7 +36,8 @@ use Rattle.play.specs.Events.{IsKept, Keeps}
 use Rattle.play.specs.Laws.{Laws}
 use Rattle.play.specs.Running.{IsStopped}
 use Rattle.play.specs.Showing.{PlayerShows}
-use Rattle.play.specs.Standing.{AsksFit, CommandsFit, ClientFits, EventsFit, world_of, PlayStands}
+use Rattle.play_laws.specs.Commands.{CommandsFit}
+use Rattle.play.specs.Standing.{AsksFit, ClientFits, EventsFit, world_of, PlayStands}
 use Rattle.play.specs.Stopping.{HasStopped, StopShows}
 use Rattle.play.proofs.ReadsLaws.{unled_after}
 use Rattle.play.proofs.Lawful.{fits_more}

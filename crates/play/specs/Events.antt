@@ -1,6 +1,6 @@
 -- What the events of a play make of a player and roads that show a world.
 use Rattle.std.specs.Prelude.{◌≡◌, ◌⊎◌, ℕ, Bool, true, false, List, ◌++◌, [], ◌∷◌, map, slice_get, Option, Some, None, Result, Ok, Err}
-use Rattle.hd_base.specs.Faults.{FaultsIncreased}
+use Rattle.hd_base.specs.RoadFaults.{RoadsFailed}
 use Rattle.hd_base.specs.declared.files.Files as files
 use Rattle.hd_base.specs.declared.links.LinkIn as link_in
 use Rattle.hd_base.specs.declared.links.LinkOut as link_out
@@ -23,7 +23,7 @@ use Rattle.play_nodes.specs.declared.nodes.Nodes.{Nodes}
 use Rattle.play_nodes.specs.Beginning.{RequestsFit}
 use Rattle.play_nodes.specs.Events.{IsLawful, IsBusy, DrawerFailed}
 use Rattle.play_nodes.specs.Showing.{is_pipeline}
-use Rattle.play_reads.specs.Places.{asks_of}
+use Rattle.play_readers.specs.Asks.{asks_of}
 use Rattle.play.specs.declared.faults.PlayFault.{PlayFault}
 use Rattle.play.specs.declared.faults.PlayFault.TheVariants as fault
 use Rattle.play.specs.declared.player.Player.{Player}
@@ -39,10 +39,6 @@ pub record IsKept {F I O : Type 0} (old new : Player F I O) (e : Event) : Type 0
 abbrev pub Keeps : {F I O : Type 0} → Player F I O → Player F I O → Event → Result (Unit {0}) PlayFault → Type 0
 Keeps old new e (Ok u) = IsKept old new e
 Keeps old new e (Err why) = why ≡ fault.Memory
-
--- The roads failed: a link of theirs, or their count rose.
-abbrev pub RoadsFailed : {R I O : Type 0} → roads.Ghosts R I O → R → R → Type 0
-RoadsFailed r road road' = ((c : ℕ) × (r.risen road' c ≡ true)) ⊎ FaultsIncreased (r.faults road) (r.faults road')
 
 -- Each fault has its cause.
 abbrev pub IsCaused : {F R I O : Type 0} → files.Ghosts F → roads.Ghosts R I O → Player F I O → Player F I O → R → R →

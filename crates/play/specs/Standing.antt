@@ -22,34 +22,20 @@ use Rattle.play_model.specs.declared.dues.Due.{Due}
 use Rattle.play_model.specs.declared.dues.Due.TheVariants as due
 use Rattle.play_model.specs.Asks.{request_of}
 use Rattle.play_model.specs.Dues.{Queues, is_due, due_events, queues_after}
+use Rattle.play_laws.specs.Commands.{CommandsFit, given_with}
 use Rattle.play_laws.specs.Intakes.{intake_of}
 use Rattle.play_laws.specs.Members.{IsNode, Names, AllName}
 use Rattle.play_clients.specs.declared.clients.Client.{Client}
 use Rattle.play_dues.specs.Showing.{HasClient}
-use Rattle.play_reads.specs.Places.{HasAsk, asks_of}
+use Rattle.play_readers.specs.Asks.{asks_of}
+use Rattle.play_reads.specs.Places.{HasAsk}
 use Rattle.play.specs.declared.faults.PlayFault.{PlayFault}
 use Rattle.play.specs.declared.player.Player.{Player}
 use Rattle.play.specs.Showing.{PlayerShows}
 use Rattle.play.specs.Events.{IsCaused, KeepsPlaces, actor_of}
 use Rattle.play.specs.Reading.{ReadsAreTold}
 
--- COMMANDS
-
--- It is formed, names only the first nodes, so many, and fits what was given before.
-pub record CommandFits (nodes : ℕ) (i : Intake) (t : TakenCommand) : Type 0 where
-  pub formed : is_formed t.command t.rule ≡ true
-  pub names : Names (IsNode nodes) t.command
-  pub admits : admitted i t.command ≡ Ok (intake_after i t.command)
-
--- So do all, each behind those before it.
-abbrev pub CommandsFit : ℕ → Intake → List TakenCommand → Type 0
-CommandsFit nodes i [] = Unit {0}
-CommandsFit nodes i (t ∷ queue) = CommandFits nodes i t × CommandsFit nodes (intake_after i t.command) queue
-
--- what a writer was given, with what is queued for it
-abbrev pub given_with : Intake → List TakenCommand → Intake
-given_with i [] = i
-given_with i (t ∷ queue) = given_with (intake_after i t.command) queue
+-- CLIENTS
 
 -- The block of a client is among these, and has a number of 64 bits; its queue fits; and its writer, once it is there, was
 -- given a create.

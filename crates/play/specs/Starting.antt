@@ -10,11 +10,11 @@ use Rattle.hd_base.specs.declared.shelves.Shelf as shelves
 use Rattle.world.specs.declared.events.Event.TheVariants as event
 use Rattle.play_model.specs.Dues.{Queues}
 use Rattle.node_starts.specs.Books.{NodeTells}
-use Rattle.play_reads.specs.Places.{asks_of}
+use Rattle.play_readers.specs.Asks.{asks_of}
 use Rattle.play.specs.declared.faults.PlayFault.{PlayFault}
 use Rattle.play.specs.declared.faults.PlayFault.TheVariants as fault
 use Rattle.play.specs.declared.player.Player.{Player}
-use Rattle.play.specs.Events.{RoadsFailed}
+use Rattle.hd_base.specs.RoadFaults.{RoadsFailed}
 use Rattle.play.specs.Standing.{PlayStands, world_of}
 
 -- The restart, of which nothing need be said, stands behind the events, and the player shows the world after it; the

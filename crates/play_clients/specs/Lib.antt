@@ -6,3 +6,4 @@ pub mod Events
 pub mod Staying
 pub mod Others
 pub mod Passing
+pub mod Blocks

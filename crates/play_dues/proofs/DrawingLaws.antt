@@ -17,12 +17,12 @@ use Rattle.play_clients.specs.declared.clients.Client.{Client}
 use Rattle.play_nodes.specs.declared.nodes.Nodes.{Nodes}
 use Rattle.play_nodes.proofs.Tables.{element}
 use Rattle.play_reads.specs.declared.reads.Reads.{Reads}
-use Rattle.play_reads.specs.Places.{asks_of}
+use Rattle.play_readers.specs.Asks.{asks_of}
 use Rattle.play_dues.specs.declared.live.LiveConns.{LiveConns}
 use Rattle.play_dues.specs.Drawing.{DrawsFrom, DrawsDue}
 use Rattle.play_dues.specs.Listing.{shown_dues, all_dues, CountsDues, PicksDue}
 use Rattle.play_dues.specs.Live.{IsCurrent}
-use Rattle.play_dues.specs.Own.{blocks_of}
+use Rattle.play_clients.specs.Blocks.{blocks_of}
 use Rattle.play_dues.proofs.LiveLaws.{live_dues}
 
 none_drawn : (xs : List Due) (g : Lcg) → length xs ≡ 0 → DrawsFrom xs g g None

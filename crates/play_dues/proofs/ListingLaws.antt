@@ -21,12 +21,12 @@ use Rattle.play_nodes.proofs.JoinNodes.{passes_at, place_there}
 use Rattle.play_readers.specs.declared.clients.ReadClient.{ReadClient}
 use Rattle.play_reads.specs.declared.reads.Reads.{Reads}
 use Rattle.play_reads.specs.Places as read_places
-use Rattle.play_reads.specs.Places.{asks_of}
+use Rattle.play_readers.specs.Asks.{asks_of}
 use Rattle.play_dues.specs.declared.conns.ConnDues.{ConnDues}
 use Rattle.play_dues.specs.Conns.{listed, TellsUpper, TellsConn}
 use Rattle.play_dues.specs.Listing.{shown_dues, CountsFront, StandsBehind, CountsDues, PicksDue, TellsDue, IsAlone}
 use Rattle.play_dues.specs.Lowers.{TellsLower, TellsActs}
-use Rattle.play_dues.specs.Own.{blocks_of}
+use Rattle.play_clients.specs.Blocks.{blocks_of}
 use Rattle.play_dues.specs.Places.{client_place, has_step_of, has_step_at}
 use Rattle.play_dues.specs.Readers.{is_new_of, is_new_at}
 use Rattle.play_dues.specs.Showing.{DuesShow}

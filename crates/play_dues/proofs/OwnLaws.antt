@@ -13,7 +13,8 @@ use Rattle.play_model.specs.declared.dues.Due.TheVariants as due
 use Rattle.play_model.specs.Dues.{Queues, own_due, own_dues, when}
 use Rattle.play_clients.specs.declared.clients.Client.{Client}
 use Rattle.play_clients.specs.Clients.{client_has_step}
-use Rattle.play_dues.specs.Own.{own_listed, blocks_of}
+use Rattle.play_clients.specs.Blocks.{blocks_of}
+use Rattle.play_dues.specs.Own.{own_listed}
 use Rattle.play_dues.specs.Showing.{QueueShows}
 
 module _ {I O : Type 0} (i : link_in.Ghosts I) (o : link_out.Ghosts O) where

@@ -11,7 +11,7 @@ use Rattle.play_readers.specs.declared.clients.ReadClient.{ReadClient}
 use Rattle.play_readers.specs.declared.clients.ReadState.{ReadState}
 use Rattle.play_readers.specs.declared.clients.ReadState.TheVariants as state
 use Rattle.play_readers.specs.Clients.{is_new, StateShows, ReadClientShows}
-use Rattle.play_reads.specs.Places.{asks_of}
+use Rattle.play_readers.specs.Asks.{asks_of}
 use Rattle.play_dues.specs.Readers.{readers_listed}
 
 module _ {I O : Type 0} (i : link_in.Ghosts I) (o : link_out.Ghosts O) (w : World) (net : Net) where

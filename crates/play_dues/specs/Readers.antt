@@ -12,7 +12,7 @@ use Rattle.play_model.specs.Dues.{Queues, when, reader_dues}
 use Rattle.play_readers.specs.declared.clients.ReadClient.{ReadClient}
 use Rattle.play_readers.specs.Clients.{is_new}
 use Rattle.play_reads.specs.declared.reads.Reads.{Reads}
-use Rattle.play_reads.specs.Places.{asks_of}
+use Rattle.play_readers.specs.Asks.{asks_of}
 use Rattle.play_reads.specs.Showing.{ReadsShow}
 
 -- the own steps that are due, in the order of the clients

@@ -7,3 +7,4 @@ pub mod Intakes
 pub mod Stamps
 pub mod Writers
 pub mod Pipelines
+pub mod Commands

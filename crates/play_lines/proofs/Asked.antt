@@ -8,7 +8,8 @@ use Rattle.hd_base.specs.declared.roads.Roads as roads
 use Rattle.play_model.specs.declared.asks.ReadAsk.{ReadAsk}
 use Rattle.play_model.specs.States.{PlayState, asked}
 use Rattle.play_readers.specs.declared.clients.ReadClient.{ReadClient}
-use Rattle.play_reads.specs.Places.{HasClient, asks_of}
+use Rattle.play_readers.specs.Asks.{asks_of}
+use Rattle.play_reads.specs.Places.{HasClient}
 use Rattle.play.specs.Reading.{FilesTell}
 use Rattle.play.specs.Standing.{AskFits, AsksFit, world_of}
 use Rattle.play_lines.specs.declared.playing.Playing.{Playing}

@@ -38,7 +38,7 @@ use Rattle.world.specs.declared.events.TakenCommand.{TakenCommand}
 use Rattle.world.specs.Clients.{is_formed}
 use Rattle.play_laws.specs.Members.{Names, IsNode}
 use Rattle.play_scripts.specs.Fitting.{LineFits}
-use Rattle.play.specs.Standing.{CommandFits, given_with}
+use Rattle.play_laws.specs.Commands.{CommandFits, given_with}
 use Rattle.play_lines.specs.declared.lines.Ordered.{Ordered}
 use Rattle.play_lines.specs.Lines.{ordered_by, StandIs, GivenIs, is_made, CreatesHere, IsBehind, AsksBelow, LineLeft, LineEnds, LineShows}
 

@@ -14,7 +14,7 @@ use Rattle.world.specs.Events.{run}
 use Rattle.world_cuts.specs.Cutting.{cut_world, IsCut, CutsAreLosses}
 use Rattle.world_orders.specs.Open.{AllOpen}
 use Rattle.world_laws.specs.Placing.{Placed}
-use Rattle.play_dues.specs.Own.{blocks_of}
+use Rattle.play_clients.specs.Blocks.{blocks_of}
 use Rattle.play_model.specs.Lines.{pipeline_conn, cut_at}
 use Rattle.play_model.specs.States as states
 use Rattle.play_model.specs.States.{PlayState}
@@ -26,13 +26,14 @@ use Rattle.play.specs.declared.player.Player.{Player}
 use Rattle.play.specs.Cutting as player
 use Rattle.play.specs.Cutting.{losses, HasCut}
 use Rattle.play.specs.Laws.{Laws}
-use Rattle.play.specs.Standing.{given_with, world_of}
+use Rattle.play_laws.specs.Commands.{given_with}
+use Rattle.play.specs.Standing.{world_of}
 use Rattle.play_laws.specs.Intakes.{intake_of}
 use Rattle.play_lines.specs.declared.playing.Playing.{Playing}
 use Rattle.play_lines.specs.Drawing.{IsCaused, IsDrawn}
 use Rattle.play_lines.specs.Pipelines.{number_of, pipeline_at}
 use Rattle.play_lines.specs.Cutting.{CutShows}
-use Rattle.play_reads.specs.Places.{asks_of}
+use Rattle.play_readers.specs.Asks.{asks_of}
 use Rattle.play_lines.specs.Showing.{PlayIs, IsPlaying}
 use Rattle.play_lines.proofs.Drawn.{world_same, dues_show}
 use Rattle.play_lines.proofs.Pipelined.{pipeline_told, conn_within}

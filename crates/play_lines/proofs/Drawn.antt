@@ -28,20 +28,23 @@ use Rattle.play_dues.specs.Drawing.{DrawsFrom, DrawsDue, PlaysAreDrawn, PlaysEnd
 use Rattle.play_dues.specs.Listing.{all_dues, DuesAreListed}
 use Rattle.play_dues.specs.declared.live.LiveConns.{LiveConns}
 use Rattle.play_dues.specs.Live.{Covers, IsCurrent, IsRefreshed, CurrentCovers, CoversOn}
-use Rattle.play_dues.specs.Own.{blocks_of}
+use Rattle.play_clients.specs.Blocks.{blocks_of}
 use Rattle.play_dues.specs.Showing.{HasClient, DuesShow}
 use Rattle.play.specs.declared.faults.PlayFault.{PlayFault}
 use Rattle.play.specs.declared.faults.PlayFault.TheVariants as fault
 use Rattle.play.specs.declared.player.Player.{Player}
 use Rattle.play.specs.Events as player
-use Rattle.play.specs.Events.{RoadsFailed, KeepsPlaces}
+use Rattle.hd_base.specs.RoadFaults.{RoadsFailed}
+use Rattle.play.specs.Events.{KeepsPlaces}
 use Rattle.play.specs.Laws.{Laws}
 use Rattle.play_readers.specs.declared.clients.ReadClient.{ReadClient}
-use Rattle.play_reads.specs.Places.{HasAsk, asks_of}
+use Rattle.play_readers.specs.Asks.{asks_of}
+use Rattle.play_reads.specs.Places.{HasAsk}
 use Rattle.play.specs.Reading.{ReadsAreTold}
 use Rattle.play.specs.Showing.{PlayerStands}
 use Rattle.play.proofs.ReadsLaws.{none_dialled}
-use Rattle.play.specs.Standing.{given_with, world_of, PlayStands, HasHappened, HappenShows, ActorIsClient}
+use Rattle.play_laws.specs.Commands.{given_with}
+use Rattle.play.specs.Standing.{world_of, PlayStands, HasHappened, HappenShows, ActorIsClient}
 use Rattle.play_lines.specs.declared.playing.Playing.{Playing}
 use Rattle.play_lines.specs.Drawing.{IsCaused, blocks_in, DrawEnds, DrawShows}
 use Rattle.play_lines.specs.Showing.{PlayIs, IsPlaying, given_in}

@@ -29,7 +29,7 @@ use Rattle.play_model.specs.States as states
 use Rattle.play_model.specs.States.{PlayState}
 use Rattle.play_settling.specs.Settling.{queue_weight, block_weight, ask_weight, writers_weight, weight_of, AreApart, UpperAmong, ActorAmong, IsUntold, CanHappen, PlaysLower}
 use Rattle.play_clients.specs.declared.clients.Client.{Client}
-use Rattle.play_dues.specs.Own.{blocks_of}
+use Rattle.play_clients.specs.Blocks.{blocks_of}
 use Rattle.play_dues.specs.Showing.{HasClient}
 use Rattle.play_dues.proofs.UpperLaws.{heard_conn}
 use Rattle.play.specs.Laws.{Laws}
@@ -37,7 +37,7 @@ use Rattle.play.specs.Standing.{world_of}
 use Rattle.play.proofs.Lawful.{room}
 use Rattle.play_lines.specs.declared.playing.Playing.{Playing}
 use Rattle.play_lines.specs.Drawing.{blocks_in, DrawShows}
-use Rattle.play_reads.specs.Places.{asks_of}
+use Rattle.play_readers.specs.Asks.{asks_of}
 use Rattle.play_lines.specs.Showing.{PlayIs, IsPlaying}
 
 -- HOW MUCH IS TO BE DONE

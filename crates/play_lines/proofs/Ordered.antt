@@ -23,10 +23,11 @@ use Rattle.play_laws.specs.Intakes.{intake_of}
 use Rattle.play_clients.specs.declared.clients.Client.{Client}
 use Rattle.play_clients.specs.Clients.{ClientShows}
 use Rattle.play_nodes.proofs.Tables.{SetOr, set_or}
-use Rattle.play_dues.specs.Own.{blocks_of}
+use Rattle.play_clients.specs.Blocks.{blocks_of}
 use Rattle.play_dues.specs.Showing.{HasClient}
 use Rattle.play.specs.Showing.{IsClient, AreApart}
-use Rattle.play.specs.Standing.{CommandFits, CommandsFit, ClientFits, world_of, given_with}
+use Rattle.play_laws.specs.Commands.{CommandFits, CommandsFit, given_with}
+use Rattle.play.specs.Standing.{ClientFits, world_of}
 use Rattle.play_lines.specs.declared.playing.Playing.{Playing}
 use Rattle.play_lines.specs.Drawing.{IsLeft}
 use Rattle.play.specs.declared.faults.PlayFault.{PlayFault}

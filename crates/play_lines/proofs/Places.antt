@@ -4,7 +4,7 @@ use Rattle.std.proofs.lemmas.Option.{same_Some}
 use Rattle.play_model.specs.declared.asks.ReadAsk.{ReadAsk}
 use Rattle.play_model.specs.States.{PlayState}
 use Rattle.play_clients.specs.declared.clients.Client.{Client}
-use Rattle.play_dues.specs.Own.{blocks_of}
+use Rattle.play_clients.specs.Blocks.{blocks_of}
 use Rattle.play_dues.specs.Showing.{HasClient}
 use Rattle.play_lines.specs.Lines.{AsksBelow}
 

@@ -14,7 +14,7 @@ use Rattle.play_model.specs.States.{PlayState, ruled}
 use Rattle.play_clients.specs.declared.clients.Client.{Client}
 use Rattle.play_clients.specs.Clients.{ClientShows}
 use Rattle.play_nodes.proofs.Tables.{SetOr, set_or}
-use Rattle.play_dues.specs.Own.{blocks_of}
+use Rattle.play_clients.specs.Blocks.{blocks_of}
 use Rattle.play_dues.specs.Places.{client_place}
 use Rattle.play.specs.Showing.{IsClient, AreApart}
 use Rattle.play.specs.Standing.{ClientFits, world_of}

@@ -20,13 +20,14 @@ use Rattle.play_model.specs.States.{PlayState}
 use Rattle.play_clients.specs.declared.clients.Client.{Client}
 use Rattle.play_dues.specs.declared.live.LiveConns.{LiveConns}
 use Rattle.play_dues.specs.Live.{Covers}
-use Rattle.play_dues.specs.Own.{blocks_of}
+use Rattle.play_clients.specs.Blocks.{blocks_of}
 use Rattle.play_dues.specs.Spent.{is_given_up, is_spent}
 use Rattle.play_laws.specs.Intakes.{intake_of}
 use Rattle.play_nodes.specs.Showing.{runs_in, has_events}
 use Rattle.play.specs.declared.faults.PlayFault.{PlayFault}
 use Rattle.play.specs.Laws.{Laws}
-use Rattle.play.specs.Standing.{given_with, world_of}
+use Rattle.play_laws.specs.Commands.{given_with}
+use Rattle.play.specs.Standing.{world_of}
 use Rattle.play.specs.Stopping as player
 use Rattle.play.specs.Stopping.{HasStopped}
 use Rattle.play_lines.specs.declared.playing.Playing.{Playing}

@@ -9,13 +9,13 @@ use Rattle.replica_files.specs.declared.book_state.BookState.{BookState}
 use Rattle.play_model.specs.Draws.{draw, draws, Settles}
 use Rattle.play_model.specs.Dues.{dues}
 use Rattle.play_model.specs.States.{PlayState}
-use Rattle.play_dues.specs.Own.{blocks_of}
+use Rattle.play_clients.specs.Blocks.{blocks_of}
 use Rattle.play_dues.specs.Showing.{HasClient}
 use Rattle.play_nodes.specs.declared.nodes.Nodes.{Nodes}
 use Rattle.play_nodes.specs.Places.{book_at}
 use Rattle.play.specs.declared.faults.PlayFault.{PlayFault}
 use Rattle.play.specs.declared.faults.PlayFault.TheVariants as fault
-use Rattle.play.specs.Events.{RoadsFailed}
+use Rattle.hd_base.specs.RoadFaults.{RoadsFailed}
 use Rattle.play_lines.specs.declared.playing.Playing.{Playing}
 use Rattle.play_lines.specs.Showing.{PlayIs, given_in}
 

@@ -11,7 +11,7 @@ use Rattle.play_clients.specs.declared.clients.Client.{Client}
 use Rattle.play_dues.specs.Places.{client_place}
 use Rattle.play.specs.declared.faults.PlayFault.{PlayFault}
 use Rattle.play.specs.declared.faults.PlayFault.TheVariants as fault
-use Rattle.play.specs.Standing.{CommandFits}
+use Rattle.play_laws.specs.Commands.{CommandFits}
 use Rattle.play_lines.specs.declared.playing.Playing.{Playing}
 use Rattle.play_lines.specs.Drawing.{IsLeft}
 use Rattle.play_lines.specs.Showing.{PlayIs, given_in}

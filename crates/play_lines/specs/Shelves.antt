@@ -8,7 +8,7 @@ use Rattle.node_opening.specs.Emptiness.{ShelfRose}
 use Rattle.node_opening.specs.Standing.{ShelvesStand, AllLentOut, ShelvesStay}
 use Rattle.play.specs.declared.faults.PlayFault.{PlayFault}
 use Rattle.play.specs.declared.faults.PlayFault.TheVariants as fault
-use Rattle.play.specs.Events.{RoadsFailed}
+use Rattle.hd_base.specs.RoadFaults.{RoadsFailed}
 use Rattle.play_lines.specs.declared.playing.Playing.{Playing}
 use Rattle.play_lines.specs.Drawing.{HasFailed}
 

@@ -11,9 +11,10 @@ use Rattle.play_model.specs.States.{PlayState}
 use Rattle.play_laws.specs.Intakes.{intake_of}
 use Rattle.play_clients.specs.declared.clients.Client.{Client}
 use Rattle.play_dues.specs.Live.{Covers}
-use Rattle.play_reads.specs.Places.{asks_of}
+use Rattle.play_readers.specs.Asks.{asks_of}
 use Rattle.play.specs.Reading.{FilesTell}
-use Rattle.play.specs.Standing.{PlayStands, given_with, world_of}
+use Rattle.play_laws.specs.Commands.{given_with}
+use Rattle.play.specs.Standing.{PlayStands, world_of}
 use Rattle.play_lines.specs.declared.playing.Playing.{Playing}
 
 -- Where something is asked all files are told.

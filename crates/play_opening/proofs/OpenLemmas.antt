@@ -30,9 +30,10 @@ use Rattle.node_opening.specs.Listening.{opened_net}
 use Rattle.play.specs.declared.player.Player.{Player}
 use Rattle.play_readers.specs.declared.clients.ReadClient.{ReadClient}
 use Rattle.play_servers.specs.declared.servers.ReadServer.{ReadServer}
-use Rattle.play_reads.specs.Places.{asks_of}
+use Rattle.play_readers.specs.Asks.{asks_of}
 use Rattle.play.specs.Showing.{AreApart, PlayerShows}
-use Rattle.play.specs.Standing.{CommandsFit, ClientFits, EventsFit, world_of, PlayStands}
+use Rattle.play_laws.specs.Commands.{CommandsFit}
+use Rattle.play.specs.Standing.{ClientFits, EventsFit, world_of, PlayStands}
 use Rattle.play_opening.specs.Opening.{IsNewClient, AreNewClients, IsOpenedPlay, no_commands}
 use Rattle.play_opening.proofs.ClientLemmas.{block_here}
 

@@ -5,3 +5,4 @@ pub mod Owning
 pub mod Hearing
 pub mod Staying
 pub mod Frames
+pub mod Asks

@@ -19,7 +19,8 @@ use Rattle.play_readers.specs.declared.clients.ReadState.TheVariants as state
 use Rattle.play_readers.specs.Clients.{StateShows, ReadClientShows, ReadIsReady}
 use Rattle.play_readers.specs.Staying.{KeepsReadClient, ReadClientsStay}
 use Rattle.play_nodes.proofs.PlaceLaws.{same_some}
-use Rattle.play_reads.specs.Places.{AreApart, HasClient, asks_of}
+use Rattle.play_readers.specs.Asks.{asks_of}
+use Rattle.play_reads.specs.Places.{AreApart, HasClient}
 use Rattle.play_nodes.specs.declared.nodes.Nodes.{Nodes}
 use Rattle.play_reads.specs.declared.reads.Reads.{Reads}
 use Rattle.play_reads.specs.Showing.{ClientsShow, Stand}

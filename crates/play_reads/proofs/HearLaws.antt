@@ -32,7 +32,8 @@ use Rattle.play_reads.specs.declared.reads.Reads.{Reads}
 use Rattle.play_reads.specs.Faults.{of_reader, IsCaused}
 use Rattle.play_reads.specs.Keeping.{KeepsServers}
 use Rattle.play_reads.specs.Left.{ReadsLeft}
-use Rattle.play_reads.specs.Places.{asks_of, HasClient}
+use Rattle.play_readers.specs.Asks.{asks_of}
+use Rattle.play_reads.specs.Places.{HasClient}
 use Rattle.play_reads.specs.Showing.{ClientsShow, ServersShow, ReadsStand}
 use Rattle.play_servers.specs.declared.servers.ReadServer.{ReadServer}
 use Rattle.play_reads.proofs.ClientLaws.{reader_same, no_writer_reads, no_member_reads, no_recovery_reads, ActsAlone, clients_after, asks_set, has_client_set}

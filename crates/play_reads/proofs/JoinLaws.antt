@@ -10,7 +10,8 @@ use Rattle.play_readers.specs.Clients.{ReadClientShows}
 use Rattle.play_servers.specs.declared.servers.ReadServer.{ReadServer}
 use Rattle.play_reads.specs.declared.reads.Reads.{Reads}
 use Rattle.play_reads.specs.Joining.{NoneShow, made_client, HasJoined}
-use Rattle.play_reads.specs.Places.{HasClient, asks_of}
+use Rattle.play_readers.specs.Asks.{asks_of}
+use Rattle.play_reads.specs.Places.{HasClient}
 use Rattle.play_reads.specs.Showing.{ClientsShow, ServersShow}
 use Rattle.play_reads.proofs.DueLaws.{none_begun}
 use Rattle.play_reads.proofs.OwnLaws.{front, PutOr, put_or}

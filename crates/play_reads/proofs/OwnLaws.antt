@@ -38,7 +38,8 @@ use Rattle.play_reads.specs.Faults.{of_reader, IsCaused}
 use Rattle.play_reads.specs.Keeping.{KeepsServed}
 use Rattle.play_reads.specs.Left.{ReadsLeft}
 use Rattle.play_reads.specs.Owning.{made_server, IsReached, Reaches, OwnIsLawful, OwnShows}
-use Rattle.play_reads.specs.Places.{HasServer, asks_of, HasClient}
+use Rattle.play_readers.specs.Asks.{asks_of}
+use Rattle.play_reads.specs.Places.{HasServer, HasClient}
 use Rattle.play_reads.specs.Showing.{DialledHaveClients, ClientsShow, IsServer, ServersShow, ReadsStand}
 use Rattle.play_reads.proofs.ClientLaws.{ActsAlone, clients_after, asks_set, has_client_set, reader_same}
 use Rattle.play_reads.proofs.HearLaws.{reader_caused, heard_stands}

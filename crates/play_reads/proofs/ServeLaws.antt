@@ -33,7 +33,8 @@ use Rattle.play_servers.specs.Showing as showing
 use Rattle.play_reads.specs.declared.reads.Reads.{Reads}
 use Rattle.play_reads.specs.Keeping.{KeepsServed}
 use Rattle.play_reads.specs.Left.{ReadsLeft}
-use Rattle.play_reads.specs.Places.{AreSingle, HasServer, asks_of, HasClient}
+use Rattle.play_readers.specs.Asks.{asks_of}
+use Rattle.play_reads.specs.Places.{AreSingle, HasServer, HasClient}
 use Rattle.play_reads.specs.Showing.{ClientsShow, IsServer, ServersShow, ReadsStand}
 use Rattle.play_reads.proofs.ClientLaws.{no_recovery_reads}
 use Rattle.play_reads.proofs.FrameLaws.{reads_elsewhere}

@@ -31,7 +31,8 @@ use Rattle.play_servers.specs.declared.servers.ReadServer.{ReadServer}
 use Rattle.play_servers.specs.Showing.{EndShows}
 use Rattle.play_reads.specs.declared.reads.Reads.{Reads}
 use Rattle.play_reads.specs.Left.{ReadsLeft}
-use Rattle.play_reads.specs.Places.{AreSingle, HasServer, asks_of, HasClient}
+use Rattle.play_readers.specs.Asks.{asks_of}
+use Rattle.play_reads.specs.Places.{AreSingle, HasServer, HasClient}
 use Rattle.play_reads.specs.Showing.{ClientsShow, IsServer, ServersShow, Stand}
 use Rattle.play_reads.specs.Stopping.{took, is_taken, AreKnown, HasStopped, StopShows}
 use Rattle.play_reads.proofs.ClientLaws.{no_recovery_reads}

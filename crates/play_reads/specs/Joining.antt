@@ -12,7 +12,8 @@ use Rattle.play_model.specs.declared.asks.ReadAsk.{ReadAsk}
 use Rattle.play_readers.specs.declared.clients.ReadClient.{ReadClient}
 use Rattle.play_readers.specs.declared.clients.ReadState.TheVariants as state
 use Rattle.play_reads.specs.declared.reads.Reads.{Reads}
-use Rattle.play_reads.specs.Places.{HasClient, asks_of}
+use Rattle.play_readers.specs.Asks.{asks_of}
+use Rattle.play_reads.specs.Places.{HasClient}
 use Rattle.play_reads.specs.Showing.{ReadsShow}
 
 -- NO READS

@@ -11,7 +11,7 @@ use Rattle.world_orders.specs.Orders.{purpose_of, recovering}
 use Rattle.play_nodes.specs.declared.nodes.Nodes.{Nodes}
 use Rattle.play_nodes.specs.Showing.{WritersStay}
 use Rattle.play_reads.specs.declared.reads.Reads.{Reads}
-use Rattle.play_reads.specs.Places.{asks_of}
+use Rattle.play_readers.specs.Asks.{asks_of}
 use Rattle.play_reads.specs.Showing.{ReadsStand}
 
 -- Each end of a connection that a primary dialled is one of the world after.

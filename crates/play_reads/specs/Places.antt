@@ -30,10 +30,6 @@ pub record HasAsk {I O : Type 0} (clients : List (ReadClient I O)) (ask : ReadAs
   pub at : slice_get clients place ≡ Some client
   pub asks : client.ask ≡ ask
 
--- what the clients ask
-abbrev pub asks_of : {I O : Type 0} → List (ReadClient I O) → List ReadAsk
-asks_of clients = map (λ c. c.ask) clients
-
 -- SERVERS
 
 -- the place of the lower end of this connection, if it has one

@@ -22,18 +22,19 @@ use Rattle.play_model.specs.States.{PlayState, opened, ordered}
 use Rattle.play_laws.specs.Intakes.{intake_of}
 use Rattle.play_laws.specs.Members.{AreAll, IsNode}
 use Rattle.play_clients.specs.declared.clients.Client.{Client}
-use Rattle.play_dues.specs.Own.{blocks_of}
+use Rattle.play_clients.specs.Blocks.{blocks_of}
 use Rattle.play_dues.specs.declared.live.LiveConns.{LiveConns}
 use Rattle.play_dues.specs.Live.{CoversNone}
 use Rattle.play_dues.specs.Places.{client_place}
 use Rattle.play.specs.declared.faults.PlayFault.{PlayFault}
 use Rattle.play.specs.Events as events
-use Rattle.play.specs.Standing.{CommandFits, given_with, world_of, PlayStands}
+use Rattle.play_laws.specs.Commands.{CommandFits, given_with}
+use Rattle.play.specs.Standing.{world_of, PlayStands}
 use Rattle.play.specs.declared.player.Player.{Player}
 use Rattle.play_model.specs.declared.asks.ReadAsk.{ReadAsk}
 use Rattle.play_readers.specs.declared.clients.ReadClient.{ReadClient}
 use Rattle.play_reads.specs.Joining.{AreNone}
-use Rattle.play_reads.specs.Places.{asks_of}
+use Rattle.play_readers.specs.Asks.{asks_of}
 use Rattle.play_lines.specs.declared.playing.Playing.{Playing}
 use Rattle.play_lines.specs.Drawing.{HasSettled}
 use Rattle.play_lines.specs.Ordering.{Orders, OrdersAt, OrdersArePlays}

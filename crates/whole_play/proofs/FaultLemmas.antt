@@ -10,7 +10,7 @@ use Rattle.node_opening.specs.Laws.{NeverFell, HaveClosed}
 use Rattle.node_opening.specs.Opening.{HasOpenCause}
 use Rattle.play.specs.declared.faults.PlayFault.{PlayFault}
 use Rattle.play.specs.declared.faults.PlayFault.TheVariants as play
-use Rattle.play.specs.Events.{RoadsFailed}
+use Rattle.hd_base.specs.RoadFaults.{RoadsFailed}
 use Rattle.play_lines.specs.declared.playing.Playing.{Playing}
 use Rattle.play_lines.specs.Shelves.{IsLineFault}
 use Rattle.play_report.specs.declared.faults.ReportFault.{ReportFault}

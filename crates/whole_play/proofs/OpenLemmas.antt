@@ -29,7 +29,7 @@ use Rattle.play_scripts.specs.Blocks.{AreAllCreated, AreBlocks}
 use Rattle.play_scripts.specs.Fitting.{begun}
 use Rattle.play_model.specs.declared.asks.ReadAsk.{ReadAsk}
 use Rattle.play_readers.specs.declared.clients.ReadClient.{ReadClient}
-use Rattle.play_reads.specs.Places.{asks_of}
+use Rattle.play_readers.specs.Asks.{asks_of}
 use Rattle.play_lines.specs.declared.playing.Playing.{Playing}
 use Rattle.play_lines.specs.Lines.{GivenIs, IsBehind, CreatesHere, AllCreateHere}
 use Rattle.play_lines.specs.Showing.{given_in}

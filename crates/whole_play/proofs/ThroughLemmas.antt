@@ -23,7 +23,7 @@ use Rattle.play_model.specs.States as states
 use Rattle.play_model.specs.Lines.{Plays, PlaysLines, blocks_of}
 use Rattle.play_laws.specs.Nodes.{OnlyNodesRun}
 use Rattle.play_clients.specs.declared.clients.Client.{Client}
-use Rattle.play_dues.specs.Own as own
+use Rattle.play_clients.specs.Blocks as client_blocks
 use Rattle.play_nodes.specs.Showing.{NodesShow}
 use Rattle.play.specs.Events as events
 use Rattle.play.specs.declared.faults.PlayFault.{PlayFault}
@@ -60,7 +60,7 @@ plays_script head body script end h p = subst (λ (ls : List ScriptLine). Plays 
 
 -- CLIENTS
 
-same_numbers : {I O : Type 0} (clients : List (Client I O)) → numbers (events.blocks_of clients) ≡ own.blocks_of clients
+same_numbers : {I O : Type 0} (clients : List (Client I O)) → numbers (events.blocks_of clients) ≡ client_blocks.blocks_of clients
 same_numbers [] = refl
 same_numbers (c ∷ clients) = ap (λ (bs : List ℕ). c.block.0 ∷ bs) (same_numbers clients)
 

@@ -12,7 +12,7 @@ use Rattle.world.specs.Worlds.{World}
 use Rattle.world_nets.specs.Rows.{rows_of, text_of}
 use Rattle.node_opening.specs.Emptiness.{ShelfRose, HasFirstFile}
 use Rattle.node_opening.specs.Shelves.{AllEmpty, EachShelf, LendsNoMore}
-use Rattle.play.specs.Events.{RoadsFailed}
+use Rattle.hd_base.specs.RoadFaults.{RoadsFailed}
 use Rattle.play_model.specs.States.{PlayState, world_of}
 use Rattle.play_model.specs.Lines.{Plays, blocks_of}
 use Rattle.play_scripts.specs.declared.heads.Head.{Head}
