@@ -23,7 +23,6 @@ use Rattle.play_model.specs.Dues.{Queues, is_unbegun, is_open, is_due}
 use Rattle.world_orders.specs.Orders.{purpose_of, reading}
 use Rattle.reader_events.specs.Asking.{CanAsk}
 use Rattle.play_readers.specs.declared.clients.ReadClient.{ReadClient}
-use Rattle.play_reads.specs.Places as reads_places
 use Rattle.play_clients.specs.declared.clients.Client.{Client}
 use Rattle.play_nodes.specs.declared.connections.Upper.{Upper}
 use Rattle.play_nodes.specs.Dues.{IdleIs, TellsIdle, TellsElsewhere}
@@ -35,6 +34,7 @@ use Rattle.play_nodes.proofs.JoinNodes.{passes_at, place_there}
 use Rattle.play_nodes.proofs.Tables.{element}
 use Rattle.play_dues.specs.Conns.{writer_above}
 use Rattle.play_dues.specs.Places.{client_place}
+use Rattle.play_dues.specs.Readers.{read_client_place}
 use Rattle.play_dues.specs.Showing.{HasClient}
 use Rattle.play_dues.proofs.UpperLaws.{up_at, heard_conn, member_upper, writer_upper, none_is_some}
 use Rattle.play.specs.declared.faults.PlayFault.{PlayFault}
@@ -214,7 +214,7 @@ module _ {F R I O : Type 0} (f : files.Ghosts F) (r : roads.Ghosts R I O) (i : l
 
   -- READERS
 
-  pub reads : (ask : ReadAsk) (place : ℕ) → reads_places.client_place old.reads.clients.items ask.reader ≡ Some place → AskShows f r i o place old new road road' result → HappenShows f r i o (due.Reader ask) old new road road' result
+  pub reads : (ask : ReadAsk) (place : ℕ) → read_client_place old.reads.clients.items ask.reader ≡ Some place → AskShows f r i o place old new road road' result → HappenShows f r i o (due.Reader ask) old new road road' result
   reads ask place there shows = λ nodes queues s is actor told.
       let w : World = world_of nodes old in
       let p = passes_at (λ (c : ReadClient I O). c.ask.reader == ask.reader) old.reads.clients.items place there in
@@ -228,7 +228,7 @@ module _ {F R I O : Type 0} (f : files.Ghosts F) (r : roads.Ghosts R I O) (i : l
       happened_so r i o L nodes queues old road s f (due.Reader ask) is actor new road' result
       (subst (λ (a : ReadAsk). PlayEnds f r i o w queues (due.Reader a) old new road road' result) same (shows w s.net queues p.at s.shows (told place p.at p.found) p.found (can_read_own L nodes old s.events) can))
 
-  pub nobody_reads : (ask : ReadAsk) → reads_places.client_place old.reads.clients.items ask.reader ≡ None → HappenShows f r i o (due.Reader ask) old new road road' result
+  pub nobody_reads : (ask : ReadAsk) → read_client_place old.reads.clients.items ask.reader ≡ None → HappenShows f r i o (due.Reader ask) old new road road' result
   nobody_reads ask none = λ nodes queues s is actor told.
-      absurd (none_is_some (reads_places.client_place old.reads.clients.items ask.reader) _ none
+      absurd (none_is_some (read_client_place old.reads.clients.items ask.reader) _ none
       (place_there (λ (c : ReadClient I O). c.ask.reader == ask.reader) old.reads.clients.items actor.place actor.client actor.at (eq-eqb actor.client.ask.reader ask.reader (ap (λ (a : ReadAsk). a.reader) actor.asks))))

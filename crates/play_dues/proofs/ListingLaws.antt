@@ -20,7 +20,6 @@ use Rattle.play_nodes.specs.declared.nodes.Nodes.{Nodes}
 use Rattle.play_nodes.proofs.JoinNodes.{passes_at, place_there}
 use Rattle.play_readers.specs.declared.clients.ReadClient.{ReadClient}
 use Rattle.play_reads.specs.declared.reads.Reads.{Reads}
-use Rattle.play_reads.specs.Places as read_places
 use Rattle.play_readers.specs.Asks.{asks_of}
 use Rattle.play_dues.specs.declared.conns.ConnDues.{ConnDues}
 use Rattle.play_dues.specs.Conns.{listed, TellsUpper, TellsConn}
@@ -28,7 +27,7 @@ use Rattle.play_dues.specs.Listing.{shown_dues, CountsFront, StandsBehind, Count
 use Rattle.play_dues.specs.Lowers.{TellsLower, TellsActs}
 use Rattle.play_clients.specs.Blocks.{blocks_of}
 use Rattle.play_dues.specs.Places.{client_place, has_step_of, has_step_at}
-use Rattle.play_dues.specs.Readers.{is_new_of, is_new_at}
+use Rattle.play_dues.specs.Readers.{read_client_place, is_new_of, is_new_at}
 use Rattle.play_dues.specs.Showing.{DuesShow}
 use Rattle.play_dues.specs.Steps.{steps_listed}
 use Rattle.play_dues.proofs.ListLaws.{get_front, get_behind, next_left, counted_on, all_counted, left_behind}
@@ -43,10 +42,10 @@ module _ {I O : Type 0} (clients : List (Client I O)) (reads : Reads I O) where
   pub own_alone : (d : Due) (block : BlockId) (result : Bool) → d ≡ due.Own block → result ≡ has_step_at clients (client_place clients block.0) → IsAlone clients reads d → result ≡ false
   own_alone d block result is told = subst (λ (e : Due). IsAlone clients reads e → result ≡ false) (sym is) (λ none. none_then clients block.0 result told none)
 
-  pub reader_alone : (d : Due) (ask : ReadAsk) (xs : List (ReadClient I O)) (result : Bool) → d ≡ due.Reader ask → xs ≡ reads.clients.items → result ≡ is_new_at xs (read_places.client_place xs ask.reader) → IsAlone clients reads d → result ≡ false
+  pub reader_alone : (d : Due) (ask : ReadAsk) (xs : List (ReadClient I O)) (result : Bool) → d ≡ due.Reader ask → xs ≡ reads.clients.items → result ≡ is_new_at xs (read_client_place xs ask.reader) → IsAlone clients reads d → result ≡ false
   reader_alone d ask xs result is same told =
       subst (λ (e : Due). IsAlone clients reads e → result ≡ false) (sym is)
-      (λ none. told ∙ ap (λ (x : Option ℕ). is_new_at xs x) (ap (λ (ys : List (ReadClient I O)). read_places.client_place ys ask.reader) same ∙ none))
+      (λ none. told ∙ ap (λ (x : Option ℕ). is_new_at xs x) (ap (λ (ys : List (ReadClient I O)). read_client_place ys ask.reader) same ∙ none))
 
   pub never_alone : (d e : Due) (result : Bool) → d ≡ e → (IsAlone clients reads e → ⊥) → IsAlone clients reads d → result ≡ false
   never_alone d e result is never alone = absurd (never (subst (λ (x : Due). IsAlone clients reads x) is alone))
@@ -75,21 +74,21 @@ module _ {F R I O : Type 0} (r : roads.Ghosts R I O) (i : link_in.Ghosts I) (o :
   pub own_tells : (d : Due) (block : BlockId) (road : R) (result : Bool) → d ≡ due.Own block → result ≡ has_step_at clients (client_place clients block.0) → TellsDue r i o d n clients reads road road result
   own_tells d block road result is told = subst (λ (e : Due). TellsDue r i o e n clients reads road road result) (sym is) (own_told block road result told)
 
-  reader_told : (ask : ReadAsk) (xs : List (ReadClient I O)) (road : R) (result : Bool) → xs ≡ reads.clients.items → result ≡ is_new_at xs (read_places.client_place xs ask.reader) → TellsDue r i o (due.Reader ask) n clients reads road road result
+  reader_told : (ask : ReadAsk) (xs : List (ReadClient I O)) (road : R) (result : Bool) → xs ≡ reads.clients.items → result ≡ is_new_at xs (read_client_place xs ask.reader) → TellsDue r i o (due.Reader ask) n clients reads road road result
   reader_told ask xs road result same is = λ played w net queues h.
       let all : List (ReadClient I O) = reads.clients.items in
       let test : ReadClient I O → Bool = λ c. c.ask.reader == ask.reader in
       let place : ℕ = position_or_len test all in
-      let there : read_places.client_place all ask.reader ≡ Some place =
+      let there : read_client_place all ask.reader ≡ Some place =
       place_there test all played.place played.client played.at (eq-eqb played.client.ask.reader ask.reader (ap (λ (a : ReadAsk). a.reader) played.asks)) in
       let p = passes_at test all place there in (
         h,
-        is ∙ (ap (λ (ys : List (ReadClient I O)). is_new_at ys (read_places.client_place ys ask.reader)) same
+        is ∙ (ap (λ (ys : List (ReadClient I O)). is_new_at ys (read_client_place ys ask.reader)) same
             ∙ (ap (λ (x : Option ℕ). is_new_at all x) there ∙ (ap (λ (x : Option (ReadClient I O)). is_new_of x) p.found ∙ (new_so i o w net p.at.ask.reader p.at.state (h.reads_are.clients.each place p.at p.found)
             ∙ ap (λ (reader : ℕ). is_unbegun (w.readers reader)) (eqb-true p.at.ask.reader ask.reader p.passes))))),
       )
 
-  pub reader_tells : (d : Due) (ask : ReadAsk) (xs : List (ReadClient I O)) (road : R) (result : Bool) → d ≡ due.Reader ask → xs ≡ reads.clients.items → result ≡ is_new_at xs (read_places.client_place xs ask.reader) → TellsDue r i o d n clients reads road road result
+  pub reader_tells : (d : Due) (ask : ReadAsk) (xs : List (ReadClient I O)) (road : R) (result : Bool) → d ≡ due.Reader ask → xs ≡ reads.clients.items → result ≡ is_new_at xs (read_client_place xs ask.reader) → TellsDue r i o d n clients reads road road result
   reader_tells d ask xs road result is same told = subst (λ (e : Due). TellsDue r i o e n clients reads road road result) (sym is) (reader_told ask xs road result same told)
 
   -- ONE THING

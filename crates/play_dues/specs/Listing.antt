@@ -14,11 +14,11 @@ use Rattle.play_model.specs.States.{PlayState, world_of}
 use Rattle.play_clients.specs.declared.clients.Client.{Client}
 use Rattle.play_nodes.specs.declared.nodes.Nodes.{Nodes}
 use Rattle.play_reads.specs.declared.reads.Reads.{Reads}
-use Rattle.play_reads.specs.Places as read_places
 use Rattle.play_readers.specs.Asks.{asks_of}
 use Rattle.play_reads.specs.Places.{HasAsk}
 use Rattle.play_clients.specs.Blocks.{blocks_of}
 use Rattle.play_dues.specs.Places.{client_place}
+use Rattle.play_dues.specs.Readers.{read_client_place}
 use Rattle.play_dues.specs.Showing.{HasClient, Tells}
 
 -- THE LIST
@@ -48,7 +48,7 @@ IsPlayed clients reads other = Unit {0}
 -- It is an own step of a block or of a reader that has no client.
 abbrev pub IsAlone : {I O : Type 0} → List (Client I O) → Reads I O → Due → Type 0
 IsAlone clients reads (due.Own block) = client_place clients block.0 ≡ None
-IsAlone clients reads (due.Reader ask) = read_places.client_place reads.clients.items ask.reader ≡ None
+IsAlone clients reads (due.Reader ask) = read_client_place reads.clients.items ask.reader ≡ None
 IsAlone clients reads other = ⊥
 
 -- Whether this is due, where an own step is that of a client.

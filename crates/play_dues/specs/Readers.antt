@@ -1,5 +1,5 @@
 -- Which readers have an own step, as their clients tell.
-use Rattle.std.specs.Prelude.{◌≡◌, ℕ, Bool, false, List, slice_get, Option, Some, None}
+use Rattle.std.specs.Prelude.{◌≡◌, ◌==◌, ℕ, Bool, false, List, position, slice_get, Option, Some, None}
 use Rattle.std.specs.List.{flat_map}
 use Rattle.hd_base.specs.declared.links.LinkIn as link_in
 use Rattle.hd_base.specs.declared.links.LinkOut as link_out
@@ -25,6 +25,10 @@ ReadersAreTold {I} {O} i o =
     (w : World) (net : Net) (queues : Queues) (blocks : List BlockId) (reads : Reads I O) →
     ReadsShow i o w net blocks reads
     → readers_listed reads.clients.items ≡ reader_dues w queues (asks_of reads.clients.items)
+
+-- the place of the client of this reader, if it has one
+abbrev pub read_client_place : {I O : Type 0} → List (ReadClient I O) → ℕ → Option ℕ
+read_client_place clients reader = position (λ c. c.ask.reader == reader) clients
 
 -- the client, if there is one, has an own step
 abbrev pub is_new_of : {I O : Type 0} → Option (ReadClient I O) → Bool

@@ -1,8 +1,12 @@
 //! Which readers have an own step, and where their clients stand.
 
 ghost use Rattle.std.specs.Prelude.{◌≡◌, length, slice_get};
-ghost use Rattle.play_reads.specs.Places.{client_place};
-ghost use Rattle.play_dues.specs.Readers.{readers_listed, is_new_at, ReadersAreTold};
+ghost use Rattle.play_dues.specs.Readers.{
+  read_client_place,
+  readers_listed,
+  is_new_at,
+  ReadersAreTold,
+};
 
 use hd_base::{LinkIn, LinkOut};
 use play_model::Due;
@@ -13,7 +17,7 @@ pub fn read_client_of<I: LinkIn, O: LinkOut>(
     clients: &[ReadClient<I, O>],
     reader: u64,
 ) -> Option<usize>
-    ensures { result ≡ client_place clients.now reader }
+    ensures { result ≡ read_client_place clients.now reader }
 {
     clients
         .iter()
@@ -22,7 +26,7 @@ pub fn read_client_of<I: LinkIn, O: LinkOut>(
 
 /// Whether a reader has an own step; it has none where it has no client.
 pub fn begins<I: LinkIn, O: LinkOut>(clients: &[ReadClient<I, O>], reader: u64) -> bool
-    ensures { result ≡ is_new_at clients.now (client_place clients.now reader) }
+    ensures { result ≡ is_new_at clients.now (read_client_place clients.now reader) }
 {
     let Some(place) = read_client_of(clients, reader) else {
         return false;

@@ -9,7 +9,7 @@ use Rattle.play_model.specs.declared.asks.ReadAsk.{ReadAsk}
 use Rattle.play_model.specs.States.{PlayState, asked}
 use Rattle.play_readers.specs.declared.clients.ReadClient.{ReadClient}
 use Rattle.play_readers.specs.Asks.{asks_of}
-use Rattle.play_reads.specs.Places.{HasClient}
+use Rattle.play_reads.specs.Places.{ReadersBelow}
 use Rattle.play.specs.Reading.{FilesTell}
 use Rattle.play.specs.Standing.{AskFits, AsksFit, world_of}
 use Rattle.play_lines.specs.declared.playing.Playing.{Playing}
@@ -37,16 +37,15 @@ asked_more number asks ask is below =
     each_more (λ a. a.reader < number + 1) asks ask (λ k a at. less_next a.reader number (below k a at)) (subst (λ (n : ℕ). n < number + 1) (sym is) (below_next number))
 
 module _ {F R I O : Type 0} (f : files.Ghosts F) (r : roads.Ghosts R I O) (i : link_in.Ghosts I) (o : link_out.Ghosts O) where
-  -- the reader has no client
-  nobody : (p : PlayState) (road : R) (old : Playing F I O) (ask : ReadAsk) → PlayIs f r i o p road old → ((k : ℕ) (other : ReadAsk) → slice_get p.asks k ≡ Some other → other.reader ≡ ask.reader → ⊥) → HasClient old.player.reads.clients.items ask.reader → ⊥
-  nobody p road old ask is apart h =
-      apart h.place h.client.ask
-      (ap (λ (xs : List ReadAsk). slice_get xs h.place) (sym is.asks) ∙ (slice_get-map (λ (c : ReadClient I O). c.ask) old.player.reads.clients.items h.place ∙ ap (λ (y : Option (ReadClient I O)). option_map (λ (c : ReadClient I O). c.ask) y) h.at))
-      h.of_reader
+  -- the other readers' numbers are below this one
+  readers_below : (p : PlayState) (road : R) (old : Playing F I O) (ask : ReadAsk) → PlayIs f r i o p road old → ((k : ℕ) (other : ReadAsk) → slice_get p.asks k ≡ Some other → other.reader < ask.reader) → ReadersBelow old.player.reads.clients.items ask.reader
+  readers_below p road old ask is below k c at =
+      below k c.ask
+      (ap (λ (xs : List ReadAsk). slice_get xs k) (sym is.asks) ∙ (slice_get-map (λ (x : ReadClient I O). x.ask) old.player.reads.clients.items k ∙ ap (λ (y : Option (ReadClient I O)). option_map (λ (x : ReadClient I O). x.ask) y) at))
 
   pub ask_plays : AsksArePlays f r i o
-  ask_plays old new ask p road h is tell fits apart =
-      let reads = h.joined.shows (world_of p.nodes old.player) is.stands.net old.player.nodes.blocks.items is.stands.shows.reads (nobody p road old ask is apart) in
+  ask_plays old new ask p road h is tell fits below =
+      let reads = h.joined.shows (world_of p.nodes old.player) is.stands.net old.player.nodes.blocks.items is.stands.shows.reads (readers_below p road old ask is below) in
       record {
         is = subst (λ (x : Playing F I O). PlayIs f r i o (asked p ask) road x) (sym h.same) (record {
           stands = record {

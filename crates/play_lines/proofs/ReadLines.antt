@@ -1,5 +1,5 @@
 -- A line asked to read.
-use Rattle.std.proofs.Common.{◌≡◌, ℕ, ◌<◌, List, slice_get, Some, Result, Ok, Err, refl, sym, ap, ◌∙◌, subst, arith}
+use Rattle.std.proofs.Common.{◌≡◌, ℕ, ◌<◌, List, Result, Ok, Err, refl, sym, ap, ◌∙◌, subst}
 use Rattle.hd_base.specs.declared.files.Files as files
 use Rattle.hd_base.specs.declared.links.LinkIn as link_in
 use Rattle.hd_base.specs.declared.links.LinkOut as link_out
@@ -34,9 +34,6 @@ use Rattle.play_lines.proofs.Commands.{created_made}
 use Rattle.play_lines.proofs.Drawn.{world_same}
 use Rattle.play_lines.proofs.Lined.{behind_next}
 
-less_other : (a n : ℕ) → a < n → a ≡ n → ⊥
-less_other a n h e = omega (arith, h, e)
-
 module _ {S F R I O : Type 0} (s : shelves.Ghosts S F) (f : files.Ghosts F) (r : roads.Ghosts R I O) (i : link_in.Ghosts I) (o : link_out.Ghosts O) (old new : Playing F I O) (road : R) (shelves : List S) (l : ScriptLine) (block : BlockId) (node : NodeId) (offset count : ℕ) where
   -- what the line asks
   abbrev ask : ReadAsk
@@ -51,9 +48,6 @@ module _ {S F R I O : Type 0} (s : shelves.Ghosts S F) (f : files.Ghosts F) (r :
     fits : AskFits p.nodes old.player.nodes.blocks.items ask
     fits = record { among = among; node = subst (λ (n : ℕ). node.0 < n) behind.nodes fit.words; asked = can }
 
-    apart : (k : ℕ) (other : ReadAsk) → slice_get p.asks k ≡ Some other → other.reader ≡ l.number → ⊥
-    apart k other at same = less_other other.reader l.number (asks k other at) same
-
     -- it is what the model asks
     office_same : (states.world_of p).office ≡ old.player.office.office
     office_same = ap (λ (w : World). w.office) (world_same f r i o p road old stands) ∙ sym stands.stands.shows.office
@@ -63,7 +57,7 @@ module _ {S F R I O : Type 0} (s : shelves.Ghosts S F) (f : files.Ghosts F) (r :
 
     line_left : HasAsked i o ask old new → LineLeft f r i o l.number (says.Read block node offset count) before lines p old new road
     line_left h =
-        let left : IsLeft f r i o (asked p ask) old new road = plays old new ask p road h stands tell fits apart in
+        let left : IsLeft f r i o (asked p ask) old new road = plays old new ask p road h stands tell fits asks in
         record {
           left = asked p ask;
           plays = line_plays;

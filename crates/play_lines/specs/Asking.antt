@@ -1,5 +1,5 @@
 -- What a line that asks to read makes of a play.
-use Rattle.std.specs.Prelude.{◌≡◌, ℕ, slice_get, Some, Result, Ok, Err}
+use Rattle.std.specs.Prelude.{◌≡◌, ◌<◌, ℕ, slice_get, Some, Result, Ok, Err}
 use Rattle.hd_base.specs.declared.files.Files as files
 use Rattle.hd_base.specs.declared.links.LinkIn as link_in
 use Rattle.hd_base.specs.declared.links.LinkOut as link_out
@@ -41,11 +41,12 @@ abbrev pub Asks : {F I O : Type 0} → link_in.Ghosts I → link_out.Ghosts O �
 Asks i o ask old new (Ok u) = HasAsked i o ask old new
 Asks i o ask old new (Err why) = why ≡ fault.Memory
 
--- So what is left is the play in which this was asked, of files that are told, where no other reader has that number.
+-- So what is left is the play in which this was asked, of files that are told, where all other readers' numbers are
+-- below that of the new one.
 abbrev pub AsksArePlays : {F R I O : Type 0} → files.Ghosts F → roads.Ghosts R I O → link_in.Ghosts I →
     link_out.Ghosts O → Type 0
 AsksArePlays {F} {R} {I} {O} f r i o =
     (old new : Playing F I O) (ask : ReadAsk) (p : PlayState) (road : R) → HasAsked i o ask old new →
     PlayIs f r i o p road old → FilesTell f → AskFits p.nodes old.player.nodes.blocks.items ask →
-    ((k : ℕ) (other : ReadAsk) → slice_get p.asks k ≡ Some other → other.reader ≡ ask.reader → ⊥)
+    ((k : ℕ) (other : ReadAsk) → slice_get p.asks k ≡ Some other → other.reader < ask.reader)
     → IsLeft f r i o (asked p ask) old new road

@@ -40,7 +40,8 @@ impl<F: Files, I: LinkIn, O: LinkOut> Playing<F, I, O> {
     }
 }
 
-/// A play that a reader joined, whose number no other one has, is the play in which this was asked, where all files are told.
+/// A play that a reader joined, whose number is above all others', is the play in which this was asked, where all files are
+/// told.
 pub fn asks_are_plays<F: Files, I: LinkIn, O: LinkOut, R: Roads<Inward = I, Outward = O>>()
     ensures { AsksArePlays F.Files R.Roads I.LinkIn O.LinkOut }
 {}

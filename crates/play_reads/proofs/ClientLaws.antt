@@ -20,11 +20,12 @@ use Rattle.play_readers.specs.Clients.{StateShows, ReadClientShows, ReadIsReady}
 use Rattle.play_readers.specs.Staying.{KeepsReadClient, ReadClientsStay}
 use Rattle.play_nodes.proofs.PlaceLaws.{same_some}
 use Rattle.play_readers.specs.Asks.{asks_of}
-use Rattle.play_reads.specs.Places.{AreApart, HasClient}
+use Rattle.play_reads.specs.Places.{IsNumbered, ReadersAscend, HasClient}
 use Rattle.play_nodes.specs.declared.nodes.Nodes.{Nodes}
 use Rattle.play_reads.specs.declared.reads.Reads.{Reads}
 use Rattle.play_reads.specs.Showing.{ClientsShow, Stand}
 use Rattle.play_reads.proofs.KeepLaws.{dialled_by}
+use Rattle.play_reads.proofs.Numbers.{same_place, ascend_same}
 
 -- UPPER ENDS
 
@@ -67,27 +68,19 @@ module _ {I O : Type 0} where
         by (inr away) = record { place = h.place; client = h.client; at = set_there xs place c' h.place away ∙ h.at; of_reader = h.of_reader }
 
     -- the client that stood there before, of the same reader
-    record WasThere (k : ℕ) (a : ReadClient I O) : Type 0 where
-      was : ReadClient I O
-      found : slice_get xs k ≡ Some was
-      reader : was.ask.reader ≡ a.ask.reader
-
-    was_there : (k : ℕ) (a : ReadClient I O) → slice_get (slice_set xs place c') k ≡ Some a → WasThere k a
+    was_there : (k : ℕ) (a : ReadClient I O) → slice_get (slice_set xs place c') k ≡ Some a → IsNumbered (λ x. x.ask.reader) xs a.ask.reader k
     was_there k a is = by (set_or xs place c' k a is)
       where
-        by : SetOr xs place c' k a → WasThere k a
+        by : SetOr xs place c' k a → IsNumbered (λ x. x.ask.reader) xs a.ask.reader k
         by (inl x) = record {
-          was = c;
-          found = ap (λ (n : ℕ). slice_get xs n) x.0 ∙ at;
-          reader = sym (ap (λ (y : ReadClient I O). y.ask.reader) x.1 ∙ ap (λ (y : ReadAsk). y.reader) same);
+          found = c;
+          at = ap (λ (n : ℕ). slice_get xs n) x.0 ∙ at;
+          same = sym (ap (λ (y : ReadClient I O). y.ask.reader) x.1 ∙ ap (λ (y : ReadAsk). y.reader) same);
         }
-        by (inr x) = record { was = a; found = x.1; reader = refl }
+        by (inr x) = record { found = a; at = x.1; same = refl }
 
-    pub apart_set : AreApart xs → AreApart (slice_set xs place c')
-    apart_set apart j k a b at_j at_k e =
-        let x : WasThere j a = was_there j a at_j in
-        let y : WasThere k b = was_there k b at_k in
-        apart j k x.was y.was x.found y.found (x.reader ∙ (e ∙ sym y.reader))
+    pub ascend_set : ReadersAscend xs → ReadersAscend (slice_set xs place c')
+    ascend_set up = ascend_same (λ x. x.ask.reader) xs up (slice_set xs place c') was_there
 
   pub asks_set : (xs : List (ReadClient I O)) (place : ℕ) (c c' : ReadClient I O) → slice_get xs place ≡ Some c → c'.ask ≡ c.ask → asks_of (slice_set xs place c') ≡ asks_of xs
   asks_set [] place c c' at same = refl
@@ -116,13 +109,13 @@ module _ {I O : Type 0} (i : link_in.Ghosts I) (o : link_out.Ghosts O) where
     pub clients_after : (xs : List (ReadClient I O)) (place : ℕ) (c c' : ReadClient I O) → ReadClientsStay i o → ClientsShow i o w net xs → slice_get xs place ≡ Some c → c.ask.reader ≡ line → c'.ask ≡ c.ask → ReadClientShows i o v made c' → ClientsShow i o v made (slice_set xs place c')
     clients_after xs place c c' stay shows at of_line same here = record {
       each = λ k a is. each k a (set_or xs place c' k a is);
-      apart = apart_set xs place c c' at same shows.apart;
+      ascend = ascend_set xs place c c' at same shows.ascend;
       all = λ reader begun. has_client_set xs place c c' at same reader (all reader begun (same_or reader line));
     }
       where
         each : (k : ℕ) (a : ReadClient I O) → SetOr xs place c' k a → ReadClientShows i o v made a
         each k a (inl x) = subst (λ (y : ReadClient I O). ReadClientShows i o v made y) (sym x.1) here
-        each k a (inr x) = stay a w net v made (shows.each k a x.1) (keeps_other a.ask.reader (λ e. x.0 (shows.apart k place a c x.1 at (e ∙ sym of_line))))
+        each k a (inr x) = stay a w net v made (shows.each k a x.1) (keeps_other a.ask.reader (λ e. x.0 (same_place (λ y. y.ask.reader) xs shows.ascend k place a c x.1 at (e ∙ sym of_line))))
 
         all : (reader : ℕ) → (v.readers reader ≡ no_reader → ⊥) → ((reader ≡ line) ⊎ (reader ≡ line → ⊥)) → HasClient xs reader
         all reader begun (inl e) = record { place = place; client = c; at = at; of_reader = of_line ∙ sym e }

@@ -1,7 +1,6 @@
 -- What is due of the reads.
-use Rattle.std.proofs.Common.{◌≡◌, ◌<◌, ◌≤◌, ℕ, Bool, true, false, List, length, slice_get, Option, Some, None, IfSome, refl, sym, ap, ◌∙◌, subst, arith, eqb-true, eq-eqb}
-use Rattle.std.specs.Prelude.{◌==◌, ◌&&◌, is_some, nat_lt}
-use Rattle.std.specs.List.{position_or_len}
+use Rattle.std.proofs.Common.{◌≡◌, ◌<◌, ◌≤◌, ℕ, Bool, true, false, List, length, slice_get, Option, Some, None, IfSome, refl, sym, ap, ◌∙◌, subst, arith}
+use Rattle.std.specs.Prelude.{◌&&◌, is_some, nat_lt}
 use Rattle.hd_base.specs.declared.links.LinkIn as link_in
 use Rattle.hd_base.specs.declared.links.LinkOut as link_out
 use Rattle.hd_base.specs.declared.numbers.BlockId.{BlockId}
@@ -26,11 +25,10 @@ use Rattle.play_servers.specs.declared.servers.ReadEnd.{ReadEnd}
 use Rattle.play_servers.specs.declared.servers.ReadEnd.TheVariants as read_end
 use Rattle.play_servers.specs.declared.servers.ReadServer.{ReadServer}
 use Rattle.play_servers.specs.Showing.{EndShows}
-use Rattle.play_nodes.proofs.JoinNodes.{passes_at, place_there}
 use Rattle.play_nodes.proofs.PlaceLaws.{element_within, same_some}
 use Rattle.play_reads.specs.declared.reads.Reads.{Reads}
 use Rattle.play_reads.specs.Dues.{reader_in, TellsDialler, ClientIs, TellsClient, TellsUp}
-use Rattle.play_reads.specs.Places.{client_place, server_place, HasClient, HasServer}
+use Rattle.play_reads.specs.Places.{ReadersAscend, IsClientPlace, HasClient, ConnsAscend, IsServerPlace, HasServer}
 use Rattle.play_reads.specs.Showing.{ReadsShow}
 use Rattle.play_reads.proofs.HearLaws.{none_reads}
 
@@ -88,34 +86,28 @@ none_begun w reader (has_read r) is never = absurd (never (λ e. clash (sym is �
     clash e = cc
 
 module _ {I O : Type 0} where
-  abbrev of_reader : ℕ → ReadClient I O → Bool
-  of_reader reader c = c.ask.reader == reader
-
-  pub client_within : (xs : List (ReadClient I O)) (reader : ℕ) (x : Option ℕ) → x ≡ client_place xs reader → IfSome x (λ k. k < length xs)
+  pub client_within : (xs : List (ReadClient I O)) (reader : ℕ) (x : Option ℕ) → IsClientPlace xs reader x → IfSome x (λ k. k < length xs)
   client_within xs reader None is = tt
-  client_within xs reader (Some k) is = let p = passes_at (of_reader reader) xs k (sym is) in element_within xs k p.at p.found
+  client_within xs reader (Some k) is = element_within xs k is.found is.at
 
   -- the client of a reader is found
-  no_place : (xs : List (ReadClient I O)) (reader : ℕ) → None ≡ client_place xs reader → HasClient xs reader → ⊥
-  no_place xs reader none h =
-      none_some (position_or_len (of_reader reader) xs) (none ∙ place_there (of_reader reader) xs h.place h.client h.at (eq-eqb h.client.ask.reader reader h.of_reader))
+  no_place : (xs : List (ReadClient I O)) (reader : ℕ) → IsClientPlace xs reader None → ReadersAscend xs → HasClient xs reader → ⊥
+  no_place xs reader none up h = none up h.place (record { found = h.client; at = h.at; same = h.of_reader })
 
 module _ {F I O : Type 0} (i : link_in.Ghosts I) (o : link_out.Ghosts O) where
   pub no_dialler : (n : Nodes F I O) (conn : ConnId) (p : Reads I O) → TellsDialler i o conn n None → TellsClient i o conn n p None
   no_dialler n conn p told = λ w net shows reads within reader is. absurd (none_some reader (told w net shows within ∙ ap reader_in is))
 
-  client_is : (w : World) (net : Net) (conn : ConnId) (n : Nodes F I O) (p : Reads I O) (reader : ℕ) (x : Option ℕ) → ReadsShow i o w net n.blocks.items p → Some reader ≡ reader_in (w.dialled conn.0).upper → x ≡ client_place p.clients.items reader → ClientIs w conn.0 p.clients.items x
-  client_is w net conn n p reader (Some k) shows told is =
-      let at = passes_at (of_reader reader) p.clients.items k (sym is) in
-      record {
-        client = at.at;
-        at = at.found;
-        dialled = reader_so (w.dialled conn.0).upper reader told ∙ ap (λ (m : ℕ). by_reader m) (sym (eqb-true at.at.ask.reader reader at.passes));
-      }
+  client_is : (w : World) (net : Net) (conn : ConnId) (n : Nodes F I O) (p : Reads I O) (reader : ℕ) (x : Option ℕ) → ReadsShow i o w net n.blocks.items p → Some reader ≡ reader_in (w.dialled conn.0).upper → IsClientPlace p.clients.items reader x → ClientIs w conn.0 p.clients.items x
+  client_is w net conn n p reader (Some k) shows told is = record {
+    client = is.found;
+    at = is.at;
+    dialled = reader_so (w.dialled conn.0).upper reader told ∙ ap (λ (m : ℕ). by_reader m) (sym is.same);
+  }
   client_is w net conn n p reader None shows told is = λ other by.
-      none_begun w other (w.readers other) refl (λ begun. no_place p.clients.items reader is (subst (λ (m : ℕ). HasClient p.clients.items m) (sym (same_some reader other (told ∙ ap reader_in by))) (shows.clients.all other begun)))
+      none_begun w other (w.readers other) refl (λ begun. no_place p.clients.items reader is shows.clients.ascend (subst (λ (m : ℕ). HasClient p.clients.items m) (sym (same_some reader other (told ∙ ap reader_in by))) (shows.clients.all other begun)))
 
-  pub client_told : (n : Nodes F I O) (conn : ConnId) (p : Reads I O) (reader : ℕ) (x : Option ℕ) → TellsDialler i o conn n (Some reader) → x ≡ client_place p.clients.items reader → TellsClient i o conn n p x
+  pub client_told : (n : Nodes F I O) (conn : ConnId) (p : Reads I O) (reader : ℕ) (x : Option ℕ) → TellsDialler i o conn n (Some reader) → IsClientPlace p.clients.items reader x → TellsClient i o conn n p x
   client_told n conn p reader x told is = λ w net shows reads within. client_is w net conn n p reader x reads (told w net shows within) is
 
 -- UP
@@ -157,25 +149,20 @@ module _ {F R I O : Type 0} (r : roads.Ghosts R I O) (i : link_in.Ghosts I) (o :
 -- SERVERS
 
 module _ {I O : Type 0} where
-  abbrev pub of_conn : ℕ → ReadServer I O → Bool
-  of_conn c s = s.conn.0 == c
-
-  pub server_within : (xs : List (ReadServer I O)) (c : ℕ) (x : Option ℕ) → x ≡ server_place xs c → IfSome x (λ k. k < length xs)
+  pub server_within : (xs : List (ReadServer I O)) (c : ℕ) (x : Option ℕ) → IsServerPlace xs c x → IfSome x (λ k. k < length xs)
   server_within xs c None is = tt
-  server_within xs c (Some k) is = let p = passes_at (of_conn c) xs k (sym is) in element_within xs k p.at p.found
+  server_within xs c (Some k) is = element_within xs k is.found is.at
 
-  pub server_found : (xs : List (ReadServer I O)) (c : ℕ) → HasServer xs c → server_place xs c ≡ Some (position_or_len (of_conn c) xs)
-  server_found xs c h = place_there (of_conn c) xs h.place h.server h.at (eq-eqb h.server.conn.0 c h.of_conn)
+  pub server_at : (xs ys : List (ReadServer I O)) (c : ℕ) (x y : Option ℕ) → xs ≡ ys → x ≡ y → IsServerPlace xs c x → IsServerPlace ys c y
+  server_at xs ys c x y there is h =
+      subst (λ (z : Option ℕ). IsServerPlace ys c z) is (subst (λ (zs : List (ReadServer I O)). IsServerPlace zs c x) there h)
 
-  pub no_server : (xs : List (ReadServer I O)) (c : ℕ) → None ≡ server_place xs c → HasServer xs c → ⊥
-  no_server xs c none h =
-      none_some (position_or_len (of_conn c) xs) (none ∙ server_found xs c h)
+  pub no_server : (xs : List (ReadServer I O)) (c : ℕ) → IsServerPlace xs c None → ConnsAscend xs → HasServer xs c → ⊥
+  no_server xs c none up h = none up h.place (record { found = h.server; at = h.at; same = h.of_conn })
 
   -- the server at a place that was found is that of the connection
-  pub server_conn : (xs : List (ReadServer I O)) (c k : ℕ) (s : ReadServer I O) → Some k ≡ server_place xs c → slice_get xs k ≡ Some s → s.conn.0 ≡ c
-  server_conn xs c k s is at =
-      let p = passes_at (of_conn c) xs k (sym is) in
-      ap (λ (x : ReadServer I O). x.conn.0) (same_some s p.at (sym at ∙ p.found)) ∙ eqb-true p.at.conn.0 c p.passes
+  pub server_conn : (xs : List (ReadServer I O)) (c k : ℕ) (s : ReadServer I O) → IsServerPlace xs c (Some k) → slice_get xs k ≡ Some s → s.conn.0 ≡ c
+  server_conn xs c k s is at = ap (λ (x : ReadServer I O). x.conn.0) (same_some s is.found (sym at ∙ is.at)) ∙ is.same
 
 -- an end that has ended takes nothing, and does nothing
 none_taken : (w : World) (c : ℕ) (x : Option Next) → takes_down ended_below w c x ≡ false

@@ -34,10 +34,11 @@ use Rattle.play_servers.specs.declared.servers.ReadEnd.TheVariants as read_end
 use Rattle.play_servers.specs.declared.servers.ReadServer.{ReadServer}
 use Rattle.play_servers.specs.Known.{end_conn, EndIsKnown}
 use Rattle.play_reads.specs.declared.reads.Reads.{Reads}
-use Rattle.play_reads.specs.Places.{AreSingle}
+use Rattle.play_reads.specs.Places.{ConnsAscend}
 use Rattle.play_reads.specs.Stopping.{took, AreKnown, Ends, ended, EndsIf, EndsAt}
 use Rattle.play_reads.proofs.FrameLaws.{reads_elsewhere}
 use Rattle.play_reads.proofs.LifeLaws.{no_match}
+use Rattle.play_reads.proofs.Numbers.{same_place}
 
 -- ENDS THAT THE ROADS KNOW
 
@@ -100,7 +101,7 @@ pub record EndsStand {F R I O : Type 0} (r : roads.Ghosts R I O) (i : link_in.Gh
   pub roads_are : ShowsWorld r v net road
   pub nodes_are : NodesShow i o v net n
   pub ordered : Ordered v
-  pub single : AreSingle old.servers.items
+  pub ascend : ConnsAscend old.servers.items
   pub ends : (k : ℕ) (s : ReadServer I O) → slice_get old.servers.items k ≡ Some s → StandsAt i o v net s
 
 -- They show it once so many servers were looked at, and all ends that aren't gone are ends of it.
@@ -120,7 +121,7 @@ module _ {F R I O : Type 0} (f : files.Ghosts F) (r : roads.Ghosts R I O) (i : l
   module _ (v : World) (net : Net) (n : Nodes F I O) (node : NodeId) (old : Reads I O) (first : R) (all : EndsStand r i o v net n old first) (k : ℕ) (s : ReadServer I O) (at : slice_get old.servers.items k ≡ Some s) where
     -- the end of this server isn't gone yet
     not_yet : IsGone n node old k s.conn.0 true → ⊥
-    not_yet h = not_less k (subst (λ (m : ℕ). m < k) (all.single h.place k h.server s h.at at h.of_conn) h.before)
+    not_yet h = not_less k (subst (λ (m : ℕ). m < k) (same_place (λ x. x.conn.0) old.servers.items all.ascend h.place k h.server s h.at at h.of_conn) h.before)
 
     stays_still : (road road' : R) → road' ≡ road → EndsLeft r i o v net n node old k road → EndsLeft r i o v net n node old (k + 1) road'
     stays_still road road' same left = record {

@@ -1,5 +1,5 @@
 -- Reads without clients, and clients that join.
-use Rattle.std.proofs.Common.{◌≡◌, ℕ, ◌++◌, List, [], ◌∷◌, slice_get, Some, inl, inr, refl, sym, ap, ◌∙◌, subst}
+use Rattle.std.proofs.Common.{◌≡◌, ◌<◌, ℕ, ◌++◌, List, [], ◌∷◌, slice_get, Some, inl, inr, refl, sym, ap, ◌∙◌, subst, arith}
 use Rattle.hd_base.specs.declared.links.LinkIn as link_in
 use Rattle.hd_base.specs.declared.links.LinkOut as link_out
 use Rattle.road_traffic.specs.Showing.{Net}
@@ -11,14 +11,18 @@ use Rattle.play_servers.specs.declared.servers.ReadServer.{ReadServer}
 use Rattle.play_reads.specs.declared.reads.Reads.{Reads}
 use Rattle.play_reads.specs.Joining.{NoneShow, made_client, HasJoined}
 use Rattle.play_readers.specs.Asks.{asks_of}
-use Rattle.play_reads.specs.Places.{HasClient}
+use Rattle.play_reads.specs.Places.{ReadersBelow, HasClient}
 use Rattle.play_reads.specs.Showing.{ClientsShow, ServersShow}
 use Rattle.play_reads.proofs.DueLaws.{none_begun}
-use Rattle.play_reads.proofs.OwnLaws.{front, PutOr, put_or}
-use Rattle.world_orders.specs.Orders.{purpose_of, reading}
+use Rattle.play_reads.proofs.Numbers.{PutOr, put_or, ascend_put}
+use Rattle.play_reads.proofs.OwnLaws.{front}
+use Rattle.world_orders.specs.Orders.{purpose_of}
 
 none_at : {A : Type 0} (k : ℕ) (a : A) → slice_get [] k ≡ Some a → ⊥
 none_at k a e = cc
+
+not_below : (a b : ℕ) → a ≡ b → a < b → ⊥
+not_below a b e h = omega (arith, e, h)
 
 module _ {I O : Type 0} (i : link_in.Ghosts I) (o : link_out.Ghosts O) where
   -- NO READS
@@ -27,12 +31,12 @@ module _ {I O : Type 0} (i : link_in.Ghosts I) (o : link_out.Ghosts O) where
   none_show p clients servers = λ w net blocks none. record {
     clients = subst (λ (xs : List (ReadClient I O)). ClientsShow i o w net xs) (sym clients) (record {
       each = λ k c at. absurd (none_at k c at);
-      apart = λ j k a b x y same. absurd (none_at j a x);
+      ascend = λ j k a b x y before. absurd (none_at j a x);
       all = λ reader begun. absurd (begun (none.unbegun reader));
     });
     servers = subst (λ (xs : List (ReadServer I O)). ServersShow i o w net blocks xs) (sym servers) (record {
       each = λ k s at. absurd (none_at k s at);
-      single = λ j k a b x y same. absurd (none_at j a x);
+      ascend = λ j k a b x y before. absurd (none_at j a x);
       all = λ c within is. absurd (none.undialled c within is);
     });
     dialled = λ c line within by. absurd (none.undialled c within (ap purpose_of by));
@@ -40,29 +44,23 @@ module _ {I O : Type 0} (i : link_in.Ghosts I) (o : link_out.Ghosts O) where
 
   -- A CLIENT MORE
 
-  module _ (w : World) (net : Net) (ask : ReadAsk) (old : List (ReadClient I O)) (shows : ClientsShow i o w net old) (never : HasClient old ask.reader → ⊥) where
+  module _ (w : World) (net : Net) (ask : ReadAsk) (old : List (ReadClient I O)) (shows : ClientsShow i o w net old) (below : ReadersBelow old ask.reader) where
     abbrev made : ReadClient I O
     made = made_client ask
+
+    -- the reader has no client
+    never : HasClient old ask.reader → ⊥
+    never h = not_below h.client.ask.reader ask.reader h.of_reader (below h.place h.client h.at)
 
     each_now : (k : ℕ) (c : ReadClient I O) → PutOr old made k c → ReadClientShows i o w net c
     each_now k c (inl at) = shows.each k c at
     each_now k c (inr x) =
         subst (λ (y : ReadClient I O). ReadClientShows i o w net y) (sym x.1) (none_begun w ask.reader (w.readers ask.reader) refl (λ begun. never (shows.all ask.reader begun)))
 
-    -- no other client is of this reader
-    clash : (k : ℕ) (a b : ReadClient I O) → slice_get old k ≡ Some a → b ≡ made → a.ask.reader ≡ b.ask.reader → ⊥
-    clash k a b at is same = never (record { place = k; client = a; at = at; of_reader = same ∙ ap (λ (y : ReadClient I O). y.ask.reader) is })
-
-    apart_by : (j k : ℕ) (a b : ReadClient I O) → PutOr old made j a → PutOr old made k b → a.ask.reader ≡ b.ask.reader → j ≡ k
-    apart_by j k a b (inl x) (inl y) same = shows.apart j k a b x y same
-    apart_by j k a b (inl x) (inr y) same = absurd (clash j a b x y.1 same)
-    apart_by j k a b (inr x) (inl y) same = absurd (clash k b a y x.1 (sym same))
-    apart_by j k a b (inr x) (inr y) same = x.0 ∙ sym y.0
-
     pub clients_joined : ClientsShow i o w net (old ++ made ∷ [])
     clients_joined = record {
       each = λ k c at. each_now k c (put_or old made k c at);
-      apart = λ j k a b x y same. apart_by j k a b (put_or old made j a x) (put_or old made k b y) same;
+      ascend = ascend_put (λ c. c.ask.reader) old shows.ascend made below;
       all = λ reader begun.
           let x : HasClient old reader = shows.all reader begun in
           record { place = x.place; client = x.client; at = front old (made ∷ []) x.place x.client x.at; of_reader = x.of_reader };
@@ -77,8 +75,8 @@ has_joined {I} {O} i o ask old new clients servers = record {
   clients = clients;
   servers = servers;
   asks = ap (λ (xs : List (ReadClient I O)). asks_of xs) clients ∙ asks_joined old.clients.items ask;
-  shows = λ w net blocks shows never. record {
-    clients = subst (λ (xs : List (ReadClient I O)). ClientsShow i o w net xs) (sym clients) (clients_joined i o w net ask old.clients.items shows.clients never);
+  shows = λ w net blocks shows below. record {
+    clients = subst (λ (xs : List (ReadClient I O)). ClientsShow i o w net xs) (sym clients) (clients_joined i o w net ask old.clients.items shows.clients below);
     servers = subst (λ (xs : List (ReadServer I O)). ServersShow i o w net blocks xs) (sym (ap (λ x. x.items) servers)) shows.servers;
     dialled = λ c line within by.
         let x : HasClient old.clients.items line = shows.dialled c line within by in

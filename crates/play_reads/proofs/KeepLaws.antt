@@ -114,7 +114,7 @@ module _ {I O : Type 0} (i : link_in.Ghosts I) (o : link_out.Ghosts O) where
       each = λ n s at.
           let was = h.each n s at in
           server_kept s k.served (k.lowers s.conn.0 was.shows.dialled) (λ x is. ends s.conn.0 x was.shows.dialled is) was;
-      single = h.single;
+      ascend = h.ascend;
       all = still_there servers k h.all;
     }
 
@@ -137,7 +137,7 @@ module _ {I O : Type 0} (i : link_in.Ghosts I) (o : link_out.Ghosts O) where
     pub clients_kept : (clients : List (ReadClient I O)) → ReadClientsStay i o → Ordered w → KeepsReaders w v → UpperEndsStay i o w net v made → ClientsShow i o w net clients → ClientsShow i o v made clients
     clients_kept clients stay ordered k ends h = record {
       each = λ n c at. stay c w net v made (h.each n c at) (keeps_client ordered k ends c.ask.reader);
-      apart = h.apart;
+      ascend = h.ascend;
       all = λ line begun. h.all line (λ e. begun (k.readers line ∙ e));
     }
 

@@ -1,6 +1,7 @@
 pub mod LowerChanges
 pub mod LowerSteps
 pub mod KeepLaws
+pub mod Numbers
 pub mod FrameLaws
 pub mod ClientLaws
 pub mod HearLaws

@@ -22,7 +22,7 @@ use Rattle.play_servers.specs.Known.{end_conn}
 use Rattle.play_servers.specs.Showing.{EndShows, ServerShows}
 use Rattle.play_reads.specs.declared.reads.Reads.{Reads}
 use Rattle.play_reads.specs.Dues.{TellsEnded, is_read_by, TellsClient, TellsOver}
-use Rattle.play_reads.specs.Places.{server_place}
+use Rattle.play_reads.specs.Places.{IsServerPlace}
 use Rattle.play_reads.proofs.DueLaws.{no_server, server_conn}
 
 -- LOWER ENDS
@@ -47,14 +47,14 @@ module _ {I O : Type 0} (i : link_in.Ghosts I) (o : link_out.Ghosts O) where
   end_told ended_below read_end.Ended w net c blocks h = sym (ap (λ (b : Bool). not b) (none_open (is_served w c)))
   end_told l e w net c blocks h = absurd h
 
-  pub told_ended : (conn : ConnId) (p : Reads I O) (place : ℕ) (s : ReadServer I O) → Some place ≡ server_place p.servers.items conn.0 → slice_get p.servers.items place ≡ Some s → TellsEnded i o conn p (is_none (end_conn s.end))
+  pub told_ended : (conn : ConnId) (p : Reads I O) (place : ℕ) (s : ReadServer I O) → IsServerPlace p.servers.items conn.0 (Some place) → slice_get p.servers.items place ≡ Some s → TellsEnded i o conn p (is_none (end_conn s.end))
   told_ended conn p place s found at = λ w net blocks shows within is.
       let same = server_conn p.servers.items conn.0 place s found at in
       let here = (shows.servers.each place s at).shows in
       end_told (w.lowers conn.0) s.end w net conn.0 blocks (subst (λ (q : ℕ). ServerShows i o w net q blocks s.end) same here).end_is
 
-  pub none_ended : (conn : ConnId) (p : Reads I O) → None ≡ server_place p.servers.items conn.0 → TellsEnded i o conn p true
-  none_ended conn p none = λ w net blocks shows within is. absurd (no_server p.servers.items conn.0 none (shows.servers.all conn.0 within is))
+  pub none_ended : (conn : ConnId) (p : Reads I O) → IsServerPlace p.servers.items conn.0 None → TellsEnded i o conn p true
+  none_ended conn p none = λ w net blocks shows within is. absurd (no_server p.servers.items conn.0 none shows.servers.ascend (shows.servers.all conn.0 within is))
 
 -- READERS
 

@@ -1,5 +1,5 @@
 -- The own step of a reader leaves reads and nodes that show the world after.
-use Rattle.std.proofs.Common.{◌≡◌, ◌<◌, ◌≤◌, ◌+◌, ◌++◌, ℕ, zero, suc, Bool, true, false, List, [], ◌∷◌, length, slice_get, slice_set, Some, None, ◌⊎◌, inl, inr, Result, Ok, Err, refl, sym, ap, ◌∙◌, subst, arith}
+use Rattle.std.proofs.Common.{◌≡◌, ◌<◌, ◌≤◌, ◌+◌, ◌++◌, ℕ, zero, suc, Bool, true, false, List, [], ◌∷◌, length, slice_get, slice_set, Some, None, inl, inr, Result, Ok, Err, refl, sym, ap, ◌∙◌, subst, arith}
 use Rattle.std.specs.Prelude.{nat_lt}
 use Rattle.hd_base.specs.declared.ends.Conn.{Conn}
 use Rattle.hd_base.specs.declared.files.Files as files
@@ -22,7 +22,6 @@ use Rattle.reader_events.specs.declared.faults.ReaderFault.{ReaderFault}
 use Rattle.play_nodes.specs.declared.nodes.Nodes.{Nodes}
 use Rattle.play_nodes.specs.Frames.{IsKept, NodesStay}
 use Rattle.play_nodes.specs.Showing.{NodesShow}
-use Rattle.play_nodes.proofs.Tables.{JoinedOr, joined_or}
 use Rattle.play_nodes.proofs.PlaceLaws.{same_some}
 use Rattle.play_readers.specs.declared.clients.ReadClient.{ReadClient}
 use Rattle.play_readers.specs.Frames as readers
@@ -44,6 +43,7 @@ use Rattle.play_reads.specs.Showing.{DialledHaveClients, ClientsShow, IsServer, 
 use Rattle.play_reads.proofs.ClientLaws.{ActsAlone, clients_after, asks_set, has_client_set, reader_same}
 use Rattle.play_reads.proofs.HearLaws.{reader_caused, heard_stands}
 use Rattle.play_reads.proofs.KeepLaws.{none_between, before_so, behind_so, server_kept, servers_kept}
+use Rattle.play_reads.proofs.Numbers.{PutOr, put_or, ascend_put}
 
 -- LISTS
 
@@ -56,26 +56,8 @@ last : {A : Type 0} (xs : List A) (x : A) → slice_get (xs ++ x ∷ []) (length
 last [] x = refl
 last (a ∷ xs) x = last xs x
 
--- An element of a list behind which one was put stands in it, or is that one.
-abbrev pub PutOr : {A : Type 0} → List A → A → ℕ → A → Type 0
-PutOr xs x k y = (slice_get xs k ≡ Some y) ⊎ ((k ≡ length xs) × (y ≡ x))
-
-pub put_or : {A : Type 0} (xs : List A) (x : A) (k : ℕ) (y : A) → slice_get (xs ++ x ∷ []) k ≡ Some y → PutOr xs x k y
-put_or {A} xs x k y h = by (joined_or xs (x ∷ []) k y h)
-  where
-    alone : (n : ℕ) → slice_get (x ∷ []) n ≡ Some y → (n ≡ 0) × (y ≡ x)
-    alone zero e = (refl, cc)
-    alone (suc n) e = cc
-
-    by : JoinedOr xs (x ∷ []) k y → PutOr xs x k y
-    by (inl at) = inl at
-    by (inr at) = let q = alone at.0 at.1.1 in inr (omega (arith, at.1.0, q.0), q.1)
-
 next_alone : (n d : ℕ) → n ≤ d → d < n + 1 → d ≡ n
 next_alone n d le lt = omega arith
-
-not_within : (n : ℕ) → n < n → ⊥
-not_within n h = omega (arith, h)
 
 next_within : (n m : ℕ) → m ≡ n + 1 → n < m
 next_within n m e = omega arith
@@ -195,16 +177,9 @@ module _ {F R I O : Type 0} (f : files.Ghosts F) (r : roads.Ghosts R I O) (i : l
     each_now h k s (inl at) = server_kept i o w net now made blocks s served (lowers s.conn.0) (λ x is. ends s.conn.0 x is) (h.each k s at)
     each_now h k s (inr x) = subst (λ (y : ReadServer I O). IsServer i o now made blocks y) (sym x.1) here
 
-    -- the new connection has no other lower end
-    clash : ServersShow i o w net blocks old → (k : ℕ) (a b : ReadServer I O) → slice_get old k ≡ Some a → b ≡ made_server lower → a.conn.0 ≡ b.conn.0 → ⊥
-    clash h k a b at is same =
-        not_within w.next_conn (subst (λ (c : ℕ). c < w.next_conn) (same ∙ (ap (λ (y : ReadServer I O). y.conn.0) is ∙ end_is.id)) (h.each k a at).within)
-
-    single_by : ServersShow i o w net blocks old → (j k : ℕ) (a b : ReadServer I O) → PutOr old (made_server lower) j a → PutOr old (made_server lower) k b → a.conn.0 ≡ b.conn.0 → j ≡ k
-    single_by h j k a b (inl x) (inl y) same = h.single j k a b x y same
-    single_by h j k a b (inl x) (inr y) same = absurd (clash h j a b x y.1 same)
-    single_by h j k a b (inr x) (inl y) same = absurd (clash h k b a y x.1 (sym same))
-    single_by h j k a b (inr x) (inr y) same = x.0 ∙ sym y.0
+    -- the new connection has the greatest number
+    above : ServersShow i o w net blocks old → (k : ℕ) (a : ReadServer I O) → slice_get old k ≡ Some a → a.conn.0 < (made_server lower).conn.0
+    above h k a at = subst (λ (c : ℕ). a.conn.0 < c) (sym end_is.id) (h.each k a at).within
 
     in_front : (c : ℕ) → HasServer old c → HasServer (old ++ made_server lower ∷ []) c
     in_front c x = record { place = x.place; server = x.server; at = front old (made_server lower ∷ []) x.place x.server x.at; of_conn = x.of_conn }
@@ -224,7 +199,7 @@ module _ {F R I O : Type 0} (f : files.Ghosts F) (r : roads.Ghosts R I O) (i : l
     pub servers_reached : ServersShow i o w net blocks old → ServersShow i o now made blocks new
     servers_reached h = subst (λ (xs : List (ReadServer I O)). ServersShow i o now made blocks xs) (sym set) (record {
       each = λ k s at. each_now h k s (put_or old (made_server lower) k s at);
-      single = λ j k a b x y same. single_by h j k a b (put_or old (made_server lower) j a x) (put_or old (made_server lower) k b y) same;
+      ascend = ascend_put (λ s. s.conn.0) old h.ascend (made_server lower) (above h);
       all = all_now h;
     })
 

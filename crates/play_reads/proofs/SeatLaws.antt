@@ -1,7 +1,6 @@
 -- Lower ends that stand nowhere have nothing to do, and the events of those that stand somewhere.
 use Rattle.std.proofs.Common.{◌≡◌, ◌<◌, ◌≤◌, ℕ, zero, suc, Bool, true, false, List, [], ◌∷◌, length, slice_get, slice_set, Option, Some, None, IsSome, Result, Ok, Err, refl, sym, ap, ◌∙◌, subst}
 use Rattle.std.specs.Prelude.{◌&&◌, nat_lt}
-use Rattle.std.specs.List.{position_or_len}
 use Rattle.hd_base.specs.declared.files.Files as files
 use Rattle.hd_base.specs.declared.links.LinkIn as link_in
 use Rattle.hd_base.specs.declared.links.LinkOut as link_out
@@ -54,7 +53,7 @@ use Rattle.play_reads.specs.Faults.{of_server, IsCaused}
 use Rattle.play_reads.specs.Seats.{IsSeated, IsUnseated, followed}
 use Rattle.play_reads.specs.Serving.{DownShows, FilesTold, ReadyShows}
 use Rattle.play_reads.specs.Showing.{IsServer, ReadsStand, Stand}
-use Rattle.play_reads.proofs.DueLaws.{of_conn, server_found, server_conn}
+use Rattle.play_reads.proofs.DueLaws.{server_conn}
 use Rattle.play_reads.proofs.KeepLaws.{before_so}
 use Rattle.play_reads.proofs.ServeLaws.{BooksChanged, ServerChanged, here_before, books_before, served_left, drawer_failed}
 
@@ -152,7 +151,7 @@ module _ {F R I O : Type 0} (f : files.Ghosts F) (r : roads.Ghosts R I O) (i : l
   no_blocks w net road n p c h placed within is unseated k b at =
       let shows = h.nodes.nodes_are in
       let x = element n.connections.items c (subst (λ (q : ℕ). c < q) (sym shows.count) within) in
-      let le : length n.nodes.items ≤ x.0.node.0 = unseated x.0 (position_or_len (of_conn c) p.servers.items) x.1 (server_found p.servers.items c (h.reads_are.servers.all c within is)) in
+      let le : length n.nodes.items ≤ x.0.node.0 = unseated x.0 x.1 h.reads_are.servers.ascend (h.reads_are.servers.all c within is) in
       not_some (book_at n.nodes.items (node_of w c) k) (shows.has_books (node_of w c) k b (placed.dialled c within).to at)
       (ap (λ (q : ℕ). book_at n.nodes.items q k) (sym (shows.each c x.0 x.1).node) ∙ book_missing n.nodes.items x.0.node.0 k le)
 

@@ -34,11 +34,12 @@ use Rattle.play_reads.specs.declared.reads.Reads.{Reads}
 use Rattle.play_reads.specs.Keeping.{KeepsServed}
 use Rattle.play_reads.specs.Left.{ReadsLeft}
 use Rattle.play_readers.specs.Asks.{asks_of}
-use Rattle.play_reads.specs.Places.{AreSingle, HasServer, HasClient}
+use Rattle.play_reads.specs.Places.{IsNumbered, ConnsAscend, HasServer, HasClient}
 use Rattle.play_reads.specs.Showing.{ClientsShow, IsServer, ServersShow, ReadsStand}
 use Rattle.play_reads.proofs.ClientLaws.{no_recovery_reads}
 use Rattle.play_reads.proofs.FrameLaws.{reads_elsewhere}
 use Rattle.play_reads.proofs.KeepLaws.{server_kept, clients_kept}
+use Rattle.play_reads.proofs.Numbers.{same_place, ascend_same}
 
 -- The books of a node have changed, and nothing else of the nodes.
 pub record BooksChanged {F I O : Type 0} (n n' : Nodes F I O) (node : ℕ) (x x' : NodeBooks F) : Type 0 where
@@ -71,24 +72,19 @@ module _ {I O : Type 0} (xs : List (ReadServer I O)) (place : ℕ) (s s' : ReadS
   number : s'.conn.0 ≡ s.conn.0
   number = ap (λ (c : ConnId). c.0) conn
 
-  record WasThere (k : ℕ) (a : ReadServer I O) : Type 0 where
-    was : ReadServer I O
-    found : slice_get xs k ≡ Some was
-    same : was.conn.0 ≡ a.conn.0
+  was_there : (k : ℕ) (a : ReadServer I O) → slice_get (slice_set xs place s') k ≡ Some a → IsNumbered (λ x. x.conn.0) xs a.conn.0 k
+  was_there k a is = by (set_or xs place s' k a is)
+    where
+      by : SetOr xs place s' k a → IsNumbered (λ x. x.conn.0) xs a.conn.0 k
+      by (inl x) = record {
+        found = s;
+        at = ap (λ (m : ℕ). slice_get xs m) x.0 ∙ at;
+        same = sym (ap (λ (y : ReadServer I O). y.conn.0) x.1 ∙ ap (λ (c : ConnId). c.0) conn);
+      }
+      by (inr x) = record { found = a; at = x.1; same = refl }
 
-  was_there : (k : ℕ) (a : ReadServer I O) → SetOr xs place s' k a → WasThere k a
-  was_there k a (inl x) = record {
-    was = s;
-    found = ap (λ (m : ℕ). slice_get xs m) x.0 ∙ at;
-    same = sym (ap (λ (y : ReadServer I O). y.conn.0) x.1 ∙ ap (λ (c : ConnId). c.0) conn);
-  }
-  was_there k a (inr x) = record { was = a; found = x.1; same = refl }
-
-  pub single_set : AreSingle xs → AreSingle (slice_set xs place s')
-  single_set single j k a b at_j at_k e =
-      let x : WasThere j a = was_there j a (set_or xs place s' j a at_j) in
-      let y : WasThere k b = was_there k b (set_or xs place s' k b at_k) in
-      single j k x.was y.was x.found y.found (x.same ∙ (e ∙ sym y.same))
+  pub ascend_set : ConnsAscend xs → ConnsAscend (slice_set xs place s')
+  ascend_set up = ascend_same (λ x. x.conn.0) xs up (slice_set xs place s') was_there
 
   pub has_server_set : (c : ℕ) → HasServer xs c → HasServer (slice_set xs place s') c
   has_server_set c h = by (same_or h.place place)
@@ -172,13 +168,13 @@ module _ {F R I O : Type 0} (f : files.Ghosts F) (r : roads.Ghosts R I O) (i : l
       shows = subst (λ (q : ℕ). showing.ServerShows i o v left.made q n.blocks.items s'.end) (sym (ap (λ (q : ConnId). q.0) changed.conn ∙ of_conn)) left.server;
     })
     each_after k a (inr y) =
-        let apart : a.conn.0 ≡ c → ⊥ = λ same. y.0 (h.reads_are.servers.single k place a s y.1 changed.at (same ∙ sym of_conn)) in
+        let apart : a.conn.0 ≡ c → ⊥ = λ same. y.0 (same_place (λ z. z.conn.0) old.servers.items h.reads_are.servers.ascend k place a s y.1 changed.at (same ∙ sym of_conn)) in
         server_kept i o w net v left.made n.blocks.items a served (left.rest.lowers a.conn.0 apart) (λ e is. left.others a.conn.0 true e (none_of a.conn.0 true (λ same. absurd (apart (sym same)))) is) (h.reads_are.servers.each k a y.1)
 
     servers_after : ServersShow i o v left.made n.blocks.items (slice_set old.servers.items place s')
     servers_after = record {
       each = λ k a at. each_after k a (set_or old.servers.items place s' k a at);
-      single = single_set old.servers.items place s s' changed.at changed.conn h.reads_are.servers.single;
+      ascend = ascend_set old.servers.items place s s' changed.at changed.conn h.reads_are.servers.ascend;
       all = λ d lt is. has_server_set old.servers.items place s s' changed.at changed.conn d
           (h.reads_are.servers.all d (subst (λ (q : ℕ). d < q) left.rest.conns lt) (sym (ap (λ (q : Dialled). purpose_of q.upper) (left.rest.dialled d)) ∙ is));
     }

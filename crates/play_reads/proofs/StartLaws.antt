@@ -35,7 +35,7 @@ servers_past i o w net v made blocks servers k served stays h = record {
       let was = h.each n s at in
       server_past i o w net v made blocks s (no_more w.next_conn v.next_conn k.conns) (k.dialled s.conn.0) (k.lowers s.conn.0) (served s.conn.0 was.within)
       (λ x is. stays s.conn.0 true x (reads_elsewhere (w.dialled s.conn.0).upper was.shows.dialled) is) was;
-  single = h.single;
+  ascend = h.ascend;
   all = λ c within is. h.all c (later c v.next_conn w.next_conn within (no_fewer w.next_conn v.next_conn k.conns)) (sym (ap (λ (d : Dialled). purpose_of d.upper) (k.dialled c)) ∙ is);
 }
 

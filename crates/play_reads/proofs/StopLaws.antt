@@ -32,7 +32,7 @@ use Rattle.play_servers.specs.Showing.{EndShows}
 use Rattle.play_reads.specs.declared.reads.Reads.{Reads}
 use Rattle.play_reads.specs.Left.{ReadsLeft}
 use Rattle.play_readers.specs.Asks.{asks_of}
-use Rattle.play_reads.specs.Places.{AreSingle, HasServer, HasClient}
+use Rattle.play_reads.specs.Places.{IsNumbered, HasServer, HasClient}
 use Rattle.play_reads.specs.Showing.{ClientsShow, IsServer, ServersShow, Stand}
 use Rattle.play_reads.specs.Stopping.{took, is_taken, AreKnown, HasStopped, StopShows}
 use Rattle.play_reads.proofs.ClientLaws.{no_recovery_reads}
@@ -41,6 +41,7 @@ use Rattle.play_reads.proofs.FrameLaws.{reads_elsewhere}
 use Rattle.play_reads.proofs.KeepLaws.{later, test_so, server_past, clients_kept}
 use Rattle.play_reads.proofs.LifeLaws as life
 use Rattle.play_reads.proofs.LifeLaws.{stops_so, none_served, still_served}
+use Rattle.play_reads.proofs.Numbers.{ascend_same}
 use Rattle.play_reads.proofs.SeatLaws.{server_known}
 use Rattle.play_reads.proofs.StartLaws.{no_more, no_fewer, keeps_readers}
 
@@ -138,7 +139,7 @@ module _ {F R I O : Type 0} (r : roads.Ghosts R I O) (i : link_in.Ghosts I) (o :
     roads_are = h.stands.roads_are;
     nodes_are = h.stands.nodes_are;
     ordered = h.in_order.after;
-    single = h.reads_are.servers.single;
+    ascend = h.reads_are.servers.ascend;
     ends = stands_at;
   }
 
@@ -187,11 +188,10 @@ module _ {F R I O : Type 0} (r : roads.Ghosts R I O) (i : link_in.Ghosts I) (o :
       (still_served w v node.0 s.conn.0 stopped (sym (ap (λ (d : Dialled). d.to.node == node.0) (keeps.dialled s.conn.0)) ∙ there))
       (λ x is. left.stays s.conn.0 true x (λ gone. false_true (took n.connections.items node s.conn.0) away gone.taken) (moves s.conn.0 true x was.shows.dialled is)) was
 
-  single_now : AreSingle news
-  single_now j m a b at_j at_m same =
-      let x : WasThere j a = was_there j a at_j in
-      let y : WasThere m b = was_there m b at_m in
-      h.reads_are.servers.single j m x.was y.was x.found y.found (conn_was j a x ∙ (same ∙ sym (conn_was m b y)))
+  numbered_was : (place : ℕ) (a : ReadServer I O) → slice_get news place ≡ Some a → IsNumbered (λ s. s.conn.0) olds a.conn.0 place
+  numbered_was place a at =
+      let x : WasThere place a = was_there place a at in
+      record { found = x.was; at = x.found; same = conn_was place a x }
 
   has_now : (c : ℕ) → HasServer olds c → HasServer news c
   has_now c x = record {
@@ -207,7 +207,7 @@ module _ {F R I O : Type 0} (r : roads.Ghosts R I O) (i : link_in.Ghosts I) (o :
         let x : WasThere place a = was_there place a at in
         subst (λ (s : ReadServer I O). IsServer i o v left.made n.blocks.items s) x.is
         (one_shows x.was (took n.connections.items node x.was.conn.0) refl (h.reads_are.servers.each place x.was x.found));
-    single = single_now;
+    ascend = ascend_same (λ s. s.conn.0) olds h.reads_are.servers.ascend news numbered_was;
     all = λ c within is.
         has_now c (h.reads_are.servers.all c (later c v.next_conn w.next_conn within (no_fewer w.next_conn v.next_conn keeps.conns)) (sym (ap (λ (d : Dialled). purpose_of d.upper) (keeps.dialled c)) ∙ is));
   }

@@ -13,7 +13,7 @@ use Rattle.play_readers.specs.declared.clients.ReadClient.{ReadClient}
 use Rattle.play_readers.specs.declared.clients.ReadState.TheVariants as state
 use Rattle.play_reads.specs.declared.reads.Reads.{Reads}
 use Rattle.play_readers.specs.Asks.{asks_of}
-use Rattle.play_reads.specs.Places.{HasClient}
+use Rattle.play_reads.specs.Places.{ReadersBelow}
 use Rattle.play_reads.specs.Showing.{ReadsShow}
 
 -- NO READS
@@ -38,14 +38,15 @@ NoneShow i o reads = (w : World) (net : Net) (blocks : List BlockId) → HasNoRe
 abbrev pub made_client : {I O : Type 0} → ReadAsk → ReadClient I O
 made_client ask = record { ask = ask; state = state.Asks }
 
--- The client stands behind the others. The reads show each world that they showed, where the reader had no client.
+-- The client stands behind the others. The reads show each world that they showed, where all other readers' numbers are
+-- below that of the new one.
 pub record HasJoined {I O : Type 0} (i : link_in.Ghosts I) (o : link_out.Ghosts O) (ask : ReadAsk) (old new : Reads I O)
     : Type 0 where
   pub clients : new.clients.items ≡ old.clients.items ++ made_client ask ∷ []
   pub servers : new.servers ≡ old.servers
   pub asks : asks_of new.clients.items ≡ asks_of old.clients.items ++ ask ∷ []
   pub shows : (w : World) (net : Net) (blocks : List BlockId) → ReadsShow i o w net blocks old →
-      (HasClient old.clients.items ask.reader → ⊥)
+      ReadersBelow old.clients.items ask.reader
       → ReadsShow i o w net blocks new
 
 -- Clients and servers are as they were.

@@ -1,20 +1,42 @@
 -- Where clients and servers stand among those of a play.
-use Rattle.std.specs.Prelude.{◌≡◌, ◌==◌, ℕ, List, map, position, slice_get, Option, Some}
+use Rattle.std.specs.Prelude.{◌≡◌, ◌<◌, ℕ, List, slice_get, Option, Some, None}
 use Rattle.play_model.specs.declared.asks.ReadAsk.{ReadAsk}
 use Rattle.play_readers.specs.declared.clients.ReadClient.{ReadClient}
 use Rattle.play_servers.specs.declared.servers.ReadServer.{ReadServer}
 
+-- NUMBERS
+
+-- The numbers ascend: what comes later has a greater one.
+abbrev pub Ascend : {A : Type 0} → (A → ℕ) → List A → Type 0
+Ascend {A} number xs =
+    (j k : ℕ) (a b : A) → slice_get xs j ≡ Some a → slice_get xs k ≡ Some b → j < k
+    → number a < number b
+
+-- What has this number stands at this place.
+pub record IsNumbered {A : Type 0} (number : A → ℕ) (xs : List A) (sought place : ℕ) : Type 0 where
+  pub found : A
+  pub at : slice_get xs place ≡ Some found
+  pub same : number found ≡ sought
+
+-- What has this number stands at the place that was found. Where none was, and the numbers ascend, nothing has it.
+abbrev pub IsPlaceOf : {A : Type 0} → (A → ℕ) → List A → ℕ → Option ℕ → Type 0
+IsPlaceOf number xs sought (Some place) = IsNumbered number xs sought place
+IsPlaceOf number xs sought None = Ascend number xs → (place : ℕ) → IsNumbered number xs sought place → ⊥
+
 -- CLIENTS
 
--- the place of the client of this reader, if it has one
-abbrev pub client_place : {I O : Type 0} → List (ReadClient I O) → ℕ → Option ℕ
-client_place clients reader = position (λ c. c.ask.reader == reader) clients
+-- The numbers of the clients' readers ascend.
+abbrev pub ReadersAscend : {I O : Type 0} → List (ReadClient I O) → Type 0
+ReadersAscend clients = Ascend (λ c. c.ask.reader) clients
 
--- No reader has two clients.
-abbrev pub AreApart : {I O : Type 0} → List (ReadClient I O) → Type 0
-AreApart {I} {O} clients = (j k : ℕ) (a b : ReadClient I O) → slice_get clients j ≡ Some a →
-    slice_get clients k ≡ Some b → a.ask.reader ≡ b.ask.reader
-    → j ≡ k
+-- They are all below this one.
+abbrev pub ReadersBelow : {I O : Type 0} → List (ReadClient I O) → ℕ → Type 0
+ReadersBelow {I} {O} clients reader =
+    (k : ℕ) (c : ReadClient I O) → slice_get clients k ≡ Some c → c.ask.reader < reader
+
+-- This is the place of the client of a reader, if it has one.
+abbrev pub IsClientPlace : {I O : Type 0} → List (ReadClient I O) → ℕ → Option ℕ → Type 0
+IsClientPlace clients reader result = IsPlaceOf (λ c. c.ask.reader) clients reader result
 
 -- The client of this reader stands among these.
 pub record HasClient {I O : Type 0} (clients : List (ReadClient I O)) (reader : ℕ) : Type 0 where
@@ -32,15 +54,13 @@ pub record HasAsk {I O : Type 0} (clients : List (ReadClient I O)) (ask : ReadAs
 
 -- SERVERS
 
--- the place of the lower end of this connection, if it has one
-abbrev pub server_place : {I O : Type 0} → List (ReadServer I O) → ℕ → Option ℕ
-server_place servers c = position (λ s. s.conn.0 == c) servers
+-- The numbers of their connections ascend.
+abbrev pub ConnsAscend : {I O : Type 0} → List (ReadServer I O) → Type 0
+ConnsAscend servers = Ascend (λ s. s.conn.0) servers
 
--- No connection has two lower ends.
-abbrev pub AreSingle : {I O : Type 0} → List (ReadServer I O) → Type 0
-AreSingle {I} {O} servers = (j k : ℕ) (a b : ReadServer I O) → slice_get servers j ≡ Some a →
-    slice_get servers k ≡ Some b → a.conn.0 ≡ b.conn.0
-    → j ≡ k
+-- This is the place of the lower end of a connection, if it has one.
+abbrev pub IsServerPlace : {I O : Type 0} → List (ReadServer I O) → ℕ → Option ℕ → Type 0
+IsServerPlace servers c result = IsPlaceOf (λ s. s.conn.0) servers c result
 
 -- The lower end of this connection stands among these.
 pub record HasServer {I O : Type 0} (servers : List (ReadServer I O)) (c : ℕ) : Type 0 where

@@ -11,21 +11,21 @@ use Rattle.play_reads.specs.declared.faults.ReadsFault.TheVariants as fault
 use Rattle.play_reads.specs.declared.reads.Reads.{Reads}
 use Rattle.play_reads.specs.declared.serving.Seat.{Seat}
 use Rattle.play_reads.specs.Faults.{of_server}
-use Rattle.play_reads.specs.Places.{server_place}
+use Rattle.play_reads.specs.Places.{ConnsAscend, IsServerPlace, HasServer}
 
 -- The lower end stands there, and its node has books.
 pub record IsSeated {F I O : Type 0} (n : Nodes F I O) (p : Reads I O) (c : ℕ) (s : Seat) : Type 0 where
-  pub place : Some s.place ≡ server_place p.servers.items c
+  pub place : IsServerPlace p.servers.items c (Some s.place)
   pub within : s.place < length p.servers.items
   pub at : Connection I O
   pub found : slice_get n.connections.items c ≡ Some at
   pub node : s.node ≡ at.node
   pub has_books : s.node.0 < length n.nodes.items
 
--- None stands there, or its node has no books.
+-- None stands there, where the numbers of the connections ascend, or its node has no books.
 abbrev pub IsUnseated : {F I O : Type 0} → Nodes F I O → Reads I O → ℕ → Type 0
-IsUnseated {F} {I} {O} n p c = (at : Connection I O) (place : ℕ) → slice_get n.connections.items c ≡ Some at →
-    server_place p.servers.items c ≡ Some place
+IsUnseated {F} {I} {O} n p c = (at : Connection I O) → slice_get n.connections.items c ≡ Some at →
+    ConnsAscend p.servers.items → HasServer p.servers.items c
     → length n.nodes.items ≤ at.node.0
 
 abbrev pub IsSeat : {F I O : Type 0} → Nodes F I O → Reads I O → ℕ → Option Seat → Type 0

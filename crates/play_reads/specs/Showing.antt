@@ -16,13 +16,13 @@ use Rattle.play_readers.specs.Clients.{ReadClientShows}
 use Rattle.play_servers.specs.declared.servers.ReadServer.{ReadServer}
 use Rattle.play_servers.specs.Showing.{ServerShows}
 use Rattle.play_reads.specs.declared.reads.Reads.{Reads}
-use Rattle.play_reads.specs.Places.{AreApart, HasClient, AreSingle, HasServer}
+use Rattle.play_reads.specs.Places.{ReadersAscend, HasClient, ConnsAscend, HasServer}
 
--- Each client shows its reader, of which there is one client; and each reader that has begun has one.
+-- Each client shows its reader, in the order of the readers' numbers; and each reader that has begun has one.
 pub record ClientsShow {I O : Type 0} (i : link_in.Ghosts I) (o : link_out.Ghosts O) (w : World) (net : Net)
     (clients : List (ReadClient I O)) : Type 0 where
   pub each : (k : ℕ) (c : ReadClient I O) → slice_get clients k ≡ Some c → ReadClientShows i o w net c
-  pub apart : AreApart clients
+  pub ascend : ReadersAscend clients
   pub all : (reader : ℕ) → (w.readers reader ≡ no_reader → ⊥) → HasClient clients reader
 
 -- The connection was dialled, and this is the lower end of it.
@@ -31,11 +31,11 @@ pub record IsServer {I O : Type 0} (i : link_in.Ghosts I) (o : link_out.Ghosts O
   pub within : s.conn.0 < w.next_conn
   pub shows : ServerShows i o w net s.conn.0 blocks s.end
 
--- Each server shows its lower end, of which there is one server; and each connection that a reader dialled has one.
+-- Each server shows its lower end, in the order of the connections; and each connection that a reader dialled has one.
 pub record ServersShow {I O : Type 0} (i : link_in.Ghosts I) (o : link_out.Ghosts O) (w : World) (net : Net)
     (blocks : List BlockId) (servers : List (ReadServer I O)) : Type 0 where
   pub each : (k : ℕ) (s : ReadServer I O) → slice_get servers k ≡ Some s → IsServer i o w net blocks s
-  pub single : AreSingle servers
+  pub ascend : ConnsAscend servers
   pub all : (c : ℕ) → c < w.next_conn → purpose_of (w.dialled c).upper ≡ reading → HasServer servers c
 
 -- Each reader that dialled a connection has a client.

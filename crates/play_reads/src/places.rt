@@ -1,30 +1,31 @@
 //! Where clients and servers stand among those of a play.
 
-ghost use Rattle.std.specs.Prelude.{◌≡◌};
-ghost use Rattle.play_reads.specs.Places.{client_place, server_place};
+ghost use Rattle.play_reads.specs.Places.{IsClientPlace, IsServerPlace};
 
 use hd_base::{ConnId, LinkIn, LinkOut};
 use play_readers::ReadClient;
 use play_servers::ReadServer;
 
-/// The place of the client of a reader, if it has one.
+/// The place of the client of a reader, if it has one, among clients in the order of their readers' numbers.
 pub(crate) fn client_of<I: LinkIn, O: LinkOut>(
     clients: &[ReadClient<I, O>],
     reader: u64,
 ) -> Option<usize>
-    ensures { result ≡ client_place clients.now reader }
+    ensures { IsClientPlace clients.now reader result }
 {
     clients
-        .iter()
-        .position(|client| client.ask.reader == reader)
+        .binary_search_by_key(&reader, |client| client.ask.reader)
+        .ok()
 }
 
-/// The place of the lower end of a connection, if a reader dialled it.
+/// The place of the lower end of a connection, if a reader dialled it, among those in the order of their connections.
 pub(crate) fn server_of<I: LinkIn, O: LinkOut>(
     servers: &[ReadServer<I, O>],
     conn: ConnId,
 ) -> Option<usize>
-    ensures { result ≡ server_place servers.now conn.0 }
+    ensures { IsServerPlace servers.now conn.0 result }
 {
-    servers.iter().position(|server| server.conn.0 == conn.0)
+    servers
+        .binary_search_by_key(&conn.0, |server| server.conn.0)
+        .ok()
 }

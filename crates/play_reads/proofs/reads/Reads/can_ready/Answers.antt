@@ -1,24 +1,23 @@
 -- The lower end says whether it sends a packet.
-use Rattle.std.proofs.Common.{◌≡◌, ◌<◌, Some, sym, ap, ◌∙◌, subst}
+use Rattle.std.proofs.Common.{◌<◌, Some, None, sym, subst}
 use Rattle.play_nodes.proofs.PlaceLaws.{none_so, element_some}
-use Rattle.play_reads.specs.Places.{server_place}
-use Rattle.play_reads.proofs.DueLaws.{server_within}
+use Rattle.play_reads.proofs.DueLaws.{server_at, server_within}
 use Rattle.play_reads.proofs.ToldLaws.{told_ready, none_ready}
 use Rattle.play_reads.proofs.reads.Reads.can_ready.Goals as goal
 
 pub returns-in_default : goal.returns-in_default
 returns-in_default g c =
     none_ready g.I.LinkIn g.O.LinkOut c.args.conn c.args.self.now
-    (sym (none_so c.server_of.result c.in_default.not-Some) ∙ (c.server_of.ensures ∙ ap (λ xs. server_place xs c.args.conn.0) c.as_slice.ensures.value))
+    (server_at c.as_slice.result.now c.args.self.now.servers.items c.args.conn.0 c.server_of.result None c.as_slice.ensures.value (none_so c.server_of.result c.in_default.not-Some) c.server_of.ensures)
 
 pub index-requires : goal.index-requires
 index-requires g c =
-    let place : Some c.in-Some.place ≡ server_place c.args.self.now.servers.items c.args.conn.0 = sym c.in-Some.is ∙ (c.server_of.ensures ∙ ap (λ xs. server_place xs c.args.conn.0) c.as_slice.ensures.value) in
+    let place = server_at c.as_slice.result.now c.args.self.now.servers.items c.args.conn.0 c.server_of.result (Some c.in-Some.place) c.as_slice.ensures.value c.in-Some.is c.server_of.ensures in
     subst (λ n. c.in-Some.place < n) (sym c.args.self.now.servers.ok.0) (server_within c.args.self.now.servers.items c.args.conn.0 (Some c.in-Some.place) place)
 
 pub returns : goal.returns
 returns g c =
     let xs = c.args.self.now.servers.items in
-    let place : Some c.in-Some.place ≡ server_place xs c.args.conn.0 = sym c.in-Some.is ∙ (c.server_of.ensures ∙ ap (λ ys. server_place ys c.args.conn.0) c.as_slice.ensures.value) in
+    let place = server_at c.as_slice.result.now xs c.args.conn.0 c.server_of.result (Some c.in-Some.place) c.as_slice.ensures.value c.in-Some.is c.server_of.ensures in
     told_ready g.I.LinkIn g.O.LinkOut c.args.conn c.args.self.now c.in-Some.place c.index.result.now c.can_ready.result place
     (element_some xs c.in-Some.place c.index.result.now (server_within xs c.args.conn.0 (Some c.in-Some.place) place) c.index.ensures) c.can_ready.ensures
