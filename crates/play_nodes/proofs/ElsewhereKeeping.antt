@@ -1,6 +1,7 @@
 -- The events of the nodes keep readers, primaries, and connections that are none of a pipeline.
-use Rattle.std.proofs.Common.{◌≡◌, ◌<◌, ◌∷◌, ◌++◌, ℕ, Bool, true, false, if◌then◌else◌, List, [], Option, Some, None, IfSome, Result, Ok, Err, refl, sym, ap, ◌∙◌, subst, arith, eqb-true}
+use Rattle.std.proofs.Common.{◌≡◌, ◌<◌, ◌≤◌, ◌∷◌, ◌++◌, ℕ, Bool, true, false, if◌then◌else◌, List, [], Option, Some, None, IfSome, inl, inr, Result, Ok, Err, refl, sym, ap, ◌∙◌, subst, arith, eqb-true}
 use Rattle.std.specs.Prelude.{◌==◌, ◌||◌, ◌-◌, nat_le, nat_lt, option_map, slice_get}
+use Rattle.std.proofs.lemmas.Bool.{cases_lt}
 use Rattle.std.proofs.lemmas.Bool.Decides.{nat_tests}
 use Rattle.std.proofs.lemmas.List.{append-nil}
 use Rattle.hd_base.specs.declared.numbers.ConnId.{ConnId}
@@ -26,18 +27,18 @@ use Rattle.recovery_core.specs.declared.members.RecoveryReply.{RecoveryReply}
 use Rattle.recovery_core.specs.Members.{Served, answer_of, recovery_event, serve, serve_faulted}
 use Rattle.world.specs.declared.events.Event as happening
 use Rattle.world.specs.declared.events.Event.TheVariants as event
-use Rattle.world.specs.Parts.{Message, request, packet, ack, response, read_status, recovery_answer, Upper, by_member, FullMember, Lower, idle, writes, serves, recovers, ended_below, Break, Marks}
+use Rattle.world.specs.Parts.{Message, request, packet, ack, response, read_status, recovery_answer, Upper, by_member, Dialled, FullMember, Lower, idle, writes, serves, recovers, ended_below, Break, Marks}
 use Rattle.world.specs.Worlds.{World, Change, Dial, apply, dial_at, listed, shut_marks, downs_with, ups_with}
 use Rattle.world.specs.Connections.{Next, message, the_end, next_down, next_up, down_taken, up_taken, is_served, is_alive, sent_on, is_conn, marks_taken}
 use Rattle.world.specs.Nodes.{replica_at, node_of, block_of, broke_at, is_asked, passed, sent_up, below_of, closing, unless_failing, above_of, shut_by, member_change, failing_turn, turn_change, takes_next, pending_at, member_down, member_up, ready_change, setup_change, failing_write, write_request, breaking, read_change, failing_read, read_request, piece_as, serve_change, recovery_change, failing_recovery, recovery_request, first_message, next_recovery, lower_down, lower_ready, mirror_up}
 use Rattle.world.specs.Events.{changed, outcome, after_event, happens, upper_up, up_as, down_as}
-use Rattle.world_laws.specs.Growing.{Grows}
 use Rattle.world_laws.proofs.FactTables.{if-each, when-each}
-use Rattle.world_laws.proofs.GrowthLaws.{happens-grows}
+use Rattle.world_laws.proofs.GrowthLaws.{apply-grows}
 use Rattle.world_laws.proofs.StampGivens.{put-there}
 use Rattle.world_orders.specs.Orders.{Ordered, IsMirror, MirrorIs}
 use Rattle.play_nodes.specs.Elsewhere.{SameConn, KeepsElsewhere}
 use Rattle.play_nodes.specs.Showing.{is_pipeline, IsOfPipeline}
+use Rattle.play_nodes.proofs.PipelineDials.{OfPipelines, members_dial, fresh_dial}
 use Rattle.play_nodes.proofs.ReadyNodes.{served_within}
 use Rattle.play_nodes.proofs.TakeNodes.{writes_pipeline}
 use Rattle.play_nodes.proofs.WriterFrames.{put_same}
@@ -47,8 +48,9 @@ true_false b x y = cc
 
 -- CHANGES
 
--- A change leaves readers, primaries and these connections as they are.
+-- A change leaves readers, primaries and these connections as they are, and what it dials is of pipelines.
 pub record IsApart (w : World) (p : ℕ → Type 0) (k : Change) : Type 0 where
+  pub dials : OfPipelines k.dials
   pub reader : k.reader ≡ w.readers k.reader_at
   pub primary : k.primary ≡ w.primaries k.primary_at
   pub lower : (e : ℕ) → p e → e ≡ k.lower_at → k.lower ≡ w.lowers k.lower_at
@@ -62,6 +64,9 @@ pub record StepKeeps (w v : World) (p : ℕ → Type 0) : Type 0 where
   pub primaries : (n : ℕ) → v.primaries n ≡ w.primaries n
   pub running : (n : ℕ) → v.running n ≡ w.running n
   pub lives : (n : ℕ) → v.lives n ≡ w.lives n
+  pub grows : w.next_conn ≤ v.next_conn
+  pub dialled : (c : ℕ) → c < w.next_conn → v.dialled c ≡ w.dialled c
+  pub fresh : (c : ℕ) → w.next_conn ≤ c → c < v.next_conn → is_pipeline (v.dialled c).upper ≡ true
   pub conn : (e : ℕ) → p e → SameConn w v e
 
 still_same : (w : World) (e : ℕ) → SameConn w w e
@@ -79,8 +84,35 @@ same_then w u v e h k = record {
 same_named : (w v : World) (e : ℕ) (x : happening.Event) → SameConn w v e → SameConn w (record v { last = Some x }) e
 same_named w v e x h = record { lower = h.lower; downs = h.downs; ups = h.ups; down_marks = h.down_marks; up_marks = h.up_marks }
 
+none_between : {P : Type 0} (n c : ℕ) → n ≤ c → c < n → P
+none_between n c le lt = absurd (clash le lt)
+  where
+    clash : n ≤ c → c < n → ⊥
+    clash le lt = omega (arith, le, lt)
+
 pub still_kept : (w : World) (p : ℕ → Type 0) → StepKeeps w w p
-still_kept w p = record { readers = λ n. refl; primaries = λ n. refl; running = λ n. refl; lives = λ n. refl; conn = λ e at. still_same w e }
+still_kept w p = record {
+  readers = λ n. refl;
+  primaries = λ n. refl;
+  running = λ n. refl;
+  lives = λ n. refl;
+  grows = omega arith;
+  dialled = λ c before. refl;
+  fresh = λ c le lt. none_between w.next_conn c le lt;
+  conn = λ e at. still_same w e;
+}
+
+no_less : (a b c : ℕ) → a ≤ b → b ≤ c → a ≤ c
+no_less a b c h k = omega arith
+
+pub later : (a b c : ℕ) → a < b → b ≤ c → a < c
+later a b c h k = omega arith
+
+fresh_then : (w u v : World) (p : ℕ → Type 0) → StepKeeps w u p → StepKeeps u v p → (c : ℕ) → w.next_conn ≤ c → c < v.next_conn → is_pipeline (v.dialled c).upper ≡ true
+fresh_then w u v p h k c le lt = elim (cases_lt c u.next_conn) [
+  | inl before ↦ ap (λ (d : Dialled). is_pipeline d.upper) (k.dialled c before) ∙ h.fresh c le before
+  | inr from ↦ k.fresh c from lt
+]
 
 pub kept_then : (w u v : World) (p : ℕ → Type 0) → StepKeeps w u p → StepKeeps u v p → StepKeeps w v p
 kept_then w u v p h k = record {
@@ -88,11 +120,23 @@ kept_then w u v p h k = record {
   primaries = λ n. k.primaries n ∙ h.primaries n;
   running = λ n. k.running n ∙ h.running n;
   lives = λ n. k.lives n ∙ h.lives n;
+  grows = no_less w.next_conn u.next_conn v.next_conn h.grows k.grows;
+  dialled = λ c before. k.dialled c (later c w.next_conn u.next_conn before h.grows) ∙ h.dialled c before;
+  fresh = fresh_then w u v p h k;
   conn = λ e at. same_then w u v e (h.conn e at) (k.conn e at);
 }
 
 named : (w v : World) (p : ℕ → Type 0) (x : happening.Event) → StepKeeps w v p → StepKeeps w (record v { last = Some x }) p
-named w v p x h = record { readers = h.readers; primaries = h.primaries; running = h.running; lives = h.lives; conn = λ e at. same_named w v e x (h.conn e at) }
+named w v p x h = record {
+  readers = h.readers;
+  primaries = h.primaries;
+  running = h.running;
+  lives = h.lives;
+  grows = h.grows;
+  dialled = h.dialled;
+  fresh = h.fresh;
+  conn = λ e at. same_named w v e x (h.conn e at);
+}
 
 -- no connection that was there is new
 old_dial : (next e : ℕ) (dials : List Dial) → e < next → dial_at next dials e ≡ None
@@ -126,6 +170,9 @@ change_kept w p k before h = record {
   primaries = λ n. put_same w.primaries k.primary_at k.primary n h.primary;
   running = λ n. refl;
   lives = λ n. refl;
+  grows = omega arith;
+  dialled = λ c old. (apply-grows w k).dialled c old;
+  fresh = λ c le lt. fresh_dial w k c h.dials le lt;
   conn = λ e at. conn_kept w p k e (before e at) at h;
 }
 
@@ -175,7 +222,7 @@ module _ (w : World) (p : ℕ → Type 0) (c : ℕ) (apart : (e : ℕ) → p e �
   IfApart o = IfSome o (IsApart w p)
 
   closing_of : IsApart w p (closing w c)
-  closing_of = record { reader = refl; primary = refl; lower = λ e at same. absurd (apart e at same); downs = λ e at. refl; ups = λ e at. refl; shuts = λ e at. not_same e c (apart e at) }
+  closing_of = record { dials = tt; reader = refl; primary = refl; lower = λ e at same. absurd (apart e at same); downs = λ e at. refl; ups = λ e at. refl; shuts = λ e at. not_same e c (apart e at) }
 
   unless_of : (fails : Bool) → IfApart (unless_failing fails (closing w c))
   unless_of true = tt
@@ -185,6 +232,7 @@ module _ (w : World) (p : ℕ → Type 0) (c : ℕ) (apart : (e : ℕ) → p e �
 
   member_of : (m : FullMember) (x : Next) (s : Step) (b : Option Break) → AreOther p m.mirror → IsApart w p (member_change w c m x s b)
   member_of m x s b other = record {
+    dials = tt;
     reader = refl;
     primary = refl;
     lower = λ e at same. absurd (apart e at same);
@@ -215,6 +263,7 @@ module _ (w : World) (p : ℕ → Type 0) (c : ℕ) (apart : (e : ℕ) → p e �
 
   setup_of : (f : WriteFields) (s : Setup) (b : Option Break) → IsApart w p (setup_change w c f s b)
   setup_of f s b = record {
+    dials = members_dial s.member w c f;
     reader = refl;
     primary = refl;
     lower = λ e at same. absurd (apart e at same);
@@ -235,11 +284,11 @@ module _ (w : World) (p : ℕ → Type 0) (c : ℕ) (apart : (e : ℕ) → p e �
   -- READS
 
   breaking_of : (b : ℕ) (r : FullReplica) (e : ReplicaEvent) (ms : List Message) → IsApart w p (breaking w c b r e ms)
-  breaking_of b r e ms = record { reader = refl; primary = refl; lower = λ e at same. absurd (apart e at same); downs = λ e at. refl; ups = λ e at. sent_else e (Some c) ms (apart e at); shuts = λ e at. not_same e c (apart e at) }
+  breaking_of b r e ms = record { dials = tt; reader = refl; primary = refl; lower = λ e at same. absurd (apart e at same); downs = λ e at. refl; ups = λ e at. sent_else e (Some c) ms (apart e at); shuts = λ e at. not_same e c (apart e at) }
 
   read_of : (b : ℕ) (o : Result ServingState RequestRefusal) → IsApart w p (read_change w c b o)
-  read_of b (Ok s) = record { reader = refl; primary = refl; lower = λ e at same. absurd (apart e at same); downs = λ e at. refl; ups = λ e at. sent_else e (Some c) (response (accepting s) ∷ []) (apart e at); shuts = λ e at. refl }
-  read_of b (Err r) = record { reader = refl; primary = refl; lower = λ e at same. absurd (apart e at same); downs = λ e at. refl; ups = λ e at. sent_else e (Some c) (response (refusing r) ∷ []) (apart e at); shuts = λ e at. not_same e c (apart e at) }
+  read_of b (Ok s) = record { dials = tt; reader = refl; primary = refl; lower = λ e at same. absurd (apart e at same); downs = λ e at. refl; ups = λ e at. sent_else e (Some c) (response (accepting s) ∷ []) (apart e at); shuts = λ e at. refl }
+  read_of b (Err r) = record { dials = tt; reader = refl; primary = refl; lower = λ e at same. absurd (apart e at same); downs = λ e at. refl; ups = λ e at. sent_else e (Some c) (response (refusing r) ∷ []) (apart e at); shuts = λ e at. not_same e c (apart e at) }
 
   failing_read_of : (b : ℕ) (e : Result Event RequestRefusal) → IfApart (failing_read w c b e)
   failing_read_of b (Err r) = tt
@@ -251,7 +300,7 @@ module _ (w : World) (p : ℕ → Type 0) (c : ℕ) (apart : (e : ℕ) → p e �
 
   piece_of : (b : ℕ) (s : ServingState) (o : Option Packet) → IsApart w p (piece_as w c b s o)
   piece_of b s None = closing_of
-  piece_of b s (Some q) = record { reader = refl; primary = refl; lower = λ e at same. absurd (apart e at same); downs = λ e at. refl; ups = λ e at. sent_else e (Some c) (packet q ∷ []) (apart e at); shuts = λ e at. refl }
+  piece_of b s (Some q) = record { dials = tt; reader = refl; primary = refl; lower = λ e at same. absurd (apart e at same); downs = λ e at. refl; ups = λ e at. sent_else e (Some c) (packet q ∷ []) (apart e at); shuts = λ e at. refl }
 
   serve_of : (b : ℕ) (s : ServingState) (o : Option Event) (fails : Bool) → IfApart (serve_change w c b s o fails)
   serve_of b s None fails = tt
@@ -261,7 +310,7 @@ module _ (w : World) (p : ℕ → Type 0) (c : ℕ) (apart : (e : ℕ) → p e �
   -- RECOVERIES
 
   recovery_of : (r : RecoveryOp) (s : Served) (b : Option Break) → IsApart w p (recovery_change w c r s b)
-  recovery_of r s b = record { reader = refl; primary = refl; lower = λ e at same. absurd (apart e at same); downs = λ e at. refl; ups = λ e at. sent_else e (Some c) (recovery_answer (answer_of s.reply) ∷ []) (apart e at); shuts = λ e at. refl }
+  recovery_of r s b = record { dials = tt; reader = refl; primary = refl; lower = λ e at same. absurd (apart e at same); downs = λ e at. refl; ups = λ e at. sent_else e (Some c) (recovery_answer (answer_of s.reply) ∷ []) (apart e at); shuts = λ e at. refl }
 
   failing_recovery_of : (r : RecoveryOp) (e : Result Event RecoveryReply) → IfApart (failing_recovery w c r e)
   failing_recovery_of r (Err said) = tt
@@ -337,6 +386,9 @@ down_taken_kept w p c x apart = record {
   primaries = λ n. refl;
   running = λ n. refl;
   lives = λ n. refl;
+  grows = omega arith;
+  dialled = λ d before. refl;
+  fresh = λ d le lt. none_between w.next_conn d le lt;
   conn = λ e at. record { lower = refl; downs = refl; ups = refl; down_marks = put-there w.down_marks c (marks_taken (w.down_marks c) x) e (apart e at); up_marks = refl };
 }
 
@@ -347,6 +399,9 @@ up_taken_kept w p c x apart = record {
   primaries = λ n. refl;
   running = λ n. refl;
   lives = λ n. refl;
+  grows = omega arith;
+  dialled = λ d before. refl;
+  fresh = λ d le lt. none_between w.next_conn d le lt;
   conn = λ e at. record { lower = refl; downs = refl; ups = refl; down_marks = refl; up_marks = put-there w.up_marks c (marks_taken (w.up_marks c) x) e (apart e at) };
 }
 
@@ -430,22 +485,23 @@ module _ (w : World) (ordered : Ordered w) where
       after_kept w (IsElse w) (event.Up conn) (outcome w (event.Up conn))
       (when-each (λ v. StepKeeps w v (IsElse w)) (nat_lt conn.0 w.next_conn) (up_as w conn.0 false (next_up w conn.0)) (λ _. up_next conn.0 d (next_up w conn.0) is))
 
-pub all_kept : (w v : World) → Grows w.past v.past → StepKeeps w v (IsElse w) → KeepsElsewhere w v
-all_kept w v grown h = record {
+pub all_kept : (w v : World) → StepKeeps w v (IsElse w) → KeepsElsewhere w v
+all_kept w v h = record {
   readers = h.readers;
   primaries = h.primaries;
   running = h.running;
   lives = h.lives;
-  grows = grown.conns;
-  dialled = grown.dialled;
+  grows = h.grows;
+  dialled = h.dialled;
+  fresh = h.fresh;
   conns = λ c within away. h.conn c (within, away);
 }
 
 pub down_leaves : (w : World) (conn : ConnId) (answered : Bool) → Ordered w → IsOfPipeline w conn.0 → KeepsElsewhere w (happens w (event.Down conn answered))
-down_leaves w conn answered ordered of = all_kept w (happens w (event.Down conn answered)) (happens-grows w (event.Down conn answered)) (down_kept w ordered conn answered of)
+down_leaves w conn answered ordered of = all_kept w (happens w (event.Down conn answered)) (down_kept w ordered conn answered of)
 
 pub ready_leaves : (w : World) (conn : ConnId) → Ordered w → IsOfPipeline w conn.0 → KeepsElsewhere w (happens w (event.Ready conn))
-ready_leaves w conn ordered of = all_kept w (happens w (event.Ready conn)) (happens-grows w (event.Ready conn)) (ready_kept w ordered conn of)
+ready_leaves w conn ordered of = all_kept w (happens w (event.Ready conn)) (ready_kept w ordered conn of)
 
 pub mirror_leaves : (w : World) (conn : ConnId) (d : ℕ) → Ordered w → (w.dialled conn.0).upper ≡ by_member d → KeepsElsewhere w (happens w (event.Up conn))
-mirror_leaves w conn d ordered is = all_kept w (happens w (event.Up conn)) (happens-grows w (event.Up conn)) (up_kept w ordered conn d is)
+mirror_leaves w conn d ordered is = all_kept w (happens w (event.Up conn)) (up_kept w ordered conn d is)

@@ -1,5 +1,5 @@
 -- The events of writers keep readers, primaries, and connections that are none of a pipeline.
-use Rattle.std.proofs.Common.{◌≡◌, ◌<◌, ◌∷◌, ℕ, Bool, true, false, List, [], slice_get, Option, Some, None, IfSome, refl, sym, ap, ◌∙◌, subst, arith, eqb-true, ◌≤◌}
+use Rattle.std.proofs.Common.{◌≡◌, ◌<◌, ◌∷◌, ℕ, Bool, true, false, List, [], slice_get, Option, Some, None, IfSome, refl, sym, ap, ◌∙◌, subst, eqb-true}
 use Rattle.std.specs.Prelude.{◌==◌, ◌&&◌, not, nat_lt, is_none}
 use Rattle.hd_base.specs.declared.numbers.BlockId.{BlockId}
 use Rattle.hd_base.specs.declared.numbers.ConnId.{ConnId}
@@ -23,12 +23,11 @@ use Rattle.world.specs.Clients.{writer_change, given_up, did, dialled_change, di
 use Rattle.world.specs.Primaries.{writer_asks, writer_asks_office}
 use Rattle.world.specs.Events.{changed, outcome, after_event, happens, run, upper_up, up_as}
 use Rattle.world_laws.proofs.FactTables.{if-each, when-each}
-use Rattle.world_laws.proofs.GrowthLaws.{happens-grows, run-grows}
 use Rattle.world_orders.specs.Orders.{Ordered, IsWriterConn}
 use Rattle.play_model.specs.Dues.{Queues, own_events, action_of, acting, asking}
 use Rattle.play_nodes.specs.Elsewhere.{KeepsElsewhere}
 use Rattle.play_nodes.specs.Showing.{is_pipeline}
-use Rattle.play_nodes.proofs.ElsewhereKeeping.{IsApart, StepKeeps, IsOther, AreOther, IsElse, still_kept, kept_then, sent_else, not_conn, changed_kept, after_kept, up_taken_kept, within_up, other_conn, all_kept}
+use Rattle.play_nodes.proofs.ElsewhereKeeping.{later, IsApart, StepKeeps, IsOther, AreOther, IsElse, still_kept, kept_then, sent_else, not_conn, changed_kept, after_kept, up_taken_kept, within_up, other_conn, all_kept}
 
 -- WHAT A WRITER CHANGES
 
@@ -38,6 +37,7 @@ not_given e x conn other = if-each (λ (t : ℕ → Bool). t e ≡ false) (is_co
 module _ (w : World) (p : ℕ → Type 0) (b : ℕ) (other : AreOther p (w.writers b).conn) where
   writer_of : (x : WriterRecord) → IsApart w p (writer_change w b x)
   writer_of x = record {
+    dials = tt;
     reader = refl;
     primary = refl;
     lower = λ e at same. refl;
@@ -49,6 +49,7 @@ module _ (w : World) (p : ℕ → Type 0) (b : ℕ) (other : AreOther p (w.write
   did_of : (waits : Option Waiting) (a : Action) (x : WriterRecord) (bytes : List ℕ) → IfSome (did w b waits a x bytes) (IsApart w p)
   did_of waits action.Wait x bytes = tt
   did_of waits action.Took x bytes = record {
+    dials = tt;
     reader = refl;
     primary = refl;
     lower = λ e at same. refl;
@@ -59,6 +60,7 @@ module _ (w : World) (p : ℕ → Type 0) (b : ℕ) (other : AreOther p (w.write
   did_of waits (action.Ask c) x bytes = tt
   did_of waits (action.Dial to r) x bytes = tt
   did_of waits (action.Send q) x bytes = record {
+    dials = tt;
     reader = refl;
     primary = refl;
     lower = λ e at same. refl;
@@ -67,6 +69,7 @@ module _ (w : World) (p : ℕ → Type 0) (b : ℕ) (other : AreOther p (w.write
     shuts = λ e at. not_given e x.phase (w.writers b).conn (other e at);
   }
   did_of waits (action.Answered n a) x bytes = record {
+    dials = tt;
     reader = refl;
     primary = refl;
     lower = λ e at same. refl;
@@ -77,7 +80,7 @@ module _ (w : World) (p : ℕ → Type 0) (b : ℕ) (other : AreOther p (w.write
   did_of waits action.Memory x bytes = tt
 
   dialled_of : (x : WriterRecord) (to : NodeId) (r : Op) (answered : Bool) → IsApart w p (dialled_change w b x to r answered)
-  dialled_of x to r true = record { reader = refl; primary = refl; lower = λ e at same. refl; downs = λ e at. refl; ups = λ e at. refl; shuts = λ e at. refl }
+  dialled_of x to r true = record { dials = (refl, tt); reader = refl; primary = refl; lower = λ e at same. refl; downs = λ e at. refl; ups = λ e at. refl; shuts = λ e at. refl }
   dialled_of x to r false = writer_of (dialled x false)
 
   dialling_of : (x : WriterRecord) (a : Action) (answered : Bool) → IsApart w p (dialling w b x a answered)
@@ -132,7 +135,7 @@ record Asks (w : World) (p : ℕ → Type 0) (k : Change) : Type 0 where
 
 asks_of : (w : World) (p : ℕ → Type 0) (b : ℕ) (a : Action) → IfSome (writer_asks a w b) (Asks w p)
 asks_of w p b (action.Ask c) = record {
-  apart = record { reader = refl; primary = refl; lower = λ e at same. refl; downs = λ e at. refl; ups = λ e at. refl; shuts = λ e at. refl };
+  apart = record { dials = tt; reader = refl; primary = refl; lower = λ e at same. refl; downs = λ e at. refl; ups = λ e at. refl; shuts = λ e at. refl };
   conn = refl;
 }
 asks_of w p b action.Wait = tt
@@ -185,9 +188,6 @@ office_kept w b = record {
   conn = λ q. after_conn w (asking b) (outcome w (asking b)) q (changed_conn w (IsElse w) (writer_asks_office w b) q (office_of w (IsElse w) b));
 }
 
-later : (a b c : ℕ) → a < b → b ≤ c → a < c
-later a b c h k = omega arith
-
 module _ (w : World) (ordered : Ordered w) (b : ℕ) where
   conn_other : (n : Option ℕ) → IfSome n (λ c. IsWriterConn (w.dialled c) (w.up_marks c).taken b (w.writers b).known) → AreOther (IsElse w) n
   conn_other None h e at = tt
@@ -202,7 +202,7 @@ module _ (w : World) (ordered : Ordered w) (b : ℕ) where
       let h = office_kept w b in
       let v : World = happens w (asking b) in
       kept_then w v (happens v (acting b None)) (IsElse w) h.kept
-      (own_kept w v b (λ e at. later e w.next_conn v.next_conn at.0 (happens-grows w (asking b)).conns)
+      (own_kept w v b (λ e at. later e w.next_conn v.next_conn at.0 h.kept.grows)
       (subst (λ (n : Option ℕ). AreOther (IsElse w) n) (sym (h.conn b)) writer_other) None)
 
   acting_kept : (takes : Option TakenCommand) → StepKeeps w (happens w (acting b takes)) (IsElse w)
@@ -219,7 +219,7 @@ module _ (w : World) (ordered : Ordered w) (b : ℕ) where
 
 pub own_leaves : (w : World) (queues : Queues) (block : BlockId) → Ordered w → KeepsElsewhere w (run w (own_events (action_of w block) block.0 (queues block.0)))
 own_leaves w queues block ordered =
-    all_kept w (run w (own_events (action_of w block) block.0 (queues block.0))) (run-grows w (own_events (action_of w block) block.0 (queues block.0)))
+    all_kept w (run w (own_events (action_of w block) block.0 (queues block.0)))
     (run_kept w ordered block.0 (action_of w block) (queues block.0))
 
 -- WHAT A WRITER HEARS
@@ -246,4 +246,4 @@ heard_kept w conn b ordered is =
     (when-each (λ v. StepKeeps w v (IsElse w)) (nat_lt conn.0 w.next_conn) (up_as w conn.0 false (next_up w conn.0)) (λ _. heard_next w ordered b conn.0 is (next_up w conn.0)))
 
 pub heard_leaves : (w : World) (conn : ConnId) (b : ℕ) → Ordered w → (w.dialled conn.0).upper ≡ by_writer b → KeepsElsewhere w (happens w (event.Up conn))
-heard_leaves w conn b ordered is = all_kept w (happens w (event.Up conn)) (happens-grows w (event.Up conn)) (heard_kept w conn b ordered is)
+heard_leaves w conn b ordered is = all_kept w (happens w (event.Up conn)) (heard_kept w conn b ordered is)

@@ -15,5 +15,6 @@ pub mod KeptNodes
 pub mod WriterFrames
 pub mod WriterKeeping
 pub mod ElsewhereNodes
+pub mod PipelineDials
 pub mod ElsewhereKeeping
 pub mod ElsewhereWriters

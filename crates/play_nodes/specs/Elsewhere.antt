@@ -1,5 +1,5 @@
 -- Connections whose lower ends are kept elsewhere: those of readers and primaries.
-use Rattle.std.specs.Prelude.{◌≡◌, ◌≤◌, ◌<◌, ◌+◌, ◌++◌, [], ◌∷◌, ℕ, Bool, false, slice_get, Some, None, IsSome, Result, Ok, Err}
+use Rattle.std.specs.Prelude.{◌≡◌, ◌≤◌, ◌<◌, ◌+◌, ◌++◌, [], ◌∷◌, ℕ, Bool, true, false, slice_get, Some, None, IsSome, Result, Ok, Err}
 use Rattle.hd_base.specs.declared.files.Files as files
 use Rattle.hd_base.specs.declared.links.LinkIn as link_in
 use Rattle.hd_base.specs.declared.links.LinkOut as link_out
@@ -132,7 +132,7 @@ pub record SameConn (w v : World) (c : ℕ) : Type 0 where
   pub up_marks : v.up_marks c ≡ w.up_marks c
 
 -- Readers, primaries, and connections that are none of a pipeline are as they were, and so is who dialled each connection.
--- No node has started or stopped.
+-- Those that are new are of pipelines: no reader and no primary has dialled. No node has started or stopped.
 pub record KeepsElsewhere (w v : World) : Type 0 where
   pub readers : (n : ℕ) → v.readers n ≡ w.readers n
   pub primaries : (n : ℕ) → v.primaries n ≡ w.primaries n
@@ -140,6 +140,7 @@ pub record KeepsElsewhere (w v : World) : Type 0 where
   pub lives : (n : ℕ) → v.lives n ≡ w.lives n
   pub grows : w.next_conn ≤ v.next_conn
   pub dialled : (c : ℕ) → c < w.next_conn → v.dialled c ≡ w.dialled c
+  pub fresh : (c : ℕ) → w.next_conn ≤ c → c < v.next_conn → is_pipeline (v.dialled c).upper ≡ true
   pub conns : (c : ℕ) → c < w.next_conn → is_pipeline (w.dialled c).upper ≡ false → SameConn w v c
 
 -- So it is after the events of the nodes.

@@ -1,28 +1,25 @@
 -- The events of writers and members, and cuts, keep what the reads show.
-use Rattle.std.proofs.Common.{◌≡◌, ◌<◌, ◌≤◌, ◌+◌, ℕ, Bool, true, false, Option, Some, None, IfSome, ◌⊎◌, inl, inr, List, refl, sym, ap, ◌∙◌, subst, arith}
+use Rattle.std.proofs.Common.{◌≡◌, ◌≤◌, ℕ, Bool, true, false, Option, Some, None, IfSome, refl, sym, ap, ◌∙◌, subst, arith}
 use Rattle.hd_base.specs.declared.links.LinkIn as link_in
 use Rattle.hd_base.specs.declared.links.LinkOut as link_out
 use Rattle.road_traffic.specs.Showing.{Net}
 use Rattle.world.specs.declared.events.Event.TheVariants as event
 use Rattle.world.specs.Events.{happens, run}
-use Rattle.world.specs.Parts.{Message, Upper, by_writer, by_member, by_reader, by_primary, Lower, idle, writes, serves, recovers, ended_below}
+use Rattle.world.specs.Parts.{Upper, by_writer, by_member, by_reader, by_primary}
 use Rattle.world.specs.Worlds.{World}
 use Rattle.world_cuts.specs.Cutting.{cut_world, IsCut, CutsAreLosses, EndsStayInCuts}
 use Rattle.world_cuts.proofs.CutLemmas.{over_cut}
 use Rattle.world_nets.specs.Ends.{IsElsewhere}
-use Rattle.world_orders.specs.Orders.{Ordered, IsBelow, IsWriterConn, purpose_of, pipeline, reading}
+use Rattle.world_orders.specs.Orders.{Ordered, IsWriterConn, purpose_of, reading}
 use Rattle.client_events.specs.Showing.{OthersStay}
 use Rattle.play_model.specs.declared.dues.Due.TheVariants as due
 use Rattle.play_model.specs.Dues.{due_events}
-use Rattle.play_nodes.specs.Frames.{KeepsNodes, WriterKeeps, OwnKeeps, HeardKeeps}
+use Rattle.play_nodes.specs.Elsewhere.{KeepsElsewhere, DownLeaves, ReadyLeaves, MirrorLeaves, OwnLeaves, HeardLeaves}
 use Rattle.play_nodes.specs.Showing.{is_pipeline, ElsewhereStays}
-use Rattle.play_nodes.proofs.Tables.{same_or}
 use Rattle.play_readers.specs.Frames.{OwnStepsKeepReaders, HearingKeepsReaders, DownKeepsReaders, ReadyKeepsReaders, MirrorKeepsReaders}
 use Rattle.play_reads.specs.Keeping.{KeepsServers, ReadingEndsStay, OwnStepsKeepReads, HearingKeepsReads, DownKeepsReads, ReadyKeepsReads, MirrorKeepsReads, CutsKeepReads}
 use Rattle.play_reads.proofs.ClientLaws.{no_writer_reads}
 use Rattle.play_reads.proofs.KeepLaws.{none_between}
-use Rattle.play_reads.proofs.LowerChanges.{IsWriting}
-use Rattle.play_reads.proofs.LowerSteps.{KeepsBut, KeepsUnlessWriting, down_kept, ready_kept, mirror_kept}
 
 -- PURPOSES
 
@@ -54,105 +51,58 @@ away w b d lower ordered e = each (w.writers b).conn refl
     each None of = tt
     each (Some c) of = λ same. absurd (no_writer_reads b (w.dialled c).upper (writer_dialled w b c ordered of) (ap (λ (n : ℕ). purpose_of (w.dialled n).upper) same ∙ e))
 
-first_alone : (n m d : ℕ) → m ≤ n + 1 → n ≤ d → d < m → d ≡ n
-first_alone n m d few le lt = omega arith
-
-more_so : (n m d : ℕ) → n ≤ d → d < m → n < m
-more_so n m d le lt = omega arith
-
-writer_servers : (w v : World) (b : ℕ) → WriterKeeps w v b → KeepsServers w v
-writer_servers w v b k = record {
-  served = record { grows = k.keeps.grows; dialled = k.keeps.dialled; running = k.keeps.running; lives = k.keeps.lives };
-  fresh = λ d le lt e. no_writer_reads b (v.dialled w.next_conn).upper (k.dials (more_so w.next_conn v.next_conn d le lt)).upper
-      (ap (λ (n : ℕ). purpose_of (v.dialled n).upper) (sym (first_alone w.next_conn v.next_conn d k.once le lt)) ∙ e);
-  lowers = λ d z. k.keeps.lowers d;
-}
-
-nodes_servers : (w v : World) → KeepsNodes w v → v.next_conn ≡ w.next_conn → KeepsServers w v
-nodes_servers w v k same = record {
+-- What is elsewhere is what servers show.
+elsewhere_servers : (w v : World) → KeepsElsewhere w v → KeepsServers w v
+elsewhere_servers w v k = record {
   served = record { grows = k.grows; dialled = k.dialled; running = k.running; lives = k.lives };
-  fresh = λ d le lt e. none_between w.next_conn v.next_conn d same le lt;
-  lowers = λ d z. k.lowers d;
+  fresh = λ d le lt e. reads_no_pipeline (v.dialled d).upper (k.fresh d le lt) e;
+  lowers = λ d before e. (k.conns d before (reads_elsewhere (w.dialled d).upper e)).lower;
 }
-
--- MEMBERS
-
-but_servers : (w v : World) (c : ℕ) → is_pipeline (w.dialled c).upper ≡ true → KeepsBut w v c → KeepsServers w v
-but_servers w v c is k = record {
-  served = k.served;
-  fresh = k.fresh;
-  lowers = λ d e. k.lowers d (λ same. reads_no_pipeline (w.dialled d).upper (ap (λ (n : ℕ). is_pipeline (w.dialled n).upper) same ∙ is) e);
-}
-
-not_writing : (u : Upper) (taken : ℕ) (ups : List Message) (l : Lower) → IsBelow u taken ups l → purpose_of u ≡ reading → IsWriting l → ⊥
-not_writing u taken ups (writes m) below e is = clash (sym below.writes ∙ e)
-  where
-    clash : pipeline ≡ reading → ⊥
-    clash e = cc
-not_writing u taken ups idle below e is = absurd is
-not_writing u taken ups (serves b s) below e is = absurd is
-not_writing u taken ups recovers below e is = absurd is
-not_writing u taken ups ended_below below e is = absurd is
-
-mirror_servers : (w v : World) (d : ℕ) → Ordered w → KeepsUnlessWriting w v d → KeepsServers w v
-mirror_servers w v d ordered k = record {
-  served = k.but.served;
-  fresh = k.but.fresh;
-  lowers = λ n e. by n e (same_or n d);
-}
-  where
-    by : (n : ℕ) → purpose_of (w.dialled n).upper ≡ reading → ((n ≡ d) ⊎ (n ≡ d → ⊥)) → v.lowers n ≡ w.lowers n
-    by n e (inl same) =
-        subst (λ (q : ℕ). v.lowers q ≡ w.lowers q) (sym same)
-        (k.unless (not_writing (w.dialled d).upper (w.down_marks d).taken (w.ups d) (w.lowers d) (ordered.below d) (ap (λ (q : ℕ). purpose_of (w.dialled q).upper) (sym same) ∙ e)))
-    by n e (inr apart) = k.but.lowers n apart
 
 module _ {I O : Type 0} (i : link_in.Ghosts I) (o : link_out.Ghosts O) where
   writer_ends : (w : World) (net : Net) (v : World) (made : Net) (b : ℕ) → Ordered w → OthersStay i o w net v made (w.writers b).conn → ReadingEndsStay i o w net v made
   writer_ends w net v made b ordered others = λ d lower e is h. others d lower e (away w b d lower ordered is) h
 
-  pub own_steps_kept : OwnKeeps → OwnStepsKeepReaders → OwnStepsKeepReads i o
-  own_steps_kept nodes readers w net made queues block ordered others = record {
+  pub own_steps_kept : OwnLeaves → OwnStepsKeepReaders → OwnStepsKeepReads i o
+  own_steps_kept leaves readers w net made queues block ordered others = record {
     ordered = ordered;
     readers = readers w queues block;
-    servers = writer_servers w (run w (due_events w queues (due.Own block))) block.0 (nodes w queues block);
+    servers = elsewhere_servers w (run w (due_events w queues (due.Own block))) (leaves w queues block ordered);
     ends = writer_ends w net (run w (due_events w queues (due.Own block))) made block.0 ordered others;
   }
 
-  pub hearing_kept : HeardKeeps → HearingKeepsReaders → HearingKeepsReads i o
-  hearing_kept nodes readers w net made conn b ordered upper others =
-      let k = nodes w conn b upper in
-      record {
-        ordered = ordered;
-        readers = readers w conn b upper;
-        servers = nodes_servers w (happens w (event.Up conn)) k.keeps k.conns;
-        ends = writer_ends w net (happens w (event.Up conn)) made b ordered others;
-      }
+  pub hearing_kept : HeardLeaves → HearingKeepsReaders → HearingKeepsReads i o
+  hearing_kept leaves readers w net made conn b ordered upper others = record {
+    ordered = ordered;
+    readers = readers w conn b upper;
+    servers = elsewhere_servers w (happens w (event.Up conn)) (leaves w conn b ordered upper);
+    ends = writer_ends w net (happens w (event.Up conn)) made b ordered others;
+  }
 
   elsewhere_ends : (w : World) (net : Net) (v : World) (made : Net) → ElsewhereStays i o w net v made → ReadingEndsStay i o w net v made
   elsewhere_ends w net v made stays = λ d lower e is h. stays d lower e (reads_elsewhere (w.dialled d).upper is) h
 
-  pub downs_kept : DownKeepsReaders → DownKeepsReads i o
-  downs_kept readers w net made conn answered ordered is stays = record {
+  pub downs_kept : DownLeaves → DownKeepsReaders → DownKeepsReads i o
+  downs_kept leaves readers w net made conn answered ordered is stays = record {
     ordered = ordered;
     readers = readers w conn answered;
-    servers = but_servers w (happens w (event.Down conn answered)) conn.0 is (down_kept w conn answered);
+    servers = elsewhere_servers w (happens w (event.Down conn answered)) (leaves w conn answered ordered (λ within. is));
     ends = elsewhere_ends w net (happens w (event.Down conn answered)) made stays;
   }
 
-  pub readies_kept : ReadyKeepsReaders → ReadyKeepsReads i o
-  readies_kept readers w net made conn ordered is stays = record {
+  pub readies_kept : ReadyLeaves → ReadyKeepsReaders → ReadyKeepsReads i o
+  readies_kept leaves readers w net made conn ordered is stays = record {
     ordered = ordered;
     readers = readers w conn;
-    servers = but_servers w (happens w (event.Ready conn)) conn.0 is (ready_kept w conn);
+    servers = elsewhere_servers w (happens w (event.Ready conn)) (leaves w conn ordered (λ within. is));
     ends = elsewhere_ends w net (happens w (event.Ready conn)) made stays;
   }
 
-  pub mirrors_kept : MirrorKeepsReaders → MirrorKeepsReads i o
-  mirrors_kept readers w net made conn d ordered upper stays = record {
+  pub mirrors_kept : MirrorLeaves → MirrorKeepsReaders → MirrorKeepsReads i o
+  mirrors_kept leaves readers w net made conn d ordered upper stays = record {
     ordered = ordered;
     readers = readers w conn d upper;
-    servers = mirror_servers w (happens w (event.Up conn)) d ordered (mirror_kept w conn d upper);
+    servers = elsewhere_servers w (happens w (event.Up conn)) (leaves w conn d ordered upper);
     ends = elsewhere_ends w net (happens w (event.Up conn)) made stays;
   }
 
@@ -176,7 +126,7 @@ module _ {I O : Type 0} (i : link_in.Ghosts I) (o : link_out.Ghosts O) where
             lives = λ n. ap (λ (u : World). u.lives n) cut.is;
           };
           fresh = λ d le lt e. none_between w.next_conn v.next_conn d (ap (λ (u : World). u.next_conn) cut.is) le lt;
-          lowers = λ d z. ap (λ (u : World). u.lowers d) cut.is;
+          lowers = λ d before z. ap (λ (u : World). u.lowers d) cut.is;
         };
         ends = λ d lower e is h. stay w v net conn.0 down up d lower e cut h;
       }

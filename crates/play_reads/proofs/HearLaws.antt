@@ -84,7 +84,7 @@ module _ {F R I O : Type 0} (f : files.Ghosts F) (r : roads.Ghosts R I O) (i : l
           record {
             served = record { grows = k.keeps.grows; dialled = k.keeps.dialled; running = k.keeps.running; lives = k.keeps.lives };
             fresh = λ d le lt e. none_between w.next_conn there.next_conn d k.conns le lt;
-            lowers = λ d z. k.keeps.lowers d;
+            lowers = λ d before z. k.keeps.lowers d;
           }
 
       heard_keeps : readers.HearingKeepsNodes → readers.HearingKeepsOthers → KeepsNodes w there

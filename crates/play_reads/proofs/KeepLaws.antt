@@ -113,7 +113,7 @@ module _ {I O : Type 0} (i : link_in.Ghosts I) (o : link_out.Ghosts O) where
     servers_kept servers k ends h = record {
       each = λ n s at.
           let was = h.each n s at in
-          server_kept s k.served (k.lowers s.conn.0 was.shows.dialled) (λ x is. ends s.conn.0 x was.shows.dialled is) was;
+          server_kept s k.served (k.lowers s.conn.0 was.within was.shows.dialled) (λ x is. ends s.conn.0 x was.shows.dialled is) was;
       ascend = h.ascend;
       all = still_there servers k h.all;
     }

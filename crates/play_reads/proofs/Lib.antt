@@ -1,5 +1,3 @@
-pub mod LowerChanges
-pub mod LowerSteps
 pub mod KeepLaws
 pub mod Numbers
 pub mod FrameLaws

@@ -142,7 +142,7 @@ module _ {F R I O : Type 0} (f : files.Ghosts F) (r : roads.Ghosts R I O) (i : l
                 (servers_kept i o w net v net n.blocks.items old.servers.items (record {
                   served = asked_served w net net c.ask true ordered nodes keeps left.others;
                   fresh = λ d le lt e. none_between w.next_conn v.next_conn d left.last le lt;
-                  lowers = λ d z. asked_lowers w net net c.ask true ordered nodes keeps left.others d;
+                  lowers = λ d before z. asked_lowers w net net c.ask true ordered nodes keeps left.others d;
                 }) (λ d e is x. left.others d true e tt x) h.reads_are.servers);
             dialled = λ d line within by. subst (λ xs. HasClient xs line) (sym set) (has_client_set old.clients.items place c c' at asks line
                 (h.reads_are.dialled d line (subst (λ (m : ℕ). d < m) left.last within)

@@ -36,7 +36,7 @@ pub record KeepsServed (w v : World) : Type 0 where
 pub record KeepsServers (w v : World) : Type 0 where
   pub served : KeepsServed w v
   pub fresh : (d : ℕ) → w.next_conn ≤ d → d < v.next_conn → purpose_of (v.dialled d).upper ≡ reading → ⊥
-  pub lowers : (d : ℕ) → purpose_of (w.dialled d).upper ≡ reading → v.lowers d ≡ w.lowers d
+  pub lowers : (d : ℕ) → d < w.next_conn → purpose_of (w.dialled d).upper ≡ reading → v.lowers d ≡ w.lowers d
 
 -- Each end of a connection that a reader dialled is one of the world after.
 abbrev pub ReadingEndsStay : {I O : Type 0} → link_in.Ghosts I → link_out.Ghosts O → World → Net → World → Net → Type 0

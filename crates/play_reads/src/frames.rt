@@ -13,7 +13,7 @@ ghost use Rattle.play_reads.specs.Keeping.{
 };
 
 use hd_base::{LinkIn, LinkOut};
-use play_nodes::writers_keep_nodes;
+use play_nodes::{nodes_keep_elsewhere, writers_keep_elsewhere};
 use play_readers::{members_keep_readers, read_clients_stay, writers_keep_readers};
 use world_cuts::{cuts_are_losses, ends_stay_in_cuts};
 
@@ -29,7 +29,7 @@ pub fn writers_keep_reads<I: LinkIn, O: LinkOut>()
     ensures own { OwnStepsKeepReads I.LinkIn O.LinkOut }
     ensures hears { HearingKeepsReads I.LinkIn O.LinkOut }
 {
-    writers_keep_nodes();
+    writers_keep_elsewhere();
     writers_keep_readers();
 }
 
@@ -39,6 +39,7 @@ pub fn members_keep_reads<I: LinkIn, O: LinkOut>()
     ensures readies { ReadyKeepsReads I.LinkIn O.LinkOut }
     ensures mirrors { MirrorKeepsReads I.LinkIn O.LinkOut }
 {
+    nodes_keep_elsewhere();
     members_keep_readers();
 }
 
