@@ -1,5 +1,5 @@
 -- Nodes that show a world show the world after an event that keeps all that they show.
-use Rattle.std.proofs.Common.{◌≡◌, ◌<◌, ◌+◌, ◌++◌, ℕ, zero, suc, List, [], ◌∷◌, length, slice_get, Option, Some, None, IfSome, Bool, true, false, IsSome, inl, inr, refl, sym, ap, ◌∙◌, subst, arith, length-append}
+use Rattle.std.proofs.Common.{◌≡◌, ◌<◌, ◌+◌, ◌++◌, ℕ, zero, suc, List, [], ◌∷◌, length, slice_get, Option, Some, None, IfSome, Bool, true, false, IsSome, Result, Ok, Err, inl, inr, refl, sym, ap, ◌∙◌, subst, arith, length-append}
 use Rattle.std.proofs.lemmas.List.{append-nil}
 use Rattle.hd_base.specs.declared.ends.Conn.{Conn}
 use Rattle.hd_base.specs.declared.links.LinkIn as link_in
@@ -23,9 +23,10 @@ use Rattle.play_nodes.specs.declared.connections.Connection.{Connection}
 use Rattle.play_nodes.specs.declared.connections.Lower.{Lower}
 use Rattle.play_nodes.specs.declared.connections.Lower.TheVariants as lower
 use Rattle.play_nodes.specs.declared.connections.Upper.TheVariants as upper
+use Rattle.play_nodes.specs.declared.faults.NodesFault.{NodesFault}
 use Rattle.play_nodes.specs.declared.nodes.NodeBooks.{NodeBooks}
 use Rattle.play_nodes.specs.declared.nodes.Nodes.{Nodes}
-use Rattle.play_nodes.specs.Elsewhere.{made_elsewhere, IsReads}
+use Rattle.play_nodes.specs.Elsewhere.{made_elsewhere, IsBehind, IsReads, ReadShows}
 use Rattle.play_nodes.specs.Places.{book_at}
 use Rattle.play_nodes.specs.Showing.{UpperShows, OriginShows, is_pipeline, has_events, LowerShows, ConnectionShows, NodesShow}
 use Rattle.play_nodes.specs.Frames.{KeepsNodes, EndsStay, IsKept, DialShows}
@@ -110,12 +111,12 @@ module _ {F I O : Type 0} (i : link_in.Ghosts I) (o : link_out.Ghosts O) (w : Wo
   }
 
   -- What is added to the connections.
-  record IsMore (new : Nodes F I O) (more : List (Connection I O)) : Type 0 where
-    set : new.connections.items ≡ old.connections.items ++ more
-    count : v.next_conn ≡ w.next_conn + length more
-    blocks : new.blocks.items ≡ old.blocks.items
-    nodes : new.nodes.items ≡ old.nodes.items
-    added : (j : ℕ) (x : Connection I O) → slice_get more j ≡ Some x → ConnectionShows i o v made (w.next_conn + j) new x
+  pub record IsMore (new : Nodes F I O) (more : List (Connection I O)) : Type 0 where
+    pub set : new.connections.items ≡ old.connections.items ++ more
+    pub count : v.next_conn ≡ w.next_conn + length more
+    pub blocks : new.blocks.items ≡ old.blocks.items
+    pub nodes : new.nodes.items ≡ old.nodes.items
+    pub added : (j : ℕ) (x : Connection I O) → slice_get more j ≡ Some x → ConnectionShows i o v made (w.next_conn + j) new x
 
   each_kept : (new : Nodes F I O) (more : List (Connection I O)) (c : ℕ) (x : Connection I O) → IsMore new more → JoinedOr old.connections.items more c x → ConnectionShows i o v made c new x
   each_kept new more c x m (inl here) =
@@ -123,7 +124,7 @@ module _ {F I O : Type 0} (i : link_in.Ghosts I) (o : link_out.Ghosts O) (w : Wo
   each_kept new more c x m (inr behind) =
       subst (λ (n : ℕ). ConnectionShows i o v made n new x) (sym (behind.1.0 ∙ ap (λ (n : ℕ). n + behind.0) k.nodes_are.count)) (m.added behind.0 x behind.1.1)
 
-  all_kept : (new : Nodes F I O) (more : List (Connection I O)) → IsMore new more → NodesShow i o v made new
+  pub all_kept : (new : Nodes F I O) (more : List (Connection I O)) → IsMore new more → NodesShow i o v made new
   all_kept new more m = record {
     count = ap length m.set ∙ (length-append old.connections.items more ∙ (ap (λ (n : ℕ). n + length more) k.nodes_are.count ∙ sym m.count));
     distinct = λ j q a b at_j at_q. k.nodes_are.distinct j q a b (sym (ap (λ (xs : List BlockId). slice_get xs j) m.blocks) ∙ at_j) (sym (ap (λ (xs : List BlockId). slice_get xs q) m.blocks) ∙ at_q);
@@ -184,7 +185,7 @@ module _ {F I O : Type 0} (i : link_in.Ghosts I) (o : link_out.Ghosts O) (w : Wo
       }
 
   -- A reader dialled.
-  pub read_kept : (new : Nodes F I O) (reader : ℕ) (node : NodeId) → new.connections.items ≡ old.connections.items ++ made_elsewhere (upper.Reader reader) node ∷ [] → new.blocks.items ≡ old.blocks.items → new.nodes.items ≡ old.nodes.items
+  read_kept : (new : Nodes F I O) (reader : ℕ) (node : NodeId) → new.connections.items ≡ old.connections.items ++ made_elsewhere (upper.Reader reader) node ∷ [] → new.blocks.items ≡ old.blocks.items → new.nodes.items ≡ old.nodes.items
       → v.next_conn ≡ w.next_conn + 1 → IsReads v reader node w.next_conn → NodesShow i o v made new
   read_kept new reader node set blocks nodes next d = one_kept new (made_elsewhere (upper.Reader reader) node) set blocks nodes next (record {
     upper_is = subst (λ (u : parts.Upper). UpperShows u (upper.Reader reader)) (sym d.upper) refl;
@@ -194,6 +195,12 @@ module _ {F I O : Type 0} (i : link_in.Ghosts I) (o : link_out.Ghosts O) (w : Wo
     here = sym (ap is_pipeline d.upper);
     lower_is = away_shows i o v made w.next_conn new (v.lowers w.next_conn) lower.Elsewhere refl;
   })
+
+module _ {F I O : Type 0} (i : link_in.Ghosts I) (o : link_out.Ghosts O) (reader : ℕ) (node : NodeId) (old new : Nodes F I O) where
+  pub read_shows : (result : Result (Unit {0}) NodesFault) → IsBehind (upper.Reader reader) node old new result → ReadShows i o reader node old new result
+  read_shows (Ok u) b = λ w net v made k next d.
+      read_kept i o w net v made old k new reader node b.connections (ap (λ (x : Nodes F I O). x.blocks.items) b.same) (ap (λ (x : Nodes F I O). x.nodes.items) b.same) next d
+  read_shows (Err why) b = b
 
 -- THE ENDS OF THE NODES
 

@@ -12,6 +12,7 @@ pub mod JoinNodes
 pub mod BeginEnds
 pub mod DueNodes
 pub mod KeptNodes
+pub mod LedNodes
 pub mod WriterFrames
 pub mod WriterKeeping
 pub mod ElsewhereNodes

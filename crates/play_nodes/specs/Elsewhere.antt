@@ -1,5 +1,5 @@
 -- Connections whose lower ends are kept elsewhere: those of readers and primaries.
-use Rattle.std.specs.Prelude.{◌≡◌, ◌≤◌, ◌<◌, ◌+◌, ◌++◌, [], ◌∷◌, ℕ, Bool, true, false, slice_get, Some, None, IsSome, Result, Ok, Err}
+use Rattle.std.specs.Prelude.{◌≡◌, ◌≤◌, ◌<◌, ◌+◌, ℕ, suc, Bool, true, false, List, [], ◌∷◌, ◌++◌, slice_get, unwrap_or, Some, None, IsSome, Result, Ok, Err}
 use Rattle.hd_base.specs.declared.files.Files as files
 use Rattle.hd_base.specs.declared.links.LinkIn as link_in
 use Rattle.hd_base.specs.declared.links.LinkOut as link_out
@@ -12,9 +12,10 @@ use Rattle.road_traffic.specs.Showing.{Net}
 use Rattle.world.specs.declared.events.Delivery.TheVariants as delivery
 use Rattle.world.specs.declared.events.Event.{Event}
 use Rattle.world.specs.declared.events.Event.TheVariants as event
-use Rattle.world.specs.Parts.{by_writer, by_member, by_reader, idle}
+use Rattle.world.specs.Parts.{by_writer, by_member, by_reader, by_primary, idle}
 use Rattle.world.specs.Worlds.{World}
 use Rattle.world.specs.Nodes.{node_of}
+use Rattle.world.specs.Primaries.{numbered}
 use Rattle.world.specs.Events.{happens, run}
 use Rattle.world_nets.specs.Nets.{is_over}
 use Rattle.world_orders.specs.Orders.{Ordered}
@@ -24,12 +25,13 @@ use Rattle.play_model.specs.Dues.{Queues, due_events}
 use Rattle.play_nodes.specs.declared.connections.Connection.{Connection}
 use Rattle.play_nodes.specs.declared.connections.Lower.TheVariants as lower
 use Rattle.play_nodes.specs.declared.connections.Upper.{Upper}
+use Rattle.play_nodes.specs.declared.connections.Upper.TheVariants as upper
 use Rattle.play_nodes.specs.declared.faults.NodesFault.{NodesFault}
 use Rattle.play_nodes.specs.declared.faults.NodesFault.TheVariants as fault
 use Rattle.play_nodes.specs.declared.nodes.Nodes.{Nodes}
 use Rattle.play_nodes.specs.Frames.{IsKept}
 use Rattle.play_nodes.specs.Places.{book_at}
-use Rattle.play_nodes.specs.Showing.{is_pipeline, IsOfPipeline, NodesShow}
+use Rattle.play_nodes.specs.Showing.{OriginShows, is_pipeline, IsOfPipeline, NodesShow}
 
 -- WHAT A READER DIALS
 
@@ -62,6 +64,60 @@ ReadShows i o reader node old new (Ok u) =
     v.next_conn ≡ w.next_conn + 1 → IsReads v reader node w.next_conn
     → NodesShow i o v made new
 ReadShows i o reader node old new (Err why) = why ≡ fault.Memory
+
+-- WHAT A PRIMARY DIALS
+
+-- the dial at this place was answered
+abbrev pub is_answered : List Bool → ℕ → Bool
+is_answered answers place = unwrap_or (slice_get answers place) false
+
+-- how many dials of these members were answered
+abbrev pub answered_of : List NodeId → List Bool → ℕ
+answered_of (n ∷ ns) (true ∷ answers) = suc (answered_of ns answers)
+answered_of (n ∷ ns) (false ∷ answers) = answered_of ns answers
+answered_of members answers = 0
+
+-- the connections that a primary at a node dialled, from the member at this place on: one for each dial that was answered
+abbrev pub led_conns : {I O : Type 0} → ℕ → NodeId → ℕ → List NodeId → List Bool → List (Connection I O)
+led_conns primary at_node place (n ∷ ns) (true ∷ answers) =
+    made_elsewhere (upper.Primary primary place at_node) n ∷ led_conns primary at_node (place + 1) ns answers
+led_conns primary at_node place (n ∷ ns) (false ∷ answers) = led_conns primary at_node (place + 1) ns answers
+led_conns primary at_node place members answers = []
+
+-- They stand behind the others, and all else is as it was.
+pub record StandBehind {F I O : Type 0} (more : List (Connection I O)) (old new : Nodes F I O) : Type 0 where
+  pub connections : new.connections.items ≡ old.connections.items ++ more
+  pub same : new ≡ record old { connections = new.connections }
+
+-- So they do, or memory ran out.
+abbrev pub AreBehind : {F I O : Type 0} → List (Connection I O) → Nodes F I O → Nodes F I O →
+    Result (Unit {0}) NodesFault → Type 0
+AreBehind more old new (Ok t) = StandBehind more old new
+AreBehind more old new (Err why) = why ≡ fault.Memory
+
+-- A primary at a node dialled this node, the member at a place; nothing was taken there by the lower end.
+pub record IsLeads (v : World) (primary : ℕ) (at_node : NodeId) (place : ℕ) (node : NodeId) (c : ℕ) : Type 0 where
+  pub origin : OriginShows (v.dialled c).from (upper.Primary primary place at_node)
+  pub upper : (v.dialled c).upper ≡ by_primary primary place
+  pub node_is : (v.dialled c).to.node ≡ node.0
+  pub idle_is : v.lowers c ≡ idle
+
+-- It dialled these members, of which these have answered, in their order; nothing else was dialled.
+pub record AreLed (w v : World) (primary : ℕ) (at_node : NodeId) (members : List NodeId) (answers : List Bool)
+    : Type 0 where
+  pub next : v.next_conn ≡ w.next_conn + answered_of members answers
+  pub each : (place c : ℕ) (node : NodeId) → slice_get members place ≡ Some node →
+      slice_get (numbered w.next_conn answers) place ≡ Some (Some c)
+      → IsLeads v primary at_node place node c
+
+-- With the connections that were dialled the nodes show the world after.
+abbrev pub LedShows : {F I O : Type 0} → link_in.Ghosts I → link_out.Ghosts O → ℕ → NodeId → List NodeId → List Bool →
+    Nodes F I O → Nodes F I O → Result (Unit {0}) NodesFault → Type 0
+LedShows i o primary at_node members answers old new (Ok u) =
+    (w : World) (net : Net) (v : World) (made : Net) → IsKept i o w net v made old →
+    AreLed w v primary at_node members answers
+    → NodesShow i o v made new
+LedShows i o primary at_node members answers old new (Err why) = why ≡ fault.Memory
 
 -- WHAT THE NODES SHOW OF A LOWER END THAT ACTS ELSEWHERE
 

@@ -1,8 +1,16 @@
-//! The connections that writers and readers dial.
+//! The connections that writers, readers and primaries dial.
 
+ghost use Rattle.std.specs.Prelude.{◌≡◌, map, is_some};
 ghost use Rattle.play_nodes.specs.Places.{KeepsSizes};
 ghost use Rattle.play_nodes.specs.Frames.{DialledShows};
-ghost use Rattle.play_nodes.specs.Elsewhere.{IsBehind, ReadShows};
+ghost use Rattle.play_nodes.specs.Elsewhere.{
+  IsBehind,
+  ReadShows,
+  is_answered,
+  led_conns,
+  AreBehind,
+  LedShows,
+};
 
 use crate::connections::{Connection, Lower, Upper};
 use crate::faults::NodesFault;
@@ -38,8 +46,44 @@ impl<F: Files, I: LinkIn, O: LinkOut> Nodes<F, I, O> {
         ensures shows { ReadShows I.LinkIn O.LinkOut reader node self.old self.new result }
         ensures sizes { KeepsSizes self.old self.new }
     {
+        self.add_elsewhere(Upper::Reader { reader }, node)
+    }
+
+    /// Adds the connections that a primary at a node dialled to members, of which those have answered that have a lower
+    /// end here: one for each, in the members' order. The lower ends are kept elsewhere.
+    pub fn led(
+        &mut self,
+        primary: u64,
+        at: NodeId,
+        members: &[NodeId],
+        lowers: &[Option<Conn<I, O>>],
+    ) -> Result<(), NodesFault>
+        ensures behind { AreBehind (led_conns primary at 0 members.now (map is_some lowers.now))
+            self.old self.new result }
+        ensures shows { LedShows I.LinkIn O.LinkOut primary at members.now (map is_some lowers.now)
+            self.old self.new result }
+        ensures sizes { KeepsSizes self.old self.new }
+    {
+        for place in 0..members.len() {
+            if is_answered(lowers, place) {
+                let upper = Upper::Primary {
+                    primary,
+                    place,
+                    node: at,
+                };
+                self.add_elsewhere(upper, members[place])?;
+            }
+        }
+        Ok(())
+    }
+
+    /// Adds a connection at a node, whose lower end is kept elsewhere.
+    fn add_elsewhere(&mut self, upper: Upper, node: NodeId) -> Result<(), NodesFault>
+        ensures behind { IsBehind upper node self.old self.new result }
+        ensures sizes { KeepsSizes self.old self.new }
+    {
         let connection = Connection {
-            upper: Upper::Reader { reader },
+            upper,
             node,
             lower: Lower::Elsewhere,
             mirror: None,
@@ -49,4 +93,11 @@ impl<F: Files, I: LinkIn, O: LinkOut> Nodes<F, I, O> {
             Err(_) => Err(NodesFault::Memory),
         }
     }
+}
+
+/// Whether the dial at a place was answered: it has a lower end.
+fn is_answered<I: LinkIn, O: LinkOut>(lowers: &[Option<Conn<I, O>>], place: usize) -> bool
+    ensures { result ≡ is_answered (map is_some lowers.now) place }
+{
+    place < lowers.len() && lowers[place].is_some()
 }
