@@ -1,5 +1,5 @@
 -- A block recovery, from its first step to its last.
-use Rattle.std.specs.Prelude.{◌≡◌, ◌⊎◌, ℕ, List}
+use Rattle.std.specs.Prelude.{◌≡◌, ◌⊎◌, ℕ, List, Option, Some, None}
 use Rattle.hd_base.specs.declared.numbers.BlockId.{BlockId}
 use Rattle.hd_base.specs.declared.numbers.NodeId.{NodeId}
 use Rattle.hd_base.specs.declared.links.LinkIn as link_in
@@ -8,11 +8,27 @@ use Rattle.hd_base.specs.declared.roads.Roads as roads
 use Rattle.name_core.specs.declared.desks.Desk as desk
 use Rattle.recovery_core.specs.declared.primary.Recovered.{Recovered}
 use Rattle.recovery_core.specs.declared.primary.Recovered.TheVariants as recovered
+use Rattle.recovery_core.specs.Primaries.{PrimaryState}
 use Rattle.block_recovery.specs.declared.primary.Primary.{Primary}
 use Rattle.block_recovery.specs.declared.primary.PrimaryStep.{PrimaryStep}
 use Rattle.block_recovery.specs.declared.primary.PrimaryStep.TheVariants as step
 use Rattle.block_recovery.specs.Actions.{Passes}
-use Rattle.block_recovery.specs.Steps.{IsNew, Steps}
+use Rattle.block_recovery.specs.Beginning.{StartsSo}
+use Rattle.block_recovery.specs.Steps.{IsNew, Leads}
+
+-- Its first step, or one of a primary that has begun.
+abbrev pub StepsAs : {D R I O : Type 0} → desk.Ghosts D → roads.Ghosts R I O → link_in.Ghosts I → link_out.Ghosts O
+    → Option PrimaryState → Option PrimaryState → Primary I O → Primary I O → D → D → R → R → PrimaryStep → Type 0
+StepsAs d r i o None core' p p' office office' old new result = StartsSo d r i o p p' office office' old new result
+StepsAs d r i o (Some core) (Some core') p p' office office' old new result =
+    Leads d r i o core core' p.members p.links.items p'.links.items office office' old new result
+StepsAs d r i o (Some core) None p p' office office' old new result = ⊥
+
+-- A step of a primary.
+abbrev pub Steps : {D R I O : Type 0} → desk.Ghosts D → roads.Ghosts R I O → link_in.Ghosts I → link_out.Ghosts O
+    → Primary I O → Primary I O → D → D → R → R → PrimaryStep → Type 0
+Steps d r i o p p' office office' old new result =
+    StepsAs d r i o p.core p'.core p p' office office' old new result
 
 -- Between two steps: the primary, the office and the roads.
 pub record Place (D R I O : Type 0) : Type 0 where

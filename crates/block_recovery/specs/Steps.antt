@@ -8,9 +8,7 @@ use Rattle.hd_base.specs.declared.links.LinkOut as link_out
 use Rattle.hd_base.specs.declared.roads.Roads as roads
 use Rattle.name_core.specs.declared.calls.Begun.{Begun}
 use Rattle.name_core.specs.declared.calls.OfficeAnswer.{OfficeAnswer}
-use Rattle.name_core.specs.declared.calls.OfficeAnswer.TheVariants as answer
 use Rattle.name_core.specs.declared.calls.OfficeCall.{OfficeCall}
-use Rattle.name_core.specs.declared.calls.OfficeCall.TheVariants as call
 use Rattle.name_core.specs.declared.choice.Chosen.{Chosen}
 use Rattle.name_core.specs.declared.desks.Desk as desk
 use Rattle.name_core.specs.declared.faults.OfficeFault.{OfficeFault}
@@ -23,7 +21,7 @@ use Rattle.recovery_core.specs.declared.primary.Recovered.{Recovered}
 use Rattle.recovery_core.specs.declared.primary.Recovered.TheVariants as recovered
 use Rattle.recovery_core.specs.declared.standings.Heard.{Heard}
 use Rattle.recovery_core.specs.Primaries.{PrimaryState, begun_with, heard_at, shuts_at, own_step, request_of, sync_call}
-use Rattle.recovery_core.specs.Primaries.{office_refused, end_with}
+use Rattle.recovery_core.specs.Primaries.{end_with}
 use Rattle.block_recovery.specs.declared.actions.Found.{Found}
 use Rattle.block_recovery.specs.declared.actions.Found.TheVariants as found
 use Rattle.block_recovery.specs.declared.links.Link.{Link}
@@ -32,7 +30,7 @@ use Rattle.block_recovery.specs.declared.links.Seat.TheVariants as seat
 use Rattle.block_recovery.specs.declared.primary.Primary.{Primary}
 use Rattle.block_recovery.specs.declared.primary.PrimaryStep.{PrimaryStep}
 use Rattle.block_recovery.specs.declared.primary.PrimaryStep.TheVariants as step
-use Rattle.block_recovery.specs.Actions.{Held, IsAt, DialsAll, Settles, SettlesAll, PollsAll}
+use Rattle.block_recovery.specs.Actions.{IsAt, DialsAll, Settles, SettlesAll, PollsAll}
 use Rattle.block_recovery.specs.Dialling.{is_open}
 use Rattle.block_recovery.specs.Requests.{SendsRequest}
 
@@ -63,12 +61,6 @@ abbrev pub EndsSo : {R I O : Type 0} → roads.Ghosts R I O → link_in.Ghosts I
     → List (Seat I O) → List (Seat I O) → R → R → PrimaryStep → Type 0
 EndsSo r i o end links links' old new result = SettlesAll r i o [] links links' old new × (result ≡ step.Ended end)
 
--- Memory ran out in its first step, and all connections that there are then are given up.
-pub record GivesAllUp {R I O : Type 0} (r : roads.Ghosts R I O) (i : link_in.Ghosts I) (o : link_out.Ghosts O)
-    (links' : List (Seat I O)) (new : R) : Type 0 where
-  pub held : Held R I O
-  pub settles : SettlesAll r i o [] held.links links' held.road new
-
 -- ITS FIRST STEP
 
 -- Each member was dialled, and those that answered were sent the INIT.
@@ -79,31 +71,6 @@ pub record Reaches {R I O : Type 0} (r : roads.Ghosts R I O) (i : link_in.Ghosts
   pub dials : DialsAll r i o members links held old new (Ok tt)
   pub begins : core ≡ begun_with block begun members (map is_open held)
   pub sends : SendsRequest o (op.Recovery (request_of core kind.Init 0)) members members held links' (Ok tt)
-
-abbrev pub BeginsWith : {R I O : Type 0} → roads.Ghosts R I O → link_in.Ghosts I → link_out.Ghosts O → BlockId → Begun
-    → List NodeId → List (Seat I O) → List (Seat I O) → R → R → Result PrimaryState Recovered → Type 0
-BeginsWith r i o block begun members links links' old new (Ok core) =
-    Reaches r i o block begun members links links' old new core
-BeginsWith r i o block begun members links links' old new (Err end) =
-    (end ≡ recovered.Memory) × GivesAllUp r i o links' new
-
--- What the office's answer leads to: the recovery begins, or ends by the refusal.
-abbrev pub BeginsAs : {R I O : Type 0} → roads.Ghosts R I O → link_in.Ghosts I → link_out.Ghosts O
-    → Result OfficeAnswer OfficeFault → BlockId → List NodeId → List (Seat I O) → List (Seat I O)
-    → R → R → Result PrimaryState Recovered → Type 0
-BeginsAs r i o (Ok (answer.Begun begun)) block members links links' old new result =
-    BeginsWith r i o block begun members links links' old new result
-BeginsAs r i o (Ok other) block members links links' old new result = ⊥
-BeginsAs r i o (Err fault) block members links links' old new result =
-    (links' ≡ links) × (new ≡ old) × (result ≡ Err (office_refused fault))
-
--- The office is asked to begin.
-pub record Begins {D R I O : Type 0} (d : desk.Ghosts D) (r : roads.Ghosts R I O) (i : link_in.Ghosts I)
-    (o : link_out.Ghosts O) (block : BlockId) (members : List NodeId) (links links' : List (Seat I O))
-    (office office' : D) (old new : R) (result : Result PrimaryState Recovered) : Type 0 where
-  pub said : Result OfficeAnswer OfficeFault
-  pub asks : AsksOffice d (call.BeginRecovery block) office office' said
-  pub begins : BeginsAs r i o said block members links links' old new result
 
 -- WHAT IT TAKES
 
@@ -211,28 +178,6 @@ begun_as (Err end) = step.Ended end
 abbrev pub core_of : Result PrimaryState Recovered → Option PrimaryState
 core_of (Ok core) = Some core
 core_of (Err end) = None
-
--- Its first step.
-pub record BeginsSo {D R I O : Type 0} (d : desk.Ghosts D) (r : roads.Ghosts R I O) (i : link_in.Ghosts I)
-    (o : link_out.Ghosts O) (p p' : Primary I O) (office office' : D) (old new : R) (result : PrimaryStep) : Type 0
-  where
-    pub begun : Result PrimaryState Recovered
-    pub begins : Begins d r i o p.block p.members p.links.items p'.links.items office office' old new begun
-    pub core : p'.core ≡ core_of begun
-    pub is : result ≡ begun_as begun
-
-abbrev pub StepsAs : {D R I O : Type 0} → desk.Ghosts D → roads.Ghosts R I O → link_in.Ghosts I → link_out.Ghosts O
-    → Option PrimaryState → Option PrimaryState → Primary I O → Primary I O → D → D → R → R → PrimaryStep → Type 0
-StepsAs d r i o None core' p p' office office' old new result = BeginsSo d r i o p p' office office' old new result
-StepsAs d r i o (Some core) (Some core') p p' office office' old new result =
-    Leads d r i o core core' p.members p.links.items p'.links.items office office' old new result
-StepsAs d r i o (Some core) None p p' office office' old new result = ⊥
-
--- A step of a primary.
-abbrev pub Steps : {D R I O : Type 0} → desk.Ghosts D → roads.Ghosts R I O → link_in.Ghosts I → link_out.Ghosts O
-    → Primary I O → Primary I O → D → D → R → R → PrimaryStep → Type 0
-Steps d r i o p p' office office' old new result =
-    StepsAs d r i o p.core p'.core p p' office office' old new result
 
 -- A primary that has begun does its own step, whatever stands on the connections.
 abbrev pub OwnsAs : {D R I O : Type 0} → desk.Ghosts D → roads.Ghosts R I O → link_in.Ghosts I → link_out.Ghosts O

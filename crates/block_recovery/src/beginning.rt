@@ -1,13 +1,13 @@
 //! How a primary begins.
 
-ghost use Rattle.std.specs.Prelude.{◌≡◌, length, All, IfOk};
-ghost use Rattle.block_recovery.specs.Dialling.{LinkIsKnown, KeepsEnds};
+ghost use Rattle.std.specs.Prelude.{◌≡◌, length, All, IfOk, map};
+ghost use Rattle.block_recovery.specs.Dialling.{LinkIsKnown, KeepsEnds, is_open};
 ghost use Rattle.block_recovery.specs.Beginning.{port_of, ports_of, Prepares, StartsWith, Starts, StartsSo};
 
 use crate::actions::{dial_all, settle};
 use crate::dialling::dial_port;
 use crate::links::Seat;
-use crate::primary::{Primary, PrimaryStep, answered};
+use crate::primary::{Primary, PrimaryStep};
 use crate::requests::send_request;
 use hd_base::{BlockId, LinkIn, LinkOut, Members, NodeId, Roads};
 use name_core::{Begun, Desk, OfficeAnswer, OfficeCall};
@@ -137,4 +137,11 @@ fn prepare<I: Drop, O: LinkOut>(
     let core = Core::new(alloc, block, begun, members, &answered)?;
     send_request(alloc, &core, RecoveryKind::Init, 0, members, members, links)?;
     Ok(core)
+}
+
+/// Which of the dials were answered.
+fn answered<I: Drop, O: Drop>(alloc: Global, links: &[Seat<I, O>]) -> Result<Vec<bool>, AllocError>
+    ensures { IfOk result (λ answered. answered.items ≡ map is_open links.now) }
+{
+    links.iter().map(|link| link.is_open()).collect(alloc)
 }

@@ -1,15 +1,13 @@
 //! A primary, step by step.
 
 ghost use Rattle.std.specs.List.{list_any};
-ghost use Rattle.std.specs.Prelude.{◌≡◌, ◌<◌, length, All, IfOk, map, slice_get, Option, Some};
+ghost use Rattle.std.specs.Prelude.{◌≡◌, ◌<◌, length, All, IfOk, slice_get, Option, Some};
 ghost use Rattle.hd_base.specs.Channels.{Plain};
-ghost use Rattle.block_recovery.specs.Dialling.{LinkIsKnown, is_open, is_lost};
+ghost use Rattle.block_recovery.specs.Dialling.{LinkIsKnown, is_lost};
+ghost use Rattle.block_recovery.specs.Driving.{Steps};
 ghost use Rattle.block_recovery.specs.Steps.{
   IsNew,
   no_links,
-  Begins,
-  BeginsWith,
-  Reaches,
   Leads,
   LeadsOn,
   Hears,
@@ -18,16 +16,15 @@ ghost use Rattle.block_recovery.specs.Steps.{
   Updates,
   Commits,
   EndsSo,
-  Steps,
 };
 
-use crate::actions::{Found, dial_all, poll_all, settle, settle_link};
+use crate::actions::{Found, poll_all, settle, settle_link};
 use crate::links::Seat;
 use crate::requests::send_request;
 use hd_base::{BlockId, LinkIn, LinkOut, Members, NodeId, Roads};
-use name_core::{Begun, Chosen, Desk, OfficeAnswer, OfficeCall};
+use name_core::{Chosen, Desk};
 use op_headers::RecoveryKind;
-use recovery_core::{Heard, OwnStep, Primary as Core, Recovered, office_refused};
+use recovery_core::{Heard, OwnStep, Primary as Core, Recovered};
 use std::alloc::{AllocError, Global};
 
 /// A primary of a block recovery: it owns the connections to the members.
@@ -107,19 +104,12 @@ impl<I: LinkIn, O: LinkOut> Primary<I, O> {
         ensures count { length self.new.links.items ≡ length self.new.members }
         ensures known { All (LinkIsKnown (R.plain roads.new)) self.new.links.items }
     {
-        let links = self.links.as_mut_slice();
         match &mut self.core {
-            Some(core) => lead(alloc, core, &self.members, links, office, roads),
-            None => {
-                let begun = begin(alloc, self.block, &self.members, links, office, roads);
-                match begun {
-                    Ok(core) => {
-                        self.core = Some(core);
-                        PrimaryStep::Moved
-                    }
-                    Err(end) => PrimaryStep::Ended(end),
-                }
+            Some(core) => {
+                let links = self.links.as_mut_slice();
+                lead(alloc, core, &self.members, links, office, roads)
             }
+            None => self.begin(alloc, office, roads),
         }
     }
 
@@ -155,87 +145,6 @@ fn no_links<I: Drop, O: Drop>(
     ensures { IfOk result (λ links. links.items ≡ no_links nodes.now) }
 {
     nodes.iter().map(|_node| Seat::Empty).collect(alloc)
-}
-
-/// Asks the office to begin, and reaches the members.
-fn begin<D: Desk, R: Roads>(
-    alloc: Global,
-    block: BlockId,
-    members: &Members,
-    links: &mut [Seat<R::Inward, R::Outward>],
-    office: &mut D,
-    roads: &mut R,
-) -> Result<Core, Recovered>
-    requires count { length links.old ≡ length members.now }
-    requires known { All (LinkIsKnown (R.plain roads.old)) links.old }
-    ensures begins { Begins D.Desk R.Roads R.Inward.LinkIn R.Outward.LinkOut block members.now links.old links.new
-        office.old office.new roads.old roads.new result }
-    ensures count { length links.new ≡ length links.old }
-    ensures known { All (LinkIsKnown (R.plain roads.new)) links.new }
-{
-    match office.ask(&OfficeCall::BeginRecovery { block }) {
-        Ok(OfficeAnswer::Begun(begun)) => begin_with(alloc, block, begun, members, links, roads),
-        Ok(_) => unreachable!(),
-        Err(fault) => Err(office_refused(fault)),
-    }
-}
-
-/// Reaches the members; where memory runs out, all connections are given up.
-fn begin_with<R: Roads>(
-    alloc: Global,
-    block: BlockId,
-    begun: Begun,
-    members: &Members,
-    links: &mut [Seat<R::Inward, R::Outward>],
-    roads: &mut R,
-) -> Result<Core, Recovered>
-    requires count { length links.old ≡ length members.now }
-    requires known { All (LinkIsKnown (R.plain roads.old)) links.old }
-    ensures begins { BeginsWith R.Roads R.Inward.LinkIn R.Outward.LinkOut block begun members.now links.old links.new
-        roads.old roads.new result }
-    ensures count { length links.new ≡ length links.old }
-    ensures known { All (LinkIsKnown (R.plain roads.new)) links.new }
-{
-    match reach_all(alloc, block, begun, members, links, roads) {
-        Ok(core) => Ok(core),
-        Err(_) => {
-            settle(alloc, &[], links, roads);
-            Err(Recovered::Memory)
-        }
-    }
-}
-
-/// Dials each member, and sends those that answered the INIT.
-fn reach_all<R: Roads>(
-    alloc: Global,
-    block: BlockId,
-    begun: Begun,
-    members: &Members,
-    links: &mut [Seat<R::Inward, R::Outward>],
-    roads: &mut R,
-) -> Result<Core, AllocError>
-    requires count { length links.old ≡ length members.now }
-    requires known { All (LinkIsKnown (R.plain roads.old)) links.old }
-    ensures reaches { IfOk result (Reaches R.Roads R.Inward.LinkIn R.Outward.LinkOut block begun members.now
-        links.old links.new roads.old roads.new) }
-    ensures count { length links.new ≡ length links.old }
-    ensures known { All (LinkIsKnown (R.plain roads.new)) links.new }
-{
-    dial_all(alloc, members, links, roads)?;
-    let answered = answered(alloc, links)?;
-    let core = Core::new(alloc, block, begun, members, &answered)?;
-    send_request(alloc, &core, RecoveryKind::Init, 0, members, members, links)?;
-    Ok(core)
-}
-
-/// Which of the dials were answered.
-pub(crate) fn answered<I: Drop, O: Drop>(
-    alloc: Global,
-    links: &[Seat<I, O>],
-) -> Result<Vec<bool>, AllocError>
-    ensures { IfOk result (λ answered. answered.items ≡ map is_open links.now) }
-{
-    links.iter().map(|link| link.is_open()).collect(alloc)
 }
 
 /// A step of a primary that has begun: takes what is there on a connection, or does its own step where nothing is.
