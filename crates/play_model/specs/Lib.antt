@@ -1,4 +1,5 @@
 pub mod Asks
+pub mod Recoveries
 pub mod States
 pub mod Dues
 pub mod Draws

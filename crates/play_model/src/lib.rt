@@ -4,7 +4,9 @@
 mod asks;
 mod dues;
 mod laws;
+mod recoveries;
 
 pub use asks::ReadAsk;
 pub use dues::Due;
 pub use laws::{drawn_events_are_enabled, listed_dues_are_due, plays_have_one_end};
+pub use recoveries::Recovery;
