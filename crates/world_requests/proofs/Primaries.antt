@@ -1,5 +1,5 @@
 -- What primaries send; the office sends nothing.
-use Rattle.std.proofs.Common.{ℕ, ◌+◌, Bool, true, false, List, [], ◌∷◌, slice_get, Option, Some, None, IfSome, Ok, Err, refl}
+use Rattle.std.proofs.Common.{ℕ, ◌+◌, Bool, true, false, List, [], ◌∷◌, slice_get, Option, Some, None, IfSome, Result, Ok, Err, refl, sym, subst, ◌≡◌}
 use Rattle.std.specs.Prelude.{◌==◌, ◌&&◌, is_none, zip}
 use Rattle.hd_base.specs.declared.numbers.BlockId.{BlockId}
 use Rattle.hd_base.specs.declared.numbers.NodeId.{NodeId}
@@ -8,8 +8,14 @@ use Rattle.name_core.specs.declared.calls.OfficeCall.{OfficeCall}
 use Rattle.name_core.specs.declared.calls.OfficeCall.TheVariants as call
 use Rattle.recovery_core.specs.declared.primary.OwnStep.{OwnStep}
 use Rattle.recovery_core.specs.declared.primary.OwnStep.TheVariants as own
+use Rattle.name_core.specs.Offices.{answer_to}
+use Rattle.name_core.specs.declared.choice.ChooseFault.{ChooseFault}
+use Rattle.name_core.specs.declared.choice.Chosen.{Chosen}
+use Rattle.recovery_core.specs.declared.primary.Phase.{Phase}
+use Rattle.recovery_core.specs.declared.primary.Phase.TheVariants as phase
+use Rattle.recovery_core.specs.declared.standings.Heard.{Heard}
 use Rattle.recovery_core.specs.declared.standings.Standing.{Standing}
-use Rattle.recovery_core.specs.Primaries.{PrimaryState, own_step, sync_call, is_among}
+use Rattle.recovery_core.specs.Primaries.{PrimaryState, OwnTaken, heard_as, choosing, committing, own_at, own_step, sync_call, is_among, taken, waits}
 use Rattle.writer_core.specs.declared.actions.Action.{Action}
 use Rattle.writer_core.specs.declared.actions.Action.TheVariants as action
 use Rattle.writer_core.specs.Transitions as writer
@@ -19,10 +25,10 @@ use Rattle.world.specs.Parts.{Message, Place, Told, Leading, Primary, no_primary
 use Rattle.world.specs.Worlds.{World}
 use Rattle.world.specs.Connections.{Next, is_alive, is_conn, place_of}
 use Rattle.world.specs.Clients.{are_members}
-use Rattle.world.specs.Primaries.{primary_change, dials_answered, primary_dials, begins_as, begins_at, own_recover, updates_on, leads_step, commits_step, leads_told, own_primary_as, own_primary, listens, hears_change, primary_up_as, primary_up, asks_writer, asks_primary, writer_asks, primary_commits, primary_asks, office_event}
+use Rattle.world.specs.Primaries.{primary_change, dials_answered, primary_dials, begins_as, begins_at, own_recover, updates_on, heard_of, leads_step, commits_step, leads_told, own_primary_as, own_primary, listens, hears_change, primary_up_as, primary_up, asks_writer, asks_primary, writer_asks, primary_commits, primary_asks, office_event}
 use Rattle.world_laws.proofs.ByteFrame.{Each, each-nil, each-one, each-cons}
 use Rattle.world_laws.proofs.FactTables.{if-each, when-each}
-use Rattle.world_requests.proofs.Frame.{Asking, MessageIs, DialIs, Brings, quiet}
+use Rattle.world_requests.proofs.Frame.{Asking, to_recover, MessageIs, DialIs, PrimaryIs, PrimariesAre, Brings, quiet}
 
 module _ (Of : Asking → ℕ → Type 0) (w : World) where
   -- REQUESTS
@@ -37,84 +43,108 @@ module _ (Of : Asking → ℕ → Type 0) (w : World) where
   updates-asked m chosen [] c h = each-nil (MessageIs Of)
   updates-asked m chosen (x ∷ xs) c h = if-each (Each (MessageIs Of)) (is_among chosen x.0 && is_conn x.1 c) (m ∷ []) (updates_on m chosen xs c) (λ _. each-one (MessageIs Of) m h) (λ _. updates-asked m chosen xs c h)
 
-  primary-brings : (i : ℕ) (p : Primary) → Brings Of (primary_change w i p)
-  primary-brings i p = quiet Of (primary_change w i p) refl (λ _. refl) (λ _. refl)
+  primary-brings : (i : ℕ) (p : Primary) → PrimaryIs Of p → Brings Of w (primary_change w i p)
+  primary-brings i p is = quiet Of w (primary_change w i p) refl (λ _. refl) (λ _. refl) (λ h. is)
+
+  -- what a primary recovers stays so
+  heard-block : (p : PrimaryState) (at : ℕ) (h : Heard) (o : Option Standing) → (heard_as p at h o).block ≡ p.block
+  heard-block p at h None = refl
+  heard-block p at h (Some s) = refl
+
+  choosing-block : (p : PrimaryState) (c : Result Chosen ChooseFault) → (choosing p c).primary.block ≡ p.block
+  choosing-block p (Ok c) = refl
+  choosing-block p (Err e) = refl
+
+  committing-block : (p : PrimaryState) (bytes : ℕ) (ns : List NodeId) → (committing p bytes ns).primary.block ≡ p.block
+  committing-block p bytes [] = refl
+  committing-block p bytes (n ∷ ns) = refl
+
+  at-block : (x : Phase) (p : PrimaryState) → (own_at x p).primary.block ≡ p.block
+  at-block phase.Informing p = choosing-block p _
+  at-block (phase.Updating bytes) p = committing-block p bytes _
+  at-block phase.Over p = refl
+
+  step-block : (p : PrimaryState) → (own_step p).primary.block ≡ p.block
+  step-block p = if-each (λ (t : OwnTaken). t.primary.block ≡ p.block) (waits p.standings) (taken p own.Waits) (own_at p.phase p) (λ _. refl) (λ _. at-block p.phase p)
 
   -- ITS STEPS
 
-  begins-as-brings : (told : Told) (i : ℕ) (at : Place) (b : BlockId) (ns : List NodeId) (bs : List Bool) → IfSome (begins_as told w i at b ns bs) (Brings Of)
-  begins-as-brings (Ok (office.Begun begun)) i at b ns bs = record {
-    dials = dials-asked i at _ 0 ns (dials_answered w ns bs) tt;
+  begins-as-brings : (told : Told) (i : ℕ) (at : Place) (b : BlockId) (ns : List NodeId) (bs : List Bool) → Of to_recover b.0 → IfSome (begins_as told w i at b ns bs) (Brings Of w)
+  begins-as-brings (Ok (office.Begun begun)) i at b ns bs q = record {
+    dials = dials-asked i at _ 0 ns (dials_answered w ns bs) q;
     downs = λ c. each-nil (MessageIs Of);
     ups = λ c. each-nil (MessageIs Of);
+    primary = λ h. q;
   }
-  begins-as-brings (Ok (office.Stamp x)) i at b ns bs = tt
-  begins-as-brings (Ok (office.Reopened x)) i at b ns bs = tt
-  begins-as-brings (Ok office.Nothing) i at b ns bs = tt
-  begins-as-brings (Err e) i at b ns bs = primary-brings i _
+  begins-as-brings (Ok (office.Stamp x)) i at b ns bs q = tt
+  begins-as-brings (Ok (office.Reopened x)) i at b ns bs q = tt
+  begins-as-brings (Ok office.Nothing) i at b ns bs q = tt
+  begins-as-brings (Err e) i at b ns bs q = primary-brings i _ tt
 
-  begins-at-brings : (x : Primary) (i n : ℕ) (b : BlockId) (ns : List NodeId) (bs : List Bool) → IfSome (begins_at x w i n b ns bs) (Brings Of)
-  begins-at-brings no_primary i n b ns bs = tt
-  begins-at-brings (was_told q told) i n b ns bs = when-each (Brings Of) (q.0 == b.0 && w.running n && are_members ns) _ (λ _. begins-as-brings told i (place_of w n) b ns bs)
-  begins-at-brings (leads l) i n b ns bs = tt
-  begins-at-brings (has_led x) i n b ns bs = tt
+  begins-at-brings : (x : Primary) (i n : ℕ) (b : BlockId) (ns : List NodeId) (bs : List Bool) → Of to_recover b.0 → IfSome (begins_at x w i n b ns bs) (Brings Of w)
+  begins-at-brings no_primary i n b ns bs k = tt
+  begins-at-brings (was_told q told) i n b ns bs k = when-each (Brings Of w) (q.0 == b.0 && w.running n && are_members ns) _ (λ _. begins-as-brings told i (place_of w n) b ns bs k)
+  begins-at-brings (leads l) i n b ns bs k = tt
+  begins-at-brings (has_led x) i n b ns bs k = tt
 
-  pub own-recover-brings : (i n : ℕ) (b : BlockId) (ns : List NodeId) (bs : List Bool) → IfSome (own_recover w i n b ns bs) (Brings Of)
-  own-recover-brings i n b ns bs = begins-at-brings (w.primaries i) i n b ns bs
+  pub own-recover-brings : (i n : ℕ) (b : BlockId) (ns : List NodeId) (bs : List Bool) → Of to_recover b.0 → IfSome (own_recover w i n b ns bs) (Brings Of w)
+  own-recover-brings i n b ns bs k = begins-at-brings (w.primaries i) i n b ns bs k
 
-  step-brings : (s : OwnStep) (i : ℕ) (l : Leading) (p : PrimaryState) → IfSome (leads_step s w i l p) (Brings Of)
-  step-brings own.Waits i l p = tt
-  step-brings (own.Updates c) i l p = record {
+  step-brings : (s : OwnStep) (i : ℕ) (l : Leading) (p : PrimaryState) → p.block ≡ l.state.block → Of to_recover l.state.block.0 → IfSome (leads_step s w i l p) (Brings Of w)
+  step-brings own.Waits i l p same q = tt
+  step-brings (own.Updates c) i l p same q = record {
     dials = each-nil (DialIs Of);
-    downs = λ d. updates-asked _ c.members (zip l.state.members l.conns) d tt;
+    downs = λ d. updates-asked _ c.members (zip l.state.members l.conns) d q;
     ups = λ d. each-nil (MessageIs Of);
+    primary = λ h. subst (λ (b : BlockId). Of to_recover b.0) (sym same) q;
   }
-  step-brings (own.Commits c) i l p = tt
-  step-brings (own.Ends x) i l p = quiet Of _ refl (λ _. refl) (λ _. refl)
+  step-brings (own.Commits c) i l p same q = tt
+  step-brings (own.Ends x) i l p same q = quiet Of w _ refl (λ _. refl) (λ _. refl) (λ h. tt)
 
-  commits-brings : (s : OwnStep) (i : ℕ) (l : Leading) (t : Told) → IfSome (commits_step s w i l t) (Brings Of)
+  commits-brings : (s : OwnStep) (i : ℕ) (l : Leading) (t : Told) → IfSome (commits_step s w i l t) (Brings Of w)
   commits-brings own.Waits i l t = tt
   commits-brings (own.Updates c) i l t = tt
-  commits-brings (own.Commits c) i l t = quiet Of _ refl (λ _. refl) (λ _. refl)
+  commits-brings (own.Commits c) i l t = quiet Of w _ refl (λ _. refl) (λ _. refl) (λ h. tt)
   commits-brings (own.Ends x) i l t = tt
 
-  told-brings : (o : Option Told) (i : ℕ) (l : Leading) → IfSome (leads_told o w i l) (Brings Of)
-  told-brings None i l = step-brings (own_step l.state).does i l (own_step l.state).primary
-  told-brings (Some t) i l = commits-brings (own_step l.state).does i l t
+  told-brings : (o : Option Told) (i : ℕ) (l : Leading) → Of to_recover l.state.block.0 → IfSome (leads_told o w i l) (Brings Of w)
+  told-brings None i l q = step-brings (own_step l.state).does i l (own_step l.state).primary (step-block l.state) q
+  told-brings (Some t) i l q = commits-brings (own_step l.state).does i l t
 
-  own-as-brings : (x : Primary) (i : ℕ) → IfSome (own_primary_as x w i) (Brings Of)
-  own-as-brings no_primary i = tt
-  own-as-brings (was_told b t) i = tt
-  own-as-brings (leads l) i = when-each (Brings Of) (is_alive w l.at) _ (λ _. told-brings l.told i l)
-  own-as-brings (has_led x) i = tt
+  own-as-brings : (x : Primary) (i : ℕ) → PrimaryIs Of x → IfSome (own_primary_as x w i) (Brings Of w)
+  own-as-brings no_primary i q = tt
+  own-as-brings (was_told b t) i q = tt
+  own-as-brings (leads l) i q = when-each (Brings Of w) (is_alive w l.at) _ (λ _. told-brings l.told i l q)
+  own-as-brings (has_led x) i q = tt
 
-  pub own-primary-brings : (i : ℕ) → IfSome (own_primary w i) (Brings Of)
-  own-primary-brings i = own-as-brings (w.primaries i) i
+  pub own-primary-brings : (i : ℕ) → PrimariesAre Of w → IfSome (own_primary w i) (Brings Of w)
+  own-primary-brings i h = own-as-brings (w.primaries i) i (h i)
 
   -- WHAT IT TAKES
 
-  hears-brings : (i : ℕ) (l : Leading) (place c : ℕ) (x : Next) (o : Option Standing) → IfSome (hears_change w i l place c x o) (Brings Of)
-  hears-brings i l place c x None = tt
-  hears-brings i l place c x (Some s) = when-each (Brings Of) (listens l.state.phase s) _ (λ _. quiet Of _ refl (λ _. refl) (λ _. refl))
+  hears-brings : (i : ℕ) (l : Leading) (place c : ℕ) (x : Next) (o : Option Standing) → Of to_recover l.state.block.0 → IfSome (hears_change w i l place c x o) (Brings Of w)
+  hears-brings i l place c x None q = tt
+  hears-brings i l place c x (Some s) q = when-each (Brings Of w) (listens l.state.phase s) _
+      (λ _. quiet Of w _ refl (λ _. refl) (λ _. refl) (λ h. subst (λ (b : BlockId). Of to_recover b.0) (sym (heard-block l.state place (heard_of x) (slice_get l.state.standings place))) q))
 
-  up-as-brings : (x : Primary) (i place c : ℕ) (n : Next) → IfSome (primary_up_as x w i place c n) (Brings Of)
-  up-as-brings no_primary i place c n = tt
-  up-as-brings (was_told b t) i place c n = tt
-  up-as-brings (leads l) i place c n = when-each (Brings Of) (is_alive w l.at && is_none l.told) _ (λ _. hears-brings i l place c n (slice_get l.state.standings place))
-  up-as-brings (has_led x) i place c n = tt
+  up-as-brings : (x : Primary) (i place c : ℕ) (n : Next) → PrimaryIs Of x → IfSome (primary_up_as x w i place c n) (Brings Of w)
+  up-as-brings no_primary i place c n q = tt
+  up-as-brings (was_told b t) i place c n q = tt
+  up-as-brings (leads l) i place c n q = when-each (Brings Of w) (is_alive w l.at && is_none l.told) _ (λ _. hears-brings i l place c n (slice_get l.state.standings place) q)
+  up-as-brings (has_led x) i place c n q = tt
 
-  pub primary-up-brings : (i place c : ℕ) (n : Next) → IfSome (primary_up w i place c n) (Brings Of)
-  primary-up-brings i place c n = up-as-brings (w.primaries i) i place c n
+  pub primary-up-brings : (i place c : ℕ) (n : Next) → PrimariesAre Of w → IfSome (primary_up w i place c n) (Brings Of w)
+  primary-up-brings i place c n h = up-as-brings (w.primaries i) i place c n (h i)
 
   -- THE OFFICE
 
-  asks-writer-brings : (b : ℕ) (c : OfficeCall) → Brings Of (asks_writer w b c)
-  asks-writer-brings b c = quiet Of (asks_writer w b c) refl (λ _. refl) (λ _. refl)
+  asks-writer-brings : (b : ℕ) (c : OfficeCall) → Brings Of w (asks_writer w b c)
+  asks-writer-brings b c = quiet Of w (asks_writer w b c) refl (λ _. refl) (λ _. refl) (λ h. h 0)
 
-  asks-primary-brings : (i : ℕ) (c : OfficeCall) (p : Told → Primary) → Brings Of (asks_primary w i c p)
-  asks-primary-brings i c p = quiet Of (asks_primary w i c p) refl (λ _. refl) (λ _. refl)
+  asks-primary-brings : (i : ℕ) (c : OfficeCall) (p : Told → Primary) → (PrimariesAre Of w → PrimaryIs Of (p (answer_to w.office c))) → Brings Of w (asks_primary w i c p)
+  asks-primary-brings i c p q = quiet Of w (asks_primary w i c p) refl (λ _. refl) (λ _. refl) q
 
-  writer-asks-brings : (a : Action) (b : ℕ) → IfSome (writer_asks a w b) (Brings Of)
+  writer-asks-brings : (a : Action) (b : ℕ) → IfSome (writer_asks a w b) (Brings Of w)
   writer-asks-brings (action.Ask c) b = asks-writer-brings b c
   writer-asks-brings action.Took b = tt
   writer-asks-brings (action.Send p) b = tt
@@ -123,18 +153,18 @@ module _ (Of : Asking → ℕ → Type 0) (w : World) where
   writer-asks-brings (action.Dial to r) b = tt
   writer-asks-brings action.Memory b = tt
 
-  commits-asks : (s : OwnStep) (i : ℕ) (l : Leading) → IfSome (primary_commits s w i l) (Brings Of)
-  commits-asks (own.Commits c) i l = asks-primary-brings i (sync_call l.state c) (λ told. leads (record l { told = Some told }))
-  commits-asks own.Waits i l = tt
-  commits-asks (own.Updates c) i l = tt
-  commits-asks (own.Ends x) i l = tt
+  commits-asks : (s : OwnStep) (i : ℕ) (l : Leading) → Of to_recover l.state.block.0 → IfSome (primary_commits s w i l) (Brings Of w)
+  commits-asks (own.Commits c) i l q = asks-primary-brings i (sync_call l.state c) (λ told. leads (record l { told = Some told })) (λ h. q)
+  commits-asks own.Waits i l q = tt
+  commits-asks (own.Updates c) i l q = tt
+  commits-asks (own.Ends x) i l q = tt
 
-  primary-asks-brings : (x : Primary) (i : ℕ) (b : BlockId) → IfSome (primary_asks x w i b) (Brings Of)
-  primary-asks-brings no_primary i b = asks-primary-brings i (call.BeginRecovery b) (was_told b)
-  primary-asks-brings (leads l) i b = when-each (Brings Of) (is_alive w l.at && is_none l.told) _ (λ _. commits-asks (own_step l.state).does i l)
-  primary-asks-brings (was_told q t) i b = tt
-  primary-asks-brings (has_led x) i b = tt
+  primary-asks-brings : (x : Primary) (i : ℕ) (b : BlockId) → PrimaryIs Of x → IfSome (primary_asks x w i b) (Brings Of w)
+  primary-asks-brings no_primary i b q = asks-primary-brings i (call.BeginRecovery b) (was_told b) (λ h. tt)
+  primary-asks-brings (leads l) i b q = when-each (Brings Of w) (is_alive w l.at && is_none l.told) _ (λ _. commits-asks (own_step l.state).does i l q)
+  primary-asks-brings (was_told d t) i b q = tt
+  primary-asks-brings (has_led x) i b q = tt
 
-  pub office-brings : (c : Caller) → IfSome (office_event w c) (Brings Of)
-  office-brings (caller.Writer b) = when-each (Brings Of) (is_none (w.writers b.0).told) _ (λ _. writer-asks-brings (writer.own_step (w.writers b.0).known).action b.0)
-  office-brings (caller.Primary i b) = primary-asks-brings (w.primaries i) i b
+  pub office-brings : (c : Caller) → PrimariesAre Of w → IfSome (office_event w c) (Brings Of w)
+  office-brings (caller.Writer b) h = when-each (Brings Of w) (is_none (w.writers b.0).told) _ (λ _. writer-asks-brings (writer.own_step (w.writers b.0).known).action b.0)
+  office-brings (caller.Primary i b) h = primary-asks-brings (w.primaries i) i b (h i)
