@@ -38,24 +38,15 @@ done
 # The first play builds the program.
 "$top/dn" play < "$work/flushes" > /dev/null
 
-python3 - "$top/dn" "$work" "$runs" <<'PY'
-import subprocess, sys, time, zlib
+PYTHONPATH="$top/bench" PYTHONDONTWRITEBYTECODE=1 python3 - "$top/dn" "$work" "$runs" <<'PY'
+import sys, zlib
+from plays import best, play
 
 program, work, runs = sys.argv[1], sys.argv[2], int(sys.argv[3])
 
 
-def best(action):
-    times = []
-    for _ in range(runs):
-        begin = time.perf_counter()
-        action()
-        times.append(time.perf_counter() - begin)
-    return min(times)
-
-
-def play(name):
-    with open(f"{work}/{name}") as script:
-        subprocess.run([program, "play"], stdin=script, stdout=subprocess.DEVNULL, check=True)
+def played(name):
+    return best(lambda: play(program, f"{work}/{name}"), runs)
 
 
 def passes(size, members):
@@ -68,9 +59,9 @@ def passes(size, members):
 
 
 for name, size, members in [("flushes", 16 * 65536, 3), ("wide", 33554432, 16)]:
-    played, yardstick = best(lambda: play(name)), best(lambda: passes(size, members))
-    print(f"{name}: {played:.3f} s, yardstick {yardstick:.3f} s, ratio {yardstick / played:.2f}")
+    took, yardstick = played(name), best(lambda: passes(size, members), runs)
+    print(f"{name}: {took:.3f} s, yardstick {yardstick:.3f} s, ratio {yardstick / took:.2f}")
 
-none, first, both = [best(lambda: play(f"appends-{appends}")) for appends in (0, 800, 1600)]
+none, first, both = [played(f"appends-{appends}") for appends in (0, 800, 1600)]
 print(f"appends: 800 in {first:.3f} s, 1600 in {both:.3f} s, second 800 to first {(both - first) / (first - none):.2f}")
 PY

@@ -19,31 +19,19 @@ script_of() {
 }
 for reads in 800 1600; do
     script_of "$reads" 'settle\n' > "$work/turns-$reads"
-done
-for reads in 200 400; do
     script_of "$reads" '' > "$work/open-$reads"
 done
 
 # The first play builds the program.
-"$top/dn" play < "$work/open-200" > /dev/null
+"$top/dn" play < "$work/open-800" > /dev/null
 
-python3 - "$top/dn" "$work" "$runs" <<'PY'
-import subprocess, sys, time
+PYTHONPATH="$top/bench" PYTHONDONTWRITEBYTECODE=1 python3 - "$top/dn" "$work" "$runs" <<'PY'
+import sys
+from plays import best, play
 
 program, work, runs = sys.argv[1], sys.argv[2], int(sys.argv[3])
 
-
-def best(name):
-    times = []
-    for _ in range(runs):
-        begin = time.perf_counter()
-        with open(f"{work}/{name}") as script:
-            subprocess.run([program, "play"], stdin=script, stdout=subprocess.DEVNULL, check=True)
-        times.append(time.perf_counter() - begin)
-    return min(times)
-
-
-for kind, half in [("turns", 800), ("open", 200)]:
-    one, two = best(f"{kind}-{half}"), best(f"{kind}-{2 * half}")
+for kind, half in [("turns", 800), ("open", 800)]:
+    one, two = [best(lambda: play(program, f"{work}/{kind}-{reads}"), runs) for reads in (half, 2 * half)]
     print(f"{kind}: {half} reads in {one:.3f} s, {2 * half} in {two:.3f} s, ratio {two / one:.1f}")
 PY
