@@ -23,6 +23,7 @@ use Rattle.play_model.specs.Dues.{Queues, is_unbegun, is_open, is_due}
 use Rattle.world_orders.specs.Orders.{purpose_of, reading}
 use Rattle.reader_events.specs.Asking.{CanAsk}
 use Rattle.play_readers.specs.declared.clients.ReadClient.{ReadClient}
+use Rattle.play_reads.proofs.Numbers.{same_place}
 use Rattle.play_clients.specs.declared.clients.Client.{Client}
 use Rattle.play_nodes.specs.declared.connections.Upper.{Upper}
 use Rattle.play_nodes.specs.Dues.{IdleIs, TellsIdle, TellsElsewhere}
@@ -218,7 +219,7 @@ module _ {F R I O : Type 0} (f : files.Ghosts F) (r : roads.Ghosts R I O) (i : l
   reads ask place there shows = λ nodes queues s is actor told.
       let w : World = world_of nodes old in
       let p = passes_at (λ (c : ReadClient I O). c.ask.reader == ask.reader) old.reads.clients.items place there in
-      let at = s.shows.reads.clients.apart place actor.place p.at actor.client p.found actor.at (eqb-true p.at.ask.reader ask.reader p.passes ∙ sym (ap (λ (a : ReadAsk). a.reader) actor.asks)) in
+      let at = same_place (λ (c : ReadClient I O). c.ask.reader) old.reads.clients.items s.shows.reads.clients.ascend place actor.place p.at actor.client p.found actor.at (eqb-true p.at.ask.reader ask.reader p.passes ∙ sym (ap (λ (a : ReadAsk). a.reader) actor.asks)) in
       let same : p.at.ask ≡ ask = ap (λ (c : ReadClient I O). c.ask) (same_some p.at actor.client (sym p.found ∙ (ap (λ (k : ℕ). slice_get old.reads.clients.items k) at ∙ actor.at))) ∙ actor.asks in
       let fits : AskFits nodes old.nodes.blocks.items p.at.ask = s.asks place p.at.ask (slice_get-map (λ (c : ReadClient I O). c.ask) old.reads.clients.items place ∙ ap (λ (x : Option (ReadClient I O)). option_map (λ (c : ReadClient I O). c.ask) x) p.found) in
       let can : CanAsk w p.at.ask.reader p.at.ask.node = record {
