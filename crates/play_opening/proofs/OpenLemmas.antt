@@ -99,12 +99,12 @@ module _ {S D R I O : Type 0} (s : shelves.Ghosts S D) (d : files.Ghosts D) (r :
     reads = record {
       clients = record {
         each = λ k c at. absurd (no_element c (sym (ap (λ (xs : List (ReadClient I O)). slice_get xs k) h.reads.clients) ∙ at));
-        apart = λ j k a b at at' same. absurd (no_element a (sym (ap (λ (xs : List (ReadClient I O)). slice_get xs j) h.reads.clients) ∙ at));
+        ascend = λ j k a b at at' before. absurd (no_element a (sym (ap (λ (xs : List (ReadClient I O)). slice_get xs j) h.reads.clients) ∙ at));
         all = λ reader begun. absurd (begun refl);
       };
       servers = record {
         each = λ k s at. absurd (no_element s (sym (ap (λ (xs : List (ReadServer I O)). slice_get xs k) h.reads.servers) ∙ at));
-        single = λ j k a b at at' same. absurd (no_element a (sym (ap (λ (xs : List (ReadServer I O)). slice_get xs j) h.reads.servers) ∙ at));
+        ascend = λ j k a b at at' before. absurd (no_element a (sym (ap (λ (xs : List (ReadServer I O)). slice_get xs j) h.reads.servers) ∙ at));
         all = λ c within of. absurd (none_below c within);
       };
       dialled = λ c reader within upper. absurd (none_below c within);
