@@ -21,7 +21,7 @@ wanted_status() {
 }
 
 for script in "$folder"/*.script; do
-    if grep -qE '^[[:space:]]*(fault|recover)[[:space:]]' "$script"; then
+    if grep -qE '^[[:space:]]*fault[[:space:]]' "$script"; then
         left_out=$((left_out + 1))
         continue
     fi

@@ -12,3 +12,4 @@ pub mod Exchanging
 pub mod Taking
 pub mod Telling
 pub mod Failing
+pub mod Awaiting

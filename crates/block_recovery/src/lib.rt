@@ -3,6 +3,7 @@
 #![tactic(auto)]
 
 mod actions;
+mod awaiting;
 mod beginning;
 mod dialling;
 mod driving;

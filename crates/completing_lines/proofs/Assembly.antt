@@ -22,7 +22,6 @@ use Rattle.play_model.specs.declared.dues.Due.TheVariants as due
 use Rattle.play_model.specs.States.{PlayState, world_of, opened, ordered, ruled}
 use Rattle.play_model.specs.Dues.{is_due, dues, after_due}
 use Rattle.play_model.specs.Draws.{advanced, draws, Settles}
-use Rattle.play_model.specs.Laws.{AskAmong}
 use Rattle.play_model.specs.Lines.{blocks_of, step_due, PlaysLine, PlaysLines, Plays}
 use Rattle.play_scripts.specs.Fitting.{LineFits, LinesFit, begun}
 use Rattle.play_scripts.specs.Failures.{is_failure, HaveNoFailures}
@@ -36,7 +35,7 @@ use Rattle.play_completeness.specs.Played.{Played, BlockPlayed}
 use Rattle.play_completeness.proofs.Beginning.{opened-on, join-on}
 use Rattle.play_completeness.proofs.Flowing.{get-front}
 use Rattle.play_completeness.proofs.Folding.{advanced-keeps, draws-keep, stepped-keeps}
-use Rattle.play_completeness.proofs.Plays.{none-asked, step-asked}
+use Rattle.play_completeness.proofs.Plays.{Among, none-asked, none-recovered, step-asked}
 use Rattle.play_completeness.proofs.Keeping.{conns-keep}
 use Rattle.play_completeness.proofs.OwnFacts.{own-keeps}
 use Rattle.play_completeness.proofs.ScriptBlocks.{commands-of-blocks}
@@ -53,7 +52,7 @@ record Behind (before : Before) (lines : ℕ) (commands : ℕ → List Command) 
 
 -- the same commands of each block
 played-as : (p : PlayState) (f g : ℕ → List Command) → ((b : ℕ) → f b ≡ g b) → Played p f → Played p g
-played-as p f g same h = record { asks = h.asks; plain = h.plain; quiet = h.quiet; peaceful = h.peaceful; links = h.links; writers = h.writers; blocks = λ b. subst (λ (cs : List Command). BlockPlayed (world_of p) b (p.queues b) cs) (same b) (h.blocks b) }
+played-as p f g same h = record { asks = h.asks; recoveries = h.recoveries; plain = h.plain; quiet = h.quiet; peaceful = h.peaceful; links = h.links; writers = h.writers; blocks = λ b. subst (λ (cs : List Command). BlockPlayed (world_of p) b (p.queues b) cs) (same b) (h.blocks b) }
 
 on-as : (p : PlayState) (f g : ℕ → List Command) → ((b : ℕ) → f b ≡ g b) → PlayedOn p f → PlayedOn p g
 on-as p f g same h = record { played = played-as p f g same h.played; names = h.names; ruled = h.ruled }
@@ -151,7 +150,7 @@ module _ (before : Before) (lines : ℕ) (p : PlayState) (commands : ℕ → Lis
       go false e = subst (λ (y : Bool). IsChunkSize (if y then rule else p.rules b).chunk) (sym e) (h.follows.chunks b)
 
   ruled-played : Played (ruled p at.0 rule) commands
-  ruled-played = record { asks = h.on.played.asks; plain = h.on.played.plain; quiet = h.on.played.quiet; peaceful = h.on.played.peaceful; links = h.on.played.links; writers = h.on.played.writers; blocks = h.on.played.blocks }
+  ruled-played = record { asks = h.on.played.asks; recoveries = h.on.played.recoveries; plain = h.on.played.plain; quiet = h.on.played.quiet; peaceful = h.on.played.peaceful; links = h.on.played.links; writers = h.on.played.writers; blocks = h.on.played.blocks }
 
   behind-rule : Behind Next (suc lines) commands (ruled p at.0 rule)
   behind-rule = record {
@@ -169,12 +168,13 @@ module _ (before : Before) (lines : ℕ) (p : PlayState) (commands : ℕ → Lis
 -- WHAT HAPPENS BETWEEN LINES
 
 module _ (before : Before) (lines : ℕ) (commands : ℕ → List Command) where
-  due-behind : (p : PlayState) (d : Due) → Behind before lines commands p → is_due (world_of p) p.queues d ≡ true → AskAmong p.asks d → Behind before lines commands (after_due p d)
+  due-behind : (p : PlayState) (d : Due) → Behind before lines commands p → is_due (world_of p) p.queues d ≡ true → Among p d → Behind before lines commands (after_due p d)
   due-behind p (due.Own b) h is asked =
       let facts = own-keeps p commands b h.on.played h.on.names h.on.ruled in
       let next = own-steps-follow before lines p commands b h.follows is in
       record { on = record { played = next.well.played; names = facts.0; ruled = facts.1 }; follows = next }
-  due-behind p (due.Reader ask) h is asked = none-asked p.asks ask h.on.played.asks asked
+  due-behind p (due.Reader ask) h is asked = none-asked p.asks ask h.on.played.asks asked.0
+  due-behind p (due.Primary r) h is asked = none-recovered p.recoveries r h.on.played.recoveries asked.1
   due-behind p (due.Down c) h is asked =
       let next = conns-keep p commands (due.Down c) h.on is tt in
       record { on = next; follows = others-follow before lines p commands (due.Down c) refl h.follows next.played }
@@ -289,7 +289,7 @@ module _ (blocks : List ℕ) (before : Before) (lines : ℕ) (commands : ℕ →
   line-behind number says.Settle u r fits k old new is h = none-more says.Settle new (λ b. refl) (settles-behind before lines commands blocks old new is h)
   line-behind number (says.Step at event) u r fits k old new is h =
       subst (Behind before (suc lines) (With commands (says.Step at event))) (sym is)
-      (none-more (says.Step at event) _ (λ b. refl) (stepped-keeps (Behind before lines commands) (due-behind before lines commands) (words-behind before lines commands) old (step_due (world_of old) at.0 event) (step-asked old.asks (world_of old) at.0 event) h))
+      (none-more (says.Step at event) _ (λ b. refl) (stepped-keeps (Behind before lines commands) (due-behind before lines commands) (words-behind before lines commands) old (step_due (world_of old) at.0 event) (step-asked old (world_of old) at.0 event) h))
   line-behind number (says.Expect node at state stamp written) u r fits k old new is h =
       subst (Behind before (suc lines) (With commands (says.Expect node at state stamp written))) (sym is) (none-more (says.Expect node at state stamp written) old (λ b. refl) h)
   line-behind number (says.Read at node offset count) u r fits k old new is h = absurd (false≢true (sym r))

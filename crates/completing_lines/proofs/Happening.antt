@@ -129,6 +129,7 @@ module _ (p : PlayState) (commands : ℕ → List Command) (h : Played p command
   pub other-same : (d : Due) → is_own d ≡ false → (b : ℕ) → Same d b
   other-same (due.Own a) other b = absurd (false≢true (sym other))
   other-same (due.Reader ask) other b = absurd (false≢true (sym other))
+  other-same (due.Primary r) other b = absurd (false≢true (sym other))
   other-same (due.Down c) other b = ap (λ (x : Writing). given_with x.known.intake (p.queues b)) ((down_keeps w c true).writers b)
   other-same (due.Ready c) other b = ap (λ (x : Writing). given_with x.known.intake (p.queues b)) ((ready_keeps w c).writers b)
   other-same (due.Up c) other b = ap (λ (j : Intake). given_with j (p.queues b)) (up c b (w.dialled c.0).upper refl (h.peaceful.uppers c.0))

@@ -72,6 +72,7 @@ due-unused : (w : World) (queues : Queues) (d : Due) → is_own d ≡ false → 
 unfolding happens outcome
 due-unused w queues (due.Own b) other h = absurd (false≢true (sym other))
 due-unused w queues (due.Reader ask) other h = absurd (false≢true (sym other))
+due-unused w queues (due.Primary r) other h = absurd (false≢true (sym other))
 due-unused w queues (due.Down c) other h = after-unused w h (event.Down c true) _ (when-each IsUnused (is_served w c.0) _ (λ _. down-as-unused w c.0 (next_down w c.0) h))
 due-unused w queues (due.Ready c) other h = after-unused w h (event.Ready c) _ (when-each IsUnused (is_served w c.0) _
     (λ _. changed-unused w h (lower_ready (w.lowers c.0) w c.0 false) (aside-leaves w h (lower_ready (w.lowers c.0) w c.0 false) (lower-ready-aside (w.lowers c.0) w c.0 false))))

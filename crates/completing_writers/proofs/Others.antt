@@ -125,7 +125,7 @@ module _ (p : PlayState) (commands : ℕ → List Command) (h : Played p command
   after-is = runs-join (start p.nodes) p.events events
 
   plain : ArePlain (p.events ++ events)
-  plain = plain-join p.events events h.plain (due-plain w p.queues (due.Own b) tt)
+  plain = plain-join p.events events h.plain (due-plain w p.queues (due.Own b) tt tt)
 
   writers-all : (v : World) (new : Writing) → Aside w v b.0 new → WriterWell v b.0 new.known → Writers v
   writers-all v new a well k = go (k == b.0) refl
@@ -148,6 +148,7 @@ module _ (p : PlayState) (commands : ℕ → List Command) (h : Played p command
       let at : run (start p.nodes) (p.events ++ events) ≡ v = runs-join (start p.nodes) p.events events ∙ is in (
         record {
           asks = h.asks;
+          recoveries = h.recoveries;
           plain = plain;
           quiet = subst IsQuiet (sym (runs-join (start p.nodes) p.events events)) (stays-quiet w p.queues (due.Own b) h.quiet);
           peaceful = all-peaceful p.nodes (p.events ++ events) plain;

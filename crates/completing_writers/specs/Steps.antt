@@ -81,10 +81,11 @@ AllOwnStepsKeep = (p : PlayState) (commands : ℕ → List Command) (b : BlockId
 
 -- OTHER DUES, AND COMMANDS
 
--- an own step of a writer or a reader
+-- an own step of a writer, a reader or a primary
 abbrev pub is_own : Due → Bool
 is_own (due.Own b) = true
 is_own (due.Reader ask) = true
+is_own (due.Primary r) = true
 is_own other = false
 
 -- Of what else is due only that `Played` holds after it is left to be shown.

@@ -26,8 +26,8 @@ use Rattle.play.specs.declared.faults.PlayFault.{PlayFault}
 use Rattle.play.specs.declared.player.Player.{Player}
 use Rattle.play.specs.Cutting.{losses, HasCut, CutShows}
 use Rattle.play.specs.Events.{IsKept, Keeps}
-use Rattle.play.specs.Laws.{Laws, ReadsKept}
-use Rattle.play.specs.Showing.{NoneLeads, PlayerShows}
+use Rattle.play.specs.Laws.{Laws, PipelinesLeave}
+use Rattle.play.specs.Showing.{PlayerShows}
 use Rattle.play_laws.specs.Commands.{CommandsFit}
 use Rattle.play.specs.Standing.{ClientFits, EventsFit, world_of, PlayStands}
 use Rattle.play.proofs.Lawful.{fits_more}
@@ -62,7 +62,7 @@ writers_kept w v c down up cut = record {
   over = λ b d by. over_cut w v c down up d false cut;
 }
 
-module _ {F R I O : Type 0} (f : files.Ghosts F) (r : roads.Ghosts R I O) (i : link_in.Ghosts I) (o : link_out.Ghosts O) (L : Laws) (shown : CutsShow R I O r) (are : CutsAreLosses) (ends : EndsStayInCuts i o) (nodes_stay : NodesStay {F = F} f i o) (clients_stay : ClientsStay i o) (K : ReadsKept i o) where
+module _ {F R I O : Type 0} (f : files.Ghosts F) (r : roads.Ghosts R I O) (i : link_in.Ghosts I) (o : link_out.Ghosts O) (L : Laws) (shown : CutsShow R I O r) (are : CutsAreLosses) (ends : EndsStayInCuts i o) (nodes_stay : NodesStay {F = F} f i o) (clients_stay : ClientsStay i o) (K : PipelinesLeave i o) where
   module _ (nodes : ℕ) (queues : Queues) (conn : ConnId) (down up : ℕ) (old : Player F I O) (road road' : R) (s : PlayStands r i o nodes queues road old) (cuts : CutsRoads r conn.0 down up road road') (within : conn.0 < length old.nodes.connections.items) where
     abbrev here : World
     here = world_of nodes old
@@ -103,13 +103,10 @@ module _ {F R I O : Type 0} (f : files.Ghosts F) (r : roads.Ghosts R I O) (i : l
       pipelines = pipelines_stay here there (λ d before. ap (λ (k : World). k.dialled d) net_so.is.is) (ap (λ (k : World). k.next_conn) net_so.is.is);
     }
 
-    unled_there : NoneLeads there
-    unled_there = λ p. ap (λ (k : World). k.primaries p) net_so.is.is ∙ s.shows.unled p
-
     shows_there : PlayerShows r i o there made queues road' old
     unfolding left
-    shows_there = same_left f r i o here there s.net queues old old.nodes (event.Lost conn direction.Up up) road road' clients_stay K.stay s.shows (L.ordered nodes old.events.items) (writers_kept here there conn.0 down up net_so.is) (nodes_same here there conn.0 down up net_so.is) refl unled_there left
-        (K.cut here s.net conn down up (L.ordered nodes old.events.items) dialled)
+    shows_there = same_left f r i o here there s.net queues old old.nodes (event.Lost conn direction.Up up) road road' clients_stay K s.shows (L.ordered nodes old.events.items) (writers_kept here there conn.0 down up net_so.is) (nodes_same here there conn.0 down up net_so.is) refl left
+        (K.cut_reads here s.net conn down up (L.ordered nodes old.events.items) dialled) (K.cut_recoveries here s.net conn down up old.nodes.blocks.items old.recoveries s.shows.recoveries (L.ordered nodes old.events.items) dialled)
 
     module _ (new : Player F I O) (same : new ≡ record old { events = new.events }) (more : new.events.items ≡ old.events.items ++ losses conn down up) where
       world_is : world_of nodes new ≡ there
@@ -130,13 +127,14 @@ module _ {F R I O : Type 0} (f : files.Ghosts F) (r : roads.Ghosts R I O) (i : l
       stands_there = record {
         net = made;
         shows = subst (λ (v : World). PlayerShows r i o v made queues road' (record old { events = new.events })) (sym world_is)
-            (record { nodes = shows_there.nodes; reads = shows_there.reads; unled = shows_there.unled; clients = shows_there.clients; apart = shows_there.apart; office = shows_there.office; running = shows_there.running; slots = shows_there.slots });
+            (record { nodes = shows_there.nodes; reads = shows_there.reads; recoveries = shows_there.recoveries; clients = shows_there.clients; apart = shows_there.apart; office = shows_there.office; running = shows_there.running; slots = shows_there.slots });
         few = s.few;
         events = subst (λ (es : List Event). EventsFit nodes old.nodes.blocks.items es) (sym more)
             (fits_more nodes old.nodes.blocks.items old.events.items (losses conn down up) s.events
             (record { widths = (tt, (tt, tt)); names = (tt, (tt, tt)); among = (tt, (tt, tt)); whole = (tt, (tt, tt)) }));
         clients = λ k c at. subst (λ (v : World). ClientFits nodes old.nodes.blocks.items v c) (sym world_is) (fits_there c (s.clients k c at));
         asks = s.asks;
+        recovers = s.recovers;
         connected = λ b c has. s.connected b c (sym (ap (λ (x : Writing). x.conn) (writer_is b)) ∙ (sym (ap (λ (v : World). (v.writers b).conn) world_is) ∙ has));
       }
 

@@ -1,7 +1,7 @@
 -- Who acts in what is due.
-use Rattle.std.proofs.Common.{◌≡◌, ℕ, ◌<◌, ◌≤◌, ◌+◌, Bool, true, false, List, slice_get, option_map, Option, Some, None, Result, refl, sym, ap, ◌∙◌, subst, eqb-true, eq-eqb, arith}
-use Rattle.std.specs.Prelude.{◌==◌, not}
-use Rattle.std.proofs.lemmas.Bool.{and_parts}
+use Rattle.std.proofs.Common.{◌≡◌, ◌⊎◌, inl, inr, ℕ, ◌<◌, ◌≤◌, ◌+◌, Bool, true, false, List, slice_get, option_map, Option, Some, None, Result, refl, sym, ap, ◌∙◌, subst, eqb-true, eq-eqb, arith}
+use Rattle.std.specs.Prelude.{◌==◌, is_some, not}
+use Rattle.std.proofs.lemmas.Bool.{and_parts, false≢true}
 use Rattle.std.proofs.lemmas.Option.{slice_get-map}
 use Rattle.hd_base.specs.declared.files.Files as files
 use Rattle.hd_base.specs.declared.links.LinkIn as link_in
@@ -19,14 +19,15 @@ use Rattle.world.specs.Enabled.{takes_down, can_down, acts_below, can_ready}
 use Rattle.world.specs.Worlds.{World}
 use Rattle.play_model.specs.declared.dues.Due.TheVariants as due
 use Rattle.play_model.specs.declared.asks.ReadAsk.{ReadAsk}
+use Rattle.play_model.specs.declared.recoveries.Recovery.{Recovery}
 use Rattle.play_model.specs.Dues.{Queues, is_unbegun, is_open, is_due}
-use Rattle.world_orders.specs.Orders.{purpose_of, reading}
+use Rattle.world_orders.specs.Orders.{purpose_of, reading, recovering}
 use Rattle.reader_events.specs.Asking.{CanAsk}
 use Rattle.play_readers.specs.declared.clients.ReadClient.{ReadClient}
-use Rattle.play_reads.proofs.Numbers.{same_place}
 use Rattle.play_clients.specs.declared.clients.Client.{Client}
 use Rattle.play_nodes.specs.declared.connections.Upper.{Upper}
 use Rattle.play_nodes.specs.Dues.{IdleIs, TellsIdle, TellsElsewhere}
+use Rattle.play_nodes.proofs.Numbers.{same_place}
 use Rattle.play_nodes.proofs.PlaceLaws.{same_some}
 use Rattle.play_nodes.proofs.ReadyNodes.{served_within}
 use Rattle.play_nodes.specs.declared.connections.Connection.{Connection}
@@ -35,8 +36,13 @@ use Rattle.play_nodes.proofs.JoinNodes.{passes_at, place_there}
 use Rattle.play_nodes.proofs.Tables.{element}
 use Rattle.play_dues.specs.Conns.{writer_above}
 use Rattle.play_dues.specs.Places.{client_place}
+use Rattle.play_dues.specs.Primaries.{primary_client_place}
 use Rattle.play_dues.specs.Readers.{read_client_place}
+use Rattle.play_primaries.specs.declared.clients.PrimaryClient.{PrimaryClient}
+use Rattle.play_recoveries.specs.declared.dues.Dialler.{Dialler}
+use Rattle.play_recoveries.specs.Dues.{NoneReady, TellsDialler, pair_of}
 use Rattle.play_dues.specs.Showing.{HasClient}
+use Rattle.play_dues.proofs.ElsewhereLaws.{recovering_so, reading_so}
 use Rattle.play_dues.proofs.UpperLaws.{up_at, heard_conn, member_upper, writer_upper, none_is_some}
 use Rattle.play.specs.declared.faults.PlayFault.{PlayFault}
 use Rattle.play.specs.declared.player.Player.{Player}
@@ -45,12 +51,12 @@ use Rattle.play.specs.Showing.{IsClient}
 use Rattle.play.specs.Events.{BeginShows, DownShows, ReadyShows, MirrorShows, HeardShows, PlayEnds}
 use Rattle.play.specs.Owning.{OwnShows}
 use Rattle.play.specs.Reading.{FilesTell, ReadsAreTold, AskShows, ReaderShows, TakeShows, SendShows}
-use Rattle.play.specs.Standing.{AskFits, world_of, PlayStands, HappenShows}
+use Rattle.play.specs.Recovering.{LeadShows, PrimaryShows, AnswerShows}
+use Rattle.play.specs.Standing.{AskFits, RecoveryFits, world_of, PlayStands, ElsewhereShows, HappenEnds, HappenShows}
 use Rattle.play.proofs.CanOwning.{can_own}
 use Rattle.play.proofs.Happened.{happened_so}
-use Rattle.play.proofs.Lawful.{lawful, can_begin, can_hear, hears_quiet, can_read_own, can_read_up, can_take, serves_so}
+use Rattle.play.proofs.Lawful.{lawful, can_begin, can_hear, hears_quiet, can_read_own, can_read_up, can_take, serves_so, can_lead, can_be_told, can_answer}
 use Rattle.play.proofs.ReadSteps.{reader_above}
-use Rattle.play.proofs.ReadsLaws.{none_dialled}
 
 -- a block that has a client has its place
 pub has_place : {I O : Type 0} (clients : List (Client I O)) (b : ℕ) → HasClient clients b → client_place clients b ≡ None → ⊥
@@ -76,12 +82,16 @@ not_false : (b : Bool) → false ≡ not b → b ≡ true
 not_false true e = refl
 not_false false e = cc
 
--- none of a pipeline, and no primary's
-reading_so : (u : parts.Upper) → ((i place : ℕ) → u ≡ by_primary i place → ⊥) → not (is_pipeline u) ≡ true → purpose_of u ≡ reading
-reading_so (by_writer b) apart e = cc
-reading_so (by_member d) apart e = cc
-reading_so (by_reader line) apart e = refl
-reading_so (by_primary i place) apart e = absurd (apart i place refl)
+not_true : (b : Bool) → true ≡ not b → b ≡ false
+not_true true e = cc
+not_true false e = refl
+
+-- one of both did
+elsewhere_kind : (u : parts.Upper) → is_pipeline u ≡ false → (purpose_of u ≡ reading) ⊎ (purpose_of u ≡ recovering)
+elsewhere_kind (by_writer b) away = cc
+elsewhere_kind (by_member d) away = cc
+elsewhere_kind (by_reader line) away = inl refl
+elsewhere_kind (by_primary n place) away = inr refl
 
 unbegun_so : (x : parts.Reader) → is_unbegun x ≡ true → x ≡ parts.no_reader
 unbegun_so parts.no_reader e = refl
@@ -98,14 +108,12 @@ ready_within : (w : World) (queues : Queues) (conn : ConnId) → is_due w queues
 ready_within w queues conn is = served_within w conn.0 (and_parts (is_served w conn.0) (acts_below (w.lowers conn.0) w conn.0) (and_parts (is_open (w.lowers conn.0)) (can_ready w conn.0) is).1).0
 
 module _ {F R I O : Type 0} (f : files.Ghosts F) (r : roads.Ghosts R I O) (i : link_in.Ghosts I) (o : link_out.Ghosts O) (L : Laws) (old new : Player F I O) (road road' : R) (result : Result (Unit {0}) PlayFault) where
-  -- a connection of a pipeline, and one that a reader dialled
+  -- a connection of a pipeline, and one that is none of it
   of_pipeline : (conn : ConnId) (away : Bool) → away ≡ false → TellsElsewhere i o conn old.nodes away → (nodes : ℕ) (queues : Queues) → PlayStands r i o nodes queues road old → conn.0 < (world_of nodes old).next_conn → is_pipeline ((world_of nodes old).dialled conn.0).upper ≡ true
   of_pipeline conn away here tells nodes queues s within = not_false (is_pipeline ((world_of nodes old).dialled conn.0).upper) (sym here ∙ tells (world_of nodes old) s.net s.shows.nodes.nodes_are within)
 
-  of_reader : (conn : ConnId) (away : Bool) → away ≡ true → TellsElsewhere i o conn old.nodes away → (nodes : ℕ) (queues : Queues) → PlayStands r i o nodes queues road old → conn.0 < (world_of nodes old).next_conn → purpose_of ((world_of nodes old).dialled conn.0).upper ≡ reading
-  of_reader conn away there tells nodes queues s within =
-      reading_so ((world_of nodes old).dialled conn.0).upper (λ n place is. none_dialled L.carried nodes old.events.items s.shows.unled conn.0 n place within is)
-      (sym (tells (world_of nodes old) s.net s.shows.nodes.nodes_are within) ∙ there)
+  away_from : (conn : ConnId) (away : Bool) → away ≡ true → TellsElsewhere i o conn old.nodes away → (nodes : ℕ) (queues : Queues) → PlayStands r i o nodes queues road old → conn.0 < (world_of nodes old).next_conn → is_pipeline ((world_of nodes old).dialled conn.0).upper ≡ false
+  away_from conn away there tells nodes queues s within = not_true (is_pipeline ((world_of nodes old).dialled conn.0).upper) (sym there ∙ tells (world_of nodes old) s.net s.shows.nodes.nodes_are within)
 
   -- seen a reader dialled all files are told
   files_tell : (conn : ConnId) (nodes : ℕ) (queues : Queues) (s : PlayStands r i o nodes queues road old) → conn.0 < (world_of nodes old).next_conn → purpose_of ((world_of nodes old).dialled conn.0).upper ≡ reading → ReadsAreTold f old → FilesTell f
@@ -142,13 +150,24 @@ module _ {F R I O : Type 0} (f : files.Ghosts F) (r : roads.Ghosts R I O) (i : l
       happened_so r i o L nodes queues old road s f (due.Down conn) is actor new road' result
       (shows w s.net queues s.shows piped (lawful L nodes old s.events (event.Down conn true) (tt, tt)) is (subst (λ (b : Bool). IdleIs b w conn.0) first (tells w s.net queues s.shows.nodes.nodes_are (λ within. piped) is)))
 
-  pub takes : (conn : ConnId) (away : Bool) → away ≡ true → TellsElsewhere i o conn old.nodes away → TakeShows f r i o conn old new road road' result → HappenShows f r i o (due.Down conn) old new road road' result
-  takes conn away there seen shows = λ nodes queues s is actor told.
+  pub away_down : (conn : ConnId) (away : Bool) → away ≡ true → TellsElsewhere i o conn old.nodes away → ElsewhereShows f r i o conn (due.Down conn) old new road road' result → HappenShows f r i o (due.Down conn) old new road road' result
+  away_down conn away there seen shows = λ nodes queues s is actor told.
+      let within = down_within (world_of nodes old) queues conn is in
+      shows nodes queues s within (away_from conn away there seen nodes queues s within) is told
+
+  pub takes : (conn : ConnId) (x : Option Dialler) → is_some x ≡ false → TellsDialler i o conn old.nodes (option_map pair_of x) → TakeShows f r i o conn old new road road' result → ElsewhereShows f r i o conn (due.Down conn) old new road road' result
+  takes conn x none tells shows = λ nodes queues s within away is told.
       let w : World = world_of nodes old in
-      let within = down_within w queues conn is in
-      let of = of_reader conn away there seen nodes queues s within in
-      happened_so r i o L nodes queues old road s f (due.Down conn) is actor new road' result
+      let of = reading_so (w.dialled conn.0).upper x (tells w s.net s.shows.nodes.nodes_are within) none away in
+      happened_so r i o L nodes queues old road s f (due.Down conn) is tt new road' result
       (shows w s.net queues s.shows (files_tell conn nodes queues s within of told) of (can_take L nodes old s.events conn) is)
+
+  pub answers : (conn : ConnId) (x : Option Dialler) → is_some x ≡ true → TellsDialler i o conn old.nodes (option_map pair_of x) → AnswerShows f r i o conn old new road road' result → ElsewhereShows f r i o conn (due.Down conn) old new road road' result
+  answers conn x some tells shows = λ nodes queues s within away is told.
+      let w : World = world_of nodes old in
+      let of = recovering_so (w.dialled conn.0).upper x (tells w s.net s.shows.nodes.nodes_are within) some in
+      happened_so r i o L nodes queues old road s f (due.Down conn) is tt new road' result
+      (shows w s.net queues s.shows of (can_answer L nodes old s.events conn) is)
 
   -- WHAT IS DONE WITHOUT A MESSAGE
 
@@ -158,23 +177,38 @@ module _ {F R I O : Type 0} (f : files.Ghosts F) (r : roads.Ghosts R I O) (i : l
       happened_so r i o L nodes queues old road s f (due.Ready conn) is actor new road' result
       (shows w s.net queues s.shows (of_pipeline conn away here seen nodes queues s (ready_within w queues conn is)) (lawful L nodes old s.events (event.Ready conn) (tt, tt)) is)
 
-  pub sends : (conn : ConnId) (away : Bool) → away ≡ true → TellsElsewhere i o conn old.nodes away → SendShows f r i o conn old new road road' result → HappenShows f r i o (due.Ready conn) old new road road' result
-  sends conn away there seen shows = λ nodes queues s is actor told.
+  pub sends : NoneReady i o → (conn : ConnId) (away : Bool) → away ≡ true → TellsElsewhere i o conn old.nodes away → SendShows f r i o conn old new road road' result → HappenShows f r i o (due.Ready conn) old new road road' result
+  sends none conn away there seen shows = λ nodes queues s is actor told.
       let w : World = world_of nodes old in
       let within = ready_within w queues conn is in
-      let of = of_reader conn away there seen nodes queues s within in
-      happened_so r i o L nodes queues old road s f (due.Ready conn) is actor new road' result
-      (shows w s.net queues s.shows (files_tell conn nodes queues s within of told) of (serves_so L nodes old s.events (event.Ready conn)) is)
+      by nodes queues s is told within (elsewhere_kind (w.dialled conn.0).upper (away_from conn away there seen nodes queues s within))
+    where
+      by : (nodes : ℕ) (queues : Queues) (s : PlayStands r i o nodes queues road old) → is_due (world_of nodes old) queues (due.Ready conn) ≡ true → ReadsAreTold f old → conn.0 < (world_of nodes old).next_conn → (purpose_of ((world_of nodes old).dialled conn.0).upper ≡ reading) ⊎ (purpose_of ((world_of nodes old).dialled conn.0).upper ≡ recovering)
+          → HappenEnds f r i o nodes queues (due.Ready conn) old new road road' result
+      by nodes queues s is told within (inl of) = happened_so r i o L nodes queues old road s f (due.Ready conn) is tt new road' result
+          (shows (world_of nodes old) s.net queues s.shows (files_tell conn nodes queues s within of told) of (serves_so L nodes old s.events (event.Ready conn)) is)
+      by nodes queues s is told within (inr of) = absurd (false≢true (sym (none (world_of nodes old) s.net queues old.nodes.blocks.items conn old.recoveries s.shows.recoveries within of) ∙ is))
 
   -- WHAT COMES UP
 
-  pub reader_hears : (conn : ConnId) (away : Bool) → away ≡ true → TellsElsewhere i o conn old.nodes away → ReaderShows f r i o conn old new road road' result → HappenShows f r i o (due.Up conn) old new road road' result
-  reader_hears conn away there seen shows = λ nodes queues s is actor told.
+  pub away_up : (conn : ConnId) (away : Bool) → away ≡ true → TellsElsewhere i o conn old.nodes away → ElsewhereShows f r i o conn (due.Up conn) old new road road' result → HappenShows f r i o (due.Up conn) old new road road' result
+  away_up conn away there seen shows = λ nodes queues s is actor told.
+      let within = (up_at (world_of nodes old) queues conn is).within in
+      shows nodes queues s within (away_from conn away there seen nodes queues s within) is told
+
+  pub reader_hears : (conn : ConnId) (x : Option Dialler) → is_some x ≡ false → TellsDialler i o conn old.nodes (option_map pair_of x) → ReaderShows f r i o conn old new road road' result → ElsewhereShows f r i o conn (due.Up conn) old new road road' result
+  reader_hears conn x none tells shows = λ nodes queues s within away is told.
       let w : World = world_of nodes old in
-      let within = (up_at w queues conn is).within in
-      let of = of_reader conn away there seen nodes queues s within in
-      happened_so r i o L nodes queues old road s f (due.Up conn) is actor new road' result
+      let of = reading_so (w.dialled conn.0).upper x (tells w s.net s.shows.nodes.nodes_are within) none away in
+      happened_so r i o L nodes queues old road s f (due.Up conn) is tt new road' result
       (shows w s.net queues s.shows (files_tell conn nodes queues s within of told) of (can_read_up L nodes old s.events) is)
+
+  pub primary_hears : (conn : ConnId) (x : Option Dialler) → is_some x ≡ true → TellsDialler i o conn old.nodes (option_map pair_of x) → PrimaryShows f r i o conn old new road road' result → ElsewhereShows f r i o conn (due.Up conn) old new road road' result
+  primary_hears conn x some tells shows = λ nodes queues s within away is told.
+      let w : World = world_of nodes old in
+      let of = recovering_so (w.dialled conn.0).upper x (tells w s.net s.shows.nodes.nodes_are within) some in
+      happened_so r i o L nodes queues old road s f (due.Up conn) is tt new road' result
+      (shows w s.net queues s.shows of (can_be_told L nodes old s.events) is)
 
   -- what is told of the upper end of a connection on which something is due
   told_upper : (conn : ConnId) (away : Bool) → away ≡ false → TellsElsewhere i o conn old.nodes away → (nodes : ℕ) (queues : Queues) (s : PlayStands r i o nodes queues road old) → is_due (world_of nodes old) queues (due.Up conn) ≡ true → (P : parts.Upper → Option BlockId → Type 0) → ((u : parts.Upper) (x : Upper) → is_pipeline u ≡ true → UpperShows u x → P u (writer_above (Some x)))
@@ -233,3 +267,21 @@ module _ {F R I O : Type 0} (f : files.Ghosts F) (r : roads.Ghosts R I O) (i : l
   nobody_reads ask none = λ nodes queues s is actor told.
       absurd (none_is_some (read_client_place old.reads.clients.items ask.reader) _ none
       (place_there (λ (c : ReadClient I O). c.ask.reader == ask.reader) old.reads.clients.items actor.place actor.client actor.at (eq-eqb actor.client.ask.reader ask.reader (ap (λ (a : ReadAsk). a.reader) actor.asks))))
+
+  -- PRIMARIES
+
+  pub leads_on : (rec : Recovery) (place : ℕ) → primary_client_place old.recoveries.clients.items rec.primary ≡ Some place → LeadShows f r i o place old new road road' result → HappenShows f r i o (due.Primary rec) old new road road' result
+  leads_on rec place there shows = λ nodes queues s is actor told.
+      let w : World = world_of nodes old in
+      let p = passes_at (λ (c : PrimaryClient I O). c.recovery.primary == rec.primary) old.recoveries.clients.items place there in
+      let at = same_place (λ (c : PrimaryClient I O). c.recovery.primary) old.recoveries.clients.items s.shows.recoveries.clients.ascend place actor.place p.at actor.client p.found actor.at (eqb-true p.at.recovery.primary rec.primary p.passes ∙ sym (ap (λ (a : Recovery). a.primary) actor.recovers)) in
+      let same : p.at.recovery ≡ rec = ap (λ (c : PrimaryClient I O). c.recovery) (same_some p.at actor.client (sym p.found ∙ (ap (λ (k : ℕ). slice_get old.recoveries.clients.items k) at ∙ actor.at))) ∙ actor.recovers in
+      let fits : RecoveryFits nodes old.nodes.blocks.items p.at.recovery = s.recovers place p.at.recovery (slice_get-map (λ (c : PrimaryClient I O). c.recovery) old.recoveries.clients.items place ∙ ap (λ (x : Option (PrimaryClient I O)). option_map (λ (c : PrimaryClient I O). c.recovery) x) p.found) in
+      happened_so r i o L nodes queues old road s f (due.Primary rec) is actor new road' result
+      (subst (λ (a : Recovery). PlayEnds f r i o w queues (due.Primary a) old new road road' result) same
+      (shows w s.net queues p.at s.shows p.found (can_lead L nodes old s.events p.at.recovery fits.width s.few) (ap (λ (a : Recovery). is_due w queues (due.Primary a)) same ∙ is)))
+
+  pub nobody_leads : (rec : Recovery) → primary_client_place old.recoveries.clients.items rec.primary ≡ None → HappenShows f r i o (due.Primary rec) old new road road' result
+  nobody_leads rec none = λ nodes queues s is actor told.
+      absurd (none_is_some (primary_client_place old.recoveries.clients.items rec.primary) _ none
+      (place_there (λ (c : PrimaryClient I O). c.recovery.primary == rec.primary) old.recoveries.clients.items actor.place actor.client actor.at (eq-eqb actor.client.recovery.primary rec.primary (ap (λ (a : Recovery). a.primary) actor.recovers))))

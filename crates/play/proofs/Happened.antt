@@ -41,17 +41,24 @@ use Rattle.play_model.specs.declared.asks.ReadAsk.{ReadAsk}
 use Rattle.play_model.specs.Asks.{request_of, asking_node}
 use Rattle.play_readers.specs.declared.clients.ReadClient.{ReadClient}
 use Rattle.play_readers.specs.Asks.{asks_of}
+use Rattle.play_primaries.specs.declared.clients.PrimaryClient.{PrimaryClient}
+use Rattle.play_recoveries.specs.Places.{recoveries_of}
+use Rattle.recovery_core.specs.declared.primary.OwnStep.{OwnStep}
+use Rattle.recovery_core.specs.declared.primary.OwnStep.TheVariants as step
+use Rattle.recovery_core.specs.Primaries as recovery
+use Rattle.play_model.specs.declared.recoveries.Recovery.{Recovery}
+use Rattle.play_model.specs.Recoveries.{all_answered, begins_so, leads_events, primary_asks, primary_events}
 use Rattle.play_dues.specs.Showing.{HasClient}
-use Rattle.play_dues.proofs.UpperLaws.{up_at, heard_conn}
+use Rattle.play_dues.proofs.UpperLaws.{heard_conn}
 use Rattle.play.specs.declared.faults.PlayFault.{PlayFault}
 use Rattle.play.specs.declared.player.Player.{Player}
 use Rattle.play.specs.Laws.{Laws}
 use Rattle.play.specs.Showing.{IsClient, PlayerShows}
 use Rattle.play.specs.Events.{writer_at, actor_of, StaysAt, blocks_of, PlayerLeft, PlayEnds}
 use Rattle.play_laws.specs.Commands.{given_with, CommandsFit}
-use Rattle.play.specs.Standing.{ClientFits, EventsFit, AskFits, AsksFit, world_of, PlayStands, HasHappened, HappenEnds, ActorIsClient}
+use Rattle.play.specs.Standing.{ClientFits, EventsFit, AskFits, AsksFit, RecoveryFits, RecoveriesFit, world_of, PlayStands, HasHappened, HappenEnds, ActorIsClient}
 use Rattle.play.proofs.Lawful.{fits_more}
-use Rattle.play.proofs.ReadsLaws.{none_dialled}
+use Rattle.play.proofs.RecoveryEvents.{recovery_kept}
 use Rattle.play.proofs.CanOwning.{takes_so}
 
 true_false : {A : Type 0} (b : Bool) → b ≡ true → b ≡ false → A
@@ -114,12 +121,13 @@ pub data UpperKind (u : parts.Upper) : Type 0 where
   of_writer : (b : ℕ) → u ≡ by_writer b → UpperKind u
   of_member : (d : ℕ) → u ≡ by_member d → UpperKind u
   of_reader : (n : ℕ) → u ≡ by_reader n → UpperKind u
+  of_primary : (n place : ℕ) → u ≡ by_primary n place → UpperKind u
 
-upper_kind : (u : parts.Upper) → ((i place : ℕ) → u ≡ by_primary i place → ⊥) → UpperKind u
-upper_kind (by_writer b) apart = of_writer b refl
-upper_kind (by_member d) apart = of_member d refl
-upper_kind (by_reader n) apart = of_reader n refl
-upper_kind (by_primary n place) apart = absurd (apart n place refl)
+pub upper_kind : (u : parts.Upper) → UpperKind u
+upper_kind (by_writer b) = of_writer b refl
+upper_kind (by_member d) = of_member d refl
+upper_kind (by_reader n) = of_reader n refl
+upper_kind (by_primary n place) = of_primary n place refl
 
 -- WHAT IS DUE
 
@@ -127,10 +135,6 @@ module _ {F R I O : Type 0} (r : roads.Ghosts R I O) (i : link_in.Ghosts I) (o :
   -- the world of the play
   abbrev here : World
   here = world_of nodes old
-
-  -- who dialled a connection
-  pub upper_here : (c : ℕ) → c < here.next_conn → UpperKind (here.dialled c).upper
-  upper_here c within = upper_kind (here.dialled c).upper (λ n place is. none_dialled L.carried nodes old.events.items s.shows.unled c n place within is)
 
   -- A WRITER'S OWN STEP
 
@@ -244,6 +248,22 @@ module _ {F R I O : Type 0} (r : roads.Ghosts R I O) (i : link_in.Ghosts I) (o :
   unfolding request_of
   asking_fits ask h = record { widths = (h.asked, tt); names = (tt, tt); among = (h.among, tt); whole = (tt, tt) }
 
+  -- what a primary does
+  leads_fit : (step : OwnStep) (rec : Recovery) → RecoveryFits nodes old.nodes.blocks.items rec → EventsFit nodes old.nodes.blocks.items (leads_events step rec)
+  leads_fit (step.Commits c) rec h = record { widths = (tt, (tt, tt)); names = (tt, (tt, tt)); among = (tt, (tt, tt)); whole = (tt, (tt, tt)) }
+  leads_fit step.Waits rec h = record { widths = (tt, tt); names = (tt, tt); among = (tt, tt); whole = (tt, tt) }
+  leads_fit (step.Updates c) rec h = record { widths = (tt, tt); names = (tt, tt); among = (tt, tt); whole = (tt, tt) }
+  leads_fit (step.Ends e) rec h = record { widths = (tt, tt); names = (tt, tt); among = (tt, tt); whole = (tt, tt) }
+
+  begins_fit : (rec : Recovery) → RecoveryFits nodes old.nodes.blocks.items rec → EventsFit nodes old.nodes.blocks.items (primary_asks rec ∷ (begins_so rec (all_answered rec.members) ∷ []))
+  begins_fit rec h = record { widths = (tt, (h.width, tt)); names = (tt, (tt, tt)); among = (tt, (h.among, tt)); whole = (tt, (tt, tt)) }
+
+  recovery_fits : (w : World) (p : parts.Primary) (rec : Recovery) → RecoveryFits nodes old.nodes.blocks.items rec → EventsFit nodes old.nodes.blocks.items (primary_events p rec)
+  recovery_fits w (parts.leads l) rec h = leads_fit (recovery.own_step l.state).does rec h
+  recovery_fits w parts.no_primary rec h = begins_fit rec h
+  recovery_fits w (parts.was_told block told) rec h = begins_fit rec h
+  recovery_fits w (parts.has_led e) rec h = begins_fit rec h
+
   events_fit : (d : Due) → is_due here queues d ≡ true → ActorIsClient old d → EventsFit nodes old.nodes.blocks.items (due_events here queues d)
   events_fit (due.Own b) is actor =
       let k : Actor b = actor_of_block b actor in
@@ -251,6 +271,8 @@ module _ {F R I O : Type 0} (r : roads.Ghosts R I O) (i : link_in.Ghosts I) (o :
       (own_fits k.client k.shows k.fits (subst (λ (a : BlockId). is_due here queues (due.Own a) ≡ true) (sym k.block) is) (action_of here k.client.block) (queues k.client.block.0) (queue_fits k.client k.shows k.fits))
   events_fit (due.Reader ask) is actor = subst (λ (a : ReadAsk). EventsFit nodes old.nodes.blocks.items (due_events here queues (due.Reader a))) actor.asks
       (asking_fits actor.client.ask (s.asks actor.place actor.client.ask (slice_get-map (λ (c : ReadClient I O). c.ask) old.reads.clients.items actor.place ∙ ap (λ (x : Option (ReadClient I O)). option_map (λ (c : ReadClient I O). c.ask) x) actor.at)))
+  events_fit (due.Primary rec) is actor = subst (λ (a : Recovery). EventsFit nodes old.nodes.blocks.items (due_events here queues (due.Primary a))) actor.recovers
+      (recovery_fits here (here.primaries actor.client.recovery.primary) actor.client.recovery (s.recovers actor.place actor.client.recovery (slice_get-map (λ (c : PrimaryClient I O). c.recovery) old.recoveries.clients.items actor.place ∙ ap (λ (x : Option (PrimaryClient I O)). option_map (λ (c : PrimaryClient I O). c.recovery) x) actor.at)))
   events_fit (due.Down c) is actor = record { widths = (tt, tt); names = (tt, tt); among = (tt, tt); whole = (tt, tt) }
   events_fit (due.Ready c) is actor = record { widths = (tt, tt); names = (tt, tt); among = (tt, tt); whole = (tt, tt) }
   events_fit (due.Up c) is actor = record { widths = (tt, tt); names = (tt, tt); among = (tt, tt); whole = (tt, tt) }
@@ -259,14 +281,16 @@ module _ {F R I O : Type 0} (r : roads.Ghosts R I O) (i : link_in.Ghosts I) (o :
   writers_stay : (d : Due) → is_due here queues d ≡ true → ActorIsClient old d → (b : ℕ) → (actor_of here d ≡ Some b → ⊥) → (run here (due_events here queues d)).writers b ≡ here.writers b
   writers_stay (due.Own a) is actor b apart = (L.own_keeps here queues a).0.writers b (λ same. apart (ap (λ (n : ℕ). Some n) (sym same)))
   writers_stay (due.Reader ask) is actor b apart = (L.asking_others here ask.reader ask.node (request_of ask) true).0.writers b
+  writers_stay (due.Primary rec) is actor b apart = (recovery_kept L.leading_others L.leading_nodes here rec).others.writers b
   writers_stay (due.Down c) is actor b apart = (L.down_keeps here c true).writers b
   writers_stay (due.Ready c) is actor b apart = (L.ready_keeps here c).writers b
-  writers_stay (due.Up c) is actor b apart = by (upper_here c.0 (up_at here queues c is).within)
+  writers_stay (due.Up c) is actor b apart = by (upper_kind (here.dialled c.0).upper)
     where
       by : UpperKind (here.dialled c.0).upper → (happens here (event.Up c)).writers b ≡ here.writers b
       by (of_writer a e) = (L.heard_keeps here c a e).0.writers b (λ same. apart (ap writer_at e ∙ ap (λ (n : ℕ). Some n) (sym same)))
       by (of_member m e) = (L.mirror_keeps here c m e).writers b
       by (of_reader n e) = (L.hearing_others here c n e).0.writers b
+      by (of_primary n place e) = (L.told_others here c n place e).others.writers b
 
   -- What is left of a writer's commands fits; once it has acted its block was made.
   record Fits (d : Due) (b : ℕ) : Type 0 where
@@ -292,9 +316,10 @@ module _ {F R I O : Type 0} (r : roads.Ghosts R I O) (i : link_in.Ghosts I) (o :
 
   fits_after : (d : Due) → is_due here queues d ≡ true → ActorIsClient old d → (b : ℕ) → CommandsFit nodes (intake_of here b) (queues b) → Fits d b
   fits_after (due.Reader ask) is actor b fit = still_fits (due.Reader ask) is actor b (λ e. none-some b e) refl fit
+  fits_after (due.Primary rec) is actor b fit = still_fits (due.Primary rec) is actor b (λ e. none-some b e) refl fit
   fits_after (due.Down c) is actor b fit = still_fits (due.Down c) is actor b (λ e. none-some b e) refl fit
   fits_after (due.Ready c) is actor b fit = still_fits (due.Ready c) is actor b (λ e. none-some b e) refl fit
-  fits_after (due.Up c) is actor b fit = by (upper_here c.0 (up_at here queues c is).within)
+  fits_after (due.Up c) is actor b fit = by (upper_kind (here.dialled c.0).upper)
     where
       hears : (a : ℕ) → (here.dialled c.0).upper ≡ by_writer a → (q : Bool) → (a == b) ≡ q → Fits (due.Up c) b
       hears a e false k = still_fits (due.Up c) is actor b (λ z. eqb-false a b k (same_Some a b (sym (ap writer_at e) ∙ z))) refl fit
@@ -311,6 +336,7 @@ module _ {F R I O : Type 0} (r : roads.Ghosts R I O) (i : link_in.Ghosts I) (o :
       by (of_writer a e) = hears a e (a == b) refl
       by (of_member m e) = still_fits (due.Up c) is actor b (λ z. none-some b (sym (ap writer_at e) ∙ z)) refl fit
       by (of_reader n e) = still_fits (due.Up c) is actor b (λ z. none-some b (sym (ap writer_at e) ∙ z)) refl fit
+      by (of_primary n place e) = still_fits (due.Up c) is actor b (λ z. none-some b (sym (ap writer_at e) ∙ z)) refl fit
   fits_after (due.Own a) is actor b fit = go (a.0 == b) refl
     where
       go : (q : Bool) → (a.0 == b) ≡ q → Fits (due.Own a) b
@@ -372,14 +398,16 @@ module _ {F R I O : Type 0} (r : roads.Ghosts R I O) (i : link_in.Ghosts I) (o :
     actor_client : (d : Due) → is_due here queues d ≡ true → ActorIsClient old d → (b : ℕ) → actor_of here d ≡ Some b → HasClient old.clients.items b
     actor_client (due.Own a) is actor b e = subst (λ (n : ℕ). HasClient old.clients.items n) (same_Some a.0 b e) actor
     actor_client (due.Reader ask) is actor b e = absurd (none-some b e)
+    actor_client (due.Primary rec) is actor b e = absurd (none-some b e)
     actor_client (due.Down c) is actor b e = absurd (none-some b e)
     actor_client (due.Ready c) is actor b e = absurd (none-some b e)
-    actor_client (due.Up c) is actor b e = by (upper_here c.0 (up_at here queues c is).within)
+    actor_client (due.Up c) is actor b e = by (upper_kind (here.dialled c.0).upper)
       where
         by : UpperKind (here.dialled c.0).upper → HasClient old.clients.items b
         by (of_writer a k) = s.connected b c.0 (heard_conn here queues c b is (k ∙ ap by_writer (same_Some a b (sym (ap writer_at k) ∙ e))))
         by (of_member m k) = absurd (none-some b (sym (ap writer_at k) ∙ e))
         by (of_reader n k) = absurd (none-some b (sym (ap writer_at k) ∙ e))
+        by (of_primary n place k) = absurd (none-some b (sym (ap writer_at k) ∙ e))
 
     connected : (b c : ℕ) → (there.writers b).conn ≡ Some c → HasClient new.clients.items b
     connected b c has = has_moved new.clients.items old.clients.items b left.places.order (by (actor_or (actor_of here d) b))
@@ -403,6 +431,7 @@ module _ {F R I O : Type 0} (r : roads.Ghosts R I O) (i : link_in.Ghosts I) (o :
             (subst (λ (es : List Event). EventsFit nodes old.nodes.blocks.items es) (sym left.events) (fits_more nodes old.nodes.blocks.items old.events.items (due_events here queues d) s.events (events_fit d is actor)));
         clients = λ k c at. subst (λ (v : World). ClientFits nodes new.nodes.blocks.items v c) (sym world_is) (client_fits k c at);
         asks = subst (λ (bs : List BlockId). AsksFit nodes bs (asks_of new.reads.clients.items)) (sym left.places.blocks) (subst (λ (xs : List ReadAsk). AsksFit nodes old.nodes.blocks.items xs) (sym left.places.asks) s.asks);
+        recovers = subst (λ (bs : List BlockId). RecoveriesFit nodes bs (recoveries_of new.recoveries.clients.items)) (sym left.places.blocks) (subst (λ (xs : List Recovery). RecoveriesFit nodes old.nodes.blocks.items xs) (sym left.places.recovers) s.recovers);
         connected = λ b c has. connected b c (sym (ap (λ (v : World). (v.writers b).conn) world_is) ∙ has);
       };
       events = left.events;

@@ -42,12 +42,15 @@ use Rattle.play.specs.declared.player.Player.{Player}
 use Rattle.play_reads.specs.declared.reads.Reads.{Reads}
 use Rattle.play_readers.specs.Asks.{asks_of}
 use Rattle.play_reads.specs.Showing.{ReadsShow}
+use Rattle.play_recoveries.specs.declared.recoveries.Recoveries.{Recoveries}
+use Rattle.play_recoveries.specs.Places.{recoveries_of}
+use Rattle.play_recoveries.specs.Showing.{RecoveriesShow}
 use Rattle.play.specs.Faults.{of_client}
-use Rattle.play.specs.Laws.{ReadsKept}
+use Rattle.play.specs.Laws.{PipelinesLeave}
 use Rattle.play.specs.Showing.{IsClient, AreApart, PlayerShows, PlayerStands}
 use Rattle.play.specs.Events.{IsKept, Keeps, IsCaused, writer_at, StaysAt, blocks_of, KeepsPlaces, PlayerLeft, HeardShows}
 use Rattle.play.proofs.NodeSteps.{dialled_there, out_of_memory}
-use Rattle.play.proofs.ReadsLaws.{unled_up, reads_left}
+use Rattle.play.proofs.OthersLaws.{reads_left, recoveries_left}
 
 writer_same : (a b : ℕ) → by_writer a ≡ by_writer b → a ≡ b
 writer_same a b e = cc
@@ -101,6 +104,7 @@ module _ {F R I O D : Type 0} (f : files.Ghosts F) (r : roads.Ghosts R I O) (i :
   pub record IsReplaced (old mid : Player F I O) (place : ℕ) (c c' : Client I O) : Type 0 where
     pub nodes : mid.nodes ≡ old.nodes
     pub reads : mid.reads ≡ old.reads
+    pub recoveries : mid.recoveries ≡ old.recoveries
     pub clients : mid.clients.items ≡ slice_set old.clients.items place c'
     pub block : c'.block ≡ c.block
     pub rule : c'.rule ≡ c.rule
@@ -155,6 +159,7 @@ module _ {F R I O D : Type 0} (f : files.Ghosts F) (r : roads.Ghosts R I O) (i :
     blocks = ap (λ (p : Player F I O). p.nodes.blocks.items) kept.same ∙ h.blocks;
     order = ap (λ (p : Player F I O). blocks_of p.clients.items) kept.same ∙ h.order;
     asks = ap (λ (p : Player F I O). asks_of p.reads.clients.items) kept.same ∙ h.asks;
+    recovers = ap (λ (p : Player F I O). recoveries_of p.recoveries.clients.items) kept.same ∙ h.recovers;
     each = λ k c at. h.each k c (sym (ap (λ (p : Player F I O). slice_get p.clients.items k) kept.same) ∙ at);
   }
 
@@ -163,11 +168,12 @@ module _ {F R I O D : Type 0} (f : files.Ghosts F) (r : roads.Ghosts R I O) (i :
     blocks = ap (λ (n : Nodes F I O). n.blocks.items) h.nodes;
     order = ap (λ (xs : List (Client I O)). blocks_of xs) h.clients ∙ set_blocks old.clients.items place c c' at h.block;
     asks = ap (λ (x : Reads I O). asks_of x.clients.items) h.reads;
+    recovers = ap (λ (x : Recoveries I O). recoveries_of x.clients.items) h.recoveries;
     each = stays_at old mid place c c' h at;
   }
 
   pub heard_shows : (conn : ConnId) (place : ℕ) (old mid : Player F I O) (c c' : Client I O) (w : World) (net : Net) (queues : Queues) (road road' : R) (desk : D) → d.office desk ≡ Some mid.office.office
-      → ClientsStay i o → ReadsKept i o → NodesStay f i o → NodesEndsStay i o → HearingKeeps → HeardKeeps → PlayerShows r i o w net queues road old → mid.running.items ≡ old.running.items → slice_get old.clients.items place ≡ Some c → IsReplaced old mid place c c' → Ordered w → (w.dialled conn.0).upper ≡ by_writer c.block.0
+      → ClientsStay i o → PipelinesLeave i o → NodesStay f i o → NodesEndsStay i o → HearingKeeps → HeardKeeps → PlayerShows r i o w net queues road old → mid.running.items ≡ old.running.items → slice_get old.clients.items place ≡ Some c → IsReplaced old mid place c c' → Ordered w → (w.dialled conn.0).upper ≡ by_writer c.block.0
       → (left : clients.HearLeft d r i o w net (happens w (event.Up conn)) c c' desk road') → PlayerShows r i o (happens w (event.Up conn)) left.made queues road' mid
   heard_shows conn place old mid c c' w net queues road road' desk office_at stay K nodes_stay ends_stay hearing heard p running at h ordered upper left =
       let v : World = happens w (event.Up conn) in
@@ -179,8 +185,9 @@ module _ {F R I O D : Type 0} (f : files.Ghosts F) (r : roads.Ghosts R I O) (i :
           nodes_are = subst (λ (x : Nodes F I O). NodesShow i o v left.made x) (sym h.nodes) (nodes_stay w net v left.made old.nodes (record { nodes_are = p.nodes.nodes_are; ordered = ordered; keeps = n.keeps; ends = ends_stay w net v left.made c.block.0 ordered left.left.others }) n.conns);
         };
         reads = subst (λ (x : Reads I O). ReadsShow i o v left.made mid.nodes.blocks.items x) (sym h.reads)
-            (reads_left i o w v net left.made old.nodes.blocks.items mid.nodes.blocks.items old.reads K.stay (ap (λ (x : Nodes F I O). x.blocks.items) h.nodes) p.reads (K.heard w net left.made conn c.block.0 ordered upper left.left.others));
-        unled = unled_up K.unled w conn (by_writer c.block.0) upper refl p.unled;
+            (reads_left i o w v net left.made old.nodes.blocks.items mid.nodes.blocks.items old.reads K.reads_stay (ap (λ (x : Nodes F I O). x.blocks.items) h.nodes) p.reads (K.heard_reads w net left.made conn c.block.0 ordered upper left.left.others));
+        recoveries = subst (λ (x : Recoveries I O). RecoveriesShow i o v left.made mid.nodes.blocks.items x) (sym h.recoveries)
+            (recoveries_left i o w v net left.made old.nodes.blocks.items mid.nodes.blocks.items old.recoveries K.recoveries_stay (ap (λ (x : Nodes F I O). x.blocks.items) h.nodes) p.recoveries (K.heard_recoveries w net left.made conn c.block.0 ordered upper left.left.others));
         clients = clients_after w v net left.made queues queues place old mid c c' stay (λ a apart. keeps_other w v net left.made a c.block.0 ordered apart k.0 (λ e is. k.1 e (λ same. apart_conns w ordered a c.block.0 conn.0 e apart upper is (sym same))) left.left.others) (λ b z. refl) p.clients p.apart at h (record {
           shows = left.left.stands.client_is;
           queue = left.queue ∙ ((p.clients place c at).queue ∙ ap (λ (q : _). queues q.0) (sym h.block));
@@ -202,31 +209,31 @@ module _ {F R I O D : Type 0} (f : files.Ghosts F) (r : roads.Ghosts R I O) (i :
   pub same_client : (a b : Client I O) → Some a ≡ Some b → a ≡ b
   same_client a b e = cc
 
-  heard_as : (conn : ConnId) (place : ℕ) (old mid new : Player F I O) (c c' : Client I O) (w : World) (net : Net) (queues : Queues) (road road' : R) (desk desk' : D) → d.office desk ≡ Some old.office.office → d.office desk' ≡ Some mid.office.office → clients.HearKeepsOffice d r i o c desk desk' road → mid.nodes ≡ old.nodes → mid.reads ≡ old.reads → mid.running.items ≡ old.running.items
-      → mid.clients.items ≡ slice_set old.clients.items place c' → mid.events.items ≡ old.events.items → ClientsStay i o → ReadsKept i o → NodesStay f i o → NodesEndsStay i o → HearingKeeps → HeardKeeps → slice_get old.clients.items place ≡ Some c → clients.HearShows d r i o c c' desk road road' (Ok tt)
+  heard_as : (conn : ConnId) (place : ℕ) (old mid new : Player F I O) (c c' : Client I O) (w : World) (net : Net) (queues : Queues) (road road' : R) (desk desk' : D) → d.office desk ≡ Some old.office.office → d.office desk' ≡ Some mid.office.office → clients.HearKeepsOffice d r i o c desk desk' road → mid.nodes ≡ old.nodes → mid.reads ≡ old.reads → mid.recoveries ≡ old.recoveries → mid.running.items ≡ old.running.items
+      → mid.clients.items ≡ slice_set old.clients.items place c' → mid.events.items ≡ old.events.items → ClientsStay i o → PipelinesLeave i o → NodesStay f i o → NodesEndsStay i o → HearingKeeps → HeardKeeps → slice_get old.clients.items place ≡ Some c → clients.HearShows d r i o c c' desk road road' (Ok tt)
       → IsKept mid new (event.Up conn) → PlayerShows r i o w net queues road old → clients.HearIsLawful w c.block.0 → is_due w queues (due.Up conn) ≡ true → (w.dialled conn.0).upper ≡ by_writer c.block.0 → clients.AcceptedIsQuiet w c.block.0
       → PlayerLeft r i o w queues (due.Up conn) old new road'
-  heard_as conn place old mid new c c' w net queues road road' desk desk' office_old office_mid same nodes reads running set events stay K nodes_stay ends_stay hearing heard at shows kept p lawful is upper quiet =
+  heard_as conn place old mid new c c' w net queues road road' desk desk' office_old office_mid same nodes reads recovers running set events stay K nodes_stay ends_stay hearing heard at shows kept p lawful is upper quiet =
       let stands : ClientStands d r i o w net c desk road = record { roads_are = p.nodes.roads_are; client_is = (p.clients place c at).shows; office_is = office_old ∙ ap (λ (x : OfficeState). Some x) p.office } in
       let left : clients.HearLeft d r i o w net (happens w (event.Up conn)) c c' desk road' = shows w net queues conn stands lawful is upper quiet in
       let now : d.office desk ≡ Some mid.office.office = sym (ap (λ (x : D). d.office x) (same w net queues conn stands lawful is upper quiet)) ∙ office_mid in
       let q : PlayerShows r i o (happens w (event.Up conn)) left.made queues road' mid =
-      heard_shows conn place old mid c c' w net queues road road' desk now stay K nodes_stay ends_stay hearing heard p running at (record { nodes = nodes; reads = reads; clients = set; block = left.left.block; rule = left.left.rule }) lawful.ordered upper left in
+      heard_shows conn place old mid c c' w net queues road road' desk now stay K nodes_stay ends_stay hearing heard p running at (record { nodes = nodes; reads = reads; recoveries = recovers; clients = set; block = left.left.block; rule = left.left.rule }) lawful.ordered upper left in
       record {
         made = left.made;
-        shows = subst (λ (x : Player F I O). PlayerShows r i o (happens w (event.Up conn)) left.made queues road' x) (sym kept.same) (record { nodes = q.nodes; reads = q.reads; unled = q.unled; clients = q.clients; apart = q.apart; office = q.office; running = q.running; slots = q.slots });
+        shows = subst (λ (x : Player F I O). PlayerShows r i o (happens w (event.Up conn)) left.made queues road' x) (sym kept.same) (record { nodes = q.nodes; reads = q.reads; recoveries = q.recoveries; clients = q.clients; apart = q.apart; office = q.office; running = q.running; slots = q.slots });
         events = kept.events ∙ ap (λ (es : List Event). es ++ event.Up conn ∷ []) events;
-        places = subst (λ (u : Option ℕ). KeepsPlaces u old new) (sym (ap writer_at upper)) (same_places (Some c.block.0) old mid new (event.Up conn) kept (kept_places old mid place c c' (record { nodes = nodes; reads = reads; clients = set; block = left.left.block; rule = left.left.rule }) at));
+        places = subst (λ (u : Option ℕ). KeepsPlaces u old new) (sym (ap writer_at upper)) (same_places (Some c.block.0) old mid new (event.Up conn) kept (kept_places old mid place c c' (record { nodes = nodes; reads = reads; recoveries = recovers; clients = set; block = left.left.block; rule = left.left.rule }) at));
       }
 
-  pub heard_left : (conn : ConnId) (place : ℕ) (old mid new : Player F I O) (c c' : Client I O) (road road' : R) (desk desk' : D) (result : Result (Unit {0}) PlayFault) → d.office desk ≡ Some old.office.office → d.office desk' ≡ Some mid.office.office → clients.HearKeepsOffice d r i o c desk desk' road → mid.nodes ≡ old.nodes → mid.reads ≡ old.reads → mid.running.items ≡ old.running.items
-      → mid.clients.items ≡ slice_set old.clients.items place c' → mid.events.items ≡ old.events.items → ClientsStay i o → ReadsKept i o → NodesStay f i o → NodesEndsStay i o → HearingKeeps → HeardKeeps → slice_get old.clients.items place ≡ Some c → clients.HearShows d r i o c c' desk road road' (Ok tt)
+  pub heard_left : (conn : ConnId) (place : ℕ) (old mid new : Player F I O) (c c' : Client I O) (road road' : R) (desk desk' : D) (result : Result (Unit {0}) PlayFault) → d.office desk ≡ Some old.office.office → d.office desk' ≡ Some mid.office.office → clients.HearKeepsOffice d r i o c desk desk' road → mid.nodes ≡ old.nodes → mid.reads ≡ old.reads → mid.recoveries ≡ old.recoveries → mid.running.items ≡ old.running.items
+      → mid.clients.items ≡ slice_set old.clients.items place c' → mid.events.items ≡ old.events.items → ClientsStay i o → PipelinesLeave i o → NodesStay f i o → NodesEndsStay i o → HearingKeeps → HeardKeeps → slice_get old.clients.items place ≡ Some c → clients.HearShows d r i o c c' desk road road' (Ok tt)
       → Keeps mid new (event.Up conn) result → HeardShows f r i o conn place old new road road' result
-  heard_left conn place old mid new c c' road road' desk desk' (Ok u) office_old office_mid same nodes reads running set events stay K nodes_stay ends_stay hearing heard at shows kept = λ w net queues a p at_a.
+  heard_left conn place old mid new c c' road road' desk desk' (Ok u) office_old office_mid same nodes reads recovers running set events stay K nodes_stay ends_stay hearing heard at shows kept = λ w net queues a p at_a.
       subst (λ (y : Client I O). clients.HearIsLawful w y.block.0 → is_due w queues (due.Up conn) ≡ true → (w.dialled conn.0).upper ≡ by_writer y.block.0 → clients.AcceptedIsQuiet w y.block.0 → PlayerLeft r i o w queues (due.Up conn) old new road')
       (same_client c a (sym at ∙ at_a))
-      (λ lawful is upper quiet. heard_as conn place old mid new c c' w net queues road road' desk desk' office_old office_mid same nodes reads running set events stay K nodes_stay ends_stay hearing heard at shows kept p lawful is upper quiet)
-  heard_left conn place old mid new c c' road road' desk desk' (Err why) office_old office_mid same nodes reads running set events stay K nodes_stay ends_stay hearing heard at shows kept = λ w net queues a p at_a lawful is upper quiet. out_of_memory f r i o old new road road' why kept
+      (λ lawful is upper quiet. heard_as conn place old mid new c c' w net queues road road' desk desk' office_old office_mid same nodes reads recovers running set events stay K nodes_stay ends_stay hearing heard at shows kept p lawful is upper quiet)
+  heard_left conn place old mid new c c' road road' desk desk' (Err why) office_old office_mid same nodes reads recovers running set events stay K nodes_stay ends_stay hearing heard at shows kept = λ w net queues a p at_a lawful is upper quiet. out_of_memory f r i o old new road road' why kept
 
   pub heard_failed : (conn : ConnId) (place : ℕ) (old new : Player F I O) (c c' : Client I O) (road road' : R) (desk : D) (why : ClientFault) → d.office desk ≡ Some old.office.office → slice_get old.clients.items place ≡ Some c → clients.HearShows d r i o c c' desk road road' (Err why)
       → HeardShows f r i o conn place old new road road' (Err (of_client why))

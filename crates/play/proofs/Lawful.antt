@@ -1,14 +1,19 @@
 -- What a play's events ask of the world holds of it.
-use Rattle.std.proofs.Common.{ℕ, ◌≤◌, ◌+◌, ◌^◌, true, List, [], ◌∷◌, ◌++◌, length, ap, subst, arith}
+use Rattle.std.proofs.Common.{◌≡◌, ℕ, ◌<◌, ◌≤◌, Bool, ◌+◌, ◌^◌, true, List, [], ◌∷◌, ◌++◌, length, Some, None, ap, subst, arith}
+use Rattle.std.specs.Prelude.{if◌then◌else◌, is_some, nat_le}
+use Rattle.std.proofs.lemmas.Bool.Decides.{nat_tests}
 use Rattle.std.proofs.lemmas.List.{length-append}
 use Rattle.hd_base.specs.declared.numbers.BlockId.{BlockId}
 use Rattle.hd_base.specs.declared.numbers.ConnId.{ConnId}
 use Rattle.hd_base.specs.declared.numbers.NodeId.{NodeId}
+use Rattle.hd_base.specs.declared.roads.TheConstants.{FIRST_PORT, MAX_NODES}
 use Rattle.name_core.specs.declared.office.TheConstants.{FIRST_STAMP}
+use Rattle.block_recovery.specs.Dialling.{dial_port}
 use Rattle.world.specs.declared.events.Delivery.TheVariants as delivery
 use Rattle.world.specs.declared.events.Event.{Event}
 use Rattle.world.specs.declared.events.Event.TheVariants as event
-use Rattle.world.specs.Worlds.{start}
+use Rattle.world.specs.Parts.{Primary, no_primary, was_told, leads, has_led}
+use Rattle.world.specs.Worlds.{World, start}
 use Rattle.world.specs.Events.{run}
 use Rattle.world_breaks.specs.Breaks.{NoneFails}
 use Rattle.world_orders.specs.Orders.{Ordered}
@@ -21,10 +26,21 @@ use Rattle.play_nodes.specs.Events.{IsLawful}
 use Rattle.play_reads.specs.Hearing as reads_hear
 use Rattle.play_reads.specs.Owning as reads_own
 use Rattle.play_reads.specs.Serving.{ServesInOrder}
+use Rattle.play_model.specs.declared.recoveries.Recovery.{Recovery}
+use Rattle.play_model.specs.Recoveries.{leads_events}
+use Rattle.play_primaries.specs.Dues.{ArePlaced}
+use Rattle.play_primaries.specs.Hearing as told
+use Rattle.play_primaries.specs.Owning.{own_events, step_events}
+use Rattle.play_recoveries.specs.Owning as leading
+use Rattle.play_recoveries.specs.Serving as answering
+use Rattle.recovery_core.specs.declared.primary.OwnStep.{OwnStep}
+use Rattle.recovery_core.specs.declared.primary.OwnStep.TheVariants as step
+use Rattle.recovery_core.specs.Primaries.{own_step}
 use Rattle.play.specs.declared.player.Player.{Player}
 use Rattle.play.specs.Events.{CanBegin}
 use Rattle.play.specs.Laws.{Laws}
 use Rattle.play.specs.Reading.{CanTake}
+use Rattle.play.specs.Recovering.{CanAnswer}
 use Rattle.play.specs.Standing.{EventsFit, world_of}
 
 -- MORE EVENTS
@@ -63,6 +79,13 @@ room p fs few =
     omega (arith, len, at, within, small, few)
 
 -- WHAT THE EVENTS ASK
+
+-- each node of a play has a port
+has_port : (nodes : ℕ) (n : NodeId) → nodes ≤ MAX_NODES → n.0 < nodes → is_some (dial_port n) ≡ true
+has_port nodes n few within =
+    let at : FIRST_PORT + n.0 ≤ 65535 = omega (arith, few, within) in
+    let test : nat_le (FIRST_PORT + n.0) 65535 ≡ true = grind (arith, nat_tests, at) in
+    ap (λ (b : Bool). is_some (if b then Some (FIRST_PORT + n.0) else None)) test
 
 few_stamps : (a b c : ℕ) → a ≤ b → b ≤ c → a ≤ c
 few_stamps a b c h k = omega (arith, h, k)
@@ -134,3 +157,60 @@ module _ {F I O : Type 0} (L : Laws) (nodes : ℕ) (p : Player F I O) (h : Event
     };
     among = λ k read at. (L.among nodes p.nodes.blocks.items p.events.items h.among).reads conn.0 k read at;
   }
+
+  -- RECOVERIES
+
+  -- a primary's connections stand at their places
+  pub are_placed : ArePlaced (world_of nodes p)
+  are_placed = (L.recovering nodes p.events.items).placed
+
+  own_events_fit : (w : World) (r : Recovery) (answers : List Bool) → r.block.0 < 2 ^ 64 → (x : Primary) → AllFit (step_events x r answers) × (length (step_events x r answers) ≤ 2)
+  own_events_fit w r answers width (leads l) = leads_so (own_step l.state).does
+    where
+      leads_so : (step : OwnStep) → AllFit (leads_events step r) × (length (leads_events step r) ≤ 2)
+      leads_so (step.Commits c) = ((tt, (tt, tt)), omega arith)
+      leads_so step.Waits = ((tt, tt), omega arith)
+      leads_so (step.Updates c) = ((tt, tt), omega arith)
+      leads_so (step.Ends e) = ((tt, tt), omega arith)
+  own_events_fit w r answers width no_primary = ((tt, (width, tt)), omega arith)
+  own_events_fit w r answers width (was_told block told) = ((tt, (width, tt)), omega arith)
+  own_events_fit w r answers width (has_led e) = ((tt, (width, tt)), omega arith)
+
+  pub can_lead : (r : Recovery) → r.block.0 < 2 ^ 64 → nodes ≤ MAX_NODES → leading.OwnIsLawful (world_of nodes p) r
+  can_lead r width few = record {
+    primary = record {
+      ordered = L.ordered nodes p.events.items;
+      written = λ answers.
+          let k = own_events_fit (world_of nodes p) r answers width ((world_of nodes p).primaries r.primary) in
+          spelled (own_events (world_of nodes p) r answers) k.0 k.1;
+    };
+    placed = L.placed nodes p.events.items;
+    ports = λ n on. has_port nodes n few ((L.only nodes p.events.items).within n.0 on);
+  }
+
+  pub can_be_told : told.HearIsLawful (world_of nodes p)
+  can_be_told = record { ordered = L.ordered nodes p.events.items; written = spelled [] tt (omega arith); placed = are_placed }
+
+  pub can_answer : (conn : ConnId) → CanAnswer (world_of nodes p) conn p
+  can_answer conn = record {
+    order = answers_so (event.Down conn true);
+    lawful = record {
+      lawful = record {
+        taken = L.taken nodes p.events.items;
+        before = spelled [] tt (omega arith);
+        after = λ answered. spelled (event.Down conn answered ∷ []) (tt, tt) (omega arith);
+        broken = spelled (event.Fault (delivery.Down conn) ∷ []) (tt, tt) (omega arith);
+      };
+      ordered = L.ordered nodes p.events.items;
+      takes = L.recoveries_ordered nodes p.events.items;
+      names = L.recoveries_named nodes p.events.items;
+    };
+    among = λ k asked at. (L.among nodes p.nodes.blocks.items p.events.items h.among).recoveries conn.0 k asked at;
+  }
+    where
+      answers_so : (e : Event) → answering.ServesInOrder (world_of nodes p) e
+      answers_so e = record {
+        before = L.ordered nodes p.events.items;
+        after = subst Ordered (L.joined (start nodes) p.events.items (e ∷ [])) (L.ordered nodes (p.events.items ++ e ∷ []));
+        placed = L.placed nodes p.events.items;
+      }

@@ -8,5 +8,7 @@ pub mod Dispatch
 pub mod CutPlays
 pub mod StopPlays
 pub mod StartPlays
-pub mod ReadsLaws
+pub mod OthersLaws
 pub mod ReadSteps
+pub mod RecoverySteps
+pub mod RecoveryEvents

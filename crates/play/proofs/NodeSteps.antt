@@ -10,9 +10,10 @@ use Rattle.hd_base.specs.declared.roads.Roads as roads
 use Rattle.road_traffic.specs.Showing.{Net}
 use Rattle.world.specs.declared.events.Event.{Event}
 use Rattle.world.specs.declared.events.Event.TheVariants as event
-use Rattle.world.specs.Parts.{Dialled, Marks, Writing, by_writer, by_member}
+use Rattle.world.specs.Parts.{Dialled, Marks, Writing, by_writer}
 use Rattle.world.specs.Worlds.{World}
 use Rattle.world.specs.Events.{happens}
+use Rattle.world_nets.specs.Nets.{is_over}
 use Rattle.world_orders.specs.Orders.{Ordered, IsWriterConn}
 use Rattle.play_model.specs.Dues.{Queues}
 use Rattle.play_clients.specs.declared.clients.Client.{Client}
@@ -25,16 +26,18 @@ use Rattle.play_nodes.specs.Beginning as beginning
 use Rattle.play_nodes.specs.Events as nodes
 use Rattle.play_nodes.specs.Frames.{KeepsWriters, DownKeeps, ReadyKeeps, MirrorKeeps}
 use Rattle.play_nodes.specs.Showing.{runs_in, TellsRunning, NodesLeft, WritersStay, ElsewhereStays}
-use Rattle.play_reads.specs.Keeping.{ReadsStay, KeepsReads}
 use Rattle.play_readers.specs.Asks.{asks_of}
+use Rattle.play_reads.specs.Keeping.{KeepsReads}
+use Rattle.play_recoveries.specs.Places.{recoveries_of}
+use Rattle.play_recoveries.specs.Showing.{RecoveriesShow}
 use Rattle.play.specs.declared.faults.PlayFault.{PlayFault}
 use Rattle.play.specs.declared.faults.PlayFault.TheVariants as fault
 use Rattle.play.specs.declared.player.Player.{Player}
 use Rattle.play.specs.Faults.{of_nodes}
 use Rattle.play.specs.Running.{is_running}
-use Rattle.play.specs.Laws.{ReadsKept}
-use Rattle.play.specs.Showing.{IsClient, NoneLeads, PlayerShows}
-use Rattle.play.proofs.ReadsLaws.{unled_after, unled_up, reads_left}
+use Rattle.play.specs.Laws.{PipelinesLeave}
+use Rattle.play.specs.Showing.{IsClient, PlayerShows}
+use Rattle.play.proofs.OthersLaws.{KeepsShown, reads_left, recoveries_left}
 use Rattle.hd_base.specs.RoadFaults.{RoadsFailed}
 use Rattle.play.specs.Events.{IsKept, Keeps, IsCaused, writer_at, blocks_of, KeepsPlaces, Begins, BeginShows, ReadyShows, DownShows, MirrorShows}
 
@@ -45,11 +48,21 @@ dialled_there dialled marks b c x (Some d) is h = subst (λ (m : ℕ). (dialled 
     some_is : (a b : ℕ) → Some a ≡ Some b → a ≡ b
     some_is a b e = cc
 
+-- The writers are as they were, and so are their answers, and which ends they took.
+pub record KeepsWriting (w v : World) : Type 0 where
+  pub writers : (b : ℕ) → v.writers b ≡ w.writers b
+  pub said : (b : ℕ) → v.said b ≡ w.said b
+  pub over : (b c : ℕ) → (w.dialled c).upper ≡ by_writer b → is_over v c false ≡ is_over w c false
+
+-- So it is where the office is as it was, too.
+pub writing_of : (w v : World) → KeepsWriters w v → KeepsWriting w v
+writing_of w v k = record { writers = k.writers; said = k.said; over = k.over }
+
 true_false : true ≡ false → ⊥
 true_false e = cc
 
 module _ {F R I O : Type 0} (f : files.Ghosts F) (r : roads.Ghosts R I O) (i : link_in.Ghosts I) (o : link_out.Ghosts O) where
-  keeps_client : (w v : World) (net made : Net) → Ordered w → KeepsWriters w v → WritersStay i o w net v made → (b : ℕ) → KeepsClient i o w net v made b
+  keeps_client : (w v : World) (net made : Net) → Ordered w → KeepsWriting w v → WritersStay i o w net v made → (b : ℕ) → KeepsClient i o w net v made b
   keeps_client w v net made ordered k stay b = record {
     writer = k.writers b;
     said = k.said b;
@@ -70,37 +83,40 @@ module _ {F R I O : Type 0} (f : files.Ghosts F) (r : roads.Ghosts R I O) (i : l
     blocks = ap (λ (p : Player F I O). p.nodes.blocks.items) kept.same ∙ blocks;
     order = ap (λ (p : Player F I O). blocks_of p.clients.items) kept.same;
     asks = ap (λ (p : Player F I O). asks_of p.reads.clients.items) kept.same;
+    recovers = ap (λ (p : Player F I O). recoveries_of p.recoveries.clients.items) kept.same;
     each = λ k c at. record { was = c; at = sym (ap (λ (p : Player F I O). slice_get p.clients.items k) kept.same) ∙ at; block = refl; rule = refl; same = λ other. refl };
   }
 
   -- clients that show a world show it after an event that leaves the writers
-  pub clients_left : (w v : World) (net made : Net) (queues : Queues) (old : Player F I O) → ClientsStay i o → ((k : ℕ) (c : Client I O) → slice_get old.clients.items k ≡ Some c → IsClient i o w net queues c) → Ordered w → KeepsWriters w v → WritersStay i o w net v made
+  pub clients_left : (w v : World) (net made : Net) (queues : Queues) (old : Player F I O) → ClientsStay i o → ((k : ℕ) (c : Client I O) → slice_get old.clients.items k ≡ Some c → IsClient i o w net queues c) → Ordered w → KeepsWriting w v → WritersStay i o w net v made
       → (k : ℕ) (c : Client I O) → slice_get old.clients.items k ≡ Some c → IsClient i o v made queues c
   clients_left w v net made queues old stay were ordered k writers = λ j c at. record {
     shows = stay c w net v made (were j c at).shows (keeps_client w v net made ordered k writers c.block.0);
     queue = (were j c at).queue;
   }
 
-  pub same_left : (w v : World) (net : Net) (queues : Queues) (old : Player F I O) (n' : Nodes F I O) (e : Event) (road road' : R) → ClientsStay i o → ReadsStay i o → PlayerShows r i o w net queues road old → Ordered w → KeepsWriters w v → SameNodes w v → n'.blocks.items ≡ old.nodes.blocks.items → NoneLeads v → (left : NodesLeft r i o w net v road' n') → KeepsReads i o w net v left.made
+  pub same_left : (w v : World) (net : Net) (queues : Queues) (old : Player F I O) (n' : Nodes F I O) (e : Event) (road road' : R) → ClientsStay i o → PipelinesLeave i o → PlayerShows r i o w net queues road old → Ordered w → KeepsWriters w v → SameNodes w v → n'.blocks.items ≡ old.nodes.blocks.items → (left : NodesLeft r i o w net v road' n') → KeepsReads i o w net v left.made → RecoveriesShow i o v left.made n'.blocks.items old.recoveries
       → PlayerShows r i o v left.made queues road' (record old { nodes = n' })
-  same_left w v net queues old n' e road road' stay reads_stay p ordered k runs blocks unled left kept = record {
+  same_left w v net queues old n' e road road' stay K p ordered k runs blocks left kept recovered = record {
     nodes = left.stands;
-    reads = reads_left i o w v net left.made old.nodes.blocks.items n'.blocks.items old.reads reads_stay blocks p.reads kept;
-    unled = unled;
-    clients = clients_left w v net left.made queues old stay p.clients ordered k left.writers;
+    reads = reads_left i o w v net left.made old.nodes.blocks.items n'.blocks.items old.reads K.reads_stay blocks p.reads kept;
+    recoveries = recovered;
+    clients = clients_left w v net left.made queues old stay p.clients ordered (writing_of w v k) left.writers;
     apart = p.apart;
     office = p.office ∙ sym k.office;
     running = λ n. p.running n ∙ sym (runs.running n);
     slots = p.slots ∙ sym runs.nodes;
   }
 
-  left_of : (w v : World) (net : Net) (queues : Queues) (actor : Option ℕ) (old : Player F I O) (n' : Nodes F I O) (new : Player F I O) (e : Event) (road road' : R) → n'.blocks.items ≡ old.nodes.blocks.items → ClientsStay i o → ReadsStay i o → PlayerShows r i o w net queues road old → Ordered w → KeepsWriters w v → SameNodes w v → NoneLeads v → ((made : Net) → ElsewhereStays i o w net v made → KeepsReads i o w net v made) → NodesLeft r i o w net v road' n' → IsKept (record old { nodes = n' }) new e
+  left_of : (w v : World) (net : Net) (queues : Queues) (actor : Option ℕ) (old : Player F I O) (n' : Nodes F I O) (new : Player F I O) (e : Event) (road road' : R) → n'.blocks.items ≡ old.nodes.blocks.items → ClientsStay i o → PipelinesLeave i o → PlayerShows r i o w net queues road old → Ordered w → KeepsWriters w v → SameNodes w v → ((made : Net) → ElsewhereStays i o w net v made → KeepsShown i o w net v made) → NodesLeft r i o w net v road' n' → IsKept (record old { nodes = n' }) new e
       → Left v queues actor old new e road'
-  left_of w v net queues actor old n' new e road road' blocks stay reads_stay p ordered k runs unled keeps left kept =
-      let q : PlayerShows r i o v left.made queues road' (record old { nodes = n' }) = same_left w v net queues old n' e road road' stay reads_stay p ordered k runs blocks unled left (keeps left.made left.elsewhere) in
+  left_of w v net queues actor old n' new e road road' blocks stay K p ordered k runs keeps left kept =
+      let kept_so : KeepsShown i o w net v left.made = keeps left.made left.elsewhere in
+      let q : PlayerShows r i o v left.made queues road' (record old { nodes = n' }) =
+      same_left w v net queues old n' e road road' stay K p ordered k runs blocks left kept_so.reads (recoveries_left i o w v net left.made old.nodes.blocks.items n'.blocks.items old.recoveries K.recoveries_stay blocks p.recoveries kept_so.recoveries) in
       record {
         made = left.made;
-        shows = subst (λ (x : Player F I O). PlayerShows r i o v left.made queues road' x) (sym kept.same) (record { nodes = q.nodes; reads = q.reads; unled = q.unled; clients = q.clients; apart = q.apart; office = q.office; running = q.running; slots = q.slots });
+        shows = subst (λ (x : Player F I O). PlayerShows r i o v left.made queues road' x) (sym kept.same) (record { nodes = q.nodes; reads = q.reads; recoveries = q.recoveries; clients = q.clients; apart = q.apart; office = q.office; running = q.running; slots = q.slots });
         events = kept.events;
         places = keeps_places actor old n' new e blocks kept;
       }
@@ -114,12 +130,12 @@ module _ {F R I O : Type 0} (f : files.Ghosts F) (r : roads.Ghosts R I O) (i : l
   pub out_of_memory : (old new : Player F I O) (road road' : R) (why : PlayFault) → why ≡ fault.Memory → IsCaused f r old new road road' why
   out_of_memory old new road road' why is = subst (λ (x : PlayFault). IsCaused f r old new road road' x) (sym is) tt
 
-  pub ready_left : (conn : ConnId) (old : Player F I O) (n' : Nodes F I O) (new : Player F I O) (road road' : R) (result : Result (Unit {0}) PlayFault) → n'.blocks.items ≡ old.nodes.blocks.items → ClientsStay i o → ReadsKept i o → ReadyKeeps → RunningStays → nodes.ReadyShows f r i o conn old.nodes n' road road' (Ok tt) → Keeps (record old { nodes = n' }) new (event.Ready conn) result
+  pub ready_left : (conn : ConnId) (old : Player F I O) (n' : Nodes F I O) (new : Player F I O) (road road' : R) (result : Result (Unit {0}) PlayFault) → n'.blocks.items ≡ old.nodes.blocks.items → ClientsStay i o → PipelinesLeave i o → ReadyKeeps → RunningStays → nodes.ReadyShows f r i o conn old.nodes n' road road' (Ok tt) → Keeps (record old { nodes = n' }) new (event.Ready conn) result
       → ReadyShows f r i o conn old new road road' result
   ready_left conn old n' new road road' (Ok u) blocks stay K keeps runs shows kept = λ w net queues p piped lawful is.
       let l : Left (happens w (event.Ready conn)) queues None old new (event.Ready conn) road' =
-      left_of w (happens w (event.Ready conn)) net queues None old n' new (event.Ready conn) road road' blocks stay K.stay p lawful.ordered (keeps w conn) (runs w (event.Ready conn) tt) (unled_after K.unled w (event.Ready conn) refl p.unled)
-      (λ made stays. K.ready w net made conn lawful.ordered piped stays) (shows w net queues p.nodes (λ within. piped) lawful is) kept in
+      left_of w (happens w (event.Ready conn)) net queues None old n' new (event.Ready conn) road road' blocks stay K p lawful.ordered (keeps w conn) (runs w (event.Ready conn) tt)
+      (λ made stays. record { reads = K.ready_reads w net made conn lawful.ordered piped stays; recoveries = K.ready_recoveries w net made conn lawful.ordered piped stays }) (shows w net queues p.nodes (λ within. piped) lawful is) kept in
       record { made = l.made; shows = l.shows; events = l.events; places = l.places }
   ready_left conn old n' new road road' (Err why) blocks stay K keeps runs shows kept = λ w net queues p piped lawful is. out_of_memory old new road road' why kept
 
@@ -127,12 +143,12 @@ module _ {F R I O : Type 0} (f : files.Ghosts F) (r : roads.Ghosts R I O) (i : l
       → ReadyShows f r i o conn old new road road' (Err (of_nodes why))
   ready_failed conn old new road road' why shows = λ w net queues p piped lawful is. caused old new road road' why (shows w net queues p.nodes (λ within. piped) lawful is)
 
-  pub down_left : (conn : ConnId) (old : Player F I O) (n' : Nodes F I O) (new : Player F I O) (road road' : R) (result : Result (Unit {0}) PlayFault) → n'.blocks.items ≡ old.nodes.blocks.items → ClientsStay i o → ReadsKept i o → DownKeeps → RunningStays → nodes.DownShows f r i o conn old.nodes n' road road' (Ok tt) → Keeps (record old { nodes = n' }) new (event.Down conn true) result
+  pub down_left : (conn : ConnId) (old : Player F I O) (n' : Nodes F I O) (new : Player F I O) (road road' : R) (result : Result (Unit {0}) PlayFault) → n'.blocks.items ≡ old.nodes.blocks.items → ClientsStay i o → PipelinesLeave i o → DownKeeps → RunningStays → nodes.DownShows f r i o conn old.nodes n' road road' (Ok tt) → Keeps (record old { nodes = n' }) new (event.Down conn true) result
       → DownShows f r i o conn old new road road' result
   down_left conn old n' new road road' (Ok u) blocks stay K keeps runs shows kept = λ w net queues p piped lawful is busy.
       let l : Left (happens w (event.Down conn true)) queues None old new (event.Down conn true) road' =
-      left_of w (happens w (event.Down conn true)) net queues None old n' new (event.Down conn true) road road' blocks stay K.stay p lawful.ordered (keeps w conn true) (runs w (event.Down conn true) tt) (unled_after K.unled w (event.Down conn true) refl p.unled)
-      (λ made stays. K.down w net made conn true lawful.ordered piped stays) (shows w net queues true p.nodes (λ within. piped) lawful is busy) kept in
+      left_of w (happens w (event.Down conn true)) net queues None old n' new (event.Down conn true) road road' blocks stay K p lawful.ordered (keeps w conn true) (runs w (event.Down conn true) tt)
+      (λ made stays. record { reads = K.down_reads w net made conn true lawful.ordered piped stays; recoveries = K.down_recoveries w net made conn true lawful.ordered piped stays }) (shows w net queues true p.nodes (λ within. piped) lawful is busy) kept in
       record { made = l.made; shows = l.shows; events = l.events; places = l.places }
   down_left conn old n' new road road' (Err why) blocks stay K keeps runs shows kept = λ w net queues p piped lawful is busy. out_of_memory old new road road' why kept
 
@@ -140,12 +156,12 @@ module _ {F R I O : Type 0} (f : files.Ghosts F) (r : roads.Ghosts R I O) (i : l
       → DownShows f r i o conn old new road road' (Err (of_nodes why))
   down_failed conn old new road road' why shows = λ w net queues p piped lawful is busy. caused old new road road' why (shows w net queues true p.nodes (λ within. piped) lawful is busy)
 
-  pub mirror_left : (conn : ConnId) (old : Player F I O) (n' : Nodes F I O) (new : Player F I O) (road road' : R) (result : Result (Unit {0}) PlayFault) → n'.blocks.items ≡ old.nodes.blocks.items → ClientsStay i o → ReadsKept i o → MirrorKeeps → RunningStays → nodes.UpShows f r i o conn old.nodes n' road road' (Ok tt) → Keeps (record old { nodes = n' }) new (event.Up conn) result
+  pub mirror_left : (conn : ConnId) (old : Player F I O) (n' : Nodes F I O) (new : Player F I O) (road road' : R) (result : Result (Unit {0}) PlayFault) → n'.blocks.items ≡ old.nodes.blocks.items → ClientsStay i o → PipelinesLeave i o → MirrorKeeps → RunningStays → nodes.UpShows f r i o conn old.nodes n' road road' (Ok tt) → Keeps (record old { nodes = n' }) new (event.Up conn) result
       → MirrorShows f r i o conn old new road road' result
   mirror_left conn old n' new road road' (Ok u) blocks stay K keeps runs shows kept = λ w net queues d p lawful is above.
       let l : Left (happens w (event.Up conn)) queues (writer_at (w.dialled conn.0).upper) old new (event.Up conn) road' =
-      left_of w (happens w (event.Up conn)) net queues (writer_at (w.dialled conn.0).upper) old n' new (event.Up conn) road road' blocks stay K.stay p lawful.ordered (keeps w conn d above) (runs w (event.Up conn) tt) (unled_up K.unled w conn (by_member d) above refl p.unled)
-      (λ made stays. K.mirror w net made conn d lawful.ordered above stays) (shows w net queues d p.nodes lawful is above) kept in
+      left_of w (happens w (event.Up conn)) net queues (writer_at (w.dialled conn.0).upper) old n' new (event.Up conn) road road' blocks stay K p lawful.ordered (keeps w conn d above) (runs w (event.Up conn) tt)
+      (λ made stays. record { reads = K.mirror_reads w net made conn d lawful.ordered above stays; recoveries = K.mirror_recoveries w net made conn d lawful.ordered above stays }) (shows w net queues d p.nodes lawful is above) kept in
       record { made = l.made; shows = l.shows; events = l.events; places = l.places }
   mirror_left conn old n' new road road' (Err why) blocks stay K keeps runs shows kept = λ w net queues d p lawful is above. out_of_memory old new road road' why kept
 
@@ -158,12 +174,12 @@ module _ {F R I O : Type 0} (f : files.Ghosts F) (r : roads.Ghosts R I O) (i : l
   begun_so conn old n' w net queues road road' None tells quiet ends = ends
   begun_so conn old n' w net queues road road' (Some node) tells quiet ends = ends.left true (sym (tells node.0) ∙ quiet)
 
-  pub begin_left : (conn : ConnId) (old : Player F I O) (n' : Nodes F I O) (new : Player F I O) (road road' : R) (unanswered : Option NodeId) (result : Result (Unit {0}) PlayFault) → n'.blocks.items ≡ old.nodes.blocks.items → ClientsStay i o → ReadsKept i o → DownKeeps → RunningStays → beginning.BeginShows f r i o conn old.nodes n' road road' (Ok unanswered)
+  pub begin_left : (conn : ConnId) (old : Player F I O) (n' : Nodes F I O) (new : Player F I O) (road road' : R) (unanswered : Option NodeId) (result : Result (Unit {0}) PlayFault) → n'.blocks.items ≡ old.nodes.blocks.items → ClientsStay i o → PipelinesLeave i o → DownKeeps → RunningStays → beginning.BeginShows f r i o conn old.nodes n' road road' (Ok unanswered)
       → Begins (record old { nodes = n' }) new conn unanswered result → BeginShows f r i o conn old new road road' result
   begin_left conn old n' new road road' unanswered (Ok u) blocks stay K keeps runs shows kept = λ w net queues p piped can is idle_is.
       let l : Left (happens w (event.Down conn true)) queues None old new (event.Down conn true) road' =
-      left_of w (happens w (event.Down conn true)) net queues None old n' new (event.Down conn true) road road' blocks stay K.stay p (can.lawful true).ordered (keeps w conn true) (runs w (event.Down conn true) tt) (unled_after K.unled w (event.Down conn true) refl p.unled)
-      (λ made stays. K.down w net made conn true (can.lawful true).ordered piped stays)
+      left_of w (happens w (event.Down conn true)) net queues None old n' new (event.Down conn true) road road' blocks stay K p (can.lawful true).ordered (keeps w conn true) (runs w (event.Down conn true) tt)
+      (λ made stays. record { reads = K.down_reads w net made conn true (can.lawful true).ordered piped stays; recoveries = K.down_recoveries w net made conn true (can.lawful true).ordered piped stays })
       (begun_so conn old n' w net queues road road' unanswered p.running kept.0 (shows w net queues p.nodes (λ within. piped) can.lawful can.fit is idle_is)) kept.1 in
       record { made = l.made; shows = l.shows; events = l.events; places = l.places }
   begin_left conn old n' new road road' unanswered (Err fault.Memory) blocks stay K keeps runs shows kept = λ w net queues p piped can is idle_is. tt

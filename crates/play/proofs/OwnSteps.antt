@@ -40,11 +40,15 @@ use Rattle.play_nodes.specs.Showing.{runs_in, TellsRunning, NodesShow}
 use Rattle.client_events.specs.Showing.{OthersStay}
 use Rattle.play_reads.specs.declared.reads.Reads.{Reads}
 use Rattle.play_reads.specs.Keeping.{KeepsReads}
+use Rattle.play_recoveries.specs.Keeping.{KeepsRecoveries}
 use Rattle.play_readers.specs.Asks.{asks_of}
 use Rattle.play_reads.specs.Showing.{ReadsShow}
-use Rattle.play.specs.Laws.{ReadsKept}
-use Rattle.play.specs.Showing.{NoneLeads, PlayerShows}
-use Rattle.play.proofs.ReadsLaws.{unled_own, reads_left}
+use Rattle.play_recoveries.specs.declared.recoveries.Recoveries.{Recoveries}
+use Rattle.play_recoveries.specs.Places.{recoveries_of}
+use Rattle.play_recoveries.specs.Showing.{RecoveriesShow}
+use Rattle.play.specs.Laws.{PipelinesLeave}
+use Rattle.play.specs.Showing.{PlayerShows}
+use Rattle.play.proofs.OthersLaws.{reads_left, recoveries_left}
 use Rattle.play.specs.Running.{is_running}
 use Rattle.hd_base.specs.RoadFaults.{RoadsFailed}
 use Rattle.play.specs.Events.{PlayerLeft, IsCaused, blocks_of, KeepsPlaces}
@@ -90,14 +94,15 @@ module _ {F R I O D : Type 0} (f : files.Ghosts F) (r : roads.Ghosts R I O) (i :
   record OnlyNodes (mid middle : Player F I O) : Type 0 where
     blocks : middle.nodes.blocks.items ≡ mid.nodes.blocks.items
     reads : middle.reads ≡ mid.reads
+    recoveries : middle.recoveries ≡ mid.recoveries
     clients : middle.clients.items ≡ mid.clients.items
     office : middle.office.office ≡ mid.office.office
     events : middle.events.items ≡ mid.events.items
     running : middle.running.items ≡ mid.running.items
 
   only_nodes : (mid middle : Player F I O) (block : BlockId) (first : Option (First I O)) → IsDialled i o mid middle block first (Ok tt) → OnlyNodes mid middle
-  only_nodes mid middle block None h = record { blocks = ap (λ (p : Player F I O). p.nodes.blocks.items) h.0; reads = ap (λ (p : Player F I O). p.reads) h.0; clients = ap (λ (p : Player F I O). p.clients.items) h.0; office = ap (λ (p : Player F I O). p.office.office) h.0; events = ap (λ (p : Player F I O). p.events.items) h.0; running = ap (λ (p : Player F I O). p.running.items) h.0 }
-  only_nodes mid middle block (Some first) h = record { blocks = h.sizes.blocks; reads = ap (λ (p : Player F I O). p.reads) h.same; clients = ap (λ (p : Player F I O). p.clients.items) h.same; office = ap (λ (p : Player F I O). p.office.office) h.same; events = ap (λ (p : Player F I O). p.events.items) h.same; running = ap (λ (p : Player F I O). p.running.items) h.same }
+  only_nodes mid middle block None h = record { blocks = ap (λ (p : Player F I O). p.nodes.blocks.items) h.0; reads = ap (λ (p : Player F I O). p.reads) h.0; recoveries = ap (λ (p : Player F I O). p.recoveries) h.0; clients = ap (λ (p : Player F I O). p.clients.items) h.0; office = ap (λ (p : Player F I O). p.office.office) h.0; events = ap (λ (p : Player F I O). p.events.items) h.0; running = ap (λ (p : Player F I O). p.running.items) h.0 }
+  only_nodes mid middle block (Some first) h = record { blocks = h.sizes.blocks; reads = ap (λ (p : Player F I O). p.reads) h.same; recoveries = ap (λ (p : Player F I O). p.recoveries) h.same; clients = ap (λ (p : Player F I O). p.clients.items) h.same; office = ap (λ (p : Player F I O). p.office.office) h.same; events = ap (λ (p : Player F I O). p.events.items) h.same; running = ap (λ (p : Player F I O). p.running.items) h.same }
 
   -- what was dialled and kept leaves the places
   own_places : (old mid middle new : Player F I O) (es : List Event) (actor : Option ℕ) → HasMore middle new es → OnlyNodes mid middle → KeepsPlaces actor old mid → KeepsPlaces actor old new
@@ -105,6 +110,7 @@ module _ {F R I O D : Type 0} (f : files.Ghosts F) (r : roads.Ghosts R I O) (i :
     blocks = ap (λ (p : Player F I O). p.nodes.blocks.items) more.same ∙ (same.blocks ∙ h.blocks);
     order = ap (λ (p : Player F I O). blocks_of p.clients.items) more.same ∙ (ap (λ (xs : List (Client I O)). blocks_of xs) same.clients ∙ h.order);
     asks = ap (λ (p : Player F I O). asks_of p.reads.clients.items) more.same ∙ (ap (λ (x : Reads I O). asks_of x.clients.items) same.reads ∙ h.asks);
+    recovers = ap (λ (p : Player F I O). recoveries_of p.recoveries.clients.items) more.same ∙ (ap (λ (x : Recoveries I O). recoveries_of x.clients.items) same.recoveries ∙ h.recovers);
     each = λ k c at. h.each k c (sym (ap (λ (p : Player F I O). slice_get p.clients.items k) more.same ∙ ap (λ (xs : List (Client I O)). slice_get xs k) same.clients) ∙ at);
   }
 
@@ -131,11 +137,11 @@ module _ {F R I O D : Type 0} (f : files.Ghosts F) (r : roads.Ghosts R I O) (i :
           }
 
   -- a player that was dialled and kept its events
-  pub own_as : (place : ℕ) (old mid new : Player F I O) (c c' : Client I O) (w : World) (net : Net) (queues : Queues) (road road' : R) (desk desk' : D) (next : ConnId) (left : Owned I O) → d.office desk ≡ Some old.office.office → d.office desk' ≡ Some mid.office.office → mid.nodes ≡ old.nodes → mid.reads ≡ old.reads → mid.running.items ≡ old.running.items
-      → mid.clients.items ≡ slice_set old.clients.items place c' → mid.events.items ≡ old.events.items → next.0 ≡ w.next_conn → ClientsStay i o → ReadsKept i o → NodesStay f i o → NodesEndsStay i o → OwnStepsKeep → OwnKeeps → slice_get old.clients.items place ≡ Some c
+  pub own_as : (place : ℕ) (old mid new : Player F I O) (c c' : Client I O) (w : World) (net : Net) (queues : Queues) (road road' : R) (desk desk' : D) (next : ConnId) (left : Owned I O) → d.office desk ≡ Some old.office.office → d.office desk' ≡ Some mid.office.office → mid.nodes ≡ old.nodes → mid.reads ≡ old.reads → mid.recoveries ≡ old.recoveries → mid.running.items ≡ old.running.items
+      → mid.clients.items ≡ slice_set old.clients.items place c' → mid.events.items ≡ old.events.items → next.0 ≡ w.next_conn → ClientsStay i o → PipelinesLeave i o → NodesStay f i o → NodesEndsStay i o → OwnStepsKeep → OwnKeeps → slice_get old.clients.items place ≡ Some c
       → clients.OwnShows d r i o next c c' desk desk' road road' (Ok left) → IsOwned i o mid new c.block left (Ok tt) → PlayerShows r i o w net queues road old → Ordered w → is_due w queues (due.Own c.block) ≡ true → CanOwn w c next
       → PlayerLeft r i o w queues (due.Own c.block) old new road'
-  own_as place old mid new c c' w net queues road road' desk desk' next left office_old office_mid nodes reads running set events at_next stay K nodes_stay ends_stay steps_keep own_keeps at shows owned p ordered is can =
+  own_as place old mid new c c' w net queues road road' desk desk' next left office_old office_mid nodes reads recovers running set events at_next stay K nodes_stay ends_stay steps_keep own_keeps at shows owned p ordered is can =
       let stands : ClientStands d r i o w net c desk road = record { roads_are = p.nodes.roads_are; client_is = (p.clients place c at).shows; office_is = office_old ∙ ap (λ (x : OfficeState). Some x) p.office } in
       let done : clients.OwnDone d r i o w net queues next c c' desk' road road' left = shows w net queues stands (p.clients place c at).queue is can in
       let l : clients.OwnLeft d r i o w net queues next c c' desk' road' left true = done.shows true (reaches_so w mid left.unreached (λ n. ap (λ (xs : List Bool). runs_in xs n) running ∙ p.running n) owned.quiet) in
@@ -145,16 +151,19 @@ module _ {F R I O D : Type 0} (f : files.Ghosts F) (r : roads.Ghosts R I O) (i :
       let kept : IsKept i o w net v l.made mid.nodes = subst (λ (x : Nodes F I O). IsKept i o w net v l.made x) (sym nodes) (record { nodes_are = p.nodes.nodes_are; ordered = ordered; keeps = n.keeps; ends = ends_stay w net v l.made c.block.0 ordered l.shows.others }) in
       let same : OnlyNodes mid owned.middle = only_nodes mid owned.middle c.block left.first owned.dialled in
       let read_same : owned.middle.reads ≡ old.reads = same.reads ∙ reads in
-      let keeps : KeepsReads i o w net v l.made = subst (λ (es : List Event). OthersStay i o w net (run w es) l.made (w.writers c.block.0).conn → KeepsReads i o w net (run w es) l.made) l.events (K.own w net l.made queues c.block ordered) l.shows.others in
-      let h : IsReplaced f r i o d old mid place c c' = record { nodes = nodes; reads = reads; clients = set; block = l.shows.block; rule = l.shows.rule } in
+      let recovers_same : owned.middle.recoveries ≡ old.recoveries = same.recoveries ∙ recovers in
+      let keeps : KeepsReads i o w net v l.made = subst (λ (es : List Event). OthersStay i o w net (run w es) l.made (w.writers c.block.0).conn → KeepsReads i o w net (run w es) l.made) l.events (K.own_reads w net l.made queues c.block ordered) l.shows.others in
+      let keeps_too : KeepsRecoveries i o w net v l.made = subst (λ (es : List Event). OthersStay i o w net (run w es) l.made (w.writers c.block.0).conn → KeepsRecoveries i o w net (run w es) l.made) l.events (K.own_recoveries w net l.made queues c.block ordered) l.shows.others in
+      let h : IsReplaced f r i o d old mid place c c' = record { nodes = nodes; reads = reads; recoveries = recovers; clients = set; block = l.shows.block; rule = l.shows.rule } in
       let q : PlayerShows r i o v l.made (queues_after w queues (due.Own c.block)) road' (record owned.middle { events = new.events }) = record {
         nodes = record {
           roads_are = l.shows.stands.roads_are;
           nodes_are = nodes_after w v net l.made mid owned.middle c.block next left.first at_next owned.dialled nodes_stay kept n l.first l.none l.more;
         };
         reads = subst (λ (x : Reads I O). ReadsShow i o v l.made owned.middle.nodes.blocks.items x) (sym read_same)
-            (reads_left i o w v net l.made old.nodes.blocks.items owned.middle.nodes.blocks.items old.reads K.stay (same.blocks ∙ ap (λ (x : Nodes F I O). x.blocks.items) nodes) p.reads keeps);
-        unled = subst (λ (es : List Event). NoneLeads (run w es)) l.events (unled_own K.unled w (action_of w c.block) c.block.0 (queues c.block.0) p.unled);
+            (reads_left i o w v net l.made old.nodes.blocks.items owned.middle.nodes.blocks.items old.reads K.reads_stay (same.blocks ∙ ap (λ (x : Nodes F I O). x.blocks.items) nodes) p.reads keeps);
+        recoveries = subst (λ (x : Recoveries I O). RecoveriesShow i o v l.made owned.middle.nodes.blocks.items x) (sym recovers_same)
+            (recoveries_left i o w v net l.made old.nodes.blocks.items owned.middle.nodes.blocks.items old.recoveries K.recoveries_stay (same.blocks ∙ ap (λ (x : Nodes F I O). x.blocks.items) nodes) p.recoveries keeps_too);
         clients = λ j a at_j. clients_after f r i o d w v net l.made queues (queues_after w queues (due.Own c.block)) place old mid c c' stay (λ a apart. keeps_other f r i o d w v net l.made a c.block.0 ordered apart k.0 (λ e of. k.1 e false) l.shows.others) (queues_other w queues c.block) p.clients p.apart at h
             (record { shows = l.shows.stands.client_is; queue = l.queue ∙ ap (λ (x : BlockId). queues_after w queues (due.Own c.block) x.0) (sym l.shows.block) }) j a (sym (ap (λ (xs : List (Client I O)). slice_get xs j) same.clients) ∙ at_j);
         apart = λ j m a b at_j at_m. still_apart f r i o d old mid place c c' h at p.apart j m a b (sym (ap (λ (xs : List (Client I O)). slice_get xs j) same.clients) ∙ at_j) (sym (ap (λ (xs : List (Client I O)). slice_get xs m) same.clients) ∙ at_m);
@@ -187,14 +196,14 @@ module _ {F R I O D : Type 0} (f : files.Ghosts F) (r : roads.Ghosts R I O) (i :
       subst (λ (y : Client I O). Ordered w → is_due w queues (due.Own y.block) ≡ true → CanOwn w y (record { 0 = w.next_conn }) → End y.block) (same_client f r i o d c a (sym at ∙ at_a))
       (λ ordered is can. does ordered is (subst (λ (n : ConnId). CanOwn w c n) (next_of next w.next_conn w.next_conn at_next refl) can))
 
-  pub own_left : (place : ℕ) (old mid new : Player F I O) (c c' : Client I O) (road road' : R) (desk desk' : D) (next : ConnId) (block : BlockId) (left : Owned I O) (result : Result (Unit {0}) PlayFault) → d.office desk ≡ Some old.office.office → d.office desk' ≡ Some mid.office.office → mid.nodes ≡ old.nodes → mid.reads ≡ old.reads → mid.running.items ≡ old.running.items
-      → mid.clients.items ≡ slice_set old.clients.items place c' → mid.events.items ≡ old.events.items → next.0 ≡ length old.nodes.connections.items → ClientsStay i o → ReadsKept i o → NodesStay f i o → NodesEndsStay i o → OwnStepsKeep → OwnKeeps → slice_get old.clients.items place ≡ Some c
+  pub own_left : (place : ℕ) (old mid new : Player F I O) (c c' : Client I O) (road road' : R) (desk desk' : D) (next : ConnId) (block : BlockId) (left : Owned I O) (result : Result (Unit {0}) PlayFault) → d.office desk ≡ Some old.office.office → d.office desk' ≡ Some mid.office.office → mid.nodes ≡ old.nodes → mid.reads ≡ old.reads → mid.recoveries ≡ old.recoveries → mid.running.items ≡ old.running.items
+      → mid.clients.items ≡ slice_set old.clients.items place c' → mid.events.items ≡ old.events.items → next.0 ≡ length old.nodes.connections.items → ClientsStay i o → PipelinesLeave i o → NodesStay f i o → NodesEndsStay i o → OwnStepsKeep → OwnKeeps → slice_get old.clients.items place ≡ Some c
       → block ≡ c.block → clients.OwnShows d r i o next c c' desk desk' road road' (Ok left) → IsOwned i o mid new block left result → OwnShows f r i o place old new road road' result
-  own_left place old mid new c c' road road' desk desk' next block left (Ok u) office_old office_mid nodes reads running set events at_next stay K nodes_stay ends_stay steps_keep own_keeps at of shows owned = λ w net queues a p at_a.
+  own_left place old mid new c c' road road' desk desk' next block left (Ok u) office_old office_mid nodes reads recovers running set events at_next stay K nodes_stay ends_stay steps_keep own_keeps at of shows owned = λ w net queues a p at_a.
       let next_is : next.0 ≡ w.next_conn = at_next ∙ p.nodes.nodes_are.count in
       shows_at place old c next w queues (λ (b : BlockId). PlayerLeft r i o w queues (due.Own b) old new road') next_is at
-      (λ ordered is can. own_as place old mid new c c' w net queues road road' desk desk' next left office_old office_mid nodes reads running set events next_is stay K nodes_stay ends_stay steps_keep own_keeps at shows (subst (λ (b : BlockId). IsOwned i o mid new b left (Ok tt)) of owned) p ordered is can) a at_a
-  own_left place old mid new c c' road road' desk desk' next block left (Err why) office_old office_mid nodes reads running set events at_next stay K nodes_stay ends_stay steps_keep own_keeps at of shows owned = λ w net queues a p at_a.
+      (λ ordered is can. own_as place old mid new c c' w net queues road road' desk desk' next left office_old office_mid nodes reads recovers running set events next_is stay K nodes_stay ends_stay steps_keep own_keeps at shows (subst (λ (b : BlockId). IsOwned i o mid new b left (Ok tt)) of owned) p ordered is can) a at_a
+  own_left place old mid new c c' road road' desk desk' next block left (Err why) office_old office_mid nodes reads recovers running set events at_next stay K nodes_stay ends_stay steps_keep own_keeps at of shows owned = λ w net queues a p at_a.
       shows_at place old c next w queues (λ (b : BlockId). IsCaused f r old new road road' why) (at_next ∙ p.nodes.nodes_are.count) at
       (λ ordered is can. by w p.running why owned
       (shows w net queues (record { roads_are = p.nodes.roads_are; client_is = (p.clients place c at).shows; office_is = office_old ∙ ap (λ (x : OfficeState). Some x) p.office }) (p.clients place c at).queue is can).cause) a at_a

@@ -33,16 +33,18 @@ use Rattle.play_reads.specs.Left.{ReadsLeft}
 use Rattle.play_reads.specs.Owning as owning
 use Rattle.play_readers.specs.Asks.{asks_of}
 use Rattle.play_reads.specs.Serving as serving
+use Rattle.play_recoveries.specs.Keeping.{RecoveringEndsStay, KeepsRecoveries}
+use Rattle.play_recoveries.specs.Places.{recoveries_of}
 use Rattle.play_reads.specs.Showing.{Stand}
 use Rattle.play.specs.declared.faults.PlayFault.{PlayFault}
 use Rattle.play.specs.declared.player.Player.{Player}
 use Rattle.play.specs.Events.{IsKept, Keeps, IsCaused, writer_at, blocks_of, KeepsPlaces}
 use Rattle.play.specs.Faults.{of_reads}
-use Rattle.play.specs.Laws.{Laws}
+use Rattle.play.specs.Laws.{Laws, ReadsLeave}
 use Rattle.play.specs.Reading.{FilesTell, AskShows, ReaderShows, TakeShows, SendShows}
-use Rattle.play.specs.Showing.{NoneLeads, PlayerShows, PlayerStands}
-use Rattle.play.proofs.NodeSteps.{clients_left, out_of_memory}
-use Rattle.play.proofs.ReadsLaws.{unled_after, unled_up}
+use Rattle.play.specs.Showing.{PlayerShows, PlayerStands}
+use Rattle.play.proofs.NodeSteps.{writing_of, clients_left, out_of_memory}
+use Rattle.play.proofs.OthersLaws.{recoveries_left}
 
 -- WRITERS
 
@@ -90,15 +92,15 @@ module _ {F R I O : Type 0} (f : files.Ghosts F) (r : roads.Ghosts R I O) (i : l
     events : new.events.items ≡ old.events.items ++ e ∷ []
     places : KeepsPlaces actor old new
 
-  left_of : (w v : World) (net : Net) (queues : Queues) (actor : Option ℕ) (old new : Player F I O) (n' : Nodes F I O) (reads' : Reads I O) (e : Event) (road road' : R) → ClientsStay i o → PlayerShows r i o w net queues road old → Ordered w → KeepsWriters w v → SameNodes w v → NoneLeads v → n'.blocks.items ≡ old.nodes.blocks.items
+  left_of : (w v : World) (net : Net) (queues : Queues) (actor : Option ℕ) (old new : Player F I O) (n' : Nodes F I O) (reads' : Reads I O) (e : Event) (road road' : R) → ClientsStay i o → ReadsLeave i o → PlayerShows r i o w net queues road old → Ordered w → KeepsWriters w v → SameNodes w v → ((made : Net) → RecoveringEndsStay i o w net v made → KeepsRecoveries i o w net v made) → n'.blocks.items ≡ old.nodes.blocks.items
       → ReadsLeft r i o w net v road' n' old.reads reads' → IsKept (record old { nodes = n'; reads = reads' }) new e → Left v queues actor old new e road'
-  left_of w v net queues actor old new n' reads' e road road' stay p ordered k runs unled blocks left kept = record {
+  left_of w v net queues actor old new n' reads' e road road' stay Q p ordered k runs keeps blocks left kept = record {
     made = left.made;
     shows = subst (λ (x : Player F I O). PlayerShows r i o v left.made queues road' x) (sym kept.same) (record {
       nodes = left.stands.nodes;
       reads = left.stands.reads_are;
-      unled = unled;
-      clients = clients_left f r i o w v net left.made queues old stay p.clients ordered k left.writers;
+      recoveries = recoveries_left i o w v net left.made old.nodes.blocks.items n'.blocks.items old.recoveries Q.stay blocks p.recoveries (keeps left.made left.primaries);
+      clients = clients_left f r i o w v net left.made queues old stay p.clients ordered (writing_of w v k) left.writers;
       apart = p.apart;
       office = p.office ∙ sym k.office;
       running = λ n. p.running n ∙ sym (runs.running n);
@@ -109,11 +111,12 @@ module _ {F R I O : Type 0} (f : files.Ghosts F) (r : roads.Ghosts R I O) (i : l
       blocks = ap (λ (x : Player F I O). x.nodes.blocks.items) kept.same ∙ blocks;
       order = ap (λ (x : Player F I O). blocks_of x.clients.items) kept.same;
       asks = ap (λ (x : Player F I O). asks_of x.reads.clients.items) kept.same ∙ left.asks;
+      recovers = ap (λ (x : Player F I O). recoveries_of x.recoveries.clients.items) kept.same;
       each = λ m c at. record { was = c; at = sym (ap (λ (x : Player F I O). slice_get x.clients.items m) kept.same) ∙ at; block = refl; rule = refl; same = λ other. refl };
     };
   }
 
-  module _ (L : Laws) (stay : ClientsStay i o) where
+  module _ (L : Laws) (stay : ClientsStay i o) (Q : ReadsLeave i o) where
     -- A READER ASKS
 
     pub ask_left : (place : ℕ) (old new : Player F I O) (n' : Nodes F I O) (reads' : Reads I O) (a : ReadClient I O) (road road' : R) (result : Result (Unit {0}) PlayFault) → slice_get old.reads.clients.items place ≡ Some a → KeepsSizes old.nodes n' → owning.OwnShows f r i o place old.nodes n' old.reads reads' road road' (Ok tt)
@@ -123,7 +126,7 @@ module _ {F R I O : Type 0} (f : files.Ghosts F) (r : roads.Ghosts R I O) (i : l
         let k = L.asking_others w c.ask.reader c.ask.node (request_of c.ask) true in
         let kept' : IsKept (record old { nodes = n'; reads = reads' }) new (asking_node c.ask true) = subst (λ (x : ReadClient I O). IsKept (record old { nodes = n'; reads = reads' }) new (asking_node x.ask true)) (same_some a c (sym at ∙ at_c)) kept in
         let l : Left v queues None old new (asking_node c.ask true) road' =
-        left_of w v net queues None old new n' reads' (asking_node c.ask true) road road' stay p lawful.ordered (keeps_asked w v c.ask.reader k.0 k.1) (L.running w (asking_node c.ask true) tt) (unled_after L.unled w (asking_node c.ask true) refl p.unled) sizes.blocks
+        left_of w v net queues None old new n' reads' (asking_node c.ask true) road road' stay Q p lawful.ordered (keeps_asked w v c.ask.reader k.0 k.1) (L.running w (asking_node c.ask true) tt) (λ made ends. Q.asking w net made c.ask lawful.ordered ends) sizes.blocks
         (shows w net c (record { nodes = p.nodes; reads_are = p.reads }) lawful at_c can) kept' in
         record { made = l.made; shows = l.shows; events = l.events; places = l.places }
     ask_left place old new n' reads' a road road' (Err why) at sizes shows kept = λ w net queues c p tell at_c lawful can. out_of_memory f r i o old new road road' why kept
@@ -141,7 +144,7 @@ module _ {F R I O : Type 0} (f : files.Ghosts F) (r : roads.Ghosts R I O) (i : l
         let line = reader_above (w.dialled conn.0).upper of in
         let k = L.hearing_others w conn line.0 line.1 in
         let l : Left v queues None old new (event.Up conn) road' =
-        left_of w v net queues None old new old.nodes reads' (event.Up conn) road road' stay p lawful.ordered (keeps_heard w v conn.0 line.0 line.1 k.0 k.1) (L.running w (event.Up conn) tt) (unled_up L.unled w conn (by_reader line.0) line.1 refl p.unled) refl
+        left_of w v net queues None old new old.nodes reads' (event.Up conn) road road' stay Q p lawful.ordered (keeps_heard w v conn.0 line.0 line.1 k.0 k.1) (L.running w (event.Up conn) tt) (λ made ends. Q.reading w net made conn lawful.ordered of ends) refl
         (shows w net queues (record { nodes = p.nodes; reads_are = p.reads }) lawful is of) kept in
         record { made = l.made; shows = l.shows; events = l.events; places = subst (λ (x : Option ℕ). KeepsPlaces x old new) (sym (ap writer_at line.1)) l.places }
     hear_left conn old new reads' road road' (Err why) shows kept = λ w net queues p tell of lawful is. out_of_memory f r i o old new road road' why kept
@@ -158,7 +161,7 @@ module _ {F R I O : Type 0} (f : files.Ghosts F) (r : roads.Ghosts R I O) (i : l
     take_left conn old new n' reads' road road' (Ok u) sizes shows kept = λ w net queues p tell of can is.
         let v : World = happens w (event.Down conn true) in
         let l : Left v queues None old new (event.Down conn true) road' =
-        left_of w v net queues None old new n' reads' (event.Down conn true) road road' stay p can.order.before (L.down_keeps w conn true) (L.running w (event.Down conn true) tt) (unled_after L.unled w (event.Down conn true) refl p.unled) sizes.blocks
+        left_of w v net queues None old new n' reads' (event.Down conn true) road road' stay Q p can.order.before (L.down_keeps w conn true) (L.running w (event.Down conn true) tt) (λ made ends. Q.serving w net made conn true can.order.before of ends) sizes.blocks
         (shows w net queues (record { nodes = p.nodes; reads_are = p.reads }) can.order can.lawful can.among is of) kept in
         record { made = l.made; shows = l.shows; events = l.events; places = l.places }
     take_left conn old new n' reads' road road' (Err why) sizes shows kept = λ w net queues p tell of can is. out_of_memory f r i o old new road road' why kept
@@ -174,7 +177,7 @@ module _ {F R I O : Type 0} (f : files.Ghosts F) (r : roads.Ghosts R I O) (i : l
     send_left conn old new n' reads' road road' (Ok u) sizes shows kept = λ w net queues p tell of order is.
         let v : World = happens w (event.Ready conn) in
         let l : Left v queues None old new (event.Ready conn) road' =
-        left_of w v net queues None old new n' reads' (event.Ready conn) road road' stay p order.before (L.ready_keeps w conn) (L.running w (event.Ready conn) tt) (unled_after L.unled w (event.Ready conn) refl p.unled) sizes.blocks
+        left_of w v net queues None old new n' reads' (event.Ready conn) road road' stay Q p order.before (L.ready_keeps w conn) (L.running w (event.Ready conn) tt) (λ made ends. Q.sending w net made conn order.before of ends) sizes.blocks
         (shows w net queues (record { nodes = p.nodes; reads_are = p.reads }) order (λ place book at. tell book.drawer) is of) kept in
         record { made = l.made; shows = l.shows; events = l.events; places = l.places }
     send_left conn old new n' reads' road road' (Err why) sizes shows kept = λ w net queues p tell of order is. out_of_memory f r i o old new road road' why kept

@@ -29,6 +29,10 @@ use Rattle.node_starts.proofs.StartLemmas.{start_is}
 use Rattle.play_reads.specs.Keeping.{StartsKeepReads}
 use Rattle.play_readers.specs.Asks.{asks_of}
 use Rattle.play_reads.specs.Showing.{ReadsShow}
+use Rattle.play_recoveries.specs.Keeping.{StartsKeepRecoveries}
+use Rattle.play_recoveries.specs.Places.{recoveries_of}
+use Rattle.play_recoveries.specs.Showing.{RecoveriesShow}
+use Rattle.play.proofs.OthersLaws.{recovering_elsewhere}
 use Rattle.play.specs.declared.faults.PlayFault.{PlayFault}
 use Rattle.play.specs.declared.player.Player.{Player}
 use Rattle.play.specs.Events.{IsKept, Keeps}
@@ -37,11 +41,10 @@ use Rattle.play.specs.Laws.{Laws}
 use Rattle.play.specs.Running.{IsStarted}
 use Rattle.play.specs.Showing.{PlayerShows}
 use Rattle.play_laws.specs.Commands.{CommandsFit}
-use Rattle.play.specs.Standing.{AsksFit, ClientFits, EventsFit, world_of, PlayStands}
+use Rattle.play.specs.Standing.{AsksFit, RecoveriesFit, ClientFits, EventsFit, world_of, PlayStands}
 use Rattle.play.specs.Starting.{HasStarted, StartShows, IsStartCause}
-use Rattle.play.proofs.ReadsLaws.{unled_after}
 use Rattle.play.proofs.Lawful.{fits_more}
-use Rattle.play.proofs.NodeSteps.{clients_left}
+use Rattle.play.proofs.NodeSteps.{writing_of, clients_left}
 
 -- THE WORLD
 
@@ -52,7 +55,7 @@ writers_kept w n within off =
 running_put : (w : World) (n : NodeId) → n.0 < w.nodes → w.running n.0 ≡ false → (m : ℕ) → (happens w (event.Restart n [])).running m ≡ put w.running n.0 true m
 running_put w n within off m = ap (λ (v : World). v.running m) (start_is w n [] within off)
 
-module _ {S F R I O : Type 0} (s : shelves.Ghosts S F) (f : files.Ghosts F) (r : roads.Ghosts R I O) (i : link_in.Ghosts I) (o : link_out.Ghosts O) (L : Laws) (whole : UnbrokenWithoutFaults) (lived : DialsAreLived) (clients_stay : ClientsStay i o) (reads_stay : StartsKeepReads i o) where
+module _ {S F R I O : Type 0} (s : shelves.Ghosts S F) (f : files.Ghosts F) (r : roads.Ghosts R I O) (i : link_in.Ghosts I) (o : link_out.Ghosts O) (L : Laws) (whole : UnbrokenWithoutFaults) (lived : DialsAreLived) (clients_stay : ClientsStay i o) (reads_stay : StartsKeepReads i o) (recoveries_stay : StartsKeepRecoveries i o) where
   module _ (nodes : ℕ) (queues : Queues) (n : NodeId) (shelf : S) (old mid new : Player F I O) (n' : Nodes F I O) (road road' : R) (st : PlayStands r i o nodes queues road old) (below : n.0 < nodes) (off : (world_of nodes old).running n.0 ≡ false) (tells : NodeTells s f n shelf old.nodes) (shows : node.StartShows s f r i o n shelf old.nodes n' road road') (blocks : n'.blocks.items ≡ old.nodes.blocks.items)
       (started : IsStarted (record old { nodes = n' }) mid n) (kept : IsKept mid new (event.Restart n [])) where
     abbrev here : World
@@ -90,8 +93,10 @@ module _ {S F R I O : Type 0} (s : shelves.Ghosts S F) (f : files.Ghosts F) (r :
       nodes = left.stands;
       reads = subst (λ (bs : List BlockId). ReadsShow i o there left.made bs old.reads) (sym blocks)
           (reads_stay here st.net left.made n [] old.nodes.blocks.items old.reads st.shows.reads (record { ordered = L.ordered nodes old.events.items; is_node = within; stands_still = off; lived = lived nodes old.events.items }) left.elsewhere);
-      unled = unled_after L.unled here (event.Restart n []) refl st.shows.unled;
-      clients = clients_left f r i o here there st.net left.made queues old clients_stay st.shows.clients (L.ordered nodes old.events.items) (writers_kept here n within off) left.writers;
+      recoveries = subst (λ (bs : List BlockId). RecoveriesShow i o there left.made bs old.recoveries) (sym blocks)
+          (recoveries_stay here st.net left.made n [] old.nodes.blocks.items old.recoveries st.shows.recoveries (record { ordered = L.ordered nodes old.events.items; is_node = within; stands_still = off; lived = lived nodes old.events.items })
+          (λ d lower e of h. left.elsewhere d lower e (recovering_elsewhere (here.dialled d).upper of) h));
+      clients = clients_left f r i o here there st.net left.made queues old clients_stay st.shows.clients (L.ordered nodes old.events.items) (writing_of here there (writers_kept here n within off)) left.writers;
       apart = st.shows.apart;
       office = st.shows.office ∙ sym (writers_kept here n within off).office;
       slots = started.slots ∙ (st.shows.slots ∙ sym (ap (λ (v : World). v.nodes) (start_is here n [] within off)));
@@ -119,6 +124,7 @@ module _ {S F R I O : Type 0} (s : shelves.Ghosts S F) (f : files.Ghosts F) (r :
           (fits_more nodes old.nodes.blocks.items old.events.items (event.Restart n [] ∷ []) st.events (record { widths = (tt, tt); names = (tt, tt); among = (tt, tt); whole = (tt, tt) })));
       clients = λ k c at. subst (λ (v : World). ClientFits nodes n'.blocks.items v c) (sym world_is) (fits_there c (st.clients k c at));
       asks = subst (λ (bs : List BlockId). AsksFit nodes bs (asks_of old.reads.clients.items)) (sym blocks) st.asks;
+      recovers = subst (λ (bs : List BlockId). RecoveriesFit nodes bs (recoveries_of old.recoveries.clients.items)) (sym blocks) st.recovers;
       connected = λ b c has. st.connected b c (sym (ap (λ (x : Writing). x.conn) (writer_is b)) ∙ (sym (ap (λ (v : World). (v.writers b).conn) world_is) ∙ has));
     }
 
@@ -127,6 +133,7 @@ module _ {S F R I O : Type 0} (s : shelves.Ghosts S F) (f : files.Ghosts F) (r :
       stands = subst (λ (p : Player F I O). PlayStands r i o nodes queues road' p) (sym same) stands_there;
       clients = ap (λ (p : Player F I O). p.clients) same;
       asks = ap (λ (p : Player F I O). asks_of p.reads.clients.items) same;
+      recovers = ap (λ (p : Player F I O). recoveries_of p.recoveries.clients.items) same;
       events = more;
     }
 

@@ -1,6 +1,6 @@
 -- A play of which a node has stopped.
-use Rattle.std.proofs.Common.{◌≡◌, ℕ, Bool, true, false, List, [], ◌∷◌, ◌++◌, Some, Result, Ok, Err, refl, sym, ap, ◌∙◌, subst}
-use Rattle.std.specs.Prelude.{if◌then◌else◌}
+use Rattle.std.proofs.Common.{◌≡◌, ◌<◌, ◌≤◌, ℕ, zero, suc, Bool, true, false, List, [], ◌∷◌, ◌++◌, map, Some, Result, Ok, Err, refl, sym, ap, ◌∙◌, subst, arith}
+use Rattle.std.specs.Prelude.{◌==◌, if◌then◌else◌}
 use Rattle.hd_base.specs.declared.files.Files as files
 use Rattle.hd_base.specs.declared.links.LinkIn as link_in
 use Rattle.hd_base.specs.declared.links.LinkOut as link_out
@@ -9,7 +9,7 @@ use Rattle.hd_base.specs.declared.numbers.NodeId.{NodeId}
 use Rattle.hd_base.specs.declared.roads.Roads as roads
 use Rattle.world.specs.declared.events.Event.{Event}
 use Rattle.world.specs.declared.events.Event.TheVariants as event
-use Rattle.world.specs.Parts.{Marks, Writing}
+use Rattle.world.specs.Parts.{Dialled, Marks, Writing, by_writer}
 use Rattle.world.specs.Connections.{is_of_node, stopped_marks}
 use Rattle.world.specs.Worlds.{World, put, start}
 use Rattle.world.specs.Events.{stop, happens, run}
@@ -28,8 +28,16 @@ use Rattle.play_reads.specs.declared.reads.Reads.{Reads}
 use Rattle.play_reads.specs.Left.{ReadsLeft}
 use Rattle.play_readers.specs.Asks.{asks_of}
 use Rattle.play_reads.specs.Showing.{ReadsShow}
+use Rattle.play_reads.specs.Keeping.{ReadsStay, KeepsReads}
 use Rattle.play_reads.specs.Stopping as reads
-use Rattle.world_orders.specs.Orders.{Ordered}
+use Rattle.play_model.specs.declared.recoveries.Recovery.{Recovery}
+use Rattle.play_model.specs.Recoveries.{stopped_at}
+use Rattle.play_recoveries.specs.declared.recoveries.Recoveries.{Recoveries}
+use Rattle.play_recoveries.specs.Keeping.{RecoveringEndsStay}
+use Rattle.play_recoveries.specs.Places.{recoveries_of}
+use Rattle.play_recoveries.specs.Showing.{RecoveriesShow}
+use Rattle.play_recoveries.specs.Stopping as recoveries
+use Rattle.world_orders.specs.Orders.{Ordered, purpose_of}
 use Rattle.play.specs.declared.faults.PlayFault.{PlayFault}
 use Rattle.play.specs.declared.player.Player.{Player}
 use Rattle.play.specs.Events.{IsKept, Keeps}
@@ -37,11 +45,11 @@ use Rattle.play.specs.Laws.{Laws}
 use Rattle.play.specs.Running.{IsStopped}
 use Rattle.play.specs.Showing.{PlayerShows}
 use Rattle.play_laws.specs.Commands.{CommandsFit}
-use Rattle.play.specs.Standing.{AsksFit, ClientFits, EventsFit, world_of, PlayStands}
+use Rattle.play.specs.Standing.{AsksFit, RecoveryFits, RecoveriesFit, ClientFits, EventsFit, world_of, PlayStands}
 use Rattle.play.specs.Stopping.{HasStopped, StopShows}
-use Rattle.play.proofs.ReadsLaws.{unled_after}
+use Rattle.play.proofs.OthersLaws.{recovering_elsewhere}
 use Rattle.play.proofs.Lawful.{fits_more}
-use Rattle.play.proofs.NodeSteps.{clients_left}
+use Rattle.play.proofs.NodeSteps.{writing_of, clients_left}
 
 -- THE WORLD
 
@@ -63,8 +71,28 @@ writers_kept w n runs = subst (λ (v : World). KeepsWriters w v) (sym (stop_is w
 running_put : (w : World) (n : NodeId) → w.running n.0 ≡ true → (m : ℕ) → (happens w (event.Stop n)).running m ≡ put w.running n.0 false m
 running_put w n runs m = ap (λ (v : World). v.running m) (stop_is w n runs)
 
-module _ {F R I O : Type 0} (f : files.Ghosts F) (r : roads.Ghosts R I O) (i : link_in.Ghosts I) (o : link_out.Ghosts O) (L : Laws) (origins : DialsHaveOrigins) (clients_stay : ClientsStay i o) where
-  module _ (nodes : ℕ) (queues : Queues) (n : NodeId) (old mid new : Player F I O) (n' : Nodes F I O) (reads' : Reads I O) (road first road' : R) (s : PlayStands r i o nodes queues road old) (runs : (world_of nodes old).running n.0 ≡ true) (shows : node.StopShows r i o n old.nodes n' road first (Ok tt)) (sizes : KeepsSizes old.nodes n') (read_shows : reads.StopShows r i o n n' old.reads reads' first road') (stopped : IsStopped (record old { nodes = n'; reads = reads' }) mid n) (kept : IsKept mid new (event.Stop n)) where
+-- WHAT PRIMARIES ARE TO RECOVER
+
+stopped_fits : (nodes : ℕ) (blocks : List BlockId) (n : NodeId) (r : Recovery) → RecoveryFits nodes blocks r → RecoveryFits nodes blocks (stopped_at n r)
+stopped_fits nodes blocks n r h = by (r.node.0 == n.0)
+  where
+    by : (b : Bool) → RecoveryFits nodes blocks (if b then record r { may_begin = false } else r)
+    by true = record { among = h.among; width = h.width; node = h.node }
+    by false = h
+
+some_of : (a b : Recovery) → Some a ≡ Some b → a ≡ b
+some_of a b e = cc
+
+stopped_fit : (nodes : ℕ) (blocks : List BlockId) (n : NodeId) (rs : List Recovery) → RecoveriesFit nodes blocks rs → RecoveriesFit nodes blocks (map (stopped_at n) rs)
+stopped_fit nodes blocks n [] fit k r at = cc
+stopped_fit nodes blocks n (x ∷ rs) fit zero r at = subst (λ (y : Recovery). RecoveryFits nodes blocks y) (some_of (stopped_at n x) r at) (stopped_fits nodes blocks n x (fit 0 x refl))
+stopped_fit nodes blocks n (x ∷ rs) fit (suc k) r at = stopped_fit nodes blocks n rs (λ j y at_y. fit (suc j) y at_y) k r at
+
+none_between : (a b : ℕ) → a ≤ b → b < a → ⊥
+none_between a b h k = omega (arith, h, k)
+
+module _ {F R I O : Type 0} (f : files.Ghosts F) (r : roads.Ghosts R I O) (i : link_in.Ghosts I) (o : link_out.Ghosts O) (L : Laws) (origins : DialsHaveOrigins) (clients_stay : ClientsStay i o) (reads_stay : ReadsStay i o) where
+  module _ (nodes : ℕ) (queues : Queues) (n : NodeId) (old mid new : Player F I O) (n' : Nodes F I O) (reads' : Reads I O) (recoveries' : Recoveries I O) (road first second road' : R) (s : PlayStands r i o nodes queues road old) (runs : (world_of nodes old).running n.0 ≡ true) (shows : node.StopShows r i o n old.nodes n' road first (Ok tt)) (sizes : KeepsSizes old.nodes n') (read_shows : reads.StopShows r i o n n' old.reads reads' first second) (recovery_shows : recoveries.StopShows r i o n n' old.recoveries recoveries' second road') (stopped : IsStopped (record old { nodes = n'; reads = reads'; recoveries = recoveries' }) mid n) (kept : IsKept mid new (event.Stop n)) where
     abbrev here : World
     here = world_of nodes old
 
@@ -74,19 +102,49 @@ module _ {F R I O : Type 0} (f : files.Ghosts F) (r : roads.Ghosts R I O) (i : l
     left : NodesLeft r i o here s.net there first n'
     left = shows here s.net s.shows.nodes (record { runs = runs; placed = L.placed nodes old.events.items; ordered = L.ordered nodes old.events.items; from = origins nodes old.events.items })
 
-    read_left : ReadsLeft r i o there left.made there road' n' old.reads reads'
+    ordered_there : Ordered there
+    ordered_there = subst Ordered (L.joined (start nodes) old.events.items (event.Stop n ∷ [])) (L.ordered nodes (old.events.items ++ event.Stop n ∷ []))
+
+    read_left : ReadsLeft r i o there left.made there second n' old.reads reads'
     read_left = read_shows here s.net left.made (record {
       runs = runs;
-      in_order = record { before = L.ordered nodes old.events.items; after = subst Ordered (L.joined (start nodes) old.events.items (event.Stop n ∷ [])) (L.ordered nodes (old.events.items ++ event.Stop n ∷ [])); placed = L.placed nodes old.events.items };
+      in_order = record { before = L.ordered nodes old.events.items; after = ordered_there; placed = L.placed nodes old.events.items };
       reads_are = subst (λ (bs : List BlockId). ReadsShow i o here s.net bs old.reads) (sym sizes.blocks) s.shows.reads;
       stands = left.stands;
       elsewhere = left.elsewhere;
     })
 
-    writers : WritersStay i o here s.net there read_left.made
-    writers b d e by h = read_left.writers b d e (ap (λ (v : World). (v.dialled d).upper) (stop_is here n runs) ∙ by) (left.writers b d e by h)
+    dialled_is : (d : ℕ) → there.dialled d ≡ here.dialled d
+    dialled_is d = ap (λ (v : World). v.dialled d) (stop_is here n runs)
 
-    same : new ≡ record old { nodes = n'; reads = reads'; running = mid.running; events = new.events }
+    -- the ends of primaries stay until then
+    primaries_so : RecoveringEndsStay i o here s.net there read_left.made
+    primaries_so d lower e of h = read_left.primaries d lower e (ap (λ (x : Dialled). purpose_of x.upper) (dialled_is d) ∙ of) (left.elsewhere d lower e (recovering_elsewhere (here.dialled d).upper of) h)
+
+    ended : recoveries.HasEnded r i o there read_left.made n n' old.recoveries recoveries' road'
+    ended = recovery_shows here s.net read_left.made (record {
+      runs = runs;
+      in_order = record { before = L.ordered nodes old.events.items; after = ordered_there; placed = L.placed nodes old.events.items };
+      recoveries_are = subst (λ (bs : List BlockId). RecoveriesShow i o here s.net bs old.recoveries) (sym sizes.blocks) s.shows.recoveries;
+      stands = read_left.stands.nodes;
+      ends = primaries_so;
+    })
+
+    -- the reads show the world as before
+    reads_kept : KeepsReads i o there read_left.made there ended.left
+    reads_kept = record {
+      ordered = ordered_there;
+      readers = record { readers = λ l. refl; over = λ l c by. refl };
+      servers = record { served = record { grows = omega arith; dialled = λ d before. refl; running = λ m. refl; lives = λ m. refl }; fresh = λ d from before of. none_between there.next_conn d from before; lowers = λ d before of. refl };
+      ends = ended.readers;
+    }
+
+    writers : WritersStay i o here s.net there ended.left
+    writers b d e by h =
+        let there_by : (there.dialled d).upper ≡ by_writer b = ap (λ (x : Dialled). x.upper) (dialled_is d) ∙ by in
+        ended.writers b d e there_by (read_left.writers b d e there_by (left.writers b d e by h))
+
+    same : new ≡ record old { nodes = n'; reads = reads'; recoveries = recoveries'; running = mid.running; events = new.events }
     same = kept.same ∙ ap (λ (p : Player F I O). record p { events = new.events }) stopped.same
 
     more : new.events.items ≡ old.events.items ++ event.Stop n ∷ []
@@ -96,14 +154,14 @@ module _ {F R I O : Type 0} (f : files.Ghosts F) (r : roads.Ghosts R I O) (i : l
     world_is = ap (λ (es : List Event). run (start nodes) es) more ∙ L.joined (start nodes) old.events.items (event.Stop n ∷ [])
 
     abbrev after : Player F I O
-    after = record old { nodes = n'; reads = reads'; running = mid.running; events = new.events }
+    after = record old { nodes = n'; reads = reads'; recoveries = recoveries'; running = mid.running; events = new.events }
 
-    shows_there : PlayerShows r i o there read_left.made queues road' after
+    shows_there : PlayerShows r i o there ended.left queues road' after
     shows_there = record {
-      nodes = read_left.stands.nodes;
-      reads = read_left.stands.reads_are;
-      unled = unled_after L.unled here (event.Stop n) refl s.shows.unled;
-      clients = clients_left f r i o here there s.net read_left.made queues old clients_stay s.shows.clients (L.ordered nodes old.events.items) (writers_kept here n runs) writers;
+      nodes = ended.stands.nodes;
+      reads = reads_stay there read_left.made there ended.left n'.blocks.items reads' read_left.stands.reads_are reads_kept;
+      recoveries = ended.stands.recoveries_are;
+      clients = clients_left f r i o here there s.net ended.left queues old clients_stay s.shows.clients (L.ordered nodes old.events.items) (writing_of here there (writers_kept here n runs)) writers;
       apart = s.shows.apart;
       office = s.shows.office ∙ sym (writers_kept here n runs).office;
       slots = stopped.slots ∙ (s.shows.slots ∙ sym (ap (λ (v : World). v.nodes) (stop_is here n runs)));
@@ -126,14 +184,15 @@ module _ {F R I O : Type 0} (f : files.Ghosts F) (r : roads.Ghosts R I O) (i : l
 
     stands_there : PlayStands r i o nodes queues road' after
     stands_there = record {
-      net = read_left.made;
-      shows = subst (λ (v : World). PlayerShows r i o v read_left.made queues road' after) (sym world_is) shows_there;
+      net = ended.left;
+      shows = subst (λ (v : World). PlayerShows r i o v ended.left queues road' after) (sym world_is) shows_there;
       few = s.few;
       events = subst (λ (bs : List BlockId). EventsFit nodes bs new.events.items) (sym blocks_are)
           (subst (λ (es : List Event). EventsFit nodes old.nodes.blocks.items es) (sym more)
           (fits_more nodes old.nodes.blocks.items old.events.items (event.Stop n ∷ []) s.events (record { widths = (tt, tt); names = (tt, tt); among = (tt, tt); whole = (tt, tt) })));
       clients = λ k c at. subst (λ (v : World). ClientFits nodes n'.blocks.items v c) (sym world_is) (fits_there c (s.clients k c at));
       asks = subst (λ (bs : List BlockId). AsksFit nodes bs (asks_of reads'.clients.items)) (sym blocks_are) (subst (λ (xs : List ReadAsk). AsksFit nodes old.nodes.blocks.items xs) (sym read_left.asks) s.asks);
+      recovers = subst (λ (bs : List BlockId). RecoveriesFit nodes bs (recoveries_of recoveries'.clients.items)) (sym blocks_are) (subst (λ (xs : List Recovery). RecoveriesFit nodes old.nodes.blocks.items xs) (sym ended.recovers) (stopped_fit nodes old.nodes.blocks.items n (recoveries_of old.recoveries.clients.items) s.recovers));
       connected = λ b c has. s.connected b c (sym (ap (λ (x : Writing). x.conn) (writer_is b)) ∙ (sym (ap (λ (v : World). (v.writers b).conn) world_is) ∙ has));
     }
 
@@ -142,10 +201,11 @@ module _ {F R I O : Type 0} (f : files.Ghosts F) (r : roads.Ghosts R I O) (i : l
       stands = subst (λ (p : Player F I O). PlayStands r i o nodes queues road' p) (sym same) stands_there;
       clients = ap (λ (p : Player F I O). p.clients) same;
       asks = ap (λ (p : Player F I O). asks_of p.reads.clients.items) same ∙ read_left.asks;
+      recovers = ap (λ (p : Player F I O). recoveries_of p.recoveries.clients.items) same ∙ ended.recovers;
       events = more;
     }
 
-  pub stop_shows : (n : NodeId) (old mid new : Player F I O) (n' : Nodes F I O) (reads' : Reads I O) (road first road' : R) (result : Result (Unit {0}) PlayFault) → node.StopShows r i o n old.nodes n' road first (Ok tt) → KeepsSizes old.nodes n' → reads.StopShows r i o n n' old.reads reads' first road'
-      → IsStopped (record old { nodes = n'; reads = reads' }) mid n → Keeps mid new (event.Stop n) result → StopShows r i o n old new road road' result
-  stop_shows n old mid new n' reads' road first road' (Ok u) shows sizes read_shows stopped kept nodes queues s runs = has_stopped nodes queues n old mid new n' reads' road first road' s runs shows sizes read_shows stopped kept
-  stop_shows n old mid new n' reads' road first road' (Err why) shows sizes read_shows stopped kept nodes queues s runs = kept
+  pub stop_shows : (n : NodeId) (old mid new : Player F I O) (n' : Nodes F I O) (reads' : Reads I O) (recoveries' : Recoveries I O) (road first second road' : R) (result : Result (Unit {0}) PlayFault) → node.StopShows r i o n old.nodes n' road first (Ok tt) → KeepsSizes old.nodes n' → reads.StopShows r i o n n' old.reads reads' first second → recoveries.StopShows r i o n n' old.recoveries recoveries' second road'
+      → IsStopped (record old { nodes = n'; reads = reads'; recoveries = recoveries' }) mid n → Keeps mid new (event.Stop n) result → StopShows r i o n old new road road' result
+  stop_shows n old mid new n' reads' recoveries' road first second road' (Ok u) shows sizes read_shows recovery_shows stopped kept nodes queues s runs = has_stopped nodes queues n old mid new n' reads' recoveries' road first second road' s runs shows sizes read_shows recovery_shows stopped kept
+  stop_shows n old mid new n' reads' recoveries' road first second road' (Err why) shows sizes read_shows recovery_shows stopped kept nodes queues s runs = kept

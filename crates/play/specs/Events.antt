@@ -1,5 +1,5 @@
 -- What the events of a play make of a player and roads that show a world.
-use Rattle.std.specs.Prelude.{◌≡◌, ◌⊎◌, ℕ, Bool, true, false, List, ◌++◌, [], ◌∷◌, map, slice_get, Option, Some, None, Result, Ok, Err}
+use Rattle.std.specs.Prelude.{◌≡◌, ℕ, Bool, true, false, List, ◌++◌, [], ◌∷◌, map, slice_get, Option, Some, None, Result, Ok, Err}
 use Rattle.hd_base.specs.RoadFaults.{RoadsFailed}
 use Rattle.hd_base.specs.declared.files.Files as files
 use Rattle.hd_base.specs.declared.links.LinkIn as link_in
@@ -24,6 +24,7 @@ use Rattle.play_nodes.specs.Beginning.{RequestsFit}
 use Rattle.play_nodes.specs.Events.{IsLawful, IsBusy, DrawerFailed}
 use Rattle.play_nodes.specs.Showing.{is_pipeline}
 use Rattle.play_readers.specs.Asks.{asks_of}
+use Rattle.play_recoveries.specs.Places.{recoveries_of}
 use Rattle.play.specs.declared.faults.PlayFault.{PlayFault}
 use Rattle.play.specs.declared.faults.PlayFault.TheVariants as fault
 use Rattle.play.specs.declared.player.Player.{Player}
@@ -71,11 +72,13 @@ pub record StaysAt {I O : Type 0} (olds : List (Client I O)) (actor : Option ℕ
 abbrev pub blocks_of : {I O : Type 0} → List (Client I O) → List BlockId
 blocks_of clients = map (λ c. c.block) clients
 
--- The blocks of the nodes stay, the clients at their places, for the same blocks, and what the readers ask.
+-- The blocks of the nodes stay, the clients at their places, for the same blocks, what the readers ask, and what the
+-- primaries are to recover.
 pub record KeepsPlaces {F I O : Type 0} (actor : Option ℕ) (old new : Player F I O) : Type 0 where
   pub blocks : new.nodes.blocks.items ≡ old.nodes.blocks.items
   pub order : blocks_of new.clients.items ≡ blocks_of old.clients.items
   pub asks : asks_of new.reads.clients.items ≡ asks_of old.reads.clients.items
+  pub recovers : recoveries_of new.recoveries.clients.items ≡ recoveries_of old.recoveries.clients.items
   pub each : (k : ℕ) (c : Client I O) → slice_get new.clients.items k ≡ Some c → StaysAt old.clients.items actor k c
 
 -- What is left once something that is due has happened: its events were kept, and the player shows the world after them.

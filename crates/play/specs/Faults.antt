@@ -7,6 +7,8 @@ use Rattle.node_starts.specs.declared.faults.StartFault.TheVariants as start_fau
 use Rattle.play_nodes.specs.declared.faults.NodesFault.{NodesFault}
 use Rattle.play_reads.specs.declared.faults.ReadsFault.{ReadsFault}
 use Rattle.play_reads.specs.declared.faults.ReadsFault.TheVariants as reads_fault
+use Rattle.play_recoveries.specs.declared.faults.RecoveriesFault.{RecoveriesFault}
+use Rattle.play_recoveries.specs.declared.faults.RecoveriesFault.TheVariants as recoveries_fault
 use Rattle.play_nodes.specs.declared.faults.NodesFault.TheVariants as nodes_fault
 use Rattle.play.specs.declared.faults.PlayFault.{PlayFault}
 use Rattle.play.specs.declared.faults.PlayFault.TheVariants as fault
@@ -32,6 +34,13 @@ of_reads reads_fault.RoadsFailed = fault.RoadFault
 of_reads (reads_fault.FilesFailed node) = fault.ShelfFault node
 of_reads (reads_fault.BytesMissing node) = fault.ShelfFault node
 of_reads reads_fault.Memory = fault.Memory
+
+-- why it stops in which an event of the recoveries isn't done
+abbrev pub of_recoveries : RecoveriesFault → PlayFault
+of_recoveries recoveries_fault.LinkFailed = fault.RoadFault
+of_recoveries recoveries_fault.RoadsFailed = fault.RoadFault
+of_recoveries (recoveries_fault.FilesFailed node) = fault.ShelfFault node
+of_recoveries recoveries_fault.Memory = fault.Memory
 
 -- why it stops in which this node doesn't start
 abbrev pub of_start : NodeId → StartFault → PlayFault

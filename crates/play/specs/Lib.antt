@@ -3,6 +3,7 @@ pub mod Showing
 pub mod Events
 pub mod Owning
 pub mod Reading
+pub mod Recovering
 pub mod Laws
 pub mod Standing
 pub mod Cutting

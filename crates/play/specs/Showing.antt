@@ -4,13 +4,13 @@ use Rattle.hd_base.specs.declared.links.LinkIn as link_in
 use Rattle.hd_base.specs.declared.links.LinkOut as link_out
 use Rattle.hd_base.specs.declared.roads.Roads as roads
 use Rattle.road_traffic.specs.Showing.{Net}
-use Rattle.world.specs.Parts.{no_primary}
 use Rattle.world.specs.Worlds.{World}
 use Rattle.play_model.specs.Dues.{Queues}
 use Rattle.play_clients.specs.declared.clients.Client.{Client}
 use Rattle.play_clients.specs.Clients.{ClientShows}
 use Rattle.play_nodes.specs.Showing.{NodesStand, TellsRunning}
 use Rattle.play_reads.specs.Showing.{ReadsShow}
+use Rattle.play_recoveries.specs.Showing.{RecoveriesShow}
 use Rattle.play.specs.declared.player.Player.{Player}
 
 -- The client of a block shows the world, and has the commands that its writer hasn't taken.
@@ -25,17 +25,13 @@ AreApart {F} {I} {O} p = (j k : ℕ) (a b : Client I O) → slice_get p.clients.
     slice_get p.clients.items k ≡ Some b → a.block.0 ≡ b.block.0
     → j ≡ k
 
--- No primary has begun.
-abbrev pub NoneLeads : World → Type 0
-NoneLeads w = (i : ℕ) → w.primaries i ≡ no_primary
-
--- The nodes, the reads, the clients, the office and the roads show the world, in which no primary has begun, and it is told
--- of each node whether it runs.
+-- The nodes, the reads, the recoveries, the clients, the office and the roads show the world, and it is told of each node
+-- whether it runs.
 pub record PlayerShows {F R I O : Type 0} (r : roads.Ghosts R I O) (i : link_in.Ghosts I) (o : link_out.Ghosts O)
     (w : World) (net : Net) (queues : Queues) (road : R) (p : Player F I O) : Type 0 where
   pub nodes : NodesStand r i o w net road p.nodes
   pub reads : ReadsShow i o w net p.nodes.blocks.items p.reads
-  pub unled : NoneLeads w
+  pub recoveries : RecoveriesShow i o w net p.nodes.blocks.items p.recoveries
   pub clients : (k : ℕ) (c : Client I O) → slice_get p.clients.items k ≡ Some c → IsClient i o w net queues c
   pub apart : AreApart p
   pub office : p.office.office ≡ w.office

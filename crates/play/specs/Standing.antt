@@ -1,34 +1,35 @@
 -- A player, with its roads, shows the world of the events that happened, and its commands fit.
-use Rattle.std.specs.Prelude.{ℕ, ◌≡◌, ◌≤◌, ◌<◌, ◌^◌, true, false, List, [], ◌∷◌, ◌++◌, slice_get, Some, IfSome, Result, Ok, Err}
+use Rattle.std.specs.Prelude.{ℕ, ◌≡◌, ◌≤◌, ◌<◌, ◌^◌, true, false, List, ◌++◌, slice_get, Some, IfSome, Result, Ok, Err}
 use Rattle.hd_base.specs.declared.files.Files as files
 use Rattle.hd_base.specs.declared.links.LinkIn as link_in
 use Rattle.hd_base.specs.declared.links.LinkOut as link_out
 use Rattle.hd_base.specs.declared.numbers.BlockId.{BlockId}
+use Rattle.hd_base.specs.declared.numbers.ConnId.{ConnId}
 use Rattle.hd_base.specs.declared.roads.Roads as roads
 use Rattle.hd_base.specs.declared.roads.TheConstants.{MAX_NODES}
 use Rattle.road_traffic.specs.Showing.{Net}
-use Rattle.writer_core.specs.declared.intake.Intake.{Intake}
-use Rattle.writer_core.specs.Commands.{admitted, intake_after, is_unmade}
+use Rattle.writer_core.specs.Commands.{is_unmade}
 use Rattle.world.specs.declared.events.Event.{Event}
-use Rattle.world.specs.declared.events.TakenCommand.{TakenCommand}
 use Rattle.world.specs.Worlds.{World, start}
-use Rattle.world.specs.Clients.{is_formed}
 use Rattle.world.specs.Events.{run}
 use Rattle.world_breaks.specs.Breaks.{NoneFails}
 use Rattle.world_requests.specs.Requests.{IsAmong, AllAmong}
 use Rattle.world_texts.specs.Texts.{AllFit, CanBeAsked}
 use Rattle.play_model.specs.declared.asks.ReadAsk.{ReadAsk}
+use Rattle.play_model.specs.declared.recoveries.Recovery.{Recovery}
 use Rattle.play_model.specs.declared.dues.Due.{Due}
 use Rattle.play_model.specs.declared.dues.Due.TheVariants as due
 use Rattle.play_model.specs.Asks.{request_of}
 use Rattle.play_model.specs.Dues.{Queues, is_due, due_events, queues_after}
 use Rattle.play_laws.specs.Commands.{CommandsFit, given_with}
 use Rattle.play_laws.specs.Intakes.{intake_of}
-use Rattle.play_laws.specs.Members.{IsNode, Names, AllName}
+use Rattle.play_laws.specs.Members.{IsNode, AllName}
 use Rattle.play_clients.specs.declared.clients.Client.{Client}
 use Rattle.play_dues.specs.Showing.{HasClient}
+use Rattle.play_nodes.specs.Showing.{is_pipeline}
 use Rattle.play_readers.specs.Asks.{asks_of}
 use Rattle.play_reads.specs.Places.{HasAsk}
+use Rattle.play_recoveries.specs.Places.{recoveries_of, HasRecovery}
 use Rattle.play.specs.declared.faults.PlayFault.{PlayFault}
 use Rattle.play.specs.declared.player.Player.{Player}
 use Rattle.play.specs.Showing.{PlayerShows}
@@ -70,8 +71,18 @@ pub record AskFits (nodes : ℕ) (blocks : List BlockId) (ask : ReadAsk) : Type 
 abbrev pub AsksFit : ℕ → List BlockId → List ReadAsk → Type 0
 AsksFit nodes blocks asks = (k : ℕ) (ask : ReadAsk) → slice_get asks k ≡ Some ask → AskFits nodes blocks ask
 
+-- What is to be recovered is a block of these, at a primary that is one of the first nodes, so many.
+pub record RecoveryFits (nodes : ℕ) (blocks : List BlockId) (r : Recovery) : Type 0 where
+  pub among : IsAmong blocks r.block.0
+  pub width : r.block.0 < 2 ^ 64
+  pub node : IsNode nodes r.node
+
+-- So it is of all of these.
+abbrev pub RecoveriesFit : ℕ → List BlockId → List Recovery → Type 0
+RecoveriesFit nodes blocks rs = (k : ℕ) (r : Recovery) → slice_get rs k ≡ Some r → RecoveryFits nodes blocks r
+
 -- The player shows this world; there are no more nodes than a play may have, so that each has a port; the events, the
--- commands and what readers ask fit; and a writer that has a connection is that of a client.
+-- commands, what readers ask and what primaries are to recover fit; and a writer that has a connection is that of a client.
 pub record PlayStands {F R I O : Type 0} (r : roads.Ghosts R I O) (i : link_in.Ghosts I) (o : link_out.Ghosts O)
     (nodes : ℕ) (queues : Queues) (road : R) (p : Player F I O) : Type 0 where
   pub net : Net
@@ -81,6 +92,7 @@ pub record PlayStands {F R I O : Type 0} (r : roads.Ghosts R I O) (i : link_in.G
   pub clients : (k : ℕ) (c : Client I O) → slice_get p.clients.items k ≡ Some c →
       ClientFits nodes p.nodes.blocks.items (world_of nodes p) c
   pub asks : AsksFit nodes p.nodes.blocks.items (asks_of p.reads.clients.items)
+  pub recovers : RecoveriesFit nodes p.nodes.blocks.items (recoveries_of p.recoveries.clients.items)
   pub connected : (b c : ℕ) → ((world_of nodes p).writers b).conn ≡ Some c → HasClient p.clients.items b
 
 -- What is left of a play in which something that is due has happened: its events stand behind the others, and what each
@@ -100,10 +112,11 @@ abbrev pub HappenEnds : {F R I O : Type 0} → files.Ghosts F → roads.Ghosts R
 HappenEnds f r i o nodes queues d old new road road' (Ok u) = HasHappened r i o nodes queues d old new road'
 HappenEnds f r i o nodes queues d old new road road' (Err why) = IsCaused f r old new road road' why
 
--- a writer that takes its own step has a client, and so has a reader that asks
+-- a writer that takes its own step has a client, and so have a reader that asks, and a primary
 abbrev pub ActorIsClient : {F I O : Type 0} → Player F I O → Due → Type 0
 ActorIsClient p (due.Own b) = HasClient p.clients.items b.0
 ActorIsClient p (due.Reader ask) = HasAsk p.reads.clients.items ask
+ActorIsClient p (due.Primary r) = HasRecovery p.recoveries.clients.items r
 ActorIsClient p other = Unit {0}
 
 -- Something that is due happens. Where there is a reader all files are told.
@@ -112,4 +125,13 @@ abbrev pub HappenShows : {F R I O : Type 0} → files.Ghosts F → roads.Ghosts 
 HappenShows f r i o d old new road road' result =
     (nodes : ℕ) (queues : Queues) → PlayStands r i o nodes queues road old →
     is_due (world_of nodes old) queues d ≡ true → ActorIsClient old d → ReadsAreTold f old
+    → HappenEnds f r i o nodes queues d old new road road' result
+
+-- Something that is due on a connection that is none of a pipeline happens. Where there is a reader all files are told.
+abbrev pub ElsewhereShows : {F R I O : Type 0} → files.Ghosts F → roads.Ghosts R I O → link_in.Ghosts I →
+    link_out.Ghosts O → ConnId → Due → Player F I O → Player F I O → R → R → Result (Unit {0}) PlayFault → Type 0
+ElsewhereShows f r i o conn d old new road road' result =
+    (nodes : ℕ) (queues : Queues) → PlayStands r i o nodes queues road old → conn.0 < (world_of nodes old).next_conn →
+    is_pipeline ((world_of nodes old).dialled conn.0).upper ≡ false → is_due (world_of nodes old) queues d ≡ true →
+    ReadsAreTold f old
     → HappenEnds f r i o nodes queues d old new road road' result

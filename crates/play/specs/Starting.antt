@@ -11,6 +11,7 @@ use Rattle.world.specs.declared.events.Event.TheVariants as event
 use Rattle.play_model.specs.Dues.{Queues}
 use Rattle.node_starts.specs.Books.{NodeTells}
 use Rattle.play_readers.specs.Asks.{asks_of}
+use Rattle.play_recoveries.specs.Places.{recoveries_of}
 use Rattle.play.specs.declared.faults.PlayFault.{PlayFault}
 use Rattle.play.specs.declared.faults.PlayFault.TheVariants as fault
 use Rattle.play.specs.declared.player.Player.{Player}
@@ -18,12 +19,13 @@ use Rattle.hd_base.specs.RoadFaults.{RoadsFailed}
 use Rattle.play.specs.Standing.{PlayStands, world_of}
 
 -- The restart, of which nothing need be said, stands behind the events, and the player shows the world after it; the
--- clients are as they were, and readers ask what they asked.
+-- clients are as they were, readers ask what they asked, and primaries are to recover what they were to.
 pub record HasStarted {F R I O : Type 0} (r : roads.Ghosts R I O) (i : link_in.Ghosts I) (o : link_out.Ghosts O)
     (nodes : ℕ) (queues : Queues) (node : NodeId) (old new : Player F I O) (road : R) : Type 0 where
   pub stands : PlayStands r i o nodes queues road new
   pub clients : new.clients ≡ old.clients
   pub asks : asks_of new.reads.clients.items ≡ asks_of old.reads.clients.items
+  pub recovers : recoveries_of new.recoveries.clients.items ≡ recoveries_of old.recoveries.clients.items
   pub events : new.events.items ≡ old.events.items ++ event.Restart node [] ∷ []
 
 abbrev pub StartEnds : {F R I O : Type 0} → roads.Ghosts R I O → link_in.Ghosts I → link_out.Ghosts O → ℕ → Queues →

@@ -7,7 +7,7 @@ ghost use Rattle.play.specs.Showing.{PlayerStands};
 ghost use Rattle.play.specs.Cutting.{CutShows};
 
 use crate::faults::PlayFault;
-use crate::laws::{reads_are_kept, worlds_are_lawful};
+use crate::laws::{pipelines_leave_others, worlds_are_lawful};
 use crate::player::Player;
 use fault_ports::CutRoads;
 use hd_base::{ConnId, Files, LinkIn, LinkOut};
@@ -33,7 +33,7 @@ impl<F: Files, I: LinkIn, O: LinkOut> Player<F, I, O> {
         ensures pass { RoadsPass R.Roads roads.old roads.new }
     {
         worlds_are_lawful();
-        reads_are_kept::<I, O>();
+        pipelines_leave_others::<I, O>();
         cuts_show::<R>();
         cuts_are_losses();
         ends_stay_in_cuts::<I, O>();

@@ -8,7 +8,7 @@ ghost use Rattle.play.specs.Showing.{PlayerStands};
 ghost use Rattle.play.specs.Events.{Keeps, Begins, BeginShows, ReadyShows, DownShows, MirrorShows, HeardShows};
 
 use crate::faults::{PlayFault, of_client, of_nodes};
-use crate::laws::reads_are_kept;
+use crate::laws::pipelines_leave_others;
 use crate::player::Player;
 use hd_base::{ConnId, Files, LinkIn, LinkOut, NodeId, Roads};
 use play_clients::{clients_stay, hearing_keeps_others};
@@ -30,7 +30,7 @@ impl<F: Files, I: LinkIn, O: LinkOut> Player<F, I, O> {
         ensures sizes { KeepsSizes self.old.nodes self.new.nodes }
         ensures pass { RoadsPass R.Roads roads.old roads.new }
     {
-        reads_are_kept::<I, O>();
+        pipelines_leave_others::<I, O>();
         nodes_keep_writers();
         running_stays();
         clients_stay::<I, O>();
@@ -52,7 +52,7 @@ impl<F: Files, I: LinkIn, O: LinkOut> Player<F, I, O> {
         ensures sizes { KeepsSizes self.old.nodes self.new.nodes }
         ensures pass { RoadsPass R.Roads roads.old roads.new }
     {
-        reads_are_kept::<I, O>();
+        pipelines_leave_others::<I, O>();
         nodes_keep_writers();
         running_stays();
         clients_stay::<I, O>();
@@ -89,7 +89,7 @@ impl<F: Files, I: LinkIn, O: LinkOut> Player<F, I, O> {
         ensures sizes { KeepsSizes self.old.nodes self.new.nodes }
         ensures pass { RoadsPass R.Roads roads.old roads.new }
     {
-        reads_are_kept::<I, O>();
+        pipelines_leave_others::<I, O>();
         nodes_keep_writers();
         running_stays();
         clients_stay::<I, O>();
@@ -114,7 +114,7 @@ impl<F: Files, I: LinkIn, O: LinkOut> Player<F, I, O> {
         ensures sizes { KeepsSizes self.old.nodes self.new.nodes }
         ensures pass { RoadsPass R.Roads roads.old roads.new }
     {
-        reads_are_kept::<I, O>();
+        pipelines_leave_others::<I, O>();
         nodes_keep_writers();
         running_stays();
         clients_stay::<I, O>();
@@ -138,7 +138,7 @@ impl<F: Files, I: LinkIn, O: LinkOut> Player<F, I, O> {
         ensures sizes { KeepsSizes self.old.nodes self.new.nodes }
         ensures pass { RoadsPass R.Roads roads.old roads.new }
     {
-        reads_are_kept::<I, O>();
+        pipelines_leave_others::<I, O>();
         writers_keep_nodes();
         nodes_stay::<F, I, O>();
         nodes_ends_stay::<I, O>();

@@ -1,13 +1,14 @@
 //! Why a play stops.
 
 ghost use Rattle.std.specs.Prelude.{◌≡◌};
-ghost use Rattle.play.specs.Faults.{of_nodes, of_client, of_reads, of_start};
+ghost use Rattle.play.specs.Faults.{of_nodes, of_client, of_reads, of_recoveries, of_start};
 
 use client_events::ClientFault;
 use hd_base::NodeId;
 use node_starts::StartFault;
 use play_nodes::NodesFault;
 use play_reads::ReadsFault;
+use play_recoveries::RecoveriesFault;
 use thiserror::Error;
 
 /// Why a play stops.
@@ -56,6 +57,17 @@ pub(crate) fn of_reads(fault: ReadsFault) -> PlayFault
             PlayFault::ShelfFault { node }
         }
         ReadsFault::Memory => PlayFault::Memory,
+    }
+}
+
+/// Why a play stops in which an event of the recoveries isn't done.
+pub(crate) fn of_recoveries(fault: RecoveriesFault) -> PlayFault
+    ensures { result ≡ of_recoveries fault }
+{
+    match fault {
+        RecoveriesFault::LinkFailed | RecoveriesFault::RoadsFailed => PlayFault::RoadFault,
+        RecoveriesFault::FilesFailed { node } => PlayFault::ShelfFault { node },
+        RecoveriesFault::Memory => PlayFault::Memory,
     }
 }
 

@@ -3,19 +3,20 @@
 ghost use Rattle.member_events.specs.Roads.{RoadsPass};
 ghost use Rattle.play_nodes.specs.Places.{KeepsSizes};
 ghost use Rattle.play.specs.Showing.{PlayerStands};
-ghost use Rattle.play.specs.Standing.{HappenShows};
+ghost use Rattle.play.specs.Standing.{ElsewhereShows, HappenShows};
 
 use crate::faults::PlayFault;
 use crate::laws::worlds_are_lawful;
 use crate::player::Player;
 use hd_base::{BlockId, ConnId, Files, LinkIn, LinkOut, Roads};
-use play_dues::{client_of, read_client_of, writer_of};
-use play_model::{Due, ReadAsk};
+use play_dues::{client_of, primary_client_of, read_client_of, writer_of};
+use play_model::{Due, ReadAsk, Recovery};
+use play_recoveries::{none_is_ready, primary_of};
 use std::alloc::Global;
 
 impl<F: Files, I: LinkIn, O: LinkOut> Player<F, I, O> {
-    /// Something that is due happens: a writer or a reader takes its own step, or an end takes what stands next or acts
-    /// without a message. Its events stand behind those that happened then.
+    /// Something that is due happens: a writer, a reader or a primary takes its own step, or an end takes what stands next or
+    /// acts without a message. Its events stand behind those that happened then.
     pub fn happen<R: Roads<Inward = I, Outward = O>>(
         &mut self,
         alloc: Global,
@@ -30,6 +31,7 @@ impl<F: Files, I: LinkIn, O: LinkOut> Player<F, I, O> {
         match due {
             Due::Own { block } => self.step(alloc, roads, block),
             Due::Reader { ask } => self.begin_read(alloc, roads, ask),
+            Due::Primary { recovery } => self.lead_on(alloc, roads, &recovery),
             Due::Down { conn } => self.take_down(alloc, roads, conn),
             Due::Ready { conn } => self.act(alloc, roads, conn),
             Due::Up { conn } => self.take_up(alloc, roads, conn),
@@ -76,6 +78,27 @@ impl<F: Files, I: LinkIn, O: LinkOut> Player<F, I, O> {
         self.ask(alloc, roads, place)
     }
 
+    /// A primary begins, or goes on.
+    fn lead_on<R: Roads<Inward = I, Outward = O>>(
+        &mut self,
+        alloc: Global,
+        roads: &mut R,
+        recovery: &Recovery,
+    ) -> Result<(), PlayFault>
+        requires { PlayerStands R.Roads I.LinkIn O.LinkOut roads.old self.old }
+        ensures shows { HappenShows F.Files R.Roads I.LinkIn O.LinkOut (Due.Primary recovery.now)
+            self.old self.new roads.old roads.new result }
+        ensures sizes { KeepsSizes self.old.nodes self.new.nodes }
+        ensures pass { RoadsPass R.Roads roads.old roads.new }
+    {
+        worlds_are_lawful();
+        let clients = self.recoveries.clients.as_slice();
+        let Some(place) = primary_client_of(clients, recovery.primary) else {
+            return Ok(());
+        };
+        self.lead(alloc, roads, place)
+    }
+
     /// The lower end of a connection takes what stands next.
     fn take_down<R: Roads<Inward = I, Outward = O>>(
         &mut self,
@@ -91,7 +114,7 @@ impl<F: Files, I: LinkIn, O: LinkOut> Player<F, I, O> {
     {
         worlds_are_lawful();
         if self.nodes.is_elsewhere(conn) {
-            return self.server_down(alloc, roads, conn);
+            return self.elsewhere_down(alloc, roads, conn);
         }
         if self.nodes.takes_first(conn) {
             self.begin(alloc, roads, conn)
@@ -114,6 +137,7 @@ impl<F: Files, I: LinkIn, O: LinkOut> Player<F, I, O> {
         ensures pass { RoadsPass R.Roads roads.old roads.new }
     {
         worlds_are_lawful();
+        none_is_ready::<I, O>();
         if self.nodes.is_elsewhere(conn) {
             self.server_ready(alloc, roads, conn)
         } else {
@@ -136,7 +160,7 @@ impl<F: Files, I: LinkIn, O: LinkOut> Player<F, I, O> {
     {
         worlds_are_lawful();
         if self.nodes.is_elsewhere(conn) {
-            return self.reader_up(alloc, roads, conn);
+            return self.elsewhere_up(alloc, roads, conn);
         }
         let Some(block) = writer_of(&self.nodes, conn) else {
             return self.mirror_up(alloc, roads, conn);
@@ -145,5 +169,45 @@ impl<F: Files, I: LinkIn, O: LinkOut> Player<F, I, O> {
             return Ok(());
         };
         self.hear(alloc, roads, conn, place)
+    }
+
+    /// The lower end of a connection that a reader or a primary dialled takes what stands next.
+    fn elsewhere_down<R: Roads<Inward = I, Outward = O>>(
+        &mut self,
+        alloc: Global,
+        roads: &mut R,
+        conn: ConnId,
+    ) -> Result<(), PlayFault>
+        requires { PlayerStands R.Roads I.LinkIn O.LinkOut roads.old self.old }
+        ensures shows { ElsewhereShows F.Files R.Roads I.LinkIn O.LinkOut conn (Due.Down conn)
+            self.old self.new roads.old roads.new result }
+        ensures sizes { KeepsSizes self.old.nodes self.new.nodes }
+        ensures pass { RoadsPass R.Roads roads.old roads.new }
+    {
+        worlds_are_lawful();
+        if primary_of(&self.nodes, conn).is_some() {
+            return self.answer_down(alloc, roads, conn);
+        }
+        self.server_down(alloc, roads, conn)
+    }
+
+    /// The reader or the primary that dialled a connection takes what stands next.
+    fn elsewhere_up<R: Roads<Inward = I, Outward = O>>(
+        &mut self,
+        alloc: Global,
+        roads: &mut R,
+        conn: ConnId,
+    ) -> Result<(), PlayFault>
+        requires { PlayerStands R.Roads I.LinkIn O.LinkOut roads.old self.old }
+        ensures shows { ElsewhereShows F.Files R.Roads I.LinkIn O.LinkOut conn (Due.Up conn)
+            self.old self.new roads.old roads.new result }
+        ensures sizes { KeepsSizes self.old.nodes self.new.nodes }
+        ensures pass { RoadsPass R.Roads roads.old roads.new }
+    {
+        worlds_are_lawful();
+        if primary_of(&self.nodes, conn).is_some() {
+            return self.primary_up(alloc, roads, conn);
+        }
+        self.reader_up(alloc, roads, conn)
     }
 }

@@ -1,6 +1,6 @@
 //! What a play takes of the world.
 
-ghost use Rattle.play.specs.Laws.{Laws, ReadsKept};
+ghost use Rattle.play.specs.Laws.{Laws, PipelinesLeave, ReadsLeave, RecoveriesLeave};
 
 use hd_base::{LinkIn, LinkOut};
 use play_clients::{hearing_keeps_others, own_steps_keep_others};
@@ -10,17 +10,24 @@ use play_laws::{
     writers_rest,
 };
 use play_nodes::nodes_keep_writers;
+use play_primaries::{primaries_keep_nodes, primaries_keep_others};
 use play_readers::readers_keep_others;
-use play_reads::{cuts_keep_reads, members_keep_reads, reads_stay, writers_keep_reads};
+use play_reads::{
+    cuts_keep_reads, members_keep_reads, primaries_keep_reads, reads_stay, writers_keep_reads,
+};
+use play_recoveries::{
+    cuts_keep_recoveries, members_keep_recoveries, readers_keep_recoveries, recoveries_stay,
+    writers_keep_recoveries,
+};
 use play_settling::writers_act_or_ask;
 use reader_events::readers_take_in_order;
+use recovery_events::{recoveries_come_in_order, recoveries_name_one_block};
 use world_laws::{
-    bytes_are_carried, enabled_events_are_tested, indices_are_in_range,
-    only_dialled_connections_carry, runs_join,
+    enabled_events_are_tested, indices_are_in_range, only_dialled_connections_carry, runs_join,
 };
 use world_orders::{messages_are_taken_in_order, messages_come_in_order};
+use world_recoveries::recoveries_fit;
 use world_requests::requests_are_among;
-use world_settling::primaries_stay;
 use world_texts::messages_are_written;
 
 /// What holds of the world after every list of events.
@@ -34,6 +41,7 @@ pub fn worlds_are_lawful()
     messages_come_in_order();
     messages_are_taken_in_order();
     messages_are_written();
+    recoveries_fit();
     stamps_are_few();
     requests_are_among();
     only_nodes_run();
@@ -50,19 +58,40 @@ pub fn worlds_are_lawful()
     own_steps_keep_others();
     hearing_keeps_others();
     nodes_keep_writers();
-    bytes_are_carried();
     readers_take_in_order();
-    primaries_stay();
+    recoveries_come_in_order();
+    recoveries_name_one_block();
     readers_keep_others();
+    primaries_keep_others();
+    primaries_keep_nodes();
 }
 
-/// What the events of writers and members, and cuts, leave of the reads.
-pub(crate) fn reads_are_kept<I: LinkIn, O: LinkOut>()
-    ensures { ReadsKept I.LinkIn O.LinkOut }
+/// What the events of writers and members, and cuts, leave of reads and recoveries.
+pub(crate) fn pipelines_leave_others<I: LinkIn, O: LinkOut>()
+    ensures { PipelinesLeave I.LinkIn O.LinkOut }
 {
     reads_stay::<I, O>();
     writers_keep_reads::<I, O>();
     members_keep_reads::<I, O>();
     cuts_keep_reads::<I, O>();
-    primaries_stay();
+    recoveries_stay::<I, O>();
+    writers_keep_recoveries::<I, O>();
+    members_keep_recoveries::<I, O>();
+    cuts_keep_recoveries::<I, O>();
+}
+
+/// What the events of readers, and of the lower ends that they dialled, leave of the recoveries.
+pub(crate) fn reads_leave_others<I: LinkIn, O: LinkOut>()
+    ensures { ReadsLeave I.LinkIn O.LinkOut }
+{
+    recoveries_stay::<I, O>();
+    readers_keep_recoveries::<I, O>();
+}
+
+/// What the events of primaries, and of the lower ends that they dialled, leave of the reads.
+pub(crate) fn recoveries_leave_others<I: LinkIn, O: LinkOut>()
+    ensures { RecoveriesLeave I.LinkIn O.LinkOut }
+{
+    reads_stay::<I, O>();
+    primaries_keep_reads::<I, O>();
 }

@@ -1,5 +1,6 @@
-//! The player of a script: the nodes, the reads, the clients and the office of a play, and the events that happened. Each event takes
-//! a player that shows a world, on roads that show it, to one that shows the world after the event.
+//! The player of a script: the nodes, the reads, the recoveries, the clients and the office of a play, and the events that
+//! happened. Each event takes a player that shows a world, on roads that show it, to one that shows the world after the
+//! event.
 #![tactic(auto)]
 
 mod cutting;
@@ -10,6 +11,7 @@ mod laws;
 mod owning;
 mod player;
 mod reading;
+mod recovering;
 mod starting;
 mod stopping;
 

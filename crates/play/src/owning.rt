@@ -7,7 +7,7 @@ ghost use Rattle.play.specs.Showing.{PlayerStands};
 ghost use Rattle.play.specs.Owning.{IsDialled, IsAsked, IsOwned, OwnShows};
 
 use crate::faults::{PlayFault, of_client, of_nodes};
-use crate::laws::reads_are_kept;
+use crate::laws::pipelines_leave_others;
 use crate::player::Player;
 use hd_base::{BlockId, ConnId, Files, LinkIn, LinkOut, Roads};
 use play_clients::{First, Owned, clients_stay, own_steps_keep_others};
@@ -30,7 +30,7 @@ impl<F: Files, I: LinkIn, O: LinkOut> Player<F, I, O> {
         ensures sizes { KeepsSizes self.old.nodes self.new.nodes }
         ensures pass { RoadsPass R.Roads roads.old roads.new }
     {
-        reads_are_kept::<I, O>();
+        pipelines_leave_others::<I, O>();
         writers_keep_nodes();
         nodes_stay::<F, I, O>();
         nodes_ends_stay::<I, O>();

@@ -9,15 +9,19 @@ use name_core::OfficeBook;
 use play_clients::Client;
 use play_nodes::Nodes;
 use play_reads::Reads;
+use play_recoveries::Recoveries;
 use world::Event;
 
-/// The player of a script: the nodes, the reads, the clients and the office, which nodes run, and the events that happened.
+/// The player of a script: the nodes, the reads, the recoveries, the clients and the office, which nodes run, and the events
+/// that happened.
 #[derive(Drop)]
 pub struct Player<F: Files, I, O> {
     /// The nodes: the lower ends of the connections, and the books.
     pub nodes: Nodes<F, I, O>,
     /// The reading clients of the lines so far, and the lower ends of the connections that they dialled.
     pub reads: Reads<I, O>,
+    /// The primaries of the lines so far, and the lower ends of the connections that they dialled.
+    pub recoveries: Recoveries<I, O>,
     /// The clients of the script's blocks, in ascending order of the blocks.
     pub clients: Vec<Client<I, O>>,
     /// The office.

@@ -9,7 +9,7 @@ ghost use Rattle.play.specs.Reading.{AskShows, ReaderShows, TakeShows, SendShows
 ghost use Rattle.play.specs.Showing.{PlayerStands};
 
 use crate::faults::{PlayFault, of_reads};
-use crate::laws::worlds_are_lawful;
+use crate::laws::{reads_leave_others, worlds_are_lawful};
 use crate::player::Player;
 use hd_base::{ConnId, Files, LinkIn, LinkOut, Roads};
 use play_clients::clients_stay;
@@ -32,6 +32,7 @@ impl<F: Files, I: LinkIn, O: LinkOut> Player<F, I, O> {
         ensures pass { RoadsPass R.Roads roads.old roads.new }
     {
         worlds_are_lawful();
+        reads_leave_others::<I, O>();
         clients_stay::<I, O>();
         let ask = self.reads.clients[place].ask;
         match self.reads.own(alloc, roads, &mut self.nodes, place) {
@@ -69,6 +70,7 @@ impl<F: Files, I: LinkIn, O: LinkOut> Player<F, I, O> {
         ensures pass { RoadsPass R.Roads roads.old roads.new }
     {
         worlds_are_lawful();
+        reads_leave_others::<I, O>();
         clients_stay::<I, O>();
         match self.reads.hear(alloc, roads, &self.nodes, conn) {
             Ok(()) => self.keep(Event::Up { conn }),
@@ -89,6 +91,7 @@ impl<F: Files, I: LinkIn, O: LinkOut> Player<F, I, O> {
         ensures pass { RoadsPass R.Roads roads.old roads.new }
     {
         worlds_are_lawful();
+        reads_leave_others::<I, O>();
         clients_stay::<I, O>();
         match self.reads.down(alloc, roads, &mut self.nodes, conn) {
             Ok(()) => self.keep(Event::Down {
@@ -112,6 +115,7 @@ impl<F: Files, I: LinkIn, O: LinkOut> Player<F, I, O> {
         ensures pass { RoadsPass R.Roads roads.old roads.new }
     {
         worlds_are_lawful();
+        reads_leave_others::<I, O>();
         clients_stay::<I, O>();
         match self.reads.ready(alloc, roads, &mut self.nodes, conn) {
             Ok(()) => self.keep(Event::Ready { conn }),

@@ -15,6 +15,7 @@ use hd_base::{Files, LinkIn, LinkOut, NodeId, Roads, Shelf};
 use node_starts::{dials_are_of_lives_so_far, start_node};
 use play_clients::clients_stay;
 use play_reads::starts_keep_reads;
+use play_recoveries::starts_keep_recoveries;
 use std::alloc::Global;
 use world::{Event, FoundList};
 use world_breaks::replicas_are_unbroken_without_faults;
@@ -52,6 +53,7 @@ impl<F: Files, I: LinkIn, O: LinkOut> Player<F, I, O> {
         dials_are_of_lives_so_far();
         clients_stay::<I, O>();
         starts_keep_reads::<I, O>();
+        starts_keep_recoveries::<I, O>();
         match start_node(alloc, roads, shelf, &mut self.nodes, node) {
             Ok(()) => {
                 self.started(node);

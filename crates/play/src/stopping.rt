@@ -8,7 +8,7 @@ ghost use Rattle.play.specs.Showing.{PlayerStands};
 ghost use Rattle.play.specs.Stopping.{StopShows};
 
 use crate::faults::PlayFault;
-use crate::laws::worlds_are_lawful;
+use crate::laws::{recoveries_leave_others, worlds_are_lawful};
 use crate::player::Player;
 use fault_ports::CutRoads;
 use hd_base::{Files, LinkIn, LinkOut, NodeId};
@@ -20,7 +20,7 @@ use world_stops::dials_have_origins;
 
 impl<F: Files, I: LinkIn, O: LinkOut> Player<F, I, O> {
     /// A node that runs stops between two events: nothing further arrives on its connections, nobody listens on its port
-    /// any more, and the ends that it had are brought back. Its books stay.
+    /// any more, the ends that it had are brought back, and its primaries lead no more. Its books stay.
     pub fn stop<R: CutRoads<Inward = I, Outward = O>>(
         &mut self,
         alloc: Global,
@@ -34,12 +34,16 @@ impl<F: Files, I: LinkIn, O: LinkOut> Player<F, I, O> {
         ensures pass { RoadsPass R.Roads roads.old roads.new }
     {
         worlds_are_lawful();
+        recoveries_leave_others::<I, O>();
         dials_have_origins();
         clients_stay::<I, O>();
         let Ok(()) = stop_node(alloc, roads, &mut self.nodes, node) else {
             return Err(PlayFault::Memory);
         };
         let Ok(()) = self.reads.stop(alloc, roads, &self.nodes, node) else {
+            return Err(PlayFault::Memory);
+        };
+        let Ok(()) = self.recoveries.stop(alloc, roads, &self.nodes, node) else {
             return Err(PlayFault::Memory);
         };
         self.stopped(node);

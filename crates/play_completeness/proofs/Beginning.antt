@@ -50,6 +50,7 @@ start-quiet nodes b = refl
 pub opened-played : OpenedArePlayed
 opened-played nodes seed = record {
   asks = refl;
+  recoveries = refl;
   plain = tt;
   quiet = start-quiet nodes;
   peaceful = start-peace nodes;
@@ -81,6 +82,7 @@ more-queued w b queue commands t h bytes fits = record {
 pub commands-join : CommandsJoin
 commands-join p commands b c h bytes fits = record {
   asks = h.asks;
+  recoveries = h.recoveries;
   plain = h.plain;
   quiet = h.quiet;
   peaceful = h.peaceful;

@@ -64,6 +64,7 @@ played-more p commands e h plain k =
     let is : v ≡ u = sym (runs-end (start p.nodes) p.events e) in
     record {
       asks = h.asks;
+      recoveries = h.recoveries;
       plain = plain-more p.events e h.plain plain;
       quiet = subst IsQuiet is k.quiet;
       peaceful = subst Peaceful is (happens-peace (world_of p) e plain h.peaceful);
@@ -225,6 +226,7 @@ pub conns-keep : ConnsKeepPlays
 unfolding after_due
 conns-keep p commands (due.Own b) h is at = absurd at
 conns-keep p commands (due.Reader ask) h is at = absurd at
+conns-keep p commands (due.Primary r) h is at = absurd at
 conns-keep p commands (due.Down c) h is at = more p commands (event.Down c true) h refl tt (down-kept p commands h c is)
 conns-keep p commands (due.Ready c) h is at = more p commands (event.Ready c) h refl tt (ready-kept p commands h c is)
 conns-keep p commands (due.Up c) h is at = more p commands (event.Up c) h refl tt (up-any p commands h c ((world_of p).dialled c.0).upper refl is)

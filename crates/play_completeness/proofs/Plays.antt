@@ -22,14 +22,16 @@ use Rattle.world_laws.proofs.FactTables.{if-each}
 use Rattle.play_model.specs.declared.asks.ReadAsk.{ReadAsk}
 use Rattle.play_model.specs.declared.dues.Due.{Due}
 use Rattle.play_model.specs.declared.dues.Due.TheVariants as due
-use Rattle.play_model.specs.States.{PlayState, world_of, opened, ordered, ruled, asked}
+use Rattle.play_model.specs.declared.recoveries.Recovery.{Recovery}
+use Rattle.play_model.specs.States.{PlayState, world_of, opened, ordered, ruled, asked, recovering}
 use Rattle.play_model.specs.Asks.{ask_at}
+use Rattle.play_model.specs.Recoveries.{recovery_at}
 use Rattle.play_model.specs.Dues.{Queues, is_due, dues, own_events, action_of, due_events, after_due}
 use Rattle.play_model.specs.Draws.{drawn, happened, advanced, drawn_from, draw, draws}
 use Rattle.play_scripts.specs.Failures.{is_failure, HaveNoFailures}
 use Rattle.play_scripts.specs.Reads.{is_read, HaveNoReads}
 use Rattle.play_model.specs.Lines.{stepped, step_due, pipeline_conn, cut_at, stop_at, start_at, PlaysLine, PlaysLines, PlaysFrom, Plays}
-use Rattle.play_model.specs.Laws.{AskAmong, IsListed}
+use Rattle.play_model.specs.Laws.{AskAmong, RecoveryAmong, IsListed}
 use Rattle.play_model.proofs.ListedLemmas.{listed_due}
 use Rattle.play_completeness.specs.Plain.{ArePlain, PlaysArePlain}
 
@@ -39,16 +41,24 @@ use Rattle.play_completeness.specs.Plain.{ArePlain, PlaysArePlain}
 pub none-asked : {A : Type 0} (asks : List ReadAsk) (ask : ReadAsk) → asks ≡ [] → Has asks ask → A
 none-asked asks ask none has = absurd (none-some ask (subst (λ (xs : List ReadAsk). slice_get xs has.place ≡ Some ask) none has.there))
 
-mapped-asked : (asks : List ReadAsk) (f : ℕ → Due) (o : Option ℕ) → ((c : ℕ) → AskAmong asks (f c)) → IfSome (option_map f o) (AskAmong asks)
-mapped-asked asks f None h = tt
-mapped-asked asks f (Some c) h = h c
+-- nor does a primary recover where no line has asked to
+pub none-recovered : {A : Type 0} (rs : List Recovery) (r : Recovery) → rs ≡ [] → Has rs r → A
+none-recovered rs r none has = absurd (none-some r (subst (λ (xs : List Recovery). slice_get xs has.place ≡ Some r) none has.there))
 
--- an event of a pipeline is no reader's
-pub step-asked : (asks : List ReadAsk) (w : World) (b : ℕ) (e : StepEvent) → IfSome (step_due w b e) (AskAmong asks)
-step-asked asks w b step.Writer = tt
-step-asked asks w b (step.Down place) = mapped-asked asks (λ c. due.Down (record { 0 = c })) (pipeline_conn w b place) (λ c. tt)
-step-asked asks w b (step.Ready place) = mapped-asked asks (λ c. due.Ready (record { 0 = c })) (pipeline_conn w b place) (λ c. tt)
-step-asked asks w b (step.Up place) = mapped-asked asks (λ c. due.Up (record { 0 = c })) (pipeline_conn w b place) (λ c. tt)
+-- a reader's step is of one that a line has asked, and so is a primary's
+abbrev pub Among : PlayState → Due → Type 0
+Among p d = AskAmong p.asks d × RecoveryAmong p.recoveries d
+
+mapped-asked : (p : PlayState) (f : ℕ → Due) (o : Option ℕ) → ((c : ℕ) → Among p (f c)) → IfSome (option_map f o) (Among p)
+mapped-asked p f None h = tt
+mapped-asked p f (Some c) h = h c
+
+-- an event of a pipeline is no reader's and no primary's
+pub step-asked : (p : PlayState) (w : World) (b : ℕ) (e : StepEvent) → IfSome (step_due w b e) (Among p)
+step-asked p w b step.Writer = (tt, tt)
+step-asked p w b (step.Down place) = mapped-asked p (λ c. due.Down (record { 0 = c })) (pipeline_conn w b place) (λ c. (tt, tt))
+step-asked p w b (step.Ready place) = mapped-asked p (λ c. due.Ready (record { 0 = c })) (pipeline_conn w b place) (λ c. (tt, tt))
+step-asked p w b (step.Up place) = mapped-asked p (λ c. due.Up (record { 0 = c })) (pipeline_conn w b place) (λ c. (tt, tt))
 
 -- WHAT A PLAY KEEPS
 
@@ -57,11 +67,11 @@ module _ (Q : PlayState → Type 0) where
     pub advances : (p : PlayState) → Q p → Q (advanced p)
     pub orders : (p : PlayState) (b : ℕ) (c : Command) → Q p → Q (ordered p b c)
     pub rules : (p : PlayState) (b : ℕ) (r : Rule) → Q p → Q (ruled p b r)
-    pub goes : (p : PlayState) (d : Due) → is_due (world_of p) p.queues d ≡ true → AskAmong p.asks d → Q p → Q (after_due p d)
+    pub goes : (p : PlayState) (d : Due) → is_due (world_of p) p.queues d ≡ true → Among p d → Q p → Q (after_due p d)
 
   happened-keeps : Keeps → (blocks : List ℕ) (p : PlayState) (o : Option Due) → ((d : Due) → o ≡ Some d → IsListed blocks p d) → Q p → Q (happened p o)
   happened-keeps k blocks p None due q = q
-  happened-keeps k blocks p (Some d) due q = k.goes p d (due d refl).is (due d refl).asked q
+  happened-keeps k blocks p (Some d) due q = k.goes p d (due d refl).is ((due d refl).asked, (due d refl).recovers) q
 
   draw-keeps : Keeps → (blocks : List ℕ) (p : PlayState) → Q p → Q (draw blocks p)
   draw-keeps k blocks p q = go (dues blocks p) refl
@@ -72,22 +82,23 @@ module _ (Q : PlayState → Type 0) where
           happened-keeps k blocks (advanced p) (drawn (d ∷ ds) (pcg32 p.generator).0)
           (λ x found.
           let z = listed_due blocks p ((pcg32 p.generator).0 % length (d ∷ ds)) x (ap (λ (xs : List Due). slice_get xs ((pcg32 p.generator).0 % length (d ∷ ds))) e ∙ found) in
-          record { is = z.is; among = z.among; asked = z.asked })
+          record { is = z.is; among = z.among; asked = z.asked; recovers = z.recovers })
           (k.advances p q)
 
   draws-keep : Keeps → (blocks : List ℕ) (n : ℕ) (p : PlayState) → Q p → Q (draws blocks n p)
   draws-keep k blocks zero p q = q
   draws-keep k blocks (suc n) p q = draws-keep k blocks n (draw blocks p) (draw-keeps k blocks p q)
 
-  stepped-keeps : Keeps → (p : PlayState) (o : Option Due) → IfSome o (AskAmong p.asks) → Q p → Q (stepped p o)
+  stepped-keeps : Keeps → (p : PlayState) (o : Option Due) → IfSome o (Among p) → Q p → Q (stepped p o)
   stepped-keeps k p None asked q = q
   stepped-keeps k p (Some d) asked q = if-each Q (is_due (world_of p) p.queues d) (after_due p d) p (λ e. k.goes p d e asked q) (λ _. q)
 
-  -- What is kept by a cut, by a stop, and by a start.
+  -- What is kept by a cut, by a stop, by a start, and where a line asks to recover.
   pub record FailuresKeep : Type 0 where
     pub cuts : (p : PlayState) (c : Option ℕ) (down up : ℕ) → Q p → Q (cut_at p c down up)
     pub stops : (p : PlayState) (n : NodeId) → Q p → Q (stop_at p n)
     pub starts : (p : PlayState) (n : NodeId) → Q p → Q (start_at p n)
+    pub recoveries : (p : PlayState) (r : Recovery) → Q p → Q (recovering p r)
 
   -- What is kept where a line asks to read.
   abbrev pub ReadsKeep : Type 0
@@ -130,13 +141,13 @@ module _ (Q : PlayState → Type 0) where
   line-keeps k blocks number (line.Hsync b) p new kept s q = subst Q (sym s) (k.orders p b.0 command.Hsync q)
   line-keeps k blocks number (line.Close b) p new kept s q = subst Q (sym s) (k.orders p b.0 command.Close q)
   line-keeps k blocks number (line.Read b n from count) p new kept s q = subst Q (sym s) (kept.reads refl p (ask_at (world_of p) number b n from count) q)
-  line-keeps k blocks number (line.Recover b n members) p new kept s q = subst Q (sym s) q
+  line-keeps k blocks number (line.Recover b n members) p new kept s q = subst Q (sym s) ((kept.fails refl).recoveries p (recovery_at (world_of p) number b n members) q)
   line-keeps k blocks number (line.Cut b place down up) p new kept s q = subst Q (sym s) ((kept.fails refl).cuts p (pipeline_conn (world_of p) b.0 place) down up q)
   line-keeps k blocks number (line.Fault n nth) p new kept s q = subst Q (sym s) q
   line-keeps k blocks number (line.Stop n) p new kept s q = subst Q (sym s) ((kept.fails refl).stops p n q)
   line-keeps k blocks number (line.Start n) p new kept s q = subst Q (sym s) ((kept.fails refl).starts p n q)
   line-keeps k blocks number (line.Run count) p new kept s q = subst Q (sym s) (draws-keep k blocks count p q)
-  line-keeps k blocks number (line.Step b e) p new kept s q = subst Q (sym s) (stepped-keeps k p (step_due (world_of p) b.0 e) (step-asked p.asks (world_of p) b.0 e) q)
+  line-keeps k blocks number (line.Step b e) p new kept s q = subst Q (sym s) (stepped-keeps k p (step_due (world_of p) b.0 e) (step-asked p (world_of p) b.0 e) q)
   line-keeps k blocks number (line.Expect n b state stamp written) p new kept s q = subst Q (sym s) q
 
   pub lines-keep : Keeps → (blocks : List ℕ) (lines : List ScriptLine) (p new : PlayState) → AllKeep lines → PlaysLines blocks lines p new → Q p → Q new
@@ -168,31 +179,35 @@ own-plain (action.Send p) b queue = (refl, tt)
 own-plain (action.Answered n a) b queue = (refl, tt)
 own-plain action.Memory b queue = (refl, tt)
 
-pub due-plain : (w : World) (queues : Queues) (d : Due) → AskAmong [] d → ArePlain (due_events w queues d)
-due-plain w queues (due.Own b) asked = own-plain (action_of w b) b.0 (queues b.0)
-due-plain w queues (due.Reader ask) asked = none-asked [] ask refl asked
-due-plain w queues (due.Down c) asked = (refl, tt)
-due-plain w queues (due.Ready c) asked = (refl, tt)
-due-plain w queues (due.Up c) asked = (refl, tt)
+pub due-plain : (w : World) (queues : Queues) (d : Due) → AskAmong [] d → RecoveryAmong [] d → ArePlain (due_events w queues d)
+due-plain w queues (due.Own b) asked recovers = own-plain (action_of w b) b.0 (queues b.0)
+due-plain w queues (due.Reader ask) asked recovers = none-asked [] ask refl asked
+due-plain w queues (due.Primary r) asked recovers = none-recovered [] r refl recovers
+due-plain w queues (due.Down c) asked recovers = (refl, tt)
+due-plain w queues (due.Ready c) asked recovers = (refl, tt)
+due-plain w queues (due.Up c) asked recovers = (refl, tt)
 
--- the events are, and no line has asked to read
+-- the events are, and no line has asked to read or to recover
 record Plain (p : PlayState) : Type 0 where
   asks : p.asks ≡ []
+  recoveries : p.recoveries ≡ []
   plain : ArePlain p.events
 
-after-plain : (p : PlayState) (d : Due) → AskAmong p.asks d → Plain p → Plain (after_due p d)
+after-plain : (p : PlayState) (d : Due) → Among p d → Plain p → Plain (after_due p d)
 unfolding after_due
 after-plain p d asked h = record {
   asks = h.asks;
-  plain = plain-join p.events (due_events (world_of p) p.queues d) h.plain (due-plain (world_of p) p.queues d (subst (λ (xs : List ReadAsk). AskAmong xs d) h.asks asked));
+  recoveries = h.recoveries;
+  plain = plain-join p.events (due_events (world_of p) p.queues d) h.plain
+      (due-plain (world_of p) p.queues d (subst (λ (xs : List ReadAsk). AskAmong xs d) h.asks asked.0) (subst (λ (xs : List Recovery). RecoveryAmong xs d) h.recoveries asked.1));
 }
 
 pub plays-plain : PlaysArePlain
 plays-plain script end sound unread s =
     let h : Plain end = play-keeps Plain (record {
-      advances = λ p h. record { asks = h.asks; plain = h.plain };
-      orders = λ p b c h. record { asks = h.asks; plain = h.plain };
-      rules = λ p b r h. record { asks = h.asks; plain = h.plain };
+      advances = λ p h. record { asks = h.asks; recoveries = h.recoveries; plain = h.plain };
+      orders = λ p b c h. record { asks = h.asks; recoveries = h.recoveries; plain = h.plain };
+      rules = λ p b r h. record { asks = h.asks; recoveries = h.recoveries; plain = h.plain };
       goes = λ p d _ asked h. after-plain p d asked h;
-    }) (λ nodes seed. record { asks = refl; plain = tt }) script end (sound-keep Plain script sound unread) s in
+    }) (λ nodes seed. record { asks = refl; recoveries = refl; plain = tt }) script end (sound-keep Plain script sound unread) s in
     h.plain

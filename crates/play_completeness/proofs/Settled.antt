@@ -28,7 +28,7 @@ use Rattle.world_writers.proofs.AllPiped.{all-piped}
 use Rattle.play_model.specs.declared.dues.Due.{Due}
 use Rattle.play_model.specs.declared.dues.Due.TheVariants as due
 use Rattle.play_model.specs.States.{PlayState, world_of}
-use Rattle.play_model.specs.Dues.{Queues, takes_due, own_due, is_due, when, when_due, upto, own_dues, reader_dues, conn_dues, dues}
+use Rattle.play_model.specs.Dues.{Queues, takes_due, own_due, is_due, when, when_due, upto, own_dues, reader_dues, primary_dues, conn_dues, dues}
 use Rattle.play_completeness.specs.Streams.{as_pending}
 use Rattle.play_completeness.specs.Links.{Awaits}
 use Rattle.play_completeness.specs.Waiting.{IsWaiting, HasDue}
@@ -98,13 +98,15 @@ module _ (p : PlayState) (commands : ℕ → List Command) (h : Played p command
   no-conn c lt =
       let w : World = world_of p in
       upto-none (conn_dues w p.queues) w.next_conn c lt
-      (right-none (reader_dues w p.queues p.asks) (upto (conn_dues w p.queues) w.next_conn) (right-none (own_dues w p.queues blocks) (reader_dues w p.queues p.asks ++ upto (conn_dues w p.queues) w.next_conn) none))
+      (right-none (primary_dues w p.queues p.recoveries) (upto (conn_dues w p.queues) w.next_conn)
+      (right-none (reader_dues w p.queues p.asks) (primary_dues w p.queues p.recoveries ++ upto (conn_dues w p.queues) w.next_conn)
+      (right-none (own_dues w p.queues blocks) (reader_dues w p.queues p.asks ++ (primary_dues w p.queues p.recoveries ++ upto (conn_dues w p.queues) w.next_conn)) none)))
 
   no-own : (b : ℕ) → Has blocks b → own_due ((world_of p).writers b) (p.queues b) ≡ false
   unfolding dues
   no-own b has =
       let w : World = world_of p in
-      own-none w p.queues blocks has.place b has.there (left-none (own_dues w p.queues blocks) (reader_dues w p.queues p.asks ++ upto (conn_dues w p.queues) w.next_conn) none)
+      own-none w p.queues blocks has.place b has.there (left-none (own_dues w p.queues blocks) (reader_dues w p.queues p.asks ++ (primary_dues w p.queues p.recoveries ++ upto (conn_dues w p.queues) w.next_conn)) none)
 
   no-due : HasDue (world_of p) p.queues → ⊥
   no-due d = d.some (no-conn d.conn d.known)

@@ -28,6 +28,7 @@ pub record PlayedOn (p : PlayState) (commands : ℕ → List Command) : Type 0 w
 abbrev pub IsOfConn : Due → Type 0
 IsOfConn (due.Own b) = ⊥
 IsOfConn (due.Reader ask) = ⊥
+IsOfConn (due.Primary r) = ⊥
 IsOfConn other = Unit {0}
 
 -- A play stays so where what is due of a connection happens.

@@ -96,9 +96,10 @@ pub record BlockPlayed (w : World) (b : ℕ) (queue : List TakenCommand) (comman
 
 -- PLAYS
 
--- A play in which these commands were given to the writers of blocks, and no line has asked to read.
+-- A play in which these commands were given to the writers of blocks, and no line has asked to read or to recover.
 pub record Played (p : PlayState) (commands : ℕ → List Command) : Type 0 where
   pub asks : p.asks ≡ []
+  pub recoveries : p.recoveries ≡ []
   pub plain : ArePlain p.events
   pub quiet : IsQuiet (world_of p)
   pub peaceful : Peaceful (world_of p)

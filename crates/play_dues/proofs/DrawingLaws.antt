@@ -17,7 +17,9 @@ use Rattle.play_clients.specs.declared.clients.Client.{Client}
 use Rattle.play_nodes.specs.declared.nodes.Nodes.{Nodes}
 use Rattle.play_nodes.proofs.Tables.{element}
 use Rattle.play_reads.specs.declared.reads.Reads.{Reads}
+use Rattle.play_recoveries.specs.declared.recoveries.Recoveries.{Recoveries}
 use Rattle.play_readers.specs.Asks.{asks_of}
+use Rattle.play_recoveries.specs.Places.{recoveries_of}
 use Rattle.play_dues.specs.declared.live.LiveConns.{LiveConns}
 use Rattle.play_dues.specs.Drawing.{DrawsFrom, DrawsDue}
 use Rattle.play_dues.specs.Listing.{shown_dues, all_dues, CountsDues, PicksDue}
@@ -37,27 +39,27 @@ some_drawn [] g after word count result is some step told = absurd (some is)
 some_drawn (d ∷ due) g after word count result is some step told =
     (ap (λ (x : ℕ × Lcg). x.1) step, told ∙ (λ j. slice_get (d ∷ due) ((step j).0 % is j)))
 
-module _ {F R I O : Type 0} (r : roads.Ghosts R I O) (i : link_in.Ghosts I) (o : link_out.Ghosts O) (live : LiveConns) (conns : List ConnId) (same : conns ≡ live.conns.items) (n : Nodes F I O) (clients : List (Client I O)) (reads : Reads I O) where
+module _ {F R I O : Type 0} (r : roads.Ghosts R I O) (i : link_in.Ghosts I) (o : link_out.Ghosts O) (live : LiveConns) (conns : List ConnId) (same : conns ≡ live.conns.items) (n : Nodes F I O) (clients : List (Client I O)) (reads : Reads I O) (recoveries : Recoveries I O) where
   -- all that is due, and of those that are listed
   abbrev due_in : World → Queues → List Due
-  due_in w queues = all_dues w queues (blocks_of clients) (asks_of reads.clients.items)
+  due_in w queues = all_dues w queues (blocks_of clients) (asks_of reads.clients.items) (recoveries_of recoveries.clients.items)
 
-  all_due : (w : World) (queues : Queues) → Placed w → IsCurrent w live → shown_dues w queues clients reads conns ≡ due_in w queues
-  all_due w queues placed current = live_dues w queues (blocks_of clients) (asks_of reads.clients.items) conns live placed same current
+  all_due : (w : World) (queues : Queues) → Placed w → IsCurrent w live → shown_dues w queues clients reads recoveries conns ≡ due_in w queues
+  all_due w queues placed current = live_dues w queues (blocks_of clients) (asks_of reads.clients.items) (recoveries_of recoveries.clients.items) conns live placed same current
 
-  pub draws_none : (road road' : R) (g : Lcg) (count : ℕ) → CountsDues r i o conns n clients reads road road' count → count ≡ 0 → DrawsDue r i o live n clients reads road road' g g None
+  pub draws_none : (road road' : R) (g : Lcg) (count : ℕ) → CountsDues r i o conns n clients reads recoveries road road' count → count ≡ 0 → DrawsDue r i o live n clients reads recoveries road road' g g None
   draws_none road road' g count counts is = λ w net queues h.
       let a = counts w net queues h in
       (a.0, λ current. none_drawn (due_in w queues) g (ap length (sym (all_due w queues h.orderly.placed current)) ∙ (sym a.1 ∙ is)))
 
-  pub draws_some : (road mid road' : R) (g after : Lcg) (word count : ℕ) (result : Option Due) → CountsDues r i o conns n clients reads road mid count → (count ≡ 0 → ⊥) → (word, after) ≡ pcg32 g → PicksDue r i o (word % count) conns n clients reads mid road' result
-      → DrawsDue r i o live n clients reads road road' g after result
+  pub draws_some : (road mid road' : R) (g after : Lcg) (word count : ℕ) (result : Option Due) → CountsDues r i o conns n clients reads recoveries road mid count → (count ≡ 0 → ⊥) → (word, after) ≡ pcg32 g → PicksDue r i o (word % count) conns n clients reads recoveries mid road' result
+      → DrawsDue r i o live n clients reads recoveries road road' g after result
   draws_some road mid road' g after word count result counts some step picks = λ w net queues h.
       let a = counts w net queues h in
       let b = picks w net queues a.0 in (
         b.0,
         λ current.
-            let all : shown_dues w queues clients reads conns ≡ due_in w queues = all_due w queues h.orderly.placed current in
+            let all : shown_dues w queues clients reads recoveries conns ≡ due_in w queues = all_due w queues h.orderly.placed current in
             some_drawn (due_in w queues) g after word count result (a.1 ∙ ap length all) some step (b.1 ∙ ap (λ (xs : List Due). slice_get xs (word % count)) all),
       )
 

@@ -8,7 +8,10 @@ pub mod UpperLaws
 pub mod LowerLaws
 pub mod ConnLaws
 pub mod ListingLaws
+pub mod GoneLaws
 pub mod SpentStays
 pub mod SpentLaws
 pub mod LiveLaws
 pub mod DrawingLaws
+pub mod PrimaryLaws
+pub mod StepLaws

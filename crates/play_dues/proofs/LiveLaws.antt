@@ -12,12 +12,15 @@ use Rattle.world.specs.Worlds.{World}
 use Rattle.world.specs.Events.{run}
 use Rattle.world_laws.specs.Placing.{Placed}
 use Rattle.play_model.specs.declared.asks.ReadAsk.{ReadAsk}
+use Rattle.play_model.specs.declared.recoveries.Recovery.{Recovery}
 use Rattle.play_model.specs.declared.dues.Due.{Due}
-use Rattle.play_model.specs.Dues.{Queues, when, upto, is_due, conn_dues, own_dues, reader_dues, due_events}
+use Rattle.play_model.specs.Dues.{Queues, when, upto, is_due, conn_dues, own_dues, reader_dues, primary_dues, due_events}
 use Rattle.play_clients.specs.declared.clients.Client.{Client}
 use Rattle.play_nodes.specs.declared.nodes.Nodes.{Nodes}
 use Rattle.play_nodes.specs.Dues.{IsOrderly}
+use Rattle.play_primaries.specs.Dues.{ArePlaced}
 use Rattle.play_reads.specs.declared.reads.Reads.{Reads}
+use Rattle.play_recoveries.specs.declared.recoveries.Recoveries.{Recoveries}
 use Rattle.play_dues.specs.declared.live.LiveConns.{LiveConns}
 use Rattle.play_dues.specs.Listing.{dues_among, all_dues}
 use Rattle.play_dues.specs.Live.{if_passing, passing, or_from, HasMore, DropsSpent, Covers, CoversNone, IsCurrent, IsRefreshed}
@@ -102,14 +105,14 @@ current_covers w live h = record {
   rest = λ c lt e. false_not (is_spent w c) e;
 }
 
-pub covers_on : (w : World) (queues : Queues) (d : Due) (live : LiveConns) → IsOrderly w → is_due w queues d ≡ true → Covers w live → Covers (run w (due_events w queues d)) live
-covers_on w queues d live h is c =
+pub covers_on : (w : World) (queues : Queues) (d : Due) (live : LiveConns) → IsOrderly w → ArePlaced w → is_due w queues d ≡ true → Covers w live → Covers (run w (due_events w queues d)) live
+covers_on w queues d live h placed is c =
     let k : Keeps w (run w (due_events w queues d)) = due_keeps w queues d h is in
     record {
       within = omega (arith, c.within, k.grows);
       has = c.has;
       listed = c.listed;
-      rest = λ conn lt e. spent_on w (run w (due_events w queues d)) h.placed k conn (omega (arith, lt, c.within)) (c.rest conn lt e);
+      rest = λ conn lt e. spent_on w (run w (due_events w queues d)) h.placed placed k conn (omega (arith, lt, c.within)) (c.rest conn lt e);
     }
 
 -- of a number that is listed or new just that is kept which isn't spent
@@ -118,8 +121,8 @@ kept_so true has spent h = refl
 kept_so false true spent h = refl
 kept_so false false spent h = sym (ap not (h refl refl))
 
-module _ {F I O : Type 0} (i : link_in.Ghosts I) (o : link_out.Ghosts O) (n : Nodes F I O) (clients : List (Client I O)) (reads : Reads I O) where
-  pub refreshed : (old new : LiveConns) (mid : List ConnId) (count : ℕ) → count ≡ length n.connections.items → new.known ≡ count → HasMore old.conns.items mid old.known count → DropsSpent i o mid new.conns.items n clients reads → IsRefreshed i o old new n clients reads
+module _ {F I O : Type 0} (i : link_in.Ghosts I) (o : link_out.Ghosts O) (n : Nodes F I O) (clients : List (Client I O)) (reads : Reads I O) (recoveries : Recoveries I O) where
+  pub refreshed : (old new : LiveConns) (mid : List ConnId) (count : ℕ) → count ≡ length n.connections.items → new.known ≡ count → HasMore old.conns.items mid old.known count → DropsSpent i o mid new.conns.items n clients reads recoveries → IsRefreshed i o old new n clients reads recoveries
   refreshed old new mid count counted known more kept = λ w net h covers.
       let all : count ≡ w.next_conn = counted ∙ h.nodes_are.count in
       let spent : ConnId → Bool = λ c. nat_lt c.0 w.next_conn && is_spent w c.0 in
@@ -136,8 +139,8 @@ module _ {F I O : Type 0} (i : link_in.Ghosts I) (o : link_out.Ghosts O) (n : No
       }
 
 -- What is due of those that are listed is all that is due of connections.
-pub live_dues : (w : World) (queues : Queues) (blocks : List ℕ) (asks : List ReadAsk) (conns : List ConnId) (live : LiveConns) → Placed w → conns ≡ live.conns.items → IsCurrent w live → dues_among w queues blocks asks conns ≡ all_dues w queues blocks asks
-live_dues w queues blocks asks conns live placed same h =
-    ap (λ (xs : List Due). own_dues w queues blocks ++ (reader_dues w queues asks ++ xs))
+pub live_dues : (w : World) (queues : Queues) (blocks : List ℕ) (asks : List ReadAsk) (rs : List Recovery) (conns : List ConnId) (live : LiveConns) → Placed w → conns ≡ live.conns.items → IsCurrent w live → dues_among w queues blocks asks rs conns ≡ all_dues w queues blocks asks rs
+live_dues w queues blocks asks rs conns live placed same h =
+    ap (λ (xs : List Due). own_dues w queues blocks ++ (reader_dues w queues asks ++ (primary_dues w queues rs ++ xs)))
     (ap (λ (xs : List ConnId). flat_map (λ c. conn_dues w queues c.0) xs) (same ∙ h.listed)
     ∙ passing_gives (conn_dues w queues) (λ c. not (is_spent w c)) w.next_conn (λ c lt e. nothing_due w queues c placed lt (false_not (is_spent w c) e)))

@@ -1,14 +1,21 @@
 -- Whatever is due keeps a connection spent.
-use Rattle.std.proofs.Common.{◌≡◌, ◌<◌, ◌≤◌, ℕ, Bool, true, false, if◌then◌else◌, List, [], slice_get, Option, Some, None, IfSome, refl, sym, ap, ◌∙◌, subst, eqb-true, lt-ltb, arith}
+use Rattle.std.proofs.Common.{◌≡◌, ◌<◌, ◌≤◌, ◌∷◌, ℕ, Bool, true, false, if◌then◌else◌, List, [], slice_get, Option, Some, None, Ok, Err, IfSome, refl, sym, ap, ◌∙◌, subst, eqb-true, lt-ltb, arith}
 use Rattle.std.specs.Prelude.{◌==◌, ◌&&◌, not, nat_lt, is_some, is_none}
 use Rattle.std.proofs.lemmas.Bool.Decides.{nat_tests}
+use Rattle.hd_base.specs.declared.numbers.BlockId.{BlockId}
 use Rattle.hd_base.specs.declared.numbers.ConnId.{ConnId}
 use Rattle.hd_base.specs.declared.numbers.NodeId.{NodeId}
+use Rattle.name_core.specs.declared.calls.OfficeAnswer.TheVariants as office
 use Rattle.op_headers.specs.declared.ops.Op.{Op}
 use Rattle.op_headers.specs.declared.ops.ReadOp.{ReadOp}
 use Rattle.read_core.specs.declared.reading.ReadTurn.{ReadTurn}
 use Rattle.read_core.specs.declared.reading.ReadTurn.TheVariants as turn
 use Rattle.read_core.specs.Readings.{ReadingState, ReadTaken, take_from}
+use Rattle.recovery_core.specs.declared.primary.OwnStep.{OwnStep}
+use Rattle.recovery_core.specs.declared.primary.OwnStep.TheVariants as step
+use Rattle.recovery_core.specs.declared.standings.Standing.{Standing}
+use Rattle.recovery_core.specs.Primaries.{PrimaryState, heard_at}
+use Rattle.recovery_core.specs.Primaries as recovery
 use Rattle.writer_core.specs.declared.actions.Action.{Action}
 use Rattle.writer_core.specs.declared.actions.Action.TheVariants as action
 use Rattle.writer_core.specs.declared.phases.Phase.{Phase}
@@ -21,31 +28,37 @@ use Rattle.member_core.specs.Members.{hears}
 use Rattle.world.specs.declared.events.Event.{Event}
 use Rattle.world.specs.declared.events.Event.TheVariants as event
 use Rattle.world.specs.declared.events.TakenCommand.{TakenCommand}
-use Rattle.world.specs.Parts.{Message, Upper, by_writer, by_member, by_reader, by_primary, Dialled, Marks, FullMember, Lower, idle, writes, serves, recovers, ended_below, Reader, no_reader, reads, has_read, Told, Writing}
+use Rattle.world.specs.Parts.{Message, Upper, by_writer, by_member, by_reader, by_primary, Dialled, Marks, FullMember, Lower, idle, writes, serves, recovers, ended_below, Reader, no_reader, reads, has_read, Place, Told, Leading, Primary, no_primary, was_told, leads, has_led, Writing}
 use Rattle.world.specs.Worlds.{World, Change, put, apply}
-use Rattle.world.specs.Connections.{Next, message, the_end, marks_taken, next_down, next_up, down_taken, up_taken, is_conn, is_alive, is_served}
-use Rattle.world.specs.Clients.{writer_change, did, dialled_change, dialling, rest_in, is_empty, is_formed, ruled, command_bytes, takes_step, takes_command, writer_step, own_writer, writer_hears, writer_up, from_node_of, reader_dials, own_reader_as, own_reader, reader_turn, reader_up_as, reader_up}
-use Rattle.world.specs.Enabled.{takes_down, acts_below, reads_from, takes_above, hears_mirror}
+use Rattle.world.specs.Connections.{Next, message, the_end, marks_taken, next_down, next_up, down_taken, up_taken, is_conn, is_alive, is_served, place_of}
+use Rattle.world.specs.Clients.{are_members, writer_change, did, dialled_change, dialling, rest_in, is_empty, is_formed, ruled, command_bytes, takes_step, takes_command, writer_step, own_writer, writer_hears, writer_up, from_node_of, reader_dials, own_reader_as, own_reader, reader_turn, reader_up_as, reader_up}
+use Rattle.world.specs.Enabled.{takes_down, acts_below, leads_from, listens_at, reads_from, takes_above, hears_mirror}
 use Rattle.world.specs.Events.{changed, outcome, after_event, happens, run, down_as, upper_up, up_as}
 use Rattle.world.specs.Nodes.{lower_down, lower_ready, mirror_up}
-use Rattle.world.specs.Primaries.{primary_up, writer_asks, writer_asks_office}
+use Rattle.world.specs.Primaries.{begins_as, begins_at, commits_step, heard_of, hears_change, leads_step, leads_told, listens, own_primary, own_primary_as, own_recover, primary_asks, primary_commits, primary_up, primary_up_as, writer_asks, writer_asks_office}
 use Rattle.world_laws.specs.Placing.{IsUpper, Placed}
 use Rattle.world_laws.proofs.FactTables.{if-each, when-each, and-left, and-right}
 use Rattle.world_laws.proofs.GrowthLaws.{apply-grows}
+use Rattle.world_nets.specs.Nets.{is_over}
+use Rattle.world_nets.proofs.StepLemmas.{changed-over}
 use Rattle.world_orders.specs.Open.{OpenEnds}
-use Rattle.world_orders.proofs.OpenFrame.{IsOpenMirror, below-over, mirror-over, Beside, LowerOpens}
+use Rattle.world_orders.proofs.OpenFrame.{IsOpenMirror, below-over, mirror-over, LowerOpens}
 use Rattle.world_orders.proofs.OpenLowers.{lower-down-opens, lower-ready-opens, mirror-up-opens}
-use Rattle.world_orders.proofs.OpenPrimaries.{primary-up-beside}
-use Rattle.world_settling.proofs.ReaderAsides.{primary-up-stays}
+use Rattle.world_settling.proofs.PrimaryAsides.{Aside, lower-down-aside, lower-ready-aside, mirror-up-aside}
 use Rattle.world_settling.proofs.ReaderNodeAsides.{Stays, lower-down-stays, lower-ready-stays, mirror-up-stays}
 use Rattle.play_model.specs.declared.asks.ReadAsk.{ReadAsk}
 use Rattle.play_model.specs.declared.dues.Due.{Due}
 use Rattle.play_model.specs.declared.dues.Due.TheVariants as due
+use Rattle.play_model.specs.declared.recoveries.Recovery.{Recovery}
 use Rattle.play_model.specs.Asks.{request_of, asking_node}
+use Rattle.play_model.specs.Recoveries.{all_answered, begins_so, goes_on, leads_events, primary_events}
+use Rattle.play_model.specs.Recoveries as model
 use Rattle.play_model.specs.Dues.{Queues, is_open, is_open_above, is_due, due_events, own_events, action_of, acting, asking}
 use Rattle.play_nodes.specs.Dues.{IsOrderly}
 use Rattle.play_nodes.specs.Showing.{has_events}
+use Rattle.play_primaries.specs.Dues.{ArePlaced}
 use Rattle.play_dues.specs.Spent.{is_given_up, is_spent}
+use Rattle.play_dues.proofs.GoneLaws.{true_false, IsDeaf, own_deaf, heard_deaf, Gone, gone_from, gone_false, gone_in, never_told, deaf_gone, deaf_from}
 
 -- TESTS
 
@@ -57,9 +70,6 @@ both_so : (a b : Bool) → a ≡ true → b ≡ true → (a && b) ≡ true
 both_so true b p q = q
 both_so false b p q = cc
 
-true_false : (b : Bool) → b ≡ true → b ≡ false → ⊥
-true_false b x y = cc
-
 below_so : (a b : ℕ) → a < b → (a == b) ≡ false
 below_so a b h = grind (arith, nat_tests, h)
 
@@ -68,17 +78,20 @@ above_so a b h = grind (arith, nat_tests, h)
 
 -- WHAT A WORLD KEEPS OF ANOTHER
 
--- What has no further events has none later, no writer has a connection again that it had no more, and no reader reads over
--- one again that it read over no more.
+-- What has no further events has none later, no writer has a connection again that it had no more, no reader reads over one
+-- again that it read over no more, no primary takes from a place again from which it took no more, and an end that was taken
+-- stays so.
 pub record Keeps (w v : World) : Type 0 where
   pub grows : w.next_conn ≤ v.next_conn
   pub dialled : (c : ℕ) → c < w.next_conn → v.dialled c ≡ w.dialled c
   pub ended : (c : ℕ) → c < w.next_conn → has_events w c ≡ false → has_events v c ≡ false
   pub given_up : (b c : ℕ) → c < w.next_conn → is_conn (w.writers b).conn c ≡ false → is_conn (v.writers b).conn c ≡ false
   pub read_over : (line c : ℕ) → c < w.next_conn → reads_from (w.readers line) c ≡ false → reads_from (v.readers line) c ≡ false
+  pub led : (number place : ℕ) → Gone (w.primaries number) w place → Gone (v.primaries number) v place
+  pub over : (c : ℕ) → is_over w c false ≡ true → is_over v c false ≡ true
 
 keeps_same : (w : World) → Keeps w w
-keeps_same w = record { grows = omega arith; dialled = λ c lt. refl; ended = λ c lt e. e; given_up = λ b c lt e. e; read_over = λ line c lt e. e }
+keeps_same w = record { grows = omega arith; dialled = λ c lt. refl; ended = λ c lt e. e; given_up = λ b c lt e. e; read_over = λ line c lt e. e; led = λ number place g. g; over = λ c e. e }
 
 keeps_then : (w u v : World) → Keeps w u → Keeps u v → Keeps w v
 keeps_then w u v h k = record {
@@ -87,41 +100,84 @@ keeps_then w u v h k = record {
   ended = λ c lt e. k.ended c (omega (arith, lt, h.grows)) (h.ended c lt e);
   given_up = λ b c lt e. k.given_up b c (omega (arith, lt, h.grows)) (h.given_up b c lt e);
   read_over = λ line c lt e. k.read_over line c (omega (arith, lt, h.grows)) (h.read_over line c lt e);
+  led = λ number place g. k.led number place (h.led number place g);
+  over = λ c e. k.over c (h.over c e);
 }
 
 -- the world names its last event
 named : (w v : World) (e : Event) → Keeps w v → Keeps w (record v { last = Some e })
-named w v e h = record { grows = h.grows; dialled = h.dialled; ended = h.ended; given_up = h.given_up; read_over = h.read_over }
+named w v e h = record { grows = h.grows; dialled = h.dialled; ended = h.ended; given_up = h.given_up; read_over = h.read_over; led = λ number place g. gone_in (v.primaries number) v (record v { last = Some e }) place (λ at. refl) (h.led number place g); over = h.over }
 
 down_kept : (w : World) (c : ℕ) (x : Next) → Keeps w (down_taken w c x)
 unfolding down_taken
-down_kept w c x = record { grows = omega arith; dialled = λ d lt. refl; ended = λ d lt e. e; given_up = λ b d lt e. e; read_over = λ line d lt e. e }
+down_kept w c x = record {
+  grows = omega arith;
+  dialled = λ d lt. refl;
+  ended = λ d lt e. e;
+  given_up = λ b d lt e. e;
+  read_over = λ line d lt e. e;
+  led = λ number place g. gone_in (w.primaries number) w (down_taken w c x) place (λ at. refl) g;
+  over = λ d e. e;
+}
+
+still_taken : (k : Marks) (x : Next) → k.over ≡ true → (marks_taken k x).over ≡ true
+still_taken k (message m) e = e
+still_taken k the_end e = refl
 
 up_kept : (w : World) (c : ℕ) (x : Next) → Keeps w (up_taken w c x)
 unfolding up_taken
-up_kept w c x = record { grows = omega arith; dialled = λ d lt. refl; ended = λ d lt e. e; given_up = λ b d lt e. e; read_over = λ line d lt e. e }
+up_kept w c x = record {
+  grows = omega arith;
+  dialled = λ d lt. refl;
+  ended = λ d lt e. e;
+  given_up = λ b d lt e. e;
+  read_over = λ line d lt e. e;
+  led = λ number place g. gone_in (w.primaries number) w (up_taken w c x) place (λ at. refl) g;
+  over = λ d e.
+      if-each (λ (m : Marks). m.over ≡ true) (d == c) (marks_taken (w.up_marks c) x) (w.up_marks d)
+      (λ q. still_taken (w.up_marks c) x (subst (λ (n : ℕ). (w.up_marks n).over ≡ true) (eqb-true d c q) e))
+      (λ _. e);
+}
+
+led_over : (led over : Bool) → over ≡ true → (led && not over) ≡ false
+led_over true true e = refl
+led_over false true e = refl
+led_over led false e = cc
+
+led_open : (led over : Bool) → over ≡ false → (led && not over) ≡ false → led ≡ false
+led_open true false e h = h
+led_open false over e h = refl
+led_open led true e h = cc
 
 -- A connection that is spent stays so.
-pub spent_on : (w v : World) → Placed w → Keeps w v → (c : ℕ) → c < w.next_conn → is_spent w c ≡ true → is_spent v c ≡ true
-spent_on w v placed k c lt is =
+pub spent_on : (w v : World) → Placed w → ArePlaced w → Keeps w v → (c : ℕ) → c < w.next_conn → is_spent w c ≡ true → is_spent v c ≡ true
+spent_on w v placed primaries k c lt is =
     let u : Upper = (w.dialled c).upper in
     let over : has_events w c ≡ false = not_so (has_events w c) (and-left (not (has_events w c)) (is_given_up w c u) is) in
     both_so (not (has_events v c)) (is_given_up v c (v.dialled c).upper) (ap not (k.ended c lt over))
     (subst (λ (d : Dialled). is_given_up v c d.upper ≡ true) (sym (k.dialled c lt)) (by u refl (and-right (not (has_events w c)) (is_given_up w c u) is)))
   where
+    silent : (i place : ℕ) → (w.dialled c).upper ≡ by_primary i place → (leads_from (w.primaries i) w place && not (is_over w c false)) ≡ false → (q : Bool) → is_over w c false ≡ q → (leads_from (v.primaries i) v place && not (is_over v c false)) ≡ false
+    silent i place e h true over = led_over (leads_from (v.primaries i) v place) (is_over v c false) (k.over c over)
+    silent i place e h false still =
+        let gone : Gone (w.primaries i) w place = gone_from (w.primaries i) w c place (primaries c i place lt e) (led_open (leads_from (w.primaries i) w place) (is_over w c false) still h) in
+        ap (λ (b : Bool). b && not (is_over v c false)) (gone_false (v.primaries i) v place (k.led i place gone))
+
     by : (u : Upper) → (w.dialled c).upper ≡ u → is_given_up w c u ≡ true → is_given_up v c u ≡ true
     by (by_writer b) e h = ap not (k.given_up b c lt (not_so (is_conn (w.writers b).conn c) h))
     by (by_member d) e h = ap not (k.ended d (subst (λ (u : Upper). IsUpper w.next_conn u) e (placed.dialled c lt).upper) (not_so (has_events w d) h))
     by (by_reader i) e h = ap not (k.read_over i c lt (not_so (reads_from (w.readers i) c) h))
-    by (by_primary i place) e h = cc
+    by (by_primary i place) e h = ap not (silent i place e (not_so (leads_from (w.primaries i) w place && not (is_over w c false)) h) (is_over w c false) refl)
 
 -- CHANGES
 
--- A change leaves each lower end that has no further events, and gives no writer and no reader a connection again.
+-- A change leaves each lower end that has no further events, gives no writer and no reader a connection again, and lets no
+-- primary take from a place again.
 record Spares (w : World) (k : Change) : Type 0 where
   lower : has_events w k.lower_at ≡ false → k.lower ≡ w.lowers k.lower_at
   writer : (c : ℕ) → c < w.next_conn → is_conn (w.writers k.writer_at).conn c ≡ false → is_conn k.writer.conn c ≡ false
   reader : (c : ℕ) → c < w.next_conn → reads_from (w.readers k.reader_at) c ≡ false → reads_from k.reader c ≡ false
+  primary : (place : ℕ) → Gone (w.primaries k.primary_at) w place → Gone k.primary w place
 
 still_over : (t t' a o : Bool) → t ≡ true → ((t && a) && o) ≡ false → ((t' && a) && o) ≡ false
 still_over true true a o p e = e
@@ -141,6 +197,14 @@ ended_after w k s c lt e =
     subst (λ (l : Lower). ((within && alive) && is_open l) ≡ false) (ap w.lowers at ∙ sym (s.lower (subst (λ (n : ℕ). has_events w n ≡ false) at e))) same)
     (λ _. same))
 
+led_after : (w : World) (k : Change) → Spares w k → (number place : ℕ) → Gone (w.primaries number) w place → Gone ((apply w k).primaries number) (apply w k) place
+unfolding apply
+led_after w k s number place g =
+    gone_in (put w.primaries k.primary_at k.primary number) w (apply w k) place (λ at. refl)
+    (if-each (λ (x : Primary). Gone x w place) (number == k.primary_at) k.primary (w.primaries number)
+    (λ q. s.primary place (subst (λ (n : ℕ). Gone (w.primaries n) w place) (eqb-true number k.primary_at q) g))
+    (λ _. g))
+
 change_kept : (w : World) (k : Change) → Spares w k → Keeps w (apply w k)
 unfolding apply
 change_kept w k s = record {
@@ -155,6 +219,8 @@ change_kept w k s = record {
       if-each (λ (x : Reader). reads_from x c ≡ false) (line == k.reader_at) k.reader (w.readers line)
       (λ q. s.reader c lt (subst (λ (n : ℕ). reads_from (w.readers n) c ≡ false) (eqb-true line k.reader_at q) e))
       (λ _. e);
+  led = led_after w k s;
+  over = λ c e. changed-over w k c false ∙ e;
 }
 
 changed_kept : (w v : World) (o : Option Change) → Keeps w v → IfSome o (Spares v) → IfSome (changed v o) (Keeps w)
@@ -176,20 +242,20 @@ module _ (w : World) (b : ℕ) where
   keeps_conn x c e = as_so (is_connected x.phase) (w.writers b).conn c e
 
   writer_of : (x : WriterRecord) → Spares w (writer_change w b x)
-  writer_of x = record { lower = λ e. refl; writer = λ c lt e. keeps_conn x c e; reader = λ d lt e. e }
+  writer_of x = record { lower = λ e. refl; writer = λ c lt e. keeps_conn x c e; reader = λ d lt e. e; primary = λ place g. g }
 
   did_of : (waits : Option Waiting) (a : Action) (x : WriterRecord) (bytes : List ℕ) → IfSome (did w b waits a x bytes) (Spares w)
   did_of waits action.Wait x bytes = tt
-  did_of waits action.Took x bytes = record { lower = λ e. refl; writer = λ c lt e. keeps_conn x c e; reader = λ d lt e. e }
+  did_of waits action.Took x bytes = record { lower = λ e. refl; writer = λ c lt e. keeps_conn x c e; reader = λ d lt e. e; primary = λ place g. g }
   did_of waits (action.Ask c) x bytes = tt
   did_of waits (action.Dial to r) x bytes = tt
-  did_of waits (action.Send p) x bytes = record { lower = λ e. refl; writer = λ c lt e. keeps_conn x c e; reader = λ d lt e. e }
-  did_of waits (action.Answered n a) x bytes = record { lower = λ e. refl; writer = λ c lt e. keeps_conn x c e; reader = λ d lt e. e }
+  did_of waits (action.Send p) x bytes = record { lower = λ e. refl; writer = λ c lt e. keeps_conn x c e; reader = λ d lt e. e; primary = λ place g. g }
+  did_of waits (action.Answered n a) x bytes = record { lower = λ e. refl; writer = λ c lt e. keeps_conn x c e; reader = λ d lt e. e; primary = λ place g. g }
   did_of waits action.Memory x bytes = tt
 
   -- a connection that is dialled has a new number
   dialled_of : (x : WriterRecord) (to : NodeId) (r : Op) (answered : Bool) → Spares w (dialled_change w b x to r answered)
-  dialled_of x to r true = record { lower = λ e. refl; writer = λ c lt e. below_so c w.next_conn lt; reader = λ d lt e. e }
+  dialled_of x to r true = record { lower = λ e. refl; writer = λ c lt e. below_so c w.next_conn lt; reader = λ d lt e. e; primary = λ place g. g }
   dialled_of x to r false = writer_of (dialled x false)
 
   dialling_of : (x : WriterRecord) (a : Action) (answered : Bool) → Spares w (dialling w b x a answered)
@@ -234,7 +300,7 @@ module _ (w : World) (b : ℕ) where
 
   -- it asks the office
   asks_of : (a : Action) → IfSome (writer_asks a w b) (Spares w)
-  asks_of (action.Ask c) = record { lower = λ e. refl; writer = λ d lt e. e; reader = λ d lt e. e }
+  asks_of (action.Ask c) = record { lower = λ e. refl; writer = λ d lt e. e; reader = λ d lt e. e; primary = λ place g. g }
   asks_of action.Wait = tt
   asks_of action.Took = tt
   asks_of (action.Dial to r) = tt
@@ -268,31 +334,25 @@ steps_kept w b action.Memory queue = own_kept w b None
 
 -- WHAT THE OTHERS DO
 
-some_both : {A : Type 0} (P Q R : A → Type 0) (o : Option A) → ((x : A) → P x → Q x → R x) → IfSome o P → IfSome o Q → IfSome o R
-some_both P Q R None f h k = tt
-some_both P Q R (Some x) f h k = f x h k
+some_all : {A : Type 0} (P Q R S : A → Type 0) (o : Option A) → ((x : A) → P x → Q x → R x → S x) → IfSome o P → IfSome o Q → IfSome o R → IfSome o S
+some_all P Q R S None f h k l = tt
+some_all P Q R S (Some x) f h k l = f x h k l
 
 stays_over : (w : World) (k : Change) → Stays w k → (c : ℕ) → reads_from (w.readers k.reader_at) c ≡ false → reads_from k.reader c ≡ false
 stays_over w k s c e = subst (λ (x : Reader). reads_from x c ≡ false) (sym s.reader) e
 
-lower_spares : (w : World) (c : ℕ) (k : Change) → has_events w c ≡ true → LowerOpens w c k → Stays w k → Spares w k
-lower_spares w c k h s r = record {
+lower_spares : (w : World) (c : ℕ) (k : Change) → has_events w c ≡ true → LowerOpens w c k → Stays w k → Aside w k → Spares w k
+lower_spares w c k h s r a = record {
   lower = λ e. absurd (true_false (has_events w c) h (subst (λ (n : ℕ). has_events w n ≡ false) s.at_is e));
   writer = λ d lt e. subst (λ (x : Writing). is_conn x.conn d ≡ false) (sym s.writer_same) e;
   reader = λ d lt e. stays_over w k r d e;
-}
-
-beside_spares : (w : World) (k : Change) → Beside w k → Stays w k → Spares w k
-beside_spares w k s r = record {
-  lower = λ e. s.lower_same;
-  writer = λ d lt e. subst (λ (x : Writing). is_conn x.conn d ≡ false) (sym s.writer_same) e;
-  reader = λ d lt e. stays_over w k r d e;
+  primary = λ place g. subst (λ (x : Primary). Gone x w place) (sym a.primary) g;
 }
 
 -- A reader asks its node, over a connection that has a new number.
 dials_spares : (w : World) (i n : ℕ) (read : ReadOp) (answered : Bool) → Spares w (reader_dials w i n read answered)
-dials_spares w i n read true = record { lower = λ e. refl; writer = λ d lt e. e; reader = λ d lt e. above_so d w.next_conn lt }
-dials_spares w i n read false = record { lower = λ e. refl; writer = λ d lt e. e; reader = λ d lt e. refl }
+dials_spares w i n read true = record { lower = λ e. refl; writer = λ d lt e. e; reader = λ d lt e. above_so d w.next_conn lt; primary = λ place g. g }
+dials_spares w i n read false = record { lower = λ e. refl; writer = λ d lt e. e; reader = λ d lt e. refl; primary = λ place g. g }
 
 own_reader_spares : (x : Reader) (w : World) (i n : ℕ) (read : ReadOp) (answered : Bool) → IfSome (own_reader_as x w i n read answered) (Spares w)
 own_reader_spares no_reader w i n read answered = dials_spares w i n read (answered && w.running n)
@@ -311,9 +371,10 @@ turn_spares w i c d s t turn.Goes is same = record {
   lower = λ e. refl;
   writer = λ k lt e. e;
   reader = λ k lt e. subst (λ (n : ℕ). (n == k) ≡ false) same (subst (λ (x : Reader). reads_from x k ≡ false) is e);
+  primary = λ place g. g;
 }
-turn_spares w i c d s t turn.Verified is same = record { lower = λ e. refl; writer = λ k lt e. e; reader = λ k lt e. refl }
-turn_spares w i c d s t (turn.Fails f) is same = record { lower = λ e. refl; writer = λ k lt e. e; reader = λ k lt e. refl }
+turn_spares w i c d s t turn.Verified is same = record { lower = λ e. refl; writer = λ k lt e. e; reader = λ k lt e. refl; primary = λ place g. g }
+turn_spares w i c d s t (turn.Fails f) is same = record { lower = λ e. refl; writer = λ k lt e. e; reader = λ k lt e. refl; primary = λ place g. g }
 
 reader_up_spares : (x : Reader) (w : World) (i c : ℕ) (n : Next) → w.readers i ≡ x → IfSome (reader_up_as x w i c n) (Spares w)
 reader_up_spares no_reader w i c n is = tt
@@ -321,6 +382,125 @@ reader_up_spares (reads d s) w i c n is =
     let t : ReadTaken = take_from s (from_node_of n) in
     when-each (Spares w) (d == c) _ (λ same. turn_spares w i c d s t t.does is (eqb-true d c same))
 reader_up_spares (has_read b) w i c n is = tt
+
+-- WHAT A PRIMARY DOES
+
+-- It hasn't begun: nothing is said of a place from which it takes nothing.
+abbrev IsNew : World → ℕ → Type 0
+IsNew w i = (place : ℕ) → Gone (w.primaries i) w place → ⊥
+
+new_so : (w : World) (i : ℕ) (p : Primary) → w.primaries i ≡ p → ((place : ℕ) → Gone p w place → ⊥) → IsNew w i
+new_so w i p is never place g = never place (subst (λ (x : Primary). Gone x w place) is g)
+
+begins_spares : (t : Told) (w : World) (i : ℕ) (at : Place) (b : BlockId) (members : List NodeId) (answers : List Bool) → IsNew w i → IfSome (begins_as t w i at b members answers) (Spares w)
+begins_spares (Ok (office.Stamp s)) w i at b members answers new = tt
+begins_spares (Ok (office.Reopened r)) w i at b members answers new = tt
+begins_spares (Ok (office.Begun begun)) w i at b members answers new = record { lower = λ e. refl; writer = λ d lt e. e; reader = λ d lt e. e; primary = λ place g. absurd (new place g) }
+begins_spares (Ok office.Nothing) w i at b members answers new = tt
+begins_spares (Err fault) w i at b members answers new = record { lower = λ e. refl; writer = λ d lt e. e; reader = λ d lt e. e; primary = λ place g. absurd (new place g) }
+
+begins_at_spares : (p : Primary) (w : World) (i n : ℕ) (b : BlockId) (members : List NodeId) (answers : List Bool) → w.primaries i ≡ p → IfSome (begins_at p w i n b members answers) (Spares w)
+begins_at_spares no_primary w i n b members answers is = tt
+begins_at_spares (was_told asked told) w i n b members answers is =
+    when-each (Spares w) (asked.0 == b.0 && w.running n && are_members members) (begins_as told w i (place_of w n) b members answers)
+    (λ _. begins_spares told w i (place_of w n) b members answers (new_so w i (was_told asked told) is (λ place g. g)))
+begins_at_spares (leads l) w i n b members answers is = tt
+begins_at_spares (has_led r) w i n b members answers is = tt
+
+-- it asks the office
+commits_spares : (s : OwnStep) (w : World) (i : ℕ) (l : Leading) → IfSome (primary_commits s w i l) (Spares w)
+commits_spares step.Waits w i l = tt
+commits_spares (step.Updates c) w i l = tt
+commits_spares (step.Commits c) w i l = record { lower = λ e. refl; writer = λ d lt e. e; reader = λ d lt e. e; primary = λ place g. never_told (is_alive w l.at) (listens_at l.state.phase (slice_get l.state.standings place)) }
+commits_spares (step.Ends r) w i l = tt
+
+asks_spares : (p : Primary) (w : World) (i : ℕ) (b : BlockId) → w.primaries i ≡ p → IfSome (primary_asks p w i b) (Spares w)
+asks_spares no_primary w i b is = record { lower = λ e. refl; writer = λ d lt e. e; reader = λ d lt e. e; primary = λ place g. absurd (new_so w i no_primary is (λ q h. h) place g) }
+asks_spares (was_told c t) w i b is = tt
+asks_spares (leads l) w i b is = when-each (Spares w) (is_alive w l.at && is_none l.told) _ (λ _. commits_spares (recovery.own_step l.state).does w i l)
+asks_spares (has_led r) w i b is = tt
+
+-- its further steps
+module _ (w : World) (i : ℕ) (l : Leading) (is : w.primaries i ≡ leads l) where
+  gone_so : (place : ℕ) → Gone (w.primaries i) w place → Gone (leads l) w place
+  gone_so place g = subst (λ (x : Primary). Gone x w place) is g
+
+  steps_spares : (s : OwnStep) (p : PrimaryState) → ((place : ℕ) → Gone (leads l) w place → IsDeaf p place) → IfSome (leads_step s w i l p) (Spares w)
+  steps_spares step.Waits p deaf = tt
+  steps_spares (step.Updates c) p deaf = record { lower = λ e. refl; writer = λ d lt e. e; reader = λ d lt e. e; primary = λ place g. deaf_gone w l place p (deaf place (gone_so place g)) }
+  steps_spares (step.Commits c) p deaf = tt
+  steps_spares (step.Ends r) p deaf = record { lower = λ e. refl; writer = λ d lt e. e; reader = λ d lt e. e; primary = λ place g. tt }
+
+  told_spares : (s : OwnStep) (t : Told) → IfSome (commits_step s w i l t) (Spares w)
+  told_spares step.Waits t = tt
+  told_spares (step.Updates c) t = tt
+  told_spares (step.Commits c) t = record { lower = λ e. refl; writer = λ d lt e. e; reader = λ d lt e. e; primary = λ place g. tt }
+  told_spares (step.Ends r) t = tt
+
+  leads_spares : (t : Option Told) → l.told ≡ t → is_alive w l.at ≡ true → IfSome (leads_told t w i l) (Spares w)
+  leads_spares None none alive =
+      steps_spares (recovery.own_step l.state).does (recovery.own_step l.state).primary
+      (λ place g. own_deaf l.state place (deaf_from w l place (both_so (is_alive w l.at) (is_none l.told) alive (ap (λ (t : Option Told). is_none t) none)) g))
+  leads_spares (Some told) is_told alive = told_spares (recovery.own_step l.state).does told
+
+  -- it hears something from a member to which it listens
+  hears_spares : (place c : ℕ) (x : Next) (o : Option Standing) → slice_get l.state.standings place ≡ o → (is_alive w l.at && is_none l.told) ≡ true → IfSome (hears_change w i l place c x o) (Spares w)
+  hears_spares place c x None at takes = tt
+  hears_spares place c x (Some s) at takes =
+      when-each (Spares w) (listens l.state.phase s) _
+      (λ listening. record {
+        lower = λ e. refl;
+        writer = λ d lt e. e;
+        reader = λ d lt e. e;
+        primary = λ q g. deaf_gone w l q (heard_at l.state place (heard_of x)) (heard_deaf l.state place q (heard_of x) s at listening (deaf_from w l q takes (gone_so q g)));
+      })
+
+own_primary_spares : (p : Primary) (w : World) (i : ℕ) → w.primaries i ≡ p → IfSome (own_primary_as p w i) (Spares w)
+own_primary_spares no_primary w i is = tt
+own_primary_spares (was_told b t) w i is = tt
+own_primary_spares (leads l) w i is = when-each (Spares w) (is_alive w l.at) _ (λ alive. leads_spares w i l is l.told refl alive)
+own_primary_spares (has_led r) w i is = tt
+
+primary_up_spares : (p : Primary) (w : World) (i place c : ℕ) (x : Next) → w.primaries i ≡ p → IfSome (primary_up_as p w i place c x) (Spares w)
+primary_up_spares no_primary w i place c x is = tt
+primary_up_spares (was_told b t) w i place c x is = tt
+primary_up_spares (leads l) w i place c x is =
+    when-each (Spares w) (is_alive w l.at && is_none l.told) _ (λ takes. hears_spares w i l is place c x (slice_get l.state.standings place) refl takes)
+primary_up_spares (has_led r) w i place c x is = tt
+
+asks_kept : (w : World) (r : Recovery) → Keeps w (happens w (model.primary_asks r))
+unfolding happens outcome
+asks_kept w r =
+    after_kept w (model.primary_asks r) (outcome w (model.primary_asks r)) (changed_kept w w (primary_asks (w.primaries r.primary) w r.primary r.block) (keeps_same w) (asks_spares (w.primaries r.primary) w r.primary r.block refl))
+
+begins_kept : (w : World) (r : Recovery) (answers : List Bool) → Keeps w (happens w (begins_so r answers))
+unfolding happens outcome
+begins_kept w r answers =
+    after_kept w (begins_so r answers) (outcome w (begins_so r answers))
+    (changed_kept w w (own_recover w r.primary r.node.0 r.block r.members answers) (keeps_same w) (begins_at_spares (w.primaries r.primary) w r.primary r.node.0 r.block r.members answers refl))
+
+goes_kept : (w : World) (r : Recovery) → Keeps w (happens w (goes_on r))
+unfolding happens outcome
+goes_kept w r = after_kept w (goes_on r) (outcome w (goes_on r)) (changed_kept w w (own_primary w r.primary) (keeps_same w) (own_primary_spares (w.primaries r.primary) w r.primary refl))
+
+recovers_kept : (w : World) (r : Recovery) → Keeps w (run w (model.primary_asks r ∷ (begins_so r (all_answered r.members) ∷ [])))
+recovers_kept w r =
+    let u : World = happens w (model.primary_asks r) in
+    keeps_then w u (happens u (begins_so r (all_answered r.members))) (asks_kept w r) (begins_kept u r (all_answered r.members))
+
+leading_kept : (s : OwnStep) (w : World) (r : Recovery) → Keeps w (run w (leads_events s r))
+leading_kept step.Waits w r = goes_kept w r
+leading_kept (step.Updates c) w r = goes_kept w r
+leading_kept (step.Ends e) w r = goes_kept w r
+leading_kept (step.Commits c) w r =
+    let u : World = happens w (model.primary_asks r) in
+    keeps_then w u (happens u (goes_on r)) (asks_kept w r) (goes_kept u r)
+
+primary_kept : (p : Primary) (w : World) (r : Recovery) → Keeps w (run w (primary_events p r))
+primary_kept no_primary w r = recovers_kept w r
+primary_kept (was_told b t) w r = recovers_kept w r
+primary_kept (leads l) w r = leading_kept (recovery.own_step l.state).does w r
+primary_kept (has_led e) w r = recovers_kept w r
 
 -- a message leaves every end as it was
 message_over : (k : Marks) (x : Next) (y : Message) → x ≡ message y → k.over ≡ (marks_taken k x).over
@@ -354,11 +534,11 @@ module _ (w : World) (opens : OpenEnds w) (placed : Placed w) where
   down_next c answered (Some x) h =
       let v : World = down_taken w c x in
       changed_kept w v (lower_down (w.lowers c) v c x answered false) (down_kept w c x)
-      (some_both (LowerOpens v c) (Stays v) (Spares v) (lower_down (w.lowers c) v c x answered false) (λ k s. lower_spares v c k h s)
+      (some_all (LowerOpens v c) (Stays v) (Aside v) (Spares v) (lower_down (w.lowers c) v c x answered false) (λ k s. lower_spares v c k h s)
       (lower-down-opens v c (w.lowers c) x answered false
       (λ y e. below-over (w.lowers c) _ _ (put_over w.down_marks c (marks_taken (w.down_marks c) x) (message_over (w.down_marks c) x y e) c) (opens.below c))
       (mirror_opens c) fresh)
-      (lower-down-stays (w.lowers c) v c x answered false))
+      (lower-down-stays (w.lowers c) v c x answered false) (lower-down-aside (w.lowers c) v c x answered false))
 
   down_keeps : (conn : ConnId) (answered : Bool) → has_events w conn.0 ≡ true → Keeps w (happens w (event.Down conn answered))
   unfolding happens outcome
@@ -373,9 +553,9 @@ module _ (w : World) (opens : OpenEnds w) (placed : Placed w) where
       after_kept w (event.Ready conn) (outcome w (event.Ready conn))
       (when-each (Keeps w) (is_served w c) (changed w (lower_ready (w.lowers c) w c false))
       (λ _. changed_kept w w (lower_ready (w.lowers c) w c false) (keeps_same w)
-      (some_both (LowerOpens w c) (Stays w) (Spares w) (lower_ready (w.lowers c) w c false) (λ k s. lower_spares w c k h s)
+      (some_all (LowerOpens w c) (Stays w) (Aside w) (Spares w) (lower_ready (w.lowers c) w c false) (λ k s. lower_spares w c k h s)
       (lower-ready-opens w c (w.lowers c) false (opens.below c) (mirror_opens c))
-      (lower-ready-stays (w.lowers c) w c false))))
+      (lower-ready-stays (w.lowers c) w c false) (lower-ready-aside (w.lowers c) w c false))))
 
   -- the upper end may still take: a member has further events
   abbrev MayTake : Upper → Type 0
@@ -390,17 +570,16 @@ module _ (w : World) (opens : OpenEnds w) (placed : Placed w) where
   up_some c x (by_member d) h =
       let v : World = up_taken w c x in
       changed_kept w v (mirror_up (w.lowers d) v d x false) (up_kept w c x)
-      (some_both (LowerOpens v d) (Stays v) (Spares v) (mirror_up (w.lowers d) v d x false) (λ k s. lower_spares v d k h s)
+      (some_all (LowerOpens v d) (Stays v) (Aside v) (Spares v) (mirror_up (w.lowers d) v d x false) (λ k s. lower_spares v d k h s)
       (mirror-up-opens v d (w.lowers d) x false (opens.below d)
       (λ y e. mirror-over w.up_marks v.up_marks (w.lowers d) (put_over w.up_marks c (marks_taken (w.up_marks c) x) (message_over (w.up_marks c) x y e)) (mirror_opens d)))
-      (mirror-up-stays (w.lowers d) v d x false))
+      (mirror-up-stays (w.lowers d) v d x false) (mirror-up-aside (w.lowers d) v d x false))
   up_some c x (by_reader i) h =
       let v : World = up_taken w c x in
       changed_kept w v (reader_up v i c x) (up_kept w c x) (reader_up_spares (v.readers i) v i c x refl)
   up_some c x (by_primary i place) h =
       let v : World = up_taken w c x in
-      changed_kept w v (primary_up v i place c x) (up_kept w c x)
-      (some_both (Beside v) (Stays v) (Spares v) (primary_up v i place c x) (λ k s. beside_spares v k s) (primary-up-beside v i place c x) (primary-up-stays v i place c x))
+      changed_kept w v (primary_up v i place c x) (up_kept w c x) (primary_up_spares (v.primaries i) v i place c x refl)
 
   up_next : (c : ℕ) (o : Option Next) → MayTake (w.dialled c).upper → IfSome (up_as w c false o) (Keeps w)
   up_next c None h = tt
@@ -443,6 +622,7 @@ module _ (w : World) (opens : OpenEnds w) (placed : Placed w) where
 pub due_keeps : (w : World) (queues : Queues) (d : Due) → IsOrderly w → is_due w queues d ≡ true → Keeps w (run w (due_events w queues d))
 due_keeps w queues (due.Own b) h is = steps_kept w b.0 (action_of w b) (queues b.0)
 due_keeps w queues (due.Reader ask) h is = reader_kept w ask
+due_keeps w queues (due.Primary r) h is = primary_kept (w.primaries r.primary) w r
 due_keeps w queues (due.Down c) h is = down_keeps w h.open_ends h.placed c true (lower_has w h.open_ends h.placed c.0 (takes_down (w.lowers c.0) w c.0 (next_down w c.0)) is)
 due_keeps w queues (due.Ready c) h is = ready_keeps w h.open_ends h.placed c (lower_has w h.open_ends h.placed c.0 (acts_below (w.lowers c.0) w c.0) is)
 due_keeps w queues (due.Up c) h is = up_keeps w h.open_ends h.placed c (may_take w h.open_ends h.placed c.0 (is_some (next_up w c.0)) (w.dialled c.0).upper refl is)

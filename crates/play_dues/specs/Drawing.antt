@@ -12,6 +12,8 @@ use Rattle.play_model.specs.States.{PlayState}
 use Rattle.play_clients.specs.declared.clients.Client.{Client}
 use Rattle.play_nodes.specs.declared.nodes.Nodes.{Nodes}
 use Rattle.play_reads.specs.declared.reads.Reads.{Reads}
+use Rattle.play_recoveries.specs.declared.recoveries.Recoveries.{Recoveries}
+use Rattle.play_recoveries.specs.Places.{recoveries_of}
 use Rattle.play_readers.specs.Asks.{asks_of}
 use Rattle.play_dues.specs.declared.live.LiveConns.{LiveConns}
 use Rattle.play_dues.specs.Listing.{all_dues}
@@ -26,10 +28,11 @@ DrawsFrom (d ∷ due) old new result = (new ≡ (pcg32 old).1) × (result ≡ dr
 
 -- The generator draws this of all that is due, where the list of live connections is up to date.
 abbrev pub DrawsDue : {F R I O : Type 0} → roads.Ghosts R I O → link_in.Ghosts I → link_out.Ghosts O → LiveConns →
-    Nodes F I O → List (Client I O) → Reads I O → R → R → Lcg → Lcg → Option Due → Type 0
-DrawsDue r i o live n clients reads road road' old new result =
-    Tells r i o n clients reads road road' (λ w queues. IsCurrent w live
-    → DrawsFrom (all_dues w queues (blocks_of clients) (asks_of reads.clients.items)) old new result)
+    Nodes F I O → List (Client I O) → Reads I O → Recoveries I O → R → R → Lcg → Lcg → Option Due → Type 0
+DrawsDue r i o live n clients reads recoveries road road' old new result =
+    Tells r i o n clients reads recoveries road road' (λ w queues. IsCurrent w live
+    → DrawsFrom (all_dues w queues (blocks_of clients) (asks_of reads.clients.items)
+    (recoveries_of recoveries.clients.items)) old new result)
 
 -- What a play's generator draws of what is due in the play is what happens in its next draw.
 abbrev pub PlaysAreDrawn : Type 0

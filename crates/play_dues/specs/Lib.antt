@@ -4,6 +4,7 @@ pub mod Conns
 pub mod Writers
 pub mod Own
 pub mod Readers
+pub mod Primaries
 pub mod Steps
 pub mod Places
 pub mod Spent

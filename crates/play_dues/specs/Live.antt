@@ -11,7 +11,9 @@ use Rattle.play_model.specs.Dues.{Queues, when, upto, is_due, due_events}
 use Rattle.play_clients.specs.declared.clients.Client.{Client}
 use Rattle.play_nodes.specs.declared.nodes.Nodes.{Nodes}
 use Rattle.play_nodes.specs.Dues.{IsOrderly}
+use Rattle.play_primaries.specs.Dues.{ArePlaced}
 use Rattle.play_reads.specs.declared.reads.Reads.{Reads}
+use Rattle.play_recoveries.specs.declared.recoveries.Recoveries.{Recoveries}
 use Rattle.play_dues.specs.declared.live.LiveConns.{LiveConns}
 use Rattle.play_dues.specs.Spending.{EndsShow}
 use Rattle.play_dues.specs.Spent.{is_spent}
@@ -47,16 +49,16 @@ pub record IsCurrent (w : World) (live : LiveConns) : Type 0 where
 
 -- Whether a number is no connection that is spent, in each world that they show.
 abbrev pub TellsLive : {F I O : Type 0} → link_in.Ghosts I → link_out.Ghosts O → ConnId → Nodes F I O →
-    List (Client I O) → Reads I O → Bool → Type 0
-TellsLive i o conn n clients reads result =
-    (w : World) (net : Net) → EndsShow i o w net n clients reads
+    List (Client I O) → Reads I O → Recoveries I O → Bool → Type 0
+TellsLive i o conn n clients reads recoveries result =
+    (w : World) (net : Net) → EndsShow i o w net n clients reads recoveries
     → result ≡ not (nat_lt conn.0 w.next_conn && is_spent w conn.0)
 
 -- Such numbers are left of these.
 abbrev pub DropsSpent : {F I O : Type 0} → link_in.Ghosts I → link_out.Ghosts O → List ConnId → List ConnId →
-    Nodes F I O → List (Client I O) → Reads I O → Type 0
-DropsSpent i o old new n clients reads =
-    (w : World) (net : Net) → EndsShow i o w net n clients reads
+    Nodes F I O → List (Client I O) → Reads I O → Recoveries I O → Type 0
+DropsSpent i o old new n clients reads recoveries =
+    (w : World) (net : Net) → EndsShow i o w net n clients reads recoveries
     → new ≡ filter (λ c. not (nat_lt c.0 w.next_conn && is_spent w c.0)) old
 
 -- a number that passes a test or isn't below this one
@@ -70,9 +72,9 @@ HasMore old new from count = (has : ℕ → Bool) → from ≤ count → old ≡
 
 -- What covered a world that they show is up to date in it.
 abbrev pub IsRefreshed : {F I O : Type 0} → link_in.Ghosts I → link_out.Ghosts O → LiveConns → LiveConns →
-    Nodes F I O → List (Client I O) → Reads I O → Type 0
-IsRefreshed i o old new n clients reads =
-    (w : World) (net : Net) → EndsShow i o w net n clients reads → Covers w old
+    Nodes F I O → List (Client I O) → Reads I O → Recoveries I O → Type 0
+IsRefreshed i o old new n clients reads recoveries =
+    (w : World) (net : Net) → EndsShow i o w net n clients reads recoveries → Covers w old
     → IsCurrent w new
 
 -- LAWS
@@ -81,8 +83,9 @@ IsRefreshed i o old new n clients reads =
 abbrev pub CurrentCovers : Type 0
 CurrentCovers = (w : World) (live : LiveConns) → IsCurrent w live → Covers w live
 
--- What covers a world covers the one after whatever is due.
+-- What covers a world covers the one after whatever is due, where primaries have their connections at their places
+-- (recoveries_fit).
 abbrev pub CoversOn : Type 0
-CoversOn = (w : World) (queues : Queues) (d : Due) (live : LiveConns) → IsOrderly w → is_due w queues d ≡ true →
-    Covers w live
+CoversOn = (w : World) (queues : Queues) (d : Due) (live : LiveConns) → IsOrderly w → ArePlaced w →
+    is_due w queues d ≡ true → Covers w live
     → Covers (run w (due_events w queues d)) live

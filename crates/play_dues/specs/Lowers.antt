@@ -14,19 +14,21 @@ use Rattle.play_nodes.specs.Dues.{IsOrderly}
 use Rattle.play_nodes.specs.Showing.{NodesShow}
 use Rattle.play_reads.specs.declared.reads.Reads.{Reads}
 use Rattle.play_reads.specs.Showing.{ReadsShow}
-use Rattle.play_dues.specs.Showing.{NoPrimaries, Tells}
+use Rattle.play_recoveries.specs.declared.recoveries.Recoveries.{Recoveries}
+use Rattle.play_recoveries.specs.Showing.{RecoveriesShow}
+use Rattle.play_dues.specs.Showing.{Tells}
 
 -- Whether it is due that it takes what stands next, with whichever clients.
 abbrev pub TellsLower : {F R I O : Type 0} → roads.Ghosts R I O → link_in.Ghosts I → link_out.Ghosts O → ConnId →
-    Nodes F I O → Reads I O → R → R → Bool → Type 0
-TellsLower {F} {R} {I} {O} r i o conn n reads road road' result =
+    Nodes F I O → Reads I O → Recoveries I O → R → R → Bool → Type 0
+TellsLower {F} {R} {I} {O} r i o conn n reads recoveries road road' result =
     (clients : List (Client I O)) →
-    Tells r i o n clients reads road road' (λ w queues. result ≡ is_due w queues (due.Down conn))
+    Tells r i o n clients reads recoveries road road' (λ w queues. result ≡ is_due w queues (due.Down conn))
 
 -- Whether it is due that it acts without a message.
 abbrev pub TellsActs : {F I O : Type 0} → link_in.Ghosts I → link_out.Ghosts O → ConnId → Nodes F I O → Reads I O →
-    Bool → Type 0
-TellsActs i o conn n reads result =
-    (w : World) (net : Net) (queues : Queues) → NodesShow i o w net n → IsOrderly w → NoPrimaries w →
-    ReadsShow i o w net n.blocks.items reads
+    Recoveries I O → Bool → Type 0
+TellsActs i o conn n reads recoveries result =
+    (w : World) (net : Net) (queues : Queues) → NodesShow i o w net n → IsOrderly w →
+    ReadsShow i o w net n.blocks.items reads → RecoveriesShow i o w net n.blocks.items recoveries
     → result ≡ is_due w queues (due.Ready conn)

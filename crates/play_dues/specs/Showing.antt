@@ -1,11 +1,10 @@
--- The nodes, the clients, the reads and the roads of a play show a world and the queues.
-use Rattle.std.specs.Prelude.{◌≡◌, ◌<◌, ℕ, List, slice_get, Some}
+-- The nodes, the clients, the reads, the recoveries and the roads of a play show a world and the queues.
+use Rattle.std.specs.Prelude.{◌≡◌, ℕ, List, slice_get, Some}
 use Rattle.hd_base.specs.declared.links.LinkIn as link_in
 use Rattle.hd_base.specs.declared.links.LinkOut as link_out
 use Rattle.hd_base.specs.declared.roads.Roads as roads
 use Rattle.reader_events.specs.Orders.{ReadersTakeInOrder}
 use Rattle.road_traffic.specs.Showing.{Net}
-use Rattle.world.specs.Parts.{by_primary}
 use Rattle.world.specs.Worlds.{World}
 use Rattle.play_model.specs.Dues.{Queues}
 use Rattle.play_clients.specs.declared.clients.Client.{Client}
@@ -14,7 +13,10 @@ use Rattle.play_nodes.specs.declared.nodes.Nodes.{Nodes}
 use Rattle.play_nodes.specs.Dues.{IsOrderly}
 use Rattle.play_nodes.specs.Showing.{NodesStand}
 use Rattle.play_reads.specs.declared.reads.Reads.{Reads}
+use Rattle.play_recoveries.specs.declared.recoveries.Recoveries.{Recoveries}
+use Rattle.play_primaries.specs.Dues.{ArePlaced}
 use Rattle.play_reads.specs.Showing.{ReadsShow}
+use Rattle.play_recoveries.specs.Showing.{RecoveriesShow}
 
 -- The client shows the world, and has the queue of its block.
 pub record QueueShows {I O : Type 0} (i : link_in.Ghosts I) (o : link_out.Ghosts O) (w : World) (net : Net)
@@ -29,27 +31,25 @@ pub record HasClient {I O : Type 0} (clients : List (Client I O)) (b : ℕ) : Ty
   pub found : slice_get clients place ≡ Some client
   pub block : client.block.0 ≡ b
 
--- No primary dialled.
-abbrev pub NoPrimaries : World → Type 0
-NoPrimaries w = (c : ℕ) → c < w.next_conn → (primary place : ℕ) → (w.dialled c).upper ≡ by_primary primary place → ⊥
-
--- The nodes, the reads and the roads show an orderly world, in which readers take in order (readers_take_in_order) and
--- no primary dialled; each client shows it with its queue, and a writer that has a connection is that of a client.
+-- The nodes, the reads, the recoveries and the roads show an orderly world, in which readers take in order
+-- (readers_take_in_order), and primaries have their connections at their places (recoveries_fit); each client shows it
+-- with its queue, and a writer that has a connection is that of a client.
 pub record DuesShow {F R I O : Type 0} (r : roads.Ghosts R I O) (i : link_in.Ghosts I) (o : link_out.Ghosts O)
     (w : World) (net : Net) (queues : Queues) (road : R) (n : Nodes F I O) (clients : List (Client I O))
-    (reads : Reads I O) : Type 0
+    (reads : Reads I O) (recoveries : Recoveries I O) : Type 0
   where
     pub stands : NodesStand r i o w net road n
     pub orderly : IsOrderly w
     pub in_order : ReadersTakeInOrder w
-    pub primaries : NoPrimaries w
+    pub primaries : ArePlaced w
     pub each : (k : ℕ) (c : Client I O) → slice_get clients k ≡ Some c → QueueShows i o w net queues c
     pub connected : (b c : ℕ) → (w.writers b).conn ≡ Some c → HasClient clients b
     pub reads_are : ReadsShow i o w net n.blocks.items reads
+    pub recoveries_are : RecoveriesShow i o w net n.blocks.items recoveries
 
 -- The roads show what they showed, and this holds of each world and the queues that are shown.
 abbrev pub Tells : {F R I O : Type 0} → roads.Ghosts R I O → link_in.Ghosts I → link_out.Ghosts O → Nodes F I O →
-    List (Client I O) → Reads I O → R → R → (World → Queues → Type 0) → Type 0
-Tells r i o n clients reads road road' P =
-    (w : World) (net : Net) (queues : Queues) → DuesShow r i o w net queues road n clients reads
-    → DuesShow r i o w net queues road' n clients reads × P w queues
+    List (Client I O) → Reads I O → Recoveries I O → R → R → (World → Queues → Type 0) → Type 0
+Tells r i o n clients reads recoveries road road' P =
+    (w : World) (net : Net) (queues : Queues) → DuesShow r i o w net queues road n clients reads recoveries
+    → DuesShow r i o w net queues road' n clients reads recoveries × P w queues

@@ -1,4 +1,4 @@
--- Which connections are spent, as nodes, clients and reads tell.
+-- Which connections are spent, as nodes, clients, reads and recoveries tell.
 use Rattle.std.specs.Prelude.{◌≡◌, ℕ, ◌&&◌, not, nat_lt, Bool, true, false}
 use Rattle.std.specs.Prelude.{List, slice_get, option_map, Option, Some, None}
 use Rattle.hd_base.specs.declared.links.LinkIn as link_in
@@ -15,8 +15,11 @@ use Rattle.play_nodes.specs.declared.connections.Lower.TheVariants as lower
 use Rattle.play_nodes.specs.declared.nodes.Nodes.{Nodes}
 use Rattle.play_nodes.specs.Showing.{has_events, NodesShow}
 use Rattle.play_reads.specs.declared.reads.Reads.{Reads}
+use Rattle.play_recoveries.specs.declared.recoveries.Recoveries.{Recoveries}
+use Rattle.play_primaries.specs.Dues.{ArePlaced}
 use Rattle.play_reads.specs.Showing.{ReadsShow}
-use Rattle.play_dues.specs.Showing.{HasClient, NoPrimaries}
+use Rattle.play_recoveries.specs.Showing.{RecoveriesShow}
+use Rattle.play_dues.specs.Showing.{HasClient}
 use Rattle.play_dues.specs.Spent.{is_given_up}
 use Rattle.play_dues.specs.Writers.{conn_of}
 
@@ -46,29 +49,30 @@ has_conn_at clients (Some place) c = has_conn_of (slice_get clients place) c
 
 -- WHAT IS SHOWN
 
--- The nodes, the clients and the reads show a world, in which no primary dialled, and a writer that has a connection is
--- that of a client.
+-- The nodes, the clients, the reads and the recoveries show a world, in which primaries have their connections at their
+-- places, and a writer that has a connection is that of a client.
 pub record EndsShow {F I O : Type 0} (i : link_in.Ghosts I) (o : link_out.Ghosts O) (w : World) (net : Net)
-    (n : Nodes F I O) (clients : List (Client I O)) (reads : Reads I O) : Type 0 where
+    (n : Nodes F I O) (clients : List (Client I O)) (reads : Reads I O) (recoveries : Recoveries I O) : Type 0 where
   pub nodes_are : NodesShow i o w net n
   pub placed : Placed w
-  pub primaries : NoPrimaries w
+  pub primaries : ArePlaced w
   pub each : (k : ℕ) (c : Client I O) → slice_get clients k ≡ Some c → ClientShows i o w net c
   pub connected : (b c : ℕ) → (w.writers b).conn ≡ Some c → HasClient clients b
   pub reads_are : ReadsShow i o w net n.blocks.items reads
+  pub recoveries_are : RecoveriesShow i o w net n.blocks.items recoveries
 
 -- Whether it is a connection that passes this test in each world that they show.
 abbrev pub TellsOf : {F I O : Type 0} → link_in.Ghosts I → link_out.Ghosts O → (World → ℕ → Bool) → ConnId →
-    Nodes F I O → List (Client I O) → Reads I O → Bool → Type 0
-TellsOf i o test conn n clients reads result =
-    (w : World) (net : Net) → EndsShow i o w net n clients reads
+    Nodes F I O → List (Client I O) → Reads I O → Recoveries I O → Bool → Type 0
+TellsOf i o test conn n clients reads recoveries result =
+    (w : World) (net : Net) → EndsShow i o w net n clients reads recoveries
     → result ≡ (nat_lt conn.0 w.next_conn && test w conn.0)
 
 -- Whether its lower end has no further events, with whichever clients.
 abbrev pub TellsEnded : {F I O : Type 0} → link_in.Ghosts I → link_out.Ghosts O → ConnId → Nodes F I O → Reads I O →
-    Bool → Type 0
-TellsEnded {F} {I} {O} i o conn n reads result =
-    (clients : List (Client I O)) → TellsOf i o (λ w c. not (has_events w c)) conn n clients reads result
+    Recoveries I O → Bool → Type 0
+TellsEnded {F} {I} {O} i o conn n reads recoveries result =
+    (clients : List (Client I O)) → TellsOf i o (λ w c. not (has_events w c)) conn n clients reads recoveries result
 
 -- whoever dialled it takes nothing from it any more
 abbrev pub gave_up : World → ℕ → Bool

@@ -2,7 +2,7 @@
 
 ghost use Rattle.std.specs.Prelude.{◌≡◌, ◌≤◌, length, option_map, slice_get};
 ghost use Rattle.member_events.specs.Roads.{RoadsPass};
-ghost use Rattle.play_dues.specs.Conns.{listed, writer_above, TellsUpper, TellsConn};
+ghost use Rattle.play_dues.specs.Conns.{listed, writer_above, TellsClient, TellsUpper, TellsConn};
 
 use crate::lowers::{lower_acts, lower_takes};
 use crate::places::client_of;
@@ -12,6 +12,7 @@ use play_clients::Client;
 use play_model::Due;
 use play_nodes::{Nodes, Upper};
 use play_reads::Reads;
+use play_recoveries::{Recoveries, primary_of};
 
 /// Which events of a connection are due.
 #[derive(Clone, Copy, Debug, PartialEq, Eq)]
@@ -63,36 +64,39 @@ pub fn dues_of<F: Files, I: LinkIn, O: LinkOut, R: Roads<Inward = I, Outward = O
     nodes: &Nodes<F, I, O>,
     clients: &[Client<I, O>],
     reads: &Reads<I, O>,
+    recoveries: &Recoveries<I, O>,
     roads: &mut R,
     conn: ConnId,
 ) -> ConnDues
     ensures tells { TellsConn R.Roads I.LinkIn O.LinkOut conn
-        nodes.now clients.now reads.now roads.old roads.new result }
+        nodes.now clients.now reads.now recoveries.now roads.old roads.new result }
     ensures pass { RoadsPass R.Roads roads.old roads.new }
 {
-    let down = lower_takes(nodes, reads, roads, conn);
-    let ready = lower_acts(nodes, reads, conn);
-    let up = upper_takes(nodes, clients, reads, roads, conn);
+    let down = lower_takes(nodes, reads, recoveries, roads, conn);
+    let ready = lower_acts(nodes, reads, recoveries, conn);
+    let up = upper_takes(nodes, clients, reads, recoveries, roads, conn);
     ConnDues { down, ready, up }
 }
 
-/// Whether the upper end of a connection takes what stands next: the member, the writer or the reader that dialled it.
+/// Whether the upper end of a connection takes what stands next: the member, the writer, the reader or the primary that
+/// dialled it.
 pub fn upper_takes<F: Files, I: LinkIn, O: LinkOut, R: Roads<Inward = I, Outward = O>>(
     nodes: &Nodes<F, I, O>,
     clients: &[Client<I, O>],
     reads: &Reads<I, O>,
+    recoveries: &Recoveries<I, O>,
     roads: &mut R,
     conn: ConnId,
 ) -> bool
     ensures tells { TellsUpper R.Roads I.LinkIn O.LinkOut conn
-        nodes.now clients.now reads.now roads.old roads.new result }
+        nodes.now clients.now reads.now recoveries.now roads.old roads.new result }
     ensures pass { RoadsPass R.Roads roads.old roads.new }
 {
     if conn.0 as usize >= nodes.connections.len() {
         return false;
     }
     if nodes.is_elsewhere(conn) {
-        return reads.can_up(roads, nodes, conn);
+        return client_takes(nodes, reads, recoveries, roads, conn);
     }
     let Some(block) = writer_of(nodes, conn) else {
         return nodes.can_up(roads, conn);
@@ -101,6 +105,24 @@ pub fn upper_takes<F: Files, I: LinkIn, O: LinkOut, R: Roads<Inward = I, Outward
         return false;
     };
     can_up(&clients[place], roads, conn)
+}
+
+/// Whether the reader or the primary that dialled a connection takes what stands next.
+fn client_takes<F: Files, I: LinkIn, O: LinkOut, R: Roads<Inward = I, Outward = O>>(
+    nodes: &Nodes<F, I, O>,
+    reads: &Reads<I, O>,
+    recoveries: &Recoveries<I, O>,
+    roads: &mut R,
+    conn: ConnId,
+) -> bool
+    ensures tells { TellsClient R.Roads I.LinkIn O.LinkOut conn
+        nodes.now reads.now recoveries.now roads.old roads.new result }
+    ensures pass { RoadsPass R.Roads roads.old roads.new }
+{
+    if primary_of(nodes, conn).is_some() {
+        return recoveries.can_up(roads, nodes, conn);
+    }
+    reads.can_up(roads, nodes, conn)
 }
 
 /// The block whose writer dialled a connection, if a writer did.

@@ -10,6 +10,7 @@ use play_clients::Client;
 use play_model::Due;
 use play_nodes::Nodes;
 use play_reads::Reads;
+use play_recoveries::Recoveries;
 use rand_core::utils::NextWord;
 use rand_pcg::Pcg32;
 
@@ -19,21 +20,30 @@ pub fn draw_due<F: Files, I: LinkIn, O: LinkOut, R: Roads<Inward = I, Outward = 
     nodes: &Nodes<F, I, O>,
     clients: &[Client<I, O>],
     reads: &Reads<I, O>,
+    recoveries: &Recoveries<I, O>,
     live: &LiveConns,
     roads: &mut R,
     generator: &mut Pcg32,
 ) -> Option<Due>
     ensures draws { DrawsDue R.Roads I.LinkIn O.LinkOut live.now
-        nodes.now clients.now reads.now roads.old roads.new generator.old generator.new result }
+        nodes.now clients.now reads.now recoveries.now roads.old roads.new generator.old generator.new result }
     ensures pass { RoadsPass R.Roads roads.old roads.new }
 {
     let conns = live.conns.as_slice();
-    let count = count_dues(nodes, clients, reads, conns, roads);
+    let count = count_dues(nodes, clients, reads, recoveries, conns, roads);
     if count == 0 {
         return None;
     }
     let word = generator.next_word();
-    pick_dues(nodes, clients, reads, conns, roads, word as u128 % count)
+    pick_dues(
+        nodes,
+        clients,
+        reads,
+        recoveries,
+        conns,
+        roads,
+        word as u128 % count,
+    )
 }
 
 /// What is drawn of what is due in a play is what happens in its next draw, and nothing is drawn only where nothing is

@@ -7,6 +7,7 @@ ghost use Rattle.play_dues.specs.Listing.{DuesAreListed, TellsDue, IsAlone, Coun
 use crate::conns::{dues_of, upper_takes};
 use crate::lowers::{lower_acts, lower_takes};
 use crate::places::has_own;
+use crate::primaries::acts;
 use crate::readers::begins;
 use crate::steps::{count_steps, pick_step};
 use hd_base::{ConnId, Files, LinkIn, LinkOut, Roads};
@@ -14,70 +15,76 @@ use play_clients::Client;
 use play_model::Due;
 use play_nodes::Nodes;
 use play_reads::Reads;
+use play_recoveries::Recoveries;
 
-/// Whether this is due. An own step of a block or of a reader that has no client isn't.
+/// Whether this is due. An own step of a block, of a reader or of a primary that has no client isn't.
 pub fn is_due<F: Files, I: LinkIn, O: LinkOut, R: Roads<Inward = I, Outward = O>>(
     nodes: &Nodes<F, I, O>,
     clients: &[Client<I, O>],
     reads: &Reads<I, O>,
+    recoveries: &Recoveries<I, O>,
     roads: &mut R,
     due: Due,
 ) -> bool
     ensures tells { TellsDue R.Roads I.LinkIn O.LinkOut due
-        nodes.now clients.now reads.now roads.old roads.new result }
-    ensures alone { IsAlone clients.now reads.now due → result ≡ false }
+        nodes.now clients.now reads.now recoveries.now roads.old roads.new result }
+    ensures alone { IsAlone clients.now reads.now recoveries.now due → result ≡ false }
     ensures pass { RoadsPass R.Roads roads.old roads.new }
 {
     match due {
         Due::Own { block } => has_own(clients, block),
         Due::Reader { ask } => begins(reads.clients.as_slice(), ask.reader),
-        Due::Down { conn } => lower_takes(nodes, reads, roads, conn),
-        Due::Ready { conn } => lower_acts(nodes, reads, conn),
-        Due::Up { conn } => upper_takes(nodes, clients, reads, roads, conn),
+        Due::Primary { recovery } => acts(recoveries.clients.as_slice(), recovery.primary),
+        Due::Down { conn } => lower_takes(nodes, reads, recoveries, roads, conn),
+        Due::Ready { conn } => lower_acts(nodes, reads, recoveries, conn),
+        Due::Up { conn } => upper_takes(nodes, clients, reads, recoveries, roads, conn),
     }
 }
 
-/// How many things are due of the writers, of the readers and of these connections. Three of a connection may be, so
-/// that a `usize` may not hold the count.
+/// How many things are due of the writers, of the readers, of the primaries and of these connections. Three of a
+/// connection may be, so that a `usize` may not hold the count.
 pub fn count_dues<F: Files, I: LinkIn, O: LinkOut, R: Roads<Inward = I, Outward = O>>(
     nodes: &Nodes<F, I, O>,
     clients: &[Client<I, O>],
     reads: &Reads<I, O>,
+    recoveries: &Recoveries<I, O>,
     conns: &[ConnId],
     roads: &mut R,
 ) -> u128
     ensures counts { CountsDues R.Roads I.LinkIn O.LinkOut conns.now
-        nodes.now clients.now reads.now roads.old roads.new result }
+        nodes.now clients.now reads.now recoveries.now roads.old roads.new result }
     ensures pass { RoadsPass R.Roads roads.old roads.new }
 {
-    let mut count = count_steps(clients, reads);
+    let mut count = count_steps(clients, reads, recoveries);
     for conn in conns {
-        let due = dues_of(nodes, clients, reads, roads, *conn);
+        let due = dues_of(nodes, clients, reads, recoveries, roads, *conn);
         count += due.count(*conn) as u128;
     }
     count
 }
 
-/// The thing with this number, of all that are due of the writers, of the readers and of these connections.
+/// The thing with this number, of all that are due of the writers, of the readers, of the primaries and of these
+/// connections.
 pub fn pick_dues<F: Files, I: LinkIn, O: LinkOut, R: Roads<Inward = I, Outward = O>>(
     nodes: &Nodes<F, I, O>,
     clients: &[Client<I, O>],
     reads: &Reads<I, O>,
+    recoveries: &Recoveries<I, O>,
     conns: &[ConnId],
     roads: &mut R,
     number: u128,
 ) -> Option<Due>
     ensures picks { PicksDue R.Roads I.LinkIn O.LinkOut number conns.now
-        nodes.now clients.now reads.now roads.old roads.new result }
+        nodes.now clients.now reads.now recoveries.now roads.old roads.new result }
     ensures pass { RoadsPass R.Roads roads.old roads.new }
 {
-    let steps = count_steps(clients, reads);
+    let steps = count_steps(clients, reads, recoveries);
     if number < steps {
-        return pick_step(clients, reads, number);
+        return pick_step(clients, reads, recoveries, number);
     }
     let mut rest = number - steps;
     for conn in conns {
-        let due = dues_of(nodes, clients, reads, roads, *conn);
+        let due = dues_of(nodes, clients, reads, recoveries, roads, *conn);
         let count = due.count(*conn) as u128;
         if rest < count {
             return due.pick(*conn, rest as usize);
@@ -87,7 +94,7 @@ pub fn pick_dues<F: Files, I: LinkIn, O: LinkOut, R: Roads<Inward = I, Outward =
     None
 }
 
-/// What is due in a play is what is due in its world, with its queues and its asks.
+/// What is due in a play is what is due in its world, with its queues, its asks and its recoveries.
 pub fn dues_are_listed()
     ensures { DuesAreListed }
 {}

@@ -16,6 +16,7 @@ use hd_base::{ConnId, Files, LinkIn, LinkOut};
 use play_clients::Client;
 use play_nodes::Nodes;
 use play_reads::Reads;
+use play_recoveries::Recoveries;
 use std::alloc::{AllocError, Global};
 
 /// The connections of which something may still be due, so that nobody has to ask those that ended long ago.
@@ -44,13 +45,15 @@ impl LiveConns {
         nodes: &Nodes<F, I, O>,
         clients: &[Client<I, O>],
         reads: &Reads<I, O>,
+        recoveries: &Recoveries<I, O>,
     ) -> Result<(), AllocError>
-        ensures { OnOk result (IsRefreshed I.LinkIn O.LinkOut self.old self.new nodes.now clients.now reads.now) }
+        ensures { OnOk result (IsRefreshed I.LinkIn O.LinkOut self.old self.new
+            nodes.now clients.now reads.now recoveries.now) }
     {
         let count = nodes.connections.len();
         add_numbers(&mut self.conns, self.known, count)?;
         self.known = count;
-        drop_spent(&mut self.conns, nodes, clients, reads);
+        drop_spent(&mut self.conns, nodes, clients, reads, recoveries);
         Ok(())
     }
 }
@@ -71,13 +74,16 @@ fn drop_spent<F: Files, I: LinkIn, O: LinkOut>(
     nodes: &Nodes<F, I, O>,
     clients: &[Client<I, O>],
     reads: &Reads<I, O>,
+    recoveries: &Recoveries<I, O>,
 )
-    ensures { DropsSpent I.LinkIn O.LinkOut conns.old.items conns.new.items nodes.now clients.now reads.now }
+    ensures { DropsSpent I.LinkIn O.LinkOut conns.old.items conns.new.items
+        nodes.now clients.now reads.now recoveries.now }
 {
     conns.retain(
         |conn|
-            ensures { TellsLive I.LinkIn O.LinkOut conn.now nodes.entry.now clients.entry.now reads.entry.now result }
-        { !is_spent(nodes, clients, reads, *conn) },
+            ensures { TellsLive I.LinkIn O.LinkOut conn.now
+                nodes.entry.now clients.entry.now reads.entry.now recoveries.entry.now result }
+        { !is_spent(nodes, clients, reads, recoveries, *conn) },
     );
 }
 

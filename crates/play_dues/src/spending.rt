@@ -11,6 +11,7 @@ use hd_base::{BlockId, ConnId, Files, LinkIn, LinkOut};
 use play_clients::Client;
 use play_nodes::{Lower, Nodes, Upper};
 use play_reads::Reads;
+use play_recoveries::{Recoveries, primary_of};
 
 /// Whether nothing will ever be due of a connection: its lower end has no further events, and whoever dialled it takes
 /// nothing from it any more. Of a number that no connection has the answer is no.
@@ -18,25 +19,31 @@ pub fn is_spent<F: Files, I: LinkIn, O: LinkOut>(
     nodes: &Nodes<F, I, O>,
     clients: &[Client<I, O>],
     reads: &Reads<I, O>,
+    recoveries: &Recoveries<I, O>,
     conn: ConnId,
 ) -> bool
-    ensures { TellsOf I.LinkIn O.LinkOut is_spent conn nodes.now clients.now reads.now result }
+    ensures { TellsOf I.LinkIn O.LinkOut is_spent conn nodes.now clients.now reads.now recoveries.now result }
 {
-    has_ended(nodes, reads, conn) && has_given_up(nodes, clients, reads, conn)
+    has_ended(nodes, reads, recoveries, conn)
+        && has_given_up(nodes, clients, reads, recoveries, conn)
 }
 
 /// Whether the lower end of a connection has no further events.
 fn has_ended<F: Files, I: LinkIn, O: LinkOut>(
     nodes: &Nodes<F, I, O>,
     reads: &Reads<I, O>,
+    recoveries: &Recoveries<I, O>,
     conn: ConnId,
 ) -> bool
-    ensures { TellsEnded I.LinkIn O.LinkOut conn nodes.now reads.now result }
+    ensures { TellsEnded I.LinkIn O.LinkOut conn nodes.now reads.now recoveries.now result }
 {
-    if nodes.is_elsewhere(conn) {
-        return reads.has_ended(conn);
+    if !nodes.is_elsewhere(conn) {
+        return has_shut(nodes, conn);
     }
-    has_shut(nodes, conn)
+    if primary_of(nodes, conn).is_some() {
+        return recoveries.has_ended(conn);
+    }
+    reads.has_ended(conn)
 }
 
 /// Whether the lower end of a connection, which stands among the nodes, has no further events.
@@ -54,14 +61,15 @@ fn has_shut<F: Files, I, O>(nodes: &Nodes<F, I, O>, conn: ConnId) -> bool
 }
 
 /// Whether whoever dialled a connection takes nothing from it any more: the member has no further events, the writer
-/// has no connection or another one, or the reader doesn't read over it.
+/// has no connection or another one, or the reader or the primary takes nothing from it.
 fn has_given_up<F: Files, I: LinkIn, O: LinkOut>(
     nodes: &Nodes<F, I, O>,
     clients: &[Client<I, O>],
     reads: &Reads<I, O>,
+    recoveries: &Recoveries<I, O>,
     conn: ConnId,
 ) -> bool
-    ensures { TellsOf I.LinkIn O.LinkOut gave_up conn nodes.now clients.now reads.now result }
+    ensures { TellsOf I.LinkIn O.LinkOut gave_up conn nodes.now clients.now reads.now recoveries.now result }
 {
     let at = conn.0 as usize;
     if at >= nodes.connections.len() {
@@ -69,9 +77,9 @@ fn has_given_up<F: Files, I: LinkIn, O: LinkOut>(
     }
     match nodes.connections[at].upper {
         Upper::Writer { block } => !is_connected(clients, block, conn),
-        Upper::Member { conn: above } => has_ended(nodes, reads, above),
+        Upper::Member { conn: above } => has_ended(nodes, reads, recoveries, above),
         Upper::Reader { .. } => !reads.reads_over(nodes, conn),
-        Upper::Primary { .. } => false,
+        Upper::Primary { .. } => !recoveries.leads_over(nodes, conn),
     }
 }
 

@@ -1,10 +1,13 @@
 -- After what is due no answer of the office waits for a writer, where none waited before.
-use Rattle.std.proofs.Common.{◌≡◌, ℕ, Bool, true, false, List, [], slice_get, Option, Some, None, IfSome, refl, sym, ◌∙◌, ap, subst, arith, ◌⊎◌, inl, inr}
+use Rattle.std.proofs.Common.{◌≡◌, ℕ, Bool, true, false, List, [], ◌∷◌, slice_get, Option, Some, None, IfSome, refl, sym, ◌∙◌, ap, subst, arith, ◌⊎◌, inl, inr}
 use Rattle.std.specs.Prelude.{◌==◌, ◌&&◌, nat_lt, not, is_none}
 use Rattle.std.proofs.lemmas.Bool.{false≢true}
 use Rattle.std.proofs.lemmas.Bool.Decides.{nat_tests}
 use Rattle.hd_base.specs.declared.numbers.NodeId.{NodeId}
 use Rattle.op_headers.specs.declared.ops.Op.{Op}
+use Rattle.recovery_core.specs.declared.primary.OwnStep.{OwnStep}
+use Rattle.recovery_core.specs.declared.primary.OwnStep.TheVariants as step
+use Rattle.recovery_core.specs.Primaries as primaries
 use Rattle.writer_core.specs.declared.actions.Action.{Action}
 use Rattle.writer_core.specs.declared.actions.Action.TheVariants as action
 use Rattle.writer_core.specs.declared.phases.Phase.{Phase}
@@ -15,7 +18,7 @@ use Rattle.writer_core.specs.Transitions.{given, own_step, dial_step, granted}
 use Rattle.world.specs.declared.events.Event.{Event}
 use Rattle.world.specs.declared.events.Event.TheVariants as event
 use Rattle.world.specs.declared.events.TakenCommand.{TakenCommand}
-use Rattle.world.specs.Parts.{Upper, by_writer, by_member, by_reader, by_primary, Told, Writing}
+use Rattle.world.specs.Parts.{Upper, by_writer, by_member, by_reader, by_primary, Told, Writing, Primary, no_primary, was_told, leads, has_led}
 use Rattle.world.specs.Worlds.{World, Change, apply}
 use Rattle.world.specs.Connections.{Next, next_down, next_up, down_taken, up_taken, is_served, is_conn}
 use Rattle.world.specs.Nodes.{lower_down, lower_ready, mirror_up}
@@ -24,8 +27,12 @@ use Rattle.world.specs.Primaries.{primary_up, writer_asks, writer_asks_office}
 use Rattle.world.specs.Events.{changed, down_as, upper_up, up_as, outcome, after_event, happens, run}
 use Rattle.world_laws.proofs.FactTables.{if-each, put-each, when-each}
 use Rattle.world_laws.proofs.SessionAsides.{Aside, lower-down-aside, lower-ready-aside, mirror-up-aside, own-reader-aside, reader-up-aside, primary-up-aside}
+use Rattle.world_settling.specs.Draws.{actor_of, is_writer}
+use Rattle.world_settling.proofs.Actors.{writers-stay}
 use Rattle.play_model.specs.declared.dues.Due.TheVariants as due
+use Rattle.play_model.specs.declared.recoveries.Recovery.{Recovery}
 use Rattle.play_model.specs.Asks.{request_of, asking_node}
+use Rattle.play_model.specs.Recoveries.{primary_asks, begins_so, goes_on, all_answered, leads_events, primary_events}
 use Rattle.play_model.specs.Dues.{asking, acting, own_events, action_of}
 use Rattle.play_model.specs.Laws.{IsQuiet}
 use Rattle.play_laws.specs.Untold.{StaysQuiet}
@@ -225,12 +232,32 @@ own-quiet w b (action.Send p) queue h = acting-quiet w b None (λ j. inr (h j)) 
 own-quiet w b (action.Answered k said) queue h = acting-quiet w b None (λ j. inr (h j)) (inl refl)
 own-quiet w b action.Memory queue h = acting-quiet w b None (λ j. inr (h j)) (inl refl)
 
+-- no writer acts
+quiet-on : (w : World) (e : Event) → is_writer (actor_of w e) ≡ false → IsQuiet w → IsQuiet (happens w e)
+quiet-on w e calm h b = ap (λ (x : Writing). x.told) (writers-stay w e b calm) ∙ h b
+
+leads-quiet : (w : World) (s : OwnStep) (r : Recovery) → IsQuiet w → IsQuiet (run w (leads_events s r))
+leads-quiet w step.Waits r h = quiet-on w (goes_on r) refl h
+leads-quiet w (step.Updates c) r h = quiet-on w (goes_on r) refl h
+leads-quiet w (step.Commits c) r h = quiet-on (happens w (primary_asks r)) (goes_on r) refl (quiet-on w (primary_asks r) refl h)
+leads-quiet w (step.Ends e) r h = quiet-on w (goes_on r) refl h
+
+begins-quiet : (w : World) (r : Recovery) → IsQuiet w → IsQuiet (run w (primary_asks r ∷ (begins_so r (all_answered r.members) ∷ [])))
+begins-quiet w r h = quiet-on (happens w (primary_asks r)) (begins_so r (all_answered r.members)) refl (quiet-on w (primary_asks r) refl h)
+
+primary-quiet : (w : World) (p : Primary) (r : Recovery) → IsQuiet w → IsQuiet (run w (primary_events p r))
+primary-quiet w no_primary r h = begins-quiet w r h
+primary-quiet w (was_told b t) r h = begins-quiet w r h
+primary-quiet w (leads l) r h = leads-quiet w (primaries.own_step l.state).does r h
+primary-quiet w (has_led x) r h = begins-quiet w r h
+
 pub stays-quiet : StaysQuiet
 unfolding happens outcome
 stays-quiet w queues (due.Own b) h = own-quiet w b.0 (action_of w b) (queues b.0) h
 stays-quiet w queues (due.Reader ask) h =
     let k : Option Change = own_reader w ask.reader ask.node.0 (request_of ask) true in
     after-quiet w (asking_node ask true) _ h (changed-quiet w h k (aside-leaves w h k (own-reader-aside w ask.reader ask.node.0 (request_of ask) true)))
+stays-quiet w queues (due.Primary r) h = primary-quiet w (w.primaries r.primary) r h
 stays-quiet w queues (due.Down c) h = after-quiet w (event.Down c true) _ h (when-each IsQuiet (is_served w c.0) _ (λ _. down-as-quiet w c.0 (next_down w c.0) h))
 stays-quiet w queues (due.Ready c) h = after-quiet w (event.Ready c) _ h (when-each IsQuiet (is_served w c.0) _
     (λ _. changed-quiet w h (lower_ready (w.lowers c.0) w c.0 false) (aside-leaves w h (lower_ready (w.lowers c.0) w c.0 false) (lower-ready-aside (w.lowers c.0) w c.0 false))))

@@ -1,6 +1,6 @@
 -- A reader joined a play.
-use Rattle.std.proofs.Common.{◌≡◌, ℕ, zero, suc, ◌<◌, ◌+◌, List, [], ◌∷◌, ◌++◌, slice_get, Option, Some, option_map, sym, ap, ◌∙◌, subst, arith}
-use Rattle.std.proofs.lemmas.Option.{same_Some, slice_get-map}
+use Rattle.std.proofs.Common.{◌≡◌, ℕ, ◌<◌, ◌+◌, List, [], ◌∷◌, ◌++◌, slice_get, Option, Some, option_map, sym, ap, ◌∙◌, subst}
+use Rattle.std.proofs.lemmas.Option.{slice_get-map}
 use Rattle.hd_base.specs.declared.files.Files as files
 use Rattle.hd_base.specs.declared.links.LinkIn as link_in
 use Rattle.hd_base.specs.declared.links.LinkOut as link_out
@@ -17,24 +17,16 @@ use Rattle.play_lines.specs.Asking.{AsksArePlays}
 use Rattle.play_lines.specs.Drawing.{blocks_in}
 use Rattle.play_lines.specs.Lines.{AsksBelow}
 use Rattle.play_lines.specs.Showing.{PlayIs}
-use Rattle.play_lines.proofs.Places.{less_next}
+use Rattle.play_lines.proofs.Places.{less_next, below_next, each_more}
 
 -- ONE MORE
 
--- what holds of each of these and of one more holds of each with it
-each_more : (P : ReadAsk → Type 0) (asks : List ReadAsk) (ask : ReadAsk) → ((k : ℕ) (a : ReadAsk) → slice_get asks k ≡ Some a → P a) → P ask → (k : ℕ) (a : ReadAsk) → slice_get (asks ++ ask ∷ []) k ≡ Some a → P a
-each_more P [] ask each here zero a at = subst P (same_Some ask a at) here
-each_more P [] ask each here (suc k) a at = cc
-each_more P (x ∷ asks) ask each here zero a at = each zero a at
-each_more P (x ∷ asks) ask each here (suc k) a at = each_more P asks ask (λ j b e. each (suc j) b e) here k a at
-
-below_next : (n : ℕ) → n < n + 1
-below_next n = omega arith
-
--- the asks of the lines so far, with that of the line of this number
-pub asked_more : (number : ℕ) (asks : List ReadAsk) (ask : ReadAsk) → ask.reader ≡ number → AsksBelow number asks → AsksBelow (number + 1) (asks ++ ask ∷ [])
-asked_more number asks ask is below =
-    each_more (λ a. a.reader < number + 1) asks ask (λ k a at. less_next a.reader number (below k a at)) (subst (λ (n : ℕ). n < number + 1) (sym is) (below_next number))
+-- what the lines so far asked, with what the line of this number asks
+pub asked_more : (number : ℕ) (p : PlayState) (ask : ReadAsk) → ask.reader ≡ number → AsksBelow number p → AsksBelow (number + 1) (asked p ask)
+asked_more number p ask is h = record {
+  reads = each_more (λ a. a.reader < number + 1) p.asks ask (λ k a at. less_next a.reader number (h.reads k a at)) (subst (λ (n : ℕ). n < number + 1) (sym is) (below_next number));
+  recovers = λ k rec at. less_next rec.primary number (h.recovers k rec at);
+}
 
 module _ {F R I O : Type 0} (f : files.Ghosts F) (r : roads.Ghosts R I O) (i : link_in.Ghosts I) (o : link_out.Ghosts O) where
   -- the other readers' numbers are below this one
@@ -53,7 +45,7 @@ module _ {F R I O : Type 0} (f : files.Ghosts F) (r : roads.Ghosts R I O) (i : l
             shows = record {
               nodes = is.stands.shows.nodes;
               reads = reads;
-              unled = is.stands.shows.unled;
+              recoveries = is.stands.shows.recoveries;
               clients = λ k c at. record { shows = (is.stands.shows.clients k c at).shows; queue = (is.stands.shows.clients k c at).queue };
               apart = is.stands.shows.apart;
               office = is.stands.shows.office;
@@ -64,6 +56,7 @@ module _ {F R I O : Type 0} (f : files.Ghosts F) (r : roads.Ghosts R I O) (i : l
             events = is.stands.events;
             clients = is.stands.clients;
             asks = subst (λ (xs : List ReadAsk). AsksFit p.nodes old.player.nodes.blocks.items xs) (sym h.joined.asks) (each_more (λ a. AskFits p.nodes old.player.nodes.blocks.items a) (asks_of old.player.reads.clients.items) ask is.stands.asks fits);
+            recovers = is.stands.recovers;
             connected = is.stands.connected;
           };
           nodes_are = is.nodes_are;
@@ -71,6 +64,8 @@ module _ {F R I O : Type 0} (f : files.Ghosts F) (r : roads.Ghosts R I O) (i : l
           generator = is.generator;
           asks = h.joined.asks ∙ ap (λ (xs : List ReadAsk). xs ++ ask ∷ []) is.asks;
           told = each_more (λ a. FilesTell f) p.asks ask is.told tell;
+          recovers = is.recovers;
+          formed = is.formed;
           rules = is.rules;
           live = is.live;
         });

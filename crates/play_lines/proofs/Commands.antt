@@ -258,7 +258,7 @@ plays_command blocks number (says.Step b event) o p e = cc
 plays_command blocks number (says.Expect n b state stamp written) o p e = cc
 
 module _ {F R I O : Type 0} (f : files.Ghosts F) (r : roads.Ghosts R I O) (i : link_in.Ghosts I) (o : link_out.Ghosts O) (line : Instruction) (old new : Playing F I O) (road : R) (ord : Ordered) (is : ordered_by line ≡ Some ord) (plays : OrdersArePlays f r i o) where
-  module _ (number : ℕ) (before : Before) (lines : ℕ) (p : PlayState) (stands : PlayIs f r i o p road old) (behind : IsBehind before lines p old) (asked : AsksBelow number p.asks) (l : LineFits before line) (here : CreatesHere old line) (few : lines < MAX_COMMANDS) where
+  module _ (number : ℕ) (before : Before) (lines : ℕ) (p : PlayState) (stands : PlayIs f r i o p road old) (behind : IsBehind before lines p old) (asked : AsksBelow number p) (l : LineFits before line) (here : CreatesHere old line) (few : lines < MAX_COMMANDS) where
     abbrev b : ℕ
     b = ord.block.0
 
@@ -302,7 +302,7 @@ module _ {F R I O : Type 0} (f : files.Ghosts F) (r : roads.Ghosts R I O) (i : l
         clients = λ x made. moved new.player.clients.items old.player.clients.items x left.blocks (was_made x made);
         given = λ x h. given_now x (moved old.player.clients.items new.player.clients.items x (sym left.blocks) h);
       };
-      asked = asked_next number p p refl asked;
+      asked = asked_next number p asked;
     }
       where
         was_made : (x : ℕ) → is_made (after before line) x ≡ true → HasClient old.player.clients.items x

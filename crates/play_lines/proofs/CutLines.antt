@@ -1,5 +1,6 @@
 -- A line that cuts a connection.
-use Rattle.std.proofs.Common.{◌≡◌, ℕ, ◌<◌, List, ◌++◌, length, slice_get, Option, Some, None, Result, Ok, Err, refl, sym, ap, ◌∙◌, subst}
+use Rattle.std.proofs.Common.{◌≡◌, ℕ, ◌<◌, true, List, ◌++◌, length, slice_get, Option, Some, None, Result, Ok, Err, refl, sym, ap, ◌∙◌, subst, eqb-true}
+use Rattle.std.specs.Prelude.{◌==◌, not}
 use Rattle.std.proofs.lemmas.List.{append-nil}
 use Rattle.hd_base.specs.declared.files.Files as files
 use Rattle.hd_base.specs.declared.links.LinkIn as link_in
@@ -8,12 +9,15 @@ use Rattle.hd_base.specs.declared.numbers.BlockId.{BlockId}
 use Rattle.hd_base.specs.declared.numbers.ConnId.{ConnId}
 use Rattle.hd_base.specs.declared.roads.Roads as roads
 use Rattle.world.specs.declared.events.Event.{Event}
-use Rattle.world.specs.Parts.{Writing}
-use Rattle.world.specs.Worlds.{World, start}
+use Rattle.world.specs.Connections.{lost_marks}
+use Rattle.world.specs.Enabled.{leads_from}
+use Rattle.world.specs.Parts.{Upper, by_writer, by_member, by_reader, by_primary, Marks, Writing, Primary, no_primary, was_told, leads, has_led}
+use Rattle.world.specs.Worlds.{World, put, start}
 use Rattle.world.specs.Events.{run}
 use Rattle.world_cuts.specs.Cutting.{cut_world, IsCut, CutsAreLosses}
 use Rattle.world_orders.specs.Open.{AllOpen}
 use Rattle.world_laws.specs.Placing.{Placed}
+use Rattle.world_laws.proofs.FactTables.{if-each}
 use Rattle.play_clients.specs.Blocks.{blocks_of}
 use Rattle.play_model.specs.Lines.{pipeline_conn, cut_at}
 use Rattle.play_model.specs.States as states
@@ -21,6 +25,8 @@ use Rattle.play_model.specs.States.{PlayState}
 use Rattle.play_clients.specs.declared.clients.Client.{Client}
 use Rattle.play_dues.specs.declared.live.LiveConns.{LiveConns}
 use Rattle.play_dues.specs.Live.{Covers}
+use Rattle.play_dues.specs.Spent.{is_given_up, is_spent}
+use Rattle.play_nodes.specs.Showing.{has_events}
 use Rattle.play.specs.declared.faults.PlayFault.{PlayFault}
 use Rattle.play.specs.declared.player.Player.{Player}
 use Rattle.play.specs.Cutting as player
@@ -34,14 +40,49 @@ use Rattle.play_lines.specs.Drawing.{IsCaused, IsDrawn}
 use Rattle.play_lines.specs.Pipelines.{number_of, pipeline_at}
 use Rattle.play_lines.specs.Cutting.{CutShows}
 use Rattle.play_readers.specs.Asks.{asks_of}
+use Rattle.play_recoveries.specs.Places.{recoveries_of}
 use Rattle.play_lines.specs.Showing.{PlayIs, IsPlaying}
 use Rattle.play_lines.proofs.Drawn.{world_same, dues_show}
 use Rattle.play_lines.proofs.Pipelined.{pipeline_told, conn_within}
+use Rattle.play_lines.proofs.StopLines.{both, silent}
+
+-- the world in which a connection was cut, which is told of its last event
+abbrev left_by : World → World → ℕ → ℕ → ℕ → World
+left_by w v c down up = record w {
+  down_marks = put w.down_marks c (lost_marks (w.downs c) down (w.down_marks c));
+  up_marks = put w.up_marks c (lost_marks (w.ups c) up (w.up_marks c));
+  last = v.last;
+  last_answer = v.last_answer;
+}
+
+-- a primary that takes nothing from a connection takes nothing from it then
+led_over : (w v : World) (c down up place : ℕ) (p : Primary) → not (leads_from p w place) ≡ true → not (leads_from p (left_by w v c down up) place) ≡ true
+led_over w v c down up place (leads l) h = h
+led_over w v c down up place no_primary h = refl
+led_over w v c down up place (was_told b told) h = refl
+led_over w v c down up place (has_led result) h = refl
+
+over_cut : (w v : World) (c down up d : ℕ) → (w.up_marks d).over ≡ true → ((left_by w v c down up).up_marks d).over ≡ true
+over_cut w v c down up d e =
+    if-each (λ (m : Marks). m.over ≡ true) (d == c) (lost_marks (w.ups c) up (w.up_marks c)) (w.up_marks d)
+    (λ q. subst (λ (n : ℕ). (w.up_marks n).over ≡ true) (eqb-true d c q) e)
+    (λ _. e)
+
+given_up : (w v : World) (c down up d : ℕ) (u : Upper) → is_given_up w d u ≡ true → is_given_up (left_by w v c down up) d u ≡ true
+given_up w v c down up d (by_writer b) h = h
+given_up w v c down up d (by_member above) h = h
+given_up w v c down up d (by_reader k) h = h
+given_up w v c down up d (by_primary k place) h =
+    silent (leads_from (w.primaries k) w place) (leads_from (w.primaries k) (left_by w v c down up) place) (w.up_marks d).over ((left_by w v c down up).up_marks d).over (led_over w v c down up place (w.primaries k)) (over_cut w v c down up d) h
+
+spent_cut : (w v : World) (c down up d : ℕ) → is_spent w d ≡ true → is_spent (left_by w v c down up) d ≡ true
+spent_cut w v c down up d h =
+    both (not (has_events w d)) (is_given_up w d (w.dialled d).upper) (not (has_events (left_by w v c down up) d)) (is_given_up (left_by w v c down up) d (w.dialled d).upper) (λ e. e) (given_up w v c down up d (w.dialled d).upper) h
 
 -- What covered a world covers the one in which a connection was cut.
 covers_cut : (w v : World) (c down up : ℕ) (live : LiveConns) → IsCut w v c down up → Covers w live → Covers v live
 covers_cut w v c down up live cut h =
-    subst (λ (k : World). Covers k live) (sym cut.is) (record { within = h.within; has = h.has; listed = h.listed; rest = h.rest })
+    subst (λ (k : World). Covers k live) (sym cut.is) (record { within = h.within; has = h.has; listed = h.listed; rest = λ d below out. spent_cut w v c down up d (h.rest d below out) })
 
 writer_cut : (w v : World) (c down up b : ℕ) → IsCut w v c down up → v.writers b ≡ w.writers b
 writer_cut w v c down up b cut = ap (λ (k : World). k.writers b) cut.is
@@ -97,6 +138,8 @@ module _ {F R I O : Type 0} (f : files.Ghosts F) (r : roads.Ghosts R I O) (i : l
                 generator = ap (λ (x : Playing F I O). x.generator) rest ∙ h.generator;
                 asks = ap (λ (x : Player F I O). asks_of x.reads.clients.items) has.same ∙ h.asks;
                 told = h.told;
+                recovers = ap (λ (x : Player F I O). recoveries_of x.recoveries.clients.items) has.same ∙ h.recovers;
+                formed = h.formed;
                 rules = λ k c at. h.rules k c (sym (ap (λ (xs : List (Client I O)). slice_get xs k) clients) ∙ at);
                 live = subst (λ (l : LiveConns). Covers (world_of p.nodes new.player) l) (ap (λ (x : Playing F I O). x.live) (sym rest))
                     (subst (λ (u : World). Covers u old.live) (sym world_is) (covers_cut w v conn.0 down up old.live cut (subst (λ (u : World). Covers u old.live) (sym (world_same f r i o p road old h)) h.live)));

@@ -15,11 +15,12 @@ use Rattle.world.specs.Worlds.{World, start}
 use Rattle.world.specs.Events.{run}
 use Rattle.world_orders.specs.Open.{AllOpen}
 use Rattle.play_model.specs.declared.asks.ReadAsk.{ReadAsk}
+use Rattle.play_model.specs.declared.recoveries.Recovery.{Recovery}
 use Rattle.play_model.specs.declared.dues.Due.{Due}
 use Rattle.play_model.specs.declared.dues.Due.TheVariants as due
 use Rattle.play_model.specs.Draws.{draw}
 use Rattle.play_model.specs.Dues.{is_due, dues, due_events, queues_after, after_due}
-use Rattle.play_model.specs.Laws.{OwnAmong, AskAmong, IsListed, ListedAreDue}
+use Rattle.play_model.specs.Laws.{IsListed, ListedAreDue}
 use Rattle.play_laws.specs.Intakes.{intake_of}
 use Rattle.play_model.specs.States as states
 use Rattle.play_model.specs.States.{PlayState}
@@ -34,15 +35,16 @@ use Rattle.play.specs.declared.faults.PlayFault.{PlayFault}
 use Rattle.play.specs.declared.faults.PlayFault.TheVariants as fault
 use Rattle.play.specs.declared.player.Player.{Player}
 use Rattle.play.specs.Events as player
-use Rattle.hd_base.specs.RoadFaults.{RoadsFailed}
 use Rattle.play.specs.Events.{KeepsPlaces}
 use Rattle.play.specs.Laws.{Laws}
 use Rattle.play_readers.specs.declared.clients.ReadClient.{ReadClient}
 use Rattle.play_readers.specs.Asks.{asks_of}
 use Rattle.play_reads.specs.Places.{HasAsk}
+use Rattle.play_primaries.specs.declared.clients.PrimaryClient.{PrimaryClient}
+use Rattle.play_recoveries.specs.Places.{recoveries_of, HasRecovery}
 use Rattle.play.specs.Reading.{ReadsAreTold}
 use Rattle.play.specs.Showing.{PlayerStands}
-use Rattle.play.proofs.ReadsLaws.{none_dialled}
+use Rattle.play.proofs.Lawful.{are_placed}
 use Rattle.play_laws.specs.Commands.{given_with}
 use Rattle.play.specs.Standing.{world_of, PlayStands, HasHappened, HappenShows, ActorIsClient}
 use Rattle.play_lines.specs.declared.playing.Playing.{Playing}
@@ -72,40 +74,43 @@ module _ {F R I O : Type 0} (f : files.Ghosts F) (r : roads.Ghosts R I O) (i : l
   pub world_same : (p : PlayState) (road : R) (x : Playing F I O) → PlayIs f r i o p road x → states.world_of p ≡ world_of p.nodes x.player
   world_same p road x h = ap (λ (es : List Event). run (start p.nodes) es) h.events
 
-  pub dues_show : (L : Laws) → AllOpen → (p : PlayState) (road : R) (x : Playing F I O) (h : PlayIs f r i o p road x) → DuesShow r i o (world_of p.nodes x.player) h.stands.net p.queues road x.player.nodes x.player.clients.items x.player.reads
+  pub dues_show : (L : Laws) → AllOpen → (p : PlayState) (road : R) (x : Playing F I O) (h : PlayIs f r i o p road x) → DuesShow r i o (world_of p.nodes x.player) h.stands.net p.queues road x.player.nodes x.player.clients.items x.player.reads x.player.recoveries
   dues_show L opens p road x h = record {
     stands = h.stands.shows.nodes;
     orderly = record { ordered = L.ordered p.nodes x.player.events.items; placed = L.placed p.nodes x.player.events.items; open_ends = opens p.nodes x.player.events.items };
     in_order = L.readers p.nodes x.player.events.items;
-    primaries = λ c within primary place by. none_dialled L.carried p.nodes x.player.events.items h.stands.shows.unled c primary place within by;
-    reads_are = h.stands.shows.reads;
+    primaries = are_placed L p.nodes x.player h.stands.events;
     each = λ k c at. record { client_is = (h.stands.shows.clients k c at).shows; queue = (h.stands.shows.clients k c at).queue };
     connected = h.stands.connected;
+    reads_are = h.stands.shows.reads;
+    recoveries_are = h.stands.shows.recoveries;
   }
 
   -- the list of live connections is up to date once it was refreshed
-  pub refreshed_so : (L : Laws) → AllOpen → (p : PlayState) (road : R) (x : Playing F I O) (live : LiveConns) → PlayIs f r i o p road x → IsRefreshed i o x.live live x.player.nodes x.player.clients.items x.player.reads → IsCurrent (world_of p.nodes x.player) live
+  pub refreshed_so : (L : Laws) → AllOpen → (p : PlayState) (road : R) (x : Playing F I O) (live : LiveConns) → PlayIs f r i o p road x → IsRefreshed i o x.live live x.player.nodes x.player.clients.items x.player.reads x.player.recoveries → IsCurrent (world_of p.nodes x.player) live
   refreshed_so L opens p road x live h refreshed =
       let d = dues_show L opens p road x h in
-      refreshed (world_of p.nodes x.player) h.stands.net (record { nodes_are = d.stands.nodes_are; placed = d.orderly.placed; primaries = d.primaries; reads_are = d.reads_are; each = λ k c at. (d.each k c at).client_is; connected = d.connected }) h.live
+      refreshed (world_of p.nodes x.player) h.stands.net (record { nodes_are = d.stands.nodes_are; placed = d.orderly.placed; primaries = d.primaries; each = λ k c at. (d.each k c at).client_is; connected = d.connected; reads_are = d.reads_are; recoveries_are = d.recoveries_are }) h.live
 
   -- it covers the world after what was due, too
   pub covers_after : (L : Laws) → AllOpen → CoversOn → (p : PlayState) (road road' : R) (old new : Playing F I O) (d : Due) (live : LiveConns) → PlayIs f r i o p road old → is_due (world_of p.nodes old.player) p.queues d ≡ true → HasHappened r i o p.nodes p.queues d old.player new.player road' → Covers (world_of p.nodes old.player) live → Covers (world_of p.nodes new.player) live
   covers_after L opens on p road road' old new d live h is has covers =
       let w : World = world_of p.nodes old.player in
       let joined : world_of p.nodes new.player ≡ run w (due_events w p.queues d) = ap (λ (es : List Event). run (start p.nodes) es) has.events ∙ L.joined (start p.nodes) old.player.events.items (due_events w p.queues d) in
-      subst (λ (v : World). Covers v live) (sym joined) (on w p.queues d live (dues_show L opens p road old h).orderly is covers)
+      let shows = dues_show L opens p road old h in
+      subst (λ (v : World). Covers v live) (sym joined) (on w p.queues d live shows.orderly shows.primaries is covers)
 
   -- the same play, whose roads were asked
-  pub with_roads : (p : PlayState) (road road' : R) (x : Playing F I O) (h : PlayIs f r i o p road x) → DuesShow r i o (world_of p.nodes x.player) h.stands.net p.queues road' x.player.nodes x.player.clients.items x.player.reads → PlayIs f r i o p road' x
+  pub with_roads : (p : PlayState) (road road' : R) (x : Playing F I O) (h : PlayIs f r i o p road x) → DuesShow r i o (world_of p.nodes x.player) h.stands.net p.queues road' x.player.nodes x.player.clients.items x.player.reads x.player.recoveries → PlayIs f r i o p road' x
   with_roads p road road' x h shows = record {
     stands = record {
       net = h.stands.net;
-      shows = record { nodes = shows.stands; reads = h.stands.shows.reads; unled = h.stands.shows.unled; clients = h.stands.shows.clients; apart = h.stands.shows.apart; office = h.stands.shows.office; running = h.stands.shows.running; slots = h.stands.shows.slots };
+      shows = record { nodes = shows.stands; reads = h.stands.shows.reads; recoveries = h.stands.shows.recoveries; clients = h.stands.shows.clients; apart = h.stands.shows.apart; office = h.stands.shows.office; running = h.stands.shows.running; slots = h.stands.shows.slots };
       few = h.stands.few;
       events = h.stands.events;
       clients = h.stands.clients;
       asks = h.stands.asks;
+      recovers = h.stands.recovers;
       connected = h.stands.connected;
     };
     nodes_are = h.nodes_are;
@@ -113,6 +118,8 @@ module _ {F R I O : Type 0} (f : files.Ghosts F) (r : roads.Ghosts R I O) (i : l
     generator = h.generator;
     asks = h.asks;
     told = h.told;
+    recovers = h.recovers;
+    formed = h.formed;
     rules = h.rules;
     live = h.live;
   }
@@ -121,16 +128,17 @@ module _ {F R I O : Type 0} (f : files.Ghosts F) (r : roads.Ghosts R I O) (i : l
   pub player_stands : (p : PlayState) (road : R) (x : Playing F I O) → PlayIs f r i o p road x → PlayerStands r i o road x.player
   player_stands p road x h = record { w = world_of p.nodes x.player; net = h.stands.net; queues = p.queues; shows = h.stands.shows }
 
-  listed_so : DuesAreListed → (p : PlayState) (road : R) (x : Playing F I O) → PlayIs f r i o p road x → all_dues (world_of p.nodes x.player) p.queues (blocks_in x) (asks_of x.player.reads.clients.items) ≡ dues (blocks_in x) p
+  listed_so : DuesAreListed → (p : PlayState) (road : R) (x : Playing F I O) → PlayIs f r i o p road x → all_dues (world_of p.nodes x.player) p.queues (blocks_in x) (asks_of x.player.reads.clients.items) (recoveries_of x.player.recoveries.clients.items) ≡ dues (blocks_in x) p
   listed_so listed p road x h =
-      ap (λ (w : World). all_dues w p.queues (blocks_in x) (asks_of x.player.reads.clients.items)) (sym (world_same p road x h)) ∙
-      (ap (λ (asks : List ReadAsk). all_dues (states.world_of p) p.queues (blocks_in x) asks) h.asks ∙ listed (blocks_in x) p)
+      ap (λ (w : World). all_dues w p.queues (blocks_in x) (asks_of x.player.reads.clients.items) (recoveries_of x.player.recoveries.clients.items)) (sym (world_same p road x h)) ∙
+      (ap (λ (asks : List ReadAsk). all_dues (states.world_of p) p.queues (blocks_in x) asks (recoveries_of x.player.recoveries.clients.items)) h.asks ∙
+      (ap (λ (rs : List Recovery). all_dues (states.world_of p) p.queues (blocks_in x) p.asks rs) h.recovers ∙ listed (blocks_in x) p))
 
   -- what is drawn of the play's list
-  drawn_of : DuesAreListed → (p : PlayState) (road road' : R) (x : Playing F I O) (h : PlayIs f r i o p road x) (after : Lcg) (result : Option Due) → DrawsFrom (all_dues (world_of p.nodes x.player) p.queues (blocks_in x) (asks_of x.player.reads.clients.items)) x.generator after result → DrawsFrom (dues (blocks_in x) p) p.generator after result
+  drawn_of : DuesAreListed → (p : PlayState) (road road' : R) (x : Playing F I O) (h : PlayIs f r i o p road x) (after : Lcg) (result : Option Due) → DrawsFrom (all_dues (world_of p.nodes x.player) p.queues (blocks_in x) (asks_of x.player.reads.clients.items) (recoveries_of x.player.recoveries.clients.items)) x.generator after result → DrawsFrom (dues (blocks_in x) p) p.generator after result
   drawn_of listed p road road' x h after result draws =
       subst (λ (ds : List Due). DrawsFrom ds p.generator after result) (listed_so listed p road x h)
-      (subst (λ (g : Lcg). DrawsFrom (all_dues (world_of p.nodes x.player) p.queues (blocks_in x) (asks_of x.player.reads.clients.items)) g after result) h.generator draws)
+      (subst (λ (g : Lcg). DrawsFrom (all_dues (world_of p.nodes x.player) p.queues (blocks_in x) (asks_of x.player.reads.clients.items) (recoveries_of x.player.recoveries.clients.items)) g after result) h.generator draws)
 
   same_none : (ds : List Due) (old after : Lcg) → ds ≡ [] → DrawsFrom ds old after None → after ≡ old
   same_none [] old after e h = h.0
@@ -138,8 +146,8 @@ module _ {F R I O : Type 0} (f : files.Ghosts F) (r : roads.Ghosts R I O) (i : l
 
   -- NOTHING IS DUE
 
-  pub nothing_drawn : (L : Laws) → AllOpen → DuesAreListed → PlaysAreDrawn → PlaysEnd → CurrentCovers → (old new : Playing F I O) (road road' : R) (result : Option Due) → new ≡ record old { generator = new.generator; live = new.live } → result ≡ None → IsRefreshed i o old.live new.live old.player.nodes old.player.clients.items old.player.reads
-      → DrawsDue r i o new.live old.player.nodes old.player.clients.items old.player.reads road road' old.generator new.generator result → DrawShows f r i o old new road road' (Ok false)
+  pub nothing_drawn : (L : Laws) → AllOpen → DuesAreListed → PlaysAreDrawn → PlaysEnd → CurrentCovers → (old new : Playing F I O) (road road' : R) (result : Option Due) → new ≡ record old { generator = new.generator; live = new.live } → result ≡ None → IsRefreshed i o old.live new.live old.player.nodes old.player.clients.items old.player.reads old.player.recoveries
+      → DrawsDue r i o new.live old.player.nodes old.player.clients.items old.player.reads old.player.recoveries road road' old.generator new.generator result → DrawShows f r i o old new road road' (Ok false)
   nothing_drawn L opens listed plays ends covered old new road road' result same none refreshed draws = λ p h.
       let t = draws (world_of p.nodes old.player) h.stands.net p.queues (dues_show L opens p road old h) in
       let current : IsCurrent (world_of p.nodes old.player) new.live = refreshed_so L opens p road old new.live h refreshed in
@@ -149,7 +157,7 @@ module _ {F R I O : Type 0} (f : files.Ghosts F) (r : roads.Ghosts R I O) (i : l
       let is : PlayIs f r i o p road' old = with_roads p road road' old h t.0 in (
         record {
           is = subst (λ (q : PlayState). PlayIs f r i o q road' new) (sym (plays (blocks_in old) p new.generator None k ∙ ap (λ (g : Lcg). record p { generator = g }) gen))
-              (subst (λ (x : Playing F I O). PlayIs f r i o p road' x) (sym same) (record { stands = is.stands; nodes_are = is.nodes_are; events = is.events; generator = gen; asks = is.asks; told = is.told; rules = is.rules; live = covered (world_of p.nodes old.player) new.live current }));
+              (subst (λ (x : Playing F I O). PlayIs f r i o p road' x) (sym same) (record { stands = is.stands; nodes_are = is.nodes_are; events = is.events; generator = gen; asks = is.asks; told = is.told; recovers = is.recovers; formed = is.formed; rules = is.rules; live = covered (world_of p.nodes old.player) new.live current }));
           blocks = ap blocks_in same;
           given = λ b h'. ap (λ (q : PlayState). given_in q b) (plays (blocks_in old) p new.generator None k ∙ ap (λ (g : Lcg). record p { generator = g }) gen);
         },
@@ -174,6 +182,8 @@ module _ {F R I O : Type 0} (f : files.Ghosts F) (r : roads.Ghosts R I O) (i : l
         generator = generator;
         asks = has.places.asks ∙ h.asks;
         told = h.told;
+        recovers = has.places.recovers ∙ h.recovers;
+        formed = h.formed;
         rules = rules_after p old new _ has.places h.rules;
         live = covers;
       }
@@ -218,12 +228,20 @@ module _ {F R I O : Type 0} (f : files.Ghosts F) (r : roads.Ghosts R I O) (i : l
       let h = asks_there clients ask k e in
       record { place = suc h.place; client = h.client; at = h.at; asks = h.asks }
 
-  actor_of : (p : Player F I O) (asks : List ReadAsk) (d : Due) → asks_of p.reads.clients.items ≡ asks → OwnAmong (blocks_of p.clients.items) d → AskAmong asks d → ActorIsClient p d
-  actor_of p asks (due.Own b) e h asked = client_of_block p.clients.items b.0 h.place h.there
-  actor_of p asks (due.Reader ask) e h asked = asks_there p.reads.clients.items ask asked.place (ap (λ (xs : List ReadAsk). slice_get xs asked.place) e ∙ asked.there)
-  actor_of p asks (due.Down c) e h asked = tt
-  actor_of p asks (due.Ready c) e h asked = tt
-  actor_of p asks (due.Up c) e h asked = tt
+  recovers_there : (clients : List (PrimaryClient I O)) (rec : Recovery) (k : ℕ) → slice_get (recoveries_of clients) k ≡ Some rec → HasRecovery clients rec
+  recovers_there [] rec k e = cc
+  recovers_there (c ∷ clients) rec zero e = record { place = 0; client = c; at = refl; recovers = same_Some c.recovery rec e }
+  recovers_there (c ∷ clients) rec (suc k) e =
+      let h = recovers_there clients rec k e in
+      record { place = suc h.place; client = h.client; at = h.at; recovers = h.recovers }
+
+  actor_of : (p : PlayState) (road : R) (x : Playing F I O) (d : Due) → PlayIs f r i o p road x → IsListed (blocks_in x) p d → ActorIsClient x.player d
+  actor_of p road x (due.Own b) h z = client_of_block x.player.clients.items b.0 z.among.place z.among.there
+  actor_of p road x (due.Reader ask) h z = asks_there x.player.reads.clients.items ask z.asked.place (ap (λ (xs : List ReadAsk). slice_get xs z.asked.place) h.asks ∙ z.asked.there)
+  actor_of p road x (due.Primary rec) h z = recovers_there x.player.recoveries.clients.items rec z.recovers.place (ap (λ (xs : List Recovery). slice_get xs z.recovers.place) h.recovers ∙ z.recovers.there)
+  actor_of p road x (due.Down c) h z = tt
+  actor_of p road x (due.Ready c) h z = tt
+  actor_of p road x (due.Up c) h z = tt
 
   -- where there is a reader something was asked
   pub reads_told : (p : PlayState) (road : R) (x : Playing F I O) → PlayIs f r i o p road x → ReadsAreTold f x.player
@@ -238,7 +256,7 @@ module _ {F R I O : Type 0} (f : files.Ghosts F) (r : roads.Ghosts R I O) (i : l
     actor : ActorIsClient old.player d
     more : true ≡ is_some (slice_get (dues (blocks_in old) p) 0)
 
-  draws_so : (L : Laws) → AllOpen → DuesAreListed → PlaysAreDrawn → ListedAreDue → (old mid : Playing F I O) (road first : R) (d : Due) → IsRefreshed i o old.live mid.live old.player.nodes old.player.clients.items old.player.reads → DrawsDue r i o mid.live old.player.nodes old.player.clients.items old.player.reads road first old.generator mid.generator (Some d) → (p : PlayState) → PlayIs f r i o p road old → Draws p old mid d first
+  draws_so : (L : Laws) → AllOpen → DuesAreListed → PlaysAreDrawn → ListedAreDue → (old mid : Playing F I O) (road first : R) (d : Due) → IsRefreshed i o old.live mid.live old.player.nodes old.player.clients.items old.player.reads old.player.recoveries → DrawsDue r i o mid.live old.player.nodes old.player.clients.items old.player.reads old.player.recoveries road first old.generator mid.generator (Some d) → (p : PlayState) → PlayIs f r i o p road old → Draws p old mid d first
   draws_so L opens listed plays due old mid road first d refreshed draws p h =
       let t = draws (world_of p.nodes old.player) h.stands.net p.queues (dues_show L opens p road old h) in
       let current : IsCurrent (world_of p.nodes old.player) mid.live = refreshed_so L opens p road old mid.live h refreshed in
@@ -250,12 +268,12 @@ module _ {F R I O : Type 0} (f : files.Ghosts F) (r : roads.Ghosts R I O) (i : l
         current = current;
         play_is = plays (blocks_in old) p mid.generator (Some d) k;
         due_is = subst (λ (w : World). is_due w p.queues d ≡ true) (world_same p road old h) x.is;
-        actor = actor_of old.player p.asks d h.asks x.among x.asked;
+        actor = actor_of p road old d h x;
         more = some_first (dues (blocks_in old) p) at.0 d at.1;
       }
 
-  pub drew : (L : Laws) → AllOpen → DuesAreListed → PlaysAreDrawn → ListedAreDue → CurrentCovers → CoversOn → (old mid new : Playing F I O) (road first road' : R) (d : Due) → new.nodes ≡ old.nodes → new.generator ≡ mid.generator → new.live ≡ mid.live → IsRefreshed i o old.live mid.live old.player.nodes old.player.clients.items old.player.reads
-      → DrawsDue r i o mid.live old.player.nodes old.player.clients.items old.player.reads road first old.generator mid.generator (Some d) → HappenShows f r i o d old.player new.player first road' (Ok tt) → DrawShows f r i o old new road road' (Ok true)
+  pub drew : (L : Laws) → AllOpen → DuesAreListed → PlaysAreDrawn → ListedAreDue → CurrentCovers → CoversOn → (old mid new : Playing F I O) (road first road' : R) (d : Due) → new.nodes ≡ old.nodes → new.generator ≡ mid.generator → new.live ≡ mid.live → IsRefreshed i o old.live mid.live old.player.nodes old.player.clients.items old.player.reads old.player.recoveries
+      → DrawsDue r i o mid.live old.player.nodes old.player.clients.items old.player.reads old.player.recoveries road first old.generator mid.generator (Some d) → HappenShows f r i o d old.player new.player first road' (Ok tt) → DrawShows f r i o old new road road' (Ok true)
   drew L opens listed plays due covered on old mid new road first road' d nodes gen live refreshed draws happens = λ p h.
       let z : Draws p old mid d first = draws_so L opens listed plays due old mid road first d refreshed draws p h in
       let has : HasHappened r i o p.nodes p.queues d old.player new.player road' = happens p.nodes p.queues z.is.stands z.due_is z.actor (reads_told p first old z.is) in
@@ -270,14 +288,14 @@ module _ {F R I O : Type 0} (f : files.Ghosts F) (r : roads.Ghosts R I O) (i : l
         z.more,
       )
 
-  pub drew_failed : (L : Laws) → AllOpen → DuesAreListed → PlaysAreDrawn → ListedAreDue → (old mid new : Playing F I O) (road first road' : R) (d : Due) (why : PlayFault) (result : Result Bool PlayFault) → result ≡ Err why → r.faults road ≤ r.faults first → IsRefreshed i o old.live mid.live old.player.nodes old.player.clients.items old.player.reads
-      → DrawsDue r i o mid.live old.player.nodes old.player.clients.items old.player.reads road first old.generator mid.generator (Some d) → HappenShows f r i o d old.player new.player first road' (Err why) → DrawShows f r i o old new road road' result
+  pub drew_failed : (L : Laws) → AllOpen → DuesAreListed → PlaysAreDrawn → ListedAreDue → (old mid new : Playing F I O) (road first road' : R) (d : Due) (why : PlayFault) (result : Result Bool PlayFault) → result ≡ Err why → r.faults road ≤ r.faults first → IsRefreshed i o old.live mid.live old.player.nodes old.player.clients.items old.player.reads old.player.recoveries
+      → DrawsDue r i o mid.live old.player.nodes old.player.clients.items old.player.reads old.player.recoveries road first old.generator mid.generator (Some d) → HappenShows f r i o d old.player new.player first road' (Err why) → DrawShows f r i o old new road road' result
   drew_failed L opens listed plays due old mid new road first road' d why result failed faults refreshed draws happens = λ p h.
       let z : Draws p old mid d first = draws_so L opens listed plays due old mid road first d refreshed draws p h in
       subst (λ (x : Result Bool PlayFault). DrawEnds f r i o p old new road road' x) (sym failed) (caused old old new road first road' why faults (happens p.nodes p.queues z.is.stands z.due_is z.actor (reads_told p first old z.is)))
 
   -- the player stands on the roads that were asked
-  pub stands_there : (L : Laws) → AllOpen → (old mid : Playing F I O) (road first : R) (result : Option Due) → mid.player ≡ old.player → IsPlaying f r i o road old → DrawsDue r i o mid.live old.player.nodes old.player.clients.items old.player.reads road first old.generator mid.generator result → PlayerStands r i o first mid.player
+  pub stands_there : (L : Laws) → AllOpen → (old mid : Playing F I O) (road first : R) (result : Option Due) → mid.player ≡ old.player → IsPlaying f r i o road old → DrawsDue r i o mid.live old.player.nodes old.player.clients.items old.player.reads old.player.recoveries road first old.generator mid.generator result → PlayerStands r i o first mid.player
   stands_there L opens old mid road first result same playing draws =
       let t = draws (world_of playing.p.nodes old.player) playing.is.stands.net playing.p.queues (dues_show L opens playing.p road old playing.is) in
       subst (λ (x : Player F I O). PlayerStands r i o first x) (sym same) (player_stands playing.p first old (with_roads playing.p road first old playing.is t.0))

@@ -1,7 +1,9 @@
 pub mod Places
 pub mod Asked
 pub mod Drawn
+pub mod Joined
 pub mod Runs
+pub mod Lives
 pub mod Lowers
 pub mod Ordered
 pub mod Ruled
@@ -15,4 +17,5 @@ pub mod StartLines
 pub mod Commands
 pub mod Lined
 pub mod ReadLines
+pub mod RecoverLines
 pub mod LineRuns

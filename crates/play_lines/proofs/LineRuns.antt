@@ -16,7 +16,6 @@ use Rattle.play.specs.declared.faults.PlayFault.{PlayFault}
 use Rattle.play_lines.specs.declared.playing.Playing.{Playing}
 use Rattle.play_lines.specs.Drawing.{blocks_in, SettleEnds, SettleShows}
 use Rattle.play_lines.specs.Showing.{PlayIs, IsPlaying}
-use Rattle.play_model.specs.declared.asks.ReadAsk.{ReadAsk}
 use Rattle.play_lines.specs.Lines.{AsksBelow, CreatesHere, AllCreateHere, CanPlay, IsReady, LineLeft, LineShowsOver, LinesEnd, LinesShow}
 use Rattle.writer_core.specs.declared.intake.TheConstants.{MAX_COMMANDS}
 use Rattle.play_lines.proofs.Places.{moved}
@@ -113,8 +112,8 @@ module _ {S F R I O : Type 0} (s : shelves.Ghosts S F) (f : files.Ghosts F) (r :
   can_line : (l : ScriptLine) (left : List ScriptLine) (before : Before) (count : ℕ) (p : PlayState) (x : Playing F I O) → CanPlay (l ∷ left) before count p x → count < MAX_COMMANDS
   can_line l left before count p x can = omega (arith, can.few)
 
-  below_more : (least number : ℕ) (asks : List ReadAsk) → least ≤ number → AsksBelow least asks → AsksBelow number asks
-  below_more least number asks h below k ask at = up ask.reader (below k ask at)
+  below_more : (least number : ℕ) (p : PlayState) → least ≤ number → AsksBelow least p → AsksBelow number p
+  below_more least number p h below = record { reads = λ k ask at. up ask.reader (below.reads k ask at); recovers = λ k rec at. up rec.primary (below.recovers k rec at) }
     where
       up : (a : ℕ) → a < least → a < number
       up a g = omega (arith, h, g)
@@ -126,7 +125,7 @@ module _ {S F R I O : Type 0} (s : shelves.Ghosts S F) (f : files.Ghosts F) (r :
     one_played : (l : ScriptLine) (left : List ScriptLine) → Continues f r i o lines (l ∷ left) n old x road road' → LineShowsOver s f r i o l shelves' shelves'' x y road' road'' (Ok tt) → Continues f r i o lines left n old y road road''
     one_played l left goes shows before count p stands can shelved =
         let z = goes before count p stands can shelved in
-        let d : LineLeft f r i o l.number l.instruction z.before z.count z.now x y road'' = shows z.before z.count z.now z.is z.can.behind (below_more z.can.least l.number z.now.asks z.can.ascend.0 z.can.asked) z.can.fit.0 z.can.here.0 (can_line l left z.before z.count z.now x z.can) (count_is ∙ (shelved ∙ sym z.nodes)) in
+        let d : LineLeft f r i o l.number l.instruction z.before z.count z.now x y road'' = shows z.before z.count z.now z.is z.can.behind (below_more z.can.least l.number z.now z.can.ascend.0 z.can.asked) z.can.fit.0 z.can.here.0 (can_line l left z.before z.count z.now x z.can) (count_is ∙ (shelved ∙ sym z.nodes)) in
         record {
           now = d.left;
           before = after z.before l.instruction;
@@ -146,7 +145,7 @@ module _ {S F R I O : Type 0} (s : shelves.Ghosts S F) (f : files.Ghosts F) (r :
     one_failed : (l : ScriptLine) (left : List ScriptLine) (why : PlayFault) → Continues f r i o lines (l ∷ left) (length shelves) old x road road' → LineShowsOver s f r i o l shelves' shelves'' x y road' road'' (Err why) → LinesShow s f r i o lines shelves shelves'' old y road road'' (Err why)
     one_failed l left why goes shows before count p stands can shelved =
         let z = goes before count p stands can shelved in
-        fault_from s f r i o y road road' road'' shelves shelves' shelves'' why faults fell (shows z.before z.count z.now z.is z.can.behind (below_more z.can.least l.number z.now.asks z.can.ascend.0 z.can.asked) z.can.fit.0 z.can.here.0 (can_line l left z.before z.count z.now x z.can) (count_is ∙ (shelved ∙ sym z.nodes)))
+        fault_from s f r i o y road road' road'' shelves shelves' shelves'' why faults fell (shows z.before z.count z.now z.is z.can.behind (below_more z.can.least l.number z.now z.can.ascend.0 z.can.asked) z.can.fit.0 z.can.here.0 (can_line l left z.before z.count z.now x z.can) (count_is ∙ (shelved ∙ sym z.nodes)))
 
     pub failed_at : (k : ℕ) (l : ScriptLine) (why : PlayFault) (result : Result (Unit {0}) PlayFault) → result ≡ Err why → l ≡ get_or lines k l → k < length lines → Continues f r i o lines (drop k lines) (length shelves) old x road road' → LineShowsOver s f r i o l shelves' shelves'' x y road' road'' (Err why)
         → LinesShow s f r i o lines shelves shelves'' old y road road'' result

@@ -1,5 +1,5 @@
 -- A line that gives no command is played.
-use Rattle.std.proofs.Common.{arith, ◌≡◌, ℕ, suc, ◌==◌, Bool, true, false, List, [], ◌∷◌, ◌++◌, Option, Some, None, Result, Ok, Err, refl, sym, ap, ◌∙◌, subst, eqb-true}
+use Rattle.std.proofs.Common.{arith, ◌≡◌, ℕ, suc, ◌<◌, ◌==◌, Bool, true, false, List, [], ◌∷◌, Option, Some, None, Result, Ok, Err, refl, sym, ap, ◌∙◌, subst, eqb-true}
 use Rattle.std.specs.Prelude.{is_none, zero, if◌then◌else◌, ◌||◌}
 use Rattle.hd_base.specs.declared.files.Files as files
 use Rattle.hd_base.specs.declared.links.LinkIn as link_in
@@ -13,14 +13,13 @@ use Rattle.script_lang.specs.declared.instructions.Instruction.{Instruction}
 use Rattle.script_lang.specs.declared.instructions.Instruction.TheVariants as says
 use Rattle.script_lang.specs.declared.instructions.StepEvent.{StepEvent}
 use Rattle.script_lang.specs.Fits.{Before, is_open, is_closed, is_created, after}
-use Rattle.world.specs.declared.events.Event.TheVariants as event
 use Rattle.world.specs.Worlds.{put}
 use Rattle.world_laws.proofs.StampGivens.{put-there}
 use Rattle.writer_core.specs.declared.intake.Intake.{Intake}
 use Rattle.play_model.specs.declared.dues.Due.{Due}
 use Rattle.play_model.specs.Draws.{draw, draws, drawn_from, drawn, happened, advanced}
 use Rattle.play_model.specs.Dues.{dues, after_due, is_due}
-use Rattle.play_model.specs.Lines.{PlaysLine, stepped, step_due, pipeline_conn, cut_at, stop_at}
+use Rattle.play_model.specs.Lines.{PlaysLine, stepped, step_due, pipeline_conn, cut_at, stopped, stop_at}
 use Rattle.play_model.specs.States.{PlayState, ruled, world_of}
 use Rattle.play_dues.specs.Places.{client_place}
 use Rattle.play_dues.specs.Showing.{HasClient}
@@ -36,53 +35,61 @@ use Rattle.play_lines.specs.Stepping.{StepEnds, StepShows}
 use Rattle.play_lines.specs.Cutting.{CutEnds, CutShows}
 use Rattle.play_lines.specs.Stopping.{StopEnds, StopShows}
 use Rattle.play_scripts.specs.Reads.{is_read}
+use Rattle.play_scripts.specs.Recoveries.{is_recovery}
 use Rattle.play_lines.specs.Lines.{ordered_by, StandIs, GivenIs, is_made, IsBehind, AsksBelow, LineLeft, LineEnds, LineShows}
 use Rattle.play_lines.proofs.Commands.{same_stand, created_made}
-use Rattle.play_lines.proofs.Places.{moved, asked_next}
+use Rattle.play_lines.proofs.Places.{moved, asked_next, each_stopped, stopped_number}
 
 -- THE MODEL
 
--- Nodes and rules of a play stay, and what was asked.
+-- Nodes and rules of a play stay, and nothing is asked by a line of another number.
 pub record Stays (p q : PlayState) : Type 0 where
   pub nodes : q.nodes ≡ p.nodes
   pub rules : q.rules ≡ p.rules
-  pub asks : q.asks ≡ p.asks
+  pub below : (number : ℕ) → AsksBelow number p → AsksBelow number q
 
 happened_stays : (p : PlayState) (d : Option Due) → Stays p (happened p d)
 unfolding after_due
-happened_stays p None = record { nodes = refl; rules = refl; asks = refl }
-happened_stays p (Some d) = record { nodes = refl; rules = refl; asks = refl }
+happened_stays p None = record { nodes = refl; rules = refl; below = λ number h. h }
+happened_stays p (Some d) = record { nodes = refl; rules = refl; below = λ number h. h }
 
 drawn_stays : (due : List Due) (p : PlayState) → Stays p (drawn_from due p)
-drawn_stays [] p = record { nodes = refl; rules = refl; asks = refl }
+drawn_stays [] p = record { nodes = refl; rules = refl; below = λ number h. h }
 drawn_stays (d ∷ due) p =
     let s : Stays (advanced p) (drawn_from (d ∷ due) p) = happened_stays (advanced p) (drawn (d ∷ due) (pcg32 p.generator).0) in
-    record { nodes = s.nodes; rules = s.rules; asks = s.asks }
+    record { nodes = s.nodes; rules = s.rules; below = s.below }
 
 pub draws_stay : (blocks : List ℕ) (n : ℕ) (p : PlayState) → Stays p (draws blocks n p)
-draws_stay blocks zero p = record { nodes = refl; rules = refl; asks = refl }
+draws_stay blocks zero p = record { nodes = refl; rules = refl; below = λ number h. h }
 draws_stay blocks (suc n) p =
     let s : Stays p (draw blocks p) = drawn_stays (dues blocks p) p in
     let t : Stays (draw blocks p) (draws blocks (suc n) p) = draws_stay blocks n (draw blocks p) in
-    record { nodes = t.nodes ∙ s.nodes; rules = t.rules ∙ s.rules; asks = t.asks ∙ s.asks }
+    record { nodes = t.nodes ∙ s.nodes; rules = t.rules ∙ s.rules; below = λ number h. t.below number (s.below number h) }
 
 pub stepped_stays : (p : PlayState) (d : Option Due) → Stays p (stepped p d)
-stepped_stays p None = record { nodes = refl; rules = refl; asks = refl }
+stepped_stays p None = record { nodes = refl; rules = refl; below = λ number h. h }
 stepped_stays p (Some d) = by (is_due (world_of p) p.queues d) refl
   where
     by : (q : Bool) → is_due (world_of p) p.queues d ≡ q → Stays p (stepped p (Some d))
     by true e = subst (λ (x : Bool). Stays p (if x then after_due p d else p)) (sym e) (happened_stays p (Some d))
-    by false e = subst (λ (x : Bool). Stays p (if x then after_due p d else p)) (sym e) (record { nodes = refl; rules = refl; asks = refl })
+    by false e = subst (λ (x : Bool). Stays p (if x then after_due p d else p)) (sym e) (record { nodes = refl; rules = refl; below = λ number h. h })
 
 pub cut_stays : (p : PlayState) (conn : Option ℕ) (down up : ℕ) → Stays p (cut_at p conn down up)
-cut_stays p conn down up = record { nodes = refl; rules = refl; asks = refl }
+cut_stays p conn down up = record { nodes = refl; rules = refl; below = λ number h. h }
 
 pub stop_stays : (p : PlayState) (n : NodeId) → Stays p (stop_at p n)
 stop_stays p n = by ((world_of p).running n.0)
   where
-    by : (b : Bool) → Stays p (if b then record p { events = p.events ++ event.Stop n ∷ [] } else p)
-    by true = record { nodes = refl; rules = refl; asks = refl }
-    by false = record { nodes = refl; rules = refl; asks = refl }
+    by : (b : Bool) → Stays p (if b then stopped p n else p)
+    by true = record {
+      nodes = refl;
+      rules = refl;
+      below = λ number h. record {
+        reads = h.reads;
+        recovers = each_stopped (λ x. x.primary < number) n (λ x less. subst (λ (k : ℕ). k < number) (sym (stopped_number n x)) less) p.recoveries h.recovers;
+      };
+    }
+    by false = record { nodes = refl; rules = refl; below = λ number h. h }
 
 -- THE LINES BEFORE
 
@@ -118,7 +125,7 @@ module _ {F R I O : Type 0} (r : roads.Ghosts R I O) (i : link_in.Ghosts I) (o :
 
 module _ {F R I O : Type 0} (f : files.Ghosts F) (r : roads.Ghosts R I O) (i : link_in.Ghosts I) (o : link_out.Ghosts O) (old new : Playing F I O) (road road' : R) where
   -- what was drawn, or stepped
-  pub drawn_left : (number : ℕ) (line : Instruction) (before : Before) (lines : ℕ) (p q : PlayState) → Passes before (after before line) → Stays p q → PlaysLine (blocks_in old) number line p q → IsBehind before lines p old → AsksBelow number p.asks → IsDrawn f r i o p q old new road'
+  pub drawn_left : (number : ℕ) (line : Instruction) (before : Before) (lines : ℕ) (p q : PlayState) → Passes before (after before line) → Stays p q → PlaysLine (blocks_in old) number line p q → IsBehind before lines p old → AsksBelow number p → IsDrawn f r i o p q old new road'
       → LineLeft f r i o number line before lines p old new road'
   drawn_left number line before lines p q same stays plays behind asked d = record {
     left = q;
@@ -127,20 +134,20 @@ module _ {F R I O : Type 0} (f : files.Ghosts F) (r : roads.Ghosts R I O) (i : l
     is = d.is;
     blocks = d.blocks;
     behind = behind_next r i o before (after before line) lines p q old new same stays.nodes stays.rules d.blocks d.given behind;
-    asked = asked_next number p q stays.asks asked;
+    asked = asked_next number q (stays.below number asked);
   }
 
   pub run_shows : (line : Instruction) (count : ℕ) (result : Result (Unit {0}) PlayFault) → line ≡ says.Run count → RunShows f r i o count old new road road' result → LineShows f r i o line old new road road' result
   run_shows line count result e shows = subst (λ (x : Instruction). LineShows f r i o x old new road road' result) (sym e) (λ number before lines p stands behind asked l here few. by number before lines p behind asked result (shows p stands))
     where
-      by : (number : ℕ) (before : Before) (lines : ℕ) (p : PlayState) → IsBehind before lines p old → AsksBelow number p.asks → (result : Result (Unit {0}) PlayFault) → RunEnds f r i o count p old new road road' result → LineEnds f r i o number (says.Run count) before lines p old new road road' result
+      by : (number : ℕ) (before : Before) (lines : ℕ) (p : PlayState) → IsBehind before lines p old → AsksBelow number p → (result : Result (Unit {0}) PlayFault) → RunEnds f r i o count p old new road road' result → LineEnds f r i o number (says.Run count) before lines p old new road road' result
       by number before lines p behind asked (Ok u) d = drawn_left number (says.Run count) before lines p (draws (blocks_in old) count p) (record { nodes = refl; written = refl; stage = λ x. refl }) (draws_stay (blocks_in old) count p) refl behind asked d
       by number before lines p behind asked (Err why) cause = cause
 
   pub settle_shows : (line : Instruction) (result : Result (Unit {0}) PlayFault) → line ≡ says.Settle → SettleShows f r i o old new road road' result → LineShows f r i o line old new road road' result
   settle_shows line result e shows = subst (λ (x : Instruction). LineShows f r i o x old new road road' result) (sym e) (λ number before lines p stands behind asked l here few. by number before lines p behind asked result (shows p stands))
     where
-      by : (number : ℕ) (before : Before) (lines : ℕ) (p : PlayState) → IsBehind before lines p old → AsksBelow number p.asks → (result : Result (Unit {0}) PlayFault) → SettleEnds f r i o p old new road road' result → LineEnds f r i o number says.Settle before lines p old new road road' result
+      by : (number : ℕ) (before : Before) (lines : ℕ) (p : PlayState) → IsBehind before lines p old → AsksBelow number p → (result : Result (Unit {0}) PlayFault) → SettleEnds f r i o p old new road road' result → LineEnds f r i o number says.Settle before lines p old new road road' result
       by number before lines p behind asked (Ok u) d = drawn_left number says.Settle before lines p d.after (record { nodes = refl; written = refl; stage = λ x. refl })
           (subst (λ (q : PlayState). Stays p q) d.settles.drawn_so (draws_stay (blocks_in old) d.settles.count p)) d.settles behind asked d.left
       by number before lines p behind asked (Err why) cause = cause
@@ -149,21 +156,21 @@ module _ {F R I O : Type 0} (f : files.Ghosts F) (r : roads.Ghosts R I O) (i : l
   step_shows line block event result e shows = subst (λ (x : Instruction). LineShows f r i o x old new road road' result) (sym e)
       (λ number before lines p stands behind asked l here few. by number before lines p behind asked result (shows p stands (behind.clients block.0 (created_made before block.0 l.kept.0))))
     where
-      by : (number : ℕ) (before : Before) (lines : ℕ) (p : PlayState) → IsBehind before lines p old → AsksBelow number p.asks → (result : Result (Unit {0}) PlayFault) → StepEnds f r i o block event p old new road road' result → LineEnds f r i o number (says.Step block event) before lines p old new road road' result
+      by : (number : ℕ) (before : Before) (lines : ℕ) (p : PlayState) → IsBehind before lines p old → AsksBelow number p → (result : Result (Unit {0}) PlayFault) → StepEnds f r i o block event p old new road road' result → LineEnds f r i o number (says.Step block event) before lines p old new road road' result
       by number before lines p behind asked (Ok u) d = drawn_left number (says.Step block event) before lines p (stepped p (step_due (world_of p) block.0 event)) (record { nodes = refl; written = refl; stage = λ x. refl }) (stepped_stays p (step_due (world_of p) block.0 event)) refl behind asked d
       by number before lines p behind asked (Err why) cause = cause
 
   pub cut_shows : (line : Instruction) (block : BlockId) (place down up : ℕ) (result : Result (Unit {0}) PlayFault) → line ≡ says.Cut block place down up → CutShows f r i o block place down up old new road road' result → LineShows f r i o line old new road road' result
   cut_shows line block place down up result e shows = subst (λ (x : Instruction). LineShows f r i o x old new road road' result) (sym e) (λ number before lines p stands behind asked l here few. by number before lines p behind asked result (shows p stands))
     where
-      by : (number : ℕ) (before : Before) (lines : ℕ) (p : PlayState) → IsBehind before lines p old → AsksBelow number p.asks → (result : Result (Unit {0}) PlayFault) → CutEnds f r i o block place down up p old new road road' result → LineEnds f r i o number (says.Cut block place down up) before lines p old new road road' result
+      by : (number : ℕ) (before : Before) (lines : ℕ) (p : PlayState) → IsBehind before lines p old → AsksBelow number p → (result : Result (Unit {0}) PlayFault) → CutEnds f r i o block place down up p old new road road' result → LineEnds f r i o number (says.Cut block place down up) before lines p old new road road' result
       by number before lines p behind asked (Ok u) d = drawn_left number (says.Cut block place down up) before lines p (cut_at p (pipeline_conn (world_of p) block.0 place) down up) (record { nodes = refl; written = refl; stage = λ x. refl }) (cut_stays p (pipeline_conn (world_of p) block.0 place) down up) refl behind asked d
       by number before lines p behind asked (Err why) cause = cause
 
   pub stop_shows : (line : Instruction) (n : NodeId) (result : Result (Unit {0}) PlayFault) → line ≡ says.Stop n → StopShows f r i o n old new road road' result → LineShows f r i o line old new road road' result
   stop_shows line n result e shows = subst (λ (x : Instruction). LineShows f r i o x old new road road' result) (sym e) (λ number before lines p stands behind asked l here few. by number before lines p behind asked result (shows p stands))
     where
-      by : (number : ℕ) (before : Before) (lines : ℕ) (p : PlayState) → IsBehind before lines p old → AsksBelow number p.asks → (result : Result (Unit {0}) PlayFault) → StopEnds f r i o n p old new road road' result → LineEnds f r i o number (says.Stop n) before lines p old new road road' result
+      by : (number : ℕ) (before : Before) (lines : ℕ) (p : PlayState) → IsBehind before lines p old → AsksBelow number p → (result : Result (Unit {0}) PlayFault) → StopEnds f r i o n p old new road road' result → LineEnds f r i o number (says.Stop n) before lines p old new road road' result
       by number before lines p behind asked (Ok u) d = drawn_left number (says.Stop n) before lines p (stop_at p n) (record { nodes = refl; written = refl; stage = λ x. refl }) (stop_stays p n) refl behind asked d
       by number before lines p behind asked (Err why) cause = cause
 
@@ -179,33 +186,34 @@ IsOther (says.Cut b place down up) = ⊥
 IsOther (says.Stop n) = ⊥
 IsOther (says.Start n) = ⊥
 IsOther (says.Read b n offset count) = ⊥
+IsOther (says.Recover b n members) = ⊥
 IsOther line = Unit {0}
 
-pub is_other : (line : Instruction) → ((b : BlockId) (rule : Rule) → line ≡ says.Sums b rule → ⊥) → ((count : ℕ) → line ≡ says.Run count → ⊥) → (line ≡ says.Settle → ⊥) → ((b : BlockId) (event : StepEvent) → line ≡ says.Step b event → ⊥) → ((b : BlockId) (place down up : ℕ) → line ≡ says.Cut b place down up → ⊥) → ((n : NodeId) → line ≡ says.Stop n → ⊥) → is_start line ≡ false → is_read line ≡ false → IsOther line
-is_other (says.Sums b rule) sums runs settles steps cuts stops other asks = sums b rule refl
-is_other (says.Run count) sums runs settles steps cuts stops other asks = runs count refl
-is_other says.Settle sums runs settles steps cuts stops other asks = settles refl
-is_other (says.Step b event) sums runs settles steps cuts stops other asks = steps b event refl
-is_other (says.Read b n offset count) sums runs settles steps cuts stops other asks = absurd (true_false asks)
-is_other (says.Recover b n members) sums runs settles steps cuts stops other asks = tt
-is_other (says.Cut b place down up) sums runs settles steps cuts stops other asks = cuts b place down up refl
-is_other (says.Fault n nth) sums runs settles steps cuts stops other asks = tt
-is_other (says.Stop n) sums runs settles steps cuts stops other asks = stops n refl
-is_other (says.Start n) sums runs settles steps cuts stops other asks = absurd (true_false other)
-is_other (says.Expect n b state stamp written) sums runs settles steps cuts stops other asks = tt
-is_other (says.Nodes count) sums runs settles steps cuts stops other asks = tt
-is_other (says.Seed seed) sums runs settles steps cuts stops other asks = tt
-is_other (says.Create b members) sums runs settles steps cuts stops other asks = tt
-is_other (says.Append b members) sums runs settles steps cuts stops other asks = tt
-is_other (says.Write b bytes) sums runs settles steps cuts stops other asks = tt
-is_other (says.Fill b count) sums runs settles steps cuts stops other asks = tt
-is_other (says.Hflush b) sums runs settles steps cuts stops other asks = tt
-is_other (says.Hsync b) sums runs settles steps cuts stops other asks = tt
-is_other (says.Close b) sums runs settles steps cuts stops other asks = tt
+pub is_other : (line : Instruction) → ((b : BlockId) (rule : Rule) → line ≡ says.Sums b rule → ⊥) → ((count : ℕ) → line ≡ says.Run count → ⊥) → (line ≡ says.Settle → ⊥) → ((b : BlockId) (event : StepEvent) → line ≡ says.Step b event → ⊥) → ((b : BlockId) (place down up : ℕ) → line ≡ says.Cut b place down up → ⊥) → ((n : NodeId) → line ≡ says.Stop n → ⊥) → is_start line ≡ false → is_read line ≡ false → is_recovery line ≡ false → IsOther line
+is_other (says.Sums b rule) sums runs settles steps cuts stops other asks recovers = sums b rule refl
+is_other (says.Run count) sums runs settles steps cuts stops other asks recovers = runs count refl
+is_other says.Settle sums runs settles steps cuts stops other asks recovers = settles refl
+is_other (says.Step b event) sums runs settles steps cuts stops other asks recovers = steps b event refl
+is_other (says.Read b n offset count) sums runs settles steps cuts stops other asks recovers = absurd (true_false asks)
+is_other (says.Recover b n members) sums runs settles steps cuts stops other asks recovers = absurd (true_false recovers)
+is_other (says.Cut b place down up) sums runs settles steps cuts stops other asks recovers = cuts b place down up refl
+is_other (says.Fault n nth) sums runs settles steps cuts stops other asks recovers = tt
+is_other (says.Stop n) sums runs settles steps cuts stops other asks recovers = stops n refl
+is_other (says.Start n) sums runs settles steps cuts stops other asks recovers = absurd (true_false other)
+is_other (says.Expect n b state stamp written) sums runs settles steps cuts stops other asks recovers = tt
+is_other (says.Nodes count) sums runs settles steps cuts stops other asks recovers = tt
+is_other (says.Seed seed) sums runs settles steps cuts stops other asks recovers = tt
+is_other (says.Create b members) sums runs settles steps cuts stops other asks recovers = tt
+is_other (says.Append b members) sums runs settles steps cuts stops other asks recovers = tt
+is_other (says.Write b bytes) sums runs settles steps cuts stops other asks recovers = tt
+is_other (says.Fill b count) sums runs settles steps cuts stops other asks recovers = tt
+is_other (says.Hflush b) sums runs settles steps cuts stops other asks recovers = tt
+is_other (says.Hsync b) sums runs settles steps cuts stops other asks recovers = tt
+is_other (says.Close b) sums runs settles steps cuts stops other asks recovers = tt
 
 idle_passes : (before : Before) (line : Instruction) → ordered_by line ≡ None → IsOther line → WordsFit before.nodes line → Passes before (after before line)
 idle_passes before (says.Read b n offset count) none other words = absurd other
-idle_passes before (says.Recover b n members) none other words = record { nodes = refl; written = refl; stage = λ x. refl }
+idle_passes before (says.Recover b n members) none other words = absurd other
 idle_passes before (says.Cut b place down up) none other words = absurd other
 idle_passes before (says.Fault n nth) none other words = record { nodes = refl; written = refl; stage = λ x. refl }
 idle_passes before (says.Stop n) none other words = absurd other
@@ -227,7 +235,7 @@ idle_passes before (says.Close b) none other words = cc
 
 idle_plays : (blocks : List ℕ) (number : ℕ) (p : PlayState) (line : Instruction) → ordered_by line ≡ None → IsOther line → PlaysLine blocks number line p p
 idle_plays blocks number p (says.Read b n offset count) none other = absurd other
-idle_plays blocks number p (says.Recover b n members) none other = refl
+idle_plays blocks number p (says.Recover b n members) none other = absurd other
 idle_plays blocks number p (says.Cut b place down up) none other = absurd other
 idle_plays blocks number p (says.Fault n nth) none other = refl
 idle_plays blocks number p (says.Stop n) none other = absurd other
@@ -249,7 +257,7 @@ idle_plays blocks number p (says.Close b) none other = cc
 
 module _ {F R I O : Type 0} (f : files.Ghosts F) (r : roads.Ghosts R I O) (i : link_in.Ghosts I) (o : link_out.Ghosts O) (old : Playing F I O) (road : R) where
   -- a line that plays don't have does nothing
-  idle_left : (number : ℕ) (line : Instruction) (before : Before) (lines : ℕ) (p : PlayState) → Passes before (after before line) → PlaysLine (blocks_in old) number line p p → IsBehind before lines p old → AsksBelow number p.asks → PlayIs f r i o p road old
+  idle_left : (number : ℕ) (line : Instruction) (before : Before) (lines : ℕ) (p : PlayState) → Passes before (after before line) → PlaysLine (blocks_in old) number line p p → IsBehind before lines p old → AsksBelow number p → PlayIs f r i o p road old
       → LineLeft f r i o number line before lines p old old road
   idle_left number line before lines p same plays behind asked stands = record {
     left = p;
@@ -258,7 +266,7 @@ module _ {F R I O : Type 0} (f : files.Ghosts F) (r : roads.Ghosts R I O) (i : l
     is = stands;
     blocks = refl;
     behind = behind_next r i o before (after before line) lines p p old old same refl refl refl (λ b h. refl) behind;
-    asked = asked_next number p p refl asked;
+    asked = asked_next number p asked;
   }
 
   pub idle_shows : (line : Instruction) → ordered_by line ≡ None → IsOther line → LineShows f r i o line old old road road (Ok tt)
@@ -283,6 +291,8 @@ module _ {F R I O : Type 0} (f : files.Ghosts F) (r : roads.Ghosts R I O) (i : l
     generator = stands.generator;
     asks = stands.asks;
     told = stands.told;
+    recovers = stands.recovers;
+    formed = stands.formed;
     live = stands.live;
     rules = λ k c at. stands.rules k c at ∙ sym (put-there p.rules block.0 rule c.block.0 (λ same. has_place old.player.clients.items block.0 (record { place = k; client = c; found = at; block = same }) none));
   }
@@ -334,11 +344,11 @@ module _ {F R I O : Type 0} (f : files.Ghosts F) (r : roads.Ghosts R I O) (i : l
       given = λ x h. given_next x (given_in p x) (behind.given x (moved old.player.clients.items new.player.clients.items x (sym blocks) h));
     }
 
-    ruled_left : (number : ℕ) → AsksBelow number p.asks → PlayIs f r i o (ruled p block.0 rule) road new → LineLeft f r i o number (says.Sums block rule) before lines p old new road
-    ruled_left number asked stands = record { left = ruled p block.0 rule; plays = refl; nodes = refl; is = stands; blocks = blocks; behind = behind_rule; asked = asked_next number p p refl asked }
+    ruled_left : (number : ℕ) → AsksBelow number p → PlayIs f r i o (ruled p block.0 rule) road new → LineLeft f r i o number (says.Sums block rule) before lines p old new road
+    ruled_left number asked stands = record { left = ruled p block.0 rule; plays = refl; nodes = refl; is = stands; blocks = blocks; behind = behind_rule; asked = asked_next number p asked }
 
 module _ {F R I O : Type 0} (f : files.Ghosts F) (r : roads.Ghosts R I O) (i : link_in.Ghosts I) (o : link_out.Ghosts O) (old new : Playing F I O) (road : R) (block : BlockId) (rule : Rule) (plays : RulesArePlays f r i o) where
-  rule_left : (number : ℕ) (before : Before) (lines : ℕ) (p : PlayState) → PlayIs f r i o p road old → IsBehind before lines p old → AsksBelow number p.asks → LineFits before (says.Sums block rule) → (place : Option ℕ) → client_place old.player.clients.items block.0 ≡ place → RulesAt block rule place old new
+  rule_left : (number : ℕ) (before : Before) (lines : ℕ) (p : PlayState) → PlayIs f r i o p road old → IsBehind before lines p old → AsksBelow number p → LineFits before (says.Sums block rule) → (place : Option ℕ) → client_place old.player.clients.items block.0 ≡ place → RulesAt block rule place old new
       → LineLeft f r i o number (says.Sums block rule) before lines p old new road
   rule_left number before lines p stands behind asked l None none h =
       ruled_left f r i o old new road block rule before lines p behind l (ap (λ (x : Playing F I O). blocks_in x) h) number asked

@@ -18,16 +18,20 @@ use Rattle.world.specs.Events.{run}
 use Rattle.world_settling.specs.Measure.{writer_weight}
 use Rattle.world_settling.specs.Traffic.{traffic}
 use Rattle.play_model.specs.declared.asks.ReadAsk.{ReadAsk}
+use Rattle.play_model.specs.declared.recoveries.Recovery.{Recovery}
 use Rattle.play_model.specs.declared.dues.Due.{Due}
 use Rattle.play_model.specs.declared.dues.Due.TheVariants as due
+use Rattle.play_nodes.proofs.Numbers.{same_place}
 use Rattle.play_nodes.proofs.Tables.{element}
+use Rattle.play_primaries.specs.declared.clients.PrimaryClient.{PrimaryClient}
+use Rattle.play_recoveries.specs.Places.{recoveries_of, PrimariesAscend}
 use Rattle.world_texts.specs.Texts.{AllFit}
 use Rattle.play_model.specs.Draws.{drawn_from, happened, advanced, draw}
 use Rattle.play_model.specs.Dues.{Queues, is_due, dues, after_due}
-use Rattle.play_model.specs.Laws.{OwnAmong, IsListed, ListedAreDue}
+use Rattle.play_model.specs.Laws.{OwnAmong, RecoveryAmong, IsListed, ListedAreDue}
 use Rattle.play_model.specs.States as states
 use Rattle.play_model.specs.States.{PlayState}
-use Rattle.play_settling.specs.Settling.{queue_weight, block_weight, ask_weight, writers_weight, weight_of, AreApart, UpperAmong, ActorAmong, IsUntold, CanHappen, PlaysLower}
+use Rattle.play_settling.specs.Settling.{queue_weight, block_weight, ask_weight, recovers_weight, writers_weight, reads_weight, weight_of, AreApart, AreNumbered, UpperAmong, ActorAmong, IsUntold, IsFormed, CanHappen, PlaysLower}
 use Rattle.play_clients.specs.declared.clients.Client.{Client}
 use Rattle.play_clients.specs.Blocks.{blocks_of}
 use Rattle.play_dues.specs.Showing.{HasClient}
@@ -49,7 +53,8 @@ client_weight w c = writer_weight (w.writers c.block.0).known + queue_weight c.q
 -- a play, as its player has it
 abbrev pub weight_in : {F I O : Type 0} → Playing F I O → ℕ
 weight_in x = traffic (world_of x.nodes x.player) + sum_by (client_weight (world_of x.nodes x.player)) x.player.clients.items +
-    sum_by (ask_weight (world_of x.nodes x.player)) (asks_of x.player.reads.clients.items)
+    sum_by (ask_weight (world_of x.nodes x.player)) (asks_of x.player.reads.clients.items) +
+    sum_by (recovers_weight (world_of x.nodes x.player)) (recoveries_of x.player.recoveries.clients.items)
 
 sums : {I O : Type 0} (w : World) (queues : Queues) (cs : List (Client I O)) (n m : ℕ) → n ≡ m → ((k : ℕ) (c : Client I O) → slice_get cs k ≡ Some c → c.queue.items ≡ queues c.block.0)
     → fold (λ a c. a + client_weight w c) n cs ≡ fold (λ a b. a + block_weight w queues b) m (blocks_of cs)
@@ -74,20 +79,42 @@ module _ {I O : Type 0} where
   client_there (c ∷ cs) b zero e = (c, (refl, same_Some c.block.0 b e))
   client_there (c ∷ cs) b (suc k) e = client_there cs b k e
 
+-- PRIMARIES
+
+module _ {I O : Type 0} where
+  primary_there : (cs : List (PrimaryClient I O)) (k : ℕ) (rec : Recovery) → slice_get (recoveries_of cs) k ≡ Some rec → (c : PrimaryClient I O) × ((slice_get cs k ≡ Some c) × (c.recovery ≡ rec))
+  primary_there [] k rec e = absurd (none-some rec e)
+  primary_there (c ∷ cs) zero rec e = (c, (refl, same_Some c.recovery rec e))
+  primary_there (c ∷ cs) (suc k) rec e = primary_there cs k rec e
+
+  apart_numbers : (cs : List (PrimaryClient I O)) → PrimariesAscend cs → AreNumbered (recoveries_of cs)
+  apart_numbers cs ascend j k a b at_j at_k same =
+      let one = primary_there cs j a at_j in
+      let other = primary_there cs k b at_k in
+      same_place (λ (c : PrimaryClient I O). c.recovery.primary) cs ascend j k one.0 other.0 one.1.0 other.1.0
+      (ap (λ (x : Recovery). x.primary) one.1.1 ∙ (same ∙ sym (ap (λ (x : Recovery). x.primary) other.1.1)))
+
 module _ {F R I O : Type 0} (f : files.Ghosts F) (r : roads.Ghosts R I O) (i : link_in.Ghosts I) (o : link_out.Ghosts O) (L : Laws) (listed : ListedAreDue) (lower : PlaysLower) where
   weight_same : (p : PlayState) (road : R) (x : Playing F I O) → PlayIs f r i o p road x → weight_in x ≡ weight_of (blocks_in x) p
   weight_same p road x h =
       let same : states.world_of p ≡ world_of p.nodes x.player = ap (λ (es : List Event). run (start p.nodes) es) h.events in
-      ap (λ (n : ℕ). traffic (world_of n x.player) + sum_by (client_weight (world_of n x.player)) x.player.clients.items + sum_by (ask_weight (world_of n x.player)) (asks_of x.player.reads.clients.items)) (sym h.nodes_are) ∙
-      (ap (λ (w : World). traffic w + sum_by (client_weight w) x.player.clients.items + sum_by (ask_weight w) (asks_of x.player.reads.clients.items)) (sym same) ∙
-      (ap (λ (n : ℕ). traffic (states.world_of p) + n + sum_by (ask_weight (states.world_of p)) (asks_of x.player.reads.clients.items)) (sums (states.world_of p) p.queues x.player.clients.items 0 0 refl (λ k c at. (h.stands.shows.clients k c at).queue)) ∙
-      ap (λ (asks : List ReadAsk). writers_weight (states.world_of p) p.queues (blocks_in x) + sum_by (ask_weight (states.world_of p)) asks) h.asks))
+      let reads : List ReadAsk = asks_of x.player.reads.clients.items in
+      let recoveries : List Recovery = recoveries_of x.player.recoveries.clients.items in
+      ap (λ (n : ℕ). traffic (world_of n x.player) + sum_by (client_weight (world_of n x.player)) x.player.clients.items + sum_by (ask_weight (world_of n x.player)) reads + sum_by (recovers_weight (world_of n x.player)) recoveries) (sym h.nodes_are) ∙
+      (ap (λ (w : World). traffic w + sum_by (client_weight w) x.player.clients.items + sum_by (ask_weight w) reads + sum_by (recovers_weight w) recoveries) (sym same) ∙
+      (ap (λ (n : ℕ). traffic (states.world_of p) + n + sum_by (ask_weight (states.world_of p)) reads + sum_by (recovers_weight (states.world_of p)) recoveries) (sums (states.world_of p) p.queues x.player.clients.items 0 0 refl (λ k c at. (h.stands.shows.clients k c at).queue)) ∙
+      (ap (λ (asks : List ReadAsk). writers_weight (states.world_of p) p.queues (blocks_in x) + sum_by (ask_weight (states.world_of p)) asks + sum_by (recovers_weight (states.world_of p)) recoveries) h.asks ∙
+      ap (λ (rs : List Recovery). reads_weight (states.world_of p) p.queues (blocks_in x) p.asks + sum_by (recovers_weight (states.world_of p)) rs) h.recovers)))
 
   apart : (p : PlayState) (road : R) (x : Playing F I O) → PlayIs f r i o p road x → AreApart (blocks_in x)
   apart p road x h j k b at_j at_k =
       let one = client_there x.player.clients.items b j at_j in
       let other = client_there x.player.clients.items b k at_k in
       h.stands.shows.apart j k one.0 other.0 one.1.0 other.1.0 (one.1.1 ∙ sym other.1.1)
+
+  -- no two primaries have one number
+  numbered : (p : PlayState) (road : R) (x : Playing F I O) → PlayIs f r i o p road x → AreNumbered p.recoveries
+  numbered p road x h = subst (λ (rs : List Recovery). AreNumbered rs) h.recovers (apart_numbers x.player.recoveries.clients.items h.stands.shows.recoveries.clients.ascend)
 
   -- WHAT IS DUE CAN HAPPEN
 
@@ -103,9 +130,10 @@ module _ {F R I O : Type 0} (f : files.Ghosts F) (r : roads.Ghosts R I O) (i : l
     upper_among c (by_reader n) e is = tt
     upper_among c (by_primary n place) e is = tt
 
-    actor_among : (d : Due) → IsListed (blocks_in x) p d → ActorAmong (states.world_of p) (blocks_in x) p.asks d
+    actor_among : (d : Due) → IsListed (blocks_in x) p d → ActorAmong (states.world_of p) (blocks_in x) p.asks p.recoveries d
     actor_among (due.Own b) z = z.among
     actor_among (due.Reader ask) z = z.asked
+    actor_among (due.Primary rec) z = z.recovers
     actor_among (due.Up c) z = upper_among c.0 ((states.world_of p).dialled c.0).upper refl z.is
     actor_among (due.Down c) z = tt
     actor_among (due.Ready c) z = tt
@@ -115,12 +143,21 @@ module _ {F R I O : Type 0} (f : files.Ghosts F) (r : roads.Ghosts R I O) (i : l
         let k = client_there x.player.clients.items b.0 among.place among.there in
         ap (λ (w : World). (w.writers b.0).told) same_world ∙ subst (λ (n : ℕ). ((world_of p.nodes x.player).writers n).told ≡ None) k.1.1 (h.stands.shows.clients among.place k.0 k.1.0).shows.told
     untold (due.Reader ask) among = tt
+    untold (due.Primary rec) among = tt
     untold (due.Up c) among = tt
     untold (due.Down c) among = tt
     untold (due.Ready c) among = tt
 
-    can_happen : (d : Due) → IsListed (blocks_in x) p d → CanHappen (states.world_of p) p.queues (blocks_in x) p.asks d
-    can_happen d z = record { due_now = z.is; apart = apart p road x h; among = actor_among d z; untold = untold d z.among }
+    formed : (d : Due) → RecoveryAmong p.recoveries d → IsFormed d
+    formed (due.Primary rec) among = h.formed among.place rec among.there
+    formed (due.Own b) among = tt
+    formed (due.Reader ask) among = tt
+    formed (due.Up c) among = tt
+    formed (due.Down c) among = tt
+    formed (due.Ready c) among = tt
+
+    can_happen : (d : Due) → IsListed (blocks_in x) p d → CanHappen (states.world_of p) p.queues (blocks_in x) p.asks p.recoveries d
+    can_happen d z = record { due_now = z.is; apart = apart p road x h; numbered = numbered p road x h; among = actor_among d z; untold = untold d z.among; formed = formed d z.recovers }
 
     few : (states.world_of p).office.next.0 ≤ 2 ^ 64
     few =

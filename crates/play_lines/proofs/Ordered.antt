@@ -161,11 +161,12 @@ module _ {F R I O : Type 0} (f : files.Ghosts F) (r : roads.Ghosts R I O) (i : l
     is = subst (λ (x : Playing F I O). PlayIs f r i o (ordered p block.0 c) road x) (sym h.same) (record {
       stands = record {
         net = is.stands.net;
-        shows = record { nodes = is.stands.shows.nodes; reads = is.stands.shows.reads; unled = is.stands.shows.unled; clients = client_shows; apart = apart; office = is.stands.shows.office; running = is.stands.shows.running; slots = is.stands.shows.slots };
+        shows = record { nodes = is.stands.shows.nodes; reads = is.stands.shows.reads; recoveries = is.stands.shows.recoveries; clients = client_shows; apart = apart; office = is.stands.shows.office; running = is.stands.shows.running; slots = is.stands.shows.slots };
         few = is.stands.few;
         events = is.stands.events;
         clients = client_fits;
         asks = is.stands.asks;
+        recovers = is.stands.recovers;
         connected = λ b n e. still_has b (is.stands.connected b n e);
       };
       nodes_are = is.nodes_are;
@@ -173,6 +174,8 @@ module _ {F R I O : Type 0} (f : files.Ghosts F) (r : roads.Ghosts R I O) (i : l
       generator = is.generator;
       asks = is.asks;
       told = is.told;
+      recovers = is.recovers;
+      formed = is.formed;
       rules = rules;
       live = is.live;
     });

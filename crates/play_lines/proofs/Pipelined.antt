@@ -6,7 +6,7 @@ use Rattle.hd_base.specs.declared.links.LinkOut as link_out
 use Rattle.hd_base.specs.declared.numbers.ConnId.{ConnId}
 use Rattle.road_traffic.specs.Showing.{Net}
 use Rattle.world.specs.Parts as parts
-use Rattle.world.specs.Parts.{by_writer, by_member, by_reader, by_primary, Lower, idle, writes}
+use Rattle.world.specs.Parts.{by_writer, by_member, by_reader, by_primary, Lower, writes}
 use Rattle.world.specs.Worlds.{World}
 use Rattle.world_laws.specs.Placing.{Placed, IsLower}
 use Rattle.play_model.specs.Lines.{is_dial_of, latest_dial, mirror_of, conn_behind, pipeline_conn}

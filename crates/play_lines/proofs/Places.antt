@@ -1,7 +1,9 @@
 -- Clients in their places, and what was asked.
-use Rattle.std.proofs.Common.{◌≡◌, ℕ, zero, suc, ◌<◌, ◌+◌, arith, List, [], ◌∷◌, drop, slice_get, slice_set, Some, refl, sym, ap, ◌∙◌}
+use Rattle.std.proofs.Common.{◌≡◌, ℕ, zero, suc, ◌<◌, ◌+◌, ◌==◌, Bool, true, false, if◌then◌else◌, arith, List, [], ◌∷◌, ◌++◌, drop, map, slice_get, slice_set, Some, refl, sym, ap, ◌∙◌, subst}
+use Rattle.hd_base.specs.declared.numbers.NodeId.{NodeId}
 use Rattle.std.proofs.lemmas.Option.{same_Some}
-use Rattle.play_model.specs.declared.asks.ReadAsk.{ReadAsk}
+use Rattle.play_model.specs.declared.recoveries.Recovery.{Recovery}
+use Rattle.play_model.specs.Recoveries.{stopped_at}
 use Rattle.play_model.specs.States.{PlayState}
 use Rattle.play_clients.specs.declared.clients.Client.{Client}
 use Rattle.play_clients.specs.Blocks.{blocks_of}
@@ -30,5 +32,41 @@ pub less_next : (a n : ℕ) → a < n → a < n + 1
 less_next a n h = omega (arith, h)
 
 -- a line that asks nothing
-pub asked_next : (number : ℕ) (p q : PlayState) → q.asks ≡ p.asks → AsksBelow number p.asks → AsksBelow (number + 1) q.asks
-asked_next number p q same below k ask at = less_next ask.reader number (below k ask (sym (ap (λ (xs : List ReadAsk). slice_get xs k) same) ∙ at))
+pub asked_next : (number : ℕ) (p : PlayState) → AsksBelow number p → AsksBelow (number + 1) p
+asked_next number p h = record {
+  reads = λ k ask at. less_next ask.reader number (h.reads k ask at);
+  recovers = λ k rec at. less_next rec.primary number (h.recovers k rec at);
+}
+
+pub below_next : (n : ℕ) → n < n + 1
+below_next n = omega arith
+
+-- LISTS
+
+-- what holds of each of these and of one more holds of each with it
+pub each_more : {A : Type 0} (P : A → Type 0) (xs : List A) (x : A) → ((k : ℕ) (a : A) → slice_get xs k ≡ Some a → P a) → P x → (k : ℕ) (a : A) → slice_get (xs ++ x ∷ []) k ≡ Some a → P a
+each_more P [] x each here zero a at = subst P (same_Some x a at) here
+each_more P [] x each here (suc k) a at = cc
+each_more P (y ∷ xs) x each here zero a at = each zero a at
+each_more P (y ∷ xs) x each here (suc k) a at = each_more P xs x (λ j b e. each (suc j) b e) here k a at
+
+-- what holds of each recovery, and of each at which a node stops, holds of each where the node has stopped
+pub each_stopped : (P : Recovery → Type 0) (node : NodeId) → ((x : Recovery) → P x → P (stopped_at node x)) → (rs : List Recovery) → ((k : ℕ) (x : Recovery) → slice_get rs k ≡ Some x → P x) → (k : ℕ) (x : Recovery) → slice_get (map (stopped_at node) rs) k ≡ Some x → P x
+each_stopped P node stops [] each k x at = cc
+each_stopped P node stops (y ∷ rs) each zero x at = subst P (same_Some (stopped_at node y) x at) (stops y (each 0 y refl))
+each_stopped P node stops (y ∷ rs) each (suc k) x at = each_stopped P node stops rs (λ j a e. each (suc j) a e) k x at
+
+-- number and members stay
+pub stopped_number : (node : NodeId) (rec : Recovery) → (stopped_at node rec).primary ≡ rec.primary
+stopped_number node rec = by (rec.node.0 == node.0)
+  where
+    by : (t : Bool) → (if t then record rec { may_begin = false } else rec).primary ≡ rec.primary
+    by true = refl
+    by false = refl
+
+pub stopped_members : (node : NodeId) (rec : Recovery) → (stopped_at node rec).members ≡ rec.members
+stopped_members node rec = by (rec.node.0 == node.0)
+  where
+    by : (t : Bool) → (if t then record rec { may_begin = false } else rec).members ≡ rec.members
+    by true = refl
+    by false = refl

@@ -39,7 +39,7 @@ module _ {S F R I O : Type 0} (s : shelves.Ghosts S F) (f : files.Ghosts F) (r :
   abbrev ask : ReadAsk
   ask = ask_in old l.number block node offset count
 
-  module _ (tell : FilesTell f) (plays : AsksArePlays f r i o) (can : CanBeAsked (request_of ask)) (before : Before) (lines : ℕ) (p : PlayState) (stands : PlayIs f r i o p road old) (behind : IsBehind before lines p old) (asks : AsksBelow l.number p.asks) (fit : LineFits before (says.Read block node offset count)) where
+  module _ (tell : FilesTell f) (plays : AsksArePlays f r i o) (can : CanBeAsked (request_of ask)) (before : Before) (lines : ℕ) (p : PlayState) (stands : PlayIs f r i o p road old) (behind : IsBehind before lines p old) (asks : AsksBelow l.number p) (fit : LineFits before (says.Read block node offset count)) where
     among : IsAmong old.player.nodes.blocks.items block.0
     among =
         let h = behind.clients block.0 (created_made before block.0 fit.kept.0) in
@@ -57,7 +57,7 @@ module _ {S F R I O : Type 0} (s : shelves.Ghosts S F) (f : files.Ghosts F) (r :
 
     line_left : HasAsked i o ask old new → LineLeft f r i o l.number (says.Read block node offset count) before lines p old new road
     line_left h =
-        let left : IsLeft f r i o (asked p ask) old new road = plays old new ask p road h stands tell fits asks in
+        let left : IsLeft f r i o (asked p ask) old new road = plays old new ask p road h stands tell fits asks.reads in
         record {
           left = asked p ask;
           plays = line_plays;
@@ -65,7 +65,7 @@ module _ {S F R I O : Type 0} (s : shelves.Ghosts S F) (f : files.Ghosts F) (r :
           is = left.is;
           blocks = left.blocks;
           behind = behind_next r i o before (after before (says.Read block node offset count)) lines p (asked p ask) old new (record { nodes = refl; written = refl; stage = λ x. refl }) refl refl left.blocks (λ b h. refl) behind;
-          asked = asked_more l.number p.asks ask refl asks;
+          asked = asked_more l.number p ask refl asks;
         }
 
   pub read_line : (result : Result (Unit {0}) PlayFault) → l.instruction ≡ says.Read block node offset count → FilesTell f → AsksArePlays f r i o → CanBeAsked (request_of ask) → Asks i o ask old new result → LineShowsOver s f r i o l shelves shelves old new road road result

@@ -1,7 +1,7 @@
 -- A line that starts a node again.
 use Rattle.std.proofs.Common.{◌≡◌, ℕ, ◌<◌, ◌≤◌, ◌+◌, Bool, true, false, List, [], ◌∷◌, ◌++◌, length, slice_get, slice_set, Some, Result, Ok, Err, inr, refl, sym, ap, ◌∙◌, subst, arith, eqb-true}
 use Rattle.std.proofs.lemmas.Bool.Decides.{nat_tests}
-use Rattle.std.specs.Prelude.{◌==◌, ◌&&◌, not, nat_lt, zero, suc, IfErr, if◌then◌else◌}
+use Rattle.std.specs.Prelude.{◌==◌, ◌&&◌, not, nat_lt, is_none, zero, suc, IfErr, if◌then◌else◌}
 use Rattle.hd_base.specs.declared.files.Files as files
 use Rattle.hd_base.specs.declared.links.LinkIn as link_in
 use Rattle.hd_base.specs.declared.links.LinkOut as link_out
@@ -12,11 +12,13 @@ use Rattle.hd_base.specs.declared.shelves.Shelf as shelves
 use Rattle.script_lang.specs.declared.instructions.Instruction.{Instruction}
 use Rattle.script_lang.specs.declared.instructions.Instruction.TheVariants as says
 use Rattle.play_scripts.specs.Reads.{is_read}
+use Rattle.play_scripts.specs.Recoveries.{is_recovery}
 use Rattle.play_scripts.specs.Unplayed as unplayed
 use Rattle.play_scripts.specs.Unplayed.{is_start}
 use Rattle.world.specs.declared.events.Event.{Event}
 use Rattle.world.specs.declared.events.Event.TheVariants as event
-use Rattle.world.specs.Parts.{Upper, by_writer, by_member, by_reader, by_primary, Writing}
+use Rattle.world.specs.Enabled.{leads_from, listens_at}
+use Rattle.world.specs.Parts.{Upper, by_writer, by_member, by_reader, by_primary, Writing, Primary, Leading, no_primary, was_told, leads, has_led}
 use Rattle.world.specs.Worlds.{World, start}
 use Rattle.world.specs.Events.{happens, run}
 use Rattle.node_starts.specs.Books.{NodeTells}
@@ -49,8 +51,9 @@ use Rattle.play_lines.specs.Showing.{PlayIs}
 use Rattle.play_lines.specs.Starting.{StartEnds, StartShows}
 use Rattle.play_lines.proofs.Drawn.{world_same}
 use Rattle.play_lines.proofs.Lined.{Stays, drawn_left}
+use Rattle.play_lines.proofs.Lives.{PrimariesLived, primaries_lived}
 use Rattle.play_lines.proofs.ShelfLemmas.{line_fault}
-use Rattle.play_lines.proofs.StopLines.{both}
+use Rattle.play_lines.proofs.StopLines.{both, silent}
 
 -- WHAT IS SPENT
 
@@ -80,20 +83,37 @@ no_events w n c lived h = by ((w.dialled c).to.node == n.0) refl
     by false e = h
     by true e = dead (nat_lt c w.next_conn) refl (eqb-true (w.dialled c).to.node n.0 e)
 
-given_up : (w : World) (n : NodeId) (c : ℕ) (u : Upper) → IsLived w → is_given_up w c u ≡ true → is_given_up (started w n []) c u ≡ true
-given_up w n c (by_writer b) lived h = h
-given_up w n c (by_member d) lived h = no_events w n d lived h
-given_up w n c (by_reader k) lived h = h
-given_up w n c (by_primary k place) lived h = h
+-- a primary that takes nothing from a connection takes nothing from it then, as its node's life is over
+kill_led : (q x y : Bool) → q ≡ false → not (((true && q) && x) && y) ≡ true
+kill_led false x y e = refl
+kill_led true x y e = cc
 
-spent_starts : (w : World) (n : NodeId) (c : ℕ) → IsLived w → is_spent w c ≡ true → is_spent (started w n []) c ≡ true
-spent_starts w n c lived h =
-    both (not (has_events w c)) (is_given_up w c (w.dialled c).upper) (not (has_events (started w n []) c)) (is_given_up (started w n []) c (w.dialled c).upper) (no_events w n c lived) (given_up w n c (w.dialled c).upper lived) h
+led_over : (w : World) (n : NodeId) (place : ℕ) (p : Primary) → ((l : Leading) → p ≡ leads l → l.at.life ≤ w.lives l.at.node) → not (leads_from p w place) ≡ true → not (leads_from p (started w n []) place) ≡ true
+led_over w n place no_primary lived h = refl
+led_over w n place (was_told b told) lived h = refl
+led_over w n place (has_led result) lived h = refl
+led_over w n place (leads l) lived h = by (l.at.node == n.0) refl
+  where
+    by : (b : Bool) → (l.at.node == n.0) ≡ b
+        → not ((((if b then true else w.running l.at.node) && ((if b then w.lives n.0 + 1 else w.lives l.at.node) == l.at.life)) && is_none l.told) && listens_at l.state.phase (slice_get l.state.standings place)) ≡ true
+    by false e = h
+    by true e = kill_led (w.lives n.0 + 1 == l.at.life) (is_none l.told) (listens_at l.state.phase (slice_get l.state.standings place)) (older l.at.life 0 l.at.node n.0 w.lives (lived l refl) (eqb-true l.at.node n.0 e))
+
+given_up : (w : World) (n : NodeId) (c : ℕ) (u : Upper) → IsLived w → PrimariesLived w → is_given_up w c u ≡ true → is_given_up (started w n []) c u ≡ true
+given_up w n c (by_writer b) lived led h = h
+given_up w n c (by_member d) lived led h = no_events w n d lived h
+given_up w n c (by_reader k) lived led h = h
+given_up w n c (by_primary k place) lived led h =
+    silent (leads_from (w.primaries k) w place) (leads_from (w.primaries k) (started w n []) place) (w.up_marks c).over (w.up_marks c).over (led_over w n place (w.primaries k) (led k)) (λ e. e) h
+
+spent_starts : (w : World) (n : NodeId) (c : ℕ) → IsLived w → PrimariesLived w → is_spent w c ≡ true → is_spent (started w n []) c ≡ true
+spent_starts w n c lived led h =
+    both (not (has_events w c)) (is_given_up w c (w.dialled c).upper) (not (has_events (started w n []) c)) (is_given_up (started w n []) c (w.dialled c).upper) (no_events w n c lived) (given_up w n c (w.dialled c).upper lived led) h
 
 -- What covered a world covers the one in which a node starts.
-covers_start : (w : World) (n : NodeId) (live : LiveConns) → IsLived w → n.0 < w.nodes → w.running n.0 ≡ false → Covers w live → Covers (happens w (event.Restart n [])) live
-covers_start w n live lived within off h =
-    subst (λ (v : World). Covers v live) (sym (start_is w n [] within off)) (record { within = h.within; has = h.has; listed = h.listed; rest = λ c below out. spent_starts w n c lived (h.rest c below out) })
+covers_start : (w : World) (n : NodeId) (live : LiveConns) → IsLived w → PrimariesLived w → n.0 < w.nodes → w.running n.0 ≡ false → Covers w live → Covers (happens w (event.Restart n [])) live
+covers_start w n live lived led within off h =
+    subst (λ (v : World). Covers v live) (sym (start_is w n [] within off)) (record { within = h.within; has = h.has; listed = h.listed; rest = λ c below out. spent_starts w n c lived led (h.rest c below out) })
 
 writer_stays : (w : World) (n : NodeId) (b : ℕ) → n.0 < w.nodes → w.running n.0 ≡ false → (happens w (event.Restart n [])).writers b ≡ w.writers b
 writer_stays w n b within off = ap (λ (v : World). v.writers b) (start_is w n [] within off)
@@ -124,8 +144,8 @@ pub start_stays : (p : PlayState) (n : NodeId) → Stays p (start_at p n)
 start_stays p n = by (may_start p n)
   where
     by : (b : Bool) → Stays p (if b then record p { events = p.events ++ event.Restart n [] ∷ [] } else p)
-    by true = record { nodes = refl; rules = refl; asks = refl }
-    by false = record { nodes = refl; rules = refl; asks = refl }
+    by true = record { nodes = refl; rules = refl; below = λ number h. h }
+    by false = record { nodes = refl; rules = refl; below = λ number h. h }
 
 module _ {S F R I O : Type 0} (s : shelves.Ghosts S F) (f : files.Ghosts F) (r : roads.Ghosts R I O) (i : link_in.Ghosts I) (o : link_out.Ghosts O) (L : Laws) (lived : DialsAreLived) (node : NodeId) (old : Playing F I O) (road : R) where
   running_told : (p : PlayState) → PlayIs f r i o p road old → (states.world_of p).running node.0 ≡ runs_in old.player.running.items node.0
@@ -157,6 +177,7 @@ module _ {S F R I O : Type 0} (s : shelves.Ghosts S F) (f : files.Ghosts F) (r :
         let v : World = happens w (event.Restart node []) in
         let q : PlayState = record p { events = p.events ++ event.Restart node [] ∷ [] } in
         let off_there : w.running node.0 ≡ false = running_told p h ∙ off in
+        let led : PrimariesLived w = subst (λ (u : World). PrimariesLived u) (sym (world_same f r i o p road old h)) (primaries_lived i o (world_of p.nodes old.player) h.stands.net old.player.nodes.blocks.items old.player.recoveries h.stands.shows.recoveries) in
         let is_node : node.0 < w.nodes = subst (λ (n : ℕ). node.0 < n) (sym (L.only p.nodes p.events).nodes_are) (below p many) in
         let joined : states.world_of q ≡ v = L.joined (start p.nodes) p.events (event.Restart node [] ∷ []) in
         let events : q.events ≡ new.player.events.items = ap (λ (es : List Event). es ++ event.Restart node [] ∷ []) h.events ∙ sym has.events in
@@ -170,9 +191,11 @@ module _ {S F R I O : Type 0} (s : shelves.Ghosts S F) (f : files.Ghosts F) (r :
             generator = ap (λ (x : Playing F I O). x.generator) rest ∙ h.generator;
             asks = has.asks ∙ h.asks;
             told = h.told;
+            recovers = has.recovers ∙ h.recovers;
+            formed = h.formed;
             rules = λ k c at. h.rules k c (sym (ap (λ (xs : List (Client I O)). slice_get xs k) clients) ∙ at);
             live = subst (λ (l : LiveConns). Covers (world_of p.nodes new.player) l) (ap (λ (x : Playing F I O). x.live) (sym rest))
-                (subst (λ (u : World). Covers u old.live) (sym world_is) (covers_start w node old.live (lived p.nodes p.events) is_node off_there (subst (λ (u : World). Covers u old.live) (sym (world_same f r i o p road old h)) h.live)));
+                (subst (λ (u : World). Covers u old.live) (sym world_is) (covers_start w node old.live (lived p.nodes p.events) led is_node off_there (subst (λ (u : World). Covers u old.live) (sym (world_same f r i o p road old h)) h.live)));
           };
           blocks = ap (λ (xs : List (Client I O)). blocks_of xs) clients;
           given = λ b k. ap (λ (u : World). given_with (intake_of u b) (p.queues b)) joined ∙ ap (λ (x : Writing). given_with x.known.intake (p.queues b)) (writer_stays w node b is_node off_there);
@@ -280,3 +303,25 @@ none_asks (says.Run count) asks = refl
 none_asks says.Settle asks = refl
 none_asks (says.Step b event) asks = refl
 none_asks (says.Expect n b state stamp written) asks = refl
+
+pub none_recovers : (line : Instruction) → ((b : BlockId) (n : NodeId) (members : List NodeId) → line ≡ says.Recover b n members → ⊥) → is_recovery line ≡ false
+none_recovers (says.Recover b n members) recovers = absurd (recovers b n members refl)
+none_recovers (says.Start n) recovers = refl
+none_recovers (says.Nodes count) recovers = refl
+none_recovers (says.Seed seed) recovers = refl
+none_recovers (says.Sums b rule) recovers = refl
+none_recovers (says.Create b members) recovers = refl
+none_recovers (says.Append b members) recovers = refl
+none_recovers (says.Write b bytes) recovers = refl
+none_recovers (says.Fill b count) recovers = refl
+none_recovers (says.Hflush b) recovers = refl
+none_recovers (says.Hsync b) recovers = refl
+none_recovers (says.Close b) recovers = refl
+none_recovers (says.Read b n offset count) recovers = refl
+none_recovers (says.Cut b place down up) recovers = refl
+none_recovers (says.Fault n nth) recovers = refl
+none_recovers (says.Stop n) recovers = refl
+none_recovers (says.Run count) recovers = refl
+none_recovers says.Settle recovers = refl
+none_recovers (says.Step b event) recovers = refl
+none_recovers (says.Expect n b state stamp written) recovers = refl

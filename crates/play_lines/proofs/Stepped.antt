@@ -1,5 +1,6 @@
 -- One event of a pipeline happens, where it is due.
 use Rattle.std.proofs.Common.{◌≡◌, ℕ, ◌≤◌, Bool, true, false, if◌then◌else◌, List, Option, Some, None, option_map, Result, Ok, Err, refl, sym, ap, ◌∙◌, subst}
+use Rattle.std.proofs.lemmas.Option.{none-some, same_Some}
 use Rattle.hd_base.specs.declared.files.Files as files
 use Rattle.hd_base.specs.declared.links.LinkIn as link_in
 use Rattle.hd_base.specs.declared.links.LinkOut as link_out
@@ -11,7 +12,6 @@ use Rattle.road_traffic.specs.Showing.{Net}
 use Rattle.world.specs.Worlds.{World}
 use Rattle.world_laws.specs.Placing.{Placed}
 use Rattle.world_orders.specs.Open.{AllOpen}
-use Rattle.play_model.specs.declared.asks.ReadAsk.{ReadAsk}
 use Rattle.play_model.specs.declared.dues.Due.{Due}
 use Rattle.play_model.specs.declared.dues.Due.TheVariants as due
 use Rattle.play_model.specs.Dues.{is_due, after_due}
@@ -36,6 +36,7 @@ use Rattle.play.proofs.Dispatch.{has_place, client_at}
 use Rattle.play_lines.specs.declared.playing.Playing.{Playing}
 use Rattle.play_lines.specs.Drawing.{IsDrawn}
 use Rattle.play_reads.specs.declared.reads.Reads.{Reads}
+use Rattle.play_recoveries.specs.declared.recoveries.Recoveries.{Recoveries}
 use Rattle.play_lines.specs.Showing.{PlayIs, IsPlaying}
 use Rattle.play_lines.specs.Pipelines.{pipeline_at}
 use Rattle.play_lines.specs.Stepping.{due_behind, due_where, due_for, StepEnds, StepShows}
@@ -43,6 +44,12 @@ use Rattle.play_lines.proofs.Pipelined.{pipeline_told}
 use Rattle.play_lines.proofs.Drawn.{reads_told, numbers_same, world_same, dues_show, with_roads, player_stands, covers_after, after, caused, given_after}
 
 -- EVENTS
+
+-- it is no own step of a reader or of a primary
+abbrev pub IsOfPipeline : Due → Type 0
+IsOfPipeline (due.Reader ask) = ⊥
+IsOfPipeline (due.Primary rec) = ⊥
+IsOfPipeline other = Unit {0}
 
 down_not : (x : Option ℕ) (b : BlockId) → option_map (λ c. due.Down (record { 0 = c })) x ≡ Some (due.Own b) → ⊥
 down_not None b e = cc
@@ -56,24 +63,23 @@ up_not : (x : Option ℕ) (b : BlockId) → option_map (λ c. due.Up (record { 0
 up_not None b e = cc
 up_not (Some c) b e = cc
 
--- none is a reader's
-down_no_reader : (x : Option ℕ) (ask : ReadAsk) → option_map (λ c. due.Down (record { 0 = c })) x ≡ Some (due.Reader ask) → ⊥
-down_no_reader None ask e = cc
-down_no_reader (Some c) ask e = cc
+-- an event of a pipeline is so
+conn_so : (made : ℕ → Due) → ((c : ℕ) → IsOfPipeline (made c)) → (x : Option ℕ) (d : Due) → option_map made x ≡ Some d → IsOfPipeline d
+conn_so made are None d e = absurd (none-some d e)
+conn_so made are (Some c) d e = subst IsOfPipeline (same_Some (made c) d e) (are c)
 
-ready_no_reader : (x : Option ℕ) (ask : ReadAsk) → option_map (λ c. due.Ready (record { 0 = c })) x ≡ Some (due.Reader ask) → ⊥
-ready_no_reader None ask e = cc
-ready_no_reader (Some c) ask e = cc
+behind_so : {I O : Type 0} (conns : List (Connection I O)) (block : BlockId) (event : StepEvent) (d : Due) → due_behind conns block event ≡ Some d → IsOfPipeline d
+behind_so conns block step.Writer d e = subst IsOfPipeline (same_Some (due.Own block) d e) tt
+behind_so conns block (step.Down place) d e = conn_so (λ c. due.Down (record { 0 = c })) (λ c. tt) (pipeline_at conns block.0 place) d e
+behind_so conns block (step.Ready place) d e = conn_so (λ c. due.Ready (record { 0 = c })) (λ c. tt) (pipeline_at conns block.0 place) d e
+behind_so conns block (step.Up place) d e = conn_so (λ c. due.Up (record { 0 = c })) (λ c. tt) (pipeline_at conns block.0 place) d e
 
-up_no_reader : (x : Option ℕ) (ask : ReadAsk) → option_map (λ c. due.Up (record { 0 = c })) x ≡ Some (due.Reader ask) → ⊥
-up_no_reader None ask e = cc
-up_no_reader (Some c) ask e = cc
-
-no_reader_behind : {I O : Type 0} (conns : List (Connection I O)) (block : BlockId) (event : StepEvent) (ask : ReadAsk) → due_behind conns block event ≡ Some (due.Reader ask) → ⊥
-no_reader_behind conns block step.Writer ask e = cc
-no_reader_behind conns block (step.Down place) ask e = down_no_reader (pipeline_at conns block.0 place) ask e
-no_reader_behind conns block (step.Ready place) ask e = ready_no_reader (pipeline_at conns block.0 place) ask e
-no_reader_behind conns block (step.Up place) ask e = up_no_reader (pipeline_at conns block.0 place) ask e
+for_so : {F I O : Type 0} (x : Playing F I O) (block : BlockId) (event : StepEvent) (d : Due) → due_for x block event ≡ Some d → IsOfPipeline d
+for_so x block event d e = by (client_place x.player.clients.items block.0) e
+  where
+    by : (sought : Option ℕ) → due_where sought x.player.nodes.connections.items block event ≡ Some d → IsOfPipeline d
+    by None e = absurd (none-some d e)
+    by (Some place) e = behind_so x.player.nodes.connections.items block event d e
 
 -- an own step is that of the block
 own_is : {I O : Type 0} (conns : List (Connection I O)) (block : BlockId) (event : StepEvent) (b : BlockId) → due_behind conns block event ≡ Some (due.Own b) → block ≡ b
@@ -101,9 +107,10 @@ module _ {F I O : Type 0} (x : Playing F I O) (block : BlockId) where
       by None is = absurd (has_place x.player.clients.items block.0 h is)
       by (Some place) is = refl
 
-  played : (event : StepEvent) (d : Due) → due_for x block event ≡ Some d → HasClient x.player.clients.items block.0 → IsPlayed x.player.clients.items x.player.reads d
+  played : (event : StepEvent) (d : Due) → due_for x block event ≡ Some d → HasClient x.player.clients.items block.0 → IsPlayed x.player.clients.items x.player.reads x.player.recoveries d
   played event (due.Own b) is h = subst (λ (a : BlockId). HasClient x.player.clients.items a.0) (own_is conns block event b (sym (due_of_client event h) ∙ is)) h
-  played event (due.Reader ask) is h = absurd (no_reader_behind conns block event ask (sym (due_of_client event h) ∙ is))
+  played event (due.Reader ask) is h = absurd (for_so x block event (due.Reader ask) is)
+  played event (due.Primary rec) is h = absurd (for_so x block event (due.Primary rec) is)
   played event (due.Down c) is h = tt
   played event (due.Ready c) is h = tt
   played event (due.Up c) is h = tt
@@ -112,28 +119,42 @@ never : (result : Bool) → result ≡ true → result ≡ false → ⊥
 never true is fails = cc
 never false is fails = cc
 
--- where something is due that is no reader's it isn't an own step of a block that has no client
-played_so : {I O : Type 0} (clients : List (Client I O)) (reads : Reads I O) (d : Due) (result : Bool) → ((ask : ReadAsk) → d ≡ due.Reader ask → ⊥) → result ≡ true → (IsAlone clients reads d → result ≡ false) → IsPlayed clients reads d
-played_so {I} {O} clients reads (due.Own b) result apart is alone = by (client_place clients b.0) refl
+-- where something of a pipeline is due it isn't an own step of a block that has no client
+played_so : {I O : Type 0} (clients : List (Client I O)) (reads : Reads I O) (recoveries : Recoveries I O) (d : Due) (result : Bool) → IsOfPipeline d → result ≡ true → (IsAlone clients reads recoveries d → result ≡ false) → IsPlayed clients reads recoveries d
+played_so {I} {O} clients reads recoveries (due.Own b) result of is alone = by (client_place clients b.0) refl
   where
     by : (sought : Option ℕ) → client_place clients b.0 ≡ sought → HasClient clients b.0
     by None none = absurd (never result is (alone none))
     by (Some place) there =
         let k = client_at clients b place there in
         record { place = place; client = k.client; found = k.found; block = ap (λ (a : BlockId). a.0) k.block }
-played_so clients reads (due.Reader ask) result apart is alone = absurd (apart ask refl)
-played_so clients reads (due.Down c) result apart is alone = tt
-played_so clients reads (due.Ready c) result apart is alone = tt
-played_so clients reads (due.Up c) result apart is alone = tt
+played_so clients reads recoveries (due.Reader ask) result of is alone = absurd of
+played_so clients reads recoveries (due.Primary rec) result of is alone = absurd of
+played_so clients reads recoveries (due.Down c) result of is alone = tt
+played_so clients reads recoveries (due.Ready c) result of is alone = tt
+played_so clients reads recoveries (due.Up c) result of is alone = tt
 
-actor_so : {F I O : Type 0} (p : Player F I O) (d : Due) → IsPlayed p.clients.items p.reads d → ActorIsClient p d
+actor_so : {F I O : Type 0} (p : Player F I O) (d : Due) → IsPlayed p.clients.items p.reads p.recoveries d → ActorIsClient p d
 actor_so p (due.Own b) h = h
 actor_so p (due.Reader ask) h = h
+actor_so p (due.Primary rec) h = h
 actor_so p (due.Down c) h = tt
 actor_so p (due.Ready c) h = tt
 actor_so p (due.Up c) h = tt
 
 -- WHAT IS TOLD
+
+-- of the same clients, and of the same event
+pub told_as : {F R I O : Type 0} (r : roads.Ghosts R I O) (i : link_in.Ghosts I) (o : link_out.Ghosts O) (n : Nodes F I O) (xs clients : List (Client I O)) (reads : Reads I O) (recoveries : Recoveries I O) (road road' : R) (d e : Due) (result : Bool) → xs ≡ clients → d ≡ e → TellsDue r i o d n xs reads recoveries road road' result
+    → TellsDue r i o e n clients reads recoveries road road' result
+told_as {F} {R} {I} {O} r i o n xs clients reads recoveries road road' d e result same is h =
+    subst (λ (cs : List (Client I O)). TellsDue r i o e n cs reads recoveries road road' result) same
+    (subst (λ (x : Due). TellsDue r i o x n xs reads recoveries road road' result) is h)
+
+pub alone_as : {I O : Type 0} (xs clients : List (Client I O)) (reads : Reads I O) (recoveries : Recoveries I O) (d e : Due) (result : Bool) → xs ≡ clients → d ≡ e → (IsAlone xs reads recoveries d → result ≡ false) → IsAlone clients reads recoveries e → result ≡ false
+alone_as {I} {O} xs clients reads recoveries d e result same is h =
+    subst (λ (cs : List (Client I O)). IsAlone cs reads recoveries e → result ≡ false) same
+    (subst (λ (x : Due). IsAlone xs reads recoveries x → result ≡ false) is h)
 
 module _ {F I O : Type 0} (i : link_in.Ghosts I) (o : link_out.Ghosts O) (w : World) (net : Net) (n : Nodes F I O) (nodes : NodesShow i o w net n) (placed : Placed w) where
   due_told : (block : BlockId) (event : StepEvent) → due_behind n.connections.items block event ≡ step_due w block.0 event
@@ -141,13 +162,6 @@ module _ {F I O : Type 0} (i : link_in.Ghosts I) (o : link_out.Ghosts O) (w : Wo
   due_told block (step.Down place) = ap (option_map (λ c. due.Down (record { 0 = c }))) (pipeline_told i o w net n nodes placed block.0 place)
   due_told block (step.Ready place) = ap (option_map (λ c. due.Ready (record { 0 = c }))) (pipeline_told i o w net n nodes placed block.0 place)
   due_told block (step.Up place) = ap (option_map (λ c. due.Up (record { 0 = c }))) (pipeline_told i o w net n nodes placed block.0 place)
-
-no_reader_for : {F I O : Type 0} (x : Playing F I O) (block : BlockId) (event : StepEvent) (ask : ReadAsk) → due_for x block event ≡ Some (due.Reader ask) → ⊥
-no_reader_for x block event ask e = by (client_place x.player.clients.items block.0) e
-  where
-    by : (sought : Option ℕ) → due_where sought x.player.nodes.connections.items block event ≡ Some (due.Reader ask) → ⊥
-    by None e = cc
-    by (Some place) e = no_reader_behind x.player.nodes.connections.items block event ask e
 
 module _ {F R I O : Type 0} (f : files.Ghosts F) (r : roads.Ghosts R I O) (i : link_in.Ghosts I) (o : link_out.Ghosts O) (L : Laws) (opens : AllOpen) (block : BlockId) (event : StepEvent) where
   for_told : (p : PlayState) (road : R) (old : Playing F I O) → PlayIs f r i o p road old → HasClient old.player.clients.items block.0 → due_for old block event ≡ step_due (states.world_of p) block.0 event
@@ -164,7 +178,7 @@ module _ {F R I O : Type 0} (f : files.Ghosts F) (r : roads.Ghosts R I O) (i : l
   nothing_there old road found for none = λ p h has.
       subst (λ (x : Option Due). IsDrawn f r i o p (stepped p x) old old road) (sym none ∙ (for ∙ for_told p road old h has)) (record { is = h; blocks = refl; given = λ b k. refl })
 
-  pub not_due : (old : Playing F I O) (road road' : R) (found : Option Due) (d : Due) (result : Bool) → result ≡ false → found ≡ due_for old block event → found ≡ Some d → TellsDue r i o d old.player.nodes old.player.clients.items old.player.reads road road' result → StepShows f r i o block event old old road road' (Ok tt)
+  pub not_due : (old : Playing F I O) (road road' : R) (found : Option Due) (d : Due) (result : Bool) → result ≡ false → found ≡ due_for old block event → found ≡ Some d → TellsDue r i o d old.player.nodes old.player.clients.items old.player.reads old.player.recoveries road road' result → StepShows f r i o block event old old road road' (Ok tt)
   not_due old road road' found d result fails for there tells = λ p h has.
       let is : due_for old block event ≡ Some d = sym for ∙ there in
       let t = tells (played old block event d is has) (world_of p.nodes old.player) h.stands.net p.queues (dues_show f r i o L opens p road old h) in
@@ -172,9 +186,9 @@ module _ {F R I O : Type 0} (f : files.Ghosts F) (r : roads.Ghosts R I O) (i : l
       subst (λ (x : Option Due). IsDrawn f r i o p (stepped p x) old old road') (sym is ∙ for_told p road old h has)
       (subst (λ (b : Bool). IsDrawn f r i o p (if b then after_due p d else p) old old road') never (record { is = with_roads f r i o p road road' old h t.0; blocks = refl; given = λ b k. refl }))
 
-  pub stands_here : (old : Playing F I O) (road first : R) (found : Option Due) (d : Due) (result : Bool) → found ≡ due_for old block event → found ≡ Some d → result ≡ true → (IsAlone old.player.clients.items old.player.reads d → result ≡ false) → IsPlaying f r i o road old → TellsDue r i o d old.player.nodes old.player.clients.items old.player.reads road first result → PlayerStands r i o first old.player
+  pub stands_here : (old : Playing F I O) (road first : R) (found : Option Due) (d : Due) (result : Bool) → found ≡ due_for old block event → found ≡ Some d → result ≡ true → (IsAlone old.player.clients.items old.player.reads old.player.recoveries d → result ≡ false) → IsPlaying f r i o road old → TellsDue r i o d old.player.nodes old.player.clients.items old.player.reads old.player.recoveries road first result → PlayerStands r i o first old.player
   stands_here old road first found d result for there holds alone playing tells =
-      let t = tells (played_so old.player.clients.items old.player.reads d result (λ ask e. no_reader_for old block event ask (sym for ∙ (there ∙ ap Some e))) holds alone) (world_of playing.p.nodes old.player) playing.is.stands.net playing.p.queues (dues_show f r i o L opens playing.p road old playing.is) in
+      let t = tells (played_so old.player.clients.items old.player.reads old.player.recoveries d result (for_so old block event d (sym for ∙ there)) holds alone) (world_of playing.p.nodes old.player) playing.is.stands.net playing.p.queues (dues_show f r i o L opens playing.p road old playing.is) in
       player_stands f r i o playing.p first old (with_roads f r i o playing.p road first old playing.is t.0)
 
   happens_so : CoversOn → (p : PlayState) (old new : Playing F I O) (road first road' : R) (d : Due) (result : Result (Unit {0}) PlayFault) → new.nodes ≡ old.nodes → new.generator ≡ old.generator → new.live ≡ old.live → r.faults road ≤ r.faults first → due_for old block event ≡ Some d → PlayIs f r i o p road old → PlayIs f r i o p first old
@@ -192,7 +206,7 @@ module _ {F R I O : Type 0} (f : files.Ghosts F) (r : roads.Ghosts R I O) (i : l
   happens_so on p old new road first road' d (Err why) nodes gen live faults is h here has holds ends = caused f r i o old old new road first road' why faults ends
 
   pub happened : CoversOn → (old new : Playing F I O) (road first road' : R) (found : Option Due) (d : Due) (told : Bool) (result : Result (Unit {0}) PlayFault) → new.nodes ≡ old.nodes → new.generator ≡ old.generator → new.live ≡ old.live → r.faults road ≤ r.faults first → told ≡ true → found ≡ due_for old block event → found ≡ Some d
-      → TellsDue r i o d old.player.nodes old.player.clients.items old.player.reads road first told → HappenShows f r i o d old.player new.player first road' result → StepShows f r i o block event old new road road' result
+      → TellsDue r i o d old.player.nodes old.player.clients.items old.player.reads old.player.recoveries road first told → HappenShows f r i o d old.player new.player first road' result → StepShows f r i o block event old new road road' result
   happened on old new road first road' found d told result nodes gen live faults holds for there tells happens = λ p h has.
       let is : due_for old block event ≡ Some d = sym for ∙ there in
       let here = played old block event d is has in

@@ -1,6 +1,6 @@
 -- A line that stops a node.
-use Rattle.std.proofs.Common.{◌≡◌, ℕ, ◌<◌, ◌≤◌, Bool, true, false, List, [], ◌∷◌, ◌++◌, slice_get, Some, Result, Ok, Err, refl, sym, ap, ◌∙◌, subst, arith}
-use Rattle.std.specs.Prelude.{◌==◌, ◌&&◌, not, nat_lt, if◌then◌else◌}
+use Rattle.std.proofs.Common.{◌≡◌, ℕ, ◌<◌, ◌≤◌, Bool, true, false, List, [], ◌∷◌, ◌++◌, map, slice_get, Some, Result, Ok, Err, refl, sym, ap, ◌∙◌, subst, arith}
+use Rattle.std.specs.Prelude.{◌==◌, ◌&&◌, not, nat_lt, is_none, if◌then◌else◌}
 use Rattle.hd_base.specs.declared.files.Files as files
 use Rattle.hd_base.specs.declared.links.LinkIn as link_in
 use Rattle.hd_base.specs.declared.links.LinkOut as link_out
@@ -9,12 +9,18 @@ use Rattle.hd_base.specs.declared.roads.Roads as roads
 use Rattle.hd_base.specs.declared.roads.TheConstants.{MAX_NODES}
 use Rattle.world.specs.declared.events.Event.{Event}
 use Rattle.world.specs.declared.events.Event.TheVariants as event
-use Rattle.world.specs.Parts.{Upper, by_writer, by_member, by_reader, by_primary, Writing}
+use Rattle.world.specs.Connections.{is_of_node, stopped_marks}
+use Rattle.world.specs.Enabled.{leads_from, listens_at}
+use Rattle.world.specs.Parts.{Upper, by_writer, by_member, by_reader, by_primary, Writing, Primary, no_primary, was_told, leads, has_led}
+use Rattle.world.specs.Clients.{are_members}
 use Rattle.world.specs.Worlds.{World, start}
 use Rattle.world.specs.Events.{stop, happens, run}
 use Rattle.world_stops.proofs.StopLemmas.{stop_is}
 use Rattle.play_model.specs.Dues.{is_open}
+use Rattle.play_model.specs.Lines as lines
 use Rattle.play_model.specs.Lines.{stop_at}
+use Rattle.play_model.specs.declared.recoveries.Recovery.{Recovery}
+use Rattle.play_model.specs.Recoveries.{stopped_at}
 use Rattle.play_model.specs.States as states
 use Rattle.play_model.specs.States.{PlayState}
 use Rattle.play_clients.specs.declared.clients.Client.{Client}
@@ -35,6 +41,7 @@ use Rattle.play_lines.specs.Drawing.{IsCaused, IsDrawn}
 use Rattle.play_lines.specs.Showing.{PlayIs, IsPlaying}
 use Rattle.play_lines.specs.Stopping.{StopShows}
 use Rattle.play_lines.proofs.Drawn.{world_same}
+use Rattle.play_lines.proofs.Places.{each_stopped, stopped_members}
 
 -- WHAT IS SPENT
 
@@ -53,11 +60,45 @@ fewer false r l a o h = h
 no_events : (w : World) (n : NodeId) (c : ℕ) → not (has_events w c) ≡ true → not (has_events (stopped w n) c) ≡ true
 no_events w n c h = fewer ((w.dialled c).to.node == n.0) (w.running (w.dialled c).to.node) (w.lives (w.dialled c).to.node == (w.dialled c).to.life) (nat_lt c w.next_conn) (is_open (w.lowers c)) h
 
+-- a primary that takes nothing from a connection takes nothing from it then
+fewer_led : (b r l x y : Bool) → not (((r && l) && x) && y) ≡ true → not ((((if b then false else r) && l) && x) && y) ≡ true
+fewer_led true r l x y h = refl
+fewer_led false r l x y h = h
+
+led_over : (w : World) (n : NodeId) (place : ℕ) (p : Primary) → not (leads_from p w place) ≡ true → not (leads_from p (stopped w n) place) ≡ true
+led_over w n place (leads l) h = fewer_led (l.at.node == n.0) (w.running l.at.node) (w.lives l.at.node == l.at.life) (is_none l.told) (listens_at l.state.phase (slice_get l.state.standings place)) h
+led_over w n place no_primary h = refl
+led_over w n place (was_told b told) h = refl
+led_over w n place (has_led result) h = refl
+
+-- who took nothing, or has taken the end, takes nothing
+none_led : (led over : Bool) → not led ≡ true → not (led && not over) ≡ true
+none_led false over e = refl
+none_led true over e = cc
+
+none_left : (led over : Bool) → over ≡ true → not (led && not over) ≡ true
+none_left false over e = refl
+none_left true true e = refl
+none_left true false e = cc
+
+pub silent : (led led' over over' : Bool) → (not led ≡ true → not led' ≡ true) → (over ≡ true → over' ≡ true) → not (led && not over) ≡ true → not (led' && not over') ≡ true
+silent false led' over over' still stays h = none_led led' over' (still refl)
+silent true led' true over' still stays h = none_left led' over' (stays refl)
+silent true led' false over' still stays h = cc
+
+over_stops : (w : World) (n : NodeId) (c : ℕ) → (w.up_marks c).over ≡ true → ((stopped w n).up_marks c).over ≡ true
+over_stops w n c e = by (is_of_node w n.0 c)
+  where
+    by : (t : Bool) → (if t then stopped_marks (w.up_marks c) else w.up_marks c).over ≡ true
+    by true = e
+    by false = e
+
 given_up : (w : World) (n : NodeId) (c : ℕ) (u : Upper) → is_given_up w c u ≡ true → is_given_up (stopped w n) c u ≡ true
 given_up w n c (by_writer b) h = h
 given_up w n c (by_member d) h = no_events w n d h
 given_up w n c (by_reader k) h = h
-given_up w n c (by_primary k place) h = h
+given_up w n c (by_primary k place) h =
+    silent (leads_from (w.primaries k) w place) (leads_from (w.primaries k) (stopped w n) place) (w.up_marks c).over ((stopped w n).up_marks c).over (led_over w n place (w.primaries k)) (over_stops w n c) h
 
 pub both : (a b c d : Bool) → (a ≡ true → c ≡ true) → (b ≡ true → d ≡ true) → (a && b) ≡ true → (c && d) ≡ true
 both true true c d f g h = ap (λ (x : Bool). x && d) (f refl) ∙ g refl
@@ -78,11 +119,11 @@ writer_stays w n b runs = ap (λ (v : World). v.writers b) (stop_is w n runs)
 
 -- THE LINE
 
-stop_so : (p : PlayState) (n : NodeId) → (states.world_of p).running n.0 ≡ true → stop_at p n ≡ record p { events = p.events ++ event.Stop n ∷ [] }
-stop_so p n e = ap (λ (b : Bool). if b then record p { events = p.events ++ event.Stop n ∷ [] } else p) e
+stop_so : (p : PlayState) (n : NodeId) → (states.world_of p).running n.0 ≡ true → stop_at p n ≡ lines.stopped p n
+stop_so p n e = ap (λ (b : Bool). if b then lines.stopped p n else p) e
 
 stop_not : (p : PlayState) (n : NodeId) → (states.world_of p).running n.0 ≡ false → stop_at p n ≡ p
-stop_not p n e = ap (λ (b : Bool). if b then record p { events = p.events ++ event.Stop n ∷ [] } else p) e
+stop_not p n e = ap (λ (b : Bool). if b then lines.stopped p n else p) e
 
 module _ {F R I O : Type 0} (f : files.Ghosts F) (r : roads.Ghosts R I O) (i : link_in.Ghosts I) (o : link_out.Ghosts O) (L : Laws) (node : NodeId) (old : Playing F I O) (road : R) where
   -- whether the node runs in the model, as the player tells
@@ -101,11 +142,11 @@ module _ {F R I O : Type 0} (f : files.Ghosts F) (r : roads.Ghosts R I O) (i : l
       less node.0 playing.p.nodes MAX_NODES ((L.only playing.p.nodes old.player.events.items).within node.0 (sym (playing.is.stands.shows.running node.0) ∙ on)) playing.is.stands.few
 
   module _ (on : runs_in old.player.running.items node.0 ≡ true) (new : Playing F I O) (road' : R) (rest : new ≡ record old { player = new.player }) where
-    stop_play : (p : PlayState) → (h : PlayIs f r i o p road old) → HasStopped r i o p.nodes p.queues node old.player new.player road' → IsDrawn f r i o p (record p { events = p.events ++ event.Stop node ∷ [] }) old new road'
+    stop_play : (p : PlayState) → (h : PlayIs f r i o p road old) → HasStopped r i o p.nodes p.queues node old.player new.player road' → IsDrawn f r i o p (lines.stopped p node) old new road'
     stop_play p h has =
         let w : World = states.world_of p in
         let v : World = happens w (event.Stop node) in
-        let q : PlayState = record p { events = p.events ++ event.Stop node ∷ [] } in
+        let q : PlayState = lines.stopped p node in
         let runs : w.running node.0 ≡ true = running_told p h ∙ on in
         let joined : states.world_of q ≡ v = L.joined (start p.nodes) p.events (event.Stop node ∷ []) in
         let events : q.events ≡ new.player.events.items = ap (λ (es : List Event). es ++ event.Stop node ∷ []) h.events ∙ sym has.events in
@@ -119,6 +160,8 @@ module _ {F R I O : Type 0} (f : files.Ghosts F) (r : roads.Ghosts R I O) (i : l
             generator = ap (λ (x : Playing F I O). x.generator) rest ∙ h.generator;
             asks = has.asks ∙ h.asks;
             told = h.told;
+            recovers = has.recovers ∙ ap (λ (rs : List Recovery). map (stopped_at node) rs) h.recovers;
+            formed = each_stopped (λ x. are_members x.members ≡ true) node (λ x formed. ap are_members (stopped_members node x) ∙ formed) p.recoveries h.formed;
             rules = λ k c at. h.rules k c (sym (ap (λ (xs : List (Client I O)). slice_get xs k) clients) ∙ at);
             live = subst (λ (l : LiveConns). Covers (world_of p.nodes new.player) l) (ap (λ (x : Playing F I O). x.live) (sym rest))
                 (subst (λ (u : World). Covers u old.live) (sym world_is) (covers_stop w node old.live runs (subst (λ (u : World). Covers u old.live) (sym (world_same f r i o p road old h)) h.live)));

@@ -47,7 +47,8 @@ pub record IsLeft {F R I O : Type 0} (f : files.Ghosts F) (r : roads.Ghosts R I 
   pub is : PlayIs f r i o p road new
   pub blocks : blocks_in new ≡ blocks_in old
 
--- What was drawn leaves another play, in which what each client's writer was given, with what is queued for it, is as before.
+-- What was drawn leaves another play, in which what each client's writer was given, with what is queued for it, is as
+-- before.
 pub record IsDrawn {F R I O : Type 0} (f : files.Ghosts F) (r : roads.Ghosts R I O) (i : link_in.Ghosts I)
     (o : link_out.Ghosts O) (p after : PlayState) (old new : Playing F I O) (road : R) : Type 0 where
   pub is : PlayIs f r i o after road new

@@ -3,6 +3,7 @@ pub mod Drawing
 pub mod Ordering
 pub mod Ruling
 pub mod Asking
+pub mod Recovering
 pub mod Pipelines
 pub mod Stepping
 pub mod Cutting

@@ -18,6 +18,7 @@ use Rattle.writer_core.specs.declared.intake.TheConstants.{MAX_COMMANDS}
 use Rattle.play_model.specs.Lines.{PlaysLine, PlaysLines}
 use Rattle.play_model.specs.States.{PlayState}
 use Rattle.play_model.specs.declared.asks.ReadAsk.{ReadAsk}
+use Rattle.play_model.specs.declared.recoveries.Recovery.{Recovery}
 use Rattle.play_scripts.specs.Numbering.{LinesAscend}
 use Rattle.play_scripts.specs.Fitting.{LineFits, LinesFit}
 use Rattle.play_dues.specs.Showing.{HasClient}
@@ -59,8 +60,8 @@ pub record GivenIs (before : Before) (lines b : ℕ) (i : Intake) : Type 0 where
 abbrev pub is_made : Before → ℕ → Bool
 is_made before b = is_created (before.stage b) || (is_open (before.stage b) || is_closed (before.stage b))
 
--- The play stands behind lines, so many, that tell this: each block that was created has a client, and each client was given
--- what they tell.
+-- The play stands behind lines, so many, that tell this: each block that was created has a client, and each client was
+-- given what they tell.
 pub record IsBehind {F I O : Type 0} (before : Before) (lines : ℕ) (p : PlayState) (x : Playing F I O) : Type 0 where
   pub nodes : before.nodes ≡ p.nodes
   pub written : before.written ≤ most_bytes
@@ -73,9 +74,14 @@ abbrev pub CreatesHere : {F I O : Type 0} → Playing F I O → Instruction → 
 CreatesHere x (says.Create b members) = HasClient x.player.clients.items b.0
 CreatesHere x other = Unit {0}
 
--- What was asked so far was asked by lines below this number.
-abbrev pub AsksBelow : ℕ → List ReadAsk → Type 0
-AsksBelow number asks = (k : ℕ) (ask : ReadAsk) → slice_get asks k ≡ Some ask → ask.reader < number
+-- The readers that ask this, and the primaries that recover this, have numbers below this one.
+pub record AreBelow (number : ℕ) (asks : List ReadAsk) (recoveries : List Recovery) : Type 0 where
+  pub reads : (k : ℕ) (ask : ReadAsk) → slice_get asks k ≡ Some ask → ask.reader < number
+  pub recovers : (k : ℕ) (rec : Recovery) → slice_get recoveries k ≡ Some rec → rec.primary < number
+
+-- What was asked so far, to read and to recover, was asked by lines below this number.
+abbrev pub AsksBelow : ℕ → PlayState → Type 0
+AsksBelow number p = AreBelow number p.asks p.recoveries
 
 -- ONE LINE
 
@@ -89,7 +95,7 @@ pub record LineLeft {F R I O : Type 0} (f : files.Ghosts F) (r : roads.Ghosts R 
   pub is : PlayIs f r i o left road new
   pub blocks : blocks_in new ≡ blocks_in old
   pub behind : IsBehind (after before line) (suc lines) left new
-  pub asked : AsksBelow (number + 1) left.asks
+  pub asked : AsksBelow (number + 1) left
 
 abbrev pub LineEnds : {F R I O : Type 0} → files.Ghosts F → roads.Ghosts R I O → link_in.Ghosts I → link_out.Ghosts O →
     ℕ → Instruction → Before → ℕ → PlayState → Playing F I O → Playing F I O → R → R → Result (Unit {0}) PlayFault →
@@ -98,11 +104,11 @@ LineEnds f r i o number line before lines p old new road road' (Ok u) =
     LineLeft f r i o number line before lines p old new road'
 LineEnds f r i o number line before lines p old new road road' (Err why) = IsCaused f r new road road' why
 
--- A line that fits, and neither starts a node nor asks to read, is played, whatever its number.
+-- A line that fits, and neither starts a node nor asks to read or to recover, is played, whatever its number.
 abbrev pub LineShows : {F R I O : Type 0} → files.Ghosts F → roads.Ghosts R I O → link_in.Ghosts I → link_out.Ghosts O →
     Instruction → Playing F I O → Playing F I O → R → R → Result (Unit {0}) PlayFault → Type 0
 LineShows f r i o line old new road road' result = (number : ℕ) (before : Before) (lines : ℕ) (p : PlayState) →
-    PlayIs f r i o p road old → IsBehind before lines p old → AsksBelow number p.asks → LineFits before line →
+    PlayIs f r i o p road old → IsBehind before lines p old → AsksBelow number p → LineFits before line →
     CreatesHere old line → lines < MAX_COMMANDS
     → LineEnds f r i o number line before lines p old new road road' result
 
@@ -119,7 +125,7 @@ abbrev pub LineShowsOver : {S F R I O : Type 0} → shelves.Ghosts S F → files
     link_in.Ghosts I → link_out.Ghosts O → ScriptLine → List S → List S → Playing F I O → Playing F I O → R → R →
     Result (Unit {0}) PlayFault → Type 0
 LineShowsOver s f r i o l shelves shelves' old new road road' result = (before : Before) (lines : ℕ) (p : PlayState) →
-    PlayIs f r i o p road old → IsBehind before lines p old → AsksBelow l.number p.asks →
+    PlayIs f r i o p road old → IsBehind before lines p old → AsksBelow l.number p →
     LineFits before l.instruction → CreatesHere old l.instruction → lines < MAX_COMMANDS → length shelves ≡ p.nodes
     → LineEndsOver s f r i o l before lines p shelves shelves' old new road road' result
 
@@ -145,8 +151,8 @@ abbrev pub AllCreateHere : {F I O : Type 0} → Playing F I O → List ScriptLin
 AllCreateHere x [] = Unit {0}
 AllCreateHere x (l ∷ lines) = CreatesHere x l.instruction × AllCreateHere x lines
 
--- The play stands behind lines, so many, and these fit them: each block that they create has a client, and their numbers
--- ascend, above those of the lines that asked to read.
+-- The play stands behind lines, so many, and these fit them: each block that they create has a client, and their
+-- numbers ascend, above those of the lines that asked to read or to recover.
 pub record CanPlay {F I O : Type 0} (lines : List ScriptLine) (before : Before) (count : ℕ) (p : PlayState)
     (x : Playing F I O) : Type 0 where
   pub behind : IsBehind before count p x
@@ -155,7 +161,7 @@ pub record CanPlay {F I O : Type 0} (lines : List ScriptLine) (before : Before) 
   pub few : count + length lines ≤ MAX_COMMANDS
   pub least : ℕ
   pub ascend : LinesAscend least lines
-  pub asked : AsksBelow least p.asks
+  pub asked : AsksBelow least p
 
 -- Some play does, which has as many nodes as there are shelves.
 pub record IsReady {F R I O : Type 0} (f : files.Ghosts F) (r : roads.Ghosts R I O) (i : link_in.Ghosts I)

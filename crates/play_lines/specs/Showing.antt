@@ -1,17 +1,20 @@
 -- A play, with its roads, is one so far of the model.
-use Rattle.std.specs.Prelude.{◌≡◌, ℕ, List, slice_get, Some}
+use Rattle.std.specs.Prelude.{◌≡◌, ℕ, true, List, slice_get, Some}
 use Rattle.hd_base.specs.declared.files.Files as files
 use Rattle.hd_base.specs.declared.links.LinkIn as link_in
 use Rattle.hd_base.specs.declared.links.LinkOut as link_out
 use Rattle.hd_base.specs.declared.roads.Roads as roads
 use Rattle.writer_core.specs.declared.intake.Intake.{Intake}
+use Rattle.world.specs.Clients.{are_members}
 use Rattle.play_model.specs.declared.asks.ReadAsk.{ReadAsk}
+use Rattle.play_model.specs.declared.recoveries.Recovery.{Recovery}
 use Rattle.play_model.specs.States as states
 use Rattle.play_model.specs.States.{PlayState}
 use Rattle.play_laws.specs.Intakes.{intake_of}
 use Rattle.play_clients.specs.declared.clients.Client.{Client}
 use Rattle.play_dues.specs.Live.{Covers}
 use Rattle.play_readers.specs.Asks.{asks_of}
+use Rattle.play_recoveries.specs.Places.{recoveries_of}
 use Rattle.play.specs.Reading.{FilesTell}
 use Rattle.play_laws.specs.Commands.{given_with}
 use Rattle.play.specs.Standing.{PlayStands, world_of}
@@ -21,9 +24,13 @@ use Rattle.play_lines.specs.declared.playing.Playing.{Playing}
 abbrev pub AsksAreTold : {F : Type 0} → files.Ghosts F → List ReadAsk → Type 0
 AsksAreTold f asks = (k : ℕ) (ask : ReadAsk) → slice_get asks k ≡ Some ask → FilesTell f
 
--- The player stands for its events and queues, with as many nodes; the generator is the same, each client has the rule of
--- its block, the readers ask what the lines asked, over files that are told, and of connections that aren't listed as live
--- nothing will ever be due.
+-- Each recovery is of at most 16 members, none of them twice.
+abbrev pub AreFormed : List Recovery → Type 0
+AreFormed rs = (k : ℕ) (rec : Recovery) → slice_get rs k ≡ Some rec → are_members rec.members ≡ true
+
+-- The player stands for its events and queues, with as many nodes; the generator is the same, each client has the rule
+-- of its block, the readers ask what the lines asked, over files that are told, the primaries are to recover what the
+-- lines asked, of members, and of connections that aren't listed as live nothing will ever be due.
 pub record PlayIs {F R I O : Type 0} (f : files.Ghosts F) (r : roads.Ghosts R I O) (i : link_in.Ghosts I)
     (o : link_out.Ghosts O) (p : PlayState) (road : R) (x : Playing F I O) : Type 0 where
   pub stands : PlayStands r i o p.nodes p.queues road x.player
@@ -32,6 +39,8 @@ pub record PlayIs {F R I O : Type 0} (f : files.Ghosts F) (r : roads.Ghosts R I 
   pub generator : x.generator ≡ p.generator
   pub asks : asks_of x.player.reads.clients.items ≡ p.asks
   pub told : AsksAreTold f p.asks
+  pub recovers : recoveries_of x.player.recoveries.clients.items ≡ p.recoveries
+  pub formed : AreFormed p.recoveries
   pub rules : (k : ℕ) (c : Client I O) → slice_get x.player.clients.items k ≡ Some c → c.rule ≡ p.rules c.block.0
   pub live : Covers (world_of p.nodes x.player) x.live
 

@@ -11,8 +11,9 @@ use play::PlayFault;
 use play_model::ReadAsk;
 
 impl<F: Files, I: LinkIn, O: LinkOut> Playing<F, I, O> {
-    /// A reader, which has the line's number, joins the play: it asks for so many bytes of a block at a node, from an offset
-    /// on, under the stamp that the office has committed, 0 where it doesn't know the block. It hasn't begun then.
+    /// A reader, which has the line's number, joins the play: it asks for so many bytes of a block at a node, from an
+    /// offset on, under the stamp that the office has committed, 0 where it doesn't know the block. It hasn't begun
+    /// then.
     pub fn ask(
         &mut self,
         number: u64,
@@ -40,8 +41,8 @@ impl<F: Files, I: LinkIn, O: LinkOut> Playing<F, I, O> {
     }
 }
 
-/// A play that a reader joined, whose number is above all others', is the play in which this was asked, where all files are
-/// told.
+/// A play that a reader joined, whose number is above all others', is the play in which this was asked, where all files
+/// are told.
 pub fn asks_are_plays<F: Files, I: LinkIn, O: LinkOut, R: Roads<Inward = I, Outward = O>>()
     ensures { AsksArePlays F.Files R.Roads I.LinkIn O.LinkOut }
 {}

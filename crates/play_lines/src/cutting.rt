@@ -14,8 +14,8 @@ use world_cuts::cuts_are_losses;
 use world_orders::takers_are_open;
 
 impl<F: Files, I: LinkIn, O: LinkOut> Playing<F, I, O> {
-    /// The connection at a place of the block's present pipeline ends: of the messages on their way so many still arrive,
-    /// down and up. Nothing is done where there is no such connection.
+    /// The connection at a place of the block's present pipeline ends: of the messages on their way so many still
+    /// arrive, down and up. Nothing is done where there is no such connection.
     pub fn cut<R: CutRoads<Inward = I, Outward = O>>(
         &mut self,
         roads: &mut R,

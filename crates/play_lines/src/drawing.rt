@@ -34,9 +34,12 @@ impl<F: Files, I: LinkIn, O: LinkOut> Playing<F, I, O> {
         listed_dues_are_due();
         live_connections_are_covered();
         let clients = self.player.clients.as_slice();
-        let Ok(()) = self
-            .live
-            .refresh(&self.player.nodes, clients, &self.player.reads)
+        let Ok(()) = self.live.refresh(
+            &self.player.nodes,
+            clients,
+            &self.player.reads,
+            &self.player.recoveries,
+        )
         else {
             return Err(PlayFault::Memory);
         };
@@ -44,6 +47,7 @@ impl<F: Files, I: LinkIn, O: LinkOut> Playing<F, I, O> {
             &self.player.nodes,
             clients,
             &self.player.reads,
+            &self.player.recoveries,
             &self.live,
             roads,
             &mut self.generator,

@@ -4,6 +4,7 @@ ghost use Rattle.std.specs.Prelude.{◌≡◌, false, length, IfOk};
 ghost use Rattle.member_events.specs.Roads.{RoadsPass};
 ghost use Rattle.play_nodes.specs.Places.{KeepsSizes};
 ghost use Rattle.play_scripts.specs.Reads.{is_read};
+ghost use Rattle.play_scripts.specs.Recoveries.{is_recovery};
 ghost use Rattle.play_scripts.specs.Unplayed.{is_start, LineIsTold, LinesAreTold};
 ghost use Rattle.play_lines.specs.Lines.{IsReady, LineShows, LineShowsOver, LinesShow, ordered_by};
 ghost use Rattle.play_lines.specs.Shelves.{ShelvesServe, ShelvesGoOn};
@@ -12,6 +13,7 @@ ghost use Rattle.play_lines.specs.Showing.{IsPlaying};
 use crate::asking::asks_are_plays;
 use crate::ordering::orders_are_plays;
 use crate::playing::Playing;
+use crate::recovering::recovers_are_plays;
 use crate::ruling::rules_are_plays;
 use fault_ports::CutRoads;
 use hd_base::{BlockId, Files, LinkIn, LinkOut};
@@ -55,8 +57,8 @@ fn command_of(line: &Instruction) -> Result<Option<Ordered>, AllocError>
 }
 
 impl<F: Files, I: LinkIn, O: LinkOut> Playing<F, I, O> {
-    /// A line behind the first two is played. It fits those before it; a node starts, and a reader asks, only over shelves
-    /// that tell their files. Faults and recoveries aren't played yet, and nothing is done.
+    /// A line behind the first two is played. It fits those before it; a node starts, and a reader asks, only over
+    /// shelves that tell their files. Faults aren't played yet, and nothing is done.
     pub fn line<S: ToldShelf<Drawer = F>, R: CutRoads<Inward = I, Outward = O>>(
         &mut self,
         alloc: Global,
@@ -74,6 +76,7 @@ impl<F: Files, I: LinkIn, O: LinkOut> Playing<F, I, O> {
     {
         told_shelves_tell::<S>();
         asks_are_plays::<F, I, O, R>();
+        recovers_are_plays::<F, I, O, R>();
         match &line.instruction {
             Instruction::Start { node } => self.start(alloc, roads, shelves, *node),
             Instruction::Read {
@@ -82,11 +85,16 @@ impl<F: Files, I: LinkIn, O: LinkOut> Playing<F, I, O> {
                 offset,
                 count,
             } => self.ask(line.number, *block, *node, *offset, *count),
+            Instruction::Recover {
+                block,
+                node,
+                members,
+            } => self.recover(line.number, *block, *node, members.duplicate()),
             instruction => self.other_line(alloc, roads, instruction),
         }
     }
 
-    /// A line that neither starts a node nor asks to read is played.
+    /// A line that neither starts a node nor asks to read or to recover is played.
     fn other_line<R: CutRoads<Inward = I, Outward = O>>(
         &mut self,
         alloc: Global,
@@ -96,6 +104,7 @@ impl<F: Files, I: LinkIn, O: LinkOut> Playing<F, I, O> {
         requires playing { IsPlaying F.Files R.Roads I.LinkIn O.LinkOut roads.old self.old }
         requires other { is_start line.now ≡ false }
         requires asks_nothing { is_read line.now ≡ false }
+        requires recovers_nothing { is_recovery line.now ≡ false }
         ensures shows { LineShows F.Files R.Roads I.LinkIn O.LinkOut line.now
             self.old self.new roads.old roads.new result }
         ensures sizes { KeepsSizes self.old.player.nodes self.new.player.nodes }
@@ -120,6 +129,7 @@ impl<F: Files, I: LinkIn, O: LinkOut> Playing<F, I, O> {
         requires none { ordered_by line.now ≡ None }
         requires other { is_start line.now ≡ false }
         requires asks_nothing { is_read line.now ≡ false }
+        requires recovers_nothing { is_recovery line.now ≡ false }
         ensures shows { LineShows F.Files R.Roads I.LinkIn O.LinkOut line.now
             self.old self.new roads.old roads.new result }
         ensures sizes { KeepsSizes self.old.player.nodes self.new.player.nodes }
@@ -146,8 +156,8 @@ impl<F: Files, I: LinkIn, O: LinkOut> Playing<F, I, O> {
     }
 
     /// The lines behind the first two of a script are played, one after the other, over the shelves of the nodes; then
-    /// what is due happens until nothing is. The lines fit, and each block that they create has a client; a node starts,
-    /// and a reader asks, only over shelves that tell their files.
+    /// what is due happens until nothing is. The lines fit, and each block that they create has a client; a node
+    /// starts, and a reader asks, only over shelves that tell their files.
     pub fn lines<S: ToldShelf<Drawer = F>, R: CutRoads<Inward = I, Outward = O>>(
         &mut self,
         alloc: Global,

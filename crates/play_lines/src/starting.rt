@@ -17,8 +17,8 @@ use told_shelves::{ToldShelf, told_shelves_tell};
 use world_laws::replicas_have_their_bytes;
 
 impl<F: Files, I: LinkIn, O: LinkOut> Playing<F, I, O> {
-    /// A node that doesn't run starts again between two events, over its shelf, which tells its files: it has the books of
-    /// what its files hold, and dials to it are answered again. Nothing is done where it runs, or has no shelf.
+    /// A node that doesn't run starts again between two events, over its shelf, which tells its files: it has the books
+    /// of what its files hold, and dials to it are answered again. Nothing is done where it runs, or has no shelf.
     pub fn start<S: ToldShelf<Drawer = F>, R: CutRoads<Inward = I, Outward = O>>(
         &mut self,
         alloc: Global,

@@ -43,8 +43,9 @@ impl<F: Files, I: LinkIn, O: LinkOut> Playing<F, I, O> {
             &self.player.nodes,
             self.player.clients.as_slice(),
             &self.player.reads,
+            &self.player.recoveries,
             roads,
-            due,
+            duplicate(&due),
         ) {
             return Ok(());
         }
@@ -82,5 +83,21 @@ fn due_behind<F: Files, I: LinkIn, O: LinkOut>(
             let conn = pipeline_conn(nodes, block, connection)?;
             Some(Due::Up { conn })
         }
+    }
+}
+
+/// The same once more. Takes no memory.
+fn duplicate(due: &Due) -> Due
+    ensures { result ≡ due.now }
+{
+    match due {
+        Due::Own { block } => Due::Own { block: *block },
+        Due::Reader { ask } => Due::Reader { ask: *ask },
+        Due::Primary { recovery } => Due::Primary {
+            recovery: recovery.duplicate(),
+        },
+        Due::Down { conn } => Due::Down { conn: *conn },
+        Due::Ready { conn } => Due::Ready { conn: *conn },
+        Due::Up { conn } => Due::Up { conn: *conn },
     }
 }

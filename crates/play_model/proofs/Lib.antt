@@ -1,3 +1,4 @@
 pub mod EndLemmas
 pub mod AskLemmas
+pub mod RecoveryLemmas
 pub mod ListedLemmas

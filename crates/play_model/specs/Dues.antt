@@ -15,7 +15,9 @@ use Rattle.world.specs.Enabled.{can_down, can_ready, can_up}
 use Rattle.play_model.specs.declared.asks.ReadAsk.{ReadAsk}
 use Rattle.play_model.specs.declared.dues.Due.{Due}
 use Rattle.play_model.specs.declared.dues.Due.TheVariants as due
+use Rattle.play_model.specs.declared.recoveries.Recovery.{Recovery}
 use Rattle.play_model.specs.Asks.{asking_node}
+use Rattle.play_model.specs.Recoveries.{recovery_due, recovery_events}
 use Rattle.play_model.specs.States.{PlayState, world_of}
 
 -- the commands of each block that its writer hasn't taken
@@ -52,6 +54,7 @@ is_open_above w other = true
 abbrev pub is_due : World → Queues → Due → Bool
 is_due w queues (due.Own b) = own_due (w.writers b.0) (queues b.0)
 is_due w queues (due.Reader ask) = is_unbegun (w.readers ask.reader)
+is_due w queues (due.Primary r) = recovery_due w r
 is_due w queues (due.Down c) = is_open (w.lowers c.0) && can_down w c.0
 is_due w queues (due.Ready c) = is_open (w.lowers c.0) && can_ready w c.0
 is_due w queues (due.Up c) = is_open_above w (w.dialled c.0).upper && can_up w c.0
@@ -79,18 +82,25 @@ abbrev pub reader_dues : World → Queues → List ReadAsk → List Due
 reader_dues w queues [] = []
 reader_dues w queues (ask ∷ asks) = when_due w queues (due.Reader ask) ++ reader_dues w queues asks
 
+-- the own steps of the primaries that recover this
+abbrev pub primary_dues : World → Queues → List Recovery → List Due
+primary_dues w queues [] = []
+primary_dues w queues (r ∷ rs) = when_due w queues (due.Primary r) ++ primary_dues w queues rs
+
 -- what is due of a connection
 abbrev pub conn_dues : World → Queues → ℕ → List Due
 conn_dues w queues c =
     when_due w queues (due.Down (record { 0 = c })) ++
     (when_due w queues (due.Ready (record { 0 = c })) ++ when_due w queues (due.Up (record { 0 = c })))
 
--- All that is due, in the order in which it is counted: the writers of these blocks, then the readers in the order of
--- their lines, then each connection.
+-- All that is due, in the order in which it is counted: the writers of these blocks, then the readers and the primaries,
+-- each in the order of their lines, then each connection.
 unfoldable pub dues : List ℕ → PlayState → List Due
 dues blocks p =
     own_dues (world_of p) p.queues blocks ++
-    (reader_dues (world_of p) p.queues p.asks ++ upto (conn_dues (world_of p) p.queues) (world_of p).next_conn)
+    (reader_dues (world_of p) p.queues p.asks ++
+    (primary_dues (world_of p) p.queues p.recoveries ++
+    upto (conn_dues (world_of p) p.queues) (world_of p).next_conn))
 
 -- WHAT HAPPENS THEN
 
@@ -121,6 +131,7 @@ action_of w b = (own_step (w.writers b.0).known).action
 abbrev pub due_events : World → Queues → Due → List Event
 due_events w queues (due.Own b) = own_events (action_of w b) b.0 (queues b.0)
 due_events w queues (due.Reader ask) = asking_node ask true ∷ []
+due_events w queues (due.Primary r) = recovery_events w r
 due_events w queues (due.Down c) = event.Down c true ∷ []
 due_events w queues (due.Ready c) = event.Ready c ∷ []
 due_events w queues (due.Up c) = event.Up c ∷ []

@@ -4,11 +4,13 @@ use Rattle.script_lang.specs.declared.instructions.ScriptLine.{ScriptLine}
 use Rattle.world.specs.declared.events.Event.{Event}
 use Rattle.world.specs.Safe.{Has}
 use Rattle.world.specs.Worlds.{World}
+use Rattle.world.specs.Clients.{are_members}
 use Rattle.world.specs.Enabled.{is_deed, is_question}
 use Rattle.world.specs.Events.{is_enabled, happens}
 use Rattle.play_model.specs.declared.asks.ReadAsk.{ReadAsk}
 use Rattle.play_model.specs.declared.dues.Due.{Due}
 use Rattle.play_model.specs.declared.dues.Due.TheVariants as due
+use Rattle.play_model.specs.declared.recoveries.Recovery.{Recovery}
 use Rattle.play_model.specs.States.{PlayState, world_of}
 use Rattle.play_model.specs.Dues.{dues, is_due, due_events, action_of}
 use Rattle.play_model.specs.Lines.{Plays}
@@ -22,9 +24,10 @@ abbrev pub AreEnabled : World → List Event → Type 0
 AreEnabled w [] = Unit {0}
 AreEnabled w (e ∷ events) = (is_enabled w e ≡ true) × AreEnabled (happens w e) events
 
--- Of a writer's step: it does something, or asks the office, and takes no command.
+-- Of a writer's step: it does something, or asks the office, and takes no command. Of a primary's: it is of members.
 abbrev pub IsDeed : World → Due → Type 0
 IsDeed w (due.Own b) = (is_deed (action_of w b) || is_question (action_of w b)) ≡ true
+IsDeed w (due.Primary r) = are_members r.members ≡ true
 IsDeed w other = Unit {0}
 
 -- no answer of the office waits for a writer
@@ -47,12 +50,18 @@ abbrev pub AskAmong : List ReadAsk → Due → Type 0
 AskAmong asks (due.Reader ask) = Has asks ask
 AskAmong asks other = Unit {0}
 
--- It is due. A writer that takes a step in it is of one of these blocks, and a reader asks what a line of the play has
--- asked.
+-- a primary's step is of one that recovers one of these
+abbrev pub RecoveryAmong : List Recovery → Due → Type 0
+RecoveryAmong rs (due.Primary r) = Has rs r
+RecoveryAmong rs other = Unit {0}
+
+-- It is due. A writer that takes a step in it is of one of these blocks, a reader asks what a line of the play has asked,
+-- and a primary recovers what one has asked.
 pub record IsListed (blocks : List ℕ) (p : PlayState) (d : Due) : Type 0 where
   pub is : is_due (world_of p) p.queues d ≡ true
   pub among : OwnAmong blocks d
   pub asked : AskAmong p.asks d
+  pub recovers : RecoveryAmong p.recoveries d
 
 abbrev pub ListedAreDue : Type 0
 ListedAreDue = (blocks : List ℕ) (p : PlayState) (i : ℕ) (d : Due) → slice_get (dues blocks p) i ≡ Some d

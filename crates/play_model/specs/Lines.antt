@@ -1,5 +1,5 @@
 -- What the lines of a script do in a play.
-use Rattle.std.specs.Prelude.{zero, suc, ◌≡◌, ℕ, ◌==◌, ◌&&◌, not, nat_lt, if◌then◌else◌, Bool, false, List, [], ◌∷◌, ◌++◌, Option, Some, None, option_map}
+use Rattle.std.specs.Prelude.{zero, suc, ◌≡◌, ℕ, ◌==◌, ◌&&◌, not, nat_lt, if◌then◌else◌, Bool, false, List, [], ◌∷◌, ◌++◌, Option, Some, None, map, option_map}
 use Rattle.hd_base.specs.declared.numbers.NodeId.{NodeId}
 use Rattle.script_lang.specs.declared.instructions.Instruction.{Instruction}
 use Rattle.script_lang.specs.declared.instructions.Instruction.TheVariants as line
@@ -14,8 +14,9 @@ use Rattle.world.specs.Parts.{Upper, by_writer, Lower, writes}
 use Rattle.world.specs.Worlds.{World}
 use Rattle.play_model.specs.declared.dues.Due.{Due}
 use Rattle.play_model.specs.declared.dues.Due.TheVariants as due
-use Rattle.play_model.specs.States.{PlayState, world_of, opened, ordered, ruled, asked}
+use Rattle.play_model.specs.States.{PlayState, world_of, opened, ordered, ruled, asked, recovering}
 use Rattle.play_model.specs.Asks.{ask_at}
+use Rattle.play_model.specs.Recoveries.{recovery_at, stopped_at}
 use Rattle.play_model.specs.Dues.{is_due, after_due}
 use Rattle.play_model.specs.Draws.{draws, Settles}
 
@@ -74,9 +75,16 @@ cut_at p conn down up = record p { events = p.events ++ cut_events conn down up 
 
 -- STOPS
 
--- A node that runs stops.
+-- a node stops: a primary there that hasn't begun never does
+abbrev pub stopped : PlayState → NodeId → PlayState
+stopped p node = record p {
+  events = p.events ++ event.Stop node ∷ [];
+  recoveries = map (stopped_at node) p.recoveries;
+}
+
+-- It does, if it runs.
 abbrev pub stop_at : PlayState → NodeId → PlayState
-stop_at p node = if (world_of p).running node.0 then record p { events = p.events ++ event.Stop node ∷ [] } else p
+stop_at p node = if (world_of p).running node.0 then stopped p node else p
 
 -- STARTS
 
@@ -91,8 +99,7 @@ start_at p node = if may_start p node then record p { events = p.events ++ event
 
 -- LINES
 
--- What a line, which has this number, of a script without faults and recoveries makes of a play with the writers of these
--- blocks.
+-- What a line, which has this number, of a script without faults makes of a play with the writers of these blocks.
 abbrev pub PlaysLine : List ℕ → ℕ → Instruction → PlayState → PlayState → Type 0
 PlaysLine blocks number (line.Sums b rule) old new = new ≡ ruled old b.0 rule
 PlaysLine blocks number (line.Create b members) old new = new ≡ ordered old b.0 (command.Create members)
@@ -104,6 +111,8 @@ PlaysLine blocks number (line.Hsync b) old new = new ≡ ordered old b.0 command
 PlaysLine blocks number (line.Close b) old new = new ≡ ordered old b.0 command.Close
 PlaysLine blocks number (line.Read b node offset count) old new =
     new ≡ asked old (ask_at (world_of old) number b node offset count)
+PlaysLine blocks number (line.Recover b node members) old new =
+    new ≡ recovering old (recovery_at (world_of old) number b node members)
 PlaysLine blocks number (line.Run count) old new = new ≡ draws blocks count old
 PlaysLine blocks number line.Settle old new = Settles blocks old new
 PlaysLine blocks number (line.Step b event) old new = new ≡ stepped old (step_due (world_of old) b.0 event)
@@ -136,7 +145,7 @@ abbrev pub blocks_of : List ScriptLine → List ℕ
 blocks_of [] = []
 blocks_of (l ∷ lines) = with_block l.instruction (blocks_of lines)
 
--- A script without faults and recoveries is played: its first two lines give the nodes and the seed.
+-- A script without faults is played: its first two lines give the nodes and the seed.
 abbrev pub PlaysFrom : Instruction → Instruction → List ScriptLine → PlayState → Type 0
 PlaysFrom (line.Nodes count) (line.Seed seed) lines end = PlaysLines (blocks_of lines) lines (opened count seed) end
 PlaysFrom first second lines end = ⊥

@@ -1,5 +1,6 @@
 -- What a line asks to recover, and which events the primary's next own step is.
-use Rattle.std.specs.Prelude.{◌&&◌, ◌==◌, if◌then◌else◌, is_none, Bool, true, false, List, [], ◌∷◌, map}
+use Rattle.std.specs.Prelude.{ℕ, ◌&&◌, ◌==◌, if◌then◌else◌, is_none, Bool, true, false, List, [], ◌∷◌, map}
+use Rattle.hd_base.specs.declared.numbers.BlockId.{BlockId}
 use Rattle.hd_base.specs.declared.numbers.NodeId.{NodeId}
 use Rattle.recovery_core.specs.declared.primary.OwnStep.{OwnStep}
 use Rattle.recovery_core.specs.declared.primary.OwnStep.TheVariants as step
@@ -69,3 +70,13 @@ recovery_events w r = primary_events (w.primaries r.primary) r
 -- a primary at the node that hasn't begun never does
 abbrev pub stopped_at : NodeId → Recovery → Recovery
 stopped_at node r = if r.node.0 == node.0 then record r { may_begin = false } else r
+
+-- the primary of the line of this number is to recover a block with these members, where its node runs
+abbrev pub recovery_at : World → ℕ → BlockId → NodeId → List NodeId → Recovery
+recovery_at w number b node members = record {
+  primary = number;
+  node = node;
+  block = b;
+  members = members;
+  may_begin = w.running node.0;
+}

@@ -9,15 +9,18 @@ use Rattle.world.specs.declared.events.TakenCommand.{TakenCommand}
 use Rattle.world.specs.Worlds.{World, start, put, add}
 use Rattle.world.specs.Events.{run}
 use Rattle.play_model.specs.declared.asks.ReadAsk.{ReadAsk}
+use Rattle.play_model.specs.declared.recoveries.Recovery.{Recovery}
 
--- A play so far: how many nodes there are; the events that happened; by block the commands that its writer hasn't taken, and the rule of its
--- sums; what the lines so far ask to read, in their order; and the generator that draws.
+-- A play so far: how many nodes there are; the events that happened; by block the commands that its writer hasn't
+-- taken, and the rule of its sums; what the lines so far ask to read, and to recover, in their order; and the generator
+-- that draws.
 pub record PlayState : Type 0 where
   pub nodes : ℕ
   pub events : List Event
   pub queues : ℕ → List TakenCommand
   pub rules : ℕ → Rule
   pub asks : List ReadAsk
+  pub recoveries : List Recovery
   pub generator : Lcg
 
 -- the world of a play
@@ -36,6 +39,7 @@ opened nodes seed = record {
   queues = λ _. [];
   rules = λ _. default_rule;
   asks = [];
+  recoveries = [];
   generator = started 64 multiplier_64 seed (increment_of 64 event_stream);
 }
 
@@ -50,3 +54,7 @@ ruled p b rule = record p { rules = put p.rules b rule }
 -- a reader joins the play, which asks this
 abbrev pub asked : PlayState → ReadAsk → PlayState
 asked p ask = record p { asks = p.asks ++ ask ∷ [] }
+
+-- a primary joins the play, which is to recover this
+abbrev pub recovering : PlayState → Recovery → PlayState
+recovering p r = record p { recoveries = p.recoveries ++ r ∷ [] }

@@ -8,7 +8,7 @@ pub fn plays_have_one_end()
 {}
 
 /// What is listed to be drawn can happen: where no answer of the office waits, each event of it is enabled where it stands,
-/// unless it is a writer's step that takes a command.
+/// unless it is a writer's step that takes a command. The members of a recovery are at most 16, and distinct.
 pub fn drawn_events_are_enabled()
     ensures { AreEnabledWhereListed }
 {}

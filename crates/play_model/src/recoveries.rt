@@ -1,5 +1,7 @@
 //! What a line of a script asks to recover.
 
+ghost use Rattle.std.specs.Prelude.{◌≡◌};
+
 use hd_base::{BlockId, Members, NodeId};
 
 /// What a line of a script asks to recover.
@@ -15,4 +17,19 @@ pub struct Recovery {
     pub members: Members,
     /// Whether the primary may begin: its node ran at the line, and hasn't stopped since.
     pub may_begin: bool,
+}
+
+impl Recovery {
+    /// The same once more. Takes no memory.
+    pub fn duplicate(&self) -> Recovery
+        ensures { result ≡ self.now }
+    {
+        Recovery {
+            primary: self.primary,
+            node: self.node,
+            block: self.block,
+            members: self.members.duplicate(),
+            may_begin: self.may_begin,
+        }
+    }
 }

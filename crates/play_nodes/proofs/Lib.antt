@@ -1,5 +1,6 @@
 pub mod Tables
 pub mod PlaceLaws
+pub mod Numbers
 pub mod SizeLaws
 pub mod WorldFrames
 pub mod NodeFrames

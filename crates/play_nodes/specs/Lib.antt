@@ -1,5 +1,6 @@
 pub mod Faults
 pub mod Places
+pub mod Numbers
 pub mod Showing
 pub mod Events
 pub mod Beginning

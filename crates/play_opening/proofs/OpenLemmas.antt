@@ -29,8 +29,11 @@ use Rattle.node_opening.specs.Shelves.{AreDistinct}
 use Rattle.node_opening.specs.Listening.{opened_net}
 use Rattle.play.specs.declared.player.Player.{Player}
 use Rattle.play_readers.specs.declared.clients.ReadClient.{ReadClient}
-use Rattle.play_servers.specs.declared.servers.ReadServer.{ReadServer}
+use Rattle.play_primaries.specs.declared.clients.PrimaryClient.{PrimaryClient}
 use Rattle.play_readers.specs.Asks.{asks_of}
+use Rattle.play_reads.specs.Joining as no_reads
+use Rattle.play_recoveries.specs.Joining as no_recoveries
+use Rattle.play_recoveries.specs.Places.{recoveries_of}
 use Rattle.play.specs.Showing.{AreApart, PlayerShows}
 use Rattle.play_laws.specs.Commands.{CommandsFit}
 use Rattle.play.specs.Standing.{ClientFits, EventsFit, world_of, PlayStands}
@@ -91,25 +94,13 @@ module _ {S D R I O : Type 0} (s : shelves.Ghosts S D) (d : files.Ghosts D) (r :
   apart blocks p distinct h = λ j k a b at at' same.
       distinct j k a.block b.block (block_here blocks p.clients.items h j a at) (block_here blocks p.clients.items h k b at') same
 
-  player_shows : (blocks : List BlockId) (old new : List S) (nodes : ℕ) (net : Net) (p : Player D I O) (road : R) → nodes ≡ length old → AreDistinct blocks → IsOpenedPlay s d blocks old new p → NodesStand r i o (start nodes) net road p.nodes
-      → PlayerShows r i o (start nodes) net no_commands road p
+  player_shows : (blocks : List BlockId) (old new : List S) (nodes : ℕ) (net : Net) (p : Player D I O) (road : R) → nodes ≡ length old → AreDistinct blocks → IsOpenedPlay s d blocks old new p → no_reads.NoneShow i o p.reads → no_recoveries.NoneShow i o p.recoveries
+      → NodesStand r i o (start nodes) net road p.nodes → PlayerShows r i o (start nodes) net no_commands road p
   unfolding start
-  player_shows blocks old new nodes net p road count distinct h stand = record {
+  player_shows blocks old new nodes net p road count distinct h reads recoveries stand = record {
     nodes = stand;
-    reads = record {
-      clients = record {
-        each = λ k c at. absurd (no_element c (sym (ap (λ (xs : List (ReadClient I O)). slice_get xs k) h.reads.clients) ∙ at));
-        ascend = λ j k a b at at' before. absurd (no_element a (sym (ap (λ (xs : List (ReadClient I O)). slice_get xs j) h.reads.clients) ∙ at));
-        all = λ reader begun. absurd (begun refl);
-      };
-      servers = record {
-        each = λ k s at. absurd (no_element s (sym (ap (λ (xs : List (ReadServer I O)). slice_get xs k) h.reads.servers) ∙ at));
-        ascend = λ j k a b at at' before. absurd (no_element a (sym (ap (λ (xs : List (ReadServer I O)). slice_get xs j) h.reads.servers) ∙ at));
-        all = λ c within of. absurd (none_below c within);
-      };
-      dialled = λ c reader within upper. absurd (none_below c within);
-    };
-    unled = λ n. refl;
+    reads = reads (start nodes) net p.nodes.blocks.items (record { unbegun = λ reader. refl; undialled = λ c within by. absurd (none_below c within) });
+    recoveries = recoveries (start nodes) net p.nodes.blocks.items (record { unbegun = λ primary. refl; undialled = λ c within by. absurd (none_below c within) });
     clients = λ k c at. record { shows = new_shows i o nodes net c.block c (h.clients.each k c at).is_new; queue = (h.clients.each k c at).is_new.queue };
     apart = apart blocks p distinct h.clients;
     office = ap (λ (b : BookState). b.office) h.office ∙ no_office nodes;
@@ -117,17 +108,18 @@ module _ {S D R I O : Type 0} (s : shelves.Ghosts S D) (d : files.Ghosts D) (r :
     slots = h.running.slots ∙ sym count;
   }
 
-  pub play_stands : (blocks : List BlockId) (old new : List S) (nodes : ℕ) (p : Player D I O) (road : R) → nodes ≤ MAX_NODES → nodes ≡ length old → AreDistinct blocks → IsOpenedPlay s d blocks old new p → NodesStand r i o (start nodes) (opened_net nodes) road p.nodes
-      → PlayStands r i o nodes no_commands road p
-  play_stands blocks old new nodes p road few count distinct h stand =
+  pub play_stands : (blocks : List BlockId) (old new : List S) (nodes : ℕ) (p : Player D I O) (road : R) → nodes ≤ MAX_NODES → nodes ≡ length old → AreDistinct blocks → IsOpenedPlay s d blocks old new p → no_reads.NoneShow i o p.reads → no_recoveries.NoneShow i o p.recoveries
+      → NodesStand r i o (start nodes) (opened_net nodes) road p.nodes → PlayStands r i o nodes no_commands road p
+  play_stands blocks old new nodes p road few count distinct h reads recoveries stand =
       let same : world_of nodes p ≡ start nodes = ap (λ (es : List Event). run (start nodes) es) h.events in
       record {
         net = opened_net nodes;
-        shows = subst (λ (w : World). PlayerShows r i o w (opened_net nodes) no_commands road p) (sym same) (player_shows blocks old new nodes (opened_net nodes) p road count distinct h stand);
+        shows = subst (λ (w : World). PlayerShows r i o w (opened_net nodes) no_commands road p) (sym same) (player_shows blocks old new nodes (opened_net nodes) p road count distinct h reads recoveries stand);
         few = few;
         events = subst (λ (es : List Event). EventsFit nodes p.nodes.blocks.items es) (sym h.events) (no_events nodes p.nodes.blocks.items);
         clients = λ k c at. client_fits nodes p.nodes.blocks.items (world_of nodes p) k c
             (ap (λ (bs : List BlockId). slice_get bs k) h.nodes.blocks_are ∙ block_here blocks p.clients.items h.clients k c at) (h.clients.each k c at);
         asks = λ k ask at. absurd (no_element ask (sym (ap (λ (xs : List (ReadClient I O)). slice_get (asks_of xs) k) h.reads.clients) ∙ at));
+        recovers = λ k x at. absurd (no_element x (sym (ap (λ (xs : List (PrimaryClient I O)). slice_get (recoveries_of xs) k) h.recoveries.clients) ∙ at));
         connected = λ b c e. absurd (not_connected nodes b c (ap (λ (w : World). (w.writers b).conn) (sym same) ∙ e));
       }

@@ -15,6 +15,7 @@ use Rattle.play_clients.specs.declared.clients.Client.{Client}
 use Rattle.play_clients.specs.Clients.{IsNew}
 use Rattle.play_nodes.specs.Showing.{runs_in}
 use Rattle.play_reads.specs.Joining.{AreNone}
+use Rattle.play_recoveries.specs.Joining as primaries
 use Rattle.play.specs.declared.player.Player.{Player}
 use Rattle.play.specs.Events.{blocks_of}
 use Rattle.play.specs.Standing.{PlayStands}
@@ -38,13 +39,14 @@ pub record AllRun (count : ℕ) (running : List Bool) : Type 0 where
   pub tells : (n : ℕ) → runs_in running n ≡ nat_lt n count
   pub slots : length running ≡ count
 
--- The nodes are opened, each block has a new client, nobody reads, the office knows no block, all nodes run, and no event
--- has happened.
+-- The nodes are opened, each block has a new client, nobody reads or recovers, the office knows no block, all nodes
+-- run, and no event has happened.
 pub record IsOpenedPlay {S D I O : Type 0} (s : shelves.Ghosts S D) (d : files.Ghosts D) (blocks : List BlockId)
     (old new : List S) (p : Player D I O) : Type 0 where
   pub nodes : IsOpened s d blocks old new p.nodes
   pub clients : AreNewClients blocks p.clients.items
   pub reads : AreNone p.reads
+  pub recoveries : primaries.AreNone p.recoveries
   pub office : p.office ≡ new_book
   pub running : AllRun (length old) p.running.items
   pub events : p.events.items ≡ []

@@ -12,6 +12,7 @@ use name_core::OfficeBook;
 use node_opening::{OpenFault, open_nodes};
 use play::Player;
 use play_reads::Reads;
+use play_recoveries::Recoveries;
 use std::alloc::{AllocError, Global};
 
 /// That so many nodes run, which are the first ones.
@@ -22,8 +23,8 @@ fn all_running(alloc: Global, count: usize) -> Result<Vec<bool>, AllocError>
 }
 
 /// Opens the player of a play, with as many nodes as there are shelves: the nodes are opened, as `open_nodes` does it,
-/// each block has a new client, in the order of the blocks, nobody reads, the office knows no block, all nodes run, and no
-/// event has happened. There are ports for all nodes, and each block stands once.
+/// each block has a new client, in the order of the blocks, nobody reads or recovers, the office knows no block, all
+/// nodes run, and no event has happened. There are ports for all nodes, and each block stands once.
 ///
 /// After a fault no block is lent that wasn't before, and the shelves' files are as they were.
 pub fn open_player<S: Shelf, R: Roads>(
@@ -47,10 +48,12 @@ pub fn open_player<S: Shelf, R: Roads>(
     let running = all_running(alloc, shelves.len())?;
     let nodes = open_nodes(alloc, roads, shelves, blocks)?;
     let reads = Reads::new(alloc);
+    let recoveries = Recoveries::new(alloc);
     let events = Vec::new(alloc);
     Ok(Player {
         nodes,
         reads,
+        recoveries,
         clients,
         office,
         running,

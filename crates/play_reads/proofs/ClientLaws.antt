@@ -20,12 +20,13 @@ use Rattle.play_readers.specs.Clients.{StateShows, ReadClientShows, ReadIsReady}
 use Rattle.play_readers.specs.Staying.{KeepsReadClient, ReadClientsStay}
 use Rattle.play_nodes.proofs.PlaceLaws.{same_some}
 use Rattle.play_readers.specs.Asks.{asks_of}
-use Rattle.play_reads.specs.Places.{IsNumbered, ReadersAscend, HasClient}
+use Rattle.play_nodes.specs.Numbers.{IsNumbered}
+use Rattle.play_reads.specs.Places.{ReadersAscend, HasClient}
 use Rattle.play_nodes.specs.declared.nodes.Nodes.{Nodes}
 use Rattle.play_reads.specs.declared.reads.Reads.{Reads}
 use Rattle.play_reads.specs.Showing.{ClientsShow, Stand}
 use Rattle.play_reads.proofs.KeepLaws.{dialled_by}
-use Rattle.play_reads.proofs.Numbers.{same_place, ascend_same}
+use Rattle.play_nodes.proofs.Numbers.{same_place, ascend_same}
 
 -- UPPER ENDS
 

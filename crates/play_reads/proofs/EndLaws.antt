@@ -38,7 +38,7 @@ use Rattle.play_reads.specs.Places.{ConnsAscend}
 use Rattle.play_reads.specs.Stopping.{took, AreKnown, Ends, ended, EndsIf, EndsAt}
 use Rattle.play_reads.proofs.FrameLaws.{reads_elsewhere}
 use Rattle.play_reads.proofs.LifeLaws.{no_match}
-use Rattle.play_reads.proofs.Numbers.{same_place}
+use Rattle.play_nodes.proofs.Numbers.{same_place}
 
 -- ENDS THAT THE ROADS KNOW
 

@@ -23,7 +23,7 @@ use Rattle.play_reads.proofs.KeepLaws.{none_between}
 
 -- PURPOSES
 
-reads_no_pipeline : (u : Upper) → is_pipeline u ≡ true → purpose_of u ≡ reading → ⊥
+pub reads_no_pipeline : (u : Upper) → is_pipeline u ≡ true → purpose_of u ≡ reading → ⊥
 reads_no_pipeline (by_writer b) is e = cc
 reads_no_pipeline (by_member d) is e = cc
 reads_no_pipeline (by_reader line) is e = cc

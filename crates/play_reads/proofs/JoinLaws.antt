@@ -14,7 +14,7 @@ use Rattle.play_readers.specs.Asks.{asks_of}
 use Rattle.play_reads.specs.Places.{ReadersBelow, HasClient}
 use Rattle.play_reads.specs.Showing.{ClientsShow, ServersShow}
 use Rattle.play_reads.proofs.DueLaws.{none_begun}
-use Rattle.play_reads.proofs.Numbers.{PutOr, put_or, ascend_put}
+use Rattle.play_nodes.proofs.Numbers.{PutOr, put_or, ascend_put}
 use Rattle.play_reads.proofs.OwnLaws.{front}
 use Rattle.world_orders.specs.Orders.{purpose_of}
 

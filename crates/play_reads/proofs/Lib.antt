@@ -1,5 +1,4 @@
 pub mod KeepLaws
-pub mod Numbers
 pub mod FrameLaws
 pub mod ClientLaws
 pub mod HearLaws
@@ -15,3 +14,5 @@ pub mod LifeLaws
 pub mod EndLaws
 pub mod StartLaws
 pub mod StopLaws
+pub mod ThereLaws
+pub mod PrimaryLaws

@@ -43,7 +43,7 @@ use Rattle.play_reads.specs.Showing.{DialledHaveClients, ClientsShow, IsServer, 
 use Rattle.play_reads.proofs.ClientLaws.{ActsAlone, clients_after, asks_set, has_client_set, reader_same}
 use Rattle.play_reads.proofs.HearLaws.{reader_caused, heard_stands}
 use Rattle.play_reads.proofs.KeepLaws.{none_between, before_so, behind_so, server_kept, servers_kept}
-use Rattle.play_reads.proofs.Numbers.{PutOr, put_or, ascend_put}
+use Rattle.play_nodes.proofs.Numbers.{PutOr, put_or, ascend_put}
 
 -- LISTS
 

@@ -34,12 +34,13 @@ use Rattle.play_reads.specs.declared.reads.Reads.{Reads}
 use Rattle.play_reads.specs.Keeping.{KeepsServed}
 use Rattle.play_reads.specs.Left.{ReadsLeft}
 use Rattle.play_readers.specs.Asks.{asks_of}
-use Rattle.play_reads.specs.Places.{IsNumbered, ConnsAscend, HasServer, HasClient}
+use Rattle.play_nodes.specs.Numbers.{IsNumbered}
+use Rattle.play_reads.specs.Places.{ConnsAscend, HasServer, HasClient}
 use Rattle.play_reads.specs.Showing.{ClientsShow, IsServer, ServersShow, ReadsStand}
 use Rattle.play_reads.proofs.ClientLaws.{no_recovery_reads}
 use Rattle.play_reads.proofs.FrameLaws.{reads_elsewhere}
 use Rattle.play_reads.proofs.KeepLaws.{server_kept, clients_kept}
-use Rattle.play_reads.proofs.Numbers.{same_place, ascend_same}
+use Rattle.play_nodes.proofs.Numbers.{same_place, ascend_same}
 
 -- The books of a node have changed, and nothing else of the nodes.
 pub record BooksChanged {F I O : Type 0} (n n' : Nodes F I O) (node : ℕ) (x x' : NodeBooks F) : Type 0 where

@@ -32,7 +32,8 @@ use Rattle.play_servers.specs.Showing.{EndShows}
 use Rattle.play_reads.specs.declared.reads.Reads.{Reads}
 use Rattle.play_reads.specs.Left.{ReadsLeft}
 use Rattle.play_readers.specs.Asks.{asks_of}
-use Rattle.play_reads.specs.Places.{IsNumbered, HasServer, HasClient}
+use Rattle.play_nodes.specs.Numbers.{IsNumbered}
+use Rattle.play_reads.specs.Places.{HasServer, HasClient}
 use Rattle.play_reads.specs.Showing.{ClientsShow, IsServer, ServersShow, Stand}
 use Rattle.play_reads.specs.Stopping.{took, is_taken, AreKnown, HasStopped, StopShows}
 use Rattle.play_reads.proofs.ClientLaws.{no_recovery_reads}
@@ -41,7 +42,7 @@ use Rattle.play_reads.proofs.FrameLaws.{reads_elsewhere}
 use Rattle.play_reads.proofs.KeepLaws.{later, test_so, server_past, clients_kept}
 use Rattle.play_reads.proofs.LifeLaws as life
 use Rattle.play_reads.proofs.LifeLaws.{stops_so, none_served, still_served}
-use Rattle.play_reads.proofs.Numbers.{ascend_same}
+use Rattle.play_nodes.proofs.Numbers.{ascend_same}
 use Rattle.play_reads.proofs.SeatLaws.{server_known}
 use Rattle.play_reads.proofs.StartLaws.{no_more, no_fewer, keeps_readers}
 

@@ -14,9 +14,11 @@ use Rattle.world.specs.Parts.{by_writer, by_member}
 use Rattle.world.specs.Worlds.{World}
 use Rattle.world_cuts.specs.Cutting.{cut_net, cut_world}
 use Rattle.world_nets.specs.Nets.{IsEndOf}
-use Rattle.world_orders.specs.Orders.{Ordered, purpose_of, reading}
+use Rattle.world_orders.specs.Orders.{Ordered, purpose_of, reading, recovering}
 use Rattle.client_events.specs.Showing.{OthersStay}
 use Rattle.play_model.specs.declared.dues.Due.TheVariants as due
+use Rattle.play_model.specs.declared.recoveries.Recovery.{Recovery}
+use Rattle.play_model.specs.Recoveries.{recovery_events}
 use Rattle.play_model.specs.Dues.{Queues, due_events}
 use Rattle.play_nodes.specs.Showing.{is_pipeline, ElsewhereStays}
 use Rattle.play_readers.specs.Frames.{KeepsReaders}
@@ -98,6 +100,26 @@ MirrorKeepsReads i o =
     (w : World) (net : Net) (made : Net) (conn : ConnId) (d : ℕ) → Ordered w →
     (w.dialled conn.0).upper ≡ by_member d → ElsewhereStays i o w net (happens w (event.Up conn)) made
     → KeepsReads i o w net (happens w (event.Up conn)) made
+
+-- PRIMARIES
+
+-- So does an own step of a primary, with the office's answer where it asks.
+abbrev pub LeadingKeepsReads : {I O : Type 0} → link_in.Ghosts I → link_out.Ghosts O → Type 0
+LeadingKeepsReads i o = (w : World) (net : Net) (made : Net) (r : Recovery) → Ordered w →
+    ReadingEndsStay i o w net (run w (recovery_events w r)) made
+    → KeepsReads i o w net (run w (recovery_events w r)) made
+
+-- So does what a primary takes, and what the lower end of a connection that it dialled takes.
+abbrev pub AnswersKeepReads : {I O : Type 0} → link_in.Ghosts I → link_out.Ghosts O → Type 0
+AnswersKeepReads i o = (w : World) (net : Net) (made : Net) (conn : ConnId) → Ordered w →
+    purpose_of (w.dialled conn.0).upper ≡ recovering → ReadingEndsStay i o w net (happens w (event.Up conn)) made
+    → KeepsReads i o w net (happens w (event.Up conn)) made
+
+abbrev pub AnsweringKeepsReads : {I O : Type 0} → link_in.Ghosts I → link_out.Ghosts O → Type 0
+AnsweringKeepsReads i o = (w : World) (net : Net) (made : Net) (conn : ConnId) (answered : Bool) → Ordered w →
+    purpose_of (w.dialled conn.0).upper ≡ recovering →
+    ReadingEndsStay i o w net (happens w (event.Down conn answered)) made
+    → KeepsReads i o w net (happens w (event.Down conn answered)) made
 
 -- CUTS
 

@@ -1,27 +1,9 @@
 -- Where clients and servers stand among those of a play.
-use Rattle.std.specs.Prelude.{◌≡◌, ◌<◌, ℕ, List, slice_get, Option, Some, None}
+use Rattle.std.specs.Prelude.{◌≡◌, ◌<◌, ℕ, List, slice_get, Option, Some}
 use Rattle.play_model.specs.declared.asks.ReadAsk.{ReadAsk}
+use Rattle.play_nodes.specs.Numbers.{Ascend, IsPlaceOf}
 use Rattle.play_readers.specs.declared.clients.ReadClient.{ReadClient}
 use Rattle.play_servers.specs.declared.servers.ReadServer.{ReadServer}
-
--- NUMBERS
-
--- The numbers ascend: what comes later has a greater one.
-abbrev pub Ascend : {A : Type 0} → (A → ℕ) → List A → Type 0
-Ascend {A} number xs =
-    (j k : ℕ) (a b : A) → slice_get xs j ≡ Some a → slice_get xs k ≡ Some b → j < k
-    → number a < number b
-
--- What has this number stands at this place.
-pub record IsNumbered {A : Type 0} (number : A → ℕ) (xs : List A) (sought place : ℕ) : Type 0 where
-  pub found : A
-  pub at : slice_get xs place ≡ Some found
-  pub same : number found ≡ sought
-
--- What has this number stands at the place that was found. Where none was, and the numbers ascend, nothing has it.
-abbrev pub IsPlaceOf : {A : Type 0} → (A → ℕ) → List A → ℕ → Option ℕ → Type 0
-IsPlaceOf number xs sought (Some place) = IsNumbered number xs sought place
-IsPlaceOf number xs sought None = Ascend number xs → (place : ℕ) → IsNumbered number xs sought place → ⊥
 
 -- CLIENTS
 

@@ -8,12 +8,16 @@ ghost use Rattle.play_reads.specs.Keeping.{
   DownKeepsReads,
   ReadyKeepsReads,
   MirrorKeepsReads,
+  LeadingKeepsReads,
+  AnswersKeepReads,
+  AnsweringKeepsReads,
   CutsKeepReads,
   StartsKeepReads,
 };
 
 use hd_base::{LinkIn, LinkOut};
 use play_nodes::{nodes_keep_elsewhere, writers_keep_elsewhere};
+use play_primaries::{primaries_keep_nodes, primaries_keep_others};
 use play_readers::{members_keep_readers, read_clients_stay, writers_keep_readers};
 use world_cuts::{cuts_are_losses, ends_stay_in_cuts};
 
@@ -40,6 +44,17 @@ pub fn members_keep_reads<I: LinkIn, O: LinkOut>()
     ensures mirrors { MirrorKeepsReads I.LinkIn O.LinkOut }
 {
     nodes_keep_elsewhere();
+    members_keep_readers();
+}
+
+/// So do the events of primaries, and of the lower ends that they dialled.
+pub fn primaries_keep_reads<I: LinkIn, O: LinkOut>()
+    ensures leads { LeadingKeepsReads I.LinkIn O.LinkOut }
+    ensures hears { AnswersKeepReads I.LinkIn O.LinkOut }
+    ensures answers { AnsweringKeepsReads I.LinkIn O.LinkOut }
+{
+    primaries_keep_others();
+    primaries_keep_nodes();
     members_keep_readers();
 }
 

@@ -20,7 +20,8 @@ impl<I: LinkIn, O: LinkOut> Reads<I, O> {
         }
     }
 
-    /// A client that asks this, and hasn't asked its node yet, joins behind the others. Its reader's number is above theirs.
+    /// A client that asks this, and hasn't asked its node yet, joins behind the others. Its reader's number is above
+    /// theirs.
     pub fn ask(&mut self, ask: ReadAsk) -> Result<(), AllocError>
         ensures { Joins I.LinkIn O.LinkOut ask self.old self.new result }
     {

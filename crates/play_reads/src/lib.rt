@@ -17,6 +17,7 @@ mod stopping;
 pub use dues::reader_of;
 pub use faults::ReadsFault;
 pub use frames::{
-    cuts_keep_reads, members_keep_reads, reads_stay, starts_keep_reads, writers_keep_reads,
+    cuts_keep_reads, members_keep_reads, primaries_keep_reads, reads_stay, starts_keep_reads,
+    writers_keep_reads,
 };
 pub use reads::Reads;

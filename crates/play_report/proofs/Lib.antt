@@ -1,6 +1,7 @@
 pub mod TextLemmas
 pub mod AnswerLemmas
 pub mod ReadLemmas
+pub mod RecoveryLemmas
 pub mod RowLemmas
 pub mod ReplicaLemmas
 pub mod ReportLemmas

@@ -1,39 +1,19 @@
 -- What was read, client by client.
-use Rattle.std.proofs.Common.{zero, suc, ◌≡◌, ◌+◌, ℕ, List, [], ◌∷◌, ◌++◌, take, slice_get, Some, refl, sym, ap, ◌∙◌, arith}
+use Rattle.std.proofs.Common.{zero, suc, ◌≡◌, ℕ, List, [], ◌∷◌, slice_get, Some, refl, sym, ap, ◌∙◌}
 use Rattle.std.specs.Prelude.{map}
-use Rattle.std.proofs.lemmas.List.{append_assoc, append-nil, map-append}
 use Rattle.hd_base.specs.declared.links.LinkIn as link_in
 use Rattle.hd_base.specs.declared.links.LinkOut as link_out
-use Rattle.node_opening.proofs.ListLemmas.{take_next}
 use Rattle.play_readers.specs.Clients.{StateShows, ReadClientShows}
 use Rattle.play_readers.specs.declared.clients.ReadClient.{ReadClient}
 use Rattle.play_readers.specs.declared.clients.ReadState.{ReadState}
 use Rattle.play_readers.specs.declared.clients.ReadState.TheVariants as state
 use Rattle.play_scripts.specs.Reads.{readers_of}
 use Rattle.road_traffic.specs.Showing.{Net}
-use Rattle.script_lang.specs.Reports.{printed}
 use Rattle.script_lang.specs.declared.report.ReadResult.{ReadResult}
 use Rattle.script_lang.specs.declared.report.ReportLine.{ReportLine}
 use Rattle.script_lang.specs.declared.report.ReportLine.TheVariants as line
 use Rattle.world.specs.Worlds.{World}
-use Rattle.play_report.specs.Answers.{lines_text}
 use Rattle.play_report.specs.Reads.{read_told, read_line, state_told, client_read}
-use Rattle.play_report.proofs.TextLemmas.{text_more}
-
--- One client more.
-pub reads_more : {A : Type 0} (f : A → ReportLine) (old mid new : List ℕ) (xs : List A) (k : ℕ) (x : A) → slice_get xs k ≡ Some x
-    → mid ≡ old ++ lines_text (map f (take k xs)) → new ≡ mid ++ printed (f x) → new ≡ old ++ lines_text (map f (take (k + 1) xs))
-reads_more {A} f old mid new xs k x at h e =
-    e ∙ (ap (λ (t : List ℕ). t ++ printed (f x)) h ∙ (append_assoc old (lines_text (map f (take k xs))) (printed (f x)) ∙ ap (λ (t : List ℕ). old ++ t) more))
-  where
-    one : (n : ℕ) → suc n ≡ n + 1
-    one n = omega arith
-
-    next : map f (take k xs) ++ f x ∷ [] ≡ map f (take (k + 1) xs)
-    next = sym (map-append f (take k xs) (x ∷ [])) ∙ (ap (map f) (sym (take_next xs k x at)) ∙ ap (λ (n : ℕ). map f (take n xs)) (one k))
-
-    more : lines_text (map f (take k xs)) ++ printed (f x) ≡ lines_text (map f (take (k + 1) xs))
-    more = ap (λ (t : List ℕ). lines_text (map f (take k xs)) ++ t) (sym (append-nil (printed (f x)))) ∙ (sym (text_more (map f (take k xs)) (f x ∷ [])) ∙ ap lines_text next)
 
 module _ {I O : Type 0} (i : link_in.Ghosts I) (o : link_out.Ghosts O) (w : World) (net : Net) where
   state_so : (n : ℕ) (s : ReadState I O) → StateShows i o w net n s → state_told s ≡ read_told (w.readers n)

@@ -19,7 +19,9 @@ use Rattle.play_nodes.specs.Places.{book_at}
 use Rattle.play_nodes.specs.Showing.{NodesShow, runs_in, TellsRunning}
 use Rattle.play_nodes.proofs.PlaceLaws.{element_within, same_some, book_found, book_missing, book_within}
 use Rattle.play_nodes.proofs.Tables.{element}
+use Rattle.play_primaries.specs.declared.clients.PrimaryClient.{PrimaryClient}
 use Rattle.play_readers.specs.declared.clients.ReadClient.{ReadClient}
+use Rattle.play_scripts.specs.Reads.{read_numbers}
 use Rattle.play_scripts.specs.Blocks.{numbers}
 use Rattle.replica_files.specs.Books.{replica_of}
 use Rattle.replica_files.specs.Laws.{IsWhole}
@@ -35,11 +37,13 @@ use Rattle.world.specs.Parts as parts
 use Rattle.world.specs.Worlds.{World}
 use Rattle.play_report.specs.declared.rows.Row.{Row}
 use Rattle.play_report.specs.Answers.{lines_text, answer_lines, said_in, client_lines}
-use Rattle.play_report.specs.Reads.{read_line, read_lines, client_read}
+use Rattle.play_report.specs.Reads.{read_line, client_read}
+use Rattle.play_report.specs.Recoveries.{asked_lines, recovery_line, client_recovery, merged}
 use Rattle.play_report.specs.Replicas.{SumTable, info_lines, replica_lines, replicas_lines, node_lines, nodes_lines, rows_lines, all_lines}
 use Rattle.play_report.specs.Reports.{all_answers, AreSums, Reports}
 use Rattle.play_report.specs.Rows.{IsRow, AreRows, AreRowsIf, NodesHaveRows}
 use Rattle.play_report.proofs.ReadLemmas.{reads_are}
+use Rattle.play_report.proofs.RecoveryLemmas.{asked_are, recoveries_are}
 use Rattle.play_report.proofs.ReplicaLemmas.{row_is, sum_found, found_at, rows_are}
 use Rattle.play_report.proofs.TextLemmas.{text_more, upto_same}
 use Rattle.play_model.specs.Dues.{upto}
@@ -180,21 +184,22 @@ module _ {F I O : Type 0} (f : files.Ghosts F) (i : link_in.Ghosts I) (o : link_
 
 -- THE TEXT
 
-pub report_is : {F I O : Type 0} (f : files.Ghosts F) (i : link_in.Ghosts I) (o : link_out.Ghosts O) (count : ℕ) (running : List Bool) (n : Nodes F I O) (clients : List (Client I O)) (reads : List (ReadClient I O)) (lines : List ScriptLine) (all : List (Vec Row)) (text : List ℕ)
+pub report_is : {F I O : Type 0} (f : files.Ghosts F) (i : link_in.Ghosts I) (o : link_out.Ghosts O) (count : ℕ) (running : List Bool) (n : Nodes F I O) (clients : List (Client I O)) (reads : List (ReadClient I O)) (recoveries : List (PrimaryClient I O)) (lines : List ScriptLine) (all : List (Vec Row)) (text : List ℕ)
     → NodesHaveRows f count running n.nodes.items all
-    → text ≡ ((lines_text (all_lines running n.blocks.items all count) ++ lines_text (flat_map (λ (c : Client I O). client_lines lines c) clients)) ++ lines_text (map client_read reads)) ++ printed line.End
-    → Reports f i o count running n clients reads lines text
-report_is {F} {I} {O} f i o count running n clients reads lines all text rows is = λ w net na ca ra.
+    → text ≡ ((lines_text (all_lines running n.blocks.items all count) ++ lines_text (flat_map (λ (c : Client I O). client_lines lines c) clients)) ++ lines_text (merged (map client_read reads) (map client_recovery recoveries) lines)) ++ printed line.End
+    → Reports f i o count running n clients reads recoveries lines text
+report_is {F} {I} {O} f i o count running n clients reads recoveries lines all text rows is = λ w net na ca ra pa.
     let sums = table n.blocks.items all in
     let blocks = numbers n.blocks.items in
     record {
       sums = sums;
       are = sums_are f i o w net n na.show count running all rows na.count_is na.tells;
-      text_is = is ∙ (parts _ (nodes_lines w sums blocks) _ (all_answers w blocks lines) _ (read_lines w lines)
+      text_is = is ∙ (parts _ (nodes_lines w sums blocks) _ (all_answers w blocks lines) _ (asked_lines w lines)
           (nodes_are f i o w net n na.show count running all rows na.count_is na.tells)
           (clients_are w lines clients ca.said ∙ ap (λ (bs : List ℕ). all_answers w bs lines) ca.blocks)
-          (reads_are i o w net reads ra.each ∙ ap (map (read_line w)) ra.numbers) ∙
-          whole (nodes_lines w sums blocks) (all_answers w blocks lines) (read_lines w lines));
+          (ap (λ (xs : List ReportLine). merged xs (map client_recovery recoveries) lines) (reads_are i o w net reads ra.each ∙ ap (map (read_line w)) ra.numbers) ∙
+          (ap (λ (xs : List ReportLine). merged (map (read_line w) (read_numbers lines)) xs lines) (recoveries_are i o w net recoveries pa.each ∙ ap (map (recovery_line w)) pa.numbers) ∙ asked_are w lines)) ∙
+          whole (nodes_lines w sums blocks) (all_answers w blocks lines) (asked_lines w lines));
     }
   where
     parts : (xs xs' ys ys' zs zs' : List ReportLine) → xs ≡ xs' → ys ≡ ys' → zs ≡ zs'

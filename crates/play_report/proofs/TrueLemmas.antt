@@ -22,7 +22,7 @@ use Rattle.script_lang.specs.declared.report.ReportLine.TheVariants as line
 use Rattle.world.specs.Worlds.{World}
 use Rattle.play_report.specs.Answers.{lines_text}
 use Rattle.play_report.specs.Laws.{AreObservable}
-use Rattle.play_report.specs.Reads.{read_lines}
+use Rattle.play_report.specs.Recoveries.{asked_lines}
 use Rattle.play_report.specs.Replicas.{SumTable, sums_in, sum_told, info_lines, replica_lines, replicas_lines, node_lines, nodes_lines}
 use Rattle.play_report.specs.Reports.{all_answers, report_text, NodesAre, AreSums, IsReport}
 use Rattle.play_report.proofs.TextLemmas.{upto_same}
@@ -70,7 +70,7 @@ module _ {F I O : Type 0} (f : files.Ghosts F) (i : link_in.Ghosts I) (o : link_
 
   pub reports_true : (lines : List ScriptLine) (text : List ℕ) → NodesAre i o count running w net n → AreObservable f n → IsReport f w n lines text → text ≡ report_text w (sums_in w) (numbers n.blocks.items) lines
   reports_true lines text are seen r =
-      r.text_is ∙ ap (λ (xs : List ReportLine). lines_text (((xs ++ all_answers w (numbers n.blocks.items) lines) ++ read_lines w lines) ++ line.End ∷ [])) nodes
+      r.text_is ∙ ap (λ (xs : List ReportLine). lines_text (((xs ++ all_answers w (numbers n.blocks.items) lines) ++ asked_lines w lines) ++ line.End ∷ [])) nodes
     where
       replicas : (node : ℕ) → node < w.nodes → w.running node ≡ true → replicas_lines w r.sums (numbers n.blocks.items) node ≡ replicas_lines w (sums_in w) (numbers n.blocks.items) node
       replicas node below runs =

@@ -1,6 +1,7 @@
 pub mod Results
 pub mod Answers
 pub mod Reads
+pub mod Recoveries
 pub mod Rows
 pub mod Replicas
 pub mod Reports

@@ -1,15 +1,13 @@
 -- What was read, in a report.
-use Rattle.std.specs.Prelude.{ℕ, List, map, Result, Ok, Err}
+use Rattle.std.specs.Prelude.{ℕ, List, Result, Ok, Err}
 use Rattle.chunk_sums.specs.Crc.{sum_of}
 use Rattle.hd_base.specs.declared.sum_rule.SumKind.TheVariants as kind
 use Rattle.play_readers.specs.declared.clients.ReadClient.{ReadClient}
 use Rattle.play_readers.specs.declared.clients.ReadState.{ReadState}
 use Rattle.play_readers.specs.declared.clients.ReadState.TheVariants as state
-use Rattle.play_scripts.specs.Reads.{read_numbers}
 use Rattle.read_core.specs.declared.reading.ReadFault.{ReadFault}
 use Rattle.read_core.specs.declared.reading.ReadFault.TheVariants as fault
 use Rattle.reader_events.specs.Hearing.{bytes_read}
-use Rattle.script_lang.specs.declared.instructions.ScriptLine.{ScriptLine}
 use Rattle.script_lang.specs.declared.report.ReadResult.{ReadResult}
 use Rattle.script_lang.specs.declared.report.ReadResult.TheVariants as result
 use Rattle.script_lang.specs.declared.report.ReportLine.{ReportLine}
@@ -42,10 +40,6 @@ read_told other = result.Ended
 -- the line of the reader of this number
 abbrev pub read_line : World → ℕ → ReportLine
 read_line w n = line.Read n (read_told (w.readers n))
-
--- those of the lines that read, in their order
-abbrev pub read_lines : World → List ScriptLine → List ReportLine
-read_lines w lines = map (read_line w) (read_numbers lines)
 
 -- WHAT CLIENTS KEEP
 

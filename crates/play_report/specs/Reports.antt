@@ -14,7 +14,10 @@ use Rattle.play_nodes.specs.Showing.{NodesShow, TellsRunning}
 use Rattle.play_readers.specs.Clients.{ReadClientShows}
 use Rattle.play_readers.specs.declared.clients.ReadClient.{ReadClient}
 use Rattle.play_scripts.specs.Blocks.{numbers}
+use Rattle.play_primaries.specs.Clients.{PrimaryClientShows}
+use Rattle.play_primaries.specs.declared.clients.PrimaryClient.{PrimaryClient}
 use Rattle.play_scripts.specs.Reads.{read_numbers, readers_of}
+use Rattle.play_scripts.specs.Recoveries.{primaries_of, recovery_numbers}
 use Rattle.replica_files.specs.Laws.{IsWhole}
 use Rattle.replica_files.specs.declared.book_state.BookState.{BookState}
 use Rattle.road_traffic.specs.Showing.{Net}
@@ -23,7 +26,7 @@ use Rattle.script_lang.specs.declared.report.ReportLine.{ReportLine}
 use Rattle.script_lang.specs.declared.report.ReportLine.TheVariants as line
 use Rattle.world.specs.Worlds.{World}
 use Rattle.play_report.specs.Answers.{lines_text, answer_lines, said_in}
-use Rattle.play_report.specs.Reads.{read_lines}
+use Rattle.play_report.specs.Recoveries.{asked_lines}
 use Rattle.play_report.specs.Replicas.{SumTable, nodes_lines}
 
 -- THE REPORT
@@ -33,10 +36,10 @@ abbrev pub all_answers : World → List ℕ → List ScriptLine → List ReportL
 all_answers w blocks lines = flat_map (λ b. answer_lines b (w.said b) 0 lines) blocks
 
 -- The report of a world, after these lines of a script with these blocks: the replicas node by node, with these sums,
--- and which nodes are down; the answers block by block; what was read line by line; the end.
+-- and which nodes are down; the answers block by block; what was read and recovered, line by line; the end.
 abbrev pub report_lines : World → SumTable → List ℕ → List ScriptLine → List ReportLine
 report_lines w sums blocks lines =
-    ((nodes_lines w sums blocks ++ all_answers w blocks lines) ++ read_lines w lines) ++ line.End ∷ []
+    ((nodes_lines w sums blocks ++ all_answers w blocks lines) ++ asked_lines w lines) ++ line.End ∷ []
 
 -- its text
 abbrev pub report_text : World → SumTable → List ℕ → List ScriptLine → List ℕ
@@ -62,6 +65,12 @@ pub record ReadersAre {I O : Type 0} (i : link_in.Ghosts I) (o : link_out.Ghosts
   pub numbers : readers_of (map (λ c. c.ask) reads) ≡ read_numbers lines
   pub each : (k : ℕ) (c : ReadClient I O) → slice_get reads k ≡ Some c → ReadClientShows i o w net c
 
+-- The primaries' clients are those of the lines that recover, in their order, and each shows its primary.
+pub record PrimariesAre {I O : Type 0} (i : link_in.Ghosts I) (o : link_out.Ghosts O) (w : World) (net : Net)
+    (recoveries : List (PrimaryClient I O)) (lines : List ScriptLine) : Type 0 where
+  pub numbers : primaries_of (map (λ c. c.recovery) recoveries) ≡ recovery_numbers lines
+  pub each : (k : ℕ) (c : PrimaryClient I O) → slice_get recoveries k ≡ Some c → PrimaryClientShows i o w net c
+
 -- Where the files of a replica that is neither absent nor broken are observable, and its node runs, its sum is the CRC32C
 -- of its bytes.
 abbrev pub AreSums : {F I O : Type 0} → files.Ghosts F → World → Nodes F I O → SumTable → Type 0
@@ -79,8 +88,9 @@ pub record IsReport {F I O : Type 0} (f : files.Ghosts F) (w : World) (n : Nodes
 
 -- So it is of each world that nodes and clients show.
 abbrev pub Reports : {F I O : Type 0} → files.Ghosts F → link_in.Ghosts I → link_out.Ghosts O → ℕ → List Bool →
-    Nodes F I O → List (Client I O) → List (ReadClient I O) → List ScriptLine → List ℕ → Type 0
-Reports f i o count running n clients reads lines text =
+    Nodes F I O → List (Client I O) → List (ReadClient I O) → List (PrimaryClient I O) → List ScriptLine → List ℕ →
+    Type 0
+Reports f i o count running n clients reads recoveries lines text =
     (w : World) (net : Net) → NodesAre i o count running w net n → ClientsAre w n clients →
-    ReadersAre i o w net reads lines
+    ReadersAre i o w net reads lines → PrimariesAre i o w net recoveries lines
     → IsReport f w n lines text

@@ -1,4 +1,4 @@
-//! The report of a play: what the replicas, the answers to the commands and the results of the reads were in the end,
+//! The report of a play: what the replicas, the answers to the commands and the results of the reads and recoveries were in the end,
 //! and whether the replicas are as a script expects them.
 #![tactic(auto)]
 
@@ -7,6 +7,7 @@ mod expecting;
 mod faults;
 mod laws;
 mod reads;
+mod recoveries;
 mod replicas;
 mod report;
 mod results;

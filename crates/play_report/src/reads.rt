@@ -1,9 +1,8 @@
 //! What was read, in a report.
 
-ghost use Rattle.std.specs.Prelude.{◌≡◌, ◌++◌, map, IfOk, OnOk};
+ghost use Rattle.std.specs.Prelude.{◌≡◌, ◌++◌, IfOk, OnOk};
 ghost use Rattle.reader_events.specs.Hearing.{bytes_read};
 ghost use Rattle.script_lang.specs.Reports.{printed};
-ghost use Rattle.play_report.specs.Answers.{lines_text};
 ghost use Rattle.play_report.specs.Reads.{fault_told, result_told, state_told, client_read};
 
 use chunk_sums::crc;
@@ -55,7 +54,7 @@ fn state_told<I: LinkIn, O: LinkOut>(state: &ReadState<I, O>) -> Result<ReadResu
 }
 
 /// Appends the line of a client.
-fn push_read<I: LinkIn, O: LinkOut>(
+pub(crate) fn push_read<I: LinkIn, O: LinkOut>(
     client: &ReadClient<I, O>,
     out: &mut Vec<u8>,
 ) -> Result<(), AllocError>
@@ -67,17 +66,4 @@ fn push_read<I: LinkIn, O: LinkOut>(
         result,
     };
     print_line(&line, out)
-}
-
-/// Appends what all clients have read.
-pub(crate) fn push_reads<I: LinkIn, O: LinkOut>(
-    clients: &[ReadClient<I, O>],
-    out: &mut Vec<u8>,
-) -> Result<(), AllocError>
-    ensures { OnOk result (out.new.items ≡ out.old.items ++ lines_text (map client_read clients.now)) }
-{
-    for client in clients {
-        push_read(client, out)?;
-    }
-    Ok(())
 }

@@ -6,19 +6,19 @@ ghost use Rattle.play_report.specs.Rows.{LeavesAll, IsNodesFault};
 
 use crate::answers::push_clients;
 use crate::faults::ReportFault;
-use crate::reads::push_reads;
+use crate::recoveries::push_asked;
 use crate::replicas::push_nodes;
 use crate::rows::all_rows;
 use hd_base::{Files, LinkIn, LinkOut};
 use play_clients::Client;
 use play_nodes::Nodes;
+use play_primaries::PrimaryClient;
 use play_readers::ReadClient;
 use script_lang::{ReportLine, ScriptLine, print_line};
 use std::alloc::Global;
 
 /// The text of the report of a play with so many nodes, of which these run, after these lines of its script. The files
-/// of each replica at a node that runs are read once, piece by piece. Plays have no recoveries yet, and so has the
-/// report.
+/// of each replica at a node that runs are read once, piece by piece.
 pub fn write_report<F: Files, I: LinkIn, O: LinkOut>(
     alloc: Global,
     count: u32,
@@ -26,10 +26,12 @@ pub fn write_report<F: Files, I: LinkIn, O: LinkOut>(
     nodes: &mut Nodes<F, I, O>,
     clients: &[Client<I, O>],
     reads: &[ReadClient<I, O>],
+    recoveries: &[PrimaryClient<I, O>],
     lines: &[ScriptLine],
 ) -> Result<Vec<u8>, ReportFault>
     ensures report { IfOk result (λ text.
-        Reports F.Files I.LinkIn O.LinkOut count running.now nodes.old clients.now reads.now lines.now text.items) }
+        Reports F.Files I.LinkIn O.LinkOut count running.now nodes.old clients.now reads.now recoveries.now
+        lines.now text.items) }
     ensures kept { LeavesAll F.Files nodes.old nodes.new }
     ensures cause { IfErr result (IsNodesFault F.Files nodes.old.nodes.items nodes.new.nodes.items) }
 {
@@ -43,7 +45,7 @@ pub fn write_report<F: Files, I: LinkIn, O: LinkOut>(
         &mut text,
     )?;
     push_clients(clients, lines, &mut text)?;
-    push_reads(reads, &mut text)?;
+    push_asked(reads, recoveries, lines, &mut text)?;
     print_line(&ReportLine::End, &mut text)?;
     Ok(text)
 }

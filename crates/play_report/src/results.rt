@@ -9,7 +9,7 @@ use script_lang::{Answer, Failure, FlushResult, Instruction, OfficeRefusal, Setu
 use writer_core::ClientAnswer;
 
 /// The office's refusal, without what it told beside.
-fn office_refusal(fault: &OfficeFault) -> OfficeRefusal
+pub(crate) fn office_refusal(fault: &OfficeFault) -> OfficeRefusal
     ensures { result ≡ office_refusal fault.now }
 {
     match fault {

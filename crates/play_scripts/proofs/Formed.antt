@@ -40,6 +40,7 @@ IsFormed (says.Sums block rule) = IsChunkSize rule.chunk
 IsFormed (says.Create block members) = AreFormed members
 IsFormed (says.Append block members) = AreFormed members
 IsFormed (says.Write block bytes) = IsBytes bytes
+IsFormed (says.Recover block at members) = AreFormed members
 IsFormed other = Unit {0}
 
 -- NAMES
@@ -134,7 +135,8 @@ recover_formed : (nodes : ℕ) (words : List (List ℕ)) (i : Instruction) → S
 unfolding Said.recover_said
 recover_formed nodes words i e =
     let w = bind_ok (Said.three_of words) _ i e in
-    said ((kind.Number, is_number w.0.0 && is_number w.0.1 && are_items w.0.2) ∷ (kind.Member, are_members nodes w.0.2) ∷ Said.node_rule nodes w.0.1 ∷ []) (says.Recover (Said.block_of w.0.0) (Said.node_of w.0.1) (members_of w.0.2)) i (λ _. tt) w.1.1
+    said ((kind.Number, is_number w.0.0 && is_number w.0.1 && are_items w.0.2) ∷ (kind.Member, are_members nodes w.0.2) ∷ Said.node_rule nodes w.0.1 ∷ []) (says.Recover (Said.block_of w.0.0) (Said.node_of w.0.1) (members_of w.0.2)) i
+    (λ k. record { some = some_members w.0.2; formed = formed_members nodes w.0.2 k.1.0 }) w.1.1
 
 cut_formed : (words : List (List ℕ)) (i : Instruction) → Said.cut_said words ≡ Ok i → IsFormed i
 unfolding Said.cut_said

@@ -6,4 +6,5 @@ pub mod Placed
 pub mod Distinct
 pub mod UnplayedLemmas
 pub mod AskLemmas
+pub mod RecoveryLemmas
 mod StormFits

@@ -96,6 +96,17 @@ three_formed (suc (suc (suc (suc (suc n))))) h = absurd (omega (arith, h))
 three_fit : (f : ℕ) → f < 5 → MembersFit 5 (three_from f)
 three_fit f h = record { some = refl; formed = three_formed f h; below = three_below f }
 
+all_below : AreAll (IsNode 5) all_nodes
+all_below zero m e = subst (λ (x : NodeId). x.0 < 5) (same_node _ m e) (omega arith)
+all_below (suc zero) m e = subst (λ (x : NodeId). x.0 < 5) (same_node _ m e) (omega arith)
+all_below (suc (suc zero)) m e = subst (λ (x : NodeId). x.0 < 5) (same_node _ m e) (omega arith)
+all_below (suc (suc (suc zero))) m e = subst (λ (x : NodeId). x.0 < 5) (same_node _ m e) (omega arith)
+all_below (suc (suc (suc (suc zero)))) m e = subst (λ (x : NodeId). x.0 < 5) (same_node _ m e) (omega arith)
+all_below (suc (suc (suc (suc (suc k))))) m e = no_node m _ e
+
+all_fit : MembersFit 5 all_nodes
+all_fit = record { some = refl; formed = refl; below = all_below }
+
 -- CREATES
 
 abbrev first_block : ℕ
@@ -269,7 +280,8 @@ module _ (number r : ℕ) where
       let there = at.is.there (r % 8) (of_round r) in
       record {
         before = b;
-        made = quiet (advanced m) most b (line.Recover block (node_of m) all_nodes) refl (drew number m most b at.made) (record { words = tt; kept = (there, tt) });
+        made = quiet (advanced m) most b (line.Recover block (node_of m) all_nodes) refl (drew number m most b at.made)
+            (record { words = subst (λ d. IsNode d (node_of m) × MembersFit d all_nodes) (sym at.is.nodes) (drawn_below m, all_fit); kept = (there, tt) });
         is = at.is;
       }
 

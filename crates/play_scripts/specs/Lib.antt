@@ -5,4 +5,5 @@ pub mod Blocks
 pub mod Unplayed
 pub mod Failures
 pub mod Reads
+pub mod Recoveries
 pub mod Storms

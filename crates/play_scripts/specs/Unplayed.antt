@@ -5,11 +5,10 @@ use Rattle.script_lang.specs.declared.instructions.Instruction.{Instruction}
 use Rattle.script_lang.specs.declared.instructions.Instruction.TheVariants as says
 use Rattle.script_lang.specs.declared.instructions.ScriptLine.{ScriptLine}
 
--- a fault or a recovery, and a start or a read where the shelves don't tell their files
+-- a fault, and a start or a read where the shelves don't tell their files
 abbrev pub is_unplayed : Bool → Instruction → Bool
 is_unplayed told (says.Fault node nth) = true
 is_unplayed told (says.Start node) = not told
-is_unplayed told (says.Recover block node members) = true
 is_unplayed told (says.Read block node offset count) = not told
 is_unplayed told other = false
 

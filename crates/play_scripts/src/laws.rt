@@ -3,6 +3,7 @@
 ghost use Rattle.play_scripts.specs.Fitting.{ScriptsFit};
 ghost use Rattle.play_scripts.specs.Numbering.{AscendingDiffer};
 ghost use Rattle.play_scripts.specs.Reads.{PlaysAskByNumber};
+ghost use Rattle.play_scripts.specs.Recoveries.{PlaysRecoverByNumber};
 ghost use Rattle.play_scripts.specs.Storms.{StormsFit};
 ghost use Rattle.play_scripts.specs.Unplayed.{PlayedAreTold};
 
@@ -33,4 +34,9 @@ pub fn ascending_lines_differ()
 /// The readers of a play are the numbers of the lines that read, in their order.
 pub fn plays_ask_by_number()
     ensures { PlaysAskByNumber }
+{}
+
+/// The primaries of a play are the numbers of the lines that recover, in their order.
+pub fn plays_recover_by_number()
+    ensures { PlaysRecoverByNumber }
 {}

@@ -9,6 +9,7 @@ mod unplayed;
 pub use blocks::blocks_of;
 pub use heads::{Head, head_of};
 pub use laws::{
-    ascending_lines_differ, played_lines_are_told, plays_ask_by_number, scripts_fit, storms_fit,
+    ascending_lines_differ, played_lines_are_told, plays_ask_by_number, plays_recover_by_number,
+    scripts_fit, storms_fit,
 };
 pub use unplayed::first_unplayed;

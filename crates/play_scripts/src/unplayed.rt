@@ -5,8 +5,8 @@ ghost use Rattle.play_scripts.specs.Unplayed.{is_unplayed, first_unplayed, ArePl
 
 use script_lang::{Instruction, ScriptLine};
 
-/// The number of the first line that plays don't have yet: a fault or a recovery, and a start or a read where the
-/// shelves aren't told to tell their files.
+/// The number of the first line that plays don't have yet: a fault, and a start or a read where the shelves aren't told to
+/// tell their files.
 pub fn first_unplayed(told: bool, lines: &[ScriptLine]) -> Option<u64>
     ensures first { result ≡ first_unplayed told lines.now }
     ensures none { IsNone result ↔ ArePlayed told lines.now }
@@ -23,7 +23,7 @@ fn is_unplayed(told: bool, instruction: &Instruction) -> bool
 {
     match instruction {
         Instruction::Start { .. } | Instruction::Read { .. } => !told,
-        Instruction::Fault { .. } | Instruction::Recover { .. } => true,
+        Instruction::Fault { .. } => true,
         _ => false,
     }
 }

@@ -1,6 +1,6 @@
 -- What is due lowers the weight of a play.
 use Rattle.std.proofs.Common.{◌≡◌, ◌≢◌, ℕ, ◌<◌, ◌≤◌, ◌+◌, ◌^◌, Bool, true, false, List, [], ◌∷◌, ◌++◌, map, slice_get, Option, Some, None, refl, sym, ap, ◌∙◌, subst, arith}
-use Rattle.std.specs.Prelude.{◌&&◌, ◌||◌, is_some, is_none, if◌then◌else◌}
+use Rattle.std.specs.Prelude.{◌&&◌, ◌||◌, is_some, is_none, nat_lt, sum_by, if◌then◌else◌}
 use Rattle.std.proofs.lemmas.Bool.{false≢true}
 use Rattle.std.proofs.lemmas.List.Sums.{sum_by-cons}
 use Rattle.hd_base.specs.declared.numbers.BlockId.{BlockId}
@@ -9,6 +9,9 @@ use Rattle.hd_base.specs.declared.numbers.NodeId.{NodeId}
 use Rattle.op_headers.specs.declared.ops.ReadOp.{ReadOp}
 use Rattle.name_core.specs.declared.calls.OfficeCall.{OfficeCall}
 use Rattle.name_core.specs.Offices.{answer_to}
+use Rattle.recovery_core.specs.declared.primary.OwnStep.{OwnStep}
+use Rattle.recovery_core.specs.declared.primary.OwnStep.TheVariants as step
+use Rattle.recovery_core.specs.Primaries as primary
 use Rattle.writer_core.specs.declared.actions.Action.{Action}
 use Rattle.writer_core.specs.declared.actions.Action.TheVariants as action
 use Rattle.writer_core.specs.declared.commands.Command.{Command}
@@ -19,10 +22,12 @@ use Rattle.world.specs.declared.events.Event.{Event}
 use Rattle.world.specs.declared.events.Event.TheVariants as event
 use Rattle.world.specs.declared.events.OwnStep.TheVariants as own
 use Rattle.world.specs.declared.events.TakenCommand.{TakenCommand}
-use Rattle.world.specs.Parts.{Upper, by_writer, by_member, by_reader, by_primary, Told, Writing}
+use Rattle.world.specs.Clients.{are_members}
+use Rattle.world.specs.Parts.{Upper, by_writer, by_member, by_reader, by_primary, Leading, Primary, no_primary, was_told, leads, has_led, Told, Writing, no_reader}
 use Rattle.world.specs.Worlds.{World, put, apply, start}
 use Rattle.world.specs.Primaries.{writer_asks}
-use Rattle.world.specs.Enabled.{acts_with, is_deed, is_question, can_down, can_ready, can_up}
+use Rattle.world.specs.Connections.{next_up}
+use Rattle.world.specs.Enabled.{acts_with, is_deed, is_question, can_down, can_ready, takes_above, can_up}
 use Rattle.world.specs.Events.{changed, outcome, after_event, is_enabled, happens, run}
 use Rattle.world.specs.Safe.{Has}
 use Rattle.world_laws.proofs.FactTables.{and-right}
@@ -30,27 +35,37 @@ use Rattle.world_laws.proofs.RunLaws.{idle-stays, runs-join}
 use Rattle.world_laws.proofs.StampGivens.{put-here, put-there}
 use Rattle.world_laws.proofs.TestLaws.{all-tested}
 use Rattle.world_texts.specs.Texts.{AllFit}
-use Rattle.world_settling.specs.Leading.{read_weight}
+use Rattle.world_settling.specs.Leading.{read_weight, recovery_weight, primary_weight, LowersLeading, told_world}
+use Rattle.world_settling.specs.Draws.{actor_of, actor_above, is_writer, is_primary}
 use Rattle.world_settling.specs.Measure.{command_weight, given_weight, writer_weight, LowersBoth, answered_world}
 use Rattle.world_settling.specs.Traffic.{traffic, is_delivery}
+use Rattle.world_settling.proofs.Actors.{writers-stay, primaries-stay}
 use Rattle.world_settling.proofs.Deliveries.{deliveries-lower}
+use Rattle.world_settling.proofs.LeadingEvents.{primaries-lower, primaries-hear, beginning-lowers, committing-lowers}
 use Rattle.world_settling.proofs.OfficeEvents.{asking-lowers}
 use Rattle.world_settling.proofs.OwnEvents.{own-steps-lower}
 use Rattle.world_settling.proofs.ReaderOwn.{readers-lower}
+use Rattle.world_settling.proofs.Readers.{readers-go-on}
 use Rattle.world_settling.proofs.WriterHears.{answers-lower}
 use Rattle.play_model.specs.declared.asks.ReadAsk.{ReadAsk}
 use Rattle.play_model.specs.declared.dues.Due.{Due}
 use Rattle.play_model.specs.declared.dues.Due.TheVariants as due
-use Rattle.play_model.specs.Asks.{request_of}
+use Rattle.play_model.specs.declared.recoveries.Recovery.{Recovery}
+use Rattle.play_model.specs.Asks.{request_of, asking_node}
+use Rattle.play_model.specs.Laws.{AreEnabled}
+use Rattle.play_model.specs.Recoveries.{primary_asks, begins_so, goes_on, all_answered, leads_events, primary_events, primary_due}
 use Rattle.play_model.specs.States.{world_of}
 use Rattle.play_model.specs.Dues.{Queues, is_open, is_open_above, own_due, asking, own_events, queue_left, action_of, due_events, queues_after, after_due}
-use Rattle.play_settling.specs.Settling.{queue_weight, writers_weight, play_weight, answered_so, events_so, weight_after, AreApart, UpperAmong, CanHappen, DuesLower, PlaysLower}
-use Rattle.play_settling.proofs.Sums.{lowers-all, lowers-at, both-lower}
+use Rattle.play_settling.specs.Settling.{queue_weight, ask_weight, leads_weight, writers_weight, reads_weight, play_weight, answered_so, events_so, weight_after, AreApart, AreNumbered, UpperAmong, CanHappen, DuesLower, PlaysLower}
+use Rattle.play_settling.proofs.Sums.{all-same, lowers-all, lowers-at, both-lower}
 use Rattle.play_settling.proofs.Staying.{IsOther, down-leaves, ready-leaves, up-leaves}
 use Rattle.play_settling.proofs.Steps.{is_plain, own-plain}
 use Rattle.play_settling.proofs.Dialling.{all-ready}
-use Rattle.play_settling.proofs.Reading.{all-go-on, with-asks, reader-lowers}
+use Rattle.play_settling.proofs.Primaries.{primaries-go-on}
+use Rattle.play_settling.proofs.Reading.{all-go-on, asks-fall, weight-falls, with-asks, reader-lowers}
+use Rattle.play_settling.proofs.Recovering.{RestFalls, with-recoveries, one-leads, one-hears}
 use Rattle.play_model.proofs.AskLemmas.{asks_enabled}
+use Rattle.play_model.proofs.RecoveryLemmas.{begin_answered, recovery_enabled}
 
 -- WHAT IS KNOWN OF A WORLD
 
@@ -61,6 +76,10 @@ pub record Known (w : World) : Type 0 where
   pub ask : (b : BlockId) (answered : Bool) → (w.writers b.0).told ≡ None → is_enabled w (event.Office (caller.Writer b)) ≡ true → is_enabled (answered_world w b) (event.Own (own.Writer b None answered)) ≡ true
       → LowersBoth w (happens (answered_world w b) (event.Own (own.Writer b None answered))) b.0 0
   pub read : (i : ℕ) (n : NodeId) (r : ReadOp) (answered : Bool) → is_enabled w (event.Own (own.Reader i n r answered)) ≡ true → traffic (happens w (event.Own (own.Reader i n r answered))) < traffic w + read_weight r
+  pub begin : (i : ℕ) (n : NodeId) (b : BlockId) (members : List NodeId) (answers : List Bool) → is_enabled (told_world w i b) (event.Own (own.Recover i n b members answers)) ≡ true
+      → LowersLeading w (happens (told_world w i b) (event.Own (own.Recover i n b members answers))) i (recovery_weight members)
+  pub lead : (i : ℕ) → is_enabled w (event.Own (own.Primary i)) ≡ true → LowersLeading w (happens w (event.Own (own.Primary i))) i 0
+  pub commit : (i : ℕ) (b : BlockId) → is_enabled (told_world w i b) (event.Own (own.Primary i)) ≡ true → LowersLeading w (happens (told_world w i b) (event.Own (own.Primary i))) i 0
   pub plain : (b : ℕ) → (w.writers b).told ≡ None → is_plain (own_step (w.writers b).known).action ≡ true
 
 known : (nodes : ℕ) (events : List Event) → AllFit events → (run (start nodes) events).office.next.0 ≤ 2 ^ 64 → Known (run (start nodes) events)
@@ -69,6 +88,9 @@ known nodes events fit left = record {
   step = λ b takes answered told i. own-steps-lower nodes events b takes answered fit left told i;
   ask = λ b answered told i j. asking-lowers nodes events b answered fit left told i j;
   read = λ i n r answered e. readers-lower nodes events i n r answered e;
+  begin = λ i n b members answers e. beginning-lowers nodes events i n b members answers e;
+  lead = λ i e. primaries-lower nodes events i e;
+  commit = λ i b e. committing-lowers nodes events i b e;
   plain = λ b told. own-plain ((run (start nodes) events).writers b).known (all-ready nodes events b told);
 }
 
@@ -191,39 +213,206 @@ module _ (w : World) (k : Known w) (queues : Queues) (blocks : List ℕ) (apart 
   up-lowers c (by_reader i) is has e = lowers-all w (happens w (event.Up c)) queues queues blocks (up-leaves w c (subst IsOther (sym is) tt)) (λ a. refl) (k.deliver (event.Up c) refl e)
   up-lowers c (by_primary i place) is has e = lowers-all w (happens w (event.Up c)) queues queues blocks (up-leaves w c (subst IsOther (sym is) tt)) (λ a. refl) (k.deliver (event.Up c) refl e)
 
+-- WHAT STAYS
+
+-- what follows of a primary's own step is the same, whatever is answered
+leads-so : (s : OwnStep) (r : Recovery) (answered : Bool) → map (answered_so answered) (leads_events s r) ≡ leads_events s r
+leads-so step.Waits r answered = refl
+leads-so (step.Updates c) r answered = refl
+leads-so (step.Commits c) r answered = refl
+leads-so (step.Ends e) r answered = refl
+
+recovery-so : (p : Primary) (r : Recovery) (answered : Bool) → map (answered_so answered) (primary_events p r) ≡ primary_events p r
+recovery-so no_primary r answered = refl
+recovery-so (was_told b t) r answered = refl
+recovery-so (leads l) r answered = leads-so (primary.own_step l.state).does r answered
+recovery-so (has_led x) r answered = refl
+
+-- no primary acts in a writer's own step
+own-stays : (w : World) (a : Action) (b : ℕ) (queue : List TakenCommand) (answered : Bool) (i : ℕ) → (run w (map (answered_so answered) (own_events a b queue))).primaries i ≡ w.primaries i
+own-stays w action.Wait b queue answered i = primaries-stay w (event.Own (own.Writer (record { 0 = b }) (slice_get queue 0) answered)) i refl
+own-stays w action.Took b queue answered i = primaries-stay w (event.Own (own.Writer (record { 0 = b }) None answered)) i refl
+own-stays w (action.Ask c) b queue answered i =
+    primaries-stay (happens w (asking b)) (event.Own (own.Writer (record { 0 = b }) None answered)) i refl ∙ primaries-stay w (asking b) i refl
+own-stays w (action.Dial to r) b queue answered i = primaries-stay w (event.Own (own.Writer (record { 0 = b }) None answered)) i refl
+own-stays w (action.Send p) b queue answered i = primaries-stay w (event.Own (own.Writer (record { 0 = b }) None answered)) i refl
+own-stays w (action.Answered n x) b queue answered i = primaries-stay w (event.Own (own.Writer (record { 0 = b }) None answered)) i refl
+own-stays w action.Memory b queue answered i = primaries-stay w (event.Own (own.Writer (record { 0 = b }) None answered)) i refl
+
+-- READERS THAT ASK, AND OTHERS
+
+-- what it weighs but for the recoveries
+abbrev Lowers : World → Queues → List ℕ → List ReadAsk → Due → Bool → Type 0
+Lowers w queues blocks asks d answered =
+    reads_weight (run w (events_so w queues d answered)) (queues_after w queues d) blocks asks < reads_weight w queues blocks asks
+
+with : (w : World) (queues : Queues) (blocks : List ℕ) (asks : List ReadAsk) (d : Due) (answered : Bool)
+    → writers_weight (run w (events_so w queues d answered)) (queues_after w queues d) blocks < writers_weight w queues blocks → Lowers w queues blocks asks d answered
+with w queues blocks asks d answered less =
+    with-asks w (run w (events_so w queues d answered)) queues (queues_after w queues d) blocks asks (all-go-on w (events_so w queues d answered)) less
+
+-- of a writer, or a lower end of a connection
+abbrev IsPlainDue : Due → Type 0
+IsPlainDue (due.Primary r) = ⊥
+IsPlainDue (due.Up c) = ⊥
+IsPlainDue other = Unit {0}
+
+plain-lowers : (w : World) (k : Known w) (queues : Queues) (blocks : List ℕ) (asks : List ReadAsk) (rs : List Recovery) (d : Due) (answered : Bool) → IsPlainDue d → CanHappen w queues blocks asks rs d
+    → Lowers w queues blocks asks d answered
+plain-lowers w k queues blocks asks rs (due.Own b) answered is h =
+    with w queues blocks asks (due.Own b) answered (own-lowers w k queues blocks h.apart answered b.0 h.among h.untold (action_of w b) (queues b.0) refl refl h.due_now)
+plain-lowers w k queues blocks asks rs (due.Reader ask) answered is h =
+    reader-lowers w queues blocks asks ask answered h.among h.due_now (k.read ask.reader ask.node (request_of ask) answered (asks_enabled w ask answered ∙ h.due_now))
+plain-lowers w k queues blocks asks rs (due.Primary r) answered is h = absurd is
+plain-lowers w k queues blocks asks rs (due.Down c) answered is h =
+    with w queues blocks asks (due.Down c) answered (lowers-all w (happens w (event.Down c answered)) queues queues blocks (down-leaves w c answered) (λ a. refl)
+    (k.deliver (event.Down c answered) refl ((all-tested w).down c answered ∙ and-right (is_open (w.lowers c.0)) (can_down w c.0) h.due_now)))
+plain-lowers w k queues blocks asks rs (due.Ready c) answered is h =
+    with w queues blocks asks (due.Ready c) answered (lowers-all w (happens w (event.Ready c)) queues queues blocks (ready-leaves w c) (λ a. refl)
+    (k.deliver (event.Ready c) refl ((all-tested w).ready c ∙ and-right (is_open (w.lowers c.0)) (can_ready w c.0) h.due_now)))
+plain-lowers w k queues blocks asks rs (due.Up c) answered is h = absurd is
+
+-- no primary acts in them
+plain-stays : (w : World) (queues : Queues) (d : Due) (answered : Bool) → IsPlainDue d → (i : ℕ) → (run w (events_so w queues d answered)).primaries i ≡ w.primaries i
+plain-stays w queues (due.Own b) answered is i = own-stays w (action_of w b) b.0 (queues b.0) answered i
+plain-stays w queues (due.Reader ask) answered is i = primaries-stay w (asking_node ask answered) i refl
+plain-stays w queues (due.Primary r) answered is i = absurd is
+plain-stays w queues (due.Down c) answered is i = primaries-stay w (event.Down c answered) i refl
+plain-stays w queues (due.Ready c) answered is i = primaries-stay w (event.Ready c) i refl
+plain-stays w queues (due.Up c) answered is i = absurd is
+
+plain : (w : World) (k : Known w) (queues : Queues) (blocks : List ℕ) (asks : List ReadAsk) (rs : List Recovery) (d : Due) (answered : Bool) → IsPlainDue d → CanHappen w queues blocks asks rs d
+    → weight_after w queues blocks asks rs d answered < play_weight w queues blocks asks rs
+plain w k queues blocks asks rs d answered is h =
+    with-recoveries w (run w (events_so w queues d answered)) queues (queues_after w queues d) blocks asks rs (plain-stays w queues d answered is)
+    (plain-lowers w k queues blocks asks rs d answered is h)
+
+-- WHAT PRIMARIES DO
+
+takes-last : (x y z : Bool) → (x && y && z) ≡ true → z ≡ true
+takes-last true true z h = h
+takes-last true false z h = absurd (false≢true h)
+takes-last false y z h = absurd (false≢true h)
+
+heard-as : (w : World) (c : ℕ) (i place : ℕ) (u : Upper) (p : Primary) → u ≡ by_primary i place → w.primaries i ≡ p → p ≡ no_primary → takes_above u w c ≡ false
+heard-as w c i place u p is at none = rw (is, at, none) refl
+
+-- one that hasn't begun hears nothing
+heard-none : (w : World) (c : ConnId) (i place : ℕ) → (w.dialled c.0).upper ≡ by_primary i place → w.primaries i ≡ no_primary → is_enabled w (event.Up c) ≡ true → ⊥
+heard-none w c i place is none e =
+    let takes : takes_above (w.dialled c.0).upper w c.0 ≡ true =
+    takes-last (nat_lt c.0 w.next_conn) (is_some (next_up w c.0)) (takes_above (w.dialled c.0).upper w c.0) (sym ((all-tested w).up c) ∙ e) in
+    false≢true (sym (heard-as w c.0 i place (w.dialled c.0).upper (w.primaries i) is refl none) ∙ takes)
+
+module _ (w : World) (k : Known w) (queues : Queues) (blocks : List ℕ) (asks : List ReadAsk) (rs : List Recovery) (numbered : AreNumbered rs) where
+  -- writers stay, and readers that have begun stay so
+  rest : (v : World) → ((a : ℕ) → v.writers a ≡ w.writers a) → ((i : ℕ) → v.readers i ≡ no_reader → w.readers i ≡ no_reader) → RestFalls w v queues blocks asks
+  rest v stay on = record {
+    blocks_same = all-same w v queues queues blocks stay (λ b. refl);
+    asks_fall = asks-fall (ask_weight w) (ask_weight v) asks (λ a. weight-falls (w.readers a.reader) (v.readers a.reader) (read_weight (request_of a)) (on a.reader));
+  }
+
+  module _ (r : Recovery) (has : Has rs r) (formed : are_members r.members ≡ true) where
+    abbrev asked : World
+    asked = happens w (primary_asks r)
+
+    led-none : (l : Leading) → w.primaries r.primary ≡ leads l → w.primaries r.primary ≡ no_primary → ⊥
+    led-none l p q = cc
+
+    led-paid : (p : Primary) (l : Leading) → p ≡ leads l → primary_weight p + 0 ≤ leads_weight p r.members
+    led-paid p l is = rw is (omega arith)
+
+    -- it asks the office, and goes on
+    rest-two : (e : Event) → ((u : World) → is_writer (actor_of u e) ≡ false) → RestFalls w (happens asked e) queues blocks asks
+    rest-two e calm =
+        rest (happens asked e) (λ a. writers-stay asked e a (calm asked) ∙ writers-stay w (primary_asks r) a refl)
+        (λ i h. readers-go-on w (primary_asks r) i (readers-go-on asked e i h))
+
+    two-begun : (e : Event) → ((happens asked e).primaries r.primary ≡ no_primary → asked.primaries r.primary ≡ no_primary) → (asked.primaries r.primary ≡ no_primary → ⊥)
+        → (happens asked e).primaries r.primary ≡ no_primary → ⊥
+    two-begun e on begun none = begun (on none)
+
+    begins-lower : w.primaries r.primary ≡ no_primary → AreEnabled w (primary_asks r ∷ (begins_so r (all_answered r.members) ∷ []))
+        → play_weight (happens asked (begins_so r (all_answered r.members))) queues blocks asks rs < play_weight w queues blocks asks rs
+    begins-lower new enabled =
+        one-leads w (happens asked (begins_so r (all_answered r.members))) queues blocks asks rs r (recovery_weight r.members) numbered has
+        (rest-two (begins_so r (all_answered r.members)) (λ u. refl))
+        (k.begin r.primary r.node r.block r.members (all_answered r.members) enabled.1.0)
+        (two-begun (begins_so r (all_answered r.members)) (primaries-go-on asked (begins_so r (all_answered r.members)) r.primary) told-begun)
+        (paid (w.primaries r.primary) new)
+      where
+        told-begun : asked.primaries r.primary ≡ no_primary → ⊥
+        told-begun none = told-none (begin_answered w r new).told none
+          where
+            told-none : {b : BlockId} {t : Told} → asked.primaries r.primary ≡ was_told b t → asked.primaries r.primary ≡ no_primary → ⊥
+            told-none p q = cc
+
+        paid : (p : Primary) → p ≡ no_primary → primary_weight p + recovery_weight r.members ≤ leads_weight p r.members
+        paid p is = rw is (omega arith)
+
+    goes-lower : (l : Leading) → w.primaries r.primary ≡ leads l → AreEnabled w (goes_on r ∷ []) → play_weight (happens w (goes_on r)) queues blocks asks rs < play_weight w queues blocks asks rs
+    goes-lower l is enabled =
+        one-leads w (happens w (goes_on r)) queues blocks asks rs r 0 numbered has
+        (rest (happens w (goes_on r)) (λ a. writers-stay w (goes_on r) a refl) (λ i h. readers-go-on w (goes_on r) i h))
+        (k.lead r.primary enabled.0) (λ none. led-none l is (primaries-go-on w (goes_on r) r.primary none)) (led-paid (w.primaries r.primary) l is)
+
+    commits-lower : (l : Leading) → w.primaries r.primary ≡ leads l → AreEnabled w (primary_asks r ∷ (goes_on r ∷ [])) → play_weight (happens asked (goes_on r)) queues blocks asks rs < play_weight w queues blocks asks rs
+    commits-lower l is enabled =
+        one-leads w (happens asked (goes_on r)) queues blocks asks rs r 0 numbered has (rest-two (goes_on r) (λ u. refl)) (k.commit r.primary r.block enabled.1.0)
+        (λ none. led-none l is (primaries-go-on w (primary_asks r) r.primary (primaries-go-on asked (goes_on r) r.primary none))) (led-paid (w.primaries r.primary) l is)
+
+    steps-lower : (l : Leading) (s : OwnStep) → w.primaries r.primary ≡ leads l → AreEnabled w (leads_events s r) → play_weight (run w (leads_events s r)) queues blocks asks rs < play_weight w queues blocks asks rs
+    steps-lower l step.Waits is enabled = goes-lower l is enabled
+    steps-lower l (step.Updates c) is enabled = goes-lower l is enabled
+    steps-lower l (step.Commits c) is enabled = commits-lower l is enabled
+    steps-lower l (step.Ends e) is enabled = goes-lower l is enabled
+
+    recovers-lower : (p : Primary) → w.primaries r.primary ≡ p → primary_due p w r ≡ true → AreEnabled w (primary_events p r) → play_weight (run w (primary_events p r)) queues blocks asks rs < play_weight w queues blocks asks rs
+    recovers-lower no_primary is due enabled = begins-lower is enabled
+    recovers-lower (was_told b t) is due enabled = absurd (false≢true due)
+    recovers-lower (leads l) is due enabled = steps-lower l (primary.own_step l.state).does is enabled
+    recovers-lower (has_led x) is due enabled = absurd (false≢true due)
+
+  -- WHAT UPPER ENDS HEAR
+
+  primary-hears : (c : ConnId) (i place : ℕ) → (w.dialled c.0).upper ≡ by_primary i place → is_enabled w (event.Up c) ≡ true → play_weight (happens w (event.Up c)) queues blocks asks rs < play_weight w queues blocks asks rs
+  primary-hears c i place is e =
+      one-hears w (happens w (event.Up c)) queues blocks asks rs i numbered
+      (rest (happens w (event.Up c)) (up-leaves w c (subst IsOther (sym is) tt)) (λ j h. readers-go-on w (event.Up c) j h)) (primaries-hear w c i place is e)
+      (λ none. hears-begun (primaries-go-on w (event.Up c) i none)) hears-begun (k.deliver (event.Up c) refl e)
+    where
+      hears-begun : w.primaries i ≡ no_primary → ⊥
+      hears-begun none = heard-none w c i place is none e
+
+  with-others : (apart : AreApart blocks) (c : ConnId) (u : Upper) → (w.dialled c.0).upper ≡ u → UpperAmong blocks u → is_enabled w (event.Up c) ≡ true → is_primary (actor_above u) ≡ false
+      → play_weight (happens w (event.Up c)) queues blocks asks rs < play_weight w queues blocks asks rs
+  with-others apart c u is among e other =
+      with-recoveries w (happens w (event.Up c)) queues queues blocks asks rs (λ i. primaries-stay w (event.Up c) i (ap (λ (x : Upper). is_primary (actor_above x)) is ∙ other))
+      (with w queues blocks asks (due.Up c) true (up-lowers w k queues blocks apart true c u is among e))
+
+  upper-hears : (apart : AreApart blocks) (c : ConnId) (u : Upper) → (w.dialled c.0).upper ≡ u → UpperAmong blocks u → is_enabled w (event.Up c) ≡ true
+      → play_weight (happens w (event.Up c)) queues blocks asks rs < play_weight w queues blocks asks rs
+  upper-hears apart c (by_primary i place) is among e = primary-hears c i place is e
+  upper-hears apart c (by_writer b) is among e = with-others apart c (by_writer b) is among e refl
+  upper-hears apart c (by_member d) is among e = with-others apart c (by_member d) is among e refl
+  upper-hears apart c (by_reader i) is among e = with-others apart c (by_reader i) is among e refl
+
 -- ALL THAT IS DUE
 
--- a writer, or an end of a connection
-abbrev IsNoReader : Due → Type 0
-IsNoReader (due.Reader ask) = ⊥
-IsNoReader other = Unit {0}
-
-others-lower : (w : World) (k : Known w) (queues : Queues) (blocks : List ℕ) (asks : List ReadAsk) (d : Due) (answered : Bool) → IsNoReader d → CanHappen w queues blocks asks d → writers_weight (run w (events_so w queues d answered)) (queues_after w queues d) blocks < writers_weight w queues blocks
-others-lower w k queues blocks asks (due.Own b) answered is h = own-lowers w k queues blocks h.apart answered b.0 h.among h.untold (action_of w b) (queues b.0) refl refl h.due_now
-others-lower w k queues blocks asks (due.Reader ask) answered is h = absurd is
-others-lower w k queues blocks asks (due.Down c) answered is h =
-    lowers-all w (happens w (event.Down c answered)) queues queues blocks (down-leaves w c answered) (λ a. refl)
-    (k.deliver (event.Down c answered) refl ((all-tested w).down c answered ∙ and-right (is_open (w.lowers c.0)) (can_down w c.0) h.due_now))
-others-lower w k queues blocks asks (due.Ready c) answered is h =
-    lowers-all w (happens w (event.Ready c)) queues queues blocks (ready-leaves w c) (λ a. refl)
-    (k.deliver (event.Ready c) refl ((all-tested w).ready c ∙ and-right (is_open (w.lowers c.0)) (can_ready w c.0) h.due_now))
-others-lower w k queues blocks asks (due.Up c) answered is h =
-    up-lowers w k queues blocks h.apart answered c (w.dialled c.0).upper refl h.among ((all-tested w).up c ∙ and-right (is_open_above w (w.dialled c.0).upper) (can_up w c.0) h.due_now)
-
-other : (w : World) (k : Known w) (queues : Queues) (blocks : List ℕ) (asks : List ReadAsk) (d : Due) (answered : Bool) → IsNoReader d → CanHappen w queues blocks asks d → weight_after w queues blocks asks d answered < play_weight w queues blocks asks
-other w k queues blocks asks d answered is h =
-    with-asks w (run w (events_so w queues d answered)) queues (queues_after w queues d) blocks asks (all-go-on w (events_so w queues d answered)) (others-lower w k queues blocks asks d answered is h)
-
-due-lowers : (w : World) (k : Known w) (queues : Queues) (blocks : List ℕ) (asks : List ReadAsk) (d : Due) (answered : Bool) → CanHappen w queues blocks asks d → weight_after w queues blocks asks d answered < play_weight w queues blocks asks
-due-lowers w k queues blocks asks (due.Reader ask) answered h =
-    reader-lowers w queues blocks asks ask answered h.among h.due_now (k.read ask.reader ask.node (request_of ask) answered (asks_enabled w ask answered ∙ h.due_now))
-due-lowers w k queues blocks asks (due.Own b) answered h = other w k queues blocks asks (due.Own b) answered tt h
-due-lowers w k queues blocks asks (due.Down c) answered h = other w k queues blocks asks (due.Down c) answered tt h
-due-lowers w k queues blocks asks (due.Ready c) answered h = other w k queues blocks asks (due.Ready c) answered tt h
-due-lowers w k queues blocks asks (due.Up c) answered h = other w k queues blocks asks (due.Up c) answered tt h
+due-lowers : (w : World) (k : Known w) (queues : Queues) (blocks : List ℕ) (asks : List ReadAsk) (rs : List Recovery) (d : Due) (answered : Bool) → CanHappen w queues blocks asks rs d
+    → weight_after w queues blocks asks rs d answered < play_weight w queues blocks asks rs
+due-lowers w k queues blocks asks rs (due.Own b) answered h = plain w k queues blocks asks rs (due.Own b) answered tt h
+due-lowers w k queues blocks asks rs (due.Reader ask) answered h = plain w k queues blocks asks rs (due.Reader ask) answered tt h
+due-lowers w k queues blocks asks rs (due.Down c) answered h = plain w k queues blocks asks rs (due.Down c) answered tt h
+due-lowers w k queues blocks asks rs (due.Ready c) answered h = plain w k queues blocks asks rs (due.Ready c) answered tt h
+due-lowers w k queues blocks asks rs (due.Primary r) answered h =
+    subst (λ (es : List Event). play_weight (run w es) queues blocks asks rs < play_weight w queues blocks asks rs) (sym (recovery-so (w.primaries r.primary) r answered))
+    (recovers-lower w k queues blocks asks rs h.numbered r h.among h.formed (w.primaries r.primary) refl h.due_now (recovery_enabled w r h.formed h.due_now))
+due-lowers w k queues blocks asks rs (due.Up c) answered h =
+    upper-hears w k queues blocks asks rs h.numbered h.apart c (w.dialled c.0).upper refl h.among ((all-tested w).up c ∙ and-right (is_open_above w (w.dialled c.0).upper) (can_up w c.0) h.due_now)
 
 pub dues-lower : DuesLower
-dues-lower nodes events queues blocks asks d answered fit left h = due-lowers (run (start nodes) events) (known nodes events fit left) queues blocks asks d answered h
+dues-lower nodes events queues blocks asks rs d answered fit left h = due-lowers (run (start nodes) events) (known nodes events fit left) queues blocks asks rs d answered h
 
 -- PLAYS
 
@@ -240,6 +429,7 @@ own-so action.Memory b queue = refl
 due-so : (w : World) (queues : Queues) (d : Due) → events_so w queues d true ≡ due_events w queues d
 due-so w queues (due.Own b) = own-so (action_of w b) b.0 (queues b.0)
 due-so w queues (due.Reader ask) = refl
+due-so w queues (due.Primary r) = recovery-so (w.primaries r.primary) r true
 due-so w queues (due.Down c) = refl
 due-so w queues (due.Ready c) = refl
 due-so w queues (due.Up c) = refl
@@ -250,5 +440,5 @@ plays-lower blocks p d fit left h =
     let w : World = world_of p in
     let so : run w (events_so w p.queues d true) ≡ run (start p.nodes) (p.events ++ due_events w p.queues d) =
     ap (λ (list : List Event). run w list) (due-so w p.queues d) ∙ sym (runs-join (start p.nodes) p.events (due_events w p.queues d)) in
-    subst (λ (v : World). play_weight v (queues_after w p.queues d) blocks p.asks < play_weight w p.queues blocks p.asks) so
-    (dues-lower p.nodes p.events p.queues blocks p.asks d true fit left h)
+    subst (λ (v : World). play_weight v (queues_after w p.queues d) blocks p.asks p.recoveries < play_weight w p.queues blocks p.asks p.recoveries) so
+    (dues-lower p.nodes p.events p.queues blocks p.asks p.recoveries d true fit left h)

@@ -20,7 +20,7 @@ use Rattle.world_settling.proofs.Readers.{readers-go-on}
 use Rattle.play_model.specs.declared.asks.ReadAsk.{ReadAsk}
 use Rattle.play_model.specs.Asks.{request_of, asking_node}
 use Rattle.play_model.specs.Dues.{Queues, is_unbegun}
-use Rattle.play_settling.specs.Settling.{block_weight, ask_weight, writers_weight, play_weight}
+use Rattle.play_settling.specs.Settling.{block_weight, ask_weight, writers_weight, reads_weight}
 use Rattle.play_settling.proofs.Sums.{all-same}
 
 -- READERS THAT HAVE BEGUN
@@ -55,12 +55,12 @@ has-begun w ask answered h = asks-as (w.readers ask.reader) w ask.reader ask.nod
 
 -- SUMS
 
-weight-falls : (x y : Reader) (n : ℕ) → (y ≡ no_reader → x ≡ no_reader) → (if is_unbegun y then n else 0) ≤ (if is_unbegun x then n else 0)
+pub weight-falls : (x y : Reader) (n : ℕ) → (y ≡ no_reader → x ≡ no_reader) → (if is_unbegun y then n else 0) ≤ (if is_unbegun x then n else 0)
 weight-falls x no_reader n h = subst (λ (z : Reader). n ≤ (if is_unbegun z then n else 0)) (sym (h refl)) (omega arith)
 weight-falls x (reads c s) n h = omega arith
 weight-falls x (has_read r) n h = omega arith
 
-asks-fall : (f g : ReadAsk → ℕ) (asks : List ReadAsk) → ((a : ReadAsk) → g a ≤ f a) → sum_by g asks ≤ sum_by f asks
+pub asks-fall : (f g : ReadAsk → ℕ) (asks : List ReadAsk) → ((a : ReadAsk) → g a ≤ f a) → sum_by g asks ≤ sum_by f asks
 asks-fall f g [] h = omega arith
 asks-fall f g (a ∷ asks) h = omega (arith, sum_by-cons f a asks, sum_by-cons g a asks, h a, asks-fall f g asks h)
 
@@ -78,7 +78,7 @@ both-fall : (x y a b : ℕ) → x < y → a ≤ b → x + a < y + b
 both-fall x y a b p q = omega (arith, p, q)
 
 -- What lowers the rest lowers the whole.
-pub with-asks : (w v : World) (queues after : Queues) (blocks : List ℕ) (asks : List ReadAsk) → GoesOn w v → writers_weight v after blocks < writers_weight w queues blocks → play_weight v after blocks asks < play_weight w queues blocks asks
+pub with-asks : (w v : World) (queues after : Queues) (blocks : List ℕ) (asks : List ReadAsk) → GoesOn w v → writers_weight v after blocks < writers_weight w queues blocks → reads_weight v after blocks asks < reads_weight w queues blocks asks
 with-asks w v queues after blocks asks on less =
     both-fall (writers_weight v after blocks) (writers_weight w queues blocks) (sum_by (ask_weight v) asks) (sum_by (ask_weight w) asks) less
     (asks-fall (ask_weight w) (ask_weight v) asks (λ a. weight-falls (w.readers a.reader) (v.readers a.reader) (read_weight (request_of a)) (on a.reader)))
@@ -91,7 +91,7 @@ falls-so x y n p q = rw (p, q) (omega arith)
 
 -- A reader begins.
 pub reader-lowers : (w : World) (queues : Queues) (blocks : List ℕ) (asks : List ReadAsk) (ask : ReadAsk) (answered : Bool) → Has asks ask → is_unbegun (w.readers ask.reader) ≡ true
-    → traffic (happens w (asking_node ask answered)) < traffic w + read_weight (request_of ask) → play_weight (happens w (asking_node ask answered)) queues blocks asks < play_weight w queues blocks asks
+    → traffic (happens w (asking_node ask answered)) < traffic w + read_weight (request_of ask) → reads_weight (happens w (asking_node ask answered)) queues blocks asks < reads_weight w queues blocks asks
 reader-lowers w queues blocks asks ask answered has new less =
     let v : World = happens w (asking_node ask answered) in
     let n : ℕ = read_weight (request_of ask) in

@@ -11,8 +11,8 @@ pub fn writers_act_or_ask()
 {}
 
 /// What is due makes less to be done, whether dials in it are answered or not: what is to be delivered, what the
-/// writers have to do, the commands that are queued for them and the reads that haven't begun are together less than
-/// before.
+/// writers and primaries have to do, the commands that are queued for them and the reads and recoveries that haven't
+/// begun are together less than before.
 pub fn dues_lower()
     ensures { DuesLower }
 {}

@@ -33,7 +33,11 @@ use Rattle.play.specs.Standing.{world_of, PlayStands}
 use Rattle.play.specs.declared.player.Player.{Player}
 use Rattle.play_model.specs.declared.asks.ReadAsk.{ReadAsk}
 use Rattle.play_readers.specs.declared.clients.ReadClient.{ReadClient}
-use Rattle.play_reads.specs.Joining.{AreNone}
+use Rattle.play_model.specs.declared.recoveries.Recovery.{Recovery}
+use Rattle.play_primaries.specs.declared.clients.PrimaryClient.{PrimaryClient}
+use Rattle.play_reads.specs.Joining as reads
+use Rattle.play_recoveries.specs.Joining as recoveries
+use Rattle.play_recoveries.specs.Places.{recoveries_of}
 use Rattle.play_readers.specs.Asks.{asks_of}
 use Rattle.play_lines.specs.declared.playing.Playing.{Playing}
 use Rattle.play_lines.specs.Drawing.{HasSettled}
@@ -120,10 +124,13 @@ close_fits = record { formed = refl; names = tt; admits = refl }
 nothing_asked : (ask : ReadAsk) → None ≡ Some ask → ⊥
 nothing_asked ask e = cc
 
+nothing_recovered : (rec : Recovery) → None ≡ Some rec → ⊥
+nothing_recovered rec e = cc
+
 module _ {F R I O : Type 0} (f : files.Ghosts F) (r : roads.Ghosts R I O) (i : link_in.Ghosts I) (o : link_out.Ghosts O) where
-  pub starts : (blocks : List BlockId) (player : Player F I O) (road : R) (g : Lcg) (live : LiveConns) → blocks ≡ BLOCK ∷ [] → AreNewClients blocks player.clients.items → AreNone player.reads → player.events.items ≡ [] → PlayStands r i o NODES no_commands road player → g ≡ (opened NODES SEED).generator
+  pub starts : (blocks : List BlockId) (player : Player F I O) (road : R) (g : Lcg) (live : LiveConns) → blocks ≡ BLOCK ∷ [] → AreNewClients blocks player.clients.items → reads.AreNone player.reads → recoveries.AreNone player.recoveries → player.events.items ≡ [] → PlayStands r i o NODES no_commands road player → g ≡ (opened NODES SEED).generator
       → CoversNone live → HasGiven f r i o nothing_given road (record { nodes = NODES; player = player; generator = g; live = live })
-  starts blocks player road g live one clients unread none stands drawn covers = record {
+  starts blocks player road g live one clients unread unled none stands drawn covers = record {
     p = opened NODES SEED;
     is = record {
       stands = stands;
@@ -132,6 +139,8 @@ module _ {F R I O : Type 0} (f : files.Ghosts F) (r : roads.Ghosts R I O) (i : l
       generator = drawn;
       asks = ap (λ (cs : List (ReadClient I O)). asks_of cs) unread.clients;
       told = λ k ask at. absurd (nothing_asked ask at);
+      recovers = ap (λ (cs : List (PrimaryClient I O)). recoveries_of cs) unled.clients;
+      formed = λ k rec at. absurd (nothing_recovered rec at);
       rules = λ k c at. (clients.each k c at).is_new.rule;
       live = covers (world_of NODES player);
     };

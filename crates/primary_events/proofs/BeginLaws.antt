@@ -96,7 +96,7 @@ pub nobody_at : (n : ℕ) (ports : List (Option ℕ)) (j : ℕ) → slice_get (n
 nobody_at n ports j h = nobody_by (n + somes j ports) (slice_get ports j) (sym (numbered_at n ports j) ∙ h)
 
 module _ {R I O : Type 0} (r : roads.Ghosts R I O) (i : link_in.Ghosts I) (o : link_out.Ghosts O) (u : World) (net : Net) (is_net : IsNetOf u net) (net_sane : (c : ℕ) (d : Bool) → net.conns ≤ c → net.traffic c d ≡ no_traffic)
-    (block : BlockId) (begun : Begun) (members : List NodeId) (links : List (Seat I O)) (passed : R) (total : ℕ) (size : length members ≡ total) (g : Dialling r i o net members total total (record { links = links; road = passed })) where
+    (block : BlockId) (begun : Begun) (members : List NodeId) (links : List (Seat I O)) (passed : R) (total : ℕ) (size : length members ≡ total) {base : ℕ} (g : Dialling r i o net members total base total (record { links = links; road = passed })) where
   abbrev ports : List (Option ℕ)
   ports = g.ports
 

@@ -47,7 +47,7 @@ module _ {D R I O : Type 0} (d : desks.Ghosts D) (r : roads.Ghosts R I O) (i : l
     (first : Result PrimaryStep PrimaryFault) (result : Result (PrimaryBegun I O) PrimaryFault) (by : BeginsBy d r i o old middle office office' road passed first) (goes : GoesOutBehind r i o first middle new passed road' result)
     (w : World) (net : Net) (number : ℕ) (node : NodeId) (shows : ShowsWorld r w net road) (can : CanBegin w number node old.members) (at : d.office office ≡ Some w.office) where
   abbrev pub Ends : Type 0
-  Ends = BeginEnds d r i o w net number (begun_world w number node old.block old.members) new office' road road' result
+  Ends = BeginEnds d r i o w net number node old.members (begun_world w number node old.block old.members) new office' road road' result
 
   abbrev lost : Bool
   lost = list_any (λ x. is_lost (Some x)) middle.links.items
@@ -56,7 +56,7 @@ module _ {D R I O : Type 0} (d : desks.Ghosts D) (r : roads.Ghosts R I O) (i : l
   pub wants : first ≡ Err fault.Memory → Ends
   wants is =
       let f : BeginsNoFurther middle new passed road' (Err fault.Memory) result = subst (λ z. GoesOutBehind r i o z middle new passed road' result) is goes in
-      subst (λ z. BeginEnds d r i o w net number (begun_world w number node old.block old.members) new office' road road' z) (sym f.is) tt
+      subst (λ z. BeginEnds d r i o w net number node old.members (begun_world w number node old.block old.members) new office' road road' z) (sym f.is) tt
 
   starved_as : (q : PrimaryStep) → q ≡ step.Ended recovered.Memory → (b : Bool) → led_as q b ≡ Err fault.Memory
   starved_as q is true = refl
@@ -70,7 +70,7 @@ module _ {D R I O : Type 0} (d : desks.Ghosts D) (r : roads.Ghosts R I O) (i : l
   ended_so : (e : Recovered) → first ≡ Ok (step.Ended e) → passed ≡ road → ((answers : List Bool) → EndsBegun d r i o w net (begun_world w number node old.block old.members answers) number e office' road) → Ends
   ended_so e is same h =
       let f : BeginsNoFurther middle new passed road' (Ok (begun.Ended e)) result = subst (λ z. GoesOutBehind r i o z middle new passed road' result) is goes in
-      subst (λ z. BeginEnds d r i o w net number (begun_world w number node old.block old.members) new office' road road' z) (sym f.is)
+      subst (λ z. BeginEnds d r i o w net number node old.members (begun_world w number node old.block old.members) new office' road road' z) (sym f.is)
       (λ answers. subst (λ (x : R). EndsBegun d r i o w net (begun_world w number node old.block old.members answers) number e office' x) (sym (f.roads_same ∙ same)) (h answers))
 
   by_end : (e : Recovered) → led_by (step.Ended e) ≡ first → passed ≡ road → ((answers : List Bool) → EndsBegun d r i o w net (begun_world w number node old.block old.members answers) number e office' road) → Ends
@@ -94,7 +94,7 @@ module _ {D R I O : Type 0} (d : desks.Ghosts D) (r : roads.Ghosts R I O) (i : l
       (spelled : (answers : List Bool) → SpellsBegun (begun_world w number node old.block old.members answers) number) where
     module _ (begun : Begun) (core : PrimaryState) (said : by.starts.starts.said ≡ Ok (answer.Begun begun)) (answered : HasAnswered by.starts.starts.said (told d r i o asks begins w net number node old.block old.members can))
         (is : by.starts.begun ≡ Ok core) (x : Reaches r i o old.block begun old.members old.links.items middle.links.items road passed core) where
-      g : Dialling r i o net old.members (length old.members) (length old.members) (record { links = x.held; road = passed })
+      g : Dialling r i o net old.members (length old.members) (r.faults road) (length old.members) (record { links = x.held; road = passed })
       g = dialled r i o net old.members (length old.members) old.links.items x.held road passed count (record { sane = shows.sane; shows = shows.shows }) shows.is_net.waiting x.dials
 
       told_is : told d r i o asks begins w net number node old.block old.members can ≡ Ok (answer.Begun begun)
@@ -114,7 +114,7 @@ module _ {D R I O : Type 0} (d : desks.Ghosts D) (r : roads.Ghosts R I O) (i : l
       by_way : GoesOut r i o middle new passed road' result → Ends
       by_way f =
           went_out d r i o asks begins w net number node old.block old.members can begun told_is shows.is_net shows.sane x.held passed g middle new sent (by.starts.core ∙ (ap core_of is ∙ ap Some core_is))
-          road road' (start_passes d r i o old middle office office' road passed by.did by.starts) block_is members_are (sized ∙ ap (λ (ms : List NodeId). length ms) members_are) office' office_is f.middle f.passed f.flushed f.flushes result f.meets
+          road road' refl (start_passes d r i o old middle office office' road passed by.did by.starts) block_is members_are (sized ∙ ap (λ (ms : List NodeId). length ms) members_are) office' office_is f.middle f.passed f.flushed f.flushes result f.meets
 
       did_move : by.did ≡ step.Moved
       did_move = by.starts.is ∙ ap begun_as is

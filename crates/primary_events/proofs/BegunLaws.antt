@@ -25,6 +25,7 @@ use Rattle.road_traffic.proofs.ShowingLemmas.{end-new}
 use Rattle.world.specs.declared.events.Event.{Event}
 use Rattle.world.specs.Parts.{Place}
 use Rattle.world.specs.Worlds.{World, Change, apply}
+use Rattle.world.specs.Connections.{is_alive}
 use Rattle.world.specs.Events.{outcome, happens}
 use Rattle.world.specs.Primaries.{recovery_message, begins_with, is_among_conns, leading, numbered}
 use Rattle.world_nets.specs.Rows.{Row, rows_of, text_of}
@@ -41,7 +42,7 @@ use Rattle.primary_events.proofs.BeginLaws.{OpenAt, open_at, seats, AllFlushed, 
 use Rattle.primary_events.proofs.DialLaws.{Dialling}
 use Rattle.primary_events.proofs.FlushLaws.{KeptAt, Flushing}
 use Rattle.primary_events.proofs.GivingUpLaws.{true_false, at_among, among_at}
-use Rattle.primary_events.proofs.HearLaws.{primary_put}
+use Rattle.primary_events.proofs.HearLaws.{alive_after, primary_put}
 use Rattle.primary_events.proofs.NumberLemmas.{somes, rest_end, number_there, none_there, trues, trues_are, number_within, row_new, row_old, dials_are}
 use Rattle.primary_events.proofs.PlaceLemmas.{within, some_same}
 use Rattle.primary_events.proofs.RisenLaws.{mapped_at}
@@ -68,7 +69,7 @@ ports_same (m ∷ members) (x ∷ links) (y ∷ ports) a b same =
     ∙ ap (λ (l : List (Option ℕ)). y ∷ l) (ports_same members links ports (omega (arith, a)) (omega (arith, b)) (λ j n z p at_n at_z at_p. same (suc j) n z p at_n at_z at_p))
 
 module _ {D R I O : Type 0} (d : desks.Ghosts D) (r : roads.Ghosts R I O) (i : link_in.Ghosts I) (o : link_out.Ghosts O) (u : World) (net : Net) (is_net : IsNetOf u net) (net_sane : (c : ℕ) (b : Bool) → net.conns ≤ c → net.traffic c b ≡ no_traffic)
-    (block : BlockId) (begun : Begun) (members : List NodeId) (links : List (Seat I O)) (passed : R) (total : ℕ) (size : length members ≡ total) (g : Dialling r i o net members total total (record { links = links; road = passed }))
+    (block : BlockId) (begun : Begun) (members : List NodeId) (links : List (Seat I O)) (passed : R) (total : ℕ) (size : length members ≡ total) {base : ℕ} (g : Dialling r i o net members total base total (record { links = links; road = passed }))
     (held : List (Seat I O)) (sent : AllSent o (text_of (recovery_message (begun_with block begun members (map is_some g.ports)))) members members links held)
     (links' : List (Seat I O)) (later : R) (count' : length links' ≡ total) (done : AllFlushed r i o u net is_net net_sane block begun members links passed total size g held sent links' later) where
   abbrev answers : List Bool
@@ -267,12 +268,26 @@ module _ {D R I O : Type 0} (d : desks.Ghosts D) (r : roads.Ghosts R I O) (i : l
     pub lowers_say : map is_some lowers ≡ map is_some g.ports
     lowers_say = tests_same is_some is_some lowers g.ports acc.size (λ j x y at_x at_y. lower_said j x y (subst (λ z. LowerAt r i o f.made u.next_conn g.ports j z x) at_y (acc.ends j x at_x)))
 
+    lower_lacks : (j : ℕ) (y : Option ℕ) → LowerAt r i o f.made u.next_conn g.ports j (Some y) None → y ≡ None
+    lower_lacks j None a = refl
+    lower_lacks j (Some port) a = absurd a
+
+    -- Where there is no lower end the dial wasn't answered.
+    pub lower_none : (j : ℕ) → slice_get lowers j ≡ Some None → slice_get g.ports j ≡ Some None
+    lower_none j at =
+        let y = within_some g.ports j (let lt = within lowers j None at in omega (arith, lt, acc.size)) in
+        y.1 ∙ ap Some (lower_lacks j y.0 (subst (λ z. LowerAt r i o f.made u.next_conn g.ports j z None) y.1 (acc.ends j None at)))
+
     -- The primary leads.
-    pub leads_begun : (w : World) (base : Net) (shown : (n : ℕ) (q : Bool) (y : Conn I O) → IsEndOf i o w base n q y → IsEndOf i o u net n q y) (new : running.Primary I O) (office : D) → d.office office ≡ Some u.office → new.core ≡ Some (begun_with block begun members (map is_some g.ports))
-        → new.block ≡ block → new.members ≡ members → new.links.items ≡ links' → LeadsBegun d r i o w base (happens u e) number lowers new office road'
-    leads_begun w base shown new office at core block_is members_are links_are = record {
+    pub leads_begun : (w : World) (before : Net) (shown : (n : ℕ) (q : Bool) (y : Conn I O) → IsEndOf i o w before n q y → IsEndOf i o u net n q y) (new : running.Primary I O) (office : D) → d.office office ≡ Some u.office → new.core ≡ Some (begun_with block begun members (map is_some g.ports))
+        → new.block ≡ block → new.members ≡ members → new.links.items ≡ links' → (node : NodeId) → place.node ≡ node.0 → is_alive u place ≡ true → u.next_conn ≡ w.next_conn → LeadsBegun d r i o w before (happens u e) number node lowers new office road'
+    leads_begun w before shown new office at core block_is members_are links_are node at_node alive next = record {
       made = acc.made;
       leading = leading place (begun_with block begun members answers) conns;
+      at_node = at_node;
+      alive = alive_after u k e place out ∙ alive;
+      informs = refl;
+      conns_are = ap (λ (n : ℕ). numbered n answers) next ∙ ap (numbered w.next_conn) (sym lowers_say);
       stands = record {
         roads_are = record { is_net = (followed u (apply u k) e out).nets acc.made made_net; sane = acc.roads_at.sane; shows = acc.roads_at.shows };
         shows = record {

@@ -4,6 +4,7 @@ use Rattle.std.specs.Prelude.{◌==◌, cond}
 use Rattle.std.proofs.lemmas.List.{length-append, length-set}
 use Rattle.std.specs.declared.alloc.AllocError.{AllocError}
 use Rattle.hd_base.specs.Channels.{Plain}
+use Rattle.hd_base.specs.Faults.{FaultsIncreased}
 use Rattle.hd_base.specs.declared.links.LinkIn as link_in
 use Rattle.hd_base.specs.declared.links.LinkOut as link_out
 use Rattle.hd_base.specs.declared.numbers.NodeId.{NodeId}
@@ -14,6 +15,7 @@ use Rattle.block_recovery.specs.declared.links.Seat.TheVariants as seat
 use Rattle.block_recovery.specs.Actions.{Held, Passes, DialsNode, DialsAt, DialsAll}
 use Rattle.block_recovery.specs.Dialling.{dial_port, IsLink, DialsPort, DialsAs}
 use Rattle.link_messages.specs.Incomings.{nothing_received}
+use Rattle.link_pieces.specs.Roads.{IsUnanswered}
 use Rattle.road_traffic.specs.Traffic.{Traffics}
 use Rattle.road_traffic.specs.Showing.{Net, IsSane, RoadsShow, EndIs, no_inbox, dialled_net}
 use Rattle.road_traffic.specs.Laws.{ShowsDialled}
@@ -32,6 +34,26 @@ at_push (z ∷ xs) y (suc j) x h = by (at_push xs y j x h) where
   by : ((j ≡ length xs) × (x ≡ y)) ⊎ (slice_get xs j ≡ Some x) → ((suc j ≡ suc (length xs)) × (x ≡ y)) ⊎ (slice_get xs j ≡ Some x)
   by (inl e) = inl (ap suc e.0, e.1)
   by (inr e) = inr e
+
+-- COUNTS
+
+no_less : (n : ℕ) → n ≤ n
+no_less n = omega arith
+
+-- A count that has risen has risen from each earlier one, and at each later one.
+pub rises_from : (a b n : ℕ) → a ≤ b → FaultsIncreased b n → FaultsIncreased a n
+rises_from a b n h q = omega arith
+
+pub rises_on : (a n m : ℕ) → FaultsIncreased a n → n ≤ m → FaultsIncreased a m
+rises_on a n m q h = omega arith
+
+-- OPTIONS
+
+some_none : (port : ℕ) → ◌≡◌ {A = Option ℕ} (Some port) None → ⊥
+some_none port h = cc
+
+no_member : (n : NodeId) → ◌≡◌ {A = Option NodeId} None (Some n) → ⊥
+no_member n h = cc
 
 pub sane_dialled : (net : Net) (port : ℕ) → IsSane net → IsSane (dialled_net net port)
 sane_dialled net port s = record { fits = s.fits; fresh = λ c d h. s.fresh c d (omega (arith, h)) }
@@ -53,8 +75,12 @@ module _ {R I O : Type 0} (r : roads.Ghosts R I O) (i : link_in.Ghosts I) (o : l
   SeatDialled ports j None (Some seat.Empty) = Unit {0}
   SeatDialled ports j port place = ⊥
 
-  -- The members so far were dialled: at these ports, those that answered.
-  pub record Dialling (k : ℕ) (held : Held R I O) : Type 0 where
+  -- A dial of the node isn't answered: nobody listens at its port, or the roads' count has risen from this one.
+  abbrev pub IsSilent : ℕ → NodeId → R → Type 0
+  IsSilent base node road = (port : ℕ) → dial_port node ≡ Some port → (net.listens port ≡ false) ⊎ FaultsIncreased base (r.faults road)
+
+  -- The members so far were dialled: at these ports, those that answered. The roads' count was this one before.
+  pub record Dialling (base k : ℕ) (held : Held R I O) : Type 0 where
     pub ports : List (Option ℕ)
     pub size : length ports ≡ k
     pub count : length held.links ≡ total
@@ -66,6 +92,8 @@ module _ {R I O : Type 0} (r : roads.Ghosts R I O) (i : link_in.Ghosts I) (o : l
     pub traffic_are : made.traffic ≡ net.traffic
     pub waiting_are : (at : ℕ) → made.waiting at ≡ queue at net.conns ports
     pub seats : (j : ℕ) (port : Option ℕ) → slice_get ports j ≡ Some port → SeatDialled ports j port (slice_get held.links j)
+    pub never_falls : base ≤ r.faults held.road
+    pub silent : (j : ℕ) (node : NodeId) → slice_get members j ≡ Some node → slice_get ports j ≡ Some None → IsSilent base node held.road
 
   seat_more : (ports : List (Option ℕ)) (x : Option ℕ) (j : ℕ) (port : Option ℕ) (place : Option (Seat I O)) → j ≤ length ports → SeatDialled ports j port place → SeatDialled (ports ++ x ∷ []) j port place
   seat_more ports x j (Some port) (Some (seat.Open l)) h s = record {
@@ -88,7 +116,7 @@ module _ {R I O : Type 0} (r : roads.Ghosts R I O) (i : link_in.Ghosts I) (o : l
 
   -- ONE MEMBER
 
-  module _ (k : ℕ) (a b : Held R I O) (at : DialsAt r i o members (Ok tt) k a b) (g : Dialling k a) where
+  module _ (base k : ℕ) (a b : Held R I O) (at : DialsAt r i o members (Ok tt) k a b) (g : Dialling base k a) where
     last : k ≡ length g.ports
     last = sym g.size
 
@@ -118,9 +146,24 @@ module _ {R I O : Type 0} (r : roads.Ghosts R I O) (i : link_in.Ghosts I) (o : l
             let there : slice_get b.links j ≡ slice_get a.links j = ap (λ (xs : List (Seat I O)). slice_get xs j) at.stands ∙ set_there a.links k at.after j (λ q. omega (arith, lt, q, last)) in
             subst (λ (z : Option (Seat I O)). SeatDialled (g.ports ++ x ∷ []) j port z) (sym there) (seat_more g.ports x j port (slice_get a.links j) (omega (arith, lt)) (g.seats j port e))
 
+    falls_on : r.faults a.road ≤ r.faults b.road → base ≤ r.faults b.road
+    falls_on later = omega (arith, g.never_falls, later)
+
+    all_silent : (x : Option ℕ) → r.faults a.road ≤ r.faults b.road → (x ≡ None → (node : NodeId) → slice_get members k ≡ Some node → IsSilent base node b.road)
+        → (j : ℕ) (node : NodeId) → slice_get members j ≡ Some node → slice_get (g.ports ++ x ∷ []) j ≡ Some None → IsSilent base node b.road
+    all_silent x later here j node member_is none = by (at_push g.ports x j None none)
+      where
+        still : (port : ℕ) → (net.listens port ≡ false) ⊎ FaultsIncreased base (r.faults a.road) → (net.listens port ≡ false) ⊎ FaultsIncreased base (r.faults b.road)
+        still port (inl quiet) = inl quiet
+        still port (inr rose) = inr (rises_on base (r.faults a.road) (r.faults b.road) rose later)
+
+        by : ((j ≡ length g.ports) × (◌≡◌ {A = Option ℕ} None x)) ⊎ (slice_get g.ports j ≡ Some None) → IsSilent base node b.road
+        by (inl e) = here (sym e.1) node (ap (λ (n : ℕ). slice_get members n) (last ∙ sym e.0) ∙ member_is)
+        by (inr e) = λ port is. still port (g.silent j node member_is e port is)
+
     -- it wasn't dialled, or didn't answer
-    rests : RoadsShow r g.made b.road → at.after ≡ seat.Empty → Dialling (suc k) b
-    rests shows empty = record {
+    rests : RoadsShow r g.made b.road → at.after ≡ seat.Empty → r.faults a.road ≤ r.faults b.road → ((node : NodeId) → slice_get members k ≡ Some node → IsSilent base node b.road) → Dialling base (suc k) b
+    rests shows empty later why = record {
       ports = g.ports ++ None ∷ [];
       size = grown None;
       count = counted;
@@ -132,10 +175,12 @@ module _ {R I O : Type 0} (r : roads.Ghosts R I O) (i : link_in.Ghosts I) (o : l
       traffic_are = g.traffic_are;
       waiting_are = λ p. g.waiting_are p ∙ sym (queue_none p net.conns g.ports);
       seats = all_seats None (subst (λ (z : Seat I O). SeatDialled (g.ports ++ None ∷ []) k None (Some z)) (sym empty) tt);
+      never_falls = falls_on later;
+      silent = all_silent None later (λ e. why);
     }
 
     -- it answered
-    answers : (node : NodeId) (port : ℕ) (l : Link I O) → slice_get members k ≡ Some node → dial_port node ≡ Some port → at.after ≡ seat.Open l → IsLink r i o port a.road b.road l → Dialling (suc k) b
+    answers : (node : NodeId) (port : ℕ) (l : Link I O) → slice_get members k ≡ Some node → dial_port node ≡ Some port → at.after ≡ seat.Open l → IsLink r i o port a.road b.road l → Dialling base (suc k) b
     answers node port l member_is port_is is link = record {
       ports = g.ports ++ Some port ∷ [];
       size = grown (Some port);
@@ -157,6 +202,8 @@ module _ {R I O : Type 0} (r : roads.Ghosts R I O) (i : link_in.Ghosts I) (o : l
         listens = sym (ap (λ (f : ℕ → Bool). f port) g.listens_are) ∙ (sym (g.roads_at.shows.holds.listening port) ∙ on);
         port_is = λ n here. ap dial_port (some_same n node (sym here ∙ member_is)) ∙ port_is;
       }));
+      never_falls = falls_on link.dialled.never_falls;
+      silent = all_silent (Some port) link.dialled.never_falls (λ e. absurd (some_none port e));
     }
       where
         shown : ShowsDialled r i o g.made port b.road l.end
@@ -171,38 +218,59 @@ module _ {R I O : Type 0} (r : roads.Ghosts R I O) (i : link_in.Ghosts I) (o : l
             ∙ (ap (λ (n : ℕ). cond (p == port) (queue p net.conns g.ports ++ n ∷ []) (queue p net.conns g.ports)) (g.conns_are ∙ ap (λ (m : ℕ). net.conns + somes m g.ports) last)
             ∙ sym (queue_some p net.conns g.ports port))
 
-    by_port : (node : NodeId) (port : ℕ) → slice_get members k ≡ Some node → dial_port node ≡ Some port → (z : Seat I O) → at.after ≡ z → DialsPort r i o port a.road b.road (Ok z) → Dialling (suc k) b
+    -- nobody listens there, or the count rose
+    unanswered : (node : NodeId) (port : ℕ) → slice_get members k ≡ Some node → dial_port node ≡ Some port → IsUnanswered r port a.road b.road → (n : NodeId) → slice_get members k ≡ Some n → IsSilent base n b.road
+    unanswered node port member_is port_is x n here p is = subst (λ (q : ℕ). (net.listens q ≡ false) ⊎ FaultsIncreased base (r.faults b.road)) same (by x.cause)
+      where
+        same : port ≡ p
+        same = some_same port p (sym port_is ∙ (ap dial_port (some_same node n (sym member_is ∙ here)) ∙ is))
+
+        quiet : IfSome (r.plain a.road) (λ y. y.listening port ≡ false) → net.listens port ≡ false
+        quiet off =
+            sym (ap (λ (f : ℕ → Bool). f port) g.listens_are)
+            ∙ (sym (g.roads_at.shows.holds.listening port) ∙ subst (λ (y : Option Plain). IfSome y (λ z. z.listening port ≡ false)) g.roads_at.shows.is off)
+
+        by : IfSome (r.plain a.road) (λ y. y.listening port ≡ false) ⊎ FaultsIncreased (r.faults a.road) (r.faults b.road) → (net.listens port ≡ false) ⊎ FaultsIncreased base (r.faults b.road)
+        by (inl off) = inl (quiet off)
+        by (inr rose) = inr (rises_from base (r.faults a.road) (r.faults b.road) g.never_falls rose)
+
+    by_port : (node : NodeId) (port : ℕ) → slice_get members k ≡ Some node → dial_port node ≡ Some port → (z : Seat I O) → at.after ≡ z → DialsPort r i o port a.road b.road (Ok z) → Dialling base (suc k) b
     by_port node port member_is port_is (seat.Open l) is h = answers node port l member_is port_is is h
-    by_port node port member_is port_is seat.Empty is h = rests (roads-same r i o g.made a.road b.road g.roads_at.shows h.kept.plain h.kept.carried) is
+    by_port node port member_is port_is seat.Empty is h = rests (roads-same r i o g.made a.road b.road g.roads_at.shows h.kept.plain h.kept.carried) is h.kept.never_falls (unanswered node port member_is port_is h)
     by_port node port member_is port_is seat.Lost is h = absurd h
 
     same_road : b.road ≡ a.road → RoadsShow r g.made b.road
     same_road e = subst (λ (z : R). RoadsShow r g.made z) (sym e) g.roads_at.shows
 
+    same_falls : b.road ≡ a.road → r.faults a.road ≤ r.faults b.road
+    same_falls e = subst (λ (z : R). r.faults a.road ≤ r.faults z) (sym e) (no_less (r.faults a.road))
+
     ok_same : (x y : Seat I O) → ◌≡◌ {A = Result (Seat I O) AllocError} (Ok x) (Ok y) → x ≡ y
     ok_same x y e = cc
 
-    by_node : (node : NodeId) → slice_get members k ≡ Some node → (q : Option ℕ) → dial_port node ≡ q → DialsAs r i o q a.road b.road (Ok at.after) → Dialling (suc k) b
-    by_node node member_is None port_is h = rests (same_road h.0) (ok_same at.after seat.Empty h.1)
+    by_node : (node : NodeId) → slice_get members k ≡ Some node → (q : Option ℕ) → dial_port node ≡ q → DialsAs r i o q a.road b.road (Ok at.after) → Dialling base (suc k) b
+    by_node node member_is None port_is h =
+        rests (same_road h.0) (ok_same at.after seat.Empty h.1) (same_falls h.0)
+        (λ n here port is. absurd (some_none port (sym is ∙ (ap dial_port (some_same n node (sym here ∙ member_is)) ∙ port_is))))
     by_node node member_is (Some port) port_is h = by_port node port member_is port_is at.after refl h
 
-    by_member : (q : Option NodeId) → slice_get members k ≡ q → DialsNode r i o q a.road b.road at.after → Dialling (suc k) b
-    by_member None member_is h = rests (same_road h.0) h.1
+    by_member : (q : Option NodeId) → slice_get members k ≡ q → DialsNode r i o q a.road b.road at.after → Dialling base (suc k) b
+    by_member None member_is h = rests (same_road h.0) h.1 (same_falls h.0) (λ n here port is. absurd (no_member n (sym member_is ∙ here)))
     by_member (Some node) member_is h = by_node node member_is (dial_port node) refl h
 
-    one_dialled : Dialling (suc k) b
+    one_dialled : Dialling base (suc k) b
     one_dialled = by_member (slice_get members k) refl at.is
 
   -- ALL MEMBERS
 
-  all_dialled : (k : ℕ) (a b : Held R I O) → Passes (DialsAt r i o members (Ok tt)) k a b → Dialling 0 a → Dialling k b
-  all_dialled zero a b e g = subst (λ (h : Held R I O). Dialling 0 h) (sym e) g
-  all_dialled (suc k) a b q g = one_dialled k q.0 b q.1.1 (all_dialled k a q.0 q.1.0 g)
+  all_dialled : (base k : ℕ) (a b : Held R I O) → Passes (DialsAt r i o members (Ok tt)) k a b → Dialling base 0 a → Dialling base k b
+  all_dialled base zero a b e g = subst (λ (h : Held R I O). Dialling base 0 h) (sym e) g
+  all_dialled base (suc k) a b q g = one_dialled base k q.0 b q.1.1 (all_dialled base k a q.0 q.1.0 g)
 
   -- Each member was dialled.
-  pub dialled : (links links' : List (Seat I O)) (road road' : R) → length links ≡ total → RoadsAt r net road → ((at : ℕ) → net.waiting at ≡ []) → DialsAll r i o members links links' road road' (Ok tt) → Dialling total (record { links = links'; road = road' })
+  pub dialled : (links links' : List (Seat I O)) (road road' : R) → length links ≡ total → RoadsAt r net road → ((at : ℕ) → net.waiting at ≡ []) → DialsAll r i o members links links' road road' (Ok tt) → Dialling (r.faults road) total (record { links = links'; road = road' })
   dialled links links' road road' count shows none x =
-      let g : Dialling x.count x.middle = all_dialled x.count (record { links = links; road = road }) x.middle x.passes (record {
+      let g : Dialling (r.faults road) x.count x.middle = all_dialled (r.faults road) x.count (record { links = links; road = road }) x.middle x.passes (record {
         ports = [];
         size = refl;
         count = count;
@@ -214,9 +282,11 @@ module _ {R I O : Type 0} (r : roads.Ghosts R I O) (i : link_in.Ghosts I) (o : l
         traffic_are = refl;
         waiting_are = none;
         seats = λ j port h. absurd (no_place port h);
+        never_falls = no_less (r.faults road);
+        silent = λ j node member_is h. absurd (no_place None h);
       }) in
       let all : x.count ≡ total = omega (arith, x.ends.1, g.few, count) in
-      subst (λ (n : ℕ). Dialling n (record { links = links'; road = road' })) all (subst (λ (h : Held R I O). Dialling x.count h) (sym x.ends.0) g)
+      subst (λ (n : ℕ). Dialling (r.faults road) n (record { links = links'; road = road' })) all (subst (λ (h : Held R I O). Dialling (r.faults road) x.count h) (sym x.ends.0) g)
     where
       no_place : (port : Option ℕ) → ◌≡◌ {A = Option (Option ℕ)} None (Some port) → ⊥
       no_place port h = cc

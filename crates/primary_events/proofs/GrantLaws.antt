@@ -1,6 +1,6 @@
 -- The office has granted that a primary begins: the INIT was sent, the ends are exchanged, and the lower ones taken.
 use Rattle.std.proofs.Common.{◌≡◌, ℕ, ◌≤◌, Bool, true, false, List, [], ◌∷◌, ◌++◌, length, slice_get, Option, Some, None, Result, Ok, Err, ◌⊎◌, inl, inr, refl, sym, ap, ◌∙◌, subst, arith}
-use Rattle.std.specs.Prelude.{is_some, map}
+use Rattle.std.specs.Prelude.{◌+◌, ◌==◌, ◌&&◌, if◌then◌else◌, is_some, map, nat_le}
 use Rattle.std.proofs.lemmas.List.{length-map}
 use Rattle.hd_base.specs.Faults.{FaultsIncreased}
 use Rattle.hd_base.specs.declared.ends.Conn.{Conn}
@@ -9,6 +9,7 @@ use Rattle.hd_base.specs.declared.links.LinkOut as link_out
 use Rattle.hd_base.specs.declared.numbers.BlockId.{BlockId}
 use Rattle.hd_base.specs.declared.numbers.NodeId.{NodeId}
 use Rattle.hd_base.specs.declared.roads.Roads as roads
+use Rattle.hd_base.specs.declared.roads.TheConstants.{FIRST_PORT}
 use Rattle.block_recovery.specs.declared.links.Seat.{Seat}
 use Rattle.block_recovery.specs.declared.links.Seat.TheVariants as seat
 use Rattle.block_recovery.specs.declared.primary.Primary as running
@@ -26,15 +27,15 @@ use Rattle.op_headers.specs.Requests.{IsEncodable}
 use Rattle.recovery_core.specs.Primaries.{PrimaryState, begun_with, request_of}
 use Rattle.road_traffic.specs.Traffic.{no_traffic}
 use Rattle.road_traffic.specs.Showing.{Net, IsSane}
+use Rattle.road_traffic.proofs.TrafficLemmas.{same-itself}
 use Rattle.world.specs.declared.events.Caller.TheVariants as caller
-use Rattle.world.specs.declared.events.Event.{Event}
 use Rattle.world.specs.declared.events.Event.TheVariants as event
 use Rattle.world.specs.declared.events.OwnStep.TheVariants as own_event
 use Rattle.world.specs.Parts.{Message, Place, Told, leads}
 use Rattle.world.specs.Worlds.{World, Change, apply}
-use Rattle.world.specs.Connections.{place_of}
+use Rattle.world.specs.Connections.{is_alive, place_of}
 use Rattle.world.specs.Events.{outcome, happens}
-use Rattle.world.specs.Primaries.{begins_as, begins_with, leading, numbered, recovery_message}
+use Rattle.world.specs.Primaries.{begins_as, begins_with, dials_answered, leading, numbered, recovery_message}
 use Rattle.world_nets.specs.Nets.{IsNetOf, IsEndOf}
 use Rattle.world_nets.specs.Rows.{Row, text_of}
 use Rattle.world_nets.proofs.EndLemmas.{same-end}
@@ -47,19 +48,22 @@ use Rattle.primary_events.specs.declared.beginning.PrimaryBegun.{PrimaryBegun}
 use Rattle.primary_events.specs.declared.beginning.PrimaryBegun.TheVariants as beginning
 use Rattle.primary_events.specs.declared.faults.PrimaryFault.{PrimaryFault}
 use Rattle.primary_events.specs.declared.faults.PrimaryFault.TheVariants as fault
-use Rattle.primary_events.specs.Beginning.{Lowers, TakesLower, AcceptFails, AcceptsFew, Meets, MeetsBehind, CanBegin, begun_world, SpellsBegun, LeadsBegun, NewHasRisen, BeginEnds}
+use Rattle.primary_events.specs.Beginning.{Lowers, TakesLower, AcceptFails, AcceptsFew, Meets, MeetsBehind, CanBegin, begun_world, SpellsBegun, LeadsBegun, IsUnreached, HasBegun, NewHasRisen, BeginEnds}
 use Rattle.primary_events.specs.Updating.{HasRisen, ExchangesWhole, Flushes}
 use Rattle.primary_events.proofs.AcceptLaws.{Accepting, all_accepted, accept_rose}
 use Rattle.primary_events.proofs.BeginLaws.{opens_are, answers_are, conn_at, retired_risen, AllFlushed, all_flushed}
 use Rattle.primary_events.proofs.BeginPassLaws.{lowers_pass}
-use Rattle.primary_events.proofs.BegunLaws.{ports_are, lowers_say, leads_begun}
-use Rattle.primary_events.proofs.DialLaws.{Dialling}
+use Rattle.primary_events.proofs.BegunLaws.{ports_are, lowers_say, lower_none, leads_begun}
+use Rattle.primary_events.proofs.DialLaws.{IsSilent, Dialling, rises_on}
 use Rattle.primary_events.proofs.HearLaws.{primary_put}
-use Rattle.primary_events.proofs.NumberLemmas.{row_new, queue}
+use Rattle.primary_events.proofs.NumberLemmas.{answered_alike, row_new, queue}
 use Rattle.primary_events.proofs.PassLaws.{exchanges_pass}
 use Rattle.primary_events.proofs.RefusalLaws.{told, shown, begins_so}
 use Rattle.primary_events.proofs.SendLaws.{AllSent, all_sent}
 use Rattle.primary_events.proofs.UpdateLemmas.{init_encodable}
+
+both_so : (a b : Bool) → a ≡ true → b ≡ true → (a && b) ≡ true
+both_so a b h k = rw (h, k) refl
 
 rises_from : (a b c n : ℕ) → a ≤ b → b ≤ c → FaultsIncreased c n → FaultsIncreased a n
 rises_from a b c n h k q = omega arith
@@ -67,7 +71,7 @@ rises_from a b c n h k q = omega arith
 module _ {D R I O : Type 0} (d : desks.Ghosts D) (r : roads.Ghosts R I O) (i : link_in.Ghosts I) (o : link_out.Ghosts O) (asks : PrimariesAsk) (begins : PrimariesBegin)
     (w : World) (net : Net) (number : ℕ) (node : NodeId) (block : BlockId) (members : List NodeId) (can : CanBegin w number node members)
     (begun : Begun) (told_is : told d r i o asks begins w net number node block members can ≡ Ok (answer.Begun begun)) (is_net : IsNetOf w net) (sane : IsSane net)
-    (seats : List (Seat I O)) (passed : R) (g : Dialling r i o net members (length members) (length members) (record { links = seats; road = passed })) where
+    (seats : List (Seat I O)) (passed : R) {base : ℕ} (g : Dialling r i o net members (length members) base (length members) (record { links = seats; road = passed })) where
   abbrev P : Type 0
   P = running.Primary I O
 
@@ -93,9 +97,6 @@ module _ {D R I O : Type 0} (d : desks.Ghosts D) (r : roads.Ghosts R I O) (i : l
   abbrev k : Change
   k = begins_with u number place block begun members answers
 
-  abbrev e : Event
-  e = event.Own (own_event.Recover number node block members answers)
-
   u_net : IsNetOf u net
   u_net = (shown d r i o asks begins w net number node block members can).nets net is_net
 
@@ -104,10 +105,20 @@ module _ {D R I O : Type 0} (d : desks.Ghosts D) (r : roads.Ghosts R I O) (i : l
 
   -- THE WORLD
 
-  out : outcome u e ≡ Some (apply u k)
-  out = begins_so d r i o asks begins w net number node block members can answers k
-      (ap (λ (t : Told). begins_as t u number place block members answers) told_is
-      ∙ ap (λ (bs : List Bool). Some (begins_with u number place block begun members bs)) (answers_are r i o u net u_net fresh block begun members seats passed (length members) refl g))
+  -- where the same dials are answered
+  out : (bs : List Bool) → dials_answered u members bs ≡ map is_some g.ports → outcome u (event.Own (own_event.Recover number node block members bs)) ≡ Some (apply u k)
+  out bs are = begins_so d r i o asks begins w net number node block members can bs k
+      (ap (λ (t : Told). begins_as t u number place block members bs) told_is
+      ∙ ap (λ (xs : List Bool). Some (begins_with u number place block begun members xs)) are)
+
+  same_dials : dials_answered u members (map is_some g.ports) ≡ map is_some g.ports
+  same_dials = answers_are r i o u net u_net fresh block begun members seats passed (length members) refl g
+
+  runs : (n : ℕ) → u.running n ≡ w.running n
+  runs n = sym (u_net.listens n) ∙ is_net.listens n
+
+  place_alive : is_alive u place ≡ true
+  place_alive = both_so (u.running node.0) (u.lives node.0 == u.lives node.0) (runs node.0 ∙ can.runs) (same-itself (u.lives node.0))
 
   -- The dials that were answered are those whose connections there are.
   pub begun_so : (core : PrimaryState) → core ≡ begun_with block begun members (map is_open seats) → core ≡ begun_with block begun members (map is_some g.ports)
@@ -120,14 +131,17 @@ module _ {D R I O : Type 0} (d : desks.Ghosts D) (r : roads.Ghosts R I O) (i : l
     abbrev v : World
     v = begun_world w number node block members answers
 
+    now : v ≡ record (apply u k) { last = Some (event.Own (own_event.Recover number node block members answers)) }
+    now = happened u (apply u k) (event.Own (own_event.Recover number node block members answers)) (out answers same_dials)
+
     leads_so : v.primaries number ≡ leads (leading place p conns)
-    leads_so = ap (λ (x : World). x.primaries number) (happened u (apply u k) e out) ∙ primary_put u k
+    leads_so = ap (λ (x : World). x.primaries number) now ∙ primary_put u k
 
     -- A connection was sent the INIT, which is spelled.
     spelled_init : (j c : ℕ) → slice_get conns j ≡ Some (Some c) → IsEncodable (op.Recovery (request_of p kind.Init 0))
     spelled_init j c at =
         let sent : v.downs c ≡ u.downs c ++ first ∷ [] =
-        ap (λ (x : World). x.downs c) (happened u (apply u k) e out)
+        ap (λ (x : World). x.downs c) now
         ∙ ap (λ (row : Row). row.sent) (row_new u number place block begun members answers same_size j c true at) in
         init_encodable p (spelled (leading place p conns) leads_so j c at (length (u.downs c)) first (ap (λ (ms : List Message). slice_get ms (length (u.downs c))) sent ∙ last_of (u.downs c) first))
 
@@ -155,9 +169,9 @@ module _ {D R I O : Type 0} (d : desks.Ghosts D) (r : roads.Ghosts R I O) (i : l
   -- HOW IT ENDS
 
   module _ (middle new : P) (sent : AllSent o (text_of (recovery_message (begun_with block begun members (map is_some g.ports)))) members members seats middle.links.items) (core : middle.core ≡ Some (begun_with block begun members (map is_some g.ports)))
-      (road road' : R) (pass : RoadsPass r road passed) (block_is : new.block ≡ block) (members_are : new.members ≡ members) (count : length new.links.items ≡ length members) (office : D) (at : d.office office ≡ Some (happens w (event.Office (caller.Primary number block))).office) where
+      (road road' : R) (from : base ≡ r.faults road) (pass : RoadsPass r road passed) (block_is : new.block ≡ block) (members_are : new.members ≡ members) (count : length new.links.items ≡ length members) (office : D) (at : d.office office ≡ Some (happens w (event.Office (caller.Primary number block))).office) where
     abbrev Ends : Result (PrimaryBegun I O) PrimaryFault → Type 0
-    Ends result = BeginEnds d r i o w net number (begun_world w number node block members) new office road road' result
+    Ends result = BeginEnds d r i o w net number node members (begun_world w number node block members) new office road road' result
 
     module _ (later : R) (x : ExchangesWhole r i o [] middle new passed later) where
       done : AllFlushed r i o u net u_net fresh block begun members seats passed (length members) refl g middle.links.items sent new.links.items later
@@ -188,21 +202,51 @@ module _ {D R I O : Type 0} (d : desks.Ghosts D) (r : roads.Ghosts R I O) (i : l
       core_is : new.core ≡ Some (begun_with block begun members (map is_some g.ports))
       core_is = x.core ∙ core
 
-      all_taken : (lowers : List (Option (Conn I O))) → Accepting r i o done.state.made u.next_conn g.ports (length g.ports) (record { lowers = lowers; road = road' }) → LeadsBegun d r i o w net (begun_world w number node block members (map is_some lowers)) number lowers new office road'
-      all_taken lowers acc =
-          subst (λ (bs : List Bool). LeadsBegun d r i o w net (begun_world w number node block members bs) number lowers new office road')
-          (sym (lowers_say d r i o u net u_net fresh block begun members seats passed (length members) refl g middle.links.items sent new.links.items later count done number place e out lowers road' acc))
-          (leads_begun d r i o u net u_net fresh block begun members seats passed (length members) refl g middle.links.items sent new.links.items later count done number place e out lowers road' acc w net shown_on new office at core_is block_is members_are refl)
+      all_taken : (lowers : List (Option (Conn I O))) → Accepting r i o done.state.made u.next_conn g.ports (length g.ports) (record { lowers = lowers; road = road' }) → r.faults passed ≤ r.faults road'
+          → HasBegun d r i o w net number node members (begun_world w number node block members) lowers new office road road'
+      all_taken lowers acc falls = record {
+        answered = subst (λ (bs : List Bool). dials_answered w members bs ≡ bs) (sym says) (answers_are r i o w net is_net fresh block begun members seats passed (length members) refl g);
+        unanswered = λ j member member_is none. unreached member (g.silent j member member_is (bare j none));
+        leads_so = λ bs are. leads bs (answered_alike w u runs members bs ∙ (are ∙ says));
+      }
         where
+          says : map is_some lowers ≡ map is_some g.ports
+          says = lowers_say d r i o u net u_net fresh block begun members seats passed (length members) refl g middle.links.items sent new.links.items later count done number place (event.Own (own_event.Recover number node block members answers)) (out answers same_dials) lowers road' acc
+
+          bare : (j : ℕ) → slice_get lowers j ≡ Some None → slice_get g.ports j ≡ Some None
+          bare = lower_none d r i o u net u_net fresh block begun members seats passed (length members) refl g middle.links.items sent new.links.items later count done number place (event.Own (own_event.Recover number node block members answers)) (out answers same_dials) lowers road' acc
+
+          has_risen : (n : ℕ) → FaultsIncreased base n → n ≤ r.faults road' → FaultsIncreased (r.faults road) (r.faults road')
+          has_risen n rose less = subst (λ (m : ℕ). FaultsIncreased m (r.faults road')) from (rises_on base n (r.faults road') rose less)
+
+          unreached : (member : NodeId) → IsSilent r i o net members (length members) base member passed → IsUnreached r w member road road'
+          unreached member silent = by (nat_le (FIRST_PORT + member.0) 65535) refl
+            where
+              by_cause : (net.listens (FIRST_PORT + member.0) ≡ false) ⊎ FaultsIncreased base (r.faults passed) → IsUnreached r w member road road'
+              by_cause (inl quiet) = inr (inl (sym (is_net.listens member.0) ∙ quiet))
+              by_cause (inr rose) = inr (inr (has_risen (r.faults passed) rose falls))
+
+              by : (b : Bool) → nat_le (FIRST_PORT + member.0) 65535 ≡ b → IsUnreached r w member road road'
+              by true is = by_cause (silent (FIRST_PORT + member.0) (ap (λ (b : Bool). if b then Some (FIRST_PORT + member.0) else None) is))
+              by false is = inl (ap (λ (b : Bool). if b then Some (FIRST_PORT + member.0) else None) is)
+
           shown_on : (n : ℕ) (b : Bool) (y : Conn I O) → IsEndOf i o w net n b y → IsEndOf i o u net n b y
           shown_on n b y is = same-end r i o w u net n b y ((shown d r i o asks begins w net number node block members can).over n b) is
 
-      -- the roads' count never falls before a dial isn't accepted
+          leads : (bs : List Bool) → dials_answered u members bs ≡ map is_some g.ports → LeadsBegun d r i o w net (begun_world w number node block members bs) number node lowers new office road'
+          leads bs are =
+              leads_begun d r i o u net u_net fresh block begun members seats passed (length members) refl g middle.links.items sent new.links.items later count done number place (event.Own (own_event.Recover number node block members bs)) (out bs are) lowers road' acc w net shown_on new office at
+              core_is block_is members_are refl node refl place_alive (sym u_net.conns ∙ is_net.conns)
+
+      -- the roads' count never falls while dials are accepted
+      falls_to : (ports : List (Option ℕ)) (n : ℕ) (held : Lowers R I O) → Passes (TakesLower r i o ports) n (record { lowers = []; road = later }) held → r.faults passed ≤ r.faults held.road
+      falls_to ports n held q = (pass_on r i o passed later held.road (exchanges_pass r i o middle.links.items new.links.items passed later (Ok tt) x.exchanges) (lowers_pass r i o ports n (record { lowers = []; road = later }) held q)).never_falls
+
       few_taken : (ports : List (Option ℕ)) → ports ≡ g.ports → (why : PrimaryFault) → AcceptsFew r i o ports later road' why → Ends (Err why)
       few_taken ports is why f = by (accept_rose r i o done.state.made u.next_conn g.ports f.count f.middle road' why (taken_so ports is f.count f.middle f.passes) (slice_get g.ports f.count) refl (subst (λ (ps : List (Option ℕ)). AcceptFails r (slice_get ps f.count) f.middle.road road' why) is f.fails))
         where
           falls : r.faults passed ≤ r.faults f.middle.road
-          falls = (pass_on r i o passed later f.middle.road (exchanges_pass r i o middle.links.items new.links.items passed later (Ok tt) x.exchanges) (lowers_pass r i o ports f.count (record { lowers = []; road = later }) f.middle f.passes)).never_falls
+          falls = falls_to ports f.count f.middle f.passes
 
           by : (why ≡ fault.Memory) ⊎ ((why ≡ fault.RoadsFailed) × FaultsIncreased (r.faults f.middle.road) (r.faults road')) → Ends (Err why)
           by (inl m) = subst (λ (z : PrimaryFault). Ends (Err z)) (sym m) tt
@@ -212,6 +256,7 @@ module _ {D R I O : Type 0} (d : desks.Ghosts D) (r : roads.Ghosts R I O) (i : l
       met_so (Ok (beginning.Leads lowers)) m =
           all_taken lowers.items (subst (λ (n : ℕ). Accepting r i o done.state.made u.next_conn g.ports n (record { lowers = lowers.items; road = road' })) (ap (λ (ps : List (Option ℕ)). length ps) at_ports)
           (taken_so (ports_of new.members new.links.items) at_ports (length (ports_of new.members new.links.items)) (record { lowers = lowers.items; road = road' }) m))
+          (falls_to (ports_of new.members new.links.items) (length (ports_of new.members new.links.items)) (record { lowers = lowers.items; road = road' }) m)
       met_so (Ok (beginning.Ended end)) m = absurd m
       met_so (Err why) (inl is) = subst (λ (z : PrimaryFault). Ends (Err z)) (sym is) tt
       met_so (Err why) (inr f) = few_taken (ports_of new.members new.links.items) at_ports why f

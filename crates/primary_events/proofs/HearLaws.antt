@@ -34,10 +34,11 @@ use Rattle.road_traffic.specs.Showing.{Net, EndIs, lost_net}
 use Rattle.road_traffic.specs.Laws.{Took}
 use Rattle.road_traffic.proofs.CallLemmas.{shut-shows}
 use Rattle.road_traffic.proofs.TrafficLemmas.{same-itself}
+use Rattle.world.specs.declared.events.Event.{Event}
 use Rattle.world.specs.declared.events.Event.TheVariants as event
-use Rattle.world.specs.Parts.{Message, request, packet, ack, response, read_status, recovery_answer, Leading, leads}
+use Rattle.world.specs.Parts.{Message, request, packet, ack, response, read_status, recovery_answer, Place, Leading, leads}
 use Rattle.world.specs.Worlds.{World, Change, apply}
-use Rattle.world.specs.Connections.{Next, message, the_end, up_taken, is_conn}
+use Rattle.world.specs.Connections.{Next, message, the_end, up_taken, is_alive, is_conn}
 use Rattle.world.specs.Events.{outcome, happens}
 use Rattle.world.specs.Primaries.{heard_of, listens}
 use Rattle.world_nets.specs.Nets.{IsNetOf, IsEndOf, held_by, inbox_for, is_over}
@@ -67,6 +68,18 @@ use Rattle.primary_events.proofs.PlaceLemmas.{set_here, set_there, within, past_
 pub primary_put : (w : World) (k : Change) → (apply w k).primaries k.primary_at ≡ k.primary
 unfolding apply
 primary_put w k = at_put w.primaries k.primary_at k.primary
+
+alive_on : (w : World) (k : Change) (at : Place) → is_alive (apply w k) at ≡ is_alive w at
+unfolding apply
+alive_on w k at = refl
+
+-- A node that lives lives on in a change.
+pub alive_after : (w : World) (k : Change) (e : Event) (at : Place) → outcome w e ≡ Some (apply w k) → is_alive (happens w e) at ≡ is_alive w at
+alive_after w k e at out = ap (λ (u : World). is_alive u at) (happened w (apply w k) e out) ∙ alive_on w k at
+
+alive_taken : (w : World) (c : ℕ) (x : Next) (at : Place) → is_alive (up_taken w c x) at ≡ is_alive w at
+unfolding up_taken
+alive_taken w c x at = refl
 
 true_false : true ≡ false → ⊥
 true_false h = cc
@@ -162,7 +175,7 @@ module _ {R I O : Type 0} (r : roads.Ghosts R I O) (i : link_in.Ghosts I) (o : l
     lost = is_lost (slice_get new.links.items place)
 
     abbrev EndsSo : Result (Unit {0}) PrimaryFault → Type 0
-    EndsSo z = HearEnds r i o w net v number c new road road' z
+    EndsSo z = HearEnds r i o w net v number c place l x new road road' z
 
     abbrev Ends : Type 0
     Ends = EndsSo (hearing.heard_as heard lost)
@@ -183,6 +196,9 @@ module _ {R I O : Type 0} (r : roads.Ghosts R I O) (i : link_in.Ghosts I) (o : l
 
     leads_after : v.primaries number ≡ leads l'
     leads_after = ap (λ (u : World). u.primaries number) (happened w (apply w1 k) (event.Up conn) out) ∙ primary_put w1 k
+
+    alive : is_alive v l.at ≡ true
+    alive = ap (λ (u : World). is_alive u l.at) (happened w (apply w1 k) (event.Up conn) out) ∙ (alive_on w1 k l.at ∙ (alive_taken w c x l.at ∙ can.hears.leads_so.alive))
 
     over : (d : ℕ) (b : Bool) → is_over v d b ≡ is_over w1 d b
     over d b = (followed w (apply w1 k) (event.Up conn) out).over d b ∙ changed-over w1 k d b
@@ -243,10 +259,12 @@ module _ {R I O : Type 0} (r : roads.Ghosts R I O) (i : link_in.Ghosts I) (o : l
       members : new.members ≡ old.members
 
     left : (made : Net) (z : Seat I O) → Same → ShowsWorld r v made road' → OthersStay i o w net v made (Some c) → slice_get new.links.items place ≡ Some z → ((j : ℕ) → (j ≡ place → ⊥) → slice_get new.links.items j ≡ slice_get old.links.items j)
-        → MemberShows i o v made l.state.phase (after_heard st h) (Some c) z → PrimaryLeft r i o w net v number c new road'
+        → MemberShows i o v made l.state.phase (after_heard st h) (Some c) z → PrimaryLeft r i o w net v number c place l x new road'
     left made z same are others at away mine = record {
       made = made;
       leading = l';
+      leading_is = refl;
+      alive = alive;
       stands = record {
         roads_are = are;
         shows = record {
@@ -360,7 +378,7 @@ module _ {R I O : Type 0} (r : roads.Ghosts R I O) (i : link_in.Ghosts I) (o : l
           emptied : HeldAt i o n1 false [] (held_by (is_end x)) c false y2.end
           emptied = held_took i o n1 false [] (inbox_for x) (held_by (is_end x)) c false y1.end y2.end took holds
 
-          goes_left : shuts_at l.state place ≡ false → new.links.items ≡ slice_set seen place (seat.Open y2) → road' ≡ middle → PrimaryLeft r i o w net v number c new road'
+          goes_left : shuts_at l.state place ≡ false → new.links.items ≡ slice_set seen place (seat.Open y2) → road' ≡ middle → PrimaryLeft r i o w net v number c place l x new road'
           goes_left quiet set still =
               let n : IsNetOf (apply w1 k) n1 = changed-net w1 n1 k [] t.is_net (sends_none quiet) in
               let at : RoadsAt r n1 road' = subst (λ (z : R). RoadsAt r n1 z) (sym still) passed.roads_at in
@@ -376,7 +394,7 @@ module _ {R I O : Type 0} (r : roads.Ghosts R I O) (i : link_in.Ghosts I) (o : l
                 });
               })
 
-          shut_left : shuts_at l.state place ≡ true → new.links.items ≡ slice_set seen place seat.Empty → (a : Seat I O) → (g : GivesBack r i o y2.end a middle road') → BringsEnd r i o g.gives.shut middle road' (Ok tt) → PrimaryLeft r i o w net v number c new road'
+          shut_left : shuts_at l.state place ≡ true → new.links.items ≡ slice_set seen place seat.Empty → (a : Seat I O) → (g : GivesBack r i o y2.end a middle road') → BringsEnd r i o g.gives.shut middle road' (Ok tt) → PrimaryLeft r i o w net v number c place l x new road'
           shut_left shuts set a g brings =
               let made : Net = lost_net n1 c false [] in
               let n : IsNetOf (apply w1 k) made = lost-net (apply w1 k) n1 c false [] (changed-net w1 n1 k (upper_flushes (Some c) true []) t.is_net (sends_is true shuts)) in
@@ -448,5 +466,5 @@ module _ {R I O : Type 0} (r : roads.Ghosts R I O) (i : link_in.Ghosts I) (o : l
   pub hear_shows : PrimariesHear → PrimariesSend → (place : ℕ) (old held new : P) (road middle road' : R) (heard : MemberHeard) (gone : Bool) (result : Result (Unit {0}) PrimaryFault) → TakesBy r i o place old held road middle → new.block ≡ held.block → new.members ≡ held.members
       → HearsSo r i o place held.core new.core held.links.items new.links.items middle road' heard → gone ≡ is_lost (slice_get new.links.items place) → result ≡ hearing.heard_as heard gone → HearShows r i o place old new road road' result
   hear_shows makes sends place old held new road middle road' heard gone result taken block members hs gone_is is = λ w net conn number l x stands can.
-      subst (λ z. HearEnds r i o w net (happens w (event.Up conn)) number conn.0 new road road' z) (sym (is ∙ ap (hearing.heard_as heard) gone_is))
+      subst (λ z. HearEnds r i o w net (happens w (event.Up conn)) number conn.0 place l x new road road' z) (sym (is ∙ ap (hearing.heard_as heard) gone_is))
       (heard_ends makes sends place old held new road middle road' heard taken w net conn number l x stands can block members hs)

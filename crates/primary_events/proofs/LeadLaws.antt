@@ -42,9 +42,8 @@ use Rattle.world.specs.declared.events.Caller.TheVariants as caller
 use Rattle.world.specs.declared.events.Event.{Event}
 use Rattle.world.specs.declared.events.Event.TheVariants as event
 use Rattle.world.specs.declared.events.OwnStep.TheVariants as own_event
-use Rattle.world.specs.Parts.{Place, Told, Leading, leads}
+use Rattle.world.specs.Parts.{Told, Leading, leads}
 use Rattle.world.specs.Worlds.{World, Change, apply}
-use Rattle.world.specs.Connections.{is_alive}
 use Rattle.world.specs.Events.{outcome, happens}
 use Rattle.world.specs.Primaries.{ends_change, updates_change}
 use Rattle.world_nets.proofs.EndLemmas.{same-end}
@@ -61,7 +60,7 @@ use Rattle.primary_events.specs.Leading.{led_as, IsUpdate, SendsUpdate, IsWantin
 use Rattle.primary_events.specs.Updating.{IsDone, Follows}
 use Rattle.primary_events.specs.Showing.{IsShut, PlaceShows, PrimaryStands}
 use Rattle.primary_events.proofs.GivingUpLaws.{true_false, AllShut, gives_all}
-use Rattle.primary_events.proofs.HearLaws.{place_stays, primary_put}
+use Rattle.primary_events.proofs.HearLaws.{alive_after, place_stays, primary_put}
 use Rattle.primary_events.proofs.OfficeLaws.{HasAnswered, answered_or}
 use Rattle.primary_events.proofs.PassLaws.{lead_passes}
 use Rattle.primary_events.proofs.ShutLemmas.{apply_stays}
@@ -122,15 +121,8 @@ same_end_with p q c (Err e) k = refl
 
 -- THE WORLD
 
-alive_on : (w : World) (k : Change) (at : Place) → is_alive (apply w k) at ≡ is_alive w at
-unfolding apply
-alive_on w k at = refl
-
 primary_after : (w : World) (k : Change) (e : Event) → outcome w e ≡ Some (apply w k) → (happens w e).primaries k.primary_at ≡ k.primary
 primary_after w k e out = ap (λ (u : World). u.primaries k.primary_at) (happened w (apply w k) e out) ∙ primary_put w k
-
-alive_after : (w : World) (k : Change) (e : Event) (at : Place) → outcome w e ≡ Some (apply w k) → is_alive (happens w e) at ≡ is_alive w at
-alive_after w k e at out = ap (λ (u : World). is_alive u at) (happened w (apply w k) e out) ∙ alive_on w k at
 
 shut_after : (w : World) (k : Change) (e : Event) (c : ℕ) → outcome w e ≡ Some (apply w k) → IsShut w c → IsShut (happens w e) c
 shut_after w k e c out h =

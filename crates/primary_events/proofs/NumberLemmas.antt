@@ -1,6 +1,6 @@
 -- Dials that were answered or not, and the numbers of the connections that they made.
 use Rattle.std.proofs.Common.{◌≡◌, ℕ, zero, suc, ◌+◌, ◌<◌, ◌≤◌, Bool, true, false, if◌then◌else◌, List, [], ◌∷◌, ◌++◌, length, slice_get, Option, Some, None, refl, sym, ap, ◌∙◌, arith}
-use Rattle.std.specs.Prelude.{◌-◌, ◌==◌, cond, is_some, map, nat_le, option_map}
+use Rattle.std.specs.Prelude.{◌-◌, ◌==◌, ◌&&◌, cond, is_some, map, nat_le, option_map}
 use Rattle.std.proofs.lemmas.Bool.Decides.{nat_tests}
 use Rattle.hd_base.specs.declared.numbers.BlockId.{BlockId}
 use Rattle.hd_base.specs.declared.numbers.NodeId.{NodeId}
@@ -200,6 +200,14 @@ answered_same w (m ∷ members) (true ∷ answers) size run =
     ∙ ap (λ (l : List Bool). true ∷ l) (answered_same w members answers (omega (arith, size)) (λ j node at on. run (suc j) node at on))
 answered_same w (m ∷ members) (false ∷ answers) size run =
     ap (λ (l : List Bool). false ∷ l) (answered_same w members answers (omega (arith, size)) (λ j node at on. run (suc j) node at on))
+
+-- They are answered so in each world in which the same nodes run.
+pub answered_alike : (w u : World) → ((n : ℕ) → u.running n ≡ w.running n) → (members : List NodeId) (answers : List Bool) → dials_answered u members answers ≡ dials_answered w members answers
+answered_alike w u runs [] answers = refl
+answered_alike w u runs (m ∷ members) [] = ap (λ (l : List Bool). false ∷ l) (answered_alike w u runs members [])
+answered_alike w u runs (m ∷ members) (a ∷ answers) =
+    ap (λ (b : Bool). (a && b) ∷ dials_answered u members answers) (runs m.0)
+    ∙ ap (λ (l : List Bool). (a && w.running m.0) ∷ l) (answered_alike w u runs members answers)
 
 module _ (w : World) (i : ℕ) (from : Place) (first : Message) where
   pub dials_length : (place : ℕ) (members : List NodeId) (answers : List Bool) → length answers ≤ length members → length (primary_dials w i from first place members answers) ≡ trues answers

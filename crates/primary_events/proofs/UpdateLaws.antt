@@ -53,7 +53,7 @@ use Rattle.primary_events.specs.Updating.{is_risen, HasRisen, ExchangesWhole, Re
 use Rattle.primary_events.proofs.FlushLaws as flush
 use Rattle.primary_events.proofs.FlushLaws.{KeptAt, WaitsAt, Flushing, GivingUp, Stand, gives, loses, rises, settled, Exchanging, exchanged}
 use Rattle.primary_events.proofs.GivingUpLaws.{at_among, among_at, any_lost}
-use Rattle.primary_events.proofs.HearLaws.{primary_put}
+use Rattle.primary_events.proofs.HearLaws.{alive_after, primary_put}
 use Rattle.primary_events.proofs.PlaceLemmas.{within}
 use Rattle.primary_events.proofs.RisenLaws.{risen_link, risen_among, failed_link, works_at, all_risen, brought_failed}
 use Rattle.primary_events.proofs.SendLaws.{AllSent, SentAt, all_sent, unsent_at, sent_at, none_some}
@@ -460,7 +460,8 @@ module _ {D R I O : Type 0} (d : desks.Ghosts D) (r : roads.Ghosts R I O) (i : l
             update_sent = record {
               made = f.made;
               leading = record l { state = p };
-              conns_same = refl;
+              leading_is = refl;
+              alive = alive_after w k e l.at out ∙ can.leads_so.alive;
               stands = record {
                 roads_are = record { is_net = (followed w (apply w k) e out).nets f.made made_net; sane = f.roads_at.sane; shows = f.roads_at.shows };
                 shows = record {

@@ -1,5 +1,5 @@
 -- The beginning of a primary, and the world after it.
-use Rattle.std.specs.Prelude.{◌≡◌, ◌⊎◌, ℕ, Bool, true, List, [], ◌∷◌, ◌++◌, length, map, is_some, slice_get}
+use Rattle.std.specs.Prelude.{◌≡◌, ◌⊎◌, ℕ, Bool, true, false, List, [], ◌∷◌, ◌++◌, length, map, is_some, slice_get}
 use Rattle.std.specs.Prelude.{All, Option, Some, None, IfSome, Result, Ok, Err}
 use Rattle.std.specs.List.{list_any}
 use Rattle.std.specs.Global.{Vec}
@@ -18,7 +18,8 @@ use Rattle.block_recovery.specs.declared.primary.PrimaryStep.{PrimaryStep}
 use Rattle.block_recovery.specs.declared.primary.PrimaryStep.TheVariants as step
 use Rattle.block_recovery.specs.Actions.{Passes}
 use Rattle.block_recovery.specs.Beginning.{ports_of, StartsSo}
-use Rattle.block_recovery.specs.Dialling.{is_lost}
+use Rattle.block_recovery.specs.Dialling.{dial_port, is_lost}
+use Rattle.recovery_core.specs.declared.primary.Phase.TheVariants as phase
 use Rattle.recovery_core.specs.declared.primary.Recovered.{Recovered}
 use Rattle.road_traffic.specs.Showing.{Net}
 use Rattle.world.specs.declared.events.Caller.TheVariants as caller
@@ -27,8 +28,9 @@ use Rattle.world.specs.declared.events.OwnStep.TheVariants as own_event
 use Rattle.world.specs.Parts.{Leading, no_primary, leads, has_led}
 use Rattle.world.specs.Worlds.{World}
 use Rattle.world.specs.Clients.{are_members}
+use Rattle.world.specs.Connections.{is_alive}
 use Rattle.world.specs.Events.{happens}
-use Rattle.world.specs.Primaries.{numbered}
+use Rattle.world.specs.Primaries.{dials_answered, numbered}
 use Rattle.world_nets.specs.Nets.{IsEndOf}
 use Rattle.member_events.specs.Joining.{AcceptsDial}
 use Rattle.member_events.specs.Roads.{RoadsPass}
@@ -169,17 +171,38 @@ LowerShows i o v net (Some None) (Some None) = Unit {0}
 LowerShows i o v net None None = Unit {0}
 LowerShows i o v net conn lower = ⊥
 
--- The primary, which leads, the lower ends of its connections, the office and the roads show the world; all ends that
--- there were stay.
+-- The primary, which leads from this node and has sent the INIT, the lower ends of its connections, which are numbered
+-- in the members' order, the office and the roads show the world; all ends that there were stay.
 pub record LeadsBegun {D R I O : Type 0} (d : desk.Ghosts D) (r : roads.Ghosts R I O) (i : link_in.Ghosts I)
-    (o : link_out.Ghosts O) (w : World) (net : Net) (v : World) (number : ℕ) (lowers : List (Option (Conn I O)))
-    (primary : running.Primary I O) (office : D) (road : R) : Type 0 where
+    (o : link_out.Ghosts O) (w : World) (net : Net) (v : World) (number : ℕ) (node : NodeId)
+    (lowers : List (Option (Conn I O))) (primary : running.Primary I O) (office : D) (road : R) : Type 0 where
   pub made : Net
   pub leading : Leading
+  pub at_node : leading.at.node ≡ node.0
+  pub alive : is_alive v leading.at ≡ true
+  pub informs : leading.state.phase ≡ phase.Informing
+  pub conns_are : leading.conns ≡ numbered w.next_conn (map is_some lowers)
   pub stands : PrimaryStands r i o v made number leading primary road
   pub lowers_are : (place : ℕ) → LowerShows i o v made (slice_get leading.conns place) (slice_get lowers place)
   pub office_is : d.office office ≡ Some v.office
   pub others : AllOthersStay i o w net v made []
+
+-- A member's dial wasn't answered: its node has no port, or doesn't run, or the roads' count rose.
+abbrev pub IsUnreached : {R I O : Type 0} → roads.Ghosts R I O → World → NodeId → R → R → Type 0
+IsUnreached r w member road road' =
+    (dial_port member ≡ None) ⊎ ((w.running member.0 ≡ false) ⊎ FaultsIncreased (r.faults road) (r.faults road'))
+
+-- There are lower ends of the members whose dials were answered, and so they are in the world. The primary leads, in
+-- each world in which the same dials are answered.
+pub record HasBegun {D R I O : Type 0} (d : desk.Ghosts D) (r : roads.Ghosts R I O) (i : link_in.Ghosts I)
+    (o : link_out.Ghosts O) (w : World) (net : Net) (number : ℕ) (node : NodeId) (members : List NodeId)
+    (after : List Bool → World) (lowers : List (Option (Conn I O))) (primary : running.Primary I O) (office : D)
+    (road road' : R) : Type 0 where
+  pub answered : dials_answered w members (map is_some lowers) ≡ map is_some lowers
+  pub unanswered : (place : ℕ) (member : NodeId) → slice_get members place ≡ Some member →
+      slice_get lowers place ≡ Some None → IsUnreached r w member road road'
+  pub leads_so : (answers : List Bool) → dials_answered w members answers ≡ map is_some lowers →
+      LeadsBegun d r i o w net (after answers) number node lowers primary office road'
 
 -- The office and the roads show the world, in which the recovery has ended so; all ends stay.
 pub record EndsBegun {D R I O : Type 0} (d : desk.Ghosts D) (r : roads.Ghosts R I O) (i : link_in.Ghosts I)
@@ -201,16 +224,16 @@ IsBeginCause r next road road' fault.LinkFailed = NewHasRisen r next road'
 IsBeginCause r next road road' fault.RoadsFailed = FaultsIncreased (r.faults road) (r.faults road')
 IsBeginCause r next road road' fault.Memory = Unit {0}
 
--- It leads, where these dials were answered; or the recovery has ended by the office's refusal, whatever is said of
--- dials.
+-- It has begun; or the recovery has ended by the office's refusal, whatever is said of dials.
 abbrev pub BeginEnds : {D R I O : Type 0} → desk.Ghosts D → roads.Ghosts R I O → link_in.Ghosts I →
-    link_out.Ghosts O → World → Net → ℕ → (List Bool → World) → running.Primary I O → D → R → R →
+    link_out.Ghosts O → World → Net → ℕ → NodeId → List NodeId → (List Bool → World) → running.Primary I O → D → R → R →
     Result (PrimaryBegun I O) PrimaryFault → Type 0
-BeginEnds d r i o w net number after primary office road road' (Ok (begun.Leads lowers)) =
-    LeadsBegun d r i o w net (after (map is_some lowers.items)) number lowers.items primary office road'
-BeginEnds d r i o w net number after primary office road road' (Ok (begun.Ended end)) =
+BeginEnds d r i o w net number node members after primary office road road' (Ok (begun.Leads lowers)) =
+    HasBegun d r i o w net number node members after lowers.items primary office road road'
+BeginEnds d r i o w net number node members after primary office road road' (Ok (begun.Ended end)) =
     (answers : List Bool) → EndsBegun d r i o w net (after answers) number end office road'
-BeginEnds d r i o w net number after primary office road road' (Err why) = IsBeginCause r w.next_conn road road' why
+BeginEnds d r i o w net number node members after primary office road road' (Err why) =
+    IsBeginCause r w.next_conn road road' why
 
 -- The office and the roads show a world in which the primary is new.
 abbrev pub BeginShows : {D R I O : Type 0} → desk.Ghosts D → roads.Ghosts R I O → link_in.Ghosts I →
@@ -220,7 +243,8 @@ BeginShows d r i o old new office office' road road' result =
     (w : World) (net : Net) (number : ℕ) (node : NodeId) → ShowsWorld r w net road →
     CanBegin w number node old.members → d.office office ≡ Some w.office →
     ((answers : List Bool) → SpellsBegun (begun_world w number node old.block old.members answers) number)
-    → BeginEnds d r i o w net number (begun_world w number node old.block old.members) new office' road road' result
+    → BeginEnds d r i o w net number node old.members (begun_world w number node old.block old.members) new office' road
+    road' result
 
 -- THE LOWER ENDS ARE KNOWN
 

@@ -9,13 +9,14 @@ use Rattle.block_recovery.specs.declared.members.MemberHeard.TheVariants as memb
 use Rattle.block_recovery.specs.declared.primary.Primary as running
 use Rattle.block_recovery.specs.Members.{TakesAt}
 use Rattle.recovery_core.specs.declared.standings.Standing.{Standing}
+use Rattle.recovery_core.specs.Primaries.{heard_at}
 use Rattle.road_traffic.specs.Showing.{Net}
 use Rattle.world.specs.declared.events.Event.TheVariants as event
 use Rattle.world.specs.Parts.{Leading, recovery_answer}
 use Rattle.world.specs.Worlds.{World}
-use Rattle.world.specs.Connections.{Next, message, the_end}
+use Rattle.world.specs.Connections.{Next, message, the_end, is_alive}
 use Rattle.world.specs.Events.{happens}
-use Rattle.world.specs.Primaries.{listens}
+use Rattle.world.specs.Primaries.{heard_of, listens}
 use Rattle.world_nets.specs.Drawn.{ComesUp}
 use Rattle.world_orders.specs.Orders.{Ordered}
 use Rattle.world_primaries.specs.Drawn.{Leads, HearsMember}
@@ -83,23 +84,28 @@ PrimariesCanHear = (w : World) (conn : ConnId) (number place : ℕ) (l : Leading
 
 -- AFTER THE EVENT
 
--- The primary and the roads show the world after the event; the other ends stay.
+-- The primary, which leads on as before and has heard this from the member at the place, and the roads show the world
+-- after the event; the other ends stay.
 pub record PrimaryLeft {R I O : Type 0} (r : roads.Ghosts R I O) (i : link_in.Ghosts I) (o : link_out.Ghosts O)
-    (w : World) (net : Net) (v : World) (number conn : ℕ) (primary : running.Primary I O) (road : R) : Type 0 where
+    (w : World) (net : Net) (v : World) (number conn place : ℕ) (l : Leading) (x : Next) (primary : running.Primary I O)
+    (road : R) : Type 0 where
   pub made : Net
   pub leading : Leading
+  pub leading_is : leading ≡ record l { state = heard_at l.state place (heard_of x) }
+  pub alive : is_alive v leading.at ≡ true
   pub stands : PrimaryStands r i o v made number leading primary road
   pub others : OthersStay i o w net v made (Some conn)
 
 -- How it ends; a fault has its cause.
 abbrev pub HearEnds : {R I O : Type 0} → roads.Ghosts R I O → link_in.Ghosts I → link_out.Ghosts O → World → Net →
-    World → ℕ → ℕ → running.Primary I O → R → R → Result (Unit {0}) PrimaryFault → Type 0
-HearEnds r i o w net v number conn primary road road' (Ok _) = PrimaryLeft r i o w net v number conn primary road'
-HearEnds r i o w net v number conn primary road road' (Err why) = IsCaused r conn road road' why
+    World → ℕ → ℕ → ℕ → Leading → Next → running.Primary I O → R → R → Result (Unit {0}) PrimaryFault → Type 0
+HearEnds r i o w net v number conn place l x primary road road' (Ok _) =
+    PrimaryLeft r i o w net v number conn place l x primary road'
+HearEnds r i o w net v number conn place l x primary road road' (Err why) = IsCaused r conn road road' why
 
 abbrev pub HearShows : {R I O : Type 0} → roads.Ghosts R I O → link_in.Ghosts I → link_out.Ghosts O → ℕ →
     running.Primary I O → running.Primary I O → R → R → Result (Unit {0}) PrimaryFault → Type 0
 HearShows r i o place old new road road' result =
     (w : World) (net : Net) (conn : ConnId) (number : ℕ) (l : Leading) (x : Next) →
     PrimaryStands r i o w net number l old road → CanHear w conn number place l x
-    → HearEnds r i o w net (happens w (event.Up conn)) number conn.0 new road road' result
+    → HearEnds r i o w net (happens w (event.Up conn)) number conn.0 place l x new road road' result

@@ -25,6 +25,7 @@ use Rattle.road_traffic.specs.Showing.{Net}
 use Rattle.world.specs.declared.events.Caller.TheVariants as caller
 use Rattle.world.specs.declared.events.Event.TheVariants as event
 use Rattle.world.specs.declared.events.OwnStep.TheVariants as own_event
+use Rattle.world.specs.Connections.{is_alive}
 use Rattle.world.specs.Parts.{Leading, has_led}
 use Rattle.world.specs.Worlds.{World}
 use Rattle.world.specs.Events.{happens}
@@ -152,13 +153,15 @@ LeadWaits d r i o w net number l primary office road (Ok step.Waiting) =
 LeadWaits d r i o w net number l primary office road (Ok other) = ⊥
 LeadWaits d r i o w net number l primary office road (Err why) = why ≡ fault.Memory
 
--- The primary, which has sent the UPDATE, the roads and the office show the world after it; the other ends stay.
+-- The primary, which leads on as before and has sent the UPDATE, the roads and the office show the world after it; the
+-- other ends stay.
 pub record UpdateSent {D R I O : Type 0} (d : desk.Ghosts D) (r : roads.Ghosts R I O) (i : link_in.Ghosts I)
     (o : link_out.Ghosts O) (w : World) (net : Net) (v : World) (number : ℕ) (l : Leading)
     (primary : running.Primary I O) (office : D) (road : R) : Type 0 where
   pub made : Net
   pub leading : Leading
-  pub conns_same : leading.conns ≡ l.conns
+  pub leading_is : leading ≡ record l { state = (own_step l.state).primary }
+  pub alive : is_alive v leading.at ≡ true
   pub stands : PrimaryStands r i o v made number leading primary road
   pub office_is : d.office office ≡ Some v.office
   pub others : AllOthersStay i o w net v made l.conns

@@ -1,2 +1,3 @@
 pub mod PrimaryLemmas
 pub mod ChosenLemmas
+pub mod CommitLemmas

@@ -134,6 +134,15 @@ updated_node node _ = None
 abbrev pub updated_members : List NodeId → List Standing → List NodeId
 updated_members members standings = filter_map (λ x. updated_node x.0 x.1) (zip members standings)
 
+-- it was updated
+abbrev pub is_updated : Standing → Bool
+is_updated standing.Updated = true
+is_updated _ = false
+
+-- one of the members was
+abbrev pub updates_any : List NodeId → List Standing → Bool
+updates_any members standings = list_any (λ x. is_updated x.1) (zip members standings)
+
 -- the node is one of these
 abbrev pub is_among : List NodeId → NodeId → Bool
 is_among nodes node = list_any (λ other. other.0 == node.0) nodes
@@ -187,6 +196,15 @@ own_at phase.Over p = taken p own.Waits
 
 abbrev pub own_step : PrimaryState → OwnTaken
 own_step p = if waits p.standings then taken p own.Waits else own_at p.phase p
+
+-- a commit is asked for
+abbrev pub is_commit : OwnStep → Bool
+is_commit (own.Commits c) = true
+is_commit other = false
+
+-- in the next own step one is
+abbrev pub commits : PrimaryState → Bool
+commits p = is_commit (own_step p).does
 
 -- WHAT IT SENDS AND ASKS
 

@@ -17,6 +17,8 @@ ghost use Rattle.recovery_core.specs.Primaries.{
   committing,
   own_at,
   own_step,
+  commits,
+  updates_any,
   request_of,
   sync_call,
   office_refused,
@@ -150,6 +152,27 @@ impl Primary {
         ensures { result ≡ waits self.now.standings }
     {
         self.standings.iter().any(|standing| standing.is_awaited())
+    }
+
+    /// Whether its next own step is to ask the office to commit.
+    pub fn commits(&self) -> bool
+        ensures { result ≡ commits self.now }
+    {
+        match self.phase {
+            Phase::Updating { .. } => !self.waits() && self.has_updated(),
+            Phase::Informing | Phase::Over => false,
+        }
+    }
+
+    /// Whether a member was updated.
+    fn has_updated(&self) -> bool
+        ensures { result ≡ updates_any self.now.members self.now.standings }
+    {
+        self.members
+            .as_slice()
+            .iter()
+            .zip(self.standings.iter())
+            .any(|(_, standing)| standing.is_updated())
     }
 
     /// A step of its own. Once every answer or end was taken, it chooses among what was told, and then commits. Want of

@@ -1,7 +1,7 @@
 //! How a primary stands with a member.
 
 ghost use Rattle.std.specs.Prelude.{◌≡◌};
-ghost use Rattle.recovery_core.specs.Primaries.{told, is_success, informed, remembers_end, updated, after_heard, is_awaited, shuts_after, asked, info_of, updated_node, when_chosen};
+ghost use Rattle.recovery_core.specs.Primaries.{told, is_success, informed, remembers_end, updated, after_heard, is_awaited, is_updated, shuts_after, asked, info_of, updated_node, when_chosen};
 
 use hd_base::{NodeId, ReplicaState, Stamp, Status};
 use name_core::Info;
@@ -79,6 +79,13 @@ impl Standing {
         ensures { result ≡ shuts_after self.now }
     {
         matches!(self, Standing::Updating)
+    }
+
+    /// Whether it answered SUCCESS to the UPDATE.
+    pub(crate) fn is_updated(&self) -> bool
+        ensures { result ≡ is_updated self.now }
+    {
+        matches!(self, Standing::Updated)
     }
 
     /// Whether an answer of the member is awaited.

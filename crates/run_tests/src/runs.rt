@@ -94,6 +94,13 @@ const VISIBLE_READ: &[u8] =
 const VISIBLE_READ_REPORT: &[u8] =
     b"replica 0 1 FINALIZED 1001 3500 3500 d220d4ad ok\nreplica 1 1 FINALIZED 1001 3500 3500 d220d4ad ok\nreplica 2 1 FINALIZED 1001 3500 3500 d220d4ad ok\nanswer 1 0 create ok 1001\nanswer 1 2 hflush ok 3000 1001 0,1,2\nanswer 1 4 close ok 3500 1001 0,1,2\nread 9 ok d352428b\nread 10 refused 13 3000\nread 11 ok 8d0fe748\nread 14 refused 13 3000\nend\n";
 
+/// A block recovery takes a block from its writer.
+const BLOCK_RECOVERY: &[u8] =
+    b"nodes 2\nseed 0\ncreate 1 0,1\nwrite 1 313233343536373839\nhflush 1\nsettle\nrecover 1 0 0,1\nsettle\nwrite 1 00\nclose 1\n";
+
+const BLOCK_RECOVERY_REPORT: &[u8] =
+    b"replica 0 1 FINALIZED 1002 9 9 e3069283 ok\nreplica 1 1 FINALIZED 1002 9 9 e3069283 ok\nanswer 1 0 create ok 1001\nanswer 1 2 hflush ok 9 1001 0,1\nanswer 1 4 close lost 1002\nrecovery 7 ok 1002 9 0,1\nend\n";
+
 /// A closed block is read from its first byte to its last.
 const READ_BACK: &[u8] =
     b"nodes 1\nseed 0\ncreate 1 0\nfill 1 600\nclose 1\nsettle\nread 1 0 0 600\n";
@@ -228,7 +235,7 @@ fn run_one(alloc: Global, line: &str, text: &[u8], failing: Failing) -> Result<L
 /// What each of the examples reports.
 #[test]
 fn examples_are_reported(rt: HostRuntime) -> Result<(), Fail> {
-    let table: [(&[u8], &[u8]); 12] = [
+    let table: [(&[u8], &[u8]); 13] = [
         (NINE, NINE_REPORT),
         (TWO_PACKETS, TWO_PACKETS_REPORT),
         (EMPTY, EMPTY_REPORT),
@@ -240,6 +247,7 @@ fn examples_are_reported(rt: HostRuntime) -> Result<(), Fail> {
         (START_STREAM, START_STREAM_REPORT),
         (START_APPEND, APPEND_REPORT),
         (VISIBLE_READ, VISIBLE_READ_REPORT),
+        (BLOCK_RECOVERY, BLOCK_RECOVERY_REPORT),
         (UNSUMMED, UNSUMMED_REPORT),
     ];
     for (script, report) in table {

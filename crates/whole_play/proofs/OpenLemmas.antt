@@ -27,6 +27,9 @@ use Rattle.play_opening.specs.Opening.{IsOpenedPlay, no_commands}
 use Rattle.play_scripts.specs.declared.heads.Head.{Head}
 use Rattle.play_scripts.specs.Blocks.{AreAllCreated, AreBlocks}
 use Rattle.play_scripts.specs.Fitting.{begun}
+use Rattle.play_model.specs.declared.recoveries.Recovery.{Recovery}
+use Rattle.play_primaries.specs.declared.clients.PrimaryClient.{PrimaryClient}
+use Rattle.play_recoveries.specs.Places.{recoveries_of}
 use Rattle.play_model.specs.declared.asks.ReadAsk.{ReadAsk}
 use Rattle.play_readers.specs.declared.clients.ReadClient.{ReadClient}
 use Rattle.play_readers.specs.Asks.{asks_of}
@@ -82,6 +85,9 @@ module _ {F I O : Type 0} where
 nothing_asked : (ask : ReadAsk) → None ≡ Some ask → ⊥
 nothing_asked ask e = cc
 
+nothing_recovered : (rec : Recovery) → None ≡ Some rec → ⊥
+nothing_recovered rec e = cc
+
 few_lines : (n : ℕ) → n ≤ MAX_COMMANDS → 0 + n ≤ MAX_COMMANDS
 few_lines n h = omega (arith, h)
 
@@ -117,6 +123,8 @@ module _ {S D R I O : Type 0} (s : shelves.Ghosts S D) (d : files.Ghosts D) (r :
           generator = drawn;
           asks = ap (λ (cs : List (ReadClient I O)). asks_of cs) h.reads.clients;
           told = λ k ask at. absurd (nothing_asked ask at);
+          recovers = ap (λ (cs : List (PrimaryClient I O)). recoveries_of cs) h.recoveries.clients;
+          formed = λ k rec at. absurd (nothing_recovered rec at);
           rules = λ k c at. (h.clients.each k c at).is_new.rule;
           live = covers (world_of head.nodes player);
         };
@@ -127,6 +135,6 @@ module _ {S D R I O : Type 0} (s : shelves.Ghosts S D) (d : files.Ghosts D) (r :
           few = few_lines (length lines) fits.count;
           least = 0;
           ascend = fits.ascend;
-          asked = λ k ask at. absurd (nothing_asked ask at);
+          asked = record { reads = λ k ask at. absurd (nothing_asked ask at); recovers = λ k rec at. absurd (nothing_recovered rec at) };
         };
       }

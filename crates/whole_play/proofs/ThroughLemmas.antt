@@ -31,13 +31,15 @@ use Rattle.play_scripts.specs.declared.heads.Head.{Head}
 use Rattle.play_scripts.specs.Blocks.{numbers}
 use Rattle.play_scripts.specs.Fitting.{begun}
 use Rattle.play_scripts.specs.Reads.{read_numbers, readers_of, PlaysAskByNumber}
+use Rattle.play_scripts.specs.Recoveries.{recovery_numbers, primaries_of, PlaysRecoverByNumber}
+use Rattle.play_primaries.specs.Clients.{PrimaryClientShows}
 use Rattle.play_readers.specs.Clients.{ReadClientShows}
 use Rattle.play_lines.specs.declared.playing.Playing.{Playing}
 use Rattle.play_lines.specs.Drawing.{blocks_in}
 use Rattle.play_lines.specs.Lines.{LinesLeft, LinesEnd, LinesShow, IsReady}
 use Rattle.play_lines.specs.Showing.{PlayIs}
 use Rattle.play_report.specs.Laws.{StillShow}
-use Rattle.play_report.specs.Reports.{NodesAre, ClientsAre, ReadersAre}
+use Rattle.play_report.specs.Reports.{NodesAre, ClientsAre, ReadersAre, PrimariesAre}
 use Rattle.play_report.specs.Rows.{LeavesAll}
 use Rattle.whole_play.specs.declared.playing.Played.{Played}
 use Rattle.whole_play.specs.Opening.{HasHead, first_of}
@@ -117,16 +119,22 @@ module _ {F R I O : Type 0} (f : files.Ghosts F) (r : roads.Ghosts R I O) (i : l
     each = λ k c at. subst (λ (es : List Event). ReadClientShows i o (run (start end.nodes) es) is.stands.net c) (sym is.events) (is.stands.shows.reads.clients.each k c at);
   }
 
-  through : (script : List ScriptLine) (shelved : ℕ) (road road' : R) (old x : Playing F I O) (p : Played) → (b : BeginsScript f r i o script shelved road old) → (left : LinesLeft f r i o (drop 2 script) (first_of b.head) old x road') → x.player.nodes.blocks.items ≡ old.player.nodes.blocks.items → OnlyNodesRun → NetsCarry → PlaysAskByNumber → IsToldOf f i o x script p
+  primaries_are : (end : PlayState) (x : Playing F I O) (road : R) (script : List ScriptLine) → (is : PlayIs f r i o end road x) → primaries_of end.recoveries ≡ recovery_numbers script → PrimariesAre i o (states.world_of end) is.stands.net x.player.recoveries.clients.items script
+  primaries_are end x road script is numbers = record {
+    numbers = ap primaries_of is.recovers ∙ numbers;
+    each = λ k c at. subst (λ (es : List Event). PrimaryClientShows i o (run (start end.nodes) es) is.stands.net c) (sym is.events) (is.stands.shows.recoveries.clients.each k c at);
+  }
+
+  through : (script : List ScriptLine) (shelved : ℕ) (road road' : R) (old x : Playing F I O) (p : Played) → (b : BeginsScript f r i o script shelved road old) → (left : LinesLeft f r i o (drop 2 script) (first_of b.head) old x road') → x.player.nodes.blocks.items ≡ old.player.nodes.blocks.items → OnlyNodesRun → NetsCarry → PlaysAskByNumber → PlaysRecoverByNumber → IsToldOf f i o x script p
       → IsThrough f r script road' p
-  through script shelved road road' old x p b left same all carry asks told =
+  through script shelved road road' old x p b left same all carry asks recovers told =
       let end : PlayState = left.left in
       let blocks : blocks_in old ≡ blocks_of (drop 2 script) = same_blocks script shelved road old b in
       let here : numbers x.player.nodes.blocks.items ≡ blocks_of (drop 2 script) = ap numbers same ∙ b.begins.are.are in
       let is : PlayIs f r i o end road' x = left.is in
       let plays : Plays script end = plays_script b.head (drop 2 script) script end b.has_head (subst (λ (bs : List ℕ). PlaysLines bs (drop 2 script) (first_of b.head) end) blocks left.plays) in
       let shown : IsTold f (states.world_of end) (numbers x.player.nodes.blocks.items) script p =
-      told (states.world_of end) is.stands.net (nodes_are end x road' is all) (clients_are end x road' is (left.blocks ∙ (blocks ∙ sym here))) (readers_are end x road' script is (asks script end plays)) in
+      told (states.world_of end) is.stands.net (nodes_are end x road' is all) (clients_are end x road' is (left.blocks ∙ (blocks ∙ sym here))) (readers_are end x road' script is (asks script end plays)) (primaries_are end x road' script is (recovers script end plays)) in
       record {
         end = end;
         plays = plays;
@@ -136,13 +144,13 @@ module _ {F R I O : Type 0} (f : files.Ghosts F) (r : roads.Ghosts R I O) (i : l
       }
 
   -- Once the report was made the nodes show the world still.
-  pub over : (script : List ScriptLine) (shelved : ℕ) (road road' : R) (old x y : Playing F I O) (p : Played) → (b : BeginsScript f r i o script shelved road old) → (left : LinesLeft f r i o (drop 2 script) (first_of b.head) old x road') → x.player.nodes.blocks.items ≡ old.player.nodes.blocks.items → OnlyNodesRun → NetsCarry → PlaysAskByNumber → StillShow F I O f i o
+  pub over : (script : List ScriptLine) (shelved : ℕ) (road road' : R) (old x y : Playing F I O) (p : Played) → (b : BeginsScript f r i o script shelved road old) → (left : LinesLeft f r i o (drop 2 script) (first_of b.head) old x road') → x.player.nodes.blocks.items ≡ old.player.nodes.blocks.items → OnlyNodesRun → NetsCarry → PlaysAskByNumber → PlaysRecoverByNumber → StillShow F I O f i o
       → LeavesAll f x.player.nodes y.player.nodes → IsToldOf f i o x script p → IsOver f r i o script road' y p
   unfolding through
-  over script shelved road road' old x y p b left same all carry asks still kept told =
+  over script shelved road road' old x y p b left same all carry asks recovers still kept told =
       let are : NodesAre i o x.nodes x.player.running.items (states.world_of left.left) left.is.stands.net x.player.nodes = nodes_are left.left x road' left.is all in
       record {
-        through = through script shelved road road' old x p b left same all carry asks told;
+        through = through script shelved road road' old x p b left same all carry asks recovers told;
         net = left.is.stands.net;
         show = still (states.world_of left.left) left.is.stands.net x.player.nodes y.player.nodes kept are.show;
       }

@@ -23,7 +23,7 @@ use Rattle.play_lines.specs.declared.playing.Playing.{Playing}
 use Rattle.play_lines.specs.Drawing.{HasFailed}
 use Rattle.play_report.specs.Expecting.{differing}
 use Rattle.play_report.specs.Replicas.{sums_in}
-use Rattle.play_report.specs.Reports.{report_text, NodesAre, ClientsAre, ReadersAre}
+use Rattle.play_report.specs.Reports.{report_text, NodesAre, ClientsAre, ReadersAre, PrimariesAre}
 use Rattle.whole_play.specs.declared.faults.RunFault.{RunFault}
 use Rattle.whole_play.specs.declared.faults.RunFault.TheVariants as fault
 use Rattle.whole_play.specs.declared.playing.Played.{Played}
@@ -52,11 +52,12 @@ pub record IsTold {D : Type 0} (d : files.Ghosts D) (w : World) (blocks : List �
   pub report : AllTell d → p.report.items ≡ report_text w (sums_in w) blocks script
   pub difference : p.difference ≡ differing w blocks script
 
--- So it is of each world that the nodes, the clients and the readers of the play show.
+-- So it is of each world that the nodes, the clients, the readers and the primaries of the play show.
 abbrev pub IsToldOf : {F I O : Type 0} → files.Ghosts F → link_in.Ghosts I → link_out.Ghosts O → Playing F I O →
     List ScriptLine → Played → Type 0
 IsToldOf f i o x script p = (w : World) (net : Net) → NodesAre i o x.nodes x.player.running.items w net x.player.nodes →
-    ClientsAre w x.player.nodes x.player.clients.items → ReadersAre i o w net x.player.reads.clients.items script
+    ClientsAre w x.player.nodes x.player.clients.items → ReadersAre i o w net x.player.reads.clients.items script →
+    PrimariesAre i o w net x.player.recoveries.clients.items script
     → IsTold f w (numbers x.player.nodes.blocks.items) script p
 
 -- What the roads have carried on each direction of each connection, where they tell it, is what the world has sent there.

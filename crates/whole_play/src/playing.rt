@@ -28,7 +28,7 @@ use play_nodes::Nodes;
 use play_report::{
     Difference, first_difference, reports_are_true, reports_keep_nodes, write_report,
 };
-use play_scripts::{Head, head_of, plays_ask_by_number};
+use play_scripts::{Head, head_of, plays_ask_by_number, plays_recover_by_number};
 use script_lang::ScriptLine;
 use std::alloc::Global;
 use told_shelves::ToldShelf;
@@ -133,6 +133,7 @@ fn play_through<
     only_nodes_run();
     nets_carry();
     plays_ask_by_number();
+    plays_recover_by_number();
     reports_keep_nodes::<F, I, O>();
     let (_, lines) = script.split_at(HEAD_LINES);
     playing.lines(alloc, roads, shelves, lines)?;
@@ -160,6 +161,7 @@ fn report_of<F: Files, I: LinkIn, O: LinkOut>(
         &mut player.nodes,
         &player.clients,
         &player.reads.clients,
+        &player.recoveries.clients,
         script,
     )?;
     let difference = first_difference(count, &player.running, &player.nodes, script);

@@ -5,7 +5,7 @@ use Rattle.play_dues.proofs.conns.dues_of.Goals as goal
 
 pub returns-clause-tells : goal.returns-clause-tells
 returns-clause-tells g c =
-    conn_told g.R.Roads g.I.LinkIn g.O.LinkOut c.args.nodes.now c.args.clients.now c.args.reads.now c.args.conn c.args.roads.now c.lower_takes-down.new.roads c.upper_takes-up.new.roads
+    conn_told g.R.Roads g.I.LinkIn g.O.LinkOut c.args.nodes.now c.args.clients.now c.args.reads.now c.args.recoveries.now c.args.conn c.args.roads.now c.lower_takes-down.new.roads c.upper_takes-up.new.roads
     (record { down = c.lower_takes-down.result; ready = c.lower_acts-ready.result; up = c.upper_takes-up.result })
     c.lower_takes-down.ensures.tells c.lower_acts-ready.ensures c.upper_takes-up.ensures.tells
 

@@ -6,6 +6,6 @@ use Rattle.play_dues.proofs.listing.pick_dues.Given as goal
 
 abbrev pub invariant-loop-conn : goal.invariant-loop-conn
 invariant-loop-conn g l = record {
-  behind : StandsBehind g.R.Roads g.I.LinkIn g.O.LinkOut l.fn.number (drop l.conn-index l.conns) l.conns l.nodes l.clients l.reads l.fn.roads l.roads l.rest;
+  behind : StandsBehind g.R.Roads g.I.LinkIn g.O.LinkOut l.fn.number (drop l.conn-index l.conns) l.conns l.nodes l.clients l.reads l.recoveries l.fn.roads l.roads l.rest;
   pass : RoadsPass g.R.Roads l.fn.roads l.roads;
 }

@@ -8,5 +8,5 @@ use Rattle.play_dues.proofs.spending.spent_connections_stay.Goals as goal
 pub returns : goal.returns
 returns c = record {
   dues = λ w queues conn h lt is. nothing_due w queues conn h.placed lt is;
-  stay = λ w queues d conn h due_is lt is. spent_on w (run w (due_events w queues d)) h.placed (due_keeps w queues d h due_is) conn lt is;
+  stay = λ w queues d conn h primaries due_is lt is. spent_on w (run w (due_events w queues d)) h.placed primaries (due_keeps w queues d h due_is) conn lt is;
 }

@@ -63,6 +63,7 @@ returns-clause-opened g c = record {
   nodes = c.in_ok-nodes.ensures.opened;
   clients = subst (λ (bs : List BlockId). AreNewClients bs c.in_ok-clients.clients.items) c.deref.ensures.value c.in_ok-clients.ensures;
   reads = c.new-reads.ensures.none;
+  recoveries = c.new-recoveries.ensures.none;
   office = c.in_ok-office.ensures;
   running = c.in_ok-running.ensures;
   events = c.new-events.ensures.items;
@@ -71,4 +72,4 @@ returns-clause-opened g c = record {
 pub returns-clause-stands : goal.returns-clause-stands
 returns-clause-stands g c = λ unused.
     play_stands g.S.Shelf g.S.Drawer.Files g.R.Roads g.R.Inward.LinkIn g.R.Outward.LinkOut c.args.blocks.items c.args.shelves.now c.open_nodes.new.shelves (length c.args.shelves.now) _ c.open_nodes.new.roads
-    c.requires.ports refl c.requires.distinct (returns-clause-opened g c) (c.in_ok-nodes.ensures.stands unused)
+    c.requires.ports refl c.requires.distinct (returns-clause-opened g c) c.new-reads.ensures.shows c.new-recoveries.ensures.shows (c.in_ok-nodes.ensures.stands unused)

@@ -1,7 +1,7 @@
 -- The search by halves finds it, if it is there.
 use Rattle.std.proofs.Common.{rules}
 use Rattle.std.proofs.lemmas.List.Sorted.{answers_always}
-use Rattle.play_reads.proofs.Numbers.{searched}
+use Rattle.play_nodes.proofs.Numbers.{searched}
 use Rattle.play_reads.proofs.places.client_of.Goals as goal
 
 pub returns : goal.returns

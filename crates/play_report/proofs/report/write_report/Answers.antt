@@ -8,6 +8,7 @@ use Rattle.script_lang.specs.declared.report.ReportLine.TheVariants as line
 use Rattle.play_report.specs.declared.faults.ReportFault.TheVariants as fault
 use Rattle.play_report.specs.Answers.{lines_text, client_lines}
 use Rattle.play_report.specs.Reads.{client_read}
+use Rattle.play_report.specs.Recoveries.{client_recovery, merged}
 use Rattle.play_report.specs.Replicas.{all_lines}
 use Rattle.play_report.specs.Rows.{IsNodesFault}
 use Rattle.play_report.proofs.ReportLemmas.{report_is, four_parts, same_lines}
@@ -53,17 +54,17 @@ returns-in_err-push_clients-clause-cause g c =
     let e = err_from_is_err_and c.from_residual-in_err-push_clients.result c.from_residual-in_err-push_clients.ensures.1 in
     if_err c.from_residual-in_err-push_clients.result fault.Memory (IsNodesFault g.F.Files v.items (rewritten v.len v.items c.all_rows.new.nodes)) (e.1 ∙ ap Err e.2) tt
 
-pub returns-in_err-push_reads-clause-kept : goal.returns-in_err-push_reads-clause-kept
-returns-in_err-push_reads-clause-kept g c =
+pub returns-in_err-push_asked-clause-kept : goal.returns-in_err-push_asked-clause-kept
+returns-in_err-push_asked-clause-kept g c =
     let v = c.args.nodes.now.nodes in
     let is : v.len ≡ length v.items = omega (arith, v.ok.0) in
     record { blocks = refl; connections = refl; nodes = nodes_left_as g.F.Files v.len c.as_mut_slice.result.now v.items c.all_rows.new.nodes c.as_mut_slice.ensures.value is c.all_rows.ensures.kept }
 
-pub returns-in_err-push_reads-clause-cause : goal.returns-in_err-push_reads-clause-cause
-returns-in_err-push_reads-clause-cause g c =
+pub returns-in_err-push_asked-clause-cause : goal.returns-in_err-push_asked-clause-cause
+returns-in_err-push_asked-clause-cause g c =
     let v = c.args.nodes.now.nodes in
-    let e = err_from_is_err_and c.from_residual-in_err-push_reads.result c.from_residual-in_err-push_reads.ensures.1 in
-    if_err c.from_residual-in_err-push_reads.result fault.Memory (IsNodesFault g.F.Files v.items (rewritten v.len v.items c.all_rows.new.nodes)) (e.1 ∙ ap Err e.2) tt
+    let e = err_from_is_err_and c.from_residual-in_err-push_asked.result c.from_residual-in_err-push_asked.ensures.1 in
+    if_err c.from_residual-in_err-push_asked.result fault.Memory (IsNodesFault g.F.Files v.items (rewritten v.len v.items c.all_rows.new.nodes)) (e.1 ∙ ap Err e.2) tt
 
 pub returns-in_err-print_line-clause-kept : goal.returns-in_err-print_line-clause-kept
 returns-in_err-print_line-clause-kept g c =
@@ -82,12 +83,12 @@ returns-clause-report g c =
     let n = c.args.nodes.now in
     let lines = c.args.lines.now in
     let all = c.in_ok-all.all.items in
-    report_is g.F.Files g.I.LinkIn g.O.LinkOut c.args.count c.args.running.now n c.args.clients.now c.args.reads.now lines all c.print_line.new.out.items
+    report_is g.F.Files g.I.LinkIn g.O.LinkOut c.args.count c.args.running.now n c.args.clients.now c.args.reads.now c.args.recoveries.now lines all c.print_line.new.out.items
     (nodes_rows_as g.F.Files c.args.count c.args.running.now c.as_mut_slice.result.now n.nodes.items all c.as_mut_slice.ensures.value c.in_ok-all.ensures.rows)
-    (four_parts c.new-text.result.items c.push_nodes.new.out.items c.push_clients.new.out.items c.push_reads.new.out.items c.print_line.new.out.items
-    (lines_text (all_lines c.args.running.now c.as_slice.result.now c.as_slice-2.result.now c.args.count)) (lines_text (flat_map (λ x. client_lines lines x) c.args.clients.now)) (lines_text (map client_read c.args.reads.now)) (lines_text (all_lines c.args.running.now n.blocks.items all c.args.count)) (printed line.End)
+    (four_parts c.new-text.result.items c.push_nodes.new.out.items c.push_clients.new.out.items c.push_asked.new.out.items c.print_line.new.out.items
+    (lines_text (all_lines c.args.running.now c.as_slice.result.now c.as_slice-2.result.now c.args.count)) (lines_text (flat_map (λ x. client_lines lines x) c.args.clients.now)) (lines_text (merged (map client_read c.args.reads.now) (map client_recovery c.args.recoveries.now) lines)) (lines_text (all_lines c.args.running.now n.blocks.items all c.args.count)) (printed line.End)
     c.new-text.ensures.items c.in_ok-push_nodes.ensures (same_lines c.args.running.now n.blocks.items c.as_slice.result.now all c.as_slice-2.result.now c.args.count c.as_slice.ensures.value c.as_slice-2.ensures.value)
-    c.in_ok-push_clients.ensures c.in_ok-push_reads.ensures c.in_ok-print_line.ensures.printed)
+    c.in_ok-push_clients.ensures c.in_ok-push_asked.ensures c.in_ok-print_line.ensures.printed)
 
 pub returns-clause-kept : goal.returns-clause-kept
 returns-clause-kept g c =

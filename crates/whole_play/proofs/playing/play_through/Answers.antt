@@ -44,7 +44,7 @@ returns-clause-through g c =
     let y = c.report_of.new.playing in
     let left = lines_end g.F.Files g.R.Roads g.I.LinkIn g.O.LinkOut g.S.Shelf c.split_at.result.1.now script xs ys road road' old x (Ok tt) c.split_at.ensures.back b c.in_ok-lines.ensures.shows in
     ok_map c.report_of.result (IsToldOf g.F.Files g.I.LinkIn g.O.LinkOut x script) (IsOver g.F.Files g.R.Roads g.I.LinkIn g.O.LinkOut script road' y)
-    (λ p told. over g.F.Files g.R.Roads g.I.LinkIn g.O.LinkOut script _ road road' old x y p b left c.in_ok-lines.ensures.shelves.blocks c.only_nodes_run.ensures c.nets_carry.ensures c.plays_ask_by_number.ensures c.reports_keep_nodes.ensures.show c.report_of.ensures.kept told) c.report_of.ensures.told
+    (λ p told. over g.F.Files g.R.Roads g.I.LinkIn g.O.LinkOut script _ road road' old x y p b left c.in_ok-lines.ensures.shelves.blocks c.only_nodes_run.ensures c.nets_carry.ensures c.plays_ask_by_number.ensures c.plays_recover_by_number.ensures c.reports_keep_nodes.ensures.show c.report_of.ensures.kept told) c.report_of.ensures.told
 
 pub returns-clause-cause : goal.returns-clause-cause
 returns-clause-cause g c =

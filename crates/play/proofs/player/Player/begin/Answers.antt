@@ -8,7 +8,7 @@ use Rattle.play.proofs.player.Player.begin.Goals as goal
 
 pub returns-in-Ok-clause-shows : goal.returns-in-Ok-clause-shows
 returns-in-Ok-clause-shows g c =
-    begin_left g.F.Files g.R.Roads g.I.LinkIn g.O.LinkOut c.args.conn c.args.self.now c.begin.new.self c.begun.new.self c.args.roads.now c.begin.new.roads c.in-Ok.unanswered c.begun.result c.in-Ok.ensures.sizes.blocks c.clients_stay.ensures c.reads_are_kept.ensures c.nodes_keep_writers.ensures.down c.running_stays.ensures c.in-Ok.ensures.shows c.begun.ensures.begins
+    begin_left g.F.Files g.R.Roads g.I.LinkIn g.O.LinkOut c.args.conn c.args.self.now c.begin.new.self c.begun.new.self c.args.roads.now c.begin.new.roads c.in-Ok.unanswered c.begun.result c.in-Ok.ensures.sizes.blocks c.clients_stay.ensures c.pipelines_leave_others.ensures c.nodes_keep_writers.ensures.down c.running_stays.ensures c.in-Ok.ensures.shows c.begun.ensures.begins
 
 pub returns-in-Err-clause-shows : goal.returns-in-Err-clause-shows
 returns-in-Err-clause-shows g c =

@@ -15,8 +15,8 @@ hear-requires-after_bounds g c κs within =
 pub returns-in-Ok-clause-shows : goal.returns-in-Ok-clause-shows
 returns-in-Ok-clause-shows g c =
     let x = c.args.self.now in
-    heard_left g.F.Files g.R.Roads g.I.LinkIn g.O.LinkOut _ c.args.conn c.args.place x _ c.keep.new.self c.index_mut.result.now c.hear.new.self c.args.roads.now c.hear.new.roads x.office c.hear.new.office c.keep.result refl refl c.hear.ensures.office refl refl refl refl refl
-    c.clients_stay.ensures c.reads_are_kept.ensures c.nodes_stay.ensures c.nodes_ends_stay.ensures c.hearing_keeps_others.ensures c.writers_keep_nodes.ensures.heard
+    heard_left g.F.Files g.R.Roads g.I.LinkIn g.O.LinkOut _ c.args.conn c.args.place x _ c.keep.new.self c.index_mut.result.now c.hear.new.self c.args.roads.now c.hear.new.roads x.office c.hear.new.office c.keep.result refl refl c.hear.ensures.office refl refl refl refl refl refl
+    c.clients_stay.ensures c.pipelines_leave_others.ensures c.nodes_stay.ensures c.nodes_ends_stay.ensures c.hearing_keeps_others.ensures c.writers_keep_nodes.ensures.heard
     (element_some x.clients.items c.args.place c.index_mut.result.now c.requires.within c.index_mut.ensures.value) c.in-Ok.ensures.shows c.keep.ensures.kept
 
 pub returns-in-Err-clause-shows : goal.returns-in-Err-clause-shows

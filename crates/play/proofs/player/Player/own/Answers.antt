@@ -17,8 +17,8 @@ pub returns-in-Ok-clause-shows : goal.returns-in-Ok-clause-shows
 returns-in-Ok-clause-shows g c =
     let x = c.args.self.now in
     let at = element_some x.clients.items c.args.place c.index_mut.result.now c.requires.within c.index_mut.ensures.value in
-    own_left g.F.Files g.R.Roads g.I.LinkIn g.O.LinkOut _ c.args.place x _ c.owned.new.self c.index_mut.result.now c.own.new.self c.args.roads.now c.own.new.roads x.office c.own.new.office _ c.index.result.now.block c.in-Ok.left c.owned.result refl refl refl refl refl refl refl (c.len.ensures ∙ x.nodes.connections.ok.0)
-    c.clients_stay.ensures c.reads_are_kept.ensures c.nodes_stay.ensures c.nodes_ends_stay.ensures c.own_steps_keep_others.ensures c.writers_keep_nodes.ensures.own at
+    own_left g.F.Files g.R.Roads g.I.LinkIn g.O.LinkOut _ c.args.place x _ c.owned.new.self c.index_mut.result.now c.own.new.self c.args.roads.now c.own.new.roads x.office c.own.new.office _ c.index.result.now.block c.in-Ok.left c.owned.result refl refl refl refl refl refl refl refl (c.len.ensures ∙ x.nodes.connections.ok.0)
+    c.clients_stay.ensures c.pipelines_leave_others.ensures c.nodes_stay.ensures c.nodes_ends_stay.ensures c.own_steps_keep_others.ensures c.writers_keep_nodes.ensures.own at
     (same_block c.index.result.now c.index_mut.result.now (sym (element_some x.clients.items c.args.place c.index.result.now c.requires.within c.index.ensures) ∙ at)) c.in-Ok.ensures.shows c.owned.ensures.owned
 
 pub returns-in-Err-clause-shows : goal.returns-in-Err-clause-shows

@@ -10,10 +10,10 @@ hear-requires-after_bounds g c κs within = reads_stand g.F.Files g.R.Roads g.I.
 
 pub returns-in-Ok-clause-shows : goal.returns-in-Ok-clause-shows
 returns-in-Ok-clause-shows g c =
-    hear_left g.F.Files g.R.Roads g.I.LinkIn g.O.LinkOut c.worlds_are_lawful.ensures c.clients_stay.ensures c.args.conn c.args.self.now c.keep.new.self c.hear.new.self c.args.roads.now c.hear.new.roads c.keep.result c.in-Ok.ensures.shows c.keep.ensures.kept
+    hear_left g.F.Files g.R.Roads g.I.LinkIn g.O.LinkOut c.worlds_are_lawful.ensures c.clients_stay.ensures c.reads_leave_others.ensures c.args.conn c.args.self.now c.keep.new.self c.hear.new.self c.args.roads.now c.hear.new.roads c.keep.result c.in-Ok.ensures.shows c.keep.ensures.kept
 
 pub returns-in-Err-clause-shows : goal.returns-in-Err-clause-shows
 returns-in-Err-clause-shows g c =
     let now = record c.args.self.now { reads = c.hear.new.self } in
     subst (λ (x : PlayFault). ReaderShows g.F.Files g.R.Roads g.I.LinkIn g.O.LinkOut c.args.conn c.args.self.now now c.args.roads.now c.hear.new.roads (Err x)) (sym c.of_reads.ensures)
-    (hear_failed g.F.Files g.R.Roads g.I.LinkIn g.O.LinkOut c.worlds_are_lawful.ensures c.clients_stay.ensures c.args.conn c.args.self.now now c.args.roads.now c.hear.new.roads c.in-Err.fault refl c.in-Err.ensures.shows)
+    (hear_failed g.F.Files g.R.Roads g.I.LinkIn g.O.LinkOut c.worlds_are_lawful.ensures c.clients_stay.ensures c.reads_leave_others.ensures c.args.conn c.args.self.now now c.args.roads.now c.hear.new.roads c.in-Err.fault refl c.in-Err.ensures.shows)

@@ -8,7 +8,7 @@ use Rattle.play.proofs.player.Player.ready.Goals as goal
 
 pub returns-in-Ok-clause-shows : goal.returns-in-Ok-clause-shows
 returns-in-Ok-clause-shows g c =
-    ready_left g.F.Files g.R.Roads g.I.LinkIn g.O.LinkOut c.args.conn c.args.self.now c.ready.new.self c.keep.new.self c.args.roads.now c.ready.new.roads c.keep.result c.in-Ok.ensures.sizes.blocks c.clients_stay.ensures c.reads_are_kept.ensures c.nodes_keep_writers.ensures.ready c.running_stays.ensures c.in-Ok.ensures.shows c.keep.ensures.kept
+    ready_left g.F.Files g.R.Roads g.I.LinkIn g.O.LinkOut c.args.conn c.args.self.now c.ready.new.self c.keep.new.self c.args.roads.now c.ready.new.roads c.keep.result c.in-Ok.ensures.sizes.blocks c.clients_stay.ensures c.pipelines_leave_others.ensures c.nodes_keep_writers.ensures.ready c.running_stays.ensures c.in-Ok.ensures.shows c.keep.ensures.kept
 
 pub returns-in-Err-clause-shows : goal.returns-in-Err-clause-shows
 returns-in-Err-clause-shows g c =

@@ -1,10 +1,10 @@
 -- An end took what stood next from above.
-use Rattle.play.proofs.Dispatch.{begins, members, takes}
+use Rattle.play.proofs.Dispatch.{begins, members, away_down}
 use Rattle.play.proofs.player.Player.take_down.Goals as goal
 
 pub returns-then-is_elsewhere-clause-shows : goal.returns-then-is_elsewhere-clause-shows
 returns-then-is_elsewhere-clause-shows g c =
-    takes g.F.Files g.R.Roads g.I.LinkIn g.O.LinkOut c.worlds_are_lawful.ensures c.args.self.now c.server_down.new.self c.args.roads.now c.server_down.new.roads c.server_down.result c.args.conn c.is_elsewhere.result c.if-is_elsewhere.true c.is_elsewhere.ensures.tells c.server_down.ensures.shows
+    away_down g.F.Files g.R.Roads g.I.LinkIn g.O.LinkOut c.worlds_are_lawful.ensures c.args.self.now c.elsewhere_down.new.self c.args.roads.now c.elsewhere_down.new.roads c.elsewhere_down.result c.args.conn c.is_elsewhere.result c.if-is_elsewhere.true c.is_elsewhere.ensures.tells c.elsewhere_down.ensures.shows
 
 pub returns-then-takes_first-clause-shows : goal.returns-then-takes_first-clause-shows
 returns-then-takes_first-clause-shows g c =

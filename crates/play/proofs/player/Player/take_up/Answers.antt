@@ -3,12 +3,12 @@ use Rattle.std.proofs.Common.{Ok, refl, sym, ap, ◌∙◌}
 use Rattle.play_nodes.proofs.PlaceLaws.{none_so}
 use Rattle.play_dues.specs.Places.{client_place}
 use Rattle.play_dues.proofs.UpperLaws.{client_within}
-use Rattle.play.proofs.Dispatch.{reader_hears, mirrors, hears, nobody_hears}
+use Rattle.play.proofs.Dispatch.{away_up, mirrors, hears, nobody_hears}
 use Rattle.play.proofs.player.Player.take_up.Goals as goal
 
 pub returns-then-is_elsewhere-clause-shows : goal.returns-then-is_elsewhere-clause-shows
 returns-then-is_elsewhere-clause-shows g c =
-    reader_hears g.F.Files g.R.Roads g.I.LinkIn g.O.LinkOut c.worlds_are_lawful.ensures c.args.self.now c.reader_up.new.self c.args.roads.now c.reader_up.new.roads c.reader_up.result c.args.conn c.is_elsewhere.result c.if-is_elsewhere.true c.is_elsewhere.ensures.tells c.reader_up.ensures.shows
+    away_up g.F.Files g.R.Roads g.I.LinkIn g.O.LinkOut c.worlds_are_lawful.ensures c.args.self.now c.elsewhere_up.new.self c.args.roads.now c.elsewhere_up.new.roads c.elsewhere_up.result c.args.conn c.is_elsewhere.result c.if-is_elsewhere.true c.is_elsewhere.ensures.tells c.elsewhere_up.ensures.shows
 
 pub returns-in_default-clause-shows : goal.returns-in_default-clause-shows
 returns-in_default-clause-shows g c =

@@ -1,7 +1,8 @@
--- A line starts a node, asks to read, or does something else.
+-- A line starts a node, asks to read or to recover, or does something else.
 use Rattle.play_lines.proofs.ReadLines.{read_line}
+use Rattle.play_lines.proofs.RecoverLines.{recover_line}
 use Rattle.play_lines.proofs.ShelfLemmas.{go_on}
-use Rattle.play_lines.proofs.StartLines.{start_line, other_line, told_so, told_read, none_starts, none_asks}
+use Rattle.play_lines.proofs.StartLines.{start_line, other_line, told_so, told_read, none_starts, none_asks, none_recovers}
 use Rattle.play_lines.proofs.playing.Playing.line.Goals as goal
 
 pub start-requires-clause-told : goal.start-requires-clause-told
@@ -21,11 +22,23 @@ pub returns-in-Read-clause-shelves : goal.returns-in-Read-clause-shelves
 returns-in-Read-clause-shelves g c =
     go_on g.S.Shelf g.F.Files c.args.shelves.now c.args.self.now c.ask.new.self c.ask.result c.ask.ensures.sizes c.requires.serve
 
+pub returns-in-Recover-clause-shows : goal.returns-in-Recover-clause-shows
+returns-in-Recover-clause-shows g c =
+    recover_line g.S.Shelf g.F.Files g.R.Roads g.I.LinkIn g.O.LinkOut c.args.self.now c.recover.new.self c.args.roads.now c.args.shelves.now c.args.line.now c.in-Recover.block c.in-Recover.node c.in-Recover.members c.duplicate.result c.recover.result c.duplicate.ensures c.in-Recover.is
+    c.recovers_are_plays.ensures c.recover.ensures.recovers
+
+pub returns-in-Recover-clause-shelves : goal.returns-in-Recover-clause-shelves
+returns-in-Recover-clause-shelves g c =
+    go_on g.S.Shelf g.F.Files c.args.shelves.now c.args.self.now c.recover.new.self c.recover.result c.recover.ensures.sizes c.requires.serve
+
 pub other_line-requires-clause-other : goal.other_line-requires-clause-other
 other_line-requires-clause-other g c κs within = none_starts c.args.line.now.instruction (λ n. c.in_default.not-Start n)
 
 pub other_line-requires-clause-asks_nothing : goal.other_line-requires-clause-asks_nothing
 other_line-requires-clause-asks_nothing g c κs within = none_asks c.args.line.now.instruction (λ b n offset count. c.in_default.not-Read b n offset count)
+
+pub other_line-requires-clause-recovers_nothing : goal.other_line-requires-clause-recovers_nothing
+other_line-requires-clause-recovers_nothing g c κs within = none_recovers c.args.line.now.instruction (λ b n members. c.in_default.not-Recover b n members)
 
 pub returns-in_default-clause-shows : goal.returns-in_default-clause-shows
 returns-in_default-clause-shows g c =

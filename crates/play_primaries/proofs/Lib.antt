@@ -1,0 +1,11 @@
+pub mod DueLaws
+pub mod DeedLaws
+pub mod DialledLaws
+pub mod LedLaws
+pub mod BegunLaws
+pub mod HearLaws
+pub mod StayLaws
+pub mod BringLaws
+pub mod StopLaws
+pub mod PrimarySteps
+pub mod OtherSteps

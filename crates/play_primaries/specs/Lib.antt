@@ -1,0 +1,9 @@
+pub mod Clients
+pub mod Dues
+pub mod Passing
+pub mod Owning
+pub mod Hearing
+pub mod Stopping
+pub mod Staying
+pub mod Frames
+pub mod Deeds

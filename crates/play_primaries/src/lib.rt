@@ -1,0 +1,17 @@
+//! The primaries of a play: each has what a line asks to recover, and its primary with the connections to the members.
+//! Each event takes a client that shows a world, on roads that show it, to one that shows the world after the event.
+#![tactic(auto)]
+
+mod clients;
+mod deeds;
+mod frames;
+mod hearing;
+mod owning;
+mod stopping;
+
+pub use clients::{PrimaryClient, PrimaryState};
+pub use deeds::Deed;
+pub use frames::{
+    members_keep_primaries, primaries_keep_nodes, primaries_keep_others, primary_clients_stay,
+    readers_keep_primaries, writers_keep_primaries,
+};

@@ -1,0 +1,216 @@
+-- An event of a lower end leaves recoveries and nodes that show the world after.
+use Rattle.std.proofs.Common.{◌≡◌, ◌<◌, ℕ, Bool, true, false, List, slice_get, slice_set, Option, Some, None, IsSome, ◌⊎◌, inl, inr, refl, sym, ap, ◌∙◌, subst, arith}
+use Rattle.std.specs.Prelude.{option_and_then}
+use Rattle.hd_base.specs.declared.files.Files as files
+use Rattle.hd_base.specs.declared.links.LinkIn as link_in
+use Rattle.hd_base.specs.declared.links.LinkOut as link_out
+use Rattle.hd_base.specs.declared.numbers.BlockId.{BlockId}
+use Rattle.hd_base.specs.declared.numbers.ConnId.{ConnId}
+use Rattle.hd_base.specs.declared.numbers.NodeId.{NodeId}
+use Rattle.hd_base.specs.declared.roads.Roads as roads
+use Rattle.road_traffic.specs.Showing.{Net}
+use Rattle.world.specs.Nodes.{node_of}
+use Rattle.world.specs.Parts.{Dialled}
+use Rattle.world.specs.Worlds.{World}
+use Rattle.world_laws.specs.Placing.{Placed}
+use Rattle.world_nets.specs.Ends.{IsElsewhere}
+use Rattle.world_nets.specs.Nets.{is_over}
+use Rattle.world_orders.specs.Orders.{Ordered, purpose_of, recovering}
+use Rattle.member_events.specs.Showing.{IsNoneOf}
+use Rattle.play_nodes.specs.declared.nodes.NodeBooks.{NodeBooks}
+use Rattle.play_nodes.specs.declared.nodes.Nodes.{Nodes}
+use Rattle.play_nodes.specs.Elsewhere.{NodeShows, NodesFollow}
+use Rattle.play_nodes.specs.Events.{DrawerFailed}
+use Rattle.play_nodes.specs.Places.{book_at}
+use Rattle.play_nodes.specs.Showing.{NodesShow}
+use Rattle.play_nodes.proofs.PlaceLaws.{book_found, same_some}
+use Rattle.play_nodes.proofs.Tables.{SetOr, set_or, set_here, set_there, same_or}
+use Rattle.play_primaries.specs.Staying.{PrimaryClientsStay}
+use Rattle.play_servers.specs.declared.recoveries.RecoveryServer.{RecoveryServer}
+use Rattle.play_servers.specs.Events as servers
+use Rattle.play_servers.specs.Recoveries as recoveries
+use Rattle.play_servers.specs.Showing as showing
+use Rattle.play_recoveries.specs.declared.recoveries.Recoveries.{Recoveries}
+use Rattle.play_recoveries.specs.Keeping.{FirstStays, KeepsPrimaries, KeepsServed}
+use Rattle.play_recoveries.specs.Left.{RecoveriesLeft}
+use Rattle.play_nodes.specs.Numbers.{IsNumbered}
+use Rattle.play_recoveries.specs.Places.{recoveries_of, ConnsAscend, HasServer, HasClient}
+use Rattle.play_recoveries.specs.Showing.{ClientsShow, IsServer, ServersShow, RecoveriesStand}
+use Rattle.play_recoveries.proofs.ClientLaws.{no_read_recovers}
+use Rattle.play_recoveries.proofs.FrameLaws.{recoveries_elsewhere}
+use Rattle.play_recoveries.proofs.KeepLaws.{server_kept, clients_kept}
+use Rattle.play_nodes.proofs.Numbers.{same_place, ascend_same}
+
+-- The books of a node have changed, and nothing else of the nodes.
+pub record BooksChanged {F I O : Type 0} (n n' : Nodes F I O) (node : ℕ) (x x' : NodeBooks F) : Type 0 where
+  pub found : slice_get n.nodes.items node ≡ Some x
+  pub blocks : n'.blocks.items ≡ n.blocks.items
+  pub connections : n'.connections.items ≡ n.connections.items
+  pub nodes : n'.nodes.items ≡ slice_set n.nodes.items node x'
+
+module _ {F I O : Type 0} (n n' : Nodes F I O) (node : ℕ) (x x' : NodeBooks F) (set : BooksChanged n n' node x x') where
+  pub here_before : (place : ℕ) → book_at n.nodes.items node place ≡ slice_get x.books.items place
+  here_before place = book_found n.nodes.items node place x set.found
+
+  pub here_after : (place : ℕ) → book_at n'.nodes.items node place ≡ slice_get x'.books.items place
+  here_after place =
+      ap (λ (xs : List (NodeBooks F)). book_at xs node place) set.nodes ∙ book_found (slice_set n.nodes.items node x') node place x' (set_here n.nodes.items node x x' set.found)
+
+  pub elsewhere_same : (m place : ℕ) → (m ≡ node → ⊥) → book_at n'.nodes.items m place ≡ book_at n.nodes.items m place
+  elsewhere_same m place apart =
+      ap (λ (xs : List (NodeBooks F)). book_at xs m place) set.nodes ∙
+      ap (λ (y : Option (NodeBooks F)). option_and_then (λ z. slice_get z.books.items place) y) (set_there n.nodes.items node x' m apart)
+
+-- The server of a connection is another one, of the same connection.
+pub record ServerChanged {I O : Type 0} (old new : Recoveries I O) (place : ℕ) (s s' : RecoveryServer I O) : Type 0 where
+  pub at : slice_get old.servers.items place ≡ Some s
+  pub set : new.servers.items ≡ slice_set old.servers.items place s'
+  pub conn : s'.conn ≡ s.conn
+  pub clients : new.clients ≡ old.clients
+
+module _ {I O : Type 0} (xs : List (RecoveryServer I O)) (place : ℕ) (s s' : RecoveryServer I O) (at : slice_get xs place ≡ Some s) (conn : s'.conn ≡ s.conn) where
+  number : s'.conn.0 ≡ s.conn.0
+  number = ap (λ (c : ConnId). c.0) conn
+
+  was_there : (k : ℕ) (a : RecoveryServer I O) → slice_get (slice_set xs place s') k ≡ Some a → IsNumbered (λ x. x.conn.0) xs a.conn.0 k
+  was_there k a is = by (set_or xs place s' k a is)
+    where
+      by : SetOr xs place s' k a → IsNumbered (λ x. x.conn.0) xs a.conn.0 k
+      by (inl x) = record {
+        found = s;
+        at = ap (λ (m : ℕ). slice_get xs m) x.0 ∙ at;
+        same = sym (ap (λ (y : RecoveryServer I O). y.conn.0) x.1 ∙ ap (λ (c : ConnId). c.0) conn);
+      }
+      by (inr x) = record { found = a; at = x.1; same = refl }
+
+  pub ascend_set : ConnsAscend xs → ConnsAscend (slice_set xs place s')
+  ascend_set up = ascend_same (λ x. x.conn.0) xs up (slice_set xs place s') was_there
+
+  pub has_server_set : (c : ℕ) → HasServer xs c → HasServer (slice_set xs place s') c
+  has_server_set c h = by (same_or h.place place)
+    where
+      by : ((h.place ≡ place) ⊎ (h.place ≡ place → ⊥)) → HasServer (slice_set xs place s') c
+      by (inl here) = record {
+        place = place;
+        server = s';
+        at = set_here xs place s s' at;
+        of_conn = ap (λ (q : ConnId). q.0) conn ∙
+            (ap (λ (y : RecoveryServer I O). y.conn.0) (same_some s h.server (sym at ∙ (ap (λ (k : ℕ). slice_get xs k) (sym here) ∙ h.at))) ∙ h.of_conn);
+      }
+      by (inr away) = record { place = h.place; server = h.server; at = set_there xs place s' h.place away ∙ h.at; of_conn = h.of_conn }
+
+module _ {F R I O : Type 0} (f : files.Ghosts F) (r : roads.Ghosts R I O) (i : link_in.Ghosts I) (o : link_out.Ghosts O) where
+  -- BEFORE
+
+  -- The books of the node of a connection are those of its replicas.
+  pub books_before : (w : World) (net : Net) (n : Nodes F I O) (c : ℕ) (x : NodeBooks F) → NodesShow i o w net n → Placed w → c < w.next_conn → slice_get n.nodes.items (node_of w c) ≡ Some x → showing.BooksShow w c n.blocks.items x.books.items
+  books_before w net n c x shows placed within found = record {
+    each = λ place block book at at_book. shows.books (node_of w c) place block book at (book_found n.nodes.items (node_of w c) place x found ∙ at_book);
+    all = λ place block at. subst IsSome (book_found n.nodes.items (node_of w c) place x found) (shows.has_books (node_of w c) place block (placed.dialled c within).to at);
+    distinct = shows.distinct;
+  }
+
+  -- AFTER
+
+  module _ (w : World) (net : Net) (v : World) (road road' : R) (c : ℕ) (n n' : Nodes F I O) (x x' : NodeBooks F) (old new : Recoveries I O) (place : ℕ) (s s' : RecoveryServer I O) (h : RecoveriesStand r i o w net road n old) (set : BooksChanged n n' (node_of w c) x x') (changed : ServerChanged old new place s s') (of_conn : s.conn.0 ≡ c)
+      (is_there : purpose_of (w.dialled c).upper ≡ recovering) (within : c < w.next_conn) (before : Ordered w) (after : Ordered v) (over : (d : ℕ) → is_over v d false ≡ is_over w d false) (left : recoveries.ServerLeft r i o w net v c n.blocks.items s'.end x'.books.items road') where
+    none_of : (d : ℕ) (lower : Bool) → IsElsewhere c true d lower → IsNoneOf c None d lower
+    none_of d lower e = (e, tt)
+
+    node_same : node_of v c ≡ node_of w c
+    node_same = ap (λ (d : Dialled). d.to.node) (left.rest.dialled c)
+
+    node_shows : NodeShows v (node_of w c) n n'
+    unfolding node_same
+    node_shows = record {
+      blocks = set.blocks;
+      connections = set.connections;
+      others = λ m p apart. elsewhere_same n n' (node_of w c) x x' set m p apart;
+      each = λ p block book at at_book.
+          left.books_are.each p block book (ap (λ (bs : List BlockId). slice_get bs p) (sym set.blocks) ∙ at) (sym (here_after n n' (node_of w c) x x' set p) ∙ at_book) ∙
+          ap (λ (m : ℕ). v.replicas m block.0) node_same;
+      all = λ p block at. subst IsSome (sym (here_after n n' (node_of w c) x x' set p)) (left.books_are.all p block (ap (λ (bs : List BlockId). slice_get bs p) (sym set.blocks) ∙ at));
+    }
+
+    pub nodes_after : NodesFollow f i o → NodesShow i o v left.made n'
+    unfolding node_shows
+    nodes_after follow = follow w net v left.made c n n' (record {
+      nodes_are = h.nodes.nodes_are;
+      ordered = before;
+      ordered_after = after;
+      within = within;
+      elsewhere = recoveries_elsewhere (w.dialled c).upper is_there;
+      block = left.block;
+      keeps = record {
+        nodes = left.rest.nodes;
+        conns = left.rest.conns;
+        dialled = left.rest.dialled;
+        running = left.rest.running;
+        lives = left.rest.lives;
+        lowers = left.rest.lowers;
+        replicas = left.rest.replicas;
+        over = over;
+      };
+      others = left.others;
+      books = node_shows;
+    })
+
+    served : KeepsServed w v
+    served = record { grows = omega (arith, left.rest.conns); dialled = λ d z. left.rest.dialled d; running = left.rest.running; lives = left.rest.lives }
+
+    -- nothing is sent down
+    first_same : (d : ℕ) → FirstStays w v d
+    first_same d = λ m at. ap (λ ms. slice_get ms 0) (left.rest.downs d) ∙ at
+
+    upper_end : (d : ℕ) → IsNoneOf c None d false
+    upper_end d = ((λ same. refl), tt)
+
+    each_after : (k : ℕ) (a : RecoveryServer I O) → SetOr old.servers.items place s' k a → IsServer i o v left.made n.blocks.items a
+    unfolding served
+    each_after k a (inl y) = subst (λ (z : RecoveryServer I O). IsServer i o v left.made n.blocks.items z) (sym y.1) (record {
+      within = subst (λ (q : ℕ). q < v.next_conn) (sym (ap (λ (q : ConnId). q.0) changed.conn ∙ of_conn)) (subst (λ (q : ℕ). c < q) (sym left.rest.conns) within);
+      shows = subst (λ (q : ℕ). recoveries.ServerShows i o v left.made q n.blocks.items s'.end) (sym (ap (λ (q : ConnId). q.0) changed.conn ∙ of_conn)) left.server;
+    })
+    each_after k a (inr y) =
+        let apart : a.conn.0 ≡ c → ⊥ = λ same. y.0 (same_place (λ z. z.conn.0) old.servers.items h.recoveries_are.servers.ascend k place a s y.1 changed.at (same ∙ sym of_conn)) in
+        server_kept i o w net v left.made n.blocks.items a served (left.rest.lowers a.conn.0 apart) (first_same a.conn.0) (λ e is. left.others a.conn.0 true e (none_of a.conn.0 true (λ same. absurd (apart (sym same)))) is) (h.recoveries_are.servers.each k a y.1)
+
+    servers_after : ServersShow i o v left.made n.blocks.items (slice_set old.servers.items place s')
+    servers_after = record {
+      each = λ k a at. each_after k a (set_or old.servers.items place s' k a at);
+      ascend = ascend_set old.servers.items place s s' changed.at changed.conn h.recoveries_are.servers.ascend;
+      all = λ d lt is. has_server_set old.servers.items place s s' changed.at changed.conn d
+          (h.recoveries_are.servers.all d (subst (λ (q : ℕ). d < q) left.rest.conns lt) (sym (ap (λ (q : Dialled). purpose_of q.upper) (left.rest.dialled d)) ∙ is));
+    }
+
+    pub served_left : NodesFollow f i o → PrimaryClientsStay i o → KeepsPrimaries w v → RecoveriesLeft r i o w net v road' n' old new
+    unfolding servers_after
+    served_left follow stay primaries = record {
+      made = left.made;
+      stands = record {
+        nodes = record { roads_are = left.roads_are; nodes_are = nodes_after follow };
+        recoveries_are = record {
+          clients = subst (λ y. ClientsShow i o v left.made y.items) (sym changed.clients)
+              (clients_kept i o w net v left.made n.blocks.items old.clients.items stay before (record { running = left.rest.running; lives = left.rest.lives }) primaries (λ d e is y. left.others d false e (upper_end d) y) h.recoveries_are.clients);
+          servers = subst (λ (bs : List BlockId). ServersShow i o v left.made bs new.servers.items) (sym set.blocks)
+              (subst (λ (xs : List (RecoveryServer I O)). ServersShow i o v left.made n.blocks.items xs) (sym changed.set) servers_after);
+          dialled = λ d number place lt by. subst (λ y. HasClient y.items number) (sym changed.clients)
+              (h.recoveries_are.dialled d number place (subst (λ (q : ℕ). d < q) left.rest.conns lt) (sym (ap (λ (q : Dialled). q.upper) (left.rest.dialled d)) ∙ by));
+        };
+      };
+      writers = λ b d e by y. left.others d false e (upper_end d) y;
+      readers = λ d lower e by y. left.others d lower e (none_of d lower (λ same. absurd (no_read_recovers (w.dialled d).upper by (ap (λ (q : ℕ). purpose_of (w.dialled q).upper) (sym same) ∙ is_there)))) y;
+      recovers = ap (λ y. recoveries_of y.items) changed.clients;
+    }
+
+  -- FAULTS
+
+  pub drawer_failed : (n n' : Nodes F I O) (node : NodeId) (x x' : NodeBooks F) → BooksChanged n n' node.0 x x' → servers.BookRose f x.books.items x'.books.items → DrawerFailed f n n' node
+  drawer_failed n n' node x x' set rose = record {
+    place = rose.place;
+    book = rose.book;
+    book' = rose.book';
+    before = here_before n n' node.0 x x' set rose.place ∙ rose.before;
+    now = here_after n n' node.0 x x' set rose.place ∙ rose.now;
+    rose = rose.rose;
+  }

@@ -1,0 +1,13 @@
+pub mod Places
+pub mod Showing
+pub mod Faults
+pub mod Left
+pub mod Owning
+pub mod Hearing
+pub mod Seats
+pub mod Serving
+pub mod Joining
+pub mod Keeping
+pub mod Stopping
+pub mod Dues
+pub mod Others
